@@ -1,0 +1,15 @@
+use Rattle.std.proofs.Common.{◌≡◌, ◌≤◌, ◌-◌, ◌++◌, length, take, drop, []}
+use Rattle.piper_machine.specs.Copy.{drained}
+use Rattle.piper_machine.proofs.machine.Machine.r_try_drain.Given as goal
+
+abbrev pub invariant-loop-done : goal.invariant-loop-done
+invariant-loop-done l = record {
+  within : l.done ≤ length l.dest;
+  known : l.done ≤ l.initial.self.known;
+  drained : l.self ≡ drained l.done l.initial.self;
+  bytes : l.dest ≡ take l.done l.initial.self.unread ++ drop l.done l.fn.dest;
+  woken : l.initial.self.woken ≡ [];
+}
+
+abbrev pub decreases-loop-done : goal.decreases-loop-done
+decreases-loop-done l = length l.dest - l.done

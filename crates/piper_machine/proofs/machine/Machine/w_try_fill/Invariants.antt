@@ -1,0 +1,16 @@
+use Rattle.std.proofs.Common.{◌≡◌, ◌≤◌, ◌-◌, length, take, [], false}
+use Rattle.piper_machine.specs.Copy.{filled}
+use Rattle.piper_machine.proofs.machine.Machine.w_try_fill.Given as goal
+
+abbrev pub invariant-loop-done : goal.invariant-loop-done
+invariant-loop-done l = record {
+  within : l.done ≤ length l.bytes;
+  room : l.done ≤ l.initial.self.room;
+  filled : l.self ≡ filled (take l.done l.bytes) l.initial.self;
+  woken : l.initial.self.woken ≡ [];
+  lent : l.initial.self.lent ≡ [];
+  is_open : l.initial.self.is_shut ≡ false;
+}
+
+abbrev pub decreases-loop-done : goal.decreases-loop-done
+decreases-loop-done l = length l.bytes - l.done

@@ -1,0 +1,14 @@
+pub mod Index
+pub mod Buffer
+pub mod Pipe
+pub mod Places
+pub mod Sound
+pub mod Refresh
+pub mod Look
+pub mod Lend
+pub mod Move
+pub mod Copy
+pub mod Scripted
+pub mod Close
+pub mod Side
+pub mod Machine

@@ -1,0 +1,66 @@
+-- What each side keeps: its own index, and the other's as it last saw it.
+use Rattle.std.specs.Prelude.{◌≡◌, ℕ, ◌+◌, ◌-◌, ◌*◌, ◌<◌, ◌≤◌, min, max, Bool, true, if◌then◌else◌}
+use Rattle.piper_machine.specs.Index.{IsCapacity, distance, place_of}
+
+pub record Reading : Type 0 where
+  pub capacity : ℕ
+  -- the reader's own index
+  pub head : ℕ
+  -- the writer's index, as last seen
+  pub tail : ℕ
+
+pub record Writing : Type 0 where
+  pub capacity : ℕ
+  -- the writer's own index
+  pub tail : ℕ
+  -- the reader's index, as last seen
+  pub head : ℕ
+  -- how many places at the buffer's beginning were set
+  pub zeroed : ℕ
+  -- how many places are lent, from the writer's own place on
+  pub lent : ℕ
+  pub is_shut : Bool
+
+-- the bytes that the reader knows of
+abbrev pub known_of : Reading → ℕ
+known_of r = distance r.capacity r.head r.tail
+
+-- those of them that stand in one piece
+abbrev pub peekable_of : Reading → ℕ
+peekable_of r = min (known_of r) (r.capacity - place_of r.capacity r.head)
+
+-- the free places that the writer knows of
+abbrev pub room_of : Writing → ℕ
+room_of w = w.capacity - distance w.capacity w.head w.tail
+
+-- the places from the writer's own up to the end of the buffer
+abbrev pub left_of : Writing → ℕ
+left_of w = w.capacity - place_of w.capacity w.tail
+
+-- what is lent grows with what was set already, so that no call sets a whole large buffer
+abbrev pub lend_bound : Writing → ℕ
+lend_bound w = 2 * w.zeroed + 4096
+
+abbrev pub lend_length : ℕ → Writing → ℕ
+lend_length most w = if w.is_shut then 0 else min (min most (lend_bound w)) (min (room_of w) (left_of w))
+
+-- lent from the writer's place on, and set up to the end of that
+abbrev pub lent_out : ℕ → Writing → Writing
+lent_out count w = record w { lent = count; zeroed = max w.zeroed (place_of w.capacity w.tail + count) }
+
+pub record IsReading (r : Reading) : Type 0 where
+  pub capacity : IsCapacity r.capacity
+  pub head : r.head < 2 * r.capacity
+  pub tail : r.tail < 2 * r.capacity
+  pub known : known_of r ≤ r.capacity
+
+pub record IsWriting (w : Writing) : Type 0 where
+  pub capacity : IsCapacity w.capacity
+  pub tail : w.tail < 2 * w.capacity
+  pub head : w.head < 2 * w.capacity
+  pub within : distance w.capacity w.head w.tail ≤ w.capacity
+  pub lent_room : w.lent ≤ room_of w
+  pub lent_place : w.lent ≤ left_of w
+  pub zeroed : w.zeroed ≤ w.capacity
+  pub lent_zeroed : place_of w.capacity w.tail + w.lent ≤ max w.zeroed (place_of w.capacity w.tail)
+  pub shut : w.is_shut ≡ true → w.lent ≡ 0

@@ -1,0 +1,37 @@
+//! Bytes that own their memory.
+ghost use Rattle.std.specs.Prelude.{◌≡◌, IfOk};
+
+use crate::memory::OutOfMemory;
+use std::alloc::Global;
+use std::marker::Model;
+
+/// A list of bytes that stays as it was made.
+#[derive(Debug, Drop)]
+pub struct Bytes {
+    items: Vec<u8>,
+}
+
+impl Model for Bytes {
+    ghost use Rattle.std.specs.Prelude.{ℕ, List};
+
+    ghost Value = { List ℕ };
+
+    ghost view = { λ bytes. bytes.items.items };
+}
+
+impl Bytes {
+    /// A copy of `bytes`.
+    pub fn copy_of(alloc: Global, bytes: &[u8]) -> Result<Self, OutOfMemory>
+        ensures { IfOk result (λ copy. copy ≡ bytes.now) }
+    {
+        let items = bytes.to_vec(alloc).map_err(|_| OutOfMemory)?;
+        Ok(Bytes { items })
+    }
+
+    /// The bytes.
+    pub fn as_slice(&self) -> &[u8]
+        ensures { result.now ≡ self.now }
+    {
+        &self.items
+    }
+}

@@ -1,0 +1,13 @@
+//! A bounded pipe of bytes between one reader and one writer, as a pure machine.
+#![tactic(auto)]
+
+pub mod bytes;
+pub mod index;
+pub mod machine;
+pub mod memory;
+pub mod polling;
+pub mod read_side;
+pub mod scripted;
+pub mod slot;
+pub mod woken;
+pub mod write_side;

@@ -1,0 +1,333 @@
+//! A pipe with both its sides, for one owner.
+ghost use Rattle.std.specs.Prelude.{◌≡◌, ◌<◌, ◌≤◌, ◌+◌, ◌-◌, ◌++◌, length, take, drop, IfOk, min, false};
+ghost use Rattle.piper_machine.specs.Index.{IsCapacity, place_of};
+ghost use Rattle.piper_machine.specs.Pipe.{fresh, begun};
+ghost use Rattle.piper_machine.specs.Buffer.{written};
+ghost use Rattle.piper_machine.specs.Places.{peeked, peeked_count, places_left};
+ghost use Rattle.piper_machine.specs.Sound.{IsSound};
+ghost use Rattle.piper_machine.specs.Refresh.{reader_refreshed, writer_refreshed};
+ghost use Rattle.piper_machine.specs.Lend.{Lendable, lending};
+ghost use Rattle.piper_machine.specs.Move.{reader_woken, writer_woken, published, consumed, with_waker};
+ghost use Rattle.piper_machine.specs.Copy.{try_fill, try_drain, count_of, filled, drained, unlent};
+
+use crate::index;
+use crate::memory::OutOfMemory;
+use crate::read_side::ReadSide;
+use crate::scripted::MOST_A_ROUND;
+use crate::slot::SlotState;
+use crate::woken::Woken;
+use crate::write_side::WriteSide;
+use std::alloc::Global;
+use std::marker::Model;
+
+/// A pipe of bytes and its two sides. Each call of a side is run whole: the other side makes no step during it.
+#[derive(Debug, Drop)]
+pub struct Machine {
+    alloc: Global,
+    bytes: Vec<u8>,
+    read: ReadSide,
+    write: WriteSide,
+    is_closed: bool,
+    reader_slot: SlotState<u32>,
+    writer_slot: SlotState<u32>,
+    woken: Woken,
+}
+
+impl Model for Machine {
+    ghost use Rattle.piper_machine.specs.Pipe.{Pipe};
+
+    ghost Value = { Pipe };
+
+    ghost use Rattle.piper_machine.specs.Machine.{pipe_of, IsMachine};
+
+    ghost view = { pipe_of };
+
+    ghost invariant = { IsMachine };
+}
+
+// Copies `source` to the places from `place` on.
+fn write_at(bytes: &mut Vec<u8>, place: usize, source: &[u8])
+    requires { place + length source.now ≤ length bytes.old.items }
+    ensures { bytes.new.items ≡ written bytes.old.items place source.now }
+{
+    bytes[place..place + source.len()].copy_from_slice(source);
+}
+
+// The two pieces one after the other.
+fn joined(alloc: Global, first: &[u8], rest: &[u8]) -> Result<Vec<u8>, OutOfMemory>
+    ensures { IfOk result (λ bytes. bytes.items ≡ first.now ++ rest.now) }
+{
+    let mut bytes = Vec::with_capacity(alloc, first.len() + rest.len()).map_err(|_| OutOfMemory)?;
+    bytes.extend_from_slice(first).map_err(|_| OutOfMemory)?;
+    bytes.extend_from_slice(rest).map_err(|_| OutOfMemory)?;
+    Ok(bytes)
+}
+
+impl Machine {
+    /// An empty pipe of `cap` bytes.
+    pub fn new(alloc: Global, cap: usize) -> Result<Self, OutOfMemory>
+        requires { IsCapacity cap }
+        ensures { IfOk result (λ machine. machine ≡ fresh cap) }
+    {
+        let bytes = vec![in alloc; 0; cap].map_err(|_| OutOfMemory)?;
+        Ok(Machine {
+            alloc,
+            bytes,
+            read: ReadSide::new(cap),
+            write: WriteSide::new(cap),
+            is_closed: false,
+            reader_slot: SlotState::new(),
+            writer_slot: SlotState::new(),
+            woken: Woken::new(),
+        })
+    }
+
+    /// How many bytes the pipe can hold.
+    pub fn capacity(&self) -> usize
+        ensures { result ≡ self.now.capacity }
+    {
+        self.read.capacity()
+    }
+
+    fn begin_whole(&mut self)
+        ensures { self.new ≡ begun self.old }
+    {
+        self.woken.clear();
+    }
+
+    fn learn(&self)
+        ensures { IsSound self.now }
+    {
+        let _ = &self.is_closed;
+    }
+
+    fn len(&self) -> usize
+        ensures value { result ≡ length self.now.unread }
+        ensures sound { IsSound self.now }
+    {
+        self.learn();
+        index::distance(self.read.capacity(), self.read.head(), self.write.tail())
+    }
+
+    fn known(&self) -> usize
+        ensures value { result ≡ self.now.known }
+        ensures within { result ≤ length self.now.unread }
+    {
+        self.read.known()
+    }
+
+    fn room(&self) -> usize
+        ensures value { result ≡ self.now.room }
+        ensures within { result ≤ self.now.capacity - length self.now.unread }
+    {
+        self.write.room()
+    }
+
+    fn reload_tail(&mut self)
+        ensures { self.new ≡ record self.old { known = length self.old.unread } }
+    {
+        self.read.refresh(self.write.tail());
+    }
+
+    fn reload_head(&mut self)
+        ensures { self.new ≡ record self.old { room = self.old.capacity - length self.old.unread } }
+    {
+        self.write.refresh(self.read.head());
+    }
+
+    fn refresh_reader(&mut self)
+        ensures { self.new ≡ reader_refreshed self.old }
+    {
+        if self.known() == 0 {
+            self.reload_tail();
+        }
+    }
+
+    fn refresh_writer(&mut self)
+        ensures { self.new ≡ writer_refreshed self.old }
+    {
+        if self.room() == 0 {
+            self.reload_head();
+        }
+    }
+
+    fn wake_reader(&mut self)
+        requires { length self.old.woken < 2 }
+        ensures { self.new ≡ reader_woken self.old }
+    {
+        if let Some(name) = self.reader_slot.take() {
+            self.woken.add(name);
+        }
+    }
+
+    fn wake_writer(&mut self)
+        requires { length self.old.woken < 2 }
+        ensures { self.new ≡ writer_woken self.old }
+    {
+        if let Some(name) = self.writer_slot.take() {
+            self.woken.add(name);
+        }
+    }
+
+    /// The known bytes that stand in one piece.
+    fn peek(&self) -> &[u8]
+        ensures bytes { result.now ≡ peeked self.now }
+        ensures count { length result.now ≡ peeked_count self.now }
+    {
+        let place = self.read.place();
+        &self.bytes[place..place + self.read.peekable()]
+    }
+
+    /// Lends free places in place of what was lent before, and answers how many.
+    fn lend(&mut self, most: usize) -> usize
+        ensures bounds { Lendable most self.old result }
+        ensures count { length self.new.lent ≡ result }
+        ensures after { self.new ≡ lending self.new.lent self.old }
+    {
+        self.write.lend(most)
+    }
+
+    fn unlend(&mut self)
+        ensures { self.new ≡ unlent self.old }
+    {
+        self.write.unlend();
+    }
+
+    /// Writes into the front of what is lent.
+    fn write_front(&mut self, source: &[u8])
+        requires { length source.now ≤ length self.old.lent }
+        ensures { self.new ≡ lending (source.now ++ drop (length source.now) self.old.lent) self.old }
+    {
+        write_at(&mut self.bytes, self.write.place(), source);
+    }
+
+    fn publish(&mut self, n: usize)
+        requires { n ≤ length self.old.lent }
+        ensures { self.new ≡ published n self.old }
+    {
+        self.write.publish(n);
+    }
+
+    fn consume(&mut self, n: usize)
+        requires { n ≤ peeked_count self.old }
+        ensures { self.new ≡ consumed n self.old }
+    {
+        self.read.consume(n);
+    }
+
+    /// One round of a fill: as many of the first bytes as are lent. Nothing stays lent.
+    fn fill_round(&mut self, source: &[u8]) -> usize
+        requires open { self.old.is_shut ≡ false }
+        requires woken { length self.old.woken < 2 }
+        ensures within { result ≤ min (length source.now) self.old.room }
+        ensures none { result ≡ 0 → min (length source.now) self.old.room ≡ 0 }
+        ensures after { self.new ≡ filled (take result source.now) self.old }
+    {
+        self.learn();
+        let count = source.len().min(self.lend(MOST_A_ROUND));
+        if count > 0 {
+            self.write_front(&source[..count]);
+            self.publish(count);
+            self.wake_reader();
+        }
+        self.unlend();
+        count
+    }
+
+    /// One round of a drain: as many known bytes as stand in one piece and fit.
+    fn drain_round(&mut self, dest: &mut [u8]) -> usize
+        requires woken { length self.old.woken < 2 }
+        ensures within { result ≤ min (length dest.old) self.old.known }
+        ensures place { self.old.start + result ≤ self.old.capacity }
+        ensures none { result ≡ 0 → min (length dest.old) self.old.known ≡ 0 }
+        ensures bytes { dest.new ≡ take result self.old.unread ++ drop result dest.old }
+        ensures after { self.new ≡ drained result self.old }
+    {
+        self.learn();
+        let lent = self.peek();
+        let count = dest.len().min(MOST_A_ROUND.min(lent.len()));
+        if count > 0 {
+            dest[..count].copy_from_slice(&lent[..count]);
+            self.consume(count);
+            self.wake_writer();
+        }
+        count
+    }
+
+    /// How many bytes are unread, as the reader finds it.
+    pub fn r_len(&mut self) -> usize
+        ensures value { result ≡ length self.old.unread }
+        ensures after { self.new ≡ begun self.old }
+    {
+        self.begin_whole();
+        self.len()
+    }
+
+    /// How many bytes are unread, as the writer finds it.
+    pub fn w_len(&mut self) -> usize
+        ensures value { result ≡ length self.old.unread }
+        ensures after { self.new ≡ begun self.old }
+    {
+        self.begin_whole();
+        self.len()
+    }
+
+    /// Publishes as many of the first bytes as there is known room, and answers how many.
+    pub fn w_try_fill(&mut self, bytes: &[u8]) -> usize
+        ensures count { result ≡ count_of (try_fill bytes.now self.old).answer }
+        ensures after { self.new ≡ (try_fill bytes.now self.old).pipe }
+    {
+        self.begin_whole();
+        self.unlend();
+        if self.is_closed {
+            return 0;
+        }
+        self.learn();
+        self.refresh_writer();
+        let mut done = 0;
+        loop {
+            let count = self.fill_round(&bytes[done..]);
+            if count == 0 {
+                return done;
+            }
+            done += count;
+        }
+    }
+
+    /// Moves as many of the known bytes as fit to the front of `dest`, and answers how many.
+    pub fn r_try_drain(&mut self, dest: &mut [u8]) -> usize
+        ensures count { result ≡ count_of (try_drain (length dest.old) self.old).answer }
+        ensures bytes { dest.new ≡ take result self.old.unread ++ drop result dest.old }
+        ensures after { self.new ≡ (try_drain (length dest.old) self.old).pipe }
+    {
+        self.begin_whole();
+        self.refresh_reader();
+        self.learn();
+        let mut done = 0;
+        loop {
+            let count = self.drain_round(&mut dest[done..]);
+            if count == 0 {
+                return done;
+            }
+            done += count;
+        }
+    }
+
+    /// The unread bytes in the two pieces in which they stand: up to the end of the buffer, and from its beginning.
+    fn pieces(&self) -> (&[u8], &[u8])
+        ensures { result.0.now ++ result.1.now ≡ self.now.unread }
+    {
+        let head = self.read.place();
+        let len = self.len();
+        let first = len.min(self.read.capacity() - head);
+        (&self.bytes[head..head + first], &self.bytes[..len - first])
+    }
+
+    /// A copy of the unread bytes, oldest first.
+    pub fn unread(&self) -> Result<Vec<u8>, OutOfMemory>
+        ensures { IfOk result (λ bytes. bytes.items ≡ self.now.unread) }
+    {
+        let (first, rest) = self.pieces();
+        joined(self.alloc, first, rest)
+    }
+}

@@ -1,0 +1,23 @@
+//! What a polling call is handed, and what it answers.
+
+/// The outcomes of a polling call that lie outside the pipe: its draw, and whether memory is granted.
+#[derive(Clone, Copy, Debug, PartialEq, Eq)]
+pub struct Luck {
+    /// The number drawn, below 100: a copying call yields exactly at 0.
+    pub draw: u32,
+    /// Whether a waker can be cloned to be registered.
+    pub register_granted: bool,
+    /// Whether a waker can be cloned to be woken by a yield.
+    pub yield_granted: bool,
+}
+
+/// The answer of a polling call.
+#[derive(Clone, Copy, Debug, PartialEq, Eq)]
+pub enum Polled<T> {
+    /// Not yet: the waker is registered, or was woken by a yield.
+    Pending,
+    /// The call is done.
+    Ready(T),
+    /// A waker's clone was needed and refused. No byte has moved.
+    Memory,
+}
