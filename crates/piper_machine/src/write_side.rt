@@ -142,7 +142,7 @@ impl WriteSide {
         ensures after { self.new ≡ record self.old { lent = 0; is_shut = true } }
         ensures sound { IsWriting self.new }
     {
-        self.lent = 0;
+        self.unlend();
         self.is_shut = true;
     }
 }
