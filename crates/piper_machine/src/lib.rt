@@ -11,3 +11,9 @@ pub mod scripted;
 pub mod slot;
 pub mod woken;
 pub mod write_side;
+
+pub use memory::OutOfMemory;
+pub use slot::SlotState;
+
+#[cfg(test)]
+mod tests;
