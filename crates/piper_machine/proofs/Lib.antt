@@ -4,3 +4,4 @@ pub mod Between
 pub mod Soundness
 pub mod Moves
 pub mod Rounds
+mod rows

@@ -3,6 +3,7 @@ pub mod Buffer
 pub mod Pipe
 pub mod Places
 pub mod Sound
+pub mod Query
 pub mod Refresh
 pub mod Look
 pub mod Lend

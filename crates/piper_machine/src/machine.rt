@@ -5,6 +5,7 @@ ghost use Rattle.piper_machine.specs.Pipe.{fresh, begun};
 ghost use Rattle.piper_machine.specs.Buffer.{written};
 ghost use Rattle.piper_machine.specs.Places.{peeked, peeked_count, places_left};
 ghost use Rattle.piper_machine.specs.Sound.{IsSound};
+ghost use Rattle.piper_machine.specs.Query.{unread_count};
 ghost use Rattle.piper_machine.specs.Refresh.{reader_refreshed, writer_refreshed};
 ghost use Rattle.piper_machine.specs.Lend.{Lendable, lending};
 ghost use Rattle.piper_machine.specs.Move.{reader_woken, writer_woken, published, consumed, with_waker};
@@ -256,7 +257,7 @@ impl Machine {
 
     /// How many bytes are unread, as the reader finds it.
     pub fn r_len(&mut self) -> usize
-        ensures value { result ≡ length self.old.unread }
+        ensures value { result ≡ unread_count self.old }
         ensures after { self.new ≡ begun self.old }
     {
         self.begin_whole();
@@ -265,7 +266,7 @@ impl Machine {
 
     /// How many bytes are unread, as the writer finds it.
     pub fn w_len(&mut self) -> usize
-        ensures value { result ≡ length self.old.unread }
+        ensures value { result ≡ unread_count self.old }
         ensures after { self.new ≡ begun self.old }
     {
         self.begin_whole();
