@@ -1,5 +1,5 @@
--- Lending: the writer gets free places to write into. Which number of them is left open within bounds,
--- since no more is lent than what was set to zero on the way.
+-- Lending: the writer gets free places to write into. How many of them is left open within bounds:
+-- it depends on how much of the buffer was set before, which a pipe does not show.
 use Rattle.std.specs.Prelude.{◌≡◌, ℕ, ◌≤◌, min, List, true, false}
 use Rattle.piper_machine.specs.Pipe.{Pipe}
 use Rattle.piper_machine.specs.Places.{places_left}
