@@ -1,13 +1,13 @@
 -- The bytes of items.
 use Rattle.std.proofs.Common.{◌≡◌, ℕ, zero, suc, ◌+◌, ◌-◌, ◌≤◌, List, [], ◌∷◌, ◌++◌, length, Bor, refl, ap, ◌∙◌, sym, map, append_assoc, append-nil, arith, add-zero}
-use Rattle.std.specs.List.{slice_split, flat_map, join_with_byte, count_by}
+use Rattle.std.specs.List.{slice_split, flat_map, join_with_byte}
 use Rattle.std.proofs.lemmas.List.{map-append}
 use Rattle.std.proofs.lemmas.List.Concat.{flat_map-append}
 use Rattle.std.proofs.lemmas.List.Splits.{length-slice_split, join_with_byte-slice_split}
 use lib.Dec.{eqb}
 use Rattle.piper_replay.specs.declared.list.Item.{Item}
 use Rattle.piper_replay.specs.declared.list.Item.TheVariants.{Range}
-use Rattle.piper_replay.specs.List.{numbers_from, item_text, item_bytes, IsItem, list_text, StandsFor}
+use Rattle.piper_replay.specs.List.{numbers_from, item_text, item_bytes, IsItem, StandsFor}
 
 pub length-numbers_from : (first count : ℕ) → length (numbers_from first count) ≡ count
 length-numbers_from first zero = refl
@@ -48,10 +48,10 @@ no_items = record { items = []; written = refl; meant = refl }
 
 pub one_item_more : (texts : List (List ℕ)) (bytes text : List ℕ) (item : Item) → WritesItems texts bytes → text ≡ item_text item → WritesItems (texts ++ text ∷ []) (bytes ++ item_bytes item)
 one_item_more texts bytes text item so_far here = record {
-      items = so_far.items ++ item ∷ [];
-      written = ap (λ (ts : List (List ℕ)). ts ++ text ∷ []) so_far.written ∙ ap (λ t. map item_text so_far.items ++ t ∷ []) here ∙ sym (map-append item_text so_far.items (item ∷ []));
-      meant = ap (λ (bs : List ℕ). bs ++ item_bytes item) so_far.meant ∙ ap (λ (bs : List ℕ). flat_map item_bytes so_far.items ++ bs) (sym (append-nil (item_bytes item))) ∙ sym (flat_map-append item_bytes so_far.items (item ∷ []));
-    }
+  items = so_far.items ++ item ∷ [];
+  written = ap (λ (ts : List (List ℕ)). ts ++ text ∷ []) so_far.written ∙ ap (λ t. map item_text so_far.items ++ t ∷ []) here ∙ sym (map-append item_text so_far.items (item ∷ []));
+  meant = ap (λ (bs : List ℕ). bs ++ item_bytes item) so_far.meant ∙ ap (λ (bs : List ℕ). flat_map item_bytes so_far.items ++ bs) (sym (append-nil (item_bytes item))) ∙ sym (flat_map-append item_bytes so_far.items (item ∷ []));
+}
 
 -- the parts between the commas of a text are those of its items
 pub list_of_parts : (text bytes : List ℕ) → WritesItems (slice_split (λ c. eqb c 44) text) bytes → StandsFor text bytes
@@ -62,10 +62,10 @@ list_of_parts text bytes parts = go parts.items parts.written parts.meant
         let some = length-slice_split (λ c. eqb c 44) text in
         absurd (omega (arith, some, ap length written))
     go (item ∷ items) written meant = record {
-          items = item ∷ items;
-          written = sym (join_with_byte-slice_split 44 text) ∙ ap (join_with_byte 44) written;
-          meant = meant;
-        }
+      items = item ∷ items;
+      written = sym (join_with_byte-slice_split 44 text) ∙ ap (join_with_byte 44) written;
+      meant = meant;
+    }
 
 -- the texts that a loop over the parts of a text went by
 abbrev pub texts_of : List (Bor (List ℕ)) → List (List ℕ)

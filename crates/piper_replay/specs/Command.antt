@@ -1,5 +1,5 @@
 -- How commands are written, and their limits.
-use Rattle.std.specs.Prelude.{ℕ, ◌≤◌, List, ◌++◌, codes, decimal}
+use Rattle.std.specs.Prelude.{ℕ, ◌≤◌, List, ◌++◌, codes, decimal, ◌≡◌, ◌⊎◌, slice_get, Some, None}
 use Rattle.piper_replay.specs.declared.command.TheConstants.{MOST}
 use Rattle.piper_replay.specs.declared.command.Side.{Side}
 use Rattle.piper_replay.specs.declared.command.Side.TheVariants.{Reader, Writer}
@@ -30,3 +30,7 @@ IsCallInLimits (Len side) = Unit {0}
 abbrev pub IsInLimits : Command → Type 0
 IsInLimits (Pipe capacity) = (1 ≤ capacity) × (capacity ≤ MOST)
 IsInLimits (OfCall call) = IsCallInLimits call
+
+-- an empty line, or one that begins with a hash
+abbrev pub IsSilent : List ℕ → Type 0
+IsSilent line = (slice_get line 0 ≡ None) ⊎ (slice_get line 0 ≡ Some 35)

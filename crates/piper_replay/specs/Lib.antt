@@ -1,3 +1,5 @@
 pub mod Command
+pub mod Ended
 pub mod List
 pub mod Number
+pub mod Reply

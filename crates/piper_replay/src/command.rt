@@ -45,6 +45,11 @@ pub enum Refusal {
 }
 
 impl fmt::Display for Refusal {
+    ghost use Rattle.std.specs.Prelude.{Some};
+    ghost use Rattle.piper_replay.specs.Reply.{refusal_name};
+
+    ghost output = { λ refusal. Some (refusal_name refusal) };
+
     fn fmt<W: fmt::Write>(&self, f: &mut fmt::Formatter<W>) -> fmt::Result {
         f.write_str(match self {
             Refusal::Syntax => "Syntax",

@@ -1,7 +1,7 @@
 //! From the bytes of a line to what they say.
 
-ghost use Rattle.std.specs.Prelude.{◌≡◌, ◌≤◌, ◌<◌, ◌++◌, ◌∷◌, length, IfOk, IfSome};
-ghost use Rattle.piper_replay.specs.Command.{side_text, call_text, command_text, IsCallInLimits, IsInLimits};
+ghost use Rattle.std.specs.Prelude.{◌≡◌, ◌≤◌, ◌<◌, ◌++◌, ◌∷◌, length, IfOk, IfSome, IfNone};
+ghost use Rattle.piper_replay.specs.Command.{side_text, call_text, command_text, IsCallInLimits, IsInLimits, IsSilent};
 
 use crate::command::{Call, Command, MOST, Refusal, Side};
 use crate::list::List;
@@ -15,6 +15,8 @@ pub const MOST_OF_A_LINE: usize = 65_536;
 pub fn parse(line: &[u8]) -> Result<Option<Command<'_>>, Refusal>
     ensures text { IfOk result (λ said. IfSome said (λ command. line.now ≡ command_text command)) }
     ensures limits { IfOk result (λ said. IfSome said IsInLimits) }
+    ensures silent { IfOk result (λ said. IfNone said (IsSilent line.now)) }
+    ensures silence { length line.now ≤ MOST_OF_A_LINE → IsSilent line.now → result ≡ Ok None }
     ensures long { MOST_OF_A_LINE < length line.now → result ≡ Err Refusal.Limit }
 {
     if line.len() > MOST_OF_A_LINE {

@@ -1,5 +1,8 @@
 //! The engine: a script in, its output out.
 
+ghost use Rattle.std.specs.Prelude.{◌<◌, codes, length};
+ghost use Rattle.piper_replay.specs.Ended.{EndsWith};
+
 use crate::command::Refusal;
 use crate::parser::{MOST_OF_A_LINE, parse};
 use crate::player::Player;
@@ -50,6 +53,10 @@ impl Ended {
 }
 
 impl From<Stop> for Ended {
+    ghost use Rattle.piper_replay.specs.Ended.{IsEndOf};
+
+    ghost from_gives = { IsEndOf };
+
     fn from(stop: Stop) -> Ended {
         match stop {
             Stop::Refused(_) => Ended::REFUSED,
@@ -69,7 +76,9 @@ pub fn replay<I: Read, O: Write>(
     words: &[String],
     input: &mut I,
     output: &mut O,
-) -> Ended {
+) -> Ended
+    ensures { 0 < length words.now → EndsWith result 1 (codes "usage: piper_replay [run|all]") }
+{
     if !words.is_empty() {
         return Ended::WRONG_ARGUMENTS;
     }

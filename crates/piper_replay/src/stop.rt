@@ -1,5 +1,8 @@
 //! Why a replay stops before the end of its script.
 
+ghost use Rattle.std.specs.Prelude.{◌≡◌};
+ghost use Rattle.piper_replay.specs.declared.stop.Stop.TheVariants.{Refused, Memory};
+
 use crate::command::Refusal;
 use piper_machine::OutOfMemory;
 use std::alloc::AllocError;
@@ -18,18 +21,24 @@ pub enum Stop {
 }
 
 impl From<Refusal> for Stop {
+    ghost from_gives = { λ refusal stop. stop ≡ Refused refusal };
+
     fn from(refusal: Refusal) -> Stop {
         Stop::Refused(refusal)
     }
 }
 
 impl From<AllocError> for Stop {
+    ghost from_gives = { λ _ stop. stop ≡ Memory };
+
     fn from(_error: AllocError) -> Stop {
         Stop::Memory
     }
 }
 
 impl From<OutOfMemory> for Stop {
+    ghost from_gives = { λ _ stop. stop ≡ Memory };
+
     fn from(_error: OutOfMemory) -> Stop {
         Stop::Memory
     }
