@@ -1,10 +1,11 @@
 -- The unread bytes between two indices, after one of the indices has moved or a free place was written.
 use Rattle.std.proofs.Common.{◌≡◌, ℕ, ◌+◌, ◌-◌, ◌*◌, ◌<◌, ◌≤◌, List, [], ◌++◌, length, take, drop, min, ap, sym, ◌∙◌, arith}
 use Rattle.std.proofs.lemmas.Bool.Decides.{nat_tests}
+use Rattle.std.proofs.Math.ListN.{set}
 use Rattle.piper_machine.specs.Index.{distance, place_of, advanced}
 use Rattle.piper_machine.specs.Buffer.{between, written}
 use Rattle.piper_machine.proofs.Indices.{distance-advanced_to, distance-advanced_from, place_of-distance, place_of-advanced, place_below}
-use Rattle.piper_machine.proofs.Ring.{ring, length-ring, ring-longer, ring-drop, ring-take, ring-pieces, ring-written}
+use Rattle.piper_machine.proofs.Ring.{ring, length-ring, ring-longer, ring-drop, ring-take, ring-pieces, ring-written, ring-set}
 
 module _ (c h t : ℕ) (xs : List ℕ) (long : length xs ≡ c) (head : h < 2 * c) (tail : t < 2 * c) (fits : distance c h t ≤ c) where
   pub length-between : length (between c h t xs) ≡ distance c h t
@@ -41,6 +42,14 @@ module _ (c h t : ℕ) (xs : List ℕ) (long : length xs ≡ c) (head : h < 2 * 
   pub between-pieces : (n : ℕ) → n ≡ min (distance c h t) (c - place_of c h) → between c h t xs ≡ take n (drop (place_of c h) xs) ++ take (distance c h t - n) xs
   unfolding between
   between-pieces n is = ring-pieces c (place_of c h) (distance c h t) xs long (place_below c h head) n fits is
+
+module _ (c h t : ℕ) (xs : List ℕ) (long : length xs ≡ c) (head : h < 2 * c) (tail : t < 2 * c) (fits : distance c h t ≤ c) where
+  pub between-set : (o b : ℕ) → distance c h t + o + 1 ≤ c → place_of c t + o + 1 ≤ c → between c h t (set xs (place_of c t + o) b) ≡ between c h t xs
+  unfolding between
+  between-set o b free below =
+      let there = place_of-distance c h t head tail fits in
+      ap (λ k. ring (place_of c h) (distance c h t) (set xs (k + o) b)) there
+      ∙ ring-set c (place_of c h) (distance c h t) o xs b long (place_below c h head) free (omega (arith, there))
 
 pub between_none : (c h : ℕ) (xs : List ℕ) → between c h h xs ≡ []
 unfolding between

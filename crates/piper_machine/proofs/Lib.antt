@@ -4,4 +4,8 @@ pub mod Between
 pub mod Soundness
 pub mod Moves
 pub mod Rounds
-mod rows
+pub mod Runs
+pub mod Conserving
+pub mod Disjointness
+pub mod Alone
+mod worked

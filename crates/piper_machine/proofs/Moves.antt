@@ -1,37 +1,51 @@
 -- A machine after one of its sides has moved, or a lent place was written: it is a machine again, and which pipe it stands for.
-use Rattle.std.proofs.Common.{◌≡◌, ◌+◌, ◌-◌, ◌*◌, ◌<◌, ◌≤◌, ℕ, List, ◌++◌, take, drop, length, inl, inr, refl, sym, ap, ◌∙◌, arith, length-take-le}
+use Rattle.std.proofs.Common.{◌≡◌, ◌==◌, ◌+◌, ◌-◌, ◌*◌, ◌<◌, ◌≤◌, ℕ, List, ◌++◌, take, drop, length, inl, inr, refl, sym, ap, ◌∙◌, arith, length-take-le}
 use Rattle.std.proofs.lemmas.List.{drop-take, drop-drop, take-take, drop_at}
 use Rattle.std.proofs.lemmas.Bool.{cases_lt}
 use Rattle.std.proofs.Math.Seq.{take-append-add}
 use Rattle.std.proofs.lemmas.Bool.Decides.{nat_tests}
+use Rattle.piper_machine.specs.declared.calls.OpenCall.{OpenCall}
+use Rattle.piper_machine.specs.declared.table.ReadPlace.{ReadPlace}
+use Rattle.piper_machine.specs.declared.table.WritePlace.{WritePlace}
 use Rattle.piper_machine.specs.Index.{distance, place_of, advanced}
 use Rattle.piper_machine.specs.Places.{places_left}
 use Rattle.piper_machine.specs.Lend.{Lendable}
 use Rattle.piper_machine.specs.Move.{published, consumed}
+use Rattle.piper_machine.specs.Table.{Next, write_after, refreshed}
 use Rattle.piper_machine.specs.Side.{Reading, Writing, known_of, room_of, left_of, lend_length}
 use Rattle.piper_machine.specs.Buffer.{between, written}
 use Rattle.piper_machine.specs.Machine.{pipe_of, IsMachine}
 use Rattle.piper_machine.specs.declared.machine.Machine.TheInside.{Inside}
 use Rattle.piper_machine.proofs.Indices.{distance-advanced_to, distance-advanced_from, place_of-advanced, place_below, place_of_low}
-use Rattle.piper_machine.proofs.Between.{between-advanced_tail, between-advanced_head, between-written}
+use Rattle.piper_machine.proofs.Between.{between-advanced_tail, between-advanced_head, between-written, between-set}
+use Rattle.piper_machine.proofs.Ring.{slice-set}
+use Rattle.std.proofs.Math.ListN.{set}
 use Rattle.piper_machine.proofs.Soundness.{tail_below, length-unread, end_place-of, place-same}
 
 -- the reader has seen where the tail stands
-module _ (m : Inside) (i : IsMachine m) (r : Reading) (is : r ≡ record m.read { tail = m.write.tail }) where
-  pub tail_seen-view : let p = pipe_of m in pipe_of (record m { read = r }) ≡ record p { known = length p.unread }
+module _ (m : Inside) (i : IsMachine m) (r : Reading) (place : ReadPlace) (call : OpenCall) (is : r ≡ record m.read { tail = m.write.tail; place = place }) where
+  pub tail_seen-view : let p = pipe_of m in pipe_of (record m { read = r; reader_call = call }) ≡ record p { known = length p.unread; reader = place; reader_call = call }
   tail_seen-view = rw is (let long = length-unread m i in cc)
 
 -- the writer has seen where the head stands
-module _ (m : Inside) (i : IsMachine m) (w : Writing) (is : w ≡ record m.write { head = m.read.head }) where
-  pub head_seen-view : let p = pipe_of m in pipe_of (record m { write = w }) ≡ record p { room = p.capacity - length p.unread }
+module _ (m : Inside) (i : IsMachine m) (w : Writing) (place : WritePlace) (call : OpenCall) (is : w ≡ record m.write { head = m.read.head; place = place }) where
+  pub head_seen-view : let p = pipe_of m in pipe_of (record m { write = w; writer_call = call }) ≡ record p { room = p.capacity - length p.unread; writer = place; writer_call = call }
   head_seen-view = rw is (let long = length-unread m i in let same = i.capacity in cc)
 
+-- what the call table makes of it, in terms of the pipe
+pub refreshed-next : (m : Inside) (i : IsMachine m) → let p = pipe_of m in
+    write_after m.write.capacity (room_of m.write) m.write.place (refreshed (m.write.capacity - distance m.write.capacity m.read.head m.write.tail == 0))
+    ≡ write_after p.capacity p.room p.writer (refreshed (p.capacity - length p.unread == 0))
+refreshed-next m i =
+    ap (λ capacity. write_after capacity (room_of m.write) m.write.place (refreshed (capacity - distance capacity m.read.head m.write.tail == 0))) i.capacity
+    ∙ ap (λ count. write_after m.read.capacity (room_of m.write) m.write.place (refreshed (m.read.capacity - count == 0))) (sym (length-unread m i))
+
 -- bytes in one piece were passed by the reader
-module _ (m : Inside) (i : IsMachine m) (n : ℕ) (r : Reading) (is : r ≡ record m.read { head = advanced m.read.capacity m.read.head n }) (within : n ≤ known_of m.read) (flat : place_of m.read.capacity m.read.head + n ≤ m.read.capacity) where
+module _ (m : Inside) (i : IsMachine m) (n : ℕ) (r : Reading) (place : ReadPlace) (call : OpenCall) (is : r ≡ record m.read { head = advanced m.read.capacity m.read.head n; place = place }) (within : n ≤ known_of m.read) (flat : place_of m.read.capacity m.read.head + n ≤ m.read.capacity) where
   known_left : distance m.read.capacity (advanced m.read.capacity m.read.head n) m.read.tail ≡ known_of m.read - n
   known_left = distance-advanced_from m.read.capacity m.read.head m.read.tail n i.reading.head i.reading.tail within i.reading.known flat i.reading.capacity.0
 
-  pub consumed-view : pipe_of (record m { read = r }) ≡ consumed n (pipe_of m)
+  pub consumed-view : pipe_of (record m { read = r; reader_call = call }) ≡ record (consumed n (pipe_of m)) { reader = place; reader_call = call }
   consumed-view =
       let bytes = between-advanced_head m.read.capacity m.read.head m.write.tail m.bytes.items i.bytes i.reading.head (tail_below m i) i.unread n (omega (arith, i.known)) flat i.reading.capacity.0 in
       let place = place_of-advanced m.read.capacity m.read.head n i.reading.head flat i.reading.capacity.0 in
@@ -73,7 +87,7 @@ front_written k l xs ys fits within =
     ∙ ap (λ zs. ys ++ zs) (ap (take (l - length ys)) (sym (drop-drop (length ys) k xs)) ∙ sym (drop-take (length ys) (l - length ys) (drop k xs)) ∙ ap (λ j. drop (length ys) (take j (drop k xs))) (sym rest))
 
 -- the first n lent places were passed by the writer
-module _ (m : Inside) (i : IsMachine m) (n : ℕ) (w : Writing) (is : w ≡ record m.write { tail = advanced m.write.capacity m.write.tail n; lent = m.write.lent - n }) (within : n ≤ m.write.lent) where
+module _ (m : Inside) (i : IsMachine m) (n : ℕ) (w : Writing) (place : WritePlace) (call : OpenCall) (is : w ≡ record m.write { tail = advanced m.write.capacity m.write.tail n; lent = m.write.lent - n; place = place }) (within : n ≤ m.write.lent) where
   flat : place_of m.read.capacity m.write.tail + n ≤ m.read.capacity
   flat = omega (arith, i.writing.lent_place, place_below m.write.capacity m.write.tail i.writing.tail, place-same m i, i.capacity)
 
@@ -91,7 +105,7 @@ module _ (m : Inside) (i : IsMachine m) (n : ℕ) (w : Writing) (is : w ≡ reco
   rest_of_lent : take (m.write.lent - n) (drop (place_of m.write.capacity (advanced m.write.capacity m.write.tail n)) m.bytes.items) ≡ drop n (take m.write.lent (drop (place_of m.write.capacity m.write.tail) m.bytes.items))
   rest_of_lent = rest_at m.write.capacity m.write.tail m.write.lent n m.bytes.items i.writing.tail i.writing.capacity.0 (omega (arith, i.writing.lent_place, place_below m.write.capacity m.write.tail i.writing.tail)) within
 
-  pub published-view : pipe_of (record m { write = w }) ≡ published n (pipe_of m)
+  pub published-view : pipe_of (record m { write = w; writer_call = call }) ≡ record (published n (pipe_of m)) { writer = place; writer_call = call }
   published-view =
       let same = i.capacity in
       let unread = unread_longer in
@@ -111,3 +125,15 @@ module _ (m : Inside) (i : IsMachine m) (ys : List ℕ) (within : length ys ≤ 
 
   pub lent-written : take m.write.lent (drop (place_of m.write.capacity m.write.tail) (written m.bytes.items (place_of m.write.capacity m.write.tail) ys)) ≡ ys ++ drop (length ys) (take m.write.lent (drop (place_of m.write.capacity m.write.tail) m.bytes.items))
   lent-written = front_written (place_of m.write.capacity m.write.tail) m.write.lent m.bytes.items ys (omega (arith, i.bytes, i.capacity, i.writing.lent_place, place_below m.write.capacity m.write.tail i.writing.tail)) within
+
+-- a byte was put into what is lent
+module _ (m : Inside) (i : IsMachine m) (o b : ℕ) (within : o < m.write.lent) where
+  pub unread-set : between m.read.capacity m.read.head m.write.tail (set m.bytes.items (place_of m.write.capacity m.write.tail + o) b) ≡ between m.read.capacity m.read.head m.write.tail m.bytes.items
+  unread-set =
+      let fits = place_below m.write.capacity m.write.tail i.writing.tail in
+      let same = place-same m i in
+      ap (λ k. between m.read.capacity m.read.head m.write.tail (set m.bytes.items (k + o) b)) same
+      ∙ between-set m.read.capacity m.read.head m.write.tail m.bytes.items i.bytes i.reading.head (tail_below m i) i.unread o b (omega (arith, i.room, i.writing.lent_room, i.capacity, i.writing.within)) (omega (arith, i.writing.lent_place, i.capacity))
+
+  pub lent-set : take m.write.lent (drop (place_of m.write.capacity m.write.tail) (set m.bytes.items (place_of m.write.capacity m.write.tail + o) b)) ≡ set (take m.write.lent (drop (place_of m.write.capacity m.write.tail) m.bytes.items)) o b
+  lent-set = slice-set (place_of m.write.capacity m.write.tail) m.write.lent o m.bytes.items b (omega (arith, i.bytes, i.capacity, i.writing.lent_place, place_below m.write.capacity m.write.tail i.writing.tail)) within

@@ -1,8 +1,10 @@
 -- The bytes of a ring, one by one: number i of those from the place h on stands at the place of h + i.
-use Rattle.std.proofs.Common.{◌≡◌, ℕ, ◌+◌, ◌-◌, ◌<◌, ◌≤◌, ◌⊎◌, List, ◌++◌, length, get_or, take, drop, refl, sym, ap, ◌∙◌, inl, inr, arith, length-append, length-drop, length-take-le, get_or-drop, get_or-take, append-nil, min}
+use Rattle.std.proofs.Common.{◌≡◌, ◌≢◌, ℕ, ◌+◌, ◌-◌, ◌<◌, ◌≤◌, ◌⊎◌, List, ◌++◌, length, get_or, take, drop, refl, sym, ap, ◌∙◌, inl, inr, arith, length-append, length-drop, length-take-le, get_or-drop, get_or-take, append-nil, min}
 use Rattle.std.proofs.Math.Seq.{take-append-add, take-length}
-use Rattle.std.proofs.lemmas.List.{same_lists, take-take, take-append-le, get_or_append_left, get_or-append_right}
-use Rattle.std.proofs.lemmas.Bool.{cases_lt}
+use Rattle.std.proofs.Math.ListN.{set, length-set}
+use Rattle.std.proofs.lemmas.Grind.{get_or-set_at}
+use Rattle.std.proofs.lemmas.List.{get_or-set_other, same_lists, take-take, take-append-le, get_or_append_left, get_or-append_right}
+use Rattle.std.proofs.lemmas.Bool.{cases_lt, cases_eq}
 use Rattle.std.proofs.lemmas.Bool.Decides.{nat_tests}
 use Rattle.piper_machine.specs.Index.{place_of}
 use Rattle.piper_machine.specs.Buffer.{written}
@@ -88,6 +90,9 @@ module _ (c h d : ℕ) (xs : List ℕ) (long : length xs ≡ c) (start : h < c) 
 outside : (c h d i o n : ℕ) → h < c → i < d → d + o + n ≤ c → place_of c (h + d) + o + n ≤ c → (place_of c (h + i) < place_of c (h + d) + o) ⊎ (place_of c (h + d) + o + n ≤ place_of c (h + i))
 outside c h d i o n start within free flat = grind (arith, nat_tests)
 
+apart : (c h d i o : ℕ) → h < c → i < d → d + o + 1 ≤ c → place_of c (h + d) + o + 1 ≤ c → place_of c (h + i) ≢ place_of c (h + d) + o
+apart c h d i o start within free flat = grind (arith, nat_tests)
+
 module _ (c h d o : ℕ) (xs ys : List ℕ) (long : length xs ≡ c) (start : h < c) (free : d + o + length ys ≤ c) (flat : place_of c (h + d) + o + length ys ≤ c) where
   -- a write behind its last byte leaves it as it was
   pub ring-written : ring h d (written xs (place_of c (h + d) + o) ys) ≡ ring h d xs
@@ -101,3 +106,32 @@ module _ (c h d o : ℕ) (xs ys : List ℕ) (long : length xs ≡ c) (start : h 
       get_or-ring c h d zs long_zs start (omega arith) i e (omega arith)
       ∙ get_or-written_outside xs k ys (omega arith) (place_of c (h + i)) e (outside c h d i o (length ys) start (omega arith) free flat)
       ∙ sym (get_or-ring c h d xs long start (omega arith) i e (omega arith)))
+
+module _ (c h d o : ℕ) (xs : List ℕ) (b : ℕ) (long : length xs ≡ c) (start : h < c) (free : d + o + 1 ≤ c) (flat : place_of c (h + d) + o + 1 ≤ c) where
+  -- nor does a byte put behind its last one change it
+  pub ring-set : ring h d (set xs (place_of c (h + d) + o) b) ≡ ring h d xs
+  ring-set =
+      let k = place_of c (h + d) + o in
+      let zs = set xs k b in
+      let long_zs : length zs ≡ c = length-set xs k b ∙ long in
+      let old = length-ring c h d xs long start (omega arith) in
+      let new = length-ring c h d zs long_zs start (omega arith) in
+      same_lists _ _ (new ∙ sym old) (λ i e within.
+      get_or-ring c h d zs long_zs start (omega arith) i e (omega arith)
+      ∙ get_or-set_other xs k (place_of c (h + i)) b e (apart c h d i o start (omega arith) free flat)
+      ∙ sym (get_or-ring c h d xs long start (omega arith) i e (omega arith)))
+
+-- a byte put into a slice
+pub slice-set : (k l o : ℕ) (xs : List ℕ) (b : ℕ) → k + l ≤ length xs → o < l → take l (drop k (set xs (k + o) b)) ≡ set (take l (drop k xs)) o b
+slice-set k l o xs b fits within =
+    let whole = length-set xs (k + o) b in
+    let long : length (take l (drop k xs)) ≡ l = length-take-le l (drop k xs) (simp length-drop (omega arith)) in
+    let long_set : length (take l (drop k (set xs (k + o) b))) ≡ l = length-take-le l (drop k (set xs (k + o) b)) (simp length-drop (omega arith)) in
+    same_lists _ _ (long_set ∙ sym (length-set (take l (drop k xs)) o b ∙ long)) (λ i e inside.
+    let below : i < l = omega (arith, long_set) in
+    let left = get_or-take l (drop k (set xs (k + o) b)) i e below ∙ get_or-drop k (set xs (k + o) b) i e in
+    let right = get_or-take l (drop k xs) i e below ∙ get_or-drop k xs i e in
+    elim (cases_eq i o) [
+      | inl same ↦ left ∙ get_or-set_at xs (k + o) (k + i) b e (omega arith) (omega arith) ∙ sym (get_or-set_at (take l (drop k xs)) o i b e same (omega arith))
+      | inr other ↦ left ∙ get_or-set_other xs (k + o) (k + i) b e (λ h. other (omega arith)) ∙ sym (get_or-set_other (take l (drop k xs)) o i b e other ∙ right)
+    ])

@@ -49,6 +49,8 @@ module _ (m : Inside) (i : IsMachine m) where
         lent_place = rw e (omega (arith, i.writing.lent_place, i.capacity, same, lent));
         shut = λ is_shut. ap (λ n. take n (drop (place_of m.write.capacity m.write.tail) m.bytes.items)) (i.writing.shut is_shut);
         closed = i.shut;
+        head_store = i.reading.store;
+        tail_store = omega (arith, i.writing.store);
       }
 
   pub sound : (p : Pipe) → pipe_of m ≡ p → IsSound p

@@ -1,5 +1,7 @@
 -- The end: a close by the writer, or a side that is dropped. The unread bytes stay, and a pipe once closed stays closed.
 use Rattle.std.specs.Prelude.{true, []}
+use Rattle.piper_machine.specs.declared.table.ReadPlace.TheVariants as at
+use Rattle.piper_machine.specs.declared.table.WritePlace.TheVariants as on
 use Rattle.piper_machine.specs.Pipe.{Pipe}
 use Rattle.piper_machine.specs.Move.{reader_woken, writer_woken}
 
@@ -9,7 +11,7 @@ close p = writer_woken (reader_woken (record p { is_closed = true; is_shut = tru
 
 -- a side is dropped: the other side is woken
 abbrev pub drop_reader : Pipe → Pipe
-drop_reader p = writer_woken (record p { is_closed = true })
+drop_reader p = writer_woken (record p { is_closed = true; reader = at.Dropped })
 
 abbrev pub drop_writer : Pipe → Pipe
-drop_writer p = reader_woken (record p { is_closed = true })
+drop_writer p = reader_woken (record p { is_closed = true; writer = on.Dropped })

@@ -4,7 +4,8 @@ use Rattle.piper_machine.specs.declared.polling.Polled.{Polled}
 use Rattle.piper_machine.specs.declared.polling.Polled.TheVariants.{Pending, Ready, Memory}
 use Rattle.piper_machine.specs.Index.{place_of}
 use Rattle.piper_machine.specs.Pipe.{Pipe, begun}
-use Rattle.piper_machine.specs.Look.{Context, reader_look, writer_look}
+use Rattle.piper_machine.specs.declared.polling.Context.{Context}
+use Rattle.piper_machine.specs.Look.{reader_look, writer_look}
 use Rattle.piper_machine.specs.Move.{with_waker}
 
 -- what a copying call answers, and the pipe that it leaves

@@ -1,5 +1,6 @@
 -- The look that a polling or copying call begins with, run whole: is there something to read, or room to write?
 use Rattle.std.specs.Prelude.{ℕ, Bool, true, false, Option, None, Some, ◌==◌}
+use Rattle.piper_machine.specs.declared.polling.Context.{Context}
 use Rattle.piper_machine.specs.declared.polling.Luck.{Luck}
 use Rattle.piper_machine.specs.declared.polling.Polled.{Polled}
 use Rattle.piper_machine.specs.declared.polling.Polled.TheVariants.{Pending, Ready, Memory}
@@ -7,10 +8,6 @@ use Rattle.piper_machine.specs.Pipe.{Pipe}
 use Rattle.piper_machine.specs.Refresh.{reader_refreshed, writer_refreshed}
 
 -- the context of a polling call; the try forms have none
-pub record Context : Type 0 where
-  pub waker : ℕ
-  pub luck : Luck
-
 abbrev pub context : ℕ → Luck → Context
 context waker luck = record { waker = waker; luck = luck }
 

@@ -1,5 +1,8 @@
 -- How the fields of a machine stand for a pipe.
 use Rattle.std.specs.Prelude.{◌≡◌, ◌≤◌, length, take, drop, true}
+use Rattle.piper_machine.specs.declared.table.ReadPlace.TheVariants as at
+use Rattle.piper_machine.specs.declared.table.WritePlace.TheVariants as on
+use Rattle.piper_machine.specs.Open.{no_call}
 use Rattle.piper_machine.specs.Index.{distance, place_of}
 use Rattle.piper_machine.specs.Buffer.{between}
 use Rattle.piper_machine.specs.Pipe.{Pipe}
@@ -20,6 +23,10 @@ pipe_of m =
       reader_waker = m.reader_slot;
       writer_waker = m.writer_slot;
       woken = m.woken;
+      reader = m.read.place;
+      reader_call = m.reader_call;
+      writer = m.write.place;
+      writer_call = m.writer_call;
     }
 
 pub record IsMachine (m : Inside) : Type 0 where
@@ -31,3 +38,5 @@ pub record IsMachine (m : Inside) : Type 0 where
   pub known : known_of m.read ≤ distance m.read.capacity m.read.head m.write.tail
   pub room : distance m.read.capacity m.read.head m.write.tail ≤ distance m.write.capacity m.write.head m.write.tail
   pub shut : m.write.is_shut ≡ true → m.is_closed ≡ true
+  pub reader_call : m.read.place ≡ at.Idle → m.reader_call ≡ no_call
+  pub writer_call : m.write.place ≡ on.Idle → m.writer_call ≡ no_call

@@ -1,5 +1,11 @@
 -- The state of a pipe, as every contract sees it: a list of bytes, two known counts, and no buffer.
 use Rattle.std.specs.Prelude.{ℕ, List, [], Bool, false, Option, None}
+use Rattle.piper_machine.specs.declared.calls.OpenCall.{OpenCall}
+use Rattle.piper_machine.specs.Open.{no_call}
+use Rattle.piper_machine.specs.declared.table.ReadPlace.{ReadPlace}
+use Rattle.piper_machine.specs.declared.table.ReadPlace.TheVariants as at
+use Rattle.piper_machine.specs.declared.table.WritePlace.{WritePlace}
+use Rattle.piper_machine.specs.declared.table.WritePlace.TheVariants as on
 
 pub record Pipe : Type 0 where
   pub capacity : ℕ
@@ -21,10 +27,15 @@ pub record Pipe : Type 0 where
   pub writer_waker : Option ℕ
   -- the wakers called by the last whole call, oldest first
   pub woken : List ℕ
+  -- where each side stands inside its open call, and what that call holds
+  pub reader : ReadPlace
+  pub reader_call : OpenCall
+  pub writer : WritePlace
+  pub writer_call : OpenCall
 
 -- a pipe as it is made
 abbrev pub fresh : ℕ → Pipe
-fresh capacity = record { capacity = capacity; unread = []; start = 0; known = 0; room = capacity; lent = []; is_closed = false; is_shut = false; reader_waker = None; writer_waker = None; woken = [] }
+fresh capacity = record { capacity = capacity; unread = []; start = 0; known = 0; room = capacity; lent = []; is_closed = false; is_shut = false; reader_waker = None; writer_waker = None; woken = []; reader = at.Idle; reader_call = no_call; writer = on.Idle; writer_call = no_call }
 
 -- a whole call begins: it has called no waker yet
 abbrev pub begun : Pipe → Pipe

@@ -9,7 +9,8 @@ use Rattle.piper_machine.specs.declared.scripted.Failed.{Failed}
 use Rattle.piper_machine.specs.declared.scripted.TheConstants.{MOST_A_ROUND}
 use Rattle.piper_machine.specs.Pipe.{Pipe, begun}
 use Rattle.piper_machine.specs.Places.{peeked_count}
-use Rattle.piper_machine.specs.Look.{Context, reader_look, writer_look}
+use Rattle.piper_machine.specs.declared.polling.Context.{Context}
+use Rattle.piper_machine.specs.Look.{reader_look, writer_look}
 use Rattle.piper_machine.specs.Copy.{Copied, answered, copied_after, filled, drained, unlent}
 
 -- the bytes that a source gives before its end: a failure, an act of no bytes, or the end of its script

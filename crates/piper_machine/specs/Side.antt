@@ -1,5 +1,9 @@
--- What each side keeps: its own index, and the other's as it last saw it.
-use Rattle.std.specs.Prelude.{◌≡◌, ℕ, ◌+◌, ◌-◌, ◌*◌, ◌<◌, ◌≤◌, min, max, Bool, true, if◌then◌else◌}
+-- What each side keeps: its own index, the other's as it last saw it, and its place inside the open call.
+use Rattle.std.specs.Prelude.{◌≡◌, ℕ, ◌+◌, ◌-◌, ◌*◌, ◌<◌, ◌≤◌, min, max, Bool, true, false, if◌then◌else◌}
+use Rattle.piper_machine.specs.declared.table.ReadPlace.{ReadPlace}
+use Rattle.piper_machine.specs.declared.table.ReadPlace.TheVariants as at
+use Rattle.piper_machine.specs.declared.table.WritePlace.{WritePlace}
+use Rattle.piper_machine.specs.declared.table.WritePlace.TheVariants as on
 use Rattle.piper_machine.specs.Index.{IsCapacity, distance, place_of}
 
 pub record Reading : Type 0 where
@@ -8,6 +12,7 @@ pub record Reading : Type 0 where
   pub head : ℕ
   -- the writer's index, as last seen
   pub tail : ℕ
+  pub place : ReadPlace
 
 pub record Writing : Type 0 where
   pub capacity : ℕ
@@ -20,6 +25,7 @@ pub record Writing : Type 0 where
   -- how many places are lent, from the writer's own place on
   pub lent : ℕ
   pub is_shut : Bool
+  pub place : WritePlace
 
 -- the bytes that the reader knows of
 abbrev pub known_of : Reading → ℕ
@@ -48,11 +54,29 @@ lend_length most w = if w.is_shut then 0 else min (min most (lend_bound w)) (min
 abbrev pub lent_out : ℕ → Writing → Writing
 lent_out count w = record w { lent = count; zeroed = max w.zeroed (place_of w.capacity w.tail + count) }
 
+-- the sides of an empty pipe
+abbrev pub fresh_reading : ℕ → Reading
+fresh_reading capacity = record { capacity = capacity; head = 0; tail = 0; place = at.Idle }
+
+abbrev pub fresh_writing : ℕ → Writing
+fresh_writing capacity = record { capacity = capacity; tail = 0; head = 0; zeroed = 0; lent = 0; is_shut = false; place = on.Idle }
+
+-- how many bytes a store gives up that is next
+abbrev pub head_store : ReadPlace → ℕ
+head_store (at.StoreHead n next) = n
+head_store place = 0
+
+-- how many bytes a store publishes that is next
+abbrev pub tail_store : WritePlace → ℕ
+tail_store (on.StoreTail n next) = n
+tail_store place = 0
+
 pub record IsReading (r : Reading) : Type 0 where
   pub capacity : IsCapacity r.capacity
   pub head : r.head < 2 * r.capacity
   pub tail : r.tail < 2 * r.capacity
   pub known : known_of r ≤ r.capacity
+  pub store : head_store r.place ≤ peekable_of r
 
 pub record IsWriting (w : Writing) : Type 0 where
   pub capacity : IsCapacity w.capacity
@@ -62,5 +86,6 @@ pub record IsWriting (w : Writing) : Type 0 where
   pub lent_room : w.lent ≤ room_of w
   pub lent_place : w.lent ≤ left_of w
   pub zeroed : w.zeroed ≤ w.capacity
-  pub lent_zeroed : place_of w.capacity w.tail + w.lent ≤ max w.zeroed (place_of w.capacity w.tail)
+  pub lent_zeroed : place_of w.capacity w.tail + w.lent ≤ w.zeroed
   pub shut : w.is_shut ≡ true → w.lent ≡ 0
+  pub store : tail_store w.place ≤ w.lent

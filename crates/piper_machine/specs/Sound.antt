@@ -1,7 +1,8 @@
 -- What is true of every pipe.
 use Rattle.std.specs.Prelude.{◌≡◌, ◌-◌, ◌<◌, ◌≤◌, length, [], true}
 use Rattle.piper_machine.specs.Pipe.{Pipe}
-use Rattle.piper_machine.specs.Places.{places_left}
+use Rattle.piper_machine.specs.Places.{places_left, peeked_count}
+use Rattle.piper_machine.specs.Side.{head_store, tail_store}
 
 pub record IsSound (p : Pipe) : Type 0 where
   pub unread : length p.unread ≤ p.capacity
@@ -12,3 +13,6 @@ pub record IsSound (p : Pipe) : Type 0 where
   pub lent_place : length p.lent ≤ places_left p
   pub shut : p.is_shut ≡ true → p.lent ≡ []
   pub closed : p.is_shut ≡ true → p.is_closed ≡ true
+  -- a store that is next stays within what its side holds
+  pub head_store : head_store p.reader ≤ peeked_count p
+  pub tail_store : tail_store p.writer ≤ length p.lent

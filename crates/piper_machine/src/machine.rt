@@ -5,21 +5,26 @@ ghost use Rattle.piper_machine.specs.Pipe.{fresh, begun};
 ghost use Rattle.piper_machine.specs.Buffer.{written};
 ghost use Rattle.piper_machine.specs.Places.{peeked, peeked_count, places_left};
 ghost use Rattle.piper_machine.specs.Sound.{IsSound};
-ghost use Rattle.piper_machine.specs.Query.{unread_count};
 ghost use Rattle.piper_machine.specs.Refresh.{reader_refreshed, writer_refreshed};
 ghost use Rattle.piper_machine.specs.Lend.{Lendable, lending};
 ghost use Rattle.piper_machine.specs.Move.{reader_woken, writer_woken, published, consumed, with_waker};
 ghost use Rattle.piper_machine.specs.Copy.{try_fill, try_drain, count_of, filled, drained, unlent};
 
+use crate::calls::OpenCall;
 use crate::index;
 use crate::memory::OutOfMemory;
 use crate::read_side::ReadSide;
 use crate::scripted::MOST_A_ROUND;
 use crate::slot::SlotState;
+use crate::table::{ReadPlace, WritePlace};
 use crate::woken::Woken;
 use crate::write_side::WriteSide;
 use std::alloc::Global;
 use std::marker::Model;
+
+mod run;
+mod steps;
+mod whole;
 
 /// A pipe of bytes and its two sides. Each call of a side is run whole: the other side makes no step during it.
 #[derive(Debug, Drop)]
@@ -32,6 +37,8 @@ pub struct Machine {
     reader_slot: SlotState<u32>,
     writer_slot: SlotState<u32>,
     woken: Woken,
+    reader_call: OpenCall,
+    writer_call: OpenCall,
 }
 
 impl Model for Machine {
@@ -80,6 +87,8 @@ impl Machine {
             reader_slot: SlotState::new(),
             writer_slot: SlotState::new(),
             woken: Woken::new(),
+            reader_call: OpenCall::none(),
+            writer_call: OpenCall::none(),
         })
     }
 
@@ -125,18 +134,21 @@ impl Machine {
     }
 
     fn reload_tail(&mut self)
+        requires { self.old.reader ≡ ReadPlace.Idle }
         ensures { self.new ≡ record self.old { known = length self.old.unread } }
     {
         self.read.refresh(self.write.tail());
     }
 
     fn reload_head(&mut self)
+        requires { self.old.writer ≡ WritePlace.Idle }
         ensures { self.new ≡ record self.old { room = self.old.capacity - length self.old.unread } }
     {
         self.write.refresh(self.read.head());
     }
 
     fn refresh_reader(&mut self)
+        requires { self.old.reader ≡ ReadPlace.Idle }
         ensures { self.new ≡ reader_refreshed self.old }
     {
         if self.known() == 0 {
@@ -145,6 +157,7 @@ impl Machine {
     }
 
     fn refresh_writer(&mut self)
+        requires { self.old.writer ≡ WritePlace.Idle }
         ensures { self.new ≡ writer_refreshed self.old }
     {
         if self.room() == 0 {
@@ -170,17 +183,32 @@ impl Machine {
         }
     }
 
-    /// The known bytes that stand in one piece.
-    fn peek(&self) -> &[u8]
+    /// The known bytes that stand in one piece, oldest first.
+    pub fn r_peek(&self) -> &[u8]
         ensures bytes { result.now ≡ peeked self.now }
         ensures count { length result.now ≡ peeked_count self.now }
     {
-        let place = self.read.place();
+        let place = self.read.front();
         &self.bytes[place..place + self.read.peekable()]
+    }
+
+    // How many known bytes stand in one piece.
+    fn peekable(&self) -> usize
+        ensures { result ≡ peeked_count self.now }
+    {
+        self.read.peekable()
+    }
+
+    // How many bytes are left of the slice last lent.
+    fn lent_count(&self) -> usize
+        ensures { result ≡ length self.now.lent }
+    {
+        self.write.lent()
     }
 
     /// Lends free places in place of what was lent before, and answers how many.
     fn lend(&mut self, most: usize) -> usize
+        requires { self.old.writer ≡ WritePlace.Idle }
         ensures bounds { Lendable most self.old result }
         ensures count { length self.new.lent ≡ result }
         ensures after { self.new ≡ lending self.new.lent self.old }
@@ -189,6 +217,7 @@ impl Machine {
     }
 
     fn unlend(&mut self)
+        requires { self.old.writer ≡ WritePlace.Idle }
         ensures { self.new ≡ unlent self.old }
     {
         self.write.unlend();
@@ -199,18 +228,20 @@ impl Machine {
         requires { length source.now ≤ length self.old.lent }
         ensures { self.new ≡ lending (source.now ++ drop (length source.now) self.old.lent) self.old }
     {
-        write_at(&mut self.bytes, self.write.place(), source);
+        write_at(&mut self.bytes, self.write.front(), source);
     }
 
     fn publish(&mut self, n: usize)
-        requires { n ≤ length self.old.lent }
+        requires idle { self.old.writer ≡ WritePlace.Idle }
+        requires within { n ≤ length self.old.lent }
         ensures { self.new ≡ published n self.old }
     {
         self.write.publish(n);
     }
 
     fn consume(&mut self, n: usize)
-        requires { n ≤ peeked_count self.old }
+        requires idle { self.old.reader ≡ ReadPlace.Idle }
+        requires within { n ≤ peeked_count self.old }
         ensures { self.new ≡ consumed n self.old }
     {
         self.read.consume(n);
@@ -218,6 +249,7 @@ impl Machine {
 
     /// One round of a fill: as many of the first bytes as are lent. Nothing stays lent.
     fn fill_round(&mut self, source: &[u8]) -> usize
+        requires idle { self.old.writer ≡ WritePlace.Idle }
         requires open { self.old.is_shut ≡ false }
         requires woken { length self.old.woken < 2 }
         ensures within { result ≤ min (length source.now) self.old.room }
@@ -237,6 +269,7 @@ impl Machine {
 
     /// One round of a drain: as many known bytes as stand in one piece and fit.
     fn drain_round(&mut self, dest: &mut [u8]) -> usize
+        requires idle { self.old.reader ≡ ReadPlace.Idle }
         requires woken { length self.old.woken < 2 }
         ensures within { result ≤ min (length dest.old) self.old.known }
         ensures place { self.old.start + result ≤ self.old.capacity }
@@ -245,7 +278,7 @@ impl Machine {
         ensures after { self.new ≡ drained result self.old }
     {
         self.learn();
-        let lent = self.peek();
+        let lent = self.r_peek();
         let count = dest.len().min(MOST_A_ROUND.min(lent.len()));
         if count > 0 {
             dest[..count].copy_from_slice(&lent[..count]);
@@ -255,26 +288,9 @@ impl Machine {
         count
     }
 
-    /// How many bytes are unread, as the reader finds it.
-    pub fn r_len(&mut self) -> usize
-        ensures value { result ≡ unread_count self.old }
-        ensures after { self.new ≡ begun self.old }
-    {
-        self.begin_whole();
-        self.len()
-    }
-
-    /// How many bytes are unread, as the writer finds it.
-    pub fn w_len(&mut self) -> usize
-        ensures value { result ≡ unread_count self.old }
-        ensures after { self.new ≡ begun self.old }
-    {
-        self.begin_whole();
-        self.len()
-    }
-
     /// Publishes as many of the first bytes as there is known room, and answers how many.
     pub fn w_try_fill(&mut self, bytes: &[u8]) -> usize
+        requires { self.old.writer ≡ WritePlace.Idle }
         ensures count { result ≡ count_of (try_fill bytes.now self.old).answer }
         ensures after { self.new ≡ (try_fill bytes.now self.old).pipe }
     {
@@ -297,6 +313,7 @@ impl Machine {
 
     /// Moves as many of the known bytes as fit to the front of `dest`, and answers how many.
     pub fn r_try_drain(&mut self, dest: &mut [u8]) -> usize
+        requires { self.old.reader ≡ ReadPlace.Idle }
         ensures count { result ≡ count_of (try_drain (length dest.old) self.old).answer }
         ensures bytes { dest.new ≡ take result self.old.unread ++ drop result dest.old }
         ensures after { self.new ≡ (try_drain (length dest.old) self.old).pipe }
@@ -318,10 +335,25 @@ impl Machine {
     fn pieces(&self) -> (&[u8], &[u8])
         ensures { result.0.now ++ result.1.now ≡ self.now.unread }
     {
-        let head = self.read.place();
+        let head = self.read.front();
         let len = self.len();
         let first = len.min(self.read.capacity() - head);
         (&self.bytes[head..head + first], &self.bytes[..len - first])
+    }
+
+    /// What is left of the slice last lent.
+    pub fn w_lent(&self) -> &[u8]
+        ensures { result.now ≡ self.now.lent }
+    {
+        let place = self.write.front();
+        &self.bytes[place..place + self.write.lent()]
+    }
+
+    /// The wakers called by the last whole call, oldest first: at most two.
+    pub fn woken(&self) -> &[u32]
+        ensures { result.now ≡ self.now.woken }
+    {
+        self.woken.as_slice()
     }
 
     /// A copy of the unread bytes, oldest first.

@@ -21,3 +21,11 @@ pub enum Polled<T> {
     /// A waker's clone was needed and refused. No byte has moved.
     Memory,
 }
+
+/// The context of a polling call. The try forms have none.
+#[derive(Clone, Copy, Debug, PartialEq, Eq)]
+pub struct Context {
+    /// The name of the caller's waker.
+    pub waker: u32,
+    pub luck: Luck,
+}

@@ -50,7 +50,7 @@ fn a_reader_knows_what_it_saw(rt: HostRuntime) {
     side.refresh(5);
     assert_eq!(rt; (side.known(), side.peekable()), (5, 5));
     side.consume(3);
-    assert_eq!(rt; (side.head(), side.place(), side.known()), (3, 3, 2));
+    assert_eq!(rt; (side.head(), side.front(), side.known()), (3, 3, 2));
     assert_eq!(rt; side.capacity(), 8);
 }
 
@@ -60,12 +60,10 @@ fn a_writer_is_lent_what_is_free(rt: HostRuntime) {
     assert_eq!(rt; side.lendable(5), 5);
     assert_eq!(rt; side.lend(5), 5);
     side.publish(3);
-    assert_eq!(rt; (side.tail(), side.place(), side.lent()), (3, 3, 2));
+    assert_eq!(rt; (side.tail(), side.front(), side.lent()), (3, 3, 2));
     side.unlend();
     side.refresh(2);
     assert_eq!(rt; (side.room(), side.lent()), (7, 0));
-    side.shut();
-    assert_eq!(rt; side.lend(5), 0);
 }
 
 #[test]

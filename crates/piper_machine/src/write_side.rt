@@ -1,14 +1,23 @@
-//! The writer's side: its own index, the reader's as it last saw it, and what is lent.
-ghost use Rattle.std.specs.Prelude.{◌≡◌, ◌+◌, ◌-◌, ◌*◌, ◌<◌, ◌≤◌, true, false};
+//! The writer's side: its own index, the reader's as it last saw it, what is lent, and its place inside the open call.
+ghost use Rattle.std.specs.Prelude.{IsSome, ◌≡◌, ◌≢◌, ℕ, ◌+◌, ◌-◌, ◌*◌, ◌<◌, ◌≤◌, true, false, ◌==◌};
+ghost use Rattle.piper_machine.specs.Table.{write_action, write_after, write_done, writer_found, nothing, unread, refreshed, flag, granted, waker};
 ghost use Rattle.piper_machine.specs.Index.{IsCapacity, distance, place_of, advanced};
 
+use crate::calls::{Query, Side};
+use crate::events::Answer;
 use crate::index;
+use crate::polling::Polled;
+use crate::read_side::{end_or_pending, look_answer};
+use crate::table::{Action, AfterWrite, Purpose, WritePlace};
 use std::marker::Model;
 
 /// The least that is lent where the buffer was never written, if there is room for it.
 const LEAST_LEND: usize = 4096;
 
-/// What the writer keeps. It knows no buffer, no waker and no runtime.
+/// What the writer keeps. It knows no buffer, no slot, no waker and no runtime.
+///
+/// A call is opened by one of the `begin_` functions. `next` then says which step the call table puts
+/// next, and the function named after that step takes in what was found; it answers where the call ends.
 #[derive(Debug, Drop)]
 pub struct WriteSide {
     capacity: usize,
@@ -17,6 +26,7 @@ pub struct WriteSide {
     zeroed: usize,
     lent: usize,
     is_shut: bool,
+    place: WritePlace,
 }
 
 impl Model for WriteSide {
@@ -24,18 +34,27 @@ impl Model for WriteSide {
 
     ghost Value = { Writing };
 
-    ghost view = { λ side. record { capacity = side.capacity; tail = side.tail; head = side.head; zeroed = side.zeroed; lent = side.lent; is_shut = side.is_shut } };
+    ghost view = { λ side. record { capacity = side.capacity; tail = side.tail; head = side.head; zeroed = side.zeroed; lent = side.lent; is_shut = side.is_shut; place = side.place } };
 
-    ghost invariant = { λ side. IsWriting (record { capacity = side.capacity; tail = side.tail; head = side.head; zeroed = side.zeroed; lent = side.lent; is_shut = side.is_shut }) };
+    ghost invariant = { λ side. IsWriting (record { capacity = side.capacity; tail = side.tail; head = side.head; zeroed = side.zeroed; lent = side.lent; is_shut = side.is_shut; place = side.place }) };
+}
+
+// Where a look leads that finds room.
+fn found(purpose: Purpose) -> WritePlace
+    ensures { result ≡ writer_found purpose }
+{
+    match purpose {
+        Purpose::Poll => WritePlace::LookTake(purpose),
+    }
 }
 
 impl WriteSide {
-    ghost use Rattle.piper_machine.specs.Side.{IsWriting, room_of, left_of, lend_length, lent_out};
+    ghost use Rattle.piper_machine.specs.Side.{IsWriting, fresh_writing, room_of, left_of, lend_length, lent_out};
 
     /// The writer of an empty pipe.
     pub fn new(capacity: usize) -> Self
         requires { IsCapacity capacity }
-        ensures fresh { result ≡ record { capacity = capacity; tail = 0; head = 0; zeroed = 0; lent = 0; is_shut = false } }
+        ensures fresh { result ≡ fresh_writing capacity }
         ensures sound { IsWriting result }
     {
         WriteSide {
@@ -45,6 +64,7 @@ impl WriteSide {
             zeroed: 0,
             lent: 0,
             is_shut: false,
+            place: WritePlace::Idle,
         }
     }
 
@@ -56,7 +76,7 @@ impl WriteSide {
     }
 
     /// The place from which on the writer is lent.
-    pub fn place(&self) -> usize
+    pub fn front(&self) -> usize
         ensures value { result ≡ place_of self.now.capacity self.now.tail }
         ensures below { result < self.now.capacity }
     {
@@ -78,8 +98,16 @@ impl WriteSide {
         self.lent
     }
 
+    /// Where the writer stands inside its open call.
+    pub fn place(&self) -> WritePlace
+        ensures { result ≡ self.now.place }
+    {
+        self.place
+    }
+
     /// Takes in where the reader's index stands, at a side that lends nothing.
     pub fn refresh(&mut self, head: usize)
+        requires idle { self.old.place ≡ WritePlace.Idle }
         requires index { head < 2 * self.old.capacity }
         requires within { distance self.old.capacity head self.old.tail ≤ self.old.capacity }
         requires lent { self.old.lent ≤ self.old.capacity - distance self.old.capacity head self.old.tail }
@@ -100,7 +128,7 @@ impl WriteSide {
             return 0;
         }
         let bound = (2 * self.zeroed).saturating_add(LEAST_LEND);
-        let free = self.room().min(self.capacity - self.place());
+        let free = self.room().min(self.capacity - self.front());
         most.min(bound).min(free)
     }
 
@@ -108,12 +136,13 @@ impl WriteSide {
     ///
     /// Places beyond those that were set already are to be set to zero before they are handed out.
     pub fn lend(&mut self, most: usize) -> usize
+        requires { self.old.place ≡ WritePlace.Idle }
         ensures count { result ≡ lend_length most self.old }
         ensures after { self.new ≡ lent_out result self.old }
         ensures sound { IsWriting self.new }
     {
         let count = self.lendable(most);
-        let end = self.place() + count;
+        let end = self.front() + count;
         self.zeroed = self.zeroed.max(end);
         self.lent = count;
         count
@@ -121,6 +150,7 @@ impl WriteSide {
 
     /// Takes back what is lent.
     pub fn unlend(&mut self)
+        requires { self.old.place ≡ WritePlace.Idle }
         ensures after { self.new ≡ record self.old { lent = 0 } }
         ensures sound { IsWriting self.new }
     {
@@ -129,7 +159,8 @@ impl WriteSide {
 
     /// Passes the first `n` places of what is lent.
     pub fn publish(&mut self, n: usize)
-        requires { n ≤ self.old.lent }
+        requires idle { self.old.place ≡ WritePlace.Idle }
+        requires within { n ≤ self.old.lent }
         ensures after { self.new ≡ record self.old { tail = advanced self.old.capacity self.old.tail n; lent = self.old.lent - n } }
         ensures sound { IsWriting self.new }
     {
@@ -137,12 +168,310 @@ impl WriteSide {
         self.lent -= n;
     }
 
-    /// Lends nothing from now on.
-    pub fn shut(&mut self)
-        ensures after { self.new ≡ record self.old { lent = 0; is_shut = true } }
+    /// Opens a query on the number of unread bytes.
+    pub fn begin_query(&mut self, query: Query)
+        requires { self.old.place ≡ WritePlace.Idle }
+        ensures after { self.new ≡ record self.old { place = WritePlace.QueryHead query } }
         ensures sound { IsWriting self.new }
     {
-        self.unlend();
+        self.place = WritePlace::QueryHead(query);
+    }
+
+    /// Opens the query whether the pipe is closed.
+    pub fn begin_is_closed(&mut self)
+        requires { self.old.place ≡ WritePlace.Idle }
+        ensures after { self.new ≡ record self.old { place = WritePlace.QueryClosed } }
+        ensures sound { IsWriting self.new }
+    {
+        self.place = WritePlace::QueryClosed;
+    }
+
+    /// Opens a call that begins with a look.
+    pub fn begin_look(&mut self, purpose: Purpose)
+        requires { self.old.place ≡ WritePlace.Idle }
+        ensures after { self.new ≡ record self.old { place = WritePlace.LookClosed purpose } }
+        ensures sound { IsWriting self.new }
+    {
+        self.place = WritePlace::LookClosed(purpose);
+    }
+
+    /// Opens the call that publishes the first `n` bytes of what is lent.
+    pub fn begin_produced(&mut self, n: usize)
+        requires idle { self.old.place ≡ WritePlace.Idle }
+        requires within { n ≤ self.old.lent }
+        ensures after { self.new ≡ record self.old { place = WritePlace.StoreTail n AfterWrite.Answer } }
+        ensures sound { IsWriting self.new }
+    {
+        self.place = WritePlace::StoreTail(n, AfterWrite::Answer);
+    }
+
+    /// Opens the close.
+    pub fn begin_close(&mut self)
+        requires { self.old.place ≡ WritePlace.Idle }
+        ensures after { self.new ≡ record self.old { place = WritePlace.StoreClosed AfterWrite.WakeWriter } }
+        ensures sound { IsWriting self.new }
+    {
+        self.place = WritePlace::StoreClosed(AfterWrite::WakeWriter);
+    }
+
+    /// Opens the writer's drop.
+    pub fn begin_drop(&mut self)
+        requires { self.old.place ≡ WritePlace.Idle }
+        ensures after { self.new ≡ record self.old { place = WritePlace.StoreClosed AfterWrite.Drop } }
+        ensures sound { IsWriting self.new }
+    {
+        self.place = WritePlace::StoreClosed(AfterWrite::Drop);
+    }
+
+    /// The step that the call table puts next.
+    pub fn next(&self) -> Action
+        ensures step { result ≡ write_action self.now.place }
+        ensures within { (n : ℕ) → result ≡ Action.StoreTail n → n ≤ self.now.lent }
+        ensures no_head { (n : ℕ) → result ≢ Action.StoreHead n }
+    {
+        match self.place {
+            WritePlace::Idle | WritePlace::Dropped => Action::Rest,
+            WritePlace::QueryHead(_) => Action::LoadHead,
+            WritePlace::QueryTail(_, _) => Action::LoadTail,
+            WritePlace::QueryClosed | WritePlace::LookClosed(_) | WritePlace::LookClosedAgain(_) =>
+                Action::LoadClosed,
+            WritePlace::LookHead(_) | WritePlace::LookHeadAgain(_) => Action::Refresh,
+            WritePlace::LookRegister(_) => Action::Register,
+            WritePlace::LookTake(_) | WritePlace::TakeWriter => Action::Take(Side::Writer),
+            WritePlace::StoreTail(n, _) => Action::StoreTail(n),
+            WritePlace::TakeReader(_) => Action::Take(Side::Reader),
+            WritePlace::WakeReader(_) | WritePlace::WakeWriter => Action::Wake,
+            WritePlace::StoreClosed(AfterWrite::WakeWriter) => Action::StoreClosed {
+                is_shut: true,
+            },
+            WritePlace::StoreClosed(_) => Action::StoreClosed { is_shut: false },
+        }
+    }
+
+    /// The head was loaded in a query, and so many bytes were unread.
+    pub fn loaded_head(&mut self, count: usize) -> Option<Answer>
+        requires next { write_action self.old.place ≡ Action.LoadHead }
+        ensures after { self.new ≡ record self.old { place = (write_after self.old.capacity (room_of self.old) self.old.place (unread count)).place } }
+        ensures answer { result ≡ (write_after self.old.capacity (room_of self.old) self.old.place (unread count)).answer }
+        ensures open { self.new.place ≡ WritePlace.Idle → IsSome result }
+        ensures sound { IsWriting self.new }
+    {
+        if let WritePlace::QueryHead(query) = self.place {
+            self.place = WritePlace::QueryTail(query, count);
+        }
+        None
+    }
+
+    /// The tail was loaded in a query.
+    pub fn loaded_tail(&mut self) -> Option<Answer>
+        requires next { write_action self.old.place ≡ Action.LoadTail }
+        ensures after { self.new ≡ record self.old { place = (write_after self.old.capacity (room_of self.old) self.old.place nothing).place } }
+        ensures answer { result ≡ (write_after self.old.capacity (room_of self.old) self.old.place nothing).answer }
+        ensures open { self.new.place ≡ WritePlace.Idle → IsSome result }
+        ensures sound { IsWriting self.new }
+    {
+        if let WritePlace::QueryTail(query, count) = self.place {
+            return self.ends(query.answer(self.capacity, count));
+        }
+        None
+    }
+
+    /// The head was loaded in a look, and stood at this index.
+    pub fn refreshed(&mut self, head: usize) -> Option<Answer>
+        requires next { write_action self.old.place ≡ Action.Refresh }
+        requires index { head < 2 * self.old.capacity }
+        requires within { distance self.old.capacity head self.old.tail ≤ self.old.capacity }
+        requires lent { self.old.lent ≤ self.old.capacity - distance self.old.capacity head self.old.tail }
+        ensures after { self.new ≡ record (record self.old { head = head }) { place = (write_after self.old.capacity (room_of self.old) self.old.place (refreshed (self.old.capacity - distance self.old.capacity head self.old.tail == 0))).place } }
+        ensures answer { result ≡ (write_after self.old.capacity (room_of self.old) self.old.place (refreshed (self.old.capacity - distance self.old.capacity head self.old.tail == 0))).answer }
+        ensures open { self.new.place ≡ WritePlace.Idle → IsSome result }
+        ensures sound { IsWriting self.new }
+    {
+        self.head = head;
+        let none = self.room() == 0;
+        match self.place {
+            WritePlace::LookHead(purpose) => self.place = if none {
+                WritePlace::LookRegister(purpose)
+            } else {
+                found(purpose)
+            },
+            WritePlace::LookHeadAgain(purpose) => self.place = if none {
+                WritePlace::LookClosedAgain(purpose)
+            } else {
+                found(purpose)
+            },
+            _ => {}
+        }
+        None
+    }
+
+    /// Closed was loaded, and the flag was this.
+    pub fn loaded_closed(&mut self, is_closed: bool) -> Option<Answer>
+        requires next { write_action self.old.place ≡ Action.LoadClosed }
+        ensures after { self.new ≡ record self.old { place = (write_after self.old.capacity (room_of self.old) self.old.place (flag is_closed)).place } }
+        ensures answer { result ≡ (write_after self.old.capacity (room_of self.old) self.old.place (flag is_closed)).answer }
+        ensures open { self.new.place ≡ WritePlace.Idle → IsSome result }
+        ensures sound { IsWriting self.new }
+    {
+        let none = self.room() == 0;
+        match self.place {
+            WritePlace::QueryClosed => return self.ends(Answer::Flag(is_closed)),
+            WritePlace::LookClosed(purpose) if is_closed => return self.ends(look_answer(
+                purpose,
+                Polled::Ready(false),
+            )),
+            WritePlace::LookClosed(purpose) => self.place = if none {
+                WritePlace::LookHead(purpose)
+            } else {
+                found(purpose)
+            },
+            WritePlace::LookClosedAgain(purpose) => return self.ends(look_answer(
+                purpose,
+                end_or_pending(is_closed),
+            )),
+            _ => {}
+        }
+        None
+    }
+
+    /// The call's waker was registered, or its clone was refused.
+    pub fn registered(&mut self, is_granted: bool) -> Option<Answer>
+        requires next { write_action self.old.place ≡ Action.Register }
+        ensures after { self.new ≡ record self.old { place = (write_after self.old.capacity (room_of self.old) self.old.place (granted is_granted)).place } }
+        ensures answer { result ≡ (write_after self.old.capacity (room_of self.old) self.old.place (granted is_granted)).answer }
+        ensures open { self.new.place ≡ WritePlace.Idle → IsSome result }
+        ensures sound { IsWriting self.new }
+    {
+        if let WritePlace::LookRegister(purpose) = self.place {
+            if !is_granted {
+                return self.ends(look_answer(purpose, Polled::Memory));
+            }
+            self.place = WritePlace::LookHeadAgain(purpose);
+        }
+        None
+    }
+
+    /// The writer's own slot was emptied, and a waker stood in it or not.
+    pub fn took_own(&mut self, is_found: bool) -> Option<Answer>
+        requires next { write_action self.old.place ≡ Action.Take Side.Writer }
+        ensures after { self.new ≡ record self.old { place = (write_after self.old.capacity (room_of self.old) self.old.place (waker is_found)).place } }
+        ensures answer { result ≡ (write_after self.old.capacity (room_of self.old) self.old.place (waker is_found)).answer }
+        ensures open { self.new.place ≡ WritePlace.Idle → IsSome result }
+        ensures sound { IsWriting self.new }
+    {
+        match self.place {
+            WritePlace::LookTake(Purpose::Poll) => self.ends(Answer::Poll(Polled::Ready(true))),
+            WritePlace::TakeWriter if is_found => {
+                self.place = WritePlace::WakeWriter;
+                None
+            }
+            WritePlace::TakeWriter => self.ends(Answer::Done),
+            _ => None,
+        }
+    }
+
+    /// The reader's slot was emptied, and a waker stood in it or not.
+    pub fn took_reader(&mut self, is_found: bool) -> Option<Answer>
+        requires next { write_action self.old.place ≡ Action.Take Side.Reader }
+        ensures after { self.new ≡ record self.old { place = (write_after self.old.capacity (room_of self.old) self.old.place (waker is_found)).place } }
+        ensures answer { result ≡ (write_after self.old.capacity (room_of self.old) self.old.place (waker is_found)).answer }
+        ensures open { self.new.place ≡ WritePlace.Idle → IsSome result }
+        ensures sound { IsWriting self.new }
+    {
+        match self.place {
+            WritePlace::TakeReader(next) if !is_found => self.done(next),
+            WritePlace::TakeReader(next) => {
+                self.place = WritePlace::WakeReader(next);
+                None
+            }
+            _ => None,
+        }
+    }
+
+    /// The waker that was taken was called.
+    pub fn woke(&mut self) -> Option<Answer>
+        requires next { write_action self.old.place ≡ Action.Wake }
+        ensures after { self.new ≡ record self.old { place = (write_after self.old.capacity (room_of self.old) self.old.place nothing).place } }
+        ensures answer { result ≡ (write_after self.old.capacity (room_of self.old) self.old.place nothing).answer }
+        ensures open { self.new.place ≡ WritePlace.Idle → IsSome result }
+        ensures sound { IsWriting self.new }
+    {
+        match self.place {
+            WritePlace::WakeReader(next) => self.done(next),
+            WritePlace::WakeWriter => self.ends(Answer::Done),
+            _ => None,
+        }
+    }
+
+    /// The closed flag was set, by a drop.
+    pub fn stored_closed(&mut self) -> Option<Answer>
+        requires next { write_action self.old.place ≡ Action.StoreClosed false }
+        ensures after { self.new ≡ record self.old { place = (write_after self.old.capacity (room_of self.old) self.old.place nothing).place } }
+        ensures answer { result ≡ (write_after self.old.capacity (room_of self.old) self.old.place nothing).answer }
+        ensures open { self.new.place ≡ WritePlace.Idle → IsSome result }
+        ensures sound { IsWriting self.new }
+    {
+        if let WritePlace::StoreClosed(next) = self.place {
+            self.place = WritePlace::TakeReader(next);
+        }
+        None
+    }
+
+    /// The closed flag was set, by a close: nothing is lent from now on.
+    pub fn shut(&mut self) -> Option<Answer>
+        requires next { write_action self.old.place ≡ Action.StoreClosed true }
+        ensures after { self.new ≡ record (record self.old { lent = 0; is_shut = true }) { place = (write_after self.old.capacity (room_of self.old) self.old.place nothing).place } }
+        ensures answer { result ≡ (write_after self.old.capacity (room_of self.old) self.old.place nothing).answer }
+        ensures open { self.new.place ≡ WritePlace.Idle → IsSome result }
+        ensures sound { IsWriting self.new }
+    {
+        self.lent = 0;
         self.is_shut = true;
+        if let WritePlace::StoreClosed(next) = self.place {
+            self.place = WritePlace::TakeReader(next);
+        }
+        None
+    }
+
+    /// The tail was stored, past the first `n` bytes of what is lent.
+    pub fn stored_tail(&mut self, n: usize) -> Option<Answer>
+        requires next { write_action self.old.place ≡ Action.StoreTail n }
+        requires within { n ≤ self.old.lent }
+        ensures after { self.new ≡ record (record self.old { tail = advanced self.old.capacity self.old.tail n; lent = self.old.lent - n }) { place = (write_after self.old.capacity (room_of self.old) self.old.place nothing).place } }
+        ensures answer { result ≡ (write_after self.old.capacity (room_of self.old) self.old.place nothing).answer }
+        ensures open { self.new.place ≡ WritePlace.Idle → IsSome result }
+        ensures sound { IsWriting self.new }
+    {
+        self.tail = index::advance(self.capacity, self.tail, n);
+        self.lent -= n;
+        if let WritePlace::StoreTail(_, next) = self.place {
+            self.place = WritePlace::TakeReader(next);
+        }
+        None
+    }
+
+    fn ends(&mut self, answer: Answer) -> Option<Answer>
+        ensures after { self.new ≡ record self.old { place = WritePlace.Idle } }
+        ensures answer { result ≡ Some answer }
+        ensures sound { IsWriting self.new }
+    {
+        self.place = WritePlace::Idle;
+        Some(answer)
+    }
+
+    fn done(&mut self, next: AfterWrite) -> Option<Answer>
+        ensures after { self.new ≡ record self.old { place = (write_done next).place } }
+        ensures answer { result ≡ (write_done next).answer }
+        ensures sound { IsWriting self.new }
+    {
+        match next {
+            AfterWrite::Answer => self.place = WritePlace::Idle,
+            AfterWrite::Drop => self.place = WritePlace::Dropped,
+            AfterWrite::WakeWriter => {
+                self.place = WritePlace::TakeWriter;
+                return None;
+            }
+        }
+        Some(Answer::Done)
     }
 }

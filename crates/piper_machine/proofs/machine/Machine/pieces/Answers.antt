@@ -13,9 +13,9 @@ returns c =
     let unread = ap (λ (p : Pipe). p.unread) c.self.view_is in
     let len : c.len-len.result ≡ distance m.read.capacity m.read.head m.write.tail = c.len-len.ensures.value ∙ sym (ap length unread) ∙ length-unread m i in
     let first : n ≡ min (distance m.read.capacity m.read.head m.write.tail) (m.read.capacity - place_of m.read.capacity m.read.head) = c.min-first.ensures ∙ omega arith in
-    let piece : c.place-head.result + n - c.place-head.result ≡ n = omega arith in
+    let piece : c.front-head.result + n - c.front-head.result ≡ n = omega arith in
     let parts = between-pieces m.read.capacity m.read.head m.write.tail m.bytes.items i.bytes i.reading.head i.unread n first in
-    let place = c.place-head.ensures.value in
+    let place = c.front-head.ensures.value in
     let bytes = c.deref.ensures.value in
     let bytes_again = c.deref-2.ensures.value in
     cc

@@ -33,4 +33,5 @@ loop-done-preserved c =
       drained = after ∙ ap (drained n) inv.drained ∙ drained-drained d n q sound.start (omega arith) (omega (arith, sound.known, sound.unread));
       bytes = whole;
       woken = inv.woken;
+      idle = inv.idle;
     }

@@ -1,4 +1,5 @@
 use Rattle.std.proofs.Common.{◌≡◌, ◌≤◌, ◌-◌, ◌++◌, length, take, drop, []}
+use Rattle.piper_machine.specs.declared.table.ReadPlace.TheVariants as ReadPlace
 use Rattle.piper_machine.specs.Copy.{drained}
 use Rattle.piper_machine.proofs.machine.Machine.r_try_drain.Given as goal
 
@@ -9,6 +10,7 @@ invariant-loop-done l = record {
   drained : l.self ≡ drained l.done l.initial.self;
   bytes : l.dest ≡ take l.done l.initial.self.unread ++ drop l.done l.fn.dest;
   woken : l.initial.self.woken ≡ [];
+  idle : l.initial.self.reader ≡ ReadPlace.Idle;
 }
 
 abbrev pub decreases-loop-done : goal.decreases-loop-done

@@ -23,6 +23,7 @@ loop-done-preserved c =
       room = omega (arith, within, room, long);
       filled = after ∙ ap (filled (take n (drop d xs))) inv.filled ∙ filled-filled (take d xs) (take n (drop d xs)) q ∙ ap (λ (zs : List ℕ). filled zs q) (sym (take-add d n xs));
       woken = inv.woken;
+      idle = inv.idle;
       lent = inv.lent;
       is_open = inv.is_open;
     }

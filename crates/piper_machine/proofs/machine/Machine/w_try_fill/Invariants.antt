@@ -1,4 +1,5 @@
 use Rattle.std.proofs.Common.{◌≡◌, ◌≤◌, ◌-◌, length, take, [], false}
+use Rattle.piper_machine.specs.declared.table.WritePlace.TheVariants as WritePlace
 use Rattle.piper_machine.specs.Copy.{filled}
 use Rattle.piper_machine.proofs.machine.Machine.w_try_fill.Given as goal
 
@@ -8,6 +9,7 @@ invariant-loop-done l = record {
   room : l.done ≤ l.initial.self.room;
   filled : l.self ≡ filled (take l.done l.bytes) l.initial.self;
   woken : l.initial.self.woken ≡ [];
+  idle : l.initial.self.writer ≡ WritePlace.Idle;
   lent : l.initial.self.lent ≡ [];
   is_open : l.initial.self.is_shut ≡ false;
 }

@@ -10,7 +10,7 @@ returns c =
     let i = c.self.invariant in
     let same = ap (λ (p : Pipe). length p.lent) c.self.view_is in
     let long = length-lent m i in
-    let bytes = rw c.place.ensures.value at c.write_at.ensures in
+    let bytes = rw c.front.ensures.value at c.write_at.ensures in
     let unread = unread-written m i c.args.source.now (omega arith) in
     let lent = lent-written m i c.args.source.now (omega arith) in
     rw (← c.self.view_is) (cc)

@@ -7,7 +7,7 @@ use Rattle.piper_machine.specs.declared.scripted.DestAct.TheVariants as dest
 use Rattle.piper_machine.specs.Pipe.{Pipe, fresh}
 use Rattle.piper_machine.specs.Copy.{drained}
 use Rattle.piper_machine.specs.Scripted.{taken_by, drain_moves_to}
-use Rattle.piper_machine.proofs.rows.Script.{◌to◌, Call, Reader, Writer, Fill, Drain, Len, Peek, FillFrom, DrainTo, by, Count, Bytes, Ready, Failed, answers, after, ProducedPassesLent}
+use Rattle.piper_machine.proofs.worked.Script.{◌to◌, Call, Reader, Writer, Fill, Drain, Len, Peek, FillFrom, DrainTo, by, Count, Bytes, Ready, Failed, answers, after, ProducedPassesLent}
 
 abbrev failing_source : List Call
 failing_source = FillFrom (by 1) (source.Bytes (1 to 3) ∷ source.Fail ∷ []) ∷ Len Writer ∷ []

@@ -4,7 +4,7 @@ use Rattle.piper_machine.specs.Places.{peeked}
 use Rattle.piper_machine.proofs.Indices.{place_below}
 use Rattle.piper_machine.proofs.Between.{take-between}
 use Rattle.piper_machine.proofs.Soundness.{tail_below}
-use Rattle.piper_machine.proofs.machine.Machine.peek.Goals as goal
+use Rattle.piper_machine.proofs.machine.Machine.r_peek.Goals as goal
 
 pub returns-clause-bytes : goal.returns-clause-bytes
 returns-clause-bytes c =
@@ -12,9 +12,9 @@ returns-clause-bytes c =
     let i = c.self.invariant in
     let count = c.peekable.ensures in
     let below = place_below m.read.capacity m.read.head i.reading.head in
-    let n : c.place-place.result + c.peekable.result - c.place-place.result ≡ c.peekable.result = omega arith in
+    let n : c.front-place.result + c.peekable.result - c.front-place.result ≡ c.peekable.result = omega arith in
     let bytes = take-between m.read.capacity m.read.head m.write.tail m.bytes.items i.bytes i.reading.head (tail_below m i) i.unread c.peekable.result (omega (arith, i.known)) (omega arith) in
     let same = ap (λ (p : Pipe). peeked p) c.self.view_is in
-    let place = c.place-place.ensures.value in
+    let place = c.front-place.ensures.value in
     let of_bytes = c.deref.ensures in
     cc

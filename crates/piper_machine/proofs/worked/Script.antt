@@ -7,10 +7,11 @@ use Rattle.piper_machine.specs.declared.polling.Polled.TheVariants as polled
 use Rattle.piper_machine.specs.declared.scripted.SourceAct.{SourceAct}
 use Rattle.piper_machine.specs.declared.scripted.DestAct.{DestAct}
 use Rattle.piper_machine.specs.declared.scripted.Failed as failed
+use Rattle.piper_machine.specs.declared.polling.Context.{Context}
 use Rattle.piper_machine.specs.Pipe.{Pipe, begun}
 use Rattle.piper_machine.specs.Places.{peeked, peeked_count}
 use Rattle.piper_machine.specs.Query.{unread_count, is_empty, is_full, is_closed}
-use Rattle.piper_machine.specs.Look.{Context, context, reader_look, writer_look}
+use Rattle.piper_machine.specs.Look.{context, reader_look, writer_look}
 use Rattle.piper_machine.specs.Lend.{lend_limit, lending}
 use Rattle.piper_machine.specs.Move.{produce, consume}
 use Rattle.piper_machine.specs.Copy.{count_of, try_fill, try_drain, fill, drain}

@@ -2,7 +2,7 @@
 use Rattle.std.specs.Prelude.{◌≡◌, List, [], ◌∷◌, true, false, refl}
 use Rattle.std.proofs.Common.{arith}
 use Rattle.piper_machine.specs.Pipe.{fresh}
-use Rattle.piper_machine.proofs.rows.Script.{◌to◌, Call, Reader, Writer, Fill, Drain, Len, Poll, by, Lend, Put, Produced, Close, Drop, Done, Count, Bytes, Flag, Ready, answers, after, PutPassesLent, ProducedPassesLent}
+use Rattle.piper_machine.proofs.worked.Script.{◌to◌, Call, Reader, Writer, Fill, Drain, Len, Poll, by, Lend, Put, Produced, Close, Drop, Done, Count, Bytes, Flag, Ready, answers, after, PutPassesLent, ProducedPassesLent}
 
 abbrev closed_then_lent : List Call
 closed_then_lent = Close ∷ Poll Reader (by 1) ∷ Lend 2 ∷ []

@@ -1,7 +1,7 @@
 -- A side looks at the other's index only where it knows nothing, so that its count may be behind.
 use Rattle.std.specs.Prelude.{◌≡◌, [], ◌∷◌, refl}
 use Rattle.piper_machine.specs.Pipe.{fresh}
-use Rattle.piper_machine.proofs.rows.Script.{◌to◌, Fill, Drain, Peek, Count, Bytes, answers}
+use Rattle.piper_machine.proofs.worked.Script.{◌to◌, Fill, Drain, Peek, Count, Bytes, answers}
 
 -- all ten places are free, and the writer knows of two
 fill_by_known_room :

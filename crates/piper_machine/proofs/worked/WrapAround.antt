@@ -2,7 +2,7 @@
 use Rattle.std.specs.Prelude.{◌≡◌, List, [], ◌∷◌, true, refl}
 use Rattle.std.proofs.Common.{arith}
 use Rattle.piper_machine.specs.Pipe.{fresh}
-use Rattle.piper_machine.proofs.rows.Script.{◌to◌, Reader, Writer, Fill, Drain, Len, IsFull, Poll, by, Peek, Drop, Done, Count, Bytes, Flag, Ready, Call, answers, after, ConsumePassesPeeked}
+use Rattle.piper_machine.proofs.worked.Script.{◌to◌, Reader, Writer, Fill, Drain, Len, IsFull, Poll, by, Peek, Drop, Done, Count, Bytes, Flag, Ready, Call, answers, after, ConsumePassesPeeked}
 
 -- the buffer twice full, then the end
 two_turns :

@@ -3,7 +3,7 @@ use Rattle.std.specs.Prelude.{◌≡◌, List, [], ◌∷◌, refl}
 use Rattle.std.proofs.Common.{arith}
 use Rattle.piper_machine.specs.declared.scripted.SourceAct.TheVariants as source
 use Rattle.piper_machine.specs.Pipe.{fresh}
-use Rattle.piper_machine.proofs.rows.Script.{◌to◌, Call, Reader, Writer, Fill, Drain, Poll, by, yielding, unregistered, refused_yield, Lend, PollFill, PollDrain, FillFrom, Count, Bytes, Ready, Pending, Memory, ◌woken◌, answers, after, ProducedPassesLent}
+use Rattle.piper_machine.proofs.worked.Script.{◌to◌, Call, Reader, Writer, Fill, Drain, Poll, by, yielding, unregistered, refused_yield, Lend, PollFill, PollDrain, FillFrom, Count, Bytes, Ready, Pending, Memory, ◌woken◌, answers, after, ProducedPassesLent}
 
 yield_moves_nothing :
     answers (fresh 4) (Fill (1 to 2) ∷ PollDrain (yielding 7) 4 ∷ PollDrain (by 7) 4 ∷ [])

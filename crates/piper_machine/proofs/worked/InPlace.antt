@@ -2,7 +2,7 @@
 use Rattle.std.specs.Prelude.{◌≡◌, ℕ, List, [], ◌∷◌, true, refl}
 use Rattle.std.proofs.Common.{arith}
 use Rattle.piper_machine.specs.Pipe.{fresh}
-use Rattle.piper_machine.proofs.rows.Script.{◌to◌, Reader, Writer, Fill, Drain, Poll, by, Peek, Consume, Lend, Put, Produced, Done, Count, Bytes, Flag, Ready, Pending, ◌woken◌, answers, after, PutPassesLent, ProducedPassesLent}
+use Rattle.piper_machine.proofs.worked.Script.{◌to◌, Reader, Writer, Fill, Drain, Poll, by, Peek, Consume, Lend, Put, Produced, Done, Count, Bytes, Flag, Ready, Pending, ◌woken◌, answers, after, PutPassesLent, ProducedPassesLent}
 
 -- the letters of `hello world`
 abbrev hello_world : List ℕ

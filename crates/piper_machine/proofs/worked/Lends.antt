@@ -9,12 +9,12 @@ use Rattle.piper_machine.specs.Sound.{IsSound}
 use Rattle.piper_machine.specs.Lend.{Lendable, lend_limit, lending}
 use Rattle.piper_machine.specs.Places.{places_left}
 use Rattle.piper_machine.specs.Move.{produce}
-use Rattle.piper_machine.specs.Side.{Writing, room_of, left_of, lend_bound, lend_length, lent_out}
-use Rattle.piper_machine.proofs.rows.Script.{Call, Lend, Produced, lent_count}
+use Rattle.piper_machine.specs.Side.{fresh_writing, Writing, room_of, left_of, lend_bound, lend_length, lent_out}
+use Rattle.piper_machine.proofs.worked.Script.{Call, Lend, Produced, lent_count}
 
 -- the writer's side of a pipe as it is made
 abbrev writer : ℕ → Writing
-writer capacity = record { capacity = capacity; tail = 0; head = 0; zeroed = 0; lent = 0; is_shut = false }
+writer capacity = fresh_writing capacity
 
 -- the first n places of what is lent are passed
 abbrev passed : ℕ → Writing → Writing

@@ -1,0 +1,245 @@
+-- A step of a side leaves what remains of its call, and it brings the answer nearer.
+use Rattle.std.proofs.Common.{◌≡◌, ℕ, ◌+◌, ◌-◌, ◌<◌, ◌≤◌, List, length, Bool, true, false, Option, None, Some, ◌==◌, ◌++◌, [], ◌∷◌, is_some, lit<, lit≤, refl, arith, length-append}
+use Rattle.piper_machine.specs.declared.calls.Side.TheVariants.{Reader, Writer}
+use Rattle.piper_machine.specs.declared.calls.SideState.TheVariants.{Busy}
+use Rattle.piper_machine.specs.declared.events.Answer.{Answer}
+use Rattle.piper_machine.specs.declared.events.Answer.TheVariants.{Done}
+use Rattle.piper_machine.specs.declared.polling.Context.{Context}
+use Rattle.piper_machine.specs.declared.table.Purpose.{Purpose}
+use Rattle.piper_machine.specs.declared.table.Purpose.TheVariants as purpose
+use Rattle.piper_machine.specs.declared.table.AfterRead.{AfterRead}
+use Rattle.piper_machine.specs.declared.table.AfterRead.TheVariants as afterward
+use Rattle.piper_machine.specs.declared.table.AfterWrite.{AfterWrite}
+use Rattle.piper_machine.specs.declared.table.AfterWrite.TheVariants as behind
+use Rattle.piper_machine.specs.declared.table.ReadPlace.{ReadPlace}
+use Rattle.piper_machine.specs.declared.table.ReadPlace.TheVariants as at
+use Rattle.piper_machine.specs.declared.table.WritePlace.{WritePlace}
+use Rattle.piper_machine.specs.declared.table.WritePlace.TheVariants as on
+use Rattle.piper_machine.specs.Open.{is_granted}
+use Rattle.piper_machine.specs.Pipe.{Pipe}
+use Rattle.piper_machine.specs.Move.{with_waker}
+use Rattle.piper_machine.specs.Refusal.{reader_state, writer_state}
+use Rattle.piper_machine.specs.Table.{Next, goes_on, read_action, write_action, reader_looked, reader_looked_again, reader_registered, read_done, writer_taken, writer_is_open, writer_looked, writer_looked_again, writer_registered, reader_taken, own_taken}
+use Rattle.piper_machine.specs.Action.{refreshed_by, registered_in}
+use Rattle.piper_machine.specs.Step.{Stepped, went, call_after}
+use Rattle.piper_machine.specs.Alone.{Ended, heard, reader_alone, read_steps, read_wakes, writer_alone, write_steps, write_wakes, reader_looks_alone, reader_again_alone, reader_granted_alone, reader_done_alone, writer_ended, writer_open_alone, writer_looks_alone, writer_granted_alone, writer_again_alone, writer_done_alone, steps_after, wakes_after}
+
+-- what remains after a step of the reader: all that is left, or the answer that the step gave
+abbrev pub reader_rest : Option Answer → Pipe → Ended
+reader_rest None p = reader_alone p.reader p
+reader_rest (Some answer) p = record { answer = answer; pipe = p }
+
+-- the reader's step from a place
+abbrev pub read_step : ReadPlace → Pipe → Stepped
+read_step place p = let q = record p { reader = place } in went Reader (heard Reader (read_action place) q)
+
+-- the reader comes to a place, or answers
+abbrev pub reader_settled : Next ReadPlace → Pipe → Pipe
+reader_settled next p = record p { reader = next.place; reader_call = call_after next.answer p.reader_call }
+
+abbrev pub reader_rest_at : Next ReadPlace → Pipe → Ended
+reader_rest_at next p = reader_rest next.answer (reader_settled next p)
+
+looks-rest : (none : Bool) (p : Pipe) → reader_looks_alone none purpose.Poll (record p { reader = at.Idle }) ≡ reader_rest_at (goes_on (reader_looked none purpose.Poll)) p
+looks-rest true p = refl
+looks-rest false p = refl
+
+registers-rest : (is_granted : Bool) (p : Pipe) → reader_granted_alone is_granted purpose.Poll (record p { reader = at.Idle }) ≡ reader_rest_at (reader_registered is_granted purpose.Poll) p
+registers-rest true p = refl
+registers-rest false p = refl
+
+again-rest : (none was_closed : Bool) (p : Pipe) → reader_again_alone none purpose.Poll was_closed (record p { reader = at.Idle }) ≡ reader_rest_at (reader_looked_again none purpose.Poll was_closed) p
+again-rest true was_closed p = refl
+again-rest false was_closed p = refl
+
+take-rest : (next : AfterRead) (name : Option ℕ) (p : Pipe) → reader_done_alone next (record p { reader = at.Idle; writer_waker = None; woken = with_waker p.woken name }) ≡ reader_rest_at (writer_taken next (is_some name)) (record p { writer_waker = None; reader_call = record p.reader_call { taken = name } })
+take-rest afterward.Answer None p = refl
+take-rest afterward.Drop None p = refl
+take-rest afterward.Answer (Some name) p = refl
+take-rest afterward.Drop (Some name) p = refl
+
+pub reader-rest : (place : ReadPlace) (p : Pipe) → reader_state place ≡ Busy → let s = read_step place p in reader_alone place p ≡ reader_rest s.answer s.pipe
+reader-rest at.Idle p busy = absurd (cc)
+reader-rest at.Dropped p busy = absurd (cc)
+reader-rest (at.QueryHead query) p busy = refl
+reader-rest (at.QueryTail query) p busy = refl
+reader-rest at.QueryClosed p busy = refl
+reader-rest (at.LookTail purpose.Poll) p busy = looks-rest (length p.unread == 0) (refreshed_by Reader p)
+reader-rest (at.LookRegister purpose.Poll) p busy = registers-rest (is_granted p.reader_call.context) (record p { reader_waker = registered_in p.reader_call.context p.reader_waker })
+reader-rest (at.LookClosed l) p busy = refl
+reader-rest (at.LookTailAgain purpose.Poll was_closed) p busy = again-rest (length p.unread == 0) was_closed (refreshed_by Reader p)
+reader-rest (at.LookTake purpose.Poll) p busy = refl
+reader-rest (at.StoreHead n next) p busy = refl
+reader-rest (at.TakeWriter next) p busy = take-rest next p.writer_waker p
+reader-rest (at.WakeWriter afterward.Answer) p busy = refl
+reader-rest (at.WakeWriter afterward.Drop) p busy = refl
+reader-rest at.StoreClosed p busy = refl
+
+-- a step that gives no answer brings it nearer
+pub record Nearer (steps_before steps_after wakes_before wakes_after woken_before woken_after : ℕ) : Type 0 where
+  pub steps : steps_after < steps_before
+  pub wakes : woken_after + wakes_after ≤ woken_before + wakes_before
+
+abbrev pub IsNearer : ReadPlace → Pipe → Next ReadPlace → Pipe → Type 0
+IsNearer place p next q = next.answer ≡ None → (reader_state next.place ≡ Busy) × Nearer (read_steps place) (read_steps next.place) (read_wakes place) (read_wakes next.place) (length p.woken) (length q.woken)
+
+near : (steps_before steps_after wakes_before wakes_after n : ℕ) → steps_after < steps_before → wakes_after ≤ wakes_before → Nearer steps_before steps_after wakes_before wakes_after n n
+near steps_before steps_after wakes_before wakes_after n fewer fewer_wakes = record { steps = fewer; wakes = omega arith }
+
+looks-near : (none : Bool) (p q : Pipe) → q.woken ≡ p.woken → IsNearer (at.LookTail purpose.Poll) p (goes_on (reader_looked none purpose.Poll)) q
+looks-near true p q same goes = (refl, rw same (near 5 4 0 0 (length p.woken) (lit< tt) (lit≤ tt)))
+looks-near false p q same goes = (refl, rw same (near 5 1 0 0 (length p.woken) (lit< tt) (lit≤ tt)))
+
+registers-near : (is_granted : Bool) (p q : Pipe) → q.woken ≡ p.woken → IsNearer (at.LookRegister purpose.Poll) p (reader_registered is_granted purpose.Poll) q
+registers-near true p q same goes = (refl, rw same (near 4 3 0 0 (length p.woken) (lit< tt) (lit≤ tt)))
+registers-near false p q same goes = absurd (cc)
+
+again-near : (none was_closed : Bool) (p q : Pipe) → q.woken ≡ p.woken → IsNearer (at.LookTailAgain purpose.Poll was_closed) p (reader_looked_again none purpose.Poll was_closed) q
+again-near true was_closed p q same goes = absurd (cc)
+again-near false was_closed p q same goes = (refl, rw same (near 2 1 0 0 (length p.woken) (lit< tt) (lit≤ tt)))
+
+take-near : (next : AfterRead) (is_found : Bool) (p q : Pipe) → q.woken ≡ p.woken → IsNearer (at.TakeWriter next) p (writer_taken next is_found) q
+take-near afterward.Answer false p q same goes = absurd (cc)
+take-near afterward.Drop false p q same goes = absurd (cc)
+take-near next true p q same goes = (refl, rw same (near 2 1 1 1 (length p.woken) (lit< tt) (lit≤ tt)))
+
+pub reader-nearer : (place : ReadPlace) (p : Pipe) → reader_state place ≡ Busy → let s = read_step place p in s.answer ≡ None → (reader_state s.pipe.reader ≡ Busy) × Nearer (read_steps place) (read_steps s.pipe.reader) (read_wakes place) (read_wakes s.pipe.reader) (length p.woken) (length s.pipe.woken)
+reader-nearer at.Idle p busy goes = absurd (cc)
+reader-nearer at.Dropped p busy goes = absurd (cc)
+reader-nearer (at.QueryHead query) p busy goes = (refl, near 2 1 0 0 (length p.woken) (lit< tt) (lit≤ tt))
+reader-nearer (at.QueryTail query) p busy goes = absurd (cc)
+reader-nearer at.QueryClosed p busy goes = absurd (cc)
+reader-nearer (at.LookTail purpose.Poll) p busy goes = looks-near (length p.unread == 0) p p refl goes
+reader-nearer (at.LookRegister purpose.Poll) p busy goes = registers-near (is_granted p.reader_call.context) p p refl goes
+reader-nearer (at.LookClosed l) p busy goes = (refl, near 3 2 0 0 (length p.woken) (lit< tt) (lit≤ tt))
+reader-nearer (at.LookTailAgain purpose.Poll was_closed) p busy goes = again-near (length p.unread == 0) was_closed p p refl goes
+reader-nearer (at.LookTake purpose.Poll) p busy goes = absurd (cc)
+reader-nearer (at.StoreHead n next) p busy goes = (refl, near 3 2 1 1 (length p.woken) (lit< tt) (lit≤ tt))
+reader-nearer (at.TakeWriter next) p busy goes = take-near next (is_some p.writer_waker) p p refl goes
+reader-nearer (at.WakeWriter afterward.Answer) p busy goes = absurd (cc)
+reader-nearer (at.WakeWriter afterward.Drop) p busy goes = absurd (cc)
+reader-nearer at.StoreClosed p busy goes = (refl, near 3 2 1 1 (length p.woken) (lit< tt) (lit≤ tt))
+
+-- the writer
+
+abbrev pub writer_rest : Option Answer → Pipe → Ended
+writer_rest None p = writer_alone p.writer p
+writer_rest (Some answer) p = record { answer = answer; pipe = p }
+
+abbrev pub write_step : WritePlace → Pipe → Stepped
+write_step place p = let q = record p { writer = place } in went Writer (heard Writer (write_action place) q)
+
+abbrev pub writer_settled : Next WritePlace → Pipe → Pipe
+writer_settled next p = record p { writer = next.place; writer_call = call_after next.answer p.writer_call }
+
+abbrev pub writer_rest_at : Next WritePlace → Pipe → Ended
+writer_rest_at next p = writer_rest next.answer (writer_settled next p)
+
+open-rest : (is_closed none : Bool) (p : Pipe) → writer_open_alone is_closed none purpose.Poll (record p { writer = on.Idle }) ≡ writer_rest_at (writer_is_open is_closed none purpose.Poll) p
+open-rest true none p = refl
+open-rest false true p = refl
+open-rest false false p = refl
+
+loads-rest : (none : Bool) (p : Pipe) → writer_looks_alone none purpose.Poll (record p { writer = on.Idle }) ≡ writer_rest_at (goes_on (writer_looked none purpose.Poll)) p
+loads-rest true p = refl
+loads-rest false p = refl
+
+writer_registers-rest : (is_granted : Bool) (p : Pipe) → writer_granted_alone is_granted purpose.Poll (record p { writer = on.Idle }) ≡ writer_rest_at (writer_registered is_granted purpose.Poll) p
+writer_registers-rest true p = refl
+writer_registers-rest false p = refl
+
+writer_again-rest : (none : Bool) (p : Pipe) → writer_again_alone none purpose.Poll (record p { writer = on.Idle }) ≡ writer_rest_at (goes_on (writer_looked_again none purpose.Poll)) p
+writer_again-rest true p = refl
+writer_again-rest false p = refl
+
+reader_take-rest : (next : AfterWrite) (name : Option ℕ) (p : Pipe) → writer_done_alone next (record p { writer = on.Idle; reader_waker = None; woken = with_waker p.woken name }) ≡ writer_rest_at (reader_taken next (is_some name)) (record p { reader_waker = None; writer_call = record p.writer_call { taken = name } })
+reader_take-rest behind.Answer None p = refl
+reader_take-rest behind.Drop None p = refl
+reader_take-rest behind.WakeWriter None p = refl
+reader_take-rest behind.Answer (Some name) p = refl
+reader_take-rest behind.Drop (Some name) p = refl
+reader_take-rest behind.WakeWriter (Some name) p = refl
+
+own_take-rest : (name : Option ℕ) (p : Pipe) → writer_ended on.Idle Done (record p { writer = on.Idle; writer_waker = None; woken = with_waker p.woken name }) ≡ writer_rest_at (own_taken (is_some name)) (record p { writer_waker = None; writer_call = record p.writer_call { taken = name } })
+own_take-rest None p = refl
+own_take-rest (Some name) p = refl
+
+pub writer-rest : (place : WritePlace) (p : Pipe) → writer_state place ≡ Busy → let s = write_step place p in writer_alone place p ≡ writer_rest s.answer s.pipe
+writer-rest on.Idle p busy = absurd (cc)
+writer-rest on.Dropped p busy = absurd (cc)
+writer-rest (on.QueryHead query) p busy = refl
+writer-rest (on.QueryTail query count) p busy = refl
+writer-rest on.QueryClosed p busy = refl
+writer-rest (on.LookClosed purpose.Poll) p busy = open-rest p.is_closed (p.room == 0) p
+writer-rest (on.LookHead purpose.Poll) p busy = loads-rest (p.capacity - length p.unread == 0) (refreshed_by Writer p)
+writer-rest (on.LookRegister purpose.Poll) p busy = writer_registers-rest (is_granted p.writer_call.context) (record p { writer_waker = registered_in p.writer_call.context p.writer_waker })
+writer-rest (on.LookHeadAgain purpose.Poll) p busy = writer_again-rest (p.capacity - length p.unread == 0) (refreshed_by Writer p)
+writer-rest (on.LookClosedAgain l) p busy = refl
+writer-rest (on.LookTake purpose.Poll) p busy = refl
+writer-rest (on.StoreTail n next) p busy = refl
+writer-rest (on.TakeReader next) p busy = reader_take-rest next p.reader_waker p
+writer-rest (on.WakeReader behind.Answer) p busy = refl
+writer-rest (on.WakeReader behind.Drop) p busy = refl
+writer-rest (on.WakeReader behind.WakeWriter) p busy = refl
+writer-rest (on.StoreClosed behind.Answer) p busy = refl
+writer-rest (on.StoreClosed behind.Drop) p busy = refl
+writer-rest (on.StoreClosed behind.WakeWriter) p busy = refl
+writer-rest on.TakeWriter p busy = own_take-rest p.writer_waker p
+writer-rest on.WakeWriter p busy = refl
+
+abbrev pub IsWriterNearer : WritePlace → Pipe → Next WritePlace → Pipe → Type 0
+IsWriterNearer place p next q = next.answer ≡ None → (writer_state next.place ≡ Busy) × Nearer (write_steps place) (write_steps next.place) (write_wakes place) (write_wakes next.place) (length p.woken) (length q.woken)
+
+open-near : (is_closed none : Bool) (p : Pipe) → IsWriterNearer (on.LookClosed purpose.Poll) p (writer_is_open is_closed none purpose.Poll) p
+open-near true none p goes = absurd (cc)
+open-near false true p goes = (refl, near 5 4 0 0 (length p.woken) (lit< tt) (lit≤ tt))
+open-near false false p goes = (refl, near 5 1 0 0 (length p.woken) (lit< tt) (lit≤ tt))
+
+loads-near : (none : Bool) (p : Pipe) → IsWriterNearer (on.LookHead purpose.Poll) p (goes_on (writer_looked none purpose.Poll)) p
+loads-near true p goes = (refl, near 4 3 0 0 (length p.woken) (lit< tt) (lit≤ tt))
+loads-near false p goes = (refl, near 4 1 0 0 (length p.woken) (lit< tt) (lit≤ tt))
+
+writer_registers-near : (is_granted : Bool) (p : Pipe) → IsWriterNearer (on.LookRegister purpose.Poll) p (writer_registered is_granted purpose.Poll) p
+writer_registers-near true p goes = (refl, near 3 2 0 0 (length p.woken) (lit< tt) (lit≤ tt))
+writer_registers-near false p goes = absurd (cc)
+
+writer_again-near : (none : Bool) (p : Pipe) → IsWriterNearer (on.LookHeadAgain purpose.Poll) p (goes_on (writer_looked_again none purpose.Poll)) p
+writer_again-near true p goes = (refl, near 2 1 0 0 (length p.woken) (lit< tt) (lit≤ tt))
+writer_again-near false p goes = (refl, near 2 1 0 0 (length p.woken) (lit< tt) (lit≤ tt))
+
+reader_take-near : (next : AfterWrite) (is_found : Bool) (p : Pipe) → IsWriterNearer (on.TakeReader next) p (reader_taken next is_found) p
+reader_take-near behind.Answer false p goes = absurd (cc)
+reader_take-near behind.Drop false p goes = absurd (cc)
+reader_take-near behind.WakeWriter false p goes = (refl, near 4 2 2 1 (length p.woken) (lit< tt) (lit≤ tt))
+reader_take-near next true p goes = (refl, near (2 + steps_after next) (1 + steps_after next) (1 + wakes_after next) (1 + wakes_after next) (length p.woken) (omega arith) (omega arith))
+
+own_take-near : (is_found : Bool) (p : Pipe) → IsWriterNearer on.TakeWriter p (own_taken is_found) p
+own_take-near false p goes = absurd (cc)
+own_take-near true p goes = (refl, near 2 1 1 1 (length p.woken) (lit< tt) (lit≤ tt))
+
+length-with_waker : (names : List ℕ) (name : Option ℕ) → length (with_waker names name) ≤ length names + 1
+length-with_waker names None = omega arith
+length-with_waker names (Some name) = simp length-append (omega arith)
+
+pub writer-nearer : (place : WritePlace) (p : Pipe) → writer_state place ≡ Busy → let s = write_step place p in s.answer ≡ None → (writer_state s.pipe.writer ≡ Busy) × Nearer (write_steps place) (write_steps s.pipe.writer) (write_wakes place) (write_wakes s.pipe.writer) (length p.woken) (length s.pipe.woken)
+writer-nearer on.Idle p busy goes = absurd (cc)
+writer-nearer on.Dropped p busy goes = absurd (cc)
+writer-nearer (on.QueryHead query) p busy goes = (refl, near 2 1 0 0 (length p.woken) (lit< tt) (lit≤ tt))
+writer-nearer (on.QueryTail query count) p busy goes = absurd (cc)
+writer-nearer on.QueryClosed p busy goes = absurd (cc)
+writer-nearer (on.LookClosed purpose.Poll) p busy goes = open-near p.is_closed (p.room == 0) p goes
+writer-nearer (on.LookHead purpose.Poll) p busy goes = loads-near (p.capacity - length p.unread == 0) p goes
+writer-nearer (on.LookRegister purpose.Poll) p busy goes = writer_registers-near (is_granted p.writer_call.context) p goes
+writer-nearer (on.LookHeadAgain purpose.Poll) p busy goes = writer_again-near (p.capacity - length p.unread == 0) p goes
+writer-nearer (on.LookClosedAgain l) p busy goes = absurd (cc)
+writer-nearer (on.LookTake purpose.Poll) p busy goes = absurd (cc)
+writer-nearer (on.StoreTail n next) p busy goes = (refl, near (3 + steps_after next) (2 + steps_after next) (1 + wakes_after next) (1 + wakes_after next) (length p.woken) (omega arith) (omega arith))
+writer-nearer (on.TakeReader next) p busy goes = reader_take-near next (is_some p.reader_waker) p goes
+writer-nearer (on.WakeReader behind.Answer) p busy goes = absurd (cc)
+writer-nearer (on.WakeReader behind.Drop) p busy goes = absurd (cc)
+writer-nearer (on.WakeReader behind.WakeWriter) p busy goes = (refl, record { steps = lit< tt; wakes = let more = length-with_waker p.woken p.writer_call.taken in omega arith })
+writer-nearer (on.StoreClosed behind.Answer) p busy goes = (refl, near 3 2 1 1 (length p.woken) (lit< tt) (lit≤ tt))
+writer-nearer (on.StoreClosed behind.Drop) p busy goes = (refl, near 3 2 1 1 (length p.woken) (lit< tt) (lit≤ tt))
+writer-nearer (on.StoreClosed behind.WakeWriter) p busy goes = (refl, near 5 4 2 2 (length p.woken) (lit< tt) (lit≤ tt))
+writer-nearer on.TakeWriter p busy goes = own_take-near (is_some p.writer_waker) p goes
+writer-nearer on.WakeWriter p busy goes = absurd (cc)

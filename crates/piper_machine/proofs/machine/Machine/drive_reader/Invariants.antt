@@ -1,0 +1,15 @@
+use Rattle.std.proofs.Common.{◌≡◌, ◌≤◌, ◌+◌, length}
+use Rattle.piper_machine.specs.declared.calls.SideState.TheVariants.{Busy}
+use Rattle.piper_machine.specs.Refusal.{reader_state}
+use Rattle.piper_machine.specs.Alone.{reader_alone, read_steps, read_wakes}
+use Rattle.piper_machine.proofs.machine.Machine.drive_reader.Given as goal
+
+abbrev pub invariant-steps : goal.invariant-steps
+invariant-steps l = record {
+  busy : reader_state l.self.reader ≡ Busy;
+  wakes : length l.self.woken + read_wakes l.self.reader ≤ 2;
+  rest : reader_alone l.initial.self.reader l.initial.self ≡ reader_alone l.self.reader l.self;
+}
+
+abbrev pub decreases-steps : goal.decreases-steps
+decreases-steps l = read_steps l.self.reader

@@ -1,0 +1,14 @@
+use Rattle.std.proofs.Common.{ap, arith}
+use Rattle.piper_machine.specs.Pipe.{Pipe}
+use Rattle.piper_machine.specs.Places.{peeked_count}
+use Rattle.piper_machine.proofs.Indices.{place_below}
+use Rattle.piper_machine.proofs.Moves.{consumed-view}
+use Rattle.piper_machine.proofs.machine.Machine.reader_stores_head.Goals as goal
+
+pub returns-clause-after : goal.returns-clause-after
+returns-clause-after c =
+    let m = c.self.inside in
+    let i = c.self.invariant in
+    let same = ap (λ (p : Pipe). peeked_count p) c.self.view_is in
+    let below = place_below m.read.capacity m.read.head i.reading.head in
+    rw (← c.self.view_is, c.settle.ensures.after, c.stored_head-answer.ensures.answer) (consumed-view m i c.args.n c.stored_head-answer.new.self _ _ c.stored_head-answer.ensures.after (omega arith) (omega arith))

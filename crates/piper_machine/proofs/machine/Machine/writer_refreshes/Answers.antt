@@ -1,0 +1,17 @@
+use Rattle.std.proofs.Common.{◌-◌, ap, ◌∙◌, length}
+use Rattle.piper_machine.specs.declared.table.WritePlace.{WritePlace}
+use Rattle.piper_machine.specs.Table.{Next}
+use Rattle.piper_machine.specs.Step.{call_after}
+use Rattle.piper_machine.specs.Machine.{pipe_of}
+use Rattle.piper_machine.proofs.Moves.{head_seen-view, refreshed-next}
+use Rattle.piper_machine.proofs.machine.Machine.writer_refreshes.Goals as goal
+
+pub returns-clause-after : goal.returns-clause-after
+returns-clause-after c =
+    let m = c.self.inside in
+    let i = c.self.invariant in
+    let p = pipe_of m in
+    let seen = head_seen-view m i c.refreshed-answer.new.self _ _ (rw c.head.ensures at c.refreshed-answer.ensures.after) in
+    let answer = rw c.head.ensures at c.refreshed-answer.ensures.answer in
+    rw (← c.self.view_is, c.settle.ensures.after, answer)
+    (seen ∙ ap (λ (next : Next WritePlace). record p { room = p.capacity - length p.unread; writer = next.place; writer_call = call_after next.answer p.writer_call }) (refreshed-next m i))

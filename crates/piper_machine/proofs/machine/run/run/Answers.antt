@@ -1,0 +1,22 @@
+use Rattle.std.proofs.Common.{[], take, sym, subst}
+use Rattle.std.proofs.lemmas.List.{take_more}
+use Rattle.piper_machine.specs.Pipe.{fresh}
+use Rattle.piper_machine.specs.Log.{events}
+use Rattle.piper_machine.specs.Run.{Runs}
+use Rattle.piper_machine.proofs.Runs.{runs_more}
+use Rattle.piper_machine.proofs.Conserving.{conserved-step}
+use Rattle.piper_machine.proofs.machine.run.run.Goals as goal
+
+pub loop-i-preserved : goal.loop-i-preserved
+loop-i-preserved c =
+    let made = c.in-Ok-step.ensures.made in
+    let inv = c.loop-i.invariant in
+    let before = c.loop-i.machine in
+    let after = c.step.new.self in
+    let es = events c.loop-i.log in
+    let fs = events c.step.new.log in
+    let on = runs_more (fresh c.args.cap) before after (take c.loop-i.i c.args.steps.now) _ [] es fs inv.runs made in
+    record {
+      runs = subst (λ ss. Runs (fresh c.args.cap) [] ss after fs) (sym (take_more c.args.steps.now c.loop-i.i _ c.loop-i-test.true)) on;
+      conserved = conserved-step before after _ es fs c.learn.ensures c.learn-in-Ok-step.ensures inv.conserved made;
+    }

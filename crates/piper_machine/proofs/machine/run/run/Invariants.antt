@@ -1,0 +1,12 @@
+use Rattle.std.proofs.Common.{take, []}
+use Rattle.piper_machine.specs.Pipe.{fresh}
+use Rattle.piper_machine.specs.Log.{events}
+use Rattle.piper_machine.specs.Run.{Runs}
+use Rattle.piper_machine.specs.Conservation.{IsConserved}
+use Rattle.piper_machine.proofs.machine.run.run.Given as goal
+
+abbrev pub invariant-loop-i : goal.invariant-loop-i
+invariant-loop-i l = record {
+  runs : Runs (fresh l.cap) [] (take l.i l.steps) l.machine (events l.log);
+  conserved : IsConserved l.machine (events l.log);
+}

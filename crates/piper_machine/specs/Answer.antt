@@ -1,0 +1,18 @@
+-- What an answer says, to a caller who knows of which kind it is.
+use Rattle.std.specs.Prelude.{ℕ, Bool, false}
+use Rattle.piper_machine.specs.declared.events.Answer.{Answer}
+use Rattle.piper_machine.specs.declared.events.Answer.TheVariants.{Count, Flag, Poll}
+use Rattle.piper_machine.specs.declared.polling.Polled.{Polled}
+use Rattle.piper_machine.specs.declared.polling.Polled.TheVariants.{Memory}
+
+abbrev pub count_in : Answer → ℕ
+count_in (Count n) = n
+count_in answer = 0
+
+abbrev pub flag_in : Answer → Bool
+flag_in (Flag b) = b
+flag_in answer = false
+
+abbrev pub polled_in : Answer → Polled Bool
+polled_in (Poll polled) = polled
+polled_in answer = Memory

@@ -1,0 +1,15 @@
+-- What an open call holds besides its place.
+use Rattle.std.specs.Prelude.{Option, None, Some, Bool, false}
+use Rattle.piper_machine.specs.declared.polling.Context.{Context}
+use Rattle.piper_machine.specs.declared.calls.OpenCall.{OpenCall}
+
+abbrev pub no_call : OpenCall
+no_call = record { context = None; taken = None }
+
+abbrev pub polling : Context → OpenCall
+polling cx = record { context = Some cx; taken = None }
+
+-- whether the clone of the call's waker is granted where it is to be registered
+abbrev pub is_granted : Option Context → Bool
+is_granted None = false
+is_granted (Some cx) = cx.luck.register_granted

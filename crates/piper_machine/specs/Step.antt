@@ -1,0 +1,127 @@
+-- One step of a run: a call is opened, a side makes its next step, or a byte is put into what is lent.
+use Rattle.std.specs.Prelude.{◌≡◌, ℕ, List, [], ◌∷◌, ◌++◌, length, slice_set, Option, None, Some, ◌==◌, ⊤}
+use Rattle.piper_machine.specs.declared.calls.Side.{Side}
+use Rattle.piper_machine.specs.declared.calls.Side.TheVariants.{Reader, Writer}
+use Rattle.piper_machine.specs.declared.calls.OpenCall.{OpenCall}
+use Rattle.piper_machine.specs.declared.calls.Call.{Call}
+use Rattle.piper_machine.specs.declared.calls.Call.TheVariants as call
+use Rattle.piper_machine.specs.declared.calls.Query.{Query}
+use Rattle.piper_machine.specs.declared.polling.Context.{Context}
+use Rattle.piper_machine.specs.declared.calls.Query.TheVariants.{Len, IsEmpty, IsFull}
+use Rattle.piper_machine.specs.declared.calls.Step.{Step}
+use Rattle.piper_machine.specs.declared.calls.Step.TheVariants.{Begin, Go, Put}
+use Rattle.piper_machine.specs.declared.events.Answer.{Answer}
+use Rattle.piper_machine.specs.declared.events.Answer.TheVariants.{Lent}
+use Rattle.piper_machine.specs.declared.events.Event.{Event}
+use Rattle.piper_machine.specs.declared.events.Event.TheVariants.{Began, Answered}
+use Rattle.piper_machine.specs.declared.table.Action.{Action}
+use Rattle.piper_machine.specs.declared.table.Purpose.TheVariants.{Poll}
+use Rattle.piper_machine.specs.declared.table.AfterRead.TheVariants as afterward
+use Rattle.piper_machine.specs.declared.table.AfterWrite.TheVariants as behind
+use Rattle.piper_machine.specs.declared.table.ReadPlace.TheVariants as at
+use Rattle.piper_machine.specs.declared.table.WritePlace.TheVariants as on
+use Rattle.piper_machine.specs.Open.{no_call, polling}
+use Rattle.piper_machine.specs.Pipe.{Pipe}
+use Rattle.piper_machine.specs.Call.{side_of, kind_of, waker_of}
+use Rattle.piper_machine.specs.Look.{context}
+use Rattle.piper_machine.specs.Lend.{Lendable, lending}
+use Rattle.piper_machine.specs.Table.{read_action, read_after, reader_looks_for, write_action, write_after}
+use Rattle.piper_machine.specs.Action.{performed, found_by, logged_of}
+
+-- the pipe after a step, what the call answers if it was its last, and what is logged
+pub record Stepped : Type 0 where
+  pub pipe : Pipe
+  pub answer : Option Answer
+  pub events : List Event
+
+-- a call that has answered holds nothing
+abbrev pub call_after : Option Answer → OpenCall → OpenCall
+call_after None c = c
+call_after (Some answer) c = no_call
+
+abbrev pub answer_event : Side → Option Answer → List Event
+answer_event side None = []
+answer_event side (Some answer) = Answered side answer ∷ []
+
+-- the reader makes a step of this kind
+abbrev pub reader_stepped : Action → Pipe → Stepped
+reader_stepped action p =
+    let after = performed Reader action p in
+    let next = read_after p.capacity p.reader (found_by Reader action p) in
+    record {
+      pipe = record after { reader = next.place; reader_call = call_after next.answer after.reader_call };
+      answer = next.answer;
+      events = logged_of Reader action p ++ answer_event Reader next.answer;
+    }
+
+-- the writer makes a step of this kind
+abbrev pub writer_stepped : Action → Pipe → Stepped
+writer_stepped action p =
+    let after = performed Writer action p in
+    let next = write_after p.capacity p.room p.writer (found_by Writer action p) in
+    record {
+      pipe = record after { writer = next.place; writer_call = call_after next.answer after.writer_call };
+      answer = next.answer;
+      events = logged_of Writer action p ++ answer_event Writer next.answer;
+    }
+
+-- the kind of the step that the call table puts next
+abbrev pub action_of : Side → Pipe → Action
+action_of Reader p = read_action p.reader
+action_of Writer p = write_action p.writer
+
+-- that step
+abbrev pub went : Side → Pipe → Stepped
+went Reader p = reader_stepped (read_action p.reader) p
+went Writer p = writer_stepped (write_action p.writer) p
+
+-- the calls that both sides have, as they are opened
+
+abbrev pub query_opened : Side → Query → Pipe → Pipe
+query_opened Reader query p = record p { reader = at.QueryHead query }
+query_opened Writer query p = record p { writer = on.QueryHead query }
+
+abbrev pub is_closed_opened : Side → Pipe → Pipe
+is_closed_opened Reader p = record p { reader = at.QueryClosed }
+is_closed_opened Writer p = record p { writer = on.QueryClosed }
+
+abbrev pub poll_opened : Side → Context → Pipe → Pipe
+poll_opened Reader cx p = record p { reader = reader_looks_for (p.known == 0) Poll; reader_call = polling cx }
+poll_opened Writer cx p = record p { writer = on.LookClosed Poll; writer_call = polling cx }
+
+abbrev pub drop_opened : Side → Pipe → Pipe
+drop_opened Reader p = record p { reader = at.StoreClosed }
+drop_opened Writer p = record p { writer = on.StoreClosed behind.Drop }
+
+-- the pipe as a call is opened, with these bytes in what a call of write_buf lends
+abbrev pub opened : List ℕ → Call → Pipe → Pipe
+opened lent (call.Len side) p = query_opened side Len p
+opened lent (call.IsEmpty side) p = query_opened side IsEmpty p
+opened lent (call.IsFull side) p = query_opened side IsFull p
+opened lent (call.IsClosed side) p = is_closed_opened side p
+opened lent (call.Poll side waker luck) p = poll_opened side (context waker luck) p
+opened lent (call.Consume n) p = record p { reader = at.StoreHead n afterward.Answer }
+opened lent (call.WriteBuf most) p = lending lent p
+opened lent (call.Produced n) p = record p { writer = on.StoreTail n behind.Answer }
+opened lent call.Close p = record p { writer = on.StoreClosed behind.WakeWriter }
+opened lent (call.Drop side) p = drop_opened side p
+
+-- a call without a step answers as it is opened
+abbrev pub answer_at_once : List ℕ → Call → Option Answer
+answer_at_once lent (call.WriteBuf most) = Some (Lent (length lent))
+answer_at_once lent c = None
+
+abbrev pub began : List ℕ → Call → Pipe → Stepped
+began lent c p =
+    let answer = answer_at_once lent c in
+    record { pipe = opened lent c p; answer = answer; events = Began (side_of c) (kind_of c) (waker_of c) ∷ answer_event (side_of c) answer }
+
+abbrev pub stepped : List ℕ → Step → Pipe → Stepped
+stepped lent (Begin c) p = began lent c p
+stepped lent (Go side) p = went side p
+stepped lent (Put offset byte) p = record { pipe = lending (slice_set p.lent offset byte) p; answer = None; events = [] }
+
+-- these bytes may be lent by the step
+abbrev pub MayLend : List ℕ → Step → Pipe → Type 0
+MayLend lent (Begin (call.WriteBuf most)) p = Lendable most p (length lent)
+MayLend lent s p = ⊤

@@ -1,0 +1,209 @@
+-- The call table: which step a side makes at each place of a call, and where what it found leads.
+use Rattle.std.specs.Prelude.{ℕ, Bool, true, false, Option, None, Some, ◌==◌}
+use Rattle.piper_machine.specs.declared.calls.Side.{Side}
+use Rattle.piper_machine.specs.declared.calls.Side.TheVariants.{Reader, Writer}
+use Rattle.piper_machine.specs.declared.calls.Query.{Query}
+use Rattle.piper_machine.specs.declared.calls.Query.TheVariants.{Len, IsEmpty, IsFull}
+use Rattle.piper_machine.specs.declared.events.Answer.{Answer}
+use Rattle.piper_machine.specs.declared.events.Answer.TheVariants.{Count, Flag, Poll, Done}
+use Rattle.piper_machine.specs.declared.polling.Polled.{Polled}
+use Rattle.piper_machine.specs.declared.polling.Polled.TheVariants.{Pending, Ready, Memory}
+use Rattle.piper_machine.specs.declared.table.Action.{Action}
+use Rattle.piper_machine.specs.declared.table.Action.TheVariants as does
+use Rattle.piper_machine.specs.declared.table.Purpose.{Purpose}
+use Rattle.piper_machine.specs.declared.table.Purpose.TheVariants as purpose
+use Rattle.piper_machine.specs.declared.table.AfterRead.{AfterRead}
+use Rattle.piper_machine.specs.declared.table.AfterRead.TheVariants as afterward
+use Rattle.piper_machine.specs.declared.table.AfterWrite.{AfterWrite}
+use Rattle.piper_machine.specs.declared.table.AfterWrite.TheVariants as behind
+use Rattle.piper_machine.specs.declared.table.ReadPlace.{ReadPlace}
+use Rattle.piper_machine.specs.declared.table.ReadPlace.TheVariants as at
+use Rattle.piper_machine.specs.declared.table.WritePlace.{WritePlace}
+use Rattle.piper_machine.specs.declared.table.WritePlace.TheVariants as on
+use Rattle.piper_machine.specs.Look.{end_or_pending}
+
+-- what a step found
+pub data Found : Type 0 where
+  nothing : Found
+  -- so many unread bytes
+  unread : ℕ → Found
+  -- a refresh: whether the side knows nothing even now
+  refreshed : Bool → Found
+  flag : Bool → Found
+  -- whether a waker's clone was granted
+  granted : Bool → Found
+  -- whether a waker stood in the slot that was emptied
+  waker : Bool → Found
+
+-- where a step leads, and what the call answers if that was its last step
+pub record Next (P : Type 0) : Type 0 where
+  pub place : P
+  pub answer : Option Answer
+
+abbrev pub goes_on : {P : Type 0} → P → Next P
+goes_on place = record { place = place; answer = None }
+
+abbrev pub ends : {P : Type 0} → P → Answer → Next P
+ends place answer = record { place = place; answer = Some answer }
+
+abbrev pub query_answer : Query → ℕ → ℕ → Answer
+query_answer Len capacity count = Count count
+query_answer IsEmpty capacity count = Flag (count == 0)
+query_answer IsFull capacity count = Flag (count == capacity)
+
+-- what the call answers where its look is not true
+abbrev pub look_answer : Purpose → Polled Bool → Answer
+look_answer purpose.Poll answer = Poll answer
+
+-- the reader
+
+abbrev pub read_action : ReadPlace → Action
+read_action at.Idle = does.Rest
+read_action at.Dropped = does.Rest
+read_action (at.QueryHead query) = does.LoadHead
+read_action (at.QueryTail query) = does.LoadTail
+read_action at.QueryClosed = does.LoadClosed
+read_action (at.LookTail l) = does.Refresh
+read_action (at.LookRegister l) = does.Register
+read_action (at.LookClosed l) = does.LoadClosed
+read_action (at.LookTailAgain l was_closed) = does.Refresh
+read_action (at.LookTake l) = does.Take Reader
+read_action (at.StoreHead n next) = does.StoreHead n
+read_action (at.TakeWriter next) = does.Take Writer
+read_action (at.WakeWriter next) = does.Wake
+read_action at.StoreClosed = does.StoreClosed false
+
+-- a look finds a byte, or none
+abbrev pub reader_found : Purpose → ReadPlace
+reader_found purpose.Poll = at.LookTake purpose.Poll
+
+abbrev pub reader_found_none : Purpose → ReadPlace
+reader_found_none purpose.Poll = at.LookRegister purpose.Poll
+
+abbrev pub reader_looked : Bool → Purpose → ReadPlace
+reader_looked true l = reader_found_none l
+reader_looked false l = reader_found l
+
+abbrev pub reader_registered : Bool → Purpose → Next ReadPlace
+reader_registered true l = goes_on (at.LookClosed l)
+reader_registered false l = ends at.Idle (look_answer l Memory)
+
+abbrev pub reader_looked_again : Bool → Purpose → Bool → Next ReadPlace
+reader_looked_again true l was_closed = ends at.Idle (look_answer l (end_or_pending was_closed))
+reader_looked_again false l was_closed = goes_on (reader_found l)
+
+-- where a call that looks begins: a known byte needs no load
+abbrev pub reader_looks_for : Bool → Purpose → ReadPlace
+reader_looks_for true l = at.LookTail l
+reader_looks_for false l = reader_found l
+
+-- the look is true
+abbrev pub reader_is_true : Purpose → Next ReadPlace
+reader_is_true purpose.Poll = ends at.Idle (Poll (Ready true))
+
+abbrev pub read_done : AfterRead → Next ReadPlace
+read_done afterward.Answer = ends at.Idle Done
+read_done afterward.Drop = ends at.Dropped Done
+
+abbrev pub writer_taken : AfterRead → Bool → Next ReadPlace
+writer_taken next false = read_done next
+writer_taken next true = goes_on (at.WakeWriter next)
+
+-- where the reader of a pipe of this capacity comes to from a place, by what its step found
+abbrev pub read_after : ℕ → ReadPlace → Found → Next ReadPlace
+read_after capacity (at.QueryHead query) found = goes_on (at.QueryTail query)
+read_after capacity (at.QueryTail query) (unread count) = ends at.Idle (query_answer query capacity count)
+read_after capacity at.QueryClosed (flag is_closed) = ends at.Idle (Flag is_closed)
+read_after capacity (at.LookTail l) (refreshed none) = goes_on (reader_looked none l)
+read_after capacity (at.LookRegister l) (granted is_granted) = reader_registered is_granted l
+read_after capacity (at.LookClosed l) (flag is_closed) = goes_on (at.LookTailAgain l is_closed)
+read_after capacity (at.LookTailAgain l was_closed) (refreshed none) = reader_looked_again none l was_closed
+read_after capacity (at.LookTake l) found = reader_is_true l
+read_after capacity (at.StoreHead n next) found = goes_on (at.TakeWriter next)
+read_after capacity (at.TakeWriter next) (waker is_found) = writer_taken next is_found
+read_after capacity (at.WakeWriter next) found = read_done next
+read_after capacity at.StoreClosed found = goes_on (at.TakeWriter afterward.Drop)
+read_after capacity place found = goes_on place
+
+-- the writer
+
+abbrev pub write_action : WritePlace → Action
+write_action on.Idle = does.Rest
+write_action on.Dropped = does.Rest
+write_action (on.QueryHead query) = does.LoadHead
+write_action (on.QueryTail query count) = does.LoadTail
+write_action on.QueryClosed = does.LoadClosed
+write_action (on.LookClosed l) = does.LoadClosed
+write_action (on.LookHead l) = does.Refresh
+write_action (on.LookRegister l) = does.Register
+write_action (on.LookHeadAgain l) = does.Refresh
+write_action (on.LookClosedAgain l) = does.LoadClosed
+write_action (on.LookTake l) = does.Take Writer
+write_action (on.StoreTail n next) = does.StoreTail n
+write_action (on.TakeReader next) = does.Take Reader
+write_action (on.WakeReader next) = does.Wake
+write_action (on.StoreClosed behind.WakeWriter) = does.StoreClosed true
+write_action (on.StoreClosed next) = does.StoreClosed false
+write_action on.TakeWriter = does.Take Writer
+write_action on.WakeWriter = does.Wake
+
+-- a look finds room, or none
+abbrev pub writer_found : Purpose → WritePlace
+writer_found purpose.Poll = on.LookTake purpose.Poll
+
+abbrev pub writer_found_none : Purpose → WritePlace
+writer_found_none purpose.Poll = on.LookRegister purpose.Poll
+
+-- the first load of closed: the end, or the look goes on at the known room
+abbrev pub writer_is_open : Bool → Bool → Purpose → Next WritePlace
+writer_is_open true none l = ends on.Idle (look_answer l (Ready false))
+writer_is_open false true l = goes_on (on.LookHead l)
+writer_is_open false false l = goes_on (writer_found l)
+
+abbrev pub writer_looked : Bool → Purpose → WritePlace
+writer_looked true l = writer_found_none l
+writer_looked false l = writer_found l
+
+abbrev pub writer_registered : Bool → Purpose → Next WritePlace
+writer_registered true l = goes_on (on.LookHeadAgain l)
+writer_registered false l = ends on.Idle (look_answer l Memory)
+
+abbrev pub writer_looked_again : Bool → Purpose → WritePlace
+writer_looked_again true l = on.LookClosedAgain l
+writer_looked_again false l = writer_found l
+
+-- the look is true
+abbrev pub writer_is_true : Purpose → Next WritePlace
+writer_is_true purpose.Poll = ends on.Idle (Poll (Ready true))
+
+abbrev pub write_done : AfterWrite → Next WritePlace
+write_done behind.Answer = ends on.Idle Done
+write_done behind.Drop = ends on.Dropped Done
+write_done behind.WakeWriter = goes_on on.TakeWriter
+
+abbrev pub reader_taken : AfterWrite → Bool → Next WritePlace
+reader_taken next false = write_done next
+reader_taken next true = goes_on (on.WakeReader next)
+
+abbrev pub own_taken : Bool → Next WritePlace
+own_taken false = ends on.Idle Done
+own_taken true = goes_on on.WakeWriter
+
+-- where the writer of a pipe of this capacity and known room comes to from a place, by what its step found
+abbrev pub write_after : ℕ → ℕ → WritePlace → Found → Next WritePlace
+write_after capacity room (on.QueryHead query) (unread count) = goes_on (on.QueryTail query count)
+write_after capacity room (on.QueryTail query count) found = ends on.Idle (query_answer query capacity count)
+write_after capacity room on.QueryClosed (flag is_closed) = ends on.Idle (Flag is_closed)
+write_after capacity room (on.LookClosed l) (flag is_closed) = writer_is_open is_closed (room == 0) l
+write_after capacity room (on.LookHead l) (refreshed none) = goes_on (writer_looked none l)
+write_after capacity room (on.LookRegister l) (granted is_granted) = writer_registered is_granted l
+write_after capacity room (on.LookHeadAgain l) (refreshed none) = goes_on (writer_looked_again none l)
+write_after capacity room (on.LookClosedAgain l) (flag is_closed) = ends on.Idle (look_answer l (end_or_pending is_closed))
+write_after capacity room (on.LookTake l) found = writer_is_true l
+write_after capacity room (on.StoreTail n next) found = goes_on (on.TakeReader next)
+write_after capacity room (on.TakeReader next) (waker is_found) = reader_taken next is_found
+write_after capacity room (on.WakeReader next) found = write_done next
+write_after capacity room (on.StoreClosed next) found = goes_on (on.TakeReader next)
+write_after capacity room on.TakeWriter (waker is_found) = own_taken is_found
+write_after capacity room on.WakeWriter found = ends on.Idle Done
+write_after capacity room place found = goes_on place

@@ -1,0 +1,152 @@
+//! The calls of the two sides, as they are opened and made step by step.
+ghost use Rattle.std.specs.Prelude.{◌≡◌, ◌↔◌, ◌<◌, IsTrue};
+ghost use Rattle.piper_machine.specs.Call.{side_of, kind_of, waker_of, has_good_draw};
+
+use crate::polling::{Context, Luck};
+
+/// A side of the pipe.
+#[derive(Clone, Copy, Debug, PartialEq, Eq)]
+pub enum Side {
+    Reader,
+    Writer,
+}
+
+/// What a side is about.
+#[derive(Clone, Copy, Debug, PartialEq, Eq)]
+pub enum SideState {
+    /// It has no open call.
+    Idle,
+    /// It stands inside a call.
+    Busy,
+    /// It was dropped.
+    Dropped,
+}
+
+/// A question on the number of unread bytes.
+#[derive(Clone, Copy, Debug, PartialEq, Eq)]
+pub enum Query {
+    Len,
+    IsEmpty,
+    IsFull,
+}
+
+/// A call. Those that both sides have name their side.
+#[derive(Clone, Copy, Debug, PartialEq, Eq)]
+pub enum Call {
+    Len(Side),
+    IsEmpty(Side),
+    IsFull(Side),
+    IsClosed(Side),
+    /// Polls with a waker.
+    Poll(Side, u32, Luck),
+    /// Consumes the first bytes of the peeked slice.
+    Consume(usize),
+    /// Lends at most so many free places.
+    WriteBuf(usize),
+    /// Publishes the first bytes of what is lent.
+    Produced(usize),
+    Close,
+    Drop(Side),
+}
+
+/// Which call it is, without its arguments.
+#[derive(Clone, Copy, Debug, PartialEq, Eq)]
+pub enum Kind {
+    Len,
+    IsEmpty,
+    IsFull,
+    IsClosed,
+    Poll,
+    Consume,
+    WriteBuf,
+    Produced,
+    Close,
+    Drop,
+}
+
+/// One step of a run.
+#[derive(Clone, Copy, Debug, PartialEq, Eq)]
+pub enum Step {
+    /// Opens a call of its side.
+    Begin(Call),
+    /// Makes the next step of the side's open call.
+    Go(Side),
+    /// Writes a byte into what is lent, outside any call of the writer.
+    Put(usize, u8),
+}
+
+/// What an open call of a side holds besides its place.
+#[derive(Clone, Copy, Debug, PartialEq, Eq)]
+pub struct OpenCall {
+    /// The context of a polling call.
+    pub context: Option<Context>,
+    /// The waker that the call last took from a slot and has not called.
+    pub taken: Option<u32>,
+}
+
+impl OpenCall {
+    ghost use Rattle.piper_machine.specs.Open.{no_call};
+
+    /// No call is open.
+    pub fn none() -> Self
+        ensures { result ≡ no_call }
+    {
+        OpenCall {
+            context: None,
+            taken: None,
+        }
+    }
+}
+
+impl Call {
+    /// The side whose call it is.
+    pub fn side(&self) -> Side
+        ensures { result ≡ side_of self.now }
+    {
+        match *self {
+            Call::Len(side) | Call::IsEmpty(side) | Call::IsFull(side) | Call::IsClosed(side) =>
+                side,
+            Call::Poll(side, _, _) | Call::Drop(side) => side,
+            Call::Consume(_) => Side::Reader,
+            Call::WriteBuf(_) | Call::Produced(_) | Call::Close => Side::Writer,
+        }
+    }
+
+    /// The call without its arguments.
+    pub fn kind(&self) -> Kind
+        ensures { result ≡ kind_of self.now }
+    {
+        match *self {
+            Call::Len(_) => Kind::Len,
+            Call::IsEmpty(_) => Kind::IsEmpty,
+            Call::IsFull(_) => Kind::IsFull,
+            Call::IsClosed(_) => Kind::IsClosed,
+            Call::Poll(..) => Kind::Poll,
+            Call::Consume(_) => Kind::Consume,
+            Call::WriteBuf(_) => Kind::WriteBuf,
+            Call::Produced(_) => Kind::Produced,
+            Call::Close => Kind::Close,
+            Call::Drop(_) => Kind::Drop,
+        }
+    }
+
+    /// The waker that a polling call hands over.
+    pub fn waker(&self) -> Option<u32>
+        ensures { result ≡ waker_of self.now }
+    {
+        match *self {
+            Call::Poll(_, waker, _) => Some(waker),
+            _ => None,
+        }
+    }
+
+    /// Whether the draw of a polling call is below 100.
+    pub fn has_good_draw(&self) -> bool
+        ensures { result ≡ has_good_draw self.now }
+    {
+        match *self {
+            Call::Poll(_, _, luck) => luck.draw < 100,
+            _ => true,
+        }
+    }
+}

@@ -1,0 +1,265 @@
+//! Calls run whole: the side is driven to its answer while the other side makes no step.
+ghost use Rattle.std.specs.Prelude.{◌≡◌, ◌<◌, ◌≤◌, ◌+◌, ◌↔◌, length, IsTrue, true, Some};
+ghost use Rattle.piper_machine.specs.Pipe.{begun};
+ghost use Rattle.piper_machine.specs.Open.{no_call};
+ghost use Rattle.piper_machine.specs.Query.{unread_count, is_empty, is_full, is_closed};
+ghost use Rattle.piper_machine.specs.Places.{peeked_count};
+ghost use Rattle.piper_machine.specs.Look.{context, reader_look, writer_look};
+ghost use Rattle.piper_machine.specs.Move.{produce, consume};
+ghost use Rattle.piper_machine.specs.Close.{close, drop_reader, drop_writer};
+ghost use Rattle.piper_machine.specs.Table.{read_action, write_action};
+ghost use Rattle.piper_machine.specs.Step.{went};
+ghost use Rattle.piper_machine.specs.Refusal.{reader_state, writer_state};
+ghost use Rattle.piper_machine.specs.Answer.{count_in, flag_in, polled_in};
+ghost use Rattle.piper_machine.specs.Alone.{heard, reader_alone, writer_alone, read_wakes, write_wakes};
+
+use super::Machine;
+use crate::calls::{Query, Side, SideState};
+use crate::events::Answer;
+use crate::polling::{Context, Luck, Polled};
+use crate::table::{Action, ReadPlace, WritePlace};
+
+impl Machine {
+    // A whole call of the reader begins.
+    fn begin_reader(&mut self)
+        requires { self.old.reader ≡ ReadPlace.Idle }
+        ensures after { self.new ≡ begun self.old }
+        ensures call { self.old.reader_call ≡ no_call }
+    {
+        self.woken.clear();
+    }
+
+    // A whole call of the writer begins.
+    fn begin_writer(&mut self)
+        requires { self.old.writer ≡ WritePlace.Idle }
+        ensures after { self.new ≡ begun self.old }
+        ensures call { self.old.writer_call ≡ no_call }
+    {
+        self.woken.clear();
+    }
+
+    // A waker that the next step calls joins those that the call has called.
+    fn hear_reader(&mut self)
+        requires { read_action self.old.reader ≡ Action.Wake → length self.old.woken < 2 }
+        ensures { self.new ≡ heard Side.Reader (read_action self.old.reader) self.old }
+    {
+        if let Action::Wake = self.reader_next() {
+            if let Some(name) = self.reader_call.taken {
+                self.woken.add(name);
+            }
+        }
+    }
+
+    fn hear_writer(&mut self)
+        requires { write_action self.old.writer ≡ Action.Wake → length self.old.woken < 2 }
+        ensures { self.new ≡ heard Side.Writer (write_action self.old.writer) self.old }
+    {
+        if let Action::Wake = self.writer_next() {
+            if let Some(name) = self.writer_call.taken {
+                self.woken.add(name);
+            }
+        }
+    }
+
+    // Makes the reader's steps up to the answer of its open call.
+    fn drive_reader(&mut self) -> Answer
+        requires busy { reader_state self.old.reader ≡ SideState.Busy }
+        requires wakes { length self.old.woken + read_wakes self.old.reader ≤ 2 }
+        ensures answer { result ≡ (reader_alone self.old.reader self.old).answer }
+        ensures after { self.new ≡ (reader_alone self.old.reader self.old).pipe }
+    {
+        'steps: loop {
+            self.hear_reader();
+            match self.reader_goes() {
+                Some(answer) => return answer,
+                None => {}
+            }
+        }
+    }
+
+    // Makes the writer's steps up to the answer of its open call.
+    fn drive_writer(&mut self) -> Answer
+        requires busy { writer_state self.old.writer ≡ SideState.Busy }
+        requires wakes { length self.old.woken + write_wakes self.old.writer ≤ 2 }
+        ensures answer { result ≡ (writer_alone self.old.writer self.old).answer }
+        ensures after { self.new ≡ (writer_alone self.old.writer self.old).pipe }
+    {
+        'steps: loop {
+            self.hear_writer();
+            match self.writer_goes() {
+                Some(answer) => return answer,
+                None => {}
+            }
+        }
+    }
+
+    /// How many bytes are unread, as the reader finds it.
+    pub fn r_len(&mut self) -> usize
+        requires { self.old.reader ≡ ReadPlace.Idle }
+        ensures value { result ≡ unread_count self.old }
+        ensures after { self.new ≡ begun self.old }
+    {
+        self.begin_reader();
+        self.open_query(Side::Reader, Query::Len);
+        self.drive_reader().count()
+    }
+
+    /// Whether no byte is unread.
+    pub fn r_is_empty(&mut self) -> bool
+        requires { self.old.reader ≡ ReadPlace.Idle }
+        ensures value { result ≡ is_empty self.old }
+        ensures after { self.new ≡ begun self.old }
+    {
+        self.begin_reader();
+        self.open_query(Side::Reader, Query::IsEmpty);
+        self.drive_reader().flag()
+    }
+
+    /// Whether as many bytes are unread as the pipe can hold.
+    pub fn r_is_full(&mut self) -> bool
+        requires { self.old.reader ≡ ReadPlace.Idle }
+        ensures value { result ≡ is_full self.old }
+        ensures after { self.new ≡ begun self.old }
+    {
+        self.begin_reader();
+        self.open_query(Side::Reader, Query::IsFull);
+        self.drive_reader().flag()
+    }
+
+    /// Whether the pipe is closed: by the writer, or by the drop of a side.
+    pub fn r_is_closed(&mut self) -> bool
+        requires { self.old.reader ≡ ReadPlace.Idle }
+        ensures value { result ≡ is_closed self.old }
+        ensures after { self.new ≡ begun self.old }
+    {
+        self.begin_reader();
+        self.open_is_closed(Side::Reader);
+        self.drive_reader().flag()
+    }
+
+    /// How many bytes are unread, as the writer finds it.
+    pub fn w_len(&mut self) -> usize
+        requires { self.old.writer ≡ WritePlace.Idle }
+        ensures value { result ≡ unread_count self.old }
+        ensures after { self.new ≡ begun self.old }
+    {
+        self.begin_writer();
+        self.open_query(Side::Writer, Query::Len);
+        self.drive_writer().count()
+    }
+
+    /// Whether no byte is unread.
+    pub fn w_is_empty(&mut self) -> bool
+        requires { self.old.writer ≡ WritePlace.Idle }
+        ensures value { result ≡ is_empty self.old }
+        ensures after { self.new ≡ begun self.old }
+    {
+        self.begin_writer();
+        self.open_query(Side::Writer, Query::IsEmpty);
+        self.drive_writer().flag()
+    }
+
+    /// Whether as many bytes are unread as the pipe can hold.
+    pub fn w_is_full(&mut self) -> bool
+        requires { self.old.writer ≡ WritePlace.Idle }
+        ensures value { result ≡ is_full self.old }
+        ensures after { self.new ≡ begun self.old }
+    {
+        self.begin_writer();
+        self.open_query(Side::Writer, Query::IsFull);
+        self.drive_writer().flag()
+    }
+
+    /// Whether the pipe is closed: by the writer, or by the drop of a side.
+    pub fn w_is_closed(&mut self) -> bool
+        requires { self.old.writer ≡ WritePlace.Idle }
+        ensures value { result ≡ is_closed self.old }
+        ensures after { self.new ≡ begun self.old }
+    {
+        self.begin_writer();
+        self.open_is_closed(Side::Writer);
+        self.drive_writer().flag()
+    }
+
+    /// Looks for a byte. Without one the waker is registered, and called when that may have changed.
+    ///
+    /// Ready with true: a byte is known. Ready with false: the pipe is closed, and no byte is unread.
+    /// `Memory` is answered exactly where a registration is needed and not granted.
+    pub fn r_poll(&mut self, waker: u32, luck: Luck) -> Polled<bool>
+        requires idle { self.old.reader ≡ ReadPlace.Idle }
+        requires draw { luck.draw < 100 }
+        ensures answer { result ≡ (reader_look (Some (context waker luck)) (begun self.old)).answer }
+        ensures after { self.new ≡ (reader_look (Some (context waker luck)) (begun self.old)).pipe }
+    {
+        self.begin_reader();
+        self.open_poll(Side::Reader, Context { waker, luck });
+        self.drive_reader().polled()
+    }
+
+    /// Looks for room. Without it the waker is registered, and called when that may have changed.
+    ///
+    /// Ready with true: room is known. Ready with false: the pipe is closed.
+    /// `Memory` is answered exactly where a registration is needed and not granted.
+    pub fn w_poll(&mut self, waker: u32, luck: Luck) -> Polled<bool>
+        requires idle { self.old.writer ≡ WritePlace.Idle }
+        requires draw { luck.draw < 100 }
+        ensures answer { result ≡ (writer_look (Some (context waker luck)) (begun self.old)).answer }
+        ensures after { self.new ≡ (writer_look (Some (context waker luck)) (begun self.old)).pipe }
+    {
+        self.begin_writer();
+        self.open_poll(Side::Writer, Context { waker, luck });
+        self.drive_writer().polled()
+    }
+
+    /// Gives up the first `n` bytes of the peeked slice, and wakes the writer, also at 0.
+    pub fn r_consume(&mut self, n: usize)
+        requires idle { self.old.reader ≡ ReadPlace.Idle }
+        requires within { n ≤ peeked_count self.old }
+        ensures { self.new ≡ consume n (begun self.old) }
+    {
+        self.begin_reader();
+        self.read.begin_consume(n);
+        self.drive_reader();
+    }
+
+    /// Publishes the first `n` bytes of what is lent, as they stand now, and wakes the reader, also at 0.
+    pub fn w_produced(&mut self, n: usize)
+        requires idle { self.old.writer ≡ WritePlace.Idle }
+        requires within { n ≤ length self.old.lent }
+        ensures { self.new ≡ produce n (begun self.old) }
+    {
+        self.begin_writer();
+        self.write.begin_produced(n);
+        self.drive_writer();
+    }
+
+    /// Closes the pipe: nothing can be written any more, and both sides are woken. What is unread stays.
+    pub fn w_close(&mut self)
+        requires { self.old.writer ≡ WritePlace.Idle }
+        ensures { self.new ≡ close (begun self.old) }
+    {
+        self.begin_writer();
+        self.write.begin_close();
+        self.drive_writer();
+    }
+
+    /// Drops the reader: the pipe is closed, and the writer is woken.
+    pub fn r_drop(&mut self)
+        requires { self.old.reader ≡ ReadPlace.Idle }
+        ensures { self.new ≡ drop_reader (begun self.old) }
+    {
+        self.begin_reader();
+        self.open_drop(Side::Reader);
+        self.drive_reader();
+    }
+
+    /// Drops the writer: the pipe is closed, and the reader is woken. What is unread stays.
+    pub fn w_drop(&mut self)
+        requires { self.old.writer ≡ WritePlace.Idle }
+        ensures { self.new ≡ drop_writer (begun self.old) }
+    {
+        self.begin_writer();
+        self.open_drop(Side::Writer);
+        self.drive_writer();
+    }
+}
