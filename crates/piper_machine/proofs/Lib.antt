@@ -9,3 +9,4 @@ pub mod Conserving
 pub mod Disjointness
 pub mod Alone
 mod worked
+pub mod Counting

@@ -18,7 +18,7 @@ use Rattle.piper_machine.specs.Machine.{pipe_of, IsMachine}
 use Rattle.piper_machine.specs.declared.machine.Machine.TheInside.{Inside}
 use Rattle.piper_machine.proofs.Indices.{distance-advanced_to, distance-advanced_from, place_of-advanced, place_below, place_of_low}
 use Rattle.piper_machine.proofs.Between.{between-advanced_tail, between-advanced_head, between-written, between-set}
-use Rattle.piper_machine.proofs.Ring.{slice-set}
+use Rattle.piper_machine.proofs.Ring.{slice-set, slice-written}
 use Rattle.std.proofs.Math.ListN.{set}
 use Rattle.piper_machine.proofs.Soundness.{tail_below, length-unread, end_place-of, place-same}
 
@@ -137,3 +137,15 @@ module _ (m : Inside) (i : IsMachine m) (o b : ℕ) (within : o < m.write.lent) 
 
   pub lent-set : take m.write.lent (drop (place_of m.write.capacity m.write.tail) (set m.bytes.items (place_of m.write.capacity m.write.tail + o) b)) ≡ set (take m.write.lent (drop (place_of m.write.capacity m.write.tail) m.bytes.items)) o b
   lent-set = slice-set (place_of m.write.capacity m.write.tail) m.write.lent o m.bytes.items b (omega (arith, i.bytes, i.capacity, i.writing.lent_place, place_below m.write.capacity m.write.tail i.writing.tail)) within
+
+-- bytes were written into what is lent, from the place number o of it on
+module _ (m : Inside) (i : IsMachine m) (o : ℕ) (ys : List ℕ) (within : o + length ys ≤ m.write.lent) where
+  pub unread-written_at : between m.read.capacity m.read.head m.write.tail (written m.bytes.items (place_of m.write.capacity m.write.tail + o) ys) ≡ between m.read.capacity m.read.head m.write.tail m.bytes.items
+  unread-written_at =
+      let fits = place_below m.write.capacity m.write.tail i.writing.tail in
+      let same = place-same m i in
+      ap (λ k. between m.read.capacity m.read.head m.write.tail (written m.bytes.items (k + o) ys)) same
+      ∙ between-written m.read.capacity m.read.head m.write.tail m.bytes.items i.bytes i.reading.head (tail_below m i) i.unread o ys (omega (arith, i.room, i.writing.lent_room, i.capacity, i.writing.within)) (omega (arith, i.writing.lent_place, i.capacity))
+
+  pub lent-written_at : take m.write.lent (drop (place_of m.write.capacity m.write.tail) (written m.bytes.items (place_of m.write.capacity m.write.tail + o) ys)) ≡ written (take m.write.lent (drop (place_of m.write.capacity m.write.tail) m.bytes.items)) o ys
+  lent-written_at = slice-written (place_of m.write.capacity m.write.tail) m.write.lent o m.bytes.items ys (omega (arith, i.bytes, i.capacity, i.writing.lent_place, place_below m.write.capacity m.write.tail i.writing.tail)) within

@@ -20,6 +20,7 @@ pub mod Step
 pub mod Refusal
 pub mod Answer
 pub mod Alone
+pub mod Counts
 pub mod Run
 pub mod Conservation
 pub mod Disjoint

@@ -22,9 +22,11 @@ use crate::write_side::WriteSide;
 use std::alloc::Global;
 use std::marker::Model;
 
-mod run;
+mod runs;
 mod steps;
 mod whole;
+
+pub use runs::run;
 
 /// A pipe of bytes and its two sides. Each call of a side is run whole: the other side makes no step during it.
 #[derive(Debug, Drop)]

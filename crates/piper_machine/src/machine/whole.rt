@@ -3,6 +3,8 @@ ghost use Rattle.std.specs.Prelude.{◌≡◌, ◌<◌, ◌≤◌, ◌+◌, ◌�
 ghost use Rattle.piper_machine.specs.Pipe.{begun};
 ghost use Rattle.piper_machine.specs.Open.{no_call};
 ghost use Rattle.piper_machine.specs.Query.{unread_count, is_empty, is_full, is_closed};
+ghost use Rattle.piper_machine.specs.Buffer.{written};
+ghost use Rattle.piper_machine.specs.Lend.{Lendable, lending};
 ghost use Rattle.piper_machine.specs.Places.{peeked_count};
 ghost use Rattle.piper_machine.specs.Look.{context, reader_look, writer_look};
 ghost use Rattle.piper_machine.specs.Move.{produce, consume};
@@ -13,7 +15,7 @@ ghost use Rattle.piper_machine.specs.Refusal.{reader_state, writer_state};
 ghost use Rattle.piper_machine.specs.Answer.{count_in, flag_in, polled_in};
 ghost use Rattle.piper_machine.specs.Alone.{heard, reader_alone, writer_alone, read_wakes, write_wakes};
 
-use super::Machine;
+use super::{Machine, write_at};
 use crate::calls::{Query, Side, SideState};
 use crate::events::Answer;
 use crate::polling::{Context, Luck, Polled};
@@ -220,6 +222,28 @@ impl Machine {
         self.begin_reader();
         self.read.begin_consume(n);
         self.drive_reader();
+    }
+
+    /// Lends at most `max` free places in one piece, in place of what was lent before, and answers how many.
+    ///
+    /// Nothing is lent of a shut pipe; else at least the lesser of `max`, 4096, the known room and what is left up to
+    /// the end of the buffer. What is lent is written by `w_write`, shown by `w_lent` and published by `w_produced`.
+    pub fn w_write_buf(&mut self, max: usize) -> usize
+        requires { self.old.writer ≡ WritePlace.Idle }
+        ensures bounds { Lendable max self.old result }
+        ensures count { length self.new.lent ≡ result }
+        ensures after { self.new ≡ lending self.new.lent (begun self.old) }
+    {
+        self.begin_writer();
+        self.lend(max)
+    }
+
+    /// Writes `bytes` into what is lent, from the place `offset` of it on.
+    pub fn w_write(&mut self, offset: usize, bytes: &[u8])
+        requires { offset + length bytes.now ≤ length self.old.lent }
+        ensures { self.new ≡ lending (written self.old.lent offset bytes.now) self.old }
+    {
+        write_at(&mut self.bytes, self.write.front() + offset, bytes);
     }
 
     /// Publishes the first `n` bytes of what is lent, as they stand now, and wakes the reader, also at 0.

@@ -3,10 +3,12 @@ use Rattle.piper_machine.specs.Pipe.{fresh}
 use Rattle.piper_machine.specs.Log.{events}
 use Rattle.piper_machine.specs.Run.{Runs}
 use Rattle.piper_machine.specs.Conservation.{IsConserved}
-use Rattle.piper_machine.proofs.machine.run.run.Given as goal
+use Rattle.piper_machine.proofs.Counting.{Counted}
+use Rattle.piper_machine.proofs.machine.runs.run.Given as goal
 
 abbrev pub invariant-loop-i : goal.invariant-loop-i
 invariant-loop-i l = record {
   runs : Runs (fresh l.cap) [] (take l.i l.steps) l.machine (events l.log);
+  counted : Counted (take l.i l.steps) l.machine;
   conserved : IsConserved l.machine (events l.log);
 }

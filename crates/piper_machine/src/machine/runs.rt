@@ -10,6 +10,7 @@ ghost use Rattle.piper_machine.specs.Table.{read_action, write_action};
 ghost use Rattle.piper_machine.specs.Step.{opened, query_opened, is_closed_opened, poll_opened, drop_opened, answer_at_once, went, stepped, answer_event, action_of, MayLend};
 ghost use Rattle.piper_machine.specs.Refusal.{state_of, reader_state, writer_state, cannot_begin, cannot_go, unless, or_else, past, refusal_of, IsIdle};
 ghost use Rattle.piper_machine.specs.Pipe.{fresh};
+ghost use Rattle.piper_machine.specs.Counts.{IsCounted};
 ghost use Rattle.piper_machine.specs.Conservation.{IsConserved};
 ghost use Rattle.piper_machine.specs.Disjoint.{IsDisjoint, KeepsKnown, IsWriterStep};
 ghost use Rattle.piper_machine.specs.Run.{Made, IsStepped, Runs, IsRefusal, IsRunRefusal};
@@ -362,6 +363,7 @@ pub fn run(alloc: Global, cap: usize, steps: &[Step]) -> Result<(Machine, Log), 
     ensures refused { IfErr result (IsRunRefusal cap steps.now) }
     ensures conserved { IfOk result (λ run. IsConserved run.0 (events run.1)) }
     ensures disjoint { IfOk result (λ run. IsDisjoint run.0) }
+    ensures counted { IfOk result (λ run. IsCounted steps.now) }
 {
     let Ok(mut machine) = Machine::new(alloc, cap) else {
         return Err(RunRefusal::NoMachine);

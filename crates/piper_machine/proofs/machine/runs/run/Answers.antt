@@ -5,7 +5,8 @@ use Rattle.piper_machine.specs.Log.{events}
 use Rattle.piper_machine.specs.Run.{Runs}
 use Rattle.piper_machine.proofs.Runs.{runs_more}
 use Rattle.piper_machine.proofs.Conserving.{conserved-step}
-use Rattle.piper_machine.proofs.machine.run.run.Goals as goal
+use Rattle.piper_machine.proofs.Counting.{Counted, counted_more}
+use Rattle.piper_machine.proofs.machine.runs.run.Goals as goal
 
 pub loop-i-preserved : goal.loop-i-preserved
 loop-i-preserved c =
@@ -18,5 +19,6 @@ loop-i-preserved c =
     let on = runs_more (fresh c.args.cap) before after (take c.loop-i.i c.args.steps.now) _ [] es fs inv.runs made in
     record {
       runs = subst (λ ss. Runs (fresh c.args.cap) [] ss after fs) (sym (take_more c.args.steps.now c.loop-i.i _ c.loop-i-test.true)) on;
+      counted = subst (λ ss. Counted ss after) (sym (take_more c.args.steps.now c.loop-i.i _ c.loop-i-test.true)) (counted_more (take c.loop-i.i c.args.steps.now) _ before after es fs inv.counted made);
       conserved = conserved-step before after _ es fs c.learn.ensures c.learn-in-Ok-step.ensures inv.conserved made;
     }
