@@ -1,25 +1,23 @@
 -- A step of a side leaves what remains of its call, and it brings the answer nearer.
-use Rattle.std.proofs.Common.{◌≡◌, ℕ, ◌+◌, ◌-◌, ◌<◌, ◌≤◌, List, length, Bool, true, false, Option, None, Some, ◌==◌, ◌++◌, [], ◌∷◌, is_some, lit<, lit≤, refl, arith, length-append}
-use Rattle.piper_machine.specs.declared.calls.Side.TheVariants.{Reader, Writer}
-use Rattle.piper_machine.specs.declared.calls.SideState.TheVariants.{Busy}
-use Rattle.piper_machine.specs.declared.events.Answer.{Answer}
-use Rattle.piper_machine.specs.declared.events.Answer.TheVariants.{Done}
-use Rattle.piper_machine.specs.declared.polling.Context.{Context}
-use Rattle.piper_machine.specs.declared.table.Purpose.{Purpose}
-use Rattle.piper_machine.specs.declared.table.Purpose.TheVariants as purpose
-use Rattle.piper_machine.specs.declared.table.AfterRead.{AfterRead}
-use Rattle.piper_machine.specs.declared.table.AfterRead.TheVariants as afterward
-use Rattle.piper_machine.specs.declared.table.AfterWrite.{AfterWrite}
-use Rattle.piper_machine.specs.declared.table.AfterWrite.TheVariants as behind
-use Rattle.piper_machine.specs.declared.table.ReadPlace.{ReadPlace}
-use Rattle.piper_machine.specs.declared.table.ReadPlace.TheVariants as at
-use Rattle.piper_machine.specs.declared.table.WritePlace.{WritePlace}
-use Rattle.piper_machine.specs.declared.table.WritePlace.TheVariants as on
-use Rattle.piper_machine.specs.Open.{is_granted}
+use Rattle.std.proofs.Common.{◌≡◌, ℕ, ◌+◌, ◌-◌, ◌<◌, ◌≤◌, List, length, Bool, true, false, Option, None, Some, ◌==◌, is_some, lit<, lit≤, refl, arith, length-append}
+use Rattle.piper_sides.specs.declared.calls.Side.TheVariants.{Reader, Writer}
+use Rattle.piper_sides.specs.declared.calls.SideState.TheVariants.{Busy}
+use Rattle.piper_sides.specs.declared.events.Answer.{Answer}
+use Rattle.piper_sides.specs.declared.events.Answer.TheVariants.{Done}
+use Rattle.piper_sides.specs.declared.table.Purpose.TheVariants as purpose
+use Rattle.piper_sides.specs.declared.table.AfterRead.{AfterRead}
+use Rattle.piper_sides.specs.declared.table.AfterRead.TheVariants as afterward
+use Rattle.piper_sides.specs.declared.table.AfterWrite.{AfterWrite}
+use Rattle.piper_sides.specs.declared.table.AfterWrite.TheVariants as behind
+use Rattle.piper_sides.specs.declared.table.ReadPlace.{ReadPlace}
+use Rattle.piper_sides.specs.declared.table.ReadPlace.TheVariants as at
+use Rattle.piper_sides.specs.declared.table.WritePlace.{WritePlace}
+use Rattle.piper_sides.specs.declared.table.WritePlace.TheVariants as on
+use Rattle.piper_sides.specs.Open.{is_granted}
 use Rattle.piper_machine.specs.Pipe.{Pipe}
 use Rattle.piper_machine.specs.Move.{with_waker}
 use Rattle.piper_machine.specs.Refusal.{reader_state, writer_state}
-use Rattle.piper_machine.specs.Table.{Next, goes_on, read_action, write_action, reader_looked, reader_looked_again, reader_registered, read_done, writer_taken, writer_is_open, writer_looked, writer_looked_again, writer_registered, reader_taken, own_taken}
+use Rattle.piper_sides.specs.Table.{Next, goes_on, read_action, write_action, reader_looked, reader_looked_again, reader_registered, writer_taken, writer_is_open, writer_looked, writer_looked_again, writer_registered, reader_taken, own_taken}
 use Rattle.piper_machine.specs.Action.{refreshed_by, registered_in}
 use Rattle.piper_machine.specs.Step.{Stepped, went, call_after}
 use Rattle.piper_machine.specs.Alone.{Ended, heard, reader_alone, read_steps, read_wakes, writer_alone, write_steps, write_wakes, reader_looks_alone, reader_again_alone, reader_granted_alone, reader_done_alone, writer_ended, writer_open_alone, writer_looks_alone, writer_granted_alone, writer_again_alone, writer_done_alone, steps_after, wakes_after}

@@ -1,38 +1,39 @@
 -- Each step conserves the bytes: what it moves leaves the front of what is unread, or joins its end.
-use Rattle.std.proofs.Common.{◌≡◌, ℕ, ◌+◌, ◌-◌, ◌*◌, ◌/◌, ◌%◌, ◌<◌, ◌≤◌, min, List, [], ◌∷◌, ◌++◌, length, take, drop, Bool, true, false, Option, None, Some, inl, inr, refl, sym, ap, ◌∙◌, arith, append_assoc, append-nil, length-append, length-take-le}
+use Rattle.std.proofs.Common.{◌≡◌, ℕ, ◌+◌, ◌*◌, ◌/◌, ◌%◌, ◌<◌, ◌≤◌, List, [], ◌∷◌, ◌++◌, length, take, drop, Bool, true, false, Option, None, Some, inl, inr, refl, sym, ap, ◌∙◌, arith, append_assoc, append-nil, length-append, length-take-le}
 use Rattle.std.proofs.Math.Nat.{div-add-mod', add-mod_right, mul-mod_left}
 use Rattle.std.proofs.lemmas.Nat.{mod-mul-add}
 use Rattle.std.proofs.lemmas.List.{take-append-drop}
 use Rattle.std.proofs.lemmas.Grind.{flat_map-append}
 use Rattle.std.proofs.lemmas.Bool.{cases_lt}
 use Rattle.std.proofs.lemmas.Bool.Decides.{nat_tests}
-use Rattle.piper_machine.specs.declared.calls.Side.{Side}
-use Rattle.piper_machine.specs.declared.calls.Side.TheVariants.{Reader, Writer}
-use Rattle.piper_machine.specs.declared.calls.Call.{Call}
-use Rattle.piper_machine.specs.declared.calls.Call.TheVariants as call
-use Rattle.piper_machine.specs.declared.calls.Step.{Step}
-use Rattle.piper_machine.specs.declared.calls.Step.TheVariants.{Begin, Go, Put}
-use Rattle.piper_machine.specs.declared.events.Answer.{Answer}
-use Rattle.piper_machine.specs.declared.events.Event.{Event}
-use Rattle.piper_machine.specs.declared.events.Event.TheVariants.{Answered, Began}
-use Rattle.piper_machine.specs.declared.polling.Context.{Context}
-use Rattle.piper_machine.specs.declared.table.Action.{Action}
-use Rattle.piper_machine.specs.declared.table.Action.TheVariants as does
-use Rattle.piper_machine.specs.declared.table.ReadPlace.{ReadPlace}
-use Rattle.piper_machine.specs.declared.table.ReadPlace.TheVariants as at
-use Rattle.piper_machine.specs.declared.table.WritePlace.{WritePlace}
-use Rattle.piper_machine.specs.declared.table.WritePlace.TheVariants as on
-use Rattle.piper_machine.specs.declared.table.AfterWrite.TheVariants as behind
-use Rattle.piper_machine.specs.Index.{place_of}
-use Rattle.piper_machine.specs.Call.{side_of, kind_of, waker_of}
+use Rattle.piper_sides.specs.declared.calls.Side.{Side}
+use Rattle.piper_sides.specs.declared.calls.Side.TheVariants.{Reader, Writer}
+use Rattle.piper_sides.specs.declared.calls.Call.{Call}
+use Rattle.piper_sides.specs.declared.calls.Call.TheVariants as call
+use Rattle.piper_sides.specs.declared.calls.Step.{Step}
+use Rattle.piper_sides.specs.declared.calls.Step.TheVariants.{Begin, Go, Put}
+use Rattle.piper_sides.specs.declared.events.Answer.{Answer}
+use Rattle.piper_sides.specs.declared.events.Event.{Event}
+use Rattle.piper_sides.specs.declared.events.Event.TheVariants.{Began}
+use Rattle.piper_sides.specs.declared.polling.Context.{Context}
+use Rattle.piper_sides.specs.declared.table.Action.{Action}
+use Rattle.piper_sides.specs.declared.table.Action.TheVariants as does
+use Rattle.piper_sides.specs.declared.table.ReadPlace.{ReadPlace}
+use Rattle.piper_sides.specs.declared.table.ReadPlace.TheVariants as at
+use Rattle.piper_sides.specs.declared.table.WritePlace.{WritePlace}
+use Rattle.piper_sides.specs.declared.table.WritePlace.TheVariants as on
+use Rattle.piper_sides.specs.declared.table.AfterWrite.TheVariants as behind
+use Rattle.piper_sides.specs.Index.{place_of}
+use Rattle.piper_sides.specs.Call.{side_of, kind_of, waker_of}
 use Rattle.piper_machine.specs.Pipe.{Pipe}
 use Rattle.piper_machine.specs.Places.{peeked_count}
 use Rattle.piper_machine.specs.Sound.{IsSound}
-use Rattle.piper_machine.specs.Side.{head_store}
-use Rattle.piper_machine.specs.Table.{read_action, read_after, write_action, write_after}
-use Rattle.piper_machine.specs.Action.{performed, logged_of, found_by, registration_of, registration, wake_of, taken_by}
-use Rattle.piper_machine.specs.Step.{went, opened, stepped, answer_at_once, answer_event, reader_stepped, writer_stepped}
-use Rattle.piper_machine.specs.Run.{Made, IsStepped}
+use Rattle.piper_sides.specs.Side.{head_store}
+use Rattle.piper_sides.specs.Table.{read_action, write_action}
+use Rattle.piper_machine.specs.Action.{performed, logged_of, registration_of, registration, wake_of}
+use Rattle.piper_machine.specs.Step.{went, opened, stepped, answer_at_once}
+use Rattle.piper_sides.specs.Log.{answer_event}
+use Rattle.piper_machine.specs.Run.{Made}
 use Rattle.piper_machine.specs.Conservation.{consumed_in, published_in, consumed_of, published_of, IsConserved}
 
 -- what these events say was moved, between two pipes

@@ -1,34 +1,33 @@
 -- Each step of a call leaves fewer steps to make, so that no call makes more than its most.
-use Rattle.std.proofs.Common.{◌≡◌, ℕ, ◌+◌, ◌-◌, ◌<◌, ◌≤◌, List, [], ◌∷◌, ◌++◌, length, Bool, true, false, Option, None, Some, ◌==◌, is_some, lit<, lit≤, refl, sym, ap, ◌∙◌, arith}
-use Rattle.piper_machine.specs.declared.calls.Side.{Side}
-use Rattle.piper_machine.specs.declared.calls.Side.TheVariants.{Reader, Writer}
-use Rattle.piper_machine.specs.declared.calls.SideState.TheVariants.{Busy}
-use Rattle.piper_machine.specs.declared.calls.Call.{Call}
-use Rattle.piper_machine.specs.declared.calls.Call.TheVariants as call
-use Rattle.piper_machine.specs.declared.calls.Step.{Step}
-use Rattle.piper_machine.specs.declared.calls.Step.TheVariants.{Begin, Go, Put}
-use Rattle.piper_machine.specs.declared.events.Event.{Event}
-use Rattle.piper_machine.specs.declared.table.Purpose.TheVariants as purpose
-use Rattle.piper_machine.specs.declared.table.AfterRead.{AfterRead}
-use Rattle.piper_machine.specs.declared.table.AfterRead.TheVariants as afterward
-use Rattle.piper_machine.specs.declared.table.AfterWrite.{AfterWrite}
-use Rattle.piper_machine.specs.declared.table.AfterWrite.TheVariants as behind
-use Rattle.piper_machine.specs.declared.table.ReadPlace.{ReadPlace}
-use Rattle.piper_machine.specs.declared.table.ReadPlace.TheVariants as at
-use Rattle.piper_machine.specs.declared.table.WritePlace.{WritePlace}
-use Rattle.piper_machine.specs.declared.table.WritePlace.TheVariants as on
-use Rattle.piper_machine.specs.declared.refusals.StepRefusal.{StepRefusal}
-use Rattle.piper_machine.specs.declared.table.Action.{Action}
-use Rattle.piper_machine.specs.declared.table.Action.TheVariants as does
+use Rattle.std.proofs.Common.{◌≡◌, ℕ, ◌+◌, ◌-◌, ◌<◌, ◌≤◌, List, [], ◌∷◌, ◌++◌, length, Bool, true, false, Option, None, ◌==◌, is_some, lit<, lit≤, refl, arith}
+use Rattle.piper_sides.specs.declared.calls.Side.{Side}
+use Rattle.piper_sides.specs.declared.calls.Side.TheVariants.{Reader, Writer}
+use Rattle.piper_sides.specs.declared.calls.Call.{Call}
+use Rattle.piper_sides.specs.declared.calls.Call.TheVariants as call
+use Rattle.piper_sides.specs.declared.calls.Step.{Step}
+use Rattle.piper_sides.specs.declared.calls.Step.TheVariants.{Begin, Go, Put}
+use Rattle.piper_sides.specs.declared.events.Event.{Event}
+use Rattle.piper_sides.specs.declared.table.Purpose.TheVariants as purpose
+use Rattle.piper_sides.specs.declared.table.AfterRead.{AfterRead}
+use Rattle.piper_sides.specs.declared.table.AfterRead.TheVariants as afterward
+use Rattle.piper_sides.specs.declared.table.AfterWrite.{AfterWrite}
+use Rattle.piper_sides.specs.declared.table.AfterWrite.TheVariants as behind
+use Rattle.piper_sides.specs.declared.table.ReadPlace.{ReadPlace}
+use Rattle.piper_sides.specs.declared.table.ReadPlace.TheVariants as at
+use Rattle.piper_sides.specs.declared.table.WritePlace.{WritePlace}
+use Rattle.piper_sides.specs.declared.table.WritePlace.TheVariants as on
+use Rattle.piper_sides.specs.declared.refusals.StepRefusal.{StepRefusal}
+use Rattle.piper_sides.specs.declared.table.Action.{Action}
+use Rattle.piper_sides.specs.declared.table.Action.TheVariants as does
 use Rattle.piper_machine.specs.Action.{performed}
-use Rattle.piper_machine.specs.Open.{is_granted}
+use Rattle.piper_sides.specs.Open.{is_granted}
 use Rattle.piper_machine.specs.Pipe.{Pipe, fresh}
-use Rattle.piper_machine.specs.Call.{side_of}
+use Rattle.piper_sides.specs.Call.{side_of}
 use Rattle.piper_machine.specs.Refusal.{reader_state, writer_state, cannot_begin, cannot_go, or_else, refusal_of}
-use Rattle.piper_machine.specs.Table.{read_action, write_action, reader_looks_for, reader_looked, reader_looked_again, reader_registered, writer_taken, writer_is_open, writer_looked, writer_looked_again, writer_registered, reader_taken, own_taken}
+use Rattle.piper_sides.specs.Table.{read_action, write_action, reader_looks_for, reader_looked, reader_looked_again, reader_registered, writer_taken, writer_is_open, writer_looked, writer_looked_again, writer_registered, reader_taken, own_taken}
 use Rattle.piper_machine.specs.Step.{went, opened, stepped}
 use Rattle.piper_machine.specs.Alone.{read_steps, write_steps, steps_after}
-use Rattle.piper_machine.specs.Counts.{Tally, tallied, tallied_begin, tallied_go, tally_from, tally_of, IsCounted, is_same}
+use Rattle.piper_machine.specs.Counts.{Tally, tallied, tallied_begin, tally_from, tally_of, IsCounted, is_same}
 use Rattle.piper_machine.specs.Run.{Made}
 
 -- the steps that a side has still to make at most

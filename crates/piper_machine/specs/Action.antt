@@ -1,18 +1,18 @@
 -- The atomic steps of a side, by their kinds: what each changes, what it finds, and what is logged of it.
 use Rattle.std.specs.Prelude.{ℕ, ◌-◌, List, [], ◌∷◌, take, length, Bool, true, false, Option, None, Some, ◌==◌, is_some}
-use Rattle.piper_machine.specs.declared.calls.Side.{Side}
-use Rattle.piper_machine.specs.declared.calls.Side.TheVariants.{Reader, Writer}
-use Rattle.piper_machine.specs.declared.calls.OpenCall.{OpenCall}
-use Rattle.piper_machine.specs.declared.polling.Context.{Context}
-use Rattle.piper_machine.specs.declared.table.Action.{Action}
-use Rattle.piper_machine.specs.declared.table.Action.TheVariants as does
-use Rattle.piper_machine.specs.declared.events.Event.{Event}
-use Rattle.piper_machine.specs.declared.events.Event.TheVariants.{Looked, Published, Consumed, Closed, Registered, Woken}
-use Rattle.piper_machine.specs.declared.events.Seen.TheVariants as seen
-use Rattle.piper_machine.specs.Open.{is_granted}
+use Rattle.piper_sides.specs.declared.calls.Side.{Side}
+use Rattle.piper_sides.specs.declared.calls.Side.TheVariants.{Reader, Writer}
+use Rattle.piper_sides.specs.declared.calls.OpenCall.{OpenCall}
+use Rattle.piper_sides.specs.declared.polling.Context.{Context}
+use Rattle.piper_sides.specs.declared.table.Action.{Action}
+use Rattle.piper_sides.specs.declared.table.Action.TheVariants as does
+use Rattle.piper_sides.specs.declared.events.Event.{Event}
+use Rattle.piper_sides.specs.declared.events.Event.TheVariants.{Looked, Published, Consumed, Closed, Registered, Woken}
+use Rattle.piper_sides.specs.declared.events.Seen.TheVariants as seen
+use Rattle.piper_sides.specs.Open.{is_granted}
 use Rattle.piper_machine.specs.Pipe.{Pipe}
 use Rattle.piper_machine.specs.Move.{published, consumed}
-use Rattle.piper_machine.specs.Table.{Found, nothing, unread, refreshed, flag, granted, waker}
+use Rattle.piper_sides.specs.Table.{Found, nothing, unread, refreshed, flag, granted, waker}
 
 -- what the open call of a side holds
 abbrev pub call_of : Side → Pipe → OpenCall

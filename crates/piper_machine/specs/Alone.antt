@@ -1,28 +1,27 @@
 -- What remains of a call from any place inside it, if the other side makes no step until it answers.
-use Rattle.std.specs.Prelude.{ℕ, ◌+◌, List, length, Bool, true, false, Option, None, Some, ◌==◌}
-use Rattle.piper_machine.specs.declared.calls.Side.{Side}
-use Rattle.piper_machine.specs.declared.calls.Side.TheVariants.{Reader, Writer}
-use Rattle.piper_machine.specs.declared.events.Answer.{Answer}
-use Rattle.piper_machine.specs.declared.events.Answer.TheVariants.{Count, Flag, Poll, Done}
-use Rattle.piper_machine.specs.declared.polling.Polled.{Polled}
-use Rattle.piper_machine.specs.declared.polling.Polled.TheVariants.{Ready, Memory}
-use Rattle.piper_machine.specs.declared.table.Action.{Action}
-use Rattle.piper_machine.specs.declared.table.Action.TheVariants as does
-use Rattle.piper_machine.specs.declared.table.Purpose.{Purpose}
-use Rattle.piper_machine.specs.declared.table.Purpose.TheVariants as purpose
-use Rattle.piper_machine.specs.declared.table.AfterRead.{AfterRead}
-use Rattle.piper_machine.specs.declared.table.AfterRead.TheVariants as afterward
-use Rattle.piper_machine.specs.declared.table.AfterWrite.{AfterWrite}
-use Rattle.piper_machine.specs.declared.table.AfterWrite.TheVariants as behind
-use Rattle.piper_machine.specs.declared.table.ReadPlace.{ReadPlace}
-use Rattle.piper_machine.specs.declared.table.ReadPlace.TheVariants as at
-use Rattle.piper_machine.specs.declared.table.WritePlace.{WritePlace}
-use Rattle.piper_machine.specs.declared.table.WritePlace.TheVariants as on
-use Rattle.piper_machine.specs.Open.{no_call, is_granted}
+use Rattle.std.specs.Prelude.{ℕ, ◌+◌, length, Bool, true, false, None, ◌==◌}
+use Rattle.piper_sides.specs.declared.calls.Side.{Side}
+use Rattle.piper_sides.specs.declared.calls.Side.TheVariants.{Reader, Writer}
+use Rattle.piper_sides.specs.declared.events.Answer.{Answer}
+use Rattle.piper_sides.specs.declared.events.Answer.TheVariants.{Flag, Poll, Done}
+use Rattle.piper_sides.specs.declared.polling.Polled.TheVariants.{Ready, Memory}
+use Rattle.piper_sides.specs.declared.table.Action.{Action}
+use Rattle.piper_sides.specs.declared.table.Action.TheVariants as does
+use Rattle.piper_sides.specs.declared.table.Purpose.{Purpose}
+use Rattle.piper_sides.specs.declared.table.Purpose.TheVariants as purpose
+use Rattle.piper_sides.specs.declared.table.AfterRead.{AfterRead}
+use Rattle.piper_sides.specs.declared.table.AfterRead.TheVariants as afterward
+use Rattle.piper_sides.specs.declared.table.AfterWrite.{AfterWrite}
+use Rattle.piper_sides.specs.declared.table.AfterWrite.TheVariants as behind
+use Rattle.piper_sides.specs.declared.table.ReadPlace.{ReadPlace}
+use Rattle.piper_sides.specs.declared.table.ReadPlace.TheVariants as at
+use Rattle.piper_sides.specs.declared.table.WritePlace.{WritePlace}
+use Rattle.piper_sides.specs.declared.table.WritePlace.TheVariants as on
+use Rattle.piper_sides.specs.Open.{no_call, is_granted}
 use Rattle.piper_machine.specs.Pipe.{Pipe}
-use Rattle.piper_machine.specs.Look.{end_or_pending}
+use Rattle.piper_sides.specs.Table.{end_or_pending}
 use Rattle.piper_machine.specs.Move.{with_waker, reader_woken, writer_woken, published, consumed}
-use Rattle.piper_machine.specs.Table.{query_answer, look_answer}
+use Rattle.piper_sides.specs.Table.{query_answer, look_answer}
 use Rattle.piper_machine.specs.Action.{call_of, refreshed_by, registered_in, closed_by}
 
 -- what a call ends with

@@ -1,12 +1,12 @@
 -- How many steps a call makes at most, and how many it has made.
 use Rattle.std.specs.Prelude.{ℕ, ◌+◌, ◌≤◌, List, [], ◌∷◌, Bool, true, false}
-use Rattle.piper_machine.specs.declared.calls.Side.{Side}
-use Rattle.piper_machine.specs.declared.calls.Side.TheVariants.{Reader, Writer}
-use Rattle.piper_machine.specs.declared.calls.Call.{Call}
-use Rattle.piper_machine.specs.declared.calls.Call.TheVariants as call
-use Rattle.piper_machine.specs.declared.calls.Step.{Step}
-use Rattle.piper_machine.specs.declared.calls.Step.TheVariants.{Begin, Go, Put}
-use Rattle.piper_machine.specs.Call.{side_of}
+use Rattle.piper_sides.specs.declared.calls.Side.{Side}
+use Rattle.piper_sides.specs.declared.calls.Side.TheVariants.{Reader, Writer}
+use Rattle.piper_sides.specs.declared.calls.Call.{Call}
+use Rattle.piper_sides.specs.declared.calls.Call.TheVariants as call
+use Rattle.piper_sides.specs.declared.calls.Step.{Step}
+use Rattle.piper_sides.specs.declared.calls.Step.TheVariants.{Begin, Go, Put}
+use Rattle.piper_sides.specs.Call.{side_of}
 
 -- the most steps from the opening of a call to its answer
 abbrev pub most_steps : Call → ℕ

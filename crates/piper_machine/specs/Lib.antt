@@ -1,15 +1,10 @@
-pub mod Index
 pub mod Buffer
-pub mod Open
 pub mod Pipe
 pub mod Places
 pub mod Sound
 pub mod Query
 pub mod Refresh
-pub mod Call
-pub mod Log
 pub mod Look
-pub mod Table
 pub mod Lend
 pub mod Move
 pub mod Copy
@@ -18,11 +13,9 @@ pub mod Close
 pub mod Action
 pub mod Step
 pub mod Refusal
-pub mod Answer
 pub mod Alone
 pub mod Counts
 pub mod Run
 pub mod Conservation
 pub mod Disjoint
-pub mod Side
 pub mod Machine

@@ -1,9 +1,10 @@
 -- The look that a polling or copying call begins with, run whole: is there something to read, or room to write?
 use Rattle.std.specs.Prelude.{ℕ, Bool, true, false, Option, None, Some, ◌==◌}
-use Rattle.piper_machine.specs.declared.polling.Context.{Context}
-use Rattle.piper_machine.specs.declared.polling.Luck.{Luck}
-use Rattle.piper_machine.specs.declared.polling.Polled.{Polled}
-use Rattle.piper_machine.specs.declared.polling.Polled.TheVariants.{Pending, Ready, Memory}
+use Rattle.piper_sides.specs.declared.polling.Context.{Context}
+use Rattle.piper_sides.specs.declared.polling.Luck.{Luck}
+use Rattle.piper_sides.specs.declared.polling.Polled.{Polled}
+use Rattle.piper_sides.specs.declared.polling.Polled.TheVariants.{Pending, Ready, Memory}
+use Rattle.piper_sides.specs.Table.{end_or_pending}
 use Rattle.piper_machine.specs.Pipe.{Pipe}
 use Rattle.piper_machine.specs.Refresh.{reader_refreshed, writer_refreshed}
 
@@ -18,11 +19,6 @@ pub record Look : Type 0 where
 
 abbrev pub looked : Polled Bool → Pipe → Look
 looked answer p = record { answer = answer; pipe = p }
-
--- false is the end of a closed pipe; without it the caller has to wait
-abbrev pub end_or_pending : Bool → Polled Bool
-end_or_pending true = Ready false
-end_or_pending false = Pending
 
 -- the reader's waker is registered, if its clone is granted
 abbrev pub reader_registers : Bool → ℕ → Pipe → Look

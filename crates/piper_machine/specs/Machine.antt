@@ -1,12 +1,12 @@
 -- How the fields of a machine stand for a pipe.
 use Rattle.std.specs.Prelude.{◌≡◌, ◌≤◌, length, take, drop, true}
-use Rattle.piper_machine.specs.declared.table.ReadPlace.TheVariants as at
-use Rattle.piper_machine.specs.declared.table.WritePlace.TheVariants as on
-use Rattle.piper_machine.specs.Open.{no_call}
-use Rattle.piper_machine.specs.Index.{distance, place_of}
+use Rattle.piper_sides.specs.declared.table.ReadPlace.TheVariants as at
+use Rattle.piper_sides.specs.declared.table.WritePlace.TheVariants as on
+use Rattle.piper_sides.specs.Open.{no_call}
+use Rattle.piper_sides.specs.Index.{distance, place_of}
 use Rattle.piper_machine.specs.Buffer.{between}
 use Rattle.piper_machine.specs.Pipe.{Pipe}
-use Rattle.piper_machine.specs.Side.{IsReading, IsWriting, known_of, room_of}
+use Rattle.piper_sides.specs.Side.{IsReading, IsWriting, known_of, room_of}
 use Rattle.piper_machine.specs.declared.machine.Machine.TheInside.{Inside}
 
 abbrev pub pipe_of : Inside → Pipe

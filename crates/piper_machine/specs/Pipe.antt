@@ -1,11 +1,11 @@
 -- The state of a pipe, as every contract sees it: a list of bytes, two known counts, and no buffer.
 use Rattle.std.specs.Prelude.{ℕ, List, [], Bool, false, Option, None}
-use Rattle.piper_machine.specs.declared.calls.OpenCall.{OpenCall}
-use Rattle.piper_machine.specs.Open.{no_call}
-use Rattle.piper_machine.specs.declared.table.ReadPlace.{ReadPlace}
-use Rattle.piper_machine.specs.declared.table.ReadPlace.TheVariants as at
-use Rattle.piper_machine.specs.declared.table.WritePlace.{WritePlace}
-use Rattle.piper_machine.specs.declared.table.WritePlace.TheVariants as on
+use Rattle.piper_sides.specs.declared.calls.OpenCall.{OpenCall}
+use Rattle.piper_sides.specs.Open.{no_call}
+use Rattle.piper_sides.specs.declared.table.ReadPlace.{ReadPlace}
+use Rattle.piper_sides.specs.declared.table.ReadPlace.TheVariants as at
+use Rattle.piper_sides.specs.declared.table.WritePlace.{WritePlace}
+use Rattle.piper_sides.specs.declared.table.WritePlace.TheVariants as on
 
 pub record Pipe : Type 0 where
   pub capacity : ℕ

@@ -1,6 +1,6 @@
 -- Where the bytes stand in the buffer, and who holds which place.
 use Rattle.std.specs.Prelude.{◌≡◌, ℕ, ◌+◌, ◌-◌, ◌<◌, min, List, length, take}
-use Rattle.piper_machine.specs.Index.{place_of}
+use Rattle.piper_sides.specs.Index.{place_of}
 use Rattle.piper_machine.specs.Pipe.{Pipe}
 
 -- the place of the unread byte number i

@@ -1,22 +1,22 @@
 -- Why a step is refused. Where several reasons hold, the first in the order of the lines is answered; want of memory comes last.
-use Rattle.std.specs.Prelude.{◌≡◌, ℕ, length, Bool, true, false, Option, None, Some, nat_le, nat_lt}
-use Rattle.piper_machine.specs.declared.calls.Side.{Side}
-use Rattle.piper_machine.specs.declared.calls.Side.TheVariants.{Reader, Writer}
-use Rattle.piper_machine.specs.declared.calls.SideState.{SideState}
-use Rattle.piper_machine.specs.declared.calls.SideState.TheVariants as state
-use Rattle.piper_machine.specs.declared.calls.Call.{Call}
-use Rattle.piper_machine.specs.declared.calls.Call.TheVariants as call
-use Rattle.piper_machine.specs.declared.calls.Step.{Step}
-use Rattle.piper_machine.specs.declared.calls.Step.TheVariants.{Begin, Go, Put}
-use Rattle.piper_machine.specs.declared.refusals.StepRefusal.{StepRefusal}
-use Rattle.piper_machine.specs.declared.refusals.StepRefusal.TheVariants.{Busy, Idle, Dropped, PastLent, PastPeek, BadDraw}
-use Rattle.piper_machine.specs.declared.table.ReadPlace.{ReadPlace}
-use Rattle.piper_machine.specs.declared.table.ReadPlace.TheVariants as at
-use Rattle.piper_machine.specs.declared.table.WritePlace.{WritePlace}
-use Rattle.piper_machine.specs.declared.table.WritePlace.TheVariants as on
+use Rattle.std.specs.Prelude.{◌≡◌, length, Bool, true, false, Option, None, Some, nat_le, nat_lt}
+use Rattle.piper_sides.specs.declared.calls.Side.{Side}
+use Rattle.piper_sides.specs.declared.calls.Side.TheVariants.{Reader, Writer}
+use Rattle.piper_sides.specs.declared.calls.SideState.{SideState}
+use Rattle.piper_sides.specs.declared.calls.SideState.TheVariants as state
+use Rattle.piper_sides.specs.declared.calls.Call.{Call}
+use Rattle.piper_sides.specs.declared.calls.Call.TheVariants as call
+use Rattle.piper_sides.specs.declared.calls.Step.{Step}
+use Rattle.piper_sides.specs.declared.calls.Step.TheVariants.{Begin, Go, Put}
+use Rattle.piper_sides.specs.declared.refusals.StepRefusal.{StepRefusal}
+use Rattle.piper_sides.specs.declared.refusals.StepRefusal.TheVariants.{Busy, Idle, Dropped, PastLent, PastPeek, BadDraw}
+use Rattle.piper_sides.specs.declared.table.ReadPlace.{ReadPlace}
+use Rattle.piper_sides.specs.declared.table.ReadPlace.TheVariants as at
+use Rattle.piper_sides.specs.declared.table.WritePlace.{WritePlace}
+use Rattle.piper_sides.specs.declared.table.WritePlace.TheVariants as on
 use Rattle.piper_machine.specs.Pipe.{Pipe}
 use Rattle.piper_machine.specs.Places.{peeked_count}
-use Rattle.piper_machine.specs.Call.{side_of, has_good_draw}
+use Rattle.piper_sides.specs.Call.{side_of, has_good_draw}
 
 abbrev pub reader_state : ReadPlace → SideState
 reader_state at.Idle = state.Idle

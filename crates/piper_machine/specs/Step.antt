@@ -1,31 +1,32 @@
 -- One step of a run: a call is opened, a side makes its next step, or a byte is put into what is lent.
-use Rattle.std.specs.Prelude.{◌≡◌, ℕ, List, [], ◌∷◌, ◌++◌, length, slice_set, Option, None, Some, ◌==◌, ⊤}
-use Rattle.piper_machine.specs.declared.calls.Side.{Side}
-use Rattle.piper_machine.specs.declared.calls.Side.TheVariants.{Reader, Writer}
-use Rattle.piper_machine.specs.declared.calls.OpenCall.{OpenCall}
-use Rattle.piper_machine.specs.declared.calls.Call.{Call}
-use Rattle.piper_machine.specs.declared.calls.Call.TheVariants as call
-use Rattle.piper_machine.specs.declared.calls.Query.{Query}
-use Rattle.piper_machine.specs.declared.polling.Context.{Context}
-use Rattle.piper_machine.specs.declared.calls.Query.TheVariants.{Len, IsEmpty, IsFull}
-use Rattle.piper_machine.specs.declared.calls.Step.{Step}
-use Rattle.piper_machine.specs.declared.calls.Step.TheVariants.{Begin, Go, Put}
-use Rattle.piper_machine.specs.declared.events.Answer.{Answer}
-use Rattle.piper_machine.specs.declared.events.Answer.TheVariants.{Lent}
-use Rattle.piper_machine.specs.declared.events.Event.{Event}
-use Rattle.piper_machine.specs.declared.events.Event.TheVariants.{Began, Answered}
-use Rattle.piper_machine.specs.declared.table.Action.{Action}
-use Rattle.piper_machine.specs.declared.table.Purpose.TheVariants.{Poll}
-use Rattle.piper_machine.specs.declared.table.AfterRead.TheVariants as afterward
-use Rattle.piper_machine.specs.declared.table.AfterWrite.TheVariants as behind
-use Rattle.piper_machine.specs.declared.table.ReadPlace.TheVariants as at
-use Rattle.piper_machine.specs.declared.table.WritePlace.TheVariants as on
-use Rattle.piper_machine.specs.Open.{no_call, polling}
+use Rattle.std.specs.Prelude.{ℕ, List, [], ◌∷◌, ◌++◌, length, slice_set, Option, None, Some, ◌==◌, ⊤}
+use Rattle.piper_sides.specs.declared.calls.Side.{Side}
+use Rattle.piper_sides.specs.declared.calls.Side.TheVariants.{Reader, Writer}
+use Rattle.piper_sides.specs.declared.calls.OpenCall.{OpenCall}
+use Rattle.piper_sides.specs.declared.calls.Call.{Call}
+use Rattle.piper_sides.specs.declared.calls.Call.TheVariants as call
+use Rattle.piper_sides.specs.declared.calls.Query.{Query}
+use Rattle.piper_sides.specs.declared.polling.Context.{Context}
+use Rattle.piper_sides.specs.declared.calls.Query.TheVariants.{Len, IsEmpty, IsFull}
+use Rattle.piper_sides.specs.declared.calls.Step.{Step}
+use Rattle.piper_sides.specs.declared.calls.Step.TheVariants.{Begin, Go, Put}
+use Rattle.piper_sides.specs.declared.events.Answer.{Answer}
+use Rattle.piper_sides.specs.declared.events.Answer.TheVariants.{Lent}
+use Rattle.piper_sides.specs.declared.events.Event.{Event}
+use Rattle.piper_sides.specs.declared.events.Event.TheVariants.{Began}
+use Rattle.piper_sides.specs.declared.table.Action.{Action}
+use Rattle.piper_sides.specs.declared.table.Purpose.TheVariants.{Poll}
+use Rattle.piper_sides.specs.declared.table.AfterRead.TheVariants as afterward
+use Rattle.piper_sides.specs.declared.table.AfterWrite.TheVariants as behind
+use Rattle.piper_sides.specs.declared.table.ReadPlace.TheVariants as at
+use Rattle.piper_sides.specs.declared.table.WritePlace.TheVariants as on
+use Rattle.piper_sides.specs.Open.{no_call, polling}
+use Rattle.piper_sides.specs.Log.{answer_event}
 use Rattle.piper_machine.specs.Pipe.{Pipe}
-use Rattle.piper_machine.specs.Call.{side_of, kind_of, waker_of}
+use Rattle.piper_sides.specs.Call.{side_of, kind_of, waker_of}
 use Rattle.piper_machine.specs.Look.{context}
 use Rattle.piper_machine.specs.Lend.{Lendable, lending}
-use Rattle.piper_machine.specs.Table.{read_action, read_after, reader_looks_for, write_action, write_after}
+use Rattle.piper_sides.specs.Table.{read_action, read_after, reader_looks_for, write_action, write_after}
 use Rattle.piper_machine.specs.Action.{performed, found_by, logged_of}
 
 -- the pipe after a step, what the call answers if it was its last, and what is logged
@@ -38,10 +39,6 @@ pub record Stepped : Type 0 where
 abbrev pub call_after : Option Answer → OpenCall → OpenCall
 call_after None c = c
 call_after (Some answer) c = no_call
-
-abbrev pub answer_event : Side → Option Answer → List Event
-answer_event side None = []
-answer_event side (Some answer) = Answered side answer ∷ []
 
 -- the reader makes a step of this kind
 abbrev pub reader_stepped : Action → Pipe → Stepped

@@ -1,6 +1,6 @@
 //! A pipe with both its sides, for one owner.
 ghost use Rattle.std.specs.Prelude.{◌≡◌, ◌<◌, ◌≤◌, ◌+◌, ◌-◌, ◌++◌, length, take, drop, IfOk, min, false};
-ghost use Rattle.piper_machine.specs.Index.{IsCapacity, place_of};
+ghost use Rattle.piper_sides.specs.Index.{IsCapacity, place_of};
 ghost use Rattle.piper_machine.specs.Pipe.{fresh, begun};
 ghost use Rattle.piper_machine.specs.Buffer.{written};
 ghost use Rattle.piper_machine.specs.Places.{peeked, peeked_count, places_left};
@@ -10,15 +10,15 @@ ghost use Rattle.piper_machine.specs.Lend.{Lendable, lending};
 ghost use Rattle.piper_machine.specs.Move.{reader_woken, writer_woken, published, consumed, with_waker};
 ghost use Rattle.piper_machine.specs.Copy.{try_fill, try_drain, count_of, filled, drained, unlent};
 
-use crate::calls::OpenCall;
-use crate::index;
-use crate::memory::OutOfMemory;
-use crate::read_side::ReadSide;
-use crate::scripted::MOST_A_ROUND;
-use crate::slot::SlotState;
-use crate::table::{ReadPlace, WritePlace};
-use crate::woken::Woken;
-use crate::write_side::WriteSide;
+use piper_sides::calls::OpenCall;
+use piper_sides::index;
+use piper_sides::memory::OutOfMemory;
+use piper_sides::read_side::ReadSide;
+use piper_sides::scripted::MOST_A_ROUND;
+use piper_sides::slot::SlotState;
+use piper_sides::table::{ReadPlace, WritePlace};
+use piper_sides::woken::Woken;
+use piper_sides::write_side::WriteSide;
 use std::alloc::Global;
 use std::marker::Model;
 

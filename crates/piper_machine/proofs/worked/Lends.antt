@@ -3,13 +3,13 @@ use Rattle.std.specs.Prelude.{◌≡◌, ℕ, ◌+◌, ◌-◌, ◌*◌, ◌<◌
 use Rattle.std.proofs.Common.{◌∙◌, sym, arith}
 use Rattle.std.proofs.lemmas.List.{length-take}
 use Rattle.std.proofs.lemmas.Bool.Decides.{nat_tests}
-use Rattle.piper_machine.specs.Index.{place_of, advanced}
+use Rattle.piper_sides.specs.Index.{place_of, advanced}
 use Rattle.piper_machine.specs.Pipe.{Pipe, fresh}
 use Rattle.piper_machine.specs.Sound.{IsSound}
 use Rattle.piper_machine.specs.Lend.{Lendable, lend_limit, lending}
 use Rattle.piper_machine.specs.Places.{places_left}
 use Rattle.piper_machine.specs.Move.{produce}
-use Rattle.piper_machine.specs.Side.{fresh_writing, Writing, room_of, left_of, lend_bound, lend_length, lent_out}
+use Rattle.piper_sides.specs.Side.{fresh_writing, Writing, room_of, left_of, lend_bound, lend_length, lent_out}
 use Rattle.piper_machine.proofs.worked.Script.{Call, Lend, Produced, lent_count}
 
 -- the writer's side of a pipe as it is made

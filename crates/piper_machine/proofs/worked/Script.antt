@@ -2,12 +2,12 @@
 -- Its calls and answers are those of the replayer's scripts.
 use Rattle.std.specs.Prelude.{ℕ, suc, zero, ◌+◌, ◌-◌, ◌<◌, ◌≤◌, List, [], ◌∷◌, take, length, replicate, slice_set, Bool, true, false, Some, Result, if◌then◌else◌}
 use Rattle.std.specs.declared.result.Result.TheVariants as result
-use Rattle.piper_machine.specs.declared.polling.Polled.{Polled}
-use Rattle.piper_machine.specs.declared.polling.Polled.TheVariants as polled
-use Rattle.piper_machine.specs.declared.scripted.SourceAct.{SourceAct}
-use Rattle.piper_machine.specs.declared.scripted.DestAct.{DestAct}
-use Rattle.piper_machine.specs.declared.scripted.Failed as failed
-use Rattle.piper_machine.specs.declared.polling.Context.{Context}
+use Rattle.piper_sides.specs.declared.polling.Polled.{Polled}
+use Rattle.piper_sides.specs.declared.polling.Polled.TheVariants as polled
+use Rattle.piper_sides.specs.declared.scripted.SourceAct.{SourceAct}
+use Rattle.piper_sides.specs.declared.scripted.DestAct.{DestAct}
+use Rattle.piper_sides.specs.declared.scripted.Failed as failed
+use Rattle.piper_sides.specs.declared.polling.Context.{Context}
 use Rattle.piper_machine.specs.Pipe.{Pipe, begun}
 use Rattle.piper_machine.specs.Places.{peeked, peeked_count}
 use Rattle.piper_machine.specs.Query.{unread_count, is_empty, is_full, is_closed}

@@ -1,9 +1,9 @@
 -- Sources and destinations that end or fail: earlier rounds stay done, and the refused one moves nothing.
 use Rattle.std.specs.Prelude.{◌≡◌, ℕ, List, [], ◌∷◌, Ok, refl}
 use Rattle.std.proofs.Common.{arith}
-use Rattle.piper_machine.specs.declared.polling.Polled.TheVariants as polled
-use Rattle.piper_machine.specs.declared.scripted.SourceAct.TheVariants as source
-use Rattle.piper_machine.specs.declared.scripted.DestAct.TheVariants as dest
+use Rattle.piper_sides.specs.declared.polling.Polled.TheVariants as polled
+use Rattle.piper_sides.specs.declared.scripted.SourceAct.TheVariants as source
+use Rattle.piper_sides.specs.declared.scripted.DestAct.TheVariants as dest
 use Rattle.piper_machine.specs.Pipe.{Pipe, fresh}
 use Rattle.piper_machine.specs.Copy.{drained}
 use Rattle.piper_machine.specs.Scripted.{taken_by, drain_moves_to}

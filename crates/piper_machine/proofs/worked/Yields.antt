@@ -1,7 +1,7 @@
 -- A copying poll yields exactly at a draw of 0, and answers `memory` exactly where a clone is needed and refused.
 use Rattle.std.specs.Prelude.{◌≡◌, List, [], ◌∷◌, refl}
 use Rattle.std.proofs.Common.{arith}
-use Rattle.piper_machine.specs.declared.scripted.SourceAct.TheVariants as source
+use Rattle.piper_sides.specs.declared.scripted.SourceAct.TheVariants as source
 use Rattle.piper_machine.specs.Pipe.{fresh}
 use Rattle.piper_machine.proofs.worked.Script.{◌to◌, Call, Reader, Writer, Fill, Drain, Poll, by, yielding, unregistered, refused_yield, Lend, PollFill, PollDrain, FillFrom, Count, Bytes, Ready, Pending, Memory, ◌woken◌, answers, after, ProducedPassesLent}
 

@@ -1,28 +1,30 @@
 //! Runs: steps of both sides in any order, and the log of what happened.
 ghost use Rattle.std.specs.Prelude.{◌≡◌, ◌≢◌, ◌<◌, ◌≤◌, ◌+◌, ℕ, [], ◌++◌, length, take, true, false, OnOk, OnErr, IfOk, IfErr, slice_set, vec_len, vec_capacity, nat_le, nat_lt};
-ghost use Rattle.piper_machine.specs.Index.{IsCapacity};
-ghost use Rattle.piper_machine.specs.Call.{side_of};
-ghost use Rattle.piper_machine.specs.Log.{events, listed};
+ghost use Rattle.piper_sides.specs.Index.{IsCapacity};
+ghost use Rattle.piper_sides.specs.Call.{side_of};
+ghost use Rattle.piper_sides.specs.Log.{events, listed};
 ghost use Rattle.piper_machine.specs.Lend.{lending};
 ghost use Rattle.piper_machine.specs.Places.{peeked_count};
 ghost use Rattle.piper_machine.specs.Action.{call_of, logged_of, refresh_event, wake_of, registration_of};
-ghost use Rattle.piper_machine.specs.Table.{read_action, write_action};
-ghost use Rattle.piper_machine.specs.Step.{opened, query_opened, is_closed_opened, poll_opened, drop_opened, answer_at_once, went, stepped, answer_event, action_of, MayLend};
+ghost use Rattle.piper_sides.specs.Table.{read_action, write_action};
+ghost use Rattle.piper_machine.specs.Step.{opened, query_opened, is_closed_opened, poll_opened, drop_opened, answer_at_once, went, stepped, action_of, MayLend};
+ghost use Rattle.piper_sides.specs.Log.{answer_event};
 ghost use Rattle.piper_machine.specs.Refusal.{state_of, reader_state, writer_state, cannot_begin, cannot_go, unless, or_else, past, refusal_of, IsIdle};
 ghost use Rattle.piper_machine.specs.Pipe.{fresh};
 ghost use Rattle.piper_machine.specs.Counts.{IsCounted};
 ghost use Rattle.piper_machine.specs.Conservation.{IsConserved};
 ghost use Rattle.piper_machine.specs.Disjoint.{IsDisjoint, KeepsKnown, IsWriterStep};
+ghost use Rattle.piper_machine.specs.Sound.{IsSound};
 ghost use Rattle.piper_machine.specs.Run.{Made, IsStepped, Runs, IsRefusal, IsRunRefusal};
 
 use super::Machine;
-use crate::bytes::Bytes;
-use crate::calls::{Call, OpenCall, Query, Side, SideState, Step};
-use crate::events::{Answer, Event, Log, Seen, answered};
-use crate::memory::OutOfMemory;
-use crate::polling::Context;
-use crate::refusals::{RunRefusal, StepRefusal};
-use crate::table::{Action, Purpose, ReadPlace, WritePlace};
+use piper_sides::bytes::Bytes;
+use piper_sides::calls::{Call, OpenCall, Query, Side, SideState, Step};
+use piper_sides::events::{Answer, Event, Log, Seen, answered};
+use piper_sides::memory::OutOfMemory;
+use piper_sides::polling::Context;
+use piper_sides::refusals::{RunRefusal, StepRefusal};
+use piper_sides::table::{Action, Purpose, ReadPlace, WritePlace};
 use std::alloc::Global;
 
 // Why no call can be opened.
@@ -361,6 +363,7 @@ pub fn run(alloc: Global, cap: usize, steps: &[Step]) -> Result<(Machine, Log), 
     requires { IsCapacity cap }
     ensures runs { IfOk result (λ run. Runs (fresh cap) [] steps.now run.0 (events run.1)) }
     ensures refused { IfErr result (IsRunRefusal cap steps.now) }
+    ensures sound { IfOk result (λ run. IsSound run.0) }
     ensures conserved { IfOk result (λ run. IsConserved run.0 (events run.1)) }
     ensures disjoint { IfOk result (λ run. IsDisjoint run.0) }
     ensures counted { IfOk result (λ run. IsCounted steps.now) }

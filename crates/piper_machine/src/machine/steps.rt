@@ -1,17 +1,17 @@
 //! The steps of the two sides, one at a time.
 ghost use Rattle.std.specs.Prelude.{IsSome, ◌≡◌, ◌≢◌, ◌≤◌, ℕ, length, true, false};
-ghost use Rattle.piper_machine.specs.Open.{is_granted, no_call};
+ghost use Rattle.piper_sides.specs.Open.{is_granted, no_call};
 ghost use Rattle.piper_machine.specs.Action.{registered_in};
 ghost use Rattle.piper_machine.specs.Places.{peeked_count};
-ghost use Rattle.piper_machine.specs.Table.{read_action, write_action};
+ghost use Rattle.piper_sides.specs.Table.{read_action, write_action};
 ghost use Rattle.piper_machine.specs.Step.{reader_stepped, writer_stepped, went, call_after};
 
 use super::Machine;
-use crate::calls::{OpenCall, Side};
-use crate::events::Answer;
-use crate::polling::Context;
-use crate::slot::SlotState;
-use crate::table::Action;
+use piper_sides::calls::{OpenCall, Side};
+use piper_sides::events::Answer;
+use piper_sides::polling::Context;
+use piper_sides::slot::SlotState;
+use piper_sides::table::Action;
 
 // Puts the waker of the context into the slot, if its clone is granted, and answers whether it was.
 fn register(slot: &mut SlotState<u32>, context: Option<Context>) -> bool

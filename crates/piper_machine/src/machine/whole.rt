@@ -1,7 +1,7 @@
 //! Calls run whole: the side is driven to its answer while the other side makes no step.
 ghost use Rattle.std.specs.Prelude.{◌≡◌, ◌<◌, ◌≤◌, ◌+◌, ◌↔◌, length, IsTrue, true, Some};
 ghost use Rattle.piper_machine.specs.Pipe.{begun};
-ghost use Rattle.piper_machine.specs.Open.{no_call};
+ghost use Rattle.piper_sides.specs.Open.{no_call};
 ghost use Rattle.piper_machine.specs.Query.{unread_count, is_empty, is_full, is_closed};
 ghost use Rattle.piper_machine.specs.Buffer.{written};
 ghost use Rattle.piper_machine.specs.Lend.{Lendable, lending};
@@ -9,17 +9,17 @@ ghost use Rattle.piper_machine.specs.Places.{peeked_count};
 ghost use Rattle.piper_machine.specs.Look.{context, reader_look, writer_look};
 ghost use Rattle.piper_machine.specs.Move.{produce, consume};
 ghost use Rattle.piper_machine.specs.Close.{close, drop_reader, drop_writer};
-ghost use Rattle.piper_machine.specs.Table.{read_action, write_action};
+ghost use Rattle.piper_sides.specs.Table.{read_action, write_action};
 ghost use Rattle.piper_machine.specs.Step.{went};
 ghost use Rattle.piper_machine.specs.Refusal.{reader_state, writer_state};
-ghost use Rattle.piper_machine.specs.Answer.{count_in, flag_in, polled_in};
+ghost use Rattle.piper_sides.specs.Answer.{count_in, flag_in, polled_in};
 ghost use Rattle.piper_machine.specs.Alone.{heard, reader_alone, writer_alone, read_wakes, write_wakes};
 
 use super::{Machine, write_at};
-use crate::calls::{Query, Side, SideState};
-use crate::events::Answer;
-use crate::polling::{Context, Luck, Polled};
-use crate::table::{Action, ReadPlace, WritePlace};
+use piper_sides::calls::{Query, Side, SideState};
+use piper_sides::events::Answer;
+use piper_sides::polling::{Context, Luck, Polled};
+use piper_sides::table::{Action, ReadPlace, WritePlace};
 
 impl Machine {
     // A whole call of the reader begins.

@@ -1,5 +1,5 @@
 use Rattle.std.proofs.Common.{◌≡◌, ◌≤◌, ◌+◌, length}
-use Rattle.piper_machine.specs.declared.calls.SideState.TheVariants.{Busy}
+use Rattle.piper_sides.specs.declared.calls.SideState.TheVariants.{Busy}
 use Rattle.piper_machine.specs.Refusal.{writer_state}
 use Rattle.piper_machine.specs.Alone.{writer_alone, write_steps, write_wakes}
 use Rattle.piper_machine.proofs.machine.Machine.drive_writer.Given as goal

@@ -1,5 +1,5 @@
 use Rattle.std.proofs.Common.{◌≡◌, ◌≤◌, ◌-◌, ◌++◌, length, take, drop, []}
-use Rattle.piper_machine.specs.declared.table.ReadPlace.TheVariants as ReadPlace
+use Rattle.piper_sides.specs.declared.table.ReadPlace.TheVariants as ReadPlace
 use Rattle.piper_machine.specs.Copy.{drained}
 use Rattle.piper_machine.proofs.machine.Machine.r_try_drain.Given as goal
 

@@ -1,5 +1,5 @@
 use Rattle.std.proofs.Common.{◌≡◌, ◌≤◌, ◌-◌, length, take, [], false}
-use Rattle.piper_machine.specs.declared.table.WritePlace.TheVariants as WritePlace
+use Rattle.piper_sides.specs.declared.table.WritePlace.TheVariants as WritePlace
 use Rattle.piper_machine.specs.Copy.{filled}
 use Rattle.piper_machine.proofs.machine.Machine.w_try_fill.Given as goal
 

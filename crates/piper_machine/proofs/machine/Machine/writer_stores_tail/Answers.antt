@@ -1,9 +1,9 @@
 use Rattle.std.proofs.Common.{ap, ◌∙◌, arith, length}
-use Rattle.piper_machine.specs.declared.table.WritePlace.{WritePlace}
+use Rattle.piper_sides.specs.declared.table.WritePlace.{WritePlace}
 use Rattle.piper_machine.specs.Pipe.{Pipe}
 use Rattle.piper_machine.specs.Move.{published}
-use Rattle.piper_machine.specs.Side.{room_of}
-use Rattle.piper_machine.specs.Table.{Next, write_after, nothing}
+use Rattle.piper_sides.specs.Side.{room_of}
+use Rattle.piper_sides.specs.Table.{Next, write_after, nothing}
 use Rattle.piper_machine.specs.Step.{call_after}
 use Rattle.piper_machine.specs.Machine.{pipe_of}
 use Rattle.piper_machine.proofs.Soundness.{length-lent}

@@ -1,7 +1,7 @@
 use Rattle.std.proofs.Common.{[], take, sym, subst}
 use Rattle.std.proofs.lemmas.List.{take_more}
 use Rattle.piper_machine.specs.Pipe.{fresh}
-use Rattle.piper_machine.specs.Log.{events}
+use Rattle.piper_sides.specs.Log.{events}
 use Rattle.piper_machine.specs.Run.{Runs}
 use Rattle.piper_machine.proofs.Runs.{runs_more}
 use Rattle.piper_machine.proofs.Conserving.{conserved-step}

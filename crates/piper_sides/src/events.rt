@@ -1,7 +1,6 @@
 //! What happens in a run, and the log that keeps it.
 ghost use Rattle.std.specs.Prelude.{◌≡◌, ◌<◌, ◌≤◌, ◌+◌, ◌++◌, ◌∷◌, [], OnOk, vec_len, vec_capacity};
-ghost use Rattle.piper_machine.specs.Log.{listed};
-ghost use Rattle.piper_machine.specs.Step.{answer_event};
+ghost use Rattle.piper_sides.specs.Log.{listed, answer_event};
 
 use crate::bytes::Bytes;
 use crate::calls::{Kind, Side};
@@ -31,7 +30,7 @@ pub enum Answer {
 }
 
 impl Answer {
-    ghost use Rattle.piper_machine.specs.Answer.{count_in, flag_in, polled_in};
+    ghost use Rattle.piper_sides.specs.Answer.{count_in, flag_in, polled_in};
 
     /// The count that is answered, or 0.
     pub fn count(self) -> usize
@@ -85,7 +84,7 @@ pub struct Log {
 }
 
 impl Log {
-    ghost use Rattle.piper_machine.specs.Log.{events, listed};
+    ghost use Rattle.piper_sides.specs.Log.{events, listed, HasRoom};
 
     /// Nothing has happened yet.
     pub fn new(alloc: Global) -> Self
@@ -104,16 +103,16 @@ impl Log {
     }
 
     /// Makes room for the events of one step.
-    pub(crate) fn reserve(&mut self) -> Result<(), OutOfMemory>
-        ensures ok { OnOk result (vec_len self.new.items + 2 ≤ vec_capacity self.new.items) }
+    pub fn reserve(&mut self) -> Result<(), OutOfMemory>
+        ensures ok { OnOk result (HasRoom self.new) }
         ensures same { events self.new ≡ events self.old }
     {
         self.items.reserve(2).map_err(|_| OutOfMemory)
     }
 
     /// Adds the events of one step, for which room was made before.
-    pub(crate) fn add(&mut self, first: Option<Event>, second: Option<Event>)
-        requires { vec_len self.old.items + 2 ≤ vec_capacity self.old.items }
+    pub fn add(&mut self, first: Option<Event>, second: Option<Event>)
+        requires { HasRoom self.old }
         ensures { events self.new ≡ events self.old ++ (listed first ++ listed second) }
     {
         self.push(first);
@@ -135,7 +134,7 @@ impl Log {
 }
 
 /// The event of an answer, if there is one.
-pub(crate) fn answered(side: Side, answer: Option<Answer>) -> Option<Event>
+pub fn answered(side: Side, answer: Option<Answer>) -> Option<Event>
     ensures { listed result ≡ answer_event side answer }
 {
     match answer {

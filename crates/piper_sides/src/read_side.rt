@@ -1,8 +1,7 @@
 //! The reader's side: its own index, the writer's as it last saw it, and its place inside the open call.
 ghost use Rattle.std.specs.Prelude.{IsSome, ◌≡◌, ◌≢◌, true, ℕ, ◌*◌, ◌<◌, ◌≤◌, false, ◌==◌};
-ghost use Rattle.piper_machine.specs.Index.{IsCapacity, distance, place_of, advanced};
-ghost use Rattle.piper_machine.specs.Look.{end_or_pending};
-ghost use Rattle.piper_machine.specs.Table.{read_done, look_answer, read_action, read_after, reader_found, reader_looks_for, nothing, unread, refreshed, flag, granted, waker};
+ghost use Rattle.piper_sides.specs.Index.{IsCapacity, distance, place_of, advanced};
+ghost use Rattle.piper_sides.specs.Table.{end_or_pending, read_done, look_answer, read_action, read_after, reader_found, reader_looks_for, nothing, unread, refreshed, flag, granted, waker};
 
 use crate::calls::{Query, Side};
 use crate::events::Answer;
@@ -24,7 +23,7 @@ pub struct ReadSide {
 }
 
 impl Model for ReadSide {
-    ghost use Rattle.piper_machine.specs.Side.{Reading, IsReading};
+    ghost use Rattle.piper_sides.specs.Side.{Reading, IsReading};
 
     ghost Value = { Reading };
 
@@ -34,7 +33,7 @@ impl Model for ReadSide {
 }
 
 // What a look that is not true finds behind the closed flag that it loaded.
-pub(crate) fn end_or_pending(was_closed: bool) -> Polled<bool>
+pub fn end_or_pending(was_closed: bool) -> Polled<bool>
     ensures { result ≡ end_or_pending was_closed }
 {
     if was_closed {
@@ -45,7 +44,7 @@ pub(crate) fn end_or_pending(was_closed: bool) -> Polled<bool>
 }
 
 // What the call answers where its look is not true.
-pub(crate) fn look_answer(purpose: Purpose, answer: Polled<bool>) -> Answer
+pub fn look_answer(purpose: Purpose, answer: Polled<bool>) -> Answer
     ensures { result ≡ look_answer purpose answer }
 {
     match purpose {
@@ -63,7 +62,7 @@ fn found(purpose: Purpose) -> ReadPlace
 }
 
 impl ReadSide {
-    ghost use Rattle.piper_machine.specs.Side.{IsReading, fresh_reading, known_of, peekable_of};
+    ghost use Rattle.piper_sides.specs.Side.{IsReading, fresh_reading, known_of, peekable_of};
 
     /// The reader of an empty pipe.
     pub fn new(capacity: usize) -> Self

@@ -1,6 +1,6 @@
 //! The calls of the two sides, as they are opened and made step by step.
 ghost use Rattle.std.specs.Prelude.{◌≡◌, ◌↔◌, ◌<◌, IsTrue};
-ghost use Rattle.piper_machine.specs.Call.{side_of, kind_of, waker_of, has_good_draw};
+ghost use Rattle.piper_sides.specs.Call.{side_of, kind_of, waker_of, has_good_draw};
 
 use crate::polling::{Context, Luck};
 
@@ -85,7 +85,7 @@ pub struct OpenCall {
 }
 
 impl OpenCall {
-    ghost use Rattle.piper_machine.specs.Open.{no_call};
+    ghost use Rattle.piper_sides.specs.Open.{no_call};
 
     /// No call is open.
     pub fn none() -> Self

@@ -1,6 +1,6 @@
 //! The call table: where a side can stand inside a call, and the steps that it makes there.
 ghost use Rattle.std.specs.Prelude.{◌≡◌};
-ghost use Rattle.piper_machine.specs.Table.{query_answer};
+ghost use Rattle.piper_sides.specs.Table.{query_answer};
 
 use crate::calls::{Query, Side};
 use crate::events::Answer;

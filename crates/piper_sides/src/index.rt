@@ -1,6 +1,6 @@
 //! Indices of a ring of `cap` places. They lie in `0..2 * cap`, so that a full ring differs from an empty one.
 ghost use Rattle.std.specs.Prelude.{◌≡◌, ◌+◌, ◌-◌, ◌*◌, ◌%◌, ◌<◌, ◌≤◌};
-ghost use Rattle.piper_machine.specs.Index.{IsCapacity, distance, place_of, advanced};
+ghost use Rattle.piper_sides.specs.Index.{IsCapacity, distance, place_of, advanced};
 
 /// How far the index `to` is past the index `from`.
 pub fn distance(cap: usize, from: usize, to: usize) -> usize

@@ -1,26 +1,24 @@
 -- The call table: which step a side makes at each place of a call, and where what it found leads.
 use Rattle.std.specs.Prelude.{ℕ, Bool, true, false, Option, None, Some, ◌==◌}
-use Rattle.piper_machine.specs.declared.calls.Side.{Side}
-use Rattle.piper_machine.specs.declared.calls.Side.TheVariants.{Reader, Writer}
-use Rattle.piper_machine.specs.declared.calls.Query.{Query}
-use Rattle.piper_machine.specs.declared.calls.Query.TheVariants.{Len, IsEmpty, IsFull}
-use Rattle.piper_machine.specs.declared.events.Answer.{Answer}
-use Rattle.piper_machine.specs.declared.events.Answer.TheVariants.{Count, Flag, Poll, Done}
-use Rattle.piper_machine.specs.declared.polling.Polled.{Polled}
-use Rattle.piper_machine.specs.declared.polling.Polled.TheVariants.{Pending, Ready, Memory}
-use Rattle.piper_machine.specs.declared.table.Action.{Action}
-use Rattle.piper_machine.specs.declared.table.Action.TheVariants as does
-use Rattle.piper_machine.specs.declared.table.Purpose.{Purpose}
-use Rattle.piper_machine.specs.declared.table.Purpose.TheVariants as purpose
-use Rattle.piper_machine.specs.declared.table.AfterRead.{AfterRead}
-use Rattle.piper_machine.specs.declared.table.AfterRead.TheVariants as afterward
-use Rattle.piper_machine.specs.declared.table.AfterWrite.{AfterWrite}
-use Rattle.piper_machine.specs.declared.table.AfterWrite.TheVariants as behind
-use Rattle.piper_machine.specs.declared.table.ReadPlace.{ReadPlace}
-use Rattle.piper_machine.specs.declared.table.ReadPlace.TheVariants as at
-use Rattle.piper_machine.specs.declared.table.WritePlace.{WritePlace}
-use Rattle.piper_machine.specs.declared.table.WritePlace.TheVariants as on
-use Rattle.piper_machine.specs.Look.{end_or_pending}
+use Rattle.piper_sides.specs.declared.calls.Side.TheVariants.{Reader, Writer}
+use Rattle.piper_sides.specs.declared.calls.Query.{Query}
+use Rattle.piper_sides.specs.declared.calls.Query.TheVariants.{Len, IsEmpty, IsFull}
+use Rattle.piper_sides.specs.declared.events.Answer.{Answer}
+use Rattle.piper_sides.specs.declared.events.Answer.TheVariants.{Count, Flag, Poll, Done}
+use Rattle.piper_sides.specs.declared.polling.Polled.{Polled}
+use Rattle.piper_sides.specs.declared.polling.Polled.TheVariants.{Pending, Ready, Memory}
+use Rattle.piper_sides.specs.declared.table.Action.{Action}
+use Rattle.piper_sides.specs.declared.table.Action.TheVariants as does
+use Rattle.piper_sides.specs.declared.table.Purpose.{Purpose}
+use Rattle.piper_sides.specs.declared.table.Purpose.TheVariants as purpose
+use Rattle.piper_sides.specs.declared.table.AfterRead.{AfterRead}
+use Rattle.piper_sides.specs.declared.table.AfterRead.TheVariants as afterward
+use Rattle.piper_sides.specs.declared.table.AfterWrite.{AfterWrite}
+use Rattle.piper_sides.specs.declared.table.AfterWrite.TheVariants as behind
+use Rattle.piper_sides.specs.declared.table.ReadPlace.{ReadPlace}
+use Rattle.piper_sides.specs.declared.table.ReadPlace.TheVariants as at
+use Rattle.piper_sides.specs.declared.table.WritePlace.{WritePlace}
+use Rattle.piper_sides.specs.declared.table.WritePlace.TheVariants as on
 
 -- what a step found
 pub data Found : Type 0 where
@@ -50,6 +48,11 @@ abbrev pub query_answer : Query → ℕ → ℕ → Answer
 query_answer Len capacity count = Count count
 query_answer IsEmpty capacity count = Flag (count == 0)
 query_answer IsFull capacity count = Flag (count == capacity)
+
+-- false is the end of a closed pipe; without it the caller has to wait
+abbrev pub end_or_pending : Bool → Polled Bool
+end_or_pending true = Ready false
+end_or_pending false = Pending
 
 -- what the call answers where its look is not true
 abbrev pub look_answer : Purpose → Polled Bool → Answer

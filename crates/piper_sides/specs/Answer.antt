@@ -1,9 +1,9 @@
 -- What an answer says, to a caller who knows of which kind it is.
 use Rattle.std.specs.Prelude.{ℕ, Bool, false}
-use Rattle.piper_machine.specs.declared.events.Answer.{Answer}
-use Rattle.piper_machine.specs.declared.events.Answer.TheVariants.{Count, Flag, Poll}
-use Rattle.piper_machine.specs.declared.polling.Polled.{Polled}
-use Rattle.piper_machine.specs.declared.polling.Polled.TheVariants.{Memory}
+use Rattle.piper_sides.specs.declared.events.Answer.{Answer}
+use Rattle.piper_sides.specs.declared.events.Answer.TheVariants.{Count, Flag, Poll}
+use Rattle.piper_sides.specs.declared.polling.Polled.{Polled}
+use Rattle.piper_sides.specs.declared.polling.Polled.TheVariants.{Memory}
 
 abbrev pub count_in : Answer → ℕ
 count_in (Count n) = n

@@ -1,7 +1,7 @@
 //! The writer's side: its own index, the reader's as it last saw it, what is lent, and its place inside the open call.
 ghost use Rattle.std.specs.Prelude.{IsSome, ◌≡◌, ◌≢◌, ℕ, ◌+◌, ◌-◌, ◌*◌, ◌<◌, ◌≤◌, true, false, ◌==◌};
-ghost use Rattle.piper_machine.specs.Table.{write_action, write_after, write_done, writer_found, nothing, unread, refreshed, flag, granted, waker};
-ghost use Rattle.piper_machine.specs.Index.{IsCapacity, distance, place_of, advanced};
+ghost use Rattle.piper_sides.specs.Table.{write_action, write_after, write_done, writer_found, nothing, unread, refreshed, flag, granted, waker};
+ghost use Rattle.piper_sides.specs.Index.{IsCapacity, distance, place_of, advanced};
 
 use crate::calls::{Query, Side};
 use crate::events::Answer;
@@ -30,7 +30,7 @@ pub struct WriteSide {
 }
 
 impl Model for WriteSide {
-    ghost use Rattle.piper_machine.specs.Side.{Writing, IsWriting};
+    ghost use Rattle.piper_sides.specs.Side.{Writing, IsWriting};
 
     ghost Value = { Writing };
 
@@ -49,7 +49,7 @@ fn found(purpose: Purpose) -> WritePlace
 }
 
 impl WriteSide {
-    ghost use Rattle.piper_machine.specs.Side.{IsWriting, fresh_writing, room_of, left_of, lend_length, lent_out};
+    ghost use Rattle.piper_sides.specs.Side.{IsWriting, fresh_writing, room_of, left_of, lend_length, lent_out};
 
     /// The writer of an empty pipe.
     pub fn new(capacity: usize) -> Self

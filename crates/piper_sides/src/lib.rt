@@ -1,0 +1,18 @@
+//! The two sides of a bounded pipe of bytes, and the words in which their calls and steps are told.
+#![tactic(auto)]
+
+pub mod bytes;
+pub mod calls;
+pub mod events;
+pub mod index;
+pub mod memory;
+pub mod polling;
+pub mod read_side;
+pub mod refusals;
+pub mod scripted;
+pub mod slot;
+pub mod table;
+#[cfg(test)]
+mod tests;
+pub mod woken;
+pub mod write_side;
