@@ -17,9 +17,16 @@ abbrev pub answered : {A : Type 0} → Polled A → Pipe → Copied A
 answered answer p = record { answer = answer; pipe = p }
 
 -- a yield: the caller's own waker is called, if its clone is granted, and no byte moves
+abbrev pub yield_answer : {A : Type 0} → Bool → Polled A
+yield_answer false = Memory
+yield_answer true = Pending
+
+abbrev pub yield_pipe : Bool → ℕ → Pipe → Pipe
+yield_pipe false waker p = p
+yield_pipe true waker p = record p { woken = p.woken ++ waker ∷ [] }
+
 abbrev pub yielded : {A : Type 0} → Bool → ℕ → Pipe → Copied A
-yielded false waker p = answered Memory p
-yielded true waker p = answered Pending (record p { woken = p.woken ++ waker ∷ [] })
+yielded granted waker p = answered (yield_answer granted) (yield_pipe granted waker p)
 
 -- whether the draw was 0
 abbrev pub drawn : {A : Type 0} → Bool → Context → (Pipe → Copied A) → Pipe → Copied A

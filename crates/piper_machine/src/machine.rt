@@ -8,13 +8,12 @@ ghost use Rattle.piper_machine.specs.Sound.{IsSound};
 ghost use Rattle.piper_machine.specs.Refresh.{reader_refreshed, writer_refreshed};
 ghost use Rattle.piper_machine.specs.Lend.{Lendable, lending};
 ghost use Rattle.piper_machine.specs.Move.{reader_woken, writer_woken, published, consumed, with_waker};
-ghost use Rattle.piper_machine.specs.Copy.{try_fill, try_drain, count_of, filled, drained, unlent};
+ghost use Rattle.piper_machine.specs.Copy.{unlent};
 
 use piper_sides::calls::OpenCall;
 use piper_sides::index;
 use piper_sides::memory::OutOfMemory;
 use piper_sides::read_side::ReadSide;
-use piper_sides::scripted::MOST_A_ROUND;
 use piper_sides::slot::SlotState;
 use piper_sides::table::{ReadPlace, WritePlace};
 use piper_sides::woken::Woken;
@@ -22,6 +21,7 @@ use piper_sides::write_side::WriteSide;
 use std::alloc::Global;
 use std::marker::Model;
 
+mod copying;
 mod runs;
 mod steps;
 mod whole;
@@ -247,90 +247,6 @@ impl Machine {
         ensures { self.new ≡ consumed n self.old }
     {
         self.read.consume(n);
-    }
-
-    /// One round of a fill: as many of the first bytes as are lent. Nothing stays lent.
-    fn fill_round(&mut self, source: &[u8]) -> usize
-        requires idle { self.old.writer ≡ WritePlace.Idle }
-        requires open { self.old.is_shut ≡ false }
-        requires woken { length self.old.woken < 2 }
-        ensures within { result ≤ min (length source.now) self.old.room }
-        ensures none { result ≡ 0 → min (length source.now) self.old.room ≡ 0 }
-        ensures after { self.new ≡ filled (take result source.now) self.old }
-    {
-        self.learn();
-        let count = source.len().min(self.lend(MOST_A_ROUND));
-        if count > 0 {
-            self.write_front(&source[..count]);
-            self.publish(count);
-            self.wake_reader();
-        }
-        self.unlend();
-        count
-    }
-
-    /// One round of a drain: as many known bytes as stand in one piece and fit.
-    fn drain_round(&mut self, dest: &mut [u8]) -> usize
-        requires idle { self.old.reader ≡ ReadPlace.Idle }
-        requires woken { length self.old.woken < 2 }
-        ensures within { result ≤ min (length dest.old) self.old.known }
-        ensures place { self.old.start + result ≤ self.old.capacity }
-        ensures none { result ≡ 0 → min (length dest.old) self.old.known ≡ 0 }
-        ensures bytes { dest.new ≡ take result self.old.unread ++ drop result dest.old }
-        ensures after { self.new ≡ drained result self.old }
-    {
-        self.learn();
-        let lent = self.r_peek();
-        let count = dest.len().min(MOST_A_ROUND.min(lent.len()));
-        if count > 0 {
-            dest[..count].copy_from_slice(&lent[..count]);
-            self.consume(count);
-            self.wake_writer();
-        }
-        count
-    }
-
-    /// Publishes as many of the first bytes as there is known room, and answers how many.
-    pub fn w_try_fill(&mut self, bytes: &[u8]) -> usize
-        requires { self.old.writer ≡ WritePlace.Idle }
-        ensures count { result ≡ count_of (try_fill bytes.now self.old).answer }
-        ensures after { self.new ≡ (try_fill bytes.now self.old).pipe }
-    {
-        self.begin_whole();
-        self.unlend();
-        if self.is_closed {
-            return 0;
-        }
-        self.learn();
-        self.refresh_writer();
-        let mut done = 0;
-        loop {
-            let count = self.fill_round(&bytes[done..]);
-            if count == 0 {
-                return done;
-            }
-            done += count;
-        }
-    }
-
-    /// Moves as many of the known bytes as fit to the front of `dest`, and answers how many.
-    pub fn r_try_drain(&mut self, dest: &mut [u8]) -> usize
-        requires { self.old.reader ≡ ReadPlace.Idle }
-        ensures count { result ≡ count_of (try_drain (length dest.old) self.old).answer }
-        ensures bytes { dest.new ≡ take result self.old.unread ++ drop result dest.old }
-        ensures after { self.new ≡ (try_drain (length dest.old) self.old).pipe }
-    {
-        self.begin_whole();
-        self.refresh_reader();
-        self.learn();
-        let mut done = 0;
-        loop {
-            let count = self.drain_round(&mut dest[done..]);
-            if count == 0 {
-                return done;
-            }
-            done += count;
-        }
     }
 
     /// The unread bytes in the two pieces in which they stand: up to the end of the buffer, and from its beginning.

@@ -4,11 +4,11 @@ use borrow.Rule.Slice.PartMut.{put_mid}
 use Rattle.piper_machine.specs.Pipe.{Pipe}
 use Rattle.piper_machine.specs.Copy.{drained}
 use Rattle.piper_machine.proofs.Rounds.{drained-drained, next_part}
-use Rattle.piper_machine.proofs.machine.Machine.r_try_drain.Goals as goal
+use Rattle.piper_machine.proofs.machine.Machine.drain_rounds.Goals as goal
 
 pub loop-done-preserved : goal.loop-done-preserved
 loop-done-preserved c =
-    let q = c.refresh_reader.new.self in
+    let q = c.args.self.now in
     let sound = c.learn.ensures in
     let ds = c.args.dest.now in
     let xs = c.loop-done.dest in

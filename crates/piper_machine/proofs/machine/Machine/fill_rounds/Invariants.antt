@@ -1,7 +1,7 @@
 use Rattle.std.proofs.Common.{◌≡◌, ◌≤◌, ◌-◌, length, take, [], false}
 use Rattle.piper_sides.specs.declared.table.WritePlace.TheVariants as WritePlace
 use Rattle.piper_machine.specs.Copy.{filled}
-use Rattle.piper_machine.proofs.machine.Machine.w_try_fill.Given as goal
+use Rattle.piper_machine.proofs.machine.Machine.fill_rounds.Given as goal
 
 abbrev pub invariant-loop-done : goal.invariant-loop-done
 invariant-loop-done l = record {

@@ -1,7 +1,7 @@
 use Rattle.std.proofs.Common.{◌≡◌, ◌≤◌, ◌-◌, ◌++◌, length, take, drop, []}
 use Rattle.piper_sides.specs.declared.table.ReadPlace.TheVariants as ReadPlace
 use Rattle.piper_machine.specs.Copy.{drained}
-use Rattle.piper_machine.proofs.machine.Machine.r_try_drain.Given as goal
+use Rattle.piper_machine.proofs.machine.Machine.drain_rounds.Given as goal
 
 abbrev pub invariant-loop-done : goal.invariant-loop-done
 invariant-loop-done l = record {

@@ -4,11 +4,11 @@ use Rattle.std.proofs.Math.Seq.{take-add}
 use Rattle.piper_machine.specs.Pipe.{Pipe}
 use Rattle.piper_machine.specs.Copy.{filled}
 use Rattle.piper_machine.proofs.Rounds.{filled-filled}
-use Rattle.piper_machine.proofs.machine.Machine.w_try_fill.Goals as goal
+use Rattle.piper_machine.proofs.machine.Machine.fill_rounds.Goals as goal
 
 pub loop-done-preserved : goal.loop-done-preserved
 loop-done-preserved c =
-    let q = c.refresh_writer.new.self in
+    let q = c.args.self.now in
     let xs = c.args.bytes.now in
     let d = c.loop-done.done in
     let n = c.fill_round-count.result in
