@@ -10,3 +10,4 @@ pub mod Disjointness
 pub mod Alone
 mod worked
 pub mod Counting
+pub mod Acts

@@ -1,12 +1,12 @@
 -- The rounds of a copy are one move: what two of them move one after the other, one of them moves at once.
-use Rattle.std.proofs.Common.{◌≡◌, ℕ, zero, suc, ◌+◌, ◌-◌, ◌<◌, ◌≤◌, List, [], ◌++◌, take, drop, length, Option, sym, ap, ◌∙◌, arith, append_assoc, append-nil, length-append, length-drop, length-take-le}
+use Rattle.std.proofs.Common.{◌≡◌, ℕ, zero, suc, ◌+◌, ◌-◌, ◌<◌, ◌≤◌, List, [], ◌∷◌, ◌++◌, take, drop, length, Option, None, Some, lit≤, sym, ap, ◌∙◌, arith, append_assoc, append-nil, length-append, length-drop, length-take-le}
 use Rattle.std.proofs.lemmas.Bool.Decides.{nat_tests}
 use Rattle.std.proofs.lemmas.List.{drop-drop, drop_all, take_at, drop_at}
 use Rattle.std.proofs.Math.Seq.{take-add}
 use borrow.Rule.Slice.PartMut.{put_mid}
 use Rattle.piper_sides.specs.Index.{place_of}
 use Rattle.piper_machine.specs.Pipe.{Pipe}
-use Rattle.piper_machine.specs.Copy.{waker_after, woken_after, filled, drained}
+use Rattle.piper_machine.specs.Copy.{HasOneWake, waker_after, woken_after, filled, drained}
 
 waker_after-twice : (m n : ℕ) (waker : Option ℕ) → waker_after n (waker_after m waker) ≡ waker_after (m + n) waker
 waker_after-twice zero n waker = ap (λ k. waker_after k waker) (omega arith)
@@ -61,3 +61,22 @@ next_part d n bytes dest so_far known fits is long =
     let none : drop (length so_far - d) (drop d so_far) ≡ [] = drop_all (length so_far - d) (drop d so_far) (omega (arith, length-drop d so_far)) in
     let rest : drop n (drop d so_far) ≡ drop (d + n) dest = ap (drop n) back ∙ drop-drop n d dest in
     rw (none, append-nil, front, rest) (sym (append_assoc (take d bytes) (take n (drop d bytes)) (drop (d + n) dest)) ∙ ap (λ (zs : List ℕ). zs ++ drop (d + n) dest) (sym (take-add d n bytes)))
+
+-- a wake leaves no other, and before it there is room for its name
+pub one_wake-after : (n : ℕ) (names : List ℕ) (waker : Option ℕ) → HasOneWake names waker → HasOneWake (woken_after n names waker) (waker_after n waker)
+one_wake-after zero names waker one = one
+one_wake-after (suc n) names waker one = grind (arith, nat_tests)
+
+pub one_wake-room : (names : List ℕ) (waker : Option ℕ) → HasOneWake names waker → length names < 2
+one_wake-room names None one = omega arith
+one_wake-room names (Some name) one = let long = length-append names (name ∷ []) in omega arith
+
+pub one_wake-filled : (bytes : List ℕ) (p : Pipe) → HasOneWake p.woken p.reader_waker → let q = filled bytes p in HasOneWake q.woken q.reader_waker
+one_wake-filled bytes p one = one_wake-after (length bytes) p.woken p.reader_waker one
+
+pub one_wake-drained : (n : ℕ) (p : Pipe) → HasOneWake p.woken p.writer_waker → let q = drained n p in HasOneWake q.woken q.writer_waker
+one_wake-drained n p one = one_wake-after n p.woken p.writer_waker one
+
+pub one_wake-none : (waker : Option ℕ) → HasOneWake [] waker
+one_wake-none None = lit≤ tt
+one_wake-none (Some name) = lit≤ tt

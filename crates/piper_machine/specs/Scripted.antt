@@ -33,11 +33,15 @@ source_answer true fails count = Ok count
 source_answer false true count = Err (record {})
 source_answer false false count = Ok count
 
-abbrev pub fill_moves_from : List SourceAct → Pipe → Copied (Result ℕ Failed)
-fill_moves_from acts p =
+-- the rounds, where so many bytes have moved before
+abbrev pub fill_moves_more : ℕ → List SourceAct → Pipe → Copied (Result ℕ Failed)
+fill_moves_more sum acts p =
     let bytes = bytes_given acts in
     let n = min (length bytes) p.room in
-    answered (Ready (source_answer (nat_lt p.room (length bytes)) (ends_in_failure acts) n)) (filled (take n bytes) p)
+    answered (Ready (source_answer (nat_lt p.room (length bytes)) (ends_in_failure acts) (sum + n))) (filled (take n bytes) p)
+
+abbrev pub fill_moves_from : List SourceAct → Pipe → Copied (Result ℕ Failed)
+fill_moves_from = fill_moves_more 0
 
 -- what one act takes of the peeked slice
 abbrev pub taken_by : ℕ → Pipe → ℕ

@@ -1,9 +1,9 @@
-use Rattle.std.proofs.Common.{◌+◌, ◌-◌, ◌∙◌, ap, arith, length, length-append, length-take, length-drop, ℕ, List, take, drop, ◌++◌}
+use Rattle.std.proofs.Common.{refl, sym, ◌+◌, ◌-◌, ◌∙◌, ap, arith, length, length-append, length-take, length-drop, ℕ, List, take, drop, ◌++◌}
 use Rattle.std.proofs.lemmas.List.{take_rest}
 use borrow.Rule.Slice.PartMut.{put_mid}
 use Rattle.piper_machine.specs.Pipe.{Pipe}
 use Rattle.piper_machine.specs.Copy.{drained}
-use Rattle.piper_machine.proofs.Rounds.{drained-drained, next_part}
+use Rattle.piper_machine.proofs.Rounds.{one_wake-none, drained_nothing, drained-drained, next_part}
 use Rattle.piper_machine.proofs.machine.Machine.drain_rounds.Goals as goal
 
 pub loop-done-preserved : goal.loop-done-preserved
@@ -32,6 +32,16 @@ loop-done-preserved c =
       known = omega arith;
       drained = after ∙ ap (drained n) inv.drained ∙ drained-drained d n q sound.start (omega arith) (omega (arith, sound.known, sound.unread));
       bytes = whole;
-      woken = inv.woken;
+      woken = c.drain_round-count.ensures.woken;
       idle = inv.idle;
     }
+
+pub loop-done-init : goal.loop-done-init
+loop-done-init c = record {
+  within = omega arith;
+  known = omega arith;
+  drained = sym (drained_nothing c.args.self.now c.learn.ensures.start);
+  bytes = refl;
+  woken = rw c.requires.woken (one_wake-none c.args.self.now.writer_waker);
+  idle = c.requires.idle;
+}
