@@ -1,4 +1,4 @@
--- Worked examples: what lists of whole calls answer, evaluated on the definitions by computation.
+-- Worked examples: what lists of calls and of steps answer, evaluated on the definitions by computation.
 mod Script
 mod Counts
 mod WrapAround
@@ -9,3 +9,6 @@ mod Wakers
 mod Yields
 mod ScriptedEnds
 mod Lends
+mod StepScript
+mod Steps
+mod Refusals

@@ -1,7 +1,8 @@
 -- As many bytes move as are asked for, unread and free: what `fill`, `drain` and the queries count.
 use Rattle.std.specs.Prelude.{◌≡◌, [], ◌∷◌, replicate, true, refl}
+use Rattle.piper_sides.specs.declared.calls.Side.TheVariants.{Reader, Writer}
 use Rattle.piper_machine.specs.Pipe.{fresh}
-use Rattle.piper_machine.proofs.worked.Script.{◌to◌, Reader, Writer, Fill, Drain, Len, IsFull, Count, Bytes, Flag, answers}
+use Rattle.piper_machine.proofs.worked.Script.{◌to◌, Fill, Drain, Len, IsFull, Count, Bytes, Flag, answers}
 
 filled_and_drained :
     answers (fresh 8) (Fill (1 to 8) ∷ Len Reader ∷ Drain 8 ∷ Len Reader ∷ [])

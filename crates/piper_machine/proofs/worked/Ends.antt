@@ -1,8 +1,11 @@
 -- An end that was told is final: what was lent is taken back by a close, and unread bytes are still read.
 use Rattle.std.specs.Prelude.{◌≡◌, List, [], ◌∷◌, true, false, refl}
-use Rattle.std.proofs.Common.{arith}
+use Rattle.piper_sides.specs.declared.calls.Side.TheVariants.{Reader, Writer}
+use Rattle.piper_sides.specs.declared.calls.Call.TheVariants as call
+use Rattle.piper_sides.specs.declared.calls.Step.TheVariants as step
+use Rattle.piper_sides.specs.declared.refusals.StepRefusal.TheVariants.{PastLent}
 use Rattle.piper_machine.specs.Pipe.{fresh}
-use Rattle.piper_machine.proofs.worked.Script.{◌to◌, Call, Reader, Writer, Fill, Drain, Len, Poll, by, Lend, Put, Produced, Close, Drop, Done, Count, Bytes, Flag, Ready, answers, after, PutPassesLent, ProducedPassesLent}
+use Rattle.piper_machine.proofs.worked.Script.{◌to◌, Call, Fill, Drain, Len, Poll, by, Lend, Put, Produced, Close, Drop, Done, Count, Bytes, Flag, Ready, answers, after, IsRefused}
 
 abbrev closed_then_lent : List Call
 closed_then_lent = Close ∷ Poll Reader (by 1) ∷ Lend 2 ∷ []
@@ -12,8 +15,8 @@ nothing_is_lent_after_a_close :
     ≡ (Done ∷ Ready (Flag false) ∷ Count 0 ∷ [])
 nothing_is_lent_after_a_close = refl
 
-nothing_is_put_after_a_close : PutPassesLent 0 (after (fresh 4) closed_then_lent)
-nothing_is_put_after_a_close = omega arith
+nothing_is_put_after_a_close : IsRefused (step.Put 0 7) PastLent (after (fresh 4) closed_then_lent)
+nothing_is_put_after_a_close = refl
 
 abbrev closed_then_filled : List Call
 closed_then_filled = Close ∷ Poll Reader (by 1) ∷ Lend 2 ∷ Poll Reader (by 1) ∷ Fill (9 ∷ []) ∷ []
@@ -23,8 +26,8 @@ the_end_stays_the_end :
     ≡ (Done ∷ Ready (Flag false) ∷ Count 0 ∷ Ready (Flag false) ∷ Count 0 ∷ [])
 the_end_stays_the_end = refl
 
-nothing_is_published_after_a_close : ProducedPassesLent 1 (after (fresh 4) closed_then_filled)
-nothing_is_published_after_a_close = omega arith
+nothing_is_published_after_a_close : IsRefused (step.Begin (call.Produced 1)) PastLent (after (fresh 4) closed_then_filled)
+nothing_is_published_after_a_close = refl
 
 abbrev lent_then_closed : List Call
 lent_then_closed = Lend 2 ∷ Put 0 7 ∷ Close ∷ []
@@ -34,8 +37,8 @@ a_close_takes_back :
     ≡ (Count 2 ∷ Done ∷ Done ∷ [])
 a_close_takes_back = refl
 
-what_was_lent_is_published_no_more : ProducedPassesLent 1 (after (fresh 4) lent_then_closed)
-what_was_lent_is_published_no_more = omega arith
+what_was_lent_is_published_no_more : IsRefused (step.Begin (call.Produced 1)) PastLent (after (fresh 4) lent_then_closed)
+what_was_lent_is_published_no_more = refl
 
 unread_bytes_before_the_end :
     answers (fresh 4) (Fill (1 ∷ []) ∷ Close ∷ Poll Reader (by 1) ∷ Drain 4 ∷ Poll Reader (by 1) ∷ [])

@@ -1,8 +1,11 @@
 -- Bytes that are read in a peeked slice and written in a lent one.
 use Rattle.std.specs.Prelude.{◌≡◌, ℕ, List, [], ◌∷◌, true, refl}
-use Rattle.std.proofs.Common.{arith}
+use Rattle.piper_sides.specs.declared.calls.Side.TheVariants.{Reader, Writer}
+use Rattle.piper_sides.specs.declared.calls.Call.TheVariants as call
+use Rattle.piper_sides.specs.declared.calls.Step.TheVariants as step
+use Rattle.piper_sides.specs.declared.refusals.StepRefusal.TheVariants.{PastLent}
 use Rattle.piper_machine.specs.Pipe.{fresh}
-use Rattle.piper_machine.proofs.worked.Script.{◌to◌, Reader, Writer, Fill, Drain, Poll, by, Peek, Consume, Lend, Put, Produced, Done, Count, Bytes, Flag, Ready, Pending, ◌woken◌, answers, after, PutPassesLent, ProducedPassesLent}
+use Rattle.piper_machine.proofs.worked.Script.{◌to◌, Fill, Drain, Poll, by, Peek, Consume, Lend, Put, Produced, Done, Count, Bytes, Flag, Ready, Pending, ◌woken◌, answers, after, IsRefused}
 
 -- the letters of `hello world`
 abbrev hello_world : List ℕ
@@ -43,11 +46,11 @@ published_by_one :
 published_by_one = refl
 
 -- no byte may be put, and none published, past what is lent
-nothing_is_put_past_a_lend : PutPassesLent 1 (after (fresh 4) (Lend 1 ∷ []))
-nothing_is_put_past_a_lend = omega arith
+nothing_is_put_past_a_lend : IsRefused (step.Put 1 7) PastLent (after (fresh 4) (Lend 1 ∷ []))
+nothing_is_put_past_a_lend = refl
 
-nothing_is_published_twice : ProducedPassesLent 1 (after (fresh 4) (Lend 3 ∷ Produced 1 ∷ Produced 2 ∷ []))
-nothing_is_published_twice = omega arith
+nothing_is_published_twice : IsRefused (step.Begin (call.Produced 1)) PastLent (after (fresh 4) (Lend 3 ∷ Produced 1 ∷ Produced 2 ∷ []))
+nothing_is_published_twice = refl
 
 produced_wakes_the_reader :
     answers (fresh 4) (Poll Reader (by 1) ∷ Lend 1 ∷ Put 0 5 ∷ Produced 1 ∷ Produced 0 ∷ Drain 4 ∷ [])

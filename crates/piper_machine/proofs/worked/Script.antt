@@ -1,15 +1,19 @@
 -- A small language of whole calls over the definitions: what each call of a list answers, from a given pipe on.
 -- Its calls and answers are those of the replayer's scripts.
-use Rattle.std.specs.Prelude.{ℕ, suc, zero, ◌+◌, ◌-◌, ◌<◌, ◌≤◌, List, [], ◌∷◌, take, length, replicate, slice_set, Bool, true, false, Some, Result, if◌then◌else◌}
+use Rattle.std.specs.Prelude.{◌≡◌, ℕ, suc, zero, ◌+◌, ◌-◌, List, [], ◌∷◌, take, length, replicate, slice_set, Bool, true, false, Some, Result, if◌then◌else◌}
 use Rattle.std.specs.declared.result.Result.TheVariants as result
+use Rattle.piper_sides.specs.declared.calls.Side.{Side}
+use Rattle.piper_sides.specs.declared.calls.Side.TheVariants.{Reader, Writer}
 use Rattle.piper_sides.specs.declared.polling.Polled.{Polled}
 use Rattle.piper_sides.specs.declared.polling.Polled.TheVariants as polled
 use Rattle.piper_sides.specs.declared.scripted.SourceAct.{SourceAct}
 use Rattle.piper_sides.specs.declared.scripted.DestAct.{DestAct}
 use Rattle.piper_sides.specs.declared.scripted.Failed as failed
 use Rattle.piper_sides.specs.declared.polling.Context.{Context}
+use Rattle.piper_sides.specs.declared.calls.Step.{Step}
+use Rattle.piper_sides.specs.declared.refusals.StepRefusal.{StepRefusal}
 use Rattle.piper_machine.specs.Pipe.{Pipe, begun}
-use Rattle.piper_machine.specs.Places.{peeked, peeked_count}
+use Rattle.piper_machine.specs.Places.{peeked}
 use Rattle.piper_machine.specs.Query.{unread_count, is_empty, is_full, is_closed}
 use Rattle.piper_machine.specs.Look.{context, reader_look, writer_look}
 use Rattle.piper_machine.specs.Lend.{lend_limit, lending}
@@ -17,6 +21,7 @@ use Rattle.piper_machine.specs.Move.{produce, consume}
 use Rattle.piper_machine.specs.Copy.{count_of, try_fill, try_drain, fill, drain}
 use Rattle.piper_machine.specs.Scripted.{fill_from, drain_to}
 use Rattle.piper_machine.specs.Close.{close, drop_reader, drop_writer}
+use Rattle.piper_machine.specs.Refusal.{refusal_of}
 
 infixr 80 ◌to◌
 infixl 80 ◌woken◌
@@ -28,10 +33,6 @@ counted from (suc more) = from ∷ counted (from + 1) more
 -- the numbers from the first to the last, both included
 abbrev pub ◌to◌ : ℕ → ℕ → List ℕ
 first to last = counted first (last + 1 - first)
-
-pub data Side : Type 0 where
-  Reader : Side
-  Writer : Side
 
 -- The calls. A waker is a number; `by`, `yielding` and the two after them make the context of a polling call.
 -- A query names its side, and answers the same on both.
@@ -151,12 +152,6 @@ abbrev pub after : Pipe → List Call → Pipe
 after p [] = p
 after p (call ∷ calls) = let out = run call p in after out.pipe calls
 
--- Calls that are refused: more is consumed than is peeked, or a byte is put or published past what is lent.
-abbrev pub ConsumePassesPeeked : ℕ → Pipe → Type 0
-ConsumePassesPeeked n p = peeked_count p < n
-
-abbrev pub PutPassesLent : ℕ → Pipe → Type 0
-PutPassesLent offset p = length p.lent ≤ offset
-
-abbrev pub ProducedPassesLent : ℕ → Pipe → Type 0
-ProducedPassesLent n p = length p.lent < n
+-- the pipe refuses the step as this
+abbrev pub IsRefused : Step → StepRefusal → Pipe → Type 0
+IsRefused s refusal p = refusal_of s p ≡ Some refusal

@@ -1,13 +1,16 @@
 -- Sources and destinations that end or fail: earlier rounds stay done, and the refused one moves nothing.
 use Rattle.std.specs.Prelude.{◌≡◌, ℕ, List, [], ◌∷◌, Ok, refl}
-use Rattle.std.proofs.Common.{arith}
+use Rattle.piper_sides.specs.declared.calls.Side.TheVariants.{Reader, Writer}
+use Rattle.piper_sides.specs.declared.calls.Call.TheVariants as call
+use Rattle.piper_sides.specs.declared.calls.Step.TheVariants as step
+use Rattle.piper_sides.specs.declared.refusals.StepRefusal.TheVariants.{PastLent}
 use Rattle.piper_sides.specs.declared.polling.Polled.TheVariants as polled
 use Rattle.piper_sides.specs.declared.scripted.SourceAct.TheVariants as source
 use Rattle.piper_sides.specs.declared.scripted.DestAct.TheVariants as dest
 use Rattle.piper_machine.specs.Pipe.{Pipe, fresh}
 use Rattle.piper_machine.specs.Copy.{drained}
 use Rattle.piper_machine.specs.Scripted.{taken_by, drain_moves_to}
-use Rattle.piper_machine.proofs.worked.Script.{◌to◌, Call, Reader, Writer, Fill, Drain, Len, Peek, FillFrom, DrainTo, by, Count, Bytes, Ready, Failed, answers, after, ProducedPassesLent}
+use Rattle.piper_machine.proofs.worked.Script.{◌to◌, Call, Fill, Drain, Len, Peek, FillFrom, DrainTo, by, Count, Bytes, Ready, Failed, answers, after, IsRefused}
 
 abbrev failing_source : List Call
 failing_source = FillFrom (by 1) (source.Bytes (1 to 3) ∷ source.Fail ∷ []) ∷ Len Writer ∷ []
@@ -18,8 +21,8 @@ source_fails_after_its_bytes :
 source_fails_after_its_bytes = refl
 
 -- no fill leaves anything lent
-failed_fill_leaves_nothing_lent : ProducedPassesLent 1 (after (fresh 8) failing_source)
-failed_fill_leaves_nothing_lent = omega arith
+failed_fill_leaves_nothing_lent : IsRefused (step.Begin (call.Produced 1)) PastLent (after (fresh 8) failing_source)
+failed_fill_leaves_nothing_lent = refl
 
 destination_fails_after_its_bytes :
     answers (fresh 8) (Fill (1 to 3) ∷ DrainTo (by 1) (dest.Take 2 ∷ dest.Fail ∷ []) ∷ Len Reader ∷ Peek ∷ [])

@@ -1,9 +1,10 @@
 -- Who is woken, by what, and when a waker is left where it is.
 use Rattle.std.specs.Prelude.{◌≡◌, [], ◌∷◌, Some, true, false, refl}
+use Rattle.piper_sides.specs.declared.calls.Side.TheVariants.{Reader, Writer}
 use Rattle.piper_machine.specs.Pipe.{Pipe, fresh}
 use Rattle.piper_machine.specs.Lend.{lending}
 use Rattle.piper_machine.specs.Move.{published, consumed, reader_woken, writer_woken}
-use Rattle.piper_machine.proofs.worked.Script.{Reader, Writer, Fill, Drain, IsClosed, Poll, by, Consume, PollFill, PollDrain, Close, Drop, Done, Count, Bytes, Flag, Ready, Pending, ◌woken◌, answers, after}
+use Rattle.piper_machine.proofs.worked.Script.{Fill, Drain, IsClosed, Poll, by, Consume, PollFill, PollDrain, Close, Drop, Done, Count, Bytes, Flag, Ready, Pending, ◌woken◌, answers, after}
 
 -- the writer is woken though no byte is consumed, and by its own close
 no_byte_wakes_too :

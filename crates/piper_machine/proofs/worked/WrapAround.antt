@@ -1,8 +1,11 @@
 -- Bytes keep their order where they pass the end of the buffer.
 use Rattle.std.specs.Prelude.{◌≡◌, List, [], ◌∷◌, true, refl}
-use Rattle.std.proofs.Common.{arith}
+use Rattle.piper_sides.specs.declared.calls.Side.TheVariants.{Reader, Writer}
+use Rattle.piper_sides.specs.declared.calls.Call.TheVariants as call
+use Rattle.piper_sides.specs.declared.calls.Step.TheVariants as step
+use Rattle.piper_sides.specs.declared.refusals.StepRefusal.TheVariants.{PastPeek}
 use Rattle.piper_machine.specs.Pipe.{fresh}
-use Rattle.piper_machine.proofs.worked.Script.{◌to◌, Reader, Writer, Fill, Drain, Len, IsFull, Poll, by, Peek, Drop, Done, Count, Bytes, Flag, Ready, Call, answers, after, ConsumePassesPeeked}
+use Rattle.piper_machine.proofs.worked.Script.{◌to◌, Fill, Drain, Len, IsFull, Poll, by, Peek, Drop, Done, Count, Bytes, Flag, Ready, Call, answers, after, IsRefused}
 
 -- the buffer twice full, then the end
 two_turns :
@@ -28,5 +31,5 @@ peeks_one_piece :
 peeks_one_piece = refl
 
 -- so that all six may not be consumed at once
-consumes_no_more_than_it_peeks : ConsumePassesPeeked 6 (after (fresh 8) around_the_end)
-consumes_no_more_than_it_peeks = omega arith
+consumes_no_more_than_it_peeks : IsRefused (step.Begin (call.Consume 6)) PastPeek (after (fresh 8) around_the_end)
+consumes_no_more_than_it_peeks = refl

@@ -1,9 +1,12 @@
 -- A copying poll yields exactly at a draw of 0, and answers `memory` exactly where a clone is needed and refused.
 use Rattle.std.specs.Prelude.{◌≡◌, List, [], ◌∷◌, refl}
-use Rattle.std.proofs.Common.{arith}
+use Rattle.piper_sides.specs.declared.calls.Side.TheVariants.{Reader, Writer}
+use Rattle.piper_sides.specs.declared.calls.Call.TheVariants as call
+use Rattle.piper_sides.specs.declared.calls.Step.TheVariants as step
+use Rattle.piper_sides.specs.declared.refusals.StepRefusal.TheVariants.{PastLent}
 use Rattle.piper_sides.specs.declared.scripted.SourceAct.TheVariants as source
 use Rattle.piper_machine.specs.Pipe.{fresh}
-use Rattle.piper_machine.proofs.worked.Script.{◌to◌, Call, Reader, Writer, Fill, Drain, Poll, by, yielding, unregistered, refused_yield, Lend, PollFill, PollDrain, FillFrom, Count, Bytes, Ready, Pending, Memory, ◌woken◌, answers, after, ProducedPassesLent}
+use Rattle.piper_machine.proofs.worked.Script.{◌to◌, Call, Fill, Drain, Poll, by, yielding, unregistered, refused_yield, Lend, PollFill, PollDrain, FillFrom, Count, Bytes, Ready, Pending, Memory, ◌woken◌, answers, after, IsRefused}
 
 yield_moves_nothing :
     answers (fresh 4) (Fill (1 to 2) ∷ PollDrain (yielding 7) 4 ∷ PollDrain (by 7) 4 ∷ [])
@@ -28,13 +31,13 @@ lent_then_yielded = Lend 2 ∷ PollFill (yielding 7) (1 ∷ []) ∷ []
 
 yielded_fill :
     (answers (fresh 4) lent_then_yielded ≡ Count 2 ∷ Pending woken (7 ∷ []) ∷ [])
-    × ProducedPassesLent 1 (after (fresh 4) lent_then_yielded)
-yielded_fill = (refl, omega arith)
+    × IsRefused (step.Begin (call.Produced 1)) PastLent (after (fresh 4) lent_then_yielded)
+yielded_fill = (refl, refl)
 
 abbrev lent_then_yielded_from : List Call
 lent_then_yielded_from = Lend 2 ∷ FillFrom (yielding 7) (source.Bytes (1 ∷ []) ∷ []) ∷ []
 
 yielded_fill_from :
     (answers (fresh 4) lent_then_yielded_from ≡ Count 2 ∷ Pending woken (7 ∷ []) ∷ [])
-    × ProducedPassesLent 1 (after (fresh 4) lent_then_yielded_from)
-yielded_fill_from = (refl, omega arith)
+    × IsRefused (step.Begin (call.Produced 1)) PastLent (after (fresh 4) lent_then_yielded_from)
+yielded_fill_from = (refl, refl)
