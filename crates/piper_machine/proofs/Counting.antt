@@ -179,7 +179,7 @@ reader_leaves-writer (does.Take Reader) p = refl
 reader_leaves-writer (does.Take Writer) p = refl
 reader_leaves-writer does.Wake p = refl
 
-writer_leaves-reader : (action : Action) (p : Pipe) → (performed Writer action p).reader ≡ p.reader
+pub writer_leaves-reader : (action : Action) (p : Pipe) → (performed Writer action p).reader ≡ p.reader
 writer_leaves-reader does.Rest p = refl
 writer_leaves-reader does.LoadHead p = refl
 writer_leaves-reader does.LoadTail p = refl

@@ -10,4 +10,5 @@ pub mod Disjointness
 pub mod Alone
 mod worked
 pub mod Counting
+pub mod Honesty
 pub mod Acts

@@ -12,3 +12,4 @@ mod Lends
 mod StepScript
 mod Steps
 mod Refusals
+mod HonestEnd

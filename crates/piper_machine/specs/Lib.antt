@@ -18,4 +18,7 @@ pub mod Counts
 pub mod Run
 pub mod Conservation
 pub mod Disjoint
+pub mod History
+pub mod Honest
+pub mod Waiting
 pub mod Machine

@@ -4,11 +4,13 @@ use Rattle.piper_sides.specs.Log.{events}
 use Rattle.piper_machine.specs.Run.{Runs}
 use Rattle.piper_machine.specs.Conservation.{IsConserved}
 use Rattle.piper_machine.proofs.Counting.{Counted}
+use Rattle.piper_machine.proofs.Honesty.{Honest}
 use Rattle.piper_machine.proofs.machine.runs.run.Given as goal
 
 abbrev pub invariant-loop-i : goal.invariant-loop-i
 invariant-loop-i l = record {
   runs : Runs (fresh l.cap) [] (take l.i l.steps) l.machine (events l.log);
   counted : Counted (take l.i l.steps) l.machine;
+  honest : Honest l.machine (events l.log);
   conserved : IsConserved l.machine (events l.log);
 }

@@ -1,0 +1,295 @@
+-- Each step keeps the honest end: what the reader knows of the close it read off the pipe, before its last look.
+use Rattle.std.proofs.Common.{◌≡◌, ℕ, List, [], ◌∷◌, ◌++◌, length, Bool, true, false, Option, None, Some, ◌==◌, is_some, refl, sym, ap, subst, ◌∙◌, arith}
+use Rattle.std.proofs.lemmas.Bool.Decides.{nat_tests}
+use Rattle.piper_sides.specs.declared.calls.Side.{Side}
+use Rattle.piper_sides.specs.declared.calls.Side.TheVariants.{Reader, Writer}
+use Rattle.piper_sides.specs.declared.calls.Call.{Call}
+use Rattle.piper_sides.specs.declared.calls.Call.TheVariants as call
+use Rattle.piper_sides.specs.declared.calls.Query.{Query}
+use Rattle.piper_sides.specs.declared.calls.Query.TheVariants.{Len, IsEmpty, IsFull}
+use Rattle.piper_sides.specs.declared.calls.Step.{Step}
+use Rattle.piper_sides.specs.declared.calls.Step.TheVariants.{Begin, Go, Put}
+use Rattle.piper_sides.specs.declared.events.Answer.{Answer}
+use Rattle.piper_sides.specs.declared.events.Event.{Event}
+use Rattle.piper_sides.specs.declared.events.Event.TheVariants.{Looked}
+use Rattle.piper_sides.specs.declared.events.Seen.TheVariants.{Tail}
+use Rattle.piper_sides.specs.declared.polling.Context.{Context}
+use Rattle.piper_sides.specs.declared.table.Action.{Action}
+use Rattle.piper_sides.specs.declared.table.Action.TheVariants as does
+use Rattle.piper_sides.specs.declared.table.Purpose.TheVariants as purpose
+use Rattle.piper_sides.specs.declared.table.AfterRead.{AfterRead}
+use Rattle.piper_sides.specs.declared.table.AfterRead.TheVariants as afterward
+use Rattle.piper_sides.specs.declared.table.ReadPlace.{ReadPlace}
+use Rattle.piper_sides.specs.declared.table.ReadPlace.TheVariants as at
+use Rattle.piper_sides.specs.Open.{is_granted}
+use Rattle.piper_sides.specs.Table.{read_action, write_action, query_answer, reader_looks_for, reader_looked, reader_looked_again, reader_registered, writer_taken, read_done}
+use Rattle.piper_sides.specs.Log.{answer_event}
+use Rattle.piper_machine.specs.Pipe.{Pipe, fresh}
+use Rattle.piper_machine.specs.Action.{performed, logged_of, registration_of, registration, wake_of}
+use Rattle.piper_machine.specs.Step.{went, opened, stepped}
+use Rattle.piper_machine.specs.Run.{Made}
+use Rattle.piper_machine.specs.History.{History, unwritten, history_after, history_from}
+use Rattle.piper_machine.specs.Honest.{IsHonestFrom, IsHonest}
+use Rattle.piper_machine.proofs.Counting.{writer_leaves-reader}
+
+history-append : (h : History) (es fs : List Event) → history_from h (es ++ fs) ≡ history_from (history_from h es) fs
+history-append h [] fs = refl
+history-append h (e ∷ es) fs = history-append (history_after h e) es fs
+
+honest-append : (h : History) (es fs : List Event) → IsHonestFrom h es → IsHonestFrom (history_from h es) fs → IsHonestFrom h (es ++ fs)
+honest-append h [] fs first then = then
+honest-append h (e ∷ es) fs first then = (first.0, honest-append (history_after h e) es fs first.1 then)
+
+-- the step of an action tells the history what it does to the flag, and answers nobody
+
+registration-quiet : (h : History) (side : Side) (b : Bool) (name : ℕ) → IsHonestFrom h (registration side b name) × (history_from h (registration side b name) ≡ h)
+registration-quiet h side true name = ((tt, tt), refl)
+registration-quiet h side false name = (tt, refl)
+
+context-quiet : (h : History) (side : Side) (context : Option Context) → IsHonestFrom h (registration_of side context) × (history_from h (registration_of side context) ≡ h)
+context-quiet h side None = (tt, refl)
+context-quiet h side (Some cx) = registration-quiet h side cx.luck.register_granted cx.waker
+
+wake-quiet : (h : History) (name : Option ℕ) → IsHonestFrom h (wake_of name) × (history_from h (wake_of name) ≡ h)
+wake-quiet h None = (tt, refl)
+wake-quiet h (Some name) = ((tt, tt), refl)
+
+-- events that answer nobody, and what they tell of the flag
+abbrev Tells : History → List Event → Bool → Type 0
+Tells h events is_closed = IsHonestFrom h events × ((history_from h events).is_closed ≡ is_closed)
+
+quietly : (h : History) (events : List Event) (p : Pipe) → h.is_closed ≡ p.is_closed → IsHonestFrom h events × (history_from h events ≡ h) → Tells h events p.is_closed
+quietly h events p same quiet = (quiet.0, ap (λ (k : History). k.is_closed) quiet.1 ∙ same)
+
+action-tells : (h : History) (side : Side) (action : Action) (p : Pipe) → h.is_closed ≡ p.is_closed → Tells h (logged_of side action p) (performed side action p).is_closed
+action-tells h side does.Rest p same = (tt, same)
+action-tells h Reader does.LoadHead p same = ((tt, tt), same)
+action-tells h Writer does.LoadHead p same = ((tt, tt), same)
+action-tells h Reader does.LoadTail p same = ((tt, tt), same)
+action-tells h Writer does.LoadTail p same = ((tt, tt), same)
+action-tells h Reader does.Refresh p same = ((tt, tt), same)
+action-tells h Writer does.Refresh p same = ((tt, tt), same)
+action-tells h Reader does.LoadClosed p same = ((tt, tt), same)
+action-tells h Writer does.LoadClosed p same = ((tt, tt), same)
+action-tells h Reader does.Register p same = quietly h _ p same (context-quiet h Reader p.reader_call.context)
+action-tells h Writer does.Register p same = quietly h _ p same (context-quiet h Writer p.writer_call.context)
+action-tells h side (does.StoreHead n) p same = ((tt, tt), same)
+action-tells h side (does.StoreTail n) p same = ((tt, tt), same)
+action-tells h side (does.StoreClosed true) p same = ((tt, tt), refl)
+action-tells h side (does.StoreClosed false) p same = ((tt, tt), refl)
+action-tells h Reader (does.Take Reader) p same = (tt, same)
+action-tells h Reader (does.Take Writer) p same = (tt, same)
+action-tells h Writer (does.Take Reader) p same = (tt, same)
+action-tells h Writer (does.Take Writer) p same = (tt, same)
+action-tells h Reader does.Wake p same = quietly h _ p same (wake-quiet h p.reader_call.taken)
+action-tells h Writer does.Wake p same = quietly h _ p same (wake-quiet h p.writer_call.taken)
+
+answer-keeps : (h : History) (side : Side) (answer : Option Answer) → history_from h (answer_event side answer) ≡ h
+answer-keeps h side None = refl
+answer-keeps h side (Some answer) = refl
+
+writer-answers : (h : History) (answer : Option Answer) → IsHonestFrom h (answer_event Writer answer)
+writer-answers h None = tt
+writer-answers h (Some answer) = (tt, tt)
+
+-- the reader stands between its load of closed and its last look, and the flag was set
+abbrev pub saw_close : ReadPlace → Bool
+saw_close (at.LookTailAgain l was_closed) = was_closed
+saw_close place = false
+
+-- what the reader answers where it stands, behind the events of its step
+abbrev told : History → ReadPlace → Pipe → History
+told h place p = history_from h (logged_of Reader (read_action place) p)
+
+abbrev HonestAt : History → ReadPlace → Pipe → Type 0
+HonestAt h place p = IsHonestFrom (told h place p) (answer_event Reader (went Reader (record p { reader = place })).answer)
+
+module _ (h : History) (p : Pipe) where
+  query-honest : (k : History) (query : Query) (count : ℕ) → IsHonestFrom k (answer_event Reader (Some (query_answer query p.capacity count)))
+  query-honest k Len count = (tt, tt)
+  query-honest k IsEmpty count = (tt, tt)
+  query-honest k IsFull count = (tt, tt)
+
+  registers-honest : (k : History) (is_granted : Bool) → IsHonestFrom k (answer_event Reader (reader_registered is_granted purpose.Poll).answer)
+  registers-honest k true = tt
+  registers-honest k false = (tt, tt)
+
+  done-honest : (k : History) (next : AfterRead) → IsHonestFrom k (answer_event Reader (read_done next).answer)
+  done-honest k afterward.Answer = (tt, tt)
+  done-honest k afterward.Drop = (tt, tt)
+
+  take-honest : (k : History) (next : AfterRead) (is_found : Bool) → IsHonestFrom k (answer_event Reader (writer_taken next is_found).answer)
+  take-honest k next false = done-honest k next
+  take-honest k next true = tt
+
+  -- the one answer that is false: this look found nothing, behind a close
+  again-honest : (count : ℕ) (none was_closed : Bool) → (count == 0) ≡ none → h.is_closed ≡ p.is_closed → (was_closed ≡ true → p.is_closed ≡ true)
+      → IsHonestFrom (history_after h (Looked Reader (Tail count))) (answer_event Reader (reader_looked_again none purpose.Poll was_closed).answer)
+  again-honest count false was_closed test same seen = tt
+  again-honest count true false test same seen = (tt, tt)
+  again-honest count true true test same seen =
+      let zero : count ≡ 0 = grind (arith, nat_tests) in
+      let is_set : h.is_closed ≡ true = same ∙ seen refl in
+      (rw (zero, is_set) refl, tt)
+
+  place-honest : (place : ReadPlace) → h.is_closed ≡ p.is_closed → (saw_close place ≡ true → p.is_closed ≡ true) → HonestAt h place p
+  place-honest at.Idle same seen = tt
+  place-honest at.Dropped same seen = tt
+  place-honest (at.QueryHead query) same seen = tt
+  place-honest (at.QueryTail query) same seen = query-honest (told h (at.QueryTail query) p) query (length p.unread)
+  place-honest at.QueryClosed same seen = (tt, tt)
+  place-honest (at.LookTail l) same seen = tt
+  place-honest (at.LookRegister purpose.Poll) same seen = registers-honest (told h (at.LookRegister purpose.Poll) p) (is_granted p.reader_call.context)
+  place-honest (at.LookClosed l) same seen = tt
+  place-honest (at.LookTailAgain purpose.Poll was_closed) same seen = again-honest (length p.unread) (length p.unread == 0) was_closed refl same seen
+  place-honest (at.LookTake purpose.Poll) same seen = (tt, tt)
+  place-honest (at.StoreHead n next) same seen = tt
+  place-honest (at.TakeWriter next) same seen = take-honest (told h (at.TakeWriter next) p) next (is_some p.writer_waker)
+  place-honest (at.WakeWriter next) same seen = done-honest (told h (at.WakeWriter next) p) next
+  place-honest at.StoreClosed same seen = tt
+
+-- where the reader comes to, it saw the close only if the pipe is closed
+
+looks-see : (none : Bool) → saw_close (reader_looked none purpose.Poll) ≡ false
+looks-see true = refl
+looks-see false = refl
+
+opens-see : (none : Bool) → saw_close (reader_looks_for none purpose.Poll) ≡ false
+opens-see true = refl
+opens-see false = refl
+
+registers-see : (is_granted : Bool) → saw_close (reader_registered is_granted purpose.Poll).place ≡ false
+registers-see true = refl
+registers-see false = refl
+
+again-see : (none was_closed : Bool) → saw_close (reader_looked_again none purpose.Poll was_closed).place ≡ false
+again-see true was_closed = refl
+again-see false was_closed = refl
+
+done-see : (next : AfterRead) → saw_close (read_done next).place ≡ false
+done-see afterward.Answer = refl
+done-see afterward.Drop = refl
+
+take-see : (next : AfterRead) (is_found : Bool) → saw_close (writer_taken next is_found).place ≡ false
+take-see next false = done-see next
+take-see next true = refl
+
+unseen : (saw is_closed : Bool) → saw ≡ false → saw ≡ true → is_closed ≡ true
+unseen saw is_closed not_seen seen = absurd (cc)
+
+reader-sees : (place : ReadPlace) (p : Pipe) → let q = (went Reader (record p { reader = place })).pipe in saw_close q.reader ≡ true → q.is_closed ≡ true
+reader-sees at.Idle p saw = absurd (cc)
+reader-sees at.Dropped p saw = absurd (cc)
+reader-sees (at.QueryHead query) p saw = absurd (cc)
+reader-sees (at.QueryTail query) p saw = absurd (cc)
+reader-sees at.QueryClosed p saw = absurd (cc)
+reader-sees (at.LookTail purpose.Poll) p saw = unseen _ _ (looks-see (length p.unread == 0)) saw
+reader-sees (at.LookRegister purpose.Poll) p saw = unseen _ _ (registers-see (is_granted p.reader_call.context)) saw
+reader-sees (at.LookClosed l) p saw = saw
+reader-sees (at.LookTailAgain purpose.Poll was_closed) p saw = unseen _ _ (again-see (length p.unread == 0) was_closed) saw
+reader-sees (at.LookTake purpose.Poll) p saw = absurd (cc)
+reader-sees (at.StoreHead n next) p saw = absurd (cc)
+reader-sees (at.TakeWriter next) p saw = unseen _ _ (take-see next (is_some p.writer_waker)) saw
+reader-sees (at.WakeWriter next) p saw = unseen _ _ (done-see next) saw
+reader-sees at.StoreClosed p saw = absurd (cc)
+
+-- an opened call leaves the flag, and has not loaded it
+opened-sees : (lent : List ℕ) (c : Call) (p : Pipe) → (saw_close p.reader ≡ true → p.is_closed ≡ true)
+    → let q = opened lent c p in (q.is_closed ≡ p.is_closed) × (saw_close q.reader ≡ true → p.is_closed ≡ true)
+opened-sees lent (call.Len Reader) p seen = (refl, λ saw. absurd (cc))
+opened-sees lent (call.Len Writer) p seen = (refl, seen)
+opened-sees lent (call.IsEmpty Reader) p seen = (refl, λ saw. absurd (cc))
+opened-sees lent (call.IsEmpty Writer) p seen = (refl, seen)
+opened-sees lent (call.IsFull Reader) p seen = (refl, λ saw. absurd (cc))
+opened-sees lent (call.IsFull Writer) p seen = (refl, seen)
+opened-sees lent (call.IsClosed Reader) p seen = (refl, λ saw. absurd (cc))
+opened-sees lent (call.IsClosed Writer) p seen = (refl, seen)
+opened-sees lent (call.Poll Reader waker luck) p seen = (refl, unseen _ _ (opens-see (p.known == 0)))
+opened-sees lent (call.Poll Writer waker luck) p seen = (refl, seen)
+opened-sees lent (call.Consume n) p seen = (refl, λ saw. absurd (cc))
+opened-sees lent (call.WriteBuf most) p seen = (refl, seen)
+opened-sees lent (call.Produced n) p seen = (refl, seen)
+opened-sees lent call.Close p seen = (refl, seen)
+opened-sees lent (call.Drop Reader) p seen = (refl, λ saw. absurd (cc))
+opened-sees lent (call.Drop Writer) p seen = (refl, seen)
+
+began-tells : (h : History) (lent : List ℕ) (c : Call) (p : Pipe) → h.is_closed ≡ p.is_closed → Tells h (stepped lent (Begin c) p).events p.is_closed
+began-tells h lent (call.Len Reader) p same = ((tt, tt), same)
+began-tells h lent (call.Len Writer) p same = ((tt, tt), same)
+began-tells h lent (call.IsEmpty Reader) p same = ((tt, tt), same)
+began-tells h lent (call.IsEmpty Writer) p same = ((tt, tt), same)
+began-tells h lent (call.IsFull Reader) p same = ((tt, tt), same)
+began-tells h lent (call.IsFull Writer) p same = ((tt, tt), same)
+began-tells h lent (call.IsClosed Reader) p same = ((tt, tt), same)
+began-tells h lent (call.IsClosed Writer) p same = ((tt, tt), same)
+began-tells h lent (call.Poll Reader waker luck) p same = ((tt, tt), same)
+began-tells h lent (call.Poll Writer waker luck) p same = ((tt, tt), same)
+began-tells h lent (call.Consume n) p same = ((tt, tt), same)
+began-tells h lent (call.WriteBuf most) p same = ((tt, (tt, tt)), same)
+began-tells h lent (call.Produced n) p same = ((tt, tt), same)
+began-tells h lent call.Close p same = ((tt, tt), same)
+began-tells h lent (call.Drop Reader) p same = ((tt, tt), same)
+began-tells h lent (call.Drop Writer) p same = ((tt, tt), same)
+
+-- what the log says of the flag is so, and what the reader carries of it, too
+pub record Aware (p : Pipe) (h : History) : Type 0 where
+  pub flag : h.is_closed ≡ p.is_closed
+  pub saw : saw_close p.reader ≡ true → p.is_closed ≡ true
+
+-- an answer behind the events of an action
+answered-tells : (h : History) (es : List Event) (side : Side) (answer : Option Answer) (is_closed : Bool) → Tells h es is_closed
+    → IsHonestFrom (history_from h es) (answer_event side answer) → Tells h (es ++ answer_event side answer) is_closed
+answered-tells h es side answer is_closed tells honest =
+    (honest-append h es (answer_event side answer) tells.0 honest,
+    ap (λ (k : History). k.is_closed) (history-append h es (answer_event side answer) ∙ answer-keeps (history_from h es) side answer) ∙ tells.1)
+
+writer-flag : (action : Action) (p : Pipe) → p.is_closed ≡ true → (performed Writer action p).is_closed ≡ true
+writer-flag (does.StoreClosed true) p closed = refl
+writer-flag (does.StoreClosed false) p closed = refl
+writer-flag does.Rest p closed = closed
+writer-flag does.LoadHead p closed = closed
+writer-flag does.LoadTail p closed = closed
+writer-flag does.Refresh p closed = closed
+writer-flag does.LoadClosed p closed = closed
+writer-flag does.Register p closed = closed
+writer-flag (does.StoreHead n) p closed = closed
+writer-flag (does.StoreTail n) p closed = closed
+writer-flag (does.Take Reader) p closed = closed
+writer-flag (does.Take Writer) p closed = closed
+writer-flag does.Wake p closed = closed
+
+step-honest : (lent : List ℕ) (s : Step) (p : Pipe) (h : History) → Aware p h
+    → let new = stepped lent s p in IsHonestFrom h new.events × Aware new.pipe (history_from h new.events)
+step-honest lent (Begin c) p h aware =
+    let tells = began-tells h lent c p aware.flag in
+    let sees = opened-sees lent c p aware.saw in
+    (tells.0, record { flag = tells.1 ∙ sym sees.0; saw = λ saw. sees.0 ∙ sees.1 saw })
+step-honest lent (Go Reader) p h aware =
+    let action = read_action p.reader in
+    let tells = answered-tells h (logged_of Reader action p) Reader (went Reader p).answer _ (action-tells h Reader action p aware.flag) (place-honest h p p.reader aware.flag aware.saw) in
+    (tells.0, record { flag = tells.1; saw = reader-sees p.reader p })
+step-honest lent (Go Writer) p h aware =
+    let action = write_action p.writer in
+    let tells = answered-tells h (logged_of Writer action p) Writer (went Writer p).answer _ (action-tells h Writer action p aware.flag) (writer-answers _ (went Writer p).answer) in
+    (tells.0, record {
+      flag = tells.1;
+      saw = λ saw. writer-flag action p (aware.saw (ap saw_close (sym (writer_leaves-reader action p)) ∙ saw));
+    })
+step-honest lent (Put offset byte) p h aware = (tt, record { flag = aware.flag; saw = aware.saw })
+
+pub record Honest (p : Pipe) (events : List Event) : Type 0 where
+  pub honest : IsHonest events
+  pub aware : Aware p (history_from unwritten events)
+
+pub honest_none : (capacity : ℕ) → Honest (fresh capacity) []
+honest_none capacity = record { honest = tt; aware = record { flag = refl; saw = λ saw. absurd (cc) } }
+
+pub honest_more : (p q : Pipe) (s : Step) (before after : List Event) → Honest p before → Made p s q before after → Honest q after
+honest_more p q s before after kept made =
+    let new = stepped q.lent s p in
+    let told = step-honest q.lent s p (history_from unwritten before) kept.aware in
+    let next : Honest new.pipe (before ++ new.events) = record {
+      honest = honest-append unwritten before new.events kept.honest told.0;
+      aware = subst (λ (k : History). Aware new.pipe k) (sym (history-append unwritten before new.events)) told.1;
+    } in
+    subst (λ es. Honest q es) (sym made.made.events) (subst (λ (x : Pipe). Honest x (before ++ new.events)) (sym made.made.pipe) next)

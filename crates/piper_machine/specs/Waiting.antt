@@ -1,0 +1,29 @@
+-- When a side has to wait, and when the other side is about to wake it.
+use Rattle.std.specs.Prelude.{◌≡◌, [], length, Bool, true, false}
+use Rattle.piper_sides.specs.declared.calls.Side.{Side}
+use Rattle.piper_sides.specs.declared.calls.Side.TheVariants.{Reader, Writer}
+use Rattle.piper_sides.specs.declared.table.ReadPlace.{ReadPlace}
+use Rattle.piper_sides.specs.declared.table.ReadPlace.TheVariants as at
+use Rattle.piper_sides.specs.declared.table.WritePlace.{WritePlace}
+use Rattle.piper_sides.specs.declared.table.WritePlace.TheVariants as on
+use Rattle.piper_machine.specs.Pipe.{Pipe}
+
+-- an open pipe with nothing to do for this side
+abbrev pub IsBlocked : Side → Pipe → Type 0
+IsBlocked Reader p = (p.unread ≡ []) × (p.is_closed ≡ false)
+IsBlocked Writer p = (length p.unread ≡ p.capacity) × (p.is_closed ≡ false)
+
+abbrev pub is_waking_writer : ReadPlace → Bool
+is_waking_writer (at.TakeWriter next) = true
+is_waking_writer (at.WakeWriter next) = true
+is_waking_writer place = false
+
+abbrev pub is_waking_reader : WritePlace → Bool
+is_waking_reader (on.TakeReader next) = true
+is_waking_reader (on.WakeReader next) = true
+is_waking_reader place = false
+
+-- for this side, the other stands between a store and the end of the wake that belongs to it
+abbrev pub stands_between : Side → Pipe → Bool
+stands_between Reader p = is_waking_reader p.writer
+stands_between Writer p = is_waking_writer p.reader
