@@ -1,40 +1,42 @@
 -- Printed lists.
-use Rattle.std.proofs.Common.{◌≡◌, ℕ, ◌+◌, ◌<◌, ◌≤◌, List, [], ◌∷◌, ◌++◌, length, take, get_or, decimal, refl, ap, sym, ◌∙◌, arith, append_assoc, add-one, take_all}
+use Rattle.std.proofs.Common.{◌≡◌, ℕ, ◌+◌, ◌<◌, ◌≤◌, List, [], ◌∷◌, ◌++◌, length, take, get_or, refl, ap, sym, ◌∙◌, arith, append_assoc, add-one, take_all}
 use Rattle.std.proofs.lemmas.List.{take_more}
-use Rattle.piper_replay.specs.Reply.{printed_list}
+use Rattle.piper_replay.specs.Reply.{joined_or_dash}
 
--- one byte more at the end
-pub printed_list-append : (first byte : ℕ) (bytes : List ℕ) → printed_list (first ∷ bytes ++ byte ∷ []) ≡ printed_list (first ∷ bytes) ++ 44 ∷ decimal byte
-printed_list-append first byte [] = refl
-printed_list-append first byte (second ∷ bytes) =
-    ap (λ (text : List ℕ). decimal first ++ 44 ∷ text) (printed_list-append second byte bytes)
-    ∙ sym (append_assoc (decimal first) (44 ∷ printed_list (second ∷ bytes)) (44 ∷ decimal byte))
+-- one thing more at the end
+pub joined-append : {A : Type 0} (separator : ℕ) (text : A → List ℕ) (first last : A) (between : List A)
+    → joined_or_dash separator text (first ∷ between ++ last ∷ []) ≡ joined_or_dash separator text (first ∷ between) ++ separator ∷ text last
+joined-append separator text first last [] = refl
+joined-append separator text first last (second ∷ between) =
+    ap (λ (words : List ℕ). text first ++ separator ∷ words) (joined-append separator text second last between)
+    ∙ sym (append_assoc (text first) (separator ∷ joined_or_dash separator text (second ∷ between)) (separator ∷ text last))
 
--- a loop has printed `i` bytes behind the first, and prints the next
-pub printed_list-next : (first : ℕ) (rest bytes old so_far with_comma new digits : List ℕ) (i : ℕ) → bytes ≡ first ∷ rest → i < length rest
-    → so_far ≡ old ++ printed_list (take (i + 1) bytes) → with_comma ≡ so_far ++ 44 ∷ [] → new ≡ with_comma ++ digits → digits ≡ decimal (get_or rest i 0)
-    → new ≡ old ++ printed_list (take (i + 1 + 1) bytes)
-printed_list-next first rest bytes old so_far with_comma new digits i whole inside printed comma number written =
-    let next = get_or rest i 0 in
-    let one : take (i + 1) bytes ≡ first ∷ take i rest = ap (take (i + 1)) whole ∙ take_front i in
-    let two : take (i + 1 + 1) bytes ≡ first ∷ (take i rest ++ next ∷ []) =
-    ap (take (i + 1 + 1)) whole ∙ take_front (i + 1) ∙ ap (λ (ns : List ℕ). first ∷ ns) (take_more rest i 0 inside) in
-    let list = ap printed_list two ∙ printed_list-append first next (take i rest) ∙ ap (λ (ns : List ℕ). printed_list ns ++ 44 ∷ decimal next) (sym one) in
-    let joined : new ≡ old ++ printed_list (take (i + 1) bytes) ++ 44 ∷ [] ++ decimal next =
-    number ∙ ap (λ (ds : List ℕ). with_comma ++ ds) written ∙ ap (λ (ns : List ℕ). ns ++ decimal next) (comma ∙ ap (λ (ns : List ℕ). ns ++ 44 ∷ []) printed) in
-    joined ∙ append_assoc (old ++ printed_list (take (i + 1) bytes)) (44 ∷ []) (decimal next)
-    ∙ append_assoc old (printed_list (take (i + 1) bytes)) (44 ∷ decimal next) ∙ ap (λ (ns : List ℕ). old ++ ns) (sym list)
+-- the first thing is printed
+pub joined-first : {A : Type 0} (separator : ℕ) (text : A → List ℕ) (first : A) (rest things : List A) (old new word : List ℕ) → things ≡ first ∷ rest → new ≡ old ++ word → word ≡ text first
+    → new ≡ old ++ joined_or_dash separator text (take 1 things)
+joined-first separator text first rest things old new word whole printed written =
+    printed ∙ ap (λ (words : List ℕ). old ++ words) (written ∙ sym (ap (λ (xs : List _). joined_or_dash separator text (take 1 xs)) whole))
+
+-- a loop has printed `i` things behind the first, and prints the next
+pub joined-next : {A : Type 0} (separator : ℕ) (text : A → List ℕ) (first next : A) (rest things : List A) (old so_far with_separator new word : List ℕ) (i : ℕ) → things ≡ first ∷ rest → i < length rest
+    → next ≡ get_or rest i next → so_far ≡ old ++ joined_or_dash separator text (take (i + 1) things) → with_separator ≡ so_far ++ separator ∷ [] → new ≡ with_separator ++ word → word ≡ text next
+    → new ≡ old ++ joined_or_dash separator text (take (i + 1 + 1) things)
+joined-next {A} separator text first next rest things old so_far with_separator new word i whole inside there printed separated added written =
+    let one : take (i + 1) things ≡ first ∷ take i rest = ap (take (i + 1)) whole ∙ take_front i in
+    let more : take (i + 1) rest ≡ take i rest ++ next ∷ [] = take_more rest i next inside ∙ ap (λ (x : A). take i rest ++ x ∷ []) (sym there) in
+    let two : take (i + 1 + 1) things ≡ first ∷ (take i rest ++ next ∷ []) = ap (take (i + 1 + 1)) whole ∙ take_front (i + 1) ∙ ap (λ (xs : List A). first ∷ xs) more in
+    let list = ap (joined_or_dash separator text) two ∙ joined-append separator text first next (take i rest) ∙ ap (λ (xs : List A). joined_or_dash separator text xs ++ separator ∷ text next) (sym one) in
+    let joined : new ≡ old ++ joined_or_dash separator text (take (i + 1) things) ++ separator ∷ [] ++ text next =
+    added ∙ ap (λ (words : List ℕ). with_separator ++ words) written ∙ ap (λ (words : List ℕ). words ++ text next) (separated ∙ ap (λ (words : List ℕ). words ++ separator ∷ []) printed) in
+    joined ∙ append_assoc (old ++ joined_or_dash separator text (take (i + 1) things)) (separator ∷ []) (text next)
+    ∙ append_assoc old (joined_or_dash separator text (take (i + 1) things)) (separator ∷ text next) ∙ ap (λ (words : List ℕ). old ++ words) (sym list)
   where
     take_front : (n : ℕ) → take (n + 1) (first ∷ rest) ≡ first ∷ take n rest
     take_front n = rw add-one refl
 
--- the first byte of a list is printed
-pub printed_list-first : (first : ℕ) (rest bytes old new digits : List ℕ) → bytes ≡ first ∷ rest → new ≡ old ++ digits → digits ≡ decimal first → new ≡ old ++ printed_list (take 1 bytes)
-printed_list-first first rest bytes old new digits whole number written =
-    number ∙ ap (λ (ds : List ℕ). old ++ ds) (written ∙ sym (ap (λ (ns : List ℕ). printed_list (take 1 ns)) whole))
-
 -- the whole list is printed
-pub printed_list-whole : (rest bytes old new : List ℕ) (first i : ℕ) → bytes ≡ first ∷ rest → length rest ≤ i → new ≡ old ++ printed_list (take (i + 1) bytes) → new ≡ old ++ printed_list bytes
-printed_list-whole rest bytes old new first i whole end printed =
-    let long : length bytes ≤ i + 1 = omega (arith, ap length whole, end) in
-    printed ∙ ap (λ (ns : List ℕ). old ++ printed_list ns) (take_all (i + 1) bytes long)
+pub joined-whole : {A : Type 0} (separator : ℕ) (text : A → List ℕ) (first : A) (rest things : List A) (old new : List ℕ) (i : ℕ) → things ≡ first ∷ rest → length rest ≤ i
+    → new ≡ old ++ joined_or_dash separator text (take (i + 1) things) → new ≡ old ++ joined_or_dash separator text things
+joined-whole {A} separator text first rest things old new i whole end printed =
+    let long : length things ≤ i + 1 = omega (arith, ap length whole, end) in
+    printed ∙ ap (λ (xs : List A). old ++ joined_or_dash separator text xs) (take_all (i + 1) things long)

@@ -73,12 +73,14 @@ fn range(first: &str, last: &str) -> Result<Item, Refusal>
     }
 }
 
-fn byte(text: &str) -> Result<u8, Refusal>
+/// The byte that the text writes.
+pub fn byte(text: &str) -> Result<u8, Refusal>
     ensures { IfOk result (λ value. text.now ≡ decimal value) }
 {
     let value = number(text, 0, 255)?;
     Ok(value as u8)
 }
+
 /// A list of bytes: its text, and how many bytes it stands for.
 #[derive(Clone, Copy, Debug, PartialEq, Eq)]
 pub struct List<'line> {

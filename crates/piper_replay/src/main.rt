@@ -7,13 +7,18 @@ use std::io::ErrorKind;
 use std::process::ExitCode;
 
 mod command;
+mod event;
 mod list;
 mod number;
 mod parser;
 mod player;
 mod replay;
 mod reply;
+mod runner;
+mod steps;
 mod stop;
+mod stream;
+mod whole;
 
 /// The arguments after the program's name.
 fn words(rt: &HostRuntime) -> Result<Vec<String>, Ended> {

@@ -4,6 +4,9 @@ ghost use Rattle.piper_replay.specs.Number.{IsNumber};
 
 use crate::command::Refusal;
 
+/// The greatest name of a waker, and the greatest draw.
+pub const MOST_OF_A_NAME: usize = 4_294_967_295;
+
 /// Whether the text is written as a number, however great.
 pub fn is_number(text: &str) -> bool
     ensures { IsTrue result ↔ IsNumber text.now }
@@ -28,6 +31,14 @@ pub fn number(text: &str, least: usize, most: usize) -> Result<usize, Refusal>
         Ok(value) if least <= value && value <= most => Ok(value),
         _ => Err(Refusal::Limit),
     }
+}
+
+/// The number that the text writes of a waker or a draw.
+pub fn name(text: &str) -> Result<u32, Refusal>
+    ensures { IfOk result (λ value. text.now ≡ decimal value) }
+{
+    let value = number(text, 0, MOST_OF_A_NAME)?;
+    Ok(value as u32)
 }
 
 /// Whether the first of two numbers, however great, is at most the second.

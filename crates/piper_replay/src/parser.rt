@@ -1,11 +1,12 @@
 //! From the bytes of a line to what they say.
 
-ghost use Rattle.std.specs.Prelude.{◌≡◌, ◌≤◌, ◌<◌, ◌++◌, ◌∷◌, length, IfOk, IfSome, IfNone};
-ghost use Rattle.piper_replay.specs.Command.{side_text, call_text, command_text, IsCallInLimits, IsInLimits, IsSilent};
+ghost use Rattle.std.specs.Prelude.{◌≡◌, ◌≤◌, ◌<◌, ◌++◌, ◌∷◌, length, codes, decimal, IsTrue, ◌↔◌, IfOk, IfSome, IfNone};
+ghost use Rattle.piper_replay.specs.Command.{side_text, word_if, draw_text, luck_text, steps_text, call_text, command_text, IsCallInLimits, IsInLimits, IsSilent};
 
-use crate::command::{Call, Command, MOST, Refusal, Side};
-use crate::list::List;
-use crate::number::number;
+use crate::command::{Call, Command, Luck, MOST, Refusal, Steps};
+use crate::list::{List, both, byte};
+use crate::number::{name, number};
+use piper_machine::calls::Side;
 use std::str;
 
 /// The most bytes of a line, without the LF that ends it.
@@ -22,34 +23,135 @@ pub fn parse(line: &[u8]) -> Result<Option<Command<'_>>, Refusal>
     if line.len() > MOST_OF_A_LINE {
         return Err(Refusal::Limit);
     }
-    if line.is_empty() || line.first() == Some(&b'#') {
+    if is_silent(line) {
         return Ok(None);
     }
     let text = str::from_utf8(line).map_err(|_| Refusal::Syntax)?;
     Ok(Some(command(text)?))
 }
 
+/// Whether the line is empty or a comment.
+pub fn is_silent(line: &[u8]) -> bool
+    ensures { IsTrue result ↔ IsSilent line.now }
+{
+    line.is_empty() || line.first() == Some(&b'#')
+}
+
 fn command(text: &str) -> Result<Command<'_>, Refusal>
     ensures text { IfOk result (λ command. text.now ≡ command_text command) }
     ensures limits { IfOk result IsInLimits }
 {
-    let (name, arguments) = text.split_once(' ').ok_or(Refusal::Syntax)?;
-    if name == "pipe" {
-        return Ok(Command::Pipe(number(arguments, 1, MOST)?));
+    if text == "peek" {
+        return Ok(Command::Peek);
     }
-    Ok(Command::Call(call(name, arguments)?))
+    match text.split_once(' ') {
+        Some((name, arguments)) => command_with(name, arguments),
+        None => Ok(Command::Whole(call(text)?)),
+    }
 }
 
-fn call<'line>(name: &str, arguments: &'line str) -> Result<Call<'line>, Refusal>
+fn command_with<'line>(name: &str, arguments: &'line str) -> Result<Command<'line>, Refusal>
+    ensures text { IfOk result (λ command. name.now ++ 32 ∷ arguments.now ≡ command_text command) }
+    ensures limits { IfOk result IsInLimits }
+{
+    match name {
+        "pipe" => Ok(Command::Pipe(number(arguments, 1, MOST)?)),
+        "fill" => Ok(Command::Fill(List::parse(arguments)?)),
+        "drain" => Ok(Command::Drain(number(arguments, 0, MOST)?)),
+        "put" => put(arguments),
+        "begin" => Ok(Command::Begin(call(arguments)?)),
+        "go" => go(arguments),
+        _ => Ok(Command::Whole(call_with(name, arguments)?)),
+    }
+}
+
+fn call(text: &str) -> Result<Call, Refusal>
+    ensures text { IfOk result (λ call. text.now ≡ call_text call) }
+    ensures limits { IfOk result IsCallInLimits }
+{
+    if text == "close" {
+        return Ok(Call::Close);
+    }
+    let (name, arguments) = text.split_once(' ').ok_or(Refusal::Syntax)?;
+    call_with(name, arguments)
+}
+
+fn call_with(name: &str, arguments: &str) -> Result<Call, Refusal>
     ensures text { IfOk result (λ call. name.now ++ 32 ∷ arguments.now ≡ call_text call) }
     ensures limits { IfOk result IsCallInLimits }
 {
     match name {
-        "fill" => Ok(Call::Fill(List::parse(arguments)?)),
-        "drain" => Ok(Call::Drain(number(arguments, 0, MOST)?)),
         "len" => Ok(Call::Len(side(arguments)?)),
+        "empty" => Ok(Call::IsEmpty(side(arguments)?)),
+        "full" => Ok(Call::IsFull(side(arguments)?)),
+        "closed" => Ok(Call::IsClosed(side(arguments)?)),
+        "poll" => poll(arguments),
+        "consume" => Ok(Call::Consume(number(arguments, 0, MOST)?)),
+        "lend" => Ok(Call::Lend(number(arguments, 0, MOST)?)),
+        "produced" => Ok(Call::Produced(number(arguments, 0, MOST)?)),
+        "drop" => Ok(Call::Drop(side(arguments)?)),
         _ => Err(Refusal::Syntax),
     }
+}
+
+fn put(arguments: &str) -> Result<Command<'_>, Refusal>
+    ensures text { IfOk result (λ command. codes "put " ++ arguments.now ≡ command_text command) }
+    ensures limits { IfOk result IsInLimits }
+{
+    let (offset, value) = arguments.split_once(' ').ok_or(Refusal::Syntax)?;
+    let (offset, value) = both(number(offset, 0, MOST), byte(value))?;
+    Ok(Command::Put(offset, value))
+}
+
+fn go(arguments: &str) -> Result<Command<'_>, Refusal>
+    ensures text { IfOk result (λ command. codes "go " ++ arguments.now ≡ command_text command) }
+    ensures limits { IfOk result IsInLimits }
+{
+    let Some((mover, count)) = arguments.split_once(' ') else {
+        return Ok(Command::Go(side(arguments)?, Steps::One));
+    };
+    let mover = side(mover)?;
+    if count == "end" {
+        return Ok(Command::Go(mover, Steps::ToAnswer));
+    }
+    Ok(Command::Go(mover, Steps::Count(number(count, 1, MOST)?)))
+}
+
+fn poll(arguments: &str) -> Result<Call, Refusal>
+    ensures text { IfOk result (λ call. codes "poll " ++ arguments.now ≡ call_text call) }
+    ensures limits { IfOk result IsCallInLimits }
+{
+    let (looker, rest) = arguments.split_once(' ').ok_or(Refusal::Syntax)?;
+    let looker = side(looker)?;
+    let (rest, no_yield) = without(rest, " noyield");
+    let (rest, no_register) = without(rest, " noregister");
+    let (waker, draw) = waker_and_draw(rest)?;
+    let luck = Luck {
+        draw,
+        no_register,
+        no_yield,
+    };
+    Ok(Call::Poll(looker, waker, luck))
+}
+
+// The text without the word at its end, and whether that stood there.
+fn without<'text>(text: &'text str, word: &str) -> (&'text str, bool)
+    ensures { text.now ≡ result.0.now ++ word_if result.1 word.now }
+{
+    match text.strip_suffix(word) {
+        Some(rest) => (rest, true),
+        None => (text, false),
+    }
+}
+
+fn waker_and_draw(text: &str) -> Result<(u32, Option<u32>), Refusal>
+    ensures { IfOk result (λ said. text.now ≡ decimal said.0 ++ draw_text said.1) }
+{
+    let Some((waker, draw)) = text.split_once(" draw=") else {
+        return Ok((name(text)?, None));
+    };
+    let (waker, draw) = both(name(waker), name(draw))?;
+    Ok((waker, Some(draw)))
 }
 
 fn side(text: &str) -> Result<Side, Refusal>

@@ -1,15 +1,18 @@
 //! The engine: a script in, its output out.
 
-ghost use Rattle.std.specs.Prelude.{◌<◌, codes, length};
+ghost use Rattle.std.specs.Prelude.{◌↔◌, codes, IsNone};
 ghost use Rattle.piper_replay.specs.Ended.{EndsWith};
+ghost use Rattle.piper_replay.specs.Arguments.{IsWrong};
 
 use crate::command::Refusal;
 use crate::parser::{MOST_OF_A_LINE, parse};
 use crate::player::Player;
 use crate::reply::Reply;
+use crate::runner::run;
 use crate::stop::Stop;
+use crate::stream::{read_line, write_reply};
 use std::alloc::Global;
-use std::io::{BufRead, BufReader, Read, Write};
+use std::io::{BufReader, Read, Write};
 
 /// How a replay ended.
 #[derive(Clone, Copy, Debug, PartialEq, Eq)]
@@ -67,22 +70,48 @@ impl From<Stop> for Ended {
     }
 }
 
+/// How a script is run.
+#[derive(Clone, Copy, Debug, PartialEq, Eq)]
+enum Mode {
+    /// Each line is run before the next is read.
+    Play,
+    /// The script is read to its end, and then its steps are run.
+    Run,
+}
+
+// The mode that the arguments ask for, if they ask for one.
+fn mode_of(words: &[String]) -> Option<Mode>
+    ensures { IsNone result ↔ IsWrong words.now }
+{
+    let Some((word, rest)) = words.split_first() else {
+        return Some(Mode::Play);
+    };
+    if rest.is_empty() && word.as_str() == "run" {
+        Some(Mode::Run)
+    } else {
+        None
+    }
+}
+
 /// Runs the script that `input` gives, and writes what it prints to `output`. `words` are the
-/// arguments of the command line.
+/// arguments of the command line: none, or the word `run`.
 ///
-/// The output of a line is written and flushed before the script is read on.
+/// Without an argument the output of a line is written and flushed before the script is read on.
+/// With `run` nothing is written before the whole script was read.
 pub fn replay<I: Read, O: Write>(
     alloc: Global,
     words: &[String],
     input: &mut I,
     output: &mut O,
 ) -> Ended
-    ensures { 0 < length words.now → EndsWith result 1 (codes "usage: piper_replay [run|all]") }
+    ensures { IsWrong words.now → EndsWith result 1 (codes "usage: piper_replay [run|all]") }
 {
-    if !words.is_empty() {
-        return Ended::WRONG_ARGUMENTS;
-    }
-    match play(alloc, input, output) {
+    let played = match mode_of(words) {
+        None => return Ended::WRONG_ARGUMENTS,
+        Some(Mode::Play) => play(alloc, input, output),
+        Some(Mode::Run) => run(alloc, input, output),
+    };
+    match played {
         Ok(()) => Ended::DONE,
         Err(stop) => Ended::from(stop),
     }
@@ -110,32 +139,12 @@ fn play<I: Read, O: Write>(alloc: Global, input: &mut I, output: &mut O) -> Resu
     Ok(())
 }
 
-/// Puts the next line, without its LF, in place of what `line` holds; `false` where the script has
-/// ended. Of a line that is too long only the beginning is read.
-fn read_line<R: BufRead>(reader: &mut R, line: &mut Vec<u8>) -> Result<bool, Stop> {
-    line.clear();
-    let count = reader
-        .by_ref()
-        .take(MOST_OF_A_LINE as u64 + 1)
-        .read_until(b'\n', line)
-        .map_err(|_| Stop::Read)?;
-    if line.last() == Some(&b'\n') {
-        line.pop();
-    }
-    Ok(count > 0)
-}
-
 fn play_line(player: &mut Player, line: &[u8], reply: &mut Reply) -> Result<(), Stop> {
     if let Some(command) = parse(line)? {
         player.play(command, reply)?;
         reply.write("\n")?;
     }
     Ok(())
-}
-
-fn write_reply<O: Write>(reply: &Reply, output: &mut O) -> Result<(), Stop> {
-    output.write_all(reply.as_bytes()).map_err(|_| Stop::Write)?;
-    output.flush().map_err(|_| Stop::Write)
 }
 
 #[cfg(test)]

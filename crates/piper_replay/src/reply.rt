@@ -1,10 +1,12 @@
 //! What a line of the script prints.
 
-ghost use Rattle.std.specs.Prelude.{◌≡◌, [], ◌++◌, decimal, OnOk};
-ghost use Rattle.piper_replay.specs.Reply.{printed_list, printed_refusal};
+ghost use Rattle.std.specs.Prelude.{◌≡◌, [], ◌++◌, codes, decimal, OnOk};
+ghost use Rattle.piper_replay.specs.Reply.{joined_or_dash, counted_list, woken_text, flag_text, answer_text, printed_refusal};
 
 use crate::command::Refusal;
-use itoa::Buffer;
+use itoa::{Buffer, Integer};
+use piper_machine::events::Answer;
+use piper_machine::polling::Polled;
 use std::alloc::{AllocError, Global};
 use std::fmt::Write;
 use std::marker::Model;
@@ -56,6 +58,46 @@ impl Reply {
         self.write(Buffer::new().format(count))
     }
 
+    pub fn write_name(&mut self, name: u32) -> Result<(), AllocError>
+        ensures { OnOk result (self.new ≡ self.old ++ decimal name) }
+    {
+        self.write(Buffer::new().format(name))
+    }
+
+    pub fn write_flag(&mut self, flag: bool) -> Result<(), AllocError>
+        ensures { OnOk result (self.new ≡ self.old ++ flag_text flag) }
+    {
+        self.write(if flag { "true" } else { "false" })
+    }
+
+    /// Writes what a whole call answers.
+    pub fn write_answer(&mut self, answer: Answer) -> Result<(), AllocError>
+        ensures { OnOk result (self.new ≡ self.old ++ answer_text answer) }
+    {
+        match answer {
+            Answer::Count(count) | Answer::Lent(count) => self.write_count(count),
+            Answer::Flag(flag) => self.write_flag(flag),
+            Answer::Poll(Polled::Ready(flag)) => {
+                self.write("ready ")?;
+                self.write_flag(flag)
+            }
+            Answer::Poll(Polled::Pending) => self.write("pending"),
+            Answer::Poll(Polled::Memory) => self.write("memory"),
+            Answer::Done => self.write("ok"),
+        }
+    }
+
+    /// Writes the names of the wakers that a whole call called, if there are any.
+    pub fn write_woken(&mut self, names: &[u32]) -> Result<(), AllocError>
+        ensures { OnOk result (self.new ≡ self.old ++ woken_text names.now) }
+    {
+        if names.is_empty() {
+            return Ok(());
+        }
+        self.write(" woken ")?;
+        self.write_list(names)
+    }
+
     /// Writes that a line was refused.
     pub fn write_refusal(&mut self, line: u64, refusal: Refusal) -> Result<(), AllocError>
         ensures { OnOk result (self.new ≡ self.old ++ printed_refusal line refusal) }
@@ -63,18 +105,27 @@ impl Reply {
         writeln!(self.text, "line {line}: {refusal}")
     }
 
-    /// Writes the bytes in decimal, joined by commas, or `-` where there are none.
-    pub fn write_list(&mut self, bytes: &[u8]) -> Result<(), AllocError>
-        ensures { OnOk result (self.new ≡ self.old ++ printed_list bytes.now) }
+    /// Writes how many bytes there are, and which.
+    pub fn write_counted_list(&mut self, bytes: &[u8]) -> Result<(), AllocError>
+        ensures { OnOk result (self.new ≡ self.old ++ counted_list bytes.now) }
     {
-        let Some((first, rest)) = bytes.split_first() else {
+        self.write_count(bytes.len())?;
+        self.write(" ")?;
+        self.write_list(bytes)
+    }
+
+    /// Writes the numbers in decimal, joined by commas, or `-` where there are none.
+    pub fn write_list<I: Integer>(&mut self, numbers: &[I]) -> Result<(), AllocError>
+        ensures { OnOk result (self.new ≡ self.old ++ joined_or_dash 44 I.text numbers.now) }
+    {
+        let Some((first, rest)) = numbers.split_first() else {
             return self.write("-");
         };
         let mut digits = Buffer::new();
         self.write(digits.format(*first))?;
-        for byte in rest {
+        for number in rest {
             self.write(",")?;
-            self.write(digits.format(*byte))?;
+            self.write(digits.format(*number))?;
         }
         Ok(())
     }

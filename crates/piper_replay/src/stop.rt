@@ -5,6 +5,7 @@ ghost use Rattle.piper_replay.specs.declared.stop.Stop.TheVariants.{Refused, Mem
 
 use crate::command::Refusal;
 use piper_machine::OutOfMemory;
+use piper_machine::refusals::StepRefusal;
 use std::alloc::AllocError;
 
 /// Why a replay stops before the end of its script.
@@ -41,5 +42,23 @@ impl From<OutOfMemory> for Stop {
 
     fn from(_error: OutOfMemory) -> Stop {
         Stop::Memory
+    }
+}
+
+impl From<StepRefusal> for Stop {
+    ghost use Rattle.piper_replay.specs.Ended.{stop_of};
+
+    ghost from_gives = { λ refusal stop. stop ≡ stop_of refusal };
+
+    fn from(refusal: StepRefusal) -> Stop {
+        match refusal {
+            StepRefusal::Busy => Stop::Refused(Refusal::Busy),
+            StepRefusal::Idle => Stop::Refused(Refusal::Idle),
+            StepRefusal::Dropped => Stop::Refused(Refusal::Dropped),
+            StepRefusal::BadDraw => Stop::Refused(Refusal::BadDraw),
+            StepRefusal::PastLent => Stop::Refused(Refusal::PastLent),
+            StepRefusal::PastPeek => Stop::Refused(Refusal::PastPeek),
+            StepRefusal::Memory => Stop::Memory,
+        }
     }
 }

@@ -4,6 +4,9 @@ use std::io;
 use std::process::Abort;
 use std::test::Fail;
 
+mod calls;
+mod runs;
+
 /// Runs the script, and compares what it prints and how it ends.
 fn expect_play(rt: &(impl Abort + Alloc<A = Global>), script: &[u8], printed: &[u8], status: u8) {
     let mut output = Vec::new(rt.alloc());
@@ -98,7 +101,7 @@ fn scripts(rt: HostRuntime) {
         (b"fill 1...3\n", b"line 1: Syntax\n", 1),
         (b"fill 1*2*3\n", b"line 1: Syntax\n", 1),
         (b"len x\n", b"line 1: Syntax\n", 1),
-        (b"close\n", b"line 1: Syntax\n", 1),
+        (b"open\n", b"line 1: Syntax\n", 1),
         // What passes a limit.
         (b"fill 256\n", b"line 1: Limit\n", 1),
         (b"fill 0..256\n", b"line 1: Limit\n", 1),
@@ -211,7 +214,7 @@ fn long_lists(rt: HostRuntime) -> Result<(), Fail> {
 
 #[test]
 fn wrong_arguments(rt: HostRuntime) -> Result<(), Fail> {
-    for words in ["run", "all", "", "play", "run all"] {
+    for words in ["all", "", "play", "Run", "run run", "run all"] {
         let mut arguments = Vec::new(rt.alloc());
         for word in words.split(' ') {
             arguments.push(String::from_str(rt.alloc(), word)?)?;
