@@ -239,9 +239,10 @@ pub record Aware (p : Pipe) (h : History) : Type 0 where
 -- an answer behind the events of an action
 answered-tells : (h : History) (es : List Event) (side : Side) (answer : Option Answer) (is_closed : Bool) → Tells h es is_closed
     → IsHonestFrom (history_from h es) (answer_event side answer) → Tells h (es ++ answer_event side answer) is_closed
-answered-tells h es side answer is_closed tells honest =
-    (honest-append h es (answer_event side answer) tells.0 honest,
-    ap (λ (k : History). k.is_closed) (history-append h es (answer_event side answer) ∙ answer-keeps (history_from h es) side answer) ∙ tells.1)
+answered-tells h es side answer is_closed tells honest = (
+  honest-append h es (answer_event side answer) tells.0 honest,
+  ap (λ (k : History). k.is_closed) (history-append h es (answer_event side answer) ∙ answer-keeps (history_from h es) side answer) ∙ tells.1,
+)
 
 writer-flag : (action : Action) (p : Pipe) → p.is_closed ≡ true → (performed Writer action p).is_closed ≡ true
 writer-flag (does.StoreClosed true) p closed = refl
@@ -270,11 +271,13 @@ step-honest lent (Go Reader) p h aware =
     (tells.0, record { flag = tells.1; saw = reader-sees p.reader p })
 step-honest lent (Go Writer) p h aware =
     let action = write_action p.writer in
-    let tells = answered-tells h (logged_of Writer action p) Writer (went Writer p).answer _ (action-tells h Writer action p aware.flag) (writer-answers _ (went Writer p).answer) in
-    (tells.0, record {
-      flag = tells.1;
-      saw = λ saw. writer-flag action p (aware.saw (ap saw_close (sym (writer_leaves-reader action p)) ∙ saw));
-    })
+    let tells = answered-tells h (logged_of Writer action p) Writer (went Writer p).answer _ (action-tells h Writer action p aware.flag) (writer-answers _ (went Writer p).answer) in (
+      tells.0,
+      record {
+        flag = tells.1;
+        saw = λ saw. writer-flag action p (aware.saw (ap saw_close (sym (writer_leaves-reader action p)) ∙ saw));
+      },
+    )
 step-honest lent (Put offset byte) p h aware = (tt, record { flag = aware.flag; saw = aware.saw })
 
 pub record Honest (p : Pipe) (events : List Event) : Type 0 where

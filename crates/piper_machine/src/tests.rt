@@ -1,9 +1,11 @@
 //! What no contract says: that each call can succeed, and that want of memory changes nothing.
 use crate::machine::{Machine, run};
+use piper_sides::bytes::Bytes;
 use piper_sides::calls::{Call, Side, SideState, Step};
 use piper_sides::events::{Answer, Event, Log, Seen};
 use piper_sides::polling::{Luck, Polled};
 use piper_sides::refusals::{RunRefusal, StepRefusal};
+use piper_sides::scripted::{DestAct, Failed, SourceAct};
 use std::process::Abort;
 use std::test::Fail;
 
@@ -56,6 +58,51 @@ fn lent_bytes_are_written_published_and_consumed(rt: HostRuntime) -> Result<(), 
     assert_eq!(rt; pipe.r_peek(), b"ab".as_slice());
     pipe.r_consume(1);
     assert_eq!(rt; pipe.r_peek(), b"b".as_slice());
+    Ok(())
+}
+
+#[test]
+fn polls_copy_to_and_from_slices(rt: HostRuntime) -> Result<(), Fail> {
+    let mut pipe = Machine::new(rt.alloc(), 4)?;
+    let mut drained = [0; 4];
+    assert_eq!(rt;
+        pipe.r_poll_drain_bytes(5, GRANTED, &mut drained),
+        Polled::Pending
+    );
+    assert_eq!(rt;
+        pipe.w_poll_fill_bytes(6, GRANTED, b"abcdef"),
+        Polled::Ready(4)
+    );
+    assert_eq!(rt; pipe.woken(), [5].as_slice());
+    let yielding = Luck { draw: 0, ..GRANTED };
+    assert_eq!(rt;
+        pipe.r_poll_drain_bytes(7, yielding, &mut drained),
+        Polled::Pending
+    );
+    assert_eq!(rt; pipe.woken(), [7].as_slice());
+    assert_eq!(rt;
+        pipe.r_poll_drain_bytes(7, GRANTED, &mut drained),
+        Polled::Ready(4)
+    );
+    assert_eq!(rt; drained.as_slice(), b"abcd".as_slice());
+    Ok(())
+}
+
+#[test]
+fn a_failed_source_keeps_what_moved_before(rt: HostRuntime) -> Result<(), Fail> {
+    let mut pipe = Machine::new(rt.alloc(), 4)?;
+    let given = [
+        SourceAct::Bytes(Bytes::copy_of(rt.alloc(), b"ab")?),
+        SourceAct::Fail,
+    ];
+    assert_eq!(rt;
+        pipe.w_poll_fill(6, GRANTED, &given),
+        Polled::Ready(Err(Failed))
+    );
+    assert_eq!(rt; pipe.unread()?.as_slice(), b"ab".as_slice());
+    let taken = [DestAct::Take(1), DestAct::Take(5)];
+    assert_eq!(rt; pipe.r_poll_drain(5, GRANTED, &taken), Polled::Ready(Ok(2)));
+    assert_eq!(rt; pipe.r_len(), 0);
     Ok(())
 }
 

@@ -115,13 +115,32 @@ abbrev stored_tail : Pipe
 stored_tail = (stepped [] (step.Go Writer) produced_opened).pipe
 
 a_run : Runs (fresh 2) [] published_in_place (stepped [] (step.Go Writer) stored_tail).pipe logged_in_place
-a_run =
-    (lent_two, take 2 logged_in_place, record { accepted = refl; made = record { lent = two_places_are_lendable; pipe = refl; events = refl } },
-    (put_one, take 2 logged_in_place, record { accepted = refl; made = record { lent = tt; pipe = refl; events = refl } },
-    (produced_opened, take 3 logged_in_place, record { accepted = refl; made = record { lent = tt; pipe = refl; events = refl } },
-    (stored_tail, take 4 logged_in_place, record { accepted = refl; made = record { lent = tt; pipe = refl; events = refl } },
-    ((stepped [] (step.Go Writer) stored_tail).pipe, logged_in_place, record { accepted = refl; made = record { lent = tt; pipe = refl; events = refl } },
-    (refl, refl))))))
+a_run = (
+  lent_two,
+  take 2 logged_in_place,
+  record { accepted = refl; made = record { lent = two_places_are_lendable; pipe = refl; events = refl } },
+  (
+    put_one,
+    take 2 logged_in_place,
+    record { accepted = refl; made = record { lent = tt; pipe = refl; events = refl } },
+    (
+      produced_opened,
+      take 3 logged_in_place,
+      record { accepted = refl; made = record { lent = tt; pipe = refl; events = refl } },
+      (
+        stored_tail,
+        take 4 logged_in_place,
+        record { accepted = refl; made = record { lent = tt; pipe = refl; events = refl } },
+        (
+          (stepped [] (step.Go Writer) stored_tail).pipe,
+          logged_in_place,
+          record { accepted = refl; made = record { lent = tt; pipe = refl; events = refl } },
+          (refl, refl),
+        ),
+      ),
+    ),
+  ),
+)
 
 -- What the laws over runs count here: one byte published and none consumed, and two steps of at most three.
 bytes_in_place : (published_of logged_in_place ≡ 5 ∷ []) × (consumed_of logged_in_place ≡ [])
