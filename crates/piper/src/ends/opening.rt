@@ -1,0 +1,71 @@
+//! A ring is opened.
+ghost use Rattle.std.specs.Prelude.{◌≡◌, ℕ, ◌*◌, ◌<◌, ◌^◌, [], false, IfOk};
+ghost use Rattle.piper.specs.Opened.{FreshReader, FreshWriter};
+
+use crate::ends::reader::{ReadEnd, ReadParts};
+use crate::ends::room::Room;
+use crate::ends::writer::{WriteEnd, WriteParts};
+use crate::ring::memory::Memory;
+use crate::ring::seats::{WORDS_ALIGN, WORDS_SIZE, open};
+use piper_sides::memory::OutOfMemory;
+use std::alloc::Global;
+
+/// The two ends of a new ring for `capacity` bytes. Where memory is refused, all that was got is given back.
+pub fn open_ring(alloc: Global, capacity: usize) -> Result<(ReadEnd, WriteEnd), OutOfMemory>
+    requires { (0 < capacity) × (2 * capacity < 2 ^ 64) }
+    ensures pair { IfOk result (λ r. r.1.ring ≡ r.0.ring) }
+    ensures reader { IfOk result (λ r. FreshReader capacity r.0) }
+    ensures writer { IfOk result (λ r. FreshWriter capacity r.1) }
+{
+    let words = Memory::claim(&alloc, WORDS_SIZE, WORDS_ALIGN)?;
+    let bytes = match Memory::claim(&alloc, capacity, 1) {
+        Ok(bytes) => bytes,
+        Err(refused) => {
+            words.surrender(&alloc, WORDS_SIZE, WORDS_ALIGN);
+            return Err(refused);
+        }
+    };
+    let (read_seat, write_seat, mut blank, base) = open(words, bytes);
+    let told_reader = write_seat.mark();
+    let told_writer = read_seat.mark();
+    let read_saw = read_seat.unseen();
+    let write_saw = read_saw.again();
+    let known = blank.none(0);
+    let lent = blank.none(0);
+    let ready = blank.none(0);
+    let later = blank.none(capacity);
+    let reader = ReadEnd {
+        parts: ReadParts {
+            seat: read_seat,
+            known,
+            told: told_reader,
+            saw: read_saw,
+            base,
+            alloc,
+            capacity,
+            head: 0,
+            tail: 0,
+        },
+    };
+    let writer = WriteEnd {
+        parts: WriteParts {
+            seat: write_seat,
+            room: Room {
+                lent,
+                ready,
+                blank,
+                later,
+                zeroed: 0,
+            },
+            told: told_writer,
+            saw: write_saw,
+            base,
+            alloc,
+            capacity,
+            head: 0,
+            tail: 0,
+            shut: false,
+        },
+    };
+    Ok((reader, writer))
+}

@@ -1,0 +1,309 @@
+//! Moves bytes through a ring and tells how long it took, beside the same work on `rtrb`.
+#![tactic(auto)]
+
+ghost use Rattle.std.specs.Prelude.{length, ◌≡◌, ◌<◌, ◌≤◌, ◌^◌};
+
+use piper::{OutOfMemory, ReadEnd, WriteEnd, open_ring};
+use rtrb::{Consumer, Producer, RingBuffer};
+use std::alloc::AllocError;
+use std::process::ExitCode;
+use std::rt::Clock;
+use std::sync::Wait;
+use std::thread::Threads;
+use std::time::{Duration, Instant};
+use std::{env, io, thread};
+
+const USAGE: &str = "usage: piper_bench WHAT CAP CHUNK TOTAL
+Moves TOTAL bytes in pieces of CHUNK through a ring of CAP bytes, and prints bytes, nanoseconds, nanoseconds a piece and a checksum.
+WHAT is ring (one thread, in and out in turn), ring2 (two threads), rtrb or rtrb2 (the same work on rtrb).
+CAP is at least 1 and at most half of the greatest usize, CHUNK is 1 to 16777216.
+Without arguments it makes a short run of each.";
+
+/// The longest piece.
+const LONGEST: usize = 16_777_216;
+
+/// Where bytes are put in.
+trait Input {
+    /// Puts as many of the bytes in as fit in one piece.
+    fn put(&mut self, bytes: &[u8]) -> usize;
+}
+
+/// Where bytes come out.
+trait Output {
+    /// Copies as many bytes out as stand in one piece and fit.
+    fn get(&mut self, place: &mut [u8]) -> usize;
+}
+
+/// Copies `from` to `to`. Few bytes are copied here, which saves a call.
+fn copy(to: &mut [u8], from: &[u8])
+    requires { length from.now ≡ length to.old }
+{
+    if to.len() <= 256 {
+        for (place, byte) in to.iter_mut().zip(from) {
+            *place = *byte;
+        }
+    } else {
+        to.copy_from_slice(from);
+    }
+}
+
+impl Input for WriteEnd {
+    fn put(&mut self, bytes: &[u8]) -> usize {
+        self.refresh();
+        let buf = self.write_buf(bytes.len());
+        let n = buf.len();
+        copy(buf, &bytes[..n]);
+        self.produce(n);
+        n
+    }
+}
+
+impl Output for ReadEnd {
+    fn get(&mut self, place: &mut [u8]) -> usize {
+        self.refresh();
+        let piece = self.peek_buf();
+        let n = piece.len().min(place.len());
+        copy(&mut place[..n], &piece[..n]);
+        self.consume(n);
+        n
+    }
+}
+
+impl Input for Producer<u8> {
+    fn put(&mut self, bytes: &[u8]) -> usize {
+        self.push_partial_slice(bytes).0.len()
+    }
+}
+
+impl Output for Consumer<u8> {
+    fn get(&mut self, place: &mut [u8]) -> usize {
+        self.pop_partial_slice(place)
+    }
+}
+
+/// Puts `total` bytes in and takes them out again, in turn, on one thread. It answers the checksum.
+fn in_turn<I: Input, O: Output>(
+    rt: &impl Wait,
+    input: &mut I,
+    output: &mut O,
+    source: &[u8],
+    place: &mut [u8],
+    total: usize,
+) -> u64 {
+    let mut left = total;
+    let mut checksum = 0u64;
+    for _ in rt.forever() {
+        if left == 0 {
+            return checksum;
+        }
+        input.put(&source[..left.min(source.len())]);
+        let n = output.get(place);
+        left = left.saturating_sub(n);
+        checksum = add_piece(checksum, place, n);
+    }
+    unreachable!()
+}
+
+/// Puts `total` bytes in.
+fn put_all<I: Input>(rt: &impl Wait, input: &mut I, source: &[u8], total: usize) {
+    let mut left = total;
+    for _ in rt.forever() {
+        if left == 0 {
+            return;
+        }
+        let n = input.put(&source[..left.min(source.len())]);
+        left = left.saturating_sub(n);
+        if n == 0 {
+            thread::yield_now();
+        }
+    }
+}
+
+/// Takes `total` bytes out. It answers the checksum.
+fn get_all<O: Output>(rt: &impl Wait, output: &mut O, place: &mut [u8], total: usize) -> u64 {
+    let mut left = total;
+    let mut checksum = 0u64;
+    for _ in rt.forever() {
+        if left == 0 {
+            return checksum;
+        }
+        let n = output.get(place);
+        left = left.saturating_sub(n);
+        checksum = add_piece(checksum, place, n);
+        if n == 0 {
+            thread::yield_now();
+        }
+    }
+    unreachable!()
+}
+
+/// The checksum after a piece of `n` bytes: its length times its first byte comes to it.
+fn add_piece(checksum: u64, place: &[u8], n: usize) -> u64 {
+    match place.first() {
+        Some(first) => checksum.wrapping_add((n as u64).wrapping_mul(*first as u64)),
+        None => checksum,
+    }
+}
+
+/// Which ring, and on how many threads.
+#[derive(Clone, Copy)]
+enum What {
+    Ring,
+    RingOnTwoThreads,
+    Rtrb,
+    RtrbOnTwoThreads,
+}
+
+impl What {
+    fn of(word: &str) -> Option<What> {
+        match word {
+            "ring" => Some(What::Ring),
+            "ring2" => Some(What::RingOnTwoThreads),
+            "rtrb" => Some(What::Rtrb),
+            "rtrb2" => Some(What::RtrbOnTwoThreads),
+            _ => None,
+        }
+    }
+}
+
+/// What a run is to do.
+#[derive(Clone, Copy)]
+struct Work {
+    what: What,
+    capacity: usize,
+    chunk: usize,
+    total: usize,
+    ghost fits: { (0 < capacity) × (capacity < 2 ^ 63) × (0 < chunk) × (chunk ≤ 16_777_216) },
+}
+
+impl Work {
+    fn of(words: &[String]) -> Option<Work> {
+        let [what, capacity, chunk, total] = words else {
+            return None;
+        };
+        let what = What::of(what.as_str())?;
+        let capacity = capacity.as_str().parse::<usize>().ok()?;
+        let chunk = chunk.as_str().parse::<usize>().ok()?;
+        let total = total.as_str().parse::<usize>().ok()?;
+        if capacity == 0 || capacity > usize::MAX / 2 || chunk == 0 || chunk > LONGEST {
+            return None;
+        }
+        Some(Work {
+            what,
+            capacity,
+            chunk,
+            total,
+        })
+    }
+}
+
+/// Does the work, and answers how long it took and the checksum.
+fn run(
+    rt: &(impl Wait + Threads + Clock + Print + AllocGlobal + Sync),
+    work: Work,
+) -> io::Result<(Duration, u64)> {
+    let source = vec![in rt.alloc(); 7u8; work.chunk]?;
+    let mut place = vec![in rt.alloc(); 0u8; work.chunk]?;
+    match work.what {
+        What::Ring | What::RingOnTwoThreads => {
+            let (mut reader, mut writer) = ring_of(rt, work)?;
+            move_bytes(
+                rt,
+                work,
+                &mut writer,
+                &mut reader,
+                source.as_slice(),
+                place.as_mut_slice(),
+            )
+        }
+        What::Rtrb | What::RtrbOnTwoThreads => {
+            let (mut producer, mut consumer) = RingBuffer::new(rt.alloc(), work.capacity)?;
+            move_bytes(
+                rt,
+                work,
+                &mut producer,
+                &mut consumer,
+                source.as_slice(),
+                place.as_mut_slice(),
+            )
+        }
+    }
+}
+
+fn ring_of(
+    rt: &(impl Wait + Threads + Clock + Print + AllocGlobal + Sync),
+    work: Work,
+) -> Result<(ReadEnd, WriteEnd), AllocError> {
+    match open_ring(rt.alloc(), work.capacity) {
+        Ok(ends) => Ok(ends),
+        Err(OutOfMemory) => Err(AllocError),
+    }
+}
+
+fn move_bytes<I: Input + Send, O: Output + Send>(
+    rt: &(impl Wait + Threads + Clock + Print + AllocGlobal + Sync),
+    work: Work,
+    input: &mut I,
+    output: &mut O,
+    source: &[u8],
+    place: &mut [u8],
+) -> io::Result<(Duration, u64)> {
+    let start = Instant::now(rt)?;
+    let checksum = match work.what {
+        What::Ring | What::Rtrb => in_turn(rt, input, output, source, place, work.total),
+        What::RingOnTwoThreads | What::RtrbOnTwoThreads => {
+            let total = work.total;
+            let (_, checksum) = thread::join(
+                rt,
+                || put_all(rt, input, source, total),
+                || get_all(rt, output, place, total),
+            );
+            checksum
+        }
+    };
+    Ok((start.elapsed(rt)?, checksum))
+}
+
+fn main(rt: HostRuntime) -> io::Result<ExitCode> {
+    let mut words = Vec::new(rt.alloc());
+    for word in env::args(&rt)?.skip(1) {
+        words.push(word)?;
+    }
+    if words.is_empty() {
+        for what in ["ring", "ring2", "rtrb", "rtrb2"] {
+            short_run(&rt, what)?;
+        }
+        return Ok(ExitCode::SUCCESS);
+    }
+    let Some(work) = Work::of(words.as_slice()) else {
+        eprintln!(&rt; "{USAGE}")?;
+        return Ok(ExitCode::from(1));
+    };
+    let (spent, checksum) = run(&rt, work)?;
+    let nanoseconds = spent.as_nanos();
+    let pieces = work.total.div_ceil(work.chunk).max(1);
+    println!(&rt;
+        "bytes={} ns={nanoseconds} ns/piece={} checksum={checksum}",
+        work.total,
+        nanoseconds / pieces as u128
+    )?;
+    Ok(ExitCode::SUCCESS)
+}
+
+/// A run of a million bytes, told without its time.
+fn short_run(
+    rt: &(impl Wait + Threads + Clock + Print + AllocGlobal + Sync),
+    word: &str,
+) -> io::Result<()> {
+    let Some(what) = What::of(word) else {
+        return Ok(());
+    };
+    let work = Work {
+        what,
+        capacity: 4_096,
+        chunk: 1_000,
+        total: 1_000_000,
+    };
+    let (_, checksum) = run(rt, work)?;
+    println!(rt; "{word} bytes={} checksum={checksum}", work.total)
+}
