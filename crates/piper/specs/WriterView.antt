@@ -61,7 +61,7 @@ pub record IsWriter (e : WriteParts) : Type 0 where
   pub room : IsRoom e.room
   pub placed : (e.base.ptr ≡ e.seat.at) × (e.room.lent.at ≡ e.seat.at) × (e.room.lent.capacity ≡ e.seat.names.capacity) × (e.room.lent.first ≡ length e.seat.sent) × (end_of e.room.later ≡ e.seat.limit)
   pub freed : (e.capacity ≤ e.seat.limit) × (e.seat.limit ≤ length e.seat.sent + e.capacity)
-  pub cached : (e.head ≡ position_of e.capacity (e.seat.limit - e.capacity)) × (e.tail ≡ position_of e.capacity (length e.seat.sent)) × (e.tail < 2 * e.capacity)
+  pub cached : (e.tail ≡ position_of e.capacity (length e.seat.sent)) × (e.limit ≡ position_of e.capacity e.seat.limit) × (e.tail < 2 * e.capacity)
   pub heard : (e.told.names ≡ e.seat.names) × (e.saw.names ≡ e.seat.names)
   pub closed : e.shut ≡ e.seat.shut
   pub here : e.seat.leaving ≡ false

@@ -1,5 +1,5 @@
 //! Indices of the ring, told in counts of bytes: the index of the n-th byte is `n` modulo `2 * capacity`.
-ghost use Rattle.std.specs.Prelude.{◌≡◌, ℕ, ◌+◌, ◌-◌, ◌*◌, ◌^◌, ◌<◌, ◌≤◌};
+ghost use Rattle.std.specs.Prelude.{◌≡◌, ℕ, ◌+◌, ◌-◌, ◌*◌, ◌^◌, ◌<◌, ◌≤◌, ◌↔◌, IsTrue};
 ghost use Rattle.rtrb.specs.Fifo.{position_of, slot_of};
 
 use piper_sides::index;
@@ -19,6 +19,13 @@ pub(crate) fn distance(capacity: usize, from: usize, to: usize) -> usize
     ensures { (m n : ℕ) → m ≤ n → n ≤ m + capacity → from ≡ position_of capacity m → to ≡ position_of capacity n → result ≡ n - m }
 {
     index::distance(capacity, from, to)
+}
+
+/// Whether no byte lies between two indices.
+pub(crate) fn none_between(from: usize, to: usize) -> bool
+    ensures { (c m n : ℕ) → 0 < c → m ≤ n → n ≤ m + c → from ≡ position_of c m → to ≡ position_of c n → IsTrue result ↔ (m ≡ n) }
+{
+    from == to
 }
 
 /// The index `count` bytes further on. Unlike a step of one side it may pass the end of the memory.

@@ -22,6 +22,12 @@ Without arguments it makes a short run of each.";
 /// The longest piece.
 const LONGEST: usize = 16_777_216;
 
+/// Up to so many bytes are copied without a call.
+const FEW: usize = 256;
+
+/// So many bytes lie between what one thread writes and what the other reads, so that they share no cache line.
+const APART: usize = 128;
+
 /// Where bytes are put in.
 trait Input {
     /// Puts as many of the bytes in as fit in one piece.
@@ -38,54 +44,70 @@ trait Output {
 fn copy(to: &mut [u8], from: &[u8])
     requires { length from.now ≡ length to.old }
 {
-    if to.len() <= 256 {
+    if to.len() <= FEW {
         for (place, byte) in to.iter_mut().zip(from) {
             *place = *byte;
         }
     } else {
-        to.copy_from_slice(from);
+        copy_many(to, from);
     }
 }
 
+/// Copies `from` to `to` by the C library, out of the way of few bytes.
+#[inline(never)]
+fn copy_many(to: &mut [u8], from: &[u8])
+    requires { length from.now ≡ length to.old }
+{
+    to.copy_from_slice(from);
+}
+
 impl Input for WriteEnd {
+    #[inline]
     fn put(&mut self, bytes: &[u8]) -> usize {
         self.refresh();
         let buf = self.write_buf(bytes.len());
         let n = buf.len();
-        copy(buf, &bytes[..n]);
-        self.produce(n);
+        if n != 0 {
+            copy(buf, &bytes[..n]);
+            self.produce(n);
+        }
         n
     }
 }
 
 impl Output for ReadEnd {
+    #[inline]
     fn get(&mut self, place: &mut [u8]) -> usize {
         self.refresh();
         let piece = self.peek_buf();
         let n = piece.len().min(place.len());
-        copy(&mut place[..n], &piece[..n]);
-        self.consume(n);
+        if n != 0 {
+            copy(&mut place[..n], &piece[..n]);
+            self.consume(n);
+        }
         n
     }
 }
 
 impl Input for Producer<u8> {
+    #[inline]
     fn put(&mut self, bytes: &[u8]) -> usize {
         self.push_partial_slice(bytes).0.len()
     }
 }
 
 impl Output for Consumer<u8> {
+    #[inline]
     fn get(&mut self, place: &mut [u8]) -> usize {
         self.pop_partial_slice(place)
     }
 }
 
 /// Puts `total` bytes in and takes them out again, in turn, on one thread. It answers the checksum.
-fn in_turn<I: Input, O: Output>(
+fn in_turn<I: Input + Drop, O: Output + Drop>(
     rt: &impl Wait,
-    input: &mut I,
-    output: &mut O,
+    mut input: I,
+    mut output: O,
     source: &[u8],
     place: &mut [u8],
     total: usize,
@@ -105,7 +127,7 @@ fn in_turn<I: Input, O: Output>(
 }
 
 /// Puts `total` bytes in.
-fn put_all<I: Input>(rt: &impl Wait, input: &mut I, source: &[u8], total: usize) {
+fn put_all<I: Input + Drop>(rt: &impl Wait, mut input: I, source: &[u8], total: usize) {
     let mut left = total;
     for _ in rt.forever() {
         if left == 0 {
@@ -120,7 +142,7 @@ fn put_all<I: Input>(rt: &impl Wait, input: &mut I, source: &[u8], total: usize)
 }
 
 /// Takes `total` bytes out. It answers the checksum.
-fn get_all<O: Output>(rt: &impl Wait, output: &mut O, place: &mut [u8], total: usize) -> u64 {
+fn get_all<O: Output + Drop>(rt: &impl Wait, mut output: O, place: &mut [u8], total: usize) -> u64 {
     let mut left = total;
     let mut checksum = 0u64;
     for _ in rt.forever() {
@@ -202,30 +224,18 @@ fn run(
     rt: &(impl Wait + Threads + Clock + Print + AllocGlobal + Sync),
     work: Work,
 ) -> io::Result<(Duration, u64)> {
-    let source = vec![in rt.alloc(); 7u8; work.chunk]?;
-    let mut place = vec![in rt.alloc(); 0u8; work.chunk]?;
+    let source = vec![in rt.alloc(); 7u8; work.chunk + APART]?;
+    let mut place = vec![in rt.alloc(); 0u8; APART + work.chunk + APART]?;
+    let source = &source[..work.chunk];
+    let place = &mut place[APART..APART + work.chunk];
     match work.what {
         What::Ring | What::RingOnTwoThreads => {
-            let (mut reader, mut writer) = ring_of(rt, work)?;
-            move_bytes(
-                rt,
-                work,
-                &mut writer,
-                &mut reader,
-                source.as_slice(),
-                place.as_mut_slice(),
-            )
+            let (reader, writer) = ring_of(rt, work)?;
+            move_bytes(rt, work, writer, reader, source, place)
         }
         What::Rtrb | What::RtrbOnTwoThreads => {
-            let (mut producer, mut consumer) = RingBuffer::new(rt.alloc(), work.capacity)?;
-            move_bytes(
-                rt,
-                work,
-                &mut producer,
-                &mut consumer,
-                source.as_slice(),
-                place.as_mut_slice(),
-            )
+            let (producer, consumer) = RingBuffer::new(rt.alloc(), work.capacity)?;
+            move_bytes(rt, work, producer, consumer, source, place)
         }
     }
 }
@@ -240,11 +250,11 @@ fn ring_of(
     }
 }
 
-fn move_bytes<I: Input + Send, O: Output + Send>(
+fn move_bytes<I: Input + Drop + Send, O: Output + Drop + Send>(
     rt: &(impl Wait + Threads + Clock + Print + AllocGlobal + Sync),
     work: Work,
-    input: &mut I,
-    output: &mut O,
+    input: I,
+    output: O,
     source: &[u8],
     place: &mut [u8],
 ) -> io::Result<(Duration, u64)> {
@@ -255,8 +265,8 @@ fn move_bytes<I: Input + Send, O: Output + Send>(
             let total = work.total;
             let (_, checksum) = thread::join(
                 rt,
-                || put_all(rt, input, source, total),
-                || get_all(rt, output, place, total),
+                move || put_all(rt, input, source, total),
+                move || get_all(rt, output, place, total),
             );
             checksum
         }

@@ -3,7 +3,7 @@ ghost use Rattle.std.specs.Prelude.{◌≡◌, ℕ, ◌+◌, ◌-◌, ◌*◌, �
 
 use crate::ends::leaving::LeavingReader;
 use crate::ends::writer::WriteEnd;
-use crate::position::{advance, distance, real};
+use crate::position::{advance, distance, none_between, real};
 use crate::ring::marks::{ReadMark, Saw, WriteMark};
 use crate::ring::places::{Base, Places};
 use crate::ring::seats::ReadSeat;
@@ -61,6 +61,13 @@ impl ReadEnd {
         ensures { result ≡ length self.now.known }
     {
         distance(self.parts.capacity, self.parts.head, self.parts.tail)
+    }
+
+    /// Whether this end knows of no byte.
+    fn knows_none(&self) -> bool
+        ensures { IsTrue result ↔ (length self.now.known ≡ 0) }
+    {
+        none_between(self.parts.head, self.parts.tail)
     }
 
     /// How many bytes are unread now. The writer may publish more at any time.
@@ -138,7 +145,7 @@ impl ReadEnd {
         ensures known { 0 < length self.old.known → self.new ≡ self.old }
         ensures kept { SameReader self.old self.new × (self.new.taken ≡ self.old.taken) × (self.new.saw ≡ self.old.saw) }
     {
-        if self.known_len() == 0 {
+        if self.knows_none() {
             self.reload();
         }
     }
@@ -158,7 +165,7 @@ impl ReadEnd {
         reader.known.join(arrived);
         writer.room.later.join(freed);
         reader.tail = writer.tail;
-        writer.head = reader.head;
+        writer.limit = advance(writer.capacity, reader.head, writer.capacity);
     }
 
     /// Looks whether the pipe is closed, and keeps what it saw.

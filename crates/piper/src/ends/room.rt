@@ -65,6 +65,8 @@ impl Room {
 }
 
 /// Zeroes the places from the slot `from` up to `end`, which follow `front` and come to it.
+#[cold]
+#[inline(never)]
 fn zero(front: &mut Places, blank: &mut Blank, base: Base, from: usize, end: usize)
     requires { (base.ptr ≡ blank.old.at) × (front.old.at ≡ blank.old.at) × (front.old.capacity ≡ blank.old.capacity) × (end_of front.old ≡ blank.old.first) × (blank.old.first ≡ from) × (from ≤ end) × (end ≤ blank.old.capacity) × (end ≤ from + blank.old.count) }
     ensures front { (front.new.at ≡ front.old.at) × (front.new.capacity ≡ front.old.capacity) × (front.new.first ≡ front.old.first) × (end_of front.new ≡ end) }

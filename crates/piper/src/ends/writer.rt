@@ -3,7 +3,7 @@ ghost use Rattle.std.specs.Prelude.{◌≡◌, ℕ, ◌+◌, ◌-◌, ◌*◌, �
 
 use crate::ends::leaving::LeavingWriter;
 use crate::ends::room::Room;
-use crate::position::{advance, distance, real};
+use crate::position::{advance, distance, none_between, real};
 use crate::ring::marks::{ReadMark, Saw, WriteMark};
 use crate::ring::places::Base;
 use crate::ring::seats::WriteSeat;
@@ -20,10 +20,10 @@ pub(crate) struct WriteParts {
     pub(crate) base: Base,
     pub(crate) alloc: Global,
     pub(crate) capacity: usize,
-    /// The head as this end last saw it.
-    pub(crate) head: usize,
     /// A copy of the tail, which only this end stores.
     pub(crate) tail: usize,
+    /// The index up to which it may write: one turn past the head as this end last saw it.
+    pub(crate) limit: usize,
     /// Whether it closed the pipe for good.
     pub(crate) shut: bool,
 }
@@ -62,8 +62,14 @@ impl WriteEnd {
     pub(crate) fn room(&self) -> usize
         ensures { result ≡ self.now.room }
     {
-        let parts = &self.parts;
-        parts.capacity - distance(parts.capacity, parts.head, parts.tail)
+        distance(self.parts.capacity, self.parts.tail, self.parts.limit)
+    }
+
+    /// Whether this end knows of no room.
+    fn knows_none(&self) -> bool
+        ensures { IsTrue result ↔ (self.now.room ≡ 0) }
+    {
+        none_between(self.parts.tail, self.parts.limit)
     }
 
     /// How many bytes are unread now. The reader may consume some at any time.
@@ -121,7 +127,8 @@ impl WriteEnd {
         ensures kept { SameWriter self.old self.new × (self.new.sent ≡ self.old.sent) × (self.new.lent ≡ self.old.lent) × (self.new.shut ≡ self.old.shut) × (self.new.saw ≡ self.old.saw) }
     {
         let parts = &mut self.parts;
-        parts.head = parts.seat.load_head(&mut parts.room.later, &parts.told) as usize;
+        let head = parts.seat.load_head(&mut parts.room.later, &parts.told) as usize;
+        parts.limit = advance(parts.capacity, head, parts.capacity);
     }
 
     /// Looks whether the pipe is closed, and keeps what it saw.
@@ -154,7 +161,7 @@ impl WriteEnd {
         ensures known { 0 < self.old.room → self.new ≡ self.old }
         ensures kept { SameWriter self.old self.new × (self.new.sent ≡ self.old.sent) × (self.new.lent ≡ self.old.lent) × (self.new.shut ≡ self.old.shut) × (self.new.saw ≡ self.old.saw) }
     {
-        if self.room() == 0 {
+        if self.knows_none() {
             self.reload();
         }
     }
@@ -218,8 +225,8 @@ impl WriteEnd {
             base,
             alloc,
             capacity,
-            head: _,
             tail: _,
+            limit: _,
             shut: _,
         } = parts;
         seat.store_closed();

@@ -1,10 +1,11 @@
 -- The two ends of a new ring keep their views.
-use Rattle.std.proofs.Common.{◌≡◌, ℕ, ◌+◌, ◌-◌, ◌*◌, ◌^◌, ◌<◌, ◌++◌, length, take, arith, ap, ◌∙◌, sym}
+use Rattle.std.proofs.Common.{◌≡◌, ℕ, ◌+◌, ◌*◌, ◌^◌, ◌<◌, ◌++◌, length, take, arith, ap, ◌∙◌, sym}
 use denote.RawPtr.{Ptr}
 use Rattle.rtrb.proofs.Positions.{position_none}
 use Rattle.piper.specs.Shared.{Names}
 use Rattle.piper.specs.declared.ring.marks.Saw.{Saw}
 use Rattle.piper.specs.declared.ring.places.Blank.{Blank}
+use Rattle.piper.proofs.Indices.{one_turn}
 use Rattle.piper.proofs.ends.opening.open_ring.Goals as goal
 
 pub invariant_of-reader : goal.invariant_of-reader
@@ -44,7 +45,7 @@ invariant_of-writer c = let o = c.open-read_seat.ensures in let seat = c.open-re
       };
       placed = (o.18 ∙ sym o.8, lent_at ∙ sym o.8, lent_cap ∙ sym full, omega arith, omega arith);
       freed = (omega arith, omega arith);
-      cached = (position_none cap (seat.limit - cap) (omega arith), position_none cap (length seat.sent) sent, omega arith);
+      cached = (position_none cap (length seat.sent) sent, one_turn cap seat.limit pos (limit ∙ size), omega arith);
       heard = (c.mark-told_writer.ensures.0 ∙ sym o.9, ap (λ (s : Saw). s.names) c.again-write_saw.ensures ∙ c.unseen-read_saw.ensures.0 ∙ sym o.9);
       closed = sym o.12;
       here = o.13;
