@@ -45,8 +45,8 @@ fn copy(to: &mut [u8], from: &[u8])
     requires { length from.now ≡ length to.old }
 {
     if to.len() <= FEW {
-        for (place, byte) in to.iter_mut().zip(from) {
-            *place = *byte;
+        for i in 0..from.len() {
+            to[i] = from[i];
         }
     } else {
         copy_many(to, from);
@@ -62,7 +62,7 @@ fn copy_many(to: &mut [u8], from: &[u8])
 }
 
 impl Input for WriteEnd {
-    #[inline]
+    #[inline(always)]
     fn put(&mut self, bytes: &[u8]) -> usize {
         self.refresh();
         let buf = self.write_buf(bytes.len());
@@ -76,7 +76,7 @@ impl Input for WriteEnd {
 }
 
 impl Output for ReadEnd {
-    #[inline]
+    #[inline(always)]
     fn get(&mut self, place: &mut [u8]) -> usize {
         self.refresh();
         let piece = self.peek_buf();
@@ -90,14 +90,14 @@ impl Output for ReadEnd {
 }
 
 impl Input for Producer<u8> {
-    #[inline]
+    #[inline(always)]
     fn put(&mut self, bytes: &[u8]) -> usize {
         self.push_partial_slice(bytes).0.len()
     }
 }
 
 impl Output for Consumer<u8> {
-    #[inline]
+    #[inline(always)]
     fn get(&mut self, place: &mut [u8]) -> usize {
         self.pop_partial_slice(place)
     }
