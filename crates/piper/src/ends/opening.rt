@@ -17,55 +17,50 @@ pub fn open_ring(alloc: Global, capacity: usize) -> Result<(ReadEnd, WriteEnd), 
     ensures reader { IfOk result (λ r. FreshReader capacity r.0) }
     ensures writer { IfOk result (λ r. FreshWriter capacity r.1) }
 {
-    let words = Memory::claim(&alloc, WORDS_SIZE, WORDS_ALIGN)?;
-    let bytes = match Memory::claim(&alloc, capacity, 1) {
-        Ok(bytes) => bytes,
-        Err(refused) => {
-            words.surrender(&alloc, WORDS_SIZE, WORDS_ALIGN);
-            return Err(refused);
-        }
-    };
+    let (words, bytes) = claim(&alloc, capacity)?;
     let (read_seat, write_seat, mut blank, base) = open(words, bytes);
     let told_reader = write_seat.mark();
     let told_writer = read_seat.mark();
     let read_saw = read_seat.unseen();
     let write_saw = read_saw.again();
-    let known = blank.none(0);
-    let lent = blank.none(0);
-    let ready = blank.none(0);
-    let later = blank.none(capacity);
-    let reader = ReadEnd {
-        parts: ReadParts {
-            seat: read_seat,
-            known,
-            told: told_reader,
-            saw: read_saw,
-            base,
-            alloc,
-            capacity,
-            head: 0,
-            tail: 0,
-        },
+    let reader = ReadParts {
+        seat: read_seat,
+        known: blank.none(0),
+        told: told_reader,
+        saw: read_saw,
+        base,
+        alloc,
+        capacity,
+        head: 0,
+        tail: 0,
     };
-    let writer = WriteEnd {
-        parts: WriteParts {
-            seat: write_seat,
-            room: Room {
-                lent,
-                ready,
-                blank,
-                later,
-                zeroed: 0,
-            },
-            told: told_writer,
-            saw: write_saw,
-            base,
-            alloc,
-            capacity,
-            tail: 0,
-            limit: capacity,
-            shut: false,
-        },
+    let writer = WriteParts {
+        seat: write_seat,
+        room: Room::new(blank, capacity),
+        told: told_writer,
+        saw: write_saw,
+        base,
+        alloc,
+        capacity,
+        tail: 0,
+        limit: capacity,
+        shut: false,
     };
-    Ok((reader, writer))
+    Ok((ReadEnd { parts: reader }, WriteEnd { parts: writer }))
+}
+
+/// The memory of the words, and that of the bytes. Where the second is refused, the first is given back.
+fn claim(alloc: &Global, capacity: usize) -> Result<(Memory, Memory), OutOfMemory>
+    requires { (0 < capacity) × (2 * capacity < 2 ^ 64) }
+    ensures words { IfOk result (λ m. (m.0.size ≡ 512) × (m.0.align ≡ 8)) }
+    ensures bytes { IfOk result (λ m. (m.1.size ≡ capacity) × (m.1.align ≡ 1)) }
+{
+    let words = Memory::claim(alloc, WORDS_SIZE, WORDS_ALIGN)?;
+    match Memory::claim(alloc, capacity, 1) {
+        Ok(bytes) => Ok((words, bytes)),
+        Err(refused) => {
+            words.surrender(alloc, WORDS_SIZE, WORDS_ALIGN);
+            Err(refused)
+        }
+    }
 }

@@ -1,5 +1,5 @@
 //! The places that a writer may write to.
-ghost use Rattle.std.specs.Prelude.{◌≡◌, ℕ, ◌+◌, ◌-◌, ◌<◌, ◌≤◌, List, length};
+ghost use Rattle.std.specs.Prelude.{◌≡◌, ℕ, ◌+◌, ◌-◌, ◌<◌, ◌≤◌, List, [], length};
 ghost use Rattle.piper.specs.RoomOrder.{IsRoom, SameRoom, end_of};
 
 use crate::ring::places::{Base, Blank, Places};
@@ -19,6 +19,23 @@ pub(crate) struct Room {
 }
 
 impl Room {
+    /// All places of a new ring. None is set, and none is lent.
+    pub(crate) fn new(mut blank: Blank, capacity: usize) -> Room
+        requires { (capacity ≡ blank.capacity) × (blank.count ≡ blank.capacity) × (blank.first ≡ 0) }
+        ensures room { IsRoom result }
+        ensures whole { (result.lent.first ≡ 0) × (end_of result.later ≡ capacity) }
+        ensures place { (result.lent.at ≡ blank.at) × (result.lent.capacity ≡ blank.capacity) }
+        ensures lent { result.lent.bytes ≡ [] }
+    {
+        Room {
+            lent: blank.none(0),
+            ready: blank.none(0),
+            later: blank.none(capacity),
+            blank,
+            zeroed: 0,
+        }
+    }
+
     /// Lends its first `len` places, which stand in one piece from the slot `from` on, in place of what was lent before. Those that are not set are zeroed first.
     pub(crate) fn lend(&mut self, base: Base, capacity: usize, from: usize, len: usize)
         requires { IsRoom self.old × (base.ptr ≡ self.old.lent.at) × (capacity ≡ self.old.lent.capacity) × (self.old.lent.first < capacity → from ≡ self.old.lent.first) × (from + len ≤ capacity) × (self.old.lent.first + len ≤ end_of self.old.later) }
