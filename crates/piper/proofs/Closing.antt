@@ -90,30 +90,30 @@ module _ {M : Type 1} {𝓤 : Ura M} (𝓛 : Logic 𝓤) (w p : Ptr) (z : Names)
   abbrev pub AfterClosed : Fml → Bool → Bool → ℕ → Fml
   AfterClosed K m b n = fsep (ToldClosed m b n) K
 
-  shows_closed : (K : Fml) (m b : Bool) (s : State) → Holds cap s → flag b ≤ flag s.closed → OneStays 𝓛 w p z s → ⟦ WK other s.sent s.limit s.shut s.writer_stage ⟧ ∗ ⟦ RK other s.head s.seen s.reader_stage ⟧ ∗ ⟦ Rest 𝓛 w p z s ⟧ ∗ ⟦ K ⟧ ∗ ⟦ S m ⟧ ⊢ upd 𝓤 (ex 𝓤 (Holding 256 (λ n. n) (AfterClosed K m b)))
-  shows_closed K m b s so lb near = let then : ℕ → Fml = AfterClosed K m b in let Z : Pr = ex 𝓤 (Holding 256 (λ n. n) then) in let n : ℕ = flag s.closed in
+  shows_closed : (K : Fml) (m b : Bool) (s : State) → Holds cap s → flag b ≤ flag s.closed → OneStays 𝓛 w p z s → ⟦ WK other s.sent s.limit s.shut s.writer_stage ⟧ ∗ ⟦ RK other s.head s.seen s.reader_stage ⟧ ∗ ⟦ Rest 𝓛 w p z s ⟧ ∗ ⟦ K ⟧ ∗ ⟦ S m ⟧ ⊢ upd 𝓤 (ex 𝓤 (Holding 384 (λ n. n) (AfterClosed K m b)))
+  shows_closed K m b s so lb near = let then : ℕ → Fml = AfterClosed K m b in let Z : Pr = ex 𝓤 (Holding 384 (λ n. n) then) in let n : ℕ = flag s.closed in
       qed 𝓛 (‵ (WK other s.sent s.limit s.shut s.writer_stage) ∷ ‵ (RK other s.head s.seen s.reader_stage) ∷ ‵ (Rest 𝓛 w p z s) ∷ ‵ K ∷ ‵ (S m) ∷ []) ∵ move ! (2 ∷ []) $ fsplit ! $ move ! (0 ∷ 5 ∷ []) $
       use2 𝓛 (given (flag m ≤ n) (‵ (ends w p z s.closed) ⊛ ‵ (S s.closed))) (ends_tell m s.closed) $ learn ! (λ le. split ! $ move ! (2 ∷ []) $ fsplit ! $ fsplit3 ! $ move ! (2 ∷ []) $ fsplit ! $
-      suffices ! _ (upd_i 𝓤 Z) $ show ! (Holding 256 (λ n. n) then) n $ frame ! $ assume ! (‵ (word w 256 n)) $ suffices ! _ (upd_i 𝓤 (⟦ I ⟧ ∗ ⟦ then n ⟧)) $
+      suffices ! _ (upd_i 𝓤 Z) $ show ! (Holding 384 (λ n. n) then) n $ frame ! $ assume ! (‵ (word w 384 n)) $ suffices ! _ (upd_i 𝓤 (⟦ I ⟧ ∗ ⟦ then n ⟧)) $
       fjoin ! $ move ! (1 ∷ 2 ∷ 0 ∷ []) $ fjoin3 ! $ fjoin ! $ move ! (1 ∷ 0 ∷ []) $ fjoin ! $ move ! (2 ∷ 3 ∷ 0 ∷ []) $ use3 𝓛 (‵ I) (closes 𝓛 w p z s so near) $ frame ! $
       nothing ! $ fpack ! (Answer m b n s.closed) (λ _. ftrue) (refl, le, lb) $ fjoin ! $ fpack ! Bool (told_one m b n) s.closed $ fjoin ! $ done !)
 
-  pub reader_looks : (q : Share) (head seen i : ℕ) → i ≤ 1 → (m b : Bool) → ⟦ C ⟧ ∗ ⟦ RK q head seen i ⟧ ∗ ⟦ S m ⟧ ∗ ⟦ D b ⟧ ⊢ access 256 (λ n. n) (AfterClosed (RK q head seen i) m b)
-  reader_looks q head seen i le m b = inside 𝓛 w p z 256 (λ n. n) (AfterClosed (RK q head seen i) m b) (⟦ RK q head seen i ⟧ ∗ ⟦ S m ⟧ ∗ ⟦ D b ⟧) (qed 𝓛 (‵ I ∷ ‵ (RK q head seen i) ∷ ‵ (S m) ∷ ‵ (D b) ∷ []) ∵
+  pub reader_looks : (q : Share) (head seen i : ℕ) → i ≤ 1 → (m b : Bool) → ⟦ C ⟧ ∗ ⟦ RK q head seen i ⟧ ∗ ⟦ S m ⟧ ∗ ⟦ D b ⟧ ⊢ access 384 (λ n. n) (AfterClosed (RK q head seen i) m b)
+  reader_looks q head seen i le m b = inside 𝓛 w p z 384 (λ n. n) (AfterClosed (RK q head seen i) m b) (⟦ RK q head seen i ⟧ ∗ ⟦ S m ⟧ ∗ ⟦ D b ⟧) (qed 𝓛 (‵ I ∷ ‵ (RK q head seen i) ∷ ‵ (S m) ∷ ‵ (D b) ∷ []) ∵
       use2 𝓛 (some (λ (s : State). given (ReaderSees 𝓛 w p z head seen i s) (‵ (RK q head seen i) ⊛ ‵ (RK other s.head s.seen s.reader_stage) ⊛ ‵ (WK other s.sent s.limit s.shut s.writer_stage) ⊛ ‵ (Rest 𝓛 w p z s)))) (reader_opens 𝓛 w p z q head seen i le) $ pick ! (λ s. learn ! (λ so. split3 ! $
       move ! (2 ∷ []) $ split ! $ let ei = so.3 in let top = so.0.stages.1 in let shutting = so.0.shutting in move ! (0 ∷ 5 ∷ []) $
       use2 𝓛 (given (flag b ≤ flag s.shut) (‵ (WK other s.sent s.limit s.shut s.writer_stage))) (told_shut b s.sent s.limit s.shut s.writer_stage) $ learn ! (λ lb.
       move ! (0 ∷ 3 ∷ 1 ∷ 2 ∷ 4 ∷ []) $ by ! (shows_closed (RK q head seen i) m b s so.0 (omega arith) (omega arith))))))
 
-  pub writer_looks : (q : Share) (sent : List ℕ) (limit : ℕ) (shut : Bool) (i : ℕ) → i ≤ 1 → (m : Bool) → ⟦ C ⟧ ∗ ⟦ WK q sent limit shut i ⟧ ∗ ⟦ S m ⟧ ⊢ access 256 (λ n. n) (AfterClosed (WK q sent limit shut i) m shut)
-  writer_looks q sent limit shut i le m = inside 𝓛 w p z 256 (λ n. n) (AfterClosed (WK q sent limit shut i) m shut) (⟦ WK q sent limit shut i ⟧ ∗ ⟦ S m ⟧) (qed 𝓛 (‵ I ∷ ‵ (WK q sent limit shut i) ∷ ‵ (S m) ∷ []) ∵
+  pub writer_looks : (q : Share) (sent : List ℕ) (limit : ℕ) (shut : Bool) (i : ℕ) → i ≤ 1 → (m : Bool) → ⟦ C ⟧ ∗ ⟦ WK q sent limit shut i ⟧ ∗ ⟦ S m ⟧ ⊢ access 384 (λ n. n) (AfterClosed (WK q sent limit shut i) m shut)
+  writer_looks q sent limit shut i le m = inside 𝓛 w p z 384 (λ n. n) (AfterClosed (WK q sent limit shut i) m shut) (⟦ WK q sent limit shut i ⟧ ∗ ⟦ S m ⟧) (qed 𝓛 (‵ I ∷ ‵ (WK q sent limit shut i) ∷ ‵ (S m) ∷ []) ∵
       use2 𝓛 (some (λ (s : State). given (WriterSees 𝓛 w p z sent limit shut i s) (‵ (WK q sent limit shut i) ⊛ ‵ (WK other s.sent s.limit s.shut s.writer_stage) ⊛ ‵ (RK other s.head s.seen s.reader_stage) ⊛ ‵ (Rest 𝓛 w p z s)))) (writer_opens 𝓛 w p z q sent limit shut i le) $ pick ! (λ s. learn ! (λ so. split3 ! $
       move ! (2 ∷ []) $ split ! $ let ei = so.4 in let same = so.3 in let shutting = so.0.shutting in let top = so.0.stages.0 in move ! (3 ∷ 0 ∷ 1 ∷ 2 ∷ 4 ∷ []) $ by ! (shows_closed (WK q sent limit shut i) m shut s so.0 (omega arith) (omega arith)))))
 
   -- the writer closes
-  pub shuts : (sent : List ℕ) (limit : ℕ) (shut : Bool) (i : ℕ) → i ≤ 1 → ⟦ C ⟧ ∗ ⟦ WK half sent limit shut i ⟧ ⊢ access 256 (λ _. 1) (λ _. WK half sent limit true i)
-  shuts sent limit shut i le = let Then : Fml = WK half sent limit true i in let Z : Pr = ex 𝓤 (Holding 256 (λ _. 1) (λ _. Then)) in
-      inside 𝓛 w p z 256 (λ _. 1) (λ _. Then) ⟦ WK half sent limit shut i ⟧ (qed 𝓛 (‵ I ∷ ‵ (WK half sent limit shut i) ∷ []) ∵
+  pub shuts : (sent : List ℕ) (limit : ℕ) (shut : Bool) (i : ℕ) → i ≤ 1 → ⟦ C ⟧ ∗ ⟦ WK half sent limit shut i ⟧ ⊢ access 384 (λ _. 1) (λ _. WK half sent limit true i)
+  shuts sent limit shut i le = let Then : Fml = WK half sent limit true i in let Z : Pr = ex 𝓤 (Holding 384 (λ _. 1) (λ _. Then)) in
+      inside 𝓛 w p z 384 (λ _. 1) (λ _. Then) ⟦ WK half sent limit shut i ⟧ (qed 𝓛 (‵ I ∷ ‵ (WK half sent limit shut i) ∷ []) ∵
       use2 𝓛 (some (λ (s : State). given (WriterSees 𝓛 w p z sent limit shut i s) (‵ (WK half sent limit shut i) ⊛ ‵ (WK other s.sent s.limit s.shut s.writer_stage) ⊛ ‵ (RK other s.head s.seen s.reader_stage) ⊛ ‵ (Rest 𝓛 w p z s)))) (writer_opens 𝓛 w p z half sent limit shut i le) $ pick ! (λ s. learn ! (λ so. split3 ! $
       let ei = so.4 in let top = so.0.stages.0 in let es = so.3 in let small = flag_small shut in let small2 = flag_small s.closed in let s' : State = record s { closed = true; shut = true } in let near : OneStays 𝓛 w p z s' = omega arith in
       let so' : Holds cap s' = record { known = so.0.known; arrived = so.0.arrived; written = so.0.written; freed = so.0.freed; closing = omega arith; shutting = omega arith; stages = so.0.stages } in
@@ -122,5 +122,5 @@ module _ {M : Type 1} {𝓤 : Ura M} (𝓛 : Logic 𝓤) (w p : Ptr) (z : Names)
       move ! (4 ∷ 0 ∷ []) $ use2 𝓛 (raw (upd 𝓤 (⟦ latest numbers half z.shut 1 ⟧ ∗ ⟦ latest numbers other z.shut 1 ⟧))) (raise 𝓛 w p z numbers z.shut (flag shut) (flag s.shut) 1 1 es refl small) $
       settle 𝓛 Z (‵ (latest numbers half z.shut 1) ⊛ ‵ (latest numbers other z.shut 1)) $ suffices ! _ (upd_i 𝓤 Z) $ split ! $
       move ! (1 ∷ 2 ∷ []) $ fjoin ! $ move ! (2 ∷ 3 ∷ 0 ∷ []) $ fjoin3 ! $ move ! (1 ∷ 2 ∷ []) $ fjoin ! $ move ! (2 ∷ 3 ∷ 0 ∷ []) $ fjoin3 ! $
-      move ! (3 ∷ []) $ fsplit ! $ fsplit3 ! $ move ! (2 ∷ []) $ fsplit ! $ show ! (Holding 256 (λ _. 1) (λ _. Then)) (flag s.closed) $ frame ! $ assume ! (‵ (word w 256 1)) $ suffices ! _ (upd_i 𝓤 (⟦ I ⟧ ∗ ⟦ Then ⟧)) $
+      move ! (3 ∷ []) $ fsplit ! $ fsplit3 ! $ move ! (2 ∷ []) $ fsplit ! $ show ! (Holding 384 (λ _. 1) (λ _. Then)) (flag s.closed) $ frame ! $ assume ! (‵ (word w 384 1)) $ suffices ! _ (upd_i 𝓤 (⟦ I ⟧ ∗ ⟦ Then ⟧)) $
       fjoin ! $ move ! (1 ∷ 2 ∷ 0 ∷ []) $ fjoin3 ! $ fjoin ! $ move ! (3 ∷ 0 ∷ []) $ fjoin ! $ move ! (2 ∷ 3 ∷ 0 ∷ []) $ use3 𝓛 (‵ I) (closes 𝓛 w p z s' so' near) $ frame ! $ done !)))

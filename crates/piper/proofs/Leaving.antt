@@ -101,8 +101,8 @@ module _ {M : Type 1} {𝓤 : Ura M} (𝓛 : Logic 𝓤) (w p : Ptr) (z : Names)
   gathers : (s : State) → Holds cap s → gone s.reader_stage ≡ true → gone s.writer_stage ≡ true → ⟦ memory w p z s ⟧ ⊢ ⟦ whole w p z ⟧
   gathers s so gr gw = let b : ℕ = block_of w in let o : ℕ = count_of w in let known = so.known in let arrived = so.arrived in let written = so.written in let freed = so.freed in let sl : ℕ = length s.sent in let pend : List ℕ = drop s.seen s.sent in let pl : length pend ≡ sl - s.seen = length-drop s.seen s.sent in
       qed 𝓛 (‵ (memory w p z s) ∷ []) ∵ fsplit ! $ fsplit3 ! $ move ! (2 ∷ []) $ fsplit ! $
-      use1 𝓛 (‵ (word_room w 256)) (𝓛.laws.at_room u b (256 + o) _) $ move ! (1 ∷ []) $ use1 𝓛 (‵ (word_room w 384)) (𝓛.laws.at_room u b (384 + o) _) $ move ! (2 ∷ []) $
-      use1 𝓛 (‵ (word_room w 0)) (𝓛.laws.at_room u b (0 + o) _) $ move ! (3 ∷ []) $ use1 𝓛 (‵ (word_room w 128)) (𝓛.laws.at_room u b (128 + o) _) $
+      use1 𝓛 (‵ (word_room w 384)) (𝓛.laws.at_room u b (384 + o) _) $ move ! (1 ∷ []) $ use1 𝓛 (‵ (word_room w 0)) (𝓛.laws.at_room u b (0 + o) _) $ move ! (2 ∷ []) $
+      use1 𝓛 (‵ (word_room w 128)) (𝓛.laws.at_room u b (128 + o) _) $ move ! (3 ∷ []) $ use1 𝓛 (‵ (word_room w 256)) (𝓛.laws.at_room u b (256 + o) _) $
       move ! (3 ∷ 2 ∷ []) $ fjoin ! $ move ! (2 ∷ 1 ∷ 0 ∷ []) $ fjoin3 ! $ move ! (1 ∷ []) $ fsplit ! $ move ! (1 ∷ []) $ fsplit3 ! $ move ! (2 ∷ []) $ fsplit ! $
       rewrite ! 0 (λ (c : Bool). ‵ (where_gone c (blanks w p z sl (s.limit - sl)))) gw refl $ rewrite ! 3 (λ (c : Bool). ‵ (where_gone c (blanks w p z s.head (s.seen - s.head)))) gr refl $
       move ! (2 ∷ []) $ fpick ! (λ ys. fsplit ! $ fpick ! (λ ly. forget ! $ let size : length ys ≡ s.head + cap - s.limit = ly in
@@ -135,9 +135,9 @@ module _ {M : Type 1} {𝓤 : Ura M} (𝓛 : Logic 𝓤) (w p : Ptr) (z : Names)
       move ! (1 ∷ []) $ use1 𝓛 (‵ (whole w p z)) (gathers (no_reader t) so refl e) $ nothing ! $ fpack ! (1 ≡ flag true) (λ _. ftrue) refl $ fjoin ! $ fpack ! Bool (left_one 1) true $ move ! (1 ∷ 0 ∷ []) $ done !
 
   -- the reader leaves, and gives up the places of the bytes that it knows of
-  pub reader_leaves : (head seen i : ℕ) → i ≤ 1 → ⟦ C ⟧ ∗ ⟦ RK half head seen i ⟧ ∗ ⟦ blanks w p z head (seen - head) ⟧ ⊢ access 384 one Left
-  reader_leaves head seen i le = let Z : Pr = ex 𝓤 (Holding 384 one Left) in let G : Fml = blanks w p z head (seen - head) in
-      inside 𝓛 w p z 384 one Left (⟦ RK half head seen i ⟧ ∗ ⟦ G ⟧) (qed 𝓛 (‵ I ∷ ‵ (RK half head seen i) ∷ ‵ G ∷ []) ∵
+  pub reader_leaves : (head seen i : ℕ) → i ≤ 1 → ⟦ C ⟧ ∗ ⟦ RK half head seen i ⟧ ∗ ⟦ blanks w p z head (seen - head) ⟧ ⊢ access 0 one Left
+  reader_leaves head seen i le = let Z : Pr = ex 𝓤 (Holding 0 one Left) in let G : Fml = blanks w p z head (seen - head) in
+      inside 𝓛 w p z 0 one Left (⟦ RK half head seen i ⟧ ∗ ⟦ G ⟧) (qed 𝓛 (‵ I ∷ ‵ (RK half head seen i) ∷ ‵ G ∷ []) ∵
       use2 𝓛 (some (λ (s : State). given (ReaderSees 𝓛 w p z head seen i s) (‵ (RK half head seen i) ⊛ ‵ (RK other s.head s.seen s.reader_stage) ⊛ ‵ (WK other s.sent s.limit s.shut s.writer_stage) ⊛ ‵ (Rest 𝓛 w p z s)))) (reader_opens 𝓛 w p z half head seen i le) $ pick ! (λ s. learn ! (λ so. split3 ! $
       let eh = so.1 in let es = so.2 in let ei = so.3 in let last = so.0.stages.1 in let closing = so.0.closing in let n : ℕ = flag (gone s.writer_stage) in
       let so' : Holds cap (no_reader s) = record { known = so.0.known; arrived = so.0.arrived; written = so.0.written; freed = so.0.freed; closing = omega arith; shutting = so.0.shutting; stages = (omega arith, last) } in
@@ -145,16 +145,16 @@ module _ {M : Type 1} {𝓤 : Ura M} (𝓛 : Logic 𝓤) (w p : Ptr) (z : Names)
       use2 𝓛 (raw (upd 𝓤 (⟦ latest numbers half z.reader_stage 2 ⟧ ∗ ⟦ latest numbers other z.reader_stage 2 ⟧))) (raise 𝓛 w p z numbers z.reader_stage i s.reader_stage 2 2 ei refl (omega arith)) $
       settle 𝓛 Z (‵ (latest numbers half z.reader_stage 2) ⊛ ‵ (latest numbers other z.reader_stage 2)) $ suffices ! _ (upd_i 𝓤 Z) $ split ! $ forget ! $
       move ! (1 ∷ 0 ∷ []) $ fjoin ! $ move ! (0 ∷ 1 ∷ []) $ fjoin ! $ keep ! (0 ∷ 3 ∷ 4 ∷ []) $ move ! (1 ∷ []) $ split ! $ move ! (1 ∷ []) $ fsplit ! $ move ! (1 ∷ []) $ fsplit ! $ fsplit3 ! $ move ! (2 ∷ []) $ fsplit ! $ move ! (1 ∷ []) $
-      rewrite ! 0 (λ (c : Bool). ‵ (word w 384 (one_gone c (gone s.writer_stage)))) {x = false} {y = gone s.reader_stage} (here s.reader_stage (omega arith)) refl $
-      show ! (Holding 384 one Left) n $ frame ! $ assume ! (‵ (word w 384 1)) $ suffices ! _ (upd_i 𝓤 (⟦ I ⟧ ∗ ⟦ Left n ⟧)) $
+      rewrite ! 0 (λ (c : Bool). ‵ (word w 0 (one_gone c (gone s.writer_stage)))) {x = false} {y = gone s.reader_stage} (here s.reader_stage (omega arith)) refl $
+      show ! (Holding 0 one Left) n $ frame ! $ assume ! (‵ (word w 0 1)) $ suffices ! _ (upd_i 𝓤 (⟦ I ⟧ ∗ ⟦ Left n ⟧)) $
       move ! (1 ∷ 0 ∷ []) $ fjoin ! $ move ! (1 ∷ 2 ∷ 0 ∷ []) $ fjoin3 ! $ move ! (1 ∷ []) $ fsplit ! $ move ! (1 ∷ []) $ fsplit3 ! $ move ! (8 ∷ []) $
       rewrite ! 0 (λ (r : ℕ × ℕ). ‵ (blanks w p z r.0 (r.1 - r.0))) {x = (s.head, s.seen)} {y = (head, seen)} (λ j. (eh j, es j)) refl $
       move ! (0 ∷ 3 ∷ []) $ fjoin ! $ move ! (1 ∷ 0 ∷ []) $ fjoin ! $ move ! (2 ∷ 0 ∷ []) $ fjoin ! $ move ! (2 ∷ 0 ∷ []) $ fjoin ! $ keep ! (3 ∷ 4 ∷ 2 ∷ 0 ∷ []) $ by ! (seals s so' (gone s.writer_stage) refl))))
 
   -- the reader closes the ring, as it is about to leave
-  pub reader_closes : (head seen i : ℕ) → i ≤ 1 → ⟦ C ⟧ ∗ ⟦ RK half head seen i ⟧ ⊢ access 256 one (λ _. RK half head seen 1)
-  reader_closes head seen i le = let Then : Fml = RK half head seen 1 in let Z : Pr = ex 𝓤 (Holding 256 one (λ _. Then)) in
-      inside 𝓛 w p z 256 one (λ _. Then) ⟦ RK half head seen i ⟧ (qed 𝓛 (‵ I ∷ ‵ (RK half head seen i) ∷ []) ∵
+  pub reader_closes : (head seen i : ℕ) → i ≤ 1 → ⟦ C ⟧ ∗ ⟦ RK half head seen i ⟧ ⊢ access 384 one (λ _. RK half head seen 1)
+  reader_closes head seen i le = let Then : Fml = RK half head seen 1 in let Z : Pr = ex 𝓤 (Holding 384 one (λ _. Then)) in
+      inside 𝓛 w p z 384 one (λ _. Then) ⟦ RK half head seen i ⟧ (qed 𝓛 (‵ I ∷ ‵ (RK half head seen i) ∷ []) ∵
       use2 𝓛 (some (λ (s : State). given (ReaderSees 𝓛 w p z head seen i s) (‵ (RK half head seen i) ⊛ ‵ (RK other s.head s.seen s.reader_stage) ⊛ ‵ (WK other s.sent s.limit s.shut s.writer_stage) ⊛ ‵ (Rest 𝓛 w p z s)))) (reader_opens 𝓛 w p z half head seen i le) $ pick ! (λ s. learn ! (λ so. split3 ! $
       let ei = so.3 in let last = so.0.stages.1 in let small = flag_small s.closed in let s' : State = record s { closed = true; reader_stage = 1 } in let near : OneStays 𝓛 w p z s' = omega arith in
       let so' : Holds cap s' = record { known = so.0.known; arrived = so.0.arrived; written = so.0.written; freed = so.0.freed; closing = omega arith; shutting = flag_small s.shut; stages = (omega arith, last) } in
@@ -163,8 +163,8 @@ module _ {M : Type 1} {𝓤 : Ura M} (𝓛 : Logic 𝓤) (w p : Ptr) (z : Names)
       use2 𝓛 (raw (upd 𝓤 (⟦ latest numbers half z.reader_stage 1 ⟧ ∗ ⟦ latest numbers other z.reader_stage 1 ⟧))) (raise 𝓛 w p z numbers z.reader_stage i s.reader_stage 1 1 ei refl le) $
       settle 𝓛 Z (‵ (latest numbers half z.reader_stage 1) ⊛ ‵ (latest numbers other z.reader_stage 1)) $ suffices ! _ (upd_i 𝓤 Z) $ split ! $
       move ! (7 ∷ 0 ∷ []) $ fjoin ! $ move ! (0 ∷ 7 ∷ []) $ fjoin ! $ move ! (5 ∷ 1 ∷ []) $ fjoin ! $ move ! (0 ∷ 5 ∷ []) $ fjoin ! $ move ! (3 ∷ []) $ fsplit ! $ fsplit3 ! $ move ! (2 ∷ []) $ fsplit ! $ move ! (1 ∷ []) $
-      rewrite ! 0 (λ (c : Bool). ‵ (word w 384 (one_gone c (gone s.writer_stage)))) {x = false} {y = gone s.reader_stage} (here s.reader_stage (omega arith)) refl $ move ! (1 ∷ []) $
-      show ! (Holding 256 one (λ _. Then)) (flag s.closed) $ frame ! $ assume ! (‵ (word w 256 1)) $ suffices ! _ (upd_i 𝓤 (⟦ I ⟧ ∗ ⟦ Then ⟧)) $
+      rewrite ! 0 (λ (c : Bool). ‵ (word w 0 (one_gone c (gone s.writer_stage)))) {x = false} {y = gone s.reader_stage} (here s.reader_stage (omega arith)) refl $ move ! (1 ∷ []) $
+      show ! (Holding 384 one (λ _. Then)) (flag s.closed) $ frame ! $ assume ! (‵ (word w 384 1)) $ suffices ! _ (upd_i 𝓤 (⟦ I ⟧ ∗ ⟦ Then ⟧)) $
       fjoin ! $ move ! (1 ∷ 2 ∷ 0 ∷ []) $ fjoin3 ! $ move ! (1 ∷ []) $ fsplit ! $ move ! (1 ∷ []) $ fsplit3 ! $ move ! (1 ∷ []) $
       rewrite ! 0 (λ (c : Bool). ‵ (where_gone c (blanks w p z s.head (s.seen - s.head)))) {x = false} {y = gone s.reader_stage} (here s.reader_stage (omega arith)) refl $
       move ! (1 ∷ 0 ∷ 2 ∷ []) $ fjoin3 ! $ move ! (1 ∷ 0 ∷ []) $ fjoin ! $ move ! (1 ∷ 0 ∷ []) $ fjoin ! $ move ! (3 ∷ 0 ∷ []) $ fjoin ! $ move ! (3 ∷ 1 ∷ 0 ∷ []) $ use3 𝓛 (‵ I) (closes 𝓛 w p z s' so' near) $ frame ! $ done !)))
@@ -181,9 +181,9 @@ module _ {M : Type 1} {𝓤 : Ura M} (𝓛 : Logic 𝓤) (w p : Ptr) (z : Names)
       move ! (1 ∷ []) $ use1 𝓛 (‵ (whole w p z)) (gathers (no_writer t) so e refl) $ nothing ! $ fpack ! (1 ≡ flag true) (λ _. ftrue) refl $ fjoin ! $ fpack ! Bool (left_one 1) true $ move ! (1 ∷ 0 ∷ []) $ done !
 
   -- the writer leaves, and gives up the places of its room
-  pub writer_leaves : (sent : List ℕ) (limit : ℕ) (shut : Bool) (i : ℕ) → i ≤ 1 → ⟦ C ⟧ ∗ ⟦ WK half sent limit shut i ⟧ ∗ ⟦ blanks w p z (length sent) (limit - length sent) ⟧ ⊢ access 384 one Left
-  writer_leaves sent limit shut i le = let Z : Pr = ex 𝓤 (Holding 384 one Left) in let G : Fml = blanks w p z (length sent) (limit - length sent) in
-      inside 𝓛 w p z 384 one Left (⟦ WK half sent limit shut i ⟧ ∗ ⟦ G ⟧) (qed 𝓛 (‵ I ∷ ‵ (WK half sent limit shut i) ∷ ‵ G ∷ []) ∵
+  pub writer_leaves : (sent : List ℕ) (limit : ℕ) (shut : Bool) (i : ℕ) → i ≤ 1 → ⟦ C ⟧ ∗ ⟦ WK half sent limit shut i ⟧ ∗ ⟦ blanks w p z (length sent) (limit - length sent) ⟧ ⊢ access 0 one Left
+  writer_leaves sent limit shut i le = let Z : Pr = ex 𝓤 (Holding 0 one Left) in let G : Fml = blanks w p z (length sent) (limit - length sent) in
+      inside 𝓛 w p z 0 one Left (⟦ WK half sent limit shut i ⟧ ∗ ⟦ G ⟧) (qed 𝓛 (‵ I ∷ ‵ (WK half sent limit shut i) ∷ ‵ G ∷ []) ∵
       use2 𝓛 (some (λ (s : State). given (WriterSees 𝓛 w p z sent limit shut i s) (‵ (WK half sent limit shut i) ⊛ ‵ (WK other s.sent s.limit s.shut s.writer_stage) ⊛ ‵ (RK other s.head s.seen s.reader_stage) ⊛ ‵ (Rest 𝓛 w p z s)))) (writer_opens 𝓛 w p z half sent limit shut i le) $ pick ! (λ s. learn ! (λ so. split3 ! $
       let el = so.2 in let ei = so.4 in let last = so.0.stages.0 in let closing = so.0.closing in let n : ℕ = flag (gone s.reader_stage) in
       let so' : Holds cap (no_writer s) = record { known = so.0.known; arrived = so.0.arrived; written = so.0.written; freed = so.0.freed; closing = omega arith; shutting = so.0.shutting; stages = (last, omega arith) } in
@@ -191,17 +191,17 @@ module _ {M : Type 1} {𝓤 : Ura M} (𝓛 : Logic 𝓤) (w p : Ptr) (z : Names)
       use2 𝓛 (raw (upd 𝓤 (⟦ latest numbers half z.writer_stage 2 ⟧ ∗ ⟦ latest numbers other z.writer_stage 2 ⟧))) (raise 𝓛 w p z numbers z.writer_stage i s.writer_stage 2 2 ei refl (omega arith)) $
       settle 𝓛 Z (‵ (latest numbers half z.writer_stage 2) ⊛ ‵ (latest numbers other z.writer_stage 2)) $ suffices ! _ (upd_i 𝓤 Z) $ split ! $ forget ! $
       move ! (1 ∷ 0 ∷ []) $ fjoin ! $ move ! (1 ∷ 2 ∷ 0 ∷ []) $ fjoin3 ! $ keep ! (0 ∷ 4 ∷ 5 ∷ 6 ∷ []) $ move ! (2 ∷ []) $ fsplit ! $ move ! (1 ∷ []) $ fsplit ! $ fsplit3 ! $ move ! (2 ∷ []) $ fsplit ! $ move ! (1 ∷ []) $
-      rewrite ! 0 (λ (m : ℕ). ‵ (word w 384 m)) {x = n} {y = one_gone (gone s.reader_stage) (gone s.writer_stage)} (ap (one_gone (gone s.reader_stage)) (here s.writer_stage (omega arith)) ∙ one_false (gone s.reader_stage)) refl $
-      show ! (Holding 384 one Left) n $ frame ! $ assume ! (‵ (word w 384 1)) $ suffices ! _ (upd_i 𝓤 (⟦ I ⟧ ∗ ⟦ Left n ⟧)) $
-      rewrite ! 0 (λ (m : ℕ). ‵ (word w 384 m)) {x = one_gone (gone s.reader_stage) true} {y = 1} (sym (one_true (gone s.reader_stage))) refl $
+      rewrite ! 0 (λ (m : ℕ). ‵ (word w 0 m)) {x = n} {y = one_gone (gone s.reader_stage) (gone s.writer_stage)} (ap (one_gone (gone s.reader_stage)) (here s.writer_stage (omega arith)) ∙ one_false (gone s.reader_stage)) refl $
+      show ! (Holding 0 one Left) n $ frame ! $ assume ! (‵ (word w 0 1)) $ suffices ! _ (upd_i 𝓤 (⟦ I ⟧ ∗ ⟦ Left n ⟧)) $
+      rewrite ! 0 (λ (m : ℕ). ‵ (word w 0 m)) {x = one_gone (gone s.reader_stage) true} {y = 1} (sym (one_true (gone s.reader_stage))) refl $
       move ! (1 ∷ 0 ∷ []) $ fjoin ! $ move ! (1 ∷ 2 ∷ 0 ∷ []) $ fjoin3 ! $ move ! (1 ∷ []) $ fsplit ! $ move ! (1 ∷ []) $ fsplit3 ! $ move ! (2 ∷ []) $ fsplit ! $ move ! (9 ∷ []) $
       rewrite ! 0 (λ (r : List ℕ × ℕ). ‵ (blanks w p z (length r.0) (r.1 - length r.0))) {x = (s.sent, s.limit)} {y = (sent, limit)} (λ j. (so.1 j, el j)) refl $
       move ! (0 ∷ 2 ∷ []) $ fjoin ! $ move ! (2 ∷ 3 ∷ 0 ∷ []) $ fjoin3 ! $ move ! (2 ∷ 0 ∷ []) $ fjoin ! $ move ! (2 ∷ 0 ∷ []) $ fjoin ! $ keep ! (3 ∷ 4 ∷ 2 ∷ 0 ∷ []) $ by ! (writer_seals s so' (gone s.reader_stage) refl))))
 
   -- the writer closes the ring, as it is about to leave
-  pub writer_closes : (sent : List ℕ) (limit : ℕ) (shut : Bool) (i : ℕ) → i ≤ 1 → ⟦ C ⟧ ∗ ⟦ WK half sent limit shut i ⟧ ⊢ access 256 one (λ _. WK half sent limit shut 1)
-  writer_closes sent limit shut i le = let Then : Fml = WK half sent limit shut 1 in let Z : Pr = ex 𝓤 (Holding 256 one (λ _. Then)) in
-      inside 𝓛 w p z 256 one (λ _. Then) ⟦ WK half sent limit shut i ⟧ (qed 𝓛 (‵ I ∷ ‵ (WK half sent limit shut i) ∷ []) ∵
+  pub writer_closes : (sent : List ℕ) (limit : ℕ) (shut : Bool) (i : ℕ) → i ≤ 1 → ⟦ C ⟧ ∗ ⟦ WK half sent limit shut i ⟧ ⊢ access 384 one (λ _. WK half sent limit shut 1)
+  writer_closes sent limit shut i le = let Then : Fml = WK half sent limit shut 1 in let Z : Pr = ex 𝓤 (Holding 384 one (λ _. Then)) in
+      inside 𝓛 w p z 384 one (λ _. Then) ⟦ WK half sent limit shut i ⟧ (qed 𝓛 (‵ I ∷ ‵ (WK half sent limit shut i) ∷ []) ∵
       use2 𝓛 (some (λ (s : State). given (WriterSees 𝓛 w p z sent limit shut i s) (‵ (WK half sent limit shut i) ⊛ ‵ (WK other s.sent s.limit s.shut s.writer_stage) ⊛ ‵ (RK other s.head s.seen s.reader_stage) ⊛ ‵ (Rest 𝓛 w p z s)))) (writer_opens 𝓛 w p z half sent limit shut i le) $ pick ! (λ s. learn ! (λ so. split3 ! $
       let ei = so.4 in let last = so.0.stages.0 in let small = flag_small s.closed in let s' : State = record s { closed = true; writer_stage = 1 } in let near : OneStays 𝓛 w p z s' = omega arith in
       let so' : Holds cap s' = record { known = so.0.known; arrived = so.0.arrived; written = so.0.written; freed = so.0.freed; closing = omega arith; shutting = flag_small s.shut; stages = (last, omega arith) } in
@@ -211,8 +211,8 @@ module _ {M : Type 1} {𝓤 : Ura M} (𝓛 : Logic 𝓤) (w p : Ptr) (z : Names)
       settle 𝓛 Z (‵ (latest numbers half z.writer_stage 1) ⊛ ‵ (latest numbers other z.writer_stage 1)) $ suffices ! _ (upd_i 𝓤 Z) $ split ! $
       move ! (2 ∷ 1 ∷ []) $ fjoin ! $ move ! (2 ∷ 3 ∷ 0 ∷ []) $ fjoin3 ! $ move ! (2 ∷ 1 ∷ []) $ fjoin ! $ move ! (2 ∷ 3 ∷ 0 ∷ []) $ fjoin3 ! $
       move ! (3 ∷ []) $ fsplit ! $ fsplit3 ! $ move ! (2 ∷ []) $ fsplit ! $
-      rewrite ! 1 (λ (c : Bool). ‵ (word w 384 (one_gone (gone s.reader_stage) c))) {x = false} {y = gone s.writer_stage} (here s.writer_stage (omega arith)) refl $
-      show ! (Holding 256 one (λ _. Then)) (flag s.closed) $ frame ! $ assume ! (‵ (word w 256 1)) $ suffices ! _ (upd_i 𝓤 (⟦ I ⟧ ∗ ⟦ Then ⟧)) $
+      rewrite ! 1 (λ (c : Bool). ‵ (word w 0 (one_gone (gone s.reader_stage) c))) {x = false} {y = gone s.writer_stage} (here s.writer_stage (omega arith)) refl $
+      show ! (Holding 384 one (λ _. Then)) (flag s.closed) $ frame ! $ assume ! (‵ (word w 384 1)) $ suffices ! _ (upd_i 𝓤 (⟦ I ⟧ ∗ ⟦ Then ⟧)) $
       fjoin ! $ move ! (1 ∷ 2 ∷ 0 ∷ []) $ fjoin3 ! $ move ! (1 ∷ []) $ fsplit ! $ move ! (1 ∷ []) $ fsplit3 ! $ move ! (2 ∷ []) $
       rewrite ! 0 (λ (c : Bool). ‵ (fsep (where_gone c (blanks w p z (length s.sent) (s.limit - length s.sent))) (deeds w p z))) {x = false} {y = gone s.writer_stage} (here s.writer_stage (omega arith)) refl $
       move ! (1 ∷ 2 ∷ 0 ∷ []) $ fjoin3 ! $ move ! (1 ∷ 0 ∷ []) $ fjoin ! $ move ! (1 ∷ 0 ∷ []) $ fjoin ! $ move ! (3 ∷ 0 ∷ []) $ fjoin ! $ move ! (2 ∷ 3 ∷ 0 ∷ []) $ use3 𝓛 (‵ I) (closes 𝓛 w p z s' so' near) $ frame ! $ done !)))

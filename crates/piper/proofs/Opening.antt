@@ -76,16 +76,16 @@ module _ {M : Type 1} {𝓤 : Ura M} (𝓛 : Logic 𝓤) (w p : Ptr) (cap : ℕ)
   Rejoin = fwand (four_rooms w) (froom words_type b o)
 
   -- the block of the words is the four words in use, and what makes a block of them again
-  pub words_out : ⟦ froom words_type b o ⟧ ⊢ ⟦ word_room w 0 ⟧ ∗ ⟦ word_room w 128 ⟧ ∗ ⟦ word_room w 256 ⟧ ∗ ⟦ word_room w 384 ⟧ ∗ ⟦ Rejoin ⟧
+  pub words_out : ⟦ froom words_type b o ⟧ ⊢ ⟦ word_room w 128 ⟧ ∗ ⟦ word_room w 256 ⟧ ∗ ⟦ word_room w 384 ⟧ ∗ ⟦ word_room w 0 ⟧ ∗ ⟦ Rejoin ⟧
   words_out = let first_word : 0 + o ≡ o = omega arith in
       qed 𝓛 (‵ (froom words_type b o) ∷ []) ∵ use1 𝓛 (‵ (many 64 o)) (𝓛.laws.raw-room (ty_array u 64) b o) $ rewrite ! 0 (λ (at : ℕ). ‵ (many 64 at)) (sym first_word) refl $
-      use1 𝓛 (‵ (word_room w 0) ⊛ ‵ (many 48 (128 + o)) ⊛ ‵ (many 15 (0 + o + 8))) (apart 48 (0 + o) (128 + o) (omega arith)) $ split3 ! $ frame ! $
+      use1 𝓛 (‵ (word_room w 0) ⊛ ‵ (many 48 (128 + o)) ⊛ ‵ (many 15 (0 + o + 8))) (apart 48 (0 + o) (128 + o) (omega arith)) $ split3 ! $ move ! (1 ∷ []) $
       use1 𝓛 (‵ (word_room w 128) ⊛ ‵ (many 32 (256 + o)) ⊛ ‵ (many 15 (128 + o + 8))) (apart 32 (128 + o) (256 + o) (omega arith)) $ split3 ! $ frame ! $
       use1 𝓛 (‵ (word_room w 256) ⊛ ‵ (many 16 (384 + o)) ⊛ ‵ (many 15 (256 + o + 8))) (apart 16 (256 + o) (384 + o) (omega arith)) $ split3 ! $ frame ! $
       use1 𝓛 (‵ (word_room w 384) ⊛ ‵ (many 0 (512 + o)) ⊛ ‵ (many 15 (384 + o + 8))) (apart 0 (384 + o) (512 + o) (omega arith)) $ split3 ! $ frame ! $
-      assume ! (‵ (four_rooms w)) $ fsplit3 ! $ move ! (2 ∷ []) $ fsplit ! $
-      move ! (1 ∷ 4 ∷ 5 ∷ []) $ use3 𝓛 (‵ (many 16 (384 + o))) (together 0 (384 + o) (512 + o) (omega arith)) $
-      move ! (1 ∷ 0 ∷ 4 ∷ []) $ use3 𝓛 (‵ (many 32 (256 + o))) (together 16 (256 + o) (384 + o) (omega arith)) $
+      move ! (4 ∷ []) $ frame ! $ assume ! (‵ (four_rooms w)) $ fsplit3 ! $ move ! (2 ∷ []) $ fsplit ! $
+      move ! (0 ∷ 4 ∷ 5 ∷ []) $ use3 𝓛 (‵ (many 16 (384 + o))) (together 0 (384 + o) (512 + o) (omega arith)) $
+      move ! (3 ∷ 0 ∷ 4 ∷ []) $ use3 𝓛 (‵ (many 32 (256 + o))) (together 16 (256 + o) (384 + o) (omega arith)) $
       move ! (2 ∷ 0 ∷ 3 ∷ []) $ use3 𝓛 (‵ (many 48 (128 + o))) (together 32 (128 + o) (256 + o) (omega arith)) $
       move ! (1 ∷ 0 ∷ 2 ∷ []) $ use3 𝓛 (‵ (many 64 (0 + o))) (together 48 (0 + o) (128 + o) (omega arith)) $
       rewrite ! 0 (λ (at : ℕ). ‵ (many 64 at)) first_word refl $ by ! (𝓛.laws.room-raw (ty_array u 64) b o)
@@ -114,7 +114,7 @@ module _ {M : Type 1} {𝓤 : Ura M} (𝓛 : Logic 𝓤) (w p : Ptr) (cap : ℕ)
       use1 𝓛 (‵ (latest numbers half γ n) ⊛ ‵ (latest numbers other γ n)) (cut 𝓛 numbers γ n full_share) $ now ! $ show ! (Begun n) γ $ done !))
 
   abbrev pub zero_words : Fml
-  zero_words = fsep (word w 0 0) (fsep (word w 128 0) (fsep (word w 256 0) (word w 384 0)))
+  zero_words = fsep (word w 128 0) (fsep (word w 256 0) (fsep (word w 384 0) (word w 0 0)))
 
   abbrev pub Deeds : Fml
   Deeds = deeds w p (names_of cap 0 0 0 0 0 0 0 0)
@@ -139,7 +139,7 @@ module _ {M : Type 1} {𝓤 : Ura M} (𝓛 : Logic 𝓤) (w p : Ptr) (cap : ℕ)
       let I : Fml = Inner w p z in let C : Fml = common w p z in
       move ! (6 ∷ []) $ nothing ! $ fjoin ! $ nothing ! $ fjoin ! $ nothing ! $ nothing ! $ fpack ! (length {A = ℕ} [] ≡ 0 + cap - cap) (λ _. ftrue) (omega arith) $ fjoin ! $ fpack ! (List ℕ) (idle w p z cap (0 + cap - cap)) [] $ fjoin ! $ nothing ! $ fjoin ! $
       move ! (6 ∷ []) $ fsplit3 ! $
-      rewrite ! 0 (λ (n : ℕ). ‵ (word w 0 n)) (sym (position_zero cap)) refl $ rewrite ! 1 (λ (n : ℕ). ‵ (word w 128 n)) (sym (position_zero cap)) refl $ fjoin3 ! $ fjoin ! $ move ! (1 ∷ 0 ∷ []) $ fjoin ! $
+      rewrite ! 0 (λ (n : ℕ). ‵ (word w 128 n)) (sym (position_zero cap)) refl $ rewrite ! 1 (λ (n : ℕ). ‵ (word w 256 n)) (sym (position_zero cap)) refl $ fjoin3 ! $ fjoin ! $ move ! (1 ∷ 0 ∷ []) $ fjoin ! $
       move ! (3 ∷ 1 ∷ 0 ∷ []) $ use3 𝓛 (‵ I) (closes 𝓛 w p z fresh so (omega arith)) $ use1 𝓛 (later (‵ (finv I))) (𝓛.invs.inv_new I) $ await ! tt $
       nothing ! $ fpack ! (Placed w p z) (λ _. ftrue) at $ fjoin ! $ use1 𝓛 (‵ C ⊛ ‵ C) (common_twice 𝓛 w p z) $ split ! $ move ! (3 ∷ []) $ fsplit3 ! $ use1 𝓛 (‵ (latest O half s []) ⊛ ‵ (at_least O s [])) (latest_shows O 𝓛 half s [] [] (prefix_refl [])) $ split ! $ move ! (0 ∷ 2 ∷ 3 ∷ []) $ fjoin3 ! $ move ! (2 ∷ 0 ∷ []) $ fjoin ! $ move ! (1 ∷ []) $ nothing ! $ fpack ! (length {A = ℕ} [] ≡ 0) (λ _. ftrue) refl $ fjoin ! $ move ! (3 ∷ 0 ∷ []) $ fjoin ! $ move ! (2 ∷ 0 ∷ []) $ fjoin ! $
       now ! $ show ! Made z $ check ! refl $ done !)))))))))

@@ -55,9 +55,9 @@ module _ {M : Type 1} {𝓤 : Ura M} (𝓛 : Logic 𝓤) (w p : Ptr) (z : Names)
   abbrev pub Reclaimed : ℕ → Fml
   Reclaimed n = fex (ℕ × List ℕ) (more n)
 
-  learns : ent 𝓤 (⟦ C ⟧ ∗ ⟦ C ⟧ ∗ ⟦ WK half sent limit shut (flag leaving) ⟧ ∗ ⟦ T ⟧) (asks 𝓛 (block_ptr (block_of w) (0 + count_of w)) (λ n. n) always Reclaimed)
-  learns = let i : ℕ = flag leaving in let Found : ℕ → SProp 𝓤 = Lies 𝓛 (block_of w) (0 + count_of w) (λ n. n) Reclaimed I in let Z : SProp 𝓤 = ex 𝓤 Found in
-      inside 𝓛 w p z 0 (λ n. n) Reclaimed (⟦ C ⟧ ∗ ⟦ WK half sent limit shut i ⟧ ∗ ⟦ T ⟧) (qed 𝓛 (‵ I ∷ ‵ C ∷ ‵ (WK half sent limit shut i) ∷ ‵ T ∷ []) ∵ move ! (0 ∷ 2 ∷ []) $
+  learns : ent 𝓤 (⟦ C ⟧ ∗ ⟦ C ⟧ ∗ ⟦ WK half sent limit shut (flag leaving) ⟧ ∗ ⟦ T ⟧) (asks 𝓛 (block_ptr (block_of w) (128 + count_of w)) (λ n. n) always Reclaimed)
+  learns = let i : ℕ = flag leaving in let Found : ℕ → SProp 𝓤 = Lies 𝓛 (block_of w) (128 + count_of w) (λ n. n) Reclaimed I in let Z : SProp 𝓤 = ex 𝓤 Found in
+      inside 𝓛 w p z 128 (λ n. n) Reclaimed (⟦ C ⟧ ∗ ⟦ WK half sent limit shut i ⟧ ∗ ⟦ T ⟧) (qed 𝓛 (‵ I ∷ ‵ C ∷ ‵ (WK half sent limit shut i) ∷ ‵ T ∷ []) ∵ move ! (0 ∷ 2 ∷ []) $
       use2 𝓛 (some (λ (s : State). given (WriterSees 𝓛 w p z sent limit shut i s) (‵ (WK half sent limit shut i) ⊛ ‵ (WK other s.sent s.limit s.shut s.writer_stage) ⊛ ‵ (reader_knows w p z other s.head s.seen s.reader_stage) ⊛ ‵ (Rest 𝓛 w p z s)))) (writer_opens 𝓛 w p z half sent limit shut i (flag_small leaving)) $ pick ! (λ s. learn ! (λ so. split3 ! $
       let known = so.0.known in let arrived = so.0.arrived in let written = so.0.written in let freed = so.0.freed in let es : length sent ≡ length s.sent = ap length so.1 in let el = so.2 in let ei = so.4 in let last = so.0.stages.0 in let small = flag_small leaving in
       let full : ℕ = s.head + cap in let s' : State = record s { limit = full } in let near : OneStays 𝓛 w p z s' = omega arith in let n : ℕ = position_of cap s.head in
@@ -70,12 +70,12 @@ module _ {M : Type 1} {𝓤 : Ura M} (𝓛 : Logic 𝓤) (w p : Ptr) (z : Names)
       use2 𝓛 (raw (upd 𝓤 (⟦ latest numbers half z.limit full ⟧ ∗ ⟦ latest numbers other z.limit full ⟧))) (raise 𝓛 w p z numbers z.limit limit s.limit full full el refl (omega arith)) $
       settle 𝓛 Z (‵ (latest numbers half z.limit full) ⊛ ‵ (latest numbers other z.limit full)) $ suffices ! _ (upd_i 𝓤 Z) $ split ! $
       move ! (2 ∷ 1 ∷ 3 ∷ []) $ fjoin3 ! $ move ! (2 ∷ 1 ∷ 3 ∷ []) $ fjoin3 ! $ move ! (6 ∷ []) $ fsplit ! $
-      show ! Found n $ frame ! $ assume ! (‵ (word w 0 n)) $ suffices ! _ (upd_i 𝓤 (⟦ I ⟧ ∗ ⟦ Reclaimed n ⟧)) $ fjoin ! $ move ! (5 ∷ []) $
+      show ! Found n $ frame ! $ assume ! (‵ (word w 128 n)) $ suffices ! _ (upd_i 𝓤 (⟦ I ⟧ ∗ ⟦ Reclaimed n ⟧)) $ fjoin ! $ move ! (5 ∷ []) $
       rewrite ! 0 (λ (F : Fml). ‵ (fsep F (deeds w p z))) {x = where_gone (gone s.writer_stage) (blanks w p z (length s.sent) (full - length s.sent))} {y = where_gone (gone s.writer_stage) (blanks w p z (length s.sent) (s.limit - length s.sent))} (not_gone 𝓛 w p z s.writer_stage _ _ (omega arith)) refl $
       move ! (5 ∷ 0 ∷ []) $ fjoin ! $ nothing ! $ nothing ! $ fpack ! (length {A = ℕ} [] ≡ s.head + z.capacity - full) (λ _. ftrue) (omega arith) $ fjoin ! $ fpack ! (List ℕ) (idle w p z full (s.head + z.capacity - full)) [] $ fjoin ! $
       move ! (5 ∷ 0 ∷ []) $ fjoin ! $ move ! (1 ∷ 0 ∷ []) $ fjoin ! $ move ! (4 ∷ 0 ∷ []) $ fjoin ! $ move ! (2 ∷ 4 ∷ 0 ∷ []) $ use3 𝓛 (‵ I) (closes 𝓛 w p z s' so' near) $ frame ! $
       move ! (2 ∷ 0 ∷ []) $ fjoin ! $ move ! (1 ∷ []) $ rewrite ! 0 (λ (k : ℕ). ‵ (run B k ys)) {x = limit} {y = s.limit} (sym el) refl $ fjoin ! $
       nothing ! $ fpack ! (Saw n (s.head, ys)) (λ _. ftrue) (refl, lt, omega arith, omega arith) $ fjoin ! $ fpack ! (ℕ × List ℕ) (more n) (s.head, ys) $ done !))))))
 
-  pub reclaims : ent 𝓤 (⟦ writer_owns w p z sent limit shut leaving ⟧ ∗ ⟦ T ⟧) (asks 𝓛 (block_ptr (block_of w) (0 + count_of w)) (λ n. n) always Reclaimed)
+  pub reclaims : ent 𝓤 (⟦ writer_owns w p z sent limit shut leaving ⟧ ∗ ⟦ T ⟧) (asks 𝓛 (block_ptr (block_of w) (128 + count_of w)) (λ n. n) always Reclaimed)
   reclaims = qed 𝓛 (‵ (writer_owns w p z sent limit shut leaving) ∷ ‵ T ∷ []) ∵ fsplit ! $ use1 𝓛 (‵ C ⊛ ‵ C) (common_twice 𝓛 w p z) $ split ! $ by ! learns

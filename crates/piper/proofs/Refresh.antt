@@ -66,9 +66,9 @@ module _ {M : Type 1} {𝓤 : Ura M} (𝓛 : Logic 𝓤) (w p : Ptr) (z : Names)
   abbrev T : Fml
   T = at_least O z.sent told
 
-  learns : length have ≡ seen → ent 𝓤 (⟦ C ⟧ ∗ ⟦ C ⟧ ∗ ⟦ RK half head seen (flag left) ⟧ ∗ ⟦ H ⟧ ∗ ⟦ T ⟧) (asks 𝓛 (block_ptr (block_of w) (128 + count_of w)) (λ n. n) always Refreshed)
-  learns lh = let Found : ℕ → SProp 𝓤 = Lies 𝓛 (block_of w) (128 + count_of w) (λ n. n) Refreshed I in let Z : SProp 𝓤 = ex 𝓤 Found in
-      inside 𝓛 w p z 128 (λ n. n) Refreshed (⟦ C ⟧ ∗ ⟦ RK half head seen (flag left) ⟧ ∗ ⟦ H ⟧ ∗ ⟦ T ⟧) (qed 𝓛 (‵ I ∷ ‵ C ∷ ‵ (RK half head seen (flag left)) ∷ ‵ H ∷ ‵ T ∷ []) ∵ move ! (0 ∷ 2 ∷ []) $
+  learns : length have ≡ seen → ent 𝓤 (⟦ C ⟧ ∗ ⟦ C ⟧ ∗ ⟦ RK half head seen (flag left) ⟧ ∗ ⟦ H ⟧ ∗ ⟦ T ⟧) (asks 𝓛 (block_ptr (block_of w) (256 + count_of w)) (λ n. n) always Refreshed)
+  learns lh = let Found : ℕ → SProp 𝓤 = Lies 𝓛 (block_of w) (256 + count_of w) (λ n. n) Refreshed I in let Z : SProp 𝓤 = ex 𝓤 Found in
+      inside 𝓛 w p z 256 (λ n. n) Refreshed (⟦ C ⟧ ∗ ⟦ RK half head seen (flag left) ⟧ ∗ ⟦ H ⟧ ∗ ⟦ T ⟧) (qed 𝓛 (‵ I ∷ ‵ C ∷ ‵ (RK half head seen (flag left)) ∷ ‵ H ∷ ‵ T ∷ []) ∵ move ! (0 ∷ 2 ∷ []) $
       use2 𝓛 (some (λ (s : State). given (ReaderSees 𝓛 w p z head seen (flag left) s) (‵ (RK half head seen (flag left)) ⊛ ‵ (RK other s.head s.seen s.reader_stage) ⊛ ‵ (WK other s.sent s.limit s.shut s.writer_stage) ⊛ ‵ (Rest 𝓛 w p z s)))) (reader_opens 𝓛 w p z half head seen (flag left) (flag_small left)) $ pick ! (λ s. learn ! (λ so. split3 ! $
       move ! (2 ∷ []) $ split ! $ fsplit3 ! $ move ! (0 ∷ 7 ∷ []) $
       use2 𝓛 (given (IsPrefix have s.sent) (‵ (latest O other z.sent s.sent) ⊛ ‵ H)) (latest_bounds O 𝓛 other z.sent s.sent have) $ learn ! (λ pre. split ! $ move ! (0 ∷ 8 ∷ []) $
@@ -82,7 +82,7 @@ module _ {M : Type 1} {𝓤 : Ura M} (𝓛 : Logic 𝓤) (w p : Ptr) (z : Names)
       use2 𝓛 (raw (upd 𝓤 (⟦ latest numbers half z.seen (seen + length xs) ⟧ ∗ ⟦ latest numbers other z.seen top ⟧))) (raise 𝓛 w p z numbers z.seen seen s.seen (seen + length xs) top es sum (omega arith)) $
       settle 𝓛 Z (‵ (latest numbers half z.seen (seen + length xs)) ⊛ ‵ (latest numbers other z.seen top)) $ suffices ! _ (upd_i 𝓤 Z) $ split ! $
       move ! (3 ∷ 0 ∷ []) $ fjoin ! $ move ! (2 ∷ 1 ∷ []) $ fjoin ! $ move ! (6 ∷ []) $ fsplit ! $ move ! (1 ∷ []) $ fsplit ! $ fsplit3 ! $ move ! (1 ∷ []) $
-      show ! Found n $ frame ! $ assume ! (‵ (word w 128 n)) $ suffices ! _ (upd_i 𝓤 (⟦ I ⟧ ∗ ⟦ Refreshed n ⟧)) $ move ! (1 ∷ 0 ∷ []) $ fjoin3 ! $ move ! (1 ∷ []) $ fsplit ! $ move ! (1 ∷ []) $ fsplit ! $ move ! (1 ∷ []) $ fsplit ! $
+      show ! Found n $ frame ! $ assume ! (‵ (word w 256 n)) $ suffices ! _ (upd_i 𝓤 (⟦ I ⟧ ∗ ⟦ Refreshed n ⟧)) $ move ! (1 ∷ 0 ∷ []) $ fjoin3 ! $ move ! (1 ∷ []) $ fsplit ! $ move ! (1 ∷ []) $ fsplit ! $ move ! (1 ∷ []) $ fsplit ! $
       rewrite ! 0 (λ (F : Fml). ‵ F) {x = where_gone (gone s.reader_stage) (blanks w p z s.head (top - s.head))} {y = where_gone (gone s.reader_stage) (blanks w p z s.head (s.seen - s.head))} (not_gone 𝓛 w p z s.reader_stage _ _ (omega arith)) refl $ fjoin ! $ move ! (1 ∷ 0 ∷ []) $ fjoin ! $ move ! (1 ∷ 0 ∷ []) $
       rewrite ! 0 (λ (r : ℕ × List ℕ). ‵ (run (byte p cap) r.0 r.1)) {x = (seen, xs)} {y = (s.seen, drop s.seen s.sent)} (λ i. (sym es i, pending_is have xs s.sent seen s.seen lh es whole i)) refl $
       nothing ! $ rewrite ! 0 (λ (l : List ℕ). ‵ (run (byte p cap) top l)) {x = drop top s.sent} {y = []} (sym (drop-length s.sent)) refl $ move ! (0 ∷ 2 ∷ []) $ fjoin ! $ move ! (2 ∷ 0 ∷ []) $ fjoin ! $ move ! (2 ∷ 0 ∷ []) $ fjoin ! $
@@ -90,9 +90,9 @@ module _ {M : Type 1} {𝓤 : Ura M} (𝓛 : Logic 𝓤) (w p : Ptr) (z : Names)
       nothing ! $ fpack ! (length (have ++ xs) ≡ seen + length xs) (λ _. ftrue) (omega arith) $ fjoin ! $ move ! (2 ∷ 0 ∷ []) $ fjoin ! $ move ! (4 ∷ 0 ∷ []) $ fjoin ! $ move ! (1 ∷ 0 ∷ []) $ fjoin ! $
       nothing ! $ fpack ! (Saw n xs) (λ _. ftrue) (ap (position_of cap) (sym sum), omega arith, omega arith) $ fjoin ! $ fpack ! (List ℕ) (more n) xs $ keep ! (0 ∷ []) $ done !)))))
 
-  pub refreshes : ent 𝓤 (⟦ reader_owns w p z head seen have left ⟧ ∗ ⟦ T ⟧) (asks 𝓛 (block_ptr (block_of w) (128 + count_of w)) (λ n. n) always Refreshed)
+  pub refreshes : ent 𝓤 (⟦ reader_owns w p z head seen have left ⟧ ∗ ⟦ T ⟧) (asks 𝓛 (block_ptr (block_of w) (256 + count_of w)) (λ n. n) always Refreshed)
   refreshes = qed 𝓛 (‵ (reader_owns w p z head seen have left) ∷ ‵ T ∷ []) ∵ fsplit3 ! $ move ! (2 ∷ []) $ fsplit ! $ fpick ! (λ lh. forget ! $ move ! (1 ∷ []) $ use1 𝓛 (‵ C ⊛ ‵ C) (common_twice 𝓛 w p z) $ split ! $ move ! (0 ∷ 1 ∷ 3 ∷ 2 ∷ []) $ by ! (learns lh))
 
-  pub refreshes_alone : told ≡ have → ent 𝓤 ⟦ reader_owns w p z head seen have left ⟧ (asks 𝓛 (block_ptr (block_of w) (128 + count_of w)) (λ n. n) always Refreshed)
+  pub refreshes_alone : told ≡ have → ent 𝓤 ⟦ reader_owns w p z head seen have left ⟧ (asks 𝓛 (block_ptr (block_of w) (256 + count_of w)) (λ n. n) always Refreshed)
   refreshes_alone e = qed 𝓛 (‵ (reader_owns w p z head seen have left) ∷ []) ∵ fsplit3 ! $ move ! (2 ∷ []) $ fsplit ! $ fpick ! (λ lh. forget ! $ use1 𝓛 (‵ H ⊛ ‵ H) (at_least_dup O 𝓛 z.sent have) $ split ! $
       rewrite ! 1 (λ (l : List ℕ). ‵ (at_least O z.sent l)) (sym e) refl $ move ! (2 ∷ []) $ use1 𝓛 (‵ C ⊛ ‵ C) (common_twice 𝓛 w p z) $ split ! $ move ! (0 ∷ 1 ∷ 4 ∷ 2 ∷ 3 ∷ []) $ by ! (learns lh))

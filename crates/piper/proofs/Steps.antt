@@ -124,13 +124,13 @@ module _ {M : Type 1} {𝓤 : Ura M} (𝓛 : Logic 𝓤) (w p : Ptr) (z : Names)
   AfterLook q head seen i n = fsep (fact (SawTail head seen n)) (RK q head seen i)
 
   -- a load of the tail by anyone who has a share of what the reader knows
-  pub looks_tail : (q : Share) (head seen i : ℕ) → i ≤ 1 → ⟦ C ⟧ ∗ ⟦ RK q head seen i ⟧ ⊢ access 128 (λ n. n) (AfterLook q head seen i)
-  looks_tail q head seen i le = let then : ℕ → Fml = AfterLook q head seen i in let Z : Pr = ex 𝓤 (Holding 128 (λ n. n) then) in
-      inside 128 (λ n. n) then ⟦ RK q head seen i ⟧ (qed 𝓛 (‵ I ∷ ‵ (RK q head seen i) ∷ []) ∵
+  pub looks_tail : (q : Share) (head seen i : ℕ) → i ≤ 1 → ⟦ C ⟧ ∗ ⟦ RK q head seen i ⟧ ⊢ access 256 (λ n. n) (AfterLook q head seen i)
+  looks_tail q head seen i le = let then : ℕ → Fml = AfterLook q head seen i in let Z : Pr = ex 𝓤 (Holding 256 (λ n. n) then) in
+      inside 256 (λ n. n) then ⟦ RK q head seen i ⟧ (qed 𝓛 (‵ I ∷ ‵ (RK q head seen i) ∷ []) ∵
       use2 𝓛 (some (λ (s : State). given (ReaderSees head seen i s) (‵ (RK q head seen i) ⊛ ‵ (RK other s.head s.seen s.reader_stage) ⊛ ‵ (WK other s.sent s.limit s.shut s.writer_stage) ⊛ ‵ (Rest s)))) (reader_opens q head seen i le) $ pick ! (λ s. learn ! (λ so. split3 ! $
       move ! (2 ∷ []) $ split ! $ move ! (1 ∷ []) $ fsplit ! $ move ! (1 ∷ []) $ fsplit ! $ fsplit3 ! $ move ! (1 ∷ []) $
       let n : ℕ = position_of cap (length s.sent) in let known = so.0.known in let arrived = so.0.arrived in let written = so.0.written in let freed = so.0.freed in let eh = so.1 in let es = so.2 in let ei = so.3 in let top = so.0.stages.1 in let near : OneStays s = omega arith in
-      suffices ! _ (upd_i 𝓤 Z) $ show ! (Holding 128 (λ n. n) then) n $ frame ! $ assume ! (‵ (word w 128 n)) $ suffices ! _ (upd_i 𝓤 (⟦ I ⟧ ∗ ⟦ then n ⟧)) $
+      suffices ! _ (upd_i 𝓤 Z) $ show ! (Holding 256 (λ n. n) then) n $ frame ! $ assume ! (‵ (word w 256 n)) $ suffices ! _ (upd_i 𝓤 (⟦ I ⟧ ∗ ⟦ then n ⟧)) $
       move ! (1 ∷ 0 ∷ []) $ fjoin3 ! $ fjoin ! $ move ! (1 ∷ 0 ∷ []) $ fjoin ! $ move ! (1 ∷ 3 ∷ 0 ∷ []) $ use3 𝓛 (‵ I) (closes s so.0 near) $ frame ! $
       nothing ! $ fpack ! (SawTail head seen n) (λ _. ftrue) (length s.sent, refl, omega arith, omega arith) $ fjoin ! $ done !)))
 
@@ -170,13 +170,13 @@ module _ {M : Type 1} {𝓤 : Ura M} (𝓛 : Logic 𝓤) (w p : Ptr) (z : Names)
   AfterPeek q sent limit shut i n = fsep (fact (SawHead sent limit n)) (WK q sent limit shut i)
 
   -- a load of the head by anyone who has a share of what the writer knows
-  pub looks_head : (q : Share) (sent : List ℕ) (limit : ℕ) (shut : Bool) (i : ℕ) → i ≤ 1 → ⟦ C ⟧ ∗ ⟦ WK q sent limit shut i ⟧ ⊢ access 0 (λ n. n) (AfterPeek q sent limit shut i)
-  looks_head q sent limit shut i le = let then : ℕ → Fml = AfterPeek q sent limit shut i in let Z : Pr = ex 𝓤 (Holding 0 (λ n. n) then) in
-      inside 0 (λ n. n) then ⟦ WK q sent limit shut i ⟧ (qed 𝓛 (‵ I ∷ ‵ (WK q sent limit shut i) ∷ []) ∵
+  pub looks_head : (q : Share) (sent : List ℕ) (limit : ℕ) (shut : Bool) (i : ℕ) → i ≤ 1 → ⟦ C ⟧ ∗ ⟦ WK q sent limit shut i ⟧ ⊢ access 128 (λ n. n) (AfterPeek q sent limit shut i)
+  looks_head q sent limit shut i le = let then : ℕ → Fml = AfterPeek q sent limit shut i in let Z : Pr = ex 𝓤 (Holding 128 (λ n. n) then) in
+      inside 128 (λ n. n) then ⟦ WK q sent limit shut i ⟧ (qed 𝓛 (‵ I ∷ ‵ (WK q sent limit shut i) ∷ []) ∵
       use2 𝓛 (some (λ (s : State). given (WriterSees sent limit shut i s) (‵ (WK q sent limit shut i) ⊛ ‵ (WK other s.sent s.limit s.shut s.writer_stage) ⊛ ‵ (RK other s.head s.seen s.reader_stage) ⊛ ‵ (Rest s)))) (writer_opens q sent limit shut i le) $ pick ! (λ s. learn ! (λ so. split3 ! $
       move ! (2 ∷ []) $ split ! $ move ! (1 ∷ []) $ fsplit ! $ move ! (1 ∷ []) $ fsplit ! $ fsplit ! $
       let n : ℕ = position_of cap s.head in let known = so.0.known in let arrived = so.0.arrived in let written = so.0.written in let freed = so.0.freed in let es : length sent ≡ length s.sent = ap length so.1 in let el = so.2 in let ei = so.4 in let top = so.0.stages.0 in let near : OneStays s = omega arith in
-      suffices ! _ (upd_i 𝓤 Z) $ show ! (Holding 0 (λ n. n) then) n $ frame ! $ assume ! (‵ (word w 0 n)) $ suffices ! _ (upd_i 𝓤 (⟦ I ⟧ ∗ ⟦ then n ⟧)) $
+      suffices ! _ (upd_i 𝓤 Z) $ show ! (Holding 128 (λ n. n) then) n $ frame ! $ assume ! (‵ (word w 128 n)) $ suffices ! _ (upd_i 𝓤 (⟦ I ⟧ ∗ ⟦ then n ⟧)) $
       fjoin ! $ fjoin ! $ move ! (1 ∷ 0 ∷ []) $ fjoin ! $ move ! (3 ∷ 1 ∷ 0 ∷ []) $ use3 𝓛 (‵ I) (closes s so.0 near) $ frame ! $
       nothing ! $ fpack ! (SawHead sent limit n) (λ _. ftrue) (s.head, refl, omega arith, omega arith) $ fjoin ! $ done !)))
 
@@ -188,9 +188,9 @@ module _ {M : Type 1} {𝓤 : Ura M} (𝓛 : Logic 𝓤) (w p : Ptr) (z : Names)
     Gift = run (byte p cap) (length sent) xs
 
     -- a store of the tail hands the places of xs over
-    pub publishes : ⟦ C ⟧ ∗ ⟦ WK half sent limit shut i ⟧ ∗ ⟦ Gift ⟧ ⊢ access 128 (λ _. new) (λ _. Then)
-    publishes = let Z : Pr = ex 𝓤 (Holding 128 (λ _. new) (λ _. Then)) in let O : Order (List ℕ) = prefixes coded_ℕ in
-        inside 128 (λ _. new) (λ _. Then) (⟦ WK half sent limit shut i ⟧ ∗ ⟦ Gift ⟧) (qed 𝓛 (‵ I ∷ ‵ (WK half sent limit shut i) ∷ ‵ Gift ∷ []) ∵
+    pub publishes : ⟦ C ⟧ ∗ ⟦ WK half sent limit shut i ⟧ ∗ ⟦ Gift ⟧ ⊢ access 256 (λ _. new) (λ _. Then)
+    publishes = let Z : Pr = ex 𝓤 (Holding 256 (λ _. new) (λ _. Then)) in let O : Order (List ℕ) = prefixes coded_ℕ in
+        inside 256 (λ _. new) (λ _. Then) (⟦ WK half sent limit shut i ⟧ ∗ ⟦ Gift ⟧) (qed 𝓛 (‵ I ∷ ‵ (WK half sent limit shut i) ∷ ‵ Gift ∷ []) ∵
         use2 𝓛 (some (λ (s : State). given (WriterSees sent limit shut i s) (‵ (WK half sent limit shut i) ⊛ ‵ (WK other s.sent s.limit s.shut s.writer_stage) ⊛ ‵ (RK other s.head s.seen s.reader_stage) ⊛ ‵ (Rest s)))) (writer_opens half sent limit shut i le) $ pick ! (λ s. learn ! (λ so. split3 ! $
         let known = so.0.known in let arrived = so.0.arrived in let written = so.0.written in let freed = so.0.freed in let es : length sent ≡ length s.sent = ap length so.1 in let el = so.2 in
         let all : List ℕ = s.sent ++ xs in let long : length all ≡ length s.sent + length xs = length-append s.sent xs in let s' : State = record s { sent = all } in
@@ -199,8 +199,8 @@ module _ {M : Type 1} {𝓤 : Ura M} (𝓛 : Logic 𝓤) (w p : Ptr) (z : Names)
         use2 𝓛 (raw (upd 𝓤 (⟦ latest O half z.sent (sent ++ xs) ⟧ ∗ ⟦ latest O other z.sent all ⟧))) (raise O z.sent sent s.sent (sent ++ xs) all so.1 (ap (λ (l : List ℕ). l ++ xs) so.1) (xs, refl)) $
         settle 𝓛 Z (‵ (latest O half z.sent (sent ++ xs)) ⊛ ‵ (latest O other z.sent all)) $ suffices ! _ (upd_i 𝓤 Z) $ split ! $
         move ! (0 ∷ 4 ∷ 5 ∷ []) $ fjoin3 ! $ move ! (1 ∷ 2 ∷ 3 ∷ []) $ fjoin3 ! $ move ! (2 ∷ []) $ split ! $ move ! (1 ∷ []) $ fsplit ! $ move ! (1 ∷ []) $ fsplit ! $ fsplit3 ! $ move ! (1 ∷ []) $
-        show ! (Holding 128 (λ _. new) (λ _. Then)) (position_of cap (length s.sent)) $ frame ! $ assume ! (‵ (word w 128 new)) $ suffices ! _ (upd_i 𝓤 (⟦ I ⟧ ∗ ⟦ Then ⟧)) $
-        rewrite ! 0 (λ (m : ℕ). ‵ (word w 128 m)) (is ∙ ap (position_of cap) (ap (λ (m : ℕ). m + length xs) es ∙ sym long)) refl $
+        show ! (Holding 256 (λ _. new) (λ _. Then)) (position_of cap (length s.sent)) $ frame ! $ assume ! (‵ (word w 256 new)) $ suffices ! _ (upd_i 𝓤 (⟦ I ⟧ ∗ ⟦ Then ⟧)) $
+        rewrite ! 0 (λ (m : ℕ). ‵ (word w 256 m)) (is ∙ ap (position_of cap) (ap (λ (m : ℕ). m + length xs) es ∙ sym long)) refl $
         move ! (1 ∷ 0 ∷ []) $ fjoin3 ! $ move ! (1 ∷ []) $ fsplit ! $ move ! (1 ∷ []) $ fsplit3 ! $ move ! (2 ∷ []) $
         rewrite ! 0 (λ (F : Fml). ‵ (fsep F (deeds w p z))) {x = where_gone (gone s.writer_stage) (blanks w p z (length all) (s.limit - length all))} {y = where_gone (gone s.writer_stage) (blanks w p z (length s.sent) (s.limit - length s.sent))} (not_gone s.writer_stage _ _ (omega arith)) refl $
         move ! (1 ∷ 2 ∷ 0 ∷ []) $ fjoin3 ! $ move ! (1 ∷ 7 ∷ []) $

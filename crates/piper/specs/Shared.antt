@@ -109,7 +109,7 @@ abbrev pub words_type : Ty
 words_type = array_of u64 64
 
 abbrev pub four_rooms : Ptr → Fml
-four_rooms w = fsep (word_room w 0) (fsep (word_room w 128) (fsep (word_room w 256) (word_room w 384)))
+four_rooms w = fsep (word_room w 128) (fsep (word_room w 256) (fsep (word_room w 384) (word_room w 0)))
 
 -- the right to give a block back to the heap, which is the same for each handle of it
 abbrev pub heap_token : Ty → Ptr → Fml
@@ -134,7 +134,7 @@ announced z xs shut = fsep (began z xs) (raised z.shut shut)
 
 module _ (w p : Ptr) (z : Names) where
   abbrev pub words : State → Fml
-  words s = fsep (word w 0 (position_of z.capacity s.head)) (fsep (word w 128 (position_of z.capacity (length s.sent))) (fsep (word w 256 (flag s.closed)) (word w 384 (one_gone (gone s.reader_stage) (gone s.writer_stage)))))
+  words s = fsep (word w 128 (position_of z.capacity s.head)) (fsep (word w 256 (position_of z.capacity (length s.sent))) (fsep (word w 384 (flag s.closed)) (word w 0 (one_gone (gone s.reader_stage) (gone s.writer_stage)))))
 
   abbrev pub idle : ℕ → ℕ → List ℕ → Fml
   idle limit n xs = fsep (fact (length xs ≡ n)) (run (byte p z.capacity) limit xs)

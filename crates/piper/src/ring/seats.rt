@@ -11,18 +11,18 @@ use std::marker::{Brand, Model, PhantomData, Send, Sync};
 use std::sync::atomic::Ordering::SeqCst;
 use std::sync::atomic::raw;
 
-/// The four words stand 128 bytes apart, so that no two share a cache line.
+/// The four words stand 128 bytes apart, so that no two share a cache line. What lies in front of this memory can share one with the first alone, which is used once, on leaving.
 pub(crate) const WORDS_SIZE: usize = 512;
 
 pub(crate) const WORDS_ALIGN: usize = 8;
 
-const HEAD_WORD: usize = 0;
+const LEFT_WORD: usize = 0;
 
-const TAIL_WORD: usize = 16;
+const HEAD_WORD: usize = 16;
 
-const CLOSED_WORD: usize = 32;
+const TAIL_WORD: usize = 32;
 
-const LEFT_WORD: usize = 48;
+const CLOSED_WORD: usize = 48;
 
 /// The reader's side of the words. `have` is all that it consumed, followed by all that it knows of.
 pub(crate) struct ReadSeat {

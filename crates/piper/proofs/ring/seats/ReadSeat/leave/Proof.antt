@@ -48,7 +48,7 @@ leave_spec 𝓤 𝓛 𝓜 𝓡 wired =
     proved 𝓛 En hs c 𝓜 𝓡 (Goes-dropped 𝓛 0 self yes (λ κs x f. refl), (Goes-dropped 𝓛 0 gift yes (λ κs x f. refl), tt)) #self fn (code.unfolded 𝓤 H 𝓜 𝓡 wired)
     (λ κs. ((λ x. seat_val x.words ∷ []), ((λ x. ghost_val ∷ []), tt))) (λ κs. ((λ x vs is. read_told x.words vs is.0), ((λ x vs is. blank_told vs is.0), tt))) (λ κs qs bounds a gh are.
     let h = a.0 in let g = a.1.0 in let w : Ptr = h.words in let p : Ptr = h.at in let z : Names = h.names in let C : Fml = common w p z in let K : Fml = reader_knows w p z half h.head h.seen (flag h.leaving) in
-    let low : ℕ = h.head in let high : ℕ = h.seen in let G : Fml = blanks w p z low (high - low) in let bw : ℕ = block_of w in let ow : ℕ = count_of w in let w' : Ptr = block_ptr bw ow in let e : ℕ = 384 + ow in let out : ℕ → Fml = Left 𝓛 w p z in
+    let low : ℕ = h.head in let high : ℕ = h.seen in let G : Fml = blanks w p z low (high - low) in let bw : ℕ = block_of w in let ow : ℕ = count_of w in let w' : Ptr = block_ptr bw ow in let e : ℕ = 0 + ow in let out : ℕ → Fml = Left 𝓛 w p z in
     let Step : SProp 𝓤 = asks 𝓛 (block_ptr bw e) (λ _. 1) always out in
     let y : (walk_of 𝓛 En hs c).Ghost = ((κs, qs, bounds, a, (seat_val w ∷ [], (ghost_val ∷ [], tt))), gh) in let Post : Val → SProp 𝓤 = (walk_of 𝓛 En hs c).post y in
     let Asked : Type 0 = (g.at ≡ p) × (g.capacity ≡ z.capacity) × (g.first ≡ low) × (g.first + g.count ≡ high) in

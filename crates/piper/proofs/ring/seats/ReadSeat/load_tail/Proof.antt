@@ -57,7 +57,7 @@ load_tail_spec 𝓤 𝓛 𝓜 𝓡 wired =
     proved 𝓛 En hs c 𝓜 𝓡 (Goes-ref 𝓛 3 0 tt self, (Goes-ref 𝓛 3 1 tt known, (Goes-dropped 𝓛 3 told yes (λ κs x f. refl), tt))) #self fn (code.unfolded 𝓤 H 𝓜 𝓡 wired)
     (λ κs. (mut_vals, (mut_vals, (shr_vals, tt)))) (λ κs. (mut_Tells (named 0) κs.0 Row, (mut_Tells (named 1) κs.1.0 KRow, (shr_Tells (named 2) κs.1.1.0 Mark.the_row, tt)))) (λ κs qs bounds a gh are.
     let b : ℕ = a.0.ref_ptr.0 in let o : ℕ = a.0.ref_ptr.1 in let h = a.0.now in let b' : ℕ = a.1.0.ref_ptr.0 in let o' : ℕ = a.1.0.ref_ptr.1 in let k = a.1.0.now in let t = a.1.1.0.now in let b2 : ℕ = a.1.1.0.ref_ptr.0 in let o2 : ℕ = a.1.1.0.ref_ptr.1 in let w : Ptr = h.words in let p : Ptr = h.at in let z : Names = h.names in
-    let bw : ℕ = block_of w in let e : ℕ = 128 + count_of w in let us : List Val = seat_val w ∷ [] in let Data : Fml = ReadData.own_val (w, tt) us in let out : ℕ → Fml = Refreshed 𝓛 w p z h.head h.seen h.have t.bytes h.leaving in
+    let bw : ℕ = block_of w in let e : ℕ = 256 + count_of w in let us : List Val = seat_val w ∷ [] in let Data : Fml = ReadData.own_val (w, tt) us in let out : ℕ → Fml = Refreshed 𝓛 w p z h.head h.seen h.have t.bytes h.leaving in
     let y : (walk_of 𝓛 En hs c).Ghost = ((κs, qs, bounds, a, (vptr b o ∷ [], (vptr b' o' ∷ [], (vptr b2 o2 ∷ [], tt)))), gh) in let Post : Val → SProp 𝓤 = (walk_of 𝓛 En hs c).post y in
     let Asked : Type 0 = (k.at ≡ p) × (k.capacity ≡ z.capacity) × (k.first + length k.bytes ≡ h.seen) × (t.names ≡ z) in
     qed 𝓛 (((‵ (flft κs.0 qs.0) ⊛ ‵ (flft κs.1.0 qs.1.0) ⊛ ‵ (flft κs.1.1.0 qs.1.1.0) ⊛ ‵ ftrue) ⊛ ‵ (owns (types_at En.signature.params κs) a y.0.4)) ∷ given Asked (‵ ftrue) ∷ []) ∵
