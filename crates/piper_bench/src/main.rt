@@ -67,7 +67,11 @@ impl Input for WriteEnd {
         self.refresh();
         let buf = self.write_buf(bytes.len());
         let n = buf.len();
-        if n != 0 {
+        // A whole piece has a branch of its own: there the count is known before the ring's indices are.
+        if n == bytes.len() {
+            copy(buf, bytes);
+            self.produce(bytes.len());
+        } else if n != 0 {
             copy(buf, &bytes[..n]);
             self.produce(n);
         }
@@ -80,9 +84,15 @@ impl Output for ReadEnd {
     fn get(&mut self, place: &mut [u8]) -> usize {
         self.refresh();
         let piece = self.peek_buf();
-        let n = piece.len().min(place.len());
+        let n = piece.len();
+        // As in `put`.
+        if place.len() <= n {
+            copy(place, &piece[..place.len()]);
+            self.consume(place.len());
+            return place.len();
+        }
         if n != 0 {
-            copy(&mut place[..n], &piece[..n]);
+            copy(&mut place[..n], piece);
             self.consume(n);
         }
         n

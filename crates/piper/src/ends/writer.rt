@@ -175,11 +175,14 @@ impl WriteEnd {
             return 0;
         }
         let most = max.min(self.room()).min(self.parts.capacity - from);
-        let set = self.parts.room.zeroed;
-        if from + most <= set {
+        if most <= 4096 {
+            return most;
+        }
+        let doubled = 2 * self.parts.room.zeroed;
+        if most - 4096 <= doubled {
             most
         } else {
-            bounded(most, set)
+            doubled + 4096
         }
     }
 
@@ -234,24 +237,6 @@ impl WriteEnd {
             alloc,
             capacity,
         }
-    }
-}
-
-/// At most 4,096 places beyond twice the `set` ones. Once all places are set, no lend comes here.
-#[cold]
-#[inline(never)]
-fn bounded(most: usize, set: usize) -> usize
-    requires { set < 2 ^ 63 }
-    ensures { result ≡ min most (2 * set + 4096) }
-{
-    if most <= 4096 {
-        return most;
-    }
-    let doubled = 2 * set;
-    if most - 4096 <= doubled {
-        most
-    } else {
-        doubled + 4096
     }
 }
 
