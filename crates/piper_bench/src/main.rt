@@ -53,7 +53,7 @@ fn copy(to: &mut [u8], from: &[u8])
     }
 }
 
-/// Copies `from` to `to` by the C library, out of the way of few bytes.
+/// Copies `from` to `to` by the C library, out of the way of whole pieces of few bytes.
 #[inline(never)]
 fn copy_many(to: &mut [u8], from: &[u8])
     requires { length from.now ≡ length to.old }
@@ -72,7 +72,7 @@ impl Input for WriteEnd {
             copy(buf, bytes);
             self.produce(bytes.len());
         } else if n != 0 {
-            copy(buf, &bytes[..n]);
+            copy_many(buf, &bytes[..n]);
             self.produce(n);
         }
         n
@@ -92,7 +92,7 @@ impl Output for ReadEnd {
             return place.len();
         }
         if n != 0 {
-            copy(&mut place[..n], piece);
+            copy_many(&mut place[..n], piece);
             self.consume(n);
         }
         n

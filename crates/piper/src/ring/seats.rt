@@ -11,7 +11,7 @@ use std::marker::{Brand, Model, PhantomData, Send, Sync};
 use std::sync::atomic::Ordering::SeqCst;
 use std::sync::atomic::raw;
 
-/// The four words stand 128 bytes apart, so that no two share a cache line. What lies in front of this memory can share one with the first alone, which is used once, on leaving.
+/// The four words stand 128 bytes apart, so that no two share a cache line. What lies in front of this memory can share one with the first alone, which each end uses once, on leaving.
 pub(crate) const WORDS_SIZE: usize = 512;
 
 pub(crate) const WORDS_ALIGN: usize = 8;
