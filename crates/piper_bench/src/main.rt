@@ -25,6 +25,9 @@ const LONGEST: usize = 16_777_216;
 /// Up to so many bytes are copied without a call.
 const FEW: usize = 256;
 
+/// So many bytes are copied at once.
+const BLOCK: usize = 4_096;
+
 /// So many bytes lie between what one thread writes and what the other reads, so that they share no cache line.
 const APART: usize = 128;
 
@@ -53,12 +56,16 @@ fn copy(to: &mut [u8], from: &[u8])
     }
 }
 
-/// Copies `from` to `to` by the C library, out of the way of whole pieces of few bytes.
+/// Copies `from` to `to` by the C library, out of the way of whole pieces of few bytes. Block by block, which between two threads was a little faster than one long copy.
 #[inline(never)]
 fn copy_many(to: &mut [u8], from: &[u8])
     requires { length from.now ≡ length to.old }
 {
-    to.copy_from_slice(from);
+    let many = from.len();
+    for start in (0..many).step_by(BLOCK) {
+        let end = start.saturating_add(BLOCK).min(many);
+        to[start..end].copy_from_slice(&from[start..end]);
+    }
 }
 
 impl Input for WriteEnd {
