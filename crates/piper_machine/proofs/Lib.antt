@@ -11,4 +11,8 @@ pub mod Alone
 mod worked
 pub mod Counting
 pub mod Honesty
+pub mod Watching
+pub mod ReaderWaits
+pub mod WriterWaits
+pub mod Remembering
 pub mod Acts

@@ -13,3 +13,4 @@ mod StepScript
 mod Steps
 mod Refusals
 mod HonestEnd
+mod Waiters

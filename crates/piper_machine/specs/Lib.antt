@@ -21,4 +21,6 @@ pub mod Disjoint
 pub mod History
 pub mod Honest
 pub mod Waiting
+pub mod Wait
+pub mod Remembered
 pub mod Machine

@@ -7,6 +7,7 @@ use Rattle.piper_machine.proofs.Runs.{runs_more}
 use Rattle.piper_machine.proofs.Conserving.{conserved-step}
 use Rattle.piper_machine.proofs.Counting.{Counted, counted_more}
 use Rattle.piper_machine.proofs.Honesty.{honest_more}
+use Rattle.piper_machine.proofs.Remembering.{remembers_more}
 use Rattle.piper_machine.proofs.machine.runs.run.Goals as goal
 
 pub loop-i-preserved : goal.loop-i-preserved
@@ -22,5 +23,6 @@ loop-i-preserved c =
       runs = subst (λ ss. Runs (fresh c.args.cap) [] ss after fs) (sym (take_more c.args.steps.now c.loop-i.i _ c.loop-i-test.true)) on;
       counted = subst (λ ss. Counted ss after) (sym (take_more c.args.steps.now c.loop-i.i _ c.loop-i-test.true)) (counted_more (take c.loop-i.i c.args.steps.now) _ before after es fs inv.counted made);
       honest = honest_more before after _ es fs inv.honest made;
+      remembers = remembers_more before after _ es fs c.learn.ensures inv.remembers made;
       conserved = conserved-step before after _ es fs c.learn.ensures c.learn-in-Ok-step.ensures inv.conserved made;
     }

@@ -5,6 +5,7 @@ use Rattle.piper_machine.specs.Run.{Runs}
 use Rattle.piper_machine.specs.Conservation.{IsConserved}
 use Rattle.piper_machine.proofs.Counting.{Counted}
 use Rattle.piper_machine.proofs.Honesty.{Honest}
+use Rattle.piper_machine.proofs.Remembering.{Remembers}
 use Rattle.piper_machine.proofs.machine.runs.run.Given as goal
 
 abbrev pub invariant-loop-i : goal.invariant-loop-i
@@ -12,5 +13,6 @@ invariant-loop-i l = record {
   runs : Runs (fresh l.cap) [] (take l.i l.steps) l.machine (events l.log);
   counted : Counted (take l.i l.steps) l.machine;
   honest : Honest l.machine (events l.log);
+  remembers : Remembers l.machine (events l.log);
   conserved : IsConserved l.machine (events l.log);
 }

@@ -1,0 +1,216 @@
+-- Each step keeps both sides remembered: its own side goes on from place to place, and the other is touched by it.
+use Rattle.std.proofs.Common.{◌≡◌, inl, inr, ℕ, List, [], ◌++◌, Bool, true, false, Option, None, Some, ◌==◌, refl, sym, ap, subst, slice_set}
+use Rattle.piper_sides.specs.declared.calls.Side.TheVariants.{Reader, Writer}
+use Rattle.piper_sides.specs.declared.calls.OpenCall.{OpenCall}
+use Rattle.piper_sides.specs.declared.calls.Call.{Call}
+use Rattle.piper_sides.specs.declared.calls.Call.TheVariants as call
+use Rattle.piper_sides.specs.declared.calls.Query.TheVariants.{Len, IsEmpty, IsFull}
+use Rattle.piper_sides.specs.declared.calls.Step.{Step}
+use Rattle.piper_sides.specs.declared.calls.Step.TheVariants.{Begin, Go, Put}
+use Rattle.piper_sides.specs.declared.events.Event.{Event}
+use Rattle.piper_sides.specs.declared.refusals.StepRefusal.{StepRefusal}
+use Rattle.piper_sides.specs.declared.table.Action.{Action}
+use Rattle.piper_sides.specs.declared.table.Action.TheVariants as does
+use Rattle.piper_sides.specs.declared.table.Purpose.TheVariants as purpose
+use Rattle.piper_sides.specs.declared.table.AfterRead.TheVariants as afterward
+use Rattle.piper_sides.specs.declared.table.AfterWrite.TheVariants as behind
+use Rattle.piper_sides.specs.declared.table.ReadPlace.{ReadPlace}
+use Rattle.piper_sides.specs.declared.table.ReadPlace.TheVariants as at
+use Rattle.piper_sides.specs.declared.table.WritePlace.{WritePlace}
+use Rattle.piper_sides.specs.declared.table.WritePlace.TheVariants as on
+use Rattle.piper_sides.specs.Open.{polling}
+use Rattle.piper_sides.specs.Table.{read_action, write_action, reader_looks_for}
+use Rattle.piper_machine.specs.Pipe.{Pipe, fresh}
+use Rattle.piper_machine.specs.Sound.{IsSound}
+use Rattle.piper_machine.specs.Action.{performed}
+use Rattle.piper_machine.specs.Step.{stepped, went}
+use Rattle.piper_machine.specs.Refusal.{reader_state, writer_state, cannot_begin, or_else, refusal_of}
+use Rattle.piper_machine.specs.Run.{Made}
+use Rattle.piper_machine.specs.Waiting.{IsBlocked, is_waking_reader, is_waking_writer}
+use Rattle.piper_machine.specs.Look.{context}
+use Rattle.piper_machine.specs.Lend.{lending}
+use Rattle.piper_machine.specs.Wait.{Wait, no_wait, handed_over, wait_from, wait_of}
+use Rattle.piper_machine.specs.Remembered.{IsRemembered, AreRemembered}
+use Rattle.piper_machine.proofs.Counting.{reader_leaves-writer, writer_leaves-reader}
+use Rattle.piper_machine.proofs.Watching.{Errand, away, takes, wakes, read_errand, write_errand, Watched, woken, calmly, taking, waking, holding, rests, wait-append}
+use Rattle.piper_machine.proofs.ReaderWaits.{ReadWaits, read_calm, reader-touched, reader-goes, reader-touches, looks_for}
+use Rattle.piper_machine.proofs.WriterWaits.{WriteWaits, write_calm, write_held, writer-touched, writer-goes, writer-touches}
+
+-- what every step keeps, over what the log says of each side's last polling call
+pub record Keeps (p : Pipe) (reads writes : Wait) : Type 0 where
+  pub reader : ReadWaits p (write_errand p.writer p.writer_call) reads
+  pub writer : WriteWaits p (read_errand p.reader p.reader_call) writes
+
+-- a side's step leaves what the other's call holds
+
+reader_leaves-call : (action : Action) (p : Pipe) → (performed Reader action p).writer_call ≡ p.writer_call
+reader_leaves-call (does.StoreClosed true) p = refl
+reader_leaves-call (does.StoreClosed false) p = refl
+reader_leaves-call (does.Take Reader) p = refl
+reader_leaves-call (does.Take Writer) p = refl
+reader_leaves-call action p = refl
+
+writer_leaves-call : (action : Action) (p : Pipe) → (performed Writer action p).reader_call ≡ p.reader_call
+writer_leaves-call (does.StoreClosed true) p = refl
+writer_leaves-call (does.StoreClosed false) p = refl
+writer_leaves-call (does.Take Reader) p = refl
+writer_leaves-call (does.Take Writer) p = refl
+writer_leaves-call action p = refl
+
+-- a call is opened outside any other call of its side
+
+reader-idle : (place : ReadPlace) (more : Option StepRefusal) → or_else (cannot_begin (reader_state place)) more ≡ None → place ≡ at.Idle
+reader-idle at.Idle more accepted = refl
+reader-idle place more accepted = absurd (cc)
+
+writer-idle : (place : WritePlace) (more : Option StepRefusal) → or_else (cannot_begin (writer_state place)) more ≡ None → place ≡ on.Idle
+writer-idle on.Idle more accepted = refl
+writer-idle place more accepted = absurd (cc)
+
+module _ (p : Pipe) (reads writes : Wait) (kept : Keeps p reads writes) where
+  -- the reader opens a call: it goes to a place away from the writer's slot, and the writer does not notice
+  reader-opens : (place : ReadPlace) (c : OpenCall) (now : Wait) → p.reader ≡ at.Idle → read_errand place c ≡ away
+      → (ReadWaits (record p { reader = at.Idle }) (write_errand p.writer p.writer_call) reads → ReadWaits (record p { reader = place; reader_call = c }) (write_errand p.writer p.writer_call) now)
+      → Keeps (record p { reader = place; reader_call = c }) now writes
+  reader-opens place c now idle errand own = record {
+    reader = own (subst (λ (place : ReadPlace). ReadWaits (record p { reader = place }) (write_errand p.writer p.writer_call) reads) idle kept.reader);
+    writer = writer-touched p _ _ _ writes writes refl refl
+        (rests None (record { unread = refl; capacity = refl; closed = refl }) refl (ap (λ (place : ReadPlace). read_errand place p.reader_call) idle) refl) kept.writer;
+  }
+
+  -- the writer opens a call, or a byte is put, with these bytes in what is lent
+  writer-opens : (place : WritePlace) (c : OpenCall) (lent : List ℕ) (now : Wait) → p.writer ≡ on.Idle → write_errand place c ≡ away
+      → (WriteWaits (record p { writer = on.Idle }) (read_errand p.reader p.reader_call) writes → WriteWaits (record p { writer = place; writer_call = c; lent = lent }) (read_errand p.reader p.reader_call) now)
+      → Keeps (record p { writer = place; writer_call = c; lent = lent }) reads now
+  writer-opens place c lent now idle errand own = record {
+    writer = own (subst (λ (place : WritePlace). WriteWaits (record p { writer = place }) (read_errand p.reader p.reader_call) writes) idle kept.writer);
+    reader = reader-touched p _ _ _ reads reads refl refl
+        (rests None (record { unread = refl; capacity = refl; closed = refl }) refl (ap (λ (place : WritePlace). write_errand place p.writer_call) idle) refl) kept.reader;
+  }
+
+  lends : (lent : List ℕ) → p.writer ≡ on.Idle → Keeps (lending lent p) reads writes
+  lends lent idle = subst (λ (place : WritePlace). Keeps (record p { writer = place; lent = lent }) reads writes) (sym idle)
+      (writer-opens on.Idle p.writer_call lent writes idle refl (λ h. record { waiting = h.waiting; look = tt }))
+
+  reads_on : (place : ReadPlace) → p.reader ≡ at.Idle → read_errand place p.reader_call ≡ away
+      → (ReadWaits (record p { reader = at.Idle }) (write_errand p.writer p.writer_call) reads → ReadWaits (record p { reader = place }) (write_errand p.writer p.writer_call) reads)
+      → Keeps (record p { reader = place }) reads writes
+  reads_on place = reader-opens place p.reader_call reads
+
+  writes_on : (place : WritePlace) → p.writer ≡ on.Idle → write_errand place p.writer_call ≡ away
+      → (WriteWaits (record p { writer = on.Idle }) (read_errand p.reader p.reader_call) writes → WriteWaits (record p { writer = place }) (read_errand p.reader p.reader_call) writes)
+      → Keeps (record p { writer = place }) reads writes
+  writes_on place = writer-opens place p.writer_call p.lent writes
+
+looks-away : (none : Bool) (c : OpenCall) → read_errand (reader_looks_for none purpose.Poll) c ≡ away
+looks-away true c = refl
+looks-away false c = refl
+
+begin-keeps : (lent : List ℕ) (c : Call) (p : Pipe) (reads writes : Wait) → refusal_of (Begin c) p ≡ None → Keeps p reads writes
+    → let new = stepped lent (Begin c) p in Keeps new.pipe (wait_from Reader reads new.events) (wait_from Writer writes new.events)
+begin-keeps lent (call.Len Reader) p reads writes accepted kept = reads_on p reads writes kept (at.QueryHead Len) (reader-idle p.reader _ accepted) refl (λ h. record { waiting = h.waiting; look = tt })
+begin-keeps lent (call.IsEmpty Reader) p reads writes accepted kept = reads_on p reads writes kept (at.QueryHead IsEmpty) (reader-idle p.reader _ accepted) refl (λ h. record { waiting = h.waiting; look = tt })
+begin-keeps lent (call.IsFull Reader) p reads writes accepted kept = reads_on p reads writes kept (at.QueryHead IsFull) (reader-idle p.reader _ accepted) refl (λ h. record { waiting = h.waiting; look = tt })
+begin-keeps lent (call.IsClosed Reader) p reads writes accepted kept = reads_on p reads writes kept at.QueryClosed (reader-idle p.reader _ accepted) refl (λ h. record { waiting = h.waiting; look = tt })
+begin-keeps lent (call.Consume n) p reads writes accepted kept = reads_on p reads writes kept (at.StoreHead n afterward.Answer) (reader-idle p.reader _ accepted) refl (λ h. record { waiting = h.waiting; look = tt })
+begin-keeps lent (call.Drop Reader) p reads writes accepted kept = reads_on p reads writes kept at.StoreClosed (reader-idle p.reader _ accepted) refl (λ h. record { waiting = h.waiting; look = tt })
+begin-keeps lent (call.Poll Reader waker luck) p reads writes accepted kept =
+    let c = polling (context waker luck) in
+    let now = handed_over (Some waker) reads in
+    let place = reader_looks_for (p.known == 0) purpose.Poll in
+    reader-opens p reads writes kept place c now (reader-idle p.reader _ accepted) (looks-away (p.known == 0) c)
+    (λ h. looks_for (write_errand p.writer p.writer_call) now (p.known == 0) purpose.Poll (record p { reader_call = c }) (λ pending. absurd (cc)) (refl, refl))
+begin-keeps lent (call.Len Writer) p reads writes accepted kept = writes_on p reads writes kept (on.QueryHead Len) (writer-idle p.writer _ accepted) refl (λ h. record { waiting = h.waiting; look = tt })
+begin-keeps lent (call.IsEmpty Writer) p reads writes accepted kept = writes_on p reads writes kept (on.QueryHead IsEmpty) (writer-idle p.writer _ accepted) refl (λ h. record { waiting = h.waiting; look = tt })
+begin-keeps lent (call.IsFull Writer) p reads writes accepted kept = writes_on p reads writes kept (on.QueryHead IsFull) (writer-idle p.writer _ accepted) refl (λ h. record { waiting = h.waiting; look = tt })
+begin-keeps lent (call.IsClosed Writer) p reads writes accepted kept = writes_on p reads writes kept on.QueryClosed (writer-idle p.writer _ accepted) refl (λ h. record { waiting = h.waiting; look = tt })
+begin-keeps lent (call.WriteBuf most) p reads writes accepted kept = lends p reads writes kept lent (writer-idle p.writer _ accepted)
+begin-keeps lent (call.Produced n) p reads writes accepted kept = writes_on p reads writes kept (on.StoreTail n behind.Answer) (writer-idle p.writer _ accepted) refl (λ h. record { waiting = h.waiting; look = tt })
+begin-keeps lent call.Close p reads writes accepted kept = writes_on p reads writes kept (on.StoreClosed behind.WakeWriter) (writer-idle p.writer _ accepted) refl (λ h. record { waiting = h.waiting; look = tt })
+begin-keeps lent (call.Drop Writer) p reads writes accepted kept = writes_on p reads writes kept (on.StoreClosed behind.Drop) (writer-idle p.writer _ accepted) refl (λ h. record { waiting = h.waiting; look = tt })
+begin-keeps lent (call.Poll Writer waker luck) p reads writes accepted kept =
+    writer-opens p reads writes kept (on.LookClosed purpose.Poll) (polling (context waker luck)) p.lent (handed_over (Some waker) writes) (writer-idle p.writer _ accepted) refl
+    (λ h. record { waiting = λ pending. absurd (cc); look = (refl, refl) })
+
+write_errand-same : (p q : Pipe) → q.writer ≡ p.writer → q.writer_call ≡ p.writer_call → write_errand p.writer p.writer_call ≡ write_errand q.writer q.writer_call
+write_errand-same p q place call = rw (place, call) refl
+
+read_errand-same : (p q : Pipe) → q.reader ≡ p.reader → q.reader_call ≡ p.reader_call → read_errand p.reader p.reader_call ≡ read_errand q.reader q.reader_call
+read_errand-same p q place call = rw (place, call) refl
+
+step-keeps : (lent : List ℕ) (s : Step) (p : Pipe) (reads writes : Wait) → IsSound p → refusal_of s p ≡ None → Keeps p reads writes
+    → let new = stepped lent s p in Keeps new.pipe (wait_from Reader reads new.events) (wait_from Writer writes new.events)
+step-keeps lent (Begin c) p reads writes sound accepted kept = begin-keeps lent c p reads writes accepted kept
+step-keeps lent (Go Reader) p reads writes sound accepted kept =
+    let place = reader_leaves-writer (read_action p.reader) p in
+    let call = reader_leaves-call (read_action p.reader) p in
+    record {
+      reader = subst (λ (e : Errand). ReadWaits (went Reader p).pipe e (wait_from Reader reads (went Reader p).events)) (write_errand-same p (went Reader p).pipe place call) (reader-goes p.reader p (write_errand p.writer p.writer_call) reads kept.reader);
+      writer = writer-touched p _ _ _ writes _ place call (reader-touches p.reader p writes) kept.writer;
+    }
+step-keeps lent (Go Writer) p reads writes sound accepted kept =
+    let place = writer_leaves-reader (write_action p.writer) p in
+    let call = writer_leaves-call (write_action p.writer) p in
+    record {
+      writer = subst (λ (e : Errand). WriteWaits (went Writer p).pipe e (wait_from Writer writes (went Writer p).events)) (read_errand-same p (went Writer p).pipe place call) (writer-goes p.writer p (read_errand p.reader p.reader_call) writes sound kept.writer);
+      reader = reader-touched p _ _ _ reads _ place call (writer-touches p.writer p reads) kept.reader;
+    }
+step-keeps lent (Put offset byte) p reads writes sound accepted kept = lends p reads writes kept (slice_set p.lent offset byte) (writer-idle p.writer _ accepted)
+
+-- what that says of a side outside any call
+
+wakes-writer : (place : ReadPlace) (c : OpenCall) (taken : Option ℕ) → read_errand place c ≡ wakes taken → (is_waking_writer place ≡ true) × (c.taken ≡ taken)
+wakes-writer (at.WakeWriter next) c taken e = (refl, cc)
+wakes-writer place c taken e = absurd (cc)
+
+takes-writers : (place : ReadPlace) (c : OpenCall) → read_errand place c ≡ takes → is_waking_writer place ≡ true
+takes-writers (at.TakeWriter next) c e = refl
+takes-writers place c e = absurd (cc)
+
+wakes-reader : (place : WritePlace) (c : OpenCall) (taken : Option ℕ) → write_errand place c ≡ wakes taken → (is_waking_reader place ≡ true) × (c.taken ≡ taken)
+wakes-reader (on.WakeReader next) c taken e = (refl, cc)
+wakes-reader place c taken e = absurd (cc)
+
+takes-readers : (place : WritePlace) (c : OpenCall) → write_errand place c ≡ takes → is_waking_reader place ≡ true
+takes-readers (on.TakeReader next) c e = refl
+takes-readers place c e = absurd (cc)
+
+reader-remembered : (p : Pipe) (w : Wait) → Watched w p.reader_waker None (IsBlocked Reader p) (write_errand p.writer p.writer_call) → IsRemembered Reader p w
+reader-remembered p w (woken h) = inl h
+reader-remembered p w (calmly h blocked) = inr (inl (h, blocked))
+reader-remembered p w (taking h e) = inr (inr (takes-readers p.writer p.writer_call e, inl h))
+reader-remembered p w (waking e) = let wakes = wakes-reader p.writer p.writer_call (Some w.handed) e in inr (inr (wakes.0, inr wakes.1))
+reader-remembered p w (holding h) = absurd (cc)
+
+writer-remembered : (p : Pipe) (w : Wait) → Watched w p.writer_waker None (IsBlocked Writer p) (read_errand p.reader p.reader_call) → IsRemembered Writer p w
+writer-remembered p w (woken h) = inl h
+writer-remembered p w (calmly h blocked) = inr (inl (h, blocked))
+writer-remembered p w (taking h e) = inr (inr (takes-writers p.reader p.reader_call e, inl h))
+writer-remembered p w (waking e) = let wakes = wakes-writer p.reader p.reader_call (Some w.handed) e in inr (inr (wakes.0, inr wakes.1))
+writer-remembered p w (holding h) = absurd (cc)
+
+all_remembered : (p : Pipe) (events : List Event) → Keeps p (wait_of Reader events) (wait_of Writer events) → AreRemembered p events
+all_remembered p events kept Reader idle pending = reader-remembered p (wait_of Reader events)
+    (subst (λ (place : ReadPlace). Watched (wait_of Reader events) p.reader_waker None (read_calm place p) (write_errand p.writer p.writer_call)) idle (kept.reader.waiting pending))
+all_remembered p events kept Writer idle pending = writer-remembered p (wait_of Writer events)
+    (subst (λ (place : WritePlace). Watched (wait_of Writer events) p.writer_waker (write_held place p.writer_call.taken) (write_calm place p) (read_errand p.reader p.reader_call)) idle (kept.writer.waiting pending))
+
+-- what every list of steps keeps
+pub record Remembers (p : Pipe) (events : List Event) : Type 0 where
+  pub keeps : Keeps p (wait_of Reader events) (wait_of Writer events)
+  pub remembered : AreRemembered p events
+
+remembers : (p : Pipe) (events : List Event) → Keeps p (wait_of Reader events) (wait_of Writer events) → Remembers p events
+remembers p events keeps = record { keeps = keeps; remembered = all_remembered p events keeps }
+
+pub remembers_none : (capacity : ℕ) → Remembers (fresh capacity) []
+remembers_none capacity = remembers (fresh capacity) [] (record { reader = record { waiting = λ pending. absurd (cc); look = tt }; writer = record { waiting = λ pending. absurd (cc); look = tt } })
+
+pub remembers_more : (p q : Pipe) (s : Step) (before after : List Event) → IsSound p → Remembers p before → Made p s q before after → Remembers q after
+remembers_more p q s before after sound kept made =
+    let new = stepped q.lent s p in
+    let next = step-keeps q.lent s p (wait_of Reader before) (wait_of Writer before) sound made.accepted kept.keeps in
+    let logged = before ++ new.events in
+    let on_log : Keeps new.pipe (wait_of Reader logged) (wait_of Writer logged) = rw (wait-append Reader no_wait before new.events, wait-append Writer no_wait before new.events) next in
+    let on_pipe : Keeps q (wait_of Reader logged) (wait_of Writer logged) = subst (λ (x : Pipe). Keeps x (wait_of Reader logged) (wait_of Writer logged)) (sym made.made.pipe) on_log in
+    remembers q after (subst (λ (es : List Event). Keeps q (wait_of Reader es) (wait_of Writer es)) (sym made.made.events) on_pipe)

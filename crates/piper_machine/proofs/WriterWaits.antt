@@ -1,0 +1,267 @@
+-- The writer as a waiter, from place to place of its own calls, and what each of its steps is to a waiting reader.
+use Rattle.std.proofs.Common.{◌≡◌, ℕ, ◌-◌, ◌≤◌, List, [], ◌++◌, length, take, Bool, true, false, Option, None, Some, ◌==◌, refl, sym, ap, subst, ◌∙◌, arith, length-append, length-take-le}
+use Rattle.std.specs.Bool.{⊤}
+use Rattle.std.proofs.lemmas.Bool.Decides.{nat_tests}
+use Rattle.piper_sides.specs.declared.calls.Side.TheVariants.{Reader, Writer}
+use Rattle.piper_sides.specs.declared.calls.Query.{Query}
+use Rattle.piper_sides.specs.declared.events.Answer.TheVariants.{Done}
+use Rattle.piper_sides.specs.declared.polling.Context.{Context}
+use Rattle.piper_sides.specs.declared.table.Purpose.{Purpose}
+use Rattle.piper_sides.specs.declared.table.Purpose.TheVariants as purpose
+use Rattle.piper_sides.specs.declared.table.AfterWrite.{AfterWrite}
+use Rattle.piper_sides.specs.declared.table.AfterWrite.TheVariants as behind
+use Rattle.piper_sides.specs.declared.table.WritePlace.{WritePlace}
+use Rattle.piper_sides.specs.declared.table.WritePlace.TheVariants as on
+use Rattle.piper_sides.specs.Table.{Next, write_action, end_or_pending, look_answer, writer_is_open, writer_looked, writer_looked_again, write_done}
+use Rattle.piper_sides.specs.Log.{answer_event}
+use Rattle.piper_machine.specs.Pipe.{Pipe}
+use Rattle.piper_machine.specs.Sound.{IsSound}
+use Rattle.piper_machine.specs.Action.{logged_of, registration_of, wake_of, refreshed_by}
+use Rattle.piper_machine.specs.Step.{call_after, went}
+use Rattle.piper_machine.specs.Waiting.{IsBlocked}
+use Rattle.piper_machine.specs.Wait.{Wait, wait_from}
+use Rattle.piper_machine.proofs.Watching.{Errand, wakes, write_errand, Watched, woken, calmly, taking, waking, holding, Same, Touch, rests, stores, finds, misses, calls, hears, hears-more, hears-it, hears-handed, rewatch, touched, touched-pending, IsHanded, Awaits, handed-touched, awaits-touched, awaits-more, answered-passes, registration-passes, wake-heard, context_of, query-told}
+
+-- what holds of the pipe while the waker stands in the slot: nothing any more once the writer itself has closed; behind its own take
+-- it does not stand there, and a close that wakes the reader alone does not occur
+abbrev pub write_calm : WritePlace → Pipe → Type 0
+write_calm on.Dropped p = ⊤
+write_calm (on.TakeReader behind.Drop) p = ⊤
+write_calm (on.TakeReader behind.WakeWriter) p = ⊤
+write_calm (on.WakeReader behind.Drop) p = ⊤
+write_calm (on.WakeReader behind.WakeWriter) p = ⊤
+write_calm on.TakeWriter p = ⊤
+write_calm on.WakeWriter p = ⊥
+write_calm (on.StoreClosed behind.Answer) p = ⊥
+write_calm place p = IsBlocked Writer p
+
+-- what the writer took from its own slot
+abbrev pub write_held : WritePlace → Option ℕ → Option ℕ
+write_held on.WakeWriter taken = taken
+write_held place taken = None
+
+-- inside a look: handed over, and behind the registration watched over
+abbrev pub WriteLook : WritePlace → Pipe → Errand → Wait → Type 0
+WriteLook (on.LookClosed l) p e w = IsHanded l p.writer_call.context w
+WriteLook (on.LookHead l) p e w = IsHanded l p.writer_call.context w
+WriteLook (on.LookRegister l) p e w = IsHanded l p.writer_call.context w
+WriteLook (on.LookHeadAgain l) p e w = IsHanded l p.writer_call.context w × Awaits l w p.writer_waker ⊤ e
+WriteLook (on.LookClosedAgain l) p e w = IsHanded l p.writer_call.context w × Awaits l w p.writer_waker (length p.unread ≡ p.capacity) e
+WriteLook (on.LookTake l) p e w = IsHanded l p.writer_call.context w
+WriteLook place p e w = ⊤
+
+pub record WriteWaits (p : Pipe) (e : Errand) (w : Wait) : Type 0 where
+  pub waiting : w.is_pending ≡ true → Watched w p.writer_waker (write_held p.writer p.writer_call.taken) (write_calm p.writer p) e
+  pub look : WriteLook p.writer p e w
+
+-- a step of the reader
+
+same-full : {p q : Pipe} → Same p q → length p.unread ≡ p.capacity → length q.unread ≡ q.capacity
+same-full same full = ap (λ (xs : List ℕ). length xs) same.unread ∙ full ∙ sym same.capacity
+
+same-blocked : {p q : Pipe} → Same p q → IsBlocked Writer p → IsBlocked Writer q
+same-blocked same b = (same-full same b.0, same.closed ∙ b.1)
+
+write_calm-same : {p q : Pipe} (place : WritePlace) → Same p q → write_calm place p → write_calm place q
+write_calm-same on.Dropped same c = tt
+write_calm-same (on.TakeReader behind.Drop) same c = tt
+write_calm-same (on.TakeReader behind.WakeWriter) same c = tt
+write_calm-same (on.WakeReader behind.Drop) same c = tt
+write_calm-same (on.WakeReader behind.WakeWriter) same c = tt
+write_calm-same on.TakeWriter same c = tt
+write_calm-same on.WakeWriter same c = c
+write_calm-same (on.StoreClosed behind.Answer) same c = c
+write_calm-same place same c = same-blocked same c
+
+look-touched : (p q : Pipe) (e e_after : Errand) (w v : Wait) (place : WritePlace) → q.writer_call ≡ p.writer_call → Touch p q p.writer_waker q.writer_waker e e_after w v → WriteLook place p e w → WriteLook place q e_after v
+look-touched p q e e_after w v (on.LookClosed l) same t h = rw same (handed-touched l p.writer_call.context t h)
+look-touched p q e e_after w v (on.LookHead l) same t h = rw same (handed-touched l p.writer_call.context t h)
+look-touched p q e e_after w v (on.LookRegister l) same t h = rw same (handed-touched l p.writer_call.context t h)
+look-touched p q e e_after w v (on.LookHeadAgain l) same t h = (rw same (handed-touched l p.writer_call.context t h.0), awaits-touched l _ _ (λ s c. c) t h.1)
+look-touched p q e e_after w v (on.LookClosedAgain l) same t h = (rw same (handed-touched l p.writer_call.context t h.0), awaits-touched l _ _ same-full t h.1)
+look-touched p q e e_after w v (on.LookTake l) same t h = rw same (handed-touched l p.writer_call.context t h)
+look-touched p q e e_after w v place same t h = tt
+
+held-same : (p q : Pipe) → q.writer ≡ p.writer → q.writer_call ≡ p.writer_call → write_held q.writer q.writer_call.taken ≡ write_held p.writer p.writer_call.taken
+held-same p q place call = rw (place, call) refl
+
+pub writer-touched : (p q : Pipe) (e e_after : Errand) (w v : Wait) → q.writer ≡ p.writer → q.writer_call ≡ p.writer_call → Touch p q p.writer_waker q.writer_waker e e_after w v → WriteWaits p e w → WriteWaits q e_after v
+writer-touched p q e e_after w v place call t h = record {
+  waiting = λ pending. rewatch _ _ refl (held-same p q place call) refl (λ a. a) (λ c. c)
+      (touched _ _ (λ same c. subst (λ (at : WritePlace). write_calm at q) (sym place) (write_calm-same p.writer same c)) t (h.waiting (sym (touched-pending t) ∙ pending)));
+  look = subst (λ (at : WritePlace). WriteLook at q e_after v) (sym place) (look-touched p q e e_after w v p.writer call t h.look);
+}
+
+-- the writer's own steps
+
+-- the writer makes its next step
+abbrev Goes : Pipe → Errand → Wait → Type 0
+Goes p e w = WriteWaits p e w → let to = went Writer p in WriteWaits to.pipe e (wait_from Writer w to.events)
+
+queried : (query : Query) (count : ℕ) (p : Pipe) (e : Errand) (w : Wait) → Goes (record p { writer = on.QueryTail query count }) e w
+queried query count p e w h = rw (query-told query p.capacity count w) (record { waiting = h.waiting; look = tt })
+
+-- a call that looks stands here, or has ended, with its context as it was
+abbrev Stands : Next WritePlace → Pipe → Errand → Wait → Type 0
+Stands next p e w = WriteWaits (record p { writer = next.place; writer_call = call_after next.answer p.writer_call }) e (wait_from Writer w (answer_event Writer next.answer))
+
+opens : (l : Purpose) (is_closed none : Bool) (p : Pipe) (e : Errand) (w : Wait) → WriteWaits (record p { writer = on.LookClosed l }) e w → Stands (writer_is_open is_closed none l) p e w
+opens purpose.Poll true none p e w h = record { waiting = h.waiting; look = tt }
+opens purpose.Poll false true p e w h = record { waiting = h.waiting; look = h.look }
+opens purpose.Poll false false p e w h = record { waiting = h.waiting; look = h.look }
+
+looked : (l : Purpose) (none : Bool) (p : Pipe) (e : Errand) (w : Wait) → WriteWaits (record p { writer = on.LookHead l }) e w → WriteWaits (record p { writer = writer_looked none l }) e w
+looked purpose.Poll true p e w h = record { waiting = h.waiting; look = h.look }
+looked purpose.Poll false p e w h = record { waiting = h.waiting; look = h.look }
+
+abbrev with_context : Option Context → Option ℕ → Purpose → Pipe → Pipe
+with_context context taken l p = record p { writer = on.LookRegister l; writer_call = record { context = context; taken = taken } }
+
+registers : (l : Purpose) (granted : Bool) (waker draw : ℕ) (yields : Bool) (taken : Option ℕ) (p : Pipe) (e : Errand) (w : Wait)
+    → Goes (with_context (Some (context_of granted waker draw yields)) taken l p) e w
+registers purpose.Poll true waker draw yields taken p e w h = record {
+  waiting = λ pending. absurd (let never = h.look.0 in cc);
+  look = (h.look, calmly (ap (λ (n : ℕ). Some n) (sym h.look.1)) tt);
+}
+registers purpose.Poll false waker draw yields taken p e w h = record { waiting = h.waiting; look = tt }
+
+registers-if : (l : Purpose) (context : Option Context) (taken : Option ℕ) (p : Pipe) (e : Errand) (w : Wait) → Goes (with_context context taken l p) e w
+registers-if purpose.Poll None taken p e w h = record { waiting = h.waiting; look = tt }
+registers-if l (Some cx) taken p e w h = registers l cx.luck.register_granted cx.waker cx.luck.draw cx.luck.yield_granted taken p e w h
+
+-- the second load of head
+looked-again : (l : Purpose) (none : Bool) (p : Pipe) (e : Errand) (w : Wait) → (none ≡ true → length p.unread ≡ p.capacity) → WriteWaits (record p { writer = on.LookHeadAgain l }) e w
+    → WriteWaits (record p { writer = writer_looked_again none l }) e w
+looked-again l true p e w full h = record { waiting = h.waiting; look = (h.look.0, awaits-more w p.writer_waker e l _ _ (λ c. full refl) h.look.1) }
+looked-again purpose.Poll false p e w full h = record { waiting = h.waiting; look = h.look.0 }
+
+-- the last load of closed: without room in an open pipe the writer waits from now on
+closed-again : (l : Purpose) (is_closed : Bool) (p : Pipe) (e : Errand) (w : Wait) → p.is_closed ≡ is_closed → WriteWaits (record p { writer = on.LookClosedAgain l }) e w
+    → WriteWaits (record p { writer = on.Idle; writer_call = call_after (Some (look_answer l (end_or_pending is_closed))) p.writer_call }) e (wait_from Writer w (answer_event Writer (Some (look_answer l (end_or_pending is_closed)))))
+closed-again purpose.Poll true p e w flag h = record { waiting = h.waiting; look = tt }
+closed-again purpose.Poll false p e w flag h = record { waiting = λ pending. rewatch _ _ refl refl refl (λ a. a) (λ full. (full, flag)) h.look.1; look = tt }
+
+takes-own-room : (l : Purpose) (p : Pipe) (e : Errand) (w : Wait) → Goes (record p { writer = on.LookTake l }) e w
+takes-own-room purpose.Poll p e w h = record { waiting = λ pending. absurd (let never = h.look.0 in cc); look = tt }
+
+-- a full pipe has no room for a byte
+none_stored : (p : Pipe) (n : ℕ) → IsSound p → n ≤ length p.lent → length p.unread ≡ p.capacity → length (p.unread ++ take n p.lent) ≡ p.capacity
+none_stored p n sound within full =
+    let more = length-append p.unread (take n p.lent) in
+    let some = length-take-le n p.lent within in
+    omega (arith, sound.room, sound.lent_room)
+
+publishes : (next : AfterWrite) (n : ℕ) (p : Pipe) (e : Errand) (w : Wait) → IsSound (record p { writer = on.StoreTail n next }) → Goes (record p { writer = on.StoreTail n next }) e w
+publishes behind.Answer n p e w sound h = record { waiting = λ pending. rewatch _ _ refl refl refl (λ a. a) (λ c. (none_stored (record p { writer = on.StoreTail n behind.Answer }) n sound sound.tail_store c.0, c.1)) (h.waiting pending); look = tt }
+publishes behind.Drop n p e w sound h = record { waiting = λ pending. rewatch _ _ refl refl refl (λ a. a) (λ c. tt) (h.waiting pending); look = tt }
+publishes behind.WakeWriter n p e w sound h = record { waiting = λ pending. rewatch _ _ refl refl refl (λ a. a) (λ c. tt) (h.waiting pending); look = tt }
+
+takes-readers : (next : AfterWrite) (slot : Option ℕ) (p : Pipe) (e : Errand) (w : Wait) → Goes (record p { writer = on.TakeReader next; reader_waker = slot }) e w
+takes-readers behind.Answer None p e w h = record { waiting = h.waiting; look = tt }
+takes-readers behind.Drop None p e w h = record { waiting = h.waiting; look = tt }
+takes-readers behind.WakeWriter None p e w h = record { waiting = h.waiting; look = tt }
+takes-readers behind.Answer (Some waker) p e w h = record { waiting = h.waiting; look = tt }
+takes-readers behind.Drop (Some waker) p e w h = record { waiting = h.waiting; look = tt }
+takes-readers behind.WakeWriter (Some waker) p e w h = record { waiting = h.waiting; look = tt }
+
+wakes-reader : (next : AfterWrite) (context : Option Context) (name : Option ℕ) (p : Pipe) (e : Errand) (w : Wait) → Goes (record p { writer = on.WakeReader next; writer_call = record { context = context; taken = name } }) e w
+wakes-reader behind.Answer context None p e w h = record { waiting = h.waiting; look = tt }
+wakes-reader behind.Drop context None p e w h = record { waiting = h.waiting; look = tt }
+wakes-reader behind.WakeWriter context None p e w h = record { waiting = h.waiting; look = tt }
+wakes-reader behind.Answer context (Some waker) p e w h = record { waiting = λ pending. rewatch _ _ refl refl refl (hears-more (Some waker) w) (λ c. c) (h.waiting pending); look = tt }
+wakes-reader behind.Drop context (Some waker) p e w h = record { waiting = λ pending. rewatch _ _ refl refl refl (hears-more (Some waker) w) (λ c. c) (h.waiting pending); look = tt }
+wakes-reader behind.WakeWriter context (Some waker) p e w h = record { waiting = λ pending. rewatch _ _ refl refl refl (hears-more (Some waker) w) (λ c. c) (h.waiting pending); look = tt }
+
+closes : (next : AfterWrite) (p : Pipe) (e : Errand) (w : Wait) → Goes (record p { writer = on.StoreClosed next }) e w
+closes behind.Answer p e w h = record { waiting = λ pending. rewatch _ _ refl refl refl (λ a. a) (λ c. absurd c) (h.waiting pending); look = tt }
+closes behind.Drop p e w h = record { waiting = λ pending. rewatch _ _ refl refl refl (λ a. a) (λ c. tt) (h.waiting pending); look = tt }
+closes behind.WakeWriter p e w h = record { waiting = λ pending. rewatch _ _ refl refl refl (λ a. a) (λ c. tt) (h.waiting pending); look = tt }
+
+-- behind a close the writer empties its own slot: what stood there it holds
+empties : {w : Wait} {e : Errand} (slot : Option ℕ) (calm : Type 0) → Watched w slot None calm e → Watched w None slot ⊥ e
+empties slot calm (woken h) = woken h
+empties slot calm (calmly h c) = holding h
+empties slot calm (taking h t) = holding h
+empties slot calm (waking t) = waking t
+empties slot calm (holding h) = absurd (cc)
+
+none_emptied : {w : Wait} {e : Errand} (calm : Type 0) → Watched w None None ⊥ e → Watched w None None calm e
+none_emptied calm h = rewatch ⊥ calm refl refl refl (λ a. a) (λ c. absurd c) h
+
+takes-own-slot : (slot : Option ℕ) (p : Pipe) (e : Errand) (w : Wait) → Goes (record p { writer = on.TakeWriter; writer_waker = slot }) e w
+takes-own-slot None p e w h = record { waiting = λ pending. none_emptied _ (empties None ⊤ (h.waiting pending)); look = tt }
+takes-own-slot (Some waker) p e w h = record { waiting = λ pending. empties (Some waker) ⊤ (h.waiting pending); look = tt }
+
+-- and calls it
+hears-held : {w : Wait} {slot : Option ℕ} {e : Errand} (name : Option ℕ) (calm : Type 0) → Watched w slot name ⊥ e → Watched (hears name w) slot None calm e
+hears-held {w = w} name calm (woken h) = woken (hears-more name w h)
+hears-held name calm (calmly h c) = absurd c
+hears-held {w = w} name calm (taking h t) = taking (h ∙ ap (λ (n : ℕ). Some n) (sym (hears-handed name w))) t
+hears-held {w = w} name calm (waking t) = waking (t ∙ ap (λ (n : ℕ). wakes (Some n)) (sym (hears-handed name w)))
+hears-held {w = w} name calm (holding h) = woken (hears-it name w h)
+
+wakes-own : (context : Option Context) (name : Option ℕ) (p : Pipe) (e : Errand) (w : Wait) → Goes (record p { writer = on.WakeWriter; writer_call = record { context = context; taken = name } }) e w
+wakes-own context None p e w h = record { waiting = λ pending. hears-held None _ (h.waiting pending); look = tt }
+wakes-own context (Some waker) p e w h = record { waiting = λ pending. hears-held (Some waker) _ (h.waiting pending); look = tt }
+
+full_from : (p : Pipe) → IsSound p → (p.capacity - length p.unread == 0) ≡ true → length p.unread ≡ p.capacity
+full_from p sound none = let within = sound.unread in grind (arith, nat_tests)
+
+pub writer-goes : (place : WritePlace) (p : Pipe) (e : Errand) (w : Wait) → IsSound (record p { writer = place }) → Goes (record p { writer = place }) e w
+writer-goes on.Idle p e w sound h = record { waiting = h.waiting; look = tt }
+writer-goes on.Dropped p e w sound h = record { waiting = h.waiting; look = tt }
+writer-goes (on.QueryHead query) p e w sound h = record { waiting = h.waiting; look = tt }
+writer-goes (on.QueryTail query count) p e w sound h = queried query count p e w h
+writer-goes on.QueryClosed p e w sound h = record { waiting = h.waiting; look = tt }
+writer-goes (on.LookClosed l) p e w sound h = opens l p.is_closed (p.room == 0) p e w h
+writer-goes (on.LookHead l) p e w sound h = looked l (p.capacity - length p.unread == 0) (refreshed_by Writer p) e w (record { waiting = h.waiting; look = h.look })
+writer-goes (on.LookRegister l) p e w sound h = registers-if l p.writer_call.context p.writer_call.taken p e w h
+writer-goes (on.LookHeadAgain l) p e w sound h =
+    looked-again l (p.capacity - length p.unread == 0) (refreshed_by Writer p) e w (full_from (record p { writer = on.LookHeadAgain l }) sound) (record { waiting = h.waiting; look = h.look })
+writer-goes (on.LookClosedAgain l) p e w sound h = closed-again l p.is_closed p e w refl h
+writer-goes (on.LookTake l) p e w sound h = takes-own-room l p e w h
+writer-goes (on.StoreTail n next) p e w sound h = publishes next n p e w sound h
+writer-goes (on.TakeReader next) p e w sound h = takes-readers next p.reader_waker p e w h
+writer-goes (on.WakeReader next) p e w sound h = wakes-reader next p.writer_call.context p.writer_call.taken p e w h
+writer-goes (on.StoreClosed next) p e w sound h = closes next p e w h
+writer-goes on.TakeWriter p e w sound h = takes-own-slot p.writer_waker p e w h
+writer-goes on.WakeWriter p e w sound h = wakes-own p.writer_call.context p.writer_call.taken p e w h
+
+-- what each step is to a waiting reader
+
+abbrev Touches : Pipe → Wait → Type 0
+Touches p w =
+    let to = went Writer p in
+    Touch p to.pipe p.reader_waker to.pipe.reader_waker (write_errand p.writer p.writer_call) (write_errand to.pipe.writer to.pipe.writer_call) w (wait_from Reader w to.events)
+
+same : (p q : Pipe) → q.unread ≡ p.unread → q.capacity ≡ p.capacity → q.is_closed ≡ p.is_closed → Same p q
+same p q unread capacity closed = record { unread = unread; capacity = capacity; closed = closed }
+
+takes-touch : (next : AfterWrite) (slot : Option ℕ) (p : Pipe) (w : Wait) → Touches (record p { writer = on.TakeReader next; reader_waker = slot }) w
+takes-touch next None p w = misses refl refl (answered-passes Reader Writer w w [] (write_done next).answer refl refl)
+takes-touch next (Some waker) p w = finds waker refl refl refl refl
+
+closes-touch : (next : AfterWrite) (p : Pipe) (w : Wait) → Touches (record p { writer = on.StoreClosed next }) w
+closes-touch behind.Answer p w = stores refl refl refl refl
+closes-touch behind.Drop p w = stores refl refl refl refl
+closes-touch behind.WakeWriter p w = stores refl refl refl refl
+
+pub writer-touches : (place : WritePlace) (p : Pipe) (w : Wait) → Touches (record p { writer = place }) w
+writer-touches on.Idle p w = rests None (same _ _ refl refl refl) refl refl refl
+writer-touches on.Dropped p w = rests None (same _ _ refl refl refl) refl refl refl
+writer-touches (on.QueryHead query) p w = rests None (same _ _ refl refl refl) refl refl refl
+writer-touches (on.QueryTail query count) p w = rests None (same _ _ refl refl refl) refl refl refl
+writer-touches on.QueryClosed p w = rests None (same _ _ refl refl refl) refl refl refl
+writer-touches (on.LookClosed l) p w = rests None (same _ _ refl refl refl) refl refl (answered-passes Reader Writer w w (logged_of Writer (write_action (on.LookClosed l)) p) _ refl refl)
+writer-touches (on.LookHead l) p w = rests None (same _ _ refl refl refl) refl refl refl
+writer-touches (on.LookRegister l) p w = rests None (same _ _ refl refl refl) refl refl
+    (answered-passes Reader Writer w w (registration_of Writer p.writer_call.context) _ refl (registration-passes Reader Writer w p.writer_call.context refl))
+writer-touches (on.LookHeadAgain l) p w = rests None (same _ _ refl refl refl) refl refl refl
+writer-touches (on.LookClosedAgain l) p w = rests None (same _ _ refl refl refl) refl refl refl
+writer-touches (on.LookTake l) p w = rests None (same _ _ refl refl refl) refl refl (answered-passes Reader Writer w w [] _ refl refl)
+writer-touches (on.StoreTail n next) p w = stores refl refl refl refl
+writer-touches (on.TakeReader next) p w = takes-touch next p.reader_waker p w
+writer-touches (on.WakeReader next) p w = calls p.writer_call.taken (same _ _ refl refl refl) refl refl (answered-passes Reader Writer w _ (wake_of p.writer_call.taken) (write_done next).answer refl (wake-heard Reader w p.writer_call.taken))
+writer-touches (on.StoreClosed next) p w = closes-touch next p w
+writer-touches on.TakeWriter p w = rests None (same _ _ refl refl refl) refl refl (answered-passes Reader Writer w w [] _ refl refl)
+writer-touches on.WakeWriter p w = rests p.writer_call.taken (same _ _ refl refl refl) refl refl (answered-passes Reader Writer w _ (wake_of p.writer_call.taken) (Some Done) refl (wake-heard Reader w p.writer_call.taken))

@@ -1,0 +1,105 @@
+-- A side that was told to wait, from place to place of the other side's wake, and what no run may come to.
+use Rattle.std.specs.Prelude.{◌≡◌, ℕ, List, [], ◌∷◌, take, true, false, Some, refl}
+use Rattle.std.proofs.Common.{inl, inr}
+use Rattle.piper_sides.specs.declared.calls.Side.TheVariants.{Reader, Writer}
+use Rattle.piper_sides.specs.declared.calls.Call.TheVariants as call
+use Rattle.piper_sides.specs.declared.calls.Kind.TheVariants as kind
+use Rattle.piper_sides.specs.declared.calls.Step.{Step}
+use Rattle.piper_sides.specs.declared.calls.Step.TheVariants.{Begin, Go}
+use Rattle.piper_sides.specs.declared.events.Event.{Event}
+use Rattle.piper_sides.specs.declared.events.Event.TheVariants.{Began, Published, Registered, Woken, Answered}
+use Rattle.piper_sides.specs.declared.events.Answer.TheVariants as answer
+use Rattle.piper_sides.specs.declared.polling.Polled.TheVariants as polled
+use Rattle.piper_sides.specs.declared.table.WritePlace.TheVariants as on
+use Rattle.piper_machine.specs.Pipe.{Pipe, fresh}
+use Rattle.piper_machine.specs.Wait.{Wait, wait_of}
+use Rattle.piper_machine.specs.Remembered.{IsRemembered}
+use Rattle.piper_machine.proofs.worked.Script.{by}
+use Rattle.piper_machine.proofs.worked.StepScript.{gone}
+
+-- The reader polls an empty pipe and is told to wait; then the writer publishes no byte, which wakes all the same.
+abbrev waits_then_woken : List Step
+waits_then_woken =
+    Begin (call.Poll Reader 1 (by 1).luck) ∷ Go Reader ∷ Go Reader ∷ Go Reader ∷ Go Reader
+    ∷ Begin (call.Produced 0) ∷ Go Writer ∷ Go Writer ∷ Go Writer
+    ∷ Begin (call.Len Reader) ∷ Go Reader ∷ Go Reader ∷ []
+
+abbrev pipe_after : ℕ → Pipe
+pipe_after n = (gone (take n waits_then_woken) (fresh 4)).pipe
+
+abbrev reader_waits : ℕ → Wait
+reader_waits n = wait_of Reader (gone (take n waits_then_woken) (fresh 4)).events
+
+-- told to wait at the fifth step, woken at the ninth; a query in between or behind changes nothing of it
+told_and_woken :
+    (reader_waits 4 ≡ record { handed = 1; is_woken = false; is_pending = false })
+    × (reader_waits 5 ≡ record { handed = 1; is_woken = false; is_pending = true })
+    × (reader_waits 9 ≡ record { handed = 1; is_woken = true; is_pending = true })
+    × (reader_waits 12 ≡ record { handed = 1; is_woken = true; is_pending = true })
+told_and_woken = (refl, refl, refl, refl)
+
+-- it stands ready; behind the store the writer is to find its waker in the slot; then it has it in its hand; then it has called it
+always_remembered :
+    IsRemembered Reader (pipe_after 5) (reader_waits 5)
+    × IsRemembered Reader (pipe_after 7) (reader_waits 7)
+    × IsRemembered Reader (pipe_after 8) (reader_waits 8)
+    × IsRemembered Reader (pipe_after 9) (reader_waits 9)
+always_remembered = (inr (inl (refl, (refl, refl))), inr (inr (refl, inl refl)), inr (inr (refl, inr refl)), inl refl)
+
+-- a waker that was called counts until the side registers it again
+abbrev pending : Event
+pending = Answered Reader (answer.Poll polled.Pending)
+
+registered_again : wait_of Reader (Began Reader kind.Poll (Some 1) ∷ Registered Reader 1 ∷ Woken 1 ∷ pending ∷ Began Reader kind.Poll (Some 1) ∷ Registered Reader 1 ∷ pending ∷ []) ≡ record { handed = 1; is_woken = false; is_pending = true }
+registered_again = refl
+
+-- another waker's call is none
+another_waker : wait_of Reader (Began Reader kind.Poll (Some 1) ∷ Registered Reader 1 ∷ pending ∷ Woken 2 ∷ []) ≡ record { handed = 1; is_woken = false; is_pending = true }
+another_waker = refl
+
+-- To these pipes, with nobody about to call, a wrong order of steps would come. The reader was told to wait and is not called.
+abbrev told_to_wait : Wait
+told_to_wait = record { handed = 1; is_woken = false; is_pending = true }
+
+-- a look that registers after its last load of tail, when a byte has come in between
+abbrev byte_overlooked : Pipe
+byte_overlooked = record (fresh 4) { unread = 7 ∷ []; reader_waker = Some 1 }
+
+byte_overlooked_forgets : IsRemembered Reader byte_overlooked told_to_wait → ⊥
+byte_overlooked_forgets (inl called) = absurd (cc)
+byte_overlooked_forgets (inr (inl ready)) = let none = ready.1.0 in absurd (cc)
+byte_overlooked_forgets (inr (inr about)) = let between = about.0 in absurd (cc)
+
+-- a drop of the writer that empties its own slot in place of the reader's
+abbrev end_untold : Pipe
+end_untold = record (fresh 4) { is_closed = true; reader_waker = Some 1; writer = on.Dropped }
+
+end_untold_forgets : IsRemembered Reader end_untold told_to_wait → ⊥
+end_untold_forgets (inl called) = absurd (cc)
+end_untold_forgets (inr (inl ready)) = let open_still = ready.1.1 in absurd (cc)
+end_untold_forgets (inr (inr about)) = let between = about.0 in absurd (cc)
+
+-- a try that takes the reader's waker out of its slot
+abbrev waker_lost : Pipe
+waker_lost = fresh 4
+
+waker_lost_forgets : IsRemembered Reader waker_lost told_to_wait → ⊥
+waker_lost_forgets (inl called) = absurd (cc)
+waker_lost_forgets (inr (inl ready)) = let stands = ready.0 in absurd (cc)
+waker_lost_forgets (inr (inr about)) = let between = about.0 in absurd (cc)
+
+-- a close that wakes the reader alone
+abbrev writer_untold : Pipe
+writer_untold = record (fresh 1) { unread = 7 ∷ []; room = 0; is_closed = true; is_shut = true; writer_waker = Some 1 }
+
+writer_untold_forgets : IsRemembered Writer writer_untold told_to_wait → ⊥
+writer_untold_forgets (inl called) = absurd (cc)
+writer_untold_forgets (inr (inl ready)) = let open_still = ready.1.1 in absurd (cc)
+writer_untold_forgets (inr (inr about)) = let between = about.0 in absurd (cc)
+
+-- a wake before its store: the reader, called too early, was told to wait once more, and then the byte came
+abbrev called_too_early : List Event
+called_too_early = Began Reader kind.Poll (Some 1) ∷ Registered Reader 1 ∷ pending ∷ Woken 1 ∷ Began Reader kind.Poll (Some 1) ∷ Registered Reader 1 ∷ pending ∷ Published (7 ∷ []) ∷ []
+
+called_too_early_forgets : IsRemembered Reader byte_overlooked (wait_of Reader called_too_early) → ⊥
+called_too_early_forgets = byte_overlooked_forgets
