@@ -15,4 +15,5 @@ pub mod Watching
 pub mod ReaderWaits
 pub mod WriterWaits
 pub mod Remembering
+pub mod Finality
 pub mod Acts

@@ -59,11 +59,11 @@ writer_leaves-call action p = refl
 
 -- a call is opened outside any other call of its side
 
-reader-idle : (place : ReadPlace) (more : Option StepRefusal) → or_else (cannot_begin (reader_state place)) more ≡ None → place ≡ at.Idle
+pub reader-idle : (place : ReadPlace) (more : Option StepRefusal) → or_else (cannot_begin (reader_state place)) more ≡ None → place ≡ at.Idle
 reader-idle at.Idle more accepted = refl
 reader-idle place more accepted = absurd (cc)
 
-writer-idle : (place : WritePlace) (more : Option StepRefusal) → or_else (cannot_begin (writer_state place)) more ≡ None → place ≡ on.Idle
+pub writer-idle : (place : WritePlace) (more : Option StepRefusal) → or_else (cannot_begin (writer_state place)) more ≡ None → place ≡ on.Idle
 writer-idle on.Idle more accepted = refl
 writer-idle place more accepted = absurd (cc)
 

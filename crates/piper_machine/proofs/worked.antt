@@ -14,3 +14,4 @@ mod Steps
 mod Refusals
 mod HonestEnd
 mod Waiters
+mod ToldEnd

@@ -23,4 +23,5 @@ pub mod Honest
 pub mod Waiting
 pub mod Wait
 pub mod Remembered
+pub mod Final
 pub mod Machine

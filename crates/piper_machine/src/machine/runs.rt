@@ -15,6 +15,7 @@ ghost use Rattle.piper_machine.specs.Counts.{IsCounted};
 ghost use Rattle.piper_machine.specs.Conservation.{IsConserved};
 ghost use Rattle.piper_machine.specs.Disjoint.{IsDisjoint, KeepsKnown, IsWriterStep};
 ghost use Rattle.piper_machine.specs.Honest.{IsHonest};
+ghost use Rattle.piper_machine.specs.Final.{IsFinal};
 ghost use Rattle.piper_machine.specs.Remembered.{AreRemembered};
 ghost use Rattle.piper_machine.specs.Sound.{IsSound};
 ghost use Rattle.piper_machine.specs.Run.{Made, IsStepped, Runs, IsRefusal, IsRunRefusal};
@@ -370,6 +371,7 @@ pub fn run(alloc: Global, cap: usize, steps: &[Step]) -> Result<(Machine, Log), 
     ensures disjoint { IfOk result (λ run. IsDisjoint run.0) }
     ensures counted { IfOk result (λ run. IsCounted steps.now) }
     ensures honest { IfOk result (λ run. IsHonest (events run.1)) }
+    ensures finality { IfOk result (λ run. IsFinal run.0 (events run.1)) }
     ensures remembered { IfOk result (λ run. AreRemembered run.0 (events run.1)) }
 {
     let Ok(mut machine) = Machine::new(alloc, cap) else {

@@ -8,6 +8,7 @@ use Rattle.piper_machine.proofs.Conserving.{conserved-step}
 use Rattle.piper_machine.proofs.Counting.{Counted, counted_more}
 use Rattle.piper_machine.proofs.Honesty.{honest_more}
 use Rattle.piper_machine.proofs.Remembering.{remembers_more}
+use Rattle.piper_machine.proofs.Finality.{final_more}
 use Rattle.piper_machine.proofs.machine.runs.run.Goals as goal
 
 pub loop-i-preserved : goal.loop-i-preserved
@@ -24,5 +25,6 @@ loop-i-preserved c =
       counted = subst (λ ss. Counted ss after) (sym (take_more c.args.steps.now c.loop-i.i _ c.loop-i-test.true)) (counted_more (take c.loop-i.i c.args.steps.now) _ before after es fs inv.counted made);
       honest = honest_more before after _ es fs inv.honest made;
       remembers = remembers_more before after _ es fs c.learn.ensures inv.remembers made;
+      final = final_more before after _ es fs c.learn.ensures inv.honest inv.final made;
       conserved = conserved-step before after _ es fs c.learn.ensures c.learn-in-Ok-step.ensures inv.conserved made;
     }

@@ -5,6 +5,7 @@ use Rattle.piper_machine.specs.Run.{Runs}
 use Rattle.piper_machine.specs.Conservation.{IsConserved}
 use Rattle.piper_machine.proofs.Counting.{Counted}
 use Rattle.piper_machine.proofs.Honesty.{Honest}
+use Rattle.piper_machine.proofs.Finality.{Final}
 use Rattle.piper_machine.proofs.Remembering.{Remembers}
 use Rattle.piper_machine.proofs.machine.runs.run.Given as goal
 
@@ -14,5 +15,6 @@ invariant-loop-i l = record {
   counted : Counted (take l.i l.steps) l.machine;
   honest : Honest l.machine (events l.log);
   remembers : Remembers l.machine (events l.log);
+  final : Final l.machine (events l.log);
   conserved : IsConserved l.machine (events l.log);
 }

@@ -1,0 +1,60 @@
+-- A told end, and what may be logged behind it.
+use Rattle.std.specs.Prelude.{◌≡◌, List, [], ◌∷◌, ◌++◌, true, None, Some, refl}
+use Rattle.std.proofs.Common.{inl, inr}
+use Rattle.piper_sides.specs.declared.calls.Side.TheVariants.{Reader, Writer}
+use Rattle.piper_sides.specs.declared.calls.Call.TheVariants as call
+use Rattle.piper_sides.specs.declared.calls.Kind.TheVariants as kind
+use Rattle.piper_sides.specs.declared.calls.Step.{Step}
+use Rattle.piper_sides.specs.declared.calls.Step.TheVariants.{Begin, Go}
+use Rattle.piper_sides.specs.declared.events.Event.{Event}
+use Rattle.piper_sides.specs.declared.events.Event.TheVariants.{Began, Looked, Published, Closed, Registered, Answered}
+use Rattle.piper_sides.specs.declared.events.Seen.TheVariants as seen
+use Rattle.piper_sides.specs.declared.events.Answer.TheVariants as answer
+use Rattle.piper_sides.specs.declared.polling.Polled.TheVariants as polled
+use Rattle.piper_machine.specs.Pipe.{fresh}
+use Rattle.piper_machine.specs.Final.{told_end, IsBehindEnd}
+use Rattle.piper_machine.proofs.worked.Script.{by}
+use Rattle.piper_machine.proofs.worked.StepScript.{gone}
+
+-- A writer with a lent slice closes; the reader is told the end; then the writer can publish no byte, and the reader is told again.
+abbrev asked_twice : List Step
+asked_twice =
+    Begin (call.WriteBuf 2) ∷ Begin call.Close ∷ Go Writer ∷ Go Writer ∷ Go Writer
+    ∷ Begin (call.Poll Reader 1 (by 1).luck) ∷ Go Reader ∷ Go Reader ∷ Go Reader ∷ Go Reader
+    ∷ Begin (call.Produced 0) ∷ Go Writer ∷ []
+
+abbrev before_the_end : List Event
+before_the_end =
+    Began Writer kind.WriteBuf None ∷ Answered Writer (answer.Lent 2) ∷ Began Writer kind.Close None ∷ Closed Writer ∷ Answered Writer answer.Done
+    ∷ Began Reader kind.Poll (Some 1) ∷ Looked Reader (seen.Tail 0) ∷ Registered Reader 1 ∷ Looked Reader (seen.Closed true) ∷ Looked Reader (seen.Tail 0) ∷ []
+
+abbrev behind_the_end : List Event
+behind_the_end = Began Writer kind.Produced None ∷ Published [] ∷ []
+
+told_and_empty :
+    ((gone asked_twice (fresh 4)).events ≡ before_the_end ++ told_end ∷ behind_the_end)
+    × ((gone asked_twice (fresh 4)).pipe.unread ≡ [])
+told_and_empty = (refl, refl)
+
+-- The reader closes its own end in the middle of a publication: a drop of the reader does not shut, and the writer goes on. No end
+-- was told, so this is allowed.
+abbrev published_after_a_drop : List Step
+published_after_a_drop = Begin (call.WriteBuf 2) ∷ Begin (call.Produced 1) ∷ Begin (call.Drop Reader) ∷ Go Reader ∷ Go Writer ∷ []
+
+drop_is_no_end : (gone published_after_a_drop (fresh 4)).pipe.unread ≡ 0 ∷ []
+drop_is_no_end = refl
+
+-- what may stand behind it, and what may not
+allowed : IsBehindEnd told_end × IsBehindEnd (Answered Reader (answer.Poll polled.Memory)) × IsBehindEnd (Published [])
+allowed = (inl refl, inr refl, refl)
+
+byte_refused : IsBehindEnd (Published (7 ∷ [])) → ⊥
+byte_refused none = absurd (cc)
+
+true_refused : IsBehindEnd (Answered Reader (answer.Poll (polled.Ready true))) → ⊥
+true_refused (inl same) = absurd (cc)
+true_refused (inr same) = absurd (cc)
+
+pending_refused : IsBehindEnd (Answered Reader (answer.Poll polled.Pending)) → ⊥
+pending_refused (inl same) = absurd (cc)
+pending_refused (inr same) = absurd (cc)
