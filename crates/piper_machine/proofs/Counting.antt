@@ -164,7 +164,7 @@ begin-counted Writer t lent (call.Drop Reader) p accepted held = held
 begin-counted Writer t lent (call.Drop Writer) p accepted held = lit≤ tt
 
 -- a side's step leaves where the other stands
-pub reader_leaves-writer : (action : Action) (p : Pipe) → (performed Reader action p).writer ≡ p.writer
+reader_leaves-writer : (action : Action) (p : Pipe) → (performed Reader action p).writer ≡ p.writer
 reader_leaves-writer does.Rest p = refl
 reader_leaves-writer does.LoadHead p = refl
 reader_leaves-writer does.LoadTail p = refl

@@ -43,9 +43,8 @@ use Rattle.piper_machine.specs.Look.{context}
 use Rattle.piper_machine.specs.Lend.{lending}
 use Rattle.piper_machine.specs.Run.{Made}
 use Rattle.piper_machine.specs.Final.{told_end, IsBehindEnd, IsFinal}
-use Rattle.piper_machine.proofs.Counting.{reader_leaves-writer}
 use Rattle.piper_machine.proofs.Honesty.{saw_close, Honest}
-use Rattle.piper_machine.proofs.Remembering.{reader-idle, writer-idle}
+use Rattle.piper_machine.proofs.Remembering.{reader_leaves, reader-idle, writer-idle}
 
 -- whether an end was told
 abbrev ended_after : Bool → Event → Bool
@@ -415,7 +414,7 @@ step-lasts lent (Go Reader) p ended sound accepted saw h =
     let to = went Reader p in
     let acts = action-final ended Reader action p (λ n e t. absurd (reader-publishes p.reader n e)) in
     let ends = reader-ends ended p sound p.reader saw h.caused h.over in
-    adds ended Reader (logged_of Reader action p) to.answer to.pipe acts ends.0 (record { known = rw (reader_leaves-writer action p) h.known; caused = reader-caused p.reader p h.caused; over = ends.1 })
+    adds ended Reader (logged_of Reader action p) to.answer to.pipe acts ends.0 (record { known = rw (reader_leaves action p).0 h.known; caused = reader-caused p.reader p h.caused; over = ends.1 })
 step-lasts lent (Go Writer) p ended sound accepted saw h =
     let action = write_action p.writer in
     let to = went Writer p in

@@ -18,7 +18,7 @@ use Rattle.piper_machine.specs.Action.{logged_of, registration_of, wake_of, refr
 use Rattle.piper_machine.specs.Step.{call_after, went}
 use Rattle.piper_machine.specs.Waiting.{IsBlocked}
 use Rattle.piper_machine.specs.Wait.{Wait, wait_from}
-use Rattle.piper_machine.proofs.Watching.{Errand, read_errand, Watched, calmly, Same, Touch, rests, stores, finds, misses, calls, hears-more, rewatch, touched, touched-pending, IsHanded, Awaits, handed-touched, awaits-touched, awaits-more, answered-passes, registration-passes, wake-heard, context_of, query-told}
+use Rattle.piper_machine.proofs.Watching.{Errand, read_errand, Watched, calmly, Same, Touch, rests, stores, finds, misses, calls, hears-more, rewatch, touched, touched-pending, IsHanded, HasBegun, Awaits, handed-touched, begun-touched, awaits-touched, awaits-more, has_begun, awaits, refused-told, answered-passes, registration-passes, wake-heard, context_of, query-told}
 
 -- what holds of the pipe while the waker stands in the slot: nothing any more once the reader itself has closed
 abbrev pub read_calm : ReadPlace → Pipe → Type 0
@@ -29,11 +29,11 @@ read_calm place p = IsBlocked Reader p
 
 -- inside a look: handed over, and behind the registration watched over
 abbrev pub ReadLook : ReadPlace → Pipe → Errand → Wait → Type 0
-ReadLook (at.LookTail l) p e w = IsHanded l p.reader_call.context w
-ReadLook (at.LookRegister l) p e w = IsHanded l p.reader_call.context w
-ReadLook (at.LookClosed l) p e w = IsHanded l p.reader_call.context w × Awaits l w p.reader_waker ⊤ e
-ReadLook (at.LookTailAgain l was_closed) p e w = IsHanded l p.reader_call.context w × Awaits l w p.reader_waker (was_closed ≡ false → p.is_closed ≡ false) e
-ReadLook (at.LookTake l) p e w = IsHanded l p.reader_call.context w
+ReadLook (at.LookTail l) p e w = HasBegun l p.reader_call.context w
+ReadLook (at.LookRegister l) p e w = IsHanded p.reader_call.context w
+ReadLook (at.LookClosed l) p e w = HasBegun l p.reader_call.context w × Awaits l w p.reader_waker ⊤ e
+ReadLook (at.LookTailAgain l was_closed) p e w = HasBegun l p.reader_call.context w × Awaits l w p.reader_waker (was_closed ≡ false → p.is_closed ≡ false) e
+ReadLook (at.LookTake l) p e w = IsHanded p.reader_call.context w
 ReadLook place p e w = ⊤
 
 pub record ReadWaits (p : Pipe) (e : Errand) (w : Wait) : Type 0 where
@@ -52,11 +52,11 @@ read_calm-same (at.WakeWriter afterward.Drop) same c = tt
 read_calm-same place same c = same-blocked same c
 
 look-touched : (p q : Pipe) (e e_after : Errand) (w v : Wait) (place : ReadPlace) → q.reader_call ≡ p.reader_call → Touch p q p.reader_waker q.reader_waker e e_after w v → ReadLook place p e w → ReadLook place q e_after v
-look-touched p q e e_after w v (at.LookTail l) same t h = rw same (handed-touched l p.reader_call.context t h)
-look-touched p q e e_after w v (at.LookRegister l) same t h = rw same (handed-touched l p.reader_call.context t h)
-look-touched p q e e_after w v (at.LookClosed l) same t h = (rw same (handed-touched l p.reader_call.context t h.0), awaits-touched l _ _ (λ s c. c) t h.1)
-look-touched p q e e_after w v (at.LookTailAgain l was_closed) same t h = (rw same (handed-touched l p.reader_call.context t h.0), awaits-touched l _ _ (λ s c unseen. s.closed ∙ c unseen) t h.1)
-look-touched p q e e_after w v (at.LookTake l) same t h = rw same (handed-touched l p.reader_call.context t h)
+look-touched p q e e_after w v (at.LookTail l) same t h = rw same (begun-touched l p.reader_call.context t h)
+look-touched p q e e_after w v (at.LookRegister l) same t h = rw same (handed-touched p.reader_call.context t h)
+look-touched p q e e_after w v (at.LookClosed l) same t h = (rw same (begun-touched l p.reader_call.context t h.0), awaits-touched l _ _ (λ s c. c) t h.1)
+look-touched p q e e_after w v (at.LookTailAgain l was_closed) same t h = (rw same (begun-touched l p.reader_call.context t h.0), awaits-touched l _ _ (λ s c unseen. s.closed ∙ c unseen) t h.1)
+look-touched p q e e_after w v (at.LookTake l) same t h = rw same (handed-touched p.reader_call.context t h)
 look-touched p q e e_after w v place same t h = tt
 
 pub reader-touched : (p q : Pipe) (e e_after : Errand) (w v : Wait) → q.reader ≡ p.reader → q.reader_call ≡ p.reader_call → Touch p q p.reader_waker q.reader_waker e e_after w v → ReadWaits p e w → ReadWaits q e_after v
@@ -77,12 +77,12 @@ drop_none (suc n) xs h = rw h refl
 
 module _ (e : Errand) (w : Wait) where
   -- where a look goes on without an answer, and where a call comes to
-  looked : (none : Bool) (l : Purpose) (p : Pipe) → (w.is_pending ≡ true → Watched w p.reader_waker None (IsBlocked Reader p) e) → IsHanded l p.reader_call.context w
+  looked : (none : Bool) (l : Purpose) (p : Pipe) → (w.is_pending ≡ true → Watched w p.reader_waker None (IsBlocked Reader p) e) → HasBegun l p.reader_call.context w
       → ReadWaits (record p { reader = reader_looked none l }) e w
   looked true purpose.Poll p waiting handed = record { waiting = waiting; look = handed }
   looked false purpose.Poll p waiting handed = record { waiting = waiting; look = handed }
 
-  pub looks_for : (none : Bool) (l : Purpose) (p : Pipe) → (w.is_pending ≡ true → Watched w p.reader_waker None (IsBlocked Reader p) e) → IsHanded l p.reader_call.context w
+  pub looks_for : (none : Bool) (l : Purpose) (p : Pipe) → (w.is_pending ≡ true → Watched w p.reader_waker None (IsBlocked Reader p) e) → HasBegun l p.reader_call.context w
       → ReadWaits (record p { reader = reader_looks_for none l }) e w
   looks_for true purpose.Poll p waiting handed = record { waiting = waiting; look = handed }
   looks_for false purpose.Poll p waiting handed = record { waiting = waiting; look = handed }
@@ -99,14 +99,14 @@ with_context context taken l p = record p { reader = at.LookRegister l; reader_c
 
 registers : (l : Purpose) (granted : Bool) (waker draw : ℕ) (yields : Bool) (taken : Option ℕ) (p : Pipe) (e : Errand) (w : Wait)
     → Goes (with_context (Some (context_of granted waker draw yields)) taken l p) e w
-registers purpose.Poll true waker draw yields taken p e w h = record {
+registers l true waker draw yields taken p e w h = record {
   waiting = λ pending. absurd (let never = h.look.0 in cc);
-  look = (h.look, calmly (ap (λ (n : ℕ). Some n) (sym h.look.1)) tt);
+  look = (has_begun l _ _ h.look, awaits l _ _ _ e (calmly (ap (λ (n : ℕ). Some n) (sym h.look.1)) tt));
 }
-registers purpose.Poll false waker draw yields taken p e w h = record { waiting = h.waiting; look = tt }
+registers l false waker draw yields taken p e w h = rw (refused-told l w) (record { waiting = h.waiting; look = tt })
 
 registers-if : (l : Purpose) (context : Option Context) (taken : Option ℕ) (p : Pipe) (e : Errand) (w : Wait) → Goes (with_context context taken l p) e w
-registers-if purpose.Poll None taken p e w h = record { waiting = h.waiting; look = tt }
+registers-if l None taken p e w h = rw (refused-told l w) (record { waiting = h.waiting; look = tt })
 registers-if l (Some cx) taken p e w h = registers l cx.luck.register_granted cx.waker cx.luck.draw cx.luck.yield_granted taken p e w h
 
 -- the last load of tail: without a byte behind an open pipe the reader waits from now on

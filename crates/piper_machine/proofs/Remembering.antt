@@ -31,7 +31,6 @@ use Rattle.piper_machine.specs.Look.{context}
 use Rattle.piper_machine.specs.Lend.{lending}
 use Rattle.piper_machine.specs.Wait.{Wait, no_wait, handed_over, wait_from, wait_of}
 use Rattle.piper_machine.specs.Remembered.{IsRemembered, AreRemembered}
-use Rattle.piper_machine.proofs.Counting.{reader_leaves-writer, writer_leaves-reader}
 use Rattle.piper_machine.proofs.Watching.{Errand, away, takes, wakes, read_errand, write_errand, Watched, woken, calmly, taking, waking, holding, rests, wait-append}
 use Rattle.piper_machine.proofs.ReaderWaits.{ReadWaits, read_calm, reader-touched, reader-goes, reader-touches, looks_for}
 use Rattle.piper_machine.proofs.WriterWaits.{WriteWaits, write_calm, write_held, writer-touched, writer-goes, writer-touches}
@@ -41,21 +40,21 @@ pub record Keeps (p : Pipe) (reads writes : Wait) : Type 0 where
   pub reader : ReadWaits p (write_errand p.writer p.writer_call) reads
   pub writer : WriteWaits p (read_errand p.reader p.reader_call) writes
 
--- a side's step leaves what the other's call holds
+-- a side's step leaves where the other stands, and what its call holds
 
-reader_leaves-call : (action : Action) (p : Pipe) → (performed Reader action p).writer_call ≡ p.writer_call
-reader_leaves-call (does.StoreClosed true) p = refl
-reader_leaves-call (does.StoreClosed false) p = refl
-reader_leaves-call (does.Take Reader) p = refl
-reader_leaves-call (does.Take Writer) p = refl
-reader_leaves-call action p = refl
+pub reader_leaves : (action : Action) (p : Pipe) → let q = performed Reader action p in (q.writer ≡ p.writer) × (q.writer_call ≡ p.writer_call)
+reader_leaves (does.StoreClosed true) p = (refl, refl)
+reader_leaves (does.StoreClosed false) p = (refl, refl)
+reader_leaves (does.Take Reader) p = (refl, refl)
+reader_leaves (does.Take Writer) p = (refl, refl)
+reader_leaves action p = (refl, refl)
 
-writer_leaves-call : (action : Action) (p : Pipe) → (performed Writer action p).reader_call ≡ p.reader_call
-writer_leaves-call (does.StoreClosed true) p = refl
-writer_leaves-call (does.StoreClosed false) p = refl
-writer_leaves-call (does.Take Reader) p = refl
-writer_leaves-call (does.Take Writer) p = refl
-writer_leaves-call action p = refl
+pub writer_leaves : (action : Action) (p : Pipe) → let q = performed Writer action p in (q.reader ≡ p.reader) × (q.reader_call ≡ p.reader_call)
+writer_leaves (does.StoreClosed true) p = (refl, refl)
+writer_leaves (does.StoreClosed false) p = (refl, refl)
+writer_leaves (does.Take Reader) p = (refl, refl)
+writer_leaves (does.Take Writer) p = (refl, refl)
+writer_leaves action p = (refl, refl)
 
 -- a call is opened outside any other call of its side
 
@@ -142,18 +141,16 @@ step-keeps : (lent : List ℕ) (s : Step) (p : Pipe) (reads writes : Wait) → I
     → let new = stepped lent s p in Keeps new.pipe (wait_from Reader reads new.events) (wait_from Writer writes new.events)
 step-keeps lent (Begin c) p reads writes sound accepted kept = begin-keeps lent c p reads writes accepted kept
 step-keeps lent (Go Reader) p reads writes sound accepted kept =
-    let place = reader_leaves-writer (read_action p.reader) p in
-    let call = reader_leaves-call (read_action p.reader) p in
+    let same = reader_leaves (read_action p.reader) p in
     record {
-      reader = subst (λ (e : Errand). ReadWaits (went Reader p).pipe e (wait_from Reader reads (went Reader p).events)) (write_errand-same p (went Reader p).pipe place call) (reader-goes p.reader p (write_errand p.writer p.writer_call) reads kept.reader);
-      writer = writer-touched p _ _ _ writes _ place call (reader-touches p.reader p writes) kept.writer;
+      reader = subst (λ (e : Errand). ReadWaits (went Reader p).pipe e (wait_from Reader reads (went Reader p).events)) (write_errand-same p (went Reader p).pipe same.0 same.1) (reader-goes p.reader p (write_errand p.writer p.writer_call) reads kept.reader);
+      writer = writer-touched p _ _ _ writes _ same.0 same.1 (reader-touches p.reader p writes) kept.writer;
     }
 step-keeps lent (Go Writer) p reads writes sound accepted kept =
-    let place = writer_leaves-reader (write_action p.writer) p in
-    let call = writer_leaves-call (write_action p.writer) p in
+    let same = writer_leaves (write_action p.writer) p in
     record {
-      writer = subst (λ (e : Errand). WriteWaits (went Writer p).pipe e (wait_from Writer writes (went Writer p).events)) (read_errand-same p (went Writer p).pipe place call) (writer-goes p.writer p (read_errand p.reader p.reader_call) writes sound kept.writer);
-      reader = reader-touched p _ _ _ reads _ place call (writer-touches p.writer p reads) kept.reader;
+      writer = subst (λ (e : Errand). WriteWaits (went Writer p).pipe e (wait_from Writer writes (went Writer p).events)) (read_errand-same p (went Writer p).pipe same.0 same.1) (writer-goes p.writer p (read_errand p.reader p.reader_call) writes sound kept.writer);
+      reader = reader-touched p _ _ _ reads _ same.0 same.1 (writer-touches p.writer p reads) kept.reader;
     }
 step-keeps lent (Put offset byte) p reads writes sound accepted kept = lends p reads writes kept (slice_set p.lent offset byte) (writer-idle p.writer _ accepted)
 

@@ -10,6 +10,7 @@ use Rattle.piper_sides.specs.declared.calls.Query.TheVariants.{Len, IsEmpty, IsF
 use Rattle.piper_sides.specs.declared.events.Answer.{Answer}
 use Rattle.piper_sides.specs.declared.events.Event.{Event}
 use Rattle.piper_sides.specs.declared.polling.Context.{Context}
+use Rattle.piper_sides.specs.declared.polling.Polled.TheVariants.{Memory}
 use Rattle.piper_sides.specs.declared.table.Purpose.{Purpose}
 use Rattle.piper_sides.specs.declared.table.Purpose.TheVariants as purpose
 use Rattle.piper_sides.specs.declared.table.ReadPlace.{ReadPlace}
@@ -17,7 +18,7 @@ use Rattle.piper_sides.specs.declared.table.ReadPlace.TheVariants as at
 use Rattle.piper_sides.specs.declared.table.WritePlace.{WritePlace}
 use Rattle.piper_sides.specs.declared.table.WritePlace.TheVariants as on
 use Rattle.piper_sides.specs.Log.{answer_event}
-use Rattle.piper_sides.specs.Table.{query_answer}
+use Rattle.piper_sides.specs.Table.{query_answer, look_answer}
 use Rattle.piper_machine.specs.Pipe.{Pipe}
 use Rattle.piper_machine.specs.Action.{registration, registration_of, wake_of}
 use Rattle.piper_machine.specs.Counts.{is_same}
@@ -153,8 +154,12 @@ abbrev pub HandedBy : Option Context → Wait → Type 0
 HandedBy None w = ⊤
 HandedBy (Some cx) w = (w.handed ≡ cx.waker)
 
-abbrev pub IsHanded : Purpose → Option Context → Wait → Type 0
-IsHanded purpose.Poll context w = (w.is_pending ≡ false) × HandedBy context w
+abbrev pub IsHanded : Option Context → Wait → Type 0
+IsHanded context w = (w.is_pending ≡ false) × HandedBy context w
+
+-- so did every look that registers
+abbrev pub HasBegun : Purpose → Option Context → Wait → Type 0
+HasBegun purpose.Poll context w = IsHanded context w
 
 -- behind its registration a look that can answer pending is watched over
 abbrev pub Awaits : Purpose → Wait → Option ℕ → Type 0 → Errand → Type 0
@@ -164,8 +169,11 @@ handed_by-touched : {p q : Pipe} {slot slot_after : Option ℕ} {e e_after : Err
 handed_by-touched None t h = tt
 handed_by-touched (Some cx) t h = touched-handed t ∙ h
 
-pub handed-touched : {p q : Pipe} {slot slot_after : Option ℕ} {e e_after : Errand} {w v : Wait} (l : Purpose) (context : Option Context) → Touch p q slot slot_after e e_after w v → IsHanded l context w → IsHanded l context v
-handed-touched purpose.Poll context t h = (touched-pending t ∙ h.0, handed_by-touched context t h.1)
+pub handed-touched : {p q : Pipe} {slot slot_after : Option ℕ} {e e_after : Errand} {w v : Wait} (context : Option Context) → Touch p q slot slot_after e e_after w v → IsHanded context w → IsHanded context v
+handed-touched context t h = (touched-pending t ∙ h.0, handed_by-touched context t h.1)
+
+pub begun-touched : {p q : Pipe} {slot slot_after : Option ℕ} {e e_after : Errand} {w v : Wait} (l : Purpose) (context : Option Context) → Touch p q slot slot_after e e_after w v → HasBegun l context w → HasBegun l context v
+begun-touched purpose.Poll context t h = handed-touched context t h
 
 pub awaits-touched : {p q : Pipe} {slot slot_after : Option ℕ} {e e_after : Errand} {w v : Wait} (l : Purpose) (calm calm_after : Type 0) → (Same p q → calm → calm_after)
     → Touch p q slot slot_after e e_after w v → Awaits l w slot calm e → Awaits l v slot_after calm_after e_after
@@ -173,6 +181,16 @@ awaits-touched purpose.Poll calm calm_after keeps t h = touched calm calm_after 
 
 pub awaits-more : (w : Wait) (slot : Option ℕ) (e : Errand) (l : Purpose) (calm calm_after : Type 0) → (calm → calm_after) → Awaits l w slot calm e → Awaits l w slot calm_after e
 awaits-more w slot e purpose.Poll calm calm_after keeps h = rewatch calm calm_after refl refl refl (λ a. a) keeps h
+
+pub has_begun : (l : Purpose) (context : Option Context) (w : Wait) → IsHanded context w → HasBegun l context w
+has_begun purpose.Poll context w h = h
+
+pub awaits : (l : Purpose) (w : Wait) (slot : Option ℕ) (calm : Type 0) (e : Errand) → Watched w slot None calm e → Awaits l w slot calm e
+awaits purpose.Poll w slot calm e h = h
+
+-- want of memory tells nobody to wait
+pub refused-told : (l : Purpose) (w : Wait) → told (look_answer l Memory) w ≡ w
+refused-told purpose.Poll w = refl
 
 -- what one side's events are to the other's wait
 

@@ -20,7 +20,7 @@ use Rattle.piper_machine.specs.Action.{logged_of, registration_of, wake_of, refr
 use Rattle.piper_machine.specs.Step.{call_after, went}
 use Rattle.piper_machine.specs.Waiting.{IsBlocked}
 use Rattle.piper_machine.specs.Wait.{Wait, wait_from}
-use Rattle.piper_machine.proofs.Watching.{Errand, wakes, write_errand, Watched, woken, calmly, taking, waking, holding, Same, Touch, rests, stores, finds, misses, calls, hears, hears-more, hears-it, hears-handed, rewatch, touched, touched-pending, IsHanded, Awaits, handed-touched, awaits-touched, awaits-more, answered-passes, registration-passes, wake-heard, context_of, query-told}
+use Rattle.piper_machine.proofs.Watching.{Errand, wakes, write_errand, Watched, woken, calmly, taking, waking, holding, Same, Touch, rests, stores, finds, misses, calls, hears, hears-more, hears-it, hears-handed, rewatch, touched, touched-pending, IsHanded, HasBegun, Awaits, handed-touched, begun-touched, awaits-touched, awaits-more, has_begun, awaits, refused-told, answered-passes, registration-passes, wake-heard, context_of, query-told}
 
 -- what holds of the pipe while the waker stands in the slot: nothing any more once the writer itself has closed; behind its own take
 -- it does not stand there, and a close that wakes the reader alone does not occur
@@ -42,12 +42,12 @@ write_held place taken = None
 
 -- inside a look: handed over, and behind the registration watched over
 abbrev pub WriteLook : WritePlace → Pipe → Errand → Wait → Type 0
-WriteLook (on.LookClosed l) p e w = IsHanded l p.writer_call.context w
-WriteLook (on.LookHead l) p e w = IsHanded l p.writer_call.context w
-WriteLook (on.LookRegister l) p e w = IsHanded l p.writer_call.context w
-WriteLook (on.LookHeadAgain l) p e w = IsHanded l p.writer_call.context w × Awaits l w p.writer_waker ⊤ e
-WriteLook (on.LookClosedAgain l) p e w = IsHanded l p.writer_call.context w × Awaits l w p.writer_waker (length p.unread ≡ p.capacity) e
-WriteLook (on.LookTake l) p e w = IsHanded l p.writer_call.context w
+WriteLook (on.LookClosed l) p e w = HasBegun l p.writer_call.context w
+WriteLook (on.LookHead l) p e w = HasBegun l p.writer_call.context w
+WriteLook (on.LookRegister l) p e w = IsHanded p.writer_call.context w
+WriteLook (on.LookHeadAgain l) p e w = HasBegun l p.writer_call.context w × Awaits l w p.writer_waker ⊤ e
+WriteLook (on.LookClosedAgain l) p e w = HasBegun l p.writer_call.context w × Awaits l w p.writer_waker (length p.unread ≡ p.capacity) e
+WriteLook (on.LookTake l) p e w = IsHanded p.writer_call.context w
 WriteLook place p e w = ⊤
 
 pub record WriteWaits (p : Pipe) (e : Errand) (w : Wait) : Type 0 where
@@ -74,12 +74,12 @@ write_calm-same (on.StoreClosed behind.Answer) same c = c
 write_calm-same place same c = same-blocked same c
 
 look-touched : (p q : Pipe) (e e_after : Errand) (w v : Wait) (place : WritePlace) → q.writer_call ≡ p.writer_call → Touch p q p.writer_waker q.writer_waker e e_after w v → WriteLook place p e w → WriteLook place q e_after v
-look-touched p q e e_after w v (on.LookClosed l) same t h = rw same (handed-touched l p.writer_call.context t h)
-look-touched p q e e_after w v (on.LookHead l) same t h = rw same (handed-touched l p.writer_call.context t h)
-look-touched p q e e_after w v (on.LookRegister l) same t h = rw same (handed-touched l p.writer_call.context t h)
-look-touched p q e e_after w v (on.LookHeadAgain l) same t h = (rw same (handed-touched l p.writer_call.context t h.0), awaits-touched l _ _ (λ s c. c) t h.1)
-look-touched p q e e_after w v (on.LookClosedAgain l) same t h = (rw same (handed-touched l p.writer_call.context t h.0), awaits-touched l _ _ same-full t h.1)
-look-touched p q e e_after w v (on.LookTake l) same t h = rw same (handed-touched l p.writer_call.context t h)
+look-touched p q e e_after w v (on.LookClosed l) same t h = rw same (begun-touched l p.writer_call.context t h)
+look-touched p q e e_after w v (on.LookHead l) same t h = rw same (begun-touched l p.writer_call.context t h)
+look-touched p q e e_after w v (on.LookRegister l) same t h = rw same (handed-touched p.writer_call.context t h)
+look-touched p q e e_after w v (on.LookHeadAgain l) same t h = (rw same (begun-touched l p.writer_call.context t h.0), awaits-touched l _ _ (λ s c. c) t h.1)
+look-touched p q e e_after w v (on.LookClosedAgain l) same t h = (rw same (begun-touched l p.writer_call.context t h.0), awaits-touched l _ _ same-full t h.1)
+look-touched p q e e_after w v (on.LookTake l) same t h = rw same (handed-touched p.writer_call.context t h)
 look-touched p q e e_after w v place same t h = tt
 
 held-same : (p q : Pipe) → q.writer ≡ p.writer → q.writer_call ≡ p.writer_call → write_held q.writer q.writer_call.taken ≡ write_held p.writer p.writer_call.taken
@@ -119,14 +119,14 @@ with_context context taken l p = record p { writer = on.LookRegister l; writer_c
 
 registers : (l : Purpose) (granted : Bool) (waker draw : ℕ) (yields : Bool) (taken : Option ℕ) (p : Pipe) (e : Errand) (w : Wait)
     → Goes (with_context (Some (context_of granted waker draw yields)) taken l p) e w
-registers purpose.Poll true waker draw yields taken p e w h = record {
+registers l true waker draw yields taken p e w h = record {
   waiting = λ pending. absurd (let never = h.look.0 in cc);
-  look = (h.look, calmly (ap (λ (n : ℕ). Some n) (sym h.look.1)) tt);
+  look = (has_begun l _ _ h.look, awaits l _ _ _ e (calmly (ap (λ (n : ℕ). Some n) (sym h.look.1)) tt));
 }
-registers purpose.Poll false waker draw yields taken p e w h = record { waiting = h.waiting; look = tt }
+registers l false waker draw yields taken p e w h = rw (refused-told l w) (record { waiting = h.waiting; look = tt })
 
 registers-if : (l : Purpose) (context : Option Context) (taken : Option ℕ) (p : Pipe) (e : Errand) (w : Wait) → Goes (with_context context taken l p) e w
-registers-if purpose.Poll None taken p e w h = record { waiting = h.waiting; look = tt }
+registers-if l None taken p e w h = rw (refused-told l w) (record { waiting = h.waiting; look = tt })
 registers-if l (Some cx) taken p e w h = registers l cx.luck.register_granted cx.waker cx.luck.draw cx.luck.yield_granted taken p e w h
 
 -- the second load of head
