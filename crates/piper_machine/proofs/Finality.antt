@@ -1,5 +1,5 @@
 -- Each step keeps a told end final: the pipe is closed for good, with nothing unread and nothing lent that could still be published.
-use Rattle.std.proofs.Common.{◌≡◌, ◌⊎◌, inl, inr, ℕ, zero, suc, ◌-◌, List, [], ◌∷◌, ◌++◌, length, take, drop, Bool, true, false, Option, None, Some, ◌==◌, is_some, refl, sym, ap, subst, ◌∙◌, slice_set, arith}
+use Rattle.std.proofs.Common.{◌≡◌, ◌⊎◌, inl, inr, ℕ, zero, suc, ◌-◌, List, [], ◌∷◌, ◌++◌, length, take, Bool, true, false, Option, None, Some, ◌==◌, is_some, refl, sym, ap, subst, ◌∙◌, slice_set, arith}
 use Rattle.std.specs.Bool.{⊤}
 use Rattle.std.specs.List.{All}
 use Rattle.std.proofs.lemmas.List.Elements.{All-nil, All-cons}
@@ -44,6 +44,7 @@ use Rattle.piper_machine.specs.Lend.{lending}
 use Rattle.piper_machine.specs.Run.{Made}
 use Rattle.piper_machine.specs.Final.{told_end, IsBehindEnd, IsFinal}
 use Rattle.piper_machine.proofs.Honesty.{saw_close, Honest}
+use Rattle.piper_machine.proofs.ReaderWaits.{none_left, drop_none}
 use Rattle.piper_machine.proofs.Remembering.{reader_leaves, reader-idle, writer-idle}
 
 -- whether an end was told
@@ -109,17 +110,9 @@ pub record Lasts (p : Pipe) (ended : Bool) : Type 0 where
   pub caused : p.is_closed ≡ true → IsCaused p
   pub over : ended ≡ true → Over p
 
-drop_none : (n : ℕ) (xs : List ℕ) → xs ≡ [] → drop n xs ≡ []
-drop_none zero xs h = h
-drop_none (suc n) xs h = rw h refl
-
 take_none : (n : ℕ) (xs : List ℕ) → xs ≡ [] → take n xs ≡ []
 take_none zero xs h = refl
 take_none (suc n) xs h = rw h refl
-
-none_left : (xs : List ℕ) → (length xs == 0) ≡ true → xs ≡ []
-none_left [] none = refl
-none_left (x ∷ xs) none = absurd (let zero : length (x ∷ xs) ≡ 0 = grind (arith, nat_tests) in omega arith)
 
 none_test : (xs : List ℕ) → xs ≡ [] → (length xs == 0) ≡ true
 none_test xs h = rw h refl

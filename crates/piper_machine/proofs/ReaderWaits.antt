@@ -18,7 +18,7 @@ use Rattle.piper_machine.specs.Action.{logged_of, registration_of, wake_of, refr
 use Rattle.piper_machine.specs.Step.{call_after, went}
 use Rattle.piper_machine.specs.Waiting.{IsBlocked}
 use Rattle.piper_machine.specs.Wait.{Wait, wait_from}
-use Rattle.piper_machine.proofs.Watching.{Errand, read_errand, Watched, calmly, Same, Touch, rests, stores, finds, misses, calls, hears-more, rewatch, touched, touched-pending, IsHanded, HasBegun, Awaits, handed-touched, begun-touched, awaits-touched, awaits-more, has_begun, awaits, refused-told, answered-passes, registration-passes, wake-heard, context_of, query-told}
+use Rattle.piper_machine.proofs.Watching.{Errand, read_errand, Watched, calmly, Same, same, Touch, rests, stores, finds, misses, calls, hears-more, rewatch, touched, touched-pending, IsHanded, HasBegun, Awaits, handed-touched, begun-touched, awaits-touched, awaits-more, has_begun, awaits, refused-told, answered-passes, registration-passes, wake-heard, context_of, query-told}
 
 -- what holds of the pipe while the waker stands in the slot: nothing any more once the reader itself has closed
 abbrev pub read_calm : ReadPlace → Pipe → Type 0
@@ -67,11 +67,11 @@ reader-touched p q e e_after w v place call t h = record {
 
 -- the reader's own steps
 
-none_left : (xs : List ℕ) → (length xs == 0) ≡ true → xs ≡ []
+pub none_left : (xs : List ℕ) → (length xs == 0) ≡ true → xs ≡ []
 none_left [] none = refl
 none_left (x ∷ xs) none = absurd (let zero : length (x ∷ xs) ≡ 0 = grind (arith, nat_tests) in omega arith)
 
-drop_none : (n : ℕ) (xs : List ℕ) → xs ≡ [] → drop n xs ≡ []
+pub drop_none : (n : ℕ) (xs : List ℕ) → xs ≡ [] → drop n xs ≡ []
 drop_none zero xs h = h
 drop_none (suc n) xs h = rw h refl
 
@@ -157,9 +157,6 @@ abbrev Touches : Pipe → Wait → Type 0
 Touches p w =
     let to = went Reader p in
     Touch p to.pipe p.writer_waker to.pipe.writer_waker (read_errand p.reader p.reader_call) (read_errand to.pipe.reader to.pipe.reader_call) w (wait_from Writer w to.events)
-
-same : (p q : Pipe) → q.unread ≡ p.unread → q.capacity ≡ p.capacity → q.is_closed ≡ p.is_closed → Same p q
-same p q unread capacity closed = record { unread = unread; capacity = capacity; closed = closed }
 
 takes-touch : (next : AfterRead) (slot : Option ℕ) (p : Pipe) (w : Wait) → Touches (record p { reader = at.TakeWriter next; writer_waker = slot }) w
 takes-touch next None p w = misses refl refl (answered-passes Writer Reader w w [] (read_done next).answer refl refl)

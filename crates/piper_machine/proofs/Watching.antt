@@ -57,6 +57,9 @@ pub record Same (p q : Pipe) : Type 0 where
   pub capacity : q.capacity ≡ p.capacity
   pub closed : q.is_closed ≡ p.is_closed
 
+pub same : (p q : Pipe) → q.unread ≡ p.unread → q.capacity ≡ p.capacity → q.is_closed ≡ p.is_closed → Same p q
+same p q unread capacity closed = record { unread = unread; capacity = capacity; closed = closed }
+
 -- a wait, behind the call of a waker if there is one
 abbrev pub hears : Option ℕ → Wait → Wait
 hears None w = w

@@ -20,7 +20,7 @@ use Rattle.piper_machine.specs.Action.{logged_of, registration_of, wake_of, refr
 use Rattle.piper_machine.specs.Step.{call_after, went}
 use Rattle.piper_machine.specs.Waiting.{IsBlocked}
 use Rattle.piper_machine.specs.Wait.{Wait, wait_from}
-use Rattle.piper_machine.proofs.Watching.{Errand, wakes, write_errand, Watched, woken, calmly, taking, waking, holding, Same, Touch, rests, stores, finds, misses, calls, hears, hears-more, hears-it, hears-handed, rewatch, touched, touched-pending, IsHanded, HasBegun, Awaits, handed-touched, begun-touched, awaits-touched, awaits-more, has_begun, awaits, refused-told, answered-passes, registration-passes, wake-heard, context_of, query-told}
+use Rattle.piper_machine.proofs.Watching.{Errand, wakes, write_errand, Watched, woken, calmly, taking, waking, holding, Same, same, Touch, rests, stores, finds, misses, calls, hears, hears-more, hears-it, hears-handed, rewatch, touched, touched-pending, IsHanded, HasBegun, Awaits, handed-touched, begun-touched, awaits-touched, awaits-more, has_begun, awaits, refused-told, answered-passes, registration-passes, wake-heard, context_of, query-told}
 
 -- what holds of the pipe while the waker stands in the slot: nothing any more once the writer itself has closed; behind its own take
 -- it does not stand there, and a close that wakes the reader alone does not occur
@@ -233,9 +233,6 @@ abbrev Touches : Pipe → Wait → Type 0
 Touches p w =
     let to = went Writer p in
     Touch p to.pipe p.reader_waker to.pipe.reader_waker (write_errand p.writer p.writer_call) (write_errand to.pipe.writer to.pipe.writer_call) w (wait_from Reader w to.events)
-
-same : (p q : Pipe) → q.unread ≡ p.unread → q.capacity ≡ p.capacity → q.is_closed ≡ p.is_closed → Same p q
-same p q unread capacity closed = record { unread = unread; capacity = capacity; closed = closed }
 
 takes-touch : (next : AfterWrite) (slot : Option ℕ) (p : Pipe) (w : Wait) → Touches (record p { writer = on.TakeReader next; reader_waker = slot }) w
 takes-touch next None p w = misses refl refl (answered-passes Reader Writer w w [] (write_done next).answer refl refl)
