@@ -1,24 +1,10 @@
 //! Replays a script of pipe calls on the pure machine.
 #![tactic(auto)]
 
-use replay::{Ended, replay};
+use piper_player::replay::{Ended, replay};
 use std::env;
 use std::io::ErrorKind;
 use std::process::ExitCode;
-
-mod command;
-mod event;
-mod list;
-mod number;
-mod parser;
-mod player;
-mod replay;
-mod reply;
-mod runner;
-mod steps;
-mod stop;
-mod stream;
-mod whole;
 
 /// The arguments after the program's name.
 fn words(rt: &HostRuntime) -> Result<Vec<String>, Ended> {

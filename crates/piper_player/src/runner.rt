@@ -1,0 +1,145 @@
+//! The mode `run`: a script of steps is read whole, and then run on a new machine.
+
+ghost use Rattle.std.specs.Prelude.{◌≡◌, ◌++◌, replicate, OnOk};
+ghost use Rattle.std.specs.Option.{ForSome};
+ghost use Rattle.piper_sides.specs.Index.{IsCapacity};
+
+use crate::stream::{read_line, stopped, write_reply};
+use piper_machine::calls::Step;
+use piper_machine::events::Log;
+use piper_machine::machine::{self, Machine};
+use piper_machine::refusals::RunRefusal;
+use piper_script::command::{Command, Refusal, Steps};
+use piper_script::parser::{MOST_OF_A_LINE, is_silent, parse};
+use piper_script::reply::Reply;
+use piper_script::stop::Stop;
+use std::alloc::Global;
+use std::io::{BufReader, BufWriter, Read, Write};
+
+/// The most steps of a script.
+const MOST_STEPS: usize = 1_048_576;
+
+/// The steps that a script says, and the lines that say them.
+#[derive(Drop)]
+struct Script {
+    /// The capacity of the pipe, once its line was read.
+    capacity: Option<usize>,
+    steps: Vec<Step>,
+    /// The number of each line that says steps, and how many steps there are up to its end.
+    lines: Vec<(u64, usize)>,
+    /// The number of the line that was read last.
+    line: u64,
+    ghost capacity_in_limits: { ForSome capacity IsCapacity },
+}
+
+impl Script {
+    fn new(alloc: Global) -> Script {
+        Script {
+            capacity: None,
+            steps: Vec::new(alloc),
+            lines: Vec::new(alloc),
+            line: 0,
+        }
+    }
+
+    // Reads a script to its end.
+    fn read<I: Read>(&mut self, alloc: Global, input: &mut I) -> Result<(), Stop> {
+        let mut reader = BufReader::new(alloc, input).map_err(|_| Stop::Memory)?;
+        let mut line = Vec::with_capacity(alloc, MOST_OF_A_LINE + 1)?;
+        for number in 1..u64::MAX {
+            if !read_line(&mut reader, &mut line)? {
+                break;
+            }
+            self.line = number;
+            self.add_line(line.as_slice())?;
+        }
+        Ok(())
+    }
+
+    fn add_line(&mut self, line: &[u8]) -> Result<(), Stop> {
+        if line.len() <= MOST_OF_A_LINE && !self.takes(line) {
+            return Err(Stop::Refused(Refusal::Syntax));
+        }
+        match parse(line)? {
+            None => {}
+            Some(Command::Pipe(capacity)) => self.capacity = Some(capacity),
+            Some(Command::Begin(call)) => self.add(Step::Begin(call.to_machine()?), 1)?,
+            Some(Command::Put(offset, byte)) => self.add(Step::Put(offset, byte), 1)?,
+            Some(Command::Go(side, Steps::One)) => self.add(Step::Go(side), 1)?,
+            Some(Command::Go(side, Steps::Count(count))) => self.add(Step::Go(side), count)?,
+            Some(_) => return Err(Stop::Refused(Refusal::Syntax)),
+        }
+        Ok(())
+    }
+
+    // Whether a command of this name may stand here, whatever its numbers.
+    fn takes(&self, line: &[u8]) -> bool {
+        is_silent(line)
+            || match self.capacity {
+                None => line.starts_with(b"pipe "),
+                Some(_) => line.starts_with(b"begin ")
+                    || line.starts_with(b"go ")
+                    || line.starts_with(b"put "),
+            }
+    }
+
+    // Adds the step of the line read last, so many times.
+    fn add(&mut self, step: Step, count: usize) -> Result<(), Stop>
+        ensures { OnOk result (self.new.steps.items ≡ self.old.steps.items ++ replicate count step) }
+    {
+        let end = self.steps.len().saturating_add(count);
+        if end > MOST_STEPS {
+            return Err(Stop::Refused(Refusal::Limit));
+        }
+        self.steps.resize(end, step)?;
+        self.lines.push((self.line, end)).map_err(|_| Stop::Memory)?;
+        Ok(())
+    }
+
+    // The number of the line that says the step at this place.
+    fn line_of(&self, place: usize) -> u64 {
+        let line = self.lines.iter().find(|(_, end)| place < *end);
+        line.map_or(self.line, |(number, _)| *number)
+    }
+}
+
+/// Reads the script that `input` gives to its end, runs its steps on a new machine, and writes what
+/// happened to `output`.
+pub fn run<I: Read, O: Write>(alloc: Global, input: &mut I, output: &mut O) -> Result<(), Stop> {
+    let mut script = Script::new(alloc);
+    if let Err(stop) = script.read(alloc, input) {
+        return stopped(alloc, script.line, stop, output);
+    }
+    let Some(capacity) = script.capacity else {
+        return Ok(());
+    };
+    match machine::run(alloc, capacity, script.steps.as_slice()) {
+        Ok((machine, log)) => print(alloc, &machine, &log, output),
+        Err(RunRefusal::NoMachine) => Err(Stop::Memory),
+        Err(RunRefusal::At(place, refusal)) => {
+            stopped(alloc, script.line_of(place), Stop::from(refusal), output)
+        }
+    }
+}
+
+// Prints the events, each on a line of its own, and the bytes that are left unread.
+fn print<O: Write>(
+    alloc: Global,
+    machine: &Machine,
+    log: &Log,
+    output: &mut O,
+) -> Result<(), Stop> {
+    let unread = machine.unread()?;
+    let mut output = BufWriter::new(alloc, output).map_err(|_| Stop::Memory)?;
+    let mut reply = Reply::new(alloc);
+    for event in log.events() {
+        reply.clear();
+        reply.write_event_line(event)?;
+        output.write_all(reply.as_bytes()).map_err(|_| Stop::Write)?;
+    }
+    reply.clear();
+    reply.write("unread ")?;
+    reply.write_list(unread.as_slice())?;
+    reply.write("\n")?;
+    write_reply(&reply, &mut output)
+}

@@ -1,8 +1,0 @@
--- The arguments of the command line.
-use Rattle.std.specs.Prelude.{◌≡◌, List, [], ◌∷◌, codes, String, string_bytes}
-
--- no argument plays a script, and the one word `run` runs it
-abbrev pub IsWrong : {A : Type 0} → List (String A) → Type 0
-IsWrong [] = ⊥
-IsWrong (word ∷ []) = ¬ (string_bytes word ≡ codes "run")
-IsWrong (word ∷ second ∷ words) = Unit {0}

@@ -1,9 +1,0 @@
-pub mod Arguments
-pub mod Command
-pub mod Ended
-pub mod Event
-pub mod List
-pub mod Meaning
-pub mod Number
-pub mod Reply
-pub mod Whole

@@ -1,0 +1,7 @@
+use Rattle.piper_script.specs.Acts.{dest_text}
+use Rattle.piper_script.proofs.Lists.{texts_of-append}
+use Rattle.piper_script.proofs.acts.Dests.acts.Goals as goal
+
+pub loop-act-preserved : goal.loop-act-preserved
+loop-act-preserved c =
+    rw c.in-Ok.ensures.items (texts_of-append dest_text c.loop-act.yielded c.in-Some.act c.loop-act.acts.items c.in_ok-act.act c.loop-act.invariant c.in_ok-act.ensures.text)

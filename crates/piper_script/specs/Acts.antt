@@ -1,0 +1,66 @@
+-- What scripted sources and destinations do, as a script writes it.
+use Rattle.std.specs.Prelude.{◌≡◌, ℕ, ◌≤◌, List, [], codes, decimal, map, length, All, Option, None, Some}
+use Rattle.std.specs.List.{flat_map}
+use Rattle.piper_sides.specs.declared.scripted.SourceAct.{SourceAct}
+use Rattle.piper_sides.specs.declared.scripted.SourceAct.TheVariants as source
+use Rattle.piper_sides.specs.declared.scripted.DestAct.{DestAct}
+use Rattle.piper_sides.specs.declared.scripted.DestAct.TheVariants as dest
+use Rattle.piper_script.specs.declared.command.TheConstants.{MOST}
+use Rattle.piper_script.specs.declared.list.Item.{Item}
+use Rattle.piper_script.specs.declared.acts.Sources.{Sources}
+use Rattle.piper_script.specs.Joined.{joined_or}
+use Rattle.piper_script.specs.List.{list_text, item_bytes}
+
+-- a source gives the bytes of a list, or fails where there is none
+abbrev pub source_text : Option (List Item) → List ℕ
+source_text None = codes "fail"
+source_text (Some items) = list_text items
+
+abbrev pub source_act : Option (List Item) → SourceAct
+source_act None = source.Fail
+source_act (Some items) = source.Bytes (flat_map item_bytes items)
+
+-- the text writes this one act
+pub record WritesSource (text : List ℕ) (act : SourceAct) : Type 0 where
+  pub said : Option (List Item)
+  pub written : text ≡ source_text said
+  pub meant : act ≡ source_act said
+
+-- the text writes acts with slashes between them, and these are they
+pub record StandsForActs (text : List ℕ) (acts : List SourceAct) : Type 0 where
+  pub said : List (Option (List Item))
+  pub written : text ≡ joined_or (codes "none") 47 source_text said
+  pub meant : acts ≡ map source_act said
+
+abbrev pub bytes_of : SourceAct → List ℕ
+bytes_of source.Fail = []
+bytes_of (source.Bytes bytes) = bytes
+
+-- the text writes one act of so many bytes
+pub record IsSource (text : List ℕ) (count : ℕ) : Type 0 where
+  pub act : SourceAct
+  pub meant : WritesSource text act
+  pub counted : length (bytes_of act) ≡ count
+
+-- the count is that of all bytes that the acts give
+pub record IsSources (sources : Sources) : Type 0 where
+  pub acts : List SourceAct
+  pub meant : StandsForActs sources.text.now acts
+  pub counted : length (flat_map bytes_of acts) ≡ sources.len
+
+abbrev pub dest_text : DestAct → List ℕ
+dest_text (dest.Take most) = decimal most
+dest_text dest.Fail = codes "fail"
+
+abbrev pub IsDestInLimits : DestAct → Type 0
+IsDestInLimits (dest.Take most) = most ≤ MOST
+IsDestInLimits dest.Fail = Unit {0}
+
+abbrev pub dests_text : List DestAct → List ℕ
+dests_text acts = joined_or (codes "none") 47 dest_text acts
+
+-- the text writes acts of a destination, each within its limits
+pub record IsDests (text : List ℕ) : Type 0 where
+  pub acts : List DestAct
+  pub written : text ≡ dests_text acts
+  pub within : All IsDestInLimits acts

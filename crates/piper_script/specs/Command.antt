@@ -1,0 +1,85 @@
+-- How commands are written, and their limits.
+use Rattle.std.specs.Prelude.{ℕ, ◌≤◌, List, [], ◌++◌, codes, decimal, ◌≡◌, ◌⊎◌, Bool, true, false, Option, slice_get, Some, None}
+use Rattle.piper_sides.specs.declared.calls.Side.{Side}
+use Rattle.piper_sides.specs.declared.calls.Side.TheVariants.{Reader, Writer}
+use Rattle.piper_script.specs.declared.command.TheConstants.{MOST}
+use Rattle.piper_script.specs.declared.command.Luck.{Luck}
+use Rattle.piper_script.specs.declared.command.Steps.{Steps}
+use Rattle.piper_script.specs.declared.command.Steps.TheVariants.{One, Count, ToAnswer}
+use Rattle.piper_script.specs.declared.command.Call.{Call}
+use Rattle.piper_script.specs.declared.command.Call.TheVariants.{Len, IsEmpty, IsFull, IsClosed, Poll, Fill, Drain, PollFill, PollDrain, FillFrom, DrainTo, Consume, Lend, Produced, Close, Drop}
+use Rattle.piper_script.specs.declared.command.Command.{Command}
+use Rattle.piper_script.specs.declared.command.Command.TheVariants.{Pipe, Peek, Whole, Put, Begin, Go}
+use Rattle.piper_script.specs.Acts.{IsDests}
+
+abbrev pub side_text : Side → List ℕ
+side_text Reader = codes "r"
+side_text Writer = codes "w"
+
+-- a word that may be left out
+abbrev pub word_if : Bool → List ℕ → List ℕ
+word_if true word = word
+word_if false word = []
+
+abbrev pub draw_text : Option ℕ → List ℕ
+draw_text None = []
+draw_text (Some draw) = codes " draw=" ++ decimal draw
+
+abbrev pub luck_text : Luck → List ℕ
+luck_text luck = draw_text luck.draw ++ word_if luck.no_register (codes " noregister") ++ word_if luck.no_yield (codes " noyield")
+
+abbrev pub call_text : Call → List ℕ
+call_text (Len side) = codes "len " ++ side_text side
+call_text (IsEmpty side) = codes "empty " ++ side_text side
+call_text (IsFull side) = codes "full " ++ side_text side
+call_text (IsClosed side) = codes "closed " ++ side_text side
+call_text (Poll side waker luck) = codes "poll " ++ side_text side ++ codes " " ++ decimal waker ++ luck_text luck
+call_text (Fill list) = codes "fill " ++ list.text.now
+call_text (Drain most) = codes "drain " ++ decimal most
+call_text (PollFill waker list luck) = codes "pollfill " ++ decimal waker ++ codes " " ++ list.text.now ++ luck_text luck
+call_text (PollDrain waker most luck) = codes "polldrain " ++ decimal waker ++ codes " " ++ decimal most ++ luck_text luck
+call_text (FillFrom waker sources luck) = codes "fillfrom " ++ decimal waker ++ codes " " ++ sources.text.now ++ luck_text luck
+call_text (DrainTo waker dests luck) = codes "drainto " ++ decimal waker ++ codes " " ++ dests.text.now ++ luck_text luck
+call_text (Consume n) = codes "consume " ++ decimal n
+call_text (Lend most) = codes "lend " ++ decimal most
+call_text (Produced n) = codes "produced " ++ decimal n
+call_text Close = codes "close"
+call_text (Drop side) = codes "drop " ++ side_text side
+
+abbrev pub steps_text : Steps → List ℕ
+steps_text One = []
+steps_text (Count n) = codes " " ++ decimal n
+steps_text ToAnswer = codes " end"
+
+-- the line that says the command
+abbrev pub command_text : Command → List ℕ
+command_text (Pipe capacity) = codes "pipe " ++ decimal capacity
+command_text Peek = codes "peek"
+command_text (Whole call) = call_text call
+command_text (Put offset byte) = codes "put " ++ decimal offset ++ codes " " ++ decimal byte
+command_text (Begin call) = codes "begin " ++ call_text call
+command_text (Go side steps) = codes "go " ++ side_text side ++ steps_text steps
+
+abbrev pub IsCallInLimits : Call → Type 0
+IsCallInLimits (Fill list) = list.len ≤ MOST
+IsCallInLimits (Drain most) = most ≤ MOST
+IsCallInLimits (PollFill waker list luck) = list.len ≤ MOST
+IsCallInLimits (PollDrain waker most luck) = most ≤ MOST
+IsCallInLimits (FillFrom waker sources luck) = sources.len ≤ MOST
+IsCallInLimits (DrainTo waker dests luck) = IsDests dests.text.now
+IsCallInLimits (Consume n) = n ≤ MOST
+IsCallInLimits (Lend most) = most ≤ MOST
+IsCallInLimits (Produced n) = n ≤ MOST
+IsCallInLimits call = Unit {0}
+
+abbrev pub IsInLimits : Command → Type 0
+IsInLimits (Pipe capacity) = (1 ≤ capacity) × (capacity ≤ MOST)
+IsInLimits (Whole call) = IsCallInLimits call
+IsInLimits (Put offset byte) = offset ≤ MOST
+IsInLimits (Begin call) = IsCallInLimits call
+IsInLimits (Go side (Count n)) = (1 ≤ n) × (n ≤ MOST)
+IsInLimits command = Unit {0}
+
+-- an empty line, or one that begins with a hash
+abbrev pub IsSilent : List ℕ → Type 0
+IsSilent line = (slice_get line 0 ≡ None) ⊎ (slice_get line 0 ≡ Some 35)

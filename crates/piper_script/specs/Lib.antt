@@ -1,0 +1,9 @@
+pub mod Acts
+pub mod Command
+pub mod Event
+pub mod Joined
+pub mod List
+pub mod Meaning
+pub mod Number
+pub mod Reply
+pub mod Stop

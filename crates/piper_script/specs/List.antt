@@ -1,0 +1,44 @@
+-- Lists of bytes, as a script writes them.
+use Rattle.std.specs.Prelude.{◌≡◌, ℕ, zero, suc, ◌+◌, ◌-◌, ◌≤◌, List, [], ◌∷◌, ◌++◌, codes, decimal, replicate, length}
+use Rattle.std.specs.List.{flat_map}
+use Rattle.piper_script.specs.declared.command.TheConstants.{MOST}
+use Rattle.piper_script.specs.Joined.{joined_or_dash}
+use Rattle.piper_script.specs.declared.list.List.{List as ByteList}
+use Rattle.piper_script.specs.declared.list.Item.{Item}
+use Rattle.piper_script.specs.declared.list.Item.TheVariants.{Byte, Range, Repeat}
+
+abbrev pub item_text : Item → List ℕ
+item_text (Byte value) = decimal value
+item_text (Range first last) = decimal first ++ codes ".." ++ decimal last
+item_text (Repeat value count) = decimal value ++ codes "*" ++ decimal count
+
+-- so many numbers, each one above the one before
+abbrev pub numbers_from : ℕ → ℕ → List ℕ
+numbers_from first zero = []
+numbers_from first (suc count) = first ∷ numbers_from (first + 1) count
+
+abbrev pub item_bytes : Item → List ℕ
+item_bytes (Byte value) = value ∷ []
+item_bytes (Range first last) = numbers_from first (last + 1 - first)
+item_bytes (Repeat value count) = replicate count value
+
+-- a range does not run down, and no byte is repeated past the limit
+abbrev pub IsItem : Item → Type 0
+IsItem (Byte value) = Unit {0}
+IsItem (Range first last) = first ≤ last
+IsItem (Repeat value count) = count ≤ MOST
+
+abbrev pub list_text : List Item → List ℕ
+list_text items = joined_or_dash 44 item_text items
+
+-- the text writes items, and the bytes are theirs
+pub record StandsFor (text bytes : List ℕ) : Type 0 where
+  pub items : List Item
+  pub written : text ≡ list_text items
+  pub meant : bytes ≡ flat_map item_bytes items
+
+-- the list's count is that of the bytes that its text stands for
+pub record IsList (list : ByteList) : Type 0 where
+  pub bytes : List ℕ
+  pub meant : StandsFor list.text.now bytes
+  pub counted : length bytes ≡ list.len

@@ -1,0 +1,149 @@
+//! What scripted sources and destinations do, as a script writes it.
+
+ghost use Rattle.std.specs.Prelude.{◌≡◌, ◌≤◌, ◌++◌, length, codes, decimal, IfOk};
+ghost use Rattle.piper_script.specs.Acts.{IsSource, dest_text, IsDestInLimits, WritesSource};
+
+use crate::command::{MOST, Refusal};
+use crate::list::List;
+use crate::number::number;
+use crate::stop::Stop;
+use piper_sides::bytes::Bytes;
+use piper_sides::scripted::{DestAct, SourceAct};
+use std::alloc::Global;
+
+/// The acts of a source: their text, and how many bytes their lists stand for.
+#[derive(Clone, Copy, Debug, PartialEq, Eq)]
+pub struct Sources<'line> {
+    pub text: &'line str,
+    pub len: usize,
+}
+
+impl<'line> Sources<'line> {
+    ghost use Rattle.piper_script.specs.Acts.{IsSources, StandsForActs};
+
+    /// The acts that the text writes, if their lists have at most [`MOST`] bytes together.
+    pub fn parse(text: &'line str) -> Result<Sources<'line>, Refusal>
+        ensures text { IfOk result (λ sources. sources.text.now ≡ text.now) }
+        ensures acts { IfOk result IsSources }
+        ensures limits { IfOk result (λ sources. sources.len ≤ MOST) }
+    {
+        if text == "none" {
+            return Ok(Sources { text, len: 0 });
+        }
+        let mut len = 0usize;
+        for act in text.split('/') {
+            match source_len(act) {
+                Ok(count) => len = len.saturating_add(count),
+                // A later act may still be no act, which is told first.
+                Err(Refusal::Limit) => len = usize::MAX,
+                Err(refusal) => return Err(refusal),
+            }
+        }
+        if len > MOST {
+            return Err(Refusal::Limit);
+        }
+        Ok(Sources { text, len })
+    }
+
+    /// The acts, with bytes of their own.
+    pub fn acts(self, alloc: Global) -> Result<Vec<SourceAct>, Stop>
+        ensures { IfOk result (λ acts. StandsForActs self.entry.text.now acts.items) }
+    {
+        let mut acts = Vec::new(alloc);
+        if self.text == "none" {
+            return Ok(acts);
+        }
+        let mut room = Vec::new(alloc);
+        for act in self.text.split('/') {
+            let act = source(alloc, act, &mut room)?;
+            match acts.push(act) {
+                Ok(()) => {}
+                Err(_) => return Err(Stop::Memory),
+            }
+        }
+        Ok(acts)
+    }
+}
+
+// How many bytes an act of a source stands for.
+fn source_len(text: &str) -> Result<usize, Refusal>
+    ensures { IfOk result (IsSource text.now) }
+{
+    if text == "fail" {
+        return Ok(0);
+    }
+    Ok(List::parse(text)?.len)
+}
+
+// The act of a source that the text writes, with `room` for its bytes.
+fn source(alloc: Global, text: &str, room: &mut Vec<u8>) -> Result<SourceAct, Stop>
+    ensures { IfOk result (WritesSource text.now) }
+{
+    if text == "fail" {
+        return Ok(SourceAct::Fail);
+    }
+    List::parse(text)?.write_to(room)?;
+    Ok(SourceAct::Bytes(Bytes::copy_of(alloc, room)?))
+}
+
+/// The acts of a destination: their text.
+#[derive(Clone, Copy, Debug, PartialEq, Eq)]
+pub struct Dests<'line> {
+    pub text: &'line str,
+}
+
+impl<'line> Dests<'line> {
+    ghost use Rattle.piper_script.specs.Acts.{IsDests, dests_text};
+
+    /// The acts that the text writes.
+    pub fn parse(text: &'line str) -> Result<Dests<'line>, Refusal>
+        ensures text { IfOk result (λ dests. dests.text.now ≡ text.now) }
+        ensures acts { IfOk result (λ dests. IsDests dests.text.now) }
+    {
+        if text == "none" {
+            return Ok(Dests { text });
+        }
+        let mut is_within = true;
+        for act in text.split('/') {
+            match dest(act) {
+                Ok(_) => {}
+                // A later act may still be no act, which is told first.
+                Err(Refusal::Limit) => is_within = false,
+                Err(refusal) => return Err(refusal),
+            }
+        }
+        if !is_within {
+            return Err(Refusal::Limit);
+        }
+        Ok(Dests { text })
+    }
+
+    /// The acts.
+    pub fn acts(self, alloc: Global) -> Result<Vec<DestAct>, Stop>
+        ensures { IfOk result (λ acts. self.entry.text.now ≡ dests_text acts.items) }
+    {
+        let mut acts = Vec::new(alloc);
+        if self.text == "none" {
+            return Ok(acts);
+        }
+        for act in self.text.split('/') {
+            let act = dest(act)?;
+            match acts.push(act) {
+                Ok(()) => {}
+                Err(_) => return Err(Stop::Memory),
+            }
+        }
+        Ok(acts)
+    }
+}
+
+// The act of a destination that the text writes.
+fn dest(text: &str) -> Result<DestAct, Refusal>
+    ensures text { IfOk result (λ act. text.now ≡ dest_text act) }
+    ensures limits { IfOk result IsDestInLimits }
+{
+    if text == "fail" {
+        return Ok(DestAct::Fail);
+    }
+    Ok(DestAct::Take(number(text, 0, MOST)?))
+}

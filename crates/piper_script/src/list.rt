@@ -1,0 +1,146 @@
+//! Lists of bytes, as a script writes them.
+ghost use Rattle.std.specs.Prelude.{◌≡◌, ◌≤◌, ◌<◌, ◌++◌, length, codes, decimal, IfOk, OnOk, IsErrOf, ◌↔◌, ◌⊎◌};
+ghost use Rattle.piper_script.specs.List.{item_text, item_bytes, IsItem};
+
+use crate::command::{MOST, Refusal};
+use crate::number::{is_at_most, number};
+use crate::stop::Stop;
+use std::alloc::AllocError;
+
+/// One item of a list.
+#[derive(Clone, Copy, Debug, PartialEq, Eq)]
+pub enum Item {
+    /// One byte.
+    Byte(u8),
+    /// The bytes from the first to the second, both included.
+    Range(u8, u8),
+    /// The byte, so many times.
+    Repeat(u8, usize),
+}
+
+impl Item {
+    fn parse(text: &str) -> Result<Item, Refusal>
+        ensures text { IfOk result (λ item. text.now ≡ item_text item) }
+        ensures item { IfOk result IsItem }
+    {
+        if let Some((first, last)) = text.split_once("..") {
+            return range(first, last);
+        }
+        if let Some((value, count)) = text.split_once('*') {
+            let (value, count) = both(byte(value), number(count, 0, MOST))?;
+            return Ok(Item::Repeat(value, count));
+        }
+        Ok(Item::Byte(byte(text)?))
+    }
+
+    /// How many bytes the item stands for.
+    fn len(self) -> usize
+        requires { IsItem self }
+        ensures { result ≡ length (item_bytes self) }
+    {
+        match self {
+            Item::Byte(_) => 1,
+            Item::Range(first, last) => usize::from(last - first) + 1,
+            Item::Repeat(_, count) => count,
+        }
+    }
+
+    fn append_to(self, bytes: &mut Vec<u8>) -> Result<(), AllocError>
+        requires { IsItem self }
+        ensures { OnOk result (bytes.new.items ≡ bytes.old.items ++ item_bytes self) }
+    {
+        match self {
+            Item::Byte(value) => bytes.push(value)?,
+            Item::Range(first, last) => {
+                for value in first..=last {
+                    bytes.push(value)?;
+                }
+            }
+            Item::Repeat(value, count) => bytes.resize(bytes.len() + count, value)?,
+        }
+        Ok(())
+    }
+}
+
+fn range(first: &str, last: &str) -> Result<Item, Refusal>
+    ensures text { IfOk result (λ item. first.now ++ codes ".." ++ last.now ≡ item_text item) }
+    ensures item { IfOk result IsItem }
+{
+    match both(byte(first), byte(last)) {
+        Ok((first, last)) if first <= last => Ok(Item::Range(first, last)),
+        Err(Refusal::Limit) if is_at_most(first, last) => Err(Refusal::Limit),
+        _ => Err(Refusal::Syntax),
+    }
+}
+
+/// The byte that the text writes.
+pub fn byte(text: &str) -> Result<u8, Refusal>
+    ensures { IfOk result (λ value. text.now ≡ decimal value) }
+{
+    let value = number(text, 0, 255)?;
+    Ok(value as u8)
+}
+
+/// A list of bytes: its text, and how many bytes it stands for.
+#[derive(Clone, Copy, Debug, PartialEq, Eq)]
+pub struct List<'line> {
+    pub text: &'line str,
+    pub len: usize,
+}
+
+impl<'line> List<'line> {
+    ghost use Rattle.piper_script.specs.List.{IsList, StandsFor};
+
+    /// The list that the text writes, if it has at most [`MOST`] bytes.
+    pub fn parse(text: &'line str) -> Result<List<'line>, Refusal>
+        ensures text { IfOk result (λ list. list.text.now ≡ text.now) }
+        ensures list { IfOk result IsList }
+        ensures limits { IfOk result (λ list. list.len ≤ MOST) }
+    {
+        if text == "-" {
+            return Ok(List { text, len: 0 });
+        }
+        let mut len = 0usize;
+        for item in text.split(',') {
+            match Item::parse(item) {
+                Ok(item) => len = len.saturating_add(item.len()),
+                // A later item may still be no item, which is told first.
+                Err(Refusal::Limit) => len = usize::MAX,
+                Err(refusal) => return Err(refusal),
+            }
+        }
+        if len > MOST {
+            return Err(Refusal::Limit);
+        }
+        Ok(List { text, len })
+    }
+
+    /// Puts the list's bytes in place of what `bytes` holds.
+    pub fn write_to(self, bytes: &mut Vec<u8>) -> Result<(), Stop>
+        ensures { OnOk result (StandsFor self.entry.text.now bytes.new.items) }
+    {
+        bytes.clear();
+        if self.text == "-" {
+            return Ok(());
+        }
+        for item in self.text.split(',') {
+            Item::parse(item)?.append_to(bytes)?;
+        }
+        Ok(())
+    }
+}
+
+/// Both values, or the refusal that is told first: `Syntax` comes before `Limit`.
+pub fn both<A: Drop, B: Drop>(
+    first: Result<A, Refusal>,
+    second: Result<B, Refusal>,
+) -> Result<(A, B), Refusal>
+    ensures ok { IfOk result (λ values. (first ≡ Ok values.0) × (second ≡ Ok values.1)) }
+    ensures syntax { IsErrOf result Refusal.Syntax ↔ (IsErrOf first Refusal.Syntax ⊎ IsErrOf second Refusal.Syntax) }
+    ensures limit { IsErrOf result Refusal.Limit → (IsErrOf first Refusal.Limit ⊎ IsErrOf second Refusal.Limit) }
+{
+    match (first, second) {
+        (Err(Refusal::Syntax), _) | (_, Err(Refusal::Syntax)) => Err(Refusal::Syntax),
+        (first, second) => Ok((first?, second?)),
+    }
+}

@@ -1,0 +1,241 @@
+//! From the bytes of a line to what they say.
+
+ghost use Rattle.std.specs.Prelude.{◌≡◌, ◌≤◌, ◌<◌, ◌++◌, ◌∷◌, length, codes, decimal, IsTrue, ◌↔◌, IfOk, IfSome, IfNone};
+ghost use Rattle.piper_script.specs.Command.{side_text, word_if, draw_text, luck_text, steps_text, call_text, command_text, IsCallInLimits, IsInLimits, IsSilent};
+
+use crate::acts::{Dests, Sources};
+use crate::command::{Call, Command, Luck, MOST, Refusal, Steps};
+use crate::list::{List, both, byte};
+use crate::number::{name, number};
+use piper_sides::calls::Side;
+use std::str;
+
+/// The most bytes of a line, without the LF that ends it.
+pub const MOST_OF_A_LINE: usize = 65_536;
+
+/// The command of a line, or `None` where the line is empty or a comment.
+pub fn parse(line: &[u8]) -> Result<Option<Command<'_>>, Refusal>
+    ensures text { IfOk result (λ said. IfSome said (λ command. line.now ≡ command_text command)) }
+    ensures limits { IfOk result (λ said. IfSome said IsInLimits) }
+    ensures silent { IfOk result (λ said. IfNone said (IsSilent line.now)) }
+    ensures silence { length line.now ≤ MOST_OF_A_LINE → IsSilent line.now → result ≡ Ok None }
+    ensures long { MOST_OF_A_LINE < length line.now → result ≡ Err Refusal.Limit }
+{
+    if line.len() > MOST_OF_A_LINE {
+        return Err(Refusal::Limit);
+    }
+    if is_silent(line) {
+        return Ok(None);
+    }
+    let text = str::from_utf8(line).map_err(|_| Refusal::Syntax)?;
+    Ok(Some(command(text)?))
+}
+
+/// Whether the line is empty or a comment.
+pub fn is_silent(line: &[u8]) -> bool
+    ensures { IsTrue result ↔ IsSilent line.now }
+{
+    line.is_empty() || line.first() == Some(&b'#')
+}
+
+/// The side whose call a line opens, if it is one that begins with `begin`, whatever the numbers in it.
+pub fn begins_for(line: &[u8]) -> Option<Side> {
+    let text = str::from_utf8(line).ok()?;
+    let mut words = text.split(' ');
+    if words.next() != Some("begin") {
+        return None;
+    }
+    match words.next()? {
+        "fill" | "pollfill" | "fillfrom" | "lend" | "produced" | "close" => Some(Side::Writer),
+        "drain" | "polldrain" | "drainto" | "consume" => Some(Side::Reader),
+        _ => side(words.next()?).ok(),
+    }
+}
+
+fn command(text: &str) -> Result<Command<'_>, Refusal>
+    ensures text { IfOk result (λ command. text.now ≡ command_text command) }
+    ensures limits { IfOk result IsInLimits }
+{
+    if text == "peek" {
+        return Ok(Command::Peek);
+    }
+    match text.split_once(' ') {
+        Some((name, arguments)) => command_with(name, arguments),
+        None => Ok(Command::Whole(call(text)?)),
+    }
+}
+
+fn command_with<'line>(name: &str, arguments: &'line str) -> Result<Command<'line>, Refusal>
+    ensures text { IfOk result (λ command. name.now ++ 32 ∷ arguments.now ≡ command_text command) }
+    ensures limits { IfOk result IsInLimits }
+{
+    match name {
+        "pipe" => Ok(Command::Pipe(number(arguments, 1, MOST)?)),
+        "put" => put(arguments),
+        "begin" => Ok(Command::Begin(call(arguments)?)),
+        "go" => go(arguments),
+        _ => Ok(Command::Whole(call_with(name, arguments)?)),
+    }
+}
+
+fn call(text: &str) -> Result<Call<'_>, Refusal>
+    ensures text { IfOk result (λ call. text.now ≡ call_text call) }
+    ensures limits { IfOk result IsCallInLimits }
+{
+    if text == "close" {
+        return Ok(Call::Close);
+    }
+    let (name, arguments) = text.split_once(' ').ok_or(Refusal::Syntax)?;
+    call_with(name, arguments)
+}
+
+fn call_with<'line>(name: &str, arguments: &'line str) -> Result<Call<'line>, Refusal>
+    ensures text { IfOk result (λ call. name.now ++ 32 ∷ arguments.now ≡ call_text call) }
+    ensures limits { IfOk result IsCallInLimits }
+{
+    match name {
+        "len" => Ok(Call::Len(side(arguments)?)),
+        "empty" => Ok(Call::IsEmpty(side(arguments)?)),
+        "full" => Ok(Call::IsFull(side(arguments)?)),
+        "closed" => Ok(Call::IsClosed(side(arguments)?)),
+        "poll" => poll(arguments),
+        "fill" => Ok(Call::Fill(List::parse(arguments)?)),
+        "drain" => Ok(Call::Drain(number(arguments, 0, MOST)?)),
+        "pollfill" => poll_fill(arguments),
+        "polldrain" => poll_drain(arguments),
+        "fillfrom" => fill_from(arguments),
+        "drainto" => drain_to(arguments),
+        "consume" => Ok(Call::Consume(number(arguments, 0, MOST)?)),
+        "lend" => Ok(Call::Lend(number(arguments, 0, MOST)?)),
+        "produced" => Ok(Call::Produced(number(arguments, 0, MOST)?)),
+        "drop" => Ok(Call::Drop(side(arguments)?)),
+        _ => Err(Refusal::Syntax),
+    }
+}
+
+fn put(arguments: &str) -> Result<Command<'_>, Refusal>
+    ensures text { IfOk result (λ command. codes "put " ++ arguments.now ≡ command_text command) }
+    ensures limits { IfOk result IsInLimits }
+{
+    let (offset, value) = arguments.split_once(' ').ok_or(Refusal::Syntax)?;
+    let (offset, value) = both(number(offset, 0, MOST), byte(value))?;
+    Ok(Command::Put(offset, value))
+}
+
+fn go(arguments: &str) -> Result<Command<'_>, Refusal>
+    ensures text { IfOk result (λ command. codes "go " ++ arguments.now ≡ command_text command) }
+    ensures limits { IfOk result IsInLimits }
+{
+    let Some((mover, count)) = arguments.split_once(' ') else {
+        return Ok(Command::Go(side(arguments)?, Steps::One));
+    };
+    let mover = side(mover)?;
+    if count == "end" {
+        return Ok(Command::Go(mover, Steps::ToAnswer));
+    }
+    Ok(Command::Go(mover, Steps::Count(number(count, 1, MOST)?)))
+}
+
+fn poll(arguments: &str) -> Result<Call<'_>, Refusal>
+    ensures text { IfOk result (λ call. codes "poll " ++ arguments.now ≡ call_text call) }
+    ensures limits { IfOk result IsCallInLimits }
+{
+    let (looker, rest) = arguments.split_once(' ').ok_or(Refusal::Syntax)?;
+    let looker = side(looker)?;
+    let (waker, luck) = without_luck(rest);
+    let (waker, luck) = both(name(waker), luck)?;
+    Ok(Call::Poll(looker, waker, luck))
+}
+
+fn poll_fill(arguments: &str) -> Result<Call<'_>, Refusal>
+    ensures text { IfOk result (λ call. codes "pollfill " ++ arguments.now ≡ call_text call) }
+    ensures limits { IfOk result IsCallInLimits }
+{
+    let (waker, rest) = arguments.split_once(' ').ok_or(Refusal::Syntax)?;
+    let (list, luck) = without_luck(rest);
+    let (waker, (list, luck)) = both(name(waker), both(List::parse(list), luck))?;
+    Ok(Call::PollFill(waker, list, luck))
+}
+
+fn poll_drain(arguments: &str) -> Result<Call<'_>, Refusal>
+    ensures text { IfOk result (λ call. codes "polldrain " ++ arguments.now ≡ call_text call) }
+    ensures limits { IfOk result IsCallInLimits }
+{
+    let (waker, rest) = arguments.split_once(' ').ok_or(Refusal::Syntax)?;
+    let (most, luck) = without_luck(rest);
+    let (waker, (most, luck)) = both(name(waker), both(number(most, 0, MOST), luck))?;
+    Ok(Call::PollDrain(waker, most, luck))
+}
+
+fn fill_from(arguments: &str) -> Result<Call<'_>, Refusal>
+    ensures text { IfOk result (λ call. codes "fillfrom " ++ arguments.now ≡ call_text call) }
+    ensures limits { IfOk result IsCallInLimits }
+{
+    let (waker, rest) = arguments.split_once(' ').ok_or(Refusal::Syntax)?;
+    let (sources, luck) = without_luck(rest);
+    let (waker, (sources, luck)) = both(name(waker), both(Sources::parse(sources), luck))?;
+    Ok(Call::FillFrom(waker, sources, luck))
+}
+
+fn drain_to(arguments: &str) -> Result<Call<'_>, Refusal>
+    ensures text { IfOk result (λ call. codes "drainto " ++ arguments.now ≡ call_text call) }
+    ensures limits { IfOk result IsCallInLimits }
+{
+    let (waker, rest) = arguments.split_once(' ').ok_or(Refusal::Syntax)?;
+    let (dests, luck) = without_luck(rest);
+    let (waker, (dests, luck)) = both(name(waker), both(Dests::parse(dests), luck))?;
+    Ok(Call::DrainTo(waker, dests, luck))
+}
+
+// The text without the word at its end, and whether that stood there.
+fn without<'text>(text: &'text str, word: &str) -> (&'text str, bool)
+    ensures { text.now ≡ result.0.now ++ word_if result.1 word.now }
+{
+    match text.strip_suffix(word) {
+        Some(rest) => (rest, true),
+        None => (text, false),
+    }
+}
+
+// The text without the luck at its end, and that luck.
+fn without_luck(text: &str) -> (&str, Result<Luck, Refusal>)
+    ensures { IfOk result.1 (λ luck. text.now ≡ result.0.now ++ luck_text luck) }
+{
+    let (rest, no_yield) = without(text, " noyield");
+    let (rest, no_register) = without(rest, " noregister");
+    let (rest, draw) = without_draw(rest);
+    match draw {
+        Ok(draw) => (
+            rest,
+            Ok(Luck {
+                draw,
+                no_register,
+                no_yield,
+            }),
+        ),
+        Err(refusal) => (rest, Err(refusal)),
+    }
+}
+
+// The text without the draw at its end, and that draw.
+fn without_draw(text: &str) -> (&str, Result<Option<u32>, Refusal>)
+    ensures { IfOk result.1 (λ draw. text.now ≡ result.0.now ++ draw_text draw) }
+{
+    let Some((rest, draw)) = text.split_once(" draw=") else {
+        return (text, Ok(None));
+    };
+    match name(draw) {
+        Ok(draw) => (rest, Ok(Some(draw))),
+        Err(refusal) => (rest, Err(refusal)),
+    }
+}
+
+fn side(text: &str) -> Result<Side, Refusal>
+    ensures { IfOk result (λ side. text.now ≡ side_text side) }
+{
+    match text {
+        "r" => Ok(Side::Reader),
+        "w" => Ok(Side::Writer),
+        _ => Err(Refusal::Syntax),
+    }
+}
