@@ -1,3 +1,4 @@
 pub mod Arguments
 pub mod Ended
+pub mod Makes
 pub mod Whole

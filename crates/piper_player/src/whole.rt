@@ -3,6 +3,7 @@
 ghost use Rattle.std.specs.Prelude.{◌≡◌, ◌<◌, OnOk, IfErr};
 ghost use Rattle.piper_sides.specs.Call.{side_of};
 ghost use Rattle.piper_machine.specs.Refusal.{IsIdle, cannot_begin, state_of, refusal_of};
+ghost use Rattle.piper_player.specs.Makes.{Makes};
 ghost use Rattle.piper_player.specs.Whole.{IsReady};
 
 use piper_machine::calls::{Call, Side, SideState, Step};
@@ -63,6 +64,7 @@ pub fn check(machine: &Machine, call: Call) -> Result<(), StepRefusal>
 /// Makes the call, and answers what it answers.
 pub fn answer(machine: &mut Machine, call: Call) -> Answer
     requires { IsReady call machine.old }
+    ensures { Makes call machine.old result machine.new }
 {
     match call {
         Call::Len(Side::Reader) => Answer::Count(machine.r_len()),
