@@ -1,4 +1,5 @@
 pub mod Arguments
 pub mod Ended
 pub mod Makes
+pub mod Steps
 pub mod Whole

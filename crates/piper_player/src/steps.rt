@@ -1,6 +1,8 @@
 //! Steps of a side's open call.
 
-ghost use Rattle.std.specs.Prelude.{◌≡◌};
+ghost use Rattle.std.specs.Prelude.{◌≡◌, OnOk};
+ghost use Rattle.piper_sides.specs.Log.{events};
+ghost use Rattle.piper_player.specs.Steps.{Goes, GoesAs};
 
 use crate::whole::state;
 use piper_machine::calls::{Side, SideState, Step};
@@ -15,27 +17,41 @@ pub fn make(
     side: Side,
     steps: Steps,
     log: &mut Log,
-) -> Result<(), StepRefusal> {
+) -> Result<(), StepRefusal>
+    ensures { OnOk result (GoesAs steps side machine.old (events log.old) machine.new (events log.new)) }
+{
     match steps {
-        Steps::One => machine.step(&Step::Go(side), log),
-        Steps::Count(count) => {
-            for _ in 0..count {
-                machine.step(&Step::Go(side), log)?;
-            }
-            Ok(())
-        }
+        Steps::One => make_some(machine, side, 1, log),
+        Steps::Count(count) => make_some(machine, side, count, log),
         Steps::ToAnswer => make_to_answer(machine, side, log),
     }
 }
 
+fn make_some(
+    machine: &mut Machine,
+    side: Side,
+    count: usize,
+    log: &mut Log,
+) -> Result<(), StepRefusal>
+    ensures { OnOk result (Goes count side machine.old (events log.old) machine.new (events log.new)) }
+{
+    for _ in 0..count {
+        machine.step(&Step::Go(side), log)?;
+    }
+    Ok(())
+}
+
 // Makes steps of the side until its open call answers.
-fn make_to_answer(machine: &mut Machine, side: Side, log: &mut Log) -> Result<(), StepRefusal> {
+fn make_to_answer(machine: &mut Machine, side: Side, log: &mut Log) -> Result<(), StepRefusal>
+    ensures { OnOk result (GoesAs Steps.ToAnswer side machine.old (events log.old) machine.new (events log.new)) }
+{
+    machine.step(&Step::Go(side), log)?;
     // No call makes as many steps.
     for _ in 0..u64::MAX {
-        machine.step(&Step::Go(side), log)?;
         if state(machine, side) != SideState::Busy {
             break;
         }
+        machine.step(&Step::Go(side), log)?;
     }
     Ok(())
 }
