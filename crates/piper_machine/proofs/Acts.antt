@@ -1,6 +1,6 @@
 -- What remains of a scripted copy after one act.
-use Rattle.std.proofs.Common.{◌≡◌, ℕ, ◌+◌, ◌-◌, ◌<◌, ◌≤◌, min, List, [], ◌∷◌, ◌++◌, take, length, Bool, true, false, ◌==◌, if◌then◌else◌, Result, Ok, Err, nat_lt, refl, sym, ap, ◌∙◌, arith, length-append}
-use Rattle.std.proofs.lemmas.List.{take-append-le}
+use Rattle.std.proofs.Common.{◌≡◌, ℕ, ◌+◌, ◌-◌, ◌<◌, ◌≤◌, min, List, [], ◌∷◌, ◌++◌, take, drop, length, Bool, true, false, ◌==◌, if◌then◌else◌, Result, Ok, Err, nat_lt, refl, sym, ap, ◌∙◌, arith, append_assoc, length-append, length-take-le}
+use Rattle.std.proofs.lemmas.List.{take-append-le, take-append-drop}
 use Rattle.std.proofs.Math.Seq.{take-append-add, take-length}
 use Rattle.std.proofs.lemmas.Bool.Decides.{nat_tests}
 use Rattle.piper_sides.specs.declared.polling.Polled.TheVariants.{Ready}
@@ -12,6 +12,7 @@ use Rattle.piper_sides.specs.declared.scripted.Failed.{Failed}
 use Rattle.piper_machine.specs.Pipe.{Pipe}
 use Rattle.piper_machine.specs.Copy.{Copied, answered, filled, drained}
 use Rattle.piper_machine.specs.Scripted.{bytes_given, ends_in_failure, source_answer, fill_moves_more, taken_by, drain_moves_to}
+use Rattle.piper_machine.specs.Round.{unspent}
 use Rattle.piper_machine.proofs.Rounds.{filled-filled, filled_nothing}
 
 choose : (b : Bool) (x y : Copied (Result ℕ Failed)) → b ≡ false → (if b then x else y) ≡ y
@@ -64,27 +65,58 @@ by_bytes : (sum : ℕ) (acts : List SourceAct) (p : Pipe) → fill_moves_more su
 unfolding moved_by
 by_bytes sum acts p = refl
 
+-- the first part of the bytes, then the rest
+moved-parts : (sum : ℕ) (bytes more : List ℕ) (fails : Bool) (p : Pipe) → length bytes ≤ p.room → moved_by sum (bytes ++ more) fails p ≡ moved_by (sum + length bytes) more fails (filled bytes p)
+unfolding moved_by
+moved-parts sum bytes more fails p within =
+    let n = length bytes in
+    let k = min (length more) (p.room - n) in
+    let long = length-append bytes more in
+    let count : min (length (bytes ++ more)) p.room ≡ n + k = omega arith in
+    let test : nat_lt p.room (length (bytes ++ more)) ≡ nat_lt (p.room - n) (length more) = ap (nat_lt p.room) long ∙ past-rest p.room n (length more) within in
+    let sums : sum + min (length (bytes ++ more)) p.room ≡ sum + n + k = omega arith in
+    let moved : take (min (length (bytes ++ more)) p.room) (bytes ++ more) ≡ bytes ++ take k more = ap (λ j. take j (bytes ++ more)) count ∙ take-append-add bytes more k in
+    ap (λ (b : Bool). answered (Ready (source_answer b fails (sum + min (length (bytes ++ more)) p.room))) (filled (take (min (length (bytes ++ more)) p.room) (bytes ++ more)) p)) test
+    ∙ ap (λ (j : ℕ). answered (Ready (source_answer (nat_lt (p.room - n) (length more)) fails j)) (filled (take (min (length (bytes ++ more)) p.room) (bytes ++ more)) p)) sums
+    ∙ ap (λ (q : Pipe). answered (Ready (source_answer (nat_lt (p.room - n) (length more)) fails (sum + n + k))) q)
+    (ap (λ (given : List ℕ). filled given p) moved ∙ sym (filled-filled bytes (take k more) p))
+
 -- an act all of whose bytes fit
 pub give-goes_on : (sum n : ℕ) (bytes : List ℕ) (acts : List SourceAct) (p : Pipe) → (length bytes ≡ 0 → ⊥) → n ≡ min (length bytes) p.room → n ≡ length bytes
     → fill_moves_more sum (source.Bytes bytes ∷ acts) p ≡ fill_moves_more (sum + n) acts (filled (take n bytes) p)
-unfolding moved_by
 give-goes_on sum n bytes acts p some is spent =
-    let more = bytes_given acts in
-    let k = min (length more) (p.room - length bytes) in
-    let long = length-append bytes more in
-    let count : min (length (bytes ++ more)) p.room ≡ length bytes + k = omega arith in
     let whole : take n bytes ≡ bytes = ap (λ j. take j bytes) spent ∙ take-length bytes in
-    let test : nat_lt p.room (length (bytes ++ more)) ≡ nat_lt (p.room - length bytes) (length more) = ap (nat_lt p.room) long ∙ past-rest p.room (length bytes) (length more) (omega arith) in
-    let sums : sum + min (length (bytes ++ more)) p.room ≡ sum + n + k = omega arith in
-    let moved : take (min (length (bytes ++ more)) p.room) (bytes ++ more) ≡ bytes ++ take k more = ap (λ j. take j (bytes ++ more)) count ∙ take-append-add bytes more k in
     by_bytes sum (source.Bytes bytes ∷ acts) p
     ∙ ap (λ (given : List ℕ). moved_by sum given (ends_in_failure (source.Bytes bytes ∷ acts)) p) (bytes_given-cons bytes acts some)
-    ∙ ap (λ (fails : Bool). moved_by sum (bytes ++ more) fails p) (ends_in_failure-cons bytes acts some)
-    ∙ ap (λ (b : Bool). answered (Ready (source_answer b (ends_in_failure acts) (sum + min (length (bytes ++ more)) p.room))) (filled (take (min (length (bytes ++ more)) p.room) (bytes ++ more)) p)) test
-    ∙ ap (λ (j : ℕ). answered (Ready (source_answer (nat_lt (p.room - length bytes) (length more)) (ends_in_failure acts) j)) (filled (take (min (length (bytes ++ more)) p.room) (bytes ++ more)) p)) sums
-    ∙ ap (λ (q : Pipe). answered (Ready (source_answer (nat_lt (p.room - length bytes) (length more)) (ends_in_failure acts) (sum + n + k))) q)
-    (ap (λ (given : List ℕ). filled given p) moved ∙ sym (filled-filled bytes (take k more) p))
-    ∙ sym (ap (λ (given : List ℕ). fill_moves_more (sum + n) acts (filled given p)) whole)
+    ∙ ap (λ (fails : Bool). moved_by sum (bytes ++ bytes_given acts) fails p) (ends_in_failure-cons bytes acts some)
+    ∙ moved-parts sum bytes (bytes_given acts) (ends_in_failure acts) p (omega arith)
+    ∙ ap (λ (k : ℕ). moved_by (sum + k) (bytes_given acts) (ends_in_failure acts) (filled bytes p)) (sym spent)
+    ∙ ap (λ (given : List ℕ). moved_by (sum + n) (bytes_given acts) (ends_in_failure acts) (filled given p)) (sym whole)
+    ∙ sym (by_bytes (sum + n) acts (filled (take n bytes) p))
+
+given-unspent : (bytes : List ℕ) (acts : List SourceAct) → bytes_given (unspent bytes acts) ≡ bytes ++ bytes_given acts
+given-unspent [] acts = refl
+given-unspent (byte ∷ bytes) acts = refl
+
+failure-unspent : (bytes : List ℕ) (acts : List SourceAct) → ends_in_failure (unspent bytes acts) ≡ ends_in_failure acts
+failure-unspent [] acts = refl
+failure-unspent (byte ∷ bytes) acts = refl
+
+-- an act some of whose bytes are given: they move first, and then what is left
+pub give-part : (sum n : ℕ) (bytes : List ℕ) (acts : List SourceAct) (p : Pipe) → 1 ≤ n → n ≤ length bytes → n ≤ p.room
+    → fill_moves_more sum (source.Bytes bytes ∷ acts) p ≡ fill_moves_more (sum + n) (unspent (drop n bytes) acts) (filled (take n bytes) p)
+give-part sum n bytes acts p some within fitting =
+    let long : length (take n bytes) ≡ n = length-take-le n bytes within in
+    let rest = drop n bytes ++ bytes_given acts in
+    let filled_none : length bytes ≡ 0 → ⊥ = λ none. absurd (omega arith) in
+    let parts : bytes ++ bytes_given acts ≡ take n bytes ++ rest = ap (λ (xs : List ℕ). xs ++ bytes_given acts) (sym (take-append-drop n bytes)) ∙ append_assoc (take n bytes) (drop n bytes) (bytes_given acts) in
+    by_bytes sum (source.Bytes bytes ∷ acts) p
+    ∙ ap (λ (given : List ℕ). moved_by sum given (ends_in_failure (source.Bytes bytes ∷ acts)) p) (bytes_given-cons bytes acts filled_none ∙ parts)
+    ∙ ap (λ (fails : Bool). moved_by sum (take n bytes ++ rest) fails p) (ends_in_failure-cons bytes acts filled_none ∙ sym (failure-unspent (drop n bytes) acts))
+    ∙ moved-parts sum (take n bytes) rest (ends_in_failure (unspent (drop n bytes) acts)) p (omega arith)
+    ∙ ap (λ (k : ℕ). moved_by (sum + k) rest (ends_in_failure (unspent (drop n bytes) acts)) (filled (take n bytes) p)) long
+    ∙ ap (λ (given : List ℕ). moved_by (sum + n) given (ends_in_failure (unspent (drop n bytes) acts)) (filled (take n bytes) p)) (sym (given-unspent (drop n bytes) acts))
+    ∙ sym (by_bytes (sum + n) (unspent (drop n bytes) acts) (filled (take n bytes) p))
 
 -- an act whose bytes do not all fit ends the call
 pub give-ends : (sum n : ℕ) (bytes : List ℕ) (acts : List SourceAct) (p : Pipe) → (length bytes ≡ 0 → ⊥) → n ≡ min (length bytes) p.room → n < length bytes

@@ -19,8 +19,9 @@ use Rattle.piper_machine.specs.Move.{with_waker}
 use Rattle.piper_machine.specs.Refusal.{reader_state, writer_state}
 use Rattle.piper_sides.specs.Table.{Next, goes_on, read_action, write_action, reader_looked, reader_looked_again, reader_registered, writer_taken, writer_is_open, writer_looked, writer_looked_again, writer_registered, reader_taken, own_taken}
 use Rattle.piper_machine.specs.Action.{refreshed_by, registered_in}
-use Rattle.piper_machine.specs.Step.{Stepped, went, call_after}
-use Rattle.piper_machine.specs.Alone.{Ended, heard, reader_alone, read_steps, read_wakes, writer_alone, write_steps, write_wakes, reader_looks_alone, reader_again_alone, reader_granted_alone, reader_done_alone, writer_ended, writer_open_alone, writer_looks_alone, writer_granted_alone, writer_again_alone, writer_done_alone, steps_after, wakes_after}
+use Rattle.piper_machine.specs.Step.{Stepped, went, call_after, source_after, destination_after, stepped}
+use Rattle.piper_sides.specs.declared.calls.Step.TheVariants.{Go}
+use Rattle.piper_machine.specs.Alone.{Ended, heard, reader_alone, read_steps, read_wakes, is_draining, is_drain_round, is_filling, is_fill_round, writer_alone, write_steps, write_wakes, reader_looks_alone, reader_again_alone, reader_granted_alone, reader_done_alone, writer_ended, writer_open_alone, writer_looks_alone, writer_granted_alone, writer_again_alone, writer_done_alone, steps_after, wakes_after}
 
 -- what remains after a step of the reader: all that is left, or the answer that the step gave
 abbrev pub reader_rest : Option Answer → Pipe → Ended
@@ -33,7 +34,7 @@ read_step place p = let q = record p { reader = place } in went Reader (heard Re
 
 -- the reader comes to a place, or answers
 abbrev pub reader_settled : Next ReadPlace → Pipe → Pipe
-reader_settled next p = record p { reader = next.place; reader_call = call_after next.answer p.reader_call }
+reader_settled next p = record p { reader = next.place; reader_call = call_after next.answer p.reader_call; destination = destination_after next.answer p.destination }
 
 abbrev pub reader_rest_at : Next ReadPlace → Pipe → Ended
 reader_rest_at next p = reader_rest next.answer (reader_settled next p)
@@ -50,28 +51,31 @@ again-rest : (none was_closed : Bool) (p : Pipe) → reader_again_alone none pur
 again-rest true was_closed p = refl
 again-rest false was_closed p = refl
 
-take-rest : (next : AfterRead) (name : Option ℕ) (p : Pipe) → reader_done_alone next (record p { reader = at.Idle; writer_waker = None; woken = with_waker p.woken name }) ≡ reader_rest_at (writer_taken next (is_some name)) (record p { writer_waker = None; reader_call = record p.reader_call { taken = name } })
-take-rest afterward.Answer None p = refl
-take-rest afterward.Drop None p = refl
-take-rest afterward.Answer (Some name) p = refl
-take-rest afterward.Drop (Some name) p = refl
+take-rest : (next : AfterRead) (name : Option ℕ) (p : Pipe) → is_drain_round next ≡ false → reader_done_alone next (record p { reader = at.Idle; writer_waker = None; woken = with_waker p.woken name }) ≡ reader_rest_at (writer_taken next (is_some name)) (record p { writer_waker = None; reader_call = record p.reader_call { taken = name } })
+take-rest afterward.Answer None p plain = refl
+take-rest afterward.Drop None p plain = refl
+take-rest afterward.Answer (Some name) p plain = refl
+take-rest afterward.Drop (Some name) p plain = refl
+take-rest (afterward.Round form sum) name p plain = absurd (cc)
 
-pub reader-rest : (place : ReadPlace) (p : Pipe) → reader_state place ≡ Busy → let s = read_step place p in reader_alone place p ≡ reader_rest s.answer s.pipe
-reader-rest at.Idle p busy = absurd (cc)
-reader-rest at.Dropped p busy = absurd (cc)
-reader-rest (at.QueryHead query) p busy = refl
-reader-rest (at.QueryTail query) p busy = refl
-reader-rest at.QueryClosed p busy = refl
-reader-rest (at.LookTail purpose.Poll) p busy = looks-rest (length p.unread == 0) (refreshed_by Reader p)
-reader-rest (at.LookRegister purpose.Poll) p busy = registers-rest (is_granted p.reader_call.context) (record p { reader_waker = registered_in p.reader_call.context p.reader_waker })
-reader-rest (at.LookClosed l) p busy = refl
-reader-rest (at.LookTailAgain purpose.Poll was_closed) p busy = again-rest (length p.unread == 0) was_closed (refreshed_by Reader p)
-reader-rest (at.LookTake purpose.Poll) p busy = refl
-reader-rest (at.StoreHead n next) p busy = refl
-reader-rest (at.TakeWriter next) p busy = take-rest next p.writer_waker p
-reader-rest (at.WakeWriter afterward.Answer) p busy = refl
-reader-rest (at.WakeWriter afterward.Drop) p busy = refl
-reader-rest at.StoreClosed p busy = refl
+pub reader-rest : (place : ReadPlace) (p : Pipe) → reader_state place ≡ Busy → is_draining place ≡ false → let s = read_step place p in reader_alone place p ≡ reader_rest s.answer s.pipe
+reader-rest at.Idle p busy plain = absurd (cc)
+reader-rest at.Dropped p busy plain = absurd (cc)
+reader-rest (at.QueryHead query) p busy plain = refl
+reader-rest (at.QueryTail query) p busy plain = refl
+reader-rest at.QueryClosed p busy plain = refl
+reader-rest (at.LookTail purpose.Poll) p busy plain = looks-rest (length p.unread == 0) (refreshed_by Reader p)
+reader-rest (at.LookRegister purpose.Poll) p busy plain = registers-rest (is_granted p.reader_call.context) (record p { reader_waker = registered_in p.reader_call.context p.reader_waker })
+reader-rest (at.LookClosed purpose.Poll) p busy plain = refl
+reader-rest (at.LookTailAgain purpose.Poll was_closed) p busy plain = again-rest (length p.unread == 0) was_closed (refreshed_by Reader p)
+reader-rest (at.LookTake purpose.Poll) p busy plain = refl
+reader-rest (at.StoreHead n afterward.Answer) p busy plain = refl
+reader-rest (at.StoreHead n afterward.Drop) p busy plain = refl
+reader-rest (at.TakeWriter next) p busy plain = take-rest next p.writer_waker p plain
+reader-rest (at.WakeWriter afterward.Answer) p busy plain = refl
+reader-rest (at.WakeWriter afterward.Drop) p busy plain = refl
+reader-rest at.StoreClosed p busy plain = refl
+reader-rest place p busy plain = absurd (cc)
 
 -- a step that gives no answer brings it nearer
 pub record Nearer (steps_before steps_after wakes_before wakes_after woken_before woken_after : ℕ) : Type 0 where
@@ -79,44 +83,48 @@ pub record Nearer (steps_before steps_after wakes_before wakes_after woken_befor
   pub wakes : woken_after + wakes_after ≤ woken_before + wakes_before
 
 abbrev pub IsNearer : ReadPlace → Pipe → Next ReadPlace → Pipe → Type 0
-IsNearer place p next q = next.answer ≡ None → (reader_state next.place ≡ Busy) × Nearer (read_steps place) (read_steps next.place) (read_wakes place) (read_wakes next.place) (length p.woken) (length q.woken)
+IsNearer place p next q = next.answer ≡ None → (reader_state next.place ≡ Busy) × (is_draining next.place ≡ false) × Nearer (read_steps p.capacity p.known place) (read_steps q.capacity q.known next.place) (read_wakes place) (read_wakes next.place) (length p.woken) (length q.woken)
 
 near : (steps_before steps_after wakes_before wakes_after n : ℕ) → steps_after < steps_before → wakes_after ≤ wakes_before → Nearer steps_before steps_after wakes_before wakes_after n n
 near steps_before steps_after wakes_before wakes_after n fewer fewer_wakes = record { steps = fewer; wakes = omega arith }
 
 looks-near : (none : Bool) (p q : Pipe) → q.woken ≡ p.woken → IsNearer (at.LookTail purpose.Poll) p (goes_on (reader_looked none purpose.Poll)) q
-looks-near true p q same goes = (refl, rw same (near 5 4 0 0 (length p.woken) (lit< tt) (lit≤ tt)))
-looks-near false p q same goes = (refl, rw same (near 5 1 0 0 (length p.woken) (lit< tt) (lit≤ tt)))
+looks-near true p q same goes = (refl, refl, rw same (near 5 4 0 0 (length p.woken) (lit< tt) (lit≤ tt)))
+looks-near false p q same goes = (refl, refl, rw same (near 5 1 0 0 (length p.woken) (lit< tt) (lit≤ tt)))
 
 registers-near : (is_granted : Bool) (p q : Pipe) → q.woken ≡ p.woken → IsNearer (at.LookRegister purpose.Poll) p (reader_registered is_granted purpose.Poll) q
-registers-near true p q same goes = (refl, rw same (near 4 3 0 0 (length p.woken) (lit< tt) (lit≤ tt)))
+registers-near true p q same goes = (refl, refl, rw same (near 4 3 0 0 (length p.woken) (lit< tt) (lit≤ tt)))
 registers-near false p q same goes = absurd (cc)
 
 again-near : (none was_closed : Bool) (p q : Pipe) → q.woken ≡ p.woken → IsNearer (at.LookTailAgain purpose.Poll was_closed) p (reader_looked_again none purpose.Poll was_closed) q
 again-near true was_closed p q same goes = absurd (cc)
-again-near false was_closed p q same goes = (refl, rw same (near 2 1 0 0 (length p.woken) (lit< tt) (lit≤ tt)))
+again-near false was_closed p q same goes = (refl, refl, rw same (near 2 1 0 0 (length p.woken) (lit< tt) (lit≤ tt)))
 
-take-near : (next : AfterRead) (is_found : Bool) (p q : Pipe) → q.woken ≡ p.woken → IsNearer (at.TakeWriter next) p (writer_taken next is_found) q
-take-near afterward.Answer false p q same goes = absurd (cc)
-take-near afterward.Drop false p q same goes = absurd (cc)
-take-near next true p q same goes = (refl, rw same (near 2 1 1 1 (length p.woken) (lit< tt) (lit≤ tt)))
+take-near : (next : AfterRead) (is_found : Bool) (p q : Pipe) → is_drain_round next ≡ false → q.woken ≡ p.woken → IsNearer (at.TakeWriter next) p (writer_taken next is_found) q
+take-near afterward.Answer false p q plain same goes = absurd (cc)
+take-near afterward.Drop false p q plain same goes = absurd (cc)
+take-near afterward.Answer true p q plain same goes = (refl, refl, rw same (near 2 1 1 1 (length p.woken) (lit< tt) (lit≤ tt)))
+take-near afterward.Drop true p q plain same goes = (refl, refl, rw same (near 2 1 1 1 (length p.woken) (lit< tt) (lit≤ tt)))
+take-near (afterward.Round form sum) is_found p q plain same goes = absurd (cc)
 
-pub reader-nearer : (place : ReadPlace) (p : Pipe) → reader_state place ≡ Busy → let s = read_step place p in s.answer ≡ None → (reader_state s.pipe.reader ≡ Busy) × Nearer (read_steps place) (read_steps s.pipe.reader) (read_wakes place) (read_wakes s.pipe.reader) (length p.woken) (length s.pipe.woken)
-reader-nearer at.Idle p busy goes = absurd (cc)
-reader-nearer at.Dropped p busy goes = absurd (cc)
-reader-nearer (at.QueryHead query) p busy goes = (refl, near 2 1 0 0 (length p.woken) (lit< tt) (lit≤ tt))
-reader-nearer (at.QueryTail query) p busy goes = absurd (cc)
-reader-nearer at.QueryClosed p busy goes = absurd (cc)
-reader-nearer (at.LookTail purpose.Poll) p busy goes = looks-near (length p.unread == 0) p p refl goes
-reader-nearer (at.LookRegister purpose.Poll) p busy goes = registers-near (is_granted p.reader_call.context) p p refl goes
-reader-nearer (at.LookClosed l) p busy goes = (refl, near 3 2 0 0 (length p.woken) (lit< tt) (lit≤ tt))
-reader-nearer (at.LookTailAgain purpose.Poll was_closed) p busy goes = again-near (length p.unread == 0) was_closed p p refl goes
-reader-nearer (at.LookTake purpose.Poll) p busy goes = absurd (cc)
-reader-nearer (at.StoreHead n next) p busy goes = (refl, near 3 2 1 1 (length p.woken) (lit< tt) (lit≤ tt))
-reader-nearer (at.TakeWriter next) p busy goes = take-near next (is_some p.writer_waker) p p refl goes
-reader-nearer (at.WakeWriter afterward.Answer) p busy goes = absurd (cc)
-reader-nearer (at.WakeWriter afterward.Drop) p busy goes = absurd (cc)
-reader-nearer at.StoreClosed p busy goes = (refl, near 3 2 1 1 (length p.woken) (lit< tt) (lit≤ tt))
+pub reader-nearer : (place : ReadPlace) (p : Pipe) → reader_state place ≡ Busy → is_draining place ≡ false → let s = read_step place p in s.answer ≡ None → (reader_state s.pipe.reader ≡ Busy) × (is_draining s.pipe.reader ≡ false) × Nearer (read_steps p.capacity p.known place) (read_steps s.pipe.capacity s.pipe.known s.pipe.reader) (read_wakes place) (read_wakes s.pipe.reader) (length p.woken) (length s.pipe.woken)
+reader-nearer at.Idle p busy plain goes = absurd (cc)
+reader-nearer at.Dropped p busy plain goes = absurd (cc)
+reader-nearer (at.QueryHead query) p busy plain goes = (refl, refl, near 2 1 0 0 (length p.woken) (lit< tt) (lit≤ tt))
+reader-nearer (at.QueryTail query) p busy plain goes = absurd (cc)
+reader-nearer at.QueryClosed p busy plain goes = absurd (cc)
+reader-nearer (at.LookTail purpose.Poll) p busy plain goes = looks-near (length p.unread == 0) p (refreshed_by Reader p) refl goes
+reader-nearer (at.LookRegister purpose.Poll) p busy plain goes = registers-near (is_granted p.reader_call.context) p p refl goes
+reader-nearer (at.LookClosed purpose.Poll) p busy plain goes = (refl, refl, near 3 2 0 0 (length p.woken) (lit< tt) (lit≤ tt))
+reader-nearer (at.LookTailAgain purpose.Poll was_closed) p busy plain goes = again-near (length p.unread == 0) was_closed p (refreshed_by Reader p) refl goes
+reader-nearer (at.LookTake purpose.Poll) p busy plain goes = absurd (cc)
+reader-nearer (at.StoreHead n afterward.Answer) p busy plain goes = (refl, refl, near 3 2 1 1 (length p.woken) (lit< tt) (lit≤ tt))
+reader-nearer (at.StoreHead n afterward.Drop) p busy plain goes = (refl, refl, near 3 2 1 1 (length p.woken) (lit< tt) (lit≤ tt))
+reader-nearer (at.TakeWriter next) p busy plain goes = take-near next (is_some p.writer_waker) p p plain refl goes
+reader-nearer (at.WakeWriter afterward.Answer) p busy plain goes = absurd (cc)
+reader-nearer (at.WakeWriter afterward.Drop) p busy plain goes = absurd (cc)
+reader-nearer at.StoreClosed p busy plain goes = (refl, refl, near 3 2 1 1 (length p.woken) (lit< tt) (lit≤ tt))
+reader-nearer place p busy plain goes = absurd (cc)
 
 -- the writer
 
@@ -128,7 +136,7 @@ abbrev pub write_step : WritePlace → Pipe → Stepped
 write_step place p = let q = record p { writer = place } in went Writer (heard Writer (write_action place) q)
 
 abbrev pub writer_settled : Next WritePlace → Pipe → Pipe
-writer_settled next p = record p { writer = next.place; writer_call = call_after next.answer p.writer_call }
+writer_settled next p = record p { writer = next.place; writer_call = call_after next.answer p.writer_call; source = source_after next.answer p.source }
 
 abbrev pub writer_rest_at : Next WritePlace → Pipe → Ended
 writer_rest_at next p = writer_rest next.answer (writer_settled next p)
@@ -150,94 +158,133 @@ writer_again-rest : (none : Bool) (p : Pipe) → writer_again_alone none purpose
 writer_again-rest true p = refl
 writer_again-rest false p = refl
 
-reader_take-rest : (next : AfterWrite) (name : Option ℕ) (p : Pipe) → writer_done_alone next (record p { writer = on.Idle; reader_waker = None; woken = with_waker p.woken name }) ≡ writer_rest_at (reader_taken next (is_some name)) (record p { reader_waker = None; writer_call = record p.writer_call { taken = name } })
-reader_take-rest behind.Answer None p = refl
-reader_take-rest behind.Drop None p = refl
-reader_take-rest behind.WakeWriter None p = refl
-reader_take-rest behind.Answer (Some name) p = refl
-reader_take-rest behind.Drop (Some name) p = refl
-reader_take-rest behind.WakeWriter (Some name) p = refl
+reader_take-rest : (next : AfterWrite) (name : Option ℕ) (p : Pipe) → is_fill_round next ≡ false → writer_done_alone next (record p { writer = on.Idle; reader_waker = None; woken = with_waker p.woken name }) ≡ writer_rest_at (reader_taken next (is_some name)) (record p { reader_waker = None; writer_call = record p.writer_call { taken = name } })
+reader_take-rest behind.Answer None p plain = refl
+reader_take-rest behind.Drop None p plain = refl
+reader_take-rest behind.WakeWriter None p plain = refl
+reader_take-rest behind.Answer (Some name) p plain = refl
+reader_take-rest behind.Drop (Some name) p plain = refl
+reader_take-rest behind.WakeWriter (Some name) p plain = refl
+reader_take-rest (behind.Round form sum) name p plain = absurd (cc)
 
 own_take-rest : (name : Option ℕ) (p : Pipe) → writer_ended on.Idle Done (record p { writer = on.Idle; writer_waker = None; woken = with_waker p.woken name }) ≡ writer_rest_at (own_taken (is_some name)) (record p { writer_waker = None; writer_call = record p.writer_call { taken = name } })
 own_take-rest None p = refl
 own_take-rest (Some name) p = refl
 
-pub writer-rest : (place : WritePlace) (p : Pipe) → writer_state place ≡ Busy → let s = write_step place p in writer_alone place p ≡ writer_rest s.answer s.pipe
-writer-rest on.Idle p busy = absurd (cc)
-writer-rest on.Dropped p busy = absurd (cc)
-writer-rest (on.QueryHead query) p busy = refl
-writer-rest (on.QueryTail query count) p busy = refl
-writer-rest on.QueryClosed p busy = refl
-writer-rest (on.LookClosed purpose.Poll) p busy = open-rest p.is_closed (p.room == 0) p
-writer-rest (on.LookHead purpose.Poll) p busy = loads-rest (p.capacity - length p.unread == 0) (refreshed_by Writer p)
-writer-rest (on.LookRegister purpose.Poll) p busy = writer_registers-rest (is_granted p.writer_call.context) (record p { writer_waker = registered_in p.writer_call.context p.writer_waker })
-writer-rest (on.LookHeadAgain purpose.Poll) p busy = writer_again-rest (p.capacity - length p.unread == 0) (refreshed_by Writer p)
-writer-rest (on.LookClosedAgain l) p busy = refl
-writer-rest (on.LookTake purpose.Poll) p busy = refl
-writer-rest (on.StoreTail n next) p busy = refl
-writer-rest (on.TakeReader next) p busy = reader_take-rest next p.reader_waker p
-writer-rest (on.WakeReader behind.Answer) p busy = refl
-writer-rest (on.WakeReader behind.Drop) p busy = refl
-writer-rest (on.WakeReader behind.WakeWriter) p busy = refl
-writer-rest (on.StoreClosed behind.Answer) p busy = refl
-writer-rest (on.StoreClosed behind.Drop) p busy = refl
-writer-rest (on.StoreClosed behind.WakeWriter) p busy = refl
-writer-rest on.TakeWriter p busy = own_take-rest p.writer_waker p
-writer-rest on.WakeWriter p busy = refl
+pub writer-rest : (place : WritePlace) (p : Pipe) → writer_state place ≡ Busy → is_filling place ≡ false → let s = write_step place p in writer_alone place p ≡ writer_rest s.answer s.pipe
+writer-rest on.Idle p busy plain = absurd (cc)
+writer-rest on.Dropped p busy plain = absurd (cc)
+writer-rest (on.QueryHead query) p busy plain = refl
+writer-rest (on.QueryTail query count) p busy plain = refl
+writer-rest on.QueryClosed p busy plain = refl
+writer-rest (on.LookClosed purpose.Poll) p busy plain = open-rest p.is_closed (p.room == 0) p
+writer-rest (on.LookHead purpose.Poll) p busy plain = loads-rest (p.capacity - length p.unread == 0) (refreshed_by Writer p)
+writer-rest (on.LookRegister purpose.Poll) p busy plain = writer_registers-rest (is_granted p.writer_call.context) (record p { writer_waker = registered_in p.writer_call.context p.writer_waker })
+writer-rest (on.LookHeadAgain purpose.Poll) p busy plain = writer_again-rest (p.capacity - length p.unread == 0) (refreshed_by Writer p)
+writer-rest (on.LookClosedAgain purpose.Poll) p busy plain = refl
+writer-rest (on.LookTake purpose.Poll) p busy plain = refl
+writer-rest (on.StoreTail n behind.Answer) p busy plain = refl
+writer-rest (on.StoreTail n behind.Drop) p busy plain = refl
+writer-rest (on.StoreTail n behind.WakeWriter) p busy plain = refl
+writer-rest (on.TakeReader next) p busy plain = reader_take-rest next p.reader_waker p plain
+writer-rest (on.WakeReader behind.Answer) p busy plain = refl
+writer-rest (on.WakeReader behind.Drop) p busy plain = refl
+writer-rest (on.WakeReader behind.WakeWriter) p busy plain = refl
+writer-rest (on.StoreClosed behind.Answer) p busy plain = refl
+writer-rest (on.StoreClosed behind.Drop) p busy plain = refl
+writer-rest (on.StoreClosed behind.WakeWriter) p busy plain = refl
+writer-rest on.TakeWriter p busy plain = own_take-rest p.writer_waker p
+writer-rest on.WakeWriter p busy plain = refl
+writer-rest place p busy plain = absurd (cc)
+
+-- a call that copies nothing lends nothing as it goes
+pub plain-step : (place : WritePlace) (lent : List ℕ) (p : Pipe) → is_filling place ≡ false → stepped lent (Go Writer) (heard Writer (write_action place) (record p { writer = place })) ≡ write_step place p
+plain-step (on.QueryHead query) lent p plain = refl
+plain-step (on.QueryTail query count) lent p plain = refl
+plain-step on.QueryClosed lent p plain = refl
+plain-step (on.LookClosed purpose.Poll) lent p plain = refl
+plain-step (on.LookHead purpose.Poll) lent p plain = refl
+plain-step (on.LookRegister purpose.Poll) lent p plain = refl
+plain-step (on.LookHeadAgain purpose.Poll) lent p plain = refl
+plain-step (on.LookClosedAgain purpose.Poll) lent p plain = refl
+plain-step (on.LookTake purpose.Poll) lent p plain = refl
+plain-step (on.StoreTail n behind.Answer) lent p plain = refl
+plain-step (on.StoreTail n behind.Drop) lent p plain = refl
+plain-step (on.StoreTail n behind.WakeWriter) lent p plain = refl
+plain-step (on.TakeReader behind.Answer) lent p plain = refl
+plain-step (on.TakeReader behind.Drop) lent p plain = refl
+plain-step (on.TakeReader behind.WakeWriter) lent p plain = refl
+plain-step (on.WakeReader behind.Answer) lent p plain = refl
+plain-step (on.WakeReader behind.Drop) lent p plain = refl
+plain-step (on.WakeReader behind.WakeWriter) lent p plain = refl
+plain-step (on.StoreClosed behind.Answer) lent p plain = refl
+plain-step (on.StoreClosed behind.Drop) lent p plain = refl
+plain-step (on.StoreClosed behind.WakeWriter) lent p plain = refl
+plain-step on.TakeWriter lent p plain = refl
+plain-step on.WakeWriter lent p plain = refl
+plain-step on.Idle lent p plain = refl
+plain-step on.Dropped lent p plain = refl
+plain-step place lent p plain = absurd (cc)
 
 abbrev pub IsWriterNearer : WritePlace → Pipe → Next WritePlace → Pipe → Type 0
-IsWriterNearer place p next q = next.answer ≡ None → (writer_state next.place ≡ Busy) × Nearer (write_steps place) (write_steps next.place) (write_wakes place) (write_wakes next.place) (length p.woken) (length q.woken)
+IsWriterNearer place p next q = next.answer ≡ None → (writer_state next.place ≡ Busy) × (is_filling next.place ≡ false) × Nearer (write_steps p.capacity p.room place) (write_steps q.capacity q.room next.place) (write_wakes place) (write_wakes next.place) (length p.woken) (length q.woken)
 
 open-near : (is_closed none : Bool) (p : Pipe) → IsWriterNearer (on.LookClosed purpose.Poll) p (writer_is_open is_closed none purpose.Poll) p
 open-near true none p goes = absurd (cc)
-open-near false true p goes = (refl, near 5 4 0 0 (length p.woken) (lit< tt) (lit≤ tt))
-open-near false false p goes = (refl, near 5 1 0 0 (length p.woken) (lit< tt) (lit≤ tt))
+open-near false true p goes = (refl, refl, near 5 4 0 0 (length p.woken) (lit< tt) (lit≤ tt))
+open-near false false p goes = (refl, refl, near 5 1 0 0 (length p.woken) (lit< tt) (lit≤ tt))
 
-loads-near : (none : Bool) (p : Pipe) → IsWriterNearer (on.LookHead purpose.Poll) p (goes_on (writer_looked none purpose.Poll)) p
-loads-near true p goes = (refl, near 4 3 0 0 (length p.woken) (lit< tt) (lit≤ tt))
-loads-near false p goes = (refl, near 4 1 0 0 (length p.woken) (lit< tt) (lit≤ tt))
+loads-near : (none : Bool) (p : Pipe) → IsWriterNearer (on.LookHead purpose.Poll) p (goes_on (writer_looked none purpose.Poll)) (refreshed_by Writer p)
+loads-near true p goes = (refl, refl, near 4 3 0 0 (length p.woken) (lit< tt) (lit≤ tt))
+loads-near false p goes = (refl, refl, near 4 1 0 0 (length p.woken) (lit< tt) (lit≤ tt))
 
 writer_registers-near : (is_granted : Bool) (p : Pipe) → IsWriterNearer (on.LookRegister purpose.Poll) p (writer_registered is_granted purpose.Poll) p
-writer_registers-near true p goes = (refl, near 3 2 0 0 (length p.woken) (lit< tt) (lit≤ tt))
+writer_registers-near true p goes = (refl, refl, near 3 2 0 0 (length p.woken) (lit< tt) (lit≤ tt))
 writer_registers-near false p goes = absurd (cc)
 
-writer_again-near : (none : Bool) (p : Pipe) → IsWriterNearer (on.LookHeadAgain purpose.Poll) p (goes_on (writer_looked_again none purpose.Poll)) p
-writer_again-near true p goes = (refl, near 2 1 0 0 (length p.woken) (lit< tt) (lit≤ tt))
-writer_again-near false p goes = (refl, near 2 1 0 0 (length p.woken) (lit< tt) (lit≤ tt))
+writer_again-near : (none : Bool) (p : Pipe) → IsWriterNearer (on.LookHeadAgain purpose.Poll) p (goes_on (writer_looked_again none purpose.Poll)) (refreshed_by Writer p)
+writer_again-near true p goes = (refl, refl, near 2 1 0 0 (length p.woken) (lit< tt) (lit≤ tt))
+writer_again-near false p goes = (refl, refl, near 2 1 0 0 (length p.woken) (lit< tt) (lit≤ tt))
 
-reader_take-near : (next : AfterWrite) (is_found : Bool) (p : Pipe) → IsWriterNearer (on.TakeReader next) p (reader_taken next is_found) p
-reader_take-near behind.Answer false p goes = absurd (cc)
-reader_take-near behind.Drop false p goes = absurd (cc)
-reader_take-near behind.WakeWriter false p goes = (refl, near 4 2 2 1 (length p.woken) (lit< tt) (lit≤ tt))
-reader_take-near next true p goes = (refl, near (2 + steps_after next) (1 + steps_after next) (1 + wakes_after next) (1 + wakes_after next) (length p.woken) (omega arith) (omega arith))
+reader_take-near : (next : AfterWrite) (is_found : Bool) (p : Pipe) → is_fill_round next ≡ false → IsWriterNearer (on.TakeReader next) p (reader_taken next is_found) p
+reader_take-near behind.Answer false p plain goes = absurd (cc)
+reader_take-near behind.Drop false p plain goes = absurd (cc)
+reader_take-near behind.WakeWriter false p plain goes = (refl, refl, near 4 2 2 1 (length p.woken) (lit< tt) (lit≤ tt))
+reader_take-near behind.Answer true p plain goes = (refl, refl, near 2 1 1 1 (length p.woken) (lit< tt) (lit≤ tt))
+reader_take-near behind.Drop true p plain goes = (refl, refl, near 2 1 1 1 (length p.woken) (lit< tt) (lit≤ tt))
+reader_take-near behind.WakeWriter true p plain goes = (refl, refl, near 4 3 2 2 (length p.woken) (lit< tt) (lit≤ tt))
+reader_take-near (behind.Round form sum) is_found p plain goes = absurd (cc)
 
 own_take-near : (is_found : Bool) (p : Pipe) → IsWriterNearer on.TakeWriter p (own_taken is_found) p
 own_take-near false p goes = absurd (cc)
-own_take-near true p goes = (refl, near 2 1 1 1 (length p.woken) (lit< tt) (lit≤ tt))
+own_take-near true p goes = (refl, refl, near 2 1 1 1 (length p.woken) (lit< tt) (lit≤ tt))
 
 length-with_waker : (names : List ℕ) (name : Option ℕ) → length (with_waker names name) ≤ length names + 1
 length-with_waker names None = omega arith
 length-with_waker names (Some name) = simp length-append (omega arith)
 
-pub writer-nearer : (place : WritePlace) (p : Pipe) → writer_state place ≡ Busy → let s = write_step place p in s.answer ≡ None → (writer_state s.pipe.writer ≡ Busy) × Nearer (write_steps place) (write_steps s.pipe.writer) (write_wakes place) (write_wakes s.pipe.writer) (length p.woken) (length s.pipe.woken)
-writer-nearer on.Idle p busy goes = absurd (cc)
-writer-nearer on.Dropped p busy goes = absurd (cc)
-writer-nearer (on.QueryHead query) p busy goes = (refl, near 2 1 0 0 (length p.woken) (lit< tt) (lit≤ tt))
-writer-nearer (on.QueryTail query count) p busy goes = absurd (cc)
-writer-nearer on.QueryClosed p busy goes = absurd (cc)
-writer-nearer (on.LookClosed purpose.Poll) p busy goes = open-near p.is_closed (p.room == 0) p goes
-writer-nearer (on.LookHead purpose.Poll) p busy goes = loads-near (p.capacity - length p.unread == 0) p goes
-writer-nearer (on.LookRegister purpose.Poll) p busy goes = writer_registers-near (is_granted p.writer_call.context) p goes
-writer-nearer (on.LookHeadAgain purpose.Poll) p busy goes = writer_again-near (p.capacity - length p.unread == 0) p goes
-writer-nearer (on.LookClosedAgain l) p busy goes = absurd (cc)
-writer-nearer (on.LookTake purpose.Poll) p busy goes = absurd (cc)
-writer-nearer (on.StoreTail n next) p busy goes = (refl, near (3 + steps_after next) (2 + steps_after next) (1 + wakes_after next) (1 + wakes_after next) (length p.woken) (omega arith) (omega arith))
-writer-nearer (on.TakeReader next) p busy goes = reader_take-near next (is_some p.reader_waker) p goes
-writer-nearer (on.WakeReader behind.Answer) p busy goes = absurd (cc)
-writer-nearer (on.WakeReader behind.Drop) p busy goes = absurd (cc)
-writer-nearer (on.WakeReader behind.WakeWriter) p busy goes = (refl, record { steps = lit< tt; wakes = let more = length-with_waker p.woken p.writer_call.taken in omega arith })
-writer-nearer (on.StoreClosed behind.Answer) p busy goes = (refl, near 3 2 1 1 (length p.woken) (lit< tt) (lit≤ tt))
-writer-nearer (on.StoreClosed behind.Drop) p busy goes = (refl, near 3 2 1 1 (length p.woken) (lit< tt) (lit≤ tt))
-writer-nearer (on.StoreClosed behind.WakeWriter) p busy goes = (refl, near 5 4 2 2 (length p.woken) (lit< tt) (lit≤ tt))
-writer-nearer on.TakeWriter p busy goes = own_take-near (is_some p.writer_waker) p goes
-writer-nearer on.WakeWriter p busy goes = absurd (cc)
+pub writer-nearer : (place : WritePlace) (p : Pipe) → writer_state place ≡ Busy → is_filling place ≡ false → let s = write_step place p in s.answer ≡ None → (writer_state s.pipe.writer ≡ Busy) × (is_filling s.pipe.writer ≡ false) × Nearer (write_steps p.capacity p.room place) (write_steps s.pipe.capacity s.pipe.room s.pipe.writer) (write_wakes place) (write_wakes s.pipe.writer) (length p.woken) (length s.pipe.woken)
+writer-nearer on.Idle p busy plain goes = absurd (cc)
+writer-nearer on.Dropped p busy plain goes = absurd (cc)
+writer-nearer (on.QueryHead query) p busy plain goes = (refl, refl, near 2 1 0 0 (length p.woken) (lit< tt) (lit≤ tt))
+writer-nearer (on.QueryTail query count) p busy plain goes = absurd (cc)
+writer-nearer on.QueryClosed p busy plain goes = absurd (cc)
+writer-nearer (on.LookClosed purpose.Poll) p busy plain goes = open-near p.is_closed (p.room == 0) p goes
+writer-nearer (on.LookHead purpose.Poll) p busy plain goes = loads-near (p.capacity - length p.unread == 0) p goes
+writer-nearer (on.LookRegister purpose.Poll) p busy plain goes = writer_registers-near (is_granted p.writer_call.context) p goes
+writer-nearer (on.LookHeadAgain purpose.Poll) p busy plain goes = writer_again-near (p.capacity - length p.unread == 0) p goes
+writer-nearer (on.LookClosedAgain purpose.Poll) p busy plain goes = absurd (cc)
+writer-nearer (on.LookTake purpose.Poll) p busy plain goes = absurd (cc)
+writer-nearer (on.StoreTail n behind.Answer) p busy plain goes = (refl, refl, near 3 2 1 1 (length p.woken) (lit< tt) (lit≤ tt))
+writer-nearer (on.StoreTail n behind.Drop) p busy plain goes = (refl, refl, near 3 2 1 1 (length p.woken) (lit< tt) (lit≤ tt))
+writer-nearer (on.StoreTail n behind.WakeWriter) p busy plain goes = (refl, refl, near 5 4 2 2 (length p.woken) (lit< tt) (lit≤ tt))
+writer-nearer (on.TakeReader next) p busy plain goes = reader_take-near next (is_some p.reader_waker) p plain goes
+writer-nearer (on.WakeReader behind.Answer) p busy plain goes = absurd (cc)
+writer-nearer (on.WakeReader behind.Drop) p busy plain goes = absurd (cc)
+writer-nearer (on.WakeReader behind.WakeWriter) p busy plain goes = (refl, refl, record { steps = lit< tt; wakes = let more = length-with_waker p.woken p.writer_call.taken in omega arith })
+writer-nearer (on.StoreClosed behind.Answer) p busy plain goes = (refl, refl, near 3 2 1 1 (length p.woken) (lit< tt) (lit≤ tt))
+writer-nearer (on.StoreClosed behind.Drop) p busy plain goes = (refl, refl, near 3 2 1 1 (length p.woken) (lit< tt) (lit≤ tt))
+writer-nearer (on.StoreClosed behind.WakeWriter) p busy plain goes = (refl, refl, near 5 4 2 2 (length p.woken) (lit< tt) (lit≤ tt))
+writer-nearer on.TakeWriter p busy plain goes = own_take-near (is_some p.writer_waker) p goes
+writer-nearer on.WakeWriter p busy plain goes = absurd (cc)
+writer-nearer place p busy plain goes = absurd (cc)

@@ -20,9 +20,6 @@ use Rattle.piper_sides.specs.declared.table.Action.{Action}
 use Rattle.piper_sides.specs.declared.table.Action.TheVariants as does
 use Rattle.piper_sides.specs.declared.table.ReadPlace.{ReadPlace}
 use Rattle.piper_sides.specs.declared.table.ReadPlace.TheVariants as at
-use Rattle.piper_sides.specs.declared.table.WritePlace.{WritePlace}
-use Rattle.piper_sides.specs.declared.table.WritePlace.TheVariants as on
-use Rattle.piper_sides.specs.declared.table.AfterWrite.TheVariants as behind
 use Rattle.piper_sides.specs.Index.{place_of}
 use Rattle.piper_sides.specs.Call.{side_of, kind_of, waker_of}
 use Rattle.piper_machine.specs.Pipe.{Pipe}
@@ -30,10 +27,11 @@ use Rattle.piper_machine.specs.Places.{peeked_count}
 use Rattle.piper_machine.specs.Sound.{IsSound}
 use Rattle.piper_sides.specs.Side.{head_store}
 use Rattle.piper_sides.specs.Table.{read_action, write_action}
-use Rattle.piper_machine.specs.Action.{performed, logged_of, registration_of, registration, wake_of}
-use Rattle.piper_machine.specs.Step.{went, opened, stepped, answer_at_once}
+use Rattle.piper_machine.specs.Action.{performed, logged_of, registration_of, registration, wake_of, yield_of, woken_if}
+use Rattle.piper_machine.specs.Step.{went, opened, stepped, offering, answer_at_once}
 use Rattle.piper_sides.specs.Log.{answer_event}
 use Rattle.piper_machine.specs.Run.{Made}
+use Rattle.piper_machine.proofs.Counting.{writer_never-head}
 use Rattle.piper_machine.specs.Conservation.{consumed_in, published_in, consumed_of, published_of, IsConserved}
 
 -- what these events say was moved, between two pipes
@@ -71,9 +69,17 @@ wake-rests : (name : Option ℕ) → (consumed_of (wake_of name) ≡ []) × (pub
 wake-rests None = (refl, refl)
 wake-rests (Some name) = (refl, refl)
 
-head_stored : (side : Side) (p : Pipe) (n : ℕ) → IsSound p → n ≤ peeked_count p → Moves p (performed side (does.StoreHead n) p) (logged_of side (does.StoreHead n) p)
-head_stored side p n sound within =
-    let long : length (take n p.unread) ≡ n = length-take-le n p.unread (omega (arith, sound.known)) in
+yield-rests : (context : Option Context) → (consumed_of (yield_of context) ≡ []) × (published_of (yield_of context) ≡ [])
+yield-rests None = (refl, refl)
+yield-rests (Some cx) = woken-rests cx.luck.yield_granted cx.waker
+  where
+    woken-rests : (b : Bool) (name : ℕ) → (consumed_of (woken_if b name) ≡ []) × (published_of (woken_if b name) ≡ [])
+    woken-rests true name = (refl, refl)
+    woken-rests false name = (refl, refl)
+
+head_stored : (side : Side) (p : Pipe) (n : ℕ) → p.start < p.capacity → p.known ≤ length p.unread → n ≤ peeked_count p → Moves p (performed side (does.StoreHead n) p) (logged_of side (does.StoreHead n) p)
+head_stored side p n below known within =
+    let long : length (take n p.unread) ≡ n = length-take-le n p.unread (omega arith) in
     let one : take n p.unread ++ [] ≡ take n p.unread = append-nil (take n p.unread) in
     record {
       capacity = refl;
@@ -82,37 +88,41 @@ head_stored side p n sound within =
       start = ap (λ k. place_of p.capacity (p.start + k)) (sym (ap (λ (bytes : List ℕ). length bytes) one ∙ long));
     }
 
-tail_stored : (side : Side) (p : Pipe) (n : ℕ) → IsSound p → Moves p (performed side (does.StoreTail n) p) (logged_of side (does.StoreTail n) p)
-tail_stored side p n sound = record {
+tail_stored : (side : Side) (p : Pipe) (n : ℕ) → p.start < p.capacity → Moves p (performed side (does.StoreTail n) p) (logged_of side (does.StoreTail n) p)
+tail_stored side p n below = record {
   capacity = refl;
   bytes = ap (λ (bytes : List ℕ). p.unread ++ bytes) (sym (append-nil (take n p.lent)));
-  count = omega (arith, sound.start);
-  start = sym (let same : place_of p.capacity (p.start + 0) ≡ p.start = let below = sound.start in grind (arith, nat_tests) in same);
+  count = omega arith;
+  start = sym (let same : place_of p.capacity (p.start + 0) ≡ p.start = grind (arith, nat_tests) in same);
 }
 
 quiet : (old new : Pipe) (events : List Event) → old.start < old.capacity → new.capacity ≡ old.capacity → new.unread ≡ old.unread → new.start ≡ old.start → (consumed_of events ≡ []) × (published_of events ≡ []) → Moves old new events
 quiet old new events below capacity unread start none = rests-moves old new events below (record { capacity = capacity; unread = unread; start = start; consumed = none.0; published = none.1 })
 
 -- a step of a side, by its kind
-action-moves : (side : Side) (action : Action) (p : Pipe) → IsSound p → ((n : ℕ) → action ≡ does.StoreHead n → n ≤ peeked_count p) → Moves p (performed side action p) (logged_of side action p)
-action-moves side (does.StoreHead n) p sound within = head_stored side p n sound (within n refl)
-action-moves side (does.StoreTail n) p sound within = tail_stored side p n sound
-action-moves side does.Rest p sound within = quiet _ _ _ sound.start refl refl refl (refl, refl)
-action-moves side does.LoadHead p sound within = quiet _ _ _ sound.start refl refl refl (refl, refl)
-action-moves side does.LoadTail p sound within = quiet _ _ _ sound.start refl refl refl (refl, refl)
-action-moves side does.LoadClosed p sound within = quiet _ _ _ sound.start refl refl refl (refl, refl)
-action-moves side (does.StoreClosed true) p sound within = quiet _ _ _ sound.start refl refl refl (refl, refl)
-action-moves side (does.StoreClosed false) p sound within = quiet _ _ _ sound.start refl refl refl (refl, refl)
-action-moves Reader does.Refresh p sound within = quiet _ _ _ sound.start refl refl refl (refl, refl)
-action-moves Writer does.Refresh p sound within = quiet _ _ _ sound.start refl refl refl (refl, refl)
-action-moves Reader does.Register p sound within = quiet _ _ _ sound.start refl refl refl (registration-rests Reader p.reader_call.context)
-action-moves Writer does.Register p sound within = quiet _ _ _ sound.start refl refl refl (registration-rests Writer p.writer_call.context)
-action-moves Reader (does.Take Reader) p sound within = quiet _ _ _ sound.start refl refl refl (refl, refl)
-action-moves Reader (does.Take Writer) p sound within = quiet _ _ _ sound.start refl refl refl (refl, refl)
-action-moves Writer (does.Take Reader) p sound within = quiet _ _ _ sound.start refl refl refl (refl, refl)
-action-moves Writer (does.Take Writer) p sound within = quiet _ _ _ sound.start refl refl refl (refl, refl)
-action-moves Reader does.Wake p sound within = quiet _ _ _ sound.start refl refl refl (wake-rests p.reader_call.taken)
-action-moves Writer does.Wake p sound within = quiet _ _ _ sound.start refl refl refl (wake-rests p.writer_call.taken)
+action-moves : (side : Side) (action : Action) (p : Pipe) → p.start < p.capacity → p.known ≤ length p.unread → ((n : ℕ) → action ≡ does.StoreHead n → n ≤ peeked_count p) → Moves p (performed side action p) (logged_of side action p)
+action-moves side (does.StoreHead n) p below known within = head_stored side p n below known (within n refl)
+action-moves side (does.StoreTail n) p below known within = tail_stored side p n below
+action-moves side does.Rest p below known within = quiet _ _ _ below refl refl refl (refl, refl)
+action-moves side does.LoadHead p below known within = quiet _ _ _ below refl refl refl (refl, refl)
+action-moves side does.LoadTail p below known within = quiet _ _ _ below refl refl refl (refl, refl)
+action-moves side does.LoadClosed p below known within = quiet _ _ _ below refl refl refl (refl, refl)
+action-moves side (does.StoreClosed true) p below known within = quiet _ _ _ below refl refl refl (refl, refl)
+action-moves side (does.StoreClosed false) p below known within = quiet _ _ _ below refl refl refl (refl, refl)
+action-moves Reader does.Refresh p below known within = quiet _ _ _ below refl refl refl (refl, refl)
+action-moves Writer does.Refresh p below known within = quiet _ _ _ below refl refl refl (refl, refl)
+action-moves Reader does.Register p below known within = quiet _ _ _ below refl refl refl (registration-rests Reader p.reader_call.context)
+action-moves Writer does.Register p below known within = quiet _ _ _ below refl refl refl (registration-rests Writer p.writer_call.context)
+action-moves Reader (does.Take Reader) p below known within = quiet _ _ _ below refl refl refl (refl, refl)
+action-moves Reader (does.Take Writer) p below known within = quiet _ _ _ below refl refl refl (refl, refl)
+action-moves Writer (does.Take Reader) p below known within = quiet _ _ _ below refl refl refl (refl, refl)
+action-moves Writer (does.Take Writer) p below known within = quiet _ _ _ below refl refl refl (refl, refl)
+action-moves Reader does.Yield p below known within = quiet _ _ _ below refl refl refl (yield-rests p.reader_call.context)
+action-moves Writer does.Yield p below known within = quiet _ _ _ below refl refl refl (yield-rests p.writer_call.context)
+action-moves side does.CallDestination p below known within = quiet _ _ _ below refl refl refl (refl, refl)
+action-moves side does.CallSource p below known within = quiet _ _ _ below refl refl refl (refl, refl)
+action-moves Reader does.Wake p below known within = quiet _ _ _ below refl refl refl (wake-rests p.reader_call.taken)
+action-moves Writer does.Wake p below known within = quiet _ _ _ below refl refl refl (wake-rests p.writer_call.taken)
 
 answer-rests : (side : Side) (answer : Option Answer) → (consumed_of (answer_event side answer) ≡ []) × (published_of (answer_event side answer) ≡ [])
 answer-rests side None = (refl, refl)
@@ -138,12 +148,6 @@ read_store : (place : ReadPlace) (n : ℕ) → read_action place ≡ does.StoreH
 read_store (at.StoreHead m next) n e = cc
 read_store place n e = absurd (cc)
 
-write_store : (place : WritePlace) (n : ℕ) → write_action place ≡ does.StoreHead n → ⊥
-write_store (on.StoreClosed behind.Answer) n e = absurd (cc)
-write_store (on.StoreClosed behind.Drop) n e = absurd (cc)
-write_store (on.StoreClosed behind.WakeWriter) n e = absurd (cc)
-write_store place n e = absurd (cc)
-
 call-rests : (lent : List ℕ) (c : Call) (p : Pipe) → let q = opened lent c p in (q.capacity ≡ p.capacity) × (q.unread ≡ p.unread) × (q.start ≡ p.start)
 call-rests lent (call.Len Reader) p = (refl, refl, refl)
 call-rests lent (call.Len Writer) p = (refl, refl, refl)
@@ -155,6 +159,12 @@ call-rests lent (call.IsClosed Reader) p = (refl, refl, refl)
 call-rests lent (call.IsClosed Writer) p = (refl, refl, refl)
 call-rests lent (call.Poll Reader waker luck) p = (refl, refl, refl)
 call-rests lent (call.Poll Writer waker luck) p = (refl, refl, refl)
+call-rests lent (call.TryDrain size) p = (refl, refl, refl)
+call-rests lent (call.PollDrainBytes waker luck size) p = (refl, refl, refl)
+call-rests lent (call.PollDrain waker luck acts) p = (refl, refl, refl)
+call-rests lent (call.TryFill bytes) p = (refl, refl, refl)
+call-rests lent (call.PollFillBytes waker luck bytes) p = (refl, refl, refl)
+call-rests lent (call.PollFill waker luck acts) p = (refl, refl, refl)
 call-rests lent (call.Consume n) p = (refl, refl, refl)
 call-rests lent (call.WriteBuf most) p = (refl, refl, refl)
 call-rests lent (call.Produced n) p = (refl, refl, refl)
@@ -169,13 +179,18 @@ step-moves lent (Begin c) p sound =
     answered-moves p p (opened lent c p) (Began (side_of c) (kind_of c) (waker_of c) ∷ []) (side_of c) (answer_at_once lent c) began same.0 same.1 same.2
 step-moves lent (Go Reader) p sound =
     let action = read_action p.reader in
-    let moves = action-moves Reader action p sound (λ n e. omega (arith, read_store p.reader n e, sound.head_store)) in
+    let moves = action-moves Reader action p sound.start sound.known (λ n e. omega (arith, read_store p.reader n e, sound.head_store)) in
     answered-moves p (performed Reader action p) (went Reader p).pipe (logged_of Reader action p) Reader (went Reader p).answer moves refl refl refl
 step-moves lent (Go Writer) p sound =
     let action = write_action p.writer in
-    let moves = action-moves Writer action p sound (λ n e. absurd (write_store p.writer n e)) in
-    answered-moves p (performed Writer action p) (went Writer p).pipe (logged_of Writer action p) Writer (went Writer p).answer moves refl refl refl
+    let q = offering lent p in
+    let m = action-moves Writer action q sound.start sound.known (λ n e. absurd (writer_never-head p.writer n e)) in
+    let moves : Moves p (performed Writer action q) (logged_of Writer action q) = record { capacity = m.capacity; bytes = m.bytes; count = m.count; start = m.start } in
+    answered-moves p (performed Writer action q) (went Writer q).pipe (logged_of Writer action q) Writer (went Writer q).answer moves refl refl refl
 step-moves lent (Put offset byte) p sound = quiet _ _ _ sound.start refl refl refl (refl, refl)
+
+pub capacity-kept : (p q : Pipe) (s : Step) (before after : List Event) → IsSound p → Made p s q before after → q.capacity ≡ p.capacity
+capacity-kept p q s before after sound made = ap (λ (x : Pipe). x.capacity) made.made.pipe ∙ (step-moves q.lent s p sound).capacity
 
 -- the place of the first unread byte, by the count of consumed bytes
 place-count : (c k s n : ℕ) → 1 ≤ c → s ≡ k % c → s + n ≤ c → place_of c (s + n) ≡ (k + n) % c

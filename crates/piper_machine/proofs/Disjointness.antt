@@ -9,16 +9,14 @@ use Rattle.piper_sides.specs.declared.calls.Step.{Step}
 use Rattle.piper_sides.specs.declared.calls.Step.TheVariants.{Begin, Go, Put}
 use Rattle.piper_sides.specs.declared.table.Action.{Action}
 use Rattle.piper_sides.specs.declared.table.Action.TheVariants as does
-use Rattle.piper_sides.specs.declared.table.WritePlace.{WritePlace}
-use Rattle.piper_sides.specs.declared.table.WritePlace.TheVariants as on
-use Rattle.piper_sides.specs.declared.table.AfterWrite.TheVariants as behind
 use Rattle.piper_sides.specs.Index.{place_of}
 use Rattle.piper_machine.specs.Pipe.{Pipe}
 use Rattle.piper_sides.specs.Call.{side_of}
 use Rattle.piper_machine.specs.Sound.{IsSound}
 use Rattle.piper_sides.specs.Table.{write_action}
 use Rattle.piper_machine.specs.Action.{performed}
-use Rattle.piper_machine.specs.Step.{opened, stepped}
+use Rattle.piper_machine.specs.Step.{opened, stepped, offering}
+use Rattle.piper_machine.proofs.Counting.{writer_never-head}
 use Rattle.piper_machine.specs.Disjoint.{IsDisjoint, KeepsKnown, IsWriterStep}
 
 apart : (c s u k r i j : ℕ) → s < c → u ≤ c → k ≤ u → r ≤ c - u → i < k → j < r → j < c - place_of c (s + u) → place_of c (s + i) ≢ place_of c (s + u) + j
@@ -34,20 +32,23 @@ keeps_all : (p q : Pipe) → q.capacity ≡ p.capacity → q.start ≡ p.start �
 keeps_all p q capacity start known unread = record { capacity = capacity; start = start; known = known; bytes = ap (take p.known) unread }
 
 -- the writer's own kinds of step
-writer-keeps : (action : Action) (p : Pipe) → IsSound p → ((n : ℕ) → action ≡ does.StoreHead n → ⊥) → KeepsKnown p (performed Writer action p)
-writer-keeps (does.StoreHead n) p sound never = absurd (never n refl)
-writer-keeps (does.StoreTail n) p sound never = record { capacity = refl; start = refl; known = refl; bytes = take-append-le p.known p.unread (take n p.lent) sound.known }
-writer-keeps does.Rest p sound never = keeps_all p _ refl refl refl refl
-writer-keeps does.LoadHead p sound never = keeps_all p _ refl refl refl refl
-writer-keeps does.LoadTail p sound never = keeps_all p _ refl refl refl refl
-writer-keeps does.Refresh p sound never = keeps_all p _ refl refl refl refl
-writer-keeps does.LoadClosed p sound never = keeps_all p _ refl refl refl refl
-writer-keeps does.Register p sound never = keeps_all p _ refl refl refl refl
-writer-keeps (does.StoreClosed true) p sound never = keeps_all p _ refl refl refl refl
-writer-keeps (does.StoreClosed false) p sound never = keeps_all p _ refl refl refl refl
-writer-keeps (does.Take Reader) p sound never = keeps_all p _ refl refl refl refl
-writer-keeps (does.Take Writer) p sound never = keeps_all p _ refl refl refl refl
-writer-keeps does.Wake p sound never = keeps_all p _ refl refl refl refl
+writer-keeps : (action : Action) (p : Pipe) → p.known ≤ length p.unread → ((n : ℕ) → action ≡ does.StoreHead n → ⊥) → KeepsKnown p (performed Writer action p)
+writer-keeps (does.StoreHead n) p known never = absurd (never n refl)
+writer-keeps (does.StoreTail n) p known never = record { capacity = refl; start = refl; known = refl; bytes = take-append-le p.known p.unread (take n p.lent) known }
+writer-keeps does.Rest p known never = keeps_all p _ refl refl refl refl
+writer-keeps does.LoadHead p known never = keeps_all p _ refl refl refl refl
+writer-keeps does.LoadTail p known never = keeps_all p _ refl refl refl refl
+writer-keeps does.Refresh p known never = keeps_all p _ refl refl refl refl
+writer-keeps does.LoadClosed p known never = keeps_all p _ refl refl refl refl
+writer-keeps does.Register p known never = keeps_all p _ refl refl refl refl
+writer-keeps (does.StoreClosed true) p known never = keeps_all p _ refl refl refl refl
+writer-keeps (does.StoreClosed false) p known never = keeps_all p _ refl refl refl refl
+writer-keeps (does.Take Reader) p known never = keeps_all p _ refl refl refl refl
+writer-keeps (does.Take Writer) p known never = keeps_all p _ refl refl refl refl
+writer-keeps does.Wake p known never = keeps_all p _ refl refl refl refl
+writer-keeps does.Yield p known never = keeps_all p _ refl refl refl refl
+writer-keeps does.CallDestination p known never = keeps_all p _ refl refl refl refl
+writer-keeps does.CallSource p known never = keeps_all p _ refl refl refl refl
 
 call-keeps : (lent : List ℕ) (c : Call) (p : Pipe) → side_of c ≡ Writer → KeepsKnown p (opened lent c p)
 call-keeps lent (call.Len Writer) p e = keeps_all p _ refl refl refl refl
@@ -55,6 +56,9 @@ call-keeps lent (call.IsEmpty Writer) p e = keeps_all p _ refl refl refl refl
 call-keeps lent (call.IsFull Writer) p e = keeps_all p _ refl refl refl refl
 call-keeps lent (call.IsClosed Writer) p e = keeps_all p _ refl refl refl refl
 call-keeps lent (call.Poll Writer waker luck) p e = keeps_all p _ refl refl refl refl
+call-keeps lent (call.TryFill bytes) p e = keeps_all p _ refl refl refl refl
+call-keeps lent (call.PollFillBytes waker luck bytes) p e = keeps_all p _ refl refl refl refl
+call-keeps lent (call.PollFill waker luck acts) p e = keeps_all p _ refl refl refl refl
 call-keeps lent (call.WriteBuf most) p e = keeps_all p _ refl refl refl refl
 call-keeps lent (call.Produced n) p e = keeps_all p _ refl refl refl refl
 call-keeps lent call.Close p e = keeps_all p _ refl refl refl refl
@@ -64,19 +68,16 @@ call-keeps lent (call.IsEmpty Reader) p e = absurd (cc)
 call-keeps lent (call.IsFull Reader) p e = absurd (cc)
 call-keeps lent (call.IsClosed Reader) p e = absurd (cc)
 call-keeps lent (call.Poll Reader waker luck) p e = absurd (cc)
+call-keeps lent (call.TryDrain size) p e = absurd (cc)
+call-keeps lent (call.PollDrainBytes waker luck size) p e = absurd (cc)
+call-keeps lent (call.PollDrain waker luck acts) p e = absurd (cc)
 call-keeps lent (call.Consume n) p e = absurd (cc)
 call-keeps lent (call.Drop Reader) p e = absurd (cc)
-
-pub writer_never-head : (place : WritePlace) (n : ℕ) → write_action place ≡ does.StoreHead n → ⊥
-writer_never-head (on.StoreClosed behind.Answer) n e = absurd (cc)
-writer_never-head (on.StoreClosed behind.Drop) n e = absurd (cc)
-writer_never-head (on.StoreClosed behind.WakeWriter) n e = absurd (cc)
-writer_never-head place n e = absurd (cc)
 
 pub step-keeps : (lent : List ℕ) (s : Step) (p : Pipe) → IsSound p → IsWriterStep s → KeepsKnown p (stepped lent s p).pipe
 step-keeps lent (Begin c) p sound writer = call-keeps lent c p writer
 step-keeps lent (Go Writer) p sound writer =
-    let kept = writer-keeps (write_action p.writer) p sound (writer_never-head p.writer) in
+    let kept = writer-keeps (write_action p.writer) (offering lent p) sound.known (writer_never-head p.writer) in
     record { capacity = kept.capacity; start = kept.start; known = kept.known; bytes = kept.bytes }
 step-keeps lent (Go Reader) p sound writer = absurd (cc)
 step-keeps lent (Put offset byte) p sound writer = keeps_all p _ refl refl refl refl

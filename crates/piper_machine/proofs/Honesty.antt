@@ -1,5 +1,5 @@
 -- Each step keeps the honest end: what the reader knows of the close it read off the pipe, before its last look.
-use Rattle.std.proofs.Common.{◌≡◌, ℕ, List, [], ◌∷◌, ◌++◌, length, Bool, true, false, Option, None, Some, ◌==◌, is_some, refl, sym, ap, subst, ◌∙◌, arith}
+use Rattle.std.proofs.Common.{◌≡◌, ℕ, List, [], ◌∷◌, ◌++◌, length, Bool, true, false, Option, None, Some, Result, Ok, Err, ◌==◌, is_some, refl, sym, ap, subst, ◌∙◌, arith}
 use Rattle.std.proofs.lemmas.Bool.Decides.{nat_tests}
 use Rattle.piper_sides.specs.declared.calls.Side.{Side}
 use Rattle.piper_sides.specs.declared.calls.Side.TheVariants.{Reader, Writer}
@@ -21,16 +21,23 @@ use Rattle.piper_sides.specs.declared.table.AfterRead.{AfterRead}
 use Rattle.piper_sides.specs.declared.table.AfterRead.TheVariants as afterward
 use Rattle.piper_sides.specs.declared.table.ReadPlace.{ReadPlace}
 use Rattle.piper_sides.specs.declared.table.ReadPlace.TheVariants as at
-use Rattle.piper_sides.specs.Open.{is_granted}
-use Rattle.piper_sides.specs.Table.{read_action, write_action, query_answer, reader_looks_for, reader_looked, reader_looked_again, reader_registered, writer_taken, read_done}
+use Rattle.piper_sides.specs.declared.polling.Polled.{Polled}
+use Rattle.piper_sides.specs.declared.polling.Polled.TheVariants.{Memory}
+use Rattle.piper_sides.specs.declared.scripted.Failed.{Failed}
+use Rattle.piper_sides.specs.declared.table.Form.{Form}
+use Rattle.piper_sides.specs.declared.table.Form.TheVariants.{Try, Polling}
+use Rattle.piper_sides.specs.declared.table.Purpose.{Purpose}
+use Rattle.piper_sides.specs.Open.{is_granted, is_yield_granted}
+use Rattle.piper_machine.specs.Round.{taken, found_of}
+use Rattle.piper_sides.specs.Table.{read_after, reader_found, reader_is_true, reader_moved, copy_answer, count_answer, yield_answer, end_or_pending, read_action, write_action, query_answer, reader_looks_for, reader_looked, reader_looked_again, reader_registered, writer_taken, read_done}
 use Rattle.piper_sides.specs.Log.{answer_event}
 use Rattle.piper_machine.specs.Pipe.{Pipe, fresh}
-use Rattle.piper_machine.specs.Action.{performed, logged_of, registration_of, registration, wake_of}
-use Rattle.piper_machine.specs.Step.{went, opened, stepped}
+use Rattle.piper_machine.specs.Action.{performed, round_count, logged_of, registration_of, registration, wake_of, yield_of, woken_if}
+use Rattle.piper_machine.specs.Step.{went, opened, stepped, offering}
 use Rattle.piper_machine.specs.Run.{Made}
 use Rattle.piper_machine.specs.History.{History, unwritten, history_after, history_from}
 use Rattle.piper_machine.specs.Honest.{IsHonestFrom, IsHonest}
-use Rattle.piper_machine.proofs.Counting.{writer_leaves-reader}
+use Rattle.piper_machine.proofs.Counting.{writer_leaves-reader, writer_never-head}
 
 history-append : (h : History) (es fs : List Event) → history_from h (es ++ fs) ≡ history_from (history_from h es) fs
 history-append h [] fs = refl
@@ -53,6 +60,14 @@ context-quiet h side (Some cx) = registration-quiet h side cx.luck.register_gran
 wake-quiet : (h : History) (name : Option ℕ) → IsHonestFrom h (wake_of name) × (history_from h (wake_of name) ≡ h)
 wake-quiet h None = (tt, refl)
 wake-quiet h (Some name) = ((tt, tt), refl)
+
+yield-quiet : (h : History) (context : Option Context) → IsHonestFrom h (yield_of context) × (history_from h (yield_of context) ≡ h)
+yield-quiet h None = (tt, refl)
+yield-quiet h (Some cx) = woken-quiet cx.luck.yield_granted cx.waker
+  where
+    woken-quiet : (b : Bool) (name : ℕ) → IsHonestFrom h (woken_if b name) × (history_from h (woken_if b name) ≡ h)
+    woken-quiet true name = ((tt, tt), refl)
+    woken-quiet false name = (tt, refl)
 
 -- events that answer nobody, and what they tell of the flag
 abbrev Tells : History → List Event → Bool → Type 0
@@ -81,6 +96,10 @@ action-tells h Reader (does.Take Reader) p same = (tt, same)
 action-tells h Reader (does.Take Writer) p same = (tt, same)
 action-tells h Writer (does.Take Reader) p same = (tt, same)
 action-tells h Writer (does.Take Writer) p same = (tt, same)
+action-tells h Reader does.Yield p same = quietly h _ p same (yield-quiet h p.reader_call.context)
+action-tells h Writer does.Yield p same = quietly h _ p same (yield-quiet h p.writer_call.context)
+action-tells h side does.CallDestination p same = (tt, same)
+action-tells h side does.CallSource p same = (tt, same)
 action-tells h Reader does.Wake p same = quietly h _ p same (wake-quiet h p.reader_call.taken)
 action-tells h Writer does.Wake p same = quietly h _ p same (wake-quiet h p.writer_call.taken)
 
@@ -110,24 +129,52 @@ module _ (h : History) (p : Pipe) where
   query-honest k IsEmpty count = (tt, tt)
   query-honest k IsFull count = (tt, tt)
 
-  registers-honest : (k : History) (is_granted : Bool) → IsHonestFrom k (answer_event Reader (reader_registered is_granted purpose.Poll).answer)
-  registers-honest k true = tt
-  registers-honest k false = (tt, tt)
+  -- a copy never answers as a poll does
+  copy-honest : (k : History) (form : Form) (answer : Polled Bool) → IsHonestFrom k (answer_event Reader (Some (copy_answer form answer)))
+  copy-honest k Try answer = (tt, tt)
+  copy-honest k (Polling is_drawn) answer = (tt, tt)
+
+  count-honest : (k : History) (form : Form) (count : ℕ) → IsHonestFrom k (answer_event Reader (Some (count_answer form count)))
+  count-honest k Try count = (tt, tt)
+  count-honest k (Polling is_drawn) count = (tt, tt)
+
+  registers-honest : (k : History) (l : Purpose) (is_granted : Bool) → IsHonestFrom k (answer_event Reader (reader_registered is_granted l).answer)
+  registers-honest k l true = tt
+  registers-honest k purpose.Poll false = (tt, tt)
+  registers-honest k (purpose.Copy form) false = copy-honest k form Memory
+
+  true-honest : (k : History) (l : Purpose) → IsHonestFrom k (answer_event Reader (reader_is_true l).answer)
+  true-honest k purpose.Poll = (tt, tt)
+  true-honest k (purpose.Copy form) = tt
+
+  yields-honest : (k : History) (is_granted : Bool) → IsHonestFrom k (answer_event Reader (Some (yield_answer is_granted)))
+  yields-honest k true = (tt, tt)
+  yields-honest k false = (tt, tt)
+
+  round-honest : (k : History) (none : Bool) (n : ℕ) (form : Form) (sum : ℕ) → IsHonestFrom k (answer_event Reader (reader_moved none n form sum).answer)
+  round-honest k true n form sum = count-honest k form sum
+  round-honest k false n form sum = tt
+
+  moved-honest : (k : History) (moved : Result ℕ Failed) (form : Form) (sum : ℕ) → IsHonestFrom k (answer_event Reader (read_after p.capacity (at.CallDestination form sum) (found_of moved)).answer)
+  moved-honest k (Ok n) form sum = round-honest k (n == 0) n form sum
+  moved-honest k (Err fails) form sum = (tt, tt)
 
   done-honest : (k : History) (next : AfterRead) → IsHonestFrom k (answer_event Reader (read_done next).answer)
   done-honest k afterward.Answer = (tt, tt)
   done-honest k afterward.Drop = (tt, tt)
+  done-honest k (afterward.Round form sum) = tt
 
   take-honest : (k : History) (next : AfterRead) (is_found : Bool) → IsHonestFrom k (answer_event Reader (writer_taken next is_found).answer)
   take-honest k next false = done-honest k next
   take-honest k next true = tt
 
   -- the one answer that is false: this look found nothing, behind a close
-  again-honest : (count : ℕ) (none was_closed : Bool) → (count == 0) ≡ none → h.is_closed ≡ p.is_closed → (was_closed ≡ true → p.is_closed ≡ true)
-      → IsHonestFrom (history_after h (Looked Reader (Tail count))) (answer_event Reader (reader_looked_again none purpose.Poll was_closed).answer)
-  again-honest count false was_closed test same seen = tt
-  again-honest count true false test same seen = (tt, tt)
-  again-honest count true true test same seen =
+  again-honest : (l : Purpose) (count : ℕ) (none was_closed : Bool) → (count == 0) ≡ none → h.is_closed ≡ p.is_closed → (was_closed ≡ true → p.is_closed ≡ true)
+      → IsHonestFrom (history_after h (Looked Reader (Tail count))) (answer_event Reader (reader_looked_again none l was_closed).answer)
+  again-honest l count false was_closed test same seen = tt
+  again-honest (purpose.Copy form) count true was_closed test same seen = copy-honest (history_after h (Looked Reader (Tail count))) form (end_or_pending was_closed)
+  again-honest purpose.Poll count true false test same seen = (tt, tt)
+  again-honest purpose.Poll count true true test same seen =
       let zero : count ≡ 0 = grind (arith, nat_tests) in
       let is_set : h.is_closed ≡ true = same ∙ seen refl in
       (rw (zero, is_set) refl, tt)
@@ -139,10 +186,12 @@ module _ (h : History) (p : Pipe) where
   place-honest (at.QueryTail query) same seen = query-honest (told h (at.QueryTail query) p) query (length p.unread)
   place-honest at.QueryClosed same seen = (tt, tt)
   place-honest (at.LookTail l) same seen = tt
-  place-honest (at.LookRegister purpose.Poll) same seen = registers-honest (told h (at.LookRegister purpose.Poll) p) (is_granted p.reader_call.context)
+  place-honest (at.LookRegister l) same seen = registers-honest (told h (at.LookRegister l) p) l (is_granted p.reader_call.context)
   place-honest (at.LookClosed l) same seen = tt
-  place-honest (at.LookTailAgain purpose.Poll was_closed) same seen = again-honest (length p.unread) (length p.unread == 0) was_closed refl same seen
-  place-honest (at.LookTake purpose.Poll) same seen = (tt, tt)
+  place-honest (at.LookTailAgain l was_closed) same seen = again-honest l (length p.unread) (length p.unread == 0) was_closed refl same seen
+  place-honest (at.LookTake l) same seen = true-honest (told h (at.LookTake l) p) l
+  place-honest at.Yield same seen = yields-honest (told h at.Yield p) (is_yield_granted p.reader_call.context)
+  place-honest (at.CallDestination form sum) same seen = moved-honest h (taken (round_count p) p.destination) form sum
   place-honest (at.StoreHead n next) same seen = tt
   place-honest (at.TakeWriter next) same seen = take-honest (told h (at.TakeWriter next) p) next (is_some p.writer_waker)
   place-honest (at.WakeWriter next) same seen = done-honest (told h (at.WakeWriter next) p) next
@@ -150,25 +199,47 @@ module _ (h : History) (p : Pipe) where
 
 -- where the reader comes to, it saw the close only if the pipe is closed
 
-looks-see : (none : Bool) → saw_close (reader_looked none purpose.Poll) ≡ false
-looks-see true = refl
-looks-see false = refl
+found-see : (l : Purpose) → saw_close (reader_found l) ≡ false
+found-see purpose.Poll = refl
+found-see (purpose.Copy Try) = refl
+found-see (purpose.Copy (Polling is_drawn)) = refl
 
-opens-see : (none : Bool) → saw_close (reader_looks_for none purpose.Poll) ≡ false
-opens-see true = refl
-opens-see false = refl
+looks-see : (none : Bool) (l : Purpose) → saw_close (reader_looked none l) ≡ false
+looks-see true purpose.Poll = refl
+looks-see true (purpose.Copy Try) = refl
+looks-see true (purpose.Copy (Polling is_drawn)) = refl
+looks-see false l = found-see l
 
-registers-see : (is_granted : Bool) → saw_close (reader_registered is_granted purpose.Poll).place ≡ false
-registers-see true = refl
-registers-see false = refl
+opens-see : (none : Bool) (l : Purpose) → saw_close (reader_looks_for none l) ≡ false
+opens-see true l = refl
+opens-see false l = found-see l
 
-again-see : (none was_closed : Bool) → saw_close (reader_looked_again none purpose.Poll was_closed).place ≡ false
-again-see true was_closed = refl
-again-see false was_closed = refl
+registers-see : (is_granted : Bool) (l : Purpose) → saw_close (reader_registered is_granted l).place ≡ false
+registers-see true l = refl
+registers-see false l = refl
+
+again-see : (none was_closed : Bool) (l : Purpose) → saw_close (reader_looked_again none l was_closed).place ≡ false
+again-see true was_closed l = refl
+again-see false was_closed l = found-see l
+
+true-see : (l : Purpose) → saw_close (reader_is_true l).place ≡ false
+true-see purpose.Poll = refl
+true-see (purpose.Copy Try) = refl
+true-see (purpose.Copy (Polling true)) = refl
+true-see (purpose.Copy (Polling false)) = refl
+
+round-see : (none : Bool) (n : ℕ) (form : Form) (sum : ℕ) → saw_close (reader_moved none n form sum).place ≡ false
+round-see true n form sum = refl
+round-see false n form sum = refl
+
+moved-see : (capacity : ℕ) (moved : Result ℕ Failed) (form : Form) (sum : ℕ) → saw_close (read_after capacity (at.CallDestination form sum) (found_of moved)).place ≡ false
+moved-see capacity (Ok n) form sum = round-see (n == 0) n form sum
+moved-see capacity (Err fails) form sum = refl
 
 done-see : (next : AfterRead) → saw_close (read_done next).place ≡ false
 done-see afterward.Answer = refl
 done-see afterward.Drop = refl
+done-see (afterward.Round form sum) = refl
 
 take-see : (next : AfterRead) (is_found : Bool) → saw_close (writer_taken next is_found).place ≡ false
 take-see next false = done-see next
@@ -183,11 +254,13 @@ reader-sees at.Dropped p saw = absurd (cc)
 reader-sees (at.QueryHead query) p saw = absurd (cc)
 reader-sees (at.QueryTail query) p saw = absurd (cc)
 reader-sees at.QueryClosed p saw = absurd (cc)
-reader-sees (at.LookTail purpose.Poll) p saw = unseen _ _ (looks-see (length p.unread == 0)) saw
-reader-sees (at.LookRegister purpose.Poll) p saw = unseen _ _ (registers-see (is_granted p.reader_call.context)) saw
+reader-sees (at.LookTail l) p saw = unseen _ _ (looks-see (length p.unread == 0) l) saw
+reader-sees (at.LookRegister l) p saw = unseen _ _ (registers-see (is_granted p.reader_call.context) l) saw
 reader-sees (at.LookClosed l) p saw = saw
-reader-sees (at.LookTailAgain purpose.Poll was_closed) p saw = unseen _ _ (again-see (length p.unread == 0) was_closed) saw
-reader-sees (at.LookTake purpose.Poll) p saw = absurd (cc)
+reader-sees (at.LookTailAgain l was_closed) p saw = unseen _ _ (again-see (length p.unread == 0) was_closed l) saw
+reader-sees (at.LookTake l) p saw = unseen _ _ (true-see l) saw
+reader-sees at.Yield p saw = absurd (cc)
+reader-sees (at.CallDestination form sum) p saw = unseen _ _ (moved-see p.capacity (taken (round_count p) p.destination) form sum) saw
 reader-sees (at.StoreHead n next) p saw = absurd (cc)
 reader-sees (at.TakeWriter next) p saw = unseen _ _ (take-see next (is_some p.writer_waker)) saw
 reader-sees (at.WakeWriter next) p saw = unseen _ _ (done-see next) saw
@@ -204,8 +277,14 @@ opened-sees lent (call.IsFull Reader) p seen = (refl, λ saw. absurd (cc))
 opened-sees lent (call.IsFull Writer) p seen = (refl, seen)
 opened-sees lent (call.IsClosed Reader) p seen = (refl, λ saw. absurd (cc))
 opened-sees lent (call.IsClosed Writer) p seen = (refl, seen)
-opened-sees lent (call.Poll Reader waker luck) p seen = (refl, unseen _ _ (opens-see (p.known == 0)))
+opened-sees lent (call.Poll Reader waker luck) p seen = (refl, unseen _ _ (opens-see (p.known == 0) purpose.Poll))
 opened-sees lent (call.Poll Writer waker luck) p seen = (refl, seen)
+opened-sees lent (call.TryDrain size) p seen = (refl, unseen _ _ (opens-see (p.known == 0) _))
+opened-sees lent (call.PollDrainBytes waker luck size) p seen = (refl, unseen _ _ (opens-see (p.known == 0) _))
+opened-sees lent (call.PollDrain waker luck acts) p seen = (refl, unseen _ _ (opens-see (p.known == 0) _))
+opened-sees lent (call.TryFill bytes) p seen = (refl, seen)
+opened-sees lent (call.PollFillBytes waker luck bytes) p seen = (refl, seen)
+opened-sees lent (call.PollFill waker luck acts) p seen = (refl, seen)
 opened-sees lent (call.Consume n) p seen = (refl, λ saw. absurd (cc))
 opened-sees lent (call.WriteBuf most) p seen = (refl, seen)
 opened-sees lent (call.Produced n) p seen = (refl, seen)
@@ -224,6 +303,12 @@ began-tells h lent (call.IsClosed Reader) p same = ((tt, tt), same)
 began-tells h lent (call.IsClosed Writer) p same = ((tt, tt), same)
 began-tells h lent (call.Poll Reader waker luck) p same = ((tt, tt), same)
 began-tells h lent (call.Poll Writer waker luck) p same = ((tt, tt), same)
+began-tells h lent (call.TryDrain size) p same = ((tt, tt), same)
+began-tells h lent (call.PollDrainBytes waker luck size) p same = ((tt, tt), same)
+began-tells h lent (call.PollDrain waker luck acts) p same = ((tt, tt), same)
+began-tells h lent (call.TryFill bytes) p same = ((tt, tt), same)
+began-tells h lent (call.PollFillBytes waker luck bytes) p same = ((tt, tt), same)
+began-tells h lent (call.PollFill waker luck acts) p same = ((tt, tt), same)
 began-tells h lent (call.Consume n) p same = ((tt, tt), same)
 began-tells h lent (call.WriteBuf most) p same = ((tt, (tt, tt)), same)
 began-tells h lent (call.Produced n) p same = ((tt, tt), same)
@@ -258,6 +343,9 @@ writer-flag (does.StoreTail n) p closed = closed
 writer-flag (does.Take Reader) p closed = closed
 writer-flag (does.Take Writer) p closed = closed
 writer-flag does.Wake p closed = closed
+writer-flag does.Yield p closed = closed
+writer-flag does.CallDestination p closed = closed
+writer-flag does.CallSource p closed = closed
 
 step-honest : (lent : List ℕ) (s : Step) (p : Pipe) (h : History) → Aware p h
     → let new = stepped lent s p in IsHonestFrom h new.events × Aware new.pipe (history_from h new.events)
@@ -271,11 +359,12 @@ step-honest lent (Go Reader) p h aware =
     (tells.0, record { flag = tells.1; saw = reader-sees p.reader p })
 step-honest lent (Go Writer) p h aware =
     let action = write_action p.writer in
-    let tells = answered-tells h (logged_of Writer action p) Writer (went Writer p).answer _ (action-tells h Writer action p aware.flag) (writer-answers _ (went Writer p).answer) in (
+    let q = offering lent p in
+    let tells = answered-tells h (logged_of Writer action q) Writer (went Writer q).answer _ (action-tells h Writer action q aware.flag) (writer-answers _ (went Writer q).answer) in (
       tells.0,
       record {
         flag = tells.1;
-        saw = λ saw. writer-flag action p (aware.saw (ap saw_close (sym (writer_leaves-reader action p)) ∙ saw));
+        saw = λ saw. writer-flag action q (aware.saw (ap saw_close (sym (writer_leaves-reader action q (writer_never-head p.writer)).0) ∙ saw));
       },
     )
 step-honest lent (Put offset byte) p h aware = (tt, record { flag = aware.flag; saw = aware.saw })

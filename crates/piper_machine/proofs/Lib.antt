@@ -5,11 +5,19 @@ pub mod Soundness
 pub mod Moves
 pub mod Rounds
 pub mod Runs
+pub mod Sources
+pub mod Offering
+pub mod Counting
 pub mod Conserving
 pub mod Disjointness
 pub mod Alone
+pub mod Copies
+pub mod Standing
+pub mod Falling
+pub mod BySteps
+pub mod Whole
+pub mod WholeBySteps
 mod worked
-pub mod Counting
 pub mod Honesty
 pub mod Watching
 pub mod ReaderWaits

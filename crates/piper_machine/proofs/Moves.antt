@@ -5,6 +5,8 @@ use Rattle.std.proofs.lemmas.Bool.{cases_lt}
 use Rattle.std.proofs.Math.Seq.{take-append-add}
 use Rattle.std.proofs.lemmas.Bool.Decides.{nat_tests}
 use Rattle.piper_sides.specs.declared.calls.OpenCall.{OpenCall}
+use Rattle.piper_sides.specs.declared.scripted.SourceAct.{SourceAct}
+use Rattle.piper_machine.specs.declared.destination.Destination.{Destination}
 use Rattle.piper_sides.specs.declared.table.ReadPlace.{ReadPlace}
 use Rattle.piper_sides.specs.declared.table.WritePlace.{WritePlace}
 use Rattle.piper_sides.specs.Index.{distance, place_of, advanced}
@@ -23,13 +25,13 @@ use Rattle.std.proofs.Math.ListN.{set}
 use Rattle.piper_machine.proofs.Soundness.{tail_below, length-unread, end_place-of, place-same}
 
 -- the reader has seen where the tail stands
-module _ (m : Inside) (i : IsMachine m) (r : Reading) (place : ReadPlace) (call : OpenCall) (is : r ≡ record m.read { tail = m.write.tail; place = place }) where
-  pub tail_seen-view : let p = pipe_of m in pipe_of (record m { read = r; reader_call = call }) ≡ record p { known = length p.unread; reader = place; reader_call = call }
+module _ (m : Inside) (i : IsMachine m) (r : Reading) (place : ReadPlace) (call : OpenCall) (destination : Destination) (is : r ≡ record m.read { tail = m.write.tail; place = place }) where
+  pub tail_seen-view : let p = pipe_of m in pipe_of (record m { read = r; reader_call = call; destination = destination }) ≡ record p { known = length p.unread; reader = place; reader_call = call; destination = destination }
   tail_seen-view = rw is (let long = length-unread m i in cc)
 
 -- the writer has seen where the head stands
-module _ (m : Inside) (i : IsMachine m) (w : Writing) (place : WritePlace) (call : OpenCall) (is : w ≡ record m.write { head = m.read.head; place = place }) where
-  pub head_seen-view : let p = pipe_of m in pipe_of (record m { write = w; writer_call = call }) ≡ record p { room = p.capacity - length p.unread; writer = place; writer_call = call }
+module _ (m : Inside) (i : IsMachine m) (w : Writing) (place : WritePlace) (call : OpenCall) (acts : List SourceAct) (is : w ≡ record m.write { head = m.read.head; place = place }) where
+  pub head_seen-view : let p = pipe_of m in pipe_of (record m { write = w; writer_call = call; source = acts }) ≡ record p { room = p.capacity - length p.unread; writer = place; writer_call = call; source = acts }
   head_seen-view = rw is (let long = length-unread m i in let same = i.capacity in cc)
 
 -- what the call table makes of it, in terms of the pipe
@@ -41,11 +43,11 @@ refreshed-next m i =
     ∙ ap (λ count. write_after m.read.capacity (room_of m.write) m.write.place (refreshed (m.read.capacity - count == 0))) (sym (length-unread m i))
 
 -- bytes in one piece were passed by the reader
-module _ (m : Inside) (i : IsMachine m) (n : ℕ) (r : Reading) (place : ReadPlace) (call : OpenCall) (is : r ≡ record m.read { head = advanced m.read.capacity m.read.head n; place = place }) (within : n ≤ known_of m.read) (flat : place_of m.read.capacity m.read.head + n ≤ m.read.capacity) where
+module _ (m : Inside) (i : IsMachine m) (n : ℕ) (r : Reading) (place : ReadPlace) (call : OpenCall) (destination : Destination) (is : r ≡ record m.read { head = advanced m.read.capacity m.read.head n; place = place }) (within : n ≤ known_of m.read) (flat : place_of m.read.capacity m.read.head + n ≤ m.read.capacity) where
   known_left : distance m.read.capacity (advanced m.read.capacity m.read.head n) m.read.tail ≡ known_of m.read - n
   known_left = distance-advanced_from m.read.capacity m.read.head m.read.tail n i.reading.head i.reading.tail within i.reading.known flat i.reading.capacity.0
 
-  pub consumed-view : pipe_of (record m { read = r; reader_call = call }) ≡ record (consumed n (pipe_of m)) { reader = place; reader_call = call }
+  pub consumed-view : pipe_of (record m { read = r; reader_call = call; destination = destination }) ≡ record (consumed n (pipe_of m)) { reader = place; reader_call = call; destination = destination }
   consumed-view =
       let bytes = between-advanced_head m.read.capacity m.read.head m.write.tail m.bytes.items i.bytes i.reading.head (tail_below m i) i.unread n (omega (arith, i.known)) flat i.reading.capacity.0 in
       let place = place_of-advanced m.read.capacity m.read.head n i.reading.head flat i.reading.capacity.0 in
@@ -87,7 +89,7 @@ front_written k l xs ys fits within =
     ∙ ap (λ zs. ys ++ zs) (ap (take (l - length ys)) (sym (drop-drop (length ys) k xs)) ∙ sym (drop-take (length ys) (l - length ys) (drop k xs)) ∙ ap (λ j. drop (length ys) (take j (drop k xs))) (sym rest))
 
 -- the first n lent places were passed by the writer
-module _ (m : Inside) (i : IsMachine m) (n : ℕ) (w : Writing) (place : WritePlace) (call : OpenCall) (is : w ≡ record m.write { tail = advanced m.write.capacity m.write.tail n; lent = m.write.lent - n; place = place }) (within : n ≤ m.write.lent) where
+module _ (m : Inside) (i : IsMachine m) (n : ℕ) (w : Writing) (place : WritePlace) (call : OpenCall) (acts : List SourceAct) (is : w ≡ record m.write { tail = advanced m.write.capacity m.write.tail n; lent = m.write.lent - n; place = place }) (within : n ≤ m.write.lent) where
   flat : place_of m.read.capacity m.write.tail + n ≤ m.read.capacity
   flat = omega (arith, i.writing.lent_place, place_below m.write.capacity m.write.tail i.writing.tail, place-same m i, i.capacity)
 
@@ -105,7 +107,7 @@ module _ (m : Inside) (i : IsMachine m) (n : ℕ) (w : Writing) (place : WritePl
   rest_of_lent : take (m.write.lent - n) (drop (place_of m.write.capacity (advanced m.write.capacity m.write.tail n)) m.bytes.items) ≡ drop n (take m.write.lent (drop (place_of m.write.capacity m.write.tail) m.bytes.items))
   rest_of_lent = rest_at m.write.capacity m.write.tail m.write.lent n m.bytes.items i.writing.tail i.writing.capacity.0 (omega (arith, i.writing.lent_place, place_below m.write.capacity m.write.tail i.writing.tail)) within
 
-  pub published-view : pipe_of (record m { write = w; writer_call = call }) ≡ record (published n (pipe_of m)) { writer = place; writer_call = call }
+  pub published-view : pipe_of (record m { write = w; writer_call = call; source = acts }) ≡ record (published n (pipe_of m)) { writer = place; writer_call = call; source = acts }
   published-view =
       let same = i.capacity in
       let unread = unread_longer in

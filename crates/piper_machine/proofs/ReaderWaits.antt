@@ -1,24 +1,30 @@
 -- The reader as a waiter, from place to place of its own calls, and what each of its steps is to a waiting writer.
-use Rattle.std.proofs.Common.{◌≡◌, ℕ, zero, suc, List, [], ◌∷◌, length, drop, Bool, true, false, Option, None, Some, ◌==◌, refl, sym, ap, subst, ◌∙◌, arith}
+use Rattle.std.proofs.Common.{◌≡◌, ℕ, zero, suc, List, [], ◌∷◌, length, drop, Bool, true, false, Option, None, Some, ◌==◌, Result, Ok, Err, refl, sym, ap, subst, ◌∙◌, arith}
 use Rattle.std.specs.Bool.{⊤}
 use Rattle.std.proofs.lemmas.Bool.Decides.{nat_tests}
 use Rattle.piper_sides.specs.declared.calls.Side.TheVariants.{Reader, Writer}
 use Rattle.piper_sides.specs.declared.calls.Query.{Query}
 use Rattle.piper_sides.specs.declared.polling.Context.{Context}
+use Rattle.piper_sides.specs.declared.scripted.Failed.{Failed}
+use Rattle.piper_sides.specs.declared.table.Form.{Form}
+use Rattle.piper_sides.specs.declared.table.Form.TheVariants.{Try, Polling}
 use Rattle.piper_sides.specs.declared.table.Purpose.{Purpose}
 use Rattle.piper_sides.specs.declared.table.Purpose.TheVariants as purpose
 use Rattle.piper_sides.specs.declared.table.AfterRead.{AfterRead}
 use Rattle.piper_sides.specs.declared.table.AfterRead.TheVariants as afterward
 use Rattle.piper_sides.specs.declared.table.ReadPlace.{ReadPlace}
 use Rattle.piper_sides.specs.declared.table.ReadPlace.TheVariants as at
-use Rattle.piper_sides.specs.Table.{read_action, reader_looks_for, reader_looked, reader_looked_again, read_done}
+use Rattle.piper_sides.specs.Table.{Next, read_action, reader_looks_for, reader_looked, reader_looked_again, reader_moved, read_after, yield_answer, read_done}
 use Rattle.piper_sides.specs.Log.{answer_event}
+use Rattle.piper_sides.specs.Open.{is_yield_granted}
 use Rattle.piper_machine.specs.Pipe.{Pipe}
-use Rattle.piper_machine.specs.Action.{logged_of, registration_of, wake_of, refreshed_by}
-use Rattle.piper_machine.specs.Step.{call_after, went}
+use Rattle.piper_machine.specs.Action.{logged_of, registration_of, wake_of, yield_of, refreshed_by, round_count, destination_called}
+use Rattle.piper_machine.specs.Step.{call_after, destination_after, went}
+use Rattle.piper_machine.specs.Round.{taken, found_of}
+use Rattle.piper_machine.specs.declared.destination.Destination.{Destination}
 use Rattle.piper_machine.specs.Waiting.{IsBlocked}
 use Rattle.piper_machine.specs.Wait.{Wait, wait_from}
-use Rattle.piper_machine.proofs.Watching.{Errand, read_errand, Watched, calmly, Same, same, Touch, rests, stores, finds, misses, calls, hears-more, rewatch, touched, touched-pending, IsHanded, HasBegun, Awaits, handed-touched, begun-touched, awaits-touched, awaits-more, has_begun, awaits, refused-told, answered-passes, registration-passes, wake-heard, context_of, query-told}
+use Rattle.piper_machine.proofs.Watching.{Errand, read_errand, Watched, woken, calmly, Same, same, Touch, rests, stores, finds, misses, calls, hears-more, rewatch, touched, touched-pending, IsHanded, HasBegun, Awaits, handed-touched, begun-touched, awaits-touched, awaits-more, has_begun, awaits, refused-told, counted-told, yielded, yield-heard, hears-it, answered-passes, registration-passes, wake-heard, context_of, query-told}
 
 -- what holds of the pipe while the waker stands in the slot: nothing any more once the reader itself has closed
 abbrev pub read_calm : ReadPlace → Pipe → Type 0
@@ -34,6 +40,7 @@ ReadLook (at.LookRegister l) p e w = IsHanded p.reader_call.context w
 ReadLook (at.LookClosed l) p e w = HasBegun l p.reader_call.context w × Awaits l w p.reader_waker ⊤ e
 ReadLook (at.LookTailAgain l was_closed) p e w = HasBegun l p.reader_call.context w × Awaits l w p.reader_waker (was_closed ≡ false → p.is_closed ≡ false) e
 ReadLook (at.LookTake l) p e w = IsHanded p.reader_call.context w
+ReadLook at.Yield p e w = IsHanded p.reader_call.context w
 ReadLook place p e w = ⊤
 
 pub record ReadWaits (p : Pipe) (e : Errand) (w : Wait) : Type 0 where
@@ -57,6 +64,7 @@ look-touched p q e e_after w v (at.LookRegister l) same t h = rw same (handed-to
 look-touched p q e e_after w v (at.LookClosed l) same t h = (rw same (begun-touched l p.reader_call.context t h.0), awaits-touched l _ _ (λ s c. c) t h.1)
 look-touched p q e e_after w v (at.LookTailAgain l was_closed) same t h = (rw same (begun-touched l p.reader_call.context t h.0), awaits-touched l _ _ (λ s c unseen. s.closed ∙ c unseen) t h.1)
 look-touched p q e e_after w v (at.LookTake l) same t h = rw same (handed-touched p.reader_call.context t h)
+look-touched p q e e_after w v at.Yield same t h = rw same (handed-touched p.reader_call.context t h)
 look-touched p q e e_after w v place same t h = tt
 
 pub reader-touched : (p q : Pipe) (e e_after : Errand) (w v : Wait) → q.reader ≡ p.reader → q.reader_call ≡ p.reader_call → Touch p q p.reader_waker q.reader_waker e e_after w v → ReadWaits p e w → ReadWaits q e_after v
@@ -81,11 +89,18 @@ module _ (e : Errand) (w : Wait) where
       → ReadWaits (record p { reader = reader_looked none l }) e w
   looked true purpose.Poll p waiting handed = record { waiting = waiting; look = handed }
   looked false purpose.Poll p waiting handed = record { waiting = waiting; look = handed }
+  looked true (purpose.Copy Try) p waiting handed = record { waiting = waiting; look = (tt, tt) }
+  looked false (purpose.Copy Try) p waiting handed = record { waiting = waiting; look = tt }
+  looked true (purpose.Copy (Polling is_drawn)) p waiting handed = record { waiting = waiting; look = handed }
+  looked false (purpose.Copy (Polling is_drawn)) p waiting handed = record { waiting = waiting; look = handed }
 
   pub looks_for : (none : Bool) (l : Purpose) (p : Pipe) → (w.is_pending ≡ true → Watched w p.reader_waker None (IsBlocked Reader p) e) → HasBegun l p.reader_call.context w
       → ReadWaits (record p { reader = reader_looks_for none l }) e w
   looks_for true purpose.Poll p waiting handed = record { waiting = waiting; look = handed }
   looks_for false purpose.Poll p waiting handed = record { waiting = waiting; look = handed }
+  looks_for true (purpose.Copy form) p waiting handed = record { waiting = waiting; look = handed }
+  looks_for false (purpose.Copy Try) p waiting handed = record { waiting = waiting; look = tt }
+  looks_for false (purpose.Copy (Polling is_drawn)) p waiting handed = record { waiting = waiting; look = handed }
 
 -- the reader makes its next step
 abbrev Goes : Pipe → Errand → Wait → Type 0
@@ -109,31 +124,69 @@ registers-if : (l : Purpose) (context : Option Context) (taken : Option ℕ) (p 
 registers-if l None taken p e w h = rw (refused-told l w) (record { waiting = h.waiting; look = tt })
 registers-if l (Some cx) taken p e w h = registers l cx.luck.register_granted cx.waker cx.luck.draw cx.luck.yield_granted taken p e w h
 
+-- a call that goes on, or has answered, with this left of its destination
+abbrev Stands : Next ReadPlace → Destination → Pipe → Errand → Wait → Type 0
+Stands next destination p e w =
+    ReadWaits (record p { reader = next.place; reader_call = call_after next.answer p.reader_call; destination = destination_after next.answer destination }) e (wait_from Reader w (answer_event Reader next.answer))
+
 -- the last load of tail: without a byte behind an open pipe the reader waits from now on
 looks-again : (l : Purpose) (none was_closed : Bool) (p : Pipe) (e : Errand) (w : Wait) → (none ≡ true → p.unread ≡ []) → ReadWaits (record p { reader = at.LookTailAgain l was_closed }) e w
-    → let next = reader_looked_again none l was_closed in ReadWaits (record p { reader = next.place; reader_call = call_after next.answer p.reader_call }) e (wait_from Reader w (answer_event Reader next.answer))
+    → Stands (reader_looked_again none l was_closed) p.destination p e w
 looks-again purpose.Poll true true p e w empty h = record { waiting = h.waiting; look = tt }
 looks-again purpose.Poll true false p e w empty h = record { waiting = λ pending. rewatch _ _ refl refl refl (λ a. a) (λ c. (empty refl, c refl)) h.look.1; look = tt }
 looks-again purpose.Poll false was_closed p e w empty h = record { waiting = h.waiting; look = h.look.0 }
+looks-again (purpose.Copy Try) true was_closed p e w empty h = record { waiting = h.waiting; look = tt }
+looks-again (purpose.Copy Try) false was_closed p e w empty h = record { waiting = h.waiting; look = tt }
+looks-again (purpose.Copy (Polling is_drawn)) true true p e w empty h = record { waiting = h.waiting; look = tt }
+looks-again (purpose.Copy (Polling is_drawn)) true false p e w empty h = record { waiting = λ pending. rewatch _ _ refl refl refl (λ a. a) (λ c. (empty refl, c refl)) h.look.1; look = tt }
+looks-again (purpose.Copy (Polling is_drawn)) false was_closed p e w empty h = record { waiting = h.waiting; look = h.look.0 }
 
 takes-own : (l : Purpose) (p : Pipe) (e : Errand) (w : Wait) → Goes (record p { reader = at.LookTake l }) e w
 takes-own purpose.Poll p e w h = record { waiting = λ pending. absurd (let never = h.look.0 in cc); look = tt }
+takes-own (purpose.Copy Try) p e w h = record { waiting = λ pending. absurd (let never = h.look.0 in cc); look = tt }
+takes-own (purpose.Copy (Polling true)) p e w h = record { waiting = λ pending. absurd (let never = h.look.0 in cc); look = h.look }
+takes-own (purpose.Copy (Polling false)) p e w h = record { waiting = λ pending. absurd (let never = h.look.0 in cc); look = tt }
+
+-- a yield: the call answers pending, and its waker was called
+yields : (granted : Bool) (waker draw : ℕ) (registers : Bool) (taken : Option ℕ) (p : Pipe) (e : Errand) (w : Wait)
+    → Goes (record p { reader = at.Yield; reader_call = record { context = Some (record { waker = waker; luck = record { draw = draw; register_granted = registers; yield_granted = granted } }); taken = taken } }) e w
+yields true waker draw registers taken p e w h = record { waiting = λ pending. woken (hears-it (Some waker) w (ap (λ (n : ℕ). Some n) (sym h.look.1))); look = tt }
+yields false waker draw registers taken p e w h = record { waiting = h.waiting; look = tt }
+
+yields-if : (context : Option Context) (taken : Option ℕ) (p : Pipe) (e : Errand) (w : Wait) → Goes (record p { reader = at.Yield; reader_call = record { context = context; taken = taken } }) e w
+yields-if None taken p e w h = record { waiting = h.waiting; look = tt }
+yields-if (Some cx) taken p e w h = yields cx.luck.yield_granted cx.waker cx.luck.draw cx.luck.register_granted taken p e w h
+
+-- a round: it goes on, or the call answers a count or a failure
+moves-on : (none : Bool) (n : ℕ) (form : Form) (sum : ℕ) (destination : Destination) (p : Pipe) (e : Errand) (w : Wait) → ReadWaits (record p { reader = at.CallDestination form sum }) e w → Stands (reader_moved none n form sum) destination p e w
+moves-on true n form sum destination p e w h = rw (counted-told form sum w) (record { waiting = h.waiting; look = tt })
+moves-on false n form sum destination p e w h = record { waiting = h.waiting; look = tt }
+
+moves : (taken : Result ℕ Failed) (form : Form) (sum : ℕ) (destination : Destination) (p : Pipe) (e : Errand) (w : Wait) → ReadWaits (record p { reader = at.CallDestination form sum }) e w
+    → Stands (read_after p.capacity (at.CallDestination form sum) (found_of taken)) destination p e w
+moves (Ok n) form sum destination p e w h = moves-on (n == 0) n form sum _ p e w h
+moves (Err fails) form sum destination p e w h = record { waiting = h.waiting; look = tt }
 
 gives_up : (next : AfterRead) (n : ℕ) (p : Pipe) (e : Errand) (w : Wait) → Goes (record p { reader = at.StoreHead n next }) e w
 gives_up afterward.Answer n p e w h = record { waiting = λ pending. rewatch _ _ refl refl refl (λ a. a) (λ c. (drop_none n p.unread c.0, c.1)) (h.waiting pending); look = tt }
 gives_up afterward.Drop n p e w h = record { waiting = λ pending. rewatch _ _ refl refl refl (λ a. a) (λ c. tt) (h.waiting pending); look = tt }
+gives_up (afterward.Round form sum) n p e w h = record { waiting = λ pending. rewatch _ _ refl refl refl (λ a. a) (λ c. (drop_none n p.unread c.0, c.1)) (h.waiting pending); look = tt }
 
 takes-writers : (next : AfterRead) (slot : Option ℕ) (p : Pipe) (e : Errand) (w : Wait) → Goes (record p { reader = at.TakeWriter next; writer_waker = slot }) e w
 takes-writers afterward.Answer None p e w h = record { waiting = h.waiting; look = tt }
 takes-writers afterward.Drop None p e w h = record { waiting = h.waiting; look = tt }
 takes-writers afterward.Answer (Some waker) p e w h = record { waiting = h.waiting; look = tt }
 takes-writers afterward.Drop (Some waker) p e w h = record { waiting = h.waiting; look = tt }
+takes-writers (afterward.Round form sum) None p e w h = record { waiting = h.waiting; look = tt }
+takes-writers (afterward.Round form sum) (Some waker) p e w h = record { waiting = h.waiting; look = tt }
 
 wakes-writer : (next : AfterRead) (context : Option Context) (name : Option ℕ) (p : Pipe) (e : Errand) (w : Wait) → Goes (record p { reader = at.WakeWriter next; reader_call = record { context = context; taken = name } }) e w
 wakes-writer afterward.Answer context None p e w h = record { waiting = h.waiting; look = tt }
 wakes-writer afterward.Drop context None p e w h = record { waiting = h.waiting; look = tt }
 wakes-writer afterward.Answer context (Some waker) p e w h = record { waiting = λ pending. rewatch _ _ refl refl refl (hears-more (Some waker) w) (λ c. c) (h.waiting pending); look = tt }
 wakes-writer afterward.Drop context (Some waker) p e w h = record { waiting = λ pending. rewatch _ _ refl refl refl (hears-more (Some waker) w) (λ c. c) (h.waiting pending); look = tt }
+wakes-writer (afterward.Round form sum) context None p e w h = record { waiting = h.waiting; look = tt }
+wakes-writer (afterward.Round form sum) context (Some waker) p e w h = record { waiting = λ pending. rewatch _ _ refl refl refl (hears-more (Some waker) w) (λ c. c) (h.waiting pending); look = tt }
 
 pub reader-goes : (place : ReadPlace) (p : Pipe) (e : Errand) (w : Wait) → Goes (record p { reader = place }) e w
 reader-goes at.Idle p e w h = record { waiting = h.waiting; look = tt }
@@ -146,6 +199,8 @@ reader-goes (at.LookRegister l) p e w h = registers-if l p.reader_call.context p
 reader-goes (at.LookClosed l) p e w h = record { waiting = h.waiting; look = (h.look.0, awaits-more w p.reader_waker e l _ _ (λ c is_open. is_open) h.look.1) }
 reader-goes (at.LookTailAgain l was_closed) p e w h = looks-again l (length p.unread == 0) was_closed (refreshed_by Reader p) e w (none_left p.unread) (record { waiting = h.waiting; look = h.look })
 reader-goes (at.LookTake l) p e w h = takes-own l p e w h
+reader-goes at.Yield p e w h = yields-if p.reader_call.context p.reader_call.taken p e w h
+reader-goes (at.CallDestination form sum) p e w h = moves (taken (round_count p) p.destination) form sum (destination_called p).destination p e w h
 reader-goes (at.StoreHead n next) p e w h = gives_up next n p e w h
 reader-goes (at.TakeWriter next) p e w h = takes-writers next p.writer_waker p e w h
 reader-goes (at.WakeWriter next) p e w h = wakes-writer next p.reader_call.context p.reader_call.taken p e w h
@@ -174,6 +229,9 @@ reader-touches (at.LookRegister l) p w = rests None (same _ _ refl refl refl) re
 reader-touches (at.LookClosed l) p w = rests None (same _ _ refl refl refl) refl refl refl
 reader-touches (at.LookTailAgain l was_closed) p w = rests None (same _ _ refl refl refl) refl refl (answered-passes Writer Reader w w (logged_of Reader (read_action (at.LookTailAgain l was_closed)) p) _ refl refl)
 reader-touches (at.LookTake l) p w = rests None (same _ _ refl refl refl) refl refl (answered-passes Writer Reader w w [] _ refl refl)
+reader-touches at.Yield p w = rests (yielded p.reader_call.context) (same _ _ refl refl refl) refl refl
+    (answered-passes Writer Reader w _ (yield_of p.reader_call.context) (Some (yield_answer (is_yield_granted p.reader_call.context))) refl (yield-heard Writer w p.reader_call.context))
+reader-touches (at.CallDestination form sum) p w = rests None (same _ _ refl refl refl) refl refl (answered-passes Writer Reader w w [] _ refl refl)
 reader-touches (at.StoreHead n next) p w = stores refl refl refl refl
 reader-touches (at.TakeWriter next) p w = takes-touch next p.writer_waker p w
 reader-touches (at.WakeWriter next) p w = calls p.reader_call.taken (same _ _ refl refl refl) refl refl (answered-passes Writer Reader w _ (wake_of p.reader_call.taken) _ refl (wake-heard Writer w p.reader_call.taken))

@@ -1,5 +1,5 @@
 -- Each step keeps both sides remembered: its own side goes on from place to place, and the other is touched by it.
-use Rattle.std.proofs.Common.{◌≡◌, inl, inr, ℕ, List, [], ◌++◌, Bool, true, false, Option, None, Some, ◌==◌, refl, sym, ap, subst, slice_set}
+use Rattle.std.proofs.Common.{◌≡◌, inl, inr, ℕ, List, [], ◌∷◌, ◌++◌, Bool, true, false, Option, None, Some, ◌==◌, refl, sym, ap, subst, slice_set}
 use Rattle.piper_sides.specs.declared.calls.Side.TheVariants.{Reader, Writer}
 use Rattle.piper_sides.specs.declared.calls.OpenCall.{OpenCall}
 use Rattle.piper_sides.specs.declared.calls.Call.{Call}
@@ -11,6 +11,11 @@ use Rattle.piper_sides.specs.declared.events.Event.{Event}
 use Rattle.piper_sides.specs.declared.refusals.StepRefusal.{StepRefusal}
 use Rattle.piper_sides.specs.declared.table.Action.{Action}
 use Rattle.piper_sides.specs.declared.table.Action.TheVariants as does
+use Rattle.piper_sides.specs.declared.polling.Context.{Context}
+use Rattle.piper_sides.specs.declared.scripted.SourceAct.{SourceAct}
+use Rattle.piper_sides.specs.declared.scripted.SourceAct.TheVariants as source
+use Rattle.piper_sides.specs.declared.table.Form.TheVariants.{Try, Polling}
+use Rattle.piper_sides.specs.declared.table.Purpose.{Purpose}
 use Rattle.piper_sides.specs.declared.table.Purpose.TheVariants as purpose
 use Rattle.piper_sides.specs.declared.table.AfterRead.TheVariants as afterward
 use Rattle.piper_sides.specs.declared.table.AfterWrite.TheVariants as behind
@@ -18,20 +23,22 @@ use Rattle.piper_sides.specs.declared.table.ReadPlace.{ReadPlace}
 use Rattle.piper_sides.specs.declared.table.ReadPlace.TheVariants as at
 use Rattle.piper_sides.specs.declared.table.WritePlace.{WritePlace}
 use Rattle.piper_sides.specs.declared.table.WritePlace.TheVariants as on
-use Rattle.piper_sides.specs.Open.{polling}
+use Rattle.piper_sides.specs.Open.{called_with}
 use Rattle.piper_sides.specs.Table.{read_action, write_action, reader_looks_for}
 use Rattle.piper_machine.specs.Pipe.{Pipe, fresh}
 use Rattle.piper_machine.specs.Sound.{IsSound}
 use Rattle.piper_machine.specs.Action.{performed}
-use Rattle.piper_machine.specs.Step.{stepped, went}
+use Rattle.piper_machine.specs.Step.{stepped, went, offering}
 use Rattle.piper_machine.specs.Refusal.{reader_state, writer_state, cannot_begin, or_else, refusal_of}
 use Rattle.piper_machine.specs.Run.{Made}
 use Rattle.piper_machine.specs.Waiting.{IsBlocked, is_waking_reader, is_waking_writer}
+use Rattle.piper_machine.specs.declared.destination.Destination.{Destination}
+use Rattle.piper_machine.specs.declared.destination.Destination.TheVariants.{Slice, Acts}
 use Rattle.piper_machine.specs.Look.{context}
 use Rattle.piper_machine.specs.Lend.{lending}
 use Rattle.piper_machine.specs.Wait.{Wait, no_wait, handed_over, wait_from, wait_of}
 use Rattle.piper_machine.specs.Remembered.{IsRemembered, AreRemembered}
-use Rattle.piper_machine.proofs.Watching.{Errand, away, takes, wakes, read_errand, write_errand, Watched, woken, calmly, taking, waking, holding, rests, wait-append}
+use Rattle.piper_machine.proofs.Watching.{HasBegun, Errand, away, takes, wakes, read_errand, write_errand, Watched, woken, calmly, taking, waking, holding, rests, wait-append}
 use Rattle.piper_machine.proofs.ReaderWaits.{ReadWaits, read_calm, reader-touched, reader-goes, reader-touches, looks_for}
 use Rattle.piper_machine.proofs.WriterWaits.{WriteWaits, write_calm, write_held, writer-touched, writer-goes, writer-touches}
 
@@ -66,22 +73,28 @@ pub writer-idle : (place : WritePlace) (more : Option StepRefusal) → or_else (
 writer-idle on.Idle more accepted = refl
 writer-idle place more accepted = absurd (cc)
 
+looks-away : (none : Bool) (l : Purpose) (c : OpenCall) → read_errand (reader_looks_for none l) c ≡ away
+looks-away true l c = refl
+looks-away false purpose.Poll c = refl
+looks-away false (purpose.Copy Try) c = refl
+looks-away false (purpose.Copy (Polling is_drawn)) c = refl
+
 module _ (p : Pipe) (reads writes : Wait) (kept : Keeps p reads writes) where
   -- the reader opens a call: it goes to a place away from the writer's slot, and the writer does not notice
-  reader-opens : (place : ReadPlace) (c : OpenCall) (now : Wait) → p.reader ≡ at.Idle → read_errand place c ≡ away
-      → (ReadWaits (record p { reader = at.Idle }) (write_errand p.writer p.writer_call) reads → ReadWaits (record p { reader = place; reader_call = c }) (write_errand p.writer p.writer_call) now)
-      → Keeps (record p { reader = place; reader_call = c }) now writes
-  reader-opens place c now idle errand own = record {
+  reader-opens : (place : ReadPlace) (c : OpenCall) (destination : Destination) (now : Wait) → p.reader ≡ at.Idle → read_errand place c ≡ away
+      → (ReadWaits (record p { reader = at.Idle }) (write_errand p.writer p.writer_call) reads → ReadWaits (record p { reader = place; reader_call = c; destination = destination }) (write_errand p.writer p.writer_call) now)
+      → Keeps (record p { reader = place; reader_call = c; destination = destination }) now writes
+  reader-opens place c destination now idle errand own = record {
     reader = own (subst (λ (place : ReadPlace). ReadWaits (record p { reader = place }) (write_errand p.writer p.writer_call) reads) idle kept.reader);
     writer = writer-touched p _ _ _ writes writes refl refl
         (rests None (record { unread = refl; capacity = refl; closed = refl }) refl (ap (λ (place : ReadPlace). read_errand place p.reader_call) idle) refl) kept.writer;
   }
 
   -- the writer opens a call, or a byte is put, with these bytes in what is lent
-  writer-opens : (place : WritePlace) (c : OpenCall) (lent : List ℕ) (now : Wait) → p.writer ≡ on.Idle → write_errand place c ≡ away
-      → (WriteWaits (record p { writer = on.Idle }) (read_errand p.reader p.reader_call) writes → WriteWaits (record p { writer = place; writer_call = c; lent = lent }) (read_errand p.reader p.reader_call) now)
-      → Keeps (record p { writer = place; writer_call = c; lent = lent }) reads now
-  writer-opens place c lent now idle errand own = record {
+  writer-opens : (place : WritePlace) (c : OpenCall) (source : List SourceAct) (lent : List ℕ) (now : Wait) → p.writer ≡ on.Idle → write_errand place c ≡ away
+      → (WriteWaits (record p { writer = on.Idle }) (read_errand p.reader p.reader_call) writes → WriteWaits (record p { writer = place; writer_call = c; source = source; lent = lent }) (read_errand p.reader p.reader_call) now)
+      → Keeps (record p { writer = place; writer_call = c; source = source; lent = lent }) reads now
+  writer-opens place c source lent now idle errand own = record {
     writer = own (subst (λ (place : WritePlace). WriteWaits (record p { writer = place }) (read_errand p.reader p.reader_call) writes) idle kept.writer);
     reader = reader-touched p _ _ _ reads reads refl refl
         (rests None (record { unread = refl; capacity = refl; closed = refl }) refl (ap (λ (place : WritePlace). write_errand place p.writer_call) idle) refl) kept.reader;
@@ -89,21 +102,38 @@ module _ (p : Pipe) (reads writes : Wait) (kept : Keeps p reads writes) where
 
   lends : (lent : List ℕ) → p.writer ≡ on.Idle → Keeps (lending lent p) reads writes
   lends lent idle = subst (λ (place : WritePlace). Keeps (record p { writer = place; lent = lent }) reads writes) (sym idle)
-      (writer-opens on.Idle p.writer_call lent writes idle refl (λ h. record { waiting = h.waiting; look = tt }))
+      (writer-opens on.Idle p.writer_call p.source lent writes idle refl (λ h. record { waiting = h.waiting; look = tt }))
 
   reads_on : (place : ReadPlace) → p.reader ≡ at.Idle → read_errand place p.reader_call ≡ away
       → (ReadWaits (record p { reader = at.Idle }) (write_errand p.writer p.writer_call) reads → ReadWaits (record p { reader = place }) (write_errand p.writer p.writer_call) reads)
       → Keeps (record p { reader = place }) reads writes
-  reads_on place = reader-opens place p.reader_call reads
+  reads_on place = reader-opens place p.reader_call p.destination reads
 
   writes_on : (place : WritePlace) → p.writer ≡ on.Idle → write_errand place p.writer_call ≡ away
       → (WriteWaits (record p { writer = on.Idle }) (read_errand p.reader p.reader_call) writes → WriteWaits (record p { writer = place }) (read_errand p.reader p.reader_call) writes)
       → Keeps (record p { writer = place }) reads writes
-  writes_on place = writer-opens place p.writer_call p.lent writes
+  writes_on place = writer-opens place p.writer_call p.source p.lent writes
 
-looks-away : (none : Bool) (c : OpenCall) → read_errand (reader_looks_for none purpose.Poll) c ≡ away
-looks-away true c = refl
-looks-away false c = refl
+  -- a look with a waker; with none, the last polling call's wait goes on
+  reader-polls : (cx : Context) (l : Purpose) (destination : Destination) → let now = handed_over (Some cx.waker) reads in HasBegun l (Some cx) now → p.reader ≡ at.Idle
+      → Keeps (record p { reader = reader_looks_for (p.known == 0) l; reader_call = called_with (Some cx); destination = destination }) now writes
+  reader-polls cx l destination begun idle =
+      let now = handed_over (Some cx.waker) reads in
+      let c = called_with (Some cx) in
+      reader-opens (reader_looks_for (p.known == 0) l) c destination now idle (looks-away (p.known == 0) l c)
+      (λ h. looks_for (write_errand p.writer p.writer_call) now (p.known == 0) l (record p { reader_call = c; destination = destination }) (λ pending. absurd (cc)) begun)
+
+  reader-tries : (destination : Destination) → p.reader ≡ at.Idle
+      → Keeps (record p { reader = reader_looks_for (p.known == 0) (purpose.Copy Try); reader_call = called_with None; destination = destination }) reads writes
+  reader-tries destination idle =
+      let c = called_with None in
+      reader-opens (reader_looks_for (p.known == 0) (purpose.Copy Try)) c destination reads idle (looks-away (p.known == 0) (purpose.Copy Try) c)
+      (λ h. looks_for (write_errand p.writer p.writer_call) reads (p.known == 0) (purpose.Copy Try) (record p { reader_call = c; destination = destination }) h.waiting tt)
+
+  writer-polls : (cx : Context) (l : Purpose) (source : List SourceAct) → let now = handed_over (Some cx.waker) writes in HasBegun l (Some cx) now → p.writer ≡ on.Idle
+      → Keeps (record p { writer = on.LookClosed l; writer_call = called_with (Some cx); source = source }) reads now
+  writer-polls cx l source begun idle =
+      writer-opens (on.LookClosed l) (called_with (Some cx)) source p.lent (handed_over (Some cx.waker) writes) idle refl (λ h. record { waiting = λ pending. absurd (cc); look = begun })
 
 begin-keeps : (lent : List ℕ) (c : Call) (p : Pipe) (reads writes : Wait) → refusal_of (Begin c) p ≡ None → Keeps p reads writes
     → let new = stepped lent (Begin c) p in Keeps new.pipe (wait_from Reader reads new.events) (wait_from Writer writes new.events)
@@ -113,12 +143,10 @@ begin-keeps lent (call.IsFull Reader) p reads writes accepted kept = reads_on p 
 begin-keeps lent (call.IsClosed Reader) p reads writes accepted kept = reads_on p reads writes kept at.QueryClosed (reader-idle p.reader _ accepted) refl (λ h. record { waiting = h.waiting; look = tt })
 begin-keeps lent (call.Consume n) p reads writes accepted kept = reads_on p reads writes kept (at.StoreHead n afterward.Answer) (reader-idle p.reader _ accepted) refl (λ h. record { waiting = h.waiting; look = tt })
 begin-keeps lent (call.Drop Reader) p reads writes accepted kept = reads_on p reads writes kept at.StoreClosed (reader-idle p.reader _ accepted) refl (λ h. record { waiting = h.waiting; look = tt })
-begin-keeps lent (call.Poll Reader waker luck) p reads writes accepted kept =
-    let c = polling (context waker luck) in
-    let now = handed_over (Some waker) reads in
-    let place = reader_looks_for (p.known == 0) purpose.Poll in
-    reader-opens p reads writes kept place c now (reader-idle p.reader _ accepted) (looks-away (p.known == 0) c)
-    (λ h. looks_for (write_errand p.writer p.writer_call) now (p.known == 0) purpose.Poll (record p { reader_call = c }) (λ pending. absurd (cc)) (refl, refl))
+begin-keeps lent (call.Poll Reader waker luck) p reads writes accepted kept = reader-polls p reads writes kept (context waker luck) purpose.Poll p.destination (refl, refl) (reader-idle p.reader _ accepted)
+begin-keeps lent (call.PollDrainBytes waker luck size) p reads writes accepted kept = reader-polls p reads writes kept (context waker luck) (purpose.Copy (Polling (luck.draw == 0))) (Slice size) (refl, refl) (reader-idle p.reader _ accepted)
+begin-keeps lent (call.PollDrain waker luck acts) p reads writes accepted kept = reader-polls p reads writes kept (context waker luck) (purpose.Copy (Polling (luck.draw == 0))) (Acts acts) (refl, refl) (reader-idle p.reader _ accepted)
+begin-keeps lent (call.TryDrain size) p reads writes accepted kept = reader-tries p reads writes kept (Slice size) (reader-idle p.reader _ accepted)
 begin-keeps lent (call.Len Writer) p reads writes accepted kept = writes_on p reads writes kept (on.QueryHead Len) (writer-idle p.writer _ accepted) refl (λ h. record { waiting = h.waiting; look = tt })
 begin-keeps lent (call.IsEmpty Writer) p reads writes accepted kept = writes_on p reads writes kept (on.QueryHead IsEmpty) (writer-idle p.writer _ accepted) refl (λ h. record { waiting = h.waiting; look = tt })
 begin-keeps lent (call.IsFull Writer) p reads writes accepted kept = writes_on p reads writes kept (on.QueryHead IsFull) (writer-idle p.writer _ accepted) refl (λ h. record { waiting = h.waiting; look = tt })
@@ -127,9 +155,11 @@ begin-keeps lent (call.WriteBuf most) p reads writes accepted kept = lends p rea
 begin-keeps lent (call.Produced n) p reads writes accepted kept = writes_on p reads writes kept (on.StoreTail n behind.Answer) (writer-idle p.writer _ accepted) refl (λ h. record { waiting = h.waiting; look = tt })
 begin-keeps lent call.Close p reads writes accepted kept = writes_on p reads writes kept (on.StoreClosed behind.WakeWriter) (writer-idle p.writer _ accepted) refl (λ h. record { waiting = h.waiting; look = tt })
 begin-keeps lent (call.Drop Writer) p reads writes accepted kept = writes_on p reads writes kept (on.StoreClosed behind.Drop) (writer-idle p.writer _ accepted) refl (λ h. record { waiting = h.waiting; look = tt })
-begin-keeps lent (call.Poll Writer waker luck) p reads writes accepted kept =
-    writer-opens p reads writes kept (on.LookClosed purpose.Poll) (polling (context waker luck)) p.lent (handed_over (Some waker) writes) (writer-idle p.writer _ accepted) refl
-    (λ h. record { waiting = λ pending. absurd (cc); look = (refl, refl) })
+begin-keeps lent (call.Poll Writer waker luck) p reads writes accepted kept = writer-polls p reads writes kept (context waker luck) purpose.Poll p.source (refl, refl) (writer-idle p.writer _ accepted)
+begin-keeps lent (call.PollFillBytes waker luck bytes) p reads writes accepted kept = writer-polls p reads writes kept (context waker luck) (purpose.Copy (Polling (luck.draw == 0))) (source.Bytes bytes ∷ []) (refl, refl) (writer-idle p.writer _ accepted)
+begin-keeps lent (call.PollFill waker luck acts) p reads writes accepted kept = writer-polls p reads writes kept (context waker luck) (purpose.Copy (Polling (luck.draw == 0))) acts (refl, refl) (writer-idle p.writer _ accepted)
+begin-keeps lent (call.TryFill bytes) p reads writes accepted kept =
+    writer-opens p reads writes kept (on.LookClosed (purpose.Copy Try)) (called_with None) (source.Bytes bytes ∷ []) p.lent writes (writer-idle p.writer _ accepted) refl (λ h. record { waiting = h.waiting; look = tt })
 
 write_errand-same : (p q : Pipe) → q.writer ≡ p.writer → q.writer_call ≡ p.writer_call → write_errand p.writer p.writer_call ≡ write_errand q.writer q.writer_call
 write_errand-same p q place call = rw (place, call) refl
@@ -147,10 +177,11 @@ step-keeps lent (Go Reader) p reads writes sound accepted kept =
       writer = writer-touched p _ _ _ writes _ same.0 same.1 (reader-touches p.reader p writes) kept.writer;
     }
 step-keeps lent (Go Writer) p reads writes sound accepted kept =
-    let same = writer_leaves (write_action p.writer) p in
+    let to = went Writer (offering lent p) in
+    let same = writer_leaves (write_action p.writer) (offering lent p) in
     record {
-      writer = subst (λ (e : Errand). WriteWaits (went Writer p).pipe e (wait_from Writer writes (went Writer p).events)) (read_errand-same p (went Writer p).pipe same.0 same.1) (writer-goes p.writer p (read_errand p.reader p.reader_call) writes sound kept.writer);
-      reader = reader-touched p _ _ _ reads _ same.0 same.1 (writer-touches p.writer p reads) kept.reader;
+      writer = subst (λ (e : Errand). WriteWaits to.pipe e (wait_from Writer writes to.events)) (read_errand-same p to.pipe same.0 same.1) (writer-goes lent p.writer p (read_errand p.reader p.reader_call) writes sound kept.writer);
+      reader = reader-touched p _ _ _ reads _ same.0 same.1 (writer-touches lent p.writer p reads) kept.reader;
     }
 step-keeps lent (Put offset byte) p reads writes sound accepted kept = lends p reads writes kept (slice_set p.lent offset byte) (writer-idle p.writer _ accepted)
 

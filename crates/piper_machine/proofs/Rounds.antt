@@ -8,12 +8,12 @@ use Rattle.piper_sides.specs.Index.{place_of}
 use Rattle.piper_machine.specs.Pipe.{Pipe}
 use Rattle.piper_machine.specs.Copy.{HasOneWake, waker_after, woken_after, filled, drained}
 
-waker_after-twice : (m n : ℕ) (waker : Option ℕ) → waker_after n (waker_after m waker) ≡ waker_after (m + n) waker
+pub waker_after-twice : (m n : ℕ) (waker : Option ℕ) → waker_after n (waker_after m waker) ≡ waker_after (m + n) waker
 waker_after-twice zero n waker = ap (λ k. waker_after k waker) (omega arith)
 waker_after-twice (suc m) zero waker = ap (λ k. waker_after k waker) (omega arith)
 waker_after-twice (suc m) (suc n) waker = grind (arith, nat_tests)
 
-woken_after-twice : (m n : ℕ) (names : List ℕ) (waker : Option ℕ) → woken_after n (woken_after m names waker) (waker_after m waker) ≡ woken_after (m + n) names waker
+pub woken_after-twice : (m n : ℕ) (names : List ℕ) (waker : Option ℕ) → woken_after n (woken_after m names waker) (waker_after m waker) ≡ woken_after (m + n) names waker
 woken_after-twice zero n names waker = ap (λ k. woken_after k names waker) (omega arith)
 woken_after-twice (suc m) zero names waker = ap (λ k. woken_after k names waker) (omega arith)
 woken_after-twice (suc m) (suc n) names waker = grind (arith, nat_tests)

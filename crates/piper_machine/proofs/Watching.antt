@@ -11,6 +11,8 @@ use Rattle.piper_sides.specs.declared.events.Answer.{Answer}
 use Rattle.piper_sides.specs.declared.events.Event.{Event}
 use Rattle.piper_sides.specs.declared.polling.Context.{Context}
 use Rattle.piper_sides.specs.declared.polling.Polled.TheVariants.{Memory}
+use Rattle.piper_sides.specs.declared.table.Form.{Form}
+use Rattle.piper_sides.specs.declared.table.Form.TheVariants.{Try, Polling}
 use Rattle.piper_sides.specs.declared.table.Purpose.{Purpose}
 use Rattle.piper_sides.specs.declared.table.Purpose.TheVariants as purpose
 use Rattle.piper_sides.specs.declared.table.ReadPlace.{ReadPlace}
@@ -18,9 +20,9 @@ use Rattle.piper_sides.specs.declared.table.ReadPlace.TheVariants as at
 use Rattle.piper_sides.specs.declared.table.WritePlace.{WritePlace}
 use Rattle.piper_sides.specs.declared.table.WritePlace.TheVariants as on
 use Rattle.piper_sides.specs.Log.{answer_event}
-use Rattle.piper_sides.specs.Table.{query_answer, look_answer}
+use Rattle.piper_sides.specs.Table.{query_answer, look_answer, count_answer}
 use Rattle.piper_machine.specs.Pipe.{Pipe}
-use Rattle.piper_machine.specs.Action.{registration, registration_of, wake_of}
+use Rattle.piper_machine.specs.Action.{registration, registration_of, wake_of, woken_if, yield_of}
 use Rattle.piper_machine.specs.Counts.{is_same}
 use Rattle.piper_machine.specs.Wait.{Wait, called, if_same, told, wait_after, wait_from}
 
@@ -163,10 +165,14 @@ IsHanded context w = (w.is_pending ≡ false) × HandedBy context w
 -- so did every look that registers
 abbrev pub HasBegun : Purpose → Option Context → Wait → Type 0
 HasBegun purpose.Poll context w = IsHanded context w
+HasBegun (purpose.Copy Try) context w = ⊤
+HasBegun (purpose.Copy (Polling is_drawn)) context w = IsHanded context w
 
 -- behind its registration a look that can answer pending is watched over
 abbrev pub Awaits : Purpose → Wait → Option ℕ → Type 0 → Errand → Type 0
 Awaits purpose.Poll w slot calm e = Watched w slot None calm e
+Awaits (purpose.Copy Try) w slot calm e = ⊤
+Awaits (purpose.Copy (Polling is_drawn)) w slot calm e = Watched w slot None calm e
 
 handed_by-touched : {p q : Pipe} {slot slot_after : Option ℕ} {e e_after : Errand} {w v : Wait} (context : Option Context) → Touch p q slot slot_after e e_after w v → HandedBy context w → HandedBy context v
 handed_by-touched None t h = tt
@@ -177,23 +183,40 @@ handed-touched context t h = (touched-pending t ∙ h.0, handed_by-touched conte
 
 pub begun-touched : {p q : Pipe} {slot slot_after : Option ℕ} {e e_after : Errand} {w v : Wait} (l : Purpose) (context : Option Context) → Touch p q slot slot_after e e_after w v → HasBegun l context w → HasBegun l context v
 begun-touched purpose.Poll context t h = handed-touched context t h
+begun-touched (purpose.Copy Try) context t h = tt
+begun-touched (purpose.Copy (Polling is_drawn)) context t h = handed-touched context t h
 
 pub awaits-touched : {p q : Pipe} {slot slot_after : Option ℕ} {e e_after : Errand} {w v : Wait} (l : Purpose) (calm calm_after : Type 0) → (Same p q → calm → calm_after)
     → Touch p q slot slot_after e e_after w v → Awaits l w slot calm e → Awaits l v slot_after calm_after e_after
 awaits-touched purpose.Poll calm calm_after keeps t h = touched calm calm_after keeps t h
+awaits-touched (purpose.Copy Try) calm calm_after keeps t h = tt
+awaits-touched (purpose.Copy (Polling is_drawn)) calm calm_after keeps t h = touched calm calm_after keeps t h
 
 pub awaits-more : (w : Wait) (slot : Option ℕ) (e : Errand) (l : Purpose) (calm calm_after : Type 0) → (calm → calm_after) → Awaits l w slot calm e → Awaits l w slot calm_after e
 awaits-more w slot e purpose.Poll calm calm_after keeps h = rewatch calm calm_after refl refl refl (λ a. a) keeps h
+awaits-more w slot e (purpose.Copy Try) calm calm_after keeps h = tt
+awaits-more w slot e (purpose.Copy (Polling is_drawn)) calm calm_after keeps h = rewatch calm calm_after refl refl refl (λ a. a) keeps h
 
 pub has_begun : (l : Purpose) (context : Option Context) (w : Wait) → IsHanded context w → HasBegun l context w
 has_begun purpose.Poll context w h = h
+has_begun (purpose.Copy Try) context w h = tt
+has_begun (purpose.Copy (Polling is_drawn)) context w h = h
 
 pub awaits : (l : Purpose) (w : Wait) (slot : Option ℕ) (calm : Type 0) (e : Errand) → Watched w slot None calm e → Awaits l w slot calm e
 awaits purpose.Poll w slot calm e h = h
+awaits (purpose.Copy Try) w slot calm e h = tt
+awaits (purpose.Copy (Polling is_drawn)) w slot calm e h = h
 
 -- want of memory tells nobody to wait
 pub refused-told : (l : Purpose) (w : Wait) → told (look_answer l Memory) w ≡ w
 refused-told purpose.Poll w = refl
+refused-told (purpose.Copy Try) w = refl
+refused-told (purpose.Copy (Polling is_drawn)) w = refl
+
+-- nor does a count, or a failure
+pub counted-told : (form : Form) (sum : ℕ) (w : Wait) → told (count_answer form sum) w ≡ w
+counted-told Try sum w = refl
+counted-told (Polling is_drawn) sum w = refl
 
 -- what one side's events are to the other's wait
 
@@ -226,6 +249,23 @@ registration-passes side acting w (Some cx) apart = registered-passes side actin
 pub wake-heard : (side : Side) (w : Wait) (name : Option ℕ) → wait_from side w (wake_of name) ≡ hears name w
 wake-heard side w None = refl
 wake-heard side w (Some waker) = refl
+
+-- a yield calls the caller's own waker, if its clone is granted
+abbrev pub named_if : Bool → ℕ → Option ℕ
+named_if false waker = None
+named_if true waker = Some waker
+
+abbrev pub yielded : Option Context → Option ℕ
+yielded None = None
+yielded (Some cx) = named_if cx.luck.yield_granted cx.waker
+
+woken_if-heard : (side : Side) (w : Wait) (granted : Bool) (waker : ℕ) → wait_from side w (woken_if granted waker) ≡ hears (named_if granted waker) w
+woken_if-heard side w false waker = refl
+woken_if-heard side w true waker = refl
+
+pub yield-heard : (side : Side) (w : Wait) (context : Option Context) → wait_from side w (yield_of context) ≡ hears (yielded context) w
+yield-heard side w None = refl
+yield-heard side w (Some cx) = woken_if-heard side w cx.luck.yield_granted cx.waker
 
 -- a query is told a count or a flag, and no wait
 pub query-told : (query : Query) (capacity count : ℕ) (w : Wait) → told (query_answer query capacity count) w ≡ w

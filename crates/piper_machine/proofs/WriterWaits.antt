@@ -1,26 +1,32 @@
 -- The writer as a waiter, from place to place of its own calls, and what each of its steps is to a waiting reader.
-use Rattle.std.proofs.Common.{◌≡◌, ℕ, ◌-◌, ◌≤◌, List, [], ◌++◌, length, take, Bool, true, false, Option, None, Some, ◌==◌, refl, sym, ap, subst, ◌∙◌, arith, length-append, length-take-le}
+use Rattle.std.proofs.Common.{◌≡◌, ℕ, ◌-◌, ◌≤◌, List, [], ◌++◌, length, take, Bool, true, false, Option, None, Some, ◌==◌, Result, Ok, Err, refl, sym, ap, subst, ◌∙◌, arith, length-append, length-take-le}
 use Rattle.std.specs.Bool.{⊤}
 use Rattle.std.proofs.lemmas.Bool.Decides.{nat_tests}
 use Rattle.piper_sides.specs.declared.calls.Side.TheVariants.{Reader, Writer}
 use Rattle.piper_sides.specs.declared.calls.Query.{Query}
 use Rattle.piper_sides.specs.declared.events.Answer.TheVariants.{Done}
 use Rattle.piper_sides.specs.declared.polling.Context.{Context}
+use Rattle.piper_sides.specs.declared.scripted.Failed.{Failed}
+use Rattle.piper_sides.specs.declared.scripted.SourceAct.{SourceAct}
+use Rattle.piper_sides.specs.declared.table.Form.{Form}
+use Rattle.piper_sides.specs.declared.table.Form.TheVariants.{Try, Polling}
 use Rattle.piper_sides.specs.declared.table.Purpose.{Purpose}
 use Rattle.piper_sides.specs.declared.table.Purpose.TheVariants as purpose
 use Rattle.piper_sides.specs.declared.table.AfterWrite.{AfterWrite}
 use Rattle.piper_sides.specs.declared.table.AfterWrite.TheVariants as behind
 use Rattle.piper_sides.specs.declared.table.WritePlace.{WritePlace}
 use Rattle.piper_sides.specs.declared.table.WritePlace.TheVariants as on
-use Rattle.piper_sides.specs.Table.{Next, write_action, end_or_pending, look_answer, writer_is_open, writer_looked, writer_looked_again, write_done}
+use Rattle.piper_sides.specs.Table.{Next, write_action, end_or_pending, look_answer, writer_is_open, writer_looked, writer_looked_again, writer_moved, writer_rounds, write_after, yield_answer, ends, write_done}
 use Rattle.piper_sides.specs.Log.{answer_event}
+use Rattle.piper_sides.specs.Open.{is_yield_granted}
 use Rattle.piper_machine.specs.Pipe.{Pipe}
 use Rattle.piper_machine.specs.Sound.{IsSound}
-use Rattle.piper_machine.specs.Action.{logged_of, registration_of, wake_of, refreshed_by}
-use Rattle.piper_machine.specs.Step.{call_after, went}
+use Rattle.piper_machine.specs.Action.{logged_of, registration_of, wake_of, yield_of, refreshed_by}
+use Rattle.piper_machine.specs.Step.{call_after, went, offering}
+use Rattle.piper_machine.specs.Round.{given, found_of}
 use Rattle.piper_machine.specs.Waiting.{IsBlocked}
 use Rattle.piper_machine.specs.Wait.{Wait, wait_from}
-use Rattle.piper_machine.proofs.Watching.{Errand, wakes, write_errand, Watched, woken, calmly, taking, waking, holding, Same, same, Touch, rests, stores, finds, misses, calls, hears, hears-more, hears-it, hears-handed, rewatch, touched, touched-pending, IsHanded, HasBegun, Awaits, handed-touched, begun-touched, awaits-touched, awaits-more, has_begun, awaits, refused-told, answered-passes, registration-passes, wake-heard, context_of, query-told}
+use Rattle.piper_machine.proofs.Watching.{Errand, wakes, write_errand, Watched, woken, calmly, taking, waking, holding, Same, same, Touch, rests, stores, finds, misses, calls, hears, hears-more, hears-it, hears-handed, rewatch, touched, touched-pending, IsHanded, HasBegun, Awaits, handed-touched, begun-touched, awaits-touched, awaits-more, has_begun, awaits, refused-told, counted-told, yielded, yield-heard, answered-passes, registration-passes, wake-heard, context_of, query-told}
 
 -- what holds of the pipe while the waker stands in the slot: nothing any more once the writer itself has closed; behind its own take
 -- it does not stand there, and a close that wakes the reader alone does not occur
@@ -33,6 +39,7 @@ write_calm (on.WakeReader behind.WakeWriter) p = ⊤
 write_calm on.TakeWriter p = ⊤
 write_calm on.WakeWriter p = ⊥
 write_calm (on.StoreClosed behind.Answer) p = ⊥
+write_calm (on.StoreClosed (behind.Round form sum)) p = ⊥
 write_calm place p = IsBlocked Writer p
 
 -- what the writer took from its own slot
@@ -48,6 +55,7 @@ WriteLook (on.LookRegister l) p e w = IsHanded p.writer_call.context w
 WriteLook (on.LookHeadAgain l) p e w = HasBegun l p.writer_call.context w × Awaits l w p.writer_waker ⊤ e
 WriteLook (on.LookClosedAgain l) p e w = HasBegun l p.writer_call.context w × Awaits l w p.writer_waker (length p.unread ≡ p.capacity) e
 WriteLook (on.LookTake l) p e w = IsHanded p.writer_call.context w
+WriteLook on.Yield p e w = IsHanded p.writer_call.context w
 WriteLook place p e w = ⊤
 
 pub record WriteWaits (p : Pipe) (e : Errand) (w : Wait) : Type 0 where
@@ -71,6 +79,7 @@ write_calm-same (on.WakeReader behind.WakeWriter) same c = tt
 write_calm-same on.TakeWriter same c = tt
 write_calm-same on.WakeWriter same c = c
 write_calm-same (on.StoreClosed behind.Answer) same c = c
+write_calm-same (on.StoreClosed (behind.Round form sum)) same c = c
 write_calm-same place same c = same-blocked same c
 
 look-touched : (p q : Pipe) (e e_after : Errand) (w v : Wait) (place : WritePlace) → q.writer_call ≡ p.writer_call → Touch p q p.writer_waker q.writer_waker e e_after w v → WriteLook place p e w → WriteLook place q e_after v
@@ -80,6 +89,7 @@ look-touched p q e e_after w v (on.LookRegister l) same t h = rw same (handed-to
 look-touched p q e e_after w v (on.LookHeadAgain l) same t h = (rw same (begun-touched l p.writer_call.context t h.0), awaits-touched l _ _ (λ s c. c) t h.1)
 look-touched p q e e_after w v (on.LookClosedAgain l) same t h = (rw same (begun-touched l p.writer_call.context t h.0), awaits-touched l _ _ same-full t h.1)
 look-touched p q e e_after w v (on.LookTake l) same t h = rw same (handed-touched p.writer_call.context t h)
+look-touched p q e e_after w v on.Yield same t h = rw same (handed-touched p.writer_call.context t h)
 look-touched p q e e_after w v place same t h = tt
 
 held-same : (p q : Pipe) → q.writer ≡ p.writer → q.writer_call ≡ p.writer_call → write_held q.writer q.writer_call.taken ≡ write_held p.writer p.writer_call.taken
@@ -101,18 +111,27 @@ Goes p e w = WriteWaits p e w → let to = went Writer p in WriteWaits to.pipe e
 queried : (query : Query) (count : ℕ) (p : Pipe) (e : Errand) (w : Wait) → Goes (record p { writer = on.QueryTail query count }) e w
 queried query count p e w h = rw (query-told query p.capacity count w) (record { waiting = h.waiting; look = tt })
 
--- a call that looks stands here, or has ended, with its context as it was
-abbrev Stands : Next WritePlace → Pipe → Errand → Wait → Type 0
-Stands next p e w = WriteWaits (record p { writer = next.place; writer_call = call_after next.answer p.writer_call }) e (wait_from Writer w (answer_event Writer next.answer))
+-- a call that goes on, or has answered, with this left of its source and of what is lent
+abbrev Stands : Next WritePlace → List SourceAct → List ℕ → Pipe → Errand → Wait → Type 0
+Stands next source lent p e w =
+    WriteWaits (record p { writer = next.place; writer_call = call_after next.answer p.writer_call; source = source; lent = lent }) e (wait_from Writer w (answer_event Writer next.answer))
 
-opens : (l : Purpose) (is_closed none : Bool) (p : Pipe) (e : Errand) (w : Wait) → WriteWaits (record p { writer = on.LookClosed l }) e w → Stands (writer_is_open is_closed none l) p e w
-opens purpose.Poll true none p e w h = record { waiting = h.waiting; look = tt }
-opens purpose.Poll false true p e w h = record { waiting = h.waiting; look = h.look }
-opens purpose.Poll false false p e w h = record { waiting = h.waiting; look = h.look }
+opens : (l : Purpose) (is_closed none : Bool) (source : List SourceAct) (lent : List ℕ) (p : Pipe) (e : Errand) (w : Wait) → WriteWaits (record p { writer = on.LookClosed l }) e w → Stands (writer_is_open is_closed none l) source lent p e w
+opens purpose.Poll true none source lent p e w h = record { waiting = h.waiting; look = tt }
+opens (purpose.Copy Try) true none source lent p e w h = record { waiting = h.waiting; look = tt }
+opens (purpose.Copy (Polling is_drawn)) true none source lent p e w h = record { waiting = h.waiting; look = tt }
+opens l false true source lent p e w h = record { waiting = h.waiting; look = h.look }
+opens purpose.Poll false false source lent p e w h = record { waiting = h.waiting; look = h.look }
+opens (purpose.Copy Try) false false source lent p e w h = record { waiting = h.waiting; look = tt }
+opens (purpose.Copy (Polling is_drawn)) false false source lent p e w h = record { waiting = h.waiting; look = h.look }
 
 looked : (l : Purpose) (none : Bool) (p : Pipe) (e : Errand) (w : Wait) → WriteWaits (record p { writer = on.LookHead l }) e w → WriteWaits (record p { writer = writer_looked none l }) e w
 looked purpose.Poll true p e w h = record { waiting = h.waiting; look = h.look }
 looked purpose.Poll false p e w h = record { waiting = h.waiting; look = h.look }
+looked (purpose.Copy Try) true p e w h = record { waiting = h.waiting; look = (tt, tt) }
+looked (purpose.Copy Try) false p e w h = record { waiting = h.waiting; look = tt }
+looked (purpose.Copy (Polling is_drawn)) true p e w h = record { waiting = h.waiting; look = h.look }
+looked (purpose.Copy (Polling is_drawn)) false p e w h = record { waiting = h.waiting; look = h.look }
 
 abbrev with_context : Option Context → Option ℕ → Purpose → Pipe → Pipe
 with_context context taken l p = record p { writer = on.LookRegister l; writer_call = record { context = context; taken = taken } }
@@ -134,15 +153,47 @@ looked-again : (l : Purpose) (none : Bool) (p : Pipe) (e : Errand) (w : Wait) �
     → WriteWaits (record p { writer = writer_looked_again none l }) e w
 looked-again l true p e w full h = record { waiting = h.waiting; look = (h.look.0, awaits-more w p.writer_waker e l _ _ (λ c. full refl) h.look.1) }
 looked-again purpose.Poll false p e w full h = record { waiting = h.waiting; look = h.look.0 }
+looked-again (purpose.Copy Try) false p e w full h = record { waiting = h.waiting; look = tt }
+looked-again (purpose.Copy (Polling is_drawn)) false p e w full h = record { waiting = h.waiting; look = h.look.0 }
 
 -- the last load of closed: without room in an open pipe the writer waits from now on
-closed-again : (l : Purpose) (is_closed : Bool) (p : Pipe) (e : Errand) (w : Wait) → p.is_closed ≡ is_closed → WriteWaits (record p { writer = on.LookClosedAgain l }) e w
-    → WriteWaits (record p { writer = on.Idle; writer_call = call_after (Some (look_answer l (end_or_pending is_closed))) p.writer_call }) e (wait_from Writer w (answer_event Writer (Some (look_answer l (end_or_pending is_closed)))))
-closed-again purpose.Poll true p e w flag h = record { waiting = h.waiting; look = tt }
-closed-again purpose.Poll false p e w flag h = record { waiting = λ pending. rewatch _ _ refl refl refl (λ a. a) (λ full. (full, flag)) h.look.1; look = tt }
+closed-again : (l : Purpose) (is_closed : Bool) (source : List SourceAct) (lent : List ℕ) (p : Pipe) (e : Errand) (w : Wait) → p.is_closed ≡ is_closed → WriteWaits (record p { writer = on.LookClosedAgain l }) e w
+    → Stands (ends on.Idle (look_answer l (end_or_pending is_closed))) source lent p e w
+closed-again purpose.Poll true source lent p e w flag h = record { waiting = h.waiting; look = tt }
+closed-again purpose.Poll false source lent p e w flag h = record { waiting = λ pending. rewatch _ _ refl refl refl (λ a. a) (λ full. (full, flag)) h.look.1; look = tt }
+closed-again (purpose.Copy Try) is_closed source lent p e w flag h = record { waiting = h.waiting; look = tt }
+closed-again (purpose.Copy (Polling is_drawn)) true source lent p e w flag h = record { waiting = h.waiting; look = tt }
+closed-again (purpose.Copy (Polling is_drawn)) false source lent p e w flag h = record { waiting = λ pending. rewatch _ _ refl refl refl (λ a. a) (λ full. (full, flag)) h.look.1; look = tt }
 
 takes-own-room : (l : Purpose) (p : Pipe) (e : Errand) (w : Wait) → Goes (record p { writer = on.LookTake l }) e w
 takes-own-room purpose.Poll p e w h = record { waiting = λ pending. absurd (let never = h.look.0 in cc); look = tt }
+takes-own-room (purpose.Copy Try) p e w h = record { waiting = λ pending. absurd (let never = h.look.0 in cc); look = tt }
+takes-own-room (purpose.Copy (Polling true)) p e w h = record { waiting = λ pending. absurd (let never = h.look.0 in cc); look = h.look }
+takes-own-room (purpose.Copy (Polling false)) p e w h = record { waiting = λ pending. absurd (let never = h.look.0 in cc); look = tt }
+
+-- a yield: the call answers pending, and its waker was called
+yields : (granted : Bool) (waker draw : ℕ) (registers : Bool) (taken : Option ℕ) (p : Pipe) (e : Errand) (w : Wait)
+    → Goes (record p { writer = on.Yield; writer_call = record { context = Some (record { waker = waker; luck = record { draw = draw; register_granted = registers; yield_granted = granted } }); taken = taken } }) e w
+yields true waker draw registers taken p e w h = record { waiting = λ pending. woken (hears-it (Some waker) w (ap (λ (n : ℕ). Some n) (sym h.look.1))); look = tt }
+yields false waker draw registers taken p e w h = record { waiting = h.waiting; look = tt }
+
+yields-if : (context : Option Context) (taken : Option ℕ) (p : Pipe) (e : Errand) (w : Wait) → Goes (record p { writer = on.Yield; writer_call = record { context = context; taken = taken } }) e w
+yields-if None taken p e w h = record { waiting = h.waiting; look = tt }
+yields-if (Some cx) taken p e w h = yields cx.luck.yield_granted cx.waker cx.luck.draw cx.luck.register_granted taken p e w h
+
+-- a round: it goes on, or the call answers a count or a failure
+moves-on : (none : Bool) (n : ℕ) (form : Form) (sum : ℕ) (source : List SourceAct) (lent : List ℕ) (p : Pipe) (e : Errand) (w : Wait) → WriteWaits (record p { writer = on.CallSource form sum }) e w → Stands (writer_moved none n form sum) source lent p e w
+moves-on true n form sum source lent p e w h = rw (counted-told form sum w) (record { waiting = h.waiting; look = tt })
+moves-on false n form sum source lent p e w h = record { waiting = h.waiting; look = tt }
+
+moves : (given : Result ℕ Failed) (form : Form) (sum : ℕ) (source : List SourceAct) (lent : List ℕ) (p : Pipe) (e : Errand) (w : Wait) → WriteWaits (record p { writer = on.CallSource form sum }) e w
+    → Stands (write_after p.capacity p.room (on.CallSource form sum) (found_of given)) source lent p e w
+moves (Ok n) form sum source lent p e w h = moves-on (n == 0) n form sum source lent p e w h
+moves (Err fails) form sum source lent p e w h = record { waiting = h.waiting; look = tt }
+
+rounds : (is_closed : Bool) (n : ℕ) (form : Form) (sum : ℕ) (source : List SourceAct) (lent : List ℕ) (p : Pipe) (e : Errand) (w : Wait) → WriteWaits (record p { writer = on.RoundClosed n form sum }) e w → Stands (writer_rounds is_closed n form sum) source lent p e w
+rounds true n form sum source lent p e w h = rw (counted-told form sum w) (record { waiting = h.waiting; look = tt })
+rounds false n form sum source lent p e w h = record { waiting = h.waiting; look = tt }
 
 -- a full pipe has no room for a byte
 none_stored : (p : Pipe) (n : ℕ) → IsSound p → n ≤ length p.lent → length p.unread ≡ p.capacity → length (p.unread ++ take n p.lent) ≡ p.capacity
@@ -155,6 +206,8 @@ publishes : (next : AfterWrite) (n : ℕ) (p : Pipe) (e : Errand) (w : Wait) →
 publishes behind.Answer n p e w sound h = record { waiting = λ pending. rewatch _ _ refl refl refl (λ a. a) (λ c. (none_stored (record p { writer = on.StoreTail n behind.Answer }) n sound sound.tail_store c.0, c.1)) (h.waiting pending); look = tt }
 publishes behind.Drop n p e w sound h = record { waiting = λ pending. rewatch _ _ refl refl refl (λ a. a) (λ c. tt) (h.waiting pending); look = tt }
 publishes behind.WakeWriter n p e w sound h = record { waiting = λ pending. rewatch _ _ refl refl refl (λ a. a) (λ c. tt) (h.waiting pending); look = tt }
+publishes (behind.Round form sum) n p e w sound h =
+    record { waiting = λ pending. rewatch _ _ refl refl refl (λ a. a) (λ c. (none_stored (record p { writer = on.StoreTail n (behind.Round form sum) }) n sound sound.tail_store c.0, c.1)) (h.waiting pending); look = tt }
 
 takes-readers : (next : AfterWrite) (slot : Option ℕ) (p : Pipe) (e : Errand) (w : Wait) → Goes (record p { writer = on.TakeReader next; reader_waker = slot }) e w
 takes-readers behind.Answer None p e w h = record { waiting = h.waiting; look = tt }
@@ -163,6 +216,8 @@ takes-readers behind.WakeWriter None p e w h = record { waiting = h.waiting; loo
 takes-readers behind.Answer (Some waker) p e w h = record { waiting = h.waiting; look = tt }
 takes-readers behind.Drop (Some waker) p e w h = record { waiting = h.waiting; look = tt }
 takes-readers behind.WakeWriter (Some waker) p e w h = record { waiting = h.waiting; look = tt }
+takes-readers (behind.Round form sum) None p e w h = record { waiting = h.waiting; look = tt }
+takes-readers (behind.Round form sum) (Some waker) p e w h = record { waiting = h.waiting; look = tt }
 
 wakes-reader : (next : AfterWrite) (context : Option Context) (name : Option ℕ) (p : Pipe) (e : Errand) (w : Wait) → Goes (record p { writer = on.WakeReader next; writer_call = record { context = context; taken = name } }) e w
 wakes-reader behind.Answer context None p e w h = record { waiting = h.waiting; look = tt }
@@ -171,9 +226,12 @@ wakes-reader behind.WakeWriter context None p e w h = record { waiting = h.waiti
 wakes-reader behind.Answer context (Some waker) p e w h = record { waiting = λ pending. rewatch _ _ refl refl refl (hears-more (Some waker) w) (λ c. c) (h.waiting pending); look = tt }
 wakes-reader behind.Drop context (Some waker) p e w h = record { waiting = λ pending. rewatch _ _ refl refl refl (hears-more (Some waker) w) (λ c. c) (h.waiting pending); look = tt }
 wakes-reader behind.WakeWriter context (Some waker) p e w h = record { waiting = λ pending. rewatch _ _ refl refl refl (hears-more (Some waker) w) (λ c. c) (h.waiting pending); look = tt }
+wakes-reader (behind.Round form sum) context None p e w h = record { waiting = h.waiting; look = tt }
+wakes-reader (behind.Round form sum) context (Some waker) p e w h = record { waiting = λ pending. rewatch _ _ refl refl refl (hears-more (Some waker) w) (λ c. c) (h.waiting pending); look = tt }
 
 closes : (next : AfterWrite) (p : Pipe) (e : Errand) (w : Wait) → Goes (record p { writer = on.StoreClosed next }) e w
 closes behind.Answer p e w h = record { waiting = λ pending. rewatch _ _ refl refl refl (λ a. a) (λ c. absurd c) (h.waiting pending); look = tt }
+closes (behind.Round form sum) p e w h = record { waiting = λ pending. rewatch _ _ refl refl refl (λ a. a) (λ c. absurd c) (h.waiting pending); look = tt }
 closes behind.Drop p e w h = record { waiting = λ pending. rewatch _ _ refl refl refl (λ a. a) (λ c. tt) (h.waiting pending); look = tt }
 closes behind.WakeWriter p e w h = record { waiting = λ pending. rewatch _ _ refl refl refl (λ a. a) (λ c. tt) (h.waiting pending); look = tt }
 
@@ -207,25 +265,32 @@ wakes-own context (Some waker) p e w h = record { waiting = λ pending. hears-he
 full_from : (p : Pipe) → IsSound p → (p.capacity - length p.unread == 0) ≡ true → length p.unread ≡ p.capacity
 full_from p sound none = let within = sound.unread in grind (arith, nat_tests)
 
-pub writer-goes : (place : WritePlace) (p : Pipe) (e : Errand) (w : Wait) → IsSound (record p { writer = place }) → Goes (record p { writer = place }) e w
-writer-goes on.Idle p e w sound h = record { waiting = h.waiting; look = tt }
-writer-goes on.Dropped p e w sound h = record { waiting = h.waiting; look = tt }
-writer-goes (on.QueryHead query) p e w sound h = record { waiting = h.waiting; look = tt }
-writer-goes (on.QueryTail query count) p e w sound h = queried query count p e w h
-writer-goes on.QueryClosed p e w sound h = record { waiting = h.waiting; look = tt }
-writer-goes (on.LookClosed l) p e w sound h = opens l p.is_closed (p.room == 0) p e w h
-writer-goes (on.LookHead l) p e w sound h = looked l (p.capacity - length p.unread == 0) (refreshed_by Writer p) e w (record { waiting = h.waiting; look = h.look })
-writer-goes (on.LookRegister l) p e w sound h = registers-if l p.writer_call.context p.writer_call.taken p e w h
-writer-goes (on.LookHeadAgain l) p e w sound h =
+-- the writer makes its next step, where a call of the source is lent these places first
+abbrev pub GoesOffered : List ℕ → Pipe → Errand → Wait → Type 0
+GoesOffered offered p e w = WriteWaits p e w → let to = went Writer (offering offered p) in WriteWaits to.pipe e (wait_from Writer w to.events)
+
+pub writer-goes : (offered : List ℕ) (place : WritePlace) (p : Pipe) (e : Errand) (w : Wait) → IsSound (record p { writer = place }) → GoesOffered offered (record p { writer = place }) e w
+writer-goes offered on.Idle p e w sound h = record { waiting = h.waiting; look = tt }
+writer-goes offered on.Dropped p e w sound h = record { waiting = h.waiting; look = tt }
+writer-goes offered (on.QueryHead query) p e w sound h = record { waiting = h.waiting; look = tt }
+writer-goes offered (on.QueryTail query count) p e w sound h = queried query count p e w h
+writer-goes offered on.QueryClosed p e w sound h = record { waiting = h.waiting; look = tt }
+writer-goes offered (on.LookClosed l) p e w sound h = opens l p.is_closed (p.room == 0) _ _ p e w h
+writer-goes offered (on.LookHead l) p e w sound h = looked l (p.capacity - length p.unread == 0) (refreshed_by Writer p) e w (record { waiting = h.waiting; look = h.look })
+writer-goes offered (on.LookRegister l) p e w sound h = registers-if l p.writer_call.context p.writer_call.taken p e w h
+writer-goes offered (on.LookHeadAgain l) p e w sound h =
     looked-again l (p.capacity - length p.unread == 0) (refreshed_by Writer p) e w (full_from (record p { writer = on.LookHeadAgain l }) sound) (record { waiting = h.waiting; look = h.look })
-writer-goes (on.LookClosedAgain l) p e w sound h = closed-again l p.is_closed p e w refl h
-writer-goes (on.LookTake l) p e w sound h = takes-own-room l p e w h
-writer-goes (on.StoreTail n next) p e w sound h = publishes next n p e w sound h
-writer-goes (on.TakeReader next) p e w sound h = takes-readers next p.reader_waker p e w h
-writer-goes (on.WakeReader next) p e w sound h = wakes-reader next p.writer_call.context p.writer_call.taken p e w h
-writer-goes (on.StoreClosed next) p e w sound h = closes next p e w h
-writer-goes on.TakeWriter p e w sound h = takes-own-slot p.writer_waker p e w h
-writer-goes on.WakeWriter p e w sound h = wakes-own p.writer_call.context p.writer_call.taken p e w h
+writer-goes offered (on.LookClosedAgain l) p e w sound h = closed-again l p.is_closed _ _ p e w refl h
+writer-goes offered (on.LookTake l) p e w sound h = takes-own-room l p e w h
+writer-goes offered on.Yield p e w sound h = yields-if p.writer_call.context p.writer_call.taken p e w h
+writer-goes offered (on.CallSource form sum) p e w sound h = moves (given (length offered) p.source) form sum _ _ p e w h
+writer-goes offered (on.RoundClosed n form sum) p e w sound h = rounds p.is_closed n form sum _ _ p e w h
+writer-goes offered (on.StoreTail n next) p e w sound h = publishes next n p e w sound h
+writer-goes offered (on.TakeReader next) p e w sound h = takes-readers next p.reader_waker p e w h
+writer-goes offered (on.WakeReader next) p e w sound h = wakes-reader next p.writer_call.context p.writer_call.taken p e w h
+writer-goes offered (on.StoreClosed next) p e w sound h = closes next p e w h
+writer-goes offered on.TakeWriter p e w sound h = takes-own-slot p.writer_waker p e w h
+writer-goes offered on.WakeWriter p e w sound h = wakes-own p.writer_call.context p.writer_call.taken p e w h
 
 -- what each step is to a waiting reader
 
@@ -240,25 +305,35 @@ takes-touch next (Some waker) p w = finds waker refl refl refl refl
 
 closes-touch : (next : AfterWrite) (p : Pipe) (w : Wait) → Touches (record p { writer = on.StoreClosed next }) w
 closes-touch behind.Answer p w = stores refl refl refl refl
+closes-touch (behind.Round form sum) p w = stores refl refl refl refl
 closes-touch behind.Drop p w = stores refl refl refl refl
 closes-touch behind.WakeWriter p w = stores refl refl refl refl
 
-pub writer-touches : (place : WritePlace) (p : Pipe) (w : Wait) → Touches (record p { writer = place }) w
-writer-touches on.Idle p w = rests None (same _ _ refl refl refl) refl refl refl
-writer-touches on.Dropped p w = rests None (same _ _ refl refl refl) refl refl refl
-writer-touches (on.QueryHead query) p w = rests None (same _ _ refl refl refl) refl refl refl
-writer-touches (on.QueryTail query count) p w = rests None (same _ _ refl refl refl) refl refl refl
-writer-touches on.QueryClosed p w = rests None (same _ _ refl refl refl) refl refl refl
-writer-touches (on.LookClosed l) p w = rests None (same _ _ refl refl refl) refl refl (answered-passes Reader Writer w w (logged_of Writer (write_action (on.LookClosed l)) p) _ refl refl)
-writer-touches (on.LookHead l) p w = rests None (same _ _ refl refl refl) refl refl refl
-writer-touches (on.LookRegister l) p w = rests None (same _ _ refl refl refl) refl refl
+abbrev pub TouchesOffered : List ℕ → Pipe → Wait → Type 0
+TouchesOffered offered p w =
+    let to = went Writer (offering offered p) in
+    Touch p to.pipe p.reader_waker to.pipe.reader_waker (write_errand p.writer p.writer_call) (write_errand to.pipe.writer to.pipe.writer_call) w (wait_from Reader w to.events)
+
+pub writer-touches : (offered : List ℕ) (place : WritePlace) (p : Pipe) (w : Wait) → TouchesOffered offered (record p { writer = place }) w
+writer-touches offered on.Idle p w = rests None (same _ _ refl refl refl) refl refl refl
+writer-touches offered on.Dropped p w = rests None (same _ _ refl refl refl) refl refl refl
+writer-touches offered (on.QueryHead query) p w = rests None (same _ _ refl refl refl) refl refl refl
+writer-touches offered (on.QueryTail query count) p w = rests None (same _ _ refl refl refl) refl refl refl
+writer-touches offered on.QueryClosed p w = rests None (same _ _ refl refl refl) refl refl refl
+writer-touches offered (on.LookClosed l) p w = rests None (same _ _ refl refl refl) refl refl (answered-passes Reader Writer w w (logged_of Writer (write_action (on.LookClosed l)) p) _ refl refl)
+writer-touches offered (on.LookHead l) p w = rests None (same _ _ refl refl refl) refl refl refl
+writer-touches offered (on.LookRegister l) p w = rests None (same _ _ refl refl refl) refl refl
     (answered-passes Reader Writer w w (registration_of Writer p.writer_call.context) _ refl (registration-passes Reader Writer w p.writer_call.context refl))
-writer-touches (on.LookHeadAgain l) p w = rests None (same _ _ refl refl refl) refl refl refl
-writer-touches (on.LookClosedAgain l) p w = rests None (same _ _ refl refl refl) refl refl refl
-writer-touches (on.LookTake l) p w = rests None (same _ _ refl refl refl) refl refl (answered-passes Reader Writer w w [] _ refl refl)
-writer-touches (on.StoreTail n next) p w = stores refl refl refl refl
-writer-touches (on.TakeReader next) p w = takes-touch next p.reader_waker p w
-writer-touches (on.WakeReader next) p w = calls p.writer_call.taken (same _ _ refl refl refl) refl refl (answered-passes Reader Writer w _ (wake_of p.writer_call.taken) (write_done next).answer refl (wake-heard Reader w p.writer_call.taken))
-writer-touches (on.StoreClosed next) p w = closes-touch next p w
-writer-touches on.TakeWriter p w = rests None (same _ _ refl refl refl) refl refl (answered-passes Reader Writer w w [] _ refl refl)
-writer-touches on.WakeWriter p w = rests p.writer_call.taken (same _ _ refl refl refl) refl refl (answered-passes Reader Writer w _ (wake_of p.writer_call.taken) (Some Done) refl (wake-heard Reader w p.writer_call.taken))
+writer-touches offered (on.LookHeadAgain l) p w = rests None (same _ _ refl refl refl) refl refl refl
+writer-touches offered (on.LookClosedAgain l) p w = rests None (same _ _ refl refl refl) refl refl refl
+writer-touches offered (on.LookTake l) p w = rests None (same _ _ refl refl refl) refl refl (answered-passes Reader Writer w w [] _ refl refl)
+writer-touches offered on.Yield p w = rests (yielded p.writer_call.context) (same _ _ refl refl refl) refl refl
+    (answered-passes Reader Writer w _ (yield_of p.writer_call.context) (Some (yield_answer (is_yield_granted p.writer_call.context))) refl (yield-heard Reader w p.writer_call.context))
+writer-touches offered (on.CallSource form sum) p w = rests None (same _ _ refl refl refl) refl refl (answered-passes Reader Writer w w [] _ refl refl)
+writer-touches offered (on.RoundClosed n form sum) p w = rests None (same _ _ refl refl refl) refl refl (answered-passes Reader Writer w w (logged_of Writer (write_action (on.RoundClosed n form sum)) p) _ refl refl)
+writer-touches offered (on.StoreTail n next) p w = stores refl refl refl refl
+writer-touches offered (on.TakeReader next) p w = takes-touch next p.reader_waker p w
+writer-touches offered (on.WakeReader next) p w = calls p.writer_call.taken (same _ _ refl refl refl) refl refl (answered-passes Reader Writer w _ (wake_of p.writer_call.taken) (write_done next).answer refl (wake-heard Reader w p.writer_call.taken))
+writer-touches offered (on.StoreClosed next) p w = closes-touch next p w
+writer-touches offered on.TakeWriter p w = rests None (same _ _ refl refl refl) refl refl (answered-passes Reader Writer w w [] _ refl refl)
+writer-touches offered on.WakeWriter p w = rests p.writer_call.taken (same _ _ refl refl refl) refl refl (answered-passes Reader Writer w _ (wake_of p.writer_call.taken) (Some Done) refl (wake-heard Reader w p.writer_call.taken))

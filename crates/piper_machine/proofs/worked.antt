@@ -10,6 +10,7 @@ mod Yields
 mod ScriptedEnds
 mod Lends
 mod StepScript
+mod BySteps
 mod Steps
 mod Refusals
 mod HonestEnd

@@ -1,5 +1,5 @@
 -- The atomic steps of a side, by their kinds: what each changes, what it finds, and what is logged of it.
-use Rattle.std.specs.Prelude.{ℕ, ◌-◌, List, [], ◌∷◌, take, length, Bool, true, false, Option, None, Some, ◌==◌, is_some}
+use Rattle.std.specs.Prelude.{ℕ, ◌-◌, min, List, [], ◌∷◌, ◌++◌, take, drop, length, Bool, true, false, Option, None, Some, ◌==◌, is_some}
 use Rattle.piper_sides.specs.declared.calls.Side.{Side}
 use Rattle.piper_sides.specs.declared.calls.Side.TheVariants.{Reader, Writer}
 use Rattle.piper_sides.specs.declared.calls.OpenCall.{OpenCall}
@@ -9,9 +9,13 @@ use Rattle.piper_sides.specs.declared.table.Action.TheVariants as does
 use Rattle.piper_sides.specs.declared.events.Event.{Event}
 use Rattle.piper_sides.specs.declared.events.Event.TheVariants.{Looked, Published, Consumed, Closed, Registered, Woken}
 use Rattle.piper_sides.specs.declared.events.Seen.TheVariants as seen
-use Rattle.piper_sides.specs.Open.{is_granted}
+use Rattle.piper_sides.specs.declared.scripted.TheConstants.{MOST_A_ROUND}
+use Rattle.piper_sides.specs.Open.{is_granted, is_yield_granted}
 use Rattle.piper_machine.specs.Pipe.{Pipe}
+use Rattle.piper_machine.specs.Places.{peeked_count}
 use Rattle.piper_machine.specs.Move.{published, consumed}
+use Rattle.piper_machine.specs.Source.{bytes_of}
+use Rattle.piper_machine.specs.Round.{given, taken, left_of_source, left_of_destination, found_of, moved_by}
 use Rattle.piper_sides.specs.Table.{Found, nothing, unread, refreshed, flag, granted, waker}
 
 -- what the open call of a side holds
@@ -54,6 +58,18 @@ abbrev pub closed_by : Bool → Pipe → Pipe
 closed_by false p = record p { is_closed = true }
 closed_by true p = record p { is_closed = true; is_shut = true; lent = [] }
 
+-- what a destination is lent at most
+abbrev pub round_count : Pipe → ℕ
+round_count p = min (peeked_count p) MOST_A_ROUND
+
+abbrev pub destination_called : Pipe → Pipe
+destination_called p = record p { destination = left_of_destination (round_count p) p.destination }
+
+-- what the source gives stands at the front of what it was lent
+abbrev pub source_called : Pipe → Pipe
+source_called p = let n = moved_by (given (length p.lent) p.source) in
+    record p { lent = take n (bytes_of p.source) ++ drop n p.lent; source = left_of_source n p.source }
+
 -- the pipe after a step of this side
 abbrev pub performed : Side → Action → Pipe → Pipe
 performed side does.Rest p = p
@@ -67,6 +83,9 @@ performed side (does.StoreTail n) p = published n p
 performed side (does.StoreClosed is_shut) p = closed_by is_shut p
 performed side (does.Take slot) p = taken_by side slot p
 performed side does.Wake p = with_call side (record (call_of side p) { taken = None }) p
+performed side does.Yield p = p
+performed side does.CallDestination p = destination_called p
+performed side does.CallSource p = source_called p
 
 -- what the step finds: the reader's count of unread bytes is that of its load of tail, the writer's that of its load of head
 abbrev pub found_by : Side → Action → Pipe → Found
@@ -76,6 +95,9 @@ found_by Reader does.Refresh p = refreshed (length p.unread == 0)
 found_by Writer does.Refresh p = refreshed (p.capacity - length p.unread == 0)
 found_by side does.LoadClosed p = flag p.is_closed
 found_by side does.Register p = granted (is_granted (call_of side p).context)
+found_by side does.Yield p = granted (is_yield_granted (call_of side p).context)
+found_by Reader does.CallDestination p = found_of (taken (round_count p) p.destination)
+found_by Writer does.CallSource p = found_of (given (length p.lent) p.source)
 found_by Reader (does.Take Writer) p = waker (is_some p.writer_waker)
 found_by Writer (does.Take slot) p = waker (is_some (waker_in slot p))
 found_by side action p = nothing
@@ -98,6 +120,14 @@ abbrev pub wake_of : Option ℕ → List Event
 wake_of None = []
 wake_of (Some name) = Woken name ∷ []
 
+abbrev pub woken_if : Bool → ℕ → List Event
+woken_if false name = []
+woken_if true name = Woken name ∷ []
+
+abbrev pub yield_of : Option Context → List Event
+yield_of None = []
+yield_of (Some cx) = woken_if cx.luck.yield_granted cx.waker
+
 abbrev pub logged_of : Side → Action → Pipe → List Event
 logged_of side does.Rest p = []
 logged_of side does.LoadHead p = Looked side (seen.Head (length p.unread)) ∷ []
@@ -110,3 +140,6 @@ logged_of side (does.StoreTail n) p = Published (take n p.lent) ∷ []
 logged_of side (does.StoreClosed is_shut) p = Closed side ∷ []
 logged_of side (does.Take slot) p = []
 logged_of side does.Wake p = wake_of (call_of side p).taken
+logged_of side does.Yield p = yield_of (call_of side p).context
+logged_of side does.CallDestination p = []
+logged_of side does.CallSource p = []

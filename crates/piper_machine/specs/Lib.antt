@@ -10,12 +10,15 @@ pub mod Move
 pub mod Copy
 pub mod Scripted
 pub mod Close
+pub mod Source
+pub mod Round
 pub mod Action
 pub mod Step
 pub mod Refusal
 pub mod Alone
 pub mod Counts
 pub mod Run
+pub mod BySteps
 pub mod Conservation
 pub mod Disjoint
 pub mod History

@@ -1,9 +1,10 @@
 -- How the fields of a machine stand for a pipe.
-use Rattle.std.specs.Prelude.{◌≡◌, ◌≤◌, length, take, drop, true}
+use Rattle.std.specs.Prelude.{◌≡◌, ◌≤◌, [], length, take, drop, true}
 use Rattle.piper_sides.specs.declared.table.ReadPlace.TheVariants as at
 use Rattle.piper_sides.specs.declared.table.WritePlace.TheVariants as on
 use Rattle.piper_sides.specs.Open.{no_call}
 use Rattle.piper_sides.specs.Index.{distance, place_of}
+use Rattle.piper_machine.specs.declared.destination.Destination.TheVariants.{Slice}
 use Rattle.piper_machine.specs.Buffer.{between}
 use Rattle.piper_machine.specs.Pipe.{Pipe}
 use Rattle.piper_sides.specs.Side.{IsReading, IsWriting, known_of, room_of}
@@ -27,6 +28,8 @@ pipe_of m =
       reader_call = m.reader_call;
       writer = m.write.place;
       writer_call = m.writer_call;
+      destination = m.destination;
+      source = m.source;
     }
 
 pub record IsMachine (m : Inside) : Type 0 where
@@ -40,3 +43,5 @@ pub record IsMachine (m : Inside) : Type 0 where
   pub shut : m.write.is_shut ≡ true → m.is_closed ≡ true
   pub reader_call : m.read.place ≡ at.Idle → m.reader_call ≡ no_call
   pub writer_call : m.write.place ≡ on.Idle → m.writer_call ≡ no_call
+  pub destination : m.read.place ≡ at.Idle → m.destination ≡ Slice 0
+  pub source : m.write.place ≡ on.Idle → m.source ≡ []

@@ -1,6 +1,9 @@
 -- The state of a pipe, as every contract sees it: a list of bytes, two known counts, and no buffer.
 use Rattle.std.specs.Prelude.{ℕ, List, [], Bool, false, Option, None}
 use Rattle.piper_sides.specs.declared.calls.OpenCall.{OpenCall}
+use Rattle.piper_sides.specs.declared.scripted.SourceAct.{SourceAct}
+use Rattle.piper_machine.specs.declared.destination.Destination.{Destination}
+use Rattle.piper_machine.specs.declared.destination.Destination.TheVariants.{Slice}
 use Rattle.piper_sides.specs.Open.{no_call}
 use Rattle.piper_sides.specs.declared.table.ReadPlace.{ReadPlace}
 use Rattle.piper_sides.specs.declared.table.ReadPlace.TheVariants as at
@@ -32,10 +35,13 @@ pub record Pipe : Type 0 where
   pub reader_call : OpenCall
   pub writer : WritePlace
   pub writer_call : OpenCall
+  -- what is left for an open drain to fill, and for an open fill to give
+  pub destination : Destination
+  pub source : List SourceAct
 
 -- a pipe as it is made
 abbrev pub fresh : ℕ → Pipe
-fresh capacity = record { capacity = capacity; unread = []; start = 0; known = 0; room = capacity; lent = []; is_closed = false; is_shut = false; reader_waker = None; writer_waker = None; woken = []; reader = at.Idle; reader_call = no_call; writer = on.Idle; writer_call = no_call }
+fresh capacity = record { capacity = capacity; unread = []; start = 0; known = 0; room = capacity; lent = []; is_closed = false; is_shut = false; reader_waker = None; writer_waker = None; woken = []; reader = at.Idle; reader_call = no_call; writer = on.Idle; writer_call = no_call; destination = Slice 0; source = [] }
 
 -- a whole call begins: it has called no waker yet
 abbrev pub begun : Pipe → Pipe

@@ -3,7 +3,7 @@
 use Rattle.std.specs.Prelude.{ℕ, List, [], ◌∷◌, Bool, true, false, Option, None, Some, if◌then◌else◌, ◌==◌}
 use Rattle.piper_sides.specs.declared.calls.Side.{Side}
 use Rattle.piper_sides.specs.declared.events.Answer.{Answer}
-use Rattle.piper_sides.specs.declared.events.Answer.TheVariants.{Poll}
+use Rattle.piper_sides.specs.declared.events.Answer.TheVariants.{Poll, Copy}
 use Rattle.piper_sides.specs.declared.events.Event.{Event}
 use Rattle.piper_sides.specs.declared.events.Event.TheVariants.{Began, Registered, Woken, Answered}
 use Rattle.piper_sides.specs.declared.polling.Polled.TheVariants.{Pending}
@@ -34,6 +34,7 @@ called waker w = record w { is_woken = if waker == w.handed then true else w.is_
 
 abbrev pub told : Answer → Wait → Wait
 told (Poll Pending) w = record w { is_pending = true }
+told (Copy Pending) w = record w { is_pending = true }
 told answer w = w
 
 abbrev pub if_same : Side → Side → Wait → Wait → Wait

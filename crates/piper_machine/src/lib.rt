@@ -1,7 +1,9 @@
 //! A bounded pipe of bytes between one reader and one writer, as a pure machine.
 #![tactic(auto)]
 
+pub mod destination;
 pub mod machine;
+mod source;
 
 pub use piper_sides::memory::OutOfMemory;
 pub use piper_sides::slot::SlotState;

@@ -1,19 +1,24 @@
 //! A pipe with both its sides, for one owner.
 ghost use Rattle.std.specs.Prelude.{◌≡◌, ◌<◌, ◌≤◌, ◌+◌, ◌-◌, ◌++◌, length, take, drop, IfOk, min, false};
 ghost use Rattle.piper_sides.specs.Index.{IsCapacity, place_of};
+ghost use Rattle.piper_sides.specs.Side.{tail_store};
 ghost use Rattle.piper_machine.specs.Pipe.{fresh, begun};
 ghost use Rattle.piper_machine.specs.Buffer.{written};
 ghost use Rattle.piper_machine.specs.Places.{peeked, peeked_count, places_left};
+ghost use Rattle.piper_machine.specs.BySteps.{AreWholeBySteps};
 ghost use Rattle.piper_machine.specs.Sound.{IsSound};
 ghost use Rattle.piper_machine.specs.Refresh.{reader_refreshed, writer_refreshed};
 ghost use Rattle.piper_machine.specs.Lend.{Lendable, lending};
 ghost use Rattle.piper_machine.specs.Move.{reader_woken, writer_woken, published, consumed, with_waker};
 ghost use Rattle.piper_machine.specs.Copy.{unlent};
 
+use crate::destination::Destination;
+use crate::source::Source;
 use piper_sides::calls::OpenCall;
 use piper_sides::index;
 use piper_sides::memory::OutOfMemory;
 use piper_sides::read_side::ReadSide;
+use piper_sides::scripted::MOST_A_ROUND;
 use piper_sides::slot::SlotState;
 use piper_sides::table::{ReadPlace, WritePlace};
 use piper_sides::woken::Woken;
@@ -41,6 +46,8 @@ pub struct Machine {
     woken: Woken,
     reader_call: OpenCall,
     writer_call: OpenCall,
+    destination: Destination,
+    source: Source,
 }
 
 impl Model for Machine {
@@ -91,6 +98,8 @@ impl Machine {
             woken: Woken::new(),
             reader_call: OpenCall::none(),
             writer_call: OpenCall::none(),
+            destination: Destination::Slice(0),
+            source: Source::none(alloc),
         })
     }
 
@@ -109,6 +118,13 @@ impl Machine {
 
     fn learn(&self)
         ensures { IsSound self.now }
+    {
+        let _ = &self.is_closed;
+    }
+
+    // Each call that may be opened now is the same run whole and made by steps alone.
+    fn learn_steps(&self)
+        ensures { AreWholeBySteps self.now }
     {
         let _ = &self.is_closed;
     }
@@ -210,7 +226,7 @@ impl Machine {
 
     /// Lends free places in place of what was lent before, and answers how many.
     fn lend(&mut self, most: usize) -> usize
-        requires { self.old.writer ≡ WritePlace.Idle }
+        requires { tail_store self.old.writer ≡ 0 }
         ensures bounds { Lendable most self.old result }
         ensures count { length self.new.lent ≡ result }
         ensures after { self.new ≡ lending self.new.lent self.old }
@@ -231,6 +247,19 @@ impl Machine {
         ensures { self.new ≡ lending (source.now ++ drop (length source.now) self.old.lent) self.old }
     {
         write_at(&mut self.bytes, self.write.front(), source);
+    }
+
+    // Lends places for a round, and copies in as many of the bytes as fit.
+    fn write_round(&mut self, bytes: &[u8]) -> usize
+        requires { tail_store self.old.writer ≡ 0 }
+        ensures count { result ≡ min (length self.new.lent) (length bytes.now) }
+        ensures lent { Lendable MOST_A_ROUND self.old (length self.new.lent) }
+        ensures front { take result self.new.lent ≡ take result bytes.now }
+        ensures after { self.new ≡ lending self.new.lent self.old }
+    {
+        let count = self.lend(MOST_A_ROUND).min(bytes.len());
+        self.write_front(&bytes[..count]);
+        count
     }
 
     fn publish(&mut self, n: usize)

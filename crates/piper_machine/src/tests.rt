@@ -1,11 +1,13 @@
 //! What no contract says: that each call can succeed, and that want of memory changes nothing.
 use crate::machine::{Machine, run};
 use piper_sides::bytes::Bytes;
-use piper_sides::calls::{Call, Side, SideState, Step};
+use piper_sides::calls::{Call, Kind, Side, SideState, Step};
 use piper_sides::events::{Answer, Event, Log, Seen};
+use piper_sides::memory::OutOfMemory;
 use piper_sides::polling::{Luck, Polled};
 use piper_sides::refusals::{RunRefusal, StepRefusal};
-use piper_sides::scripted::{DestAct, Failed, SourceAct};
+use piper_sides::scripted::{DestAct, Failed, Script, SourceAct};
+use std::alloc::Global;
 use std::process::Abort;
 use std::test::Fail;
 
@@ -144,6 +146,7 @@ fn a_poll_finds_a_byte_filled_in_the_midst_of_it(rt: HostRuntime) -> Result<(), 
     assert!(rt; pipe.w_state() == SideState::Idle);
     assert_eq!(rt; pipe.w_try_fill(&[9]), 1);
     assert_eq!(rt; pipe.woken(), [1].as_slice());
+    assert!(rt; pipe.w_state() == SideState::Idle);
     pipe.w_drop();
     assert_eq!(rt; pipe.r_state(), SideState::Busy);
     for _ in 0..3 {
@@ -163,6 +166,52 @@ fn a_poll_finds_a_byte_filled_in_the_midst_of_it(rt: HostRuntime) -> Result<(), 
         )
     );
     assert_eq!(rt; pipe.r_state(), SideState::Idle);
+    Ok(())
+}
+
+/// A source that gives two bytes and then fails.
+fn failing_source(alloc: Global) -> Result<Script<SourceAct>, OutOfMemory> {
+    let mut script = Script::new(alloc);
+    script.push(SourceAct::Bytes(Bytes::copy_of(alloc, b"ab")?))?;
+    script.push(SourceAct::Fail)?;
+    Ok(script)
+}
+
+#[test]
+fn a_fill_by_steps_keeps_what_moved_before_it_failed(rt: HostRuntime) -> Result<(), Fail> {
+    let go = || Step::Go(Side::Writer);
+    let fill = Step::Begin(Call::PollFill(6, GRANTED, failing_source(rt.alloc())?));
+    let steps = [fill, go(), go(), go(), go(), go(), go(), go()];
+    let Ok((pipe, log)) = run(rt.alloc(), 4, &steps) else {
+        assert!(rt; false);
+        return Ok(());
+    };
+    assert_eq!(rt; pipe.unread()?.as_slice(), b"ab".as_slice());
+    assert!(rt;
+        matches!(
+            log.events(),
+            [
+                Event::Began(Side::Writer, Kind::PollFill, Some(6)),
+                Event::Looked(Side::Writer, Seen::Closed(false)),
+                Event::Looked(Side::Writer, Seen::Closed(false)),
+                Event::Published(_),
+                Event::Answered(Side::Writer, Answer::Copy(Polled::Ready(Err(Failed)))),
+            ]
+        )
+    );
+    Ok(())
+}
+
+#[test]
+fn a_copy_refused_for_want_of_memory_can_be_opened_again(rt: HostRuntime) -> Result<(), Fail> {
+    let mut pipe = Machine::new(rt.alloc(), 4)?;
+    let mut log = Log::new(rt.alloc());
+    let fill = Step::Begin(Call::PollFill(6, GRANTED, failing_source(rt.alloc())?));
+    made_at_last(&rt, &mut pipe, &fill, &mut log);
+    for _ in 0..6 {
+        made_at_last(&rt, &mut pipe, &Step::Go(Side::Writer), &mut log);
+    }
+    assert_eq!(rt; pipe.unread()?.as_slice(), b"ab".as_slice());
     Ok(())
 }
 

@@ -1,27 +1,24 @@
 //! Plays commands on a machine.
 
-ghost use Rattle.std.specs.Prelude.{◌≡◌};
-ghost use Rattle.piper_sides.specs.declared.table.ReadPlace.{ReadPlace};
+ghost use Rattle.std.specs.Prelude.{◌≡◌, length, IfOk};
 ghost use Rattle.piper_script.specs.Command.{IsInLimits};
 
 use crate::steps::make;
-use crate::whole::{answer, check};
-use piper_machine::calls::{Side, Step};
-use piper_machine::events::Log;
+use crate::whole::{answer, check, room_for};
+use piper_machine::calls::{self, Side, Step};
+use piper_machine::events::{Answer, Log};
 use piper_machine::machine::Machine;
+use piper_machine::polling::Polled;
 use piper_script::command::{Call, Command, Refusal, Steps};
 use piper_script::reply::Reply;
 use piper_script::stop::Stop;
-use std::alloc::Global;
+use std::alloc::{AllocError, Global};
 
-mod copying;
-
-/// The machine that a script made last, and the room in which bytes go to it and come from it.
+/// The machine that a script made last, and the room in which bytes come from it.
 #[derive(Drop)]
 pub struct Player {
     alloc: Global,
     machine: Option<Machine>,
-    source: Vec<u8>,
     dest: Vec<u8>,
 }
 
@@ -30,7 +27,6 @@ impl Player {
         Player {
             alloc,
             machine: None,
-            source: Vec::new(alloc),
             dest: Vec::new(alloc),
         }
     }
@@ -63,24 +59,16 @@ impl Player {
         Ok(())
     }
 
-    fn whole(&mut self, call: Call, reply: &mut Reply) -> Result<(), Stop> {
-        match call {
-            Call::Fill(list) => self.fill(list, reply),
-            Call::Drain(most) => self.drain(most, reply),
-            Call::PollFill(waker, list, luck) => self.poll_fill(waker, list, luck, reply),
-            Call::PollDrain(waker, most, luck) => self.poll_drain(waker, most, luck, reply),
-            Call::FillFrom(waker, sources, luck) => self.fill_from(waker, sources, luck, reply),
-            Call::DrainTo(waker, dests, luck) => self.drain_to(waker, dests, luck, reply),
-            call => self.plain(call, reply),
-        }
-    }
-
-    // A call that copies nothing.
-    fn plain(&mut self, call: Call, reply: &mut Reply) -> Result<(), Stop> {
+    fn whole(&mut self, said: Call, reply: &mut Reply) -> Result<(), Stop> {
         let machine = self.machine.as_mut().ok_or(Refusal::NoPipe)?;
-        let call = call.to_machine()?;
-        check(machine, call)?;
-        reply.write_answer(answer(machine, call))?;
+        let call = check(machine, said.to_machine(self.alloc)?)?;
+        let dest = room_of(room_for(&call), &mut self.dest)?;
+        let answer = answer(machine, &call, dest);
+        reply.write_answer(answer)?;
+        if let Some(count) = shown(&call, answer) {
+            reply.write(" ")?;
+            reply.write_list(&dest[..count.min(dest.len())])?;
+        }
         reply.write_woken(machine.woken())?;
         Ok(())
     }
@@ -95,7 +83,7 @@ impl Player {
     /// Opens a call, and logs it.
     pub fn begin(&mut self, call: Call, log: &mut Log) -> Result<(), Stop> {
         let machine = self.machine.as_mut().ok_or(Refusal::NoPipe)?;
-        machine.step(&Step::Begin(call.to_machine()?), log)?;
+        machine.step(&Step::Begin(call.to_machine(self.alloc)?), log)?;
         Ok(())
     }
 
@@ -110,5 +98,24 @@ impl Player {
         make(machine, side, steps, &mut log)?;
         reply.write_events(log.events())?;
         Ok(())
+    }
+}
+
+// So many places, after making the room longer where it is too short.
+fn room_of(most: usize, room: &mut Vec<u8>) -> Result<&mut [u8], AllocError>
+    ensures { IfOk result (λ places. length places.now ≡ most) }
+{
+    if room.len() < most {
+        room.resize(most, 0)?;
+    }
+    Ok(&mut room[..most])
+}
+
+// How many bytes are shown behind the answer of a call that moved bytes out of the pipe.
+fn shown(call: &calls::Call, answer: Answer) -> Option<usize> {
+    match (call, answer) {
+        (calls::Call::TryDrain(_), Answer::Count(count)) => Some(count),
+        (calls::Call::PollDrainBytes(..), Answer::Copy(Polled::Ready(Ok(count)))) => Some(count),
+        _ => None,
     }
 }

@@ -1,11 +1,11 @@
 //! The mode `run`: a script of steps is read whole, and then run on a new machine.
 
-ghost use Rattle.std.specs.Prelude.{◌≡◌, ◌++◌, replicate, OnOk};
+ghost use Rattle.std.specs.Prelude.{◌≡◌, [], ◌∷◌, ◌++◌, replicate, OnOk};
 ghost use Rattle.std.specs.Option.{ForSome};
 ghost use Rattle.piper_sides.specs.Index.{IsCapacity};
 
 use crate::stream::{read_line, stopped, write_reply};
-use piper_machine::calls::Step;
+use piper_machine::calls::{Side, Step};
 use piper_machine::events::Log;
 use piper_machine::machine::{self, Machine};
 use piper_machine::refusals::RunRefusal;
@@ -13,7 +13,7 @@ use piper_script::command::{Command, Refusal, Steps};
 use piper_script::parser::{MOST_OF_A_LINE, is_silent, parse};
 use piper_script::reply::Reply;
 use piper_script::stop::Stop;
-use std::alloc::Global;
+use std::alloc::{AllocError, Global};
 use std::io::{BufReader, BufWriter, Read, Write};
 
 /// The most steps of a script.
@@ -51,22 +51,22 @@ impl Script {
                 break;
             }
             self.line = number;
-            self.add_line(line.as_slice())?;
+            self.add_line(alloc, line.as_slice())?;
         }
         Ok(())
     }
 
-    fn add_line(&mut self, line: &[u8]) -> Result<(), Stop> {
+    fn add_line(&mut self, alloc: Global, line: &[u8]) -> Result<(), Stop> {
         if line.len() <= MOST_OF_A_LINE && !self.takes(line) {
             return Err(Stop::Refused(Refusal::Syntax));
         }
         match parse(line)? {
             None => {}
             Some(Command::Pipe(capacity)) => self.capacity = Some(capacity),
-            Some(Command::Begin(call)) => self.add(Step::Begin(call.to_machine()?), 1)?,
-            Some(Command::Put(offset, byte)) => self.add(Step::Put(offset, byte), 1)?,
-            Some(Command::Go(side, Steps::One)) => self.add(Step::Go(side), 1)?,
-            Some(Command::Go(side, Steps::Count(count))) => self.add(Step::Go(side), count)?,
+            Some(Command::Begin(call)) => self.add(Step::Begin(call.to_machine(alloc)?))?,
+            Some(Command::Put(offset, byte)) => self.add(Step::Put(offset, byte))?,
+            Some(Command::Go(side, Steps::One)) => self.add(Step::Go(side))?,
+            Some(Command::Go(side, Steps::Count(count))) => self.add_steps(side, count)?,
             Some(_) => return Err(Stop::Refused(Refusal::Syntax)),
         }
         Ok(())
@@ -83,17 +83,33 @@ impl Script {
             }
     }
 
-    // Adds the step of the line read last, so many times.
-    fn add(&mut self, step: Step, count: usize) -> Result<(), Stop>
-        ensures { OnOk result (self.new.steps.items ≡ self.old.steps.items ++ replicate count step) }
+    // Adds the step of the line read last.
+    fn add(&mut self, step: Step) -> Result<(), Stop>
+        ensures { OnOk result (self.new.steps.items ≡ self.old.steps.items ++ step ∷ []) }
     {
-        let end = self.steps.len().saturating_add(count);
-        if end > MOST_STEPS {
-            return Err(Stop::Refused(Refusal::Limit));
-        }
-        self.steps.resize(end, step)?;
+        let end = self.end_of(1)?;
+        self.steps.push(step).map_err(|_| Stop::Memory)?;
         self.lines.push((self.line, end)).map_err(|_| Stop::Memory)?;
         Ok(())
+    }
+
+    // Adds the steps of the line read last: so many of one side's open call.
+    fn add_steps(&mut self, side: Side, count: usize) -> Result<(), Stop>
+        ensures { OnOk result (self.new.steps.items ≡ self.old.steps.items ++ replicate count (Step.Go side)) }
+    {
+        let end = self.end_of(count)?;
+        push_steps(&mut self.steps, side, count)?;
+        self.lines.push((self.line, end)).map_err(|_| Stop::Memory)?;
+        Ok(())
+    }
+
+    // How many steps there are with so many more, unless these are too many.
+    fn end_of(&self, count: usize) -> Result<usize, Refusal> {
+        let end = self.steps.len().saturating_add(count);
+        if end > MOST_STEPS {
+            return Err(Refusal::Limit);
+        }
+        Ok(end)
     }
 
     // The number of the line that says the step at this place.
@@ -101,6 +117,16 @@ impl Script {
         let line = self.lines.iter().find(|(_, end)| place < *end);
         line.map_or(self.line, |(number, _)| *number)
     }
+}
+
+// Adds so many steps of one side's open call.
+fn push_steps(steps: &mut Vec<Step>, side: Side, count: usize) -> Result<(), AllocError>
+    ensures { OnOk result (steps.new.items ≡ steps.old.items ++ replicate count (Step.Go side)) }
+{
+    for _ in 0..count {
+        steps.push(Step::Go(side))?;
+    }
+    Ok(())
 }
 
 /// Reads the script that `input` gives to its end, runs its steps on a new machine, and writes what

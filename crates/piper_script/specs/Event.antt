@@ -1,16 +1,16 @@
 -- How the events of a step are printed.
-use Rattle.std.specs.Prelude.{ℕ, List, [], ◌++◌, codes, decimal, Option, None, Some}
+use Rattle.std.specs.Prelude.{ℕ, List, [], ◌++◌, codes, decimal, Option, None, Some, Ok}
 use Rattle.piper_sides.specs.declared.calls.Side.{Side}
 use Rattle.piper_sides.specs.declared.calls.Side.TheVariants.{Reader, Writer}
 use Rattle.piper_sides.specs.declared.events.Answer.{Answer}
-use Rattle.piper_sides.specs.declared.events.Answer.TheVariants.{Count, Flag, Poll, Lent, Done}
+use Rattle.piper_sides.specs.declared.events.Answer.TheVariants.{Count, Flag, Poll, Copy, Lent, Done}
 use Rattle.piper_sides.specs.declared.polling.Polled.TheVariants.{Pending, Ready, Memory}
 use Rattle.piper_sides.specs.declared.events.Seen.{Seen}
 use Rattle.piper_sides.specs.declared.events.Seen.TheVariants as seen
 use Rattle.piper_sides.specs.declared.events.Event.{Event}
 use Rattle.piper_sides.specs.declared.events.Event.TheVariants.{Began, Looked, Published, Consumed, Closed, Registered, Woken, Answered}
 use Rattle.piper_script.specs.Joined.{joined_or_dash}
-use Rattle.piper_script.specs.Reply.{printed_list, flag_text}
+use Rattle.piper_script.specs.Reply.{printed_list, flag_text, copied_text}
 
 abbrev pub seen_word : Seen → List ℕ
 seen_word (seen.Head n) = codes "head=" ++ decimal n
@@ -24,6 +24,8 @@ answer_word (Flag b) = flag_text b
 answer_word (Poll Pending) = codes "pending"
 answer_word (Poll (Ready b)) = codes "ready:" ++ flag_text b
 answer_word (Poll Memory) = codes "memory"
+answer_word (Copy (Ready (Ok n))) = codes "ready:" ++ decimal n
+answer_word (Copy copied) = copied_text copied
 answer_word (Lent n) = codes "lent:" ++ decimal n
 answer_word Done = codes "ok"
 

@@ -1,11 +1,15 @@
 -- What the calls of a script ask of the machine.
-use Rattle.std.specs.Prelude.{◌≡◌, Bool, true, false, unwrap_or}
+use Rattle.std.specs.Prelude.{◌≡◌, ℕ, List, Bool, true, false, unwrap_or}
 use Rattle.piper_sides.specs.declared.calls.Call.{Call as MachineCall}
 use Rattle.piper_sides.specs.declared.calls.Call.TheVariants as machine
 use Rattle.piper_sides.specs.declared.polling.Luck.{Luck as MachineLuck}
 use Rattle.piper_script.specs.declared.command.Luck.{Luck}
 use Rattle.piper_script.specs.declared.command.Call.{Call}
-use Rattle.piper_script.specs.declared.command.Call.TheVariants.{Len, IsEmpty, IsFull, IsClosed, Poll, Consume, Lend, Produced, Close, Drop}
+use Rattle.piper_script.specs.declared.command.Call.TheVariants.{Len, IsEmpty, IsFull, IsClosed, Poll, Fill, Drain, PollFill, PollDrain, FillFrom, DrainTo, Consume, Lend, Produced, Close, Drop}
+use Rattle.piper_sides.specs.declared.scripted.SourceAct.{SourceAct}
+use Rattle.piper_sides.specs.declared.scripted.DestAct.{DestAct}
+use Rattle.piper_script.specs.List.{StandsFor}
+use Rattle.piper_script.specs.Acts.{StandsForActs, dests_text}
 
 abbrev pub not : Bool → Bool
 not true = false
@@ -19,15 +23,26 @@ luck_of luck = record {
   yield_granted = not luck.no_yield;
 }
 
+-- the call is made with something that is meant
+pub record MadeWith (A : Type 0) (IsMeant : A → Type 0) (call : A → MachineCall) (made : MachineCall) : Type 0 where
+  pub with_this : A
+  pub meant : IsMeant with_this
+  pub same : made ≡ call with_this
+
 abbrev pub Means : Call → MachineCall → Type 0
 Means (Len side) call = call ≡ machine.Len side
 Means (IsEmpty side) call = call ≡ machine.IsEmpty side
 Means (IsFull side) call = call ≡ machine.IsFull side
 Means (IsClosed side) call = call ≡ machine.IsClosed side
 Means (Poll side waker luck) call = call ≡ machine.Poll side waker (luck_of luck)
+Means (Fill list) call = MadeWith (List ℕ) (StandsFor list.text.now) machine.TryFill call
+Means (Drain most) call = call ≡ machine.TryDrain most
+Means (PollFill waker list luck) call = MadeWith (List ℕ) (StandsFor list.text.now) (machine.PollFillBytes waker (luck_of luck)) call
+Means (PollDrain waker most luck) call = call ≡ machine.PollDrainBytes waker (luck_of luck) most
+Means (FillFrom waker sources luck) call = MadeWith (List SourceAct) (StandsForActs sources.text.now) (machine.PollFill waker (luck_of luck)) call
+Means (DrainTo waker dests luck) call = MadeWith (List DestAct) (λ acts. dests.text.now ≡ dests_text acts) (machine.PollDrain waker (luck_of luck)) call
 Means (Consume n) call = call ≡ machine.Consume n
 Means (Lend most) call = call ≡ machine.WriteBuf most
 Means (Produced n) call = call ≡ machine.Produced n
 Means Close call = call ≡ machine.Close
 Means (Drop side) call = call ≡ machine.Drop side
-Means said call = ⊥

@@ -1,7 +1,7 @@
 -- What a line of the script prints.
 use Rattle.std.specs.Prelude.{ℕ, List, [], ◌∷◌, ◌++◌, Bool, true, false, length, codes, decimal, Result, Ok, Err}
 use Rattle.piper_sides.specs.declared.events.Answer.{Answer}
-use Rattle.piper_sides.specs.declared.events.Answer.TheVariants.{Count, Flag, Poll, Lent, Done}
+use Rattle.piper_sides.specs.declared.events.Answer.TheVariants.{Count, Flag, Poll, Copy, Lent, Done}
 use Rattle.piper_sides.specs.declared.scripted.Failed.{Failed}
 use Rattle.piper_sides.specs.declared.polling.Polled.{Polled}
 use Rattle.piper_sides.specs.declared.polling.Polled.TheVariants.{Pending, Ready, Memory}
@@ -26,6 +26,13 @@ abbrev pub flag_text : Bool → List ℕ
 flag_text true = codes "true"
 flag_text false = codes "false"
 
+-- what a polling call that copies answers
+abbrev pub copied_text : Polled (Result ℕ Failed) → List ℕ
+copied_text (Ready (Ok n)) = codes "ready " ++ decimal n
+copied_text (Ready (Err failed)) = codes "failed"
+copied_text Pending = codes "pending"
+copied_text Memory = codes "memory"
+
 -- what a whole call answers
 abbrev pub answer_text : Answer → List ℕ
 answer_text (Count n) = decimal n
@@ -33,15 +40,9 @@ answer_text (Flag b) = flag_text b
 answer_text (Poll Pending) = codes "pending"
 answer_text (Poll (Ready b)) = codes "ready " ++ flag_text b
 answer_text (Poll Memory) = codes "memory"
+answer_text (Copy copied) = copied_text copied
 answer_text (Lent n) = decimal n
 answer_text Done = codes "ok"
-
--- what a polling call that copies answers
-abbrev pub copied_text : Polled (Result ℕ Failed) → List ℕ
-copied_text (Ready (Ok n)) = codes "ready " ++ decimal n
-copied_text (Ready (Err failed)) = codes "failed"
-copied_text Pending = codes "pending"
-copied_text Memory = codes "memory"
 
 abbrev pub refusal_name : Refusal → List ℕ
 refusal_name Syntax = codes "Syntax"

@@ -7,8 +7,7 @@ use crate::command::{MOST, Refusal};
 use crate::list::List;
 use crate::number::number;
 use crate::stop::Stop;
-use piper_sides::bytes::Bytes;
-use piper_sides::scripted::{DestAct, SourceAct};
+use piper_sides::scripted::{DestAct, Script, SourceAct};
 use std::alloc::Global;
 
 /// The acts of a source: their text, and how many bytes their lists stand for.
@@ -46,20 +45,15 @@ impl<'line> Sources<'line> {
     }
 
     /// The acts, with bytes of their own.
-    pub fn acts(self, alloc: Global) -> Result<Vec<SourceAct>, Stop>
-        ensures { IfOk result (λ acts. StandsForActs self.entry.text.now acts.items) }
+    pub fn acts(self, alloc: Global) -> Result<Script<SourceAct>, Stop>
+        ensures { IfOk result (λ acts. StandsForActs self.entry.text.now acts) }
     {
-        let mut acts = Vec::new(alloc);
+        let mut acts = Script::new(alloc);
         if self.text == "none" {
             return Ok(acts);
         }
-        let mut room = Vec::new(alloc);
         for act in self.text.split('/') {
-            let act = source(alloc, act, &mut room)?;
-            match acts.push(act) {
-                Ok(()) => {}
-                Err(_) => return Err(Stop::Memory),
-            }
+            acts.push(source(alloc, act)?)?;
         }
         Ok(acts)
     }
@@ -75,15 +69,14 @@ fn source_len(text: &str) -> Result<usize, Refusal>
     Ok(List::parse(text)?.len)
 }
 
-// The act of a source that the text writes, with `room` for its bytes.
-fn source(alloc: Global, text: &str, room: &mut Vec<u8>) -> Result<SourceAct, Stop>
+// The act of a source that the text writes.
+fn source(alloc: Global, text: &str) -> Result<SourceAct, Stop>
     ensures { IfOk result (WritesSource text.now) }
 {
     if text == "fail" {
         return Ok(SourceAct::Fail);
     }
-    List::parse(text)?.write_to(room)?;
-    Ok(SourceAct::Bytes(Bytes::copy_of(alloc, room)?))
+    Ok(SourceAct::Bytes(List::parse(text)?.bytes(alloc)?))
 }
 
 /// The acts of a destination: their text.
@@ -119,19 +112,15 @@ impl<'line> Dests<'line> {
     }
 
     /// The acts.
-    pub fn acts(self, alloc: Global) -> Result<Vec<DestAct>, Stop>
-        ensures { IfOk result (λ acts. self.entry.text.now ≡ dests_text acts.items) }
+    pub fn acts(self, alloc: Global) -> Result<Script<DestAct>, Stop>
+        ensures { IfOk result (λ acts. self.entry.text.now ≡ dests_text acts) }
     {
-        let mut acts = Vec::new(alloc);
+        let mut acts = Script::new(alloc);
         if self.text == "none" {
             return Ok(acts);
         }
         for act in self.text.split('/') {
-            let act = dest(act)?;
-            match acts.push(act) {
-                Ok(()) => {}
-                Err(_) => return Err(Stop::Memory),
-            }
+            acts.push(dest(act)?)?;
         }
         Ok(acts)
     }

@@ -135,6 +135,10 @@ impl Reply {
                 self.write("ready:")?;
                 self.write_flag(flag)
             }
+            Answer::Copy(Polled::Ready(Ok(count))) => {
+                self.write("ready:")?;
+                self.write_count(count)
+            }
             Answer::Lent(count) => {
                 self.write("lent:")?;
                 self.write_count(count)

@@ -5,7 +5,8 @@ ghost use Rattle.piper_script.specs.List.{item_text, item_bytes, IsItem};
 use crate::command::{MOST, Refusal};
 use crate::number::{is_at_most, number};
 use crate::stop::Stop;
-use std::alloc::AllocError;
+use piper_sides::bytes::Bytes;
+use std::alloc::{AllocError, Global};
 
 /// One item of a list.
 #[derive(Clone, Copy, Debug, PartialEq, Eq)]
@@ -115,8 +116,17 @@ impl<'line> List<'line> {
         Ok(List { text, len })
     }
 
-    /// Puts the list's bytes in place of what `bytes` holds.
-    pub fn write_to(self, bytes: &mut Vec<u8>) -> Result<(), Stop>
+    /// The list's bytes.
+    pub fn bytes(self, alloc: Global) -> Result<Bytes, Stop>
+        ensures { IfOk result (StandsFor self.entry.text.now) }
+    {
+        let mut bytes = Vec::with_capacity(alloc, self.len)?;
+        self.write_to(&mut bytes)?;
+        Ok(Bytes::copy_of(alloc, &bytes)?)
+    }
+
+    // Puts the list's bytes in place of what `bytes` holds.
+    fn write_to(self, bytes: &mut Vec<u8>) -> Result<(), Stop>
         ensures { OnOk result (StandsFor self.entry.text.now bytes.new.items) }
     {
         bytes.clear();

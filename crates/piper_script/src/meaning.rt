@@ -3,9 +3,10 @@
 ghost use Rattle.std.specs.Prelude.{◌≡◌, IfOk};
 ghost use Rattle.piper_script.specs.Meaning.{Means};
 
-use crate::command::{Call, Luck, Refusal};
+use crate::command::{Call, Luck};
 use crate::stop::Stop;
 use piper_sides::{calls, polling};
+use std::alloc::Global;
 
 impl From<Luck> for polling::Luck {
     ghost use Rattle.piper_script.specs.Meaning.{luck_of};
@@ -22,9 +23,9 @@ impl From<Luck> for polling::Luck {
 }
 
 impl Call<'_> {
-    /// The call of the machine that the script asks for.
-    pub fn to_machine(self) -> Result<calls::Call, Stop>
-        ensures { IfOk result (λ call. Means self.entry call) }
+    /// The call of the machine that the script asks for, with bytes and acts of its own.
+    pub fn to_machine(self, alloc: Global) -> Result<calls::Call, Stop>
+        ensures { IfOk result (Means self.entry) }
     {
         Ok(match self {
             Call::Len(side) => calls::Call::Len(side),
@@ -32,12 +33,25 @@ impl Call<'_> {
             Call::IsFull(side) => calls::Call::IsFull(side),
             Call::IsClosed(side) => calls::Call::IsClosed(side),
             Call::Poll(side, waker, luck) => calls::Call::Poll(side, waker, luck.into()),
+            Call::Fill(list) => calls::Call::TryFill(list.bytes(alloc)?),
+            Call::Drain(most) => calls::Call::TryDrain(most),
+            Call::PollFill(waker, list, luck) => {
+                calls::Call::PollFillBytes(waker, luck.into(), list.bytes(alloc)?)
+            }
+            Call::PollDrain(waker, most, luck) => {
+                calls::Call::PollDrainBytes(waker, luck.into(), most)
+            }
+            Call::FillFrom(waker, sources, luck) => {
+                calls::Call::PollFill(waker, luck.into(), sources.acts(alloc)?)
+            }
+            Call::DrainTo(waker, dests, luck) => {
+                calls::Call::PollDrain(waker, luck.into(), dests.acts(alloc)?)
+            }
             Call::Consume(n) => calls::Call::Consume(n),
             Call::Lend(most) => calls::Call::WriteBuf(most),
             Call::Produced(n) => calls::Call::Produced(n),
             Call::Close => calls::Call::Close,
             Call::Drop(side) => calls::Call::Drop(side),
-            _ => return Err(Stop::Refused(Refusal::Syntax)),
         })
     }
 }

@@ -85,12 +85,13 @@ impl Reply {
             }
             Answer::Poll(Polled::Pending) => self.write("pending"),
             Answer::Poll(Polled::Memory) => self.write("memory"),
+            Answer::Copy(copied) => self.write_copied(copied),
             Answer::Done => self.write("ok"),
         }
     }
 
-    /// Writes what a polling call that copies answers.
-    pub fn write_copied(&mut self, copied: Polled<Result<usize, Failed>>) -> Result<(), AllocError>
+    // Writes what a polling call that copies answers.
+    fn write_copied(&mut self, copied: Polled<Result<usize, Failed>>) -> Result<(), AllocError>
         ensures { OnOk result (self.new ≡ self.old ++ copied_text copied) }
     {
         match copied {

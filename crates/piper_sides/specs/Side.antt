@@ -4,6 +4,10 @@ use Rattle.piper_sides.specs.declared.table.ReadPlace.{ReadPlace}
 use Rattle.piper_sides.specs.declared.table.ReadPlace.TheVariants as at
 use Rattle.piper_sides.specs.declared.table.WritePlace.{WritePlace}
 use Rattle.piper_sides.specs.declared.table.WritePlace.TheVariants as on
+use Rattle.piper_sides.specs.declared.table.AfterRead.{AfterRead}
+use Rattle.piper_sides.specs.declared.table.AfterRead.TheVariants as afterward
+use Rattle.piper_sides.specs.declared.table.AfterWrite.{AfterWrite}
+use Rattle.piper_sides.specs.declared.table.AfterWrite.TheVariants as behind
 use Rattle.piper_sides.specs.Index.{IsCapacity, distance, place_of}
 
 pub record Reading : Type 0 where
@@ -68,8 +72,34 @@ head_store place = 0
 
 -- how many bytes a store publishes that is next
 abbrev pub tail_store : WritePlace → ℕ
+tail_store (on.RoundClosed n form sum) = n
 tail_store (on.StoreTail n next) = n
 tail_store place = 0
+
+-- how many bytes the open copy has moved, with those of a store that is next
+abbrev pub read_round : AfterRead → ℕ
+read_round (afterward.Round form sum) = sum
+read_round next = 0
+
+abbrev pub read_sum : ReadPlace → ℕ
+read_sum (at.CallDestination form sum) = sum
+read_sum (at.StoreHead n next) = read_round next
+read_sum (at.TakeWriter next) = read_round next
+read_sum (at.WakeWriter next) = read_round next
+read_sum place = 0
+
+abbrev pub write_round : AfterWrite → ℕ
+write_round (behind.Round form sum) = sum
+write_round next = 0
+
+abbrev pub write_sum : WritePlace → ℕ
+write_sum (on.CallSource form sum) = sum
+write_sum (on.RoundClosed n form sum) = sum
+write_sum (on.StoreTail n next) = write_round next
+write_sum (on.TakeReader next) = write_round next
+write_sum (on.WakeReader next) = write_round next
+write_sum (on.StoreClosed next) = write_round next
+write_sum place = 0
 
 pub record IsReading (r : Reading) : Type 0 where
   pub capacity : IsCapacity r.capacity
@@ -77,6 +107,8 @@ pub record IsReading (r : Reading) : Type 0 where
   pub tail : r.tail < 2 * r.capacity
   pub known : known_of r ≤ r.capacity
   pub store : head_store r.place ≤ peekable_of r
+  -- a copy moves no more than its look left known
+  pub sum : read_sum r.place + known_of r ≤ r.capacity + head_store r.place
 
 pub record IsWriting (w : Writing) : Type 0 where
   pub capacity : IsCapacity w.capacity
@@ -89,3 +121,5 @@ pub record IsWriting (w : Writing) : Type 0 where
   pub lent_zeroed : place_of w.capacity w.tail + w.lent ≤ w.zeroed
   pub shut : w.is_shut ≡ true → w.lent ≡ 0
   pub store : tail_store w.place ≤ w.lent
+  -- a copy moves no more than its look left room for
+  pub sum : write_sum w.place + room_of w ≤ w.capacity + tail_store w.place

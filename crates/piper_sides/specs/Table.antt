@@ -1,14 +1,17 @@
 -- The call table: which step a side makes at each place of a call, and where what it found leads.
-use Rattle.std.specs.Prelude.{ℕ, Bool, true, false, Option, None, Some, ◌==◌}
+use Rattle.std.specs.Prelude.{ℕ, ◌+◌, Bool, true, false, Option, None, Some, ◌==◌, Result, Ok, Err}
 use Rattle.piper_sides.specs.declared.calls.Side.TheVariants.{Reader, Writer}
 use Rattle.piper_sides.specs.declared.calls.Query.{Query}
 use Rattle.piper_sides.specs.declared.calls.Query.TheVariants.{Len, IsEmpty, IsFull}
 use Rattle.piper_sides.specs.declared.events.Answer.{Answer}
-use Rattle.piper_sides.specs.declared.events.Answer.TheVariants.{Count, Flag, Poll, Done}
+use Rattle.piper_sides.specs.declared.events.Answer.TheVariants.{Count, Flag, Poll, Copy, Done}
 use Rattle.piper_sides.specs.declared.polling.Polled.{Polled}
 use Rattle.piper_sides.specs.declared.polling.Polled.TheVariants.{Pending, Ready, Memory}
+use Rattle.piper_sides.specs.declared.scripted.Failed.{Failed}
 use Rattle.piper_sides.specs.declared.table.Action.{Action}
 use Rattle.piper_sides.specs.declared.table.Action.TheVariants as does
+use Rattle.piper_sides.specs.declared.table.Form.{Form}
+use Rattle.piper_sides.specs.declared.table.Form.TheVariants.{Try, Polling}
 use Rattle.piper_sides.specs.declared.table.Purpose.{Purpose}
 use Rattle.piper_sides.specs.declared.table.Purpose.TheVariants as purpose
 use Rattle.piper_sides.specs.declared.table.AfterRead.{AfterRead}
@@ -32,6 +35,10 @@ pub data Found : Type 0 where
   granted : Bool → Found
   -- whether a waker stood in the slot that was emptied
   waker : Bool → Found
+  -- so many bytes were given by the source or taken by the destination
+  moved : ℕ → Found
+  -- the source or destination failed
+  failed : Found
 
 -- where a step leads, and what the call answers if that was its last step
 pub record Next (P : Type 0) : Type 0 where
@@ -54,9 +61,33 @@ abbrev pub end_or_pending : Bool → Polled Bool
 end_or_pending true = Ready false
 end_or_pending false = Pending
 
+-- what a copying call answers: one without a context a count, 0 where it would wait
+abbrev pub count_answer : Form → ℕ → Answer
+count_answer Try count = Count count
+count_answer (Polling is_drawn) count = Copy (Ready (Ok count))
+
+abbrev pub failed_answer : Answer
+failed_answer = Copy (Ready (Err (record {})))
+
+-- the answer of a yield: the caller's own waker was called, or its clone was refused
+abbrev pub yield_answer : Bool → Answer
+yield_answer true = Copy Pending
+yield_answer false = Copy Memory
+
+-- what a look that is not true moves: nothing
+abbrev pub none_moved : Polled Bool → Polled (Result ℕ Failed)
+none_moved (Ready answer) = Ready (Ok 0)
+none_moved Pending = Pending
+none_moved Memory = Memory
+
+abbrev pub copy_answer : Form → Polled Bool → Answer
+copy_answer Try answer = Count 0
+copy_answer (Polling is_drawn) answer = Copy (none_moved answer)
+
 -- what the call answers where its look is not true
 abbrev pub look_answer : Purpose → Polled Bool → Answer
 look_answer purpose.Poll answer = Poll answer
+look_answer (purpose.Copy form) answer = copy_answer form answer
 
 -- the reader
 
@@ -71,17 +102,23 @@ read_action (at.LookRegister l) = does.Register
 read_action (at.LookClosed l) = does.LoadClosed
 read_action (at.LookTailAgain l was_closed) = does.Refresh
 read_action (at.LookTake l) = does.Take Reader
+read_action at.Yield = does.Yield
+read_action (at.CallDestination form sum) = does.CallDestination
 read_action (at.StoreHead n next) = does.StoreHead n
 read_action (at.TakeWriter next) = does.Take Writer
 read_action (at.WakeWriter next) = does.Wake
 read_action at.StoreClosed = does.StoreClosed false
 
--- a look finds a byte, or none
+-- a look finds a byte, or none: without a context neither slot nor waker is touched
 abbrev pub reader_found : Purpose → ReadPlace
 reader_found purpose.Poll = at.LookTake purpose.Poll
+reader_found (purpose.Copy Try) = at.CallDestination Try 0
+reader_found (purpose.Copy (Polling is_drawn)) = at.LookTake (purpose.Copy (Polling is_drawn))
 
 abbrev pub reader_found_none : Purpose → ReadPlace
 reader_found_none purpose.Poll = at.LookRegister purpose.Poll
+reader_found_none (purpose.Copy Try) = at.LookClosed (purpose.Copy Try)
+reader_found_none (purpose.Copy (Polling is_drawn)) = at.LookRegister (purpose.Copy (Polling is_drawn))
 
 abbrev pub reader_looked : Bool → Purpose → ReadPlace
 reader_looked true l = reader_found_none l
@@ -100,13 +137,25 @@ abbrev pub reader_looks_for : Bool → Purpose → ReadPlace
 reader_looks_for true l = at.LookTail l
 reader_looks_for false l = reader_found l
 
+-- a copy moves bytes, or yields
+abbrev pub reader_draws : Form → ReadPlace
+reader_draws (Polling true) = at.Yield
+reader_draws form = at.CallDestination form 0
+
 -- the look is true
 abbrev pub reader_is_true : Purpose → Next ReadPlace
 reader_is_true purpose.Poll = ends at.Idle (Poll (Ready true))
+reader_is_true (purpose.Copy form) = goes_on (reader_draws form)
+
+-- a round: a destination that takes nothing ends the call
+abbrev pub reader_moved : Bool → ℕ → Form → ℕ → Next ReadPlace
+reader_moved true n form sum = ends at.Idle (count_answer form sum)
+reader_moved false n form sum = goes_on (at.StoreHead n (afterward.Round form (sum + n)))
 
 abbrev pub read_done : AfterRead → Next ReadPlace
 read_done afterward.Answer = ends at.Idle Done
 read_done afterward.Drop = ends at.Dropped Done
+read_done (afterward.Round form sum) = goes_on (at.CallDestination form sum)
 
 abbrev pub writer_taken : AfterRead → Bool → Next ReadPlace
 writer_taken next false = read_done next
@@ -122,6 +171,9 @@ read_after capacity (at.LookRegister l) (granted is_granted) = reader_registered
 read_after capacity (at.LookClosed l) (flag is_closed) = goes_on (at.LookTailAgain l is_closed)
 read_after capacity (at.LookTailAgain l was_closed) (refreshed none) = reader_looked_again none l was_closed
 read_after capacity (at.LookTake l) found = reader_is_true l
+read_after capacity at.Yield (granted is_granted) = ends at.Idle (yield_answer is_granted)
+read_after capacity (at.CallDestination form sum) (moved n) = reader_moved (n == 0) n form sum
+read_after capacity (at.CallDestination form sum) failed = ends at.Idle failed_answer
 read_after capacity (at.StoreHead n next) found = goes_on (at.TakeWriter next)
 read_after capacity (at.TakeWriter next) (waker is_found) = writer_taken next is_found
 read_after capacity (at.WakeWriter next) found = read_done next
@@ -142,6 +194,9 @@ write_action (on.LookRegister l) = does.Register
 write_action (on.LookHeadAgain l) = does.Refresh
 write_action (on.LookClosedAgain l) = does.LoadClosed
 write_action (on.LookTake l) = does.Take Writer
+write_action on.Yield = does.Yield
+write_action (on.CallSource form sum) = does.CallSource
+write_action (on.RoundClosed n form sum) = does.LoadClosed
 write_action (on.StoreTail n next) = does.StoreTail n
 write_action (on.TakeReader next) = does.Take Reader
 write_action (on.WakeReader next) = does.Wake
@@ -150,12 +205,16 @@ write_action (on.StoreClosed next) = does.StoreClosed false
 write_action on.TakeWriter = does.Take Writer
 write_action on.WakeWriter = does.Wake
 
--- a look finds room, or none
+-- a look finds room, or none: without a context neither slot nor waker is touched
 abbrev pub writer_found : Purpose → WritePlace
 writer_found purpose.Poll = on.LookTake purpose.Poll
+writer_found (purpose.Copy Try) = on.CallSource Try 0
+writer_found (purpose.Copy (Polling is_drawn)) = on.LookTake (purpose.Copy (Polling is_drawn))
 
 abbrev pub writer_found_none : Purpose → WritePlace
 writer_found_none purpose.Poll = on.LookRegister purpose.Poll
+writer_found_none (purpose.Copy Try) = on.LookHeadAgain (purpose.Copy Try)
+writer_found_none (purpose.Copy (Polling is_drawn)) = on.LookRegister (purpose.Copy (Polling is_drawn))
 
 -- the first load of closed: the end, or the look goes on at the known room
 abbrev pub writer_is_open : Bool → Bool → Purpose → Next WritePlace
@@ -175,14 +234,31 @@ abbrev pub writer_looked_again : Bool → Purpose → WritePlace
 writer_looked_again true l = on.LookClosedAgain l
 writer_looked_again false l = writer_found l
 
+-- a copy moves bytes, or yields
+abbrev pub writer_draws : Form → WritePlace
+writer_draws (Polling true) = on.Yield
+writer_draws form = on.CallSource form 0
+
 -- the look is true
 abbrev pub writer_is_true : Purpose → Next WritePlace
 writer_is_true purpose.Poll = ends on.Idle (Poll (Ready true))
+writer_is_true (purpose.Copy form) = goes_on (writer_draws form)
+
+-- a round: a source that gives nothing ends the call
+abbrev pub writer_moved : Bool → ℕ → Form → ℕ → Next WritePlace
+writer_moved true n form sum = ends on.Idle (count_answer form sum)
+writer_moved false n form sum = goes_on (on.RoundClosed n form (sum + n))
+
+-- what was given to a closed pipe is counted and not published
+abbrev pub writer_rounds : Bool → ℕ → Form → ℕ → Next WritePlace
+writer_rounds true n form sum = ends on.Idle (count_answer form sum)
+writer_rounds false n form sum = goes_on (on.StoreTail n (behind.Round form sum))
 
 abbrev pub write_done : AfterWrite → Next WritePlace
 write_done behind.Answer = ends on.Idle Done
 write_done behind.Drop = ends on.Dropped Done
 write_done behind.WakeWriter = goes_on on.TakeWriter
+write_done (behind.Round form sum) = goes_on (on.CallSource form sum)
 
 abbrev pub reader_taken : AfterWrite → Bool → Next WritePlace
 reader_taken next false = write_done next
@@ -203,6 +279,10 @@ write_after capacity room (on.LookRegister l) (granted is_granted) = writer_regi
 write_after capacity room (on.LookHeadAgain l) (refreshed none) = goes_on (writer_looked_again none l)
 write_after capacity room (on.LookClosedAgain l) (flag is_closed) = ends on.Idle (look_answer l (end_or_pending is_closed))
 write_after capacity room (on.LookTake l) found = writer_is_true l
+write_after capacity room on.Yield (granted is_granted) = ends on.Idle (yield_answer is_granted)
+write_after capacity room (on.CallSource form sum) (moved n) = writer_moved (n == 0) n form sum
+write_after capacity room (on.CallSource form sum) failed = ends on.Idle failed_answer
+write_after capacity room (on.RoundClosed n form sum) (flag is_closed) = writer_rounds is_closed n form sum
 write_after capacity room (on.StoreTail n next) found = goes_on (on.TakeReader next)
 write_after capacity room (on.TakeReader next) (waker is_found) = reader_taken next is_found
 write_after capacity room (on.WakeReader next) found = write_done next
@@ -210,3 +290,17 @@ write_after capacity room (on.StoreClosed next) found = goes_on (on.TakeReader n
 write_after capacity room on.TakeWriter (waker is_found) = own_taken is_found
 write_after capacity room on.WakeWriter found = ends on.Idle Done
 write_after capacity room place found = goes_on place
+
+-- whether the answer of a step at this place would end a fill
+abbrev pub is_copy : Purpose → Bool
+is_copy purpose.Poll = false
+is_copy (purpose.Copy form) = true
+
+abbrev pub ends_fill : WritePlace → Bool
+ends_fill (on.LookClosed l) = is_copy l
+ends_fill (on.LookRegister l) = is_copy l
+ends_fill (on.LookClosedAgain l) = is_copy l
+ends_fill on.Yield = true
+ends_fill (on.CallSource form sum) = true
+ends_fill (on.RoundClosed n form sum) = true
+ends_fill place = false

@@ -1,8 +1,10 @@
 //! The calls of the two sides, as they are opened and made step by step.
 ghost use Rattle.std.specs.Prelude.{◌≡◌, ◌↔◌, ◌<◌, IsTrue};
-ghost use Rattle.piper_sides.specs.Call.{side_of, kind_of, waker_of, has_good_draw};
+ghost use Rattle.piper_sides.specs.Call.{side_of, kind_of, context_of, waker_of, has_good_draw};
 
+use crate::bytes::Bytes;
 use crate::polling::{Context, Luck};
+use crate::scripted::{DestAct, Script, SourceAct};
 
 /// A side of the pipe.
 #[derive(Clone, Copy, Debug, PartialEq, Eq)]
@@ -31,7 +33,7 @@ pub enum Query {
 }
 
 /// A call. Those that both sides have name their side.
-#[derive(Clone, Copy, Debug, PartialEq, Eq)]
+#[derive(Debug, Drop)]
 pub enum Call {
     Len(Side),
     IsEmpty(Side),
@@ -39,8 +41,17 @@ pub enum Call {
     IsClosed(Side),
     /// Polls with a waker.
     Poll(Side, u32, Luck),
+    /// Drains at most so many bytes.
+    TryDrain(usize),
+    PollDrainBytes(u32, Luck, usize),
+    /// Drains into a scripted destination.
+    PollDrain(u32, Luck, Script<DestAct>),
     /// Consumes the first bytes of the peeked slice.
     Consume(usize),
+    TryFill(Bytes),
+    PollFillBytes(u32, Luck, Bytes),
+    /// Fills from a scripted source.
+    PollFill(u32, Luck, Script<SourceAct>),
     /// Lends at most so many free places.
     WriteBuf(usize),
     /// Publishes the first bytes of what is lent.
@@ -57,7 +68,13 @@ pub enum Kind {
     IsFull,
     IsClosed,
     Poll,
+    TryDrain,
+    PollDrainBytes,
+    PollDrain,
     Consume,
+    TryFill,
+    PollFillBytes,
+    PollFill,
     WriteBuf,
     Produced,
     Close,
@@ -65,7 +82,7 @@ pub enum Kind {
 }
 
 /// One step of a run.
-#[derive(Clone, Copy, Debug, PartialEq, Eq)]
+#[derive(Debug, Drop)]
 pub enum Step {
     /// Opens a call of its side.
     Begin(Call),
@@ -107,7 +124,9 @@ impl Call {
             Call::Len(side) | Call::IsEmpty(side) | Call::IsFull(side) | Call::IsClosed(side) =>
                 side,
             Call::Poll(side, _, _) | Call::Drop(side) => side,
-            Call::Consume(_) => Side::Reader,
+            Call::TryDrain(_) | Call::PollDrainBytes(..) | Call::PollDrain(..) | Call::Consume(_) =>
+                Side::Reader,
+            Call::TryFill(_) | Call::PollFillBytes(..) | Call::PollFill(..) => Side::Writer,
             Call::WriteBuf(_) | Call::Produced(_) | Call::Close => Side::Writer,
         }
     }
@@ -122,7 +141,13 @@ impl Call {
             Call::IsFull(_) => Kind::IsFull,
             Call::IsClosed(_) => Kind::IsClosed,
             Call::Poll(..) => Kind::Poll,
+            Call::TryDrain(_) => Kind::TryDrain,
+            Call::PollDrainBytes(..) => Kind::PollDrainBytes,
+            Call::PollDrain(..) => Kind::PollDrain,
             Call::Consume(_) => Kind::Consume,
+            Call::TryFill(_) => Kind::TryFill,
+            Call::PollFillBytes(..) => Kind::PollFillBytes,
+            Call::PollFill(..) => Kind::PollFill,
             Call::WriteBuf(_) => Kind::WriteBuf,
             Call::Produced(_) => Kind::Produced,
             Call::Close => Kind::Close,
@@ -134,8 +159,19 @@ impl Call {
     pub fn waker(&self) -> Option<u32>
         ensures { result ≡ waker_of self.now }
     {
+        self.context().map(|cx| cx.waker)
+    }
+
+    /// What a polling call is handed beside its side, its bytes or its script.
+    pub fn context(&self) -> Option<Context>
+        ensures { result ≡ context_of self.now }
+    {
         match *self {
-            Call::Poll(_, waker, _) => Some(waker),
+            Call::Poll(_, waker, luck)
+            | Call::PollDrainBytes(waker, luck, _)
+            | Call::PollDrain(waker, luck, _)
+            | Call::PollFillBytes(waker, luck, _)
+            | Call::PollFill(waker, luck, _) => Some(Context { waker, luck }),
             _ => None,
         }
     }
@@ -144,9 +180,9 @@ impl Call {
     pub fn has_good_draw(&self) -> bool
         ensures { result ≡ has_good_draw self.now }
     {
-        match *self {
-            Call::Poll(_, _, luck) => luck.draw < 100,
-            _ => true,
+        match self.context() {
+            Some(cx) => cx.luck.draw < 100,
+            None => true,
         }
     }
 }

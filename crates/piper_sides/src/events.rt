@@ -6,6 +6,7 @@ use crate::bytes::Bytes;
 use crate::calls::{Kind, Side};
 use crate::memory::OutOfMemory;
 use crate::polling::Polled;
+use crate::scripted::Failed;
 use std::alloc::Global;
 
 /// What a load found: the number of unread bytes at that moment, or the closed flag.
@@ -25,12 +26,14 @@ pub enum Answer {
     Count(usize),
     Flag(bool),
     Poll(Polled<bool>),
+    /// Of a copying call with a context: a count, or that the source or destination failed.
+    Copy(Polled<Result<usize, Failed>>),
     Lent(usize),
     Done,
 }
 
 impl Answer {
-    ghost use Rattle.piper_sides.specs.Answer.{count_in, flag_in, polled_in};
+    ghost use Rattle.piper_sides.specs.Answer.{count_in, flag_in, polled_in, copied_in};
 
     /// The count that is answered, or 0.
     pub fn count(self) -> usize
@@ -58,6 +61,16 @@ impl Answer {
     {
         match self {
             Answer::Poll(polled) => polled,
+            _ => Polled::Memory,
+        }
+    }
+
+    /// What a copying call with a context answers, or want of memory.
+    pub fn copied(self) -> Polled<Result<usize, Failed>>
+        ensures { result ≡ copied_in self }
+    {
+        match self {
+            Answer::Copy(copied) => copied,
             _ => Polled::Memory,
         }
     }

@@ -1,13 +1,14 @@
 //! The reader's side: its own index, the writer's as it last saw it, and its place inside the open call.
-ghost use Rattle.std.specs.Prelude.{IsSome, ◌≡◌, ◌≢◌, true, ℕ, ◌*◌, ◌<◌, ◌≤◌, false, ◌==◌};
+ghost use Rattle.std.specs.Prelude.{IsSome, ◌≡◌, ◌≢◌, true, ℕ, ◌+◌, ◌*◌, ◌<◌, ◌≤◌, false, ◌==◌};
 ghost use Rattle.piper_sides.specs.Index.{IsCapacity, distance, place_of, advanced};
-ghost use Rattle.piper_sides.specs.Table.{end_or_pending, read_done, look_answer, read_action, read_after, reader_found, reader_looks_for, nothing, unread, refreshed, flag, granted, waker};
+ghost use Rattle.piper_sides.specs.Table.{end_or_pending, read_done, look_answer, read_action, read_after, reader_draws, reader_found, reader_found_none, reader_looks_for, yield_answer, nothing, unread, refreshed, flag, granted, waker, moved, failed};
 
 use crate::calls::{Query, Side};
 use crate::events::Answer;
 use crate::index;
 use crate::polling::Polled;
-use crate::table::{Action, AfterRead, Purpose, ReadPlace};
+use crate::scripted::Failed;
+use crate::table::{Action, AfterRead, Form, Purpose, ReadPlace};
 use std::marker::Model;
 
 /// What the reader keeps. It knows no buffer, no slot, no waker and no runtime.
@@ -49,7 +50,19 @@ pub fn look_answer(purpose: Purpose, answer: Polled<bool>) -> Answer
 {
     match purpose {
         Purpose::Poll => Answer::Poll(answer),
+        Purpose::Copy(form) => form.looked(answer),
     }
+}
+
+// What a copying call answers after its yield.
+pub fn yield_answer(is_granted: bool) -> Answer
+    ensures { result ≡ yield_answer is_granted }
+{
+    Answer::Copy(if is_granted {
+        Polled::Pending
+    } else {
+        Polled::Memory
+    })
 }
 
 // Where a look leads that finds a byte.
@@ -57,12 +70,33 @@ fn found(purpose: Purpose) -> ReadPlace
     ensures { result ≡ reader_found purpose }
 {
     match purpose {
-        Purpose::Poll => ReadPlace::LookTake(purpose),
+        Purpose::Copy(Form::Try) => ReadPlace::CallDestination(Form::Try, 0),
+        _ => ReadPlace::LookTake(purpose),
+    }
+}
+
+// Where a look leads that finds none.
+fn found_none(purpose: Purpose) -> ReadPlace
+    ensures { result ≡ reader_found_none purpose }
+{
+    match purpose {
+        Purpose::Copy(Form::Try) => ReadPlace::LookClosed(purpose),
+        _ => ReadPlace::LookRegister(purpose),
+    }
+}
+
+// Where a copy goes on whose look is true.
+fn draws(form: Form) -> ReadPlace
+    ensures { result ≡ reader_draws form }
+{
+    match form {
+        Form::Polling { is_drawn: true } => ReadPlace::Yield,
+        _ => ReadPlace::CallDestination(form, 0),
     }
 }
 
 impl ReadSide {
-    ghost use Rattle.piper_sides.specs.Side.{IsReading, fresh_reading, known_of, peekable_of};
+    ghost use Rattle.piper_sides.specs.Side.{IsReading, fresh_reading, known_of, peekable_of, read_round};
 
     /// The reader of an empty pipe.
     pub fn new(capacity: usize) -> Self
@@ -208,6 +242,8 @@ impl ReadSide {
             ReadPlace::LookTail(_) | ReadPlace::LookTailAgain(_, _) => Action::Refresh,
             ReadPlace::LookRegister(_) => Action::Register,
             ReadPlace::LookTake(_) => Action::Take(Side::Reader),
+            ReadPlace::Yield => Action::Yield,
+            ReadPlace::CallDestination(_, _) => Action::CallDestination,
             ReadPlace::StoreHead(n, _) => Action::StoreHead(n),
             ReadPlace::TakeWriter(_) => Action::Take(Side::Writer),
             ReadPlace::WakeWriter(_) => Action::Wake,
@@ -257,7 +293,7 @@ impl ReadSide {
         let none = self.known() == 0;
         match self.place {
             ReadPlace::LookTail(purpose) => self.place = if none {
-                ReadPlace::LookRegister(purpose)
+                found_none(purpose)
             } else {
                 found(purpose)
             },
@@ -315,6 +351,57 @@ impl ReadSide {
     {
         match self.place {
             ReadPlace::LookTake(Purpose::Poll) => self.ends(Answer::Poll(Polled::Ready(true))),
+            ReadPlace::LookTake(Purpose::Copy(form)) => {
+                self.place = draws(form);
+                None
+            }
+            _ => None,
+        }
+    }
+
+    /// The caller's own waker was called in place of the rounds, or its clone was refused.
+    pub fn yielded(&mut self, is_granted: bool) -> Option<Answer>
+        requires next { read_action self.old.place ≡ Action.Yield }
+        ensures after { self.new ≡ record self.old { place = (read_after self.old.capacity self.old.place (granted is_granted)).place } }
+        ensures answer { result ≡ (read_after self.old.capacity self.old.place (granted is_granted)).answer }
+        ensures open { self.new.place ≡ ReadPlace.Idle → IsSome result }
+        ensures sound { IsReading self.new }
+    {
+        match self.place {
+            ReadPlace::Yield => self.ends(yield_answer(is_granted)),
+            _ => None,
+        }
+    }
+
+    /// The destination took the first `n` bytes of the peeked slice.
+    pub fn destination_took(&mut self, n: usize) -> Option<Answer>
+        requires next { read_action self.old.place ≡ Action.CallDestination }
+        requires within { n ≤ peekable_of self.old }
+        ensures after { self.new ≡ record self.old { place = (read_after self.old.capacity self.old.place (moved n)).place } }
+        ensures answer { result ≡ (read_after self.old.capacity self.old.place (moved n)).answer }
+        ensures open { self.new.place ≡ ReadPlace.Idle → IsSome result }
+        ensures sound { IsReading self.new }
+    {
+        match self.place {
+            ReadPlace::CallDestination(form, sum) if n == 0 => self.ends(form.counted(sum)),
+            ReadPlace::CallDestination(form, sum) => {
+                self.place = ReadPlace::StoreHead(n, AfterRead::Round(form, sum + n));
+                None
+            }
+            _ => None,
+        }
+    }
+
+    /// The destination failed, and took nothing.
+    pub fn destination_failed(&mut self) -> Option<Answer>
+        requires next { read_action self.old.place ≡ Action.CallDestination }
+        ensures after { self.new ≡ record self.old { place = (read_after self.old.capacity self.old.place failed).place } }
+        ensures answer { result ≡ (read_after self.old.capacity self.old.place failed).answer }
+        ensures open { self.new.place ≡ ReadPlace.Idle → IsSome result }
+        ensures sound { IsReading self.new }
+    {
+        match self.place {
+            ReadPlace::CallDestination(_, _) => self.ends(Answer::Copy(Polled::Ready(Err(Failed)))),
             _ => None,
         }
     }
@@ -391,14 +478,19 @@ impl ReadSide {
     }
 
     fn done(&mut self, next: AfterRead) -> Option<Answer>
+        requires { read_round next + known_of self.old ≤ self.old.capacity }
         ensures after { self.new ≡ record self.old { place = (read_done next).place } }
         ensures answer { result ≡ (read_done next).answer }
         ensures sound { IsReading self.new }
     {
-        self.place = match next {
-            AfterRead::Answer => ReadPlace::Idle,
-            AfterRead::Drop => ReadPlace::Dropped,
-        };
+        match next {
+            AfterRead::Answer => self.place = ReadPlace::Idle,
+            AfterRead::Drop => self.place = ReadPlace::Dropped,
+            AfterRead::Round(form, sum) => {
+                self.place = ReadPlace::CallDestination(form, sum);
+                return None;
+            }
+        }
         Some(Answer::Done)
     }
 }

@@ -1,5 +1,10 @@
 //! Sources and destinations that follow a script.
+ghost use Rattle.std.specs.Prelude.{◌≡◌, [], ◌∷◌, ◌++◌, OnOk, OnErr, IfOk};
+
 use crate::bytes::Bytes;
+use crate::memory::OutOfMemory;
+use std::alloc::Global;
+use std::marker::Model;
 
 /// The most bytes that one round of a copy moves.
 pub const MOST_A_ROUND: usize = 131_072;
@@ -25,3 +30,43 @@ pub enum DestAct {
 /// A scripted source or destination failed.
 #[derive(Clone, Copy, Debug, PartialEq, Eq)]
 pub struct Failed;
+
+/// What a source or destination does, act by act.
+#[derive(Debug, Drop)]
+pub struct Script<A> {
+    acts: Vec<A>,
+}
+
+impl<A> Model for Script<A> {
+    ghost use Rattle.std.specs.Prelude.{List};
+
+    ghost Value = { List A };
+
+    ghost view = { λ script. script.acts.items };
+}
+
+impl<A: Drop> Script<A> {
+    /// A script without an act.
+    pub fn new(alloc: Global) -> Self
+        ensures { result ≡ [] }
+    {
+        Script {
+            acts: Vec::new(alloc),
+        }
+    }
+
+    /// Adds an act at the end.
+    pub fn push(&mut self, act: A) -> Result<(), OutOfMemory>
+        ensures ok { OnOk result (self.new ≡ self.old ++ act ∷ []) }
+        ensures same { OnErr result (self.new ≡ self.old) }
+    {
+        self.acts.push(act).map_err(|_| OutOfMemory)
+    }
+
+    /// The acts, in their order.
+    pub fn as_slice(&self) -> &[A]
+        ensures { result.now ≡ self.now }
+    {
+        &self.acts
+    }
+}

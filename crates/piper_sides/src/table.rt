@@ -1,9 +1,10 @@
 //! The call table: where a side can stand inside a call, and the steps that it makes there.
 ghost use Rattle.std.specs.Prelude.{◌≡◌};
-ghost use Rattle.piper_sides.specs.Table.{query_answer};
+ghost use Rattle.piper_sides.specs.Table.{query_answer, copy_answer, count_answer};
 
 use crate::calls::{Query, Side};
 use crate::events::Answer;
+use crate::polling::Polled;
 
 /// The step that a side makes next.
 #[derive(Clone, Copy, Debug, PartialEq, Eq)]
@@ -27,6 +28,21 @@ pub enum Action {
     Take(Side),
     /// Calls the waker that was taken.
     Wake,
+    /// Calls the caller's own waker in place of the rounds of a copy, if its clone is granted.
+    Yield,
+    /// Lends known bytes to the destination of a copy.
+    CallDestination,
+    /// Lends free places to the source of a copy.
+    CallSource,
+}
+
+/// In which form a copying call is made.
+#[derive(Clone, Copy, Debug, PartialEq, Eq)]
+pub enum Form {
+    /// Without a context: it registers nothing, and answers a count.
+    Try,
+    /// With a context. Where its draw is 0 it yields in place of its rounds.
+    Polling { is_drawn: bool },
 }
 
 /// What a look is for.
@@ -34,6 +50,8 @@ pub enum Action {
 pub enum Purpose {
     /// A poll answers what the look finds.
     Poll,
+    /// A copying call moves bytes where the look is true.
+    Copy(Form),
 }
 
 /// What follows the reader's wake of the writer.
@@ -41,6 +59,8 @@ pub enum Purpose {
 pub enum AfterRead {
     Answer,
     Drop,
+    /// The next round of a copy that has moved so many bytes.
+    Round(Form, usize),
 }
 
 /// What follows the writer's wake of the reader.
@@ -50,6 +70,8 @@ pub enum AfterWrite {
     Drop,
     /// A close wakes the writer too.
     WakeWriter,
+    /// The next round of a copy that has moved so many bytes.
+    Round(Form, usize),
 }
 
 /// Where the reader stands: named after the step that comes next.
@@ -65,6 +87,9 @@ pub enum ReadPlace {
     LookClosed(Purpose),
     LookTailAgain(Purpose, bool),
     LookTake(Purpose),
+    Yield,
+    /// With the count of bytes moved so far.
+    CallDestination(Form, usize),
     StoreHead(usize, AfterRead),
     TakeWriter(AfterRead),
     WakeWriter(AfterRead),
@@ -85,6 +110,11 @@ pub enum WritePlace {
     LookHeadAgain(Purpose),
     LookClosedAgain(Purpose),
     LookTake(Purpose),
+    Yield,
+    /// With the count of bytes moved so far.
+    CallSource(Form, usize),
+    /// With the count of bytes that this round was given, and of all that the source gave.
+    RoundClosed(usize, Form, usize),
     StoreTail(usize, AfterWrite),
     TakeReader(AfterWrite),
     WakeReader(AfterWrite),
@@ -102,6 +132,32 @@ impl Query {
             Query::Len => Answer::Count(unread),
             Query::IsEmpty => Answer::Flag(unread == 0),
             Query::IsFull => Answer::Flag(unread == capacity),
+        }
+    }
+}
+
+impl Form {
+    /// What a copying call answers whose look was not true.
+    pub fn looked(self, answer: Polled<bool>) -> Answer
+        ensures { result ≡ copy_answer self answer }
+    {
+        match self {
+            Form::Try => Answer::Count(0),
+            Form::Polling { is_drawn: _ } => Answer::Copy(match answer {
+                Polled::Ready(_) => Polled::Ready(Ok(0)),
+                Polled::Pending => Polled::Pending,
+                Polled::Memory => Polled::Memory,
+            }),
+        }
+    }
+
+    /// What a copying call answers that ends with a count.
+    pub fn counted(self, count: usize) -> Answer
+        ensures { result ≡ count_answer self count }
+    {
+        match self {
+            Form::Try => Answer::Count(count),
+            Form::Polling { is_drawn: _ } => Answer::Copy(Polled::Ready(Ok(count))),
         }
     }
 }

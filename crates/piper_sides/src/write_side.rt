@@ -1,14 +1,15 @@
 //! The writer's side: its own index, the reader's as it last saw it, what is lent, and its place inside the open call.
 ghost use Rattle.std.specs.Prelude.{IsSome, ◌≡◌, ◌≢◌, ℕ, ◌+◌, ◌-◌, ◌*◌, ◌<◌, ◌≤◌, true, false, ◌==◌};
-ghost use Rattle.piper_sides.specs.Table.{write_action, write_after, write_done, writer_found, nothing, unread, refreshed, flag, granted, waker};
+ghost use Rattle.piper_sides.specs.Table.{write_action, write_after, write_done, ends_fill, writer_draws, writer_found, writer_found_none, nothing, unread, refreshed, flag, granted, waker, moved, failed};
 ghost use Rattle.piper_sides.specs.Index.{IsCapacity, distance, place_of, advanced};
 
 use crate::calls::{Query, Side};
 use crate::events::Answer;
 use crate::index;
 use crate::polling::Polled;
-use crate::read_side::{end_or_pending, look_answer};
-use crate::table::{Action, AfterWrite, Purpose, WritePlace};
+use crate::read_side::{end_or_pending, look_answer, yield_answer};
+use crate::scripted::Failed;
+use crate::table::{Action, AfterWrite, Form, Purpose, WritePlace};
 use std::marker::Model;
 
 /// The least that is lent where the buffer was never written, if there is room for it.
@@ -44,12 +45,33 @@ fn found(purpose: Purpose) -> WritePlace
     ensures { result ≡ writer_found purpose }
 {
     match purpose {
-        Purpose::Poll => WritePlace::LookTake(purpose),
+        Purpose::Copy(Form::Try) => WritePlace::CallSource(Form::Try, 0),
+        _ => WritePlace::LookTake(purpose),
+    }
+}
+
+// Where a look leads that finds none.
+fn found_none(purpose: Purpose) -> WritePlace
+    ensures { result ≡ writer_found_none purpose }
+{
+    match purpose {
+        Purpose::Copy(Form::Try) => WritePlace::LookHeadAgain(purpose),
+        _ => WritePlace::LookRegister(purpose),
+    }
+}
+
+// Where a copy goes on whose look is true.
+fn draws(form: Form) -> WritePlace
+    ensures { result ≡ writer_draws form }
+{
+    match form {
+        Form::Polling { is_drawn: true } => WritePlace::Yield,
+        _ => WritePlace::CallSource(form, 0),
     }
 }
 
 impl WriteSide {
-    ghost use Rattle.piper_sides.specs.Side.{IsWriting, fresh_writing, room_of, left_of, lend_length, lent_out};
+    ghost use Rattle.piper_sides.specs.Side.{IsWriting, fresh_writing, room_of, left_of, lend_length, lent_out, tail_store, write_round};
 
     /// The writer of an empty pipe.
     pub fn new(capacity: usize) -> Self
@@ -105,6 +127,20 @@ impl WriteSide {
         self.place
     }
 
+    /// Whether an answer of the step that comes next would end a fill.
+    pub fn ends_fill(&self) -> bool
+        ensures { result ≡ ends_fill self.now.place }
+    {
+        match self.place {
+            WritePlace::LookClosed(purpose)
+            | WritePlace::LookRegister(purpose)
+            | WritePlace::LookClosedAgain(purpose) => purpose != Purpose::Poll,
+            WritePlace::Yield | WritePlace::CallSource(_, _) | WritePlace::RoundClosed(_, _, _) =>
+                true,
+            _ => false,
+        }
+    }
+
     /// Takes in where the reader's index stands, at a side that lends nothing.
     pub fn refresh(&mut self, head: usize)
         requires idle { self.old.place ≡ WritePlace.Idle }
@@ -136,7 +172,7 @@ impl WriteSide {
     ///
     /// Places beyond those that were set already are to be set to zero before they are handed out.
     pub fn lend(&mut self, most: usize) -> usize
-        requires { self.old.place ≡ WritePlace.Idle }
+        requires { tail_store self.old.place ≡ 0 }
         ensures count { result ≡ lend_length most self.old }
         ensures after { self.new ≡ lent_out result self.old }
         ensures sound { IsWriting self.new }
@@ -150,7 +186,7 @@ impl WriteSide {
 
     /// Takes back what is lent.
     pub fn unlend(&mut self)
-        requires { self.old.place ≡ WritePlace.Idle }
+        requires { tail_store self.old.place ≡ 0 }
         ensures after { self.new ≡ record self.old { lent = 0 } }
         ensures sound { IsWriting self.new }
     {
@@ -233,11 +269,15 @@ impl WriteSide {
             WritePlace::Idle | WritePlace::Dropped => Action::Rest,
             WritePlace::QueryHead(_) => Action::LoadHead,
             WritePlace::QueryTail(_, _) => Action::LoadTail,
-            WritePlace::QueryClosed | WritePlace::LookClosed(_) | WritePlace::LookClosedAgain(_) =>
-                Action::LoadClosed,
+            WritePlace::QueryClosed
+            | WritePlace::LookClosed(_)
+            | WritePlace::LookClosedAgain(_)
+            | WritePlace::RoundClosed(_, _, _) => Action::LoadClosed,
             WritePlace::LookHead(_) | WritePlace::LookHeadAgain(_) => Action::Refresh,
             WritePlace::LookRegister(_) => Action::Register,
             WritePlace::LookTake(_) | WritePlace::TakeWriter => Action::Take(Side::Writer),
+            WritePlace::Yield => Action::Yield,
+            WritePlace::CallSource(_, _) => Action::CallSource,
             WritePlace::StoreTail(n, _) => Action::StoreTail(n),
             WritePlace::TakeReader(_) => Action::Take(Side::Reader),
             WritePlace::WakeReader(_) | WritePlace::WakeWriter => Action::Wake,
@@ -291,7 +331,7 @@ impl WriteSide {
         let none = self.room() == 0;
         match self.place {
             WritePlace::LookHead(purpose) => self.place = if none {
-                WritePlace::LookRegister(purpose)
+                found_none(purpose)
             } else {
                 found(purpose)
             },
@@ -311,6 +351,7 @@ impl WriteSide {
         ensures after { self.new ≡ record self.old { place = (write_after self.old.capacity (room_of self.old) self.old.place (flag is_closed)).place } }
         ensures answer { result ≡ (write_after self.old.capacity (room_of self.old) self.old.place (flag is_closed)).answer }
         ensures open { self.new.place ≡ WritePlace.Idle → IsSome result }
+        ensures idle { IsSome result → self.new.place ≡ WritePlace.Idle }
         ensures sound { IsWriting self.new }
     {
         let none = self.room() == 0;
@@ -329,6 +370,13 @@ impl WriteSide {
                 purpose,
                 end_or_pending(is_closed),
             )),
+            WritePlace::RoundClosed(_, form, sum) if is_closed => return self.ends(form.counted(
+                sum,
+            )),
+            WritePlace::RoundClosed(n, form, sum) => self.place = WritePlace::StoreTail(
+                n,
+                AfterWrite::Round(form, sum),
+            ),
             _ => {}
         }
         None
@@ -340,6 +388,7 @@ impl WriteSide {
         ensures after { self.new ≡ record self.old { place = (write_after self.old.capacity (room_of self.old) self.old.place (granted is_granted)).place } }
         ensures answer { result ≡ (write_after self.old.capacity (room_of self.old) self.old.place (granted is_granted)).answer }
         ensures open { self.new.place ≡ WritePlace.Idle → IsSome result }
+        ensures idle { IsSome result → self.new.place ≡ WritePlace.Idle }
         ensures sound { IsWriting self.new }
     {
         if let WritePlace::LookRegister(purpose) = self.place {
@@ -361,11 +410,65 @@ impl WriteSide {
     {
         match self.place {
             WritePlace::LookTake(Purpose::Poll) => self.ends(Answer::Poll(Polled::Ready(true))),
+            WritePlace::LookTake(Purpose::Copy(form)) => {
+                self.place = draws(form);
+                None
+            }
             WritePlace::TakeWriter if is_found => {
                 self.place = WritePlace::WakeWriter;
                 None
             }
             WritePlace::TakeWriter => self.ends(Answer::Done),
+            _ => None,
+        }
+    }
+
+    /// The caller's own waker was called in place of the rounds, or its clone was refused.
+    pub fn yielded(&mut self, is_granted: bool) -> Option<Answer>
+        requires next { write_action self.old.place ≡ Action.Yield }
+        ensures after { self.new ≡ record self.old { place = (write_after self.old.capacity (room_of self.old) self.old.place (granted is_granted)).place } }
+        ensures answer { result ≡ (write_after self.old.capacity (room_of self.old) self.old.place (granted is_granted)).answer }
+        ensures open { self.new.place ≡ WritePlace.Idle → IsSome result }
+        ensures idle { IsSome result → self.new.place ≡ WritePlace.Idle }
+        ensures sound { IsWriting self.new }
+    {
+        match self.place {
+            WritePlace::Yield => self.ends(yield_answer(is_granted)),
+            _ => None,
+        }
+    }
+
+    /// The source gave `n` bytes, which stand at the front of what is lent.
+    pub fn source_gave(&mut self, n: usize) -> Option<Answer>
+        requires next { write_action self.old.place ≡ Action.CallSource }
+        requires within { n ≤ self.old.lent }
+        ensures after { self.new ≡ record self.old { place = (write_after self.old.capacity (room_of self.old) self.old.place (moved n)).place } }
+        ensures answer { result ≡ (write_after self.old.capacity (room_of self.old) self.old.place (moved n)).answer }
+        ensures open { self.new.place ≡ WritePlace.Idle → IsSome result }
+        ensures idle { IsSome result → self.new.place ≡ WritePlace.Idle }
+        ensures sound { IsWriting self.new }
+    {
+        match self.place {
+            WritePlace::CallSource(form, sum) if n == 0 => self.ends(form.counted(sum)),
+            WritePlace::CallSource(form, sum) => {
+                self.place = WritePlace::RoundClosed(n, form, sum + n);
+                None
+            }
+            _ => None,
+        }
+    }
+
+    /// The source failed, and gave nothing.
+    pub fn source_failed(&mut self) -> Option<Answer>
+        requires next { write_action self.old.place ≡ Action.CallSource }
+        ensures after { self.new ≡ record self.old { place = (write_after self.old.capacity (room_of self.old) self.old.place failed).place } }
+        ensures answer { result ≡ (write_after self.old.capacity (room_of self.old) self.old.place failed).answer }
+        ensures open { self.new.place ≡ WritePlace.Idle → IsSome result }
+        ensures idle { IsSome result → self.new.place ≡ WritePlace.Idle }
+        ensures sound { IsWriting self.new }
+    {
+        match self.place {
+            WritePlace::CallSource(_, _) => self.ends(Answer::Copy(Polled::Ready(Err(Failed)))),
             _ => None,
         }
     }
@@ -460,6 +563,7 @@ impl WriteSide {
     }
 
     fn done(&mut self, next: AfterWrite) -> Option<Answer>
+        requires { write_round next + room_of self.old ≤ self.old.capacity }
         ensures after { self.new ≡ record self.old { place = (write_done next).place } }
         ensures answer { result ≡ (write_done next).answer }
         ensures sound { IsWriting self.new }
@@ -469,6 +573,10 @@ impl WriteSide {
             AfterWrite::Drop => self.place = WritePlace::Dropped,
             AfterWrite::WakeWriter => {
                 self.place = WritePlace::TakeWriter;
+                return None;
+            }
+            AfterWrite::Round(form, sum) => {
+                self.place = WritePlace::CallSource(form, sum);
                 return None;
             }
         }

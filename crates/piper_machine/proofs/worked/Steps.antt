@@ -146,5 +146,5 @@ a_run = (
 bytes_in_place : (published_of logged_in_place ≡ 5 ∷ []) × (consumed_of logged_in_place ≡ [])
 bytes_in_place = (refl, refl)
 
-counted_in_place : tally_of Writer published_in_place ≡ record { made = 2; most = 3 }
+counted_in_place : tally_of 2 Writer published_in_place ≡ record { made = 2; most = 3 }
 counted_in_place = refl

@@ -1,5 +1,5 @@
 -- A side that was told to wait, from place to place of the other side's wake, and what no run may come to.
-use Rattle.std.specs.Prelude.{◌≡◌, ℕ, List, [], ◌∷◌, take, true, false, Some, refl}
+use Rattle.std.specs.Prelude.{◌≡◌, ℕ, List, [], ◌∷◌, take, true, false, None, Some, Ok, refl}
 use Rattle.std.proofs.Common.{inl, inr}
 use Rattle.piper_sides.specs.declared.calls.Side.TheVariants.{Reader, Writer}
 use Rattle.piper_sides.specs.declared.calls.Call.TheVariants as call
@@ -56,6 +56,18 @@ registered_again = refl
 -- another waker's call is none
 another_waker : wait_of Reader (Began Reader kind.Poll (Some 1) ∷ Registered Reader 1 ∷ pending ∷ Woken 2 ∷ []) ≡ record { handed = 1; is_woken = false; is_pending = true }
 another_waker = refl
+
+-- a copy that yields calls its own waker and registers none; one that waits is a wait of its own
+yielded : wait_of Reader (Began Reader kind.PollDrainBytes (Some 1) ∷ Woken 1 ∷ Answered Reader (answer.Copy polled.Pending) ∷ []) ≡ record { handed = 1; is_woken = true; is_pending = true }
+yielded = refl
+
+copied_after_a_wait :
+    wait_of Reader (Began Reader kind.Poll (Some 1) ∷ Registered Reader 1 ∷ pending ∷ Began Reader kind.PollDrainBytes (Some 2) ∷ Answered Reader (answer.Copy (polled.Ready (Ok 3))) ∷ []) ≡ record { handed = 2; is_woken = false; is_pending = false }
+copied_after_a_wait = refl
+
+-- a try has no waker: who was told to wait before still waits
+tried_after_a_wait : wait_of Reader (Began Reader kind.Poll (Some 1) ∷ Registered Reader 1 ∷ pending ∷ Began Reader kind.TryDrain None ∷ Answered Reader (answer.Count 0) ∷ []) ≡ record { handed = 1; is_woken = false; is_pending = true }
+tried_after_a_wait = refl
 
 -- To these pipes, with nobody about to call, a wrong order of steps would come. The reader was told to wait and is not called.
 abbrev told_to_wait : Wait

@@ -3,8 +3,10 @@ ghost use Rattle.std.specs.Prelude.{◌≡◌, ◌<◌, ◌≤◌, ◌+◌, ◌+
 ghost use Rattle.piper_machine.specs.Look.{context};
 ghost use Rattle.piper_machine.specs.Copy.{count_of, try_fill, try_drain, fill, drain, filled, drained, yield_answer, yield_pipe, HasOneWake};
 ghost use Rattle.piper_machine.specs.Scripted.{taken_by, drain_moves_to, fill_moves_more, fill_from, drain_to};
+ghost use Rattle.piper_machine.specs.BySteps.{IsWholeBySteps};
 
 use super::Machine;
+use piper_sides::calls::Call;
 use piper_sides::polling::{Luck, Polled};
 use piper_sides::scripted::{DestAct, Failed, MOST_A_ROUND, SourceAct};
 use piper_sides::table::{ReadPlace, WritePlace};
@@ -90,7 +92,9 @@ impl Machine {
         requires { self.old.writer ≡ WritePlace.Idle }
         ensures count { result ≡ count_of (try_fill bytes.now self.old).answer }
         ensures after { self.new ≡ (try_fill bytes.now self.old).pipe }
+        ensures by_steps { IsWholeBySteps (Call.TryFill bytes.now) self.old }
     {
+        self.learn_steps();
         self.begin_whole();
         self.unlend();
         if self.is_closed {
@@ -108,7 +112,9 @@ impl Machine {
         ensures within { result ≤ length dest.old }
         ensures bytes { dest.new ≡ take result self.old.unread ++ drop result dest.old }
         ensures after { self.new ≡ (try_drain (length dest.old) self.old).pipe }
+        ensures by_steps { IsWholeBySteps (Call.TryDrain (length dest.old)) self.old }
     {
+        self.learn_steps();
         self.begin_whole();
         self.refresh_reader();
         self.learn();
@@ -138,7 +144,9 @@ impl Machine {
         requires draw { luck.draw < 100 }
         ensures answer { result ≡ (fill (Some (context waker luck)) bytes.now self.old).answer }
         ensures after { self.new ≡ (fill (Some (context waker luck)) bytes.now self.old).pipe }
+        ensures by_steps { IsWholeBySteps (Call.PollFillBytes waker luck bytes.now) self.old }
     {
+        self.learn_steps();
         self.unlend();
         let look = self.w_poll(waker, luck);
         self.learn();
@@ -162,7 +170,9 @@ impl Machine {
         ensures answer { result ≡ (drain (Some (context waker luck)) (length dest.old) self.old).answer }
         ensures bytes { let n = count_of result in dest.new ≡ take n self.old.unread ++ drop n dest.old }
         ensures after { self.new ≡ (drain (Some (context waker luck)) (length dest.old) self.old).pipe }
+        ensures by_steps { IsWholeBySteps (Call.PollDrainBytes waker luck (length dest.old)) self.old }
     {
+        self.learn_steps();
         let look = self.r_poll(waker, luck);
         self.learn();
         match look {
@@ -296,7 +306,9 @@ impl Machine {
         requires draw { luck.draw < 100 }
         ensures answer { result ≡ (fill_from (Some (context waker luck)) acts.now self.old).answer }
         ensures after { self.new ≡ (fill_from (Some (context waker luck)) acts.now self.old).pipe }
+        ensures by_steps { IsWholeBySteps (Call.PollFill waker luck acts.now) self.old }
     {
+        self.learn_steps();
         self.unlend();
         let look = self.w_poll(waker, luck);
         self.learn();
@@ -324,7 +336,9 @@ impl Machine {
         requires draw { luck.draw < 100 }
         ensures answer { result ≡ (drain_to (Some (context waker luck)) acts.now self.old).answer }
         ensures after { self.new ≡ (drain_to (Some (context waker luck)) acts.now self.old).pipe }
+        ensures by_steps { IsWholeBySteps (Call.PollDrain waker luck acts.now) self.old }
     {
+        self.learn_steps();
         match self.r_poll(waker, luck) {
             Polled::Ready(true) if luck.draw == 0 => self.yields(waker, luck.yield_granted),
             Polled::Ready(true) => Polled::Ready(self.drain_acts(acts)),

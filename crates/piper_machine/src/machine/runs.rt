@@ -2,12 +2,13 @@
 ghost use Rattle.std.specs.Prelude.{◌≡◌, ◌≢◌, ◌<◌, ◌≤◌, ◌+◌, ℕ, [], ◌++◌, length, take, true, false, OnOk, OnErr, IfOk, IfErr, slice_set, vec_len, vec_capacity, nat_le, nat_lt};
 ghost use Rattle.piper_sides.specs.Index.{IsCapacity};
 ghost use Rattle.piper_sides.specs.Call.{side_of};
-ghost use Rattle.piper_sides.specs.Log.{events, listed};
+ghost use Rattle.piper_sides.specs.Log.{events, listed, HasRoom};
+ghost use Rattle.piper_machine.specs.Round.{destination_of, source_of};
 ghost use Rattle.piper_machine.specs.Lend.{lending};
 ghost use Rattle.piper_machine.specs.Places.{peeked_count};
-ghost use Rattle.piper_machine.specs.Action.{call_of, logged_of, refresh_event, wake_of, registration_of};
+ghost use Rattle.piper_machine.specs.Action.{call_of, logged_of, refresh_event, wake_of, yield_of, registration_of};
 ghost use Rattle.piper_sides.specs.Table.{read_action, write_action};
-ghost use Rattle.piper_machine.specs.Step.{opened, query_opened, is_closed_opened, poll_opened, drop_opened, answer_at_once, went, stepped, action_of, MayLend};
+ghost use Rattle.piper_machine.specs.Step.{opened, query_opened, is_closed_opened, poll_opened, drop_opened, drain_opened, fill_opened, form_of, answer_at_once, went, stepped, action_of, MayLend};
 ghost use Rattle.piper_sides.specs.Log.{answer_event};
 ghost use Rattle.piper_machine.specs.Refusal.{state_of, reader_state, writer_state, cannot_begin, cannot_go, unless, or_else, past, refusal_of, IsIdle};
 ghost use Rattle.piper_machine.specs.Pipe.{fresh};
@@ -21,13 +22,15 @@ ghost use Rattle.piper_machine.specs.Sound.{IsSound};
 ghost use Rattle.piper_machine.specs.Run.{Made, IsStepped, Runs, IsRefusal, IsRunRefusal};
 
 use super::Machine;
+use crate::destination::{Acts, Destination};
+use crate::source::Source;
 use piper_sides::bytes::Bytes;
 use piper_sides::calls::{Call, OpenCall, Query, Side, SideState, Step};
 use piper_sides::events::{Answer, Event, Log, Seen, answered};
 use piper_sides::memory::OutOfMemory;
 use piper_sides::polling::Context;
 use piper_sides::refusals::{RunRefusal, StepRefusal};
-use piper_sides::table::{Action, Purpose, ReadPlace, WritePlace};
+use piper_sides::table::{Action, Form, Purpose, ReadPlace, WritePlace};
 use std::alloc::Global;
 
 // Why no call can be opened.
@@ -96,6 +99,28 @@ fn wake(taken: Option<u32>) -> Option<Event>
     taken.map(Event::Woken)
 }
 
+// What a yield is logged as.
+fn yield_event(context: Option<Context>) -> Option<Event>
+    ensures { listed result ≡ yield_of context }
+{
+    match context {
+        Some(cx) if cx.luck.yield_granted => Some(Event::Woken(cx.waker)),
+        _ => None,
+    }
+}
+
+// In which form a copying call is made.
+fn form(context: Option<Context>) -> Form
+    ensures { result ≡ form_of context }
+{
+    match context {
+        Some(cx) => Form::Polling {
+            is_drawn: cx.luck.draw == 0,
+        },
+        None => Form::Try,
+    }
+}
+
 impl Machine {
     /// What the reader is about.
     pub fn r_state(&self) -> SideState
@@ -131,19 +156,19 @@ impl Machine {
     }
 
     // Why the call asks for more than there is.
-    fn past(&self, call: Call) -> Option<StepRefusal>
-        ensures { result ≡ past call self.now }
+    fn past(&self, call: &Call) -> Option<StepRefusal>
+        ensures { result ≡ past call.now self.now }
     {
-        match call {
+        match *call {
             Call::Consume(n) => unless(n <= self.peekable(), StepRefusal::PastPeek),
             Call::Produced(n) => unless(n <= self.lent_count(), StepRefusal::PastLent),
             _ => None,
         }
     }
 
-    // Why the step is refused, but for want of memory.
-    fn refusal(&self, step: Step) -> Option<StepRefusal>
-        ensures { result ≡ refusal_of step self.now }
+    /// Why the step would be refused, but for want of memory.
+    pub fn refusal(&self, step: &Step) -> Option<StepRefusal>
+        ensures { result ≡ refusal_of step.now self.now }
     {
         match step {
             Step::Begin(call) => {
@@ -153,9 +178,9 @@ impl Machine {
                     or_else(draw, self.past(call)),
                 )
             }
-            Step::Go(side) => cannot_go(self.state(side)),
+            Step::Go(side) => cannot_go(self.state(*side)),
             Step::Put(offset, _) => {
-                let past = unless(offset < self.lent_count(), StepRefusal::PastLent);
+                let past = unless(*offset < self.lent_count(), StepRefusal::PastLent);
                 or_else(cannot_begin(self.state(Side::Writer)), past)
             }
         }
@@ -199,6 +224,8 @@ impl Machine {
             Action::StoreTail(n) => Some(Event::Published(self.lent_bytes(n)?)),
             Action::StoreClosed { is_shut: _ } => Some(Event::Closed(side)),
             Action::Wake => wake(call.taken),
+            Action::Yield => yield_event(call.context),
+            Action::CallDestination | Action::CallSource => None,
         };
         Ok(event)
     }
@@ -219,27 +246,89 @@ impl Machine {
         Bytes::copy_of(self.alloc, &self.w_lent()[..n])
     }
 
-    // Opens a call of a side that is idle, and answers at once where the call makes no step.
-    fn open(&mut self, call: Call) -> Option<Answer>
-        requires idle { IsIdle (side_of call) self.old }
-        requires within { past call self.old ≡ None }
-        ensures after { self.new ≡ opened self.new.lent call self.old }
-        ensures answer { result ≡ answer_at_once self.new.lent call }
-        ensures lent { MayLend self.new.lent (Step.Begin call) self.old }
+    // A copy of what the call's destination takes.
+    fn destination_of(&self, call: &Call) -> Result<Destination, OutOfMemory>
+        ensures { IfOk result (λ destination. destination ≡ destination_of call.now) }
+    {
+        Ok(match call {
+            Call::TryDrain(size) | Call::PollDrainBytes(_, _, size) => Destination::Slice(*size),
+            Call::PollDrain(_, _, script) => Destination::Acts(Acts::of(
+                self.alloc,
+                script.as_slice(),
+            )?),
+            _ => Destination::Slice(0),
+        })
+    }
+
+    // A copy of what the call's source gives.
+    fn source_of(&self, call: &Call) -> Result<Source, OutOfMemory>
+        ensures { IfOk result (λ source. source ≡ source_of call.now) }
     {
         match call {
+            Call::TryFill(bytes) | Call::PollFillBytes(_, _, bytes) => Source::of_bytes(
+                self.alloc,
+                bytes.as_slice(),
+            ),
+            Call::PollFill(_, _, script) => Source::of_acts(self.alloc, script.as_slice()),
+            _ => Ok(Source::none(self.alloc)),
+        }
+    }
+
+    // Opens a call of a side that is idle, and answers at once where the call makes no step.
+    fn open(&mut self, call: &Call, destination: Destination, source: Source) -> Option<Answer>
+        requires idle { IsIdle (side_of call.now) self.old }
+        requires within { past call.now self.old ≡ None }
+        requires destination { destination ≡ destination_of call.now }
+        requires source { source ≡ source_of call.now }
+        ensures after { self.new ≡ opened self.new.lent call.now self.old }
+        ensures answer { result ≡ answer_at_once self.new.lent call.now }
+        ensures lent { MayLend self.new.lent (Step.Begin call.now) self.old }
+    {
+        let context = call.context();
+        match *call {
             Call::Len(side) => self.open_query(side, Query::Len),
             Call::IsEmpty(side) => self.open_query(side, Query::IsEmpty),
             Call::IsFull(side) => self.open_query(side, Query::IsFull),
             Call::IsClosed(side) => self.open_is_closed(side),
             Call::Poll(side, waker, luck) => self.open_poll(side, Context { waker, luck }),
+            Call::TryDrain(_) | Call::PollDrainBytes(..) | Call::PollDrain(..) => self.open_drain(
+                context,
+                destination,
+            ),
             Call::Consume(n) => self.read.begin_consume(n),
+            Call::TryFill(_) | Call::PollFillBytes(..) | Call::PollFill(..) => self.open_fill(
+                context, source,
+            ),
             Call::WriteBuf(most) => return Some(Answer::Lent(self.lend(most))),
             Call::Produced(n) => self.write.begin_produced(n),
             Call::Close => self.write.begin_close(),
             Call::Drop(side) => self.open_drop(side),
         }
         None
+    }
+
+    fn open_drain(&mut self, context: Option<Context>, destination: Destination)
+        requires { self.old.reader ≡ ReadPlace.Idle }
+        ensures { self.new ≡ drain_opened context destination self.old }
+    {
+        self.read.begin_look(Purpose::Copy(form(context)));
+        self.reader_call = OpenCall {
+            context,
+            taken: None,
+        };
+        self.destination = destination;
+    }
+
+    fn open_fill(&mut self, context: Option<Context>, source: Source)
+        requires { self.old.writer ≡ WritePlace.Idle }
+        ensures { self.new ≡ fill_opened context source self.old }
+    {
+        self.write.begin_look(Purpose::Copy(form(context)));
+        self.writer_call = OpenCall {
+            context,
+            taken: None,
+        };
+        self.source = source;
     }
 
     pub(super) fn open_query(&mut self, side: Side, query: Query)
@@ -293,19 +382,41 @@ impl Machine {
     }
 
     // Opens a call and logs it.
-    fn begin(&mut self, call: Call, log: &mut Log) -> Result<(), StepRefusal>
-        requires idle { IsIdle (side_of call) self.old }
-        requires within { past call self.old ≡ None }
-        ensures ok { OnOk result (IsStepped self.old (Step.Begin call) self.new (events log.old) (events log.new)) }
+    fn begin(&mut self, call: &Call, log: &mut Log) -> Result<(), StepRefusal>
+        requires idle { IsIdle (side_of call.now) self.old }
+        requires within { past call.now self.old ≡ None }
+        ensures ok { OnOk result (IsStepped self.old (Step.Begin call.now) self.new (events log.old) (events log.new)) }
         ensures same { OnErr result (self.new ≡ self.old) }
         ensures same_log { OnErr result (events log.new ≡ events log.old) }
         ensures memory { IfErr result (λ refusal. refusal ≡ StepRefusal.Memory) }
     {
+        let destination = self.destination_of(call).map_err(|_| StepRefusal::Memory)?;
+        let source = self.source_of(call).map_err(|_| StepRefusal::Memory)?;
         log.reserve().map_err(|_| StepRefusal::Memory)?;
-        let answer = self.open(call);
+        let answer = self.open(call, destination, source);
         let began = Event::Began(call.side(), call.kind(), call.waker());
         log.add(Some(began), answered(call.side(), answer));
         Ok(())
+    }
+
+    // Makes the reader's next step, and logs it after this event.
+    fn go_reader(&mut self, event: Option<Event>, log: &mut Log)
+        requires event { listed event ≡ logged_of Side.Reader (action_of Side.Reader self.old) self.old }
+        requires room { HasRoom log.old }
+        ensures { IsStepped self.old (Step.Go Side.Reader) self.new (events log.old) (events log.new) }
+    {
+        let answer = self.reader_goes();
+        log.add(event, answered(Side::Reader, answer));
+    }
+
+    // Makes the writer's next step, and logs it after this event.
+    fn go_writer(&mut self, event: Option<Event>, log: &mut Log)
+        requires event { listed event ≡ logged_of Side.Writer (action_of Side.Writer self.old) self.old }
+        requires room { HasRoom log.old }
+        ensures { IsStepped self.old (Step.Go Side.Writer) self.new (events log.old) (events log.new) }
+    {
+        let answer = self.writer_goes();
+        log.add(event, answered(Side::Writer, answer));
     }
 
     // Makes the side's next step and logs it.
@@ -317,11 +428,10 @@ impl Machine {
     {
         let event = self.event(side).map_err(|_| StepRefusal::Memory)?;
         log.reserve().map_err(|_| StepRefusal::Memory)?;
-        let answer = match side {
-            Side::Reader => self.reader_goes(),
-            Side::Writer => self.writer_goes(),
-        };
-        log.add(event, answered(side, answer));
+        match side {
+            Side::Reader => self.go_reader(event, log),
+            Side::Writer => self.go_writer(event, log),
+        }
         Ok(())
     }
 
@@ -346,15 +456,15 @@ impl Machine {
         ensures same_log { OnErr result (events log.new ≡ events log.old) }
     {
         self.learn();
-        match self.refusal(*step) {
+        match self.refusal(step) {
             Some(refusal) => return Err(refusal),
             None => {}
         }
-        match *step {
+        match step {
             Step::Begin(call) => self.begin(call, log),
-            Step::Go(side) => self.go(side, log),
+            Step::Go(side) => self.go(*side, log),
             Step::Put(offset, byte) => {
-                self.put(offset, byte);
+                self.put(*offset, *byte);
                 Ok(())
             }
         }
@@ -369,7 +479,7 @@ pub fn run(alloc: Global, cap: usize, steps: &[Step]) -> Result<(Machine, Log), 
     ensures sound { IfOk result (λ run. IsSound run.0) }
     ensures conserved { IfOk result (λ run. IsConserved run.0 (events run.1)) }
     ensures disjoint { IfOk result (λ run. IsDisjoint run.0) }
-    ensures counted { IfOk result (λ run. IsCounted steps.now) }
+    ensures counted { IfOk result (λ run. IsCounted cap steps.now) }
     ensures honest { IfOk result (λ run. IsHonest (events run.1)) }
     ensures finality { IfOk result (λ run. IsFinal run.0 (events run.1)) }
     ensures remembered { IfOk result (λ run. AreRemembered run.0 (events run.1)) }

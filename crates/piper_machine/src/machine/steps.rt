@@ -1,17 +1,26 @@
 //! The steps of the two sides, one at a time.
-ghost use Rattle.std.specs.Prelude.{IsSome, ◌≡◌, ◌≢◌, ◌≤◌, ℕ, length, true, false};
-ghost use Rattle.piper_sides.specs.Open.{is_granted, no_call};
-ghost use Rattle.piper_machine.specs.Action.{registered_in};
+ghost use Rattle.std.specs.Prelude.{IsSome, ◌≡◌, ◌≢◌, ◌≤◌, ℕ, [], length, true, false};
+ghost use Rattle.piper_sides.specs.Open.{is_granted, is_yield_granted, no_call};
+ghost use Rattle.piper_sides.specs.Side.{Writing};
+ghost use Rattle.piper_machine.specs.Lend.{Lendable, lending};
+ghost use Rattle.piper_machine.specs.Round.{given};
+ghost use Rattle.piper_machine.specs.Action.{registered_in, source_called};
 ghost use Rattle.piper_machine.specs.Places.{peeked_count};
-ghost use Rattle.piper_sides.specs.Table.{read_action, write_action};
-ghost use Rattle.piper_machine.specs.Step.{reader_stepped, writer_stepped, went, call_after};
+ghost use Rattle.piper_sides.specs.Table.{read_action, write_action, moved, failed};
+ghost use Rattle.piper_machine.specs.Step.{reader_stepped, writer_stepped, went, stepped, offering, call_after, source_after, destination_after, lent_count_after, round_left, round_answer, MayLend};
 
 use super::Machine;
-use piper_sides::calls::{OpenCall, Side};
+use crate::destination::Destination;
+use crate::source::Source;
+use piper_sides::calls::{OpenCall, Side, Step};
 use piper_sides::events::Answer;
 use piper_sides::polling::Context;
+use piper_sides::scripted::{Failed, MOST_A_ROUND};
 use piper_sides::slot::SlotState;
-use piper_sides::table::Action;
+use piper_sides::table::{Action, WritePlace};
+use piper_sides::write_side::WriteSide;
+use std::alloc::Global;
+use std::mem;
 
 // Puts the waker of the context into the slot, if its clone is granted, and answers whether it was.
 fn register(slot: &mut SlotState<u32>, context: Option<Context>) -> bool
@@ -27,6 +36,16 @@ fn register(slot: &mut SlotState<u32>, context: Option<Context>) -> bool
     }
 }
 
+// Whether the clone of the context's waker is granted for a yield.
+fn is_yield_granted(context: Option<Context>) -> bool
+    ensures { result ≡ is_yield_granted context }
+{
+    match context {
+        Some(cx) => cx.luck.yield_granted,
+        None => false,
+    }
+}
+
 // A call that has answered holds nothing.
 fn settle(call: &mut OpenCall, answer: Option<Answer>)
     ensures after { call.new ≡ call_after answer call.old }
@@ -34,6 +53,36 @@ fn settle(call: &mut OpenCall, answer: Option<Answer>)
 {
     if answer.is_some() {
         *call = OpenCall::none();
+    }
+}
+
+// A drain that has answered fills nothing more.
+fn settle_destination(destination: &mut Destination, answer: Option<Answer>)
+    ensures after { destination.new ≡ destination_after answer destination.old }
+    ensures empty { IsSome answer → destination.new ≡ Destination.Slice 0 }
+{
+    if answer.is_some() {
+        *destination = Destination::Slice(0);
+    }
+}
+
+// A fill that has answered gives nothing more.
+fn settle_source(alloc: Global, source: &mut Source, answer: Option<Answer>)
+    ensures after { source.new ≡ source_after answer source.old }
+    ensures empty { IsSome answer → source.new ≡ [] }
+{
+    if answer.is_some() {
+        *source = Source::none(alloc);
+    }
+}
+
+// Nothing stays lent where a fill has answered.
+fn settle_lent(write: &mut WriteSide, is_fill: bool, answer: Option<Answer>)
+    requires { IsSome answer → write.old.place ≡ WritePlace.Idle }
+    ensures { write.new ≡ record write.old { lent = lent_count_after is_fill answer write.old.lent } }
+{
+    if is_fill && answer.is_some() {
+        write.unlend();
     }
 }
 
@@ -45,6 +94,7 @@ impl Machine {
     {
         let answer = self.read.loaded_head();
         settle(&mut self.reader_call, answer);
+        settle_destination(&mut self.destination, answer);
         answer
     }
 
@@ -56,6 +106,7 @@ impl Machine {
         let count = self.len();
         let answer = self.read.loaded_tail(count);
         settle(&mut self.reader_call, answer);
+        settle_destination(&mut self.destination, answer);
         answer
     }
 
@@ -66,6 +117,7 @@ impl Machine {
     {
         let answer = self.read.refreshed(self.write.tail());
         settle(&mut self.reader_call, answer);
+        settle_destination(&mut self.destination, answer);
         answer
     }
 
@@ -76,6 +128,7 @@ impl Machine {
     {
         let answer = self.read.loaded_closed(self.is_closed);
         settle(&mut self.reader_call, answer);
+        settle_destination(&mut self.destination, answer);
         answer
     }
 
@@ -87,6 +140,7 @@ impl Machine {
         let is_granted = register(&mut self.reader_slot, self.reader_call.context);
         let answer = self.read.registered(is_granted);
         settle(&mut self.reader_call, answer);
+        settle_destination(&mut self.destination, answer);
         answer
     }
 
@@ -98,6 +152,7 @@ impl Machine {
         self.reader_call.taken = self.reader_slot.take();
         let answer = self.read.took_own();
         settle(&mut self.reader_call, answer);
+        settle_destination(&mut self.destination, answer);
         answer
     }
 
@@ -110,6 +165,7 @@ impl Machine {
         self.reader_call.taken = taken;
         let answer = self.read.took_writer(taken.is_some());
         settle(&mut self.reader_call, answer);
+        settle_destination(&mut self.destination, answer);
         answer
     }
 
@@ -121,6 +177,7 @@ impl Machine {
         self.reader_call.taken = None;
         let answer = self.read.woke();
         settle(&mut self.reader_call, answer);
+        settle_destination(&mut self.destination, answer);
         answer
     }
 
@@ -132,6 +189,7 @@ impl Machine {
     {
         let answer = self.read.stored_head(n);
         settle(&mut self.reader_call, answer);
+        settle_destination(&mut self.destination, answer);
         answer
     }
 
@@ -143,6 +201,35 @@ impl Machine {
         self.is_closed = true;
         let answer = self.read.stored_closed();
         settle(&mut self.reader_call, answer);
+        settle_destination(&mut self.destination, answer);
+        answer
+    }
+
+    fn reader_yields(&mut self) -> Option<Answer>
+        requires { read_action self.old.reader ≡ Action.Yield }
+        ensures after { self.new ≡ (reader_stepped Action.Yield self.old).pipe }
+        ensures answer { result ≡ (reader_stepped Action.Yield self.old).answer }
+    {
+        let answer = self
+            .read
+            .yielded(is_yield_granted(self.reader_call.context));
+        settle(&mut self.reader_call, answer);
+        settle_destination(&mut self.destination, answer);
+        answer
+    }
+
+    fn reader_calls_destination(&mut self) -> Option<Answer>
+        requires { read_action self.old.reader ≡ Action.CallDestination }
+        ensures after { self.new ≡ (reader_stepped Action.CallDestination self.old).pipe }
+        ensures answer { result ≡ (reader_stepped Action.CallDestination self.old).answer }
+    {
+        let most = self.read.peekable().min(MOST_A_ROUND);
+        let answer = match self.destination.take(most) {
+            Ok(n) => self.read.destination_took(n),
+            Err(Failed) => self.read.destination_failed(),
+        };
+        settle(&mut self.reader_call, answer);
+        settle_destination(&mut self.destination, answer);
         answer
     }
 
@@ -153,6 +240,9 @@ impl Machine {
     {
         match self.reader_next() {
             Action::Rest | Action::StoreTail(_) | Action::StoreClosed { is_shut: true } => None,
+            Action::CallSource => None,
+            Action::Yield => self.reader_yields(),
+            Action::CallDestination => self.reader_calls_destination(),
             Action::LoadHead => self.reader_loads_head(),
             Action::LoadTail => self.reader_loads_tail(),
             Action::Refresh => self.reader_refreshes(),
@@ -172,6 +262,7 @@ impl Machine {
         ensures within { (n : ℕ) → result ≡ Action.StoreHead n → n ≤ peeked_count self.now }
         ensures no_tail { (n : ℕ) → result ≢ Action.StoreTail n }
         ensures not_shut { result ≢ Action.StoreClosed true }
+        ensures no_source { result ≢ Action.CallSource }
     {
         self.read.next()
     }
@@ -184,6 +275,7 @@ impl Machine {
         let count = self.len();
         let answer = self.write.loaded_head(count);
         settle(&mut self.writer_call, answer);
+        settle_source(self.alloc, &mut self.source, answer);
         answer
     }
 
@@ -194,6 +286,7 @@ impl Machine {
     {
         let answer = self.write.loaded_tail();
         settle(&mut self.writer_call, answer);
+        settle_source(self.alloc, &mut self.source, answer);
         answer
     }
 
@@ -204,6 +297,7 @@ impl Machine {
     {
         let answer = self.write.refreshed(self.read.head());
         settle(&mut self.writer_call, answer);
+        settle_source(self.alloc, &mut self.source, answer);
         answer
     }
 
@@ -212,8 +306,11 @@ impl Machine {
         ensures after { self.new ≡ (writer_stepped Action.LoadClosed self.old).pipe }
         ensures answer { result ≡ (writer_stepped Action.LoadClosed self.old).answer }
     {
+        let is_fill = self.write.ends_fill();
         let answer = self.write.loaded_closed(self.is_closed);
+        settle_lent(&mut self.write, is_fill, answer);
         settle(&mut self.writer_call, answer);
+        settle_source(self.alloc, &mut self.source, answer);
         answer
     }
 
@@ -222,9 +319,12 @@ impl Machine {
         ensures after { self.new ≡ (writer_stepped Action.Register self.old).pipe }
         ensures answer { result ≡ (writer_stepped Action.Register self.old).answer }
     {
+        let is_fill = self.write.ends_fill();
         let is_granted = register(&mut self.writer_slot, self.writer_call.context);
         let answer = self.write.registered(is_granted);
+        settle_lent(&mut self.write, is_fill, answer);
         settle(&mut self.writer_call, answer);
+        settle_source(self.alloc, &mut self.source, answer);
         answer
     }
 
@@ -237,6 +337,7 @@ impl Machine {
         self.writer_call.taken = taken;
         let answer = self.write.took_own(taken.is_some());
         settle(&mut self.writer_call, answer);
+        settle_source(self.alloc, &mut self.source, answer);
         answer
     }
 
@@ -249,6 +350,7 @@ impl Machine {
         self.writer_call.taken = taken;
         let answer = self.write.took_reader(taken.is_some());
         settle(&mut self.writer_call, answer);
+        settle_source(self.alloc, &mut self.source, answer);
         answer
     }
 
@@ -260,6 +362,7 @@ impl Machine {
         self.writer_call.taken = None;
         let answer = self.write.woke();
         settle(&mut self.writer_call, answer);
+        settle_source(self.alloc, &mut self.source, answer);
         answer
     }
 
@@ -271,6 +374,7 @@ impl Machine {
     {
         let answer = self.write.stored_tail(n);
         settle(&mut self.writer_call, answer);
+        settle_source(self.alloc, &mut self.source, answer);
         answer
     }
 
@@ -282,6 +386,7 @@ impl Machine {
         self.is_closed = true;
         let answer = self.write.stored_closed();
         settle(&mut self.writer_call, answer);
+        settle_source(self.alloc, &mut self.source, answer);
         answer
     }
 
@@ -293,16 +398,89 @@ impl Machine {
         self.is_closed = true;
         let answer = self.write.shut();
         settle(&mut self.writer_call, answer);
+        settle_source(self.alloc, &mut self.source, answer);
         answer
+    }
+
+    fn writer_yields(&mut self) -> Option<Answer>
+        requires { write_action self.old.writer ≡ Action.Yield }
+        ensures after { self.new ≡ (writer_stepped Action.Yield self.old).pipe }
+        ensures answer { result ≡ (writer_stepped Action.Yield self.old).answer }
+    {
+        let is_fill = self.write.ends_fill();
+        let answer = self
+            .write
+            .yielded(is_yield_granted(self.writer_call.context));
+        settle_lent(&mut self.write, is_fill, answer);
+        settle(&mut self.writer_call, answer);
+        settle_source(self.alloc, &mut self.source, answer);
+        answer
+    }
+
+    // Lends places to the source, which writes into them what it gives. One that fails is lent places too.
+    fn offer_source(&mut self) -> Result<usize, Failed>
+        requires { write_action self.old.writer ≡ Action.CallSource }
+        ensures answer { result ≡ given (length self.new.lent) self.old.source }
+        ensures lent { Lendable MOST_A_ROUND self.old (length self.new.lent) }
+        ensures after { self.new ≡ source_called (lending self.new.lent self.old) }
+    {
+        let mut source = mem::replace(&mut self.source, Source::none(self.alloc));
+        let is_failing = source.is_failing();
+        let count = self.write_round(source.front());
+        source.pass(count);
+        self.source = source;
+        if is_failing { Err(Failed) } else { Ok(count) }
+    }
+
+    fn source_gave(&mut self, n: usize) -> Option<Answer>
+        requires next { write_action self.old.writer ≡ Action.CallSource }
+        requires within { n ≤ length self.old.lent }
+        ensures after { self.new ≡ round_left (moved n) self.old }
+        ensures answer { result ≡ round_answer (moved n) self.old }
+    {
+        let is_fill = self.write.ends_fill();
+        let answer = self.write.source_gave(n);
+        settle_lent(&mut self.write, is_fill, answer);
+        settle(&mut self.writer_call, answer);
+        settle_source(self.alloc, &mut self.source, answer);
+        answer
+    }
+
+    fn source_failed(&mut self) -> Option<Answer>
+        requires { write_action self.old.writer ≡ Action.CallSource }
+        ensures after { self.new ≡ round_left failed self.old }
+        ensures answer { result ≡ round_answer failed self.old }
+    {
+        let is_fill = self.write.ends_fill();
+        let answer = self.write.source_failed();
+        settle_lent(&mut self.write, is_fill, answer);
+        settle(&mut self.writer_call, answer);
+        settle_source(self.alloc, &mut self.source, answer);
+        answer
+    }
+
+    fn writer_calls_source(&mut self) -> Option<Answer>
+        requires { write_action self.old.writer ≡ Action.CallSource }
+        ensures after { self.new ≡ (stepped self.new.lent (Step.Go Side.Writer) self.old).pipe }
+        ensures answer { result ≡ (stepped self.new.lent (Step.Go Side.Writer) self.old).answer }
+        ensures lent { MayLend self.new.lent (Step.Go Side.Writer) self.old }
+    {
+        match self.offer_source() {
+            Ok(n) => self.source_gave(n),
+            Err(Failed) => self.source_failed(),
+        }
     }
 
     /// Makes the writer's next step.
     pub(super) fn writer_goes(&mut self) -> Option<Answer>
-        ensures after { self.new ≡ (went Side.Writer self.old).pipe }
-        ensures answer { result ≡ (went Side.Writer self.old).answer }
+        ensures after { self.new ≡ (stepped self.new.lent (Step.Go Side.Writer) self.old).pipe }
+        ensures answer { result ≡ (stepped self.new.lent (Step.Go Side.Writer) self.old).answer }
+        ensures lent { MayLend self.new.lent (Step.Go Side.Writer) self.old }
     {
         match self.writer_next() {
-            Action::Rest | Action::StoreHead(_) => None,
+            Action::Rest | Action::StoreHead(_) | Action::CallDestination => None,
+            Action::Yield => self.writer_yields(),
+            Action::CallSource => self.writer_calls_source(),
             Action::LoadHead => self.writer_loads_head(),
             Action::LoadTail => self.writer_loads_tail(),
             Action::Refresh => self.writer_refreshes(),
@@ -322,6 +500,7 @@ impl Machine {
         ensures step { result ≡ write_action self.now.writer }
         ensures within { (n : ℕ) → result ≡ Action.StoreTail n → n ≤ length self.now.lent }
         ensures no_head { (n : ℕ) → result ≢ Action.StoreHead n }
+        ensures no_destination { result ≢ Action.CallDestination }
     {
         self.write.next()
     }

@@ -1,5 +1,5 @@
 //! Calls run whole: the side is driven to its answer while the other side makes no step.
-ghost use Rattle.std.specs.Prelude.{◌≡◌, ◌<◌, ◌≤◌, ◌+◌, ◌↔◌, length, IsTrue, true, Some};
+ghost use Rattle.std.specs.Prelude.{◌≡◌, ◌<◌, ◌≤◌, ◌+◌, ◌↔◌, [], length, IsTrue, true, false, Some};
 ghost use Rattle.piper_machine.specs.Pipe.{begun};
 ghost use Rattle.piper_sides.specs.Open.{no_call};
 ghost use Rattle.piper_machine.specs.Query.{unread_count, is_empty, is_full, is_closed};
@@ -13,10 +13,12 @@ ghost use Rattle.piper_sides.specs.Table.{read_action, write_action};
 ghost use Rattle.piper_machine.specs.Step.{went};
 ghost use Rattle.piper_machine.specs.Refusal.{reader_state, writer_state};
 ghost use Rattle.piper_sides.specs.Answer.{count_in, flag_in, polled_in};
-ghost use Rattle.piper_machine.specs.Alone.{heard, reader_alone, writer_alone, read_wakes, write_wakes};
+ghost use Rattle.piper_machine.specs.BySteps.{IsWholeBySteps};
+ghost use Rattle.piper_machine.specs.Alone.{heard, reader_alone, writer_alone, is_draining, is_filling, read_wakes, write_wakes};
 
 use super::{Machine, write_at};
-use piper_sides::calls::{Query, Side, SideState};
+use crate::destination::Destination;
+use piper_sides::calls::{Call, Query, Side, SideState};
 use piper_sides::events::Answer;
 use piper_sides::polling::{Context, Luck, Polled};
 use piper_sides::table::{Action, ReadPlace, WritePlace};
@@ -27,6 +29,7 @@ impl Machine {
         requires { self.old.reader ≡ ReadPlace.Idle }
         ensures after { self.new ≡ begun self.old }
         ensures call { self.old.reader_call ≡ no_call }
+        ensures destination { self.old.destination ≡ Destination.Slice 0 }
     {
         self.woken.clear();
     }
@@ -36,13 +39,15 @@ impl Machine {
         requires { self.old.writer ≡ WritePlace.Idle }
         ensures after { self.new ≡ begun self.old }
         ensures call { self.old.writer_call ≡ no_call }
+        ensures source { self.old.source ≡ [] }
     {
         self.woken.clear();
     }
 
     // A waker that the next step calls joins those that the call has called.
     fn hear_reader(&mut self)
-        requires { read_action self.old.reader ≡ Action.Wake → length self.old.woken < 2 }
+        requires moves { is_draining self.old.reader ≡ false }
+        requires wakes { read_action self.old.reader ≡ Action.Wake → length self.old.woken < 2 }
         ensures { self.new ≡ heard Side.Reader (read_action self.old.reader) self.old }
     {
         if let Action::Wake = self.reader_next() {
@@ -53,7 +58,8 @@ impl Machine {
     }
 
     fn hear_writer(&mut self)
-        requires { write_action self.old.writer ≡ Action.Wake → length self.old.woken < 2 }
+        requires moves { is_filling self.old.writer ≡ false }
+        requires wakes { write_action self.old.writer ≡ Action.Wake → length self.old.woken < 2 }
         ensures { self.new ≡ heard Side.Writer (write_action self.old.writer) self.old }
     {
         if let Action::Wake = self.writer_next() {
@@ -66,6 +72,7 @@ impl Machine {
     // Makes the reader's steps up to the answer of its open call.
     fn drive_reader(&mut self) -> Answer
         requires busy { reader_state self.old.reader ≡ SideState.Busy }
+        requires moves { is_draining self.old.reader ≡ false }
         requires wakes { length self.old.woken + read_wakes self.old.reader ≤ 2 }
         ensures answer { result ≡ (reader_alone self.old.reader self.old).answer }
         ensures after { self.new ≡ (reader_alone self.old.reader self.old).pipe }
@@ -82,6 +89,7 @@ impl Machine {
     // Makes the writer's steps up to the answer of its open call.
     fn drive_writer(&mut self) -> Answer
         requires busy { writer_state self.old.writer ≡ SideState.Busy }
+        requires moves { is_filling self.old.writer ≡ false }
         requires wakes { length self.old.woken + write_wakes self.old.writer ≤ 2 }
         ensures answer { result ≡ (writer_alone self.old.writer self.old).answer }
         ensures after { self.new ≡ (writer_alone self.old.writer self.old).pipe }
@@ -100,7 +108,9 @@ impl Machine {
         requires { self.old.reader ≡ ReadPlace.Idle }
         ensures value { result ≡ unread_count self.old }
         ensures after { self.new ≡ begun self.old }
+        ensures by_steps { IsWholeBySteps (Call.Len Side.Reader) self.old }
     {
+        self.learn_steps();
         self.begin_reader();
         self.open_query(Side::Reader, Query::Len);
         self.drive_reader().count()
@@ -111,7 +121,9 @@ impl Machine {
         requires { self.old.reader ≡ ReadPlace.Idle }
         ensures value { result ≡ is_empty self.old }
         ensures after { self.new ≡ begun self.old }
+        ensures by_steps { IsWholeBySteps (Call.IsEmpty Side.Reader) self.old }
     {
+        self.learn_steps();
         self.begin_reader();
         self.open_query(Side::Reader, Query::IsEmpty);
         self.drive_reader().flag()
@@ -122,7 +134,9 @@ impl Machine {
         requires { self.old.reader ≡ ReadPlace.Idle }
         ensures value { result ≡ is_full self.old }
         ensures after { self.new ≡ begun self.old }
+        ensures by_steps { IsWholeBySteps (Call.IsFull Side.Reader) self.old }
     {
+        self.learn_steps();
         self.begin_reader();
         self.open_query(Side::Reader, Query::IsFull);
         self.drive_reader().flag()
@@ -133,7 +147,9 @@ impl Machine {
         requires { self.old.reader ≡ ReadPlace.Idle }
         ensures value { result ≡ is_closed self.old }
         ensures after { self.new ≡ begun self.old }
+        ensures by_steps { IsWholeBySteps (Call.IsClosed Side.Reader) self.old }
     {
+        self.learn_steps();
         self.begin_reader();
         self.open_is_closed(Side::Reader);
         self.drive_reader().flag()
@@ -144,7 +160,9 @@ impl Machine {
         requires { self.old.writer ≡ WritePlace.Idle }
         ensures value { result ≡ unread_count self.old }
         ensures after { self.new ≡ begun self.old }
+        ensures by_steps { IsWholeBySteps (Call.Len Side.Writer) self.old }
     {
+        self.learn_steps();
         self.begin_writer();
         self.open_query(Side::Writer, Query::Len);
         self.drive_writer().count()
@@ -155,7 +173,9 @@ impl Machine {
         requires { self.old.writer ≡ WritePlace.Idle }
         ensures value { result ≡ is_empty self.old }
         ensures after { self.new ≡ begun self.old }
+        ensures by_steps { IsWholeBySteps (Call.IsEmpty Side.Writer) self.old }
     {
+        self.learn_steps();
         self.begin_writer();
         self.open_query(Side::Writer, Query::IsEmpty);
         self.drive_writer().flag()
@@ -166,7 +186,9 @@ impl Machine {
         requires { self.old.writer ≡ WritePlace.Idle }
         ensures value { result ≡ is_full self.old }
         ensures after { self.new ≡ begun self.old }
+        ensures by_steps { IsWholeBySteps (Call.IsFull Side.Writer) self.old }
     {
+        self.learn_steps();
         self.begin_writer();
         self.open_query(Side::Writer, Query::IsFull);
         self.drive_writer().flag()
@@ -177,7 +199,9 @@ impl Machine {
         requires { self.old.writer ≡ WritePlace.Idle }
         ensures value { result ≡ is_closed self.old }
         ensures after { self.new ≡ begun self.old }
+        ensures by_steps { IsWholeBySteps (Call.IsClosed Side.Writer) self.old }
     {
+        self.learn_steps();
         self.begin_writer();
         self.open_is_closed(Side::Writer);
         self.drive_writer().flag()
@@ -192,7 +216,9 @@ impl Machine {
         requires draw { luck.draw < 100 }
         ensures answer { result ≡ (reader_look (Some (context waker luck)) (begun self.old)).answer }
         ensures after { self.new ≡ (reader_look (Some (context waker luck)) (begun self.old)).pipe }
+        ensures by_steps { IsWholeBySteps (Call.Poll Side.Reader waker luck) self.old }
     {
+        self.learn_steps();
         self.begin_reader();
         self.open_poll(Side::Reader, Context { waker, luck });
         self.drive_reader().polled()
@@ -207,7 +233,9 @@ impl Machine {
         requires draw { luck.draw < 100 }
         ensures answer { result ≡ (writer_look (Some (context waker luck)) (begun self.old)).answer }
         ensures after { self.new ≡ (writer_look (Some (context waker luck)) (begun self.old)).pipe }
+        ensures by_steps { IsWholeBySteps (Call.Poll Side.Writer waker luck) self.old }
     {
+        self.learn_steps();
         self.begin_writer();
         self.open_poll(Side::Writer, Context { waker, luck });
         self.drive_writer().polled()
@@ -217,8 +245,10 @@ impl Machine {
     pub fn r_consume(&mut self, n: usize)
         requires idle { self.old.reader ≡ ReadPlace.Idle }
         requires within { n ≤ peeked_count self.old }
-        ensures { self.new ≡ consume n (begun self.old) }
+        ensures after { self.new ≡ consume n (begun self.old) }
+        ensures by_steps { IsWholeBySteps (Call.Consume n) self.old }
     {
+        self.learn_steps();
         self.begin_reader();
         self.read.begin_consume(n);
         self.drive_reader();
@@ -233,7 +263,9 @@ impl Machine {
         ensures bounds { Lendable max self.old result }
         ensures count { length self.new.lent ≡ result }
         ensures after { self.new ≡ lending self.new.lent (begun self.old) }
+        ensures by_steps { IsWholeBySteps (Call.WriteBuf max) self.old }
     {
+        self.learn_steps();
         self.begin_writer();
         self.lend(max)
     }
@@ -250,8 +282,10 @@ impl Machine {
     pub fn w_produced(&mut self, n: usize)
         requires idle { self.old.writer ≡ WritePlace.Idle }
         requires within { n ≤ length self.old.lent }
-        ensures { self.new ≡ produce n (begun self.old) }
+        ensures after { self.new ≡ produce n (begun self.old) }
+        ensures by_steps { IsWholeBySteps (Call.Produced n) self.old }
     {
+        self.learn_steps();
         self.begin_writer();
         self.write.begin_produced(n);
         self.drive_writer();
@@ -260,8 +294,10 @@ impl Machine {
     /// Closes the pipe: nothing can be written any more, and both sides are woken. What is unread stays.
     pub fn w_close(&mut self)
         requires { self.old.writer ≡ WritePlace.Idle }
-        ensures { self.new ≡ close (begun self.old) }
+        ensures after { self.new ≡ close (begun self.old) }
+        ensures by_steps { IsWholeBySteps Call.Close self.old }
     {
+        self.learn_steps();
         self.begin_writer();
         self.write.begin_close();
         self.drive_writer();
@@ -270,8 +306,10 @@ impl Machine {
     /// Drops the reader: the pipe is closed, and the writer is woken.
     pub fn r_drop(&mut self)
         requires { self.old.reader ≡ ReadPlace.Idle }
-        ensures { self.new ≡ drop_reader (begun self.old) }
+        ensures after { self.new ≡ drop_reader (begun self.old) }
+        ensures by_steps { IsWholeBySteps (Call.Drop Side.Reader) self.old }
     {
+        self.learn_steps();
         self.begin_reader();
         self.open_drop(Side::Reader);
         self.drive_reader();
@@ -280,8 +318,10 @@ impl Machine {
     /// Drops the writer: the pipe is closed, and the reader is woken. What is unread stays.
     pub fn w_drop(&mut self)
         requires { self.old.writer ≡ WritePlace.Idle }
-        ensures { self.new ≡ drop_writer (begun self.old) }
+        ensures after { self.new ≡ drop_writer (begun self.old) }
+        ensures by_steps { IsWholeBySteps (Call.Drop Side.Writer) self.old }
     {
+        self.learn_steps();
         self.begin_writer();
         self.open_drop(Side::Writer);
         self.drive_writer();

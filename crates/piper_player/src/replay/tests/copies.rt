@@ -196,3 +196,60 @@ fn refused_copies(rt: HostRuntime) {
         expect_play(&rt, script, printed, status);
     }
 }
+
+#[test]
+fn copies_by_steps(rt: HostRuntime) {
+    let rows: [(&[u8], &[u8], u8); 9] = [
+        // A fill leaves the waker of its own side, and wakes the reader behind its store.
+        (
+            b"pipe 4\npoll r 1\nbegin fill 5\ngo w 5\ndrain 4\ngo w end\n",
+            b"ok\npending\nbegan\nclosed=false closed=false published=5\n1 5\nwoken=1 answer=1\n",
+            0,
+        ),
+        (
+            b"pipe 4\npoll r 1\nbegin fill 5\ngo w 4\ndrain 4\ngo w end\n",
+            b"ok\npending\nbegan\nclosed=false closed=false published=5\n1 5\nwoken=1 answer=1\n",
+            0,
+        ),
+        // The closed flag is loaded once more behind the source, and not behind the store.
+        (
+            b"pipe 4\nbegin fill 1,2\ngo w 3\ndrop r\ngo w end\nlen w\n",
+            b"ok\nbegan\nclosed=false closed=false\nok\npublished=1,2 answer=2\n2\n",
+            0,
+        ),
+        (
+            b"pipe 4\nbegin fill 1,2\ngo w 2\ndrop r\ngo w end\nlen w\n",
+            b"ok\nbegan\nclosed=false\nok\nclosed=true answer=2\n0\n",
+            0,
+        ),
+        // Each copying call, with its answer.
+        (
+            b"pipe 4\nfill 1,2,3\nbegin drain 2\ngo r end\nbegin polldrain 1 9\ngo r end\n",
+            b"ok\n3\nbegan\ntail=3 consumed=1,2 answer=2\nbegan\nconsumed=3 answer=ready:1\n",
+            0,
+        ),
+        (
+            b"pipe 4\nbegin polldrain 1 4\ngo r end\nbegin pollfill 2 7\ngo w end\n",
+            b"ok\nbegan\ntail=0 registered=1 closed=false tail=0 answer=pending\nbegan\nclosed=false closed=false published=7 woken=1 answer=ready:1\n",
+            0,
+        ),
+        (
+            b"pipe 4\nbegin fillfrom 2 7/8/fail\ngo w end\nbegin drainto 1 1/fail\ngo r end\nlen r\n",
+            b"ok\nbegan\nclosed=false closed=false published=7 closed=false published=8 answer=failed\nbegan\ntail=2 consumed=7 answer=failed\n1\n",
+            0,
+        ),
+        (
+            b"pipe 4\nbegin pollfill 2 7 draw=0\ngo w end\nbegin pollfill 2 7 draw=0 noyield\ngo w end\n",
+            b"ok\nbegan\nclosed=false woken=2 answer=pending\nbegan\nclosed=false answer=memory\n",
+            0,
+        ),
+        (
+            b"pipe 4\nbegin drain 4\ngo r end\nbegin drainto 1 none noregister\ngo r end\n",
+            b"ok\nbegan\ntail=0 closed=false tail=0 answer=0\nbegan\ntail=0 answer=memory\n",
+            0,
+        ),
+    ];
+    for (script, printed, status) in rows {
+        expect_play(&rt, script, printed, status);
+    }
+}

@@ -16,7 +16,7 @@ fn expect_all(
 
 #[test]
 fn every_order(rt: HostRuntime) -> Result<(), Fail> {
-    let rows: [(&[u8], &[u8], u8); 28] = [
+    let rows: [(&[u8], &[u8], u8); 36] = [
         // Each distinct outcome once, in the order of bytes.
         (
             b"pipe 4\nbegin poll r 1\nbegin drop w\n",
@@ -27,6 +27,47 @@ fn every_order(rt: HostRuntime) -> Result<(), Fail> {
             b"pipe 4\nfill 1..3\npoll r 1\npeek\nbegin consume 2\nbegin lend 9\n",
             b"r=ok w=lent:1 woken=- unread=3\n",
             0,
+        ),
+        (
+            b"pipe 4\nbegin poll r 1\nbegin fill 9\n",
+            b"r=pending w=1 woken=1 unread=9\nr=ready:true w=1 woken=- unread=9\nr=ready:true w=1 woken=1 unread=9\n",
+            0,
+        ),
+        (
+            b"pipe 1\nfill 7\nbegin drain 1\nbegin poll w 2\n",
+            b"r=1 w=pending woken=2 unread=-\nr=1 w=ready:true woken=- unread=-\nr=1 w=ready:true woken=2 unread=-\n",
+            0,
+        ),
+        (
+            b"pipe 4\nbegin drop r\nbegin fill 1,2\n",
+            b"r=ok w=0 woken=- unread=-\nr=ok w=2 woken=- unread=-\nr=ok w=2 woken=- unread=1,2\n",
+            0,
+        ),
+        // A call of more than 8 steps in some order; of two such calls the one opened first.
+        (
+            b"pipe 4\nfill 1..3\nbegin drainto 1 1/1/1\nbegin len w\n",
+            b"line 3: Limit\n",
+            1,
+        ),
+        (
+            b"pipe 4\nfill 1..3\nbegin len w\nbegin drainto 1 1/1/1\n",
+            b"line 4: Limit\n",
+            1,
+        ),
+        (
+            b"pipe 4\nbegin drainto 1 1/1/1/1\nbegin fillfrom 2 1/2/3/4\n",
+            b"line 2: Limit\n",
+            1,
+        ),
+        (
+            b"pipe 4\nbegin fillfrom 2 1/2/3/4\nbegin drainto 1 1/1/1/1\n",
+            b"line 2: Limit\n",
+            1,
+        ),
+        (
+            b"pipe 4\nbegin drainto 1 1/1/1/1\nbegin fillfrom 2 1/2/3/4\nbad\n",
+            b"line 4: Syntax\n",
+            1,
         ),
         // The whole calls print nothing, and those whom they wake are not told.
         (

@@ -24,7 +24,7 @@ fn expect_run(
 
 #[test]
 fn scripts_of_steps(rt: HostRuntime) -> Result<(), Fail> {
-    let rows: [(&[u8], &[u8], u8); 36] = [
+    let rows: [(&[u8], &[u8], u8); 38] = [
         // Each event stands on a line of its own, and the unread bytes on the last.
         (
             b"pipe 2\nbegin lend 2\nput 0 5\nbegin produced 1\ngo w 2\n",
@@ -94,7 +94,13 @@ fn scripts_of_steps(rt: HostRuntime) -> Result<(), Fail> {
         (b"pipe 4\npeek\n", b"line 2: Syntax\n", 1),
         (b"pipe 4\nclose\n", b"line 2: Syntax\n", 1),
         (b"pipe 4\nbegin len r\ngo r end\n", b"line 3: Syntax\n", 1),
-        (b"pipe 4\nbegin fill 1\n", b"line 2: Syntax\n", 1),
+        (b"pipe 4\nfill 1\n", b"line 2: Syntax\n", 1),
+        (b"pipe 4\nbegin fill 256\n", b"line 2: Limit\n", 1),
+        (
+            b"pipe 4\nbegin pollfill 2 8\ngo w 5\nbegin drainto 1 1\ngo r 6\ngo w 2\n",
+            b"w began\nw closed=false\nw closed=false\nw published=8\nr began\nr tail=1\nr consumed=8\nr answer=ready:1\nw answer=ready:1\nunread -\n",
+            0,
+        ),
         (b"pipe 4\ngo r 0\n", b"line 2: Limit\n", 1),
         (b"pipe 4\nput 0 256\n", b"line 2: Limit\n", 1),
         (b"pipe 4\nput 0 x\n", b"line 2: Syntax\n", 1),

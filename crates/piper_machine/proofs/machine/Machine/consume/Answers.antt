@@ -11,4 +11,4 @@ returns c =
     let i = c.self.invariant in
     let same = ap (λ (p : Pipe). peeked_count p) c.self.view_is in
     let below = place_below m.read.capacity m.read.head i.reading.head in
-    rw (← c.self.view_is) (consumed-view m i c.args.n c.consume.new.self m.read.place m.reader_call c.consume.ensures.after (omega arith) (omega arith))
+    rw (← c.self.view_is) (consumed-view m i c.args.n c.consume.new.self m.read.place m.reader_call m.destination c.consume.ensures.after (omega arith) (omega arith))

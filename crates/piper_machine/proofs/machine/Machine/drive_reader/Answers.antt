@@ -11,11 +11,12 @@ steps-preserved c =
     let after : c.reader_goes.new.self ≡ next.pipe = rw c.hear_reader.ensures at c.reader_goes.ensures.after in
     let answer : c.reader_goes.result ≡ next.answer = rw c.hear_reader.ensures at c.reader_goes.ensures.answer in
     let none : next.answer ≡ None = sym answer ∙ c.in-None.is in
-    let near = reader-nearer p.reader p inv.busy none in
+    let near = reader-nearer p.reader p inv.busy inv.moves none in
     rw after (record {
       busy = near.0;
-      wakes = let fewer = near.1.wakes in omega (arith, inv.wakes);
-      rest = inv.rest ∙ reader-rest p.reader p inv.busy ∙ ap (λ (a : Option Answer). reader_rest a next.pipe) none;
+      moves = near.1;
+      wakes = let fewer = near.2.wakes in omega (arith, inv.wakes);
+      rest = inv.rest ∙ reader-rest p.reader p inv.busy inv.moves ∙ ap (λ (a : Option Answer). reader_rest a next.pipe) none;
     })
 
 pub steps-smaller : goal.steps-smaller
@@ -25,4 +26,4 @@ steps-smaller c =
     let after : c.reader_goes.new.self ≡ next.pipe = rw c.hear_reader.ensures at c.reader_goes.ensures.after in
     let answer : c.reader_goes.result ≡ next.answer = rw c.hear_reader.ensures at c.reader_goes.ensures.answer in
     let none : next.answer ≡ None = sym answer ∙ c.in-None.is in
-    rw after (reader-nearer p.reader p c.steps.invariant.busy none).1.steps
+    rw after (reader-nearer p.reader p c.steps.invariant.busy c.steps.invariant.moves none).2.steps

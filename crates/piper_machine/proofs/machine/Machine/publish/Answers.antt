@@ -10,4 +10,4 @@ returns c =
     let i = c.self.invariant in
     let same = ap (λ (p : Pipe). length p.lent) c.self.view_is in
     let long = length-lent m i in
-    rw (← c.self.view_is) (published-view m i c.args.n c.publish.new.self m.write.place m.writer_call c.publish.ensures.after (omega arith))
+    rw (← c.self.view_is) (published-view m i c.args.n c.publish.new.self m.write.place m.writer_call m.source c.publish.ensures.after (omega arith))

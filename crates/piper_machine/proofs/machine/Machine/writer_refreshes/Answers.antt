@@ -1,7 +1,7 @@
 use Rattle.std.proofs.Common.{◌-◌, ap, ◌∙◌, length}
 use Rattle.piper_sides.specs.declared.table.WritePlace.{WritePlace}
 use Rattle.piper_sides.specs.Table.{Next}
-use Rattle.piper_machine.specs.Step.{call_after}
+use Rattle.piper_machine.specs.Step.{call_after, source_after}
 use Rattle.piper_machine.specs.Machine.{pipe_of}
 use Rattle.piper_machine.proofs.Moves.{head_seen-view, refreshed-next}
 use Rattle.piper_machine.proofs.machine.Machine.writer_refreshes.Goals as goal
@@ -11,7 +11,7 @@ returns-clause-after c =
     let m = c.self.inside in
     let i = c.self.invariant in
     let p = pipe_of m in
-    let seen = head_seen-view m i c.refreshed-answer.new.self _ _ (rw c.head.ensures at c.refreshed-answer.ensures.after) in
+    let seen = head_seen-view m i c.refreshed-answer.new.self _ _ _ (rw c.head.ensures at c.refreshed-answer.ensures.after) in
     let answer = rw c.head.ensures at c.refreshed-answer.ensures.answer in
-    rw (← c.self.view_is, c.settle.ensures.after, answer)
-    (seen ∙ ap (λ (next : Next WritePlace). record p { room = p.capacity - length p.unread; writer = next.place; writer_call = call_after next.answer p.writer_call }) (refreshed-next m i))
+    rw (← c.self.view_is, c.settle.ensures.after, c.settle_source.ensures.after, answer)
+    (seen ∙ ap (λ (next : Next WritePlace). record p { room = p.capacity - length p.unread; writer = next.place; writer_call = call_after next.answer p.writer_call; source = source_after next.answer p.source }) (refreshed-next m i))

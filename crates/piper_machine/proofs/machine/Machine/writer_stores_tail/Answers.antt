@@ -4,7 +4,7 @@ use Rattle.piper_machine.specs.Pipe.{Pipe}
 use Rattle.piper_machine.specs.Move.{published}
 use Rattle.piper_sides.specs.Side.{room_of}
 use Rattle.piper_sides.specs.Table.{Next, write_after, nothing}
-use Rattle.piper_machine.specs.Step.{call_after}
+use Rattle.piper_machine.specs.Step.{call_after, source_after}
 use Rattle.piper_machine.specs.Machine.{pipe_of}
 use Rattle.piper_machine.proofs.Soundness.{length-lent}
 use Rattle.piper_machine.proofs.Moves.{published-view}
@@ -17,6 +17,6 @@ returns-clause-after c =
     let p = pipe_of m in
     let same = ap (λ (q : Pipe). length q.lent) c.self.view_is in
     let long = length-lent m i in
-    let moved = published-view m i c.args.n c.stored_tail-answer.new.self _ _ c.stored_tail-answer.ensures.after (omega arith) in
-    rw (← c.self.view_is, c.settle.ensures.after, c.stored_tail-answer.ensures.answer)
-    (moved ∙ ap (λ (next : Next WritePlace). record (published c.args.n p) { writer = next.place; writer_call = call_after next.answer p.writer_call }) (ap (λ capacity. write_after capacity (room_of m.write) m.write.place nothing) i.capacity))
+    let moved = published-view m i c.args.n c.stored_tail-answer.new.self _ _ _ c.stored_tail-answer.ensures.after (omega arith) in
+    rw (← c.self.view_is, c.settle.ensures.after, c.settle_source.ensures.after, c.stored_tail-answer.ensures.answer)
+    (moved ∙ ap (λ (next : Next WritePlace). record (published c.args.n p) { writer = next.place; writer_call = call_after next.answer p.writer_call; source = source_after next.answer p.source }) (ap (λ capacity. write_after capacity (room_of m.write) m.write.place nothing) i.capacity))

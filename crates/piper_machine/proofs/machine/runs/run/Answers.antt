@@ -1,10 +1,11 @@
-use Rattle.std.proofs.Common.{[], take, sym, subst}
+use Rattle.std.proofs.Common.{[], ◌∷◌, ◌++◌, take, sym, ap, subst, ◌∙◌}
 use Rattle.std.proofs.lemmas.List.{take_more}
+use Rattle.piper_sides.specs.declared.calls.Step.{Step}
 use Rattle.piper_machine.specs.Pipe.{fresh}
 use Rattle.piper_sides.specs.Log.{events}
 use Rattle.piper_machine.specs.Run.{Runs}
 use Rattle.piper_machine.proofs.Runs.{runs_more}
-use Rattle.piper_machine.proofs.Conserving.{conserved-step}
+use Rattle.piper_machine.proofs.Conserving.{capacity-kept, conserved-step}
 use Rattle.piper_machine.proofs.Counting.{Counted, counted_more}
 use Rattle.piper_machine.proofs.Honesty.{honest_more}
 use Rattle.piper_machine.proofs.Remembering.{remembers_more}
@@ -19,10 +20,13 @@ loop-i-preserved c =
     let after = c.step.new.self in
     let es = events c.loop-i.log in
     let fs = events c.step.new.log in
+    let same = capacity-kept before after _ es fs c.learn.ensures made in
+    let longer = take_more c.args.steps.now c.loop-i.i c.index-steps-i.result c.loop-i-test.true ∙ ap (λ (s : Step). take c.loop-i.i c.args.steps.now ++ s ∷ []) (sym c.index-steps-i.is) in
     let on = runs_more (fresh c.args.cap) before after (take c.loop-i.i c.args.steps.now) _ [] es fs inv.runs made in
     record {
-      runs = subst (λ ss. Runs (fresh c.args.cap) [] ss after fs) (sym (take_more c.args.steps.now c.loop-i.i _ c.loop-i-test.true)) on;
-      counted = subst (λ ss. Counted ss after) (sym (take_more c.args.steps.now c.loop-i.i _ c.loop-i-test.true)) (counted_more (take c.loop-i.i c.args.steps.now) _ before after es fs inv.counted made);
+      capacity = same ∙ inv.capacity;
+      runs = subst (λ ss. Runs (fresh c.args.cap) [] ss after fs) (sym longer) on;
+      counted = subst (λ ss. Counted ss after) (sym longer) (counted_more (take c.loop-i.i c.args.steps.now) _ before after es fs c.learn.ensures same inv.counted made);
       honest = honest_more before after _ es fs inv.honest made;
       remembers = remembers_more before after _ es fs c.learn.ensures inv.remembers made;
       final = final_more before after _ es fs c.learn.ensures inv.honest inv.final made;

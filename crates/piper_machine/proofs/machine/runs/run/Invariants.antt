@@ -1,4 +1,4 @@
-use Rattle.std.proofs.Common.{take, []}
+use Rattle.std.proofs.Common.{◌≡◌, take, []}
 use Rattle.piper_machine.specs.Pipe.{fresh}
 use Rattle.piper_sides.specs.Log.{events}
 use Rattle.piper_machine.specs.Run.{Runs}
@@ -11,6 +11,7 @@ use Rattle.piper_machine.proofs.machine.runs.run.Given as goal
 
 abbrev pub invariant-loop-i : goal.invariant-loop-i
 invariant-loop-i l = record {
+  capacity : l.machine.capacity ≡ l.cap;
   runs : Runs (fresh l.cap) [] (take l.i l.steps) l.machine (events l.log);
   counted : Counted (take l.i l.steps) l.machine;
   honest : Honest l.machine (events l.log);

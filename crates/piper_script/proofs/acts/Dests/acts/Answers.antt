@@ -4,4 +4,4 @@ use Rattle.piper_script.proofs.acts.Dests.acts.Goals as goal
 
 pub loop-act-preserved : goal.loop-act-preserved
 loop-act-preserved c =
-    rw c.in-Ok.ensures.items (texts_of-append dest_text c.loop-act.yielded c.in-Some.act c.loop-act.acts.items c.in_ok-act.act c.loop-act.invariant c.in_ok-act.ensures.text)
+    rw c.in_ok-push.ensures.ok (texts_of-append dest_text c.loop-act.yielded c.in-Some.act c.loop-act.acts c.in_ok-dest.field-0 c.loop-act.invariant c.in_ok-dest.ensures.text)

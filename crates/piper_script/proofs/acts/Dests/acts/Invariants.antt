@@ -4,4 +4,4 @@ use Rattle.piper_script.proofs.Lists.{texts_of}
 use Rattle.piper_script.proofs.acts.Dests.acts.Given as goal
 
 abbrev pub invariant-loop-act : goal.invariant-loop-act
-invariant-loop-act l = texts_of l.yielded ≡ map dest_text l.acts.items
+invariant-loop-act l = texts_of l.yielded ≡ map dest_text l.acts

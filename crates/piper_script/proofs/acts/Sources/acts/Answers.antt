@@ -3,4 +3,4 @@ use Rattle.piper_script.proofs.acts.Sources.acts.Goals as goal
 
 pub loop-act-preserved : goal.loop-act-preserved
 loop-act-preserved c =
-    one_act_more c.loop-act.yielded c.in-Some.act c.loop-act.acts.items c.push.new.self.items c.in_ok-act.act c.loop-act.invariant c.in_ok-act.ensures c.in-Ok.ensures.items
+    one_act_more c.loop-act.yielded c.in-Some.act c.loop-act.acts c.push.new.self c.in_ok-source.field-0 c.loop-act.invariant c.in_ok-source.ensures c.in_ok-push.ensures.ok

@@ -3,4 +3,4 @@ use Rattle.piper_script.proofs.ScriptedActs.{WritesActs}
 use Rattle.piper_script.proofs.acts.Sources.acts.Given as goal
 
 abbrev pub invariant-loop-act : goal.invariant-loop-act
-invariant-loop-act l = WritesActs (texts_of l.yielded) l.acts.items
+invariant-loop-act l = WritesActs (texts_of l.yielded) l.acts

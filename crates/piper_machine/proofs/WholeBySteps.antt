@@ -1,0 +1,233 @@
+-- Every call made by steps, none of which is the other side's, is the call run whole.
+use Rattle.std.proofs.Common.{◌≡◌, ℕ, ◌+◌, ◌*◌, ◌≤◌, List, [], ◌∷◌, ◌++◌, length, replicate, Bool, true, false, Option, None, Some, ◌==◌, nat_le, refl, sym, ap, ◌∙◌, subst, arith, append_assoc}
+use Rattle.std.proofs.lemmas.Bool.Decides.{nat_tests}
+use Rattle.piper_sides.specs.declared.calls.Side.{Side}
+use Rattle.piper_sides.specs.declared.calls.Side.TheVariants.{Reader, Writer}
+use Rattle.piper_sides.specs.declared.calls.SideState.TheVariants.{Busy}
+use Rattle.piper_sides.specs.declared.calls.Call.{Call}
+use Rattle.piper_sides.specs.declared.calls.Call.TheVariants as call
+use Rattle.piper_sides.specs.declared.calls.Step.TheVariants.{Begin, Go}
+use Rattle.piper_sides.specs.declared.events.Answer.{Answer}
+use Rattle.piper_sides.specs.declared.events.Answer.TheVariants.{Lent}
+use Rattle.piper_sides.specs.declared.events.Event.{Event}
+use Rattle.piper_sides.specs.declared.events.Event.TheVariants.{Began, Answered}
+use Rattle.piper_sides.specs.declared.refusals.StepRefusal.{StepRefusal}
+use Rattle.piper_sides.specs.declared.refusals.StepRefusal.TheVariants.{BadDraw}
+use Rattle.piper_sides.specs.declared.table.Form.TheVariants.{Try, Polling}
+use Rattle.piper_sides.specs.declared.table.Form.{Form}
+use Rattle.piper_machine.specs.Counts.{most_steps}
+use Rattle.piper_sides.specs.declared.table.Purpose.{Purpose}
+use Rattle.piper_sides.specs.declared.table.Purpose.TheVariants as purpose
+use Rattle.piper_sides.specs.declared.table.ReadPlace.{ReadPlace}
+use Rattle.piper_sides.specs.declared.table.ReadPlace.TheVariants as at
+use Rattle.piper_sides.specs.declared.table.WritePlace.{WritePlace}
+use Rattle.piper_sides.specs.declared.table.WritePlace.TheVariants as on
+use Rattle.piper_sides.specs.Open.{no_call}
+use Rattle.piper_machine.specs.declared.destination.Destination.TheVariants.{Slice}
+use Rattle.piper_machine.specs.declared.machine.Machine.TheInside.{Inside}
+use Rattle.piper_machine.specs.Machine.{pipe_of, IsMachine}
+use Rattle.piper_machine.proofs.Soundness.{sound}
+use Rattle.piper_sides.specs.Call.{side_of, kind_of, waker_of, has_good_draw}
+use Rattle.piper_sides.specs.Side.{head_store}
+use Rattle.piper_sides.specs.Log.{answer_event}
+use Rattle.piper_sides.specs.Table.{reader_looks_for}
+use Rattle.piper_machine.specs.Pipe.{Pipe, begun}
+use Rattle.piper_machine.specs.Sound.{IsSound}
+use Rattle.piper_machine.specs.Look.{context}
+use Rattle.piper_machine.specs.Lend.{lending}
+use Rattle.piper_machine.specs.Refusal.{reader_state, writer_state, state_of, cannot_begin, cannot_go, unless, or_else, past, refusal_of}
+use Rattle.piper_machine.specs.Step.{opened, answer_at_once}
+use Rattle.piper_machine.specs.Run.{Runs}
+use Rattle.piper_machine.specs.Alone.{Ended, read_steps}
+use Rattle.piper_machine.specs.BySteps.{names_of, whole, IsWholeBySteps, AreWholeBySteps}
+use Rattle.piper_machine.proofs.BySteps.{named, alone_of, left_of, Stands, no_more, finish}
+use Rattle.piper_machine.proofs.Whole.{reader_resting, writer_resting, reader-polls, drain-slice, drain-acts, try_drain-whole, writer-polls, fill-slice, fill-acts, try_fill-whole}
+
+-- between two calls a side holds nothing of a call
+abbrev pub HoldsNothing : Side → Pipe → Type 0
+HoldsNothing Reader p = p.reader ≡ at.Idle → (p.reader_call ≡ no_call) × (p.destination ≡ Slice 0)
+HoldsNothing Writer p = p.writer ≡ on.Idle → (p.writer_call ≡ no_call) × (p.source ≡ [])
+
+reader-idle : (place : ReadPlace) → cannot_begin (reader_state place) ≡ None → place ≡ at.Idle
+reader-idle at.Idle none = refl
+reader-idle place none = absurd (cc)
+
+writer-idle : (place : WritePlace) → cannot_begin (writer_state place) ≡ None → place ≡ on.Idle
+writer-idle on.Idle none = refl
+writer-idle place none = absurd (cc)
+
+abbrev pub resting : Side → Pipe → Pipe
+resting Reader p = reader_resting p
+resting Writer p = writer_resting p
+
+rests-is : (side : Side) (p : Pipe) → HoldsNothing side p → cannot_begin (state_of side p) ≡ None → p ≡ resting side p
+rests-is Reader p holds none =
+    let place = reader-idle p.reader none in
+    let held = holds place in
+    let of_call = held.0 in
+    let destination = held.1 in
+    λ j. record p { reader = place j; reader_call = of_call j; destination = destination j }
+rests-is Writer p holds none =
+    let place = writer-idle p.writer none in
+    let held = holds place in
+    let of_call = held.0 in
+    let source = held.1 in
+    λ j. record p { writer = place j; writer_call = of_call j; source = source j }
+
+-- a call that has a step is opened
+pub record IsOpened (c : Call) (lent others : List ℕ) (p : Pipe) : Type 0 where
+  pub commutes : opened lent c p ≡ named p.woken (opened lent c (begun p))
+  pub at_once : answer_at_once lent c ≡ None
+  pub busy : state_of (side_of c) (opened lent c (begun p)) ≡ Busy
+  pub stands : Stands (side_of c) (opened lent c (begun p))
+  pub rest : alone_of (side_of c) (opened lent c (begun p)) ≡ whole others c p
+  pub unwoken : (opened lent c (begun p)).woken ≡ []
+  pub few : left_of (side_of c) (opened lent c (begun p)) ≤ most_steps p.capacity c
+
+looks-busy : (knows_none : Bool) (l : Purpose) → reader_state (reader_looks_for knows_none l) ≡ Busy
+looks-busy true l = refl
+looks-busy false purpose.Poll = refl
+looks-busy false (purpose.Copy Try) = refl
+looks-busy false (purpose.Copy (Polling drawn)) = refl
+
+looks-store : (knows_none : Bool) (l : Purpose) → head_store (reader_looks_for knows_none l) ≡ 0
+looks-store true l = refl
+looks-store false purpose.Poll = refl
+looks-store false (purpose.Copy Try) = refl
+looks-store false (purpose.Copy (Polling drawn)) = refl
+
+-- the look of a drain, and its rounds
+looks-few : (knows_none : Bool) (form : Form) (capacity known : ℕ) → known ≤ capacity → read_steps capacity known (reader_looks_for knows_none (purpose.Copy form)) ≤ 6 + 4 * capacity
+looks-few true form capacity known within = omega arith
+looks-few false Try capacity known within = omega arith
+looks-few false (Polling drawn) capacity known within = omega arith
+
+poll-few : (knows_none : Bool) (capacity known : ℕ) → read_steps capacity known (reader_looks_for knows_none purpose.Poll) ≤ 5
+poll-few true capacity known = omega arith
+poll-few false capacity known = omega arith
+
+test-holds : (test : Bool) (r : StepRefusal) → unless test r ≡ None → test ≡ true
+test-holds true r none = refl
+test-holds false r none = absurd (cc)
+
+within-of : (n most : ℕ) → nat_le n most ≡ true → n ≤ most
+within-of n most test = grind (arith, nat_tests)
+
+is_lending : Call → Bool
+is_lending (call.WriteBuf most) = true
+is_lending c = false
+
+opens : (c : Call) (lent others : List ℕ) (r : Pipe) → is_lending c ≡ false → let p = resting (side_of c) r in IsSound p → past c p ≡ None → IsOpened c lent others p
+unfolding is_lending
+opens (call.Len Reader) lent others r stepped sound fits = record { commutes = refl; at_once = refl; busy = refl; stands = record { unread = sound.unread; start = sound.start; known = sound.known; store = omega arith }; rest = refl; unwoken = refl; few = omega arith }
+opens (call.IsEmpty Reader) lent others r stepped sound fits = record { commutes = refl; at_once = refl; busy = refl; stands = record { unread = sound.unread; start = sound.start; known = sound.known; store = omega arith }; rest = refl; unwoken = refl; few = omega arith }
+opens (call.IsFull Reader) lent others r stepped sound fits = record { commutes = refl; at_once = refl; busy = refl; stands = record { unread = sound.unread; start = sound.start; known = sound.known; store = omega arith }; rest = refl; unwoken = refl; few = omega arith }
+opens (call.IsClosed Reader) lent others r stepped sound fits = record { commutes = refl; at_once = refl; busy = refl; stands = record { unread = sound.unread; start = sound.start; known = sound.known; store = omega arith }; rest = refl; unwoken = refl; few = omega arith }
+opens (call.Poll Reader waker luck) lent others r stepped sound fits =
+    let none = looks-store (r.known == 0) purpose.Poll in
+    record { commutes = refl; at_once = refl; busy = looks-busy (r.known == 0) purpose.Poll; stands = record { unread = sound.unread; start = sound.start; known = sound.known; store = omega arith }; rest = reader-polls (context waker luck) r; unwoken = refl; few = poll-few (r.known == 0) r.capacity r.known }
+opens (call.TryDrain size) lent others r stepped sound fits =
+    let none = looks-store (r.known == 0) (purpose.Copy Try) in
+    record { commutes = refl; at_once = refl; busy = looks-busy (r.known == 0) (purpose.Copy Try); stands = record { unread = sound.unread; start = sound.start; known = sound.known; store = omega arith }; rest = try_drain-whole size r; unwoken = refl; few = looks-few (r.known == 0) Try r.capacity r.known (omega (arith, sound.unread, sound.known)) }
+opens (call.PollDrainBytes waker luck size) lent others r stepped sound fits =
+    let none = looks-store (r.known == 0) (purpose.Copy (Polling (luck.draw == 0))) in
+    record { commutes = refl; at_once = refl; busy = looks-busy (r.known == 0) (purpose.Copy (Polling (luck.draw == 0))); stands = record { unread = sound.unread; start = sound.start; known = sound.known; store = omega arith }; rest = drain-slice (context waker luck) size r; unwoken = refl; few = looks-few (r.known == 0) (Polling (luck.draw == 0)) r.capacity r.known (omega (arith, sound.unread, sound.known)) }
+opens (call.PollDrain waker luck acts) lent others r stepped sound fits =
+    let none = looks-store (r.known == 0) (purpose.Copy (Polling (luck.draw == 0))) in
+    record { commutes = refl; at_once = refl; busy = looks-busy (r.known == 0) (purpose.Copy (Polling (luck.draw == 0))); stands = record { unread = sound.unread; start = sound.start; known = sound.known; store = omega arith }; rest = drain-acts (context waker luck) acts r; unwoken = refl; few = looks-few (r.known == 0) (Polling (luck.draw == 0)) r.capacity r.known (omega (arith, sound.unread, sound.known)) }
+opens (call.Consume n) lent others r stepped sound fits =
+    let within = within-of n _ (test-holds _ _ fits) in
+    record { commutes = refl; at_once = refl; busy = refl; stands = record { unread = sound.unread; start = sound.start; known = sound.known; store = within }; rest = refl; unwoken = refl; few = omega arith }
+opens (call.Drop Reader) lent others r stepped sound fits = record { commutes = refl; at_once = refl; busy = refl; stands = record { unread = sound.unread; start = sound.start; known = sound.known; store = omega arith }; rest = refl; unwoken = refl; few = omega arith }
+opens (call.WriteBuf most) lent others r stepped sound fits = absurd (cc)
+opens (call.Produced n) lent others r stepped sound fits =
+    let within = within-of n _ (test-holds _ _ fits) in
+    let room = sound.lent_room in
+    record { commutes = refl; at_once = refl; busy = refl; stands = (record { unread = sound.unread; start = sound.start; room = sound.room; store = omega arith; shut = sound.closed; unclosed = λ saw. absurd (cc) }, refl); rest = refl; unwoken = refl; few = omega arith }
+opens (call.Len Writer) lent others r stepped sound fits = record { commutes = refl; at_once = refl; busy = refl; stands = (record { unread = sound.unread; start = sound.start; room = sound.room; store = omega arith; shut = sound.closed; unclosed = λ saw. absurd (cc) }, refl); rest = refl; unwoken = refl; few = omega arith }
+opens (call.IsEmpty Writer) lent others r stepped sound fits = record { commutes = refl; at_once = refl; busy = refl; stands = (record { unread = sound.unread; start = sound.start; room = sound.room; store = omega arith; shut = sound.closed; unclosed = λ saw. absurd (cc) }, refl); rest = refl; unwoken = refl; few = omega arith }
+opens (call.IsFull Writer) lent others r stepped sound fits = record { commutes = refl; at_once = refl; busy = refl; stands = (record { unread = sound.unread; start = sound.start; room = sound.room; store = omega arith; shut = sound.closed; unclosed = λ saw. absurd (cc) }, refl); rest = refl; unwoken = refl; few = omega arith }
+opens (call.IsClosed Writer) lent others r stepped sound fits = record { commutes = refl; at_once = refl; busy = refl; stands = (record { unread = sound.unread; start = sound.start; room = sound.room; store = omega arith; shut = sound.closed; unclosed = λ saw. absurd (cc) }, refl); rest = refl; unwoken = refl; few = omega arith }
+opens (call.Poll Writer waker luck) lent others r stepped sound fits = record { commutes = refl; at_once = refl; busy = refl; stands = (record { unread = sound.unread; start = sound.start; room = sound.room; store = omega arith; shut = sound.closed; unclosed = λ saw. absurd (cc) }, refl); rest = writer-polls (context waker luck) r; unwoken = refl; few = omega arith }
+opens (call.TryFill bytes) lent others r stepped sound fits = record { commutes = refl; at_once = refl; busy = refl; stands = (record { unread = sound.unread; start = sound.start; room = sound.room; store = omega arith; shut = sound.closed; unclosed = λ saw. absurd (cc) }, refl); rest = try_fill-whole bytes r; unwoken = refl; few = omega arith }
+opens (call.PollFillBytes waker luck bytes) lent others r stepped sound fits = record { commutes = refl; at_once = refl; busy = refl; stands = (record { unread = sound.unread; start = sound.start; room = sound.room; store = omega arith; shut = sound.closed; unclosed = λ saw. absurd (cc) }, refl); rest = fill-slice (context waker luck) bytes r; unwoken = refl; few = omega arith }
+opens (call.PollFill waker luck acts) lent others r stepped sound fits = record { commutes = refl; at_once = refl; busy = refl; stands = (record { unread = sound.unread; start = sound.start; room = sound.room; store = omega arith; shut = sound.closed; unclosed = λ saw. absurd (cc) }, refl); rest = fill-acts (context waker luck) acts r; unwoken = refl; few = omega arith }
+opens call.Close lent others r stepped sound fits = record { commutes = refl; at_once = refl; busy = refl; stands = (record { unread = sound.unread; start = sound.start; room = sound.room; store = omega arith; shut = sound.closed; unclosed = λ saw. absurd (cc) }, refl); rest = refl; unwoken = refl; few = omega arith }
+opens (call.Drop Writer) lent others r stepped sound fits = record { commutes = refl; at_once = refl; busy = refl; stands = (record { unread = sound.unread; start = sound.start; room = sound.room; store = omega arith; shut = sound.closed; unclosed = λ saw. absurd (cc) }, refl); rest = refl; unwoken = refl; few = omega arith }
+
+or_else-second : (first second : Option StepRefusal) → or_else first second ≡ None → second ≡ None
+or_else-second None second none = none
+or_else-second (Some r) second none = absurd (cc)
+
+or_else-first : (first second : Option StepRefusal) → or_else first second ≡ None → first ≡ None
+or_else-first None second none = refl
+or_else-first (Some r) second none = absurd (cc)
+
+-- of a call that is opened: its side is idle, and it asks for no more than there is
+begins-idle : (c : Call) (p : Pipe) → refusal_of (Begin c) p ≡ None → cannot_begin (state_of (side_of c) p) ≡ None
+begins-idle c p none = or_else-first (cannot_begin (state_of (side_of c) p)) (or_else (unless (has_good_draw c) BadDraw) (past c p)) none
+
+begins-within : (c : Call) (p : Pipe) → refusal_of (Begin c) p ≡ None → past c p ≡ None
+begins-within c p none = or_else-second (unless (has_good_draw c) BadDraw) (past c p) (or_else-second (cannot_begin (state_of (side_of c) p)) (or_else (unless (has_good_draw c) BadDraw) (past c p)) none)
+
+makes : (c : Call) (p : Pipe) → is_lending c ≡ false → IsSound p → HoldsNothing (side_of c) p → IsWholeBySteps c p
+makes c p stepped sound holds = record {
+  made = λ k q before after run ends.
+      let side = side_of c in
+      let mid = run.0 in
+      let made = run.2.made in
+      let fits = begins-within c p run.2.accepted in
+      let is = rests-is side p holds (begins-idle c p run.2.accepted) in
+      let opening = subst (λ (r : Pipe). IsOpened c mid.lent q.lent r) (sym is) (opens c mid.lent q.lent p stepped (subst IsSound is sound) (subst (λ (r : Pipe). past c r ≡ None) is fits)) in
+      let begins = subst (λ (r : Pipe). Runs r run.1 (replicate k (Go side)) q after) (made.pipe ∙ opening.commutes) run.3 in
+      let done = finish k side (opened mid.lent c (begun p)) p.woken run.1 after q opening.busy opening.stands begins ends in
+      let began = Began side (kind_of c) (waker_of c) in
+      let told = done.log ++ Answered side (alone_of side (opened mid.lent c (begun p))).answer ∷ [] in
+      let steps = done.steps in
+      let few = opening.few in (
+        omega arith,
+        record {
+          log = began ∷ done.log;
+          events =
+              done.events
+              ∙ ap (λ (es : List Event). es ++ told) (made.events ∙ ap (λ (answer : Option Answer). before ++ (began ∷ answer_event side answer)) opening.at_once)
+              ∙ append_assoc before (began ∷ []) told
+              ∙ ap (λ (e : Ended). before ++ (began ∷ (done.log ++ Answered side e.answer ∷ []))) opening.rest;
+          woken = sym (sym (ap (λ (e : Ended). e.pipe.woken) opening.rest) ∙ done.woken ∙ ap (λ (xs : List ℕ). xs ++ names_of done.log) opening.unwoken);
+          pipe = done.pipe ∙ ap (λ (e : Ended). named p.woken e.pipe) opening.rest;
+        },
+      );
+}
+
+-- a call of write_buf has no step
+lends : (most : ℕ) (p : Pipe) → IsWholeBySteps (call.WriteBuf most) p
+lends most p = record {
+  made = λ k q before after run ends.
+      let mid = run.0 in
+      let made = run.2.made in
+      let began = Began Writer (kind_of (call.WriteBuf most)) None in
+      let idle = ap (λ (r : Pipe). r.writer) made.pipe ∙ writer-idle p.writer (begins-idle (call.WriteBuf most) p run.2.accepted) in
+      let over = no_more k Writer mid q run.1 after (subst (λ (place : WritePlace). cannot_go (writer_state place) ≡ None → ⊥) (sym idle) (λ none. absurd (cc))) run.3 in
+      let last = over.0 in (
+        omega arith,
+        record {
+          log = began ∷ [];
+          events = over.2 ∙ made.events ∙ ap (λ (r : Pipe). before ++ (began ∷ Answered Writer (Lent (length r.lent)) ∷ [])) (sym over.1);
+          woken = refl;
+          pipe = over.1 ∙ made.pipe ∙ ap (λ (r : Pipe). lending r.lent p) (sym over.1);
+        },
+      );
+}
+
+pub whole-by_steps : (c : Call) (p : Pipe) → IsSound p → HoldsNothing (side_of c) p → IsWholeBySteps c p
+unfolding is_lending
+whole-by_steps (call.WriteBuf most) p sound holds = lends most p
+whole-by_steps c p sound holds = makes c p refl sound holds
+
+module _ (m : Inside) (i : IsMachine m) where
+  holds-nothing : (side : Side) → HoldsNothing side (pipe_of m)
+  holds-nothing Reader = λ idle. (i.reader_call idle, i.destination idle)
+  holds-nothing Writer = λ idle. (i.writer_call idle, i.source idle)
+
+  pub by_steps : (p : Pipe) → pipe_of m ≡ p → AreWholeBySteps p
+  by_steps p e = subst AreWholeBySteps e (λ c. whole-by_steps c (pipe_of m) (sound m i (pipe_of m) refl) (holds-nothing (side_of c)))

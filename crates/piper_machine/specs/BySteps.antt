@@ -1,0 +1,101 @@
+-- A call made by steps, none of which is the other side's, is the call run whole.
+use Rattle.std.specs.Prelude.{◌≡◌, ℕ, ◌≤◌, List, [], ◌∷◌, ◌++◌, length, replicate, Result, Ok, Some}
+use Rattle.piper_sides.specs.declared.calls.Side.{Side}
+use Rattle.piper_sides.specs.declared.calls.Side.TheVariants.{Reader, Writer}
+use Rattle.piper_sides.specs.declared.calls.SideState.TheVariants.{Busy}
+use Rattle.piper_sides.specs.declared.calls.Call.{Call}
+use Rattle.piper_sides.specs.declared.calls.Call.TheVariants as call
+use Rattle.piper_sides.specs.declared.calls.Step.TheVariants.{Begin, Go}
+use Rattle.piper_sides.specs.declared.events.Answer.{Answer}
+use Rattle.piper_sides.specs.declared.events.Answer.TheVariants.{Count, Flag, Poll, Copy, Lent, Done}
+use Rattle.piper_sides.specs.declared.events.Event.{Event}
+use Rattle.piper_sides.specs.declared.events.Event.TheVariants.{Woken, Answered}
+use Rattle.piper_sides.specs.declared.polling.Context.{Context}
+use Rattle.piper_sides.specs.declared.polling.Polled.{Polled}
+use Rattle.piper_sides.specs.declared.polling.Polled.TheVariants.{Pending, Ready, Memory}
+use Rattle.piper_sides.specs.declared.scripted.Failed.{Failed}
+use Rattle.piper_sides.specs.Call.{side_of}
+use Rattle.piper_machine.specs.Pipe.{Pipe, begun}
+use Rattle.piper_machine.specs.Query.{unread_count, is_empty, is_full, is_closed}
+use Rattle.piper_machine.specs.Look.{Look, context, reader_look, writer_look}
+use Rattle.piper_machine.specs.Lend.{lending}
+use Rattle.piper_machine.specs.Move.{produce, consume}
+use Rattle.piper_machine.specs.Copy.{Copied, count_of, fill, drain, try_fill, try_drain}
+use Rattle.piper_machine.specs.Scripted.{fill_from, drain_to}
+use Rattle.piper_machine.specs.Close.{close, drop_reader, drop_writer}
+use Rattle.piper_machine.specs.Refusal.{state_of}
+use Rattle.piper_machine.specs.Counts.{most_steps}
+use Rattle.piper_machine.specs.Run.{Runs}
+use Rattle.piper_machine.specs.Alone.{Ended}
+
+abbrev pub answering : Answer → Pipe → Ended
+answering answer p = record { answer = answer; pipe = p }
+
+abbrev pub looked_whole : Look → Ended
+looked_whole look = answering (Poll look.answer) look.pipe
+
+-- a copy between the pipe and a slice cannot fail
+abbrev pub unfailing : Polled ℕ → Polled (Result ℕ Failed)
+unfailing (Ready n) = Ready (Ok n)
+unfailing Pending = Pending
+unfailing Memory = Memory
+
+abbrev pub counted_whole : Copied ℕ → Ended
+counted_whole copied = answering (Count (count_of copied.answer)) copied.pipe
+
+abbrev pub copied_slice : Copied ℕ → Ended
+copied_slice copied = answering (Copy (unfailing copied.answer)) copied.pipe
+
+abbrev pub copied_acts : Copied (Result ℕ Failed) → Ended
+copied_acts copied = answering (Copy copied.answer) copied.pipe
+
+abbrev pub polled_whole : Side → Context → Pipe → Ended
+polled_whole Reader cx p = looked_whole (reader_look (Some cx) (begun p))
+polled_whole Writer cx p = looked_whole (writer_look (Some cx) (begun p))
+
+abbrev pub dropped_whole : Side → Pipe → Ended
+dropped_whole Reader p = answering Done (drop_reader (begun p))
+dropped_whole Writer p = answering Done (drop_writer (begun p))
+
+-- what a call answers and leaves that is run whole, with these bytes in what a call of write_buf lends
+abbrev pub whole : List ℕ → Call → Pipe → Ended
+whole lent (call.Len side) p = answering (Count (unread_count p)) (begun p)
+whole lent (call.IsEmpty side) p = answering (Flag (is_empty p)) (begun p)
+whole lent (call.IsFull side) p = answering (Flag (is_full p)) (begun p)
+whole lent (call.IsClosed side) p = answering (Flag (is_closed p)) (begun p)
+whole lent (call.Poll side waker luck) p = polled_whole side (context waker luck) p
+whole lent (call.TryDrain size) p = counted_whole (try_drain size p)
+whole lent (call.PollDrainBytes waker luck size) p = copied_slice (drain (Some (context waker luck)) size p)
+whole lent (call.PollDrain waker luck acts) p = copied_acts (drain_to (Some (context waker luck)) acts p)
+whole lent (call.Consume n) p = answering Done (consume n (begun p))
+whole lent (call.TryFill bytes) p = counted_whole (try_fill bytes p)
+whole lent (call.PollFillBytes waker luck bytes) p = copied_slice (fill (Some (context waker luck)) bytes p)
+whole lent (call.PollFill waker luck acts) p = copied_acts (fill_from (Some (context waker luck)) acts p)
+whole lent (call.WriteBuf most) p = answering (Lent (length lent)) (lending lent (begun p))
+whole lent (call.Produced n) p = answering Done (produce n (begun p))
+whole lent call.Close p = answering Done (close (begun p))
+whole lent (call.Drop side) p = dropped_whole side p
+
+-- the wakers that were called
+abbrev pub named_by : Event → List ℕ
+named_by (Woken name) = name ∷ []
+named_by event = []
+
+abbrev pub names_of : List Event → List ℕ
+names_of [] = []
+names_of (e ∷ es) = named_by e ++ names_of es
+
+-- the log tells the answer last, and before it the wakers that the whole call keeps the names of
+pub record IsMadeWhole (side : Side) (p : Pipe) (before : List Event) (q : Pipe) (after : List Event) (run_whole : Ended) : Type 0 where
+  pub log : List Event
+  pub events : after ≡ before ++ (log ++ Answered side run_whole.answer ∷ [])
+  pub woken : names_of log ≡ run_whole.pipe.woken
+  pub pipe : q ≡ record run_whole.pipe { woken = p.woken }
+
+-- as soon as steps of its side alone leave that side without an open call, the call is made as if it were run whole, and in no more steps than it may make
+pub record IsWholeBySteps (c : Call) (p : Pipe) : Type 0 where
+  pub made : (k : ℕ) (q : Pipe) (before after : List Event) → let side = side_of c in Runs p before (Begin c ∷ replicate k (Go side)) q after → (state_of side q ≡ Busy → ⊥) → (k ≤ most_steps p.capacity c) × IsMadeWhole side p before q after (whole q.lent c p)
+
+-- of every call that may be opened here
+abbrev pub AreWholeBySteps : Pipe → Type 0
+AreWholeBySteps p = (c : Call) → IsWholeBySteps c p

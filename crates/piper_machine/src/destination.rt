@@ -1,0 +1,75 @@
+//! What is left of the destination of an open drain.
+ghost use Rattle.std.specs.Prelude.{◌≡◌, [], IfOk};
+ghost use Rattle.piper_machine.specs.Round.{taken, taken_by_acts, left_of_acts, left_of_destination};
+
+use piper_sides::memory::OutOfMemory;
+use piper_sides::scripted::{DestAct, Failed};
+use std::alloc::Global;
+use std::marker::Model;
+
+/// A script of which the first acts are spent.
+#[derive(Debug, Drop)]
+pub struct Acts {
+    script: Vec<DestAct>,
+    spent: usize,
+}
+
+impl Model for Acts {
+    ghost use Rattle.std.specs.Prelude.{List, drop};
+    ghost use Rattle.piper_sides.specs.declared.scripted.DestAct.{DestAct};
+
+    ghost Value = { List DestAct };
+
+    ghost view = { λ acts. drop acts.spent acts.script.items };
+}
+
+/// Where a drain puts its bytes.
+#[derive(Debug, Drop)]
+pub enum Destination {
+    /// So many places of a slice.
+    Slice(usize),
+    Acts(Acts),
+}
+
+impl Acts {
+    /// A copy of a script, none of which is spent.
+    pub fn of(alloc: Global, acts: &[DestAct]) -> Result<Self, OutOfMemory>
+        ensures { IfOk result (λ copy. copy ≡ acts.now) }
+    {
+        let script = acts.to_vec(alloc).map_err(|_| OutOfMemory)?;
+        Ok(Acts { script, spent: 0 })
+    }
+
+    // An act is spent by its call, whatever it takes.
+    fn take(&mut self, most: usize) -> Result<usize, Failed>
+        ensures answer { result ≡ taken_by_acts most self.old }
+        ensures after { self.new ≡ left_of_acts self.old }
+    {
+        let Some(act) = self.script.get(self.spent) else {
+            return Ok(0);
+        };
+        let answer = match *act {
+            DestAct::Take(size) => Ok(size.min(most)),
+            DestAct::Fail => Err(Failed),
+        };
+        self.spent += 1;
+        answer
+    }
+}
+
+impl Destination {
+    /// Takes as many bytes of a slice of `most` as it has place for, or fails.
+    pub fn take(&mut self, most: usize) -> Result<usize, Failed>
+        ensures answer { result ≡ taken most self.old }
+        ensures after { self.new ≡ left_of_destination most self.old }
+    {
+        match self {
+            Destination::Slice(size) => {
+                let count = (*size).min(most);
+                *size -= count;
+                Ok(count)
+            }
+            Destination::Acts(acts) => acts.take(most),
+        }
+    }
+}

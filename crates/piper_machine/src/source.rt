@@ -1,0 +1,115 @@
+//! What is left of the source of an open fill.
+ghost use Rattle.std.specs.Prelude.{◌≡◌, ◌≤◌, [], ◌∷◌, length, IfOk};
+ghost use Rattle.piper_machine.specs.Round.{left_of_source};
+ghost use Rattle.piper_machine.specs.Source.{bytes_of, is_failing};
+
+use piper_sides::bytes::Bytes;
+use piper_sides::memory::OutOfMemory;
+use piper_sides::scripted::{Script, SourceAct};
+use std::alloc::Global;
+use std::marker::Model;
+
+/// A script of which the first acts are spent, and some bytes of the next one.
+#[derive(Debug, Drop)]
+pub struct Source {
+    script: Script<SourceAct>,
+    spent: usize,
+    given: usize,
+}
+
+impl Model for Source {
+    ghost use Rattle.std.specs.Prelude.{List};
+    ghost use Rattle.piper_sides.specs.declared.scripted.SourceAct.{SourceAct};
+    ghost use Rattle.piper_machine.specs.Source.{source_left, IsSource};
+
+    ghost Value = { List SourceAct };
+
+    ghost view = { λ source. source_left source.given source.spent source.script };
+
+    ghost invariant = { λ source. IsSource source.given source.spent source.script };
+}
+
+impl Source {
+    /// Nothing to give.
+    pub fn none(alloc: Global) -> Self
+        ensures { result ≡ [] }
+    {
+        Source {
+            script: Script::new(alloc),
+            spent: 0,
+            given: 0,
+        }
+    }
+
+    /// A source that gives a copy of these bytes.
+    pub fn of_bytes(alloc: Global, bytes: &[u8]) -> Result<Self, OutOfMemory>
+        ensures { IfOk result (λ source. source ≡ SourceAct.Bytes bytes.now ∷ []) }
+    {
+        let mut script = Script::new(alloc);
+        script.push(SourceAct::Bytes(Bytes::copy_of(alloc, bytes)?))?;
+        Ok(Source {
+            script,
+            spent: 0,
+            given: 0,
+        })
+    }
+
+    /// A copy of a script, none of which was given.
+    pub fn of_acts(alloc: Global, acts: &[SourceAct]) -> Result<Self, OutOfMemory>
+        ensures { IfOk result (λ source. source ≡ acts.now) }
+    {
+        let mut script = Script::new(alloc);
+        for act in acts {
+            let act = match act {
+                SourceAct::Bytes(bytes) => SourceAct::Bytes(Bytes::copy_of(
+                    alloc,
+                    bytes.as_slice(),
+                )?),
+                SourceAct::Fail => SourceAct::Fail,
+            };
+            script.push(act)?;
+        }
+        Ok(Source {
+            script,
+            spent: 0,
+            given: 0,
+        })
+    }
+
+    /// Whether its next call fails.
+    pub fn is_failing(&self) -> bool
+        ensures { result ≡ is_failing self.now }
+    {
+        match self.script.as_slice().get(self.spent) {
+            Some(SourceAct::Fail) => true,
+            _ => false,
+        }
+    }
+
+    /// What it has to give next.
+    pub fn front(&self) -> &[u8]
+        ensures { result.now ≡ bytes_of self.now }
+    {
+        match self.script.as_slice().get(self.spent) {
+            Some(SourceAct::Bytes(bytes)) => &bytes.as_slice()[self.given..],
+            _ => &[],
+        }
+    }
+
+    /// Gives the first `n` bytes of that. An act that has nothing left is spent.
+    pub fn pass(&mut self, n: usize)
+        requires { n ≤ length (bytes_of self.old) }
+        ensures { self.new ≡ left_of_source n self.old }
+    {
+        let end = match self.script.as_slice().get(self.spent) {
+            Some(SourceAct::Bytes(bytes)) => bytes.as_slice().len(),
+            _ => 0,
+        };
+        if n < end - self.given {
+            self.given += n;
+        } else if self.spent < self.script.as_slice().len() {
+            self.spent += 1;
+            self.given = 0;
+        }
+    }
+}
