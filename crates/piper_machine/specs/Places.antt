@@ -34,3 +34,10 @@ pub record HeldByWriter (p : Pipe) (place : ℕ) : Type 0 where
   pub number : ℕ
   pub is_lent : number < length p.lent
   pub stands : place ≡ end_place p + number
+
+-- the slices that a side is shown stand in one piece, at places that it holds
+abbrev pub IsPeekHeld : Pipe → Type 0
+IsPeekHeld p = (i : ℕ) → i < peeked_count p → HeldByReader p (p.start + i)
+
+abbrev pub IsLentHeld : Pipe → Type 0
+IsLentHeld p = (i : ℕ) → i < length p.lent → HeldByWriter p (end_place p + i)

@@ -4,7 +4,7 @@ ghost use Rattle.piper_sides.specs.Index.{IsCapacity, place_of};
 ghost use Rattle.piper_sides.specs.Side.{tail_store};
 ghost use Rattle.piper_machine.specs.Pipe.{fresh, begun};
 ghost use Rattle.piper_machine.specs.Buffer.{written};
-ghost use Rattle.piper_machine.specs.Places.{peeked, peeked_count, places_left};
+ghost use Rattle.piper_machine.specs.Places.{peeked, peeked_count, places_left, IsPeekHeld, IsLentHeld};
 ghost use Rattle.piper_machine.specs.BySteps.{AreWholeBySteps};
 ghost use Rattle.piper_machine.specs.Sound.{IsSound};
 ghost use Rattle.piper_machine.specs.Refresh.{reader_refreshed, writer_refreshed};
@@ -201,11 +201,13 @@ impl Machine {
         }
     }
 
-    /// The known bytes that stand in one piece, oldest first.
+    /// The known bytes that stand in one piece, oldest first: from the first unread byte's place on.
     pub fn r_peek(&self) -> &[u8]
         ensures bytes { result.now ≡ peeked self.now }
         ensures count { length result.now ≡ peeked_count self.now }
+        ensures held { IsPeekHeld self.now }
     {
+        self.learn();
         let place = self.read.front();
         &self.bytes[place..place + self.read.peekable()]
     }
@@ -288,9 +290,10 @@ impl Machine {
         (&self.bytes[head..head + first], &self.bytes[..len - first])
     }
 
-    /// What is left of the slice last lent.
+    /// What is left of the slice last lent: it stands behind the last unread byte, in one piece.
     pub fn w_lent(&self) -> &[u8]
-        ensures { result.now ≡ self.now.lent }
+        ensures bytes { result.now ≡ self.now.lent }
+        ensures held { IsLentHeld self.now }
     {
         let place = self.write.front();
         &self.bytes[place..place + self.write.lent()]

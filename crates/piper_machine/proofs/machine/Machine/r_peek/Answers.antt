@@ -1,7 +1,7 @@
-use Rattle.std.proofs.Common.{◌≡◌, ◌+◌, ◌-◌, ap, arith}
+use Rattle.std.proofs.Common.{◌≡◌, ◌+◌, ◌-◌, ap, sym, arith}
 use Rattle.piper_machine.specs.Pipe.{Pipe}
 use Rattle.piper_machine.specs.Places.{peeked}
-use Rattle.piper_machine.proofs.Indices.{place_below}
+use Rattle.piper_machine.proofs.Indices.{place_below, place_of_low}
 use Rattle.piper_machine.proofs.Between.{take-between}
 use Rattle.piper_machine.proofs.Soundness.{tail_below}
 use Rattle.piper_machine.proofs.machine.Machine.r_peek.Goals as goal
@@ -18,3 +18,12 @@ returns-clause-bytes c =
     let place = c.front-place.ensures.value in
     let of_bytes = c.deref.ensures in
     cc
+
+pub returns-clause-held : goal.returns-clause-held
+returns-clause-held c i within =
+    let p = c.args.self.now in
+    record {
+      number = i;
+      is_known = omega arith;
+      stands = sym (place_of_low p.capacity (p.start + i) (omega (arith, c.learn.ensures.start)));
+    }
