@@ -1,0 +1,72 @@
+//! Callers of the machine, proved from its contracts alone.
+#![tactic(auto)]
+
+ghost use Rattle.std.specs.Prelude.{◌≡◌, ◌≤◌, ◌⊎◌, ℕ, List, ◌++◌, ◌∷◌, [], length, replicate, true, IfOk, Err};
+ghost use Rattle.piper_sides.specs.Index.{IsCapacity};
+ghost use Rattle.piper_sides.specs.Log.{events};
+ghost use Rattle.piper_sides.specs.declared.calls.Side.{Side};
+ghost use Rattle.piper_sides.specs.declared.events.Event.{Event};
+ghost use Rattle.piper_sides.specs.declared.refusals.StepRefusal.{StepRefusal};
+ghost use Rattle.piper_sides.specs.declared.calls.Side.TheVariants.{Reader};
+ghost use Rattle.piper_sides.specs.declared.calls.Call.TheVariants as call;
+ghost use Rattle.piper_sides.specs.declared.calls.Step.TheVariants.{Begin, Go};
+ghost use Rattle.piper_sides.specs.declared.events.Answer.TheVariants.{Count};
+ghost use Rattle.piper_machine.specs.Pipe.{Pipe, fresh};
+ghost use Rattle.piper_machine.specs.Run.{Runs, RefusedAt};
+ghost use Rattle.piper_machine.specs.Conservation.{consumed_of, published_of};
+ghost use Rattle.piper_machine.specs.Places.{HeldByReader, HeldByWriter};
+ghost use Rattle.piper_machine.specs.Final.{told_end};
+ghost use Rattle.piper_machine.specs.Refusal.{IsIdle};
+ghost use Rattle.piper_machine.specs.Remembered.{other, WasCalled, StandsReady};
+ghost use Rattle.piper_machine.specs.Wait.{wait_of};
+ghost use Rattle.piper_caller.specs.Outside.{IsOutside};
+ghost use Rattle.piper_caller.specs.ToldLast.{IsToldLast};
+
+use piper_machine::OutOfMemory;
+use piper_machine::calls::Step;
+use piper_machine::events::Log;
+use piper_machine::machine::{Machine, run};
+use piper_machine::refusals::RunRefusal;
+use piper_sides::table::ReadPlace;
+use std::alloc::Global;
+
+/// The bytes go in, and come out as they went in.
+pub fn through(alloc: Global, bytes: &[u8], place: &mut [u8]) -> Result<usize, OutOfMemory>
+    requires capacity { IsCapacity (length bytes.now) }
+    requires fits { length place.old ≡ length bytes.now }
+    ensures count { IfOk result (λ n. n ≡ length bytes.now) }
+    ensures same { IfOk result (λ n. place.new ≡ bytes.now) }
+{
+    let mut machine = Machine::new(alloc, bytes.len())?;
+    machine.w_try_fill(bytes);
+    Ok(machine.r_try_drain(place))
+}
+
+/// Makes the steps, whoever chose them, and says what every one of their orders keeps.
+pub fn made_by_the_laws(
+    alloc: Global,
+    cap: usize,
+    steps: &[Step],
+) -> Result<(Machine, Log), RunRefusal>
+    requires { IsCapacity cap }
+    ensures made { IfOk result (λ run. Runs (fresh cap) [] steps.now run.0 (events run.1)) }
+    ensures refused { (i : ℕ) (why : StepRefusal) → result ≡ Err (RunRefusal.At i why) → RefusedAt cap steps.now i why }
+    ensures first_in_first_out { IfOk result (λ run. consumed_of (events run.1) ++ run.0.unread ≡ published_of (events run.1)) }
+    ensures never_overfull { IfOk result (λ run. length run.0.unread ≤ run.0.capacity) }
+    ensures no_place_is_shared { IfOk result (λ run. (place : ℕ) → HeldByReader run.0 place → HeldByWriter run.0 place → ⊥) }
+    ensures nothing_is_left_at_the_end { IfOk result (λ run. (before after : List Event) → events run.1 ≡ before ++ told_end ∷ after → consumed_of (events run.1) ≡ published_of (events run.1)) }
+    ensures nobody_is_forgotten { IfOk result (λ run. (side : Side) → IsIdle side run.0 → IsOutside (other side) run.0 → let w = wait_of side (events run.1) in w.is_pending ≡ true → WasCalled w ⊎ StandsReady side run.0 w) }
+{
+    run(alloc, cap, steps)
+}
+
+/// Counts the unread bytes; and whoever makes this call by steps, while the writer makes none, is told the same number last.
+pub fn counted_alone(machine: &mut Machine) -> usize
+    requires { machine.old.reader ≡ ReadPlace.Idle }
+    ensures by_steps { (k : ℕ) (q : Pipe) (before after : List Event) → Runs machine.old before (Begin (call.Len Reader) ∷ replicate k (Go Reader)) q after → IsOutside Reader q → IsToldLast (Count result) before after }
+{
+    machine.r_len()
+}
+
+#[cfg(test)]
+mod tests;
