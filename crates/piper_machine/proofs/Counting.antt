@@ -1,322 +1,92 @@
--- Each step of a call leaves fewer steps to make, so that no call makes more than its most.
-use Rattle.std.proofs.Common.{◌≡◌, ℕ, ◌+◌, ◌-◌, ◌*◌, ◌<◌, ◌≤◌, List, [], ◌∷◌, ◌++◌, length, Bool, true, false, Option, None, ◌==◌, is_some, Result, Ok, Err, min, lit<, lit≤, refl, sym, subst, arith}
-use Rattle.std.proofs.lemmas.Bool.Decides.{nat_tests}
+-- What each side knows, and how many steps its call has made, and calls of its destination or source: what one step does to them.
+use Rattle.std.proofs.Common.{◌≡◌, ℕ, ◌+◌, ◌*◌, ◌≤◌, List, ◌++◌, Bool, true, false, Option, None, Some, ◌==◌, refl, sym, subst, ◌∙◌, arith}
 use Rattle.piper_sides.specs.declared.calls.Side.{Side}
 use Rattle.piper_sides.specs.declared.calls.Side.TheVariants.{Reader, Writer}
 use Rattle.piper_sides.specs.declared.calls.Call.{Call}
 use Rattle.piper_sides.specs.declared.calls.Call.TheVariants as call
 use Rattle.piper_sides.specs.declared.calls.Step.{Step}
 use Rattle.piper_sides.specs.declared.calls.Step.TheVariants.{Begin, Go, Put}
+use Rattle.piper_sides.specs.declared.events.Answer.{Answer}
 use Rattle.piper_sides.specs.declared.events.Event.{Event}
 use Rattle.piper_sides.specs.declared.table.Form.{Form}
 use Rattle.piper_sides.specs.declared.table.Form.TheVariants.{Try, Polling}
-use Rattle.piper_sides.specs.declared.table.Purpose.{Purpose}
 use Rattle.piper_sides.specs.declared.table.Purpose.TheVariants as purpose
-use Rattle.piper_sides.specs.declared.table.AfterRead.{AfterRead}
-use Rattle.piper_sides.specs.declared.table.AfterRead.TheVariants as afterward
-use Rattle.piper_sides.specs.declared.table.AfterWrite.{AfterWrite}
 use Rattle.piper_sides.specs.declared.table.AfterWrite.TheVariants as behind
 use Rattle.piper_sides.specs.declared.table.ReadPlace.{ReadPlace}
 use Rattle.piper_sides.specs.declared.table.ReadPlace.TheVariants as at
 use Rattle.piper_sides.specs.declared.table.WritePlace.{WritePlace}
 use Rattle.piper_sides.specs.declared.table.WritePlace.TheVariants as on
-use Rattle.piper_sides.specs.declared.refusals.StepRefusal.{StepRefusal}
 use Rattle.piper_sides.specs.declared.table.Action.{Action}
 use Rattle.piper_sides.specs.declared.table.Action.TheVariants as does
-use Rattle.piper_machine.specs.Action.{performed, round_count}
-use Rattle.piper_machine.specs.Round.{given, taken, found_of}
-use Rattle.piper_machine.specs.Sound.{IsSound}
-use Rattle.piper_machine.specs.declared.destination.Destination.{Destination}
-use Rattle.piper_machine.specs.declared.destination.Destination.TheVariants.{Slice, Acts}
-use Rattle.piper_sides.specs.declared.scripted.Failed.{Failed}
-use Rattle.piper_sides.specs.declared.scripted.SourceAct.{SourceAct}
-use Rattle.piper_sides.specs.declared.scripted.SourceAct.TheVariants as source
-use Rattle.piper_sides.specs.declared.scripted.DestAct.TheVariants as dest
-use Rattle.piper_sides.specs.Open.{is_granted}
-use Rattle.piper_machine.specs.Pipe.{Pipe, fresh}
-use Rattle.piper_sides.specs.Call.{side_of}
-use Rattle.piper_machine.specs.Refusal.{reader_state, writer_state, cannot_begin, cannot_go, or_else, refusal_of}
-use Rattle.piper_sides.specs.Table.{read_after, reader_is_true, reader_moved, write_after, writer_is_true, writer_moved, writer_rounds, read_action, write_action, reader_looks_for, reader_looked, reader_looked_again, reader_registered, writer_taken, writer_is_open, writer_looked, writer_looked_again, writer_registered, reader_taken, own_taken}
-use Rattle.piper_machine.specs.Step.{went, opened, stepped, offering, MayLend, MayOffer}
-use Rattle.piper_machine.specs.Alone.{read_steps, drain_steps, read_look_steps, read_steps_after, write_steps, fill_steps, write_look_steps, steps_after}
-use Rattle.piper_machine.specs.Counts.{Tally, tallied, tallied_begin, tally_from, tally_of, IsCounted, is_same}
-use Rattle.piper_machine.specs.Run.{Made}
+use Rattle.piper_sides.specs.declared.refusals.StepRefusal.{StepRefusal}
+use Rattle.piper_sides.specs.Log.{answer_event}
+use Rattle.piper_sides.specs.Table.{read_action, write_action, reader_looks_for}
+use Rattle.piper_machine.specs.Pipe.{Pipe}
+use Rattle.piper_machine.specs.Action.{performed, logged_of}
+use Rattle.piper_machine.specs.Step.{went, stepped, offering, MayLend}
+use Rattle.piper_machine.specs.Refusal.{writer_state, cannot_begin, or_else, refusal_of}
+use Rattle.piper_machine.specs.Alone.{read_steps, write_steps}
+use Rattle.piper_machine.specs.Known.{Knowledge, knowledge_from}
+use Rattle.piper_machine.specs.Counts.{Tally, most_of, most_steps, tallied}
+use Rattle.piper_machine.specs.Called.{called}
+use Rattle.piper_machine.proofs.Knowing.{knowledge-append, answer-tells, learns, learned, learned-enough, writer-tells, reader-tells}
+use Rattle.piper_machine.proofs.ReaderCounts.{read_calls, read_least, ReaderSees, reader-fits, reader-goes, reader_next, some-known}
+use Rattle.piper_machine.proofs.WriterCounts.{write_calls, write_least, WriterSees, writer-fits, writer-goes, writer_next}
 
--- the steps that a side has still to make at most
-abbrev pub steps_left : Side → Pipe → ℕ
-steps_left Reader p = read_steps p.capacity p.known p.reader
-steps_left Writer p = write_steps p.capacity p.room p.writer
+-- The steps and calls made so far, with those that are left, are within what the look finds, or can still find.
+pub record IsWithin (f steps_made calls_made steps_left calls_left : ℕ) (c : Option Call) : Type 0 where
+  pub steps : steps_made + steps_left ≤ most_of f c
+  pub calls : calls_made + calls_left ≤ f + 1
 
--- where so many bytes are known, of a pipe of this capacity
-module _ (c k : ℕ) where
-  looks-fewer : (none : Bool) (l : Purpose) → k ≤ c → read_steps c k (reader_looked none l) < read_look_steps 5 c l
-  looks-fewer true purpose.Poll fits = lit< tt
-  looks-fewer false purpose.Poll fits = lit< tt
-  looks-fewer true (purpose.Copy Try) fits = omega arith
-  looks-fewer false (purpose.Copy Try) fits = omega arith
-  looks-fewer true (purpose.Copy (Polling is_drawn)) fits = omega arith
-  looks-fewer false (purpose.Copy (Polling is_drawn)) fits = omega arith
+pub record ReaderCounts (place : ReadPlace) (known : ℕ) (k : Knowledge) (t : Tally) (calls : ℕ) : Type 0 where
+  pub sees : ReaderSees place known k
+  pub enough : known ≤ k.known
+  pub within : (f : ℕ) → read_least k.found place ≤ f → IsWithin f t.made calls (read_steps f known place) (read_calls f known place) t.call
 
-  registers-fewer : (is_granted : Bool) (l : Purpose) → read_steps c k (reader_registered is_granted l).place < read_look_steps 4 c l
-  registers-fewer true purpose.Poll = lit< tt
-  registers-fewer false purpose.Poll = lit< tt
-  registers-fewer true (purpose.Copy form) = omega arith
-  registers-fewer false (purpose.Copy form) = omega arith
+pub record WriterCounts (place : WritePlace) (room : ℕ) (k : Knowledge) (t : Tally) (calls : ℕ) : Type 0 where
+  pub sees : WriterSees place room k
+  pub enough : room ≤ k.known
+  pub within : (f : ℕ) → write_least k.found place ≤ f → IsWithin f t.made calls (write_steps f room place) (write_calls f room place) t.call
 
-  closed-fewer : (l : Purpose) → read_look_steps 2 c l < read_look_steps 3 c l
-  closed-fewer purpose.Poll = lit< tt
-  closed-fewer (purpose.Copy form) = omega arith
+abbrev pub Counts : Side → Pipe → Knowledge → Tally → ℕ → Type 0
+Counts Reader p k t calls = ReaderCounts p.reader p.known k t calls
+Counts Writer p k t calls = WriterCounts p.writer p.room k t calls
 
-  again-fewer : (none was_closed : Bool) (l : Purpose) → k ≤ c → read_steps c k (reader_looked_again none l was_closed).place < read_look_steps 2 c l
-  again-fewer true was_closed purpose.Poll fits = lit< tt
-  again-fewer false was_closed purpose.Poll fits = lit< tt
-  again-fewer true was_closed (purpose.Copy form) fits = omega arith
-  again-fewer false was_closed (purpose.Copy Try) fits = omega arith
-  again-fewer false was_closed (purpose.Copy (Polling is_drawn)) fits = omega arith
+read_least-found : (found : ℕ) (place : ReadPlace) → read_least found place ≤ found
+read_least-found found (at.LookTail l) = omega arith
+read_least-found found (at.LookRegister l) = omega arith
+read_least-found found (at.LookClosed l) = omega arith
+read_least-found found (at.LookTailAgain l was_closed) = omega arith
+read_least-found found place = omega arith
 
-  true-fewer : (l : Purpose) → read_steps c k (reader_is_true l).place < read_look_steps 1 k l
-  true-fewer purpose.Poll = lit< tt
-  true-fewer (purpose.Copy Try) = omega arith
-  true-fewer (purpose.Copy (Polling true)) = omega arith
-  true-fewer (purpose.Copy (Polling false)) = omega arith
+write_least-found : (found : ℕ) (place : WritePlace) → write_least found place ≤ found
+write_least-found found (on.LookClosed l) = omega arith
+write_least-found found (on.LookHead l) = omega arith
+write_least-found found (on.LookRegister l) = omega arith
+write_least-found found (on.LookHeadAgain l) = omega arith
+write_least-found found (on.LookClosedAgain l) = omega arith
+write_least-found found place = omega arith
 
-  round-fewer : (none : Bool) (n : ℕ) (form : Form) (sum : ℕ) → (n == 0) ≡ none → n ≤ k → read_steps c k (reader_moved none n form sum).place < drain_steps k
-  round-fewer true n form sum test within = omega arith
-  round-fewer false n form sum test within = let some : 1 ≤ n = grind (arith, nat_tests) in omega arith
-
-  moved-fewer : (moved : Result ℕ Failed) (form : Form) (sum : ℕ) → ((n : ℕ) → moved ≡ Ok n → n ≤ k) → read_steps c k (read_after c (at.CallDestination form sum) (found_of moved)).place < drain_steps k
-  moved-fewer (Ok n) form sum within = round-fewer (n == 0) n form sum refl (within n refl)
-  moved-fewer (Err fails) form sum within = omega arith
-
-  take-fewer : (next : AfterRead) (is_found : Bool) → read_steps c k (writer_taken next is_found).place < 2 + read_steps_after k next
-  take-fewer afterward.Answer false = lit< tt
-  take-fewer afterward.Drop false = lit< tt
-  take-fewer (afterward.Round form sum) false = omega arith
-  take-fewer next true = omega arith
-
--- a destination takes no more than it is lent
-taken-within : (most : ℕ) (destination : Destination) (n : ℕ) → taken most destination ≡ Ok n → n ≤ most
-taken-within most (Slice size) n is = let count : min size most ≡ n = cc in omega arith
-taken-within most (Acts []) n is = let count : 0 ≡ n = cc in omega arith
-taken-within most (Acts (dest.Fail ∷ acts)) n is = absurd (cc)
-taken-within most (Acts (dest.Take size ∷ acts)) n is = let count : min size most ≡ n = cc in omega arith
-
-reader-fewer : (place : ReadPlace) (p : Pipe) → IsSound p → cannot_go (reader_state place) ≡ None → steps_left Reader (went Reader (record p { reader = place })).pipe < read_steps p.capacity p.known place
-reader-fewer at.Idle p sound busy = absurd (cc)
-reader-fewer at.Dropped p sound busy = absurd (cc)
-reader-fewer (at.QueryHead query) p sound busy = lit< tt
-reader-fewer (at.QueryTail query) p sound busy = lit< tt
-reader-fewer at.QueryClosed p sound busy = lit< tt
-reader-fewer (at.LookTail l) p sound busy = looks-fewer p.capacity (length p.unread) (length p.unread == 0) l sound.unread
-reader-fewer (at.LookRegister l) p sound busy = registers-fewer p.capacity p.known (is_granted p.reader_call.context) l
-reader-fewer (at.LookClosed l) p sound busy = closed-fewer p.capacity p.known l
-reader-fewer (at.LookTailAgain l was_closed) p sound busy = again-fewer p.capacity (length p.unread) (length p.unread == 0) was_closed l sound.unread
-reader-fewer (at.LookTake l) p sound busy = true-fewer p.capacity p.known l
-reader-fewer at.Yield p sound busy = lit< tt
-reader-fewer (at.CallDestination form sum) p sound busy =
-    moved-fewer p.capacity p.known (taken (round_count p) p.destination) form sum (λ n is. omega (arith, taken-within (round_count p) p.destination n is))
-reader-fewer (at.StoreHead n next) p sound busy = omega arith
-reader-fewer (at.TakeWriter next) p sound busy = take-fewer p.capacity p.known next (is_some p.writer_waker)
-reader-fewer (at.WakeWriter afterward.Answer) p sound busy = lit< tt
-reader-fewer (at.WakeWriter afterward.Drop) p sound busy = lit< tt
-reader-fewer (at.WakeWriter (afterward.Round form sum)) p sound busy = omega arith
-reader-fewer at.StoreClosed p sound busy = lit< tt
-
--- where there is so much room, on a pipe of this capacity
-module _ (c r : ℕ) where
-  open-fewer : (is_closed none : Bool) (l : Purpose) → r ≤ c → write_steps c r (writer_is_open is_closed none l).place < write_look_steps 5 c l
-  open-fewer true none purpose.Poll fits = lit< tt
-  open-fewer false true purpose.Poll fits = lit< tt
-  open-fewer false false purpose.Poll fits = lit< tt
-  open-fewer true none (purpose.Copy form) fits = omega arith
-  open-fewer false true (purpose.Copy form) fits = omega arith
-  open-fewer false false (purpose.Copy Try) fits = omega arith
-  open-fewer false false (purpose.Copy (Polling is_drawn)) fits = omega arith
-
-  loads-fewer : (none : Bool) (l : Purpose) → r ≤ c → write_steps c r (writer_looked none l) < write_look_steps 4 c l
-  loads-fewer true purpose.Poll fits = lit< tt
-  loads-fewer false purpose.Poll fits = lit< tt
-  loads-fewer true (purpose.Copy Try) fits = omega arith
-  loads-fewer false (purpose.Copy Try) fits = omega arith
-  loads-fewer true (purpose.Copy (Polling is_drawn)) fits = omega arith
-  loads-fewer false (purpose.Copy (Polling is_drawn)) fits = omega arith
-
-  writer_registers-fewer : (is_granted : Bool) (l : Purpose) → write_steps c r (writer_registered is_granted l).place < write_look_steps 3 c l
-  writer_registers-fewer true purpose.Poll = lit< tt
-  writer_registers-fewer false purpose.Poll = lit< tt
-  writer_registers-fewer true (purpose.Copy form) = omega arith
-  writer_registers-fewer false (purpose.Copy form) = omega arith
-
-  writer_again-fewer : (none : Bool) (l : Purpose) → r ≤ c → write_steps c r (writer_looked_again none l) < write_look_steps 2 c l
-  writer_again-fewer true purpose.Poll fits = lit< tt
-  writer_again-fewer false purpose.Poll fits = lit< tt
-  writer_again-fewer true (purpose.Copy form) fits = omega arith
-  writer_again-fewer false (purpose.Copy Try) fits = omega arith
-  writer_again-fewer false (purpose.Copy (Polling is_drawn)) fits = omega arith
-
-  writer_true-fewer : (l : Purpose) → write_steps c r (writer_is_true l).place < write_look_steps 1 r l
-  writer_true-fewer purpose.Poll = lit< tt
-  writer_true-fewer (purpose.Copy Try) = omega arith
-  writer_true-fewer (purpose.Copy (Polling true)) = omega arith
-  writer_true-fewer (purpose.Copy (Polling false)) = omega arith
-
-  source-fewer : (none : Bool) (n : ℕ) (form : Form) (sum : ℕ) → (n == 0) ≡ none → n ≤ r → write_steps c r (writer_moved none n form sum).place < fill_steps r
-  source-fewer true n form sum test within = omega arith
-  source-fewer false n form sum test within = let some : 1 ≤ n = grind (arith, nat_tests) in omega arith
-
-  given-fewer : (moved : Result ℕ Failed) (form : Form) (sum : ℕ) → ((n : ℕ) → moved ≡ Ok n → n ≤ r) → write_steps c r (write_after c r (on.CallSource form sum) (found_of moved)).place < fill_steps r
-  given-fewer (Ok n) form sum within = source-fewer (n == 0) n form sum refl (within n refl)
-  given-fewer (Err fails) form sum within = omega arith
-
-  rounds-fewer : (is_closed : Bool) (n : ℕ) (form : Form) (sum : ℕ) → write_steps c r (writer_rounds is_closed n form sum).place < 4 + fill_steps (r - n)
-  rounds-fewer true n form sum = omega arith
-  rounds-fewer false n form sum = omega arith
-
-  reader_take-fewer : (next : AfterWrite) (is_found : Bool) → write_steps c r (reader_taken next is_found).place < 2 + steps_after r next
-  reader_take-fewer behind.Answer false = lit< tt
-  reader_take-fewer behind.Drop false = lit< tt
-  reader_take-fewer behind.WakeWriter false = lit< tt
-  reader_take-fewer (behind.Round form sum) false = omega arith
-  reader_take-fewer next true = omega arith
-
-  own_take-fewer : (is_found : Bool) → write_steps c r (own_taken is_found).place < 2
-  own_take-fewer false = lit< tt
-  own_take-fewer true = lit< tt
-
--- a source gives no more than there is room for
-pub given-within : (acts : List SourceAct) (lent : List ℕ) (p : Pipe) (form : Form) (sum n : ℕ) → MayOffer (on.CallSource form sum) acts lent p → given (length lent) acts ≡ Ok n → n ≤ p.room
-given-within [] lent p form sum n may is = let count : 0 ≡ n = cc in omega arith
-given-within (source.Fail ∷ acts) lent p form sum n may is = absurd (cc)
-given-within (source.Bytes [] ∷ acts) lent p form sum n may is = let count : min (length lent) 0 ≡ n = cc in omega arith
-given-within (source.Bytes (byte ∷ bytes) ∷ acts) lent p form sum n may is = let count : min (length lent) (length (byte ∷ bytes)) ≡ n = cc in omega (arith, may.at_most)
-
-writer-fewer : (place : WritePlace) (lent : List ℕ) (p : Pipe) → IsSound p → MayOffer place p.source lent p → cannot_go (writer_state place) ≡ None
-    → steps_left Writer (went Writer (offering lent (record p { writer = place }))).pipe < write_steps p.capacity p.room place
-writer-fewer on.Idle lent p sound may busy = absurd (cc)
-writer-fewer on.Dropped lent p sound may busy = absurd (cc)
-writer-fewer (on.QueryHead query) lent p sound may busy = lit< tt
-writer-fewer (on.QueryTail query count) lent p sound may busy = lit< tt
-writer-fewer on.QueryClosed lent p sound may busy = lit< tt
-writer-fewer (on.LookClosed l) lent p sound may busy = open-fewer p.capacity p.room p.is_closed (p.room == 0) l (omega (arith, sound.room))
-writer-fewer (on.LookHead l) lent p sound may busy = loads-fewer p.capacity (p.capacity - length p.unread) (p.capacity - length p.unread == 0) l (omega arith)
-writer-fewer (on.LookRegister l) lent p sound may busy = writer_registers-fewer p.capacity p.room (is_granted p.writer_call.context) l
-writer-fewer (on.LookHeadAgain l) lent p sound may busy = writer_again-fewer p.capacity (p.capacity - length p.unread) (p.capacity - length p.unread == 0) l (omega arith)
-writer-fewer (on.LookClosedAgain l) lent p sound may busy = lit< tt
-writer-fewer (on.LookTake l) lent p sound may busy = writer_true-fewer p.capacity p.room l
-writer-fewer on.Yield lent p sound may busy = lit< tt
-writer-fewer (on.CallSource form sum) lent p sound may busy = given-fewer p.capacity p.room (given (length lent) p.source) form sum (λ n is. given-within p.source lent p form sum n may is)
-writer-fewer (on.RoundClosed n form sum) lent p sound may busy = rounds-fewer p.capacity p.room p.is_closed n form sum
-writer-fewer (on.StoreTail n next) lent p sound may busy = omega arith
-writer-fewer (on.TakeReader next) lent p sound may busy = reader_take-fewer p.capacity p.room next (is_some p.reader_waker)
-writer-fewer (on.WakeReader behind.Answer) lent p sound may busy = lit< tt
-writer-fewer (on.WakeReader behind.Drop) lent p sound may busy = lit< tt
-writer-fewer (on.WakeReader behind.WakeWriter) lent p sound may busy = lit< tt
-writer-fewer (on.WakeReader (behind.Round form sum)) lent p sound may busy = omega arith
-writer-fewer (on.StoreClosed behind.WakeWriter) lent p sound may busy = omega arith
-writer-fewer (on.StoreClosed behind.Answer) lent p sound may busy = omega arith
-writer-fewer (on.StoreClosed behind.Drop) lent p sound may busy = omega arith
-writer-fewer (on.StoreClosed (behind.Round form sum)) lent p sound may busy = omega arith
-writer-fewer on.TakeWriter lent p sound may busy = own_take-fewer p.capacity p.room (is_some p.writer_waker)
-writer-fewer on.WakeWriter lent p sound may busy = lit< tt
-
--- how a call that looks begins
-looks-counted : (c k : ℕ) (none : Bool) (form : Form) → k ≤ c → 0 + read_steps c k (reader_looks_for none (purpose.Copy form)) ≤ 6 + 4 * c
-looks-counted c k true form fits = omega arith
-looks-counted c k false Try fits = omega arith
-looks-counted c k false (Polling is_drawn) fits = omega arith
-
-polls-counted : (c k : ℕ) (none : Bool) → 0 + read_steps c k (reader_looks_for none purpose.Poll) ≤ 5
-polls-counted c k true = lit≤ tt
-polls-counted c k false = lit≤ tt
-
-idle_writer-steps : (c r : ℕ) (place : WritePlace) (more : Option StepRefusal) → or_else (cannot_begin (writer_state place)) more ≡ None → write_steps c r place ≡ 0
-idle_writer-steps c r on.Idle more accepted = refl
-idle_writer-steps c r place more accepted = absurd (cc)
-
--- the call that is opened begins a tally of its own, and leaves the other side's as it is
-begin-counted : (side : Side) (t : Tally) (lent : List ℕ) (c : Call) (p : Pipe) → IsSound p → refusal_of (Begin c) p ≡ None → t.made + steps_left side p ≤ t.most
-    → let u = tallied_begin p.capacity (is_same side (side_of c)) c t in u.made + steps_left side (opened lent c p) ≤ u.most
-begin-counted Reader t lent (call.Len Reader) p sound accepted held = lit≤ tt
-begin-counted Reader t lent (call.Len Writer) p sound accepted held = held
-begin-counted Reader t lent (call.IsEmpty Reader) p sound accepted held = lit≤ tt
-begin-counted Reader t lent (call.IsEmpty Writer) p sound accepted held = held
-begin-counted Reader t lent (call.IsFull Reader) p sound accepted held = lit≤ tt
-begin-counted Reader t lent (call.IsFull Writer) p sound accepted held = held
-begin-counted Reader t lent (call.IsClosed Reader) p sound accepted held = lit≤ tt
-begin-counted Reader t lent (call.IsClosed Writer) p sound accepted held = held
-begin-counted Reader t lent (call.Poll Reader waker luck) p sound accepted held = polls-counted p.capacity p.known (p.known == 0)
-begin-counted Reader t lent (call.Poll Writer waker luck) p sound accepted held = held
-begin-counted Reader t lent (call.TryDrain size) p sound accepted held = looks-counted p.capacity p.known (p.known == 0) _ (omega (arith, sound.known, sound.unread))
-begin-counted Reader t lent (call.PollDrainBytes waker luck size) p sound accepted held = looks-counted p.capacity p.known (p.known == 0) _ (omega (arith, sound.known, sound.unread))
-begin-counted Reader t lent (call.PollDrain waker luck acts) p sound accepted held = looks-counted p.capacity p.known (p.known == 0) _ (omega (arith, sound.known, sound.unread))
-begin-counted Reader t lent (call.TryFill bytes) p sound accepted held = held
-begin-counted Reader t lent (call.PollFillBytes waker luck bytes) p sound accepted held = held
-begin-counted Reader t lent (call.PollFill waker luck acts) p sound accepted held = held
-begin-counted Reader t lent (call.Consume n) p sound accepted held = lit≤ tt
-begin-counted Reader t lent (call.WriteBuf most) p sound accepted held = held
-begin-counted Reader t lent (call.Produced n) p sound accepted held = held
-begin-counted Reader t lent call.Close p sound accepted held = held
-begin-counted Reader t lent (call.Drop Reader) p sound accepted held = lit≤ tt
-begin-counted Reader t lent (call.Drop Writer) p sound accepted held = held
-begin-counted Writer t lent (call.Len Reader) p sound accepted held = held
-begin-counted Writer t lent (call.Len Writer) p sound accepted held = lit≤ tt
-begin-counted Writer t lent (call.IsEmpty Reader) p sound accepted held = held
-begin-counted Writer t lent (call.IsEmpty Writer) p sound accepted held = lit≤ tt
-begin-counted Writer t lent (call.IsFull Reader) p sound accepted held = held
-begin-counted Writer t lent (call.IsFull Writer) p sound accepted held = lit≤ tt
-begin-counted Writer t lent (call.IsClosed Reader) p sound accepted held = held
-begin-counted Writer t lent (call.IsClosed Writer) p sound accepted held = lit≤ tt
-begin-counted Writer t lent (call.Poll Reader waker luck) p sound accepted held = held
-begin-counted Writer t lent (call.Poll Writer waker luck) p sound accepted held = lit≤ tt
-begin-counted Writer t lent (call.TryDrain size) p sound accepted held = held
-begin-counted Writer t lent (call.PollDrainBytes waker luck size) p sound accepted held = held
-begin-counted Writer t lent (call.PollDrain waker luck acts) p sound accepted held = held
-begin-counted Writer t lent (call.TryFill bytes) p sound accepted held = omega arith
-begin-counted Writer t lent (call.PollFillBytes waker luck bytes) p sound accepted held = omega arith
-begin-counted Writer t lent (call.PollFill waker luck acts) p sound accepted held = omega arith
-begin-counted Writer t lent (call.Consume n) p sound accepted held = held
-begin-counted Writer t lent (call.WriteBuf most) p sound accepted held = let none = idle_writer-steps p.capacity p.room p.writer _ accepted in omega arith
-begin-counted Writer t lent (call.Produced n) p sound accepted held = lit≤ tt
-begin-counted Writer t lent call.Close p sound accepted held = lit≤ tt
-begin-counted Writer t lent (call.Drop Reader) p sound accepted held = held
-begin-counted Writer t lent (call.Drop Writer) p sound accepted held = lit≤ tt
+pub counts-found : (side : Side) (p : Pipe) (k : Knowledge) (t : Tally) (calls : ℕ) → Counts side p k t calls → (t.made ≤ most_of k.found t.call) × (calls ≤ k.found + 1)
+counts-found Reader p k t calls held = let within = held.within k.found (read_least-found k.found p.reader) in (omega (arith, within.steps), omega (arith, within.calls))
+counts-found Writer p k t calls held = let within = held.within k.found (write_least-found k.found p.writer) in (omega (arith, within.steps), omega (arith, within.calls))
 
 -- a side's step leaves where the other stands, and what it knows
-reader_leaves-writer : (action : Action) (p : Pipe) → ((n : ℕ) → action ≡ does.StoreTail n → ⊥) → let q = performed Reader action p in (q.writer ≡ p.writer) × (q.room ≡ p.room) × (q.capacity ≡ p.capacity)
-reader_leaves-writer does.Rest p never = (refl, refl, refl)
-reader_leaves-writer does.LoadHead p never = (refl, refl, refl)
-reader_leaves-writer does.LoadTail p never = (refl, refl, refl)
-reader_leaves-writer does.Refresh p never = (refl, refl, refl)
-reader_leaves-writer does.LoadClosed p never = (refl, refl, refl)
-reader_leaves-writer does.Register p never = (refl, refl, refl)
-reader_leaves-writer (does.StoreHead n) p never = (refl, refl, refl)
+pub reader_leaves-writer : (action : Action) (p : Pipe) → ((n : ℕ) → action ≡ does.StoreTail n → ⊥) → let q = performed Reader action p in (q.writer ≡ p.writer) × (q.room ≡ p.room) × (q.capacity ≡ p.capacity)
 reader_leaves-writer (does.StoreTail n) p never = absurd (never n refl)
 reader_leaves-writer (does.StoreClosed true) p never = (refl, refl, refl)
 reader_leaves-writer (does.StoreClosed false) p never = (refl, refl, refl)
 reader_leaves-writer (does.Take Reader) p never = (refl, refl, refl)
 reader_leaves-writer (does.Take Writer) p never = (refl, refl, refl)
-reader_leaves-writer does.Wake p never = (refl, refl, refl)
-reader_leaves-writer does.Yield p never = (refl, refl, refl)
-reader_leaves-writer does.CallDestination p never = (refl, refl, refl)
-reader_leaves-writer does.CallSource p never = (refl, refl, refl)
+reader_leaves-writer action p never = (refl, refl, refl)
 
 pub writer_leaves-reader : (action : Action) (p : Pipe) → ((n : ℕ) → action ≡ does.StoreHead n → ⊥) → let q = performed Writer action p in (q.reader ≡ p.reader) × (q.known ≡ p.known) × (q.capacity ≡ p.capacity)
-writer_leaves-reader does.Rest p never = (refl, refl, refl)
-writer_leaves-reader does.LoadHead p never = (refl, refl, refl)
-writer_leaves-reader does.LoadTail p never = (refl, refl, refl)
-writer_leaves-reader does.Refresh p never = (refl, refl, refl)
-writer_leaves-reader does.LoadClosed p never = (refl, refl, refl)
-writer_leaves-reader does.Register p never = (refl, refl, refl)
 writer_leaves-reader (does.StoreHead n) p never = absurd (never n refl)
-writer_leaves-reader (does.StoreTail n) p never = (refl, refl, refl)
 writer_leaves-reader (does.StoreClosed true) p never = (refl, refl, refl)
 writer_leaves-reader (does.StoreClosed false) p never = (refl, refl, refl)
 writer_leaves-reader (does.Take Reader) p never = (refl, refl, refl)
 writer_leaves-reader (does.Take Writer) p never = (refl, refl, refl)
-writer_leaves-reader does.Wake p never = (refl, refl, refl)
-writer_leaves-reader does.Yield p never = (refl, refl, refl)
-writer_leaves-reader does.CallDestination p never = (refl, refl, refl)
-writer_leaves-reader does.CallSource p never = (refl, refl, refl)
+writer_leaves-reader action p never = (refl, refl, refl)
 
 pub reader_never-tail : (place : ReadPlace) (n : ℕ) → read_action place ≡ does.StoreTail n → ⊥
 reader_never-tail at.Idle n e = absurd (cc)
@@ -329,44 +99,140 @@ writer_never-head (on.StoreClosed behind.WakeWriter) n e = absurd (cc)
 writer_never-head (on.StoreClosed (behind.Round form sum)) n e = absurd (cc)
 writer_never-head place n e = absurd (cc)
 
-counted-step : (side : Side) (t : Tally) (s : Step) (lent : List ℕ) (p : Pipe) → IsSound p → MayLend lent s p → refusal_of s p ≡ None → t.made + steps_left side p ≤ t.most
-    → let u = tallied p.capacity side t s in u.made + steps_left side (stepped lent s p).pipe ≤ u.most
-counted-step side t (Begin c) lent p sound may accepted held = begin-counted side t lent c p sound accepted held
-counted-step Reader t (Go Reader) lent p sound may accepted held = let fewer = reader-fewer p.reader p sound accepted in omega arith
-counted-step Writer t (Go Writer) lent p sound may accepted held = let fewer = writer-fewer p.writer lent p sound may accepted in omega arith
-counted-step Writer t (Go Reader) lent p sound may accepted held =
-    let same = reader_leaves-writer (read_action p.reader) p (reader_never-tail p.reader) in
-    rw (same.0, same.1, same.2) held
-counted-step Reader t (Go Writer) lent p sound may accepted held =
-    let same = writer_leaves-reader (write_action p.writer) (offering lent p) (writer_never-head p.writer) in
-    rw (same.0, same.1, same.2) held
-counted-step Reader t (Put offset byte) lent p sound may accepted held = held
-counted-step Writer t (Put offset byte) lent p sound may accepted held = held
+-- how a call begins
 
-tally_from-more : (capacity : ℕ) (side : Side) (t : Tally) (ss : List Step) (s : Step) → tally_from capacity side t (ss ++ s ∷ []) ≡ tallied capacity side (tally_from capacity side t ss) s
-tally_from-more capacity side t [] s = refl
-tally_from-more capacity side t (x ∷ ss) s = tally_from-more capacity side (tallied capacity side t x) ss s
+-- of a call without a look
+plain : (f most : ℕ) (c : Call) → most ≤ most_steps f c → IsWithin f 0 0 most 0 (Some c)
+plain f most c few = record { steps = omega (arith, few); calls = omega arith }
 
--- the steps made so far and those that are left are no more than the most, for both sides
-pub record Counted (steps : List Step) (p : Pipe) : Type 0 where
-  pub both : (side : Side) → let t = tally_of p.capacity side steps in t.made + steps_left side p ≤ t.most
+abbrev opened_with : Knowledge → Bool → Knowledge
+opened_with k asks = record { known = k.known; found = k.known; is_query = asks }
 
-pub counted_none : (capacity : ℕ) → Counted [] (fresh capacity)
-counted_none capacity = record { both = none }
-  where
-    none : (side : Side) → let t = tally_of capacity side [] in t.made + steps_left side (fresh capacity) ≤ t.most
-    none Reader = lit≤ tt
-    none Writer = lit≤ tt
+drains-count : (known : ℕ) (k : Knowledge) (none : Bool) (form : Form) (c : Call) → (known == 0) ≡ none → known ≤ k.known → ((f : ℕ) → most_steps f c ≡ 6 + 4 * f)
+    → ReaderCounts (reader_looks_for none (purpose.Copy form)) known (opened_with k false) (record { made = 0; call = Some c }) 0
+drains-count known k true form c test enough most = record { sees = refl; enough = enough; within = λ f least. let is = most f in record { steps = omega arith; calls = omega arith } }
+drains-count known k false Try c test enough most = record { sees = tt; enough = enough; within = λ f least. let is = most f in record { steps = omega arith; calls = omega arith } }
+drains-count known k false (Polling is_drawn) c test enough most = record { sees = some-known known test; enough = enough; within = λ f least. let is = most f in record { steps = omega arith; calls = omega arith } }
 
-pub counted_more : (steps : List Step) (s : Step) (p q : Pipe) (before after : List Event) → IsSound p → q.capacity ≡ p.capacity → Counted steps p → Made p s q before after → Counted (steps ++ s ∷ []) q
-counted_more steps s p q before after sound capacity counted made = record {
-  both = λ side. let t = tally_of p.capacity side steps in
-      let u = tallied p.capacity side t s in
-      let next = counted-step side t s q.lent p sound made.made.lent made.accepted (counted.both side) in
-      let here = subst (λ (x : Pipe). u.made + steps_left side x ≤ u.most) (sym made.made.pipe) next in
-      subst (λ c. let v = tally_of c side (steps ++ s ∷ []) in v.made + steps_left side q ≤ v.most) (sym capacity)
-      (rw (tally_from-more p.capacity side (record { made = 0; most = 0 }) steps s) here);
-}
+polls-count : (known : ℕ) (k : Knowledge) (none : Bool) (c : Call) → (known == 0) ≡ none → known ≤ k.known → ((f : ℕ) → most_steps f c ≡ 5)
+    → ReaderCounts (reader_looks_for none purpose.Poll) known (opened_with k false) (record { made = 0; call = Some c }) 0
+polls-count known k true c test enough most = record { sees = refl; enough = enough; within = λ f least. let is = most f in record { steps = omega arith; calls = omega arith } }
+polls-count known k false c test enough most = record { sees = some-known known test; enough = enough; within = λ f least. let is = most f in record { steps = omega arith; calls = omega arith } }
 
-pub counted-steps : (capacity : ℕ) (steps : List Step) (p : Pipe) → p.capacity ≡ capacity → Counted steps p → IsCounted capacity steps
-counted-steps capacity steps p same counted side = let h = counted.both side in rw (← same) (omega arith)
+fills-count : (room : ℕ) (k : Knowledge) (form : Form) (c : Call) → room ≤ k.known → ((f : ℕ) → most_steps f c ≡ 6 + 5 * f)
+    → WriterCounts (on.LookClosed (purpose.Copy form)) room (opened_with k false) (record { made = 0; call = Some c }) 0
+fills-count room k form c enough most = record { sees = (refl, enough); enough = enough; within = λ f least. let is = most f in record { steps = omega arith; calls = omega arith } }
+
+idle_writer : (place : WritePlace) (more : Option StepRefusal) → or_else (cannot_begin (writer_state place)) more ≡ None → place ≡ on.Idle
+idle_writer on.Idle more accepted = refl
+idle_writer place more accepted = absurd (cc)
+
+lends-count : (place : WritePlace) (room most : ℕ) (k : Knowledge) → place ≡ on.Idle → room ≤ k.known → WriterCounts place room (opened_with k false) (record { made = 0; call = Some (call.WriteBuf most) }) 0
+lends-count on.Idle room most k idle enough = record { sees = tt; enough = enough; within = λ f least. record { steps = omega arith; calls = omega arith } }
+lends-count place room most k idle enough = absurd (cc)
+
+-- the call that is opened begins anew, and leaves the other side as it is
+begin-counts : (side : Side) (cap : ℕ) (lent : List ℕ) (c : Call) (p : Pipe) (k : Knowledge) (t : Tally) (calls : ℕ) → refusal_of (Begin c) p ≡ None → Counts side p k t calls
+    → let new = stepped lent (Begin c) p in Counts side new.pipe (knowledge_from cap side k new.events) (tallied side t (Begin c)) (called side p (Begin c) calls)
+begin-counts Reader cap lent (call.Len Reader) p k t calls accepted held = record { sees = refl; enough = held.enough; within = λ f least. plain f 2 (call.Len Reader) (omega arith) }
+begin-counts Reader cap lent (call.IsEmpty Reader) p k t calls accepted held = record { sees = refl; enough = held.enough; within = λ f least. plain f 2 (call.IsEmpty Reader) (omega arith) }
+begin-counts Reader cap lent (call.IsFull Reader) p k t calls accepted held = record { sees = refl; enough = held.enough; within = λ f least. plain f 2 (call.IsFull Reader) (omega arith) }
+begin-counts Reader cap lent (call.IsClosed Reader) p k t calls accepted held = record { sees = tt; enough = held.enough; within = λ f least. plain f 1 (call.IsClosed Reader) (omega arith) }
+begin-counts Reader cap lent (call.Poll Reader waker luck) p k t calls accepted held = polls-count p.known k (p.known == 0) (call.Poll Reader waker luck) refl held.enough (λ f. refl)
+begin-counts Reader cap lent (call.TryDrain size) p k t calls accepted held = drains-count p.known k (p.known == 0) _ (call.TryDrain size) refl held.enough (λ f. refl)
+begin-counts Reader cap lent (call.PollDrainBytes waker luck size) p k t calls accepted held = drains-count p.known k (p.known == 0) _ (call.PollDrainBytes waker luck size) refl held.enough (λ f. refl)
+begin-counts Reader cap lent (call.PollDrain waker luck acts) p k t calls accepted held = drains-count p.known k (p.known == 0) _ (call.PollDrain waker luck acts) refl held.enough (λ f. refl)
+begin-counts Reader cap lent (call.Consume n) p k t calls accepted held = record { sees = tt; enough = held.enough; within = λ f least. plain f 3 (call.Consume n) (omega arith) }
+begin-counts Reader cap lent (call.Drop Reader) p k t calls accepted held = record { sees = tt; enough = held.enough; within = λ f least. plain f 3 (call.Drop Reader) (omega arith) }
+begin-counts Reader cap lent (call.Len Writer) p k t calls accepted held = held
+begin-counts Reader cap lent (call.IsEmpty Writer) p k t calls accepted held = held
+begin-counts Reader cap lent (call.IsFull Writer) p k t calls accepted held = held
+begin-counts Reader cap lent (call.IsClosed Writer) p k t calls accepted held = held
+begin-counts Reader cap lent (call.Poll Writer waker luck) p k t calls accepted held = held
+begin-counts Reader cap lent (call.TryFill bytes) p k t calls accepted held = held
+begin-counts Reader cap lent (call.PollFillBytes waker luck bytes) p k t calls accepted held = held
+begin-counts Reader cap lent (call.PollFill waker luck acts) p k t calls accepted held = held
+begin-counts Reader cap lent (call.WriteBuf most) p k t calls accepted held = held
+begin-counts Reader cap lent (call.Produced n) p k t calls accepted held = held
+begin-counts Reader cap lent call.Close p k t calls accepted held = held
+begin-counts Reader cap lent (call.Drop Writer) p k t calls accepted held = held
+begin-counts Writer cap lent (call.Len Reader) p k t calls accepted held = held
+begin-counts Writer cap lent (call.IsEmpty Reader) p k t calls accepted held = held
+begin-counts Writer cap lent (call.IsFull Reader) p k t calls accepted held = held
+begin-counts Writer cap lent (call.IsClosed Reader) p k t calls accepted held = held
+begin-counts Writer cap lent (call.Poll Reader waker luck) p k t calls accepted held = held
+begin-counts Writer cap lent (call.TryDrain size) p k t calls accepted held = held
+begin-counts Writer cap lent (call.PollDrainBytes waker luck size) p k t calls accepted held = held
+begin-counts Writer cap lent (call.PollDrain waker luck acts) p k t calls accepted held = held
+begin-counts Writer cap lent (call.Consume n) p k t calls accepted held = held
+begin-counts Writer cap lent (call.Drop Reader) p k t calls accepted held = held
+begin-counts Writer cap lent (call.Len Writer) p k t calls accepted held = record { sees = refl; enough = held.enough; within = λ f least. plain f 2 (call.Len Writer) (omega arith) }
+begin-counts Writer cap lent (call.IsEmpty Writer) p k t calls accepted held = record { sees = refl; enough = held.enough; within = λ f least. plain f 2 (call.IsEmpty Writer) (omega arith) }
+begin-counts Writer cap lent (call.IsFull Writer) p k t calls accepted held = record { sees = refl; enough = held.enough; within = λ f least. plain f 2 (call.IsFull Writer) (omega arith) }
+begin-counts Writer cap lent (call.IsClosed Writer) p k t calls accepted held = record { sees = tt; enough = held.enough; within = λ f least. plain f 1 (call.IsClosed Writer) (omega arith) }
+begin-counts Writer cap lent (call.Poll Writer waker luck) p k t calls accepted held = record { sees = (refl, held.enough); enough = held.enough; within = λ f least. plain f 5 (call.Poll Writer waker luck) (omega arith) }
+begin-counts Writer cap lent (call.TryFill bytes) p k t calls accepted held = fills-count p.room k _ (call.TryFill bytes) held.enough (λ f. refl)
+begin-counts Writer cap lent (call.PollFillBytes waker luck bytes) p k t calls accepted held = fills-count p.room k _ (call.PollFillBytes waker luck bytes) held.enough (λ f. refl)
+begin-counts Writer cap lent (call.PollFill waker luck acts) p k t calls accepted held = fills-count p.room k _ (call.PollFill waker luck acts) held.enough (λ f. refl)
+begin-counts Writer cap lent (call.WriteBuf most) p k t calls accepted held = lends-count p.writer p.room most k (idle_writer p.writer _ accepted) held.enough
+begin-counts Writer cap lent (call.Produced n) p k t calls accepted held = record { sees = tt; enough = held.enough; within = λ f least. plain f 3 (call.Produced n) (omega arith) }
+begin-counts Writer cap lent call.Close p k t calls accepted held = record { sees = tt; enough = held.enough; within = λ f least. plain f 5 call.Close (omega arith) }
+begin-counts Writer cap lent (call.Drop Writer) p k t calls accepted held = record { sees = tt; enough = held.enough; within = λ f least. plain f 3 (call.Drop Writer) (omega arith) }
+
+-- what a step tells a side, with the answer behind it
+pub told : (c : ℕ) (side teller : Side) (k j : Knowledge) (es : List Event) (answer : Option Answer) → knowledge_from c side k es ≡ j → knowledge_from c side k (es ++ answer_event teller answer) ≡ j
+told c side teller k j es answer same = knowledge-append c side k es (answer_event teller answer) ∙ answer-tells c side teller _ answer ∙ same
+
+reader-counts : (p : Pipe) (k : Knowledge) (t : Tally) (calls : ℕ) → refusal_of (Go Reader) p ≡ None → Counts Reader p k t calls
+    → let new = went Reader p in Counts Reader new.pipe (knowledge_from p.capacity Reader k new.events) (tallied Reader t (Go Reader)) (called Reader p (Go Reader) calls)
+reader-counts p k t calls accepted held =
+    let action = read_action p.reader in
+    let goes = reader-goes p.reader p k held.sees accepted in
+    let j = learned Reader action p k in
+    let next : ReaderCounts (reader_next p.reader p).place (performed Reader action p).known j (tallied Reader t (Go Reader)) (called Reader p (Go Reader) calls) = record {
+      sees = goes.sees;
+      enough = learned-enough Reader action p k held.enough;
+      within = λ f least.
+          let nearer = goes.nearer f least in
+          let within = held.within f nearer.from in
+          record { steps = omega (arith, nearer.steps, within.steps); calls = omega (arith, nearer.calls, within.calls) };
+    } in
+    subst (λ (i : Knowledge). Counts Reader (went Reader p).pipe i (tallied Reader t (Go Reader)) (called Reader p (Go Reader) calls))
+    (sym (told p.capacity Reader Reader k j (logged_of Reader action p) (went Reader p).answer (learns Reader action p k (reader-fits p.reader p.known k held.sees)))) next
+
+writer-counts : (lent : List ℕ) (p : Pipe) (k : Knowledge) (t : Tally) (calls : ℕ) → MayLend lent (Go Writer) p → refusal_of (Go Writer) p ≡ None → Counts Writer p k t calls
+    → let new = went Writer (offering lent p) in Counts Writer new.pipe (knowledge_from p.capacity Writer k new.events) (tallied Writer t (Go Writer)) (called Writer p (Go Writer) calls)
+writer-counts lent p k t calls may accepted held =
+    let action = write_action p.writer in
+    let q = offering lent p in
+    let goes = writer-goes p.writer lent p k held.sees may accepted in
+    let j = learned Writer action q k in
+    let next : WriterCounts (writer_next p.writer q).place (performed Writer action q).room j (tallied Writer t (Go Writer)) (called Writer p (Go Writer) calls) = record {
+      sees = goes.sees;
+      enough = learned-enough Writer action q k held.enough;
+      within = λ f least.
+          let nearer = goes.nearer f least in
+          let within = held.within f nearer.from in
+          record { steps = omega (arith, nearer.steps, within.steps); calls = omega (arith, nearer.calls, within.calls) };
+    } in
+    subst (λ (i : Knowledge). Counts Writer (went Writer q).pipe i (tallied Writer t (Go Writer)) (called Writer p (Go Writer) calls))
+    (sym (told p.capacity Writer Writer k j (logged_of Writer action q) (went Writer q).answer (learns Writer action q k (writer-fits p.writer p.room k held.sees)))) next
+
+pub counts-step : (side : Side) (s : Step) (lent : List ℕ) (p : Pipe) (k : Knowledge) (t : Tally) (calls : ℕ) → MayLend lent s p → refusal_of s p ≡ None → Counts side p k t calls
+    → let new = stepped lent s p in Counts side new.pipe (knowledge_from p.capacity side k new.events) (tallied side t s) (called side p s calls)
+counts-step side (Begin c) lent p k t calls may accepted held = begin-counts side p.capacity lent c p k t calls accepted held
+counts-step Reader (Go Reader) lent p k t calls may accepted held = reader-counts p k t calls accepted held
+counts-step Writer (Go Writer) lent p k t calls may accepted held = writer-counts lent p k t calls may accepted held
+counts-step Writer (Go Reader) lent p k t calls may accepted held =
+    let action = read_action p.reader in
+    let same = reader_leaves-writer action p (reader_never-tail p.reader) in
+    let quiet = told p.capacity Writer Reader k k (logged_of Reader action p) (went Reader p).answer (reader-tells p.capacity action p k (reader_never-tail p.reader)) in
+    rw (quiet, same.0, same.1) held
+counts-step Reader (Go Writer) lent p k t calls may accepted held =
+    let action = write_action p.writer in
+    let q = offering lent p in
+    let same = writer_leaves-reader action q (writer_never-head p.writer) in
+    let quiet = told p.capacity Reader Writer k k (logged_of Writer action q) (went Writer q).answer (writer-tells p.capacity action q k (writer_never-head p.writer)) in
+    rw (quiet, same.0, same.1) held
+counts-step Reader (Put offset byte) lent p k t calls may accepted held = held
+counts-step Writer (Put offset byte) lent p k t calls may accepted held = held

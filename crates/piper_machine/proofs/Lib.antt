@@ -7,7 +7,11 @@ pub mod Rounds
 pub mod Runs
 pub mod Sources
 pub mod Offering
+pub mod Knowing
+pub mod ReaderCounts
+pub mod WriterCounts
 pub mod Counting
+pub mod KnownRuns
 pub mod Conserving
 pub mod Disjointness
 pub mod Alone

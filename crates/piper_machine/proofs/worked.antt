@@ -12,6 +12,7 @@ mod Lends
 mod StepScript
 mod BySteps
 mod Steps
+mod Known
 mod Refusals
 mod HonestEnd
 mod Waiters

@@ -15,9 +15,12 @@ pub mod Round
 pub mod Action
 pub mod Step
 pub mod Refusal
+pub mod Known
+pub mod Ready
 pub mod Alone
 pub mod Counts
 pub mod Run
+pub mod Called
 pub mod BySteps
 pub mod Conservation
 pub mod Disjoint

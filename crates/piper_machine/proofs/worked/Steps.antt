@@ -15,7 +15,7 @@ use Rattle.piper_machine.specs.Pipe.{Pipe, fresh}
 use Rattle.piper_machine.specs.Lend.{Lendable}
 use Rattle.piper_machine.specs.Step.{stepped}
 use Rattle.piper_machine.specs.Conservation.{published_of, consumed_of}
-use Rattle.piper_machine.specs.Counts.{tally_of}
+use Rattle.piper_machine.specs.Counts.{most_steps, tally_of}
 use Rattle.piper_machine.specs.Run.{Runs}
 use Rattle.piper_machine.proofs.worked.Script.{Fill, Drain, Poll, by, Close, Drop, Done, Count, Bytes, Pending, ◌woken◌}
 use Rattle.piper_machine.proofs.worked.StepScript.{Whole, Begin, Go, GoEnd, Says, Logs, gone, prints}
@@ -146,5 +146,5 @@ a_run = (
 bytes_in_place : (published_of logged_in_place ≡ 5 ∷ []) × (consumed_of logged_in_place ≡ [])
 bytes_in_place = (refl, refl)
 
-counted_in_place : tally_of 2 Writer published_in_place ≡ record { made = 2; most = 3 }
-counted_in_place = refl
+counted_in_place : (tally_of Writer published_in_place ≡ record { made = 2; call = Some (call.Produced 1) }) × (most_steps 2 (call.Produced 1) ≡ 3)
+counted_in_place = (refl, refl)

@@ -12,7 +12,10 @@ ghost use Rattle.piper_machine.specs.Step.{opened, query_opened, is_closed_opene
 ghost use Rattle.piper_sides.specs.Log.{answer_event};
 ghost use Rattle.piper_machine.specs.Refusal.{state_of, reader_state, writer_state, cannot_begin, cannot_go, unless, or_else, past, refusal_of, IsIdle};
 ghost use Rattle.piper_machine.specs.Pipe.{fresh};
+ghost use Rattle.piper_machine.specs.Known.{IsKnown};
+ghost use Rattle.piper_machine.specs.Ready.{IsReady};
 ghost use Rattle.piper_machine.specs.Counts.{IsCounted};
+ghost use Rattle.piper_machine.specs.Called.{AreCallsCounted};
 ghost use Rattle.piper_machine.specs.Conservation.{IsConserved};
 ghost use Rattle.piper_machine.specs.Disjoint.{IsDisjoint, KeepsKnown, IsWriterStep};
 ghost use Rattle.piper_machine.specs.Honest.{IsHonest};
@@ -479,7 +482,10 @@ pub fn run(alloc: Global, cap: usize, steps: &[Step]) -> Result<(Machine, Log), 
     ensures sound { IfOk result (λ run. IsSound run.0) }
     ensures conserved { IfOk result (λ run. IsConserved run.0 (events run.1)) }
     ensures disjoint { IfOk result (λ run. IsDisjoint run.0) }
-    ensures counted { IfOk result (λ run. IsCounted cap steps.now) }
+    ensures known { IfOk result (λ run. IsKnown run.0 (events run.1)) }
+    ensures ready { IfOk result (λ run. IsReady cap (events run.1)) }
+    ensures counted { IfOk result (λ run. IsCounted cap steps.now (events run.1)) }
+    ensures called { IfOk result (λ run. AreCallsCounted cap steps.now run.0 (events run.1)) }
     ensures honest { IfOk result (λ run. IsHonest (events run.1)) }
     ensures finality { IfOk result (λ run. IsFinal run.0 (events run.1)) }
     ensures remembered { IfOk result (λ run. AreRemembered run.0 (events run.1)) }

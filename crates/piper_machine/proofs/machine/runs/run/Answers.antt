@@ -1,12 +1,12 @@
 use Rattle.std.proofs.Common.{[], ◌∷◌, ◌++◌, take, sym, ap, subst, ◌∙◌}
-use Rattle.std.proofs.lemmas.List.{take_more}
+use Rattle.std.proofs.lemmas.List.{take_more, take_all}
 use Rattle.piper_sides.specs.declared.calls.Step.{Step}
 use Rattle.piper_machine.specs.Pipe.{fresh}
 use Rattle.piper_sides.specs.Log.{events}
 use Rattle.piper_machine.specs.Run.{Runs}
 use Rattle.piper_machine.proofs.Runs.{runs_more}
 use Rattle.piper_machine.proofs.Conserving.{capacity-kept, conserved-step}
-use Rattle.piper_machine.proofs.Counting.{Counted, counted_more}
+use Rattle.piper_machine.proofs.KnownRuns.{known_more, ready-run, counted-run, calls-counted}
 use Rattle.piper_machine.proofs.Honesty.{honest_more}
 use Rattle.piper_machine.proofs.Remembering.{remembers_more}
 use Rattle.piper_machine.proofs.Finality.{final_more}
@@ -26,9 +26,22 @@ loop-i-preserved c =
     record {
       capacity = same ∙ inv.capacity;
       runs = subst (λ ss. Runs (fresh c.args.cap) [] ss after fs) (sym longer) on;
-      counted = subst (λ ss. Counted ss after) (sym longer) (counted_more (take c.loop-i.i c.args.steps.now) _ before after es fs c.learn.ensures same inv.counted made);
+      known = known_more c.args.cap (take c.loop-i.i c.args.steps.now) _ before after es fs c.learn.ensures inv.capacity same inv.runs inv.known made;
       honest = honest_more before after _ es fs inv.honest made;
       remembers = remembers_more before after _ es fs c.learn.ensures inv.remembers made;
       final = final_more before after _ es fs c.learn.ensures inv.honest inv.final made;
       conserved = conserved-step before after _ es fs c.learn.ensures c.learn-in-Ok-step.ensures inv.conserved made;
     }
+
+-- the loop has made all steps
+all_made : (c : goal.After-learn-2) → Runs (fresh c.args.cap) [] c.args.steps.now c.loop-i.machine (events c.loop-i.log)
+all_made c = subst (λ ss. Runs (fresh c.args.cap) [] ss c.loop-i.machine (events c.loop-i.log)) (take_all c.loop-i.i c.args.steps.now c.loop-i-test.false) c.loop-i.invariant.runs
+
+pub returns-clause-ready : goal.returns-clause-ready
+returns-clause-ready c = ready-run c.args.cap c.args.steps.now c.loop-i.machine (events c.loop-i.log) (all_made c)
+
+pub returns-clause-counted : goal.returns-clause-counted
+returns-clause-counted c = counted-run c.args.cap c.args.steps.now c.loop-i.machine (events c.loop-i.log) (all_made c)
+
+pub returns-clause-called : goal.returns-clause-called
+returns-clause-called c = calls-counted c.args.cap c.args.steps.now c.loop-i.machine (events c.loop-i.log)

@@ -3,7 +3,7 @@ use Rattle.piper_machine.specs.Pipe.{fresh}
 use Rattle.piper_sides.specs.Log.{events}
 use Rattle.piper_machine.specs.Run.{Runs}
 use Rattle.piper_machine.specs.Conservation.{IsConserved}
-use Rattle.piper_machine.proofs.Counting.{Counted}
+use Rattle.piper_machine.specs.Known.{IsKnown}
 use Rattle.piper_machine.proofs.Honesty.{Honest}
 use Rattle.piper_machine.proofs.Finality.{Final}
 use Rattle.piper_machine.proofs.Remembering.{Remembers}
@@ -13,7 +13,7 @@ abbrev pub invariant-loop-i : goal.invariant-loop-i
 invariant-loop-i l = record {
   capacity : l.machine.capacity ≡ l.cap;
   runs : Runs (fresh l.cap) [] (take l.i l.steps) l.machine (events l.log);
-  counted : Counted (take l.i l.steps) l.machine;
+  known : IsKnown l.machine (events l.log);
   honest : Honest l.machine (events l.log);
   remembers : Remembers l.machine (events l.log);
   final : Final l.machine (events l.log);
