@@ -1,5 +1,5 @@
 -- A step of a side leaves what remains of its call, and it brings the answer nearer.
-use Rattle.std.proofs.Common.{◌≡◌, ℕ, ◌+◌, ◌-◌, ◌<◌, ◌≤◌, List, length, Bool, true, false, Option, None, Some, ◌==◌, is_some, lit<, lit≤, refl, arith, length-append}
+use Rattle.std.proofs.Common.{◌≡◌, ℕ, ◌+◌, ◌-◌, ◌<◌, ◌≤◌, List, length, Bool, true, false, Option, None, Some, if◌then◌else◌, ◌==◌, is_some, lit<, lit≤, refl, arith, length-append}
 use Rattle.piper_sides.specs.declared.calls.Side.TheVariants.{Reader, Writer}
 use Rattle.piper_sides.specs.declared.calls.SideState.TheVariants.{Busy}
 use Rattle.piper_sides.specs.declared.events.Answer.{Answer}
@@ -77,13 +77,25 @@ reader-rest (at.WakeWriter afterward.Drop) p busy plain = refl
 reader-rest at.StoreClosed p busy plain = refl
 reader-rest place p busy plain = absurd (cc)
 
+-- the most steps that remain, if the other side makes none: a look finds what there is
+abbrev pub reads_left : ReadPlace → Pipe → ℕ
+reads_left place p = read_steps (length p.unread) p.known place
+
+-- and the writer, where so many places are free, looks for them only where it knows of no room
+abbrev pub write_found : WritePlace → ℕ → ℕ → ℕ
+write_found (on.LookClosed l) room free = if room == 0 then free else room
+write_found place room free = free
+
+abbrev pub writes_left : WritePlace → Pipe → ℕ
+writes_left place p = write_steps (write_found place p.room (p.capacity - length p.unread)) p.room place
+
 -- a step that gives no answer brings it nearer
 pub record Nearer (steps_before steps_after wakes_before wakes_after woken_before woken_after : ℕ) : Type 0 where
   pub steps : steps_after < steps_before
   pub wakes : woken_after + wakes_after ≤ woken_before + wakes_before
 
 abbrev pub IsNearer : ReadPlace → Pipe → Next ReadPlace → Pipe → Type 0
-IsNearer place p next q = next.answer ≡ None → (reader_state next.place ≡ Busy) × (is_draining next.place ≡ false) × Nearer (read_steps p.capacity p.known place) (read_steps q.capacity q.known next.place) (read_wakes place) (read_wakes next.place) (length p.woken) (length q.woken)
+IsNearer place p next q = next.answer ≡ None → (reader_state next.place ≡ Busy) × (is_draining next.place ≡ false) × Nearer (reads_left place p) (reads_left next.place q) (read_wakes place) (read_wakes next.place) (length p.woken) (length q.woken)
 
 near : (steps_before steps_after wakes_before wakes_after n : ℕ) → steps_after < steps_before → wakes_after ≤ wakes_before → Nearer steps_before steps_after wakes_before wakes_after n n
 near steps_before steps_after wakes_before wakes_after n fewer fewer_wakes = record { steps = fewer; wakes = omega arith }
@@ -107,7 +119,7 @@ take-near afterward.Answer true p q plain same goes = (refl, refl, rw same (near
 take-near afterward.Drop true p q plain same goes = (refl, refl, rw same (near 2 1 1 1 (length p.woken) (lit< tt) (lit≤ tt)))
 take-near (afterward.Round form sum) is_found p q plain same goes = absurd (cc)
 
-pub reader-nearer : (place : ReadPlace) (p : Pipe) → reader_state place ≡ Busy → is_draining place ≡ false → let s = read_step place p in s.answer ≡ None → (reader_state s.pipe.reader ≡ Busy) × (is_draining s.pipe.reader ≡ false) × Nearer (read_steps p.capacity p.known place) (read_steps s.pipe.capacity s.pipe.known s.pipe.reader) (read_wakes place) (read_wakes s.pipe.reader) (length p.woken) (length s.pipe.woken)
+pub reader-nearer : (place : ReadPlace) (p : Pipe) → reader_state place ≡ Busy → is_draining place ≡ false → let s = read_step place p in s.answer ≡ None → (reader_state s.pipe.reader ≡ Busy) × (is_draining s.pipe.reader ≡ false) × Nearer (reads_left place p) (reads_left s.pipe.reader s.pipe) (read_wakes place) (read_wakes s.pipe.reader) (length p.woken) (length s.pipe.woken)
 reader-nearer at.Idle p busy plain goes = absurd (cc)
 reader-nearer at.Dropped p busy plain goes = absurd (cc)
 reader-nearer (at.QueryHead query) p busy plain goes = (refl, refl, near 2 1 0 0 (length p.woken) (lit< tt) (lit≤ tt))
@@ -227,7 +239,7 @@ plain-step on.Dropped lent p plain = refl
 plain-step place lent p plain = absurd (cc)
 
 abbrev pub IsWriterNearer : WritePlace → Pipe → Next WritePlace → Pipe → Type 0
-IsWriterNearer place p next q = next.answer ≡ None → (writer_state next.place ≡ Busy) × (is_filling next.place ≡ false) × Nearer (write_steps p.capacity p.room place) (write_steps q.capacity q.room next.place) (write_wakes place) (write_wakes next.place) (length p.woken) (length q.woken)
+IsWriterNearer place p next q = next.answer ≡ None → (writer_state next.place ≡ Busy) × (is_filling next.place ≡ false) × Nearer (writes_left place p) (writes_left next.place q) (write_wakes place) (write_wakes next.place) (length p.woken) (length q.woken)
 
 open-near : (is_closed none : Bool) (p : Pipe) → IsWriterNearer (on.LookClosed purpose.Poll) p (writer_is_open is_closed none purpose.Poll) p
 open-near true none p goes = absurd (cc)
@@ -263,7 +275,7 @@ length-with_waker : (names : List ℕ) (name : Option ℕ) → length (with_wake
 length-with_waker names None = omega arith
 length-with_waker names (Some name) = simp length-append (omega arith)
 
-pub writer-nearer : (place : WritePlace) (p : Pipe) → writer_state place ≡ Busy → is_filling place ≡ false → let s = write_step place p in s.answer ≡ None → (writer_state s.pipe.writer ≡ Busy) × (is_filling s.pipe.writer ≡ false) × Nearer (write_steps p.capacity p.room place) (write_steps s.pipe.capacity s.pipe.room s.pipe.writer) (write_wakes place) (write_wakes s.pipe.writer) (length p.woken) (length s.pipe.woken)
+pub writer-nearer : (place : WritePlace) (p : Pipe) → writer_state place ≡ Busy → is_filling place ≡ false → let s = write_step place p in s.answer ≡ None → (writer_state s.pipe.writer ≡ Busy) × (is_filling s.pipe.writer ≡ false) × Nearer (writes_left place p) (writes_left s.pipe.writer s.pipe) (write_wakes place) (write_wakes s.pipe.writer) (length p.woken) (length s.pipe.woken)
 writer-nearer on.Idle p busy plain goes = absurd (cc)
 writer-nearer on.Dropped p busy plain goes = absurd (cc)
 writer-nearer (on.QueryHead query) p busy plain goes = (refl, refl, near 2 1 0 0 (length p.woken) (lit< tt) (lit≤ tt))

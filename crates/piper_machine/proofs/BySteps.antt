@@ -24,9 +24,9 @@ use Rattle.piper_machine.specs.Refusal.{reader_state, writer_state, state_of, ca
 use Rattle.piper_machine.specs.Action.{logged_of, registration_of, registration, wake_of, woken_if, yield_of}
 use Rattle.piper_machine.specs.Step.{Stepped, stepped, MayLend, MayOffer}
 use Rattle.piper_machine.specs.Run.{Runs}
-use Rattle.piper_machine.specs.Alone.{Ended, read_steps, write_steps, reader_alone, writer_alone, is_draining, is_filling, yield_waker, waker_if}
+use Rattle.piper_machine.specs.Alone.{Ended, reader_alone, writer_alone, is_draining, is_filling, yield_waker, waker_if}
 use Rattle.piper_machine.specs.BySteps.{named_by, names_of}
-use Rattle.piper_machine.proofs.Alone.{reader_rest, read_step, reader-rest, reader-nearer, writer-nearer, writer_rest, writer-rest, plain-step}
+use Rattle.piper_machine.proofs.Alone.{reads_left, writes_left, reader_rest, read_step, reader-rest, reader-nearer, writer-nearer, writer_rest, writer-rest, plain-step}
 use Rattle.piper_machine.proofs.Copies.{drain-rest, WriterStands, fill_step, fill-rest}
 use Rattle.piper_machine.proofs.Falling.{drain-falls, reads-some, fill-falls, writes-some}
 use Rattle.piper_machine.proofs.Standing.{IsSettled, ReaderStands, reader-settled, reader-stands, closes_round, writer-settled, writer-stands}
@@ -48,8 +48,8 @@ Stands Writer p = WriterStands p.writer p × (closes_round p.writer ≡ false)
 
 -- the most steps that remain
 abbrev pub left_of : Side → Pipe → ℕ
-left_of Reader p = read_steps p.capacity p.known p.reader
-left_of Writer p = write_steps p.capacity p.room p.writer
+left_of Reader p = reads_left p.reader p
+left_of Writer p = writes_left p.writer p
 
 -- a step of a side, and the step of which it hears the wakers: they differ in the names alone
 pub record IsHeard (side : Side) (p : Pipe) (names : List ℕ) (made : Stepped) (answer : Option Answer) : Type 0 where
@@ -105,7 +105,7 @@ read-rest : (place : ReadPlace) (p : Pipe) (drains : Bool) → is_draining place
 read-rest place p true is busy stands = drain-rest place p is stands.start (omega (arith, stands.unread, stands.known))
 read-rest place p false is busy stands = reader-rest place p busy is
 
-read-falls : (place : ReadPlace) (p : Pipe) (drains : Bool) → is_draining place ≡ drains → reader_state place ≡ Busy → ReaderStands place p → let s = read_step place p in s.answer ≡ None → read_steps s.pipe.capacity s.pipe.known s.pipe.reader < read_steps p.capacity p.known place
+read-falls : (place : ReadPlace) (p : Pipe) (drains : Bool) → is_draining place ≡ drains → reader_state place ≡ Busy → ReaderStands place p → let s = read_step place p in s.answer ≡ None → reads_left s.pipe.reader s.pipe < reads_left place p
 read-falls place p true is busy stands goes = drain-falls place p is stands goes
 read-falls place p false is busy stands goes = let nearer = reader-nearer place p busy is goes in nearer.2.steps
 
@@ -156,10 +156,10 @@ write-rest place lent p true is busy stands may = fill-rest place lent p is stan
 write-rest place lent p false is busy stands may = writer-rest place p busy is ∙ ap (λ (s : Stepped). writer_rest s.answer s.pipe) (sym (plain-step place lent p is))
 
 write-falls : (place : WritePlace) (lent : List ℕ) (p : Pipe) (fills : Bool) → is_filling place ≡ fills → writer_state place ≡ Busy → WriterStands place p → MayOffer place p.source lent (record p { writer = place })
-    → let s = fill_step place lent p in s.answer ≡ None → write_steps s.pipe.capacity s.pipe.room s.pipe.writer < write_steps p.capacity p.room place
+    → let s = fill_step place lent p in s.answer ≡ None → writes_left s.pipe.writer s.pipe < writes_left place p
 write-falls place lent p true is busy stands may = fill-falls place lent p is stands may
 write-falls place lent p false is busy stands may =
-    subst (λ (s : Stepped). s.answer ≡ None → write_steps s.pipe.capacity s.pipe.room s.pipe.writer < write_steps p.capacity p.room place) (sym (plain-step place lent p is)) (λ goes. (writer-nearer place p busy is goes).2.steps)
+    subst (λ (s : Stepped). s.answer ≡ None → writes_left s.pipe.writer s.pipe < writes_left place p) (sym (plain-step place lent p is)) (λ goes. (writer-nearer place p busy is goes).2.steps)
 
 writer-rest_of : (answer : Option Answer) (p : Pipe) → writer_rest answer p ≡ rest_of Writer answer p
 writer-rest_of None p = refl

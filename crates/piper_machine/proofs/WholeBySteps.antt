@@ -1,5 +1,5 @@
 -- Every call made by steps, none of which is the other side's, is the call run whole.
-use Rattle.std.proofs.Common.{◌≡◌, ℕ, ◌+◌, ◌*◌, ◌≤◌, List, [], ◌∷◌, ◌++◌, length, replicate, Bool, true, false, Option, None, Some, ◌==◌, nat_le, refl, sym, ap, ◌∙◌, subst, arith, append_assoc}
+use Rattle.std.proofs.Common.{◌≡◌, ℕ, ◌+◌, ◌*◌, ◌≤◌, List, [], ◌∷◌, ◌++◌, length, replicate, Bool, true, false, Option, None, Some, if◌then◌else◌, ◌==◌, nat_le, refl, sym, ap, ◌∙◌, subst, arith, append_assoc}
 use Rattle.std.proofs.lemmas.Bool.Decides.{nat_tests}
 use Rattle.piper_sides.specs.declared.calls.Side.{Side}
 use Rattle.piper_sides.specs.declared.calls.Side.TheVariants.{Reader, Writer}
@@ -39,7 +39,7 @@ use Rattle.piper_machine.specs.Refusal.{reader_state, writer_state, state_of, ca
 use Rattle.piper_machine.specs.Step.{opened, answer_at_once}
 use Rattle.piper_machine.specs.Run.{Runs}
 use Rattle.piper_machine.specs.Alone.{Ended, read_steps}
-use Rattle.piper_machine.specs.BySteps.{names_of, whole, IsWholeBySteps, AreWholeBySteps}
+use Rattle.piper_machine.specs.BySteps.{names_of, whole, found_alone, IsWholeBySteps, AreWholeBySteps}
 use Rattle.piper_machine.proofs.BySteps.{named, alone_of, left_of, Stands, no_more, finish}
 use Rattle.piper_machine.proofs.Whole.{reader_resting, writer_resting, reader-polls, drain-slice, drain-acts, try_drain-whole, writer-polls, fill-slice, fill-acts, try_fill-whole}
 
@@ -82,7 +82,7 @@ pub record IsOpened (c : Call) (lent others : List ℕ) (p : Pipe) : Type 0 wher
   pub stands : Stands (side_of c) (opened lent c (begun p))
   pub rest : alone_of (side_of c) (opened lent c (begun p)) ≡ whole others c p
   pub unwoken : (opened lent c (begun p)).woken ≡ []
-  pub few : left_of (side_of c) (opened lent c (begun p)) ≤ most_steps p.capacity c
+  pub few : left_of (side_of c) (opened lent c (begun p)) ≤ most_steps (found_alone (side_of c) p) c
 
 looks-busy : (knows_none : Bool) (l : Purpose) → reader_state (reader_looks_for knows_none l) ≡ Busy
 looks-busy true l = refl
@@ -97,10 +97,10 @@ looks-store false (purpose.Copy Try) = refl
 looks-store false (purpose.Copy (Polling drawn)) = refl
 
 -- the look of a drain, and its rounds
-looks-few : (knows_none : Bool) (form : Form) (capacity known : ℕ) → known ≤ capacity → read_steps capacity known (reader_looks_for knows_none (purpose.Copy form)) ≤ 6 + 4 * capacity
-looks-few true form capacity known within = omega arith
-looks-few false Try capacity known within = omega arith
-looks-few false (Polling drawn) capacity known within = omega arith
+looks-few : (knows_none : Bool) (form : Form) (unread known : ℕ) → (known == 0) ≡ knows_none → read_steps unread known (reader_looks_for knows_none (purpose.Copy form)) ≤ 6 + 4 * (if known == 0 then unread else known)
+looks-few true form unread known test = let is = ap (λ (b : Bool). if b then unread else known) test in omega arith
+looks-few false Try unread known test = let is = ap (λ (b : Bool). if b then unread else known) test in omega arith
+looks-few false (Polling drawn) unread known test = let is = ap (λ (b : Bool). if b then unread else known) test in omega arith
 
 poll-few : (knows_none : Bool) (capacity known : ℕ) → read_steps capacity known (reader_looks_for knows_none purpose.Poll) ≤ 5
 poll-few true capacity known = omega arith
@@ -125,16 +125,16 @@ opens (call.IsFull Reader) lent others r stepped sound fits = record { commutes 
 opens (call.IsClosed Reader) lent others r stepped sound fits = record { commutes = refl; at_once = refl; busy = refl; stands = record { unread = sound.unread; start = sound.start; known = sound.known; store = omega arith }; rest = refl; unwoken = refl; few = omega arith }
 opens (call.Poll Reader waker luck) lent others r stepped sound fits =
     let none = looks-store (r.known == 0) purpose.Poll in
-    record { commutes = refl; at_once = refl; busy = looks-busy (r.known == 0) purpose.Poll; stands = record { unread = sound.unread; start = sound.start; known = sound.known; store = omega arith }; rest = reader-polls (context waker luck) r; unwoken = refl; few = poll-few (r.known == 0) r.capacity r.known }
+    record { commutes = refl; at_once = refl; busy = looks-busy (r.known == 0) purpose.Poll; stands = record { unread = sound.unread; start = sound.start; known = sound.known; store = omega arith }; rest = reader-polls (context waker luck) r; unwoken = refl; few = poll-few (r.known == 0) (length r.unread) r.known }
 opens (call.TryDrain size) lent others r stepped sound fits =
     let none = looks-store (r.known == 0) (purpose.Copy Try) in
-    record { commutes = refl; at_once = refl; busy = looks-busy (r.known == 0) (purpose.Copy Try); stands = record { unread = sound.unread; start = sound.start; known = sound.known; store = omega arith }; rest = try_drain-whole size r; unwoken = refl; few = looks-few (r.known == 0) Try r.capacity r.known (omega (arith, sound.unread, sound.known)) }
+    record { commutes = refl; at_once = refl; busy = looks-busy (r.known == 0) (purpose.Copy Try); stands = record { unread = sound.unread; start = sound.start; known = sound.known; store = omega arith }; rest = try_drain-whole size r; unwoken = refl; few = looks-few (r.known == 0) Try (length r.unread) r.known refl }
 opens (call.PollDrainBytes waker luck size) lent others r stepped sound fits =
     let none = looks-store (r.known == 0) (purpose.Copy (Polling (luck.draw == 0))) in
-    record { commutes = refl; at_once = refl; busy = looks-busy (r.known == 0) (purpose.Copy (Polling (luck.draw == 0))); stands = record { unread = sound.unread; start = sound.start; known = sound.known; store = omega arith }; rest = drain-slice (context waker luck) size r; unwoken = refl; few = looks-few (r.known == 0) (Polling (luck.draw == 0)) r.capacity r.known (omega (arith, sound.unread, sound.known)) }
+    record { commutes = refl; at_once = refl; busy = looks-busy (r.known == 0) (purpose.Copy (Polling (luck.draw == 0))); stands = record { unread = sound.unread; start = sound.start; known = sound.known; store = omega arith }; rest = drain-slice (context waker luck) size r; unwoken = refl; few = looks-few (r.known == 0) (Polling (luck.draw == 0)) (length r.unread) r.known refl }
 opens (call.PollDrain waker luck acts) lent others r stepped sound fits =
     let none = looks-store (r.known == 0) (purpose.Copy (Polling (luck.draw == 0))) in
-    record { commutes = refl; at_once = refl; busy = looks-busy (r.known == 0) (purpose.Copy (Polling (luck.draw == 0))); stands = record { unread = sound.unread; start = sound.start; known = sound.known; store = omega arith }; rest = drain-acts (context waker luck) acts r; unwoken = refl; few = looks-few (r.known == 0) (Polling (luck.draw == 0)) r.capacity r.known (omega (arith, sound.unread, sound.known)) }
+    record { commutes = refl; at_once = refl; busy = looks-busy (r.known == 0) (purpose.Copy (Polling (luck.draw == 0))); stands = record { unread = sound.unread; start = sound.start; known = sound.known; store = omega arith }; rest = drain-acts (context waker luck) acts r; unwoken = refl; few = looks-few (r.known == 0) (Polling (luck.draw == 0)) (length r.unread) r.known refl }
 opens (call.Consume n) lent others r stepped sound fits =
     let within = within-of n _ (test-holds _ _ fits) in
     record { commutes = refl; at_once = refl; busy = refl; stands = record { unread = sound.unread; start = sound.start; known = sound.known; store = within }; rest = refl; unwoken = refl; few = omega arith }

@@ -150,7 +150,7 @@ reader_remains at.StoreClosed p = reader_done_alone afterward.Drop (writer_woken
 abbrev pub reader_alone : ReadPlace → Pipe → Ended
 reader_alone place p = reader_remains place (record p { reader = at.Idle })
 
--- the most steps that remain, where the reader knows of so many bytes: a round makes four, and a last one calls the destination
+-- the most steps of the rounds that remain, where so many bytes are known: a round makes four, and a last one calls the destination
 abbrev pub drain_steps : ℕ → ℕ
 drain_steps known = 1 + 4 * known
 
@@ -162,23 +162,24 @@ abbrev pub read_steps_after : ℕ → AfterRead → ℕ
 read_steps_after known (afterward.Round form sum) = drain_steps known
 read_steps_after known next = 0
 
+-- the most steps that remain, where the look finds so many bytes and so many are known
 abbrev pub read_steps : ℕ → ℕ → ReadPlace → ℕ
-read_steps capacity known at.Idle = 0
-read_steps capacity known at.Dropped = 0
-read_steps capacity known (at.QueryHead query) = 2
-read_steps capacity known (at.QueryTail query) = 1
-read_steps capacity known at.QueryClosed = 1
-read_steps capacity known (at.LookTail l) = read_look_steps 5 capacity l
-read_steps capacity known (at.LookRegister l) = read_look_steps 4 capacity l
-read_steps capacity known (at.LookClosed l) = read_look_steps 3 capacity l
-read_steps capacity known (at.LookTailAgain l was_closed) = read_look_steps 2 capacity l
-read_steps capacity known (at.LookTake l) = read_look_steps 1 known l
-read_steps capacity known at.Yield = 1
-read_steps capacity known (at.CallDestination form sum) = drain_steps known
-read_steps capacity known (at.StoreHead n next) = 3 + read_steps_after (known - n) next
-read_steps capacity known (at.TakeWriter next) = 2 + read_steps_after known next
-read_steps capacity known (at.WakeWriter next) = 1 + read_steps_after known next
-read_steps capacity known at.StoreClosed = 3
+read_steps found known at.Idle = 0
+read_steps found known at.Dropped = 0
+read_steps found known (at.QueryHead query) = 2
+read_steps found known (at.QueryTail query) = 1
+read_steps found known at.QueryClosed = 1
+read_steps found known (at.LookTail l) = read_look_steps 5 found l
+read_steps found known (at.LookRegister l) = read_look_steps 4 found l
+read_steps found known (at.LookClosed l) = read_look_steps 3 found l
+read_steps found known (at.LookTailAgain l was_closed) = read_look_steps 2 found l
+read_steps found known (at.LookTake l) = read_look_steps 1 known l
+read_steps found known at.Yield = 1
+read_steps found known (at.CallDestination form sum) = drain_steps known
+read_steps found known (at.StoreHead n next) = 3 + read_steps_after (known - n) next
+read_steps found known (at.TakeWriter next) = 2 + read_steps_after known next
+read_steps found known (at.WakeWriter next) = 1 + read_steps_after known next
+read_steps found known at.StoreClosed = 3
 
 -- the open call is a drain
 abbrev pub is_drain_round : AfterRead → Bool
@@ -320,7 +321,7 @@ writer_remains on.WakeWriter p = writer_ended on.Idle Done (record p { woken = w
 abbrev pub writer_alone : WritePlace → Pipe → Ended
 writer_alone place p = writer_remains place (record p { writer = on.Idle })
 
--- the most steps that remain, where the writer knows of so much room: a round makes five, and a last one calls the source
+-- the most steps of the rounds that remain, where so much room is known: a round makes five, and a last one calls the source
 abbrev pub fill_steps : ℕ → ℕ
 fill_steps room = 1 + 5 * room
 
@@ -338,27 +339,28 @@ abbrev pub wakes_after : AfterWrite → ℕ
 wakes_after behind.WakeWriter = 1
 wakes_after next = 0
 
+-- the most steps that remain, where the look finds so much room and so much is known
 abbrev pub write_steps : ℕ → ℕ → WritePlace → ℕ
-write_steps capacity room on.Idle = 0
-write_steps capacity room on.Dropped = 0
-write_steps capacity room (on.QueryHead query) = 2
-write_steps capacity room (on.QueryTail query count) = 1
-write_steps capacity room on.QueryClosed = 1
-write_steps capacity room (on.LookClosed l) = write_look_steps 5 capacity l
-write_steps capacity room (on.LookHead l) = write_look_steps 4 capacity l
-write_steps capacity room (on.LookRegister l) = write_look_steps 3 capacity l
-write_steps capacity room (on.LookHeadAgain l) = write_look_steps 2 capacity l
-write_steps capacity room (on.LookClosedAgain l) = 1
-write_steps capacity room (on.LookTake l) = write_look_steps 1 room l
-write_steps capacity room on.Yield = 1
-write_steps capacity room (on.CallSource form sum) = fill_steps room
-write_steps capacity room (on.RoundClosed n form sum) = 4 + fill_steps (room - n)
-write_steps capacity room (on.StoreTail n next) = 3 + steps_after (room - n) next
-write_steps capacity room (on.TakeReader next) = 2 + steps_after room next
-write_steps capacity room (on.WakeReader next) = 1 + steps_after room next
-write_steps capacity room (on.StoreClosed next) = 3 + steps_after room next
-write_steps capacity room on.TakeWriter = 2
-write_steps capacity room on.WakeWriter = 1
+write_steps found room on.Idle = 0
+write_steps found room on.Dropped = 0
+write_steps found room (on.QueryHead query) = 2
+write_steps found room (on.QueryTail query count) = 1
+write_steps found room on.QueryClosed = 1
+write_steps found room (on.LookClosed l) = write_look_steps 5 found l
+write_steps found room (on.LookHead l) = write_look_steps 4 found l
+write_steps found room (on.LookRegister l) = write_look_steps 3 found l
+write_steps found room (on.LookHeadAgain l) = write_look_steps 2 found l
+write_steps found room (on.LookClosedAgain l) = 1
+write_steps found room (on.LookTake l) = write_look_steps 1 room l
+write_steps found room on.Yield = 1
+write_steps found room (on.CallSource form sum) = fill_steps room
+write_steps found room (on.RoundClosed n form sum) = 4 + fill_steps (room - n)
+write_steps found room (on.StoreTail n next) = 3 + steps_after (room - n) next
+write_steps found room (on.TakeReader next) = 2 + steps_after room next
+write_steps found room (on.WakeReader next) = 1 + steps_after room next
+write_steps found room (on.StoreClosed next) = 3 + steps_after room next
+write_steps found room on.TakeWriter = 2
+write_steps found room on.WakeWriter = 1
 
 -- the open call is a fill
 abbrev pub is_fill_round : AfterWrite → Bool

@@ -17,6 +17,7 @@ use Rattle.piper_sides.specs.declared.scripted.Failed.{Failed}
 use Rattle.piper_sides.specs.Call.{side_of}
 use Rattle.piper_machine.specs.Pipe.{Pipe, begun}
 use Rattle.piper_machine.specs.Query.{unread_count, is_empty, is_full, is_closed}
+use Rattle.piper_machine.specs.Refresh.{reader_refreshed, writer_refreshed}
 use Rattle.piper_machine.specs.Look.{Look, context, reader_look, writer_look}
 use Rattle.piper_machine.specs.Lend.{lending}
 use Rattle.piper_machine.specs.Move.{produce, consume}
@@ -92,9 +93,14 @@ pub record IsMadeWhole (side : Side) (p : Pipe) (before : List Event) (q : Pipe)
   pub woken : names_of log ≡ run_whole.pipe.woken
   pub pipe : q ≡ record run_whole.pipe { woken = p.woken }
 
+-- what a side knows behind the look of a call that is run alone: what it knew, or else all that there is
+abbrev pub found_alone : Side → Pipe → ℕ
+found_alone Reader p = (reader_refreshed p).known
+found_alone Writer p = (writer_refreshed p).room
+
 -- as soon as steps of its side alone leave that side without an open call, the call is made as if it were run whole, and in no more steps than it may make
 pub record IsWholeBySteps (c : Call) (p : Pipe) : Type 0 where
-  pub made : (k : ℕ) (q : Pipe) (before after : List Event) → let side = side_of c in Runs p before (Begin c ∷ replicate k (Go side)) q after → (state_of side q ≡ Busy → ⊥) → (k ≤ most_steps p.capacity c) × IsMadeWhole side p before q after (whole q.lent c p)
+  pub made : (k : ℕ) (q : Pipe) (before after : List Event) → let side = side_of c in Runs p before (Begin c ∷ replicate k (Go side)) q after → (state_of side q ≡ Busy → ⊥) → (k ≤ most_steps (found_alone side p) c) × IsMadeWhole side p before q after (whole q.lent c p)
 
 -- of every call that may be opened here
 abbrev pub AreWholeBySteps : Pipe → Type 0

@@ -10,7 +10,8 @@ use Rattle.piper_sides.specs.declared.events.Event.TheVariants.{Began, Consumed,
 use Rattle.piper_sides.specs.declared.events.Seen.TheVariants as seen
 use Rattle.piper_sides.specs.declared.polling.Polled.TheVariants as polled
 use Rattle.piper_machine.specs.Pipe.{Pipe, fresh}
-use Rattle.piper_machine.specs.BySteps.{whole, names_of}
+use Rattle.piper_machine.specs.Counts.{most_steps}
+use Rattle.piper_machine.specs.BySteps.{whole, names_of, found_alone}
 use Rattle.piper_machine.proofs.worked.Script.{◌to◌, Fill, Poll, by, yielding, after}
 use Rattle.piper_machine.proofs.worked.StepScript.{Gone, gone}
 
@@ -48,3 +49,10 @@ yield_whole = (refl, refl, refl, refl)
 -- a fill of a full pipe moves nothing, and one of an empty pipe what there is room for
 fill_whole : ((whole [] (call.TryFill (1 to 2)) full).answer ≡ answer.Count 0) × ((whole [] (call.TryFill (1 to 6)) (fresh 4)).answer ≡ answer.Count 4)
 fill_whole = (refl, refl)
+
+-- what their looks find: the reader has not looked yet, the writer of the full pipe finds no place, and that of the empty one knows of four
+found_by_the_looks : (found_alone Reader full ≡ 4) × (found_alone Writer full ≡ 0) × (found_alone Writer (fresh 4) ≡ 4)
+found_by_the_looks = (refl, refl, refl)
+
+steps_of_the_drain : most_steps (found_alone Reader full) (call.TryDrain 3) ≡ 22
+steps_of_the_drain = refl

@@ -1,7 +1,8 @@
 use Rattle.std.proofs.Common.{◌≡◌, ◌≤◌, ◌+◌, length, false}
 use Rattle.piper_sides.specs.declared.calls.SideState.TheVariants.{Busy}
 use Rattle.piper_machine.specs.Refusal.{reader_state}
-use Rattle.piper_machine.specs.Alone.{reader_alone, is_draining, read_steps, read_wakes}
+use Rattle.piper_machine.specs.Alone.{reader_alone, is_draining, read_wakes}
+use Rattle.piper_machine.proofs.Alone.{reads_left}
 use Rattle.piper_machine.proofs.machine.Machine.drive_reader.Given as goal
 
 abbrev pub invariant-steps : goal.invariant-steps
@@ -13,4 +14,4 @@ invariant-steps l = record {
 }
 
 abbrev pub decreases-steps : goal.decreases-steps
-decreases-steps l = read_steps l.self.capacity l.self.known l.self.reader
+decreases-steps l = reads_left l.self.reader l.self

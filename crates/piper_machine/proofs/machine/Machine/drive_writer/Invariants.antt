@@ -1,7 +1,8 @@
 use Rattle.std.proofs.Common.{◌≡◌, ◌≤◌, ◌+◌, length, false}
 use Rattle.piper_sides.specs.declared.calls.SideState.TheVariants.{Busy}
 use Rattle.piper_machine.specs.Refusal.{writer_state}
-use Rattle.piper_machine.specs.Alone.{writer_alone, is_filling, write_steps, write_wakes}
+use Rattle.piper_machine.specs.Alone.{writer_alone, is_filling, write_wakes}
+use Rattle.piper_machine.proofs.Alone.{writes_left}
 use Rattle.piper_machine.proofs.machine.Machine.drive_writer.Given as goal
 
 abbrev pub invariant-steps : goal.invariant-steps
@@ -13,4 +14,4 @@ invariant-steps l = record {
 }
 
 abbrev pub decreases-steps : goal.decreases-steps
-decreases-steps l = write_steps l.self.capacity l.self.room l.self.writer
+decreases-steps l = writes_left l.self.writer l.self
