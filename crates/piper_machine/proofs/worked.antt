@@ -17,3 +17,4 @@ mod Refusals
 mod HonestEnd
 mod Waiters
 mod ToldEnd
+mod WhatCallsAnswer

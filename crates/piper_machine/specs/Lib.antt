@@ -30,4 +30,7 @@ pub mod Waiting
 pub mod Wait
 pub mod Remembered
 pub mod Final
+pub mod Told
+pub mod Outcome
+pub mod Answered
 pub mod Machine

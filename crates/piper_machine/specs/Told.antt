@@ -1,0 +1,58 @@
+-- What the log tells of a side's open call: which call it is, what it looked at, and the bytes that it moved.
+use Rattle.std.specs.Prelude.{ℕ, List, [], ◌∷◌, ◌++◌, Bool, true, false, Option, None, Some}
+use Rattle.piper_sides.specs.declared.calls.Side.{Side}
+use Rattle.piper_sides.specs.declared.calls.Side.TheVariants.{Reader, Writer}
+use Rattle.piper_sides.specs.declared.calls.Call.{Call}
+use Rattle.piper_sides.specs.declared.calls.Step.{Step}
+use Rattle.piper_sides.specs.declared.calls.Step.TheVariants.{Begin}
+use Rattle.piper_sides.specs.declared.events.Seen.{Seen}
+use Rattle.piper_sides.specs.declared.events.Event.{Event}
+use Rattle.piper_sides.specs.declared.events.Event.TheVariants.{Began, Looked, Published, Consumed, Answered}
+use Rattle.piper_sides.specs.Call.{side_of}
+use Rattle.piper_machine.specs.Counts.{is_same}
+
+pub record Told : Type 0 where
+  -- the calls that the side has still to open, in order: the log tells kind and waker of a call, the list of steps its arguments
+  pub coming : List Call
+  -- the open call, if there is one
+  pub call : Option Call
+  -- what the call opened last looked at, newest first
+  pub looks : List Seen
+  -- the bytes that it consumed, of the reader, or published, of the writer
+  pub moved : List ℕ
+
+abbrev pub call_if : Bool → Call → List Call → List Call
+call_if true c cs = c ∷ cs
+call_if false c cs = cs
+
+-- the calls of a side that are opened in a list of steps
+abbrev pub calls_of : Side → List Step → List Call
+calls_of side [] = []
+calls_of side (Begin c ∷ ss) = call_if (is_same side (side_of c)) c (calls_of side ss)
+calls_of side (s ∷ ss) = calls_of side ss
+
+-- nothing was told yet
+abbrev pub untold : List Call → Told
+untold coming = record { coming = coming; call = None; looks = []; moved = [] }
+
+-- the next call is opened
+abbrev pub told_next : List Call → Told
+told_next [] = untold []
+told_next (c ∷ cs) = record { coming = cs; call = Some c; looks = []; moved = [] }
+
+-- only the reader consumes, and only the writer publishes
+abbrev pub told_after : Side → Told → Event → Told
+told_after Reader t (Began Reader kind waker) = told_next t.coming
+told_after Writer t (Began Writer kind waker) = told_next t.coming
+told_after Reader t (Looked Reader what) = record t { looks = what ∷ t.looks }
+told_after Writer t (Looked Writer what) = record t { looks = what ∷ t.looks }
+told_after Reader t (Consumed bytes) = record t { moved = t.moved ++ bytes }
+told_after Writer t (Published bytes) = record t { moved = t.moved ++ bytes }
+told_after Reader t (Answered Reader answer) = record t { call = None }
+told_after Writer t (Answered Writer answer) = record t { call = None }
+told_after side t event = t
+
+-- over a list of events, from what was told before
+abbrev pub told_from : Side → Told → List Event → Told
+told_from side t [] = t
+told_from side t (e ∷ es) = told_from side (told_after side t e) es
