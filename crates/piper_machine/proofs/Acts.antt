@@ -49,11 +49,11 @@ passes room count past = grind (arith, nat_tests)
 past-rest : (room first more : ℕ) → first ≤ room → nat_lt room (first + more) ≡ nat_lt (room - first) more
 past-rest room first more within = grind (arith, nat_tests)
 
-bytes_given-cons : (bytes : List ℕ) (acts : List SourceAct) → (length bytes ≡ 0 → ⊥) → bytes_given (source.Bytes bytes ∷ acts) ≡ bytes ++ bytes_given acts
+pub bytes_given-cons : (bytes : List ℕ) (acts : List SourceAct) → (length bytes ≡ 0 → ⊥) → bytes_given (source.Bytes bytes ∷ acts) ≡ bytes ++ bytes_given acts
 bytes_given-cons [] acts some = absurd (some refl)
 bytes_given-cons (byte ∷ bytes) acts some = refl
 
-ends_in_failure-cons : (bytes : List ℕ) (acts : List SourceAct) → (length bytes ≡ 0 → ⊥) → ends_in_failure (source.Bytes bytes ∷ acts) ≡ ends_in_failure acts
+pub ends_in_failure-cons : (bytes : List ℕ) (acts : List SourceAct) → (length bytes ≡ 0 → ⊥) → ends_in_failure (source.Bytes bytes ∷ acts) ≡ ends_in_failure acts
 ends_in_failure-cons [] acts some = absurd (some refl)
 ends_in_failure-cons (byte ∷ bytes) acts some = refl
 
@@ -94,11 +94,11 @@ give-goes_on sum n bytes acts p some is spent =
     ∙ ap (λ (given : List ℕ). moved_by (sum + n) (bytes_given acts) (ends_in_failure acts) (filled given p)) (sym whole)
     ∙ sym (by_bytes (sum + n) acts (filled (take n bytes) p))
 
-given-unspent : (bytes : List ℕ) (acts : List SourceAct) → bytes_given (unspent bytes acts) ≡ bytes ++ bytes_given acts
+pub given-unspent : (bytes : List ℕ) (acts : List SourceAct) → bytes_given (unspent bytes acts) ≡ bytes ++ bytes_given acts
 given-unspent [] acts = refl
 given-unspent (byte ∷ bytes) acts = refl
 
-failure-unspent : (bytes : List ℕ) (acts : List SourceAct) → ends_in_failure (unspent bytes acts) ≡ ends_in_failure acts
+pub failure-unspent : (bytes : List ℕ) (acts : List SourceAct) → ends_in_failure (unspent bytes acts) ≡ ends_in_failure acts
 failure-unspent [] acts = refl
 failure-unspent (byte ∷ bytes) acts = refl
 

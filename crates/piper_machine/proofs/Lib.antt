@@ -29,3 +29,7 @@ pub mod WriterWaits
 pub mod Remembering
 pub mod Finality
 pub mod Acts
+pub mod Telling
+pub mod ReaderAnswers
+pub mod WriterAnswers
+pub mod Answering

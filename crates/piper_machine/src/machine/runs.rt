@@ -21,6 +21,7 @@ ghost use Rattle.piper_machine.specs.Disjoint.{IsDisjoint, KeepsKnown, IsWriterS
 ghost use Rattle.piper_machine.specs.Honest.{IsHonest};
 ghost use Rattle.piper_machine.specs.Final.{IsFinal};
 ghost use Rattle.piper_machine.specs.Remembered.{AreRemembered};
+ghost use Rattle.piper_machine.specs.Answered.{AreAnswered};
 ghost use Rattle.piper_machine.specs.Sound.{IsSound};
 ghost use Rattle.piper_machine.specs.Run.{Made, IsStepped, Runs, IsRefusal, IsRunRefusal};
 
@@ -489,6 +490,7 @@ pub fn run(alloc: Global, cap: usize, steps: &[Step]) -> Result<(Machine, Log), 
     ensures honest { IfOk result (λ run. IsHonest (events run.1)) }
     ensures finality { IfOk result (λ run. IsFinal run.0 (events run.1)) }
     ensures remembered { IfOk result (λ run. AreRemembered run.0 (events run.1)) }
+    ensures answered { IfOk result (λ run. AreAnswered cap steps.now (events run.1)) }
 {
     let Ok(mut machine) = Machine::new(alloc, cap) else {
         return Err(RunRefusal::NoMachine);

@@ -1,5 +1,5 @@
-use Rattle.std.proofs.Common.{[], ◌∷◌, ◌++◌, take, sym, ap, subst, ◌∙◌}
-use Rattle.std.proofs.lemmas.List.{take_more, take_all}
+use Rattle.std.proofs.Common.{[], ◌∷◌, ◌++◌, ◌+◌, take, drop, sym, ap, subst, ◌∙◌}
+use Rattle.std.proofs.lemmas.List.{take_more, take_all, drop_more}
 use Rattle.piper_sides.specs.declared.calls.Step.{Step}
 use Rattle.piper_machine.specs.Pipe.{fresh}
 use Rattle.piper_sides.specs.Log.{events}
@@ -10,6 +10,7 @@ use Rattle.piper_machine.proofs.KnownRuns.{known_more, ready-run, counted-run, c
 use Rattle.piper_machine.proofs.Honesty.{honest_more}
 use Rattle.piper_machine.proofs.Remembering.{remembers_more}
 use Rattle.piper_machine.proofs.Finality.{final_more}
+use Rattle.piper_machine.proofs.Answering.{Answers, answers_more}
 use Rattle.piper_machine.proofs.machine.runs.run.Goals as goal
 
 pub loop-i-preserved : goal.loop-i-preserved
@@ -22,6 +23,7 @@ loop-i-preserved c =
     let fs = events c.step.new.log in
     let same = capacity-kept before after _ es fs c.learn.ensures made in
     let longer = take_more c.args.steps.now c.loop-i.i c.index-steps-i.result c.loop-i-test.true ∙ ap (λ (s : Step). take c.loop-i.i c.args.steps.now ++ s ∷ []) (sym c.index-steps-i.is) in
+    let coming = drop_more c.args.steps.now c.loop-i.i c.index-steps-i.result c.loop-i-test.true ∙ ap (λ (s : Step). s ∷ drop (c.loop-i.i + 1) c.args.steps.now) (sym c.index-steps-i.is) in
     let on = runs_more (fresh c.args.cap) before after (take c.loop-i.i c.args.steps.now) _ [] es fs inv.runs made in
     record {
       capacity = same ∙ inv.capacity;
@@ -29,6 +31,7 @@ loop-i-preserved c =
       known = known_more c.args.cap (take c.loop-i.i c.args.steps.now) _ before after es fs c.learn.ensures inv.capacity same inv.runs inv.known made;
       honest = honest_more before after _ es fs inv.honest made;
       remembers = remembers_more before after _ es fs c.learn.ensures inv.remembers made;
+      answers = answers_more c.args.steps.now (drop (c.loop-i.i + 1) c.args.steps.now) _ c.args.cap before after es fs c.learn.ensures inv.capacity (subst (λ ss. Answers c.args.cap c.args.steps.now ss before es) coming inv.answers) made;
       final = final_more before after _ es fs c.learn.ensures inv.honest inv.final made;
       conserved = conserved-step before after _ es fs c.learn.ensures c.learn-in-Ok-step.ensures inv.conserved made;
     }

@@ -1,4 +1,4 @@
-use Rattle.std.proofs.Common.{◌≡◌, take, []}
+use Rattle.std.proofs.Common.{◌≡◌, take, drop, []}
 use Rattle.piper_machine.specs.Pipe.{fresh}
 use Rattle.piper_sides.specs.Log.{events}
 use Rattle.piper_machine.specs.Run.{Runs}
@@ -7,6 +7,7 @@ use Rattle.piper_machine.specs.Known.{IsKnown}
 use Rattle.piper_machine.proofs.Honesty.{Honest}
 use Rattle.piper_machine.proofs.Finality.{Final}
 use Rattle.piper_machine.proofs.Remembering.{Remembers}
+use Rattle.piper_machine.proofs.Answering.{Answers}
 use Rattle.piper_machine.proofs.machine.runs.run.Given as goal
 
 abbrev pub invariant-loop-i : goal.invariant-loop-i
@@ -17,5 +18,6 @@ invariant-loop-i l = record {
   honest : Honest l.machine (events l.log);
   remembers : Remembers l.machine (events l.log);
   final : Final l.machine (events l.log);
+  answers : Answers l.cap l.steps (drop l.i l.steps) l.machine (events l.log);
   conserved : IsConserved l.machine (events l.log);
 }

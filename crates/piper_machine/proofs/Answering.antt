@@ -1,0 +1,232 @@
+-- Each step keeps what is told of both sides' calls, and what they move and answer is right.
+use Rattle.std.proofs.Common.{◌≡◌, ℕ, ◌≤◌, List, [], ◌∷◌, ◌++◌, length, false, None, Some, ◌==◌, refl, sym, ap, subst, ◌∙◌, arith, append-nil}
+use Rattle.piper_sides.specs.declared.calls.Side.{Side}
+use Rattle.piper_sides.specs.declared.calls.Side.TheVariants.{Reader, Writer}
+use Rattle.piper_sides.specs.declared.calls.Call.{Call}
+use Rattle.piper_sides.specs.declared.calls.Call.TheVariants as call
+use Rattle.piper_sides.specs.declared.calls.Step.{Step}
+use Rattle.piper_sides.specs.declared.calls.Step.TheVariants.{Begin, Go, Put}
+use Rattle.piper_sides.specs.declared.events.Answer.TheVariants as answer
+use Rattle.piper_sides.specs.declared.events.Event.{Event}
+use Rattle.piper_sides.specs.declared.events.Event.TheVariants.{Began}
+use Rattle.piper_sides.specs.declared.scripted.SourceAct.TheVariants as source
+use Rattle.piper_sides.specs.declared.table.AfterWrite.TheVariants as behind
+use Rattle.piper_sides.specs.declared.table.Form.TheVariants.{Try, Polling}
+use Rattle.piper_sides.specs.declared.table.Purpose.TheVariants as purpose
+use Rattle.piper_sides.specs.declared.table.ReadPlace.{ReadPlace}
+use Rattle.piper_sides.specs.declared.table.ReadPlace.TheVariants as at
+use Rattle.piper_sides.specs.declared.table.WritePlace.{WritePlace}
+use Rattle.piper_sides.specs.declared.table.WritePlace.TheVariants as on
+use Rattle.piper_sides.specs.Call.{kind_of, waker_of}
+use Rattle.piper_sides.specs.Log.{answer_event}
+use Rattle.piper_sides.specs.Table.{read_action, write_action}
+use Rattle.piper_machine.specs.declared.destination.Destination.TheVariants.{Slice, Acts}
+use Rattle.piper_machine.specs.Pipe.{Pipe, fresh}
+use Rattle.piper_machine.specs.Lend.{Lendable}
+use Rattle.piper_machine.specs.Scripted.{bytes_given, ends_in_failure}
+use Rattle.piper_machine.specs.Refusal.{refusal_of}
+use Rattle.piper_machine.specs.Sound.{IsSound}
+use Rattle.piper_machine.specs.Action.{performed, logged_of}
+use Rattle.piper_machine.specs.Step.{Stepped, stepped, went, opened, offering, MayLend}
+use Rattle.piper_machine.specs.Run.{Made}
+use Rattle.piper_machine.specs.Told.{Told, untold, calls_of, told_next, told_from}
+use Rattle.piper_machine.specs.Answered.{IsNext, AreRightFrom, AreAnswered}
+use Rattle.piper_machine.proofs.Counting.{reader_never-tail, writer_never-head}
+use Rattle.piper_machine.proofs.Remembering.{writer-idle}
+use Rattle.piper_machine.proofs.Telling.{told-append, right-append, leaves-append, writer-logs, reader-logs, writer_answer-leaves, reader_answer-leaves, coming-kept, coming-answered}
+use Rattle.piper_machine.proofs.ReaderAnswers.{ReaderAt, opens-leads, reader-place}
+use Rattle.piper_machine.proofs.WriterAnswers.{WriterAt, writer-place}
+
+-- what is told of a side where it stands
+abbrev pub Stands : ℕ → Side → Pipe → Told → Type 0
+Stands capacity Reader p t = ReaderAt p.reader p.destination t
+Stands capacity Writer p t = WriterAt capacity p.writer p.source p.lent t
+
+-- with the calls that are opened by the steps to come
+pub record IsTold (capacity : ℕ) (side : Side) (p : Pipe) (steps : List Step) (t : Told) : Type 0 where
+  pub coming : t.coming ≡ calls_of side steps
+  pub stands : Stands capacity side p t
+
+abbrev Keeps : ℕ → Side → List Step → Stepped → Told → Type 0
+Keeps capacity side steps new t = AreRightFrom capacity side t new.events × IsTold capacity side new.pipe steps (told_from side t new.events)
+
+-- a call as it is opened
+abbrev opening : Side → Call → List Step → Told
+opening side c steps = record { coming = calls_of side steps; call = Some c; looks = []; moved = [] }
+
+told_opening : (side : Side) (c : Call) (steps : List Step) (t : Told) → t.coming ≡ c ∷ calls_of side steps → told_next t.coming ≡ opening side c steps
+told_opening side c steps t coming = ap told_next coming
+
+is_next : (c : Call) (cs : List Call) (t : Told) → t.coming ≡ c ∷ cs → IsNext t.coming (kind_of c) (waker_of c)
+is_next c cs t coming = rw coming (refl, refl)
+
+module _ (capacity : ℕ) (c : Call) (steps : List Step) (t : Told) (p : Pipe) where
+  reader-begins : t.coming ≡ c ∷ calls_of Reader steps → ReaderAt p.reader p.destination (opening Reader c steps)
+      → Keeps capacity Reader steps (record { pipe = p; answer = None; events = Began Reader (kind_of c) (waker_of c) ∷ [] }) t
+  reader-begins coming stands =
+      let told = told_opening Reader c steps t coming in
+      ((is_next c (calls_of Reader steps) t coming, tt), record { coming = ap (λ (u : Told). u.coming) told; stands = subst (λ (u : Told). ReaderAt p.reader p.destination u) (sym told) stands })
+
+  writer-begins : t.coming ≡ c ∷ calls_of Writer steps → WriterAt capacity p.writer p.source p.lent (opening Writer c steps)
+      → Keeps capacity Writer steps (record { pipe = p; answer = None; events = Began Writer (kind_of c) (waker_of c) ∷ [] }) t
+  writer-begins coming stands =
+      let told = told_opening Writer c steps t coming in
+      ((is_next c (calls_of Writer steps) t coming, tt), record { coming = ap (λ (u : Told). u.coming) told; stands = subst (λ (u : Told). WriterAt capacity p.writer p.source p.lent u) (sym told) stands })
+
+-- a slice of bytes as a source
+given_slice : (bytes : List ℕ) → bytes_given (source.Bytes bytes ∷ []) ≡ bytes
+given_slice [] = refl
+given_slice (byte ∷ bytes) = append-nil (byte ∷ bytes)
+
+slice_fails : (bytes : List ℕ) → ends_in_failure (source.Bytes bytes ∷ []) ≡ false
+slice_fails [] = refl
+slice_fails (byte ∷ bytes) = refl
+
+-- a call is opened
+
+begin-reader : (lent : List ℕ) (c : Call) (p : Pipe) (steps : List Step) (t : Told) → IsTold p.capacity Reader p (Begin c ∷ steps) t → Keeps p.capacity Reader steps (stepped lent (Begin c) p) t
+begin-reader lent (call.Len Reader) p steps t h = reader-begins p.capacity (call.Len Reader) steps t (opened lent (call.Len Reader) p) h.coming (refl, refl)
+begin-reader lent (call.IsEmpty Reader) p steps t h = reader-begins p.capacity (call.IsEmpty Reader) steps t (opened lent (call.IsEmpty Reader) p) h.coming (refl, refl)
+begin-reader lent (call.IsFull Reader) p steps t h = reader-begins p.capacity (call.IsFull Reader) steps t (opened lent (call.IsFull Reader) p) h.coming (refl, refl)
+begin-reader lent (call.IsClosed Reader) p steps t h = reader-begins p.capacity (call.IsClosed Reader) steps t (opened lent (call.IsClosed Reader) p) h.coming (refl, refl)
+begin-reader lent (call.Poll Reader waker luck) p steps t h =
+    let c = call.Poll Reader waker luck in
+    reader-begins p.capacity c steps t (opened lent c p) h.coming (opens-leads p.capacity (opening Reader c steps) p.destination (p.known == 0) purpose.Poll (record { poll = c; is = refl; polls = tt }))
+begin-reader lent (call.TryDrain size) p steps t h =
+    let c = call.TryDrain size in
+    reader-begins p.capacity c steps t (opened lent c p) h.coming (opens-leads p.capacity (opening Reader c steps) (Slice size) (p.known == 0) (purpose.Copy Try) (record { drain = c; is = refl; drains = omega arith; count = refl }))
+begin-reader lent (call.PollDrainBytes waker luck size) p steps t h =
+    let c = call.PollDrainBytes waker luck size in
+    reader-begins p.capacity c steps t (opened lent c p) h.coming (opens-leads p.capacity (opening Reader c steps) (Slice size) (p.known == 0) (purpose.Copy (Polling (luck.draw == 0))) (record { drain = c; is = refl; drains = omega arith; count = refl }))
+begin-reader lent (call.PollDrain waker luck acts) p steps t h =
+    let c = call.PollDrain waker luck acts in
+    reader-begins p.capacity c steps t (opened lent c p) h.coming (opens-leads p.capacity (opening Reader c steps) (Acts acts) (p.known == 0) (purpose.Copy (Polling (luck.draw == 0))) (record { drain = c; is = refl; drains = (omega arith, refl); count = refl }))
+begin-reader lent (call.Consume n) p steps t h = reader-begins p.capacity (call.Consume n) steps t (opened lent (call.Consume n) p) h.coming (refl, refl)
+begin-reader lent (call.Drop Reader) p steps t h = reader-begins p.capacity (call.Drop Reader) steps t (opened lent (call.Drop Reader) p) h.coming refl
+begin-reader lent (call.WriteBuf most) p steps t h = ((tt, (tt, tt)), record { coming = h.coming; stands = h.stands })
+begin-reader lent (call.Len Writer) p steps t h = ((tt, tt), record { coming = h.coming; stands = h.stands })
+begin-reader lent (call.IsEmpty Writer) p steps t h = ((tt, tt), record { coming = h.coming; stands = h.stands })
+begin-reader lent (call.IsFull Writer) p steps t h = ((tt, tt), record { coming = h.coming; stands = h.stands })
+begin-reader lent (call.IsClosed Writer) p steps t h = ((tt, tt), record { coming = h.coming; stands = h.stands })
+begin-reader lent (call.Poll Writer waker luck) p steps t h = ((tt, tt), record { coming = h.coming; stands = h.stands })
+begin-reader lent (call.Drop Writer) p steps t h = ((tt, tt), record { coming = h.coming; stands = h.stands })
+begin-reader lent (call.TryFill bytes) p steps t h = ((tt, tt), record { coming = h.coming; stands = h.stands })
+begin-reader lent (call.PollFillBytes waker luck bytes) p steps t h = ((tt, tt), record { coming = h.coming; stands = h.stands })
+begin-reader lent (call.PollFill waker luck acts) p steps t h = ((tt, tt), record { coming = h.coming; stands = h.stands })
+begin-reader lent (call.Produced n) p steps t h = ((tt, tt), record { coming = h.coming; stands = h.stands })
+begin-reader lent call.Close p steps t h = ((tt, tt), record { coming = h.coming; stands = h.stands })
+
+-- a slice is lent as the call is opened
+lends : (lent : List ℕ) (most : ℕ) (p : Pipe) (steps : List Step) (t : Told) → p.writer ≡ on.Idle → Lendable most p (length lent) → t.coming ≡ call.WriteBuf most ∷ calls_of Writer steps → Keeps p.capacity Writer steps (stepped lent (Begin (call.WriteBuf most)) p) t
+lends lent most p steps t idle may coming =
+    let told = told_opening Writer (call.WriteBuf most) steps t coming in
+    let within = may.at_most in
+    let few : length lent ≤ most = omega arith in
+    let right : AreRightFrom p.capacity Writer (opening Writer (call.WriteBuf most) steps) (answer_event Writer (Some (answer.Lent (length lent)))) = (few, tt) in (
+      (is_next (call.WriteBuf most) (calls_of Writer steps) t coming, subst (λ (u : Told). AreRightFrom p.capacity Writer u (answer_event Writer (Some (answer.Lent (length lent))))) (sym told) right),
+      record { coming = ap (λ (u : Told). u.coming) told; stands = rw idle tt },
+    )
+
+begin-writer : (lent : List ℕ) (c : Call) (p : Pipe) (steps : List Step) (t : Told) → MayLend lent (Begin c) p → refusal_of (Begin c) p ≡ None → IsTold p.capacity Writer p (Begin c ∷ steps) t → Keeps p.capacity Writer steps (stepped lent (Begin c) p) t
+begin-writer lent (call.Len Writer) p steps t may accepted h = writer-begins p.capacity (call.Len Writer) steps t (opened lent (call.Len Writer) p) h.coming (refl, refl)
+begin-writer lent (call.IsEmpty Writer) p steps t may accepted h = writer-begins p.capacity (call.IsEmpty Writer) steps t (opened lent (call.IsEmpty Writer) p) h.coming (refl, refl)
+begin-writer lent (call.IsFull Writer) p steps t may accepted h = writer-begins p.capacity (call.IsFull Writer) steps t (opened lent (call.IsFull Writer) p) h.coming (refl, refl)
+begin-writer lent (call.IsClosed Writer) p steps t may accepted h = writer-begins p.capacity (call.IsClosed Writer) steps t (opened lent (call.IsClosed Writer) p) h.coming (refl, refl)
+begin-writer lent (call.Poll Writer waker luck) p steps t may accepted h =
+    let c = call.Poll Writer waker luck in
+    writer-begins p.capacity c steps t (opened lent c p) h.coming (record { poll = c; is = refl; polls = tt })
+begin-writer lent (call.TryFill bytes) p steps t may accepted h =
+    let c = call.TryFill bytes in
+    writer-begins p.capacity c steps t (opened lent c p) h.coming (record { fill = c; is = refl; fills = (given_slice bytes, slice_fails bytes); count = refl; found = refl })
+begin-writer lent (call.PollFillBytes waker luck bytes) p steps t may accepted h =
+    let c = call.PollFillBytes waker luck bytes in
+    writer-begins p.capacity c steps t (opened lent c p) h.coming (record { fill = c; is = refl; fills = (given_slice bytes, slice_fails bytes); count = refl; found = refl })
+begin-writer lent (call.PollFill waker luck acts) p steps t may accepted h =
+    let c = call.PollFill waker luck acts in
+    writer-begins p.capacity c steps t (opened lent c p) h.coming (record { fill = c; is = refl; fills = (refl, refl); count = refl; found = refl })
+begin-writer lent (call.WriteBuf most) p steps t may accepted h = lends lent most p steps t (writer-idle p.writer _ accepted) may h.coming
+begin-writer lent (call.Produced n) p steps t may accepted h = writer-begins p.capacity (call.Produced n) steps t (opened lent (call.Produced n) p) h.coming (refl, refl)
+begin-writer lent call.Close p steps t may accepted h = writer-begins p.capacity call.Close steps t (opened lent call.Close p) h.coming refl
+begin-writer lent (call.Drop Writer) p steps t may accepted h = writer-begins p.capacity (call.Drop Writer) steps t (opened lent (call.Drop Writer) p) h.coming refl
+begin-writer lent (call.Len Reader) p steps t may accepted h = ((tt, tt), record { coming = h.coming; stands = h.stands })
+begin-writer lent (call.IsEmpty Reader) p steps t may accepted h = ((tt, tt), record { coming = h.coming; stands = h.stands })
+begin-writer lent (call.IsFull Reader) p steps t may accepted h = ((tt, tt), record { coming = h.coming; stands = h.stands })
+begin-writer lent (call.IsClosed Reader) p steps t may accepted h = ((tt, tt), record { coming = h.coming; stands = h.stands })
+begin-writer lent (call.Poll Reader waker luck) p steps t may accepted h = ((tt, tt), record { coming = h.coming; stands = h.stands })
+begin-writer lent (call.Drop Reader) p steps t may accepted h = ((tt, tt), record { coming = h.coming; stands = h.stands })
+begin-writer lent (call.TryDrain size) p steps t may accepted h = ((tt, tt), record { coming = h.coming; stands = h.stands })
+begin-writer lent (call.PollDrainBytes waker luck size) p steps t may accepted h = ((tt, tt), record { coming = h.coming; stands = h.stands })
+begin-writer lent (call.PollDrain waker luck acts) p steps t may accepted h = ((tt, tt), record { coming = h.coming; stands = h.stands })
+begin-writer lent (call.Consume n) p steps t may accepted h = ((tt, tt), record { coming = h.coming; stands = h.stands })
+
+-- a side's step leaves what the other side has in hand
+
+reader-leaves_fill : (place : ReadPlace) (p : Pipe) → let q = performed Reader (read_action place) p in (q.writer ≡ p.writer) × (q.source ≡ p.source) × (q.lent ≡ p.lent)
+reader-leaves_fill at.Idle p = (refl, refl, refl)
+reader-leaves_fill place p = (refl, refl, refl)
+
+writer-leaves_drain : (place : WritePlace) (p : Pipe) → let q = performed Writer (write_action place) p in (q.reader ≡ p.reader) × (q.destination ≡ p.destination)
+writer-leaves_drain (on.StoreClosed behind.Answer) p = (refl, refl)
+writer-leaves_drain (on.StoreClosed behind.Drop) p = (refl, refl)
+writer-leaves_drain (on.StoreClosed behind.WakeWriter) p = (refl, refl)
+writer-leaves_drain (on.StoreClosed (behind.Round form sum)) p = (refl, refl)
+writer-leaves_drain place p = (refl, refl)
+
+step-told : (side : Side) (lent : List ℕ) (s : Step) (p : Pipe) (steps : List Step) (t : Told) → IsSound p → MayLend lent s p → refusal_of s p ≡ None → IsTold p.capacity side p (s ∷ steps) t → Keeps p.capacity side steps (stepped lent s p) t
+step-told Reader lent (Begin c) p steps t sound may accepted h = begin-reader lent c p steps t h
+step-told Writer lent (Begin c) p steps t sound may accepted h = begin-writer lent c p steps t may accepted h
+step-told Reader lent (Put offset byte) p steps t sound may accepted h = (tt, record { coming = h.coming; stands = h.stands })
+step-told Writer lent (Put offset byte) p steps t sound may accepted h = let idle = writer-idle p.writer _ accepted in (tt, record { coming = h.coming; stands = rw idle tt })
+step-told Reader lent (Go Reader) p steps t sound may accepted h =
+    let action = read_action p.reader in
+    let to = went Reader p in
+    let stored = sound.head_store in
+    let known = sound.known in
+    let made = reader-place p.reader p t sound.unread (omega arith) h.stands in
+    let told = ap (λ (u : Told). u.coming) (told-append Reader t (logged_of Reader action p) (answer_event Reader to.answer)) ∙ coming-answered Reader _ to.answer in
+    (made.0, record { coming = told ∙ coming-kept Reader action p t ∙ h.coming; stands = made.1 })
+step-told Writer lent (Go Writer) p steps t sound may accepted h =
+    let action = write_action p.writer in
+    let q = offering lent p in
+    let to = went Writer q in
+    let made = writer-place p.writer lent p t sound.unread sound.tail_store h.stands in
+    let told = ap (λ (u : Told). u.coming) (told-append Writer t (logged_of Writer action q) (answer_event Writer to.answer)) ∙ coming-answered Writer _ to.answer in
+    (made.0, record { coming = told ∙ coming-kept Writer action q t ∙ h.coming; stands = made.1 })
+step-told Reader lent (Go Writer) p steps t sound may accepted h =
+    let action = write_action p.writer in
+    let q = offering lent p in
+    let to = went Writer q in
+    let leaves = leaves-append p.capacity Reader t (logged_of Writer action q) (answer_event Writer to.answer) (writer-logs p.capacity t action q (writer_never-head p.writer)) (writer_answer-leaves p.capacity t to.answer) in
+    let same = writer-leaves_drain p.writer q in
+    (leaves.0, record { coming = ap (λ (u : Told). u.coming) leaves.1 ∙ h.coming; stands = rw (same.0, same.1, leaves.1) h.stands })
+step-told Writer lent (Go Reader) p steps t sound may accepted h =
+    let action = read_action p.reader in
+    let to = went Reader p in
+    let leaves = leaves-append p.capacity Writer t (logged_of Reader action p) (answer_event Reader to.answer) (reader-logs p.capacity t action p (reader_never-tail p.reader)) (reader_answer-leaves p.capacity t to.answer) in
+    let same = reader-leaves_fill p.reader p in
+    (leaves.0, record { coming = ap (λ (u : Told). u.coming) leaves.1 ∙ h.coming; stands = rw (same.0, same.1, same.2, leaves.1) h.stands })
+
+-- of a list of steps that has come so far, and what is still to come
+pub record Answers (capacity : ℕ) (steps coming : List Step) (p : Pipe) (events : List Event) : Type 0 where
+  pub right : AreAnswered capacity steps events
+  pub told : (side : Side) → IsTold capacity side p coming (told_from side (untold (calls_of side steps)) events)
+
+pub answers_none : (capacity : ℕ) (steps : List Step) → Answers capacity steps steps (fresh capacity) []
+answers_none capacity steps = record { right = λ side. tt; told = none }
+  where
+    none : (side : Side) → IsTold capacity side (fresh capacity) steps (untold (calls_of side steps))
+    none Reader = record { coming = refl; stands = tt }
+    none Writer = record { coming = refl; stands = tt }
+
+pub answers_more : (steps coming : List Step) (s : Step) (capacity : ℕ) (p q : Pipe) (before after : List Event) → IsSound p → p.capacity ≡ capacity → Answers capacity steps (s ∷ coming) p before → Made p s q before after → Answers capacity steps coming q after
+answers_more steps coming s capacity p q before after sound same given made =
+    let kept = subst (λ (c : ℕ). Answers c steps (s ∷ coming) p before) (sym same) given in
+    let new = stepped q.lent s p in
+    let start : Side → Told = λ side. untold (calls_of side steps) in
+    let more : (side : Side) → Keeps p.capacity side coming new (told_from side (start side) before) = λ side. step-told side q.lent s p coming (told_from side (start side) before) sound made.made.lent made.accepted (kept.told side) in
+    let next : Answers p.capacity steps coming new.pipe (before ++ new.events) = record {
+      right = λ side. right-append p.capacity side (start side) before new.events (kept.right side) (more side).0;
+      told = λ side. subst (λ (u : Told). IsTold p.capacity side new.pipe coming u) (sym (told-append side (start side) before new.events)) (more side).1;
+    } in
+    let here = subst (λ es. Answers p.capacity steps coming q es) (sym made.made.events) (subst (λ (x : Pipe). Answers p.capacity steps coming x (before ++ new.events)) (sym made.made.pipe) next) in
+    subst (λ (c : ℕ). Answers c steps coming q after) same here

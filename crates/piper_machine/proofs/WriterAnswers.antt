@@ -1,0 +1,374 @@
+-- What is told of the writer's open call where the writer stands, and that its steps keep it and answer what is right.
+use Rattle.std.specs.Prelude.{IsSomeAnd}
+use Rattle.std.proofs.Common.{◌≡◌, ℕ, ◌+◌, ◌-◌, ◌≤◌, min, List, [], ◌∷◌, ◌++◌, take, drop, length, Bool, true, false, Option, None, Some, ◌==◌, is_some, refl, sym, ap, subst, ◌∙◌, arith, append_assoc, append-nil, length-append, length-take-le, take-append-drop, take_all}
+use Rattle.std.proofs.lemmas.List.{take-append-le}
+use Rattle.std.proofs.lemmas.Bool.Decides.{nat_tests}
+use Rattle.piper_sides.specs.declared.calls.Side.TheVariants.{Writer}
+use Rattle.piper_sides.specs.declared.calls.Call.{Call}
+use Rattle.piper_sides.specs.declared.calls.Call.TheVariants as call
+use Rattle.piper_sides.specs.declared.calls.Query.{Query}
+use Rattle.piper_sides.specs.declared.calls.Query.TheVariants.{Len, IsEmpty, IsFull}
+use Rattle.piper_sides.specs.declared.events.Answer.{Answer}
+use Rattle.piper_sides.specs.declared.events.Answer.TheVariants as answer
+use Rattle.piper_sides.specs.declared.events.Event.{Event}
+use Rattle.piper_sides.specs.declared.events.Event.TheVariants.{Looked}
+use Rattle.piper_sides.specs.declared.events.Seen.{Seen}
+use Rattle.piper_sides.specs.declared.events.Seen.TheVariants as seen
+use Rattle.piper_sides.specs.declared.polling.Polled.{Polled}
+use Rattle.piper_sides.specs.declared.polling.Polled.TheVariants.{Ready, Pending, Memory}
+use Rattle.piper_sides.specs.declared.scripted.SourceAct.{SourceAct}
+use Rattle.piper_sides.specs.declared.scripted.SourceAct.TheVariants as source
+use Rattle.piper_sides.specs.declared.table.Form.{Form}
+use Rattle.piper_sides.specs.declared.table.Form.TheVariants.{Try, Polling}
+use Rattle.piper_sides.specs.declared.table.Purpose.{Purpose}
+use Rattle.piper_sides.specs.declared.table.Purpose.TheVariants as purpose
+use Rattle.piper_sides.specs.declared.table.Action.TheVariants as does
+use Rattle.piper_sides.specs.declared.table.AfterWrite.{AfterWrite}
+use Rattle.piper_sides.specs.declared.table.AfterWrite.TheVariants as behind
+use Rattle.piper_sides.specs.declared.table.WritePlace.{WritePlace}
+use Rattle.piper_sides.specs.declared.table.WritePlace.TheVariants as on
+use Rattle.piper_sides.specs.Open.{is_granted, is_yield_granted}
+use Rattle.piper_sides.specs.Side.{tail_store}
+use Rattle.piper_sides.specs.Table.{Next, nothing, granted, look_answer, write_after, query_answer, copy_answer, count_answer, failed_answer, end_or_pending, yield_answer, writer_found, writer_is_open, writer_looked, writer_looked_again, writer_registered, writer_is_true, writer_moved, writer_rounds, reader_taken, write_done, own_taken}
+use Rattle.piper_sides.specs.Log.{answer_event}
+use Rattle.piper_machine.specs.Pipe.{Pipe}
+use Rattle.piper_machine.specs.Round.{given, found_of, moved_by, unspent, left_of_source}
+use Rattle.piper_machine.specs.Source.{bytes_of}
+use Rattle.piper_machine.specs.Scripted.{bytes_given, ends_in_failure}
+use Rattle.piper_machine.specs.Action.{registration_of, wake_of, yield_of}
+use Rattle.piper_machine.specs.Step.{went, source_after, filled_out, lent_after, offering}
+use Rattle.piper_machine.specs.Told.{Told, told_from}
+use Rattle.piper_machine.specs.Outcome.{first_look, IsAnswer, IsFilled, MayHaveMoved, found_closed}
+use Rattle.piper_machine.specs.Answered.{AreRightFrom}
+use Rattle.piper_machine.proofs.Acts.{bytes_given-cons, ends_in_failure-cons, given-unspent, failure-unspent}
+use Rattle.piper_machine.proofs.Telling.{told-append, right-append, registers-leaves, wake-leaves, yield-leaves, answers, query_call, Polls, poll-answers, none_moved}
+
+-- a fill of this form that was handed these bytes, and whether its source fails behind them
+abbrev pub IsFill : Form → Call → List ℕ → Bool → Type 0
+IsFill Try (call.TryFill bytes) handed fails = (handed ≡ bytes) × (fails ≡ false)
+IsFill (Polling is_drawn) (call.PollFillBytes waker luck bytes) handed fails = (handed ≡ bytes) × (fails ≡ false)
+IsFill (Polling is_drawn) (call.PollFill waker luck acts) handed fails = (handed ≡ bytes_given acts) × (fails ≡ ends_in_failure acts)
+IsFill form c handed fails = ⊥
+
+-- the first look of a fill that goes on
+abbrev pub found_open : Option Seen
+found_open = Some (seen.Closed false)
+
+-- the source of the fill has given so many bytes, of which these last ones are not published yet
+pub record Fills (first : Option Seen) (form : Form) (held : List SourceAct) (last : List ℕ) (sum : ℕ) (t : Told) : Type 0 where
+  pub fill : Call
+  pub is : t.call ≡ Some fill
+  pub fills : IsFill form fill (t.moved ++ (last ++ bytes_given held)) (ends_in_failure held)
+  pub count : length t.moved + length last ≡ sum
+  pub found : first_look t.looks ≡ first
+
+abbrev pub WriterLooks : Option Seen → Purpose → List SourceAct → Told → Type 0
+WriterLooks first purpose.Poll held t = Polls t
+WriterLooks first (purpose.Copy form) held t = Fills first form held [] 0 t
+
+abbrev pub WriterBehind : AfterWrite → List SourceAct → Told → Type 0
+WriterBehind behind.Answer held t = t.call ≡ Some (call.Produced (length t.moved))
+WriterBehind behind.Drop held t = t.call ≡ Some (call.Drop Writer)
+WriterBehind behind.WakeWriter held t = t.call ≡ Some call.Close
+WriterBehind (behind.Round form sum) held t = Fills found_open form held [] sum t
+
+abbrev pub WriterStores : ℕ → AfterWrite → List SourceAct → List ℕ → Told → Type 0
+WriterStores n behind.Answer held lent t = (t.call ≡ Some (call.Produced n)) × (t.moved ≡ [])
+WriterStores n (behind.Round form sum) held lent t = Fills found_open form held (take n lent) sum t
+WriterStores n next held lent t = ⊥
+
+abbrev pub WriterCloses : AfterWrite → Told → Type 0
+WriterCloses behind.Drop t = t.call ≡ Some (call.Drop Writer)
+WriterCloses behind.WakeWriter t = t.call ≡ Some call.Close
+WriterCloses next t = ⊥
+
+abbrev pub WriterAt : ℕ → WritePlace → List SourceAct → List ℕ → Told → Type 0
+WriterAt capacity on.Idle held lent t = Unit {0}
+WriterAt capacity on.Dropped held lent t = Unit {0}
+WriterAt capacity (on.QueryHead query) held lent t = (t.call ≡ Some (query_call Writer query)) × (t.looks ≡ [])
+WriterAt capacity (on.QueryTail query count) held lent t = (count ≤ capacity) × (t.call ≡ Some (query_call Writer query)) × (t.looks ≡ seen.Head count ∷ [])
+WriterAt capacity on.QueryClosed held lent t = (t.call ≡ Some (call.IsClosed Writer)) × (t.looks ≡ [])
+WriterAt capacity (on.LookClosed l) held lent t = WriterLooks None l held t
+WriterAt capacity (on.LookHead l) held lent t = WriterLooks found_open l held t
+WriterAt capacity (on.LookRegister l) held lent t = WriterLooks found_open l held t
+WriterAt capacity (on.LookHeadAgain l) held lent t = WriterLooks found_open l held t
+WriterAt capacity (on.LookClosedAgain l) held lent t = WriterLooks found_open l held t
+WriterAt capacity (on.LookTake l) held lent t = WriterLooks found_open l held t
+WriterAt capacity on.Yield held lent t = Fills found_open (Polling true) held [] 0 t
+WriterAt capacity (on.CallSource form sum) held lent t = Fills found_open form held [] sum t
+WriterAt capacity (on.RoundClosed n form sum) held lent t = Fills found_open form held (take n lent) sum t
+WriterAt capacity (on.StoreTail n next) held lent t = WriterStores n next held lent t
+WriterAt capacity (on.TakeReader next) held lent t = WriterBehind next held t
+WriterAt capacity (on.WakeReader next) held lent t = WriterBehind next held t
+WriterAt capacity (on.StoreClosed next) held lent t = WriterCloses next t
+WriterAt capacity on.TakeWriter held lent t = t.call ≡ Some call.Close
+WriterAt capacity on.WakeWriter held lent t = t.call ≡ Some call.Close
+
+-- a step that leads there answers what is right, or goes on where this is told
+abbrev Leads : ℕ → List SourceAct → (Option Answer → List ℕ) → Next WritePlace → Told → Type 0
+Leads capacity held lent_then next t = AreRightFrom capacity Writer t (answer_event Writer next.answer) × WriterAt capacity next.place (source_after next.answer held) (lent_then next.answer) (told_from Writer t (answer_event Writer next.answer))
+
+-- with what the step logs before its answer
+abbrev Steps : ℕ → List SourceAct → (Option Answer → List ℕ) → Next WritePlace → Told → List Event → Type 0
+Steps capacity held lent_then next t es =
+    let events = es ++ answer_event Writer next.answer in
+    AreRightFrom capacity Writer t events × WriterAt capacity next.place (source_after next.answer held) (lent_then next.answer) (told_from Writer t events)
+
+steps : (capacity : ℕ) (held : List SourceAct) (lent_then : Option Answer → List ℕ) (next : Next WritePlace) (t u : Told) (es : List Event) → AreRightFrom capacity Writer t es → told_from Writer t es ≡ u → Leads capacity held lent_then next u → Steps capacity held lent_then next t es
+steps capacity held lent_then next t u es right told leads =
+    let fs = answer_event Writer next.answer in
+    let behind = told-append Writer t es fs ∙ ap (λ (v : Told). told_from Writer v fs) told in (
+      right-append capacity Writer t es fs right (subst (λ (v : Told). AreRightFrom capacity Writer v fs) (sym told) leads.0),
+      subst (λ (v : Told). WriterAt capacity next.place (source_after next.answer held) (lent_then next.answer) v) (sym behind) leads.1,
+    )
+
+-- the count of a fill is all that its source gave, whether the last bytes are published or found the pipe closed
+filled : (handed moved last left : List ℕ) (sum : ℕ) (looks : List Seen) → moved ++ (last ++ left) ≡ handed → length moved + length last ≡ sum → (found_closed looks ≡ false → length last ≡ 0) → (first_look looks ≡ Some (seen.Closed true) → sum ≡ 0) → IsFilled handed looks moved sum
+filled handed moved last left sum looks bytes count open_none closed_none =
+    let all : length (moved ++ (last ++ left)) ≡ length handed = ap (λ (xs : List ℕ). length xs) bytes in
+    let parts = length-append moved (last ++ left) in
+    let more = length-append last left in
+    record {
+      published = λ is_open. let none = open_none is_open in omega arith;
+      none = closed_none;
+      at_least = omega arith;
+      at_most = omega arith;
+    }
+
+-- the first of some looks stays the first
+first-stays : (looks : List Seen) (look first : Seen) → first_look looks ≡ Some first → first_look (look ∷ looks) ≡ Some first
+first-stays [] look first is = absurd (cc)
+first-stays (before ∷ looks) look first is = is
+
+some_first : (look : Seen) (looks : List Seen) → first_look (look ∷ looks) ≡ None → ⊥
+some_first look [] none = absurd (cc)
+some_first look (before ∷ looks) none = some_first before looks none
+
+first-made : (looks : List Seen) (look : Seen) → first_look looks ≡ None → first_look (look ∷ looks) ≡ Some look
+first-made [] look none = refl
+first-made (before ∷ looks) look none = absurd (some_first before looks none)
+
+closed-none : (looks : List Seen) (sum : ℕ) → first_look looks ≡ found_open → first_look looks ≡ Some (seen.Closed true) → sum ≡ 0
+closed-none looks sum found closed = absurd (let clash = sym found ∙ closed in cc)
+
+module _ (capacity : ℕ) where
+  -- the answers of a fill
+
+  fill-counts : (form : Form) (c : Call) (moved last left : List ℕ) (fails : Bool) (sum : ℕ) (looks : List Seen) → IsFill form c (moved ++ (last ++ left)) fails → length moved + length last ≡ sum → (found_closed looks ≡ false → length last ≡ 0) → first_look looks ≡ found_open → IsAnswer capacity c looks moved (count_answer form sum)
+  fill-counts Try (call.TryFill bytes) moved last left fails sum looks fills count none found = filled bytes moved last left sum looks fills.0 count none (closed-none looks sum found)
+  fill-counts (Polling is_drawn) (call.PollFillBytes waker luck bytes) moved last left fails sum looks fills count none found = filled bytes moved last left sum looks fills.0 count none (closed-none looks sum found)
+  fill-counts (Polling is_drawn) (call.PollFill waker luck acts) moved last left fails sum looks fills count none found = filled (bytes_given acts) moved last left sum looks fills.0 count none (closed-none looks sum found)
+  fill-counts form c moved last left fails sum looks fills count none found = absurd fills
+
+  fill-waits : (form : Form) (c : Call) (moved left : List ℕ) (fails : Bool) (answer : Polled Bool) (looks : List Seen) → IsFill form c (moved ++ left) fails → length moved + 0 ≡ 0 → IsAnswer capacity c looks moved (copy_answer form answer)
+  fill-waits Try (call.TryFill bytes) moved left fails answer looks fills count = filled bytes moved [] left 0 looks fills.0 count (λ is_open. refl) (λ is_closed. refl)
+  fill-waits (Polling is_drawn) (call.PollFillBytes waker luck bytes) moved left fails (Ready b) looks fills count = filled bytes moved [] left 0 looks fills.0 count (λ is_open. refl) (λ is_closed. refl)
+  fill-waits (Polling is_drawn) (call.PollFillBytes waker luck bytes) moved left fails Pending looks fills count = none_moved moved count
+  fill-waits (Polling is_drawn) (call.PollFillBytes waker luck bytes) moved left fails Memory looks fills count = none_moved moved count
+  fill-waits (Polling is_drawn) (call.PollFill waker luck acts) moved left fails (Ready b) looks fills count = filled (bytes_given acts) moved [] left 0 looks fills.0 count (λ is_open. refl) (λ is_closed. refl)
+  fill-waits (Polling is_drawn) (call.PollFill waker luck acts) moved left fails Pending looks fills count = none_moved moved count
+  fill-waits (Polling is_drawn) (call.PollFill waker luck acts) moved left fails Memory looks fills count = none_moved moved count
+  fill-waits form c moved left fails answer looks fills count = absurd fills
+
+  fill-fails : (form : Form) (c : Call) (moved : List ℕ) (looks : List Seen) → IsFill form c (moved ++ []) true → IsAnswer capacity c looks moved failed_answer
+  fill-fails Try (call.TryFill bytes) moved looks fills = absurd (let clash = fills.1 in cc)
+  fill-fails (Polling is_drawn) (call.PollFillBytes waker luck bytes) moved looks fills = absurd (let clash = fills.1 in cc)
+  fill-fails (Polling is_drawn) (call.PollFill waker luck acts) moved looks fills = record { fails = sym fills.1; published = sym (append-nil moved) ∙ fills.0 }
+  fill-fails form c moved looks fills = absurd fills
+
+  fill-moves : (form : Form) (c : Call) (moved left : List ℕ) (fails : Bool) → IsFill form c (moved ++ left) fails → MayHaveMoved c moved
+  fill-moves Try (call.TryFill bytes) moved left fails fills = (left, fills.0)
+  fill-moves (Polling is_drawn) (call.PollFillBytes waker luck bytes) moved left fails fills = (left, fills.0)
+  fill-moves (Polling is_drawn) (call.PollFill waker luck acts) moved left fails fills = (left, fills.0)
+  fill-moves form c moved left fails fills = absurd fills
+
+  -- where each step leads
+
+  module _ (t : Told) (held : List SourceAct) (lent_then : Option Answer → List ℕ) where
+    waits : (first : Option Seen) (form : Form) (answer : Polled Bool) → Fills first form held [] 0 t → AreRightFrom capacity Writer t (answer_event Writer (Some (copy_answer form answer)))
+    waits first form answer looks = answers capacity t Writer looks.fill _ looks.is (fill-waits form looks.fill t.moved (bytes_given held) (ends_in_failure held) answer t.looks looks.fills looks.count)
+
+    found-leads : (l : Purpose) → WriterLooks found_open l held t → WriterAt capacity (writer_found l) held (lent_then None) t
+    found-leads purpose.Poll looks = looks
+    found-leads (purpose.Copy Try) looks = looks
+    found-leads (purpose.Copy (Polling is_drawn)) looks = looks
+
+    open-leads : (is_closed none : Bool) (l : Purpose) → WriterLooks (Some (seen.Closed is_closed)) l held t → Leads capacity held lent_then (writer_is_open is_closed none l) t
+    open-leads true none purpose.Poll looks = (poll-answers capacity Writer t (Ready false) looks, tt)
+    open-leads true none (purpose.Copy form) looks = (waits _ form (Ready false) looks, tt)
+    open-leads false true l looks = (tt, looks)
+    open-leads false false l looks = (tt, found-leads l looks)
+
+    looks-leads : (none : Bool) (l : Purpose) → WriterLooks found_open l held t → WriterAt capacity (writer_looked none l) held (lent_then None) t
+    looks-leads true purpose.Poll looks = looks
+    looks-leads true (purpose.Copy Try) looks = looks
+    looks-leads true (purpose.Copy (Polling is_drawn)) looks = looks
+    looks-leads false l looks = found-leads l looks
+
+    again-leads : (none : Bool) (l : Purpose) → WriterLooks found_open l held t → WriterAt capacity (writer_looked_again none l) held (lent_then None) t
+    again-leads true l looks = looks
+    again-leads false l looks = found-leads l looks
+
+    registers-leads : (is_granted : Bool) (l : Purpose) → WriterLooks found_open l held t → Leads capacity held lent_then (writer_registered is_granted l) t
+    registers-leads true l looks = (tt, looks)
+    registers-leads false purpose.Poll looks = (poll-answers capacity Writer t Memory looks, tt)
+    registers-leads false (purpose.Copy form) looks = (waits found_open form Memory looks, tt)
+
+    ends-leads : (is_closed : Bool) (l : Purpose) → WriterLooks found_open l held t → AreRightFrom capacity Writer t (answer_event Writer (Some (look_answer l (end_or_pending is_closed))))
+    ends-leads is_closed purpose.Poll looks = poll-answers capacity Writer t (end_or_pending is_closed) looks
+    ends-leads is_closed (purpose.Copy form) looks = waits found_open form (end_or_pending is_closed) looks
+
+    true-leads : (l : Purpose) → WriterLooks found_open l held t → Leads capacity held lent_then (writer_is_true l) t
+    true-leads purpose.Poll looks = (poll-answers capacity Writer t (Ready true) looks, tt)
+    true-leads (purpose.Copy Try) looks = (tt, looks)
+    true-leads (purpose.Copy (Polling true)) looks = (tt, looks)
+    true-leads (purpose.Copy (Polling false)) looks = (tt, looks)
+
+    yields-leads : (is_granted : Bool) → Fills found_open (Polling true) held [] 0 t → AreRightFrom capacity Writer t (answer_event Writer (Some (yield_answer is_granted)))
+    yields-leads true looks = waits found_open (Polling true) Pending looks
+    yields-leads false looks = waits found_open (Polling true) Memory looks
+
+    done-leads : (next : AfterWrite) → WriterBehind next held t → Leads capacity held lent_then (write_done next) t
+    done-leads behind.Answer told = (answers capacity t Writer _ _ told refl, tt)
+    done-leads behind.Drop told = (answers capacity t Writer _ _ told tt, tt)
+    done-leads behind.WakeWriter told = (tt, told)
+    done-leads (behind.Round form sum) told = (tt, told)
+
+    take-leads : (next : AfterWrite) (is_found : Bool) → WriterBehind next held t → Leads capacity held lent_then (reader_taken next is_found) t
+    take-leads next true told = (tt, told)
+    take-leads next false told = done-leads next told
+
+    own-leads : (is_found : Bool) → t.call ≡ Some call.Close → Leads capacity held lent_then (own_taken is_found) t
+    own-leads true told = (tt, told)
+    own-leads false told = (answers capacity t Writer _ _ told tt, tt)
+
+    rounds-leads : (is_closed : Bool) (n : ℕ) (form : Form) (sum : ℕ) (looks : List Seen) → t.looks ≡ seen.Closed is_closed ∷ looks → Fills found_open form held (take n (lent_then None)) sum t → Leads capacity held lent_then (writer_rounds is_closed n form sum) t
+    rounds-leads true n form sum looks is given =
+        let closed : found_closed t.looks ≡ true = ap found_closed is in
+        (answers capacity t Writer given.fill _ given.is (fill-counts form given.fill t.moved (take n (lent_then None)) (bytes_given held) (ends_in_failure held) sum t.looks given.fills given.count (λ is_open. absurd (cc)) given.found), tt)
+    rounds-leads false n form sum looks is given = (tt, given)
+
+  -- what is told of a look does not depend on what it found, but for the first one
+  looked : (l : Purpose) (held : List SourceAct) (t : Told) (look : Seen) → WriterLooks found_open l held t → WriterLooks found_open l held (record t { looks = look ∷ t.looks })
+  looked purpose.Poll held t look looks = record { poll = looks.poll; is = looks.is; polls = looks.polls }
+  looked (purpose.Copy form) held t look looks = record { fill = looks.fill; is = looks.is; fills = looks.fills; count = looks.count; found = first-stays t.looks look (seen.Closed false) looks.found }
+
+  first-looked : (l : Purpose) (held : List SourceAct) (t : Told) (look : Seen) → WriterLooks None l held t → WriterLooks (Some look) l held (record t { looks = look ∷ t.looks })
+  first-looked purpose.Poll held t look looks = record { poll = looks.poll; is = looks.is; polls = looks.polls }
+  first-looked (purpose.Copy form) held t look looks = record { fill = looks.fill; is = looks.is; fills = looks.fills; count = looks.count; found = first-made t.looks look looks.found }
+
+  -- one call of the source
+
+  ends-call : (form : Form) (sum : ℕ) (held : List SourceAct) (t : Told) → Fills found_open form held [] sum t → AreRightFrom capacity Writer t (answer_event Writer (Some (count_answer form sum)))
+  ends-call form sum held t given = answers capacity t Writer given.fill _ given.is (fill-counts form given.fill t.moved [] (bytes_given held) (ends_in_failure held) sum t.looks given.fills given.count (λ is_open. refl) given.found)
+
+  -- some bytes of an act
+  round-leads : (none : Bool) (n : ℕ) (form : Form) (sum : ℕ) (bytes : List ℕ) (acts : List SourceAct) (lent : List ℕ) (t : Told) → (n == 0) ≡ none → n ≤ length bytes → Fills found_open form (source.Bytes bytes ∷ acts) [] sum t
+      → Leads capacity (unspent (drop n bytes) acts) (λ answer. filled_out true answer (take n bytes ++ drop n lent)) (writer_moved none n form sum) t
+  round-leads true n form sum bytes acts lent t test within given = (ends-call form sum (source.Bytes bytes ∷ acts) t given, tt)
+  round-leads false n form sum bytes acts lent t test within given =
+      let some : length bytes ≡ 0 → ⊥ = λ none. absurd (let zero : n ≡ 0 = omega arith in let is : (n == 0) ≡ true = grind (arith, nat_tests) in cc) in
+      let long : length (take n bytes) ≡ n = length-take-le n bytes within in
+      let front : take n (take n bytes ++ drop n lent) ≡ take n bytes = take-front n (take n bytes) (drop n lent) long in
+      let parts : bytes_given (source.Bytes bytes ∷ acts) ≡ take n bytes ++ bytes_given (unspent (drop n bytes) acts) =
+      bytes_given-cons bytes acts some
+      ∙ ap (λ (xs : List ℕ). xs ++ bytes_given acts) (sym (take-append-drop n bytes))
+      ∙ append_assoc (take n bytes) (drop n bytes) (bytes_given acts)
+      ∙ ap (λ (xs : List ℕ). take n bytes ++ xs) (sym (given-unspent (drop n bytes) acts)) in
+      let fails : ends_in_failure (source.Bytes bytes ∷ acts) ≡ ends_in_failure (unspent (drop n bytes) acts) = ends_in_failure-cons bytes acts some ∙ sym (failure-unspent (drop n bytes) acts) in
+      let fills = subst (λ (xs : List ℕ). IsFill form given.fill (t.moved ++ xs) (ends_in_failure (source.Bytes bytes ∷ acts))) (parts ∙ ap (λ (xs : List ℕ). xs ++ bytes_given (unspent (drop n bytes) acts)) (sym front)) given.fills in
+      let count = given.count in
+      let same : length (take n (take n bytes ++ drop n lent)) ≡ n = ap (λ (xs : List ℕ). length xs) front ∙ long in (
+        tt,
+        record {
+          fill = given.fill;
+          is = given.is;
+          fills = subst (λ (b : Bool). IsFill form given.fill (t.moved ++ (take n (take n bytes ++ drop n lent) ++ bytes_given (unspent (drop n bytes) acts))) b) fails fills;
+          count = omega arith;
+          found = given.found;
+        },
+      )
+    where
+      take-front : (k : ℕ) (xs ys : List ℕ) → length xs ≡ k → take k (xs ++ ys) ≡ xs
+      take-front k xs ys is = take-append-le k xs ys (omega arith) ∙ take_all k xs (omega arith)
+
+  source-leads : (held : List SourceAct) (form : Form) (sum : ℕ) (lent : List ℕ) (t : Told) (room : ℕ) → Fills found_open form held [] sum t
+      → let n = moved_by (given (length lent) held) in
+      Leads capacity (left_of_source n held) (λ answer. filled_out true answer (take n (bytes_of held) ++ drop n lent)) (write_after capacity room (on.CallSource form sum) (found_of (given (length lent) held))) t
+  source-leads [] form sum lent t room given = (ends-call form sum [] t given, tt)
+  source-leads (source.Fail ∷ acts) form sum lent t room given = (answers capacity t Writer given.fill _ given.is (fill-fails form given.fill t.moved t.looks given.fills), tt)
+  source-leads (source.Bytes bytes ∷ acts) form sum lent t room given =
+      let n = min (length lent) (length bytes) in
+      round-leads (n == 0) n form sum bytes acts lent t refl (omega arith) given
+
+  -- a store of tail
+  stores : (n : ℕ) (next : AfterWrite) (held : List SourceAct) (lent : List ℕ) (t : Told) → n ≤ length lent → WriterStores n next held lent t
+      → let u = record t { moved = t.moved ++ take n lent } in IsSomeAnd t.call (λ (c : Call). MayHaveMoved c u.moved) × WriterBehind next held u
+  stores n behind.Answer held lent t within told =
+      let whole : t.moved ++ take n lent ≡ take n lent = ap (λ (xs : List ℕ). xs ++ take n lent) told.1 in
+      let count : length (t.moved ++ take n lent) ≡ n = ap (λ (xs : List ℕ). length xs) whole ∙ length-take-le n lent within in
+      (rw told.0 count, told.0 ∙ ap (λ (k : ℕ). Some (call.Produced k)) (sym count))
+  stores n behind.Drop held lent t within told = absurd told
+  stores n behind.WakeWriter held lent t within told = absurd told
+  stores n (behind.Round form sum) held lent t within told =
+      let both = length-append t.moved (take n lent) in
+      let count = told.count in
+      let fills = subst (λ (xs : List ℕ). IsFill form told.fill xs (ends_in_failure held)) (sym (append_assoc t.moved (take n lent) (bytes_given held))) told.fills in
+      (rw told.is (fill-moves form told.fill (t.moved ++ take n lent) (bytes_given held) (ends_in_failure held) fills), record { fill = told.fill; is = told.is; fills = fills; count = omega arith; found = told.found })
+
+query-answers : (capacity : ℕ) (query : Query) (number later : ℕ) (looks : List Seen) (moved : List ℕ) → number ≤ capacity → looks ≡ seen.Tail later ∷ seen.Head number ∷ [] → IsAnswer capacity (query_call Writer query) looks moved (query_answer query capacity number)
+query-answers capacity Len number later looks moved within is = record { number = number; is_found = rw is refl; within = within; answers = refl }
+query-answers capacity IsEmpty number later looks moved within is = record { number = number; is_found = rw is refl; within = within; answers = refl }
+query-answers capacity IsFull number later looks moved within is = record { number = number; is_found = rw is refl; within = within; answers = refl }
+
+-- the step of each place
+pub writer-place : (place : WritePlace) (offered : List ℕ) (p : Pipe) (t : Told) → length p.unread ≤ p.capacity → tail_store place ≤ length p.lent → WriterAt p.capacity place p.source p.lent t
+    → let new = went Writer (offering offered (record p { writer = place })) in AreRightFrom p.capacity Writer t new.events × WriterAt p.capacity new.pipe.writer new.pipe.source new.pipe.lent (told_from Writer t new.events)
+writer-place on.Idle offered p t fits within told = (tt, tt)
+writer-place on.Dropped offered p t fits within told = (tt, tt)
+writer-place (on.QueryHead query) offered p t fits within told = ((tt, tt), (fits, told.0, ap (λ (looks : List Seen). seen.Head (length p.unread) ∷ looks) told.1))
+writer-place (on.QueryTail query count) offered p t fits within told =
+    let u = record t { looks = seen.Tail (length p.unread) ∷ t.looks } in
+    let looks = ap (λ (before : List Seen). seen.Tail (length p.unread) ∷ before) told.2 in
+    ((tt, answers p.capacity u Writer (query_call Writer query) (query_answer query p.capacity count) told.1 (query-answers p.capacity query count (length p.unread) u.looks t.moved told.0 looks)), tt)
+writer-place on.QueryClosed offered p t fits within told =
+    let u = record t { looks = seen.Closed p.is_closed ∷ t.looks } in
+    ((tt, answers p.capacity u Writer (call.IsClosed Writer) _ told.0 (ap (λ (before : List Seen). seen.Closed p.is_closed ∷ before) told.1)), tt)
+writer-place (on.LookClosed l) offered p t fits within told =
+    let u = record t { looks = seen.Closed p.is_closed ∷ t.looks } in
+    steps p.capacity p.source (λ answer. lent_after does.LoadClosed (on.LookClosed l) answer p.lent) (writer_is_open p.is_closed (p.room == 0) l) t u (Looked Writer (seen.Closed p.is_closed) ∷ []) (tt, tt) refl (open-leads p.capacity u p.source (λ answer. lent_after does.LoadClosed (on.LookClosed l) answer p.lent) p.is_closed (p.room == 0) l (first-looked p.capacity l p.source t (seen.Closed p.is_closed) told))
+writer-place (on.LookHead l) offered p t fits within told = ((tt, tt), looks-leads p.capacity _ p.source (λ answer. p.lent) (p.capacity - length p.unread == 0) l (looked p.capacity l p.source t _ told))
+writer-place (on.LookRegister l) offered p t fits within told =
+    let quiet = registers-leaves p.capacity t Writer Writer p.writer_call.context in
+    steps p.capacity p.source (λ answer. lent_after does.Register (on.LookRegister l) answer p.lent) (writer_registered (is_granted p.writer_call.context) l) t t (registration_of Writer p.writer_call.context) quiet.0 quiet.1 (registers-leads p.capacity t p.source (λ answer. lent_after does.Register (on.LookRegister l) answer p.lent) (is_granted p.writer_call.context) l told)
+writer-place (on.LookHeadAgain l) offered p t fits within told = ((tt, tt), again-leads p.capacity _ p.source (λ answer. p.lent) (p.capacity - length p.unread == 0) l (looked p.capacity l p.source t _ told))
+writer-place (on.LookClosedAgain l) offered p t fits within told =
+    let u = record t { looks = seen.Closed p.is_closed ∷ t.looks } in
+    ((tt, ends-leads p.capacity u p.source (λ answer. p.lent) p.is_closed l (looked p.capacity l p.source t _ told)), tt)
+writer-place (on.LookTake l) offered p t fits within told = steps p.capacity p.source (λ answer. p.lent) (writer_is_true l) t t [] tt refl (true-leads p.capacity t p.source (λ answer. p.lent) l told)
+writer-place on.Yield offered p t fits within told =
+    let quiet = yield-leaves p.capacity t Writer p.writer_call.context in
+    steps p.capacity p.source (λ answer. lent_after does.Yield on.Yield answer p.lent) (write_after p.capacity p.room on.Yield (granted (is_yield_granted p.writer_call.context))) t t (yield_of p.writer_call.context) quiet.0 quiet.1 (yields-leads p.capacity t p.source (λ answer. p.lent) (is_yield_granted p.writer_call.context) told, tt)
+writer-place (on.CallSource form sum) offered p t fits within told =
+    let n = moved_by (given (length offered) p.source) in
+    steps p.capacity (left_of_source n p.source) (λ answer. filled_out true answer (take n (bytes_of p.source) ++ drop n offered)) (write_after p.capacity p.room (on.CallSource form sum) (found_of (given (length offered) p.source))) t t [] tt refl
+    (source-leads p.capacity p.source form sum offered t p.room told)
+writer-place (on.RoundClosed n form sum) offered p t fits within told =
+    let u = record t { looks = seen.Closed p.is_closed ∷ t.looks } in
+    let given : Fills found_open form p.source (take n p.lent) sum u = record { fill = told.fill; is = told.is; fills = told.fills; count = told.count; found = first-stays t.looks (seen.Closed p.is_closed) (seen.Closed false) told.found } in
+    steps p.capacity p.source (λ answer. filled_out true answer p.lent) (writer_rounds p.is_closed n form sum) t u (Looked Writer (seen.Closed p.is_closed) ∷ []) (tt, tt) refl (rounds-leads p.capacity u p.source (λ answer. filled_out true answer p.lent) p.is_closed n form sum t.looks refl given)
+writer-place (on.StoreTail n next) offered p t fits within told =
+    let stored = stores p.capacity n next p.source p.lent t within told in
+    ((stored.0, tt), stored.1)
+writer-place (on.TakeReader next) offered p t fits within told = steps p.capacity p.source (λ answer. p.lent) (reader_taken next (is_some p.reader_waker)) t t [] tt refl (take-leads p.capacity t p.source (λ answer. p.lent) next (is_some p.reader_waker) told)
+writer-place (on.WakeReader next) offered p t fits within told =
+    let quiet = wake-leaves p.capacity t Writer p.writer_call.taken in
+    steps p.capacity p.source (λ answer. p.lent) (write_done next) t t (wake_of p.writer_call.taken) quiet.0 quiet.1 (done-leads p.capacity t p.source (λ answer. p.lent) next told)
+writer-place (on.StoreClosed behind.WakeWriter) offered p t fits within told = ((tt, tt), told)
+writer-place (on.StoreClosed behind.Drop) offered p t fits within told = ((tt, tt), told)
+writer-place (on.StoreClosed behind.Answer) offered p t fits within told = absurd told
+writer-place (on.StoreClosed (behind.Round form sum)) offered p t fits within told = absurd told
+writer-place on.TakeWriter offered p t fits within told = steps p.capacity p.source (λ answer. p.lent) (own_taken (is_some p.writer_waker)) t t [] tt refl (own-leads p.capacity t p.source (λ answer. p.lent) (is_some p.writer_waker) told)
+writer-place on.WakeWriter offered p t fits within told =
+    let quiet = wake-leaves p.capacity t Writer p.writer_call.taken in
+    steps p.capacity p.source (λ answer. p.lent) (write_after p.capacity p.room on.WakeWriter nothing) t t (wake_of p.writer_call.taken) quiet.0 quiet.1 (answers p.capacity t Writer call.Close answer.Done told tt, tt)
