@@ -1,9 +1,10 @@
-//! Moves bytes through a ring and tells how long it took, beside the same work on `rtrb`.
+//! Moves bytes through a ring or the machine and tells how long it took, beside the same work on `rtrb` or by plain copies.
 #![tactic(auto)]
 
 ghost use Rattle.std.specs.Prelude.{length, ◌≡◌, ◌<◌, ◌≤◌, ◌^◌};
 
 use piper::{OutOfMemory, ReadEnd, WriteEnd, open_ring};
+use piper_machine::machine::Machine;
 use rtrb::{Consumer, Producer, RingBuffer};
 use std::alloc::AllocError;
 use std::process::ExitCode;
@@ -13,9 +14,11 @@ use std::thread::Threads;
 use std::time::{Duration, Instant};
 use std::{env, io, thread};
 
+mod one_owner;
+
 const USAGE: &str = "usage: piper_bench WHAT CAP CHUNK TOTAL
 Moves TOTAL bytes in pieces of CHUNK through a ring of CAP bytes, and prints bytes, nanoseconds, nanoseconds a piece and a checksum.
-WHAT is ring (one thread, in and out in turn), ring2 (two threads), rtrb or rtrb2 (the same work on rtrb).
+WHAT is ring (one thread, in and out in turn), ring2 (two threads), rtrb or rtrb2 (the same work on rtrb), machine (one thread, through the pure machine) or copy (plain copies into a buffer of CAP bytes and out of it).
 CAP is at least 1 and at most half of the greatest usize, CHUNK is 1 to 16777216.
 Without arguments it makes a short run of each.";
 
@@ -189,6 +192,8 @@ enum What {
     RingOnTwoThreads,
     Rtrb,
     RtrbOnTwoThreads,
+    Machine,
+    Copies,
 }
 
 impl What {
@@ -198,6 +203,8 @@ impl What {
             "ring2" => Some(What::RingOnTwoThreads),
             "rtrb" => Some(What::Rtrb),
             "rtrb2" => Some(What::RtrbOnTwoThreads),
+            "machine" => Some(What::Machine),
+            "copy" => Some(What::Copies),
             _ => None,
         }
     }
@@ -252,6 +259,28 @@ fn run(
             let (producer, consumer) = RingBuffer::new(rt.alloc(), work.capacity)?;
             move_bytes(rt, work, producer, consumer, source, place)
         }
+        What::Machine => {
+            let machine = machine_of(rt, work)?;
+            let start = Instant::now(rt)?;
+            let checksum = one_owner::through_machine(rt, machine, source, place, work.total);
+            Ok((start.elapsed(rt)?, checksum))
+        }
+        What::Copies => {
+            let mut buffer = vec![in rt.alloc(); 0u8; work.capacity]?;
+            let start = Instant::now(rt)?;
+            let checksum = one_owner::through_buffer(rt, &mut buffer, source, place, work.total);
+            Ok((start.elapsed(rt)?, checksum))
+        }
+    }
+}
+
+fn machine_of(
+    rt: &(impl Wait + Threads + Clock + Print + AllocGlobal + Sync),
+    work: Work,
+) -> Result<Machine, AllocError> {
+    match Machine::new(rt.alloc(), work.capacity) {
+        Ok(machine) => Ok(machine),
+        Err(OutOfMemory) => Err(AllocError),
     }
 }
 
@@ -275,7 +304,6 @@ fn move_bytes<I: Input + Drop + Send, O: Output + Drop + Send>(
 ) -> io::Result<(Duration, u64)> {
     let start = Instant::now(rt)?;
     let checksum = match work.what {
-        What::Ring | What::Rtrb => in_turn(rt, input, output, source, place, work.total),
         What::RingOnTwoThreads | What::RtrbOnTwoThreads => {
             let total = work.total;
             let (_, checksum) = thread::join(
@@ -285,6 +313,7 @@ fn move_bytes<I: Input + Drop + Send, O: Output + Drop + Send>(
             );
             checksum
         }
+        _ => in_turn(rt, input, output, source, place, work.total),
     };
     Ok((start.elapsed(rt)?, checksum))
 }
@@ -295,7 +324,7 @@ fn main(rt: HostRuntime) -> io::Result<ExitCode> {
         words.push(word)?;
     }
     if words.is_empty() {
-        for what in ["ring", "ring2", "rtrb", "rtrb2"] {
+        for what in ["ring", "ring2", "rtrb", "rtrb2", "machine", "copy"] {
             short_run(&rt, what)?;
         }
         return Ok(ExitCode::SUCCESS);
