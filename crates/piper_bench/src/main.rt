@@ -5,7 +5,8 @@ ghost use Rattle.std.specs.Prelude.{length, ◌≡◌, ◌<◌, ◌≤◌, ◌^�
 
 use piper::{OutOfMemory, ReadEnd, WriteEnd, open_ring};
 use piper_machine::machine::Machine;
-use rtrb::{Consumer, Producer, RingBuffer};
+use rings::{Input, Output, get_all, in_turn, put_all};
+use rtrb::RingBuffer;
 use std::alloc::AllocError;
 use std::process::ExitCode;
 use std::rt::Clock;
@@ -15,6 +16,7 @@ use std::time::{Duration, Instant};
 use std::{env, io, thread};
 
 mod one_owner;
+mod rings;
 
 const USAGE: &str = "usage: piper_bench WHAT CAP CHUNK TOTAL
 Moves TOTAL bytes in pieces of CHUNK through a ring of CAP bytes, and prints bytes, nanoseconds, nanoseconds a piece and a checksum.
@@ -28,170 +30,11 @@ const LONGEST: usize = 16_777_216;
 /// So many bytes lie between what one thread writes and what the other reads, so that they share no cache line.
 const APART: usize = 128;
 
-/// Where bytes are put in. `put` and `get` are inlined for both rings, so that neither pays for a call.
-trait Input {
-    /// Puts as many of the bytes in as fit in one piece.
-    fn put(&mut self, bytes: &[u8]) -> usize;
-}
-
-/// Where bytes come out.
-trait Output {
-    /// Copies as many bytes out as stand in one piece and fit.
-    fn get(&mut self, place: &mut [u8]) -> usize;
-}
-
-/// Copies `from` to `to` by a loop, which the compiler turns into wide moves. Between two threads that is faster than the C library's copy.
-fn copy(to: &mut [u8], from: &[u8])
-    requires { length from.now ≡ length to.old }
-{
-    for i in 0..from.len() {
-        to[i] = from[i];
-    }
-}
-
-/// The same, out of the way of whole pieces: for a piece that was cut short.
-#[inline(never)]
-fn copy_cut(to: &mut [u8], from: &[u8])
-    requires { length from.now ≡ length to.old }
-{
-    copy(to, from);
-}
-
-/// The same, with a short way for a single byte. On bytes one by one the reader is the slower of two threads, and the other end would always be at its heels.
-fn copy_out(to: &mut [u8], from: &[u8])
-    requires { length from.now ≡ length to.old }
-{
-    if to.len() == 1 {
-        to[0] = from[0];
-    } else {
-        copy(to, from);
-    }
-}
-
-impl Input for WriteEnd {
-    #[inline(always)]
-    fn put(&mut self, bytes: &[u8]) -> usize {
-        self.refresh();
-        let buf = self.write_buf(bytes.len());
-        let n = buf.len();
-        // A whole piece has a branch of its own: there the count is known before the ring's indices are.
-        if n == bytes.len() {
-            copy(buf, bytes);
-            self.produce(bytes.len());
-        } else if n != 0 {
-            copy_cut(buf, &bytes[..n]);
-            self.produce(n);
-        }
-        n
-    }
-}
-
-impl Output for ReadEnd {
-    #[inline(always)]
-    fn get(&mut self, place: &mut [u8]) -> usize {
-        self.refresh();
-        let piece = self.peek_buf();
-        let n = piece.len();
-        // As in `put`.
-        if place.len() <= n {
-            copy_out(place, &piece[..place.len()]);
-            self.consume(place.len());
-            return place.len();
-        }
-        if n != 0 {
-            copy_cut(&mut place[..n], piece);
-            self.consume(n);
-        }
-        n
-    }
-}
-
-impl Input for Producer<u8> {
-    #[inline(always)]
-    fn put(&mut self, bytes: &[u8]) -> usize {
-        self.push_partial_slice(bytes).0.len()
-    }
-}
-
-impl Output for Consumer<u8> {
-    #[inline(always)]
-    fn get(&mut self, place: &mut [u8]) -> usize {
-        self.pop_partial_slice(place)
-    }
-}
-
-/// Puts `total` bytes in and takes them out again, in turn, on one thread. It answers the checksum. It stands apart, so that for either ring the compiler keeps its values in registers.
-#[inline(never)]
-fn in_turn<I: Input + Drop, O: Output + Drop>(
-    rt: &impl Wait,
-    mut input: I,
-    mut output: O,
-    source: &[u8],
-    place: &mut [u8],
-    total: usize,
-) -> u64 {
-    let mut left = total;
-    let mut checksum = 0u64;
-    for _ in rt.forever() {
-        if left == 0 {
-            return checksum;
-        }
-        input.put(&source[..left.min(source.len())]);
-        let n = output.get(place);
-        left = left.saturating_sub(n);
-        checksum = add_piece(checksum, place, n);
-    }
-    unreachable!()
-}
-
-/// Puts `total` bytes in.
-fn put_all<I: Input + Drop>(rt: &impl Wait, mut input: I, source: &[u8], total: usize) {
-    let mut left = total;
-    for _ in rt.forever() {
-        if left == 0 {
-            return;
-        }
-        let n = input.put(&source[..left.min(source.len())]);
-        left = left.saturating_sub(n);
-        if n == 0 {
-            thread::yield_now();
-        }
-    }
-}
-
-/// Takes `total` bytes out. It answers the checksum.
-fn get_all<O: Output + Drop>(rt: &impl Wait, mut output: O, place: &mut [u8], total: usize) -> u64 {
-    let mut left = total;
-    let mut checksum = 0u64;
-    for _ in rt.forever() {
-        if left == 0 {
-            return checksum;
-        }
-        let n = output.get(place);
-        left = left.saturating_sub(n);
-        checksum = add_piece(checksum, place, n);
-        if n == 0 {
-            thread::yield_now();
-        }
-    }
-    unreachable!()
-}
-
-/// The checksum after a piece of `n` bytes: its length times its first byte comes to it.
-fn add_piece(checksum: u64, place: &[u8], n: usize) -> u64 {
-    match place.first() {
-        Some(first) => checksum.wrapping_add((n as u64).wrapping_mul(*first as u64)),
-        None => checksum,
-    }
-}
-
-/// Which ring, and on how many threads.
+/// What the bytes go through. The ends of a ring that is shared are each on a thread of their own.
 #[derive(Clone, Copy)]
 enum What {
-    Ring,
-    RingOnTwoThreads,
-    Rtrb,
-    RtrbOnTwoThreads,
+    Ring { is_shared: bool },
+    Rtrb { is_shared: bool },
     Machine,
     Copies,
 }
@@ -199,10 +42,10 @@ enum What {
 impl What {
     fn of(word: &str) -> Option<What> {
         match word {
-            "ring" => Some(What::Ring),
-            "ring2" => Some(What::RingOnTwoThreads),
-            "rtrb" => Some(What::Rtrb),
-            "rtrb2" => Some(What::RtrbOnTwoThreads),
+            "ring" => Some(What::Ring { is_shared: false }),
+            "ring2" => Some(What::Ring { is_shared: true }),
+            "rtrb" => Some(What::Rtrb { is_shared: false }),
+            "rtrb2" => Some(What::Rtrb { is_shared: true }),
             "machine" => Some(What::Machine),
             "copy" => Some(What::Copies),
             _ => None,
@@ -251,13 +94,13 @@ fn run(
     let source = &source[..work.chunk];
     let place = &mut place[APART..APART + work.chunk];
     match work.what {
-        What::Ring | What::RingOnTwoThreads => {
+        What::Ring { is_shared } => {
             let (reader, writer) = ring_of(rt, work)?;
-            move_bytes(rt, work, writer, reader, source, place)
+            move_bytes(rt, is_shared, work.total, writer, reader, source, place)
         }
-        What::Rtrb | What::RtrbOnTwoThreads => {
+        What::Rtrb { is_shared } => {
             let (producer, consumer) = RingBuffer::new(rt.alloc(), work.capacity)?;
-            move_bytes(rt, work, producer, consumer, source, place)
+            move_bytes(rt, is_shared, work.total, producer, consumer, source, place)
         }
         What::Machine => {
             let machine = machine_of(rt, work)?;
@@ -294,26 +137,26 @@ fn ring_of(
     }
 }
 
+/// Moves `total` bytes through a ring, and answers how long it took and the checksum.
 fn move_bytes<I: Input + Drop + Send, O: Output + Drop + Send>(
     rt: &(impl Wait + Threads + Clock + Print + AllocGlobal + Sync),
-    work: Work,
+    is_shared: bool,
+    total: usize,
     input: I,
     output: O,
     source: &[u8],
     place: &mut [u8],
 ) -> io::Result<(Duration, u64)> {
     let start = Instant::now(rt)?;
-    let checksum = match work.what {
-        What::RingOnTwoThreads | What::RtrbOnTwoThreads => {
-            let total = work.total;
-            let (_, checksum) = thread::join(
-                rt,
-                move || put_all(rt, input, source, total),
-                move || get_all(rt, output, place, total),
-            );
-            checksum
-        }
-        _ => in_turn(rt, input, output, source, place, work.total),
+    let checksum = if is_shared {
+        let (_, checksum) = thread::join(
+            rt,
+            move || put_all(rt, input, source, total),
+            move || get_all(rt, output, place, total),
+        );
+        checksum
+    } else {
+        in_turn(rt, input, output, source, place, total)
     };
     Ok((start.elapsed(rt)?, checksum))
 }

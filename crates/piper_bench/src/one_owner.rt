@@ -1,7 +1,7 @@
 //! Bytes move in and out in turn, at one owner: through the machine, and by plain copies beside it.
 ghost use Rattle.std.specs.Prelude.{◌<◌};
 
-use crate::add_piece;
+use crate::rings::add_piece;
 use piper_machine::calls::SideState;
 use piper_machine::machine::Machine;
 use piper_machine::polling::{Luck, Polled};

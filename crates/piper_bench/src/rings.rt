@@ -1,0 +1,216 @@
+//! Bytes move through a ring, on one thread in turn or between two.
+ghost use Rattle.std.specs.Prelude.{length, ◌≡◌};
+
+use piper::{ReadEnd, WriteEnd};
+use rtrb::{Consumer, Producer};
+use std::sync::Wait;
+use std::thread;
+
+/// Up to so many bytes are copied without a call.
+const FEW: usize = 256;
+
+/// How bytes are copied to and from the slices that our ring lends. The rival copies by itself, in either case by a loop.
+pub trait Copying {
+    fn copy_in(to: &mut [u8], from: &[u8])
+        requires { length from.now ≡ length to.old };
+
+    fn copy_out(to: &mut [u8], from: &[u8])
+        requires { length from.now ≡ length to.old };
+}
+
+/// By a loop, which the compiler turns into wide moves. Between two threads that is faster than the C library's copy.
+pub struct ByLoop;
+
+/// By the C library, which is faster on one thread, and few bytes by a loop.
+pub struct ByLibrary;
+
+impl Copying for ByLoop {
+    #[inline(always)]
+    fn copy_in(to: &mut [u8], from: &[u8]) {
+        copy(to, from);
+    }
+
+    // With a short way for a single byte: on bytes one by one the reader is the slower of two threads, and the other end would always be at its heels.
+    #[inline(always)]
+    fn copy_out(to: &mut [u8], from: &[u8]) {
+        if to.len() == 1 {
+            to[0] = from[0];
+        } else {
+            copy(to, from);
+        }
+    }
+}
+
+impl Copying for ByLibrary {
+    #[inline(always)]
+    fn copy_in(to: &mut [u8], from: &[u8]) {
+        if to.len() <= FEW {
+            copy(to, from);
+        } else {
+            copy_many(to, from);
+        }
+    }
+
+    #[inline(always)]
+    fn copy_out(to: &mut [u8], from: &[u8]) {
+        Self::copy_in(to, from);
+    }
+}
+
+fn copy(to: &mut [u8], from: &[u8])
+    requires { length from.now ≡ length to.old }
+{
+    for i in 0..from.len() {
+        to[i] = from[i];
+    }
+}
+
+/// The same, out of the way of whole pieces: for a piece that was cut short.
+#[inline(never)]
+fn copy_cut(to: &mut [u8], from: &[u8])
+    requires { length from.now ≡ length to.old }
+{
+    copy(to, from);
+}
+
+/// The C library's copy, out of the way of whole pieces of few bytes.
+#[inline(never)]
+fn copy_many(to: &mut [u8], from: &[u8])
+    requires { length from.now ≡ length to.old }
+{
+    to.copy_from_slice(from);
+}
+
+/// Where bytes are put in. `put` and `get` are inlined for both rings, so that neither pays for a call.
+pub trait Input {
+    /// Puts as many of the bytes in as fit in one piece.
+    fn put<C: Copying>(&mut self, bytes: &[u8]) -> usize;
+}
+
+/// Where bytes come out.
+pub trait Output {
+    /// Copies as many bytes out as stand in one piece and fit.
+    fn get<C: Copying>(&mut self, place: &mut [u8]) -> usize;
+}
+
+impl Input for WriteEnd {
+    #[inline(always)]
+    fn put<C: Copying>(&mut self, bytes: &[u8]) -> usize {
+        self.refresh();
+        let buf = self.write_buf(bytes.len());
+        let n = buf.len();
+        // A whole piece has a branch of its own: there the count is known before the ring's indices are.
+        if n == bytes.len() {
+            C::copy_in(buf, bytes);
+            self.produce(bytes.len());
+        } else if n != 0 {
+            copy_cut(buf, &bytes[..n]);
+            self.produce(n);
+        }
+        n
+    }
+}
+
+impl Output for ReadEnd {
+    #[inline(always)]
+    fn get<C: Copying>(&mut self, place: &mut [u8]) -> usize {
+        self.refresh();
+        let piece = self.peek_buf();
+        let n = piece.len();
+        // As in `put`.
+        if place.len() <= n {
+            C::copy_out(place, &piece[..place.len()]);
+            self.consume(place.len());
+            return place.len();
+        }
+        if n != 0 {
+            copy_cut(&mut place[..n], piece);
+            self.consume(n);
+        }
+        n
+    }
+}
+
+impl Input for Producer<u8> {
+    #[inline(always)]
+    fn put<C: Copying>(&mut self, bytes: &[u8]) -> usize {
+        self.push_partial_slice(bytes).0.len()
+    }
+}
+
+impl Output for Consumer<u8> {
+    #[inline(always)]
+    fn get<C: Copying>(&mut self, place: &mut [u8]) -> usize {
+        self.pop_partial_slice(place)
+    }
+}
+
+/// Puts `total` bytes in and takes them out again, in turn, on one thread. It answers the checksum. It stands apart, so that for either ring the compiler keeps its values in registers.
+#[inline(never)]
+pub fn in_turn<I: Input + Drop, O: Output + Drop>(
+    rt: &impl Wait,
+    mut input: I,
+    mut output: O,
+    source: &[u8],
+    place: &mut [u8],
+    total: usize,
+) -> u64 {
+    let mut left = total;
+    let mut checksum = 0u64;
+    for _ in rt.forever() {
+        if left == 0 {
+            return checksum;
+        }
+        input.put::<ByLibrary>(&source[..left.min(source.len())]);
+        let n = output.get::<ByLibrary>(place);
+        left = left.saturating_sub(n);
+        checksum = add_piece(checksum, place, n);
+    }
+    unreachable!()
+}
+
+/// Puts `total` bytes in.
+pub fn put_all<I: Input + Drop>(rt: &impl Wait, mut input: I, source: &[u8], total: usize) {
+    let mut left = total;
+    for _ in rt.forever() {
+        if left == 0 {
+            return;
+        }
+        let n = input.put::<ByLoop>(&source[..left.min(source.len())]);
+        left = left.saturating_sub(n);
+        if n == 0 {
+            thread::yield_now();
+        }
+    }
+}
+
+/// Takes `total` bytes out. It answers the checksum.
+pub fn get_all<O: Output + Drop>(
+    rt: &impl Wait,
+    mut output: O,
+    place: &mut [u8],
+    total: usize,
+) -> u64 {
+    let mut left = total;
+    let mut checksum = 0u64;
+    for _ in rt.forever() {
+        if left == 0 {
+            return checksum;
+        }
+        let n = output.get::<ByLoop>(place);
+        left = left.saturating_sub(n);
+        checksum = add_piece(checksum, place, n);
+        if n == 0 {
+            thread::yield_now();
+        }
+    }
+    unreachable!()
+}
+
+/// The checksum after a piece of `n` bytes: its length times its first byte comes to it.
+pub fn add_piece(checksum: u64, place: &[u8], n: usize) -> u64 {
+    match place.first() {
+        Some(first) => checksum.wrapping_add((n as u64).wrapping_mul(*first as u64)),
+        None => checksum,
+    }
+}
