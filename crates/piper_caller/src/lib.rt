@@ -1,7 +1,7 @@
 //! Callers of the machine, proved from its contracts alone.
 #![tactic(auto)]
 
-ghost use Rattle.std.specs.Prelude.{◌≡◌, ◌≤◌, ◌⊎◌, ℕ, List, ◌++◌, ◌∷◌, [], length, replicate, true, IfOk, Err};
+ghost use Rattle.std.specs.Prelude.{◌≡◌, ◌≤◌, ◌+◌, ◌*◌, ◌⊎◌, ℕ, List, ◌++◌, ◌∷◌, [], length, replicate, true, IfOk, Err};
 ghost use Rattle.piper_sides.specs.Index.{IsCapacity};
 ghost use Rattle.piper_sides.specs.Log.{events};
 ghost use Rattle.piper_sides.specs.declared.calls.Side.{Side};
@@ -15,7 +15,10 @@ ghost use Rattle.piper_machine.specs.Pipe.{Pipe, fresh};
 ghost use Rattle.piper_machine.specs.Run.{Runs, RefusedAt};
 ghost use Rattle.piper_machine.specs.Conservation.{consumed_of, published_of};
 ghost use Rattle.piper_machine.specs.Places.{HeldByReader, HeldByWriter};
+ghost use Rattle.piper_machine.specs.Answered.{AreAnswered};
+ghost use Rattle.piper_machine.specs.Counts.{tally_of};
 ghost use Rattle.piper_machine.specs.Final.{told_end};
+ghost use Rattle.piper_machine.specs.Honest.{IsHonest};
 ghost use Rattle.piper_machine.specs.Refusal.{IsIdle};
 ghost use Rattle.piper_machine.specs.Remembered.{other, WasCalled, StandsReady};
 ghost use Rattle.piper_machine.specs.Wait.{wait_of};
@@ -52,10 +55,13 @@ pub fn made_by_the_laws(
     ensures made { IfOk result (λ run. Runs (fresh cap) [] steps.now run.0 (events run.1)) }
     ensures refused { (i : ℕ) (why : StepRefusal) → result ≡ Err (RunRefusal.At i why) → RefusedAt cap steps.now i why }
     ensures first_in_first_out { IfOk result (λ run. consumed_of (events run.1) ++ run.0.unread ≡ published_of (events run.1)) }
-    ensures never_overfull { IfOk result (λ run. length run.0.unread ≤ run.0.capacity) }
+    ensures never_overfull { IfOk result (λ run. length run.0.unread ≤ cap) }
     ensures no_place_is_shared { IfOk result (λ run. (place : ℕ) → HeldByReader run.0 place → HeldByWriter run.0 place → ⊥) }
     ensures nothing_is_left_at_the_end { IfOk result (λ run. (before after : List Event) → events run.1 ≡ before ++ told_end ∷ after → consumed_of (events run.1) ≡ published_of (events run.1)) }
     ensures nobody_is_forgotten { IfOk result (λ run. (side : Side) → IsIdle side run.0 → IsOutside (other side) run.0 → let w = wait_of side (events run.1) in w.is_pending ≡ true → WasCalled w ⊎ StandsReady side run.0 w) }
+    ensures the_end_is_honest { IfOk result (λ run. IsHonest (events run.1)) }
+    ensures answers_are_right { IfOk result (λ run. AreAnswered cap steps.now (events run.1)) }
+    ensures few_steps { IfOk result (λ run. (side : Side) → (tally_of side steps.now).made ≤ 6 + 5 * cap) }
 {
     run(alloc, cap, steps)
 }

@@ -479,6 +479,7 @@ impl Machine {
 pub fn run(alloc: Global, cap: usize, steps: &[Step]) -> Result<(Machine, Log), RunRefusal>
     requires { IsCapacity cap }
     ensures runs { IfOk result (λ run. Runs (fresh cap) [] steps.now run.0 (events run.1)) }
+    ensures capacity { IfOk result (λ run. run.0.capacity ≡ cap) }
     ensures refused { IfErr result (IsRunRefusal cap steps.now) }
     ensures sound { IfOk result (λ run. IsSound run.0) }
     ensures conserved { IfOk result (λ run. IsConserved run.0 (events run.1)) }
