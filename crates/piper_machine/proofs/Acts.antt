@@ -1,7 +1,7 @@
 -- What remains of a scripted copy after one act.
 use Rattle.std.proofs.Common.{◌≡◌, ℕ, ◌+◌, ◌-◌, ◌<◌, ◌≤◌, min, List, [], ◌∷◌, ◌++◌, take, drop, length, Bool, true, false, ◌==◌, if◌then◌else◌, Result, Ok, Err, nat_lt, refl, sym, ap, ◌∙◌, arith, append_assoc, length-append, length-take-le}
 use Rattle.std.proofs.lemmas.List.{take-append-le, take-append-drop}
-use Rattle.std.proofs.Math.Seq.{take-append-add, take-length}
+use Rattle.std.proofs.Math.Seq.{take-append-add}
 use Rattle.std.proofs.lemmas.Bool.Decides.{nat_tests}
 use Rattle.piper_sides.specs.declared.polling.Polled.TheVariants.{Ready}
 use Rattle.piper_sides.specs.declared.scripted.DestAct.{DestAct}
@@ -80,19 +80,6 @@ moved-parts sum bytes more fails p within =
     ∙ ap (λ (j : ℕ). answered (Ready (source_answer (nat_lt (p.room - n) (length more)) fails j)) (filled (take (min (length (bytes ++ more)) p.room) (bytes ++ more)) p)) sums
     ∙ ap (λ (q : Pipe). answered (Ready (source_answer (nat_lt (p.room - n) (length more)) fails (sum + n + k))) q)
     (ap (λ (given : List ℕ). filled given p) moved ∙ sym (filled-filled bytes (take k more) p))
-
--- an act all of whose bytes fit
-pub give-goes_on : (sum n : ℕ) (bytes : List ℕ) (acts : List SourceAct) (p : Pipe) → (length bytes ≡ 0 → ⊥) → n ≡ min (length bytes) p.room → n ≡ length bytes
-    → fill_moves_more sum (source.Bytes bytes ∷ acts) p ≡ fill_moves_more (sum + n) acts (filled (take n bytes) p)
-give-goes_on sum n bytes acts p some is spent =
-    let whole : take n bytes ≡ bytes = ap (λ j. take j bytes) spent ∙ take-length bytes in
-    by_bytes sum (source.Bytes bytes ∷ acts) p
-    ∙ ap (λ (given : List ℕ). moved_by sum given (ends_in_failure (source.Bytes bytes ∷ acts)) p) (bytes_given-cons bytes acts some)
-    ∙ ap (λ (fails : Bool). moved_by sum (bytes ++ bytes_given acts) fails p) (ends_in_failure-cons bytes acts some)
-    ∙ moved-parts sum bytes (bytes_given acts) (ends_in_failure acts) p (omega arith)
-    ∙ ap (λ (k : ℕ). moved_by (sum + k) (bytes_given acts) (ends_in_failure acts) (filled bytes p)) (sym spent)
-    ∙ ap (λ (given : List ℕ). moved_by (sum + n) (bytes_given acts) (ends_in_failure acts) (filled given p)) (sym whole)
-    ∙ sym (by_bytes (sum + n) acts (filled (take n bytes) p))
 
 pub given-unspent : (bytes : List ℕ) (acts : List SourceAct) → bytes_given (unspent bytes acts) ≡ bytes ++ bytes_given acts
 given-unspent [] acts = refl

@@ -16,6 +16,8 @@ pub mod Conserving
 pub mod Disjointness
 pub mod Alone
 pub mod Copies
+pub mod Filling
+pub mod Draining
 pub mod Standing
 pub mod Falling
 pub mod BySteps

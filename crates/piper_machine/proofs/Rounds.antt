@@ -6,7 +6,8 @@ use Rattle.std.proofs.Math.Seq.{take-add}
 use borrow.Rule.Slice.PartMut.{put_mid}
 use Rattle.piper_sides.specs.Index.{place_of}
 use Rattle.piper_machine.specs.Pipe.{Pipe}
-use Rattle.piper_machine.specs.Copy.{HasOneWake, waker_after, woken_after, filled, drained}
+use Rattle.piper_machine.specs.Copy.{waker_after, woken_after, filled, drained}
+use Rattle.piper_machine.specs.Move.{with_waker}
 
 pub waker_after-twice : (m n : ℕ) (waker : Option ℕ) → waker_after n (waker_after m waker) ≡ waker_after (m + n) waker
 waker_after-twice zero n waker = ap (λ k. waker_after k waker) (omega arith)
@@ -40,18 +41,6 @@ drained_nothing p start =
     let place : place_of p.capacity (p.start + 0) ≡ p.start = grind (arith, nat_tests) in
     λ j. record p { known = known j; start = place j }
 
-place_of-twice : (c s m n : ℕ) → s < c → place_of c (s + m) + n ≤ c → m + n ≤ c → place_of c (place_of c (s + m) + n) ≡ place_of c (s + (m + n))
-place_of-twice c s m n start flat within = grind (arith, nat_tests)
-
-pub drained-drained : (m n : ℕ) (p : Pipe) → p.start < p.capacity → (drained m p).start + n ≤ p.capacity → m + n ≤ p.capacity → drained n (drained m p) ≡ drained (m + n) p
-drained-drained m n p start flat within =
-    let known : p.known - m - n ≡ p.known - (m + n) = omega arith in
-    let bytes = drop-drop n m p.unread in
-    let place = place_of-twice p.capacity p.start m n start flat within in
-    let waker = waker_after-twice m n p.writer_waker in
-    let woken = woken_after-twice m n p.woken p.writer_waker in
-    cc
-
 -- a slice that is filled part by part: the next n bytes behind the first d
 pub next_part : (d n : ℕ) (bytes dest filled_so_far : List ℕ) → d ≤ length bytes → d + n ≤ length dest → filled_so_far ≡ take d bytes ++ drop d dest → length filled_so_far ≡ length dest
     → put_mid d (length filled_so_far - d) filled_so_far (take n (drop d bytes) ++ drop n (drop d filled_so_far)) ≡ take (d + n) bytes ++ drop (d + n) dest
@@ -62,20 +51,13 @@ next_part d n bytes dest so_far known fits is long =
     let rest : drop n (drop d so_far) ≡ drop (d + n) dest = ap (drop n) back ∙ drop-drop n d dest in
     rw (none, append-nil, front, rest) (sym (append_assoc (take d bytes) (take n (drop d bytes)) (drop (d + n) dest)) ∙ ap (λ (zs : List ℕ). zs ++ drop (d + n) dest) (sym (take-add d n bytes)))
 
--- a wake leaves no other, and before it there is room for its name
-pub one_wake-after : (n : ℕ) (names : List ℕ) (waker : Option ℕ) → HasOneWake names waker → HasOneWake (woken_after n names waker) (waker_after n waker)
-one_wake-after zero names waker one = one
-one_wake-after (suc n) names waker one = grind (arith, nat_tests)
+-- with the waker that waits at most one was called: there is room for its name
+abbrev pub HasOneWake : List ℕ → Option ℕ → Type 0
+HasOneWake names waker = length (with_waker names waker) ≤ 1
 
 pub one_wake-room : (names : List ℕ) (waker : Option ℕ) → HasOneWake names waker → length names < 2
 one_wake-room names None one = omega arith
 one_wake-room names (Some name) one = let long = length-append names (name ∷ []) in omega arith
-
-pub one_wake-filled : (bytes : List ℕ) (p : Pipe) → HasOneWake p.woken p.reader_waker → let q = filled bytes p in HasOneWake q.woken q.reader_waker
-one_wake-filled bytes p one = one_wake-after (length bytes) p.woken p.reader_waker one
-
-pub one_wake-drained : (n : ℕ) (p : Pipe) → HasOneWake p.woken p.writer_waker → let q = drained n p in HasOneWake q.woken q.writer_waker
-one_wake-drained n p one = one_wake-after n p.woken p.writer_waker one
 
 pub one_wake-none : (waker : Option ℕ) → HasOneWake [] waker
 one_wake-none None = lit≤ tt

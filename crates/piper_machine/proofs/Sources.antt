@@ -17,7 +17,7 @@ unspent_none : (bytes : List ℕ) (acts : List SourceAct) → length bytes ≤ 0
 unspent_none [] acts none = refl
 unspent_none (byte ∷ bytes) acts none = absurd (omega arith)
 
-without_none : (acts : List SourceAct) → without 0 acts ≡ acts
+pub without_none : (acts : List SourceAct) → without 0 acts ≡ acts
 without_none [] = refl
 without_none (source.Fail ∷ acts) = refl
 without_none (source.Bytes bytes ∷ acts) = refl

@@ -50,7 +50,7 @@ reader_moves-on : (none : Bool) (n : ℕ) (form : Form) (sum : ℕ) → IsNextRe
 reader_moves-on true n form sum = record { settled = λ none. absurd (cc); store = omega arith }
 reader_moves-on false n form sum = record { settled = refl; store = omega arith }
 
-reads-on : (capacity : ℕ) (place : ReadPlace) (found : Found) → reader_state place ≡ Busy → IsNextRead found (read_after capacity place found)
+pub reads-on : (capacity : ℕ) (place : ReadPlace) (found : Found) → reader_state place ≡ Busy → IsNextRead found (read_after capacity place found)
 reads-on capacity at.Idle found busy = absurd (cc)
 reads-on capacity at.Dropped found busy = absurd (cc)
 reads-on capacity (at.QueryTail query) (unread count) busy = record { settled = λ none. absurd (cc); store = omega arith }

@@ -1,5 +1,5 @@
 -- A call made by steps, none of which is the other side's, is the call run whole.
-use Rattle.std.specs.Prelude.{◌≡◌, ℕ, ◌≤◌, List, [], ◌∷◌, ◌++◌, length, replicate, Result, Ok, Some}
+use Rattle.std.specs.Prelude.{◌≡◌, ℕ, ◌≤◌, List, [], ◌∷◌, ◌++◌, length, replicate, Result, Ok, Err, Some}
 use Rattle.piper_sides.specs.declared.calls.Side.{Side}
 use Rattle.piper_sides.specs.declared.calls.Side.TheVariants.{Reader, Writer}
 use Rattle.piper_sides.specs.declared.calls.SideState.TheVariants.{Busy}
@@ -40,6 +40,13 @@ abbrev pub unfailing : Polled ℕ → Polled (Result ℕ Failed)
 unfailing (Ready n) = Ready (Ok n)
 unfailing Pending = Pending
 unfailing Memory = Memory
+
+-- the count that such a copy answers
+abbrev pub counted : Polled (Result ℕ Failed) → Polled ℕ
+counted (Ready (Ok n)) = Ready n
+counted (Ready (Err fails)) = Ready 0
+counted Pending = Pending
+counted Memory = Memory
 
 abbrev pub counted_whole : Copied ℕ → Ended
 counted_whole copied = answering (Count (count_of copied.answer)) copied.pipe

@@ -1,5 +1,5 @@
 -- A call that copies bytes between the pipe and a slice, run whole.
-use Rattle.std.specs.Prelude.{ℕ, ◌+◌, ◌-◌, ◌≤◌, min, List, [], ◌∷◌, ◌++◌, take, drop, length, Bool, true, false, Option, None, Some, if◌then◌else◌, ◌==◌}
+use Rattle.std.specs.Prelude.{ℕ, ◌+◌, ◌-◌, min, List, [], ◌∷◌, ◌++◌, take, drop, length, Bool, true, false, Option, None, Some, if◌then◌else◌, ◌==◌}
 use Rattle.piper_sides.specs.declared.polling.Polled.{Polled}
 use Rattle.piper_sides.specs.declared.polling.Polled.TheVariants.{Pending, Ready, Memory}
 use Rattle.piper_sides.specs.Index.{place_of}
@@ -50,10 +50,6 @@ waker_after count waker = if count == 0 then waker else None
 
 abbrev pub woken_after : ℕ → List ℕ → Option ℕ → List ℕ
 woken_after count names waker = if count == 0 then names else with_waker names waker
-
--- with the waker that waits at most one was called: the next wake is the last
-abbrev pub HasOneWake : List ℕ → Option ℕ → Type 0
-HasOneWake names waker = length (with_waker names waker) ≤ 1
 
 -- these bytes are published, and the reader is woken if there is one
 abbrev pub filled : List ℕ → Pipe → Pipe

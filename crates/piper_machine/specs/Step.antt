@@ -116,6 +116,15 @@ round_left found p =
       lent = filled_out (ends_fill p.writer) next.answer p.lent;
     }
 
+-- where a call of the destination leads that found this
+abbrev pub drain_answer : Found → Pipe → Option Answer
+drain_answer found p = (read_after p.capacity p.reader found).answer
+
+abbrev pub drain_left : Found → Pipe → Pipe
+drain_left found p =
+    let next = read_after p.capacity p.reader found in
+    record p { reader = next.place; reader_call = call_after next.answer p.reader_call; destination = destination_after next.answer p.destination }
+
 -- the kind of the step that the call table puts next
 abbrev pub action_of : Side → Pipe → Action
 action_of Reader p = read_action p.reader

@@ -1,5 +1,5 @@
 //! What is left of the destination of an open drain.
-ghost use Rattle.std.specs.Prelude.{◌≡◌, [], IfOk};
+ghost use Rattle.std.specs.Prelude.{◌≡◌, drop, IfOk};
 ghost use Rattle.piper_machine.specs.Round.{taken, taken_by_acts, left_of_acts, left_of_destination};
 
 use piper_sides::memory::OutOfMemory;
@@ -31,6 +31,17 @@ pub enum Destination {
     Acts(Acts),
 }
 
+/// What the act takes, or that it fails, which is next where `spent` acts are spent.
+pub fn taken(acts: &[DestAct], spent: usize, most: usize) -> Result<usize, Failed>
+    ensures { result ≡ taken_by_acts most (drop spent acts.now) }
+{
+    match acts.get(spent) {
+        Some(DestAct::Take(size)) => Ok((*size).min(most)),
+        Some(DestAct::Fail) => Err(Failed),
+        None => Ok(0),
+    }
+}
+
 impl Acts {
     /// A copy of a script, none of which is spent.
     pub fn of(alloc: Global, acts: &[DestAct]) -> Result<Self, OutOfMemory>
@@ -45,14 +56,10 @@ impl Acts {
         ensures answer { result ≡ taken_by_acts most self.old }
         ensures after { self.new ≡ left_of_acts self.old }
     {
-        let Some(act) = self.script.get(self.spent) else {
-            return Ok(0);
-        };
-        let answer = match *act {
-            DestAct::Take(size) => Ok(size.min(most)),
-            DestAct::Fail => Err(Failed),
-        };
-        self.spent += 1;
+        let answer = taken(&self.script, self.spent, most);
+        if self.spent < self.script.len() {
+            self.spent += 1;
+        }
         answer
     }
 }

@@ -1,16 +1,13 @@
 //! A pipe with both its sides, for one owner.
 ghost use Rattle.std.specs.Prelude.{◌≡◌, ◌<◌, ◌≤◌, ◌+◌, ◌-◌, ◌++◌, length, take, drop, IfOk, min, false};
-ghost use Rattle.piper_sides.specs.Index.{IsCapacity, place_of};
+ghost use Rattle.piper_sides.specs.Index.{IsCapacity};
 ghost use Rattle.piper_sides.specs.Side.{tail_store};
-ghost use Rattle.piper_machine.specs.Pipe.{fresh, begun};
+ghost use Rattle.piper_machine.specs.Pipe.{fresh};
 ghost use Rattle.piper_machine.specs.Buffer.{written};
-ghost use Rattle.piper_machine.specs.Places.{peeked, peeked_count, places_left, IsPeekHeld, IsLentHeld};
+ghost use Rattle.piper_machine.specs.Places.{peeked, peeked_count, IsPeekHeld, IsLentHeld};
 ghost use Rattle.piper_machine.specs.BySteps.{AreWholeBySteps};
 ghost use Rattle.piper_machine.specs.Sound.{IsSound};
-ghost use Rattle.piper_machine.specs.Refresh.{reader_refreshed, writer_refreshed};
 ghost use Rattle.piper_machine.specs.Lend.{Lendable, lending};
-ghost use Rattle.piper_machine.specs.Move.{reader_woken, writer_woken, published, consumed, with_waker};
-ghost use Rattle.piper_machine.specs.Copy.{unlent};
 
 use crate::destination::Destination;
 use crate::source::Source;
@@ -110,12 +107,6 @@ impl Machine {
         self.read.capacity()
     }
 
-    fn begin_whole(&mut self)
-        ensures { self.new ≡ begun self.old }
-    {
-        self.woken.clear();
-    }
-
     fn learn(&self)
         ensures { IsSound self.now }
     {
@@ -135,70 +126,6 @@ impl Machine {
     {
         self.learn();
         index::distance(self.read.capacity(), self.read.head(), self.write.tail())
-    }
-
-    fn known(&self) -> usize
-        ensures value { result ≡ self.now.known }
-        ensures within { result ≤ length self.now.unread }
-    {
-        self.read.known()
-    }
-
-    fn room(&self) -> usize
-        ensures value { result ≡ self.now.room }
-        ensures within { result ≤ self.now.capacity - length self.now.unread }
-    {
-        self.write.room()
-    }
-
-    fn reload_tail(&mut self)
-        requires { self.old.reader ≡ ReadPlace.Idle }
-        ensures { self.new ≡ record self.old { known = length self.old.unread } }
-    {
-        self.read.refresh(self.write.tail());
-    }
-
-    fn reload_head(&mut self)
-        requires { self.old.writer ≡ WritePlace.Idle }
-        ensures { self.new ≡ record self.old { room = self.old.capacity - length self.old.unread } }
-    {
-        self.write.refresh(self.read.head());
-    }
-
-    fn refresh_reader(&mut self)
-        requires { self.old.reader ≡ ReadPlace.Idle }
-        ensures { self.new ≡ reader_refreshed self.old }
-    {
-        if self.known() == 0 {
-            self.reload_tail();
-        }
-    }
-
-    fn refresh_writer(&mut self)
-        requires { self.old.writer ≡ WritePlace.Idle }
-        ensures { self.new ≡ writer_refreshed self.old }
-    {
-        if self.room() == 0 {
-            self.reload_head();
-        }
-    }
-
-    fn wake_reader(&mut self)
-        requires { length self.old.woken < 2 }
-        ensures { self.new ≡ reader_woken self.old }
-    {
-        if let Some(name) = self.reader_slot.take() {
-            self.woken.add(name);
-        }
-    }
-
-    fn wake_writer(&mut self)
-        requires { length self.old.woken < 2 }
-        ensures { self.new ≡ writer_woken self.old }
-    {
-        if let Some(name) = self.writer_slot.take() {
-            self.woken.add(name);
-        }
     }
 
     /// The known bytes that stand in one piece, oldest first: from the first unread byte's place on.
@@ -236,13 +163,6 @@ impl Machine {
         self.write.lend(most)
     }
 
-    fn unlend(&mut self)
-        requires { self.old.writer ≡ WritePlace.Idle }
-        ensures { self.new ≡ unlent self.old }
-    {
-        self.write.unlend();
-    }
-
     /// Writes into the front of what is lent.
     fn write_front(&mut self, source: &[u8])
         requires { length source.now ≤ length self.old.lent }
@@ -262,22 +182,6 @@ impl Machine {
         let count = self.lend(MOST_A_ROUND).min(bytes.len());
         self.write_front(&bytes[..count]);
         count
-    }
-
-    fn publish(&mut self, n: usize)
-        requires idle { self.old.writer ≡ WritePlace.Idle }
-        requires within { n ≤ length self.old.lent }
-        ensures { self.new ≡ published n self.old }
-    {
-        self.write.publish(n);
-    }
-
-    fn consume(&mut self, n: usize)
-        requires idle { self.old.reader ≡ ReadPlace.Idle }
-        requires within { n ≤ peeked_count self.old }
-        ensures { self.new ≡ consumed n self.old }
-    {
-        self.read.consume(n);
     }
 
     /// The unread bytes in the two pieces in which they stand: up to the end of the buffer, and from its beginning.

@@ -1,7 +1,7 @@
 //! What is left of the source of an open fill.
-ghost use Rattle.std.specs.Prelude.{◌≡◌, ◌≤◌, [], ◌∷◌, length, IfOk};
+ghost use Rattle.std.specs.Prelude.{◌≡◌, ◌≤◌, [], ◌∷◌, length, drop, IfOk};
 ghost use Rattle.piper_machine.specs.Round.{left_of_source};
-ghost use Rattle.piper_machine.specs.Source.{bytes_of, is_failing};
+ghost use Rattle.piper_machine.specs.Source.{IsSource, source_left, bytes_of, is_failing};
 
 use piper_sides::bytes::Bytes;
 use piper_sides::memory::OutOfMemory;
@@ -27,6 +27,47 @@ impl Model for Source {
     ghost view = { λ source. source_left source.given source.spent source.script };
 
     ghost invariant = { λ source. IsSource source.given source.spent source.script };
+}
+
+/// Whether the act fails that is next where `spent` acts are spent.
+pub fn is_failing(acts: &[SourceAct], spent: usize) -> bool
+    ensures { result ≡ is_failing (drop spent acts.now) }
+{
+    match acts.get(spent) {
+        Some(SourceAct::Fail) => true,
+        _ => false,
+    }
+}
+
+/// What that act has left to give, which has given `given` bytes.
+pub fn front(acts: &[SourceAct], spent: usize, given: usize) -> &[u8]
+    requires { IsSource given spent acts.now }
+    ensures { result.now ≡ bytes_of (source_left given spent acts.now) }
+{
+    match acts.get(spent) {
+        Some(SourceAct::Bytes(bytes)) => &bytes.as_slice()[given..],
+        _ => &[],
+    }
+}
+
+/// How many acts are spent, and how many bytes the next one has given, when that act has given `n` bytes more.
+pub fn passed(acts: &[SourceAct], spent: usize, given: usize, n: usize) -> (usize, usize)
+    requires before { IsSource given spent acts.now }
+    requires within { n ≤ length (bytes_of (source_left given spent acts.now)) }
+    ensures left { source_left result.1 result.0 acts.now ≡ left_of_source n (source_left given spent acts.now) }
+    ensures after { IsSource result.1 result.0 acts.now }
+{
+    let end = match acts.get(spent) {
+        Some(SourceAct::Bytes(bytes)) => bytes.as_slice().len(),
+        _ => 0,
+    };
+    if n < end - given {
+        (spent, given + n)
+    } else if spent < acts.len() {
+        (spent + 1, 0)
+    } else {
+        (spent, given)
+    }
 }
 
 impl Source {
@@ -80,20 +121,14 @@ impl Source {
     pub fn is_failing(&self) -> bool
         ensures { result ≡ is_failing self.now }
     {
-        match self.script.as_slice().get(self.spent) {
-            Some(SourceAct::Fail) => true,
-            _ => false,
-        }
+        is_failing(self.script.as_slice(), self.spent)
     }
 
     /// What it has to give next.
     pub fn front(&self) -> &[u8]
         ensures { result.now ≡ bytes_of self.now }
     {
-        match self.script.as_slice().get(self.spent) {
-            Some(SourceAct::Bytes(bytes)) => &bytes.as_slice()[self.given..],
-            _ => &[],
-        }
+        front(self.script.as_slice(), self.spent, self.given)
     }
 
     /// Gives the first `n` bytes of that. An act that has nothing left is spent.
@@ -101,15 +136,8 @@ impl Source {
         requires { n ≤ length (bytes_of self.old) }
         ensures { self.new ≡ left_of_source n self.old }
     {
-        let end = match self.script.as_slice().get(self.spent) {
-            Some(SourceAct::Bytes(bytes)) => bytes.as_slice().len(),
-            _ => 0,
-        };
-        if n < end - self.given {
-            self.given += n;
-        } else if self.spent < self.script.as_slice().len() {
-            self.spent += 1;
-            self.given = 0;
-        }
+        let (spent, given) = passed(self.script.as_slice(), self.spent, self.given, n);
+        self.spent = spent;
+        self.given = given;
     }
 }

@@ -311,7 +311,7 @@ impl Machine {
         None
     }
 
-    fn open_drain(&mut self, context: Option<Context>, destination: Destination)
+    pub(super) fn open_drain(&mut self, context: Option<Context>, destination: Destination)
         requires { self.old.reader ≡ ReadPlace.Idle }
         ensures { self.new ≡ drain_opened context destination self.old }
     {
@@ -323,7 +323,7 @@ impl Machine {
         self.destination = destination;
     }
 
-    fn open_fill(&mut self, context: Option<Context>, source: Source)
+    pub(super) fn open_fill(&mut self, context: Option<Context>, source: Source)
         requires { self.old.writer ≡ WritePlace.Idle }
         ensures { self.new ≡ fill_opened context source self.old }
     {

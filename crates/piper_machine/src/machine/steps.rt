@@ -3,11 +3,11 @@ ghost use Rattle.std.specs.Prelude.{IsSome, ◌≡◌, ◌≢◌, ◌≤◌, ℕ
 ghost use Rattle.piper_sides.specs.Open.{is_granted, is_yield_granted, no_call};
 ghost use Rattle.piper_sides.specs.Side.{Writing};
 ghost use Rattle.piper_machine.specs.Lend.{Lendable, lending};
-ghost use Rattle.piper_machine.specs.Round.{given};
+ghost use Rattle.piper_machine.specs.Round.{given, found_of, moved_by};
 ghost use Rattle.piper_machine.specs.Action.{registered_in, source_called};
 ghost use Rattle.piper_machine.specs.Places.{peeked_count};
 ghost use Rattle.piper_sides.specs.Table.{read_action, write_action, moved, failed};
-ghost use Rattle.piper_machine.specs.Step.{reader_stepped, writer_stepped, went, stepped, offering, call_after, source_after, destination_after, lent_count_after, round_left, round_answer, MayLend};
+ghost use Rattle.piper_machine.specs.Step.{reader_stepped, writer_stepped, went, stepped, offering, call_after, source_after, destination_after, lent_count_after, round_left, round_answer, drain_left, drain_answer, MayLend};
 
 use super::Machine;
 use crate::destination::Destination;
@@ -218,19 +218,30 @@ impl Machine {
         answer
     }
 
-    fn reader_calls_destination(&mut self) -> Option<Answer>
-        requires { read_action self.old.reader ≡ Action.CallDestination }
-        ensures after { self.new ≡ (reader_stepped Action.CallDestination self.old).pipe }
-        ensures answer { result ≡ (reader_stepped Action.CallDestination self.old).answer }
+    // The destination took so many bytes, or failed.
+    pub(super) fn destination_called(&mut self, taken: Result<usize, Failed>) -> Option<Answer>
+        requires next { read_action self.old.reader ≡ Action.CallDestination }
+        requires within { moved_by taken ≤ peeked_count self.old }
+        ensures after { self.new ≡ drain_left (found_of taken) self.old }
+        ensures answer { result ≡ drain_answer (found_of taken) self.old }
     {
-        let most = self.read.peekable().min(MOST_A_ROUND);
-        let answer = match self.destination.take(most) {
+        let answer = match taken {
             Ok(n) => self.read.destination_took(n),
             Err(Failed) => self.read.destination_failed(),
         };
         settle(&mut self.reader_call, answer);
         settle_destination(&mut self.destination, answer);
         answer
+    }
+
+    fn reader_calls_destination(&mut self) -> Option<Answer>
+        requires { read_action self.old.reader ≡ Action.CallDestination }
+        ensures after { self.new ≡ (reader_stepped Action.CallDestination self.old).pipe }
+        ensures answer { result ≡ (reader_stepped Action.CallDestination self.old).answer }
+    {
+        let most = self.read.peekable().min(MOST_A_ROUND);
+        let taken = self.destination.take(most);
+        self.destination_called(taken)
     }
 
     /// Makes the reader's next step.
@@ -432,7 +443,7 @@ impl Machine {
         if is_failing { Err(Failed) } else { Ok(count) }
     }
 
-    fn source_gave(&mut self, n: usize) -> Option<Answer>
+    pub(super) fn source_gave(&mut self, n: usize) -> Option<Answer>
         requires next { write_action self.old.writer ≡ Action.CallSource }
         requires within { n ≤ length self.old.lent }
         ensures after { self.new ≡ round_left (moved n) self.old }
@@ -446,7 +457,7 @@ impl Machine {
         answer
     }
 
-    fn source_failed(&mut self) -> Option<Answer>
+    pub(super) fn source_failed(&mut self) -> Option<Answer>
         requires { write_action self.old.writer ≡ Action.CallSource }
         ensures after { self.new ≡ round_left failed self.old }
         ensures answer { result ≡ round_answer failed self.old }

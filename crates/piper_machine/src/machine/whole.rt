@@ -14,7 +14,7 @@ ghost use Rattle.piper_machine.specs.Step.{went};
 ghost use Rattle.piper_machine.specs.Refusal.{reader_state, writer_state};
 ghost use Rattle.piper_sides.specs.Answer.{count_in, flag_in, polled_in};
 ghost use Rattle.piper_machine.specs.BySteps.{IsWholeBySteps};
-ghost use Rattle.piper_machine.specs.Alone.{heard, reader_alone, writer_alone, is_draining, is_filling, read_wakes, write_wakes};
+ghost use Rattle.piper_machine.specs.Alone.{heard, yield_waker, reader_alone, writer_alone, is_draining, is_filling, read_wakes, write_wakes};
 
 use super::{Machine, write_at};
 use crate::destination::Destination;
@@ -23,9 +23,19 @@ use piper_sides::events::Answer;
 use piper_sides::polling::{Context, Luck, Polled};
 use piper_sides::table::{Action, ReadPlace, WritePlace};
 
+// The waker that a yield of this call calls.
+fn yield_waker(context: Option<Context>) -> Option<u32>
+    ensures { result ≡ yield_waker context }
+{
+    match context {
+        Some(cx) if cx.luck.yield_granted => Some(cx.waker),
+        _ => None,
+    }
+}
+
 impl Machine {
     // A whole call of the reader begins.
-    fn begin_reader(&mut self)
+    pub(super) fn begin_reader(&mut self)
         requires { self.old.reader ≡ ReadPlace.Idle }
         ensures after { self.new ≡ begun self.old }
         ensures call { self.old.reader_call ≡ no_call }
@@ -35,7 +45,7 @@ impl Machine {
     }
 
     // A whole call of the writer begins.
-    fn begin_writer(&mut self)
+    pub(super) fn begin_writer(&mut self)
         requires { self.old.writer ≡ WritePlace.Idle }
         ensures after { self.new ≡ begun self.old }
         ensures call { self.old.writer_call ≡ no_call }
@@ -45,27 +55,37 @@ impl Machine {
     }
 
     // A waker that the next step calls joins those that the call has called.
-    fn hear_reader(&mut self)
-        requires moves { is_draining self.old.reader ≡ false }
+    pub(super) fn hear_reader(&mut self, action: Action)
+        requires next { action ≡ read_action self.old.reader }
         requires wakes { read_action self.old.reader ≡ Action.Wake → length self.old.woken < 2 }
+        requires yields { read_action self.old.reader ≡ Action.Yield → length self.old.woken < 2 }
         ensures { self.new ≡ heard Side.Reader (read_action self.old.reader) self.old }
     {
-        if let Action::Wake = self.reader_next() {
-            if let Some(name) = self.reader_call.taken {
+        match action {
+            Action::Wake => if let Some(name) = self.reader_call.taken {
                 self.woken.add(name);
-            }
+            },
+            Action::Yield => if let Some(name) = yield_waker(self.reader_call.context) {
+                self.woken.add(name);
+            },
+            _ => {}
         }
     }
 
-    fn hear_writer(&mut self)
-        requires moves { is_filling self.old.writer ≡ false }
+    pub(super) fn hear_writer(&mut self, action: Action)
+        requires next { action ≡ write_action self.old.writer }
         requires wakes { write_action self.old.writer ≡ Action.Wake → length self.old.woken < 2 }
+        requires yields { write_action self.old.writer ≡ Action.Yield → length self.old.woken < 2 }
         ensures { self.new ≡ heard Side.Writer (write_action self.old.writer) self.old }
     {
-        if let Action::Wake = self.writer_next() {
-            if let Some(name) = self.writer_call.taken {
+        match action {
+            Action::Wake => if let Some(name) = self.writer_call.taken {
                 self.woken.add(name);
-            }
+            },
+            Action::Yield => if let Some(name) = yield_waker(self.writer_call.context) {
+                self.woken.add(name);
+            },
+            _ => {}
         }
     }
 
@@ -78,7 +98,8 @@ impl Machine {
         ensures after { self.new ≡ (reader_alone self.old.reader self.old).pipe }
     {
         'steps: loop {
-            self.hear_reader();
+            let action = self.reader_next();
+            self.hear_reader(action);
             match self.reader_goes() {
                 Some(answer) => return answer,
                 None => {}
@@ -95,7 +116,8 @@ impl Machine {
         ensures after { self.new ≡ (writer_alone self.old.writer self.old).pipe }
     {
         'steps: loop {
-            self.hear_writer();
+            let action = self.writer_next();
+            self.hear_writer(action);
             match self.writer_goes() {
                 Some(answer) => return answer,
                 None => {}

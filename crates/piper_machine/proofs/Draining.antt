@@ -1,0 +1,398 @@
+-- A drain run whole: its destination stays with the caller, and each step is that of a call which holds this destination.
+use Rattle.std.proofs.Common.{◌≡◌, ℕ, ◌+◌, ◌-◌, ◌<◌, ◌≤◌, min, List, [], ◌∷◌, ◌++◌, take, drop, length, Bool, true, false, Option, None, Some, ◌==◌, is_some, refl, sym, ap, subst, ◌∙◌, arith, length-append, length-drop}
+use Rattle.std.proofs.lemmas.Bool.Decides.{nat_tests}
+use Rattle.std.proofs.lemmas.List.{drop-drop}
+use Rattle.piper_sides.specs.declared.calls.Side.TheVariants.{Reader}
+use Rattle.piper_sides.specs.declared.calls.OpenCall.{OpenCall}
+use Rattle.piper_sides.specs.declared.calls.SideState.TheVariants.{Busy}
+use Rattle.piper_sides.specs.declared.events.Answer.{Answer}
+use Rattle.piper_sides.specs.declared.polling.Context.{Context}
+use Rattle.piper_sides.specs.declared.scripted.DestAct.TheVariants as dest
+use Rattle.piper_sides.specs.declared.table.Action.TheVariants as does
+use Rattle.piper_sides.specs.declared.table.Form.{Form}
+use Rattle.piper_sides.specs.declared.table.Form.TheVariants.{Try, Polling}
+use Rattle.piper_sides.specs.declared.table.Purpose.TheVariants as purpose
+use Rattle.piper_sides.specs.declared.table.AfterRead.TheVariants as afterward
+use Rattle.piper_sides.specs.declared.table.ReadPlace.{ReadPlace}
+use Rattle.piper_sides.specs.declared.table.ReadPlace.TheVariants as at
+use Rattle.piper_sides.specs.Open.{is_granted, no_call}
+use Rattle.piper_sides.specs.Side.{head_store}
+use Rattle.piper_sides.specs.Table.{Found, Next, nothing, refreshed, granted, waker, moved, goes_on, read_action, read_after, reader_looks_for, reader_looked, reader_looked_again, reader_registered, reader_is_true, reader_moved, writer_taken}
+use Rattle.piper_machine.specs.declared.destination.Destination.{Destination}
+use Rattle.piper_machine.specs.declared.destination.Destination.TheVariants.{Slice, Acts}
+use Rattle.piper_machine.specs.Pipe.{Pipe, begun}
+use Rattle.piper_machine.specs.Sound.{IsSound}
+use Rattle.piper_machine.specs.Move.{with_waker}
+use Rattle.piper_machine.specs.Copy.{Copied, count_of, copied_after, drawn, drain_moves, drain, try_drain}
+use Rattle.piper_machine.specs.Look.{reader_look, reader_looks, reader_registers}
+use Rattle.piper_machine.specs.Refresh.{reader_refreshed}
+use Rattle.piper_machine.specs.BySteps.{counted, unfailing, counted_whole, copied_slice}
+use Rattle.piper_machine.proofs.BySteps.{alone_of}
+use Rattle.piper_machine.proofs.Whole.{reader_resting, try_drain-whole, drain-slice}
+use Rattle.piper_sides.specs.declared.polling.Polled.{Polled}
+use Rattle.piper_sides.specs.declared.polling.Polled.TheVariants.{Ready, Pending, Memory}
+use Rattle.piper_sides.specs.declared.scripted.DestAct.{DestAct}
+use Rattle.piper_machine.specs.Round.{taken, found_of, left_of_acts, left_of_destination}
+use Rattle.piper_machine.specs.Refusal.{reader_state}
+use Rattle.piper_machine.specs.Action.{round_count, destination_called}
+use Rattle.piper_machine.specs.Step.{went, form_of, drain_opened, call_after, destination_after, drain_left, drain_answer}
+use Rattle.piper_machine.specs.Alone.{heard, is_draining, reader_alone}
+use Rattle.piper_machine.proofs.Alone.{reader_rest, reads_left, read_step}
+use Rattle.piper_machine.proofs.Copies.{drain-rest}
+use Rattle.piper_machine.proofs.Falling.{drain-falls}
+use Rattle.piper_machine.proofs.Standing.{IsSettled, ReaderStands, moved_of, reads-on, reader-settled, reader-stands}
+use Rattle.piper_machine.proofs.Rounds.{HasOneWake, one_wake-room, one_wake-none}
+
+-- the pipe of a call that holds this destination
+abbrev pub placing : Destination → Pipe → Pipe
+placing destination p = record p { destination = destination }
+
+-- the waker that the call has taken, and calls next
+abbrev pub errand : ReadPlace → OpenCall → Option ℕ
+errand (at.WakeWriter next) c = c.taken
+errand place c = None
+
+abbrev pub WakesOne : ReadPlace → Pipe → Type 0
+WakesOne place p = HasOneWake (with_waker p.woken (errand place p.reader_call)) p.writer_waker
+
+longer : (names : List ℕ) (name : Option ℕ) → length names ≤ length (with_waker names name)
+longer names None = omega arith
+longer names (Some name) = let long = length-append names (name ∷ []) in omega arith
+
+pub wake-room : (place : ReadPlace) (p : Pipe) → WakesOne place p → length p.woken < 2
+wake-room place p wakes =
+    let few = one_wake-room (with_waker p.woken (errand place p.reader_call)) p.writer_waker wakes in
+    let names = longer p.woken (errand place p.reader_call) in
+    omega arith
+
+-- a step of a drain that gives no answer leads to a place of a drain, and a waker is called once
+abbrev IsKept : List ℕ → Option ℕ → Next ReadPlace → OpenCall → Type 0
+IsKept woken name next c = next.answer ≡ None → (is_draining next.place ≡ true) × HasOneWake (with_waker woken (errand next.place (call_after next.answer c))) name
+
+module _ (woken : List ℕ) (name : Option ℕ) (c : OpenCall) (one : HasOneWake woken name) where
+  looks-kept : (none : Bool) (form : Form) → IsKept woken name (goes_on (reader_looked none (purpose.Copy form))) c
+  looks-kept true Try goes = (refl, one)
+  looks-kept true (Polling drawn) goes = (refl, one)
+  looks-kept false Try goes = (refl, one)
+  looks-kept false (Polling drawn) goes = (refl, one)
+
+  registers-kept : (granted : Bool) (form : Form) → IsKept woken name (reader_registered granted (purpose.Copy form)) c
+  registers-kept true form goes = (refl, one)
+  registers-kept false form goes = absurd (cc)
+
+  again-kept : (none was_closed : Bool) (form : Form) → IsKept woken name (reader_looked_again none (purpose.Copy form) was_closed) c
+  again-kept true was_closed form goes = absurd (cc)
+  again-kept false was_closed Try goes = (refl, one)
+  again-kept false was_closed (Polling drawn) goes = (refl, one)
+
+  takes-kept : (form : Form) → IsKept woken name (reader_is_true (purpose.Copy form)) c
+  takes-kept Try goes = (refl, one)
+  takes-kept (Polling true) goes = (refl, one)
+  takes-kept (Polling false) goes = (refl, one)
+
+  moves-kept : (n : ℕ) (none : Bool) (form : Form) (sum : ℕ) → IsKept woken name (reader_moved none n form sum) c
+  moves-kept n true form sum goes = absurd (cc)
+  moves-kept n false form sum goes = (refl, one)
+
+  calls-kept : (destination : Destination) (most : ℕ) (form : Form) (sum capacity : ℕ) → IsKept woken name (read_after capacity (at.CallDestination form sum) (found_of (taken most destination))) c
+  calls-kept (Slice size) most form sum capacity = moves-kept (min size most) (min size most == 0) form sum
+  calls-kept (Acts []) most form sum capacity = moves-kept 0 true form sum
+  calls-kept (Acts (dest.Fail ∷ acts)) most form sum capacity = λ goes. absurd (cc)
+  calls-kept (Acts (dest.Take size ∷ acts)) most form sum capacity = moves-kept (min size most) (min size most == 0) form sum
+
+wakes-kept : (name : Option ℕ) (form : Form) (sum : ℕ) (woken : List ℕ) (c : OpenCall) → HasOneWake woken name → IsKept woken None (writer_taken (afterward.Round form sum) (is_some name)) (record c { taken = name })
+wakes-kept None form sum woken c one goes = (refl, one)
+wakes-kept (Some name) form sum woken c one goes = (refl, one)
+
+drain-kept : (place : ReadPlace) (p : Pipe) → is_draining place ≡ true → WakesOne place p → let s = read_step place p in s.answer ≡ None → (is_draining s.pipe.reader ≡ true) × WakesOne s.pipe.reader s.pipe
+drain-kept (at.LookTail (purpose.Copy form)) p drains one goes = looks-kept p.woken p.writer_waker p.reader_call one (length p.unread == 0) form goes
+drain-kept (at.LookRegister (purpose.Copy form)) p drains one goes = registers-kept p.woken p.writer_waker p.reader_call one (is_granted p.reader_call.context) form goes
+drain-kept (at.LookClosed (purpose.Copy form)) p drains one goes = (refl, one)
+drain-kept (at.LookTailAgain (purpose.Copy form) was_closed) p drains one goes = again-kept p.woken p.writer_waker p.reader_call one (length p.unread == 0) was_closed form goes
+drain-kept (at.LookTake (purpose.Copy form)) p drains one goes = takes-kept p.woken p.writer_waker (record p.reader_call { taken = p.reader_waker }) one form goes
+drain-kept at.Yield p drains one goes = absurd (cc)
+drain-kept (at.CallDestination form sum) p drains one goes = calls-kept p.woken p.writer_waker p.reader_call one p.destination (round_count p) form sum p.capacity goes
+drain-kept (at.StoreHead n (afterward.Round form sum)) p drains one goes = (refl, one)
+drain-kept (at.TakeWriter (afterward.Round form sum)) p drains one goes = wakes-kept p.writer_waker form sum p.woken p.reader_call one goes
+drain-kept (at.WakeWriter (afterward.Round form sum)) p drains one goes = (refl, one)
+drain-kept place p drains one goes = absurd (cc)
+
+-- a drain that was opened at p has come to u
+pub record Draining (p u : Pipe) : Type 0 where
+  pub drains : is_draining u.reader ≡ true
+  pub busy : reader_state u.reader ≡ Busy
+  pub stands : ReaderStands u.reader u
+  pub wakes : WakesOne u.reader u
+  pub rest : reader_alone p.reader p ≡ reader_alone u.reader u
+
+abbrev pub left_of : Pipe → ℕ
+left_of p = reads_left p.reader p
+
+-- what a step of it comes to: nearer to the answer, or the answer
+abbrev pub IsDrained : Pipe → Pipe → Option Answer → Pipe → Type 0
+IsDrained p u None r = Draining p r × (left_of r < left_of u)
+IsDrained p u (Some answer) r = reader_alone p.reader p ≡ record { answer = answer; pipe = r }
+
+drained-by : (p u : Pipe) (answer : Option Answer) → Draining p u → (read_step u.reader u).answer ≡ answer → IsDrained p u answer (read_step u.reader u).pipe
+drained-by p u None draining is =
+    let s = read_step u.reader u in
+    let kept = drain-kept u.reader u draining.drains draining.wakes is in
+    let stands = draining.stands in (
+      record {
+        drains = kept.0;
+        busy = subst (λ (a : Option Answer). IsSettled a (reader_state s.pipe.reader)) is (reader-settled u.reader u draining.busy);
+        stands = reader-stands u.reader u draining.busy stands;
+        wakes = kept.1;
+        rest = draining.rest ∙ drain-rest u.reader u draining.drains stands.start (omega (arith, stands.unread, stands.known)) ∙ ap (λ (a : Option Answer). reader_rest a s.pipe) is;
+      },
+      drain-falls u.reader u draining.drains stands is,
+    )
+drained-by p u (Some answer) draining is =
+    let s = read_step u.reader u in
+    let stands = draining.stands in
+    draining.rest ∙ drain-rest u.reader u draining.drains stands.start (omega (arith, stands.unread, stands.known)) ∙ ap (λ (a : Option Answer). reader_rest a s.pipe) is
+
+-- a step that does not call the destination leaves it as it is
+pub record IsApart (place : ReadPlace) (destination : Destination) (p : Pipe) : Type 0 where
+  pub answer : (read_step place (placing destination p)).answer ≡ (read_step place p).answer
+  pub pipe : (read_step place (placing destination p)).pipe ≡ placing (destination_after (read_step place p).answer destination) (read_step place p).pipe
+  pub destination_is : (read_step place p).pipe.destination ≡ destination_after (read_step place p).answer p.destination
+
+apart : (place : ReadPlace) (destination : Destination) (p : Pipe) → (read_action place ≡ does.CallDestination → ⊥) → IsApart place destination p
+apart (at.CallDestination form sum) destination p other = absurd (other refl)
+apart place destination p other = record { answer = refl; pipe = refl; destination_is = refl }
+
+-- the same of a pipe whose call holds no destination
+abbrev pub IsGoneOn : Pipe → Destination → Pipe → Option Answer → Pipe → Type 0
+IsGoneOn p destination q None r = Draining p (placing destination r) × (left_of r < left_of q)
+IsGoneOn p destination q (Some answer) r = reader_alone p.reader p ≡ record { answer = answer; pipe = r }
+
+gone-on : (p q r : Pipe) (destination : Destination) (answer : Option Answer) (s : Pipe) → s ≡ placing (destination_after answer destination) r → r.destination ≡ destination_after answer r.destination → IsDrained p (placing destination q) answer s → IsGoneOn p destination q answer r
+gone-on p q r destination None s is kept drained = subst (λ (v : Pipe). Draining p v × (left_of v < left_of q)) is drained
+gone-on p q r destination (Some answer) s is kept drained = drained ∙ ap (λ (v : Pipe). record { answer = answer; pipe = v }) (is ∙ λ j. record r { destination = sym kept j })
+
+settled-destination : (answer : Option Answer) (left held : Destination) → left ≡ destination_after answer held → left ≡ destination_after answer left
+settled-destination None left held is = refl
+settled-destination (Some answer) left held is = is
+
+-- a step that the machine makes with no destination of its own: the waker that it calls is heard, and then it goes
+pub goes-on : (p q h r : Pipe) (destination : Destination) (answer : Option Answer) → Draining p (placing destination q) → (read_action q.reader ≡ does.CallDestination → ⊥) → h ≡ heard Reader (read_action q.reader) q
+    → answer ≡ (went Reader h).answer → r ≡ (went Reader h).pipe → IsGoneOn p destination q answer r
+goes-on p q h r destination answer draining other hears answers after =
+    let s = read_step q.reader q in
+    let answer_is : answer ≡ s.answer = answers ∙ ap (λ (v : Pipe). (went Reader v).answer) hears in
+    let pipe_is : r ≡ s.pipe = after ∙ ap (λ (v : Pipe). (went Reader v).pipe) hears in
+    let same = apart q.reader destination q other in
+    let u = placing destination q in
+    let drained = drained-by p u answer draining (same.answer ∙ sym answer_is) in
+    let is : (read_step q.reader u).pipe ≡ placing (destination_after answer destination) r = same.pipe ∙ ap (λ (a : Option Answer). placing (destination_after a destination) s.pipe) (sym answer_is) ∙ ap (placing (destination_after answer destination)) (sym pipe_is) in
+    let kept : r.destination ≡ destination_after answer q.destination = ap (λ (v : Pipe). v.destination) pipe_is ∙ same.destination_is ∙ ap (λ (a : Option Answer). destination_after a q.destination) (sym answer_is) in
+    gone-on p q r destination answer (read_step q.reader u).pipe is (settled-destination answer r.destination q.destination kept) drained
+
+-- a call of the destination
+pub record IsCalled (place : ReadPlace) (p : Pipe) : Type 0 where
+  pub answer : (read_step place p).answer ≡ drain_answer (found_of (taken (round_count p) p.destination)) (record p { reader = place })
+  pub pipe : (read_step place p).pipe ≡ drain_left (found_of (taken (round_count p) p.destination)) (destination_called (record p { reader = place }))
+
+call-step : (place : ReadPlace) (p : Pipe) → read_action place ≡ does.CallDestination → IsCalled place p
+call-step (at.CallDestination form sum) p calls = record { answer = refl; pipe = refl }
+call-step place p calls = absurd (cc)
+
+-- what a call of the destination finds leads to r
+pub record IsRound (found : Found) (q : Pipe) (answer : Option Answer) (r : Pipe) : Type 0 where
+  pub answer_is : answer ≡ drain_answer found q
+  pub after : r ≡ drain_left found q
+
+pub called : (destination : Destination) (found : Found) (p q r : Pipe) (answer : Option Answer) → read_action q.reader ≡ does.CallDestination → Draining p (placing destination q)
+    → found_of (taken (round_count q) destination) ≡ found → IsRound found q answer r → IsGoneOn p (left_of_destination (round_count q) destination) q answer r
+called destination found p q r answer calls draining found_is round =
+    let u = placing destination q in
+    let rest = left_of_destination (round_count q) destination in
+    let step = call-step q.reader u calls in
+    let answer_is : (read_step q.reader u).answer ≡ answer = step.answer ∙ ap (λ (f : Found). drain_answer f u) found_is ∙ sym round.answer_is in
+    let pipe : (read_step q.reader u).pipe ≡ placing (destination_after answer rest) r =
+    step.pipe
+    ∙ ap (λ (f : Found). drain_left f (destination_called u)) found_is
+    ∙ ap (λ (a : Option Answer). placing (destination_after a rest) (drain_left found q)) (sym round.answer_is)
+    ∙ ap (placing (destination_after answer rest)) (sym round.after) in
+    let kept : r.destination ≡ destination_after answer q.destination = ap (λ (v : Pipe). v.destination) round.after ∙ ap (λ (a : Option Answer). destination_after a q.destination) (sym round.answer_is) in
+    gone-on p q r rest answer (read_step q.reader u).pipe pipe (settled-destination answer r.destination q.destination kept) (drained-by p u answer draining answer_is)
+
+-- the next places of a slice
+pub slice-took : (size n : ℕ) (p q r : Pipe) (answer : Option Answer) → read_action q.reader ≡ does.CallDestination → Draining p (placing (Slice size) q) → n ≡ min size (round_count q)
+    → IsRound (moved n) q answer r → IsGoneOn p (Slice (size - n)) q answer r
+slice-took size n p q r answer calls draining count round =
+    subst (λ (k : ℕ). IsGoneOn p (Slice (size - k)) q answer r) (sym count) (called (Slice size) (moved n) p q r answer calls draining (ap moved (sym count)) round)
+
+-- the unread bytes: a store that is next gives them up
+no-store : (capacity : ℕ) (place : ReadPlace) (found : Found) → reader_state place ≡ Busy → moved_of found ≡ 0 → head_store (read_after capacity place found).place ≡ 0
+no-store capacity place found busy none = let store = (reads-on capacity place found busy).store in omega arith
+
+goes-unread : (place : ReadPlace) (p : Pipe) → is_draining place ≡ true → (read_action place ≡ does.CallDestination → ⊥) → let s = read_step place p in (s.pipe.unread ≡ drop (head_store place) p.unread) × (head_store s.pipe.reader ≡ 0)
+goes-unread (at.LookTail (purpose.Copy form)) p drains other = (refl, no-store p.capacity (at.LookTail (purpose.Copy form)) (refreshed (length p.unread == 0)) refl refl)
+goes-unread (at.LookRegister (purpose.Copy form)) p drains other = (refl, no-store p.capacity (at.LookRegister (purpose.Copy form)) (granted (is_granted p.reader_call.context)) refl refl)
+goes-unread (at.LookClosed (purpose.Copy form)) p drains other = (refl, refl)
+goes-unread (at.LookTailAgain (purpose.Copy form) was_closed) p drains other = (refl, no-store p.capacity (at.LookTailAgain (purpose.Copy form) was_closed) (refreshed (length p.unread == 0)) refl refl)
+goes-unread (at.LookTake (purpose.Copy form)) p drains other = (refl, no-store p.capacity (at.LookTake (purpose.Copy form)) nothing refl refl)
+goes-unread at.Yield p drains other = (refl, refl)
+goes-unread (at.CallDestination form sum) p drains other = absurd (other refl)
+goes-unread (at.StoreHead n (afterward.Round form sum)) p drains other = (refl, refl)
+goes-unread (at.TakeWriter (afterward.Round form sum)) p drains other = (refl, no-store p.capacity (at.TakeWriter (afterward.Round form sum)) (waker (is_some p.writer_waker)) refl refl)
+goes-unread (at.WakeWriter (afterward.Round form sum)) p drains other = (refl, refl)
+goes-unread place p drains other = absurd (cc)
+
+pub unread-kept : (q h r : Pipe) (bytes : List ℕ) → is_draining q.reader ≡ true → (read_action q.reader ≡ does.CallDestination → ⊥) → h ≡ heard Reader (read_action q.reader) q → r ≡ (went Reader h).pipe
+    → drop (head_store q.reader) q.unread ≡ bytes → (r.unread ≡ bytes) × (drop (head_store r.reader) r.unread ≡ bytes)
+unread-kept q h r bytes drains other hears after is =
+    let s = read_step q.reader q in
+    let pipe_is : r ≡ s.pipe = after ∙ ap (λ (v : Pipe). (went Reader v).pipe) hears in
+    let goes = goes-unread q.reader q drains other in
+    let unread : r.unread ≡ bytes = ap (λ (v : Pipe). v.unread) pipe_is ∙ goes.0 ∙ is in
+    let store : head_store r.reader ≡ 0 = ap (λ (v : Pipe). head_store v.reader) pipe_is ∙ goes.1 in
+    (unread, ap (λ (n : ℕ). drop n r.unread) store ∙ unread)
+
+pub calls-store : (place : ReadPlace) → read_action place ≡ does.CallDestination → head_store place ≡ 0
+calls-store (at.CallDestination form sum) calls = refl
+calls-store place calls = absurd (cc)
+
+moves-store : (none : Bool) (n : ℕ) (form : Form) (sum : ℕ) → (n == 0) ≡ none → (reader_moved none n form sum).answer ≡ None → head_store (reader_moved none n form sum).place ≡ n
+moves-store true n form sum test goes = absurd (cc)
+moves-store false n form sum test goes = refl
+
+pub round-store : (place : ReadPlace) (n capacity : ℕ) → read_action place ≡ does.CallDestination → (read_after capacity place (moved n)).answer ≡ None → head_store (read_after capacity place (moved n)).place ≡ n
+round-store (at.CallDestination form sum) n capacity calls goes = moves-store (n == 0) n form sum refl goes
+round-store place n capacity calls goes = absurd (cc)
+
+moves-none : (none : Bool) (n : ℕ) (form : Form) (sum : ℕ) (answer : Answer) → (n == 0) ≡ none → (reader_moved none n form sum).answer ≡ Some answer → n ≡ 0
+moves-none true n form sum answer test ends = grind (arith, nat_tests)
+moves-none false n form sum answer test ends = absurd (cc)
+
+pub round-none : (place : ReadPlace) (n capacity : ℕ) (answer : Answer) → read_action place ≡ does.CallDestination → (read_after capacity place (moved n)).answer ≡ Some answer → n ≡ 0
+round-none (at.CallDestination form sum) n capacity answer calls ends = moves-none (n == 0) n form sum answer refl ends
+round-none place n capacity answer calls ends = absurd (cc)
+
+-- as many bytes stand in the slice as have left the pipe
+pub drained-bytes : (n : ℕ) (before after dest filled_so_far : List ℕ) → n ≤ length before → after ≡ drop n before → filled_so_far ≡ take n before ++ drop n dest
+    → let count = length before - length after in filled_so_far ≡ take count before ++ drop count dest
+drained-bytes n before after dest so_far known left is =
+    let count : n ≡ length before - length after = omega (arith, ap (λ (xs : List ℕ). length xs) left, length-drop n before) in
+    is ∙ ap (λ (k : ℕ). take k before ++ drop k dest) count
+
+-- a drain is opened
+looks-drain : (none : Bool) (form : Form) → is_draining (reader_looks_for none (purpose.Copy form)) ≡ true
+looks-drain true form = refl
+looks-drain false Try = refl
+looks-drain false (Polling drawn) = refl
+
+looks-busy : (none : Bool) (form : Form) → reader_state (reader_looks_for none (purpose.Copy form)) ≡ Busy
+looks-busy true form = refl
+looks-busy false Try = refl
+looks-busy false (Polling drawn) = refl
+
+looks-store : (none : Bool) (form : Form) → head_store (reader_looks_for none (purpose.Copy form)) ≡ 0
+looks-store true form = refl
+looks-store false Try = refl
+looks-store false (Polling drawn) = refl
+
+looks-errand : (none : Bool) (form : Form) (c : OpenCall) → errand (reader_looks_for none (purpose.Copy form)) c ≡ None
+looks-errand true form c = refl
+looks-errand false Try c = refl
+looks-errand false (Polling drawn) c = refl
+
+pub opened : (cx : Option Context) (destination : Destination) (p q : Pipe) → IsSound p → p.woken ≡ [] → q ≡ drain_opened cx (Slice 0) p → Draining (drain_opened cx destination p) (placing destination q)
+opened cx destination p q sound unwoken is =
+    let none = p.known == 0 in
+    let form = form_of cx in
+    let store = looks-store none form in
+    let o = drain_opened cx destination p in
+    subst (λ (v : Pipe). Draining o (placing destination v)) (sym is) (record {
+      drains = looks-drain none form;
+      busy = looks-busy none form;
+      stands = record { unread = sound.unread; start = sound.start; known = sound.known; store = omega arith };
+      wakes = subst (λ (names : List ℕ). HasOneWake (with_waker names (errand o.reader o.reader_call)) p.writer_waker) (sym unwoken) (subst (λ (name : Option ℕ). HasOneWake (with_waker [] name) p.writer_waker) (sym (looks-errand none form o.reader_call)) (one_wake-none p.writer_waker));
+      rest = refl;
+    })
+
+pub opened-unread : (cx : Option Context) (p q : Pipe) → q ≡ drain_opened cx (Slice 0) p → drop (head_store q.reader) q.unread ≡ p.unread
+opened-unread cx p q is =
+    let store : head_store q.reader ≡ 0 = ap (λ (v : Pipe). head_store v.reader) is ∙ looks-store (p.known == 0) (form_of cx) in
+    ap (λ (n : ℕ). drop n q.unread) store ∙ ap (λ (v : Pipe). v.unread) is
+
+-- the acts of a script are spent one after the other
+pub acts-left : (acts : List DestAct) → left_of_acts acts ≡ drop 1 acts
+acts-left [] = refl
+acts-left (act ∷ acts) = refl
+
+pub next-act : (spent : ℕ) (acts : List DestAct) → left_of_acts (drop spent acts) ≡ drop (spent + 1) acts
+next-act spent acts = acts-left (drop spent acts) ∙ drop-drop 1 spent acts
+
+-- a drain to a slice answers how many bytes have left the pipe
+pub record IsCounted (before : List ℕ) (count : ℕ) (after : List ℕ) : Type 0 where
+  pub within : count ≤ length before
+  pub left : after ≡ drop count before
+
+abbrev CountsTo : Pipe → Copied ℕ → Type 0
+CountsTo p copied = IsCounted p.unread (count_of copied.answer) copied.pipe.unread
+
+none-moved : (bytes : List ℕ) → IsCounted bytes 0 bytes
+none-moved bytes = record { within = omega arith; left = refl }
+
+drawn-counts : (is_drawn yields : Bool) (cx : Context) (size : ℕ) (p : Pipe) → cx.luck.yield_granted ≡ yields → p.known ≤ length p.unread → CountsTo p (drawn is_drawn cx (drain_moves size) p)
+drawn-counts true true cx size p y known = rw y (none-moved p.unread)
+drawn-counts true false cx size p y known = rw y (none-moved p.unread)
+drawn-counts false yields cx size p y known = record { within = omega arith; left = refl }
+
+after-counts : (cx : Option Context) (size : ℕ) (answer : Polled Bool) (p : Pipe) → p.known ≤ length p.unread → CountsTo p (copied_after cx 0 (drain_moves size) answer p)
+after-counts None size (Ready true) p known = record { within = omega arith; left = refl }
+after-counts (Some cx) size (Ready true) p known = drawn-counts (cx.luck.draw == 0) cx.luck.yield_granted cx size p refl known
+after-counts cx size (Ready false) p known = none-moved p.unread
+after-counts cx size Pending p known = none-moved p.unread
+after-counts cx size Memory p known = none-moved p.unread
+
+abbrev KeepsUnread : Pipe → Pipe → Type 0
+KeepsUnread p q = (q.unread ≡ p.unread) × (q.known ≡ p.known)
+
+registers-keep : (granted : Bool) (name : ℕ) (p : Pipe) → KeepsUnread p (reader_registers granted name p).pipe
+registers-keep true name p = (refl, refl)
+registers-keep false name p = (refl, refl)
+
+looks-keep : (none : Bool) (cx : Option Context) (p : Pipe) → KeepsUnread p (reader_looks none cx p).pipe
+looks-keep true None p = (refl, refl)
+looks-keep true (Some cx) p = registers-keep cx.luck.register_granted cx.waker p
+looks-keep false None p = (refl, refl)
+looks-keep false (Some cx) p = (refl, refl)
+
+refreshed-known : (p : Pipe) → p.known ≤ length p.unread → (reader_refreshed p).known ≤ length p.unread
+refreshed-known p known = grind (arith, nat_tests)
+
+pub drain-counts : (cx : Option Context) (size : ℕ) (p : Pipe) → p.known ≤ length p.unread → CountsTo p (drain cx size p)
+drain-counts cx size p known =
+    let look = reader_look cx (begun p) in
+    let kept = looks-keep ((reader_refreshed (begun p)).known == 0) cx (reader_refreshed (begun p)) in
+    let long = refreshed-known (begun p) known in
+    let unread = kept.0 in
+    let same = ap (λ (xs : List ℕ). length xs) unread in
+    let counts = after-counts cx size look.answer look.pipe (omega (arith, kept.1)) in
+    subst (λ (bytes : List ℕ). IsCounted bytes (count_of (drain cx size p).answer) (drain cx size p).pipe.unread) unread counts
+
+-- the front of the slice, by that count
+pub counted-bytes : (count : ℕ) (before after dest filled_now : List ℕ) → IsCounted before count after → (let n = length before - length after in filled_now ≡ take n before ++ drop n dest) → filled_now ≡ take count before ++ drop count dest
+counted-bytes count before after dest filled_now is bytes =
+    let long = ap (λ (xs : List ℕ). length xs) is.left in
+    let same : length before - length after ≡ count = omega (arith, long, is.within, length-drop count before) in
+    bytes ∙ ap (λ (k : ℕ). take k before ++ drop k dest) same
+
+-- a reader between two calls
+pub rests : (p : Pipe) → p.reader ≡ at.Idle → p.reader_call ≡ no_call → p.destination ≡ Slice 0 → reader_resting p ≡ p
+rests p idle of_call destination = sym (λ j. record p { reader = idle j; reader_call = of_call j; destination = destination j })
+
+pub tries : (size : ℕ) (p : Pipe) → reader_resting p ≡ p → alone_of Reader (drain_opened None (Slice size) (begun p)) ≡ counted_whole (try_drain size p)
+tries size p rest = subst (λ (v : Pipe). alone_of Reader (drain_opened None (Slice size) (begun v)) ≡ counted_whole (try_drain size v)) rest (try_drain-whole size p)
+
+pub polls : (cx : Context) (size : ℕ) (p : Pipe) → reader_resting p ≡ p → alone_of Reader (drain_opened (Some cx) (Slice size) (begun p)) ≡ copied_slice (drain (Some cx) size p)
+polls cx size p rest = subst (λ (v : Pipe). alone_of Reader (drain_opened (Some cx) (Slice size) (begun v)) ≡ copied_slice (drain (Some cx) size v)) rest (drain-slice cx size p)
+
+pub counted-unfailing : (answer : Polled ℕ) → counted (unfailing answer) ≡ answer
+counted-unfailing (Ready n) = refl
+counted-unfailing Pending = refl
+counted-unfailing Memory = refl

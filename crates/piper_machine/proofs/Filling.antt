@@ -1,0 +1,369 @@
+-- A fill run whole: its source stays with the caller, and each step is that of a call which holds this source.
+use Rattle.std.proofs.Common.{◌≡◌, ℕ, zero, suc, ◌+◌, ◌-◌, ◌<◌, ◌≤◌, min, List, [], ◌∷◌, take, drop, length, Bool, true, false, Option, None, Some, ◌==◌, is_some, refl, sym, ap, subst, ◌∙◌, arith, length-append}
+use Rattle.std.proofs.lemmas.Bool.Decides.{nat_tests}
+use Rattle.std.proofs.lemmas.List.{drop-drop}
+use Rattle.piper_sides.specs.declared.calls.OpenCall.{OpenCall}
+use Rattle.piper_sides.specs.declared.calls.Side.TheVariants.{Writer}
+use Rattle.piper_sides.specs.declared.calls.Step.TheVariants.{Go}
+use Rattle.piper_sides.specs.declared.calls.SideState.TheVariants.{Busy}
+use Rattle.piper_sides.specs.declared.events.Answer.{Answer}
+use Rattle.piper_sides.specs.declared.scripted.SourceAct.{SourceAct}
+use Rattle.piper_sides.specs.declared.scripted.SourceAct.TheVariants as source
+use Rattle.piper_sides.specs.declared.scripted.TheConstants.{MOST_A_ROUND}
+use Rattle.piper_sides.specs.declared.table.Action.TheVariants as does
+use Rattle.piper_sides.specs.declared.table.Form.{Form}
+use Rattle.piper_sides.specs.declared.table.Form.TheVariants.{Try, Polling}
+use Rattle.piper_sides.specs.declared.table.Purpose.TheVariants as purpose
+use Rattle.piper_sides.specs.declared.table.AfterWrite.TheVariants as behind
+use Rattle.piper_sides.specs.declared.table.WritePlace.{WritePlace}
+use Rattle.piper_sides.specs.declared.table.WritePlace.TheVariants as on
+use Rattle.piper_sides.specs.Open.{is_granted}
+use Rattle.piper_sides.specs.Table.{Found, Next, moved, failed, goes_on, write_action, write_after, writer_is_open, writer_looked, writer_looked_again, writer_registered, writer_is_true, writer_moved, writer_rounds, reader_taken}
+use Rattle.piper_sides.specs.declared.polling.Context.{Context}
+use Rattle.piper_machine.specs.Pipe.{Pipe}
+use Rattle.piper_machine.specs.Sound.{IsSound}
+use Rattle.piper_machine.specs.Lend.{Lendable, lending}
+use Rattle.piper_machine.specs.Move.{with_waker}
+use Rattle.piper_machine.specs.Source.{bytes_of, is_failing, without, source_left}
+use Rattle.piper_machine.specs.Round.{given, found_of, unspent, left_of_source}
+use Rattle.piper_machine.specs.Refusal.{writer_state}
+use Rattle.piper_machine.specs.Action.{source_called}
+use Rattle.piper_machine.specs.Step.{stepped, fill_opened, call_after, source_after, round_left, round_answer, MayOffer}
+use Rattle.piper_machine.specs.Alone.{heard, is_filling, writer_alone}
+use Rattle.piper_machine.proofs.Alone.{writer_rest, writes_left}
+use Rattle.piper_machine.proofs.Copies.{WriterStands, fill_step, fill-rest}
+use Rattle.piper_machine.proofs.Falling.{fill-falls}
+use Rattle.piper_machine.proofs.Standing.{IsSettled, closes_round, writer-settled, writer-stands}
+use Rattle.piper_machine.proofs.Rounds.{HasOneWake, one_wake-room, one_wake-none}
+use Rattle.piper_machine.proofs.Sources.{source-called, without_none}
+
+-- the pipe of a call that holds this source
+abbrev pub giving : List SourceAct → Pipe → Pipe
+giving acts p = record p { source = acts }
+
+-- the waker that the call has taken, and calls next
+abbrev pub errand : WritePlace → OpenCall → Option ℕ
+errand (on.WakeReader next) c = c.taken
+errand place c = None
+
+abbrev pub WakesOne : WritePlace → Pipe → Type 0
+WakesOne place p = HasOneWake (with_waker p.woken (errand place p.writer_call)) p.reader_waker
+
+longer : (names : List ℕ) (waker : Option ℕ) → length names ≤ length (with_waker names waker)
+longer names None = omega arith
+longer names (Some name) = let long = length-append names (name ∷ []) in omega arith
+
+pub wake-room : (place : WritePlace) (p : Pipe) → WakesOne place p → length p.woken < 2
+wake-room place p wakes =
+    let few = one_wake-room (with_waker p.woken (errand place p.writer_call)) p.reader_waker wakes in
+    let names = longer p.woken (errand place p.writer_call) in
+    omega arith
+
+-- a step of a fill that gives no answer leads to a place of a fill, and a waker is called once
+abbrev IsKept : List ℕ → Option ℕ → Next WritePlace → OpenCall → Type 0
+IsKept woken waker next c = next.answer ≡ None → (is_filling next.place ≡ true) × HasOneWake (with_waker woken (errand next.place (call_after next.answer c))) waker
+
+module _ (woken : List ℕ) (waker : Option ℕ) (c : OpenCall) (one : HasOneWake woken waker) where
+  open-kept : (is_closed none : Bool) (form : Form) → IsKept woken waker (writer_is_open is_closed none (purpose.Copy form)) c
+  open-kept true none form goes = absurd (cc)
+  open-kept false true form goes = (refl, one)
+  open-kept false false Try goes = (refl, one)
+  open-kept false false (Polling drawn) goes = (refl, one)
+
+  loads-kept : (none : Bool) (form : Form) → IsKept woken waker (goes_on (writer_looked none (purpose.Copy form))) c
+  loads-kept true Try goes = (refl, one)
+  loads-kept true (Polling drawn) goes = (refl, one)
+  loads-kept false Try goes = (refl, one)
+  loads-kept false (Polling drawn) goes = (refl, one)
+
+  registers-kept : (granted : Bool) (form : Form) → IsKept woken waker (writer_registered granted (purpose.Copy form)) c
+  registers-kept true form goes = (refl, one)
+  registers-kept false form goes = absurd (cc)
+
+  again-kept : (none : Bool) (form : Form) → IsKept woken waker (goes_on (writer_looked_again none (purpose.Copy form))) c
+  again-kept true form goes = (refl, one)
+  again-kept false Try goes = (refl, one)
+  again-kept false (Polling drawn) goes = (refl, one)
+
+  takes-kept : (form : Form) → IsKept woken waker (writer_is_true (purpose.Copy form)) c
+  takes-kept Try goes = (refl, one)
+  takes-kept (Polling true) goes = (refl, one)
+  takes-kept (Polling false) goes = (refl, one)
+
+  moves-kept : (n : ℕ) (none : Bool) (form : Form) (sum : ℕ) → IsKept woken waker (writer_moved none n form sum) c
+  moves-kept n true form sum goes = absurd (cc)
+  moves-kept n false form sum goes = (refl, one)
+
+  gives-kept : (most : ℕ) (acts : List SourceAct) (form : Form) (sum capacity room : ℕ) → IsKept woken waker (write_after capacity room (on.CallSource form sum) (found_of (given most acts))) c
+  gives-kept most [] form sum capacity room = moves-kept 0 true form sum
+  gives-kept most (source.Fail ∷ acts) form sum capacity room = λ goes. absurd (cc)
+  gives-kept most (source.Bytes bytes ∷ acts) form sum capacity room = moves-kept (min most (length bytes)) (min most (length bytes) == 0) form sum
+
+  rounds-kept : (is_closed : Bool) (n : ℕ) (form : Form) (sum : ℕ) → IsKept woken waker (writer_rounds is_closed n form sum) c
+  rounds-kept true n form sum goes = absurd (cc)
+  rounds-kept false n form sum goes = (refl, one)
+
+wakes-kept : (name : Option ℕ) (form : Form) (sum : ℕ) (woken : List ℕ) (c : OpenCall) → HasOneWake woken name → IsKept woken None (reader_taken (behind.Round form sum) (is_some name)) (record c { taken = name })
+wakes-kept None form sum woken c one goes = (refl, one)
+wakes-kept (Some name) form sum woken c one goes = (refl, one)
+
+fill-kept : (place : WritePlace) (lent : List ℕ) (p : Pipe) → is_filling place ≡ true → closes_round place ≡ false → WakesOne place p
+    → let s = fill_step place lent p in s.answer ≡ None → (is_filling s.pipe.writer ≡ true) × WakesOne s.pipe.writer s.pipe
+fill-kept (on.LookClosed (purpose.Copy form)) lent p fills plain one goes = open-kept p.woken p.reader_waker p.writer_call one p.is_closed (p.room == 0) form goes
+fill-kept (on.LookHead (purpose.Copy form)) lent p fills plain one goes = loads-kept p.woken p.reader_waker p.writer_call one (p.capacity - length p.unread == 0) form goes
+fill-kept (on.LookRegister (purpose.Copy form)) lent p fills plain one goes = registers-kept p.woken p.reader_waker p.writer_call one (is_granted p.writer_call.context) form goes
+fill-kept (on.LookHeadAgain (purpose.Copy form)) lent p fills plain one goes = again-kept p.woken p.reader_waker p.writer_call one (p.capacity - length p.unread == 0) form goes
+fill-kept (on.LookClosedAgain (purpose.Copy form)) lent p fills plain one goes = absurd (cc)
+fill-kept (on.LookTake (purpose.Copy form)) lent p fills plain one goes = takes-kept p.woken p.reader_waker (record p.writer_call { taken = p.writer_waker }) one form goes
+fill-kept on.Yield lent p fills plain one goes = absurd (cc)
+fill-kept (on.CallSource form sum) lent p fills plain one goes = gives-kept p.woken p.reader_waker p.writer_call one (length lent) p.source form sum p.capacity p.room goes
+fill-kept (on.RoundClosed n form sum) lent p fills plain one goes = rounds-kept p.woken p.reader_waker p.writer_call one p.is_closed n form sum goes
+fill-kept (on.StoreTail n (behind.Round form sum)) lent p fills plain one goes = (refl, one)
+fill-kept (on.TakeReader (behind.Round form sum)) lent p fills plain one goes = wakes-kept p.reader_waker form sum p.woken p.writer_call one goes
+fill-kept (on.WakeReader (behind.Round form sum)) lent p fills plain one goes = (refl, one)
+fill-kept place lent p fills plain one goes = absurd (cc)
+
+-- a fill that was opened at p has come to u
+pub record Filling (p u : Pipe) : Type 0 where
+  pub fills : is_filling u.writer ≡ true
+  pub busy : writer_state u.writer ≡ Busy
+  pub plain : closes_round u.writer ≡ false
+  pub stands : WriterStands u.writer u
+  pub wakes : WakesOne u.writer u
+  pub rest : writer_alone p.writer p ≡ writer_alone u.writer u
+
+abbrev pub left_of : Pipe → ℕ
+left_of p = writes_left p.writer p
+
+-- what a step of it comes to: nearer to the answer, or the answer
+abbrev pub IsFilled : Pipe → Pipe → Option Answer → Pipe → Type 0
+IsFilled p u None r = Filling p r × (left_of r < left_of u)
+IsFilled p u (Some answer) r = writer_alone p.writer p ≡ record { answer = answer; pipe = r }
+
+filled-by : (p u : Pipe) (lent : List ℕ) (answer : Option Answer) → Filling p u → MayOffer u.writer u.source lent u → (fill_step u.writer lent u).answer ≡ answer → IsFilled p u answer (fill_step u.writer lent u).pipe
+filled-by p u lent None filling may is =
+    let s = fill_step u.writer lent u in
+    let kept = fill-kept u.writer lent u filling.fills filling.plain filling.wakes is in
+    let stands = writer-stands u.writer lent u filling.busy filling.plain filling.stands may in (
+      record {
+        fills = kept.0;
+        busy = subst (λ (a : Option Answer). IsSettled a (writer_state s.pipe.writer)) is (writer-settled u.writer lent u filling.busy filling.plain);
+        plain = stands.1;
+        stands = stands.0;
+        wakes = kept.1;
+        rest = filling.rest ∙ fill-rest u.writer lent u filling.fills filling.stands may ∙ ap (λ (a : Option Answer). writer_rest a s.pipe) is;
+      },
+      fill-falls u.writer lent u filling.fills filling.stands may is,
+    )
+filled-by p u lent (Some answer) filling may is =
+    let s = fill_step u.writer lent u in
+    filling.rest ∙ fill-rest u.writer lent u filling.fills filling.stands may ∙ ap (λ (a : Option Answer). writer_rest a s.pipe) is
+
+-- a step that does not call the source leaves it as it is
+may-go : (place : WritePlace) (acts : List SourceAct) (lent : List ℕ) (p : Pipe) → (write_action place ≡ does.CallSource → ⊥) → MayOffer place acts lent p
+may-go (on.CallSource form sum) acts lent p other = absurd (other refl)
+may-go place acts lent p other = tt
+
+pub record IsApart (place : WritePlace) (lent : List ℕ) (acts : List SourceAct) (p : Pipe) : Type 0 where
+  pub answer : (fill_step place lent (giving acts p)).answer ≡ (fill_step place lent p).answer
+  pub pipe : (fill_step place lent (giving acts p)).pipe ≡ giving (source_after (fill_step place lent p).answer acts) (fill_step place lent p).pipe
+  pub source : (fill_step place lent p).pipe.source ≡ source_after (fill_step place lent p).answer p.source
+
+apart : (place : WritePlace) (lent : List ℕ) (acts : List SourceAct) (p : Pipe) → (write_action place ≡ does.CallSource → ⊥) → IsApart place lent acts p
+apart (on.CallSource form sum) lent acts p other = absurd (other refl)
+apart (on.StoreClosed behind.Answer) lent acts p other = record { answer = refl; pipe = refl; source = refl }
+apart (on.StoreClosed behind.Drop) lent acts p other = record { answer = refl; pipe = refl; source = refl }
+apart (on.StoreClosed behind.WakeWriter) lent acts p other = record { answer = refl; pipe = refl; source = refl }
+apart (on.StoreClosed (behind.Round form sum)) lent acts p other = record { answer = refl; pipe = refl; source = refl }
+apart place lent acts p other = record { answer = refl; pipe = refl; source = refl }
+
+-- the same of a pipe whose call holds no source
+abbrev pub IsGoneOn : Pipe → List SourceAct → Pipe → Option Answer → Pipe → Type 0
+IsGoneOn p acts q None r = Filling p (giving acts r) × (left_of r < left_of q)
+IsGoneOn p acts q (Some answer) r = writer_alone p.writer p ≡ record { answer = answer; pipe = r }
+
+gone-on : (p q r : Pipe) (acts : List SourceAct) (answer : Option Answer) (s : Pipe) → s ≡ giving (source_after answer acts) r → r.source ≡ source_after answer r.source → IsFilled p (giving acts q) answer s → IsGoneOn p acts q answer r
+gone-on p q r acts None s is kept filled = subst (λ (v : Pipe). Filling p v × (left_of v < left_of q)) is filled
+gone-on p q r acts (Some answer) s is kept filled = filled ∙ ap (λ (v : Pipe). record { answer = answer; pipe = v }) (is ∙ λ j. record r { source = sym kept j })
+
+settled-source : (answer : Option Answer) (acts held : List SourceAct) → acts ≡ source_after answer held → acts ≡ source_after answer acts
+settled-source None acts held is = refl
+settled-source (Some answer) acts held is = is
+
+-- a step that the machine makes with no source of its own: the waker that it calls is heard, and then it goes
+pub goes-on : (p q h r : Pipe) (acts : List SourceAct) (answer : Option Answer) → Filling p (giving acts q) → (write_action q.writer ≡ does.CallSource → ⊥) → h ≡ heard Writer (write_action q.writer) q
+    → answer ≡ (stepped r.lent (Go Writer) h).answer → r ≡ (stepped r.lent (Go Writer) h).pipe → IsGoneOn p acts q answer r
+goes-on p q h r acts answer filling other hears answers after =
+    let lent = r.lent in
+    let s = fill_step q.writer lent q in
+    let answer_is : answer ≡ s.answer = answers ∙ ap (λ (v : Pipe). (stepped lent (Go Writer) v).answer) hears in
+    let pipe_is : r ≡ s.pipe = after ∙ ap (λ (v : Pipe). (stepped lent (Go Writer) v).pipe) hears in
+    let same = apart q.writer lent acts q other in
+    let u = giving acts q in
+    let filled = filled-by p u lent answer filling (may-go q.writer acts lent u other) (same.answer ∙ sym answer_is) in
+    let is : (fill_step q.writer lent u).pipe ≡ giving (source_after answer acts) r = same.pipe ∙ ap (λ (a : Option Answer). giving (source_after a acts) s.pipe) (sym answer_is) ∙ ap (giving (source_after answer acts)) (sym pipe_is) in
+    let kept : r.source ≡ source_after answer q.source = ap (λ (v : Pipe). v.source) pipe_is ∙ same.source ∙ ap (λ (a : Option Answer). source_after a q.source) (sym answer_is) in
+    gone-on p q r acts answer (fill_step q.writer lent u).pipe is (settled-source answer r.source q.source kept) filled
+
+-- a call of the source
+gives : (most : ℕ) (acts : List SourceAct) (n : ℕ) → is_failing acts ≡ false → n ≡ min most (length (bytes_of acts)) → found_of (given most acts) ≡ moved n
+gives most [] n works is = let none : n ≡ 0 = omega arith in ap moved (sym none)
+gives most (source.Fail ∷ acts) n works is = absurd (cc)
+gives most (source.Bytes bytes ∷ acts) n works is = ap moved (sym is)
+
+may-call : (place : WritePlace) (acts : List SourceAct) (lent : List ℕ) (p : Pipe) → Lendable MOST_A_ROUND p (length lent) → MayOffer place acts lent p
+may-call (on.CallSource form sum) [] lent p lendable = tt
+may-call (on.CallSource form sum) (source.Fail ∷ acts) lent p lendable = tt
+may-call (on.CallSource form sum) (source.Bytes [] ∷ acts) lent p lendable = tt
+may-call (on.CallSource form sum) (source.Bytes (byte ∷ bytes) ∷ acts) lent p lendable = lendable
+may-call place acts lent p lendable = tt
+
+pub record IsCalled (place : WritePlace) (lent : List ℕ) (p : Pipe) : Type 0 where
+  pub answer : (fill_step place lent p).answer ≡ round_answer (found_of (given (length lent) p.source)) (record p { writer = place })
+  pub pipe : (fill_step place lent p).pipe ≡ round_left (found_of (given (length lent) p.source)) (source_called (lending lent (record p { writer = place })))
+
+call-step : (place : WritePlace) (lent : List ℕ) (p : Pipe) → write_action place ≡ does.CallSource → IsCalled place lent p
+call-step (on.CallSource form sum) lent p calls = record { answer = refl; pipe = refl }
+call-step (on.StoreClosed behind.Answer) lent p calls = absurd (cc)
+call-step (on.StoreClosed behind.Drop) lent p calls = absurd (cc)
+call-step (on.StoreClosed behind.WakeWriter) lent p calls = absurd (cc)
+call-step (on.StoreClosed (behind.Round form sum)) lent p calls = absurd (cc)
+call-step place lent p calls = absurd (cc)
+
+-- what a call of the source finds in w, which was lent to it, leads to r
+pub record IsRound (found : Found) (w : Pipe) (answer : Option Answer) (r : Pipe) : Type 0 where
+  pub answer_is : answer ≡ round_answer found w
+  pub after : r ≡ round_left found w
+
+pub called : (acts rest : List SourceAct) (found : Found) (p q w r : Pipe) (answer : Option Answer) → write_action q.writer ≡ does.CallSource → Filling p (giving acts q)
+    → Lendable MOST_A_ROUND q (length w.lent) → w ≡ lending w.lent q → giving rest w ≡ source_called (lending w.lent (giving acts q)) → found_of (given (length w.lent) acts) ≡ found → IsRound found w answer r → IsGoneOn p rest q answer r
+called acts rest found p q w r answer calls filling lendable lent given_is found_is round =
+    let u = giving acts q in
+    let step = call-step q.writer w.lent u calls in
+    let answer_is : (fill_step q.writer w.lent u).answer ≡ answer = step.answer ∙ ap (λ (f : Found). round_answer f u) found_is ∙ ap (round_answer found) (sym lent) ∙ sym round.answer_is in
+    let may = may-call q.writer acts w.lent u (record { at_most = lendable.at_most; at_least = lendable.at_least; shut = lendable.shut }) in
+    let pipe : (fill_step q.writer w.lent u).pipe ≡ giving (source_after answer rest) r =
+    step.pipe
+    ∙ ap (λ (f : Found). round_left f (source_called (lending w.lent u))) found_is
+    ∙ ap (round_left found) (sym given_is)
+    ∙ ap (λ (a : Option Answer). giving (source_after a rest) (round_left found w)) (sym round.answer_is)
+    ∙ ap (giving (source_after answer rest)) (sym round.after) in
+    let kept : r.source ≡ source_after answer w.source = ap (λ (v : Pipe). v.source) round.after ∙ ap (λ (a : Option Answer). source_after a w.source) (sym round.answer_is) in
+    gone-on p q r rest answer (fill_step q.writer w.lent u).pipe pipe (settled-source answer r.source w.source kept) (filled-by p u w.lent answer filling may answer_is)
+
+-- a source that does not fail gives n bytes
+pub gave : (acts : List SourceAct) (n : ℕ) (p q w r : Pipe) (answer : Option Answer) → is_failing acts ≡ false → write_action q.writer ≡ does.CallSource → Filling p (giving acts q)
+    → Lendable MOST_A_ROUND q (length w.lent) → w ≡ lending w.lent q → n ≡ min (length w.lent) (length (bytes_of acts)) → take n w.lent ≡ take n (bytes_of acts) → IsRound (moved n) w answer r → IsGoneOn p (left_of_source n acts) q answer r
+gave acts n p q w r answer works calls filling lendable lent count front round =
+    called acts (left_of_source n acts) (moved n) p q w r answer calls filling lendable lent
+    (source-called (giving acts q) w n q.source (left_of_source n acts) lent count front refl)
+    (gives (length w.lent) acts n works count) round
+
+-- what is left of a slice of which so many bytes were given
+abbrev pub slice_left : ℕ → List ℕ → List SourceAct
+slice_left zero bytes = source.Bytes bytes ∷ []
+slice_left (suc n) bytes = unspent (drop (suc n) bytes) []
+
+slice_left-some : (n : ℕ) (bytes : List ℕ) → 1 ≤ n → slice_left n bytes ≡ unspent (drop n bytes) []
+slice_left-some zero bytes some = absurd (omega arith)
+slice_left-some (suc n) bytes some = refl
+
+unspent-none : (n : ℕ) → unspent (drop n []) [] ≡ []
+unspent-none zero = refl
+unspent-none (suc n) = refl
+
+unspent-more : (n : ℕ) (bytes : List ℕ) → left_of_source n (unspent bytes []) ≡ unspent (drop n bytes) []
+unspent-more n [] = sym (unspent-none n)
+unspent-more n (byte ∷ bytes) = refl
+
+slice_left-more : (before n : ℕ) (bytes : List ℕ) → 1 ≤ n → left_of_source n (slice_left before bytes) ≡ slice_left (before + n) bytes
+slice_left-more zero n bytes some = let same : n ≡ 0 + n = omega arith in sym (slice_left-some n bytes some) ∙ ap (λ k. slice_left k bytes) same
+slice_left-more (suc k) n bytes some =
+    unspent-more n (drop (suc k) bytes)
+    ∙ ap (λ (xs : List ℕ). unspent xs []) (drop-drop n (suc k) bytes)
+    ∙ sym (slice_left-some (suc k + n) bytes (omega arith))
+
+unspent-front : (bytes : List ℕ) → bytes_of (unspent bytes []) ≡ bytes
+unspent-front [] = refl
+unspent-front (byte ∷ bytes) = refl
+
+slice-front : (before : ℕ) (bytes : List ℕ) → bytes_of (slice_left before bytes) ≡ drop before bytes
+slice-front zero bytes = refl
+slice-front (suc k) bytes = unspent-front (drop (suc k) bytes)
+
+unspent-works : (bytes : List ℕ) → is_failing (unspent bytes []) ≡ false
+unspent-works [] = refl
+unspent-works (byte ∷ bytes) = refl
+
+slice-works : (before : ℕ) (bytes : List ℕ) → is_failing (slice_left before bytes) ≡ false
+slice-works zero bytes = refl
+slice-works (suc k) bytes = unspent-works (drop (suc k) bytes)
+
+-- a round that gives no answer has moved some bytes
+moves-some : (none : Bool) (n : ℕ) (form : Form) (sum : ℕ) → (n == 0) ≡ none → (writer_moved none n form sum).answer ≡ None → 1 ≤ n
+moves-some true n form sum test goes = absurd (cc)
+moves-some false n form sum test goes = grind (arith, nat_tests)
+
+round-some : (place : WritePlace) (n capacity room : ℕ) → write_action place ≡ does.CallSource → (write_after capacity room place (moved n)).answer ≡ None → 1 ≤ n
+round-some (on.CallSource form sum) n capacity room calls goes = moves-some (n == 0) n form sum refl goes
+round-some (on.StoreClosed behind.Answer) n capacity room calls goes = absurd (cc)
+round-some (on.StoreClosed behind.Drop) n capacity room calls goes = absurd (cc)
+round-some (on.StoreClosed behind.WakeWriter) n capacity room calls goes = absurd (cc)
+round-some (on.StoreClosed (behind.Round form sum)) n capacity room calls goes = absurd (cc)
+round-some place n capacity room calls goes = absurd (cc)
+
+regiven : (acts rest : List SourceAct) (p q r : Pipe) (answer : Option Answer) → (answer ≡ None → acts ≡ rest) → IsGoneOn p acts q answer r → IsGoneOn p rest q answer r
+regiven acts rest p q r None same gone = subst (λ (left : List SourceAct). Filling p (giving left r) × (left_of r < left_of q)) (same refl) gone
+regiven acts rest p q r (Some answer) same gone = gone
+
+-- the next bytes of a slice
+pub slice-gave : (before n : ℕ) (bytes : List ℕ) (p q w r : Pipe) (answer : Option Answer) → write_action q.writer ≡ does.CallSource → Filling p (giving (slice_left before bytes) q)
+    → Lendable MOST_A_ROUND q (length w.lent) → w ≡ lending w.lent q → n ≡ min (length w.lent) (length (drop before bytes)) → take n w.lent ≡ take n (drop before bytes) → IsRound (moved n) w answer r → IsGoneOn p (slice_left (before + n) bytes) q answer r
+slice-gave before n bytes p q w r answer calls filling lendable lent count front round =
+    let same : drop before bytes ≡ bytes_of (slice_left before bytes) = sym (slice-front before bytes) in
+    let writer : w.writer ≡ q.writer = ap (λ (v : Pipe). v.writer) lent in
+    regiven (left_of_source n (slice_left before bytes)) (slice_left (before + n) bytes) p q r answer
+    (λ none. slice_left-more before n bytes (round-some w.writer n w.capacity w.room (ap write_action writer ∙ calls) (sym round.answer_is ∙ none)))
+    (gave (slice_left before bytes) n p q w r answer (slice-works before bytes) calls filling lendable lent (count ∙ ap (λ (xs : List ℕ). min (length w.lent) (length xs)) same) (front ∙ ap (take n) same) round)
+
+-- a fill is opened
+pub opened : (cx : Option Context) (acts : List SourceAct) (p q : Pipe) → IsSound p → p.woken ≡ [] → q ≡ fill_opened cx [] p → Filling (fill_opened cx acts p) (giving acts q)
+opened cx acts p q sound unwoken is =
+    subst (λ (v : Pipe). Filling (fill_opened cx acts p) (giving acts v)) (sym is) (record {
+      fills = refl;
+      busy = refl;
+      plain = refl;
+      stands = record { unread = sound.unread; start = sound.start; room = sound.room; store = omega arith; shut = sound.closed; unclosed = λ saw. absurd (cc) };
+      wakes = subst (λ (names : List ℕ). HasOneWake names p.reader_waker) (sym unwoken) (one_wake-none p.reader_waker);
+      rest = refl;
+    })
+
+-- a script of which some acts are spent
+pub without-failing : (before : ℕ) (acts : List SourceAct) → is_failing (without before acts) ≡ is_failing acts
+without-failing before [] = refl
+without-failing before (source.Fail ∷ acts) = refl
+without-failing before (source.Bytes bytes ∷ acts) = refl
+
+pub opened-script : (cx : Option Context) (acts : List SourceAct) (p q : Pipe) → IsSound p → p.woken ≡ [] → q ≡ fill_opened cx [] p → Filling (fill_opened cx acts p) (giving (source_left 0 0 acts) q)
+opened-script cx acts p q sound unwoken is = subst (λ (left : List SourceAct). Filling (fill_opened cx acts p) (giving left q)) (sym (without_none acts)) (opened cx acts p q sound unwoken is)
+
+-- a source that fails
+fails : (most : ℕ) (acts : List SourceAct) → is_failing acts ≡ true → found_of (given most acts) ≡ failed
+fails most [] failing = absurd (cc)
+fails most (source.Fail ∷ acts) failing = refl
+fails most (source.Bytes bytes ∷ acts) failing = absurd (cc)
+
+pub failed-ends : (place : WritePlace) (capacity room : ℕ) → write_action place ≡ does.CallSource → (write_after capacity room place failed).answer ≡ None → ⊥
+failed-ends (on.CallSource form sum) capacity room calls goes = absurd (cc)
+failed-ends (on.StoreClosed behind.Answer) capacity room calls goes = absurd (cc)
+failed-ends (on.StoreClosed behind.Drop) capacity room calls goes = absurd (cc)
+failed-ends (on.StoreClosed behind.WakeWriter) capacity room calls goes = absurd (cc)
+failed-ends (on.StoreClosed (behind.Round form sum)) capacity room calls goes = absurd (cc)
+failed-ends place capacity room calls goes = absurd (cc)
+
+pub gave-up : (acts : List SourceAct) (n : ℕ) (p q w r : Pipe) (answer : Option Answer) → is_failing acts ≡ true → write_action q.writer ≡ does.CallSource → Filling p (giving acts q)
+    → Lendable MOST_A_ROUND q (length w.lent) → w ≡ lending w.lent q → n ≡ min (length w.lent) (length (bytes_of acts)) → take n w.lent ≡ take n (bytes_of acts) → IsRound failed w answer r → IsGoneOn p (left_of_source n acts) q answer r
+gave-up acts n p q w r answer failing calls filling lendable lent count front round =
+    called acts (left_of_source n acts) failed p q w r answer calls filling lendable lent
+    (source-called (giving acts q) w n q.source (left_of_source n acts) lent count front refl)
+    (fails (length w.lent) acts failing) round
