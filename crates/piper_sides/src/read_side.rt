@@ -156,27 +156,6 @@ impl ReadSide {
         self.place
     }
 
-    /// Takes in where the writer's index stands.
-    pub fn refresh(&mut self, tail: usize)
-        requires idle { self.old.place ≡ ReadPlace.Idle }
-        requires index { tail < 2 * self.old.capacity }
-        requires within { distance self.old.capacity self.old.head tail ≤ self.old.capacity }
-        ensures after { self.new ≡ record self.old { tail = tail } }
-        ensures sound { IsReading self.new }
-    {
-        self.tail = tail;
-    }
-
-    /// Passes `n` bytes that stand in one piece.
-    pub fn consume(&mut self, n: usize)
-        requires idle { self.old.place ≡ ReadPlace.Idle }
-        requires within { n ≤ peekable_of self.old }
-        ensures after { self.new ≡ record self.old { head = advanced self.old.capacity self.old.head n } }
-        ensures sound { IsReading self.new }
-    {
-        self.head = index::advance(self.capacity, self.head, n);
-    }
-
     /// Opens a query on the number of unread bytes.
     pub fn begin_query(&mut self, query: Query)
         requires { self.old.place ≡ ReadPlace.Idle }

@@ -50,9 +50,12 @@ fn names_are_kept_in_order(rt: HostRuntime) {
 fn a_reader_knows_what_it_saw(rt: HostRuntime) {
     let mut side = ReadSide::new(8);
     assert_eq!(rt; side.known(), 0);
-    side.refresh(5);
+    side.begin_look(Purpose::Poll);
+    assert_eq!(rt; side.refreshed(5), None);
     assert_eq!(rt; (side.known(), side.peekable()), (5, 5));
-    side.consume(3);
+    assert_eq!(rt; side.took_own(), Some(Answer::Poll(Polled::Ready(true))));
+    side.begin_consume(3);
+    assert_eq!(rt; side.stored_head(3), None);
     assert_eq!(rt; (side.head(), side.front(), side.known()), (3, 3, 2));
     assert_eq!(rt; side.capacity(), 8);
 }
@@ -62,11 +65,12 @@ fn a_writer_is_lent_what_is_free(rt: HostRuntime) {
     let mut side = WriteSide::new(8);
     assert_eq!(rt; side.lendable(5), 5);
     assert_eq!(rt; side.lend(5), 5);
-    side.publish(3);
+    side.begin_produced(3);
+    assert_eq!(rt; side.stored_tail(3), None);
     assert_eq!(rt; (side.tail(), side.front(), side.lent()), (3, 3, 2));
+    assert_eq!(rt; side.took_reader(false), Some(Answer::Done));
     side.unlend();
-    side.refresh(2);
-    assert_eq!(rt; (side.room(), side.lent()), (7, 0));
+    assert_eq!(rt; (side.room(), side.lent()), (5, 0));
 }
 
 #[test]
@@ -151,7 +155,9 @@ fn a_reader_asks_consumes_and_is_dropped(rt: HostRuntime) {
     assert_eq!(rt; side.loaded_tail(8), Some(Answer::Flag(true)));
     side.begin_is_closed();
     assert_eq!(rt; side.loaded_closed(true), Some(Answer::Flag(true)));
-    side.refresh(3);
+    side.begin_look(Purpose::Poll);
+    assert_eq!(rt; side.refreshed(3), None);
+    assert_eq!(rt; side.took_own(), Some(Answer::Poll(Polled::Ready(true))));
     side.begin_consume(2);
     assert_eq!(rt; side.stored_head(2), None);
     assert_eq!(rt; side.took_writer(true), None);
@@ -170,7 +176,9 @@ fn a_reader_asks_consumes_and_is_dropped(rt: HostRuntime) {
 fn a_writer_waits_for_room_and_finds_it(rt: HostRuntime) {
     let mut side = WriteSide::new(2);
     side.lend(2);
-    side.publish(2);
+    side.begin_produced(2);
+    assert_eq!(rt; side.stored_tail(2), None);
+    assert_eq!(rt; side.took_reader(false), Some(Answer::Done));
     side.begin_look(Purpose::Poll);
     assert_eq!(rt;
         (side.next(), side.loaded_closed(false)),

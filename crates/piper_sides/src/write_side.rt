@@ -141,18 +141,6 @@ impl WriteSide {
         }
     }
 
-    /// Takes in where the reader's index stands, at a side that lends nothing.
-    pub fn refresh(&mut self, head: usize)
-        requires idle { self.old.place ≡ WritePlace.Idle }
-        requires index { head < 2 * self.old.capacity }
-        requires within { distance self.old.capacity head self.old.tail ≤ self.old.capacity }
-        requires lent { self.old.lent ≤ self.old.capacity - distance self.old.capacity head self.old.tail }
-        ensures after { self.new ≡ record self.old { head = head } }
-        ensures sound { IsWriting self.new }
-    {
-        self.head = head;
-    }
-
     /// How many places are lent where `most` are asked for.
     pub fn lendable(&self, most: usize) -> usize
         ensures value { result ≡ lend_length most self.now }
@@ -191,17 +179,6 @@ impl WriteSide {
         ensures sound { IsWriting self.new }
     {
         self.lent = 0;
-    }
-
-    /// Passes the first `n` places of what is lent.
-    pub fn publish(&mut self, n: usize)
-        requires idle { self.old.place ≡ WritePlace.Idle }
-        requires within { n ≤ self.old.lent }
-        ensures after { self.new ≡ record self.old { tail = advanced self.old.capacity self.old.tail n; lent = self.old.lent - n } }
-        ensures sound { IsWriting self.new }
-    {
-        self.tail = index::advance(self.capacity, self.tail, n);
-        self.lent -= n;
     }
 
     /// Opens a query on the number of unread bytes.
