@@ -1,5 +1,5 @@
 //! Bytes move through a ring, on one thread in turn or between two.
-ghost use Rattle.std.specs.Prelude.{length, ◌≡◌};
+ghost use Rattle.std.specs.Prelude.{length, ◌≡◌, ◌≤◌};
 
 use piper::{ReadEnd, WriteEnd};
 use rtrb::{Consumer, Producer};
@@ -9,16 +9,20 @@ use std::thread;
 /// Up to so many bytes are copied without a call.
 const FEW: usize = 256;
 
+/// An end that finds nothing to do lets the other thread go on as often as pieces of its length make up so many bytes.
+const AHEAD: usize = 512;
+
+/// At most so often.
+const MOST_YIELDS: usize = 128;
+
 /// How bytes are copied to and from the slices that our ring lends. The rival copies by itself, in either case by a loop.
 pub trait Copying {
-    fn copy_in(to: &mut [u8], from: &[u8])
-        requires { length from.now ≡ length to.old };
-
-    fn copy_out(to: &mut [u8], from: &[u8])
-        requires { length from.now ≡ length to.old };
+    fn copy(to: &mut [u8], from: &[u8])
+        requires { length from.now ≡ length to.old }
+        ensures { to.new ≡ from.now };
 }
 
-/// By a loop, which the compiler turns into wide moves. Between two threads that is faster than the C library's copy.
+/// By a loop, which the compiler turns into wide moves, and a single byte without one. Between two threads that is faster than the C library's copy.
 pub struct ByLoop;
 
 /// By the C library, which is faster on one thread, and few bytes by a loop.
@@ -26,39 +30,29 @@ pub struct ByLibrary;
 
 impl Copying for ByLoop {
     #[inline(always)]
-    fn copy_in(to: &mut [u8], from: &[u8]) {
-        copy(to, from);
-    }
-
-    // With a short way for a single byte: on bytes one by one the reader is the slower of two threads, and the other end would always be at its heels.
-    #[inline(always)]
-    fn copy_out(to: &mut [u8], from: &[u8]) {
+    fn copy(to: &mut [u8], from: &[u8]) {
         if to.len() == 1 {
             to[0] = from[0];
         } else {
-            copy(to, from);
+            copy_each(to, from);
         }
     }
 }
 
 impl Copying for ByLibrary {
     #[inline(always)]
-    fn copy_in(to: &mut [u8], from: &[u8]) {
+    fn copy(to: &mut [u8], from: &[u8]) {
         if to.len() <= FEW {
-            copy(to, from);
+            copy_each(to, from);
         } else {
             copy_many(to, from);
         }
     }
-
-    #[inline(always)]
-    fn copy_out(to: &mut [u8], from: &[u8]) {
-        Self::copy_in(to, from);
-    }
 }
 
-fn copy(to: &mut [u8], from: &[u8])
+fn copy_each(to: &mut [u8], from: &[u8])
     requires { length from.now ≡ length to.old }
+    ensures { to.new ≡ from.now }
 {
     for i in 0..from.len() {
         to[i] = from[i];
@@ -69,28 +63,32 @@ fn copy(to: &mut [u8], from: &[u8])
 #[inline(never)]
 fn copy_cut(to: &mut [u8], from: &[u8])
     requires { length from.now ≡ length to.old }
+    ensures { to.new ≡ from.now }
 {
-    copy(to, from);
+    copy_each(to, from);
 }
 
 /// The C library's copy, out of the way of whole pieces of few bytes.
 #[inline(never)]
 fn copy_many(to: &mut [u8], from: &[u8])
     requires { length from.now ≡ length to.old }
+    ensures { to.new ≡ from.now }
 {
     to.copy_from_slice(from);
 }
 
 /// Where bytes are put in. `put` and `get` are inlined for both rings, so that neither pays for a call.
 pub trait Input {
-    /// Puts as many of the bytes in as fit in one piece.
-    fn put<C: Copying>(&mut self, bytes: &[u8]) -> usize;
+    /// Puts as many of the bytes in as fit in one piece, and answers how many.
+    fn put<C: Copying>(&mut self, bytes: &[u8]) -> usize
+        ensures { result ≤ length bytes.now };
 }
 
 /// Where bytes come out.
 pub trait Output {
-    /// Copies as many bytes out as stand in one piece and fit.
-    fn get<C: Copying>(&mut self, place: &mut [u8]) -> usize;
+    /// Copies as many bytes out as stand in one piece and fit, and answers how many.
+    fn get<C: Copying>(&mut self, place: &mut [u8]) -> usize
+        ensures { result ≤ length place.old };
 }
 
 impl Input for WriteEnd {
@@ -101,7 +99,7 @@ impl Input for WriteEnd {
         let n = buf.len();
         // A whole piece has a branch of its own: there the count is known before the ring's indices are.
         if n == bytes.len() {
-            C::copy_in(buf, bytes);
+            C::copy(buf, bytes);
             self.produce(bytes.len());
         } else if n != 0 {
             copy_cut(buf, &bytes[..n]);
@@ -119,7 +117,7 @@ impl Output for ReadEnd {
         let n = piece.len();
         // As in `put`.
         if place.len() <= n {
-            C::copy_out(place, &piece[..place.len()]);
+            C::copy(place, &piece[..place.len()]);
             self.consume(place.len());
             return place.len();
         }
@@ -179,7 +177,7 @@ pub fn put_all<I: Input + Drop>(rt: &impl Wait, mut input: I, source: &[u8], tot
         let n = input.put::<ByLoop>(&source[..left.min(source.len())]);
         left = left.saturating_sub(n);
         if n == 0 {
-            thread::yield_now();
+            let_ahead(source.len());
         }
     }
 }
@@ -201,10 +199,19 @@ pub fn get_all<O: Output + Drop>(
         left = left.saturating_sub(n);
         checksum = add_piece(checksum, place, n);
         if n == 0 {
-            thread::yield_now();
+            let_ahead(place.len());
         }
     }
     unreachable!()
+}
+
+/// Lets the other thread go on for a while, longer where pieces are short. An end that came back at once would stand at the other's heels, and then both wait for the same cache line at each piece.
+#[cold]
+#[inline(never)]
+fn let_ahead(chunk: usize) {
+    for _ in 0..(AHEAD / chunk.max(1)).clamp(1, MOST_YIELDS) {
+        thread::yield_now();
+    }
 }
 
 /// The checksum after a piece of `n` bytes: its length times its first byte comes to it.
