@@ -1,5 +1,6 @@
 //! Bytes move in and out in turn, at one owner: through the machine, and by plain copies beside it.
-ghost use Rattle.std.specs.Prelude.{◌<◌};
+ghost use Rattle.std.specs.Prelude.{◌<◌, ◌≡◌};
+ghost use Rattle.piper_machine.specs.Copy.{count_of};
 
 use crate::rings::add_piece;
 use piper_machine::calls::SideState;
@@ -39,7 +40,10 @@ fn drain(machine: &mut Machine, place: &mut [u8]) -> usize {
     }
 }
 
-fn moved(answer: Polled<usize>) -> usize {
+// How many bytes a call moved that answered so.
+fn moved(answer: Polled<usize>) -> usize
+    ensures { result ≡ count_of answer }
+{
     match answer {
         Polled::Ready(n) => n,
         _ => 0,

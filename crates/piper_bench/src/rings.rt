@@ -1,5 +1,5 @@
 //! Bytes move through a ring, on one thread in turn or between two.
-ghost use Rattle.std.specs.Prelude.{length, ◌≡◌, ◌≤◌};
+ghost use Rattle.std.specs.Prelude.{length, slice_index_or, ◌≡◌, ◌≤◌, ◌+◌, ◌*◌, ◌%◌, ◌^◌};
 
 use piper::{ReadEnd, WriteEnd};
 use rtrb::{Consumer, Producer};
@@ -215,7 +215,9 @@ fn let_ahead(chunk: usize) {
 }
 
 /// The checksum after a piece of `n` bytes: its length times its first byte comes to it.
-pub fn add_piece(checksum: u64, place: &[u8], n: usize) -> u64 {
+pub fn add_piece(checksum: u64, place: &[u8], n: usize) -> u64
+    ensures { result ≡ (checksum + n * slice_index_or place.now 0 0) % 2 ^ 64 }
+{
     match place.first() {
         Some(first) => checksum.wrapping_add((n as u64).wrapping_mul(*first as u64)),
         None => checksum,
