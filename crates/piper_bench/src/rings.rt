@@ -17,12 +17,16 @@ const MOST_YIELDS: usize = 128;
 
 /// How bytes are copied to and from the slices that our ring lends. The rival copies by itself, in either case by a loop.
 pub trait Copying {
-    fn copy(to: &mut [u8], from: &[u8])
+    fn copy_in(to: &mut [u8], from: &[u8])
+        requires { length from.now ≡ length to.old }
+        ensures { to.new ≡ from.now };
+
+    fn copy_out(to: &mut [u8], from: &[u8])
         requires { length from.now ≡ length to.old }
         ensures { to.new ≡ from.now };
 }
 
-/// By a loop, which the compiler turns into wide moves, and a single byte without one. Between two threads that is faster than the C library's copy.
+/// By a loop, which the compiler turns into wide moves. Between two threads that is faster than the C library's copy.
 pub struct ByLoop;
 
 /// By the C library, which is faster on one thread, and few bytes by a loop.
@@ -30,7 +34,13 @@ pub struct ByLibrary;
 
 impl Copying for ByLoop {
     #[inline(always)]
-    fn copy(to: &mut [u8], from: &[u8]) {
+    fn copy_in(to: &mut [u8], from: &[u8]) {
+        copy_each(to, from);
+    }
+
+    // With a short way for a single byte: on bytes one by one the reader is the slower of two threads.
+    #[inline(always)]
+    fn copy_out(to: &mut [u8], from: &[u8]) {
         if to.len() == 1 {
             to[0] = from[0];
         } else {
@@ -41,12 +51,17 @@ impl Copying for ByLoop {
 
 impl Copying for ByLibrary {
     #[inline(always)]
-    fn copy(to: &mut [u8], from: &[u8]) {
+    fn copy_in(to: &mut [u8], from: &[u8]) {
         if to.len() <= FEW {
             copy_each(to, from);
         } else {
             copy_many(to, from);
         }
+    }
+
+    #[inline(always)]
+    fn copy_out(to: &mut [u8], from: &[u8]) {
+        Self::copy_in(to, from);
     }
 }
 
@@ -99,7 +114,7 @@ impl Input for WriteEnd {
         let n = buf.len();
         // A whole piece has a branch of its own: there the count is known before the ring's indices are.
         if n == bytes.len() {
-            C::copy(buf, bytes);
+            C::copy_in(buf, bytes);
             self.produce(bytes.len());
         } else if n != 0 {
             copy_cut(buf, &bytes[..n]);
@@ -117,7 +132,7 @@ impl Output for ReadEnd {
         let n = piece.len();
         // As in `put`.
         if place.len() <= n {
-            C::copy(place, &piece[..place.len()]);
+            C::copy_out(place, &piece[..place.len()]);
             self.consume(place.len());
             return place.len();
         }
