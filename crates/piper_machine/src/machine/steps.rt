@@ -46,34 +46,43 @@ fn is_yield_granted(context: Option<Context>) -> bool
     }
 }
 
-// A call that has answered holds nothing.
-fn settle(call: &mut OpenCall, answer: Option<Answer>)
-    ensures after { call.new ≡ call_after answer call.old }
-    ensures empty { IsSome answer → call.new ≡ no_call }
+// A call of the reader that has answered holds nothing, and its drain fills nothing more.
+fn settle_reader(
+    call: &mut OpenCall,
+    destination: &mut Destination,
+    answer: Option<Answer>,
+) -> Option<Answer>
+    ensures answer { result ≡ answer }
+    ensures call { call.new ≡ call_after answer call.old }
+    ensures destination { destination.new ≡ destination_after answer destination.old }
+    ensures holds_nothing { IsSome answer → call.new ≡ no_call }
+    ensures fills_nothing { IsSome answer → destination.new ≡ Destination.Slice 0 }
 {
     if answer.is_some() {
         *call = OpenCall::none();
-    }
-}
-
-// A drain that has answered fills nothing more.
-fn settle_destination(destination: &mut Destination, answer: Option<Answer>)
-    ensures after { destination.new ≡ destination_after answer destination.old }
-    ensures empty { IsSome answer → destination.new ≡ Destination.Slice 0 }
-{
-    if answer.is_some() {
         *destination = Destination::Slice(0);
     }
+    answer
 }
 
-// A fill that has answered gives nothing more.
-fn settle_source(alloc: Global, source: &mut Source, answer: Option<Answer>)
-    ensures after { source.new ≡ source_after answer source.old }
-    ensures empty { IsSome answer → source.new ≡ [] }
+// A call of the writer that has answered holds nothing, and its fill gives nothing more.
+fn settle_writer(
+    alloc: Global,
+    call: &mut OpenCall,
+    source: &mut Source,
+    answer: Option<Answer>,
+) -> Option<Answer>
+    ensures answer { result ≡ answer }
+    ensures call { call.new ≡ call_after answer call.old }
+    ensures source { source.new ≡ source_after answer source.old }
+    ensures holds_nothing { IsSome answer → call.new ≡ no_call }
+    ensures gives_nothing { IsSome answer → source.new ≡ [] }
 {
     if answer.is_some() {
+        *call = OpenCall::none();
         *source = Source::none(alloc);
     }
+    answer
 }
 
 // Nothing stays lent where a fill has answered.
@@ -93,9 +102,7 @@ impl Machine {
         ensures answer { result ≡ (reader_stepped Action.LoadHead self.old).answer }
     {
         let answer = self.read.loaded_head();
-        settle(&mut self.reader_call, answer);
-        settle_destination(&mut self.destination, answer);
-        answer
+        settle_reader(&mut self.reader_call, &mut self.destination, answer)
     }
 
     fn reader_loads_tail(&mut self) -> Option<Answer>
@@ -105,9 +112,7 @@ impl Machine {
     {
         let count = self.len();
         let answer = self.read.loaded_tail(count);
-        settle(&mut self.reader_call, answer);
-        settle_destination(&mut self.destination, answer);
-        answer
+        settle_reader(&mut self.reader_call, &mut self.destination, answer)
     }
 
     fn reader_refreshes(&mut self) -> Option<Answer>
@@ -116,9 +121,7 @@ impl Machine {
         ensures answer { result ≡ (reader_stepped Action.Refresh self.old).answer }
     {
         let answer = self.read.refreshed(self.write.tail());
-        settle(&mut self.reader_call, answer);
-        settle_destination(&mut self.destination, answer);
-        answer
+        settle_reader(&mut self.reader_call, &mut self.destination, answer)
     }
 
     fn reader_loads_closed(&mut self) -> Option<Answer>
@@ -127,9 +130,7 @@ impl Machine {
         ensures answer { result ≡ (reader_stepped Action.LoadClosed self.old).answer }
     {
         let answer = self.read.loaded_closed(self.is_closed);
-        settle(&mut self.reader_call, answer);
-        settle_destination(&mut self.destination, answer);
-        answer
+        settle_reader(&mut self.reader_call, &mut self.destination, answer)
     }
 
     fn reader_registers(&mut self) -> Option<Answer>
@@ -139,9 +140,7 @@ impl Machine {
     {
         let is_granted = register(&mut self.reader_slot, self.reader_call.context);
         let answer = self.read.registered(is_granted);
-        settle(&mut self.reader_call, answer);
-        settle_destination(&mut self.destination, answer);
-        answer
+        settle_reader(&mut self.reader_call, &mut self.destination, answer)
     }
 
     fn reader_takes_own(&mut self) -> Option<Answer>
@@ -151,9 +150,7 @@ impl Machine {
     {
         self.reader_call.taken = self.reader_slot.take();
         let answer = self.read.took_own();
-        settle(&mut self.reader_call, answer);
-        settle_destination(&mut self.destination, answer);
-        answer
+        settle_reader(&mut self.reader_call, &mut self.destination, answer)
     }
 
     fn reader_takes_writer(&mut self) -> Option<Answer>
@@ -164,9 +161,7 @@ impl Machine {
         let taken = self.writer_slot.take();
         self.reader_call.taken = taken;
         let answer = self.read.took_writer(taken.is_some());
-        settle(&mut self.reader_call, answer);
-        settle_destination(&mut self.destination, answer);
-        answer
+        settle_reader(&mut self.reader_call, &mut self.destination, answer)
     }
 
     fn reader_wakes(&mut self) -> Option<Answer>
@@ -176,9 +171,7 @@ impl Machine {
     {
         self.reader_call.taken = None;
         let answer = self.read.woke();
-        settle(&mut self.reader_call, answer);
-        settle_destination(&mut self.destination, answer);
-        answer
+        settle_reader(&mut self.reader_call, &mut self.destination, answer)
     }
 
     fn reader_stores_head(&mut self, n: usize) -> Option<Answer>
@@ -188,9 +181,7 @@ impl Machine {
         ensures answer { result ≡ (reader_stepped (Action.StoreHead n) self.old).answer }
     {
         let answer = self.read.stored_head(n);
-        settle(&mut self.reader_call, answer);
-        settle_destination(&mut self.destination, answer);
-        answer
+        settle_reader(&mut self.reader_call, &mut self.destination, answer)
     }
 
     fn reader_stores_closed(&mut self) -> Option<Answer>
@@ -200,9 +191,7 @@ impl Machine {
     {
         self.is_closed = true;
         let answer = self.read.stored_closed();
-        settle(&mut self.reader_call, answer);
-        settle_destination(&mut self.destination, answer);
-        answer
+        settle_reader(&mut self.reader_call, &mut self.destination, answer)
     }
 
     fn reader_yields(&mut self) -> Option<Answer>
@@ -213,9 +202,7 @@ impl Machine {
         let answer = self
             .read
             .yielded(is_yield_granted(self.reader_call.context));
-        settle(&mut self.reader_call, answer);
-        settle_destination(&mut self.destination, answer);
-        answer
+        settle_reader(&mut self.reader_call, &mut self.destination, answer)
     }
 
     // The destination took so many bytes, or failed.
@@ -229,9 +216,7 @@ impl Machine {
             Ok(n) => self.read.destination_took(n),
             Err(Failed) => self.read.destination_failed(),
         };
-        settle(&mut self.reader_call, answer);
-        settle_destination(&mut self.destination, answer);
-        answer
+        settle_reader(&mut self.reader_call, &mut self.destination, answer)
     }
 
     fn reader_calls_destination(&mut self) -> Option<Answer>
@@ -285,9 +270,7 @@ impl Machine {
     {
         let count = self.len();
         let answer = self.write.loaded_head(count);
-        settle(&mut self.writer_call, answer);
-        settle_source(self.alloc, &mut self.source, answer);
-        answer
+        settle_writer(self.alloc, &mut self.writer_call, &mut self.source, answer)
     }
 
     fn writer_loads_tail(&mut self) -> Option<Answer>
@@ -296,9 +279,7 @@ impl Machine {
         ensures answer { result ≡ (writer_stepped Action.LoadTail self.old).answer }
     {
         let answer = self.write.loaded_tail();
-        settle(&mut self.writer_call, answer);
-        settle_source(self.alloc, &mut self.source, answer);
-        answer
+        settle_writer(self.alloc, &mut self.writer_call, &mut self.source, answer)
     }
 
     fn writer_refreshes(&mut self) -> Option<Answer>
@@ -307,9 +288,7 @@ impl Machine {
         ensures answer { result ≡ (writer_stepped Action.Refresh self.old).answer }
     {
         let answer = self.write.refreshed(self.read.head());
-        settle(&mut self.writer_call, answer);
-        settle_source(self.alloc, &mut self.source, answer);
-        answer
+        settle_writer(self.alloc, &mut self.writer_call, &mut self.source, answer)
     }
 
     fn writer_loads_closed(&mut self) -> Option<Answer>
@@ -320,9 +299,7 @@ impl Machine {
         let is_fill = self.write.ends_fill();
         let answer = self.write.loaded_closed(self.is_closed);
         settle_lent(&mut self.write, is_fill, answer);
-        settle(&mut self.writer_call, answer);
-        settle_source(self.alloc, &mut self.source, answer);
-        answer
+        settle_writer(self.alloc, &mut self.writer_call, &mut self.source, answer)
     }
 
     fn writer_registers(&mut self) -> Option<Answer>
@@ -334,9 +311,7 @@ impl Machine {
         let is_granted = register(&mut self.writer_slot, self.writer_call.context);
         let answer = self.write.registered(is_granted);
         settle_lent(&mut self.write, is_fill, answer);
-        settle(&mut self.writer_call, answer);
-        settle_source(self.alloc, &mut self.source, answer);
-        answer
+        settle_writer(self.alloc, &mut self.writer_call, &mut self.source, answer)
     }
 
     fn writer_takes_own(&mut self) -> Option<Answer>
@@ -347,9 +322,7 @@ impl Machine {
         let taken = self.writer_slot.take();
         self.writer_call.taken = taken;
         let answer = self.write.took_own(taken.is_some());
-        settle(&mut self.writer_call, answer);
-        settle_source(self.alloc, &mut self.source, answer);
-        answer
+        settle_writer(self.alloc, &mut self.writer_call, &mut self.source, answer)
     }
 
     fn writer_takes_reader(&mut self) -> Option<Answer>
@@ -360,9 +333,7 @@ impl Machine {
         let taken = self.reader_slot.take();
         self.writer_call.taken = taken;
         let answer = self.write.took_reader(taken.is_some());
-        settle(&mut self.writer_call, answer);
-        settle_source(self.alloc, &mut self.source, answer);
-        answer
+        settle_writer(self.alloc, &mut self.writer_call, &mut self.source, answer)
     }
 
     fn writer_wakes(&mut self) -> Option<Answer>
@@ -372,9 +343,7 @@ impl Machine {
     {
         self.writer_call.taken = None;
         let answer = self.write.woke();
-        settle(&mut self.writer_call, answer);
-        settle_source(self.alloc, &mut self.source, answer);
-        answer
+        settle_writer(self.alloc, &mut self.writer_call, &mut self.source, answer)
     }
 
     fn writer_stores_tail(&mut self, n: usize) -> Option<Answer>
@@ -384,9 +353,7 @@ impl Machine {
         ensures answer { result ≡ (writer_stepped (Action.StoreTail n) self.old).answer }
     {
         let answer = self.write.stored_tail(n);
-        settle(&mut self.writer_call, answer);
-        settle_source(self.alloc, &mut self.source, answer);
-        answer
+        settle_writer(self.alloc, &mut self.writer_call, &mut self.source, answer)
     }
 
     fn writer_stores_closed(&mut self) -> Option<Answer>
@@ -396,9 +363,7 @@ impl Machine {
     {
         self.is_closed = true;
         let answer = self.write.stored_closed();
-        settle(&mut self.writer_call, answer);
-        settle_source(self.alloc, &mut self.source, answer);
-        answer
+        settle_writer(self.alloc, &mut self.writer_call, &mut self.source, answer)
     }
 
     fn writer_shuts(&mut self) -> Option<Answer>
@@ -408,9 +373,7 @@ impl Machine {
     {
         self.is_closed = true;
         let answer = self.write.shut();
-        settle(&mut self.writer_call, answer);
-        settle_source(self.alloc, &mut self.source, answer);
-        answer
+        settle_writer(self.alloc, &mut self.writer_call, &mut self.source, answer)
     }
 
     fn writer_yields(&mut self) -> Option<Answer>
@@ -423,9 +386,7 @@ impl Machine {
             .write
             .yielded(is_yield_granted(self.writer_call.context));
         settle_lent(&mut self.write, is_fill, answer);
-        settle(&mut self.writer_call, answer);
-        settle_source(self.alloc, &mut self.source, answer);
-        answer
+        settle_writer(self.alloc, &mut self.writer_call, &mut self.source, answer)
     }
 
     // Lends places to the source, which writes into them what it gives. One that fails is lent places too.
@@ -452,9 +413,7 @@ impl Machine {
         let is_fill = self.write.ends_fill();
         let answer = self.write.source_gave(n);
         settle_lent(&mut self.write, is_fill, answer);
-        settle(&mut self.writer_call, answer);
-        settle_source(self.alloc, &mut self.source, answer);
-        answer
+        settle_writer(self.alloc, &mut self.writer_call, &mut self.source, answer)
     }
 
     pub(super) fn source_failed(&mut self) -> Option<Answer>
@@ -465,9 +424,7 @@ impl Machine {
         let is_fill = self.write.ends_fill();
         let answer = self.write.source_failed();
         settle_lent(&mut self.write, is_fill, answer);
-        settle(&mut self.writer_call, answer);
-        settle_source(self.alloc, &mut self.source, answer);
-        answer
+        settle_writer(self.alloc, &mut self.writer_call, &mut self.source, answer)
     }
 
     fn writer_calls_source(&mut self) -> Option<Answer>
@@ -511,7 +468,7 @@ impl Machine {
         ensures step { result ≡ write_action self.now.writer }
         ensures within { (n : ℕ) → result ≡ Action.StoreTail n → n ≤ length self.now.lent }
         ensures no_head { (n : ℕ) → result ≢ Action.StoreHead n }
-        ensures no_destination { result ≢ Action.CallDestination }
+        ensures fills_nothing { result ≢ Action.CallDestination }
     {
         self.write.next()
     }

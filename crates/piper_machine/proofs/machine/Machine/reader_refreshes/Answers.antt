@@ -1,3 +1,4 @@
+use Rattle.std.proofs.Common.{◌∙◌}
 use Rattle.piper_machine.proofs.Soundness.{length-unread}
 use Rattle.piper_machine.proofs.Moves.{tail_seen-view}
 use Rattle.piper_machine.proofs.machine.Machine.reader_refreshes.Goals as goal
@@ -8,7 +9,7 @@ returns-clause-after c =
     let i = c.self.invariant in
     let after = rw (c.tail.ensures, ← length-unread m i) at c.refreshed-answer.ensures.after in
     let answer = rw (c.tail.ensures, ← length-unread m i) at c.refreshed-answer.ensures.answer in
-    rw (← c.self.view_is, c.settle.ensures.after, c.settle_destination.ensures.after, answer) (tail_seen-view m i c.refreshed-answer.new.self _ _ _ after)
+    rw (← c.self.view_is, c.settle_reader.ensures.call, c.settle_reader.ensures.destination, answer) (tail_seen-view m i c.refreshed-answer.new.self _ _ _ after)
 
 pub returns-clause-answer : goal.returns-clause-answer
-returns-clause-answer c = rw (← c.self.view_is) (rw (c.tail.ensures, ← length-unread c.self.inside c.self.invariant) at c.refreshed-answer.ensures.answer)
+returns-clause-answer c = rw (← c.self.view_is) (c.settle_reader.ensures.answer ∙ rw (c.tail.ensures, ← length-unread c.self.inside c.self.invariant) at c.refreshed-answer.ensures.answer)

@@ -11,4 +11,4 @@ returns-clause-after c =
     let i = c.self.invariant in
     let same = ap (λ (p : Pipe). peeked_count p) c.self.view_is in
     let below = place_below m.read.capacity m.read.head i.reading.head in
-    rw (← c.self.view_is, c.settle.ensures.after, c.settle_destination.ensures.after, c.stored_head-answer.ensures.answer) (consumed-view m i c.args.n c.stored_head-answer.new.self _ _ _ c.stored_head-answer.ensures.after (omega arith) (omega arith))
+    rw (← c.self.view_is, c.settle_reader.ensures.call, c.settle_reader.ensures.destination, c.stored_head-answer.ensures.answer) (consumed-view m i c.args.n c.stored_head-answer.new.self _ _ _ c.stored_head-answer.ensures.after (omega arith) (omega arith))

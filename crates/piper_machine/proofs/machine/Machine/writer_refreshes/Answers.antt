@@ -13,5 +13,5 @@ returns-clause-after c =
     let p = pipe_of m in
     let seen = head_seen-view m i c.refreshed-answer.new.self _ _ _ (rw c.head.ensures at c.refreshed-answer.ensures.after) in
     let answer = rw c.head.ensures at c.refreshed-answer.ensures.answer in
-    rw (← c.self.view_is, c.settle.ensures.after, c.settle_source.ensures.after, answer)
+    rw (← c.self.view_is, c.settle_writer.ensures.call, c.settle_writer.ensures.source, answer)
     (seen ∙ ap (λ (next : Next WritePlace). record p { room = p.capacity - length p.unread; writer = next.place; writer_call = call_after next.answer p.writer_call; source = source_after next.answer p.source }) (refreshed-next m i))

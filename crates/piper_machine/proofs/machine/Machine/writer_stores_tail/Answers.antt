@@ -18,5 +18,5 @@ returns-clause-after c =
     let same = ap (λ (q : Pipe). length q.lent) c.self.view_is in
     let long = length-lent m i in
     let moved = published-view m i c.args.n c.stored_tail-answer.new.self _ _ _ c.stored_tail-answer.ensures.after (omega arith) in
-    rw (← c.self.view_is, c.settle.ensures.after, c.settle_source.ensures.after, c.stored_tail-answer.ensures.answer)
+    rw (← c.self.view_is, c.settle_writer.ensures.call, c.settle_writer.ensures.source, c.stored_tail-answer.ensures.answer)
     (moved ∙ ap (λ (next : Next WritePlace). record (published c.args.n p) { writer = next.place; writer_call = call_after next.answer p.writer_call; source = source_after next.answer p.source }) (ap (λ capacity. write_after capacity (room_of m.write) m.write.place nothing) i.capacity))
