@@ -51,7 +51,7 @@ impl Machine {
                 }
             } else {
                 self.hear_writer(action);
-                match self.writer_goes() {
+                match self.writer_goes(action) {
                     Some(answer) => return answer,
                     None => {}
                 }
@@ -92,7 +92,7 @@ impl Machine {
                 }
             } else {
                 self.hear_reader(action);
-                match self.reader_goes() {
+                match self.reader_goes(action) {
                     Some(answer) => return answer,
                     None => {}
                 }
@@ -129,7 +129,7 @@ impl Machine {
                 }
             } else {
                 self.hear_writer(action);
-                match self.writer_goes() {
+                match self.writer_goes(action) {
                     Some(answer) => return answer,
                     None => {}
                 }
@@ -158,7 +158,7 @@ impl Machine {
                 spent += 1;
             } else {
                 self.hear_reader(action);
-                match self.reader_goes() {
+                match self.reader_goes(action) {
                     Some(answer) => return answer,
                     None => {}
                 }

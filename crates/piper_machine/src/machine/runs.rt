@@ -409,7 +409,8 @@ impl Machine {
         requires room { HasRoom log.old }
         ensures { IsStepped self.old (Step.Go Side.Reader) self.new (events log.old) (events log.new) }
     {
-        let answer = self.reader_goes();
+        let action = self.reader_next();
+        let answer = self.reader_goes(action);
         log.add(event, answered(Side::Reader, answer));
     }
 
@@ -419,7 +420,8 @@ impl Machine {
         requires room { HasRoom log.old }
         ensures { IsStepped self.old (Step.Go Side.Writer) self.new (events log.old) (events log.new) }
     {
-        let answer = self.writer_goes();
+        let action = self.writer_next();
+        let answer = self.writer_goes(action);
         log.add(event, answered(Side::Writer, answer));
     }
 

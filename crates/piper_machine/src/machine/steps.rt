@@ -229,12 +229,14 @@ impl Machine {
         self.destination_called(taken)
     }
 
-    /// Makes the reader's next step.
-    pub(super) fn reader_goes(&mut self) -> Option<Answer>
+    /// Makes the reader's next step, which is of this kind.
+    pub(super) fn reader_goes(&mut self, action: Action) -> Option<Answer>
+        requires { action ≡ read_action self.old.reader }
         ensures after { self.new ≡ (went Side.Reader self.old).pipe }
         ensures answer { result ≡ (went Side.Reader self.old).answer }
     {
-        match self.reader_next() {
+        self.learn();
+        match action {
             Action::Rest | Action::StoreTail(_) | Action::StoreClosed { is_shut: true } => None,
             Action::CallSource => None,
             Action::Yield => self.reader_yields(),
@@ -439,13 +441,15 @@ impl Machine {
         }
     }
 
-    /// Makes the writer's next step.
-    pub(super) fn writer_goes(&mut self) -> Option<Answer>
+    /// Makes the writer's next step, which is of this kind.
+    pub(super) fn writer_goes(&mut self, action: Action) -> Option<Answer>
+        requires { action ≡ write_action self.old.writer }
         ensures after { self.new ≡ (stepped self.new.lent (Step.Go Side.Writer) self.old).pipe }
         ensures answer { result ≡ (stepped self.new.lent (Step.Go Side.Writer) self.old).answer }
         ensures lent { MayLend self.new.lent (Step.Go Side.Writer) self.old }
     {
-        match self.writer_next() {
+        self.learn();
+        match action {
             Action::Rest | Action::StoreHead(_) | Action::CallDestination => None,
             Action::Yield => self.writer_yields(),
             Action::CallSource => self.writer_calls_source(),

@@ -59,7 +59,8 @@ impl Machine {
         requires next { action ≡ read_action self.old.reader }
         requires wakes { read_action self.old.reader ≡ Action.Wake → length self.old.woken < 2 }
         requires yields { read_action self.old.reader ≡ Action.Yield → length self.old.woken < 2 }
-        ensures { self.new ≡ heard Side.Reader (read_action self.old.reader) self.old }
+        ensures after { self.new ≡ heard Side.Reader (read_action self.old.reader) self.old }
+        ensures next { action ≡ read_action self.new.reader }
     {
         match action {
             Action::Wake => if let Some(name) = self.reader_call.taken {
@@ -76,7 +77,8 @@ impl Machine {
         requires next { action ≡ write_action self.old.writer }
         requires wakes { write_action self.old.writer ≡ Action.Wake → length self.old.woken < 2 }
         requires yields { write_action self.old.writer ≡ Action.Yield → length self.old.woken < 2 }
-        ensures { self.new ≡ heard Side.Writer (write_action self.old.writer) self.old }
+        ensures after { self.new ≡ heard Side.Writer (write_action self.old.writer) self.old }
+        ensures next { action ≡ write_action self.new.writer }
     {
         match action {
             Action::Wake => if let Some(name) = self.writer_call.taken {
@@ -100,7 +102,7 @@ impl Machine {
         'steps: loop {
             let action = self.reader_next();
             self.hear_reader(action);
-            match self.reader_goes() {
+            match self.reader_goes(action) {
                 Some(answer) => return answer,
                 None => {}
             }
@@ -118,7 +120,7 @@ impl Machine {
         'steps: loop {
             let action = self.writer_next();
             self.hear_writer(action);
-            match self.writer_goes() {
+            match self.writer_goes(action) {
                 Some(answer) => return answer,
                 None => {}
             }

@@ -27,7 +27,7 @@ steps-preserved c =
     let r = c.reader_goes.new.self in
     let left = Acts (drop c.steps.spent c.args.acts.now) in
     let other : read_action q.reader ≡ does.CallDestination → ⊥ = λ calls. c.in_default.not-CallDestination (c.reader_next-action.ensures.step ∙ calls) in
-    let gone = goes-on p q c.hear_reader.new.self r left c.reader_goes.result c.steps.invariant.draining other c.hear_reader.ensures c.reader_goes.ensures.answer c.reader_goes.ensures.after in
+    let gone = goes-on p q c.hear_reader.new.self r left c.reader_goes.result c.steps.invariant.draining other c.hear_reader.ensures.after c.reader_goes.ensures.answer c.reader_goes.ensures.after in
     let next = subst (λ (answer : Option Answer). IsGoneOn p left q answer r) c.in-None-reader_goes.is gone in
     record { draining = next.0 }
 
@@ -38,7 +38,7 @@ steps-smaller c =
     let r = c.reader_goes.new.self in
     let left = Acts (drop c.steps.spent c.args.acts.now) in
     let other : read_action q.reader ≡ does.CallDestination → ⊥ = λ calls. c.in_default.not-CallDestination (c.reader_next-action.ensures.step ∙ calls) in
-    let gone = goes-on p q c.hear_reader.new.self r left c.reader_goes.result c.steps.invariant.draining other c.hear_reader.ensures c.reader_goes.ensures.answer c.reader_goes.ensures.after in
+    let gone = goes-on p q c.hear_reader.new.self r left c.reader_goes.result c.steps.invariant.draining other c.hear_reader.ensures.after c.reader_goes.ensures.answer c.reader_goes.ensures.after in
     let next = subst (λ (answer : Option Answer). IsGoneOn p left q answer r) c.in-None-reader_goes.is gone in
     next.1
 
@@ -49,7 +49,7 @@ returns-in-Some-reader_goes c =
     let r = c.reader_goes.new.self in
     let left = Acts (drop c.steps.spent c.args.acts.now) in
     let other : read_action q.reader ≡ does.CallDestination → ⊥ = λ calls. c.in_default.not-CallDestination (c.reader_next-action.ensures.step ∙ calls) in
-    let gone = goes-on p q c.hear_reader.new.self r left c.reader_goes.result c.steps.invariant.draining other c.hear_reader.ensures c.reader_goes.ensures.answer c.reader_goes.ensures.after in
+    let gone = goes-on p q c.hear_reader.new.self r left c.reader_goes.result c.steps.invariant.draining other c.hear_reader.ensures.after c.reader_goes.ensures.answer c.reader_goes.ensures.after in
     let next = subst (λ (answer : Option Answer). IsGoneOn p left q answer r) c.in-Some-reader_goes.is gone in
     record { answer = sym (ap (λ (e : Ended). e.answer) next); after = sym (ap (λ (e : Ended). e.pipe) next) }
 

@@ -42,9 +42,9 @@ steps-preserved c =
     let left = Slice (size - c.steps.done) in
     let inv = c.steps.invariant in
     let other : read_action q.reader ≡ does.CallDestination → ⊥ = λ calls. c.in_default.not-CallDestination (c.reader_next-action.ensures.step ∙ calls) in
-    let gone = goes-on p q c.hear_reader.new.self r left c.reader_goes.result inv.draining other c.hear_reader.ensures c.reader_goes.ensures.answer c.reader_goes.ensures.after in
+    let gone = goes-on p q c.hear_reader.new.self r left c.reader_goes.result inv.draining other c.hear_reader.ensures.after c.reader_goes.ensures.answer c.reader_goes.ensures.after in
     let next = subst (λ (answer : Option Answer). IsGoneOn p left q answer r) c.in-None-reader_goes.is gone in
-    let unread = unread-kept q c.hear_reader.new.self r (drop c.steps.done c.args.self.now.unread) inv.draining.drains other c.hear_reader.ensures c.reader_goes.ensures.after inv.unread in
+    let unread = unread-kept q c.hear_reader.new.self r (drop c.steps.done c.args.self.now.unread) inv.draining.drains other c.hear_reader.ensures.after c.reader_goes.ensures.after inv.unread in
     record { within = inv.within; known = inv.known; unread = unread.1; bytes = inv.bytes; draining = next.0 }
 
 pub steps-smaller : goal.steps-smaller
@@ -56,7 +56,7 @@ steps-smaller c =
     let left = Slice (size - c.steps.done) in
     let inv = c.steps.invariant in
     let other : read_action q.reader ≡ does.CallDestination → ⊥ = λ calls. c.in_default.not-CallDestination (c.reader_next-action.ensures.step ∙ calls) in
-    let gone = goes-on p q c.hear_reader.new.self r left c.reader_goes.result inv.draining other c.hear_reader.ensures c.reader_goes.ensures.answer c.reader_goes.ensures.after in
+    let gone = goes-on p q c.hear_reader.new.self r left c.reader_goes.result inv.draining other c.hear_reader.ensures.after c.reader_goes.ensures.answer c.reader_goes.ensures.after in
     let next = subst (λ (answer : Option Answer). IsGoneOn p left q answer r) c.in-None-reader_goes.is gone in
     next.1
 
@@ -69,9 +69,9 @@ returns-in-Some-reader_goes c =
     let left = Slice (size - c.steps.done) in
     let inv = c.steps.invariant in
     let other : read_action q.reader ≡ does.CallDestination → ⊥ = λ calls. c.in_default.not-CallDestination (c.reader_next-action.ensures.step ∙ calls) in
-    let gone = goes-on p q c.hear_reader.new.self r left c.reader_goes.result inv.draining other c.hear_reader.ensures c.reader_goes.ensures.answer c.reader_goes.ensures.after in
+    let gone = goes-on p q c.hear_reader.new.self r left c.reader_goes.result inv.draining other c.hear_reader.ensures.after c.reader_goes.ensures.answer c.reader_goes.ensures.after in
     let next = subst (λ (answer : Option Answer). IsGoneOn p left q answer r) c.in-Some-reader_goes.is gone in
-    let unread = unread-kept q c.hear_reader.new.self r (drop c.steps.done c.args.self.now.unread) inv.draining.drains other c.hear_reader.ensures c.reader_goes.ensures.after inv.unread in
+    let unread = unread-kept q c.hear_reader.new.self r (drop c.steps.done c.args.self.now.unread) inv.draining.drains other c.hear_reader.ensures.after c.reader_goes.ensures.after inv.unread in
     let bytes = drained-bytes c.steps.done c.args.self.now.unread r.unread c.args.dest.now c.steps.dest inv.known unread.0 inv.bytes in
     record { answer = sym (ap (λ (e : Ended). e.answer) next); after = sym (ap (λ (e : Ended). e.pipe) next); bytes = bytes }
 

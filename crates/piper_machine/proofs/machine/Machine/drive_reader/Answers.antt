@@ -8,8 +8,8 @@ steps-preserved c =
     let p = c.steps.self in
     let inv = c.steps.invariant in
     let next = read_step p.reader p in
-    let after : c.reader_goes.new.self ≡ next.pipe = rw c.hear_reader.ensures at c.reader_goes.ensures.after in
-    let answer : c.reader_goes.result ≡ next.answer = rw c.hear_reader.ensures at c.reader_goes.ensures.answer in
+    let after : c.reader_goes.new.self ≡ next.pipe = rw c.hear_reader.ensures.after at c.reader_goes.ensures.after in
+    let answer : c.reader_goes.result ≡ next.answer = rw c.hear_reader.ensures.after at c.reader_goes.ensures.answer in
     let none : next.answer ≡ None = sym answer ∙ c.in-None.is in
     let near = reader-nearer p.reader p inv.busy inv.moves none in
     rw after (record {
@@ -23,7 +23,7 @@ pub steps-smaller : goal.steps-smaller
 steps-smaller c =
     let p = c.steps.self in
     let next = read_step p.reader p in
-    let after : c.reader_goes.new.self ≡ next.pipe = rw c.hear_reader.ensures at c.reader_goes.ensures.after in
-    let answer : c.reader_goes.result ≡ next.answer = rw c.hear_reader.ensures at c.reader_goes.ensures.answer in
+    let after : c.reader_goes.new.self ≡ next.pipe = rw c.hear_reader.ensures.after at c.reader_goes.ensures.after in
+    let answer : c.reader_goes.result ≡ next.answer = rw c.hear_reader.ensures.after at c.reader_goes.ensures.answer in
     let none : next.answer ≡ None = sym answer ∙ c.in-None.is in
     rw after (reader-nearer p.reader p c.steps.invariant.busy c.steps.invariant.moves none).2.steps

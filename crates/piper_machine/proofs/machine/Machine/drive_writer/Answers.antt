@@ -10,8 +10,8 @@ steps-preserved c =
     let inv = c.steps.invariant in
     let next = write_step p.writer p in
     let same = plain-step p.writer c.writer_goes.new.self.lent p inv.moves in
-    let after : c.writer_goes.new.self ≡ next.pipe = rw c.hear_writer.ensures at c.writer_goes.ensures.after ∙ ap (λ (s : Stepped). s.pipe) same in
-    let answer : c.writer_goes.result ≡ next.answer = rw c.hear_writer.ensures at c.writer_goes.ensures.answer ∙ ap (λ (s : Stepped). s.answer) same in
+    let after : c.writer_goes.new.self ≡ next.pipe = rw c.hear_writer.ensures.after at c.writer_goes.ensures.after ∙ ap (λ (s : Stepped). s.pipe) same in
+    let answer : c.writer_goes.result ≡ next.answer = rw c.hear_writer.ensures.after at c.writer_goes.ensures.answer ∙ ap (λ (s : Stepped). s.answer) same in
     let none : next.answer ≡ None = sym answer ∙ c.in-None.is in
     let near = writer-nearer p.writer p inv.busy inv.moves none in
     rw after (record {
@@ -26,7 +26,7 @@ steps-smaller c =
     let p = c.steps.self in
     let next = write_step p.writer p in
     let same = plain-step p.writer c.writer_goes.new.self.lent p c.steps.invariant.moves in
-    let after : c.writer_goes.new.self ≡ next.pipe = rw c.hear_writer.ensures at c.writer_goes.ensures.after ∙ ap (λ (s : Stepped). s.pipe) same in
-    let answer : c.writer_goes.result ≡ next.answer = rw c.hear_writer.ensures at c.writer_goes.ensures.answer ∙ ap (λ (s : Stepped). s.answer) same in
+    let after : c.writer_goes.new.self ≡ next.pipe = rw c.hear_writer.ensures.after at c.writer_goes.ensures.after ∙ ap (λ (s : Stepped). s.pipe) same in
+    let answer : c.writer_goes.result ≡ next.answer = rw c.hear_writer.ensures.after at c.writer_goes.ensures.answer ∙ ap (λ (s : Stepped). s.answer) same in
     let none : next.answer ≡ None = sym answer ∙ c.in-None.is in
     rw after (writer-nearer p.writer p c.steps.invariant.busy c.steps.invariant.moves none).2.steps

@@ -34,7 +34,7 @@ steps-preserved c =
     let q = c.steps.self in
     let r = c.writer_goes.new.self in
     let left = source_left c.steps.given c.steps.spent c.args.acts.now in
-    let gone = goes-on p q c.hear_writer.new.self r left c.writer_goes.result c.steps.invariant.filling (λ calls. c.in_default.not-CallSource (c.writer_next-action.ensures.step ∙ calls)) c.hear_writer.ensures c.writer_goes.ensures.answer c.writer_goes.ensures.after in
+    let gone = goes-on p q c.hear_writer.new.self r left c.writer_goes.result c.steps.invariant.filling (λ calls. c.in_default.not-CallSource (c.writer_next-action.ensures.step ∙ calls)) c.hear_writer.ensures.after c.writer_goes.ensures.answer c.writer_goes.ensures.after in
     let next = subst (λ (answer : Option Answer). IsGoneOn p left q answer r) c.in-None-writer_goes.is gone in
     record { position = c.steps.invariant.position; filling = next.0 }
 
@@ -44,7 +44,7 @@ steps-smaller c =
     let q = c.steps.self in
     let r = c.writer_goes.new.self in
     let left = source_left c.steps.given c.steps.spent c.args.acts.now in
-    let gone = goes-on p q c.hear_writer.new.self r left c.writer_goes.result c.steps.invariant.filling (λ calls. c.in_default.not-CallSource (c.writer_next-action.ensures.step ∙ calls)) c.hear_writer.ensures c.writer_goes.ensures.answer c.writer_goes.ensures.after in
+    let gone = goes-on p q c.hear_writer.new.self r left c.writer_goes.result c.steps.invariant.filling (λ calls. c.in_default.not-CallSource (c.writer_next-action.ensures.step ∙ calls)) c.hear_writer.ensures.after c.writer_goes.ensures.answer c.writer_goes.ensures.after in
     let next = subst (λ (answer : Option Answer). IsGoneOn p left q answer r) c.in-None-writer_goes.is gone in
     next.1
 
@@ -54,7 +54,7 @@ returns-in-Some-writer_goes c =
     let q = c.steps.self in
     let r = c.writer_goes.new.self in
     let left = source_left c.steps.given c.steps.spent c.args.acts.now in
-    let gone = goes-on p q c.hear_writer.new.self r left c.writer_goes.result c.steps.invariant.filling (λ calls. c.in_default.not-CallSource (c.writer_next-action.ensures.step ∙ calls)) c.hear_writer.ensures c.writer_goes.ensures.answer c.writer_goes.ensures.after in
+    let gone = goes-on p q c.hear_writer.new.self r left c.writer_goes.result c.steps.invariant.filling (λ calls. c.in_default.not-CallSource (c.writer_next-action.ensures.step ∙ calls)) c.hear_writer.ensures.after c.writer_goes.ensures.answer c.writer_goes.ensures.after in
     let next = subst (λ (answer : Option Answer). IsGoneOn p left q answer r) c.in-Some-writer_goes.is gone in
     record { answer = sym (ap (λ (e : Ended). e.answer) next); after = sym (ap (λ (e : Ended). e.pipe) next) }
 
