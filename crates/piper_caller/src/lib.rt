@@ -11,7 +11,8 @@ ghost use Rattle.piper_sides.specs.declared.calls.Side.TheVariants.{Reader};
 ghost use Rattle.piper_sides.specs.declared.calls.Call.TheVariants as call;
 ghost use Rattle.piper_sides.specs.declared.calls.Step.TheVariants.{Begin, Go};
 ghost use Rattle.piper_sides.specs.declared.events.Answer.TheVariants.{Count};
-ghost use Rattle.piper_machine.specs.Pipe.{Pipe, fresh};
+ghost use Rattle.piper_machine.specs.Pipe.{Pipe, fresh, begun};
+ghost use Rattle.piper_machine.specs.Query.{unread_count};
 ghost use Rattle.piper_machine.specs.Run.{Runs, RefusedAt};
 ghost use Rattle.piper_machine.specs.Conservation.{consumed_of, published_of};
 ghost use Rattle.piper_machine.specs.Places.{HeldByReader, HeldByWriter};
@@ -69,6 +70,8 @@ pub fn made_by_the_laws(
 /// Counts the unread bytes; and whoever makes this call by steps, while the writer makes none, is told the same number last.
 pub fn counted_alone(machine: &mut Machine) -> usize
     requires { machine.old.reader ≡ ReadPlace.Idle }
+    ensures value { result ≡ unread_count machine.old }
+    ensures after { machine.new ≡ begun machine.old }
     ensures by_steps { (k : ℕ) (q : Pipe) (before after : List Event) → Runs machine.old before (Begin (call.Len Reader) ∷ replicate k (Go Reader)) q after → IsOutside Reader q → IsToldLast (Count result) before after }
 {
     machine.r_len()

@@ -4,9 +4,7 @@ use Rattle.piper_sides.specs.declared.events.Answer.TheVariants.{Count}
 use Rattle.piper_sides.specs.declared.events.Event.TheVariants.{Answered}
 use Rattle.piper_caller.proofs.counted_alone.Goals as goal
 
-pub returns : goal.returns
-returns c = record {
-  by_steps = λ k q before after runs outside.
-      let whole = (c.r_len.ensures.by_steps.made k q before after runs outside).1 in
-      record { log = whole.log; events = whole.events ∙ ap (λ n. before ++ (whole.log ++ Answered Reader (Count n) ∷ [])) (sym c.r_len.ensures.value) };
-}
+pub returns-clause-by_steps : goal.returns-clause-by_steps
+returns-clause-by_steps c k q before after runs outside =
+    let whole = (c.r_len.ensures.by_steps.made k q before after runs outside).1 in
+    record { log = whole.log; events = whole.events ∙ ap (λ n. before ++ (whole.log ++ Answered Reader (Count n) ∷ [])) (sym c.r_len.ensures.value) }
