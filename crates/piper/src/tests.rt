@@ -58,6 +58,26 @@ fn bytes_go_round_the_ring(rt: HostRuntime) -> Result<(), Fail> {
 }
 
 #[test]
+fn both_ends_tell_what_is_unread(rt: HostRuntime) -> Result<(), Fail> {
+    let (mut reader, mut writer) = open_ring(rt.alloc(), 3)?;
+    for unread in 0..=3usize {
+        let (none, all) = (unread == 0, unread == 3);
+        assert_eq!(rt; (reader.len(), writer.len()), (unread, unread));
+        assert_eq!(rt; (reader.is_empty(), writer.is_empty()), (none, none));
+        assert_eq!(rt; (reader.is_full(), writer.is_full()), (all, all));
+        assert_eq!(rt; (reader.is_closed(), writer.is_closed()), (false, false));
+        send(&mut writer, &[7]);
+    }
+    let mut out = Vec::new(rt.alloc());
+    receive(&mut reader, &mut out, 1)?;
+    assert_eq!(rt; (reader.len(), writer.len()), (2, 2));
+    writer.shut();
+    assert_eq!(rt; (reader.is_closed(), writer.is_closed()), (true, true));
+    assert_eq!(rt; (reader.len(), writer.len()), (2, 2));
+    Ok(())
+}
+
+#[test]
 fn lends_grow_with_the_places_that_are_set(rt: HostRuntime) -> Result<(), Fail> {
     let (_reader, mut writer) = open_ring(rt.alloc(), 200_000)?;
     for want in [4_096usize, 12_288, 36_864, 110_592, 36_160, 0] {
