@@ -1,7 +1,7 @@
 //! Callers of the machine, proved from its contracts alone.
 #![tactic(auto)]
 
-ghost use Rattle.std.specs.Prelude.{◌≡◌, ◌≤◌, ◌+◌, ◌*◌, ◌⊎◌, ℕ, List, ◌++◌, ◌∷◌, [], length, replicate, true, IfOk, Err};
+ghost use Rattle.std.specs.Prelude.{◌≡◌, ◌≤◌, ◌+◌, ◌*◌, ◌⊎◌, ℕ, List, ◌++◌, ◌∷◌, [], length, replicate, true, IfOk, IfErr, Err};
 ghost use Rattle.piper_sides.specs.Index.{IsCapacity};
 ghost use Rattle.piper_sides.specs.Log.{events};
 ghost use Rattle.piper_sides.specs.declared.calls.Side.{Side};
@@ -40,6 +40,7 @@ pub fn through(alloc: Global, bytes: &[u8], place: &mut [u8]) -> Result<usize, O
     requires fits { length place.old ≡ length bytes.now }
     ensures count { IfOk result (λ n. n ≡ length bytes.now) }
     ensures same { IfOk result (λ n. place.new ≡ bytes.now) }
+    ensures untouched { IfErr result (λ _. place.new ≡ place.old) }
 {
     let mut machine = Machine::new(alloc, bytes.len())?;
     machine.w_try_fill(bytes);
