@@ -1,5 +1,5 @@
 //! Lists of bytes, as a script writes them.
-ghost use Rattle.std.specs.Prelude.{◌≡◌, ◌≤◌, ◌<◌, ◌++◌, length, codes, decimal, IfOk, OnOk, IsErrOf, ◌↔◌, ◌⊎◌};
+ghost use Rattle.std.specs.Prelude.{◌≡◌, ◌≤◌, ◌<◌, ◌++◌, length, codes, decimal, IfOk, IfErr, OnOk, IsErrOf, ◌↔◌, ◌⊎◌};
 ghost use Rattle.piper_script.specs.List.{item_text, item_bytes, IsItem};
 
 use crate::command::{MOST, Refusal};
@@ -147,7 +147,7 @@ pub fn both<A: Drop, B: Drop>(
 ) -> Result<(A, B), Refusal>
     ensures ok { IfOk result (λ values. (first ≡ Ok values.0) × (second ≡ Ok values.1)) }
     ensures syntax { IsErrOf result Refusal.Syntax ↔ (IsErrOf first Refusal.Syntax ⊎ IsErrOf second Refusal.Syntax) }
-    ensures limit { IsErrOf result Refusal.Limit → (IsErrOf first Refusal.Limit ⊎ IsErrOf second Refusal.Limit) }
+    ensures refused { IfErr result (λ refusal. IsErrOf first refusal ⊎ IsErrOf second refusal) }
 {
     match (first, second) {
         (Err(Refusal::Syntax), _) | (_, Err(Refusal::Syntax)) => Err(Refusal::Syntax),
