@@ -5,5 +5,6 @@ pub mod Joined
 pub mod List
 pub mod Meaning
 pub mod Number
+pub mod Refusal
 pub mod Reply
 pub mod Stop

@@ -1,6 +1,7 @@
 //! What scripted sources and destinations do, as a script writes it.
 
-ghost use Rattle.std.specs.Prelude.{◌≡◌, ◌≤◌, ◌++◌, length, codes, decimal, IfOk};
+ghost use Rattle.std.specs.Prelude.{◌≡◌, ◌≤◌, ◌++◌, length, codes, decimal, IfOk, IfErr};
+ghost use Rattle.piper_script.specs.Refusal.{IsTextRefusal};
 ghost use Rattle.piper_script.specs.Acts.{IsSource, dest_text, IsDestInLimits, WritesSource};
 
 use crate::command::{MOST, Refusal};
@@ -25,6 +26,7 @@ impl<'line> Sources<'line> {
         ensures text { IfOk result (λ sources. sources.text.now ≡ text.now) }
         ensures acts { IfOk result IsSources }
         ensures limits { IfOk result (λ sources. sources.len ≤ MOST) }
+        ensures refused { IfErr result IsTextRefusal }
     {
         if text == "none" {
             return Ok(Sources { text, len: 0 });
@@ -61,7 +63,8 @@ impl<'line> Sources<'line> {
 
 // How many bytes an act of a source stands for.
 fn source_len(text: &str) -> Result<usize, Refusal>
-    ensures { IfOk result (IsSource text.now) }
+    ensures source { IfOk result (IsSource text.now) }
+    ensures refused { IfErr result IsTextRefusal }
 {
     if text == "fail" {
         return Ok(0);
@@ -92,6 +95,7 @@ impl<'line> Dests<'line> {
     pub fn parse(text: &'line str) -> Result<Dests<'line>, Refusal>
         ensures text { IfOk result (λ dests. dests.text.now ≡ text.now) }
         ensures acts { IfOk result (λ dests. IsDests dests.text.now) }
+        ensures refused { IfErr result IsTextRefusal }
     {
         if text == "none" {
             return Ok(Dests { text });
@@ -130,6 +134,7 @@ impl<'line> Dests<'line> {
 fn dest(text: &str) -> Result<DestAct, Refusal>
     ensures text { IfOk result (λ act. text.now ≡ dest_text act) }
     ensures limits { IfOk result IsDestInLimits }
+    ensures refused { IfErr result IsTextRefusal }
 {
     if text == "fail" {
         return Ok(DestAct::Fail);

@@ -1,5 +1,6 @@
 //! Lists of bytes, as a script writes them.
 ghost use Rattle.std.specs.Prelude.{◌≡◌, ◌≤◌, ◌<◌, ◌++◌, length, codes, decimal, IfOk, IfErr, OnOk, IsErrOf, ◌↔◌, ◌⊎◌};
+ghost use Rattle.piper_script.specs.Refusal.{IsTextRefusal};
 ghost use Rattle.piper_script.specs.List.{item_text, item_bytes, IsItem};
 
 use crate::command::{MOST, Refusal};
@@ -23,6 +24,7 @@ impl Item {
     fn parse(text: &str) -> Result<Item, Refusal>
         ensures text { IfOk result (λ item. text.now ≡ item_text item) }
         ensures item { IfOk result IsItem }
+        ensures refused { IfErr result IsTextRefusal }
     {
         if let Some((first, last)) = text.split_once("..") {
             return range(first, last);
@@ -66,6 +68,7 @@ impl Item {
 fn range(first: &str, last: &str) -> Result<Item, Refusal>
     ensures text { IfOk result (λ item. first.now ++ codes ".." ++ last.now ≡ item_text item) }
     ensures item { IfOk result IsItem }
+    ensures refused { IfErr result IsTextRefusal }
 {
     match both(byte(first), byte(last)) {
         Ok((first, last)) if first <= last => Ok(Item::Range(first, last)),
@@ -76,7 +79,8 @@ fn range(first: &str, last: &str) -> Result<Item, Refusal>
 
 /// The byte that the text writes.
 pub fn byte(text: &str) -> Result<u8, Refusal>
-    ensures { IfOk result (λ value. text.now ≡ decimal value) }
+    ensures text { IfOk result (λ value. text.now ≡ decimal value) }
+    ensures refused { IfErr result IsTextRefusal }
 {
     let value = number(text, 0, 255)?;
     Ok(value as u8)
@@ -97,6 +101,7 @@ impl<'line> List<'line> {
         ensures text { IfOk result (λ list. list.text.now ≡ text.now) }
         ensures list { IfOk result IsList }
         ensures limits { IfOk result (λ list. list.len ≤ MOST) }
+        ensures refused { IfErr result IsTextRefusal }
     {
         if text == "-" {
             return Ok(List { text, len: 0 });

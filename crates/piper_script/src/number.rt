@@ -1,5 +1,6 @@
 //! Numbers of a script: decimal, without a sign and without leading zeros.
-ghost use Rattle.std.specs.Prelude.{◌≡◌, ℕ, ◌≤◌, ◌↔◌, decimal, IsTrue, IfOk, IsErrOf};
+ghost use Rattle.std.specs.Prelude.{◌≡◌, ℕ, ◌≤◌, ◌↔◌, decimal, IsTrue, IfOk, IfErr, IsErrOf};
+ghost use Rattle.piper_script.specs.Refusal.{IsTextRefusal};
 ghost use Rattle.piper_script.specs.Number.{IsNumber};
 
 use crate::command::Refusal;
@@ -21,6 +22,7 @@ pub fn number(text: &str, least: usize, most: usize) -> Result<usize, Refusal>
     ensures text { IfOk result (λ n. text.now ≡ decimal n) }
     ensures limits { IfOk result (λ n. (least ≤ n) × (n ≤ most)) }
     ensures syntax { IsErrOf result Refusal.Syntax ↔ (¬ IsNumber text.now) }
+    ensures refused { IfErr result IsTextRefusal }
     ensures accepts { (n : ℕ) → text.now ≡ decimal n → least ≤ n → n ≤ most → result ≡ Ok n }
 {
     if !is_number(text) {
@@ -35,7 +37,8 @@ pub fn number(text: &str, least: usize, most: usize) -> Result<usize, Refusal>
 
 /// The number that the text writes of a waker or a draw.
 pub fn name(text: &str) -> Result<u32, Refusal>
-    ensures { IfOk result (λ value. text.now ≡ decimal value) }
+    ensures text { IfOk result (λ value. text.now ≡ decimal value) }
+    ensures refused { IfErr result IsTextRefusal }
 {
     let value = number(text, 0, MOST_OF_A_NAME)?;
     Ok(value as u32)

@@ -1,6 +1,7 @@
 //! From the bytes of a line to what they say.
 
-ghost use Rattle.std.specs.Prelude.{◌≡◌, ◌≤◌, ◌<◌, ◌++◌, ◌∷◌, length, codes, decimal, IsTrue, ◌↔◌, IfOk, IfSome, IfNone};
+ghost use Rattle.std.specs.Prelude.{◌≡◌, ◌≤◌, ◌<◌, ◌++◌, ◌∷◌, length, codes, decimal, IsTrue, ◌↔◌, IfOk, IfErr, IfSome, IfNone};
+ghost use Rattle.piper_script.specs.Refusal.{IsTextRefusal};
 ghost use Rattle.piper_script.specs.Command.{side_text, word_if, draw_text, luck_text, steps_text, call_text, command_text, IsCallInLimits, IsInLimits, IsSilent};
 
 use crate::acts::{Dests, Sources};
@@ -20,6 +21,7 @@ pub fn parse(line: &[u8]) -> Result<Option<Command<'_>>, Refusal>
     ensures silent { IfOk result (λ said. IfNone said (IsSilent line.now)) }
     ensures silence { length line.now ≤ MOST_OF_A_LINE → IsSilent line.now → result ≡ Ok None }
     ensures long { MOST_OF_A_LINE < length line.now → result ≡ Err Refusal.Limit }
+    ensures refused { IfErr result IsTextRefusal }
 {
     if line.len() > MOST_OF_A_LINE {
         return Err(Refusal::Limit);
@@ -55,6 +57,7 @@ pub fn begins_for(line: &[u8]) -> Option<Side> {
 fn command(text: &str) -> Result<Command<'_>, Refusal>
     ensures text { IfOk result (λ command. text.now ≡ command_text command) }
     ensures limits { IfOk result IsInLimits }
+    ensures refused { IfErr result IsTextRefusal }
 {
     if text == "peek" {
         return Ok(Command::Peek);
@@ -68,6 +71,7 @@ fn command(text: &str) -> Result<Command<'_>, Refusal>
 fn command_with<'line>(name: &str, arguments: &'line str) -> Result<Command<'line>, Refusal>
     ensures text { IfOk result (λ command. name.now ++ 32 ∷ arguments.now ≡ command_text command) }
     ensures limits { IfOk result IsInLimits }
+    ensures refused { IfErr result IsTextRefusal }
 {
     match name {
         "pipe" => Ok(Command::Pipe(number(arguments, 1, MOST)?)),
@@ -81,6 +85,7 @@ fn command_with<'line>(name: &str, arguments: &'line str) -> Result<Command<'lin
 fn call(text: &str) -> Result<Call<'_>, Refusal>
     ensures text { IfOk result (λ call. text.now ≡ call_text call) }
     ensures limits { IfOk result IsCallInLimits }
+    ensures refused { IfErr result IsTextRefusal }
 {
     if text == "close" {
         return Ok(Call::Close);
@@ -92,6 +97,7 @@ fn call(text: &str) -> Result<Call<'_>, Refusal>
 fn call_with<'line>(name: &str, arguments: &'line str) -> Result<Call<'line>, Refusal>
     ensures text { IfOk result (λ call. name.now ++ 32 ∷ arguments.now ≡ call_text call) }
     ensures limits { IfOk result IsCallInLimits }
+    ensures refused { IfErr result IsTextRefusal }
 {
     match name {
         "len" => Ok(Call::Len(side(arguments)?)),
@@ -116,6 +122,7 @@ fn call_with<'line>(name: &str, arguments: &'line str) -> Result<Call<'line>, Re
 fn put(arguments: &str) -> Result<Command<'_>, Refusal>
     ensures text { IfOk result (λ command. codes "put " ++ arguments.now ≡ command_text command) }
     ensures limits { IfOk result IsInLimits }
+    ensures refused { IfErr result IsTextRefusal }
 {
     let (offset, value) = arguments.split_once(' ').ok_or(Refusal::Syntax)?;
     let (offset, value) = both(number(offset, 0, MOST), byte(value))?;
@@ -125,6 +132,7 @@ fn put(arguments: &str) -> Result<Command<'_>, Refusal>
 fn go(arguments: &str) -> Result<Command<'_>, Refusal>
     ensures text { IfOk result (λ command. codes "go " ++ arguments.now ≡ command_text command) }
     ensures limits { IfOk result IsInLimits }
+    ensures refused { IfErr result IsTextRefusal }
 {
     let Some((mover, count)) = arguments.split_once(' ') else {
         return Ok(Command::Go(side(arguments)?, Steps::One));
@@ -139,6 +147,7 @@ fn go(arguments: &str) -> Result<Command<'_>, Refusal>
 fn poll(arguments: &str) -> Result<Call<'_>, Refusal>
     ensures text { IfOk result (λ call. codes "poll " ++ arguments.now ≡ call_text call) }
     ensures limits { IfOk result IsCallInLimits }
+    ensures refused { IfErr result IsTextRefusal }
 {
     let (looker, rest) = arguments.split_once(' ').ok_or(Refusal::Syntax)?;
     let looker = side(looker)?;
@@ -150,6 +159,7 @@ fn poll(arguments: &str) -> Result<Call<'_>, Refusal>
 fn poll_fill(arguments: &str) -> Result<Call<'_>, Refusal>
     ensures text { IfOk result (λ call. codes "pollfill " ++ arguments.now ≡ call_text call) }
     ensures limits { IfOk result IsCallInLimits }
+    ensures refused { IfErr result IsTextRefusal }
 {
     let (waker, rest) = arguments.split_once(' ').ok_or(Refusal::Syntax)?;
     let (list, luck) = without_luck(rest);
@@ -160,6 +170,7 @@ fn poll_fill(arguments: &str) -> Result<Call<'_>, Refusal>
 fn poll_drain(arguments: &str) -> Result<Call<'_>, Refusal>
     ensures text { IfOk result (λ call. codes "polldrain " ++ arguments.now ≡ call_text call) }
     ensures limits { IfOk result IsCallInLimits }
+    ensures refused { IfErr result IsTextRefusal }
 {
     let (waker, rest) = arguments.split_once(' ').ok_or(Refusal::Syntax)?;
     let (most, luck) = without_luck(rest);
@@ -170,6 +181,7 @@ fn poll_drain(arguments: &str) -> Result<Call<'_>, Refusal>
 fn fill_from(arguments: &str) -> Result<Call<'_>, Refusal>
     ensures text { IfOk result (λ call. codes "fillfrom " ++ arguments.now ≡ call_text call) }
     ensures limits { IfOk result IsCallInLimits }
+    ensures refused { IfErr result IsTextRefusal }
 {
     let (waker, rest) = arguments.split_once(' ').ok_or(Refusal::Syntax)?;
     let (sources, luck) = without_luck(rest);
@@ -180,6 +192,7 @@ fn fill_from(arguments: &str) -> Result<Call<'_>, Refusal>
 fn drain_to(arguments: &str) -> Result<Call<'_>, Refusal>
     ensures text { IfOk result (λ call. codes "drainto " ++ arguments.now ≡ call_text call) }
     ensures limits { IfOk result IsCallInLimits }
+    ensures refused { IfErr result IsTextRefusal }
 {
     let (waker, rest) = arguments.split_once(' ').ok_or(Refusal::Syntax)?;
     let (dests, luck) = without_luck(rest);
@@ -199,7 +212,8 @@ fn without<'text>(text: &'text str, word: &str) -> (&'text str, bool)
 
 // The text without the luck at its end, and that luck.
 fn without_luck(text: &str) -> (&str, Result<Luck, Refusal>)
-    ensures { IfOk result.1 (λ luck. text.now ≡ result.0.now ++ luck_text luck) }
+    ensures text { IfOk result.1 (λ luck. text.now ≡ result.0.now ++ luck_text luck) }
+    ensures refused { IfErr result.1 IsTextRefusal }
 {
     let (rest, no_yield) = without(text, " noyield");
     let (rest, no_register) = without(rest, " noregister");
@@ -219,7 +233,8 @@ fn without_luck(text: &str) -> (&str, Result<Luck, Refusal>)
 
 // The text without the draw at its end, and that draw.
 fn without_draw(text: &str) -> (&str, Result<Option<u32>, Refusal>)
-    ensures { IfOk result.1 (λ draw. text.now ≡ result.0.now ++ draw_text draw) }
+    ensures text { IfOk result.1 (λ draw. text.now ≡ result.0.now ++ draw_text draw) }
+    ensures refused { IfErr result.1 IsTextRefusal }
 {
     let Some((rest, draw)) = text.split_once(" draw=") else {
         return (text, Ok(None));
@@ -231,7 +246,8 @@ fn without_draw(text: &str) -> (&str, Result<Option<u32>, Refusal>)
 }
 
 fn side(text: &str) -> Result<Side, Refusal>
-    ensures { IfOk result (λ side. text.now ≡ side_text side) }
+    ensures text { IfOk result (λ side. text.now ≡ side_text side) }
+    ensures refused { IfErr result (λ refusal. refusal ≡ Refusal.Syntax) }
 {
     match text {
         "r" => Ok(Side::Reader),
