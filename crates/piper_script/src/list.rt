@@ -1,6 +1,7 @@
 //! Lists of bytes, as a script writes them.
-ghost use Rattle.std.specs.Prelude.{◌≡◌, ◌≤◌, ◌<◌, ◌++◌, length, codes, decimal, IfOk, IfErr, OnOk, IsErrOf, ◌↔◌, ◌⊎◌};
+ghost use Rattle.std.specs.Prelude.{◌≡◌, ℕ, ◌≤◌, ◌<◌, ◌++◌, length, codes, decimal, IfOk, IfErr, OnOk, IsErrOf, ◌↔◌, ◌⊎◌};
 ghost use Rattle.piper_script.specs.Refusal.{IsTextRefusal};
+ghost use Rattle.piper_script.specs.Number.{IsNumber};
 ghost use Rattle.piper_script.specs.List.{item_text, item_bytes, IsItem};
 
 use crate::command::{MOST, Refusal};
@@ -80,7 +81,9 @@ fn range(first: &str, last: &str) -> Result<Item, Refusal>
 /// The byte that the text writes.
 pub fn byte(text: &str) -> Result<u8, Refusal>
     ensures text { IfOk result (λ value. text.now ≡ decimal value) }
+    ensures syntax { IsErrOf result Refusal.Syntax ↔ (¬ IsNumber text.now) }
     ensures refused { IfErr result IsTextRefusal }
+    ensures accepts { (n : ℕ) → text.now ≡ decimal n → n ≤ 255 → result ≡ Ok n }
 {
     let value = number(text, 0, 255)?;
     Ok(value as u8)

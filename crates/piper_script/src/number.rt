@@ -38,7 +38,9 @@ pub fn number(text: &str, least: usize, most: usize) -> Result<usize, Refusal>
 /// The number that the text writes of a waker or a draw.
 pub fn name(text: &str) -> Result<u32, Refusal>
     ensures text { IfOk result (λ value. text.now ≡ decimal value) }
+    ensures syntax { IsErrOf result Refusal.Syntax ↔ (¬ IsNumber text.now) }
     ensures refused { IfErr result IsTextRefusal }
+    ensures accepts { (n : ℕ) → text.now ≡ decimal n → n ≤ MOST_OF_A_NAME → result ≡ Ok n }
 {
     let value = number(text, 0, MOST_OF_A_NAME)?;
     Ok(value as u32)

@@ -1,6 +1,7 @@
 //! From the bytes of a line to what they say.
 
 ghost use Rattle.std.specs.Prelude.{◌≡◌, ◌≤◌, ◌<◌, ◌++◌, ◌∷◌, length, codes, decimal, IsTrue, ◌↔◌, IfOk, IfErr, IfSome, IfNone};
+ghost use Rattle.piper_sides.specs.declared.calls.Side.{Side};
 ghost use Rattle.piper_script.specs.Refusal.{IsTextRefusal};
 ghost use Rattle.piper_script.specs.Command.{side_text, word_if, draw_text, luck_text, steps_text, call_text, command_text, IsCallInLimits, IsInLimits, IsSilent};
 
@@ -248,6 +249,7 @@ fn without_draw(text: &str) -> (&str, Result<Option<u32>, Refusal>)
 fn side(text: &str) -> Result<Side, Refusal>
     ensures text { IfOk result (λ side. text.now ≡ side_text side) }
     ensures refused { IfErr result (λ refusal. refusal ≡ Refusal.Syntax) }
+    ensures accepts { (side : Side) → text.now ≡ side_text side → result ≡ Ok side }
 {
     match text {
         "r" => Ok(Side::Reader),
