@@ -1,5 +1,6 @@
 pub mod Arguments
 pub mod Ended
 pub mod Makes
+pub mod Played
 pub mod Steps
 pub mod Whole

@@ -1,5 +1,9 @@
 //! The mode `all`: two open calls, and every order of their steps.
 
+ghost use Rattle.std.specs.Prelude.{OnOk};
+ghost use Rattle.piper_sides.specs.Log.{events};
+ghost use Rattle.piper_player.specs.Played.{LogsLine};
+
 use crate::player::Player;
 use crate::stream::{read_line, stopped};
 use crate::trial::{Length, Trial, other, turn_to_next};
@@ -110,7 +114,9 @@ impl Script {
 }
 
 // Makes what a line says. What it prints is let go, and what happens in an open call is logged.
-fn make(alloc: Global, player: &mut Player, line: &[u8], log: &mut Log) -> Result<(), Stop> {
+fn make(alloc: Global, player: &mut Player, line: &[u8], log: &mut Log) -> Result<(), Stop>
+    ensures { OnOk result (LogsLine line.now player.old player.new (events log.old) (events log.new)) }
+{
     match parse(line)? {
         None => Ok(()),
         Some(Command::Begin(call)) => player.begin(call, log),

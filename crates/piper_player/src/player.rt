@@ -1,7 +1,10 @@
 //! Plays commands on a machine.
 
-ghost use Rattle.std.specs.Prelude.{◌≡◌, length, IfOk};
+ghost use Rattle.std.specs.Prelude.{◌≡◌, ◌++◌, length, IfOk, IfErr, OnOk, OnErr};
+ghost use Rattle.piper_sides.specs.Log.{events};
 ghost use Rattle.piper_script.specs.Command.{IsInLimits};
+ghost use Rattle.piper_player.specs.Played.{Plays, NeedsPipe, IsOneMove, IsRefused, OnPipe, ShowsPeek, ShowsWhole, MakesWhole, Puts, Opens, ShowsSteps, shown, shown_text};
+ghost use Rattle.piper_player.specs.Whole.{IsReady};
 
 use crate::steps::make;
 use crate::whole::{answer, check, room_for};
@@ -13,6 +16,7 @@ use piper_script::command::{Call, Command, Refusal, Steps};
 use piper_script::reply::Reply;
 use piper_script::stop::Stop;
 use std::alloc::{AllocError, Global};
+use std::marker::Model;
 
 /// The machine that a script made last, and the room in which bytes come from it.
 #[derive(Drop)]
@@ -22,8 +26,19 @@ pub struct Player {
     dest: Vec<u8>,
 }
 
+impl Model for Player {
+    ghost use Rattle.std.specs.Prelude.{Option};
+    ghost use Rattle.piper_machine.specs.Pipe.{Pipe};
+
+    ghost Value = { Option Pipe };
+
+    ghost view = { λ player. player.machine };
+}
+
 impl Player {
-    pub fn new(alloc: Global) -> Player {
+    pub fn new(alloc: Global) -> Player
+        ensures { result ≡ None }
+    {
         Player {
             alloc,
             machine: None,
@@ -34,6 +49,9 @@ impl Player {
     /// Runs the command and writes what it prints.
     pub fn play(&mut self, command: Command, reply: &mut Reply) -> Result<(), Stop>
         requires { IsInLimits command }
+        ensures plays { OnOk result (Plays command.entry self.old self.new reply.old reply.new) }
+        ensures no_pipe { NeedsPipe command.entry → self.old ≡ None → result ≡ Err (Stop.Refused Refusal.NoPipe) }
+        ensures same { IfErr result (λ stop. IsRefused stop → IsOneMove command.entry → self.new ≡ self.old) }
     {
         match command {
             Command::Pipe(capacity) => {
@@ -53,27 +71,31 @@ impl Player {
         Ok(())
     }
 
-    fn peek(&self, reply: &mut Reply) -> Result<(), Stop> {
+    fn peek(&self, reply: &mut Reply) -> Result<(), Stop>
+        ensures shows { OnOk result (OnPipe (λ p q. ShowsPeek p q reply.old reply.new) self.now self.now) }
+        ensures no_pipe { self.now ≡ None → result ≡ Err (Stop.Refused Refusal.NoPipe) }
+    {
         let machine = self.machine.as_ref().ok_or(Refusal::NoPipe)?;
         reply.write_counted_list(machine.r_peek())?;
         Ok(())
     }
 
-    fn whole(&mut self, said: Call, reply: &mut Reply) -> Result<(), Stop> {
+    fn whole(&mut self, said: Call, reply: &mut Reply) -> Result<(), Stop>
+        ensures makes { OnOk result (OnPipe (λ p q. MakesWhole said.entry p q reply.old reply.new) self.old self.new) }
+        ensures no_pipe { self.old ≡ None → result ≡ Err (Stop.Refused Refusal.NoPipe) }
+        ensures same { IfErr result (λ stop. IsRefused stop → self.new ≡ self.old) }
+    {
         let machine = self.machine.as_mut().ok_or(Refusal::NoPipe)?;
         let call = check(machine, said.to_machine(self.alloc)?)?;
-        let dest = room_of(room_for(&call), &mut self.dest)?;
-        let answer = answer(machine, &call, dest);
-        reply.write_answer(answer)?;
-        if let Some(count) = shown(&call, answer) {
-            reply.write(" ")?;
-            reply.write_list(&dest[..count.min(dest.len())])?;
-        }
-        reply.write_woken(machine.woken())?;
+        make_whole(machine, &call, &mut self.dest, reply)?;
         Ok(())
     }
 
-    fn put(&mut self, offset: usize, byte: u8, reply: &mut Reply) -> Result<(), Stop> {
+    fn put(&mut self, offset: usize, byte: u8, reply: &mut Reply) -> Result<(), Stop>
+        ensures puts { OnOk result (OnPipe (λ p q. Puts offset byte p q reply.old reply.new) self.old self.new) }
+        ensures no_pipe { self.old ≡ None → result ≡ Err (Stop.Refused Refusal.NoPipe) }
+        ensures same { IfErr result (λ stop. IsRefused stop → self.new ≡ self.old) }
+    {
         let machine = self.machine.as_mut().ok_or(Refusal::NoPipe)?;
         machine.step(&Step::Put(offset, byte), &mut Log::new(self.alloc))?;
         reply.write("ok")?;
@@ -81,24 +103,50 @@ impl Player {
     }
 
     /// Opens a call, and logs it.
-    pub fn begin(&mut self, call: Call, log: &mut Log) -> Result<(), Stop> {
+    pub fn begin(&mut self, call: Call, log: &mut Log) -> Result<(), Stop>
+        ensures opens { OnOk result (OnPipe (λ p q. Opens call.entry p q (events log.old) (events log.new)) self.old self.new) }
+        ensures no_pipe { self.old ≡ None → result ≡ Err (Stop.Refused Refusal.NoPipe) }
+        ensures same { OnErr result (self.new ≡ self.old) }
+    {
         let machine = self.machine.as_mut().ok_or(Refusal::NoPipe)?;
         machine.step(&Step::Begin(call.to_machine(self.alloc)?), log)?;
         Ok(())
     }
 
     /// The machine, if one was made.
-    pub fn into_machine(self) -> Option<Machine> {
+    pub fn into_machine(self) -> Option<Machine>
+        ensures { result ≡ self }
+    {
         self.machine
     }
 
-    fn go(&mut self, side: Side, steps: Steps, reply: &mut Reply) -> Result<(), Stop> {
+    fn go(&mut self, side: Side, steps: Steps, reply: &mut Reply) -> Result<(), Stop>
+        ensures shows { OnOk result (OnPipe (λ p q. ShowsSteps steps side p q reply.old reply.new) self.old self.new) }
+        ensures no_pipe { self.old ≡ None → result ≡ Err (Stop.Refused Refusal.NoPipe) }
+    {
         let machine = self.machine.as_mut().ok_or(Refusal::NoPipe)?;
         let mut log = Log::new(self.alloc);
         make(machine, side, steps, &mut log)?;
         reply.write_events(log.events())?;
         Ok(())
     }
+}
+
+// Makes a call that may be made, and writes its answer.
+fn make_whole(
+    machine: &mut Machine,
+    call: &calls::Call,
+    room: &mut Vec<u8>,
+    reply: &mut Reply,
+) -> Result<(), AllocError>
+    requires { IsReady call.now machine.old }
+    ensures { OnOk result (ShowsWhole call.now machine.old machine.new reply.old reply.new) }
+{
+    let dest = room_of(room_for(call), room)?;
+    let answer = answer(machine, call, dest);
+    reply.write_answer(answer)?;
+    write_first(shown(call, answer), dest, reply)?;
+    reply.write_woken(machine.woken())
 }
 
 // So many places, after making the room longer where it is too short.
@@ -112,10 +160,23 @@ fn room_of(most: usize, room: &mut Vec<u8>) -> Result<&mut [u8], AllocError>
 }
 
 // How many bytes are shown behind the answer of a call that moved bytes out of the pipe.
-fn shown(call: &calls::Call, answer: Answer) -> Option<usize> {
+fn shown(call: &calls::Call, answer: Answer) -> Option<usize>
+    ensures { result ≡ shown call.now answer }
+{
     match (call, answer) {
         (calls::Call::TryDrain(_), Answer::Count(count)) => Some(count),
         (calls::Call::PollDrainBytes(..), Answer::Copy(Polled::Ready(Ok(count)))) => Some(count),
         _ => None,
     }
+}
+
+// Writes the first of the bytes, if any are shown.
+fn write_first(shown: Option<usize>, bytes: &[u8], reply: &mut Reply) -> Result<(), AllocError>
+    ensures { OnOk result (reply.new ≡ reply.old ++ shown_text shown bytes.now) }
+{
+    let Some(count) = shown else {
+        return Ok(());
+    };
+    reply.write(" ")?;
+    reply.write_list(&bytes[..count.min(bytes.len())])
 }

@@ -1,8 +1,9 @@
 //! The engine: a script in, its output out.
 
-ghost use Rattle.std.specs.Prelude.{◌↔◌, codes, IsNone};
+ghost use Rattle.std.specs.Prelude.{◌↔◌, codes, IsNone, OnOk};
 ghost use Rattle.piper_player.specs.Ended.{EndsWith};
 ghost use Rattle.piper_player.specs.Arguments.{IsWrong};
+ghost use Rattle.piper_player.specs.Played.{PlaysLine};
 
 use crate::orders::run_all;
 use crate::player::Player;
@@ -146,7 +147,9 @@ fn play<I: Read, O: Write>(alloc: Global, input: &mut I, output: &mut O) -> Resu
     Ok(())
 }
 
-fn play_line(player: &mut Player, line: &[u8], reply: &mut Reply) -> Result<(), Stop> {
+fn play_line(player: &mut Player, line: &[u8], reply: &mut Reply) -> Result<(), Stop>
+    ensures { OnOk result (PlaysLine line.now player.old player.new reply.old reply.new) }
+{
     if let Some(command) = parse(line)? {
         player.play(command, reply)?;
         reply.write("\n")?;
