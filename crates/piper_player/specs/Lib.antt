@@ -3,4 +3,5 @@ pub mod Ended
 pub mod Makes
 pub mod Played
 pub mod Steps
+pub mod Trial
 pub mod Whole

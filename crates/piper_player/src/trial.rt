@@ -1,6 +1,13 @@
 //! One order of the steps of two open calls.
 
-ghost use Rattle.std.specs.Prelude.{◌≢◌};
+ghost use Rattle.std.specs.Prelude.{◌≡◌, ◌≢◌, ◌+◌, ◌↔◌, [], IsTrue, IsNone, IfOk, IfSome, OnOk, All, min, true};
+ghost use Rattle.std.specs.Bool.{MatchBool};
+ghost use Rattle.std.specs.Option.{MatchOption, option_to_list};
+ghost use Rattle.piper_sides.specs.Log.{events};
+ghost use Rattle.piper_machine.specs.BySteps.{named_by, names_of};
+ghost use Rattle.piper_machine.specs.Run.{Made};
+ghost use Rattle.piper_script.specs.Event.{outcome_line};
+ghost use Rattle.piper_player.specs.Trial.{Tried, steps_by, IsLong, IsOpen, other_of, alone, answer_in, answer_of, HasNoOther, IsLastOther, IsNext, IsLast};
 
 use crate::whole::state;
 use piper_machine::calls::{Side, SideState, Step};
@@ -9,6 +16,7 @@ use piper_machine::machine::Machine;
 use piper_script::reply::Reply;
 use piper_script::stop::Stop;
 use std::alloc::{AllocError, Global};
+use std::marker::Model;
 
 /// The most steps of a call.
 const MOST_STEPS: usize = 8;
@@ -16,9 +24,9 @@ const MOST_STEPS: usize = 8;
 /// A step of an order.
 #[derive(Clone, Copy, Debug, PartialEq, Eq)]
 pub struct Move {
-    side: Side,
+    pub side: Side,
     /// Whether the writer can make a step in place of the reader here.
-    has_other: bool,
+    pub has_other: bool,
 }
 
 /// How long an order was.
@@ -41,8 +49,19 @@ pub struct Trial {
     writer_steps: usize,
 }
 
+impl Model for Trial {
+    ghost use Rattle.piper_sides.specs.Log.{events};
+    ghost use Rattle.piper_player.specs.Trial.{Tried};
+
+    ghost Value = { Tried };
+
+    ghost view = { λ t. record { pipe = t.machine; events = events t.log; reader_steps = t.reader_steps; writer_steps = t.writer_steps } };
+}
+
 impl Trial {
-    pub fn new(machine: Machine, log: Log) -> Trial {
+    pub fn new(machine: Machine, log: Log) -> Trial
+        ensures { result ≡ record { pipe = machine; events = events log; reader_steps = 0; writer_steps = 0 } }
+    {
         Trial {
             machine,
             log,
@@ -78,7 +97,13 @@ impl Trial {
     }
 
     // The step that comes next where no order says another one.
-    fn choice(&self, first: Side) -> Option<Move> {
+    fn choice(&self, first: Side) -> Option<Move>
+        ensures ended { IsNone result ↔ ((¬ IsOpen Side.Reader self.now) × (¬ IsOpen Side.Writer self.now)) }
+        ensures open { IfSome result (λ next. IsOpen next.side self.now) }
+        ensures too_long { IsOpen Side.Reader self.now → IsOpen Side.Writer self.now → IsLong (other_of first) self.now → result ≡ Some (alone (other_of first)) }
+        ensures both { IsOpen Side.Reader self.now → IsOpen Side.Writer self.now → (¬ IsLong (other_of first) self.now) → result ≡ Some (record { side = Side.Reader; has_other = true }) }
+        ensures one { IfSome result (λ next. (¬ IsOpen (other_of next.side) self.now) → next ≡ alone next.side) }
+    {
         let is_reading = state(&self.machine, Side::Reader) == SideState::Busy;
         let is_writing = state(&self.machine, Side::Writer) == SideState::Busy;
         match (is_reading, is_writing) {
@@ -93,7 +118,11 @@ impl Trial {
         }
     }
 
-    fn go(&mut self, side: Side) -> Result<(), Stop> {
+    fn go(&mut self, side: Side) -> Result<(), Stop>
+        ensures made { OnOk result (Made self.old.pipe (Step.Go side) self.new.pipe self.old.events self.new.events) }
+        ensures counted { OnOk result (steps_by side self.new ≡ min (steps_by side self.old + 1) usize.MAX) }
+        ensures other { OnOk result (steps_by (other_of side) self.new ≡ steps_by (other_of side) self.old) }
+    {
         self.machine.step(&Step::Go(side), &mut self.log)?;
         match side {
             Side::Reader => self.reader_steps = self.reader_steps.saturating_add(1),
@@ -103,7 +132,9 @@ impl Trial {
     }
 
     // Whether the side's call has made too many steps.
-    fn is_long(&self, side: Side) -> bool {
+    fn is_long(&self, side: Side) -> bool
+        ensures { IsTrue result ↔ IsLong side self.now }
+    {
         match side {
             Side::Reader => self.reader_steps > MOST_STEPS,
             Side::Writer => self.writer_steps > MOST_STEPS,
@@ -111,7 +142,9 @@ impl Trial {
     }
 
     /// The line that tells what both calls answered, whom they woke, and what is left unread.
-    pub fn outcome(&self, alloc: Global) -> Result<Reply, Stop> {
+    pub fn outcome(&self, alloc: Global) -> Result<Reply, Stop>
+        ensures { let log = self.now.events in IfOk result (λ reply. reply ≡ outcome_line (answer_of Side.Reader log) (answer_of Side.Writer log) (names_of log) self.now.pipe.unread) }
+    {
         let reader = self.answer_of(Side::Reader);
         let writer = self.answer_of(Side::Writer);
         let woken = self.woken(alloc)?;
@@ -122,30 +155,55 @@ impl Trial {
     }
 
     // What the side's call answered.
-    fn answer_of(&self, side: Side) -> Answer {
+    #[tactic(auto, using(crate::proofs::Trials::answer_more))]
+    fn answer_of(&self, side: Side) -> Answer
+        ensures { result ≡ answer_of side self.now.events }
+    {
         let mut answered = Answer::Done;
         for event in self.log.events() {
-            match event {
-                Event::Answered(of, answer) if *of == side => answered = *answer,
-                _ => {}
-            }
+            answered = answer_in(side, event).unwrap_or(answered);
         }
         answered
     }
 
     // The wakers that were called, oldest first.
-    fn woken(&self, alloc: Global) -> Result<Vec<u32>, AllocError> {
+    fn woken(&self, alloc: Global) -> Result<Vec<u32>, AllocError>
+        ensures { IfOk result (λ names. names.items ≡ names_of self.now.events) }
+    {
         let mut names = Vec::new(alloc);
         for event in self.log.events() {
-            if let Event::Woken(name) = event {
-                names.push(*name)?;
+            if let Some(name) = waker_in(event) {
+                names.push(name)?;
             }
         }
         Ok(names)
     }
 }
 
-fn alone(side: Side) -> Move {
+// The answer, if this is the event of one by the side.
+fn answer_in(side: Side, event: &Event) -> Option<Answer>
+    ensures { result ≡ answer_in side event.now }
+{
+    match event {
+        Event::Answered(of, answer) if *of == side => Some(*answer),
+        _ => None,
+    }
+}
+
+// The waker that was called, if this is the event of a call.
+fn waker_in(event: &Event) -> Option<u32>
+    ensures { named_by event.now ≡ option_to_list result }
+{
+    match event {
+        Event::Woken(name) => Some(*name),
+        _ => None,
+    }
+}
+
+// A step of the side, where the other one can make none.
+fn alone(side: Side) -> Move
+    ensures { result ≡ alone side }
+{
     Move {
         side,
         has_other: false,
@@ -154,7 +212,7 @@ fn alone(side: Side) -> Move {
 
 /// The side that is not this one.
 pub fn other(side: Side) -> Side
-    ensures { result ≢ side }
+    ensures { result ≡ other_of side }
 {
     match side {
         Side::Reader => Side::Writer,
@@ -162,15 +220,29 @@ pub fn other(side: Side) -> Side
     }
 }
 
-/// Turns the moves of an order into the beginning of the next one, if there is one: at the last step that the writer can
-/// make in place of the reader, the writer makes it.
-pub fn turn_to_next(moves: &mut Vec<Move>) -> bool {
-    for place in (0..moves.len()).rev() {
+// The place of the last step that the writer can make in place of the reader, if there is one.
+fn last_with_other(moves: &[Move]) -> Option<usize>
+    ensures { MatchOption result (All HasNoOther moves.now) (λ place. IsLastOther place moves.now) }
+{
+    for behind in 0..moves.len() {
+        let place = moves.len() - 1 - behind;
         if moves[place].has_other {
-            moves.truncate(place + 1);
-            moves[place] = alone(Side::Writer);
-            return true;
+            return Some(place);
         }
     }
-    false
+    None
+}
+
+/// Turns the moves of an order into the beginning of the next one, if there is one: at the last step that the writer can
+/// make in place of the reader, the writer makes it.
+#[tactic(auto, using(std::proofs::lemmas::List::take_more_set))]
+pub fn turn_to_next(moves: &mut Vec<Move>) -> bool
+    ensures { MatchBool result (IsNext moves.old.items moves.new.items) (IsLast moves.old.items moves.new.items) }
+{
+    let Some(place) = last_with_other(moves.as_slice()) else {
+        return false;
+    };
+    moves[place] = alone(Side::Writer);
+    moves.truncate(place + 1);
+    true
 }
