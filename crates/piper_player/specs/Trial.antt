@@ -1,5 +1,5 @@
 -- One order of the steps of two open calls, as far as it was made.
-use Rattle.std.specs.Prelude.{◌≡◌, ℕ, ◌+◌, ◌<◌, List, [], ◌∷◌, ◌++◌, length, take, drop, All, Option, None, Some, true, false, unwrap_or}
+use Rattle.std.specs.Prelude.{◌≡◌, ℕ, ◌+◌, ◌<◌, List, [], ◌∷◌, ◌++◌, length, take, drop, All, Option, None, Some, true, false, unwrap_or, map}
 use Rattle.std.specs.List.{filter_map, last_or, HoldsAt}
 use Rattle.piper_sides.specs.declared.calls.Side.{Side}
 use Rattle.piper_sides.specs.declared.calls.Side.TheVariants.{Reader, Writer}
@@ -10,6 +10,10 @@ use Rattle.piper_sides.specs.declared.events.Event.{Event}
 use Rattle.piper_sides.specs.declared.events.Event.TheVariants.{Answered}
 use Rattle.piper_machine.specs.Pipe.{Pipe}
 use Rattle.piper_machine.specs.Refusal.{state_of}
+use Rattle.piper_machine.specs.Run.{Runs}
+use Rattle.piper_sides.specs.declared.calls.Step.TheVariants.{Go}
+use Rattle.piper_player.specs.declared.trial.Length.{Length}
+use Rattle.piper_player.specs.declared.trial.Length.TheVariants.{Within, FirstIsLong, SecondIsLong}
 use Rattle.piper_player.specs.declared.trial.Move.{Move}
 use Rattle.piper_player.specs.declared.trial.TheConstants.{MOST_STEPS}
 
@@ -68,3 +72,16 @@ pub record IsNext (old new : List Move) : Type 0 where
 pub record IsLast (old new : List Move) : Type 0 where
   pub none_left : All HasNoOther old
   pub same : new ≡ old
+
+-- the steps that the moves say, one after another
+abbrev pub GoesMoves : List Move → Tried → Tried → Type 0
+GoesMoves moves old new = Runs old.pipe old.events (map (λ next. Go next.side) moves) new.pipe new.events
+
+abbrev pub HasEnded : Tried → Type 0
+HasEnded t = (¬ IsOpen Reader t) × (¬ IsOpen Writer t)
+
+-- all moves were made, until both calls had answered; or those up to one which is too many
+abbrev pub GoesAsLong : Length → Side → List Move → Tried → Tried → Type 0
+GoesAsLong Within first moves old new = GoesMoves moves old new × HasEnded new × (¬ IsLong (other_of first) new)
+GoesAsLong SecondIsLong first moves old new = GoesMoves moves old new × HasEnded new × IsLong (other_of first) new
+GoesAsLong FirstIsLong first moves old new = (n : ℕ) × GoesMoves (take n moves) old new × IsLong first new

@@ -1,7 +1,8 @@
 //! The mode `run`: a script of steps is read whole, and then run on a new machine.
 
-ghost use Rattle.std.specs.Prelude.{◌≡◌, [], ◌∷◌, ◌++◌, replicate, OnOk};
+ghost use Rattle.std.specs.Prelude.{◌≡◌, ◌≤◌, ◌<◌, ◌+◌, [], ◌∷◌, ◌++◌, replicate, vec_len, None, IfOk, IfErr, OnOk, OnErr};
 ghost use Rattle.std.specs.Option.{ForSome};
+ghost use Rattle.piper_player.specs.Script.{AddsLine};
 ghost use Rattle.piper_sides.specs.Index.{IsCapacity};
 
 use crate::stream::{read_line, stopped, write_reply};
@@ -33,7 +34,11 @@ struct Script {
 }
 
 impl Script {
-    fn new(alloc: Global) -> Script {
+    fn new(alloc: Global) -> Script
+        ensures capacity { result.capacity ≡ None }
+        ensures steps { result.steps.items ≡ [] }
+        ensures lines { result.lines.items ≡ [] }
+    {
         Script {
             capacity: None,
             steps: Vec::new(alloc),
@@ -56,7 +61,9 @@ impl Script {
         Ok(())
     }
 
-    fn add_line(&mut self, alloc: Global, line: &[u8]) -> Result<(), Stop> {
+    fn add_line(&mut self, alloc: Global, line: &[u8]) -> Result<(), Stop>
+        ensures { OnOk result (AddsLine line.now self.old.capacity self.new.capacity self.old.steps.items self.new.steps.items) }
+    {
         if line.len() <= MOST_OF_A_LINE && !self.takes(line) {
             return Err(Stop::Refused(Refusal::Syntax));
         }
@@ -85,7 +92,9 @@ impl Script {
 
     // Adds the step of the line read last.
     fn add(&mut self, step: Step) -> Result<(), Stop>
-        ensures { OnOk result (self.new.steps.items ≡ self.old.steps.items ++ step ∷ []) }
+        ensures step { OnOk result (self.new.steps.items ≡ self.old.steps.items ++ step ∷ []) }
+        ensures line { OnOk result (self.new.lines.items ≡ self.old.lines.items ++ (self.old.line, vec_len self.old.steps + 1) ∷ []) }
+        ensures capacity { self.new.capacity ≡ self.old.capacity }
     {
         let end = self.end_of(1)?;
         self.steps.push(step).map_err(|_| Stop::Memory)?;
@@ -95,7 +104,9 @@ impl Script {
 
     // Adds the steps of the line read last: so many of one side's open call.
     fn add_steps(&mut self, side: Side, count: usize) -> Result<(), Stop>
-        ensures { OnOk result (self.new.steps.items ≡ self.old.steps.items ++ replicate count (Step.Go side)) }
+        ensures steps { OnOk result (self.new.steps.items ≡ self.old.steps.items ++ replicate count (Step.Go side)) }
+        ensures line { OnOk result (self.new.lines.items ≡ self.old.lines.items ++ (self.old.line, vec_len self.old.steps + count) ∷ []) }
+        ensures capacity { self.new.capacity ≡ self.old.capacity }
     {
         let end = self.end_of(count)?;
         push_steps(&mut self.steps, side, count)?;
@@ -104,7 +115,12 @@ impl Script {
     }
 
     // How many steps there are with so many more, unless these are too many.
-    fn end_of(&self, count: usize) -> Result<usize, Refusal> {
+    fn end_of(&self, count: usize) -> Result<usize, Refusal>
+        ensures end { IfOk result (λ end. end ≡ vec_len self.now.steps + count) }
+        ensures within { OnOk result (vec_len self.now.steps + count ≤ MOST_STEPS) }
+        ensures refused { IfErr result (λ refusal. refusal ≡ Refusal.Limit) }
+        ensures too_many { OnErr result (MOST_STEPS < vec_len self.now.steps + count) }
+    {
         let end = self.steps.len().saturating_add(count);
         if end > MOST_STEPS {
             return Err(Refusal::Limit);

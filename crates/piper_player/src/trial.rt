@@ -1,13 +1,13 @@
 //! One order of the steps of two open calls.
 
-ghost use Rattle.std.specs.Prelude.{◌≡◌, ◌≢◌, ◌+◌, ◌↔◌, [], IsTrue, IsNone, IfOk, IfSome, OnOk, All, min, true};
+ghost use Rattle.std.specs.Prelude.{◌≡◌, ◌≢◌, ◌+◌, ◌↔◌, [], IsTrue, IsNone, IfOk, IfSome, OnOk, All, min, true, take, vec_len};
 ghost use Rattle.std.specs.Bool.{MatchBool};
 ghost use Rattle.std.specs.Option.{MatchOption, option_to_list};
 ghost use Rattle.piper_sides.specs.Log.{events};
 ghost use Rattle.piper_machine.specs.BySteps.{named_by, names_of};
 ghost use Rattle.piper_machine.specs.Run.{Made};
 ghost use Rattle.piper_script.specs.Event.{outcome_line};
-ghost use Rattle.piper_player.specs.Trial.{Tried, steps_by, IsLong, IsOpen, other_of, alone, answer_in, answer_of, HasNoOther, IsLastOther, IsNext, IsLast};
+ghost use Rattle.piper_player.specs.Trial.{Tried, steps_by, IsLong, IsOpen, other_of, alone, answer_in, answer_of, HasNoOther, IsLastOther, IsNext, IsLast, GoesAsLong};
 
 use crate::whole::state;
 use piper_machine::calls::{Side, SideState, Step};
@@ -72,7 +72,10 @@ impl Trial {
 
     /// Makes the steps that `moves` says, and then those that are left, which are added to `moves`: the reader's before
     /// the writer's. A call that makes too many steps is then made to its end, if it is not the one opened first.
-    pub fn play(&mut self, moves: &mut Vec<Move>, first: Side) -> Result<Length, Stop> {
+    pub fn play(&mut self, moves: &mut Vec<Move>, first: Side) -> Result<Length, Stop>
+        ensures goes { IfOk result (λ length. GoesAsLong length first moves.new.items self.old self.new) }
+        ensures begins { OnOk result (take (vec_len moves.old) moves.new.items ≡ moves.old.items) }
+    {
         for turn in 0..usize::MAX {
             let side = match moves.get(turn) {
                 Some(next) => next.side,

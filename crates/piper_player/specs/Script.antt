@@ -1,0 +1,36 @@
+-- What a line adds to a script of steps.
+use Rattle.std.specs.Prelude.{◌≡◌, ℕ, List, [], ◌∷◌, ◌++◌, replicate, Option, None, Some}
+use Rattle.piper_sides.specs.declared.calls.Call.{Call as MachineCall}
+use Rattle.piper_sides.specs.declared.calls.Step.{Step}
+use Rattle.piper_sides.specs.declared.calls.Step.TheVariants as step
+use Rattle.piper_script.specs.declared.command.Steps.TheVariants.{One, Count}
+use Rattle.piper_script.specs.declared.command.Command.{Command}
+use Rattle.piper_script.specs.declared.command.Command.TheVariants.{Pipe, Put, Begin, Go}
+use Rattle.piper_script.specs.Meaning.{Means}
+use Rattle.piper_player.specs.Played.{Says}
+
+-- the steps that the command says; a call is opened that is meant
+abbrev pub SaysSteps : Command → List Step → Type 0
+SaysSteps (Begin said) steps = (call : MachineCall) × Means said call × (steps ≡ step.Begin call ∷ [])
+SaysSteps (Put offset byte) steps = steps ≡ step.Put offset byte ∷ []
+SaysSteps (Go side One) steps = steps ≡ step.Go side ∷ []
+SaysSteps (Go side (Count n)) steps = steps ≡ replicate n (step.Go side)
+SaysSteps command steps = ⊥
+
+-- the capacity stays, and the steps of the command come behind those before
+pub record AddsSteps (command : Command) (capacity now : Option ℕ) (before after : List Step) : Type 0 where
+  pub steps : List Step
+  pub says : SaysSteps command steps
+  pub added : after ≡ before ++ steps
+  pub same : now ≡ capacity
+
+-- no command adds nothing, and a new pipe's gives the capacity
+abbrev pub AddsSaid : Option Command → Option ℕ → Option ℕ → List Step → List Step → Type 0
+AddsSaid None capacity now before after = (now ≡ capacity) × (after ≡ before)
+AddsSaid (Some (Pipe said)) capacity now before after = (now ≡ Some said) × (after ≡ before)
+AddsSaid (Some command) capacity now before after = AddsSteps command capacity now before after
+
+pub record AddsLine (line : List ℕ) (capacity now : Option ℕ) (before after : List Step) : Type 0 where
+  pub said : Option Command
+  pub says : Says line said
+  pub adds : AddsSaid said capacity now before after
