@@ -5,7 +5,7 @@ ghost use Rattle.std.specs.Prelude.{length, ◌≡◌, ◌<◌, ◌≤◌, ◌^�
 
 use piper::{OutOfMemory, ReadEnd, WriteEnd, open_ring};
 use piper_machine::machine::Machine;
-use rings::{Input, Output, get_all, in_turn, put_all};
+use rings::{Input, Output, get_all, in_turn, put_all, yields};
 use rtrb::RingBuffer;
 use std::alloc::AllocError;
 use std::process::ExitCode;
@@ -96,11 +96,11 @@ fn run(
     match work.what {
         What::Ring { is_shared } => {
             let (reader, writer) = ring_of(rt, work)?;
-            move_bytes(rt, is_shared, work.total, writer, reader, source, place)
+            move_bytes(rt, is_shared, work, writer, reader, source, place)
         }
         What::Rtrb { is_shared } => {
             let (producer, consumer) = RingBuffer::new(rt.alloc(), work.capacity)?;
-            move_bytes(rt, is_shared, work.total, producer, consumer, source, place)
+            move_bytes(rt, is_shared, work, producer, consumer, source, place)
         }
         What::Machine => {
             let machine = machine_of(rt, work)?;
@@ -137,26 +137,27 @@ fn ring_of(
     }
 }
 
-/// Moves `total` bytes through a ring, and answers how long it took and the checksum.
+/// Moves the bytes through a ring, and answers how long it took and the checksum.
 fn move_bytes<I: Input + Drop + Send, O: Output + Drop + Send>(
     rt: &(impl Wait + Threads + Clock + Print + AllocGlobal + Sync),
     is_shared: bool,
-    total: usize,
+    work: Work,
     input: I,
     output: O,
     source: &[u8],
     place: &mut [u8],
 ) -> io::Result<(Duration, u64)> {
+    let yields = yields(work.capacity, work.chunk);
     let start = Instant::now(rt)?;
     let checksum = if is_shared {
         let (_, checksum) = thread::join(
             rt,
-            move || put_all(rt, input, source, total),
-            move || get_all(rt, output, place, total),
+            move || put_all(rt, input, source, work.total, yields),
+            move || get_all(rt, output, place, work.total, yields),
         );
         checksum
     } else {
-        in_turn(rt, input, output, source, place, total)
+        in_turn(rt, input, output, source, place, work.total)
     };
     Ok((start.elapsed(rt)?, checksum))
 }

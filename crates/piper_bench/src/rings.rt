@@ -1,5 +1,5 @@
 //! Bytes move through a ring, on one thread in turn or between two.
-ghost use Rattle.std.specs.Prelude.{length, slice_index_or, ◌≡◌, ◌≤◌, ◌+◌, ◌*◌, ◌%◌, ◌^◌};
+ghost use Rattle.std.specs.Prelude.{length, slice_index_or, ◌≡◌, ◌<◌, ◌≤◌, ◌+◌, ◌*◌, ◌%◌, ◌^◌};
 
 use piper::{ReadEnd, WriteEnd};
 use rtrb::{Consumer, Producer};
@@ -9,11 +9,14 @@ use std::thread;
 /// Up to so many bytes are copied without a call.
 const FEW: usize = 256;
 
-/// An end that finds nothing to do lets the other thread go on as often as pieces of its length make up so many bytes.
+/// An end that finds nothing to do lets the other thread go on as often as its pieces make up so many bytes.
 const AHEAD: usize = 512;
 
 /// At most so often.
 const MOST_YIELDS: usize = 128;
+
+/// At most once for so many pieces that the ring holds: the other end moves about as many meanwhile.
+const PIECES_A_YIELD: usize = 32;
 
 /// How bytes are copied to and from the slices that our ring lends. The rival copies by itself, in either case by a loop.
 pub trait Copying {
@@ -182,8 +185,14 @@ pub fn in_turn<I: Input + Drop, O: Output + Drop>(
     unreachable!()
 }
 
-/// Puts `total` bytes in.
-pub fn put_all<I: Input + Drop>(rt: &impl Wait, mut input: I, source: &[u8], total: usize) {
+/// Puts `total` bytes in. Where nothing fits, it lets the other thread go on so many times.
+pub fn put_all<I: Input + Drop>(
+    rt: &impl Wait,
+    mut input: I,
+    source: &[u8],
+    total: usize,
+    yields: usize,
+) {
     let mut left = total;
     for _ in rt.forever() {
         if left == 0 {
@@ -192,17 +201,18 @@ pub fn put_all<I: Input + Drop>(rt: &impl Wait, mut input: I, source: &[u8], tot
         let n = input.put::<ByLoop>(&source[..left.min(source.len())]);
         left = left.saturating_sub(n);
         if n == 0 {
-            let_ahead(source.len());
+            let_ahead(yields);
         }
     }
 }
 
-/// Takes `total` bytes out. It answers the checksum.
+/// Takes `total` bytes out, and waits as `put_all` does. It answers the checksum.
 pub fn get_all<O: Output + Drop>(
     rt: &impl Wait,
     mut output: O,
     place: &mut [u8],
     total: usize,
+    yields: usize,
 ) -> u64 {
     let mut left = total;
     let mut checksum = 0u64;
@@ -214,17 +224,28 @@ pub fn get_all<O: Output + Drop>(
         left = left.saturating_sub(n);
         checksum = add_piece(checksum, place, n);
         if n == 0 {
-            let_ahead(place.len());
+            let_ahead(yields);
         }
     }
     unreachable!()
 }
 
-/// Lets the other thread go on for a while, longer where pieces are short. An end that came back at once would stand at the other's heels, and then both wait for the same cache line at each piece.
+/// How often an end that finds nothing to do lets the other thread go on before it looks again: the more often the shorter pieces are, as far as the ring has room. An end that came back at once would stand at the other's heels, and then both wait for the same cache line at each piece.
+pub fn yields(capacity: usize, chunk: usize) -> usize
+    requires { 0 < chunk }
+    ensures { (1 ≤ result) × (result ≤ MOST_YIELDS) }
+{
+    let held = capacity / chunk;
+    (AHEAD / chunk)
+        .min(held / PIECES_A_YIELD)
+        .clamp(1, MOST_YIELDS)
+}
+
+/// Lets the other thread go on so many times.
 #[cold]
 #[inline(never)]
-fn let_ahead(chunk: usize) {
-    for _ in 0..(AHEAD / chunk.max(1)).clamp(1, MOST_YIELDS) {
+fn let_ahead(yields: usize) {
+    for _ in 0..yields {
         thread::yield_now();
     }
 }
