@@ -1,5 +1,5 @@
 //! Bytes move through a ring, on one thread in turn or between two.
-ghost use Rattle.std.specs.Prelude.{length, slice_index_or, ◌≡◌, ◌<◌, ◌≤◌, ◌+◌, ◌*◌, ◌%◌, ◌^◌};
+ghost use Rattle.std.specs.Prelude.{length, slice_index_or, min, max, ◌≡◌, ◌<◌, ◌≤◌, ◌/◌, ◌+◌, ◌*◌, ◌%◌, ◌^◌};
 
 use piper::{ReadEnd, WriteEnd};
 use rtrb::{Consumer, Producer};
@@ -233,7 +233,7 @@ pub fn get_all<O: Output + Drop>(
 /// How often an end that finds nothing to do lets the other thread go on before it looks again: the more often the shorter pieces are, as far as the ring has room. An end that came back at once would stand at the other's heels, and then both wait for the same cache line at each piece.
 pub fn yields(capacity: usize, chunk: usize) -> usize
     requires { 0 < chunk }
-    ensures { (1 ≤ result) × (result ≤ MOST_YIELDS) }
+    ensures { result ≡ min MOST_YIELDS (max 1 (min (AHEAD / chunk) (capacity / chunk / PIECES_A_YIELD))) }
 {
     let held = capacity / chunk;
     (AHEAD / chunk)
