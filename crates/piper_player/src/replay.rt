@@ -156,6 +156,3 @@ fn play_line(player: &mut Player, line: &[u8], reply: &mut Reply) -> Result<(), 
     }
     Ok(())
 }
-
-#[cfg(test)]
-mod tests;
