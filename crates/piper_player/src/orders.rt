@@ -5,8 +5,8 @@ ghost use Rattle.piper_sides.specs.Log.{events};
 ghost use Rattle.piper_player.specs.Played.{LogsLine};
 
 use crate::player::Player;
-use crate::stream::{read_line, stopped};
-use crate::trial::{Length, Trial, other, turn_to_next};
+use crate::stream::{Lines, stopped};
+use crate::trial::{Length, Move, Trial, other, turn_to_next};
 use piper_machine::calls::Side;
 use piper_machine::events::Log;
 use piper_script::command::{Command, Refusal};
@@ -15,10 +15,10 @@ use piper_script::reply::Reply;
 use piper_script::stop::Stop;
 use std::alloc::Global;
 use std::collections::BTreeSet;
-use std::io::{BufReader, BufWriter, Read, Write};
+use std::io::{BufWriter, Read, Write};
 
 /// A `begin` line: the side whose call it opens, and its number.
-#[derive(Clone, Copy, Debug, PartialEq, Eq)]
+#[derive(Clone, Copy)]
 struct Opening {
     side: Side,
     line: u64,
@@ -47,22 +47,45 @@ impl Script {
 
     // Reads a script to its end. Its commands are made as they are read, so that they are refused in the order of lines.
     fn read<I: Read>(&mut self, alloc: Global, input: &mut I) -> Result<(), Stop> {
-        let mut reader = BufReader::new(alloc, input).map_err(|_| Stop::Memory)?;
-        let mut line = Vec::with_capacity(alloc, MOST_OF_A_LINE + 1)?;
-        let mut player = Player::new(alloc);
-        let mut log = Log::new(alloc);
+        let mut lines = Lines::new(alloc, input)?;
+        self.add_lines(
+            alloc,
+            &mut lines,
+            &mut Player::new(alloc),
+            &mut Log::new(alloc),
+        )
+    }
+
+    fn add_lines<I: Read>(
+        &mut self,
+        alloc: Global,
+        lines: &mut Lines<'_, I>,
+        player: &mut Player,
+        log: &mut Log,
+    ) -> Result<(), Stop> {
         for number in 1..u64::MAX {
-            if !read_line(&mut reader, &mut line)? {
+            let Some(line) = lines.next()? else {
                 break;
-            }
+            };
             self.line = number;
-            if line.len() <= MOST_OF_A_LINE && !self.takes(line.as_slice()) {
-                return Err(Stop::Refused(Refusal::Syntax));
-            }
-            make(alloc, &mut player, line.as_slice(), &mut log)?;
-            self.keep(alloc, line.as_slice())?;
+            self.add_line(alloc, player, line, log)?;
         }
         Ok(())
+    }
+
+    // Makes the line read last, and keeps it.
+    fn add_line(
+        &mut self,
+        alloc: Global,
+        player: &mut Player,
+        line: &[u8],
+        log: &mut Log,
+    ) -> Result<(), Stop> {
+        if line.len() <= MOST_OF_A_LINE && !self.takes(line) {
+            return Err(Stop::Refused(Refusal::Syntax));
+        }
+        make(alloc, player, line, log)?;
+        self.keep(alloc, line)
     }
 
     // Whether a command of this name may stand here, whatever its numbers.
@@ -133,6 +156,35 @@ enum Explored {
     PastLimit(u64),
 }
 
+// Makes the steps in one order, from the start. Its outcome is kept, unless a call makes too many steps.
+fn make_order(
+    alloc: Global,
+    script: &Script,
+    first: Side,
+    moves: &mut Vec<Move>,
+    outcomes: &mut BTreeSet<Vec<u8>>,
+) -> Result<Length, Stop> {
+    let mut trial = script.set_up(alloc)?;
+    let length = trial.play(moves, first)?;
+    if let Length::Within = length {
+        keep_outcome(alloc, &trial, outcomes)?;
+    }
+    Ok(length)
+}
+
+// Adds the outcome of an order, unless it stands there.
+fn keep_outcome(
+    alloc: Global,
+    trial: &Trial,
+    outcomes: &mut BTreeSet<Vec<u8>>,
+) -> Result<(), Stop> {
+    let outcome = trial.outcome(alloc)?;
+    outcomes
+        .insert(outcome.as_bytes().to_vec(alloc)?)
+        .map_err(|_| Stop::Memory)?;
+    Ok(())
+}
+
 // Makes the steps of both calls in every order, each from the start.
 fn explore(
     alloc: Global,
@@ -144,14 +196,8 @@ fn explore(
     let mut moves = Vec::new(alloc);
     let mut is_second_long = false;
     for _ in 0..u64::MAX {
-        let mut trial = script.set_up(alloc)?;
-        match trial.play(&mut moves, first.side)? {
-            Length::Within => {
-                let outcome = trial.outcome(alloc)?;
-                outcomes
-                    .insert(outcome.as_bytes().to_vec(alloc)?)
-                    .map_err(|_| Stop::Memory)?;
-            }
+        match make_order(alloc, script, first.side, &mut moves, &mut outcomes)? {
+            Length::Within => {}
             Length::FirstIsLong => return Ok(Explored::PastLimit(first.line)),
             // The first may still be too long in another order, which is told before.
             Length::SecondIsLong => is_second_long = true,

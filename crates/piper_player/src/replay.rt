@@ -8,13 +8,13 @@ ghost use Rattle.piper_player.specs.Played.{PlaysLine};
 use crate::orders::run_all;
 use crate::player::Player;
 use crate::runner::run;
-use crate::stream::{read_line, write_reply};
+use crate::stream::{Lines, write_reply};
 use piper_script::command::Refusal;
-use piper_script::parser::{MOST_OF_A_LINE, parse};
+use piper_script::parser::parse;
 use piper_script::reply::Reply;
 use piper_script::stop::Stop;
 use std::alloc::Global;
-use std::io::{BufReader, Read, Write};
+use std::io::{Read, Write};
 
 /// How a replay ended.
 #[derive(Clone, Copy, Debug, PartialEq, Eq)]
@@ -73,7 +73,7 @@ impl From<Stop> for Ended {
 }
 
 /// How a script is run.
-#[derive(Clone, Copy, Debug, PartialEq, Eq)]
+#[derive(Clone, Copy)]
 enum Mode {
     /// Each line is run before the next is read.
     Play,
@@ -126,25 +126,46 @@ pub fn replay<I: Read, O: Write>(
 }
 
 fn play<I: Read, O: Write>(alloc: Global, input: &mut I, output: &mut O) -> Result<(), Stop> {
-    let mut reader = BufReader::new(alloc, input).map_err(|_| Stop::Memory)?;
-    // With room for a whole line from the start, reading one takes no memory.
-    let mut line = Vec::with_capacity(alloc, MOST_OF_A_LINE + 1)?;
-    let mut player = Player::new(alloc);
-    let mut reply = Reply::new(alloc);
+    let mut lines = Lines::new(alloc, input)?;
+    play_lines(
+        &mut lines,
+        &mut Player::new(alloc),
+        &mut Reply::new(alloc),
+        output,
+    )
+}
+
+fn play_lines<I: Read, O: Write>(
+    lines: &mut Lines<'_, I>,
+    player: &mut Player,
+    reply: &mut Reply,
+    output: &mut O,
+) -> Result<(), Stop> {
     for number in 1..u64::MAX {
-        if !read_line(&mut reader, &mut line)? {
+        let Some(line) = lines.next()? else {
             break;
-        }
-        reply.clear();
-        let played = play_line(&mut player, line.as_slice(), &mut reply);
-        if let Err(Stop::Refused(refusal)) = played {
-            reply.clear();
-            reply.write_refusal(number, refusal)?;
-        }
-        write_reply(&reply, output)?;
-        played?;
+        };
+        answer_line(player, number, line, reply, output)?;
     }
     Ok(())
+}
+
+// Plays the line of this number, and writes what it prints in place of what `reply` holds, and then to `output`.
+fn answer_line<O: Write>(
+    player: &mut Player,
+    number: u64,
+    line: &[u8],
+    reply: &mut Reply,
+    output: &mut O,
+) -> Result<(), Stop> {
+    reply.clear();
+    let played = play_line(player, line, reply);
+    if let Err(Stop::Refused(refusal)) = played {
+        reply.clear();
+        reply.write_refusal(number, refusal)?;
+    }
+    write_reply(reply, output)?;
+    played
 }
 
 fn play_line(player: &mut Player, line: &[u8], reply: &mut Reply) -> Result<(), Stop>
@@ -156,6 +177,3 @@ fn play_line(player: &mut Player, line: &[u8], reply: &mut Reply) -> Result<(), 
     }
     Ok(())
 }
-
-#[cfg(test)]
-mod tests;

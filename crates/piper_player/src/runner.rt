@@ -5,7 +5,7 @@ ghost use Rattle.std.specs.Option.{ForSome};
 ghost use Rattle.piper_player.specs.Script.{AddsLine};
 ghost use Rattle.piper_sides.specs.Index.{IsCapacity};
 
-use crate::stream::{read_line, stopped, write_reply};
+use crate::stream::{Lines, stopped, write_reply};
 use piper_machine::calls::{Side, Step};
 use piper_machine::events::Log;
 use piper_machine::machine::{self, Machine};
@@ -15,7 +15,7 @@ use piper_script::parser::{MOST_OF_A_LINE, is_silent, parse};
 use piper_script::reply::Reply;
 use piper_script::stop::Stop;
 use std::alloc::{AllocError, Global};
-use std::io::{BufReader, BufWriter, Read, Write};
+use std::io::{BufWriter, Read, Write};
 
 /// The most steps of a script.
 const MOST_STEPS: usize = 1_048_576;
@@ -49,14 +49,17 @@ impl Script {
 
     // Reads a script to its end.
     fn read<I: Read>(&mut self, alloc: Global, input: &mut I) -> Result<(), Stop> {
-        let mut reader = BufReader::new(alloc, input).map_err(|_| Stop::Memory)?;
-        let mut line = Vec::with_capacity(alloc, MOST_OF_A_LINE + 1)?;
+        let mut lines = Lines::new(alloc, input)?;
+        self.add_lines(alloc, &mut lines)
+    }
+
+    fn add_lines<I: Read>(&mut self, alloc: Global, lines: &mut Lines<'_, I>) -> Result<(), Stop> {
         for number in 1..u64::MAX {
-            if !read_line(&mut reader, &mut line)? {
+            let Some(line) = lines.next()? else {
                 break;
-            }
+            };
             self.line = number;
-            self.add_line(alloc, line.as_slice())?;
+            self.add_line(alloc, line)?;
         }
         Ok(())
     }
@@ -173,7 +176,16 @@ fn print<O: Write>(
 ) -> Result<(), Stop> {
     let unread = machine.unread()?;
     let mut output = BufWriter::new(alloc, output).map_err(|_| Stop::Memory)?;
-    let mut reply = Reply::new(alloc);
+    print_run(log, unread.as_slice(), &mut Reply::new(alloc), &mut output)
+}
+
+// Prints these, each line in place of what `reply` holds.
+fn print_run<O: Write>(
+    log: &Log,
+    unread: &[u8],
+    reply: &mut Reply,
+    output: &mut O,
+) -> Result<(), Stop> {
     for event in log.events() {
         reply.clear();
         reply.write_event_line(event)?;
@@ -181,7 +193,7 @@ fn print<O: Write>(
     }
     reply.clear();
     reply.write("unread ")?;
-    reply.write_list(unread.as_slice())?;
+    reply.write_list(unread)?;
     reply.write("\n")?;
-    write_reply(&reply, &mut output)
+    write_reply(reply, output)
 }

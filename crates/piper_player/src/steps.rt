@@ -2,6 +2,7 @@
 
 ghost use Rattle.std.specs.Prelude.{◌≡◌, OnOk};
 ghost use Rattle.piper_sides.specs.Log.{events};
+ghost use Rattle.piper_machine.specs.Run.{Made};
 ghost use Rattle.piper_player.specs.Steps.{Goes, GoesAs};
 
 use crate::whole::state;
@@ -36,22 +37,29 @@ fn make_some(
     ensures { OnOk result (Goes count side machine.old (events log.old) machine.new (events log.new)) }
 {
     for _ in 0..count {
-        machine.step(&Step::Go(side), log)?;
+        go(machine, side, log)?;
     }
     Ok(())
+}
+
+// Makes one step of the side's open call.
+fn go(machine: &mut Machine, side: Side, log: &mut Log) -> Result<(), StepRefusal>
+    ensures { OnOk result (Made machine.old (Step.Go side) machine.new (events log.old) (events log.new)) }
+{
+    machine.step(&Step::Go(side), log)
 }
 
 // Makes steps of the side until its open call answers.
 fn make_to_answer(machine: &mut Machine, side: Side, log: &mut Log) -> Result<(), StepRefusal>
     ensures { OnOk result (GoesAs Steps.ToAnswer side machine.old (events log.old) machine.new (events log.new)) }
 {
-    machine.step(&Step::Go(side), log)?;
+    go(machine, side, log)?;
     // No call makes as many steps.
     for _ in 0..u64::MAX {
         if state(machine, side) != SideState::Busy {
             break;
         }
-        machine.step(&Step::Go(side), log)?;
+        go(machine, side, log)?;
     }
     Ok(())
 }

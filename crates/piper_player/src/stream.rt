@@ -4,21 +4,41 @@ use piper_script::parser::MOST_OF_A_LINE;
 use piper_script::reply::Reply;
 use piper_script::stop::Stop;
 use std::alloc::Global;
-use std::io::{BufRead, Read, Write};
+use std::io::{BufRead, BufReader, Read, Write};
 
-/// Puts the next line, without its LF, in place of what `line` holds; `false` where the script has
-/// ended. Of a line that is too long only the beginning is read.
-pub fn read_line<R: BufRead>(reader: &mut R, line: &mut Vec<u8>) -> Result<bool, Stop> {
-    line.clear();
-    let count = reader
-        .by_ref()
-        .take(MOST_OF_A_LINE as u64 + 1)
-        .read_until(b'\n', line)
-        .map_err(|_| Stop::Read)?;
-    if line.last() == Some(&b'\n') {
-        line.pop();
+/// The lines of a script, read one after another.
+#[derive(Drop)]
+pub struct Lines<'input, I: Read> {
+    reader: BufReader<&'input mut I>,
+    line: Vec<u8>,
+}
+
+impl<'input, I: Read> Lines<'input, I> {
+    /// The lines of the script that `input` gives. With room for a whole line from the start, reading one takes no memory.
+    pub fn new(alloc: Global, input: &'input mut I) -> Result<Lines<'input, I>, Stop> {
+        let line = Vec::with_capacity(alloc, MOST_OF_A_LINE + 1)?;
+        let reader = BufReader::new(alloc, input).map_err(|_| Stop::Memory)?;
+        Ok(Lines { reader, line })
     }
-    Ok(count > 0)
+
+    /// The next line without its LF, unless the script has ended. Of a line that is too long only the beginning is read.
+    pub fn next(&mut self) -> Result<Option<&[u8]>, Stop> {
+        self.line.clear();
+        let count = self
+            .reader
+            .by_ref()
+            .take(MOST_OF_A_LINE as u64 + 1)
+            .read_until(b'\n', &mut self.line)
+            .map_err(|_| Stop::Read)?;
+        if self.line.last() == Some(&b'\n') {
+            self.line.pop();
+        }
+        Ok(if count > 0 {
+            Some(self.line.as_slice())
+        } else {
+            None
+        })
+    }
 }
 
 /// Writes and flushes the reply.

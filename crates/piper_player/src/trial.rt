@@ -22,7 +22,7 @@ use std::marker::Model;
 const MOST_STEPS: usize = 8;
 
 /// A step of an order.
-#[derive(Clone, Copy, Debug, PartialEq, Eq)]
+#[derive(Clone, Copy)]
 pub struct Move {
     pub side: Side,
     /// Whether the writer can make a step in place of the reader here.

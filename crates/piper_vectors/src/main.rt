@@ -1,25 +1,50 @@
-//! Replays scripts whose answers the Rust crate gave, and tells how many are answered alike.
+//! Replays scripts to which the answers are known, and tells how many are answered alike.
 #![tactic(auto)]
 
 use piper_player::replay::replay;
 use serde::Deserialize;
-use std::alloc::{AllocError, Global};
 use std::process::ExitCode;
 use std::{fs, io, str};
 
-/// The scripts, one a line, with what the crate answered. The file lies where the program runs.
-const VECTORS: &str = "upstream-play.jsonl";
+/// The scripts that the Rust crate answered. Each file lies where the program runs, and has one script a line.
+const OF_THE_CRATE: [&str; 1] = ["upstream-play.jsonl"];
+
+/// The scripts that the page of the language answers, in a file for each subject.
+const OF_THE_LANGUAGE: [&str; 9] = [
+    "whole-calls.jsonl",
+    "copies.jsonl",
+    "steps.jsonl",
+    "refusals.jsonl",
+    "lines.jsonl",
+    "lists.jsonl",
+    "limits.jsonl",
+    "mode-run.jsonl",
+    "mode-all.jsonl",
+];
 
 /// A script, what it prints, and the status with which its replay ends.
-#[derive(Debug, Drop, Deserialize)]
+#[derive(Drop, Deserialize)]
 struct Vector {
+    /// What the script shows, unless it was drawn at random.
+    #[serde(default)]
+    what: Option<String>,
+    /// The arguments of the command line.
+    #[serde(default)]
+    arguments: Vec<String>,
     script: String,
     output: String,
     status: u8,
 }
 
+/// How many scripts were replayed, and how many of them were answered as they should be.
+#[derive(Clone, Copy)]
+struct Tally {
+    alike: usize,
+    all: usize,
+}
+
 /// Where a replay gives something else than it should.
-#[derive(Debug, Drop)]
+#[derive(Drop)]
 struct Difference<'text> {
     /// The number of the first output line that differs.
     line: usize,
@@ -48,41 +73,67 @@ fn first_difference<'text>(wanted: &'text str, given: &'text str) -> Option<Diff
 }
 
 /// Replays a script, and tells in a line of its own where its answer differs.
-fn agrees(rt: &HostRuntime, number: usize, vector: &Vector) -> io::Result<bool> {
+fn is_alike(rt: &HostRuntime, vector: &Vector) -> io::Result<bool> {
     let mut output = Vec::new(rt.alloc());
     let mut input = vector.script.as_bytes();
-    let ended = replay(rt.alloc(), &[], &mut input, &mut output);
+    let ended = replay(rt.alloc(), &vector.arguments, &mut input, &mut output);
     let given = str::from_utf8(&output).unwrap_or("no text");
     if let Some(difference) = first_difference(vector.output.as_str(), given) {
         println!(rt;
-            "script {number}, line {}: {} in place of {}",
+            "output line {}: {} in place of {}",
             difference.line, difference.given, difference.wanted
         )?;
         return Ok(false);
     }
-    if ended.status != vector.status {
+    if ended.status != vector.status || !ended.text.is_empty() {
         println!(rt;
-            "script {number}: status {} in place of {}",
-            ended.status, vector.status
+            "status {} {} in place of {}",
+            ended.status, ended.text, vector.status
         )?;
         return Ok(false);
     }
     Ok(true)
 }
 
-fn main(rt: HostRuntime) -> Result<ExitCode, anyhow::Error> {
-    let text = fs::read_to_string(&rt, VECTORS)?;
-    let mut count = 0usize;
-    let mut agreeing = 0usize;
-    for line in text.lines() {
+/// Replays the scripts of a file, and tells which of them are answered otherwise.
+fn replay_file(rt: &HostRuntime, file: &str, tally: &mut Tally) -> Result<(), anyhow::Error> {
+    let text = fs::read_to_string(rt, file)?;
+    for (place, line) in text.lines().enumerate() {
+        let number = place.saturating_add(1);
         let vector: Vector = serde_json::from_str(rt.alloc(), line)?;
-        count = count.saturating_add(1);
-        if agrees(&rt, count, &vector)? {
-            agreeing = agreeing.saturating_add(1);
+        tally.all = tally.all.saturating_add(1);
+        if is_alike(rt, &vector)? {
+            tally.alike = tally.alike.saturating_add(1);
+        } else {
+            let what = vector.what.as_deref().unwrap_or("drawn at random");
+            println!(rt; "  in line {number} of {file}: {what}")?;
         }
     }
-    println!(rt; "{agreeing} of {count} scripts are answered as by the crate")?;
-    Ok(if agreeing == count {
+    Ok(())
+}
+
+/// Replays the scripts of all these files.
+fn replay_files(rt: &HostRuntime, files: &[&str]) -> Result<Tally, anyhow::Error> {
+    let mut tally = Tally { alike: 0, all: 0 };
+    for file in files {
+        replay_file(rt, file, &mut tally)?;
+    }
+    Ok(tally)
+}
+
+fn main(rt: HostRuntime) -> Result<ExitCode, anyhow::Error> {
+    let by_the_crate = replay_files(&rt, &OF_THE_CRATE)?;
+    let by_the_page = replay_files(&rt, &OF_THE_LANGUAGE)?;
+    println!(rt;
+        "{} of {} scripts are answered as by the crate",
+        by_the_crate.alike, by_the_crate.all
+    )?;
+    println!(rt;
+        "{} of {} scripts are answered as the page of the language says",
+        by_the_page.alike, by_the_page.all
+    )?;
+    let is_alike = by_the_crate.alike == by_the_crate.all && by_the_page.alike == by_the_page.all;
+    Ok(if is_alike {
         ExitCode::SUCCESS
     } else {
         ExitCode::FAILURE

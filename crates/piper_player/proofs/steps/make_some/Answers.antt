@@ -4,4 +4,4 @@ use Rattle.piper_player.proofs.steps.make_some.Goals as goal
 
 pub loop-preserved : goal.loop-preserved
 loop-preserved c =
-    goes_more c.loop.counter c.args.side c.args.machine.now c.loop.machine c.step.new.self (events c.args.log.now) (events c.loop.log) (events c.step.new.log) c.loop.invariant c.in_ok-step.ensures.made
+    goes_more c.loop.counter c.args.side c.args.machine.now c.loop.machine c.go.new.machine (events c.args.log.now) (events c.loop.log) (events c.go.new.log) c.loop.invariant c.in_ok-go.ensures

@@ -5,7 +5,7 @@ use Rattle.piper_player.proofs.steps.make_to_answer.Goals as goal
 
 pub loop-preserved : goal.loop-preserved
 loop-preserved c =
-    goes_more (c.loop.counter + 1) c.args.side c.args.machine.now c.loop.machine c.step-in-loop.new.self (events c.args.log.now) (events c.loop.log) (events c.step-in-loop.new.log) c.loop.invariant c.in_ok-step-2.ensures.made
+    goes_more (c.loop.counter + 1) c.args.side c.args.machine.now c.loop.machine c.go-in-loop.new.machine (events c.args.log.now) (events c.loop.log) (events c.go-in-loop.new.log) c.loop.invariant c.in_ok-go-2.ensures
 
 pub returns-after-loop : goal.returns-after-loop
 returns-after-loop c = (c.loop.counter + 1, omega arith, c.loop.invariant)
