@@ -5,7 +5,7 @@ use Rattle.piper_sides.specs.declared.scripted.SourceAct.{SourceAct}
 use Rattle.piper_sides.specs.declared.scripted.SourceAct.TheVariants as source
 use Rattle.piper_sides.specs.declared.scripted.DestAct.{DestAct}
 use Rattle.piper_sides.specs.declared.scripted.DestAct.TheVariants as dest
-use Rattle.piper_script.specs.declared.command.TheConstants.{MOST}
+use Rattle.piper_script.specs.Limits.{greatest_number}
 use Rattle.piper_script.specs.declared.list.Item.{Item}
 use Rattle.piper_script.specs.declared.acts.Sources.{Sources}
 use Rattle.piper_script.specs.Joined.{joined_or}
@@ -53,7 +53,7 @@ dest_text (dest.Take most) = decimal most
 dest_text dest.Fail = codes "fail"
 
 abbrev pub IsDestInLimits : DestAct → Type 0
-IsDestInLimits (dest.Take most) = most ≤ MOST
+IsDestInLimits (dest.Take most) = most ≤ greatest_number
 IsDestInLimits dest.Fail = Unit {0}
 
 abbrev pub dests_text : List DestAct → List ℕ

@@ -2,7 +2,7 @@
 use Rattle.std.specs.Prelude.{ℕ, ◌≤◌, List, [], ◌++◌, codes, decimal, ◌≡◌, ◌⊎◌, Bool, true, false, Option, slice_get, Some, None}
 use Rattle.piper_sides.specs.declared.calls.Side.{Side}
 use Rattle.piper_sides.specs.declared.calls.Side.TheVariants.{Reader, Writer}
-use Rattle.piper_script.specs.declared.command.TheConstants.{MOST}
+use Rattle.piper_script.specs.Limits.{greatest_number}
 use Rattle.piper_script.specs.declared.command.Luck.{Luck}
 use Rattle.piper_script.specs.declared.command.Steps.{Steps}
 use Rattle.piper_script.specs.declared.command.Steps.TheVariants.{One, Count, ToAnswer}
@@ -61,23 +61,23 @@ command_text (Begin call) = codes "begin " ++ call_text call
 command_text (Go side steps) = codes "go " ++ side_text side ++ steps_text steps
 
 abbrev pub IsCallInLimits : Call → Type 0
-IsCallInLimits (Fill list) = list.len ≤ MOST
-IsCallInLimits (Drain most) = most ≤ MOST
-IsCallInLimits (PollFill waker list luck) = list.len ≤ MOST
-IsCallInLimits (PollDrain waker most luck) = most ≤ MOST
-IsCallInLimits (FillFrom waker sources luck) = sources.len ≤ MOST
+IsCallInLimits (Fill list) = list.len ≤ greatest_number
+IsCallInLimits (Drain most) = most ≤ greatest_number
+IsCallInLimits (PollFill waker list luck) = list.len ≤ greatest_number
+IsCallInLimits (PollDrain waker most luck) = most ≤ greatest_number
+IsCallInLimits (FillFrom waker sources luck) = sources.len ≤ greatest_number
 IsCallInLimits (DrainTo waker dests luck) = IsDests dests.text.now
-IsCallInLimits (Consume n) = n ≤ MOST
-IsCallInLimits (Lend most) = most ≤ MOST
-IsCallInLimits (Produced n) = n ≤ MOST
+IsCallInLimits (Consume n) = n ≤ greatest_number
+IsCallInLimits (Lend most) = most ≤ greatest_number
+IsCallInLimits (Produced n) = n ≤ greatest_number
 IsCallInLimits call = Unit {0}
 
 abbrev pub IsInLimits : Command → Type 0
-IsInLimits (Pipe capacity) = (1 ≤ capacity) × (capacity ≤ MOST)
+IsInLimits (Pipe capacity) = (1 ≤ capacity) × (capacity ≤ greatest_number)
 IsInLimits (Whole call) = IsCallInLimits call
-IsInLimits (Put offset byte) = offset ≤ MOST
+IsInLimits (Put offset byte) = offset ≤ greatest_number
 IsInLimits (Begin call) = IsCallInLimits call
-IsInLimits (Go side (Count n)) = (1 ≤ n) × (n ≤ MOST)
+IsInLimits (Go side (Count n)) = (1 ≤ n) × (n ≤ greatest_number)
 IsInLimits command = Unit {0}
 
 -- an empty line, or one that begins with a hash

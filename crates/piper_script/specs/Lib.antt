@@ -2,6 +2,7 @@ pub mod Acts
 pub mod Command
 pub mod Event
 pub mod Joined
+pub mod Limits
 pub mod List
 pub mod Meaning
 pub mod Number

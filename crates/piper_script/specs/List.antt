@@ -1,7 +1,7 @@
 -- Lists of bytes, as a script writes them.
 use Rattle.std.specs.Prelude.{◌≡◌, ℕ, zero, suc, ◌+◌, ◌-◌, ◌≤◌, List, [], ◌∷◌, ◌++◌, codes, decimal, replicate, length}
 use Rattle.std.specs.List.{flat_map}
-use Rattle.piper_script.specs.declared.command.TheConstants.{MOST}
+use Rattle.piper_script.specs.Limits.{greatest_number}
 use Rattle.piper_script.specs.Joined.{joined_or_dash}
 use Rattle.piper_script.specs.declared.list.List.{List as ByteList}
 use Rattle.piper_script.specs.declared.list.Item.{Item}
@@ -26,7 +26,7 @@ item_bytes (Repeat value count) = replicate count value
 abbrev pub IsItem : Item → Type 0
 IsItem (Byte value) = Unit {0}
 IsItem (Range first last) = first ≤ last
-IsItem (Repeat value count) = count ≤ MOST
+IsItem (Repeat value count) = count ≤ greatest_number
 
 abbrev pub list_text : List Item → List ℕ
 list_text items = joined_or_dash 44 item_text items

@@ -1,6 +1,7 @@
 //! What scripted sources and destinations do, as a script writes it.
 
-ghost use Rattle.std.specs.Prelude.{◌≡◌, ◌≤◌, ◌++◌, length, codes, decimal, IfOk, IfErr};
+ghost use Rattle.std.specs.Prelude.{◌≡◌, ◌≤◌, [], ◌++◌, length, codes, decimal, IfOk, IfErr, OnOk};
+ghost use Rattle.piper_script.specs.Limits.{greatest_number};
 ghost use Rattle.piper_script.specs.Refusal.{IsTextRefusal};
 ghost use Rattle.piper_script.specs.Acts.{IsSource, dest_text, IsDestInLimits, WritesSource};
 
@@ -12,7 +13,7 @@ use piper_sides::scripted::{DestAct, Script, SourceAct};
 use std::alloc::Global;
 
 /// The acts of a source: their text, and how many bytes their lists stand for.
-#[derive(Clone, Copy, Debug, PartialEq, Eq)]
+#[derive(Clone, Copy)]
 pub struct Sources<'line> {
     pub text: &'line str,
     pub len: usize,
@@ -25,7 +26,7 @@ impl<'line> Sources<'line> {
     pub fn parse(text: &'line str) -> Result<Sources<'line>, Refusal>
         ensures text { IfOk result (λ sources. sources.text.now ≡ text.now) }
         ensures acts { IfOk result IsSources }
-        ensures limits { IfOk result (λ sources. sources.len ≤ MOST) }
+        ensures limits { IfOk result (λ sources. sources.len ≤ greatest_number) }
         ensures refused { IfErr result IsTextRefusal }
     {
         if text == "none" {
@@ -51,13 +52,21 @@ impl<'line> Sources<'line> {
         ensures { IfOk result (λ acts. StandsForActs self.entry.text.now acts) }
     {
         let mut acts = Script::new(alloc);
+        self.add_to(alloc, &mut acts)?;
+        Ok(acts)
+    }
+
+    fn add_to(self, alloc: Global, acts: &mut Script<SourceAct>) -> Result<(), Stop>
+        requires { acts.old ≡ [] }
+        ensures { OnOk result (StandsForActs self.entry.text.now acts.new) }
+    {
         if self.text == "none" {
-            return Ok(acts);
+            return Ok(());
         }
         for act in self.text.split('/') {
             acts.push(source(alloc, act)?)?;
         }
-        Ok(acts)
+        Ok(())
     }
 }
 
@@ -83,7 +92,7 @@ fn source(alloc: Global, text: &str) -> Result<SourceAct, Stop>
 }
 
 /// The acts of a destination: their text.
-#[derive(Clone, Copy, Debug, PartialEq, Eq)]
+#[derive(Clone, Copy)]
 pub struct Dests<'line> {
     pub text: &'line str,
 }
@@ -120,13 +129,21 @@ impl<'line> Dests<'line> {
         ensures { IfOk result (λ acts. self.entry.text.now ≡ dests_text acts) }
     {
         let mut acts = Script::new(alloc);
+        self.add_to(&mut acts)?;
+        Ok(acts)
+    }
+
+    fn add_to(self, acts: &mut Script<DestAct>) -> Result<(), Stop>
+        requires { acts.old ≡ [] }
+        ensures { OnOk result (self.entry.text.now ≡ dests_text acts.new) }
+    {
         if self.text == "none" {
-            return Ok(acts);
+            return Ok(());
         }
         for act in self.text.split('/') {
             acts.push(dest(act)?)?;
         }
-        Ok(acts)
+        Ok(())
     }
 }
 

@@ -9,7 +9,7 @@ use std::fmt;
 pub const MOST: usize = 1_048_576;
 
 /// A command of a script.
-#[derive(Clone, Copy, Debug)]
+#[derive(Clone, Copy)]
 pub enum Command<'line> {
     /// Puts a new machine of this capacity in place of the old one.
     Pipe(usize),
@@ -26,7 +26,7 @@ pub enum Command<'line> {
 }
 
 /// A call of the reader or the writer.
-#[derive(Clone, Copy, Debug)]
+#[derive(Clone, Copy)]
 pub enum Call<'line> {
     Len(Side),
     IsEmpty(Side),
@@ -57,7 +57,7 @@ pub enum Call<'line> {
 }
 
 /// What happens to a poll from outside the pipe, as its line says it.
-#[derive(Clone, Copy, Debug, PartialEq, Eq)]
+#[derive(Clone, Copy)]
 pub struct Luck {
     /// The number drawn; 1 where the line names none.
     pub draw: Option<u32>,
@@ -68,7 +68,7 @@ pub struct Luck {
 }
 
 /// How many steps are made.
-#[derive(Clone, Copy, Debug, PartialEq, Eq)]
+#[derive(Clone, Copy)]
 pub enum Steps {
     One,
     Count(usize),
@@ -77,7 +77,7 @@ pub enum Steps {
 }
 
 /// Why a line was not run.
-#[derive(Clone, Copy, Debug, PartialEq, Eq)]
+#[derive(Clone, Copy)]
 pub enum Refusal {
     /// The line is not of the script language.
     Syntax,

@@ -1,5 +1,6 @@
 //! Lists of bytes, as a script writes them.
 ghost use Rattle.std.specs.Prelude.{◌≡◌, ℕ, ◌≤◌, ◌<◌, ◌++◌, length, codes, decimal, IfOk, IfErr, OnOk, IsErrOf, ◌↔◌, ◌⊎◌};
+ghost use Rattle.piper_script.specs.Limits.{greatest_number};
 ghost use Rattle.piper_script.specs.Refusal.{IsTextRefusal};
 ghost use Rattle.piper_script.specs.Number.{IsNumber};
 ghost use Rattle.piper_script.specs.List.{item_text, item_bytes, IsItem};
@@ -11,7 +12,7 @@ use piper_sides::bytes::Bytes;
 use std::alloc::{AllocError, Global};
 
 /// One item of a list.
-#[derive(Clone, Copy, Debug, PartialEq, Eq)]
+#[derive(Clone, Copy)]
 pub enum Item {
     /// One byte.
     Byte(u8),
@@ -90,7 +91,7 @@ pub fn byte(text: &str) -> Result<u8, Refusal>
 }
 
 /// A list of bytes: its text, and how many bytes it stands for.
-#[derive(Clone, Copy, Debug, PartialEq, Eq)]
+#[derive(Clone, Copy)]
 pub struct List<'line> {
     pub text: &'line str,
     pub len: usize,
@@ -103,7 +104,7 @@ impl<'line> List<'line> {
     pub fn parse(text: &'line str) -> Result<List<'line>, Refusal>
         ensures text { IfOk result (λ list. list.text.now ≡ text.now) }
         ensures list { IfOk result IsList }
-        ensures limits { IfOk result (λ list. list.len ≤ MOST) }
+        ensures limits { IfOk result (λ list. list.len ≤ greatest_number) }
         ensures refused { IfErr result IsTextRefusal }
     {
         if text == "-" {

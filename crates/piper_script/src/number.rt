@@ -1,5 +1,6 @@
 //! Numbers of a script: decimal, without a sign and without leading zeros.
 ghost use Rattle.std.specs.Prelude.{◌≡◌, ℕ, ◌≤◌, ◌↔◌, decimal, IsTrue, IfOk, IfErr, IsErrOf};
+ghost use Rattle.piper_script.specs.Limits.{greatest_name};
 ghost use Rattle.piper_script.specs.Refusal.{IsTextRefusal};
 ghost use Rattle.piper_script.specs.Number.{IsNumber};
 
@@ -40,7 +41,7 @@ pub fn name(text: &str) -> Result<u32, Refusal>
     ensures text { IfOk result (λ value. text.now ≡ decimal value) }
     ensures syntax { IsErrOf result Refusal.Syntax ↔ (¬ IsNumber text.now) }
     ensures refused { IfErr result IsTextRefusal }
-    ensures accepts { (n : ℕ) → text.now ≡ decimal n → n ≤ MOST_OF_A_NAME → result ≡ Ok n }
+    ensures accepts { (n : ℕ) → text.now ≡ decimal n → n ≤ greatest_name → result ≡ Ok n }
 {
     let value = number(text, 0, MOST_OF_A_NAME)?;
     Ok(value as u32)

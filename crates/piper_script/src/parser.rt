@@ -2,6 +2,7 @@
 
 ghost use Rattle.std.specs.Prelude.{◌≡◌, ◌≤◌, ◌<◌, ◌++◌, ◌∷◌, length, codes, decimal, IsTrue, ◌↔◌, IfOk, IfErr, IfSome, IfNone};
 ghost use Rattle.piper_sides.specs.declared.calls.Side.{Side};
+ghost use Rattle.piper_script.specs.Limits.{longest_line};
 ghost use Rattle.piper_script.specs.Refusal.{IsTextRefusal};
 ghost use Rattle.piper_script.specs.Command.{side_text, word_if, draw_text, luck_text, steps_text, call_text, command_text, IsCallInLimits, IsInLimits, IsSilent};
 
@@ -20,8 +21,8 @@ pub fn parse(line: &[u8]) -> Result<Option<Command<'_>>, Refusal>
     ensures text { IfOk result (λ said. IfSome said (λ command. line.now ≡ command_text command)) }
     ensures limits { IfOk result (λ said. IfSome said IsInLimits) }
     ensures silent { IfOk result (λ said. IfNone said (IsSilent line.now)) }
-    ensures silence { length line.now ≤ MOST_OF_A_LINE → IsSilent line.now → result ≡ Ok None }
-    ensures long { MOST_OF_A_LINE < length line.now → result ≡ Err Refusal.Limit }
+    ensures silence { length line.now ≤ longest_line → IsSilent line.now → result ≡ Ok None }
+    ensures long { longest_line < length line.now → result ≡ Err Refusal.Limit }
     ensures refused { IfErr result IsTextRefusal }
 {
     if line.len() > MOST_OF_A_LINE {
@@ -44,14 +45,20 @@ pub fn is_silent(line: &[u8]) -> bool
 /// The side whose call a line opens, if it is one that begins with `begin`, whatever the numbers in it.
 pub fn begins_for(line: &[u8]) -> Option<Side> {
     let text = str::from_utf8(line).ok()?;
-    let mut words = text.split(' ');
-    if words.next() != Some("begin") {
-        return None;
+    let mut words = text.strip_prefix("begin ")?.split(' ');
+    let name = words.next()?;
+    match side_of_call(name) {
+        Some(side) => Some(side),
+        None => side(words.next()?).ok(),
     }
-    match words.next()? {
+}
+
+// The side that alone has the call of this name.
+fn side_of_call(name: &str) -> Option<Side> {
+    match name {
         "fill" | "pollfill" | "fillfrom" | "lend" | "produced" | "close" => Some(Side::Writer),
         "drain" | "polldrain" | "drainto" | "consume" => Some(Side::Reader),
-        _ => side(words.next()?).ok(),
+        _ => None,
     }
 }
 
@@ -101,21 +108,46 @@ fn call_with<'line>(name: &str, arguments: &'line str) -> Result<Call<'line>, Re
     ensures refused { IfErr result IsTextRefusal }
 {
     match name {
-        "len" => Ok(Call::Len(side(arguments)?)),
-        "empty" => Ok(Call::IsEmpty(side(arguments)?)),
-        "full" => Ok(Call::IsFull(side(arguments)?)),
-        "closed" => Ok(Call::IsClosed(side(arguments)?)),
         "poll" => poll(arguments),
         "fill" => Ok(Call::Fill(List::parse(arguments)?)),
-        "drain" => Ok(Call::Drain(number(arguments, 0, MOST)?)),
         "pollfill" => poll_fill(arguments),
         "polldrain" => poll_drain(arguments),
         "fillfrom" => fill_from(arguments),
         "drainto" => drain_to(arguments),
-        "consume" => Ok(Call::Consume(number(arguments, 0, MOST)?)),
-        "lend" => Ok(Call::Lend(number(arguments, 0, MOST)?)),
-        "produced" => Ok(Call::Produced(number(arguments, 0, MOST)?)),
-        "drop" => Ok(Call::Drop(side(arguments)?)),
+        "drain" | "consume" | "lend" | "produced" => call_with_number(name, arguments),
+        _ => call_with_side(name, arguments),
+    }
+}
+
+// A call whose one argument is a number.
+fn call_with_number<'line>(name: &str, arguments: &'line str) -> Result<Call<'line>, Refusal>
+    ensures text { IfOk result (λ call. name.now ++ 32 ∷ arguments.now ≡ call_text call) }
+    ensures limits { IfOk result IsCallInLimits }
+    ensures refused { IfErr result IsTextRefusal }
+{
+    let n = number(arguments, 0, MOST)?;
+    match name {
+        "drain" => Ok(Call::Drain(n)),
+        "consume" => Ok(Call::Consume(n)),
+        "lend" => Ok(Call::Lend(n)),
+        "produced" => Ok(Call::Produced(n)),
+        _ => Err(Refusal::Syntax),
+    }
+}
+
+// A call whose one argument is a side.
+fn call_with_side<'line>(name: &str, arguments: &'line str) -> Result<Call<'line>, Refusal>
+    ensures text { IfOk result (λ call. name.now ++ 32 ∷ arguments.now ≡ call_text call) }
+    ensures limits { IfOk result IsCallInLimits }
+    ensures refused { IfErr result IsTextRefusal }
+{
+    let side = side(arguments)?;
+    match name {
+        "len" => Ok(Call::Len(side)),
+        "empty" => Ok(Call::IsEmpty(side)),
+        "full" => Ok(Call::IsFull(side)),
+        "closed" => Ok(Call::IsClosed(side)),
+        "drop" => Ok(Call::Drop(side)),
         _ => Err(Refusal::Syntax),
     }
 }

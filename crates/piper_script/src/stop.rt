@@ -9,7 +9,7 @@ use piper_sides::refusals::StepRefusal;
 use std::alloc::AllocError;
 
 /// Why a replay stops before the end of its script.
-#[derive(Clone, Copy, Debug, PartialEq, Eq)]
+#[derive(Clone, Copy)]
 pub enum Stop {
     /// A line was refused.
     Refused(Refusal),

@@ -1,5 +1,5 @@
 use Rattle.piper_script.proofs.ScriptedActs.{one_act_more}
-use Rattle.piper_script.proofs.acts.Sources.acts.Goals as goal
+use Rattle.piper_script.proofs.acts.Sources.add_to.Goals as goal
 
 pub loop-act-preserved : goal.loop-act-preserved
 loop-act-preserved c =

@@ -1,6 +1,6 @@
 use Rattle.piper_script.specs.Acts.{dest_text}
 use Rattle.piper_script.proofs.Lists.{texts_of-append}
-use Rattle.piper_script.proofs.acts.Dests.acts.Goals as goal
+use Rattle.piper_script.proofs.acts.Dests.add_to.Goals as goal
 
 pub loop-act-preserved : goal.loop-act-preserved
 loop-act-preserved c =
