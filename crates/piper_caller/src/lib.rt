@@ -77,6 +77,3 @@ pub fn counted_alone(machine: &mut Machine) -> usize
 {
     machine.r_len()
 }
-
-#[cfg(test)]
-mod tests;

@@ -8,6 +8,3 @@ mod source;
 pub use piper_sides::memory::OutOfMemory;
 pub use piper_sides::slot::SlotState;
 pub use piper_sides::{bytes, calls, events, index, memory, polling, refusals, scripted, slot};
-
-#[cfg(test)]
-mod tests;

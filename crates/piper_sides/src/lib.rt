@@ -12,7 +12,5 @@ pub mod refusals;
 pub mod scripted;
 pub mod slot;
 pub mod table;
-#[cfg(test)]
-mod tests;
 pub mod woken;
 pub mod write_side;

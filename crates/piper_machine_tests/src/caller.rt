@@ -1,13 +1,14 @@
 //! What the contracts leave open: that there is memory, and that a list of steps is accepted.
-use crate::{counted_alone, made_by_the_laws, through};
+use crate::same;
+use piper_caller::{counted_alone, made_by_the_laws, through};
 use piper_machine::calls::{Call, Side, SideState, Step};
 use std::test::Fail;
 
 #[test]
 fn bytes_come_out_as_they_went_in(rt: HostRuntime) -> Result<(), Fail> {
     let mut place = [0; 3];
-    assert_eq!(rt; through(rt.alloc(), b"abc", &mut place)?, 3);
-    assert_eq!(rt; place.as_slice(), b"abc".as_slice());
+    same(&rt, through(rt.alloc(), b"abc", &mut place)?, 3);
+    same(&rt, place.as_slice(), b"abc".as_slice());
     Ok(())
 }
 
@@ -25,8 +26,8 @@ fn steps_of_both_sides_are_made(rt: HostRuntime) -> Result<(), Fail> {
         assert!(rt; false, "the steps are refused");
         return Ok(());
     };
-    assert_eq!(rt; log.events().len(), 8);
+    same(&rt, log.events().len(), 8);
     assert!(rt; machine.r_state() == SideState::Idle);
-    assert_eq!(rt; counted_alone(&mut machine), 2);
+    same(&rt, counted_alone(&mut machine), 2);
     Ok(())
 }
