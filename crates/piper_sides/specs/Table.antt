@@ -194,6 +194,11 @@ abbrev pub read_after : ℕ → ReadPlace → Found → Next ReadPlace
 read_after capacity (at.QueryTail query) (unread count) = ends at.Idle (query_answer query capacity count)
 read_after capacity place found = read_step place found
 
+-- where a step of the reader leads, whatever the capacity
+pub record ReadLeads (to : ReadPlace × Option Answer) (place : ReadPlace) (found : Found) : Type 0 where
+  pub step : Leads to (read_step place found)
+  pub after : (capacity : ℕ) → Leads to (read_after capacity place found)
+
 -- the writer
 
 abbrev pub write_action : WritePlace → Action
@@ -329,6 +334,11 @@ abbrev pub write_after : ℕ → ℕ → WritePlace → Found → Next WritePlac
 write_after capacity room (on.QueryTail query count) found = ends on.Idle (query_answer query capacity count)
 write_after capacity room (on.LookClosed l) (flag is_closed) = writer_is_open is_closed (room == 0) l
 write_after capacity room place found = write_step place found
+
+-- where a step of the writer leads, whatever the capacity and the known room
+pub record WriteLeads (to : WritePlace × Option Answer) (place : WritePlace) (found : Found) : Type 0 where
+  pub step : Leads to (write_step place found)
+  pub after : (capacity room : ℕ) → Leads to (write_after capacity room place found)
 
 -- whether the answer of a step at this place would end a fill
 abbrev pub is_copy : Purpose → Bool

@@ -10,9 +10,9 @@ use std::marker::Model;
 
 /// A reader's open call: where it stands in the call table, and its answer once it has one.
 ///
-/// It is opened by the function of its kind. Each step that was made takes it and gives it back, and is
-/// allowed only where the table puts that step next. It is neither copied nor let go: it ends by `end` or
-/// `done`, and so only where the table ends it.
+/// It is opened by the function of its kind. Each step that was made takes it and gives it back, and
+/// is allowed only where the table puts that step next. It is neither copied nor let go: it ends by
+/// `end` or `done`, and so only where the table ends it.
 pub struct ReadCall {
     place: ReadPlace,
     answer: Option<Answer>,
@@ -116,7 +116,7 @@ impl ReadCall {
         ReadCall { place, answer }
     }
 
-    /// The tail was loaded in a look, and the reader knows of no byte even now (`none`), or of some.
+    /// The tail was loaded in a look, and no byte is known even now (`none`), or some is.
     pub fn refreshed(self, none: bool) -> ReadCall
         requires next { read_action self.place ≡ Action.Refresh }
         ensures { result ≡ read_step self.place (refreshed none) }
@@ -157,7 +157,8 @@ impl ReadCall {
         ReadCall { place, answer }
     }
 
-    /// The reader's own slot was emptied, behind the true look of a polling copy; then it drew whether to yield.
+    /// The reader's own slot was emptied behind the true look of a polling copy, which then drew whether to
+    /// yield.
     pub fn took_own_and_drew(self, is_drawn: bool) -> ReadCall
         requires next { self.place ≡ ReadPlace.LookTake (Purpose.Copy (Form.Polling false)) }
         ensures { result ≡ reader_is_true (Purpose.Copy (Form.Polling is_drawn)) }

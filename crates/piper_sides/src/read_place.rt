@@ -1,6 +1,6 @@
-//! The rows of the reader's calls: one function a kind of step, allowed only where that kind is next.
+//! The rows of the reader's calls: one function a kind of step, allowed where it is next.
 ghost use Rattle.std.specs.Prelude.{IsSome, ◌≡◌, ℕ, ◌+◌, ◌^◌, ◌<◌, ◌≤◌, true, false};
-ghost use Rattle.piper_sides.specs.Table.{Leads, read_action, read_after, read_done, read_step, reader_draws, reader_found, reader_found_none, reader_looks_for, nothing, unread, refreshed, flag, granted, waker, moved, failed};
+ghost use Rattle.piper_sides.specs.Table.{Leads, ReadLeads, read_action, read_after, read_done, read_step, reader_draws, reader_found, reader_found_none, reader_looks_for, nothing, unread, refreshed, flag, granted, waker, moved, failed};
 ghost use Rattle.piper_sides.specs.Side.{head_store, read_sum, read_round};
 
 use crate::calls::Side;
@@ -71,8 +71,7 @@ impl ReadPlace {
     /// The head was loaded in a query.
     pub(crate) fn loaded_head(self) -> (ReadPlace, Option<Answer>)
         requires next { read_action self ≡ Action.LoadHead }
-        ensures after { (capacity : ℕ) → Leads result (read_after capacity self nothing) }
-        ensures step { Leads result (read_step self nothing) }
+        ensures leads { ReadLeads result self nothing }
         ensures open { result.0 ≡ ReadPlace.Idle → IsSome result.1 }
         ensures no_store { head_store result.0 ≡ 0 }
         ensures no_sum { read_sum result.0 ≡ 0 }
@@ -100,8 +99,7 @@ impl ReadPlace {
     /// The tail was loaded in a look, and the reader knows of no byte even now, or of some.
     pub(crate) fn refreshed(self, none: bool) -> (ReadPlace, Option<Answer>)
         requires next { read_action self ≡ Action.Refresh }
-        ensures after { (capacity : ℕ) → Leads result (read_after capacity self (refreshed none)) }
-        ensures step { Leads result (read_step self (refreshed none)) }
+        ensures leads { ReadLeads result self (refreshed none) }
         ensures open { result.0 ≡ ReadPlace.Idle → IsSome result.1 }
         ensures no_store { head_store result.0 ≡ 0 }
         ensures no_sum { read_sum result.0 ≡ 0 }
@@ -123,8 +121,7 @@ impl ReadPlace {
     /// Closed was loaded, and the flag was this.
     pub(crate) fn loaded_closed(self, is_closed: bool) -> (ReadPlace, Option<Answer>)
         requires next { read_action self ≡ Action.LoadClosed }
-        ensures after { (capacity : ℕ) → Leads result (read_after capacity self (flag is_closed)) }
-        ensures step { Leads result (read_step self (flag is_closed)) }
+        ensures leads { ReadLeads result self (flag is_closed) }
         ensures open { result.0 ≡ ReadPlace.Idle → IsSome result.1 }
         ensures no_store { head_store result.0 ≡ 0 }
         ensures no_sum { read_sum result.0 ≡ 0 }
@@ -139,8 +136,7 @@ impl ReadPlace {
     /// The call's waker was registered, or its clone was refused.
     pub(crate) fn registered(self, is_granted: bool) -> (ReadPlace, Option<Answer>)
         requires next { read_action self ≡ Action.Register }
-        ensures after { (capacity : ℕ) → Leads result (read_after capacity self (granted is_granted)) }
-        ensures step { Leads result (read_step self (granted is_granted)) }
+        ensures leads { ReadLeads result self (granted is_granted) }
         ensures open { result.0 ≡ ReadPlace.Idle → IsSome result.1 }
         ensures no_store { head_store result.0 ≡ 0 }
         ensures no_sum { read_sum result.0 ≡ 0 }
@@ -161,8 +157,7 @@ impl ReadPlace {
     /// The reader's own slot was emptied.
     pub(crate) fn took_own(self) -> (ReadPlace, Option<Answer>)
         requires next { read_action self ≡ Action.Take Side.Reader }
-        ensures after { (capacity : ℕ) → Leads result (read_after capacity self nothing) }
-        ensures step { Leads result (read_step self nothing) }
+        ensures leads { ReadLeads result self nothing }
         ensures open { result.0 ≡ ReadPlace.Idle → IsSome result.1 }
         ensures no_store { head_store result.0 ≡ 0 }
         ensures no_sum { read_sum result.0 ≡ 0 }
@@ -180,8 +175,7 @@ impl ReadPlace {
     /// The caller's own waker was called in place of the rounds, or its clone was refused.
     pub(crate) fn yielded(self, is_granted: bool) -> (ReadPlace, Option<Answer>)
         requires next { read_action self ≡ Action.Yield }
-        ensures after { (capacity : ℕ) → Leads result (read_after capacity self (granted is_granted)) }
-        ensures step { Leads result (read_step self (granted is_granted)) }
+        ensures leads { ReadLeads result self (granted is_granted) }
         ensures open { result.0 ≡ ReadPlace.Idle → IsSome result.1 }
         ensures no_store { head_store result.0 ≡ 0 }
         ensures no_sum { read_sum result.0 ≡ 0 }
@@ -196,8 +190,7 @@ impl ReadPlace {
     pub(crate) fn destination_took(self, n: usize) -> (ReadPlace, Option<Answer>)
         requires next { read_action self ≡ Action.CallDestination }
         requires fits { read_sum self + n < 2 ^ 64 }
-        ensures after { (capacity : ℕ) → Leads result (read_after capacity self (moved n)) }
-        ensures step { Leads result (read_step self (moved n)) }
+        ensures leads { ReadLeads result self (moved n) }
         ensures open { result.0 ≡ ReadPlace.Idle → IsSome result.1 }
         ensures stored { head_store result.0 ≤ n }
         ensures sum { read_sum result.0 ≤ read_sum self + head_store result.0 }
@@ -218,8 +211,7 @@ impl ReadPlace {
     /// The destination failed, and took nothing.
     pub(crate) fn destination_failed(self) -> (ReadPlace, Option<Answer>)
         requires next { read_action self ≡ Action.CallDestination }
-        ensures after { (capacity : ℕ) → Leads result (read_after capacity self failed) }
-        ensures step { Leads result (read_step self failed) }
+        ensures leads { ReadLeads result self failed }
         ensures open { result.0 ≡ ReadPlace.Idle → IsSome result.1 }
         ensures no_store { head_store result.0 ≡ 0 }
         ensures no_sum { read_sum result.0 ≡ 0 }
@@ -236,8 +228,7 @@ impl ReadPlace {
     /// The head was stored, past `n` bytes.
     pub(crate) fn stored_head(self, n: usize) -> (ReadPlace, Option<Answer>)
         requires next { read_action self ≡ Action.StoreHead n }
-        ensures after { (capacity : ℕ) → Leads result (read_after capacity self nothing) }
-        ensures step { Leads result (read_step self nothing) }
+        ensures leads { ReadLeads result self nothing }
         ensures open { result.0 ≡ ReadPlace.Idle → IsSome result.1 }
         ensures stored { head_store self ≡ n }
         ensures no_store { head_store result.0 ≡ 0 }
@@ -252,8 +243,7 @@ impl ReadPlace {
     /// The writer's slot was emptied, and a waker stood in it or not.
     pub(crate) fn took_writer(self, is_found: bool) -> (ReadPlace, Option<Answer>)
         requires next { read_action self ≡ Action.Take Side.Writer }
-        ensures after { (capacity : ℕ) → Leads result (read_after capacity self (waker is_found)) }
-        ensures step { Leads result (read_step self (waker is_found)) }
+        ensures leads { ReadLeads result self (waker is_found) }
         ensures open { result.0 ≡ ReadPlace.Idle → IsSome result.1 }
         ensures no_store { head_store result.0 ≡ 0 }
         ensures sum { read_sum result.0 ≤ read_sum self }
@@ -268,8 +258,7 @@ impl ReadPlace {
     /// The waker that was taken was called.
     pub(crate) fn woke(self) -> (ReadPlace, Option<Answer>)
         requires next { read_action self ≡ Action.Wake }
-        ensures after { (capacity : ℕ) → Leads result (read_after capacity self nothing) }
-        ensures step { Leads result (read_step self nothing) }
+        ensures leads { ReadLeads result self nothing }
         ensures open { result.0 ≡ ReadPlace.Idle → IsSome result.1 }
         ensures no_store { head_store result.0 ≡ 0 }
         ensures sum { read_sum result.0 ≤ read_sum self }
@@ -283,8 +272,7 @@ impl ReadPlace {
     /// The closed flag was set.
     pub(crate) fn stored_closed(self) -> (ReadPlace, Option<Answer>)
         requires next { read_action self ≡ Action.StoreClosed false }
-        ensures after { (capacity : ℕ) → Leads result (read_after capacity self nothing) }
-        ensures step { Leads result (read_step self nothing) }
+        ensures leads { ReadLeads result self nothing }
         ensures open { result.0 ≡ ReadPlace.Idle → IsSome result.1 }
         ensures no_store { head_store result.0 ≡ 0 }
         ensures no_sum { read_sum result.0 ≡ 0 }

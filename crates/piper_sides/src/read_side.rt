@@ -1,7 +1,7 @@
 //! The reader's side: its own index, the writer's as it last saw it, and its place inside the open call.
-ghost use Rattle.std.specs.Prelude.{IsSome, ◌≡◌, ◌≢◌, true, ℕ, ◌+◌, ◌*◌, ◌<◌, ◌≤◌, false, ◌==◌};
+ghost use Rattle.std.specs.Prelude.{IsSome, ◌≡◌, ◌≢◌, true, ℕ, ◌*◌, ◌<◌, ◌≤◌, false, ◌==◌};
 ghost use Rattle.piper_sides.specs.Index.{IsCapacity, distance, place_of, advanced};
-ghost use Rattle.piper_sides.specs.Table.{end_or_pending, read_done, look_answer, read_action, read_after, reader_draws, reader_found, reader_found_none, reader_looks_for, yield_answer, nothing, unread, refreshed, flag, granted, waker, moved, failed};
+ghost use Rattle.piper_sides.specs.Table.{end_or_pending, look_answer, read_action, read_after, reader_looks_for, yield_answer, nothing, unread, refreshed, flag, granted, waker, moved, failed};
 
 use crate::calls::{Query, Side};
 use crate::events::Answer;
@@ -63,7 +63,7 @@ pub fn yield_answer(is_granted: bool) -> Answer
 }
 
 impl ReadSide {
-    ghost use Rattle.piper_sides.specs.Side.{IsReading, fresh_reading, known_of, peekable_of, read_round};
+    ghost use Rattle.piper_sides.specs.Side.{IsReading, fresh_reading, known_of, peekable_of};
 
     /// The reader of an empty pipe.
     pub fn new(capacity: usize) -> Self

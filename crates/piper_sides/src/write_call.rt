@@ -10,9 +10,9 @@ use std::marker::Model;
 
 /// A writer's open call: where it stands in the call table, and its answer once it has one.
 ///
-/// It is opened by the function of its kind. Each step that was made takes it and gives it back, and is
-/// allowed only where the table puts that step next. It is neither copied nor let go: it ends by `end` or
-/// `done`, and so only where the table ends it.
+/// It is opened by the function of its kind. Each step that was made takes it and gives it back, and
+/// is allowed only where the table puts that step next. It is neither copied nor let go: it ends by
+/// `end` or `done`, and so only where the table ends it.
 pub struct WriteCall {
     place: WritePlace,
     answer: Option<Answer>,
@@ -123,7 +123,7 @@ impl WriteCall {
         WriteCall { place, answer }
     }
 
-    /// Closed was loaded where a look begins, and the flag was this. The writer knows of no room (`none`), or of some.
+    /// Closed was loaded where a look begins, and the flag was this. No room is known (`none`), or some is.
     pub fn looked_closed(self, none: bool, is_closed: bool) -> WriteCall
         requires next { write_action self.place ≡ Action.LoadClosed }
         requires begins { begins_look self.place ≡ true }
@@ -145,7 +145,7 @@ impl WriteCall {
         WriteCall { place, answer }
     }
 
-    /// The head was loaded in a look, and the writer knows of no room even now (`none`), or of some.
+    /// The head was loaded in a look, and no room is known even now (`none`), or some is.
     pub fn refreshed(self, none: bool) -> WriteCall
         requires next { write_action self.place ≡ Action.Refresh }
         ensures { result ≡ write_step self.place (refreshed none) }
@@ -165,7 +165,8 @@ impl WriteCall {
         WriteCall { place, answer }
     }
 
-    /// The writer's own slot was emptied, behind the look of a poll or in a close, and a waker stood in it or not.
+    /// The writer's own slot was emptied, behind the look of a poll or in a close, and a waker stood in it
+    /// or not.
     pub fn took_own(self, is_found: bool) -> WriteCall
         requires next { write_action self.place ≡ Action.Take Side.Writer }
         requires no_copy { writer_draws_behind self.place ≡ false }
@@ -176,7 +177,8 @@ impl WriteCall {
         WriteCall { place, answer }
     }
 
-    /// The writer's own slot was emptied, behind the true look of a polling copy; then it drew whether to yield.
+    /// The writer's own slot was emptied behind the true look of a polling copy, which then drew whether to
+    /// yield.
     pub fn took_own_and_drew(self, is_drawn: bool) -> WriteCall
         requires next { self.place ≡ WritePlace.LookTake (Purpose.Copy (Form.Polling false)) }
         ensures { result ≡ writer_is_true (Purpose.Copy (Form.Polling is_drawn)) }

@@ -1,6 +1,6 @@
-//! The rows of the writer's calls: one function a kind of step, allowed only where that kind is next.
+//! The rows of the writer's calls: one function a kind of step, allowed where it is next.
 ghost use Rattle.std.specs.Prelude.{IsSome, ◌≡◌, ℕ, ◌+◌, ◌^◌, ◌<◌, ◌≤◌, ◌==◌, Bool, true, false};
-ghost use Rattle.piper_sides.specs.Table.{Leads, begins_look, look_begun, query_told, write_action, write_after, write_done, write_step, writer_draws, writer_found, writer_found_none, nothing, unread, refreshed, flag, granted, waker, moved, failed};
+ghost use Rattle.piper_sides.specs.Table.{Leads, WriteLeads, begins_look, look_begun, query_told, write_action, write_after, write_done, write_step, writer_draws, writer_found, writer_found_none, nothing, unread, refreshed, flag, granted, waker, moved, failed};
 ghost use Rattle.piper_sides.specs.Side.{tail_store, write_sum, write_round};
 
 use crate::calls::Side;
@@ -59,8 +59,7 @@ impl WritePlace {
     /// The head was loaded in a query, and so many bytes were unread.
     pub(crate) fn loaded_head(self, count: usize) -> (WritePlace, Option<Answer>)
         requires next { write_action self ≡ Action.LoadHead }
-        ensures after { (capacity room : ℕ) → Leads result (write_after capacity room self (unread count)) }
-        ensures step { Leads result (write_step self (unread count)) }
+        ensures leads { WriteLeads result self (unread count) }
         ensures open { result.0 ≡ WritePlace.Idle → IsSome result.1 }
         ensures no_store { tail_store result.0 ≡ 0 }
         ensures no_sum { write_sum result.0 ≡ 0 }
@@ -92,8 +91,7 @@ impl WritePlace {
     /// The head was loaded in a look, and the writer knows of no room even now, or of some.
     pub(crate) fn refreshed(self, none: bool) -> (WritePlace, Option<Answer>)
         requires next { write_action self ≡ Action.Refresh }
-        ensures after { (capacity room : ℕ) → Leads result (write_after capacity room self (refreshed none)) }
-        ensures step { Leads result (write_step self (refreshed none)) }
+        ensures leads { WriteLeads result self (refreshed none) }
         ensures open { result.0 ≡ WritePlace.Idle → IsSome result.1 }
         ensures no_store { tail_store result.0 ≡ 0 }
         ensures no_sum { write_sum result.0 ≡ 0 }
@@ -112,11 +110,11 @@ impl WritePlace {
         }
     }
 
-    /// Closed was loaded where a look begins, and the flag was this. `none` says that no room is known.
+    /// Closed was loaded where a look begins, and the flag was this. No room is known (`none`), or some is.
     pub(crate) fn looked_closed(self, none: bool, is_closed: bool) -> (WritePlace, Option<Answer>)
         requires next { write_action self ≡ Action.LoadClosed }
         requires begins { begins_look self ≡ true }
-        ensures after { (capacity room : ℕ) → (room == 0) ≡ none → Leads result (write_after capacity room self (flag is_closed)) }
+        ensures after { (c r : ℕ) → (r == 0) ≡ none → Leads result (write_after c r self (flag is_closed)) }
         ensures step { Leads result (look_begun none self is_closed) }
         ensures open { result.0 ≡ WritePlace.Idle → IsSome result.1 }
         ensures idle { IsSome result.1 → result.0 ≡ WritePlace.Idle }
@@ -138,8 +136,7 @@ impl WritePlace {
     pub(crate) fn loaded_closed(self, is_closed: bool) -> (WritePlace, Option<Answer>)
         requires next { write_action self ≡ Action.LoadClosed }
         requires goes_on { begins_look self ≡ false }
-        ensures after { (capacity room : ℕ) → Leads result (write_after capacity room self (flag is_closed)) }
-        ensures step { Leads result (write_step self (flag is_closed)) }
+        ensures leads { WriteLeads result self (flag is_closed) }
         ensures open { result.0 ≡ WritePlace.Idle → IsSome result.1 }
         ensures idle { IsSome result.1 → result.0 ≡ WritePlace.Idle }
         ensures stored { tail_store result.0 ≤ tail_store self }
@@ -167,8 +164,7 @@ impl WritePlace {
     /// The call's waker was registered, or its clone was refused.
     pub(crate) fn registered(self, is_granted: bool) -> (WritePlace, Option<Answer>)
         requires next { write_action self ≡ Action.Register }
-        ensures after { (capacity room : ℕ) → Leads result (write_after capacity room self (granted is_granted)) }
-        ensures step { Leads result (write_step self (granted is_granted)) }
+        ensures leads { WriteLeads result self (granted is_granted) }
         ensures open { result.0 ≡ WritePlace.Idle → IsSome result.1 }
         ensures idle { IsSome result.1 → result.0 ≡ WritePlace.Idle }
         ensures no_store { tail_store result.0 ≡ 0 }
@@ -190,8 +186,7 @@ impl WritePlace {
     /// The writer's own slot was emptied, and a waker stood in it or not.
     pub(crate) fn took_own(self, is_found: bool) -> (WritePlace, Option<Answer>)
         requires next { write_action self ≡ Action.Take Side.Writer }
-        ensures after { (capacity room : ℕ) → Leads result (write_after capacity room self (waker is_found)) }
-        ensures step { Leads result (write_step self (waker is_found)) }
+        ensures leads { WriteLeads result self (waker is_found) }
         ensures open { result.0 ≡ WritePlace.Idle → IsSome result.1 }
         ensures no_store { tail_store result.0 ≡ 0 }
         ensures no_sum { write_sum result.0 ≡ 0 }
@@ -211,8 +206,7 @@ impl WritePlace {
     /// The caller's own waker was called in place of the rounds, or its clone was refused.
     pub(crate) fn yielded(self, is_granted: bool) -> (WritePlace, Option<Answer>)
         requires next { write_action self ≡ Action.Yield }
-        ensures after { (capacity room : ℕ) → Leads result (write_after capacity room self (granted is_granted)) }
-        ensures step { Leads result (write_step self (granted is_granted)) }
+        ensures leads { WriteLeads result self (granted is_granted) }
         ensures open { result.0 ≡ WritePlace.Idle → IsSome result.1 }
         ensures idle { IsSome result.1 → result.0 ≡ WritePlace.Idle }
         ensures no_store { tail_store result.0 ≡ 0 }
@@ -228,8 +222,7 @@ impl WritePlace {
     pub(crate) fn source_gave(self, n: usize) -> (WritePlace, Option<Answer>)
         requires next { write_action self ≡ Action.CallSource }
         requires fits { write_sum self + n < 2 ^ 64 }
-        ensures after { (capacity room : ℕ) → Leads result (write_after capacity room self (moved n)) }
-        ensures step { Leads result (write_step self (moved n)) }
+        ensures leads { WriteLeads result self (moved n) }
         ensures open { result.0 ≡ WritePlace.Idle → IsSome result.1 }
         ensures idle { IsSome result.1 → result.0 ≡ WritePlace.Idle }
         ensures stored { tail_store result.0 ≤ n }
@@ -248,8 +241,7 @@ impl WritePlace {
     /// The source failed, and gave nothing.
     pub(crate) fn source_failed(self) -> (WritePlace, Option<Answer>)
         requires next { write_action self ≡ Action.CallSource }
-        ensures after { (capacity room : ℕ) → Leads result (write_after capacity room self failed) }
-        ensures step { Leads result (write_step self failed) }
+        ensures leads { WriteLeads result self failed }
         ensures open { result.0 ≡ WritePlace.Idle → IsSome result.1 }
         ensures idle { IsSome result.1 → result.0 ≡ WritePlace.Idle }
         ensures no_store { tail_store result.0 ≡ 0 }
@@ -267,8 +259,7 @@ impl WritePlace {
     /// The tail was stored, past `n` bytes.
     pub(crate) fn stored_tail(self, n: usize) -> (WritePlace, Option<Answer>)
         requires next { write_action self ≡ Action.StoreTail n }
-        ensures after { (capacity room : ℕ) → Leads result (write_after capacity room self nothing) }
-        ensures step { Leads result (write_step self nothing) }
+        ensures leads { WriteLeads result self nothing }
         ensures open { result.0 ≡ WritePlace.Idle → IsSome result.1 }
         ensures stored { tail_store self ≡ n }
         ensures no_store { tail_store result.0 ≡ 0 }
@@ -283,8 +274,7 @@ impl WritePlace {
     /// The reader's slot was emptied, and a waker stood in it or not.
     pub(crate) fn took_reader(self, is_found: bool) -> (WritePlace, Option<Answer>)
         requires next { write_action self ≡ Action.Take Side.Reader }
-        ensures after { (capacity room : ℕ) → Leads result (write_after capacity room self (waker is_found)) }
-        ensures step { Leads result (write_step self (waker is_found)) }
+        ensures leads { WriteLeads result self (waker is_found) }
         ensures open { result.0 ≡ WritePlace.Idle → IsSome result.1 }
         ensures no_store { tail_store result.0 ≡ 0 }
         ensures sum { write_sum result.0 ≤ write_sum self }
@@ -299,8 +289,7 @@ impl WritePlace {
     /// The waker that was taken was called.
     pub(crate) fn woke(self) -> (WritePlace, Option<Answer>)
         requires next { write_action self ≡ Action.Wake }
-        ensures after { (capacity room : ℕ) → Leads result (write_after capacity room self nothing) }
-        ensures step { Leads result (write_step self nothing) }
+        ensures leads { WriteLeads result self nothing }
         ensures open { result.0 ≡ WritePlace.Idle → IsSome result.1 }
         ensures no_store { tail_store result.0 ≡ 0 }
         ensures sum { write_sum result.0 ≤ write_sum self }
@@ -315,8 +304,7 @@ impl WritePlace {
     /// The closed flag was set, by a drop.
     pub(crate) fn stored_closed(self) -> (WritePlace, Option<Answer>)
         requires next { write_action self ≡ Action.StoreClosed false }
-        ensures after { (capacity room : ℕ) → Leads result (write_after capacity room self nothing) }
-        ensures step { Leads result (write_step self nothing) }
+        ensures leads { WriteLeads result self nothing }
         ensures open { result.0 ≡ WritePlace.Idle → IsSome result.1 }
         ensures no_store { tail_store result.0 ≡ 0 }
         ensures sum { write_sum result.0 ≤ write_sum self }
@@ -330,8 +318,7 @@ impl WritePlace {
     /// The closed flag was set, by a close.
     pub(crate) fn shut(self) -> (WritePlace, Option<Answer>)
         requires next { write_action self ≡ Action.StoreClosed true }
-        ensures after { (capacity room : ℕ) → Leads result (write_after capacity room self nothing) }
-        ensures step { Leads result (write_step self nothing) }
+        ensures leads { WriteLeads result self nothing }
         ensures open { result.0 ≡ WritePlace.Idle → IsSome result.1 }
         ensures no_store { tail_store result.0 ≡ 0 }
         ensures sum { write_sum result.0 ≤ write_sum self }

@@ -1,6 +1,6 @@
 //! The writer's side: its own index, the reader's as it last saw it, what is lent, and its place inside the open call.
 ghost use Rattle.std.specs.Prelude.{IsSome, ◌≡◌, ◌≢◌, ℕ, ◌+◌, ◌-◌, ◌*◌, ◌<◌, ◌≤◌, true, false, ◌==◌};
-ghost use Rattle.piper_sides.specs.Table.{write_action, write_after, write_done, ends_fill, writer_draws, writer_found, writer_found_none, nothing, unread, refreshed, flag, granted, waker, moved, failed};
+ghost use Rattle.piper_sides.specs.Table.{write_action, write_after, ends_fill, nothing, unread, refreshed, flag, granted, waker, moved, failed};
 ghost use Rattle.piper_sides.specs.Index.{IsCapacity, distance, place_of, advanced};
 
 use crate::calls::{Query, Side};
@@ -30,7 +30,7 @@ impl Model for WriteSide {
 }
 
 impl WriteSide {
-    ghost use Rattle.piper_sides.specs.Side.{IsWriting, fresh_writing, room_of, left_of, lend_length, lent_out, tail_store, write_round};
+    ghost use Rattle.piper_sides.specs.Side.{IsWriting, fresh_writing, room_of, left_of, lend_length, lent_out, tail_store};
 
     /// The writer of an empty pipe.
     pub fn new(capacity: usize) -> Self
