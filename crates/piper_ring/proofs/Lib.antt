@@ -15,4 +15,5 @@ pub mod Leaving
 pub mod Meet
 pub mod Opening
 pub mod Taking
+pub mod ReaderFacts
 pub mod WriterFacts

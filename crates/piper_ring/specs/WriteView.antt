@@ -1,5 +1,5 @@
 -- What a contract sees of a `WriteEnd`, and how the end keeps it.
-use Rattle.std.specs.Prelude.{◌≡◌, ℕ, ◌+◌, ◌-◌, ◌*◌, ◌^◌, ◌<◌, ◌≤◌, Bool, true, false, List, length, min, refl}
+use Rattle.std.specs.Prelude.{◌≡◌, ℕ, ◌+◌, ◌-◌, ◌*◌, ◌^◌, ◌<◌, ◌≤◌, Bool, true, false, List, [], length, min, refl}
 use Rattle.std.specs.Coded.{Coded, code_by, coded×, coded_list, coded_ℕ, coded_bool}
 use Rattle.rtrb.specs.Fifo.{position_of, slot_of}
 use Rattle.piper_ring.specs.Shared.{Ring, ring_code}
@@ -64,4 +64,5 @@ pub record IsWriteEnd (e : WriteParts) : Type 0 where
   pub cached : (e.tail ≡ position_of e.capacity (length e.seat.sent)) × (e.limit ≡ position_of e.capacity e.seat.limit) × (e.tail < 2 * e.capacity)
   pub heard : (e.told.names ≡ e.seat.names) × (e.saw.names ≡ e.seat.names)
   pub closed : e.shut ≡ e.seat.shut
+  pub lends_none : e.seat.shut ≡ true → e.room.lent.bytes ≡ []
   pub here : e.seat.leaving ≡ false

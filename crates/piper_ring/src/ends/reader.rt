@@ -56,6 +56,14 @@ impl ReadEnd {
         self.parts.capacity
     }
 
+    /// It does nothing: its clauses are what holds of every end that reads.
+    pub fn learn(&self)
+        ensures capacity { (0 < self.now.capacity) × (2 * self.now.capacity < 2 ^ 64) }
+        ensures known { length self.now.known ≤ self.now.capacity }
+    {
+        let _ = &self.parts;
+    }
+
     /// How many bytes this end knows of.
     pub fn known_len(&self) -> usize
         ensures { result ≡ length self.now.known }
@@ -64,7 +72,7 @@ impl ReadEnd {
     }
 
     /// Whether this end knows of no byte.
-    fn knows_none(&self) -> bool
+    pub fn knows_none(&self) -> bool
         ensures { IsTrue result ↔ (length self.now.known ≡ 0) }
     {
         none_between(self.parts.head, self.parts.tail)
@@ -102,9 +110,11 @@ impl ReadEnd {
         self.parts.seat.load_closed(&mut saw, &self.parts.told) != 0
     }
 
-    /// The known bytes that stand in one piece. The slice stays as it is while the writer writes and publishes.
+    /// The known bytes that stand in one piece, at least one where any is known. The slice stays as it is while the writer writes and publishes.
     pub fn peek_buf(&self) -> &[u8]
-        ensures { result.now ≡ take (in_one_piece self.now) self.now.known }
+        ensures bytes { result.now ≡ take (in_one_piece self.now) self.now.known }
+        ensures length { length result.now ≡ in_one_piece self.now }
+        ensures some { 0 < length self.now.known → 0 < length result.now }
     {
         let from = real(self.parts.capacity, self.parts.head);
         let len = self.known_len().min(self.parts.capacity - from);
@@ -129,10 +139,10 @@ impl ReadEnd {
         self.parts.told.heed(mark);
     }
 
-    /// Looks for bytes that were published.
+    /// Looks for bytes that were published. It is for an end that knows of none: one that does has something to do, and need not touch the other's word.
     pub fn reload(&mut self)
+        requires { length self.old.known ≡ 0 }
         ensures fresh { self.old.told ≤ length (self.new.taken ++ self.new.known) }
-        ensures more { (xs : List ℕ) × (self.new.known ≡ self.old.known ++ xs) }
         ensures kept { SameReadEnd self.old self.new × (self.new.taken ≡ self.old.taken) × (self.new.saw ≡ self.old.saw) }
     {
         let parts = &mut self.parts;
@@ -154,7 +164,9 @@ impl ReadEnd {
     pub fn meet(&mut self, other: &mut WriteEnd)
         requires { other.old.ring ≡ self.old.ring }
         ensures fifo { self.new.taken ++ self.new.known ≡ other.new.sent }
-        ensures room { other.new.room ≡ self.new.capacity - length self.new.known }
+        ensures room { other.new.room + length self.new.known ≡ self.new.capacity }
+        ensures more { (xs : List ℕ) × (self.new.known ≡ self.old.known ++ xs) }
+        ensures more_room { other.old.room ≤ other.new.room }
         ensures shut { (flag self.new.saw ≤ flag other.new.shut) × (flag other.new.saw ≤ flag other.new.shut) }
         ensures reader { SameReadEnd self.old self.new × (self.new.taken ≡ self.old.taken) × (self.new.saw ≡ self.old.saw) }
         ensures writer { SameWriteEnd other.old other.new × (other.new.sent ≡ other.old.sent) × (other.new.lent ≡ other.old.lent) × (other.new.shut ≡ other.old.shut) × (other.new.saw ≡ other.old.saw) }
@@ -179,9 +191,9 @@ impl ReadEnd {
         parts.seat.load_closed(&mut parts.saw, &parts.told) != 0
     }
 
-    /// Takes the first `n` known bytes off, and gives their places back to the writer. It wakes nobody.
+    /// Takes the first `n` known bytes off, which stand in one piece, and gives their places back to the writer. It wakes nobody.
     pub fn consume(&mut self, n: usize)
-        requires { n ≤ length self.old.known }
+        requires { n ≤ in_one_piece self.old }
         ensures taken { self.new.taken ≡ self.old.taken ++ take n self.old.known }
         ensures known { self.new.known ≡ drop n self.old.known }
         ensures kept { SameReadEnd self.old self.new × (self.new.saw ≡ self.old.saw) }

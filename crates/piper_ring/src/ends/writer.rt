@@ -58,6 +58,16 @@ impl WriteEnd {
         self.parts.capacity
     }
 
+    /// It does nothing: its clauses are what holds of every end that writes.
+    pub fn learn(&self)
+        ensures capacity { (0 < self.now.capacity) × (2 * self.now.capacity < 2 ^ 64) }
+        ensures room { self.now.room ≤ self.now.capacity }
+        ensures lent { length self.now.lent ≤ self.now.room }
+        ensures shut { self.now.shut ≡ true → (self.now.lent ≡ []) × (self.now.saw ≡ true) }
+    {
+        let _ = &self.parts;
+    }
+
     /// How many bytes this end knows to have room for.
     pub fn room(&self) -> usize
         ensures { result ≡ self.now.room }
@@ -66,7 +76,7 @@ impl WriteEnd {
     }
 
     /// Whether this end knows of no room.
-    fn knows_none(&self) -> bool
+    pub fn knows_none(&self) -> bool
         ensures { IsTrue result ↔ (self.now.room ≡ 0) }
     {
         none_between(self.parts.tail, self.parts.limit)
@@ -120,10 +130,10 @@ impl WriteEnd {
         self.parts.told.heed(mark);
     }
 
-    /// Looks for room that was given back. No room that was known is lost.
+    /// Looks for room that was given back. It is for an end that knows of none, as the reader's `reload`.
     pub fn reload(&mut self)
+        requires { self.old.room ≡ 0 }
         ensures fresh { self.old.told + self.old.capacity ≤ length self.new.sent + self.new.room }
-        ensures more { self.old.room ≤ self.new.room }
         ensures kept { SameWriteEnd self.old self.new × (self.new.sent ≡ self.old.sent) × (self.new.lent ≡ self.old.lent) × (self.new.shut ≡ self.old.shut) × (self.new.saw ≡ self.old.saw) }
     {
         let parts = &mut self.parts;
@@ -146,7 +156,7 @@ impl WriteEnd {
         requires { n ≤ length self.old.lent }
         ensures sent { self.new.sent ≡ self.old.sent ++ take n self.old.lent }
         ensures lent { self.new.lent ≡ drop n self.old.lent }
-        ensures room { self.new.room ≡ self.old.room - n }
+        ensures room { self.new.room + n ≡ self.old.room }
         ensures kept { SameWriteEnd self.old self.new × (self.new.shut ≡ self.old.shut) × (self.new.saw ≡ self.old.saw) }
     {
         let parts = &mut self.parts;
@@ -186,10 +196,11 @@ impl WriteEnd {
         }
     }
 
-    /// Lends at most `max` bytes of the room, in one piece, to be written. It replaces what was lent before; what stands in the bytes is not said.
+    /// Lends at most `max` bytes of the room, in one piece, to be written: at least one where there is room, one is asked for and the pipe wasn't closed here. It replaces what was lent before; what stands in the bytes is not said.
     pub fn write_buf(&mut self, max: usize) -> &mut [u8]
         ensures* writes { sem 𝓛 (lends_buffer self.entry result) }
         ensures length { MayLend self.old max (length result.now) }
+        ensures some { self.old.shut ≡ false → 0 < self.old.room → 0 < max → 0 < length result.now }
     {
         let from = real(self.parts.capacity, self.parts.tail);
         let len = self.lendable(max, from);

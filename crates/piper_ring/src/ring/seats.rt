@@ -176,7 +176,7 @@ impl ReadSeat {
 
     /// The reader leaves, and gives up the places of the bytes that it knows of. The answer is 1 if the writer had left before.
     pub(crate) fn leave(self, known: Blank) -> (u64, Remains)
-        requires { (known.at ≡ self.at) × (known.capacity ≡ self.names.capacity) × (known.first ≡ self.head) × (known.first + known.count ≡ self.seen) }
+        requires { (known.at ≡ self.at) × (known.capacity ≡ self.names.capacity) × (known.first ≡ self.head) × (known.first + known.count ≡ self.seen) × (self.leaving ≡ true) }
         ensures { (result.0 ≡ flag result.1.last) × (result.1.words ≡ self.words) × (result.1.at ≡ self.at) × (result.1.names ≡ self.names) }
     {
         let ReadSeat { words } = self;
@@ -255,7 +255,7 @@ impl WriteSeat {
 
     /// The writer leaves, and gives up the places of its room. The answer is 1 if the reader had left before.
     pub(crate) fn leave(self, room: Blank) -> (u64, Remains)
-        requires { (room.at ≡ self.at) × (room.capacity ≡ self.names.capacity) × (room.first ≡ length self.sent) × (room.first + room.count ≡ self.limit) }
+        requires { (room.at ≡ self.at) × (room.capacity ≡ self.names.capacity) × (room.first ≡ length self.sent) × (room.first + room.count ≡ self.limit) × (self.leaving ≡ true) }
         ensures { (result.0 ≡ flag result.1.last) × (result.1.words ≡ self.words) × (result.1.at ≡ self.at) × (result.1.names ≡ self.names) }
     {
         let WriteSeat { words } = self;

@@ -35,5 +35,6 @@ invariant_of-result-2 c = let o = c.open-read_seat.ensures in let seat = c.open-
       cached = (position_none cap (length seat.sent) sent, one_turn cap seat.limit pos limit, omega arith);
       heard = (c.mark-told_writer.ensures.0 ∙ sym o.9, ap (λ (s : Saw). s.names) c.again-write_saw.ensures ∙ c.unseen-read_saw.ensures.0 ∙ sym o.9);
       closed = sym o.12;
+      lends_none = λ _. room.lent;
       here = o.13;
     }

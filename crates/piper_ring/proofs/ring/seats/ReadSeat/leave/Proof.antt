@@ -1,5 +1,5 @@
 -- `leave` is one swap: it gives the end's places to the invariant, and takes all of the memory out where the other end is gone. Assumes `Logic`.
-use Rattle.std.proofs.Common.{◌≡◌, ℕ, ◌+◌, ◌-◌, ◌^◌, List, [], ◌∷◌, sym, refl, ap, arith, lit<, w64}
+use Rattle.std.proofs.Common.{true, ◌≡◌, ℕ, ◌+◌, ◌-◌, ◌^◌, List, [], ◌∷◌, sym, refl, ap, arith, lit<, w64}
 use mir.Val.{Val, vint, vptr}
 use base.Logic.{SProp, emp}
 use base.Fml.{Fml, ftrue}
@@ -51,7 +51,7 @@ leave_spec 𝓤 𝓛 𝓜 𝓡 wired =
     let low : ℕ = h.head in let high : ℕ = h.seen in let G : Fml = blanks w p z low (high - low) in let bw : ℕ = block_of w in let ow : ℕ = count_of w in let w' : Ptr = block_ptr bw ow in let e : ℕ = 0 + ow in let out : ℕ → Fml = Left 𝓛 w p z in
     let Step : SProp 𝓤 = asks 𝓛 (block_ptr bw e) (λ _. 1) always out in
     let y : (walk_of 𝓛 En hs c).Ghost = ((κs, qs, bounds, a, (seat_val w ∷ [], (ghost_val ∷ [], tt))), gh) in let Post : Val → SProp 𝓤 = (walk_of 𝓛 En hs c).post y in
-    let Asked : Type 0 = (g.at ≡ p) × (g.capacity ≡ z.capacity) × (g.first ≡ low) × (g.first + g.count ≡ high) in
+    let Asked : Type 0 = (g.at ≡ p) × (g.capacity ≡ z.capacity) × (g.first ≡ low) × (g.first + g.count ≡ high) × (h.leaving ≡ true) in
     qed 𝓛 ((raw (alive 𝓛 En.signature κs qs) ⊛ ‵ (owns (types_at En.signature.params κs) a y.0.4)) ∷ given Asked (‵ ftrue) ∷ []) ∵
     keep ! (1 ∷ 0 ∷ []) $ learn ! (λ asked. drop ! $ split ! $ move ! (1 ∷ []) $ fsplit3 ! $ fsplit ! $ drop ! $ fsplit3 ! $ move ! (3 ∷ []) $ fsplit ! $ drop ! $ fsplit ! $ drop ! $
     let eg = asked.2 in let top = asked.3 in let many : g.count ≡ high - low = omega arith in
