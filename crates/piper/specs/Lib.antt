@@ -1,3 +1,10 @@
+pub mod Slots
+pub mod Counts
+pub mod Ends
+pub mod Generator
+pub mod Handles
+pub mod Looks
+pub mod Owned
 -- What the contracts of the ring's ends speak of.
 pub use Rattle.piper_ring.specs.ReadView
 pub use Rattle.piper_ring.specs.WriteView

@@ -1,4 +1,13 @@
 //! A bounded pipe of bytes between one reader and one writer.
 #![tactic(auto)]
 
+mod handles;
+mod owned;
+mod reader;
+mod slot;
+mod writer;
+
+pub use handles::{Reader, Writer, pipe};
+pub use owned::{OwnedReader, OwnedWriter};
 pub use piper_ring::{OutOfMemory, ReadEnd, ReadMark, WriteEnd, WriteMark, open_ring};
+pub use slot::{Slot, Taken};
