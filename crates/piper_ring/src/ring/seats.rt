@@ -135,20 +135,20 @@ impl ReadSeat {
         Saw { mark: PhantomData }
     }
 
-    /// The reader learns of the bytes that were published, at least of those that it was told of, and gets their places.
-    pub(crate) fn load_tail(&mut self, known: &mut Places, told: &WriteMark) -> u64
-        requires { (known.old.at ≡ self.old.at) × (known.old.capacity ≡ self.old.names.capacity) × (known.old.first + length known.old.bytes ≡ self.old.seen) × (told.now.names ≡ self.old.names) }
-        ensures { (self.new.words ≡ self.old.words) × (self.new.at ≡ self.old.at) × (self.new.names ≡ self.old.names) × (self.new.head ≡ self.old.head) × (self.new.leaving ≡ self.old.leaving) × (known.new.at ≡ known.old.at) × (known.new.capacity ≡ known.old.capacity) × (known.new.first ≡ known.old.first) × (result ≡ position_of self.old.names.capacity self.new.seen) × (self.new.seen ≤ self.old.head + self.old.names.capacity) × (length told.now.bytes ≤ self.new.seen) × ((xs : List ℕ) × (known.new.bytes ≡ known.old.bytes ++ xs) × (self.new.have ≡ self.old.have ++ xs) × (self.new.seen ≡ self.old.seen + length xs)) }
+    /// Where the tail stands: no less than the reader has seen or was told of. With it comes evidence of the bytes that were published.
+    pub(crate) fn look_tail(&self, told: &WriteMark) -> (u64, WriteMark)
+        requires { told.now.names ≡ self.now.names }
+        ensures { (result.1.names ≡ self.now.names) × (result.0 ≡ position_of self.now.names.capacity (length result.1.bytes)) × (self.now.seen ≤ length result.1.bytes) × (length result.1.bytes ≤ self.now.head + self.now.names.capacity) × (length told.now.bytes ≤ length result.1.bytes) }
     {
-        unsafe { raw::load::<Brand>(self.words.add(TAIL_WORD), SeqCst) }
+        let tail = unsafe { raw::load::<Brand>(self.words.add(TAIL_WORD), SeqCst) };
+        (tail, WriteMark { mark: PhantomData })
     }
 
-    /// Where the tail stands: no less than the reader has seen.
-    pub(crate) fn look_tail(&self) -> u64
-        ensures { (t : ℕ) × (result ≡ position_of self.now.names.capacity t) × (self.now.seen ≤ t) × (t ≤ self.now.head + self.now.names.capacity) }
-    {
-        unsafe { raw::load::<Brand>(self.words.add(TAIL_WORD), SeqCst) }
-    }
+    /// The places of the bytes that were seen published come to the reader. It is no step of the program.
+    pub(crate) fn accept(&mut self, known: &mut Places, published: &WriteMark)
+        requires { (known.old.at ≡ self.old.at) × (known.old.capacity ≡ self.old.names.capacity) × (known.old.first + length known.old.bytes ≡ self.old.seen) × (published.now.names ≡ self.old.names) × (self.old.seen ≤ length published.now.bytes) }
+        ensures { (self.new.words ≡ self.old.words) × (self.new.at ≡ self.old.at) × (self.new.names ≡ self.old.names) × (self.new.head ≡ self.old.head) × (self.new.leaving ≡ self.old.leaving) × (known.new.at ≡ known.old.at) × (known.new.capacity ≡ known.old.capacity) × (known.new.first ≡ known.old.first) × (self.new.seen ≡ length published.now.bytes) × ((xs : List ℕ) × (known.new.bytes ≡ known.old.bytes ++ xs) × (self.new.have ≡ self.old.have ++ xs) × (self.new.seen ≡ self.old.seen + length xs)) }
+    {}
 
     /// 1 if the ring is closed, else 0. Once it was seen closed, or the reader was told that the writer closed it, the answer is 1.
     pub(crate) fn load_closed(&self, saw: &mut Saw, told: &WriteMark) -> u64
@@ -207,20 +207,20 @@ impl WriteSeat {
         WriteMark { mark: PhantomData }
     }
 
-    /// The writer learns of the bytes that were consumed, at least of those that it was told of, and gets the places that are free.
-    pub(crate) fn load_head(&mut self, room: &mut Places, told: &ReadMark) -> u64
-        requires { (room.old.at ≡ self.old.at) × (room.old.capacity ≡ self.old.names.capacity) × (room.old.first + length room.old.bytes ≡ self.old.limit) × (told.now.names ≡ self.old.names) }
-        ensures { (self.new.words ≡ self.old.words) × (self.new.at ≡ self.old.at) × (self.new.names ≡ self.old.names) × (self.new.sent ≡ self.old.sent) × (self.new.shut ≡ self.old.shut) × (self.new.leaving ≡ self.old.leaving) × (room.new.at ≡ room.old.at) × (room.new.capacity ≡ room.old.capacity) × (room.new.first ≡ room.old.first) × ((head : ℕ) × (xs : List ℕ) × (result ≡ position_of self.old.names.capacity head) × (told.now.count ≤ head) × (head ≤ length self.old.sent) × (self.new.limit ≡ head + self.old.names.capacity) × (room.new.bytes ≡ room.old.bytes ++ xs) × (self.new.limit ≡ self.old.limit + length xs)) }
+    /// Where the head stands: no less than the writer was told of, and no room that it knows of is taken away. With it comes evidence of how many bytes were consumed.
+    pub(crate) fn look_head(&self, told: &ReadMark) -> (u64, ReadMark)
+        requires { told.now.names ≡ self.now.names }
+        ensures { (result.1.names ≡ self.now.names) × (result.0 ≡ position_of self.now.names.capacity result.1.count) × (result.1.count ≤ length self.now.sent) × (self.now.limit ≤ result.1.count + self.now.names.capacity) × (told.now.count ≤ result.1.count) }
     {
-        unsafe { raw::load::<Brand>(self.words.add(HEAD_WORD), SeqCst) }
+        let head = unsafe { raw::load::<Brand>(self.words.add(HEAD_WORD), SeqCst) };
+        (head, ReadMark { mark: PhantomData })
     }
 
-    /// Where the head stands: no room that the writer knows of is taken away.
-    pub(crate) fn look_head(&self) -> u64
-        ensures { (h : ℕ) × (result ≡ position_of self.now.names.capacity h) × (h ≤ length self.now.sent) × (self.now.limit ≤ h + self.now.names.capacity) }
-    {
-        unsafe { raw::load::<Brand>(self.words.add(HEAD_WORD), SeqCst) }
-    }
+    /// The places that were seen given back come to the writer. It is no step of the program.
+    pub(crate) fn accept(&mut self, room: &mut Places, consumed: &ReadMark)
+        requires { (room.old.at ≡ self.old.at) × (room.old.capacity ≡ self.old.names.capacity) × (room.old.first + length room.old.bytes ≡ self.old.limit) × (consumed.now.names ≡ self.old.names) × (self.old.limit ≤ consumed.now.count + self.old.names.capacity) }
+        ensures { (self.new.words ≡ self.old.words) × (self.new.at ≡ self.old.at) × (self.new.names ≡ self.old.names) × (self.new.sent ≡ self.old.sent) × (self.new.shut ≡ self.old.shut) × (self.new.leaving ≡ self.old.leaving) × (room.new.at ≡ room.old.at) × (room.new.capacity ≡ room.old.capacity) × (room.new.first ≡ room.old.first) × (self.new.limit ≡ consumed.now.count + self.old.names.capacity) × ((xs : List ℕ) × (room.new.bytes ≡ room.old.bytes ++ xs) × (self.new.limit ≡ self.old.limit + length xs)) }
+    {}
 
     /// 1 if the ring is closed, else 0. Once it was seen closed, or the writer closed it, the answer is 1.
     pub(crate) fn load_closed(&self, saw: &mut Saw) -> u64
