@@ -70,4 +70,3 @@ pub record IsWriteEnd (e : WriteParts) : Type 0 where
   pub heard : (e.told.names ≡ e.seat.names) × (e.saw.names ≡ e.seat.names)
   pub closed : e.shut ≡ e.seat.shut
   pub lends_none : e.seat.shut ≡ true → e.room.lent.bytes ≡ []
-  pub here : e.seat.leaving ≡ false

@@ -241,7 +241,7 @@ impl WriteEnd {
             limit: _,
             shut: _,
         } = parts;
-        seat.store_closed();
+        seat.store_shut();
         LeavingWriter {
             seat,
             room: room.forget(capacity),

@@ -24,7 +24,7 @@ use Rattle.rtrb.proofs.Spans.{run_join}
 use Rattle.piper_ring.specs.Places.{byte}
 use Rattle.piper_ring.specs.Places as P
 use Rattle.piper_ring.proofs.Rights.{common_twice}
-use Rattle.piper_ring.specs.Shared.{Names, half, flag, common, writer_knows}
+use Rattle.piper_ring.specs.Shared.{Names, half, common, writer_knows}
 use Rattle.piper_ring.proofs.Fields.{seat_val, WriteData, write_told, write_made}
 use Rattle.piper_ring.proofs.Reclaim.{accepts}
 use Rattle.piper_ring.specs.contracts.ring.places.Places as Places
@@ -54,7 +54,7 @@ accept_spec 𝓤 𝓛 𝓜 𝓡 wired =
     proved 𝓛 En hs c 𝓜 𝓡 (Goes-ref 𝓛 3 0 tt self, (Goes-ref 𝓛 3 1 tt known, (Goes-dropped 𝓛 3 told yes (λ κs x f. refl), tt))) #self fn (code.unfolded 𝓤 H 𝓜 𝓡 wired)
     (λ κs. (mut_vals, (mut_vals, (shr_vals, tt)))) (λ κs. (mut_Tells (named 0) κs.0 Row, (mut_Tells (named 1) κs.1.0 KRow, (shr_Tells (named 2) κs.1.1.0 Mark.the_row, tt)))) (λ κs qs bounds a gh are.
     let b : ℕ = a.0.ref_ptr.0 in let o : ℕ = a.0.ref_ptr.1 in let h = a.0.now in let b' : ℕ = a.1.0.ref_ptr.0 in let o' : ℕ = a.1.0.ref_ptr.1 in let k = a.1.0.now in let t = a.1.1.0.now in let b2 : ℕ = a.1.1.0.ref_ptr.0 in let o2 : ℕ = a.1.1.0.ref_ptr.1 in let w : Ptr = h.words in let p : Ptr = h.at in let z : Names = h.names in
-    let us : List Val = seat_val w ∷ [] in let Data : Fml = WriteData.own_val (w, tt) us in let C : Fml = common w p z in let full : ℕ = t.count + z.capacity in let WK' : Fml = writer_knows w p z half h.sent full h.shut (flag h.leaving) in let B = byte p z.capacity in
+    let us : List Val = seat_val w ∷ [] in let Data : Fml = WriteData.own_val (w, tt) us in let C : Fml = common w p z in let full : ℕ = t.count + z.capacity in let WK' : Fml = writer_knows w p z half h.sent full h.shut 0 in let B = byte p z.capacity in
     let y : (walk_of 𝓛 En hs c).Ghost = ((κs, qs, bounds, a, (vptr b o ∷ [], (vptr b' o' ∷ [], (vptr b2 o2 ∷ [], tt)))), gh) in let Post : Val → SProp 𝓤 = (walk_of 𝓛 En hs c).post y in
     let Asked : Type 0 = (k.at ≡ p) × (k.capacity ≡ z.capacity) × (k.first + length k.bytes ≡ h.limit) × (t.names ≡ z) × (h.limit ≤ full) in
     qed 𝓛 (((‵ (flft κs.0 qs.0) ⊛ ‵ (flft κs.1.0 qs.1.0) ⊛ ‵ (flft κs.1.1.0 qs.1.1.0) ⊛ ‵ ftrue) ⊛ ‵ (owns (types_at En.signature.params κs) a y.0.4)) ∷ given Asked (‵ ftrue) ∷ []) ∵
@@ -66,7 +66,7 @@ accept_spec 𝓤 𝓛 𝓜 𝓡 wired =
     opens ! tt Row b o (λ vs. move ! (1 ∷ []) $ fsplit ! $ peeks ! WriteData (Is WriteData) (shows 𝓛 WriteData) (w, tt) vs (λ is-so. let ev : vs ≡ us = write_told w vs is-so in
     drop ! $ rewrite ! 1 (λ (ws : List Val). ‵ (cell_at full_share Row.mir ws b o)) ev refl $ fsplit ! $ use1 𝓛 (‵ C ⊛ ‵ C) (common_twice 𝓛 w p z) $ split ! $ move ! (0 ∷ 2 ∷ 13 ∷ []) $
     use3 𝓛 (later (some (λ (xs : List ℕ). given (full ≡ h.limit + length xs) (‵ (run B h.limit xs) ⊛ ‵ WK'))))
-    (accepts 𝓛 w p z h.sent h.limit h.shut h.leaving t.count asked.4) $ await ! tt $ pick ! (λ xs. learn ! (λ gained. split ! $ move ! (2 ∷ 1 ∷ []) $ fjoin ! $ move ! (1 ∷ []) $
+    (accepts 𝓛 w p z h.sent h.limit h.shut t.count asked.4) $ await ! tt $ pick ! (λ xs. learn ! (λ gained. split ! $ move ! (2 ∷ 1 ∷ []) $ fjoin ! $ move ! (1 ∷ []) $
     move ! (7 ∷ []) $ fsplit ! $ fpick ! (λ fine. drop ! $
     let h' : Row.Denot = record h { limit = full } in let k' : KRow.Denot = record k { bytes = k.bytes ++ xs } in
     rewrite ! 1 (λ (r : Ptr × ℕ). ‵ (run (byte r.0 r.1) h.limit xs)) {x = (k.at, k.capacity)} {y = (p, z.capacity)} (λ i. (sym asked.0 i, sym asked.1 i)) refl $
@@ -74,7 +74,7 @@ accept_spec 𝓤 𝓛 𝓜 𝓡 wired =
     nothing ! $ fpack ! (P.Placed k.at k.capacity) (λ _. ftrue) fine $ fjoin ! $ move ! (6 ∷ 0 ∷ []) $ fjoin ! $ move ! (6 ∷ 0 ∷ 7 ∷ 8 ∷ 9 ∷ []) $ closes ! tt KRow k' vs' b' o' $ feq_i ! (List Val) (vptr b' o' ∷ []) (vptr b' o' ∷ []) refl $ fjoin3 ! $
     nothing ! $ nothing ! $ fjoin ! $ move ! (1 ∷ 0 ∷ []) $ fjoin ! $ move ! (2 ∷ 3 ∷ 4 ∷ 5 ∷ 6 ∷ []) $ use0 𝓛 (‵ Data) (write_made 𝓛 w) $ fjoin ! $ move ! (1 ∷ 0 ∷ []) $ closes ! tt Row h' us b o $ feq_i ! (List Val) (vptr b o ∷ []) (vptr b o ∷ []) refl $ fjoin3 ! $ sets ! (of_opd ! (unit_lit !)) refl (tt, tt) $
     move ! (0 ∷ 2 ∷ []) $ fjoin ! $ nothing ! $ move ! (4 ∷ 0 ∷ []) $ join ! $ move ! (3 ∷ 0 ∷ []) $ join ! $ move ! (2 ∷ 0 ∷ []) $ join ! $
-    let Told : Type 0 = (w ≡ w) × (p ≡ p) × (z ≡ z) × (h.sent ≡ h.sent) × (h.shut ≡ h.shut) × (h.leaving ≡ h.leaving) × (k.at ≡ k.at) × (k.capacity ≡ k.capacity) × (k.first ≡ k.first)
+    let Told : Type 0 = (w ≡ w) × (p ≡ p) × (z ≡ z) × (h.sent ≡ h.sent) × (h.shut ≡ h.shut) × (k.at ≡ k.at) × (k.capacity ≡ k.capacity) × (k.first ≡ k.first)
     × (full ≡ full) × ((ys : List ℕ) × (k'.bytes ≡ k.bytes ++ ys) × (full ≡ h.limit + length ys)) in
-    use0 𝓛 (raw (fact 𝓤 Told)) (fact_i 𝓤 Told (emp 𝓤) (refl, refl, refl, refl, refl, refl, refl, refl, refl, refl, (xs, refl, gained))) $ feq_i ! (List Val) (vunit ∷ []) (vunit ∷ []) refl $
+    use0 𝓛 (raw (fact 𝓤 Told)) (fact_i 𝓤 Told (emp 𝓤) (refl, refl, refl, refl, refl, refl, refl, refl, refl, (xs, refl, gained))) $ feq_i ! (List Val) (vunit ∷ []) (vunit ∷ []) refl $
     returns ! (look_at ! 0 refl) $ free_all ! refl $ keep ! (2 ∷ 3 ∷ 0 ∷ 1 ∷ []) $ by ! (leaves 𝓛 En hs c y vunit tt (h', (k', (tt, tt))) (tt, (tt, (tt, tt)))))))))))))
