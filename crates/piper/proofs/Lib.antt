@@ -1,18 +1,2 @@
-pub mod Fields
-pub mod PlacesLaws
-pub mod PlacesParts
-pub mod Heap
-pub mod Indices
-pub mod Rights
-pub mod Evidence
-pub mod Crosses
-pub mod Steps
-pub mod Refresh
-pub mod Reclaim
-pub mod Closing
-pub mod Freeing
-pub mod Leaving
-pub mod Meet
-pub mod Opening
-pub mod Taking
-pub mod WriterFacts
+mod Draining
+mod Filling

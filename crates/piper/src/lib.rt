@@ -1,14 +1,14 @@
 //! A bounded pipe of bytes between one reader and one writer.
 #![tactic(auto)]
 
-mod ends;
-mod position;
-mod ring;
-#[cfg(test)]
-mod tests;
+mod copying;
+mod handles;
+mod owned;
+mod reader;
+mod slot;
+mod writer;
 
-pub use ends::opening::open_ring;
-pub use ends::reader::ReadEnd;
-pub use ends::writer::WriteEnd;
-pub use piper_sides::memory::OutOfMemory;
-pub use ring::marks::{ReadMark, WriteMark};
+pub use handles::{Reader, Writer, pipe};
+pub use owned::{OwnedReader, OwnedWriter};
+pub use piper_ring::{OutOfMemory, ReadEnd, ReadMark, WriteEnd, WriteMark, open_ring};
+pub use slot::{Slot, Taken};

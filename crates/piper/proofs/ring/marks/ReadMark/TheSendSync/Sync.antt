@@ -1,9 +1,0 @@
--- Threads may share it.
-use denote.Param.Send.{IsSync, sendable}
-use denote.Struct.Struct.{Struct}
-use denote.Struct.Owning.{shape}
-use Rattle.piper.specs.contracts.ring.marks.ReadMark.{the_row, the_type}
-use Rattle.piper.proofs.Evidence.{took-Keyless}
-
-pub sync : IsSync the_row
-sync = let fields : IsSync (Struct (shape the_type)) = search sendable depth 20 in record { shared = λ d b o ν. (fields.shared (tt, tt) b o ν, took-Keyless d.names d.count) }

@@ -1,7 +1,0 @@
--- It may move to another thread.
-use denote.Param.Send.{IsSend}
-use Rattle.piper.specs.contracts.ring.marks.WriteMark.{the_row}
-use Rattle.piper.proofs.Evidence.{announced-Keyless}
-
-pub send : IsSend the_row
-send = record { owned = λ d vs. ((λ vss. (tt, ((λ uss. (tt, tt)), tt))), announced-Keyless d.names d.bytes d.shut); leaving = λ k f vs. tt }

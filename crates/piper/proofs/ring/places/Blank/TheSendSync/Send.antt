@@ -1,7 +1,0 @@
--- It may move to another thread.
-use denote.Param.Send.{IsSend}
-use Rattle.piper.specs.contracts.ring.places.Blank.{the_row}
-use Rattle.piper.proofs.PlacesLaws.{blank-Keyless}
-
-pub send : IsSend the_row
-send = record { owned = λ d vs. ((λ vss. (tt, ((λ uss. (tt, tt)), tt))), blank-Keyless d.at d.capacity d.first d.count); leaving = λ k f vs. tt }

@@ -1,8 +1,0 @@
--- It may move to another thread.
-use denote.Param.Send.{IsSend, sendable}
-use denote.Builtin.{u8}
-use Rattle.piper.specs.contracts.ring.places.Places.{the_row}
-use Rattle.piper.proofs.PlacesLaws.{places-Keyless}
-
-pub send : IsSend the_row
-send = let s : IsSend u8 = search sendable in record { owned = λ d vs. ((λ vss. (tt, ((λ uss. (tt, tt)), tt))), places-Keyless d.at d.capacity s d.first d.bytes); leaving = λ k f vs. tt }

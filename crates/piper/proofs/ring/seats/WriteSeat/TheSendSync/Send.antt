@@ -1,7 +1,0 @@
--- It may move to another thread.
-use denote.Param.Send.{IsSend}
-use Rattle.piper.specs.contracts.ring.seats.WriteSeat.{the_row}
-use Rattle.piper.proofs.Crosses.{writer_owns-Keyless}
-
-pub send : IsSend the_row
-send = record { owned = λ d vs. ((λ vss. (tt, (tt, tt))), writer_owns-Keyless d.words d.at d.names d.sent d.limit d.shut d.leaving); leaving = λ k f vs. tt }

@@ -1,9 +1,0 @@
--- Threads may share it.
-use denote.Param.Send.{IsSync, sendable}
-use denote.Struct.Struct.{Struct}
-use denote.Struct.Owning.{shape}
-use Rattle.piper.specs.contracts.ring.seats.WriteSeat.{the_row, the_type}
-use Rattle.piper.proofs.Crosses.{writer_lends-Common}
-
-pub sync : IsSync the_row
-sync = let fields : IsSync (Struct (shape the_type)) = search sendable depth 20 in record { shared = λ d b o ν. (fields.shared (d.words, tt) b o ν, writer_lends-Common d.words d.at d.names d.sent d.limit d.shut d.leaving ν) }

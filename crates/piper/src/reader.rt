@@ -1,0 +1,175 @@
+//! The calls of the handle that reads.
+ghost use Rattle.std.specs.Prelude.{◌≡◌, ℕ, ◌<◌, ◌≤◌, ◌++◌, ◌↔◌, [], length, take, drop, IsTrue, true, false};
+ghost use Rattle.futures.specs.Task.{Covers, Keeps};
+ghost use Rattle.futures.specs.Poll.{OnPending};
+ghost use Rattle.piper_ring.specs.ReadView.{in_one_piece};
+ghost use Rattle.piper.specs.Counts.{ReaderMayCount, ReaderCompares};
+ghost use Rattle.piper.specs.Copies.{Drained, ReaderCopied};
+ghost use Rattle.piper.specs.Ends.{ReaderConsumed, ReaderIsUpToDate};
+ghost use Rattle.piper.specs.Looks.{ReaderFound, ReaderLooked, OnRefused};
+
+use crate::copying::copy_front;
+use crate::handles::Reader;
+use crate::handles::read_steps::take_writer;
+use futures::task::{Context, Poll};
+use piper_ring::{OutOfMemory, ReadMark};
+use std::sync::Wait;
+
+impl<H: Wait + Clone + Drop> Reader<H> {
+    ghost use Rattle.piper.specs.Handles.{SameReader, read_source};
+
+    /// How many bytes are unread now. The writer may publish more at any time.
+    pub fn len(&self) -> usize
+        ensures { ReaderMayCount self.now.end result }
+    {
+        self.end().len()
+    }
+
+    /// Whether nothing is unread now. It compares a count within the bounds of `len` with 0.
+    pub fn is_empty(&self) -> bool
+        ensures { ReaderCompares self.now.end 0 result }
+    {
+        self.end().is_empty()
+    }
+
+    /// How many bytes the pipe can hold at a time.
+    pub fn capacity(&self) -> usize
+        ensures { result ≡ self.now.end.capacity }
+    {
+        self.end().capacity()
+    }
+
+    /// Whether the pipe is full now. It compares a count within the bounds of `len` with the capacity.
+    pub fn is_full(&self) -> bool
+        ensures { ReaderCompares self.now.end self.now.end.capacity result }
+    {
+        self.end().is_full()
+    }
+
+    /// Whether the pipe is closed now: a handle was dropped, or the writer closed the pipe. Once the reader saw it closed, or was told that the writer closed it, the answer is `true`.
+    pub fn is_closed(&self) -> bool
+        ensures saw { self.now.end.saw ≡ true → IsTrue result }
+        ensures told { self.now.end.told_shut ≡ true → IsTrue result }
+    {
+        self.end().is_closed()
+    }
+
+    /// Waits for a byte, or for the end.
+    ///
+    /// The answer is `true` once a byte is known, which `peek_buf` then lends; and `false` once the pipe is closed and nothing is left in it. Until then the call is pending, and the task is woken when bytes are published or the pipe is closed. It looks for more bytes only where none is known. Where no waker can be made the answer is want of memory.
+    pub fn poll(&mut self, cx: &mut Context<'_>) -> Poll<Result<bool, OutOfMemory>>
+        ensures answer { ReaderFound result self.new.end }
+        ensures looked { ReaderLooked self.old.end self.new.end }
+        ensures told { OnPending result (self.old.end.told_shut ≡ false) }
+        ensures refused { OnRefused result (cx.new.lacks_waker ≡ true) }
+        ensures rest { SameReader self.old self.new }
+        ensures covered { OnPending result (Covers cx.new (λ s. s ≡ read_source self.old)) }
+        ensures kept { Keeps cx.old cx.new }
+    {
+        if !self.knows_none() || !self.load_tail() {
+            return self.found();
+        }
+        if !self.register(cx) {
+            return Poll::Ready(Err(OutOfMemory));
+        }
+        let is_closed = self.load_closed();
+        if !self.load_tail() {
+            return self.found();
+        }
+        if is_closed {
+            Poll::Ready(Ok(false))
+        } else {
+            Poll::Pending
+        }
+    }
+
+    // A look has found a byte.
+    fn found(&mut self) -> Poll<Result<bool, OutOfMemory>>
+        ensures answer { result ≡ Poll.Ready (Ok true) }
+        ensures end { self.new.end ≡ self.old.end }
+        ensures rest { SameReader self.old self.new }
+    {
+        if let Some(taken) = self.take_own() {
+            taken.let_go();
+        }
+        Poll::Ready(Ok(true))
+    }
+
+    /// The known bytes that stand in one piece, the next one first; at least one where any is known. The slice stays as it is while the writer writes and publishes. More bytes become known by a look, as by `poll`.
+    pub fn peek_buf(&self) -> &[u8]
+        ensures bytes { result.now ≡ take (in_one_piece self.now.end) self.now.end.known }
+        ensures length { length result.now ≡ in_one_piece self.now.end }
+        ensures some { 0 < length self.now.end.known → 0 < length result.now }
+    {
+        self.end().peek_buf()
+    }
+
+    /// Takes the first `amt` bytes of what `peek_buf` lends, gives their places back, and wakes the writer.
+    pub fn consume(&mut self, amt: usize)
+        requires { amt ≤ in_one_piece self.old.end }
+        ensures taken { self.new.end.taken ≡ self.old.end.taken ++ take amt self.old.end.known }
+        ensures known { self.new.end.known ≡ drop amt self.old.end.known }
+        ensures end { ReaderConsumed self.old.end self.new.end }
+        ensures rest { SameReader self.old self.new }
+    {
+        self.store_head(amt);
+        self.wake_writer();
+    }
+
+    /// Moves known bytes into the front of `dest`, as many as fit, and answers how many. It looks for more only where none is known, and doesn't wait: 0 is no end.
+    pub fn try_drain(&mut self, dest: &mut [u8]) -> usize
+        ensures count { result ≤ length dest.old }
+        ensures rest { drop result dest.new ≡ drop result dest.old }
+        ensures taken { self.new.end.taken ≡ self.old.end.taken ++ take result dest.new }
+        ensures known { 0 < length self.old.end.known → take result dest.new ++ self.new.end.known ≡ self.old.end.known }
+        ensures most { result < length dest.old → self.new.end.known ≡ [] }
+        ensures fresh { self.old.end.known ≡ [] → ReaderIsUpToDate self.new.end }
+        ensures end { ReaderCopied self.old.end self.new.end }
+        ensures handle { SameReader self.old self.new }
+    {
+        if self.knows_none() && self.load_tail() {
+            self.load_closed();
+            if self.load_tail() {
+                return 0;
+            }
+        }
+        self.drain_rounds(dest)
+    }
+
+    // Moves known bytes in rounds, each in one piece, until none is known or the slice is full.
+    fn drain_rounds(&mut self, dest: &mut [u8]) -> usize
+        ensures moved { Drained result self.old.end dest.old dest.new self.new.end }
+        ensures most { result < length dest.old → self.new.end.known ≡ [] }
+        ensures rest { SameReader self.old self.new }
+    {
+        let mut sum = 0;
+        'rounds: loop {
+            let n = copy_front(self.peek_buf(), &mut dest[sum..]);
+            if n == 0 {
+                return sum;
+            }
+            self.store_head(n);
+            self.wake_writer();
+            sum += n;
+        }
+    }
+
+    // Wakes the writer.
+    fn wake_writer(&self) {
+        self.take_writer().let_go();
+    }
+
+    /// Evidence of what was consumed, for the writer to heed.
+    pub fn mark(&self) -> ReadMark
+        ensures ring { result.names ≡ self.now.end.ring.1.1 }
+        ensures count { result.count ≡ length self.now.end.taken }
+    {
+        self.end().mark()
+    }
+
+    /// Closes the pipe and wakes the writer. The memory is freed if the writer is gone.
+    pub fn drop(self) {
+        let (slots, rt) = self.store_closed();
+        take_writer(&slots, &rt).let_go();
+    }
+}

@@ -1,0 +1,87 @@
+//! A waker's slot that two threads share.
+ghost use Rattle.std.specs.Prelude.{◌≡◌, OnErr, true};
+ghost use Rattle.futures.specs.Task.{Covers, Keeps};
+
+use futures::task::{Context, Poll, Source, Waker};
+use piper_sides::memory::OutOfMemory;
+use piper_sides::slot::SlotState;
+use std::snapshot::Snapshot;
+use std::sync::{Mutex, Wait};
+
+/// At most one waker, behind a lock. A waker is called outside the lock.
+#[derive(Drop)]
+pub struct Slot {
+    state: Mutex<SlotState<Waker>>,
+    source: Source,
+}
+
+/// What stood in a slot when it was emptied. It is not let go by itself: `wake` or `let_go` has to take it.
+pub struct Taken {
+    waker: Option<Waker>,
+    slot: Snapshot<Slot>,
+}
+
+impl Slot {
+    ghost use Rattle.piper.specs.Slots.{source_of, IsFrom};
+
+    /// An empty slot.
+    pub fn new() -> Slot {
+        Slot {
+            state: Mutex::new(SlotState::new()),
+            source: Source::new(),
+        }
+    }
+
+    /// Leaves a waker of the task that is polled, in place of what stood there. Another task's waker is woken. Where no waker can be made, the task has asked for another poll.
+    pub fn register(&self, rt: &impl Wait, cx: &mut Context<'_>) -> Result<(), OutOfMemory>
+        ensures covered { Covers cx.new (λ s. s ≡ source_of self.now) }
+        ensures refused { OnErr result (cx.new.lacks_waker ≡ true) }
+        ensures kept { Keeps cx.old cx.new }
+    {
+        let mut held = self.state.lock(rt).take();
+        let _pending: Poll<()> = cx.register(&self.source, &mut held);
+        let Some(waker) = held else {
+            return Err(OutOfMemory);
+        };
+        let _before = self.state.lock(rt).put(waker);
+        Ok(())
+    }
+
+    /// Empties the slot.
+    pub fn take(&self, rt: &impl Wait) -> Taken
+        ensures { IsFrom self.now result }
+    {
+        Taken {
+            waker: self.state.lock(rt).take(),
+            slot: Snapshot::of(self),
+        }
+    }
+}
+
+impl Taken {
+    ghost use Rattle.piper.specs.Slots.{found_in};
+
+    /// Whether a waker stood in the slot.
+    pub fn is_found(&self) -> bool
+        ensures { result ≡ found_in self.now }
+    {
+        self.waker.is_some()
+    }
+
+    /// Calls the waker.
+    pub fn wake(self)
+        requires { found_in self ≡ true }
+    {
+        let Taken { waker, slot: _ } = self;
+        match waker {
+            Some(waker) => waker.wake(),
+            None => unreachable!(),
+        }
+    }
+
+    /// Lets the waker go, if there was one. A waker that is let go wakes its task, too: it polls once too often, never once too seldom.
+    pub fn let_go(self) {
+        let Taken { waker, slot: _ } = self;
+        drop(waker);
+    }
+}

@@ -1,0 +1,207 @@
+//! The calls of the handle that writes.
+ghost use Rattle.std.specs.Prelude.{◌≡◌, ℕ, ◌+◌, ◌-◌, ◌<◌, ◌≤◌, ◌++◌, ◌↔◌, [], length, take, drop, IsTrue, IsFalse, true, false};
+ghost use Rattle.futures.specs.Task.{Covers, Keeps};
+ghost use Rattle.futures.specs.Poll.{OnPending};
+ghost use Rattle.piper.specs.Counts.{WriterMayCount, WriterCompares};
+ghost use Rattle.piper.specs.Copies.{Filled, WriterCopied, IsReplaced};
+ghost use Rattle.piper.specs.Ends.{WriterPublished, WriterShut, WriterIsUpToDate};
+ghost use Rattle.piper.specs.Looks.{WriterFound, WriterLooked, OnRefused};
+
+use crate::copying::{MOST_A_ROUND, copy_front};
+use crate::handles::Writer;
+use crate::handles::write_steps::take_reader;
+use futures::task::{Context, Poll};
+use piper_ring::{OutOfMemory, WriteMark};
+use std::sync::Wait;
+
+impl<H: Wait + Clone + Drop> Writer<H> {
+    ghost use Rattle.piper.specs.Handles.{SameWriter, write_source};
+
+    /// How many bytes are unread now. The reader may consume some at any time.
+    pub fn len(&self) -> usize
+        ensures { WriterMayCount self.now.end result }
+    {
+        self.end().len()
+    }
+
+    /// Whether nothing is unread now. It compares a count within the bounds of `len` with 0.
+    pub fn is_empty(&self) -> bool
+        ensures { WriterCompares self.now.end 0 result }
+    {
+        self.end().is_empty()
+    }
+
+    /// How many bytes the pipe can hold at a time.
+    pub fn capacity(&self) -> usize
+        ensures { result ≡ self.now.end.capacity }
+    {
+        self.end().capacity()
+    }
+
+    /// Whether the pipe is full now. It compares a count within the bounds of `len` with the capacity.
+    pub fn is_full(&self) -> bool
+        ensures { WriterCompares self.now.end self.now.end.capacity result }
+    {
+        self.end().is_full()
+    }
+
+    /// Whether the pipe is closed now: a handle was dropped, or this one closed the pipe. Once the writer saw it closed, or closed it, the answer is `true`.
+    pub fn is_closed(&self) -> bool
+        ensures { self.now.end.saw ≡ true → IsTrue result }
+    {
+        self.end().is_closed()
+    }
+
+    /// Waits for room, or for the end.
+    ///
+    /// The answer is `false` once the pipe is closed; and else `true` once there is room, which `write_buf` then lends. Until then the call is pending, and the task is woken when bytes are consumed or the pipe is closed. It looks for more room only where none is known. Where no waker can be made the answer is want of memory.
+    pub fn poll(&mut self, cx: &mut Context<'_>) -> Poll<Result<bool, OutOfMemory>>
+        ensures answer { WriterFound result self.new.end }
+        ensures looked { WriterLooked self.old.end self.new.end }
+        ensures refused { OnRefused result (cx.new.lacks_waker ≡ true) }
+        ensures rest { SameWriter self.old self.new }
+        ensures covered { OnPending result (Covers cx.new (λ s. s ≡ write_source self.old)) }
+        ensures kept { Keeps cx.old cx.new }
+    {
+        if self.load_closed() {
+            return Poll::Ready(Ok(false));
+        }
+        if !self.knows_none() || !self.load_head() {
+            return self.found();
+        }
+        if !self.register(cx) {
+            return Poll::Ready(Err(OutOfMemory));
+        }
+        if !self.load_head() {
+            return self.found();
+        }
+        if self.load_closed() {
+            Poll::Ready(Ok(false))
+        } else {
+            Poll::Pending
+        }
+    }
+
+    // A look has found room.
+    fn found(&mut self) -> Poll<Result<bool, OutOfMemory>>
+        ensures answer { result ≡ Poll.Ready (Ok true) }
+        ensures end { self.new.end ≡ self.old.end }
+        ensures rest { SameWriter self.old self.new }
+    {
+        if let Some(taken) = self.take_own() {
+            taken.let_go();
+        }
+        Poll::Ready(Ok(true))
+    }
+
+    /// Publishes the first `n` bytes of what is left of the slice last lent, as they stand, and wakes the reader.
+    pub fn produced(&mut self, n: usize)
+        requires { n ≤ length self.old.end.lent }
+        ensures sent { self.new.end.sent ≡ self.old.end.sent ++ take n self.old.end.lent }
+        ensures lent { self.new.end.lent ≡ drop n self.old.end.lent }
+        ensures room { self.new.end.room + n ≡ self.old.end.room }
+        ensures end { WriterPublished self.old.end self.new.end }
+        ensures rest { SameWriter self.old self.new }
+    {
+        self.store_tail(n);
+        self.wake_reader();
+    }
+
+    /// Publishes bytes from the front of `bytes`, as many as there is room for, and answers how many it took. It looks for more room only where none is known, and doesn't wait. Nothing is lent afterwards.
+    ///
+    /// A closed pipe takes none. Where the pipe is seen closed only once some bytes were taken, the last of them, at most one round, are counted and not published.
+    pub fn try_fill(&mut self, bytes: &[u8]) -> usize
+        ensures count { result ≤ length bytes.now }
+        ensures sent { self.new.end.saw ≡ false → self.new.end.sent ≡ self.old.end.sent ++ take result bytes.now }
+        ensures front { (m : ℕ) × (m ≤ result) × (self.new.end.sent ≡ self.old.end.sent ++ take m bytes.now) }
+        ensures room { 0 < self.old.end.room → IsReplaced self.old.end self.new.end }
+        ensures most { result < length bytes.now → self.new.end.saw ≡ false → self.new.end.room ≡ 0 }
+        ensures closed { self.old.end.saw ≡ true → result ≡ 0 }
+        ensures fresh { self.old.end.room ≡ 0 → self.new.end.saw ≡ false → WriterIsUpToDate self.new.end }
+        ensures end { WriterCopied self.old.end self.new.end }
+        ensures handle { SameWriter self.old self.new }
+    {
+        if self.try_look() {
+            return self.fill_rounds(bytes);
+        }
+        self.unlend();
+        0
+    }
+
+    // A look without a context.
+    fn try_look(&mut self) -> bool
+        ensures some { IsTrue result → 0 < self.new.end.room }
+        ensures is_open { IsTrue result → (self.new.end.shut ≡ false) × (self.new.end.saw ≡ false) }
+        ensures none { IsFalse result → self.new.end.saw ≡ false → self.new.end.room ≡ 0 }
+        ensures looked { WriterLooked self.old.end self.new.end }
+        ensures rest { SameWriter self.old self.new }
+    {
+        if self.load_closed() {
+            return false;
+        }
+        if !self.knows_none() || !self.load_head() || !self.load_head() {
+            return true;
+        }
+        self.load_closed();
+        false
+    }
+
+    // Publishes bytes in rounds, each in one piece, until no room is known, all were published, or the pipe is seen closed.
+    fn fill_rounds(&mut self, bytes: &[u8]) -> usize
+        requires { (self.old.end.shut ≡ false) × (self.old.end.saw ≡ false) }
+        ensures all { self.new.end.saw ≡ false → Filled result self.old.end bytes.now self.new.end }
+        ensures some { (m : ℕ) × (m ≤ result) × Filled m self.old.end bytes.now self.new.end }
+        ensures count { result ≤ length bytes.now }
+        ensures most { result < length bytes.now → self.new.end.saw ≡ false → self.new.end.room ≡ 0 }
+        ensures lent { self.new.end.lent ≡ [] }
+        ensures rest { SameWriter self.old self.new }
+    {
+        let mut sum = 0;
+        'rounds: loop {
+            let n = copy_front(&bytes[sum..], self.write_buf(MOST_A_ROUND));
+            if n == 0 || self.load_closed() {
+                self.unlend();
+                return sum + n;
+            }
+            self.store_tail(n);
+            self.wake_reader();
+            sum += n;
+        }
+    }
+
+    // Wakes the reader.
+    fn wake_reader(&self) {
+        self.take_reader().let_go();
+    }
+
+    /// Closes the pipe for good, and wakes both sides. Nothing is lent any more, and what was lent is taken back.
+    pub fn poll_close(&mut self, cx: &mut Context<'_>) -> Poll<Result<(), OutOfMemory>>
+        ensures answer { result ≡ Poll.Ready (Ok (record {})) }
+        ensures end { WriterShut self.old.end self.new.end }
+        ensures rest { SameWriter self.old self.new }
+        ensures kept { Keeps cx.old cx.new }
+    {
+        let _unused = cx;
+        self.store_shut();
+        self.wake_reader();
+        if let Some(taken) = self.take_own() {
+            taken.let_go();
+        }
+        Poll::Ready(Ok(()))
+    }
+
+    /// Evidence of what was published, for the reader to heed.
+    pub fn mark(&self) -> WriteMark
+        ensures ring { result.names ≡ self.now.end.ring.1.1 }
+        ensures bytes { result.bytes ≡ self.now.end.sent }
+        ensures shut { result.shut ≡ self.now.end.shut }
+    {
+        self.end().mark()
+    }
+
+    /// Closes the pipe and wakes the reader, who can still read what is unread. The memory is freed if the reader is gone.
+    pub fn drop(self) {
+        let (slots, rt) = self.store_closed();
+        take_reader(&slots, &rt).let_go();
+    }
+}

@@ -1,0 +1,74 @@
+-- The seats may cross threads and be shared by them. Assumes nothing.
+use Rattle.std.proofs.Common.{ℕ, Bool, true, false, List, ◌+◌, ◌-◌, length, drop}
+use base.Fml.{Share, Fml}
+use base.Shift.{Keyless}
+use base.Growing.{latest, at_least}
+use denote.RawPtr.{Ptr}
+use denote.Builtin.{u8}
+use denote.Param.Send.{IsSend, Common, sendable}
+use Rattle.core.specs.Allocator.{array_of}
+use Rattle.std.proofs.Crossing.{frees}
+use Rattle.piper_ring.specs.Shared.{words_type, deeds, Names, State, flag, gone, where_gone, until_both, writer_knows, reader_knows, arrived_first, ends, spare, blanks, memory, Inner, common, reader_owns, reader_lends, writer_owns, writer_lends}
+use Rattle.piper_ring.proofs.PlacesLaws.{run-Keyless, span-Keyless}
+
+module _ (w p : Ptr) (z : Names) where
+  writer-Keyless : (q : Share) (l : List ℕ) (n : ℕ) (b : Bool) (i : ℕ) → Keyless (writer_knows w p z q l n b i)
+  unfolding latest
+  writer-Keyless q l n b i = (tt, (tt, (tt, tt)))
+
+  reader-Keyless : (q : Share) (h k i : ℕ) → Keyless (reader_knows w p z q h k i)
+  unfolding latest
+  reader-Keyless q h k i = ((tt, tt), tt)
+
+  ends-Keyless : (b : Bool) → Keyless (ends w p z b)
+  unfolding latest
+  ends-Keyless b = tt
+
+  deeds-Keyless : Keyless (deeds w p z)
+  deeds-Keyless = (((tt, (tt, (tt, tt))), tt), (frees.frees (record { memory = record { seal = tt } }) words_type w, frees.frees (record { memory = record { seal = tt } }) (array_of u8 z.capacity) p))
+
+  spare-Keyless : IsSend u8 → (k n : ℕ) → Keyless (spare w p z k n)
+  spare-Keyless s k n xs = ((λ _. tt), run-Keyless p z.capacity s k xs)
+
+  where-Keyless : (b : Bool) (F : Fml) → Keyless F → Keyless (where_gone b F)
+  where-Keyless false F k = tt
+  where-Keyless true F k = k
+
+  unless-Keyless : (a b : Bool) (F : Fml) → Keyless F → Keyless (until_both a b F)
+  unless-Keyless true true F k = tt
+  unless-Keyless false b F k = k
+  unless-Keyless true false F k = k
+
+  memory-Keyless : IsSend u8 → (u : State) → Keyless (memory w p z u)
+  memory-Keyless s u = (
+    (tt, (tt, (tt, tt))),
+    (
+      run-Keyless p z.capacity s u.seen (drop u.seen u.sent),
+      (
+        spare-Keyless s u.limit (u.head + z.capacity - u.limit),
+        (where-Keyless (gone u.reader_stage) (blanks w p z u.head (u.seen - u.head)) (span-Keyless p z.capacity (u.seen - u.head) u.head), (where-Keyless (gone u.writer_stage) (blanks w p z (length u.sent) (u.limit - length u.sent)) (span-Keyless p z.capacity (u.limit - length u.sent) (length u.sent)), deeds-Keyless)),
+      ),
+    ),
+  )
+
+  inner-Keyless : IsSend u8 → Keyless (Inner w p z)
+  inner-Keyless s u = ((λ _. tt), ((writer-Keyless _ _ _ _ _, (reader-Keyless _ _ _ _, ends-Keyless _)), unless-Keyless (gone u.reader_stage) (gone u.writer_stage) (memory w p z u) (memory-Keyless s u)))
+
+  common-Keyless : Keyless (common w p z)
+  common-Keyless = let s : IsSend u8 = search sendable in ((λ _. tt), inner-Keyless s)
+
+  arrived-Keyless : (k : ℕ) (l : List ℕ) → Keyless (arrived_first w p z k l)
+  unfolding at_least
+  arrived-Keyless k l = ((λ _. tt), tt)
+
+  pub reader_owns-Keyless : (h k : ℕ) (l : List ℕ) (b : Bool) → Keyless (reader_owns w p z h k l b)
+  reader_owns-Keyless h k l b = (common-Keyless, (reader-Keyless _ h k (flag b), arrived-Keyless k l))
+
+  pub writer_owns-Keyless : (l : List ℕ) (n : ℕ) (a : Bool) → Keyless (writer_owns w p z l n a)
+  writer_owns-Keyless l n a = (common-Keyless, writer-Keyless _ l n a 0)
+
+  pub reader_lends-Common : (h k : ℕ) (b : Bool) → Common (reader_lends w p z h k b)
+  reader_lends-Common h k b κ = (common-Keyless, λ q. reader-Keyless q h k (flag b))
+
+  pub writer_lends-Common : (l : List ℕ) (n : ℕ) (a : Bool) → Common (writer_lends w p z l n a)
+  writer_lends-Common l n a κ = (common-Keyless, λ q. writer-Keyless q l n a 0)

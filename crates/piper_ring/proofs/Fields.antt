@@ -1,0 +1,127 @@
+-- What the machine keeps of the ring's own types: a seat is its pointer to the words, and the owners of places and the marks take no space. Assumes `Logic`.
+use Rattle.std.proofs.Common.{◌≡◌, List, [], ◌∷◌, ◌++◌, refl, ap, ◌∙◌}
+use seplogic.Ra.Ura.{Ura}
+use mir.Val.{Val, vstruct, vcons, vnil, of_list}
+use base.Logic.{ent, sep, emp}
+use types.Kit.{‵, ◌$◌, ◌∵◌, !, qed, move, fjoin, fpack, feq_i, done}
+use denote.Steps.{nothing}
+use denote.Struct.Declared as Declared
+use denote.Struct.Tuple.{Tuple, tuple_type}
+use types.Logic.{Logic, sem}
+use denote.RattleType.{RattleType, Valss}
+use denote.Laws.{Is}
+use denote.RawPtr.{Ptr, ptr_val}
+use denote.Shadow.{makes_shadow}
+use denote.Struct.Struct.{Struct, within}
+use denote.Struct.Owning.{shape}
+use Rattle.piper_ring.specs.contracts.ring.memory.Memory as Memory
+use Rattle.piper_ring.specs.contracts.ring.seats.ReadSeat as ReadSeat
+use Rattle.piper_ring.specs.contracts.ring.seats.WriteSeat as WriteSeat
+use Rattle.piper_ring.specs.contracts.ring.seats.Remains as Remains
+use Rattle.piper_ring.specs.contracts.ring.places.Places as Places
+use Rattle.piper_ring.specs.contracts.ring.places.Blank as Blank
+use Rattle.piper_ring.specs.contracts.ring.places.Base as Base
+use Rattle.piper_ring.specs.contracts.ring.marks.WriteMark as WriteMark
+use Rattle.piper_ring.specs.contracts.ring.marks.ReadMark as ReadMark
+use Rattle.piper_ring.specs.contracts.ring.marks.Saw as Saw
+
+abbrev pub seat_val : Ptr → Val
+seat_val w = vstruct (vcons (ptr_val w) vnil)
+
+-- a struct with one field that takes no space
+abbrev pub ghost_val : Val
+ghost_val = vstruct (vcons (vstruct vnil) vnil)
+
+abbrev pub ReadData : RattleType
+ReadData = Struct (shape ReadSeat.the_type)
+
+abbrev pub WriteData : RattleType
+WriteData = Struct (shape WriteSeat.the_type)
+
+abbrev pub RemainsData : RattleType
+RemainsData = Struct (shape Remains.the_type)
+
+abbrev pub MemoryData : RattleType
+MemoryData = Struct (shape Memory.the_type)
+
+abbrev pub PlacesData : RattleType
+PlacesData = Struct (shape Places.the_type)
+
+abbrev pub BlankData : RattleType
+BlankData = Struct (shape Blank.the_type)
+
+abbrev pub SentData : RattleType
+SentData = Struct (shape WriteMark.the_type)
+
+abbrev pub TookData : RattleType
+TookData = Struct (shape ReadMark.the_type)
+
+abbrev pub SawData : RattleType
+SawData = Struct (shape Saw.the_type)
+
+pub read_told : (w : Ptr) (vs : List Val) → Is ReadData (w, tt) vs → vs ≡ seat_val w ∷ []
+read_told w vs is = is.1.0 ∙ ap (λ (ws : List Val). vstruct (of_list (ws ++ [])) ∷ []) is.1.1.0
+
+pub write_told : (w : Ptr) (vs : List Val) → Is WriteData (w, tt) vs → vs ≡ seat_val w ∷ []
+write_told w vs is = is.1.0 ∙ ap (λ (ws : List Val). vstruct (of_list (ws ++ [])) ∷ []) is.1.1.0
+
+pub remains_told : (w : Ptr) (vs : List Val) → Is RemainsData (w, tt) vs → vs ≡ seat_val w ∷ []
+remains_told w vs is = is.1.0 ∙ ap (λ (ws : List Val). vstruct (of_list (ws ++ [])) ∷ []) is.1.1.0
+
+pub memory_told : (p : Ptr) (vs : List Val) → Is MemoryData (p, tt) vs → vs ≡ seat_val p ∷ []
+memory_told p vs is = is.1.0 ∙ ap (λ (ws : List Val). vstruct (of_list (ws ++ [])) ∷ []) is.1.1.0
+
+pub places_told : (vs : List Val) → Is PlacesData (record {}, tt) vs → vs ≡ ghost_val ∷ []
+places_told vs is = is.1.0 ∙ ap (λ (ws : List Val). vstruct (of_list (ws ++ [])) ∷ []) is.1.1.0.1.0
+
+pub blank_told : (vs : List Val) → Is BlankData (record {}, tt) vs → vs ≡ ghost_val ∷ []
+blank_told vs is = is.1.0 ∙ ap (λ (ws : List Val). vstruct (of_list (ws ++ [])) ∷ []) is.1.1.0.1.0
+
+pub saw_told : (vs : List Val) → Is SawData (record {}, tt) vs → vs ≡ ghost_val ∷ []
+saw_told vs is = is.1.0 ∙ ap (λ (ws : List Val). vstruct (of_list (ws ++ [])) ∷ []) is.1.1.0.1.0
+
+module _ {M : Type 1} {𝓤 : Ura M} (𝓛 : Logic 𝓤) where
+  pub read_made : (w : Ptr) → ent 𝓤 (emp 𝓤) (sem 𝓛 (ReadData.own_val (w, tt) (seat_val w ∷ [])))
+  read_made w = makes_shadow 𝓛 (ReadData.own_val (w, tt) (seat_val w ∷ [])) (λ vss. (tt, (tt, tt))) ((ptr_val w ∷ [], tt), (refl, (refl, tt)))
+
+  pub write_made : (w : Ptr) → ent 𝓤 (emp 𝓤) (sem 𝓛 (WriteData.own_val (w, tt) (seat_val w ∷ [])))
+  write_made w = makes_shadow 𝓛 (WriteData.own_val (w, tt) (seat_val w ∷ [])) (λ vss. (tt, (tt, tt))) ((ptr_val w ∷ [], tt), (refl, (refl, tt)))
+
+  pub remains_made : (w : Ptr) → ent 𝓤 (emp 𝓤) (sem 𝓛 (RemainsData.own_val (w, tt) (seat_val w ∷ [])))
+  remains_made w = makes_shadow 𝓛 (RemainsData.own_val (w, tt) (seat_val w ∷ [])) (λ vss. (tt, (tt, tt))) ((ptr_val w ∷ [], tt), (refl, (refl, tt)))
+
+  pub memory_made : (p : Ptr) → ent 𝓤 (emp 𝓤) (sem 𝓛 (MemoryData.own_val (p, tt) (seat_val p ∷ [])))
+  memory_made p = makes_shadow 𝓛 (MemoryData.own_val (p, tt) (seat_val p ∷ [])) (λ vss. (tt, (tt, tt))) ((ptr_val p ∷ [], tt), (refl, (refl, tt)))
+
+  pub places_made : ent 𝓤 (emp 𝓤) (sem 𝓛 (PlacesData.own_val (record {}, tt) (ghost_val ∷ [])))
+  places_made = makes_shadow 𝓛 (PlacesData.own_val (record {}, tt) (ghost_val ∷ [])) (λ vss. (tt, ((λ uss. (tt, tt)), tt))) ((vstruct vnil ∷ [], tt), (refl, ((tt, (refl, tt)), tt)))
+
+  pub blank_made : ent 𝓤 (emp 𝓤) (sem 𝓛 (BlankData.own_val (record {}, tt) (ghost_val ∷ [])))
+  blank_made = makes_shadow 𝓛 (BlankData.own_val (record {}, tt) (ghost_val ∷ [])) (λ vss. (tt, ((λ uss. (tt, tt)), tt))) ((vstruct vnil ∷ [], tt), (refl, ((tt, (refl, tt)), tt)))
+
+  pub sent_made : ent 𝓤 (emp 𝓤) (sem 𝓛 (SentData.own_val (record {}, tt) (ghost_val ∷ [])))
+  sent_made = makes_shadow 𝓛 (SentData.own_val (record {}, tt) (ghost_val ∷ [])) (λ vss. (tt, ((λ uss. (tt, tt)), tt))) ((vstruct vnil ∷ [], tt), (refl, ((tt, (refl, tt)), tt)))
+
+  pub took_made : ent 𝓤 (emp 𝓤) (sem 𝓛 (TookData.own_val (record {}, tt) (ghost_val ∷ [])))
+  took_made = makes_shadow 𝓛 (TookData.own_val (record {}, tt) (ghost_val ∷ [])) (λ vss. (tt, ((λ uss. (tt, tt)), tt))) ((vstruct vnil ∷ [], tt), (refl, ((tt, (refl, tt)), tt)))
+
+  pub saw_made : ent 𝓤 (emp 𝓤) (sem 𝓛 (SawData.own_val (record {}, tt) (ghost_val ∷ [])))
+  saw_made = makes_shadow 𝓛 (SawData.own_val (record {}, tt) (ghost_val ∷ [])) (λ vss. (tt, ((λ uss. (tt, tt)), tt))) ((vstruct vnil ∷ [], tt), (refl, ((tt, (refl, tt)), tt)))
+
+abbrev pub BaseData : RattleType
+BaseData = Struct (Declared.shape Base.the_type)
+
+pub base_made : {M : Type 1} {𝓤 : Ura M} (𝓛 : Logic 𝓤) (p : Ptr) → ent 𝓤 (emp 𝓤) (sem 𝓛 (BaseData.own_val (p, tt) (seat_val p ∷ [])))
+base_made 𝓛 p = makes_shadow 𝓛 (BaseData.own_val (p, tt) (seat_val p ∷ [])) (λ vss. (tt, (tt, tt))) ((ptr_val p ∷ [], tt), (refl, (refl, tt)))
+
+-- a tuple of four
+abbrev pub four_val : Val → Val → Val → Val → Val
+four_val a b c d = vstruct (vcons a (vcons b (vcons c (vcons d vnil))))
+
+module _ {M : Type 1} {𝓤 : Ura M} (𝓛 : Logic 𝓤) (R S T U : RattleType) where
+  pub four_of : (x : R.Denot) (y : S.Denot) (z : T.Denot) (w : U.Denot) (a b c d : Val)
+      → ent 𝓤 (sep 𝓤 (sem 𝓛 (R.own_val x (a ∷ []))) (sep 𝓤 (sem 𝓛 (S.own_val y (b ∷ []))) (sep 𝓤 (sem 𝓛 (T.own_val z (c ∷ []))) (sem 𝓛 (U.own_val w (d ∷ [])))))) (sem 𝓛 ((Tuple (R ∷ S ∷ T ∷ U ∷ [])).own_val (x, y, z, w) (four_val a b c d ∷ [])))
+  four_of x y z w a b c d =
+      qed 𝓛 (‵ (R.own_val x (a ∷ [])) ∷ ‵ (S.own_val y (b ∷ [])) ∷ ‵ (T.own_val z (c ∷ [])) ∷ ‵ (U.own_val w (d ∷ [])) ∷ []) ∵ nothing ! $ move ! (4 ∷ 0 ∷ []) $ fjoin ! $ move ! (3 ∷ 0 ∷ []) $ fjoin ! $ move ! (2 ∷ 0 ∷ []) $ fjoin ! $ move ! (1 ∷ 0 ∷ []) $ fjoin ! $
+      feq_i ! (List Val) (four_val a b c d ∷ []) (four_val a b c d ∷ []) refl $ fjoin ! $
+      fpack ! (Valss (R ∷ S ∷ T ∷ U ∷ [])) (within (Declared.shape (tuple_type (R ∷ S ∷ T ∷ U ∷ []))) (x, (y, (z, (w, tt)))) (four_val a b c d ∷ [])) (a ∷ [], (b ∷ [], (c ∷ [], (d ∷ [], tt)))) $ done !

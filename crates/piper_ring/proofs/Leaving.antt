@@ -1,0 +1,199 @@
+-- An end leaves: it closes the ring, and then gives up its places; the second one to leave gets all of the memory. Assumes `Logic`.
+use Rattle.std.proofs.Common.{◌≡◌, ℕ, zero, suc, ◌+◌, ◌-◌, ◌*◌, ◌≤◌, Bool, true, false, List, [], ◌∷◌, length, drop, sym, refl, ap, ◌∙◌, subst, arith}
+use seplogic.Ra.Ura.{Ura}
+use base.Growing.{numbers, latest}
+use base.Logic.{SProp, ent, sep, upd, ex, via, upd_i}
+use base.Fml.{Share, Fml, ftrue, fsep}
+use types.Logic.{Logic, sem}
+use types.Growing.{latest_grows}
+use types.Kit.{‵, raw, ◌⊛◌, some, given, ◌$◌, ◌∵◌, !, qed, by, move, keep, split, split3, fsplit, fsplit3, fjoin, fjoin3, fpick, fpack, pick, learn, show, frame, assume, settle, suffices, rewrite, use1, use2, use3, done}
+use types.Kit.{drop as forget}
+use denote.RawPtr.{Ptr, block_ptr, block_of, count_of}
+use denote.Steps.{nothing}
+use Rattle.core.specs.Sync.RawAtomic.{asks, always}
+use Rattle.rtrb.proofs.Asks.{Lies}
+use Rattle.std.proofs.lemmas.List.{length-drop}
+use Rattle.rtrb.proofs.Spans.{span_join, span_map, ring_in}
+use Rattle.rtrb.specs.Shared.{span}
+use Rattle.piper_ring.proofs.PlacesParts.{forgets}
+use Rattle.core.specs.Allocator.{array_of}
+use mir.Syntax.{Ty, w64, ty_int}
+use mir.Raw.{raw as bare}
+use denote.Memory.{lone}
+use base.Logic.{apply∗, id⊢}
+use base.Fml.{froom, fex}
+use Rattle.piper_ring.specs.Places.{fact, unset}
+use Rattle.piper_ring.proofs.Steps.{flag_small, Rest, OneStays, ReaderSees, WriterSees, reader_opens, writer_opens, closes, inside, raise}
+use denote.Builtin.{u8}
+use Rattle.rtrb.specs.Fifo.{slot_of}
+use Rattle.piper_ring.specs.Shared.{one_gone, Names, State, Holds, half, other, flag, gone, until_both, where_gone, word, word_room, words_type, four_rooms, blanks, memory, whole, writer_knows, reader_knows, ends, standing, Inner, common}
+
+pub here : (i : ℕ) → i ≤ 1 → gone i ≡ false
+here zero le = refl
+here (suc zero) le = refl
+here (suc (suc i)) le = absurd (omega arith)
+
+one_false : (b : Bool) → one_gone b false ≡ flag b
+one_false false = refl
+one_false true = refl
+
+one_true : (b : Bool) → one_gone b true ≡ 1
+one_true false = refl
+one_true true = refl
+
+module _ {M : Type 1} {𝓤 : Ura M} (𝓛 : Logic 𝓤) (w p : Ptr) (z : Names) where
+  open 𝓛 use {H, A}
+
+  abbrev Pr : Type 2
+  Pr = SProp 𝓤
+
+  abbrev ◌⊢◌ : Pr → Pr → Type 1
+  P ⊢ Q = ent 𝓤 P Q
+
+  abbrev ◌∗◌ : Pr → Pr → Pr
+  P ∗ Q = sep 𝓤 P Q
+
+  abbrev ⟦◌⟧ : Fml → Pr
+  ⟦ P ⟧ = sem 𝓛 P
+
+  infix 26 ◌⊢◌
+  infixr 35 ◌∗◌
+  abbrev I : Fml
+  I = Inner w p z
+
+  abbrev C : Fml
+  C = common w p z
+
+  abbrev cap : ℕ
+  cap = z.capacity
+
+  abbrev RK : Share → ℕ → ℕ → ℕ → Fml
+  RK = reader_knows w p z
+
+  abbrev WK : Share → List ℕ → ℕ → Bool → ℕ → Fml
+  WK = writer_knows w p z
+
+  -- an access of the word d bytes on
+  abbrev access : (d : ℕ) (f : ℕ → ℕ) (after : ℕ → Fml) → Pr
+  access d f after = let spot : Ptr = block_ptr (block_of w) (d + count_of w) in asks 𝓛 spot f always after
+
+  -- the word d bytes on, under the invariant
+  abbrev Holding : (d : ℕ) (f : ℕ → ℕ) (after : ℕ → Fml) (n : ℕ) → Pr
+  Holding d f after n = Lies 𝓛 (block_of w) (d + count_of w) f after I n
+
+  abbrev U : ℕ → Fml
+  U = unset p cap
+
+  abbrev τ : Ty
+  τ = lone u8.mir
+
+  -- one turn of places is the block of the bytes
+  as_array : (k : ℕ) → ⟦ blanks w p z k cap ⟧ ⊢ ⟦ froom (array_of u8 cap) (block_of p) (count_of p) ⟧
+  as_array k = let F : ℕ → Fml = λ i. froom (bare τ) (block_of p) (slot_of cap i * 1 + count_of p) in
+      via 𝓤 _ (span_map 𝓛 U F cap k k (λ a b e le lt. let same : a ≡ b = omega arith in let flat : slot_of cap b + count_of p ≡ slot_of cap b * 1 + count_of p = omega arith in
+      subst (λ (m : ℕ). ⟦ U a ⟧ ⊢ ⟦ froom (bare τ) (block_of p) m ⟧) (ap (λ (m : ℕ). slot_of cap m + count_of p) same ∙ flat) (id⊢ 𝓤 ⟦ U a ⟧)))
+      (ring_in 𝓛 τ (block_of p) (count_of p) cap k)
+
+  abbrev u : Ty
+  u = ty_int w64
+
+  -- once both ends are gone, the words and the places that each gave up are all of the memory
+  gathers : (s : State) → Holds cap s → gone s.reader_stage ≡ true → gone s.writer_stage ≡ true → ⟦ memory w p z s ⟧ ⊢ ⟦ whole w p z ⟧
+  gathers s so gr gw = let b : ℕ = block_of w in let o : ℕ = count_of w in let known = so.known in let arrived = so.arrived in let written = so.written in let freed = so.freed in let sl : ℕ = length s.sent in let pend : List ℕ = drop s.seen s.sent in let pl : length pend ≡ sl - s.seen = length-drop s.seen s.sent in
+      qed 𝓛 (‵ (memory w p z s) ∷ []) ∵ fsplit ! $ fsplit3 ! $ move ! (2 ∷ []) $ fsplit ! $
+      use1 𝓛 (‵ (word_room w 384)) (𝓛.laws.at_room u b (384 + o) _) $ move ! (1 ∷ []) $ use1 𝓛 (‵ (word_room w 0)) (𝓛.laws.at_room u b (0 + o) _) $ move ! (2 ∷ []) $
+      use1 𝓛 (‵ (word_room w 128)) (𝓛.laws.at_room u b (128 + o) _) $ move ! (3 ∷ []) $ use1 𝓛 (‵ (word_room w 256)) (𝓛.laws.at_room u b (256 + o) _) $
+      move ! (3 ∷ 2 ∷ []) $ fjoin ! $ move ! (2 ∷ 1 ∷ 0 ∷ []) $ fjoin3 ! $ move ! (1 ∷ []) $ fsplit ! $ move ! (1 ∷ []) $ fsplit3 ! $ move ! (2 ∷ []) $ fsplit ! $
+      rewrite ! 0 (λ (c : Bool). ‵ (where_gone c (blanks w p z sl (s.limit - sl)))) gw refl $ rewrite ! 3 (λ (c : Bool). ‵ (where_gone c (blanks w p z s.head (s.seen - s.head)))) gr refl $
+      move ! (2 ∷ []) $ fpick ! (λ ys. fsplit ! $ fpick ! (λ ly. forget ! $ let size : length ys ≡ s.head + cap - s.limit = ly in
+      use1 𝓛 (‵ (span U s.limit (length ys))) (forgets 𝓛 p cap ys s.limit) $ move ! (4 ∷ []) $ use1 𝓛 (‵ (span U s.seen (length pend))) (forgets 𝓛 p cap pend s.seen) $
+      move ! (4 ∷ 0 ∷ []) $ use2 𝓛 (‵ (span U s.head (sl - s.head))) (span_join 𝓛 U (s.seen - s.head) s.head s.seen (length pend) (sl - s.head) (omega arith) (omega arith)) $
+      move ! (0 ∷ 2 ∷ []) $ use2 𝓛 (‵ (span U s.head (s.limit - s.head))) (span_join 𝓛 U (sl - s.head) s.head sl (s.limit - sl) (s.limit - s.head) (omega arith) (omega arith)) $
+      use2 𝓛 (‵ (span U s.head cap)) (span_join 𝓛 U (s.limit - s.head) s.head s.limit (length ys) cap (omega arith) (omega arith)) $
+      use1 𝓛 (‵ (froom (array_of u8 cap) (block_of p) (count_of p))) (as_array s.head) $ move ! (1 ∷ []) $ fsplit3 ! $ move ! (4 ∷ 0 ∷ []) $
+      use2 𝓛 (‵ (froom words_type b o)) (apply∗ 𝓤 ⟦ four_rooms w ⟧ ⟦ froom words_type b o ⟧) $ fjoin ! $ move ! (2 ∷ 1 ∷ []) $ fjoin ! $ move ! (1 ∷ 0 ∷ []) $ fjoin ! $ done !))
+
+  abbrev one : ℕ → ℕ
+  one _ = 1
+
+  -- n was found in the word of leaving: 1 where the other end was gone
+  abbrev pub left_one : ℕ → Bool → Fml
+  left_one n b = fsep (fact (n ≡ flag b)) (where_gone b (whole w p z))
+
+  abbrev pub Left : ℕ → Fml
+  Left n = fex Bool (left_one n)
+
+  abbrev no_reader : State → State
+  no_reader t = record t { reader_stage = 2 }
+
+  seals : (t : State) → Holds cap (no_reader t) → (b : Bool) → gone t.writer_stage ≡ b → ⟦ WK other t.sent t.limit t.shut t.writer_stage ⟧ ∗ ⟦ RK other t.head t.seen 2 ⟧ ∗ ⟦ ends w p z t.closed ⟧ ∗ ⟦ memory w p z (no_reader t) ⟧ ⊢ ⟦ I ⟧ ∗ ⟦ Left (flag b) ⟧
+  seals t so false e = let Mem : Fml = memory w p z (no_reader t) in qed 𝓛 (‵ (WK other t.sent t.limit t.shut t.writer_stage) ∷ ‵ (RK other t.head t.seen 2) ∷ ‵ (ends w p z t.closed) ∷ ‵ Mem ∷ []) ∵ move ! (3 ∷ []) $
+      rewrite ! 0 (λ (c : Bool). ‵ (until_both true c Mem)) {x = gone t.writer_stage} {y = false} (sym e) refl $ move ! (1 ∷ 2 ∷ 3 ∷ []) $ fjoin3 ! $ nothing ! $ fpack ! (Holds cap (no_reader t)) (λ _. ftrue) so $ fjoin3 ! $ fpack ! State (standing w p z) (no_reader t) $
+      nothing ! $ nothing ! $ fpack ! (0 ≡ flag false) (λ _. ftrue) refl $ fjoin ! $ fpack ! Bool (left_one 0) false $ move ! (1 ∷ 0 ∷ []) $ done !
+  seals t so true e = let Mem : Fml = memory w p z (no_reader t) in qed 𝓛 (‵ (WK other t.sent t.limit t.shut t.writer_stage) ∷ ‵ (RK other t.head t.seen 2) ∷ ‵ (ends w p z t.closed) ∷ ‵ Mem ∷ []) ∵ nothing ! $
+      rewrite ! 0 (λ (c : Bool). ‵ (until_both true c Mem)) {x = gone t.writer_stage} {y = true} (sym e) refl $ move ! (1 ∷ 2 ∷ 3 ∷ []) $ fjoin3 ! $ nothing ! $ fpack ! (Holds cap (no_reader t)) (λ _. ftrue) so $ fjoin3 ! $ fpack ! State (standing w p z) (no_reader t) $
+      move ! (1 ∷ []) $ use1 𝓛 (‵ (whole w p z)) (gathers (no_reader t) so refl e) $ nothing ! $ fpack ! (1 ≡ flag true) (λ _. ftrue) refl $ fjoin ! $ fpack ! Bool (left_one 1) true $ move ! (1 ∷ 0 ∷ []) $ done !
+
+  -- the reader leaves, and gives up the places of the bytes that it knows of
+  pub reader_leaves : (head seen i : ℕ) → i ≤ 1 → ⟦ C ⟧ ∗ ⟦ RK half head seen i ⟧ ∗ ⟦ blanks w p z head (seen - head) ⟧ ⊢ access 0 one Left
+  reader_leaves head seen i le = let Z : Pr = ex 𝓤 (Holding 0 one Left) in let G : Fml = blanks w p z head (seen - head) in
+      inside 𝓛 w p z 0 one Left (⟦ RK half head seen i ⟧ ∗ ⟦ G ⟧) (qed 𝓛 (‵ I ∷ ‵ (RK half head seen i) ∷ ‵ G ∷ []) ∵
+      use2 𝓛 (some (λ (s : State). given (ReaderSees 𝓛 w p z head seen i s) (‵ (RK half head seen i) ⊛ ‵ (RK other s.head s.seen s.reader_stage) ⊛ ‵ (WK other s.sent s.limit s.shut s.writer_stage) ⊛ ‵ (Rest 𝓛 w p z s)))) (reader_opens 𝓛 w p z half head seen i le) $ pick ! (λ s. learn ! (λ so. split3 ! $
+      let eh = so.1 in let es = so.2 in let ei = so.3 in let last = so.0.stages.1 in let closing = so.0.closing in let n : ℕ = flag (gone s.writer_stage) in
+      let so' : Holds cap (no_reader s) = record { known = so.0.known; arrived = so.0.arrived; written = so.0.written; freed = so.0.freed; closing = omega arith; shutting = so.0.shutting; stages = (omega arith, last) } in
+      fsplit ! $ fsplit ! $ move ! (3 ∷ []) $ fsplit ! $ fsplit ! $ move ! (4 ∷ 1 ∷ []) $
+      use2 𝓛 (raw (upd 𝓤 (⟦ latest numbers half z.reader_stage 2 ⟧ ∗ ⟦ latest numbers other z.reader_stage 2 ⟧))) (raise 𝓛 w p z numbers z.reader_stage i s.reader_stage 2 2 ei refl (omega arith)) $
+      settle 𝓛 Z (‵ (latest numbers half z.reader_stage 2) ⊛ ‵ (latest numbers other z.reader_stage 2)) $ suffices ! _ (upd_i 𝓤 Z) $ split ! $ forget ! $
+      move ! (1 ∷ 0 ∷ []) $ fjoin ! $ move ! (0 ∷ 1 ∷ []) $ fjoin ! $ keep ! (0 ∷ 3 ∷ 4 ∷ []) $ move ! (1 ∷ []) $ split ! $ move ! (1 ∷ []) $ fsplit ! $ move ! (1 ∷ []) $ fsplit ! $ fsplit3 ! $ move ! (2 ∷ []) $ fsplit ! $ move ! (1 ∷ []) $
+      rewrite ! 0 (λ (c : Bool). ‵ (word w 0 (one_gone c (gone s.writer_stage)))) {x = false} {y = gone s.reader_stage} (here s.reader_stage (omega arith)) refl $
+      show ! (Holding 0 one Left) n $ frame ! $ assume ! (‵ (word w 0 1)) $ suffices ! _ (upd_i 𝓤 (⟦ I ⟧ ∗ ⟦ Left n ⟧)) $
+      move ! (1 ∷ 0 ∷ []) $ fjoin ! $ move ! (1 ∷ 2 ∷ 0 ∷ []) $ fjoin3 ! $ move ! (1 ∷ []) $ fsplit ! $ move ! (1 ∷ []) $ fsplit3 ! $ move ! (8 ∷ []) $
+      rewrite ! 0 (λ (r : ℕ × ℕ). ‵ (blanks w p z r.0 (r.1 - r.0))) {x = (s.head, s.seen)} {y = (head, seen)} (λ j. (eh j, es j)) refl $
+      move ! (0 ∷ 3 ∷ []) $ fjoin ! $ move ! (1 ∷ 0 ∷ []) $ fjoin ! $ move ! (2 ∷ 0 ∷ []) $ fjoin ! $ move ! (2 ∷ 0 ∷ []) $ fjoin ! $ keep ! (3 ∷ 4 ∷ 2 ∷ 0 ∷ []) $ by ! (seals s so' (gone s.writer_stage) refl))))
+
+  -- the reader closes the ring, as it is about to leave
+  pub reader_closes : (head seen i : ℕ) → i ≤ 1 → ⟦ C ⟧ ∗ ⟦ RK half head seen i ⟧ ⊢ access 384 one (λ _. RK half head seen 1)
+  reader_closes head seen i le = let Then : Fml = RK half head seen 1 in let Z : Pr = ex 𝓤 (Holding 384 one (λ _. Then)) in
+      inside 𝓛 w p z 384 one (λ _. Then) ⟦ RK half head seen i ⟧ (qed 𝓛 (‵ I ∷ ‵ (RK half head seen i) ∷ []) ∵
+      use2 𝓛 (some (λ (s : State). given (ReaderSees 𝓛 w p z head seen i s) (‵ (RK half head seen i) ⊛ ‵ (RK other s.head s.seen s.reader_stage) ⊛ ‵ (WK other s.sent s.limit s.shut s.writer_stage) ⊛ ‵ (Rest 𝓛 w p z s)))) (reader_opens 𝓛 w p z half head seen i le) $ pick ! (λ s. learn ! (λ so. split3 ! $
+      let ei = so.3 in let last = so.0.stages.1 in let small = flag_small s.closed in let s' : State = record s { closed = true; reader_stage = 1 } in let near : OneStays 𝓛 w p z s' = omega arith in
+      let so' : Holds cap s' = record { known = so.0.known; arrived = so.0.arrived; written = so.0.written; freed = so.0.freed; closing = omega arith; shutting = flag_small s.shut; stages = (omega arith, last) } in
+      fsplit ! $ fsplit ! $ move ! (3 ∷ []) $ fsplit ! $ fsplit ! $ move ! (4 ∷ 1 ∷ []) $ move ! (6 ∷ []) $ split ! $ move ! (1 ∷ []) $ fsplit ! $
+      use1 𝓛 (raw (upd 𝓤 ⟦ ends w p z true ⟧)) (latest_grows numbers 𝓛 z.closed (flag s.closed) 1 small) $ settle 𝓛 Z (‵ (ends w p z true)) $ move ! (3 ∷ 4 ∷ []) $
+      use2 𝓛 (raw (upd 𝓤 (⟦ latest numbers half z.reader_stage 1 ⟧ ∗ ⟦ latest numbers other z.reader_stage 1 ⟧))) (raise 𝓛 w p z numbers z.reader_stage i s.reader_stage 1 1 ei refl le) $
+      settle 𝓛 Z (‵ (latest numbers half z.reader_stage 1) ⊛ ‵ (latest numbers other z.reader_stage 1)) $ suffices ! _ (upd_i 𝓤 Z) $ split ! $
+      move ! (7 ∷ 0 ∷ []) $ fjoin ! $ move ! (0 ∷ 7 ∷ []) $ fjoin ! $ move ! (5 ∷ 1 ∷ []) $ fjoin ! $ move ! (0 ∷ 5 ∷ []) $ fjoin ! $ move ! (3 ∷ []) $ fsplit ! $ fsplit3 ! $ move ! (2 ∷ []) $ fsplit ! $ move ! (1 ∷ []) $
+      rewrite ! 0 (λ (c : Bool). ‵ (word w 0 (one_gone c (gone s.writer_stage)))) {x = false} {y = gone s.reader_stage} (here s.reader_stage (omega arith)) refl $ move ! (1 ∷ []) $
+      show ! (Holding 384 one (λ _. Then)) (flag s.closed) $ frame ! $ assume ! (‵ (word w 384 1)) $ suffices ! _ (upd_i 𝓤 (⟦ I ⟧ ∗ ⟦ Then ⟧)) $
+      fjoin ! $ move ! (1 ∷ 2 ∷ 0 ∷ []) $ fjoin3 ! $ move ! (1 ∷ []) $ fsplit ! $ move ! (1 ∷ []) $ fsplit3 ! $ move ! (1 ∷ []) $
+      rewrite ! 0 (λ (c : Bool). ‵ (where_gone c (blanks w p z s.head (s.seen - s.head)))) {x = false} {y = gone s.reader_stage} (here s.reader_stage (omega arith)) refl $
+      move ! (1 ∷ 0 ∷ 2 ∷ []) $ fjoin3 ! $ move ! (1 ∷ 0 ∷ []) $ fjoin ! $ move ! (1 ∷ 0 ∷ []) $ fjoin ! $ move ! (3 ∷ 0 ∷ []) $ fjoin ! $ move ! (3 ∷ 1 ∷ 0 ∷ []) $ use3 𝓛 (‵ I) (closes 𝓛 w p z s' so' near) $ frame ! $ done !)))
+
+  abbrev no_writer : State → State
+  no_writer t = record t { writer_stage = 2 }
+
+  writer_seals : (t : State) → Holds cap (no_writer t) → (b : Bool) → gone t.reader_stage ≡ b → ⟦ WK other t.sent t.limit t.shut 2 ⟧ ∗ ⟦ RK other t.head t.seen t.reader_stage ⟧ ∗ ⟦ ends w p z t.closed ⟧ ∗ ⟦ memory w p z (no_writer t) ⟧ ⊢ ⟦ I ⟧ ∗ ⟦ Left (flag b) ⟧
+  writer_seals t so false e = let Mem : Fml = memory w p z (no_writer t) in qed 𝓛 (‵ (WK other t.sent t.limit t.shut 2) ∷ ‵ (RK other t.head t.seen t.reader_stage) ∷ ‵ (ends w p z t.closed) ∷ ‵ Mem ∷ []) ∵ move ! (3 ∷ []) $
+      rewrite ! 0 (λ (c : Bool). ‵ (until_both c true Mem)) {x = gone t.reader_stage} {y = false} (sym e) refl $ move ! (1 ∷ 2 ∷ 3 ∷ []) $ fjoin3 ! $ nothing ! $ fpack ! (Holds cap (no_writer t)) (λ _. ftrue) so $ fjoin3 ! $ fpack ! State (standing w p z) (no_writer t) $
+      nothing ! $ nothing ! $ fpack ! (0 ≡ flag false) (λ _. ftrue) refl $ fjoin ! $ fpack ! Bool (left_one 0) false $ move ! (1 ∷ 0 ∷ []) $ done !
+  writer_seals t so true e = let Mem : Fml = memory w p z (no_writer t) in qed 𝓛 (‵ (WK other t.sent t.limit t.shut 2) ∷ ‵ (RK other t.head t.seen t.reader_stage) ∷ ‵ (ends w p z t.closed) ∷ ‵ Mem ∷ []) ∵ nothing ! $
+      rewrite ! 0 (λ (c : Bool). ‵ (until_both c true Mem)) {x = gone t.reader_stage} {y = true} (sym e) refl $ move ! (1 ∷ 2 ∷ 3 ∷ []) $ fjoin3 ! $ nothing ! $ fpack ! (Holds cap (no_writer t)) (λ _. ftrue) so $ fjoin3 ! $ fpack ! State (standing w p z) (no_writer t) $
+      move ! (1 ∷ []) $ use1 𝓛 (‵ (whole w p z)) (gathers (no_writer t) so e refl) $ nothing ! $ fpack ! (1 ≡ flag true) (λ _. ftrue) refl $ fjoin ! $ fpack ! Bool (left_one 1) true $ move ! (1 ∷ 0 ∷ []) $ done !
+
+  -- the writer leaves, and gives up the places of its room
+  pub writer_leaves : (sent : List ℕ) (limit : ℕ) (shut : Bool) (i : ℕ) → i ≤ 1 → ⟦ C ⟧ ∗ ⟦ WK half sent limit shut i ⟧ ∗ ⟦ blanks w p z (length sent) (limit - length sent) ⟧ ⊢ access 0 one Left
+  writer_leaves sent limit shut i le = let Z : Pr = ex 𝓤 (Holding 0 one Left) in let G : Fml = blanks w p z (length sent) (limit - length sent) in
+      inside 𝓛 w p z 0 one Left (⟦ WK half sent limit shut i ⟧ ∗ ⟦ G ⟧) (qed 𝓛 (‵ I ∷ ‵ (WK half sent limit shut i) ∷ ‵ G ∷ []) ∵
+      use2 𝓛 (some (λ (s : State). given (WriterSees 𝓛 w p z sent limit shut i s) (‵ (WK half sent limit shut i) ⊛ ‵ (WK other s.sent s.limit s.shut s.writer_stage) ⊛ ‵ (RK other s.head s.seen s.reader_stage) ⊛ ‵ (Rest 𝓛 w p z s)))) (writer_opens 𝓛 w p z half sent limit shut i le) $ pick ! (λ s. learn ! (λ so. split3 ! $
+      let el = so.2 in let ei = so.4 in let last = so.0.stages.0 in let closing = so.0.closing in let n : ℕ = flag (gone s.reader_stage) in
+      let so' : Holds cap (no_writer s) = record { known = so.0.known; arrived = so.0.arrived; written = so.0.written; freed = so.0.freed; closing = omega arith; shutting = so.0.shutting; stages = (last, omega arith) } in
+      move ! (2 ∷ []) $ split ! $ move ! (2 ∷ []) $ fsplit3 ! $ move ! (2 ∷ []) $ fsplit ! $ move ! (6 ∷ []) $ fsplit3 ! $ move ! (2 ∷ []) $ fsplit ! $ move ! (5 ∷ 1 ∷ []) $
+      use2 𝓛 (raw (upd 𝓤 (⟦ latest numbers half z.writer_stage 2 ⟧ ∗ ⟦ latest numbers other z.writer_stage 2 ⟧))) (raise 𝓛 w p z numbers z.writer_stage i s.writer_stage 2 2 ei refl (omega arith)) $
+      settle 𝓛 Z (‵ (latest numbers half z.writer_stage 2) ⊛ ‵ (latest numbers other z.writer_stage 2)) $ suffices ! _ (upd_i 𝓤 Z) $ split ! $ forget ! $
+      move ! (1 ∷ 0 ∷ []) $ fjoin ! $ move ! (1 ∷ 2 ∷ 0 ∷ []) $ fjoin3 ! $ keep ! (0 ∷ 4 ∷ 5 ∷ 6 ∷ []) $ move ! (2 ∷ []) $ fsplit ! $ move ! (1 ∷ []) $ fsplit ! $ fsplit3 ! $ move ! (2 ∷ []) $ fsplit ! $ move ! (1 ∷ []) $
+      rewrite ! 0 (λ (m : ℕ). ‵ (word w 0 m)) {x = n} {y = one_gone (gone s.reader_stage) (gone s.writer_stage)} (ap (one_gone (gone s.reader_stage)) (here s.writer_stage (omega arith)) ∙ one_false (gone s.reader_stage)) refl $
+      show ! (Holding 0 one Left) n $ frame ! $ assume ! (‵ (word w 0 1)) $ suffices ! _ (upd_i 𝓤 (⟦ I ⟧ ∗ ⟦ Left n ⟧)) $
+      rewrite ! 0 (λ (m : ℕ). ‵ (word w 0 m)) {x = one_gone (gone s.reader_stage) true} {y = 1} (sym (one_true (gone s.reader_stage))) refl $
+      move ! (1 ∷ 0 ∷ []) $ fjoin ! $ move ! (1 ∷ 2 ∷ 0 ∷ []) $ fjoin3 ! $ move ! (1 ∷ []) $ fsplit ! $ move ! (1 ∷ []) $ fsplit3 ! $ move ! (2 ∷ []) $ fsplit ! $ move ! (9 ∷ []) $
+      rewrite ! 0 (λ (r : List ℕ × ℕ). ‵ (blanks w p z (length r.0) (r.1 - length r.0))) {x = (s.sent, s.limit)} {y = (sent, limit)} (λ j. (so.1 j, el j)) refl $
+      move ! (0 ∷ 2 ∷ []) $ fjoin ! $ move ! (2 ∷ 3 ∷ 0 ∷ []) $ fjoin3 ! $ move ! (2 ∷ 0 ∷ []) $ fjoin ! $ move ! (2 ∷ 0 ∷ []) $ fjoin ! $ keep ! (3 ∷ 4 ∷ 2 ∷ 0 ∷ []) $ by ! (writer_seals s so' (gone s.reader_stage) refl))))

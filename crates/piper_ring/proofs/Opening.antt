@@ -1,0 +1,145 @@
+-- A ring is opened: the words are cut out of their block, the bytes are places, and the invariant is made. Assumes `Logic`.
+use Rattle.std.proofs.Common.{◌≡◌, ℕ, zero, suc, ◌+◌, ◌-◌, ◌*◌, ◌<◌, ◌^◌, false, List, [], ◌∷◌, length, sym, refl, ap, ◌∙◌, subst, arith}
+use seplogic.Ra.Ura.{Ura}
+use base.Fraction.{full_share}
+use base.Stored.{coded_ℕ}
+use base.Growing.{Order, numbers, prefixes, latest, at_least, prefix_refl}
+use base.Logic.{SProp, ent, sep, emp, ex, via, id⊢}
+use base.Fml.{Fml, ftrue, fsep, finv}
+use types.Logic.{Logic, sem}
+use types.Growing.{latest_new, latest_shows}
+use types.Kit.{assume, ‵, ◌⊛◌, some, later, ◌$◌, ◌∵◌, !, qed, by, move, split, split3, fsplit, fsplit3, fjoin, fjoin3, fpack, pick, show, frame, rewrite, check, use0, use1, use2, use3, updating, await, now, done}
+use denote.RawPtr.{Ptr, InBlock}
+use denote.Steps.{nothing}
+use types.Owned.{basic}
+use mir.Syntax.{Ty, ty_int, ty_array, w64}
+use mir.Raw.{raw as bare}
+use denote.Builtin.{u8}
+use denote.Memory.{lone}
+use denote.RawPtr.{block_of, count_of}
+use denote.RawPtr.Room.{past as beyond, room_cut, room_glue}
+use Rattle.core.specs.Allocator.{array_of}
+use base.Fml.{fwand, froom}
+use Rattle.rtrb.specs.Shared.{span}
+use Rattle.rtrb.specs.Fifo.{slot_of}
+use Rattle.rtrb.proofs.Spans.{span_map, ring_out}
+use Rattle.rtrb.proofs.Positions.{position_zero}
+use Rattle.piper_ring.specs.Places.{unset}
+use Rattle.piper_ring.specs.Shared.{Names, names_of, State, Holds, half, other, word, word_room, words_type, four_rooms, idle, deeds, Inner, Placed, common, reader_owns, writer_owns}
+use Rattle.piper_ring.proofs.Rights.{common_twice, cut}
+use Rattle.piper_ring.proofs.Steps.{closes}
+
+module _ {M : Type 1} {𝓤 : Ura M} (𝓛 : Logic 𝓤) (w p : Ptr) (cap : ℕ) where
+  open 𝓛 use {H, A}
+
+  abbrev ◌⊢◌ : SProp 𝓤 → SProp 𝓤 → Type 1
+  P ⊢ Q = ent 𝓤 P Q
+
+  abbrev ◌∗◌ : SProp 𝓤 → SProp 𝓤 → SProp 𝓤
+  P ∗ Q = sep 𝓤 P Q
+
+  abbrev ⟦◌⟧ : Fml → SProp 𝓤
+  ⟦ P ⟧ = sem 𝓛 P
+
+  infix 26 ◌⊢◌
+  infixr 35 ◌∗◌
+  abbrev u : Ty
+  u = ty_int w64
+
+  abbrev b : ℕ
+  b = block_of w
+
+  abbrev o : ℕ
+  o = count_of w
+
+  -- room for n words from e on
+  abbrev many : ℕ → ℕ → Fml
+  many n e = froom (ty_array u n) b e
+
+  beyond_words : (m e : ℕ) → beyond u m e ≡ m * 8 + e
+  beyond_words zero e = omega arith
+  beyond_words (suc m) e = beyond_words m (e + 8) ∙ omega arith
+
+  -- a word in use, the words of the next lines, and 15 words between that nobody uses
+  apart : (n here next : ℕ) → next ≡ here + 128 → ⟦ many (suc (15 + n)) here ⟧ ⊢ ⟦ froom u b here ⟧ ∗ ⟦ many n next ⟧ ∗ ⟦ many 15 (here + 8) ⟧
+  apart n here next far = let gap : ℕ = here + 8 in
+      qed 𝓛 (‵ (many (suc (15 + n)) here) ∷ []) ∵ use1 𝓛 (‵ (froom u b here) ⊛ ‵ (many (15 + n) gap)) (𝓛.laws.room_uncons u (15 + n) b here) $ split ! $ frame ! $
+      use1 𝓛 (‵ (many 15 gap) ⊛ ‵ (many n (beyond u 15 gap))) (room_cut 𝓛 u 15 n b gap) $ split ! $
+      rewrite ! 1 (λ (at : ℕ). ‵ (many n at)) (beyond_words 15 gap ∙ omega arith) refl $ move ! (1 ∷ []) $ frame ! $ done !
+
+  together : (n here next : ℕ) → next ≡ here + 128 → ⟦ froom u b here ⟧ ∗ ⟦ many n next ⟧ ∗ ⟦ many 15 (here + 8) ⟧ ⊢ ⟦ many (suc (15 + n)) here ⟧
+  together n here next far = let gap : ℕ = here + 8 in
+      qed 𝓛 (‵ (froom u b here) ∷ ‵ (many n next) ∷ ‵ (many 15 gap) ∷ []) ∵ rewrite ! 1 (λ (at : ℕ). ‵ (many n at)) (omega arith) refl $ move ! (2 ∷ 1 ∷ []) $
+      use2 𝓛 (‵ (many (15 + n) gap)) (room_glue 𝓛 u 15 n b gap) $ move ! (1 ∷ []) $ by ! (𝓛.laws.room_cons u (15 + n) b here)
+
+  abbrev pub Rejoin : Fml
+  Rejoin = fwand (four_rooms w) (froom words_type b o)
+
+  -- the block of the words is the four words in use, and what makes a block of them again
+  pub words_out : ⟦ froom words_type b o ⟧ ⊢ ⟦ word_room w 128 ⟧ ∗ ⟦ word_room w 256 ⟧ ∗ ⟦ word_room w 384 ⟧ ∗ ⟦ word_room w 0 ⟧ ∗ ⟦ Rejoin ⟧
+  words_out = let first_word : 0 + o ≡ o = omega arith in
+      qed 𝓛 (‵ (froom words_type b o) ∷ []) ∵ use1 𝓛 (‵ (many 64 o)) (𝓛.laws.raw-room (ty_array u 64) b o) $ rewrite ! 0 (λ (at : ℕ). ‵ (many 64 at)) (sym first_word) refl $
+      use1 𝓛 (‵ (word_room w 0) ⊛ ‵ (many 48 (128 + o)) ⊛ ‵ (many 15 (0 + o + 8))) (apart 48 (0 + o) (128 + o) (omega arith)) $ split3 ! $ move ! (1 ∷ []) $
+      use1 𝓛 (‵ (word_room w 128) ⊛ ‵ (many 32 (256 + o)) ⊛ ‵ (many 15 (128 + o + 8))) (apart 32 (128 + o) (256 + o) (omega arith)) $ split3 ! $ frame ! $
+      use1 𝓛 (‵ (word_room w 256) ⊛ ‵ (many 16 (384 + o)) ⊛ ‵ (many 15 (256 + o + 8))) (apart 16 (256 + o) (384 + o) (omega arith)) $ split3 ! $ frame ! $
+      use1 𝓛 (‵ (word_room w 384) ⊛ ‵ (many 0 (512 + o)) ⊛ ‵ (many 15 (384 + o + 8))) (apart 0 (384 + o) (512 + o) (omega arith)) $ split3 ! $ frame ! $
+      move ! (4 ∷ []) $ frame ! $ assume ! (‵ (four_rooms w)) $ fsplit3 ! $ move ! (2 ∷ []) $ fsplit ! $
+      move ! (0 ∷ 4 ∷ 5 ∷ []) $ use3 𝓛 (‵ (many 16 (384 + o))) (together 0 (384 + o) (512 + o) (omega arith)) $
+      move ! (3 ∷ 0 ∷ 4 ∷ []) $ use3 𝓛 (‵ (many 32 (256 + o))) (together 16 (256 + o) (384 + o) (omega arith)) $
+      move ! (2 ∷ 0 ∷ 3 ∷ []) $ use3 𝓛 (‵ (many 48 (128 + o))) (together 32 (128 + o) (256 + o) (omega arith)) $
+      move ! (1 ∷ 0 ∷ 2 ∷ []) $ use3 𝓛 (‵ (many 64 (0 + o))) (together 48 (0 + o) (128 + o) (omega arith)) $
+      rewrite ! 0 (λ (at : ℕ). ‵ (many 64 at)) first_word refl $ by ! (𝓛.laws.room-raw (ty_array u 64) b o)
+
+  abbrev τ : Ty
+  τ = lone u8.mir
+
+  -- the block of the bytes is one turn of places
+  pub as_places : ⟦ froom (array_of u8 cap) (block_of p) (count_of p) ⟧ ⊢ ⟦ span (unset p cap) 0 cap ⟧
+  as_places = let F : ℕ → Fml = λ i. froom (bare τ) (block_of p) (slot_of cap i * 1 + count_of p) in
+      via 𝓤 _ (ring_out 𝓛 τ (block_of p) (count_of p) cap) (span_map 𝓛 F (unset p cap) cap 0 0 (λ a e is le lt. let same : a ≡ e = omega arith in let flat : slot_of cap a * 1 + count_of p ≡ slot_of cap a + count_of p = omega arith in
+      subst (λ (m : ℕ). ⟦ F a ⟧ ⊢ ⟦ froom (bare τ) (block_of p) m ⟧) (flat ∙ ap (λ (m : ℕ). slot_of cap m + count_of p) same) (id⊢ 𝓤 ⟦ F a ⟧)))
+
+  abbrev pub Made : Names → SProp 𝓤
+  Made z = base.Logic.guard 𝓤 (z.capacity ≡ cap) (sep 𝓤 (sem 𝓛 (reader_owns w p z 0 0 [] false)) (sem 𝓛 (writer_owns w p z [] cap false)))
+
+  abbrev O : Order (List ℕ)
+  O = prefixes coded_ℕ
+
+  abbrev Begun : ℕ → ℕ → SProp 𝓤
+  Begun n γ = sep 𝓤 (sem 𝓛 (latest numbers half γ n)) (sem 𝓛 (latest numbers other γ n))
+
+  -- a number of its own, in two parts
+  starts : (n : ℕ) → ent 𝓤 (emp 𝓤) (H.⇛ (ex 𝓤 (Begun n)))
+  starts n = qed 𝓛 [] {P = H.⇛ (ex 𝓤 (Begun n))} (updating ! $ use0 𝓛 (later (some (λ (γ : ℕ). ‵ (latest numbers full_share γ n)))) (via 𝓤 _ (latest_new numbers 𝓛 n) (basic 𝓛 _)) $ await ! tt $ pick ! (λ γ.
+      use1 𝓛 (‵ (latest numbers half γ n) ⊛ ‵ (latest numbers other γ n)) (cut 𝓛 numbers γ n full_share) $ now ! $ show ! (Begun n) γ $ done !))
+
+  abbrev pub zero_words : Fml
+  zero_words = fsep (word w 128 0) (fsep (word w 256 0) (fsep (word w 384 0) (word w 0 0)))
+
+  abbrev pub Deeds : Fml
+  Deeds = deeds w p (names_of cap 0 0 0 0 0 0 0 0)
+
+  -- the words are 0 and the rights to free are there: an empty ring, all of whose places are the writer's room
+  pub begins : InBlock w × InBlock p × (cap < 2 ^ 63) → ⟦ zero_words ⟧ ∗ ⟦ Deeds ⟧ ⊢ H.⇛ (ex 𝓤 Made)
+  begins at = let fresh : State = record { sent = []; limit = cap; head = 0; seen = 0; closed = false; shut = false; reader_stage = 0; writer_stage = 0 } in
+      let new : (n : ℕ) → ent 𝓤 (emp 𝓤) (H.⇛ (ex 𝓤 (Begun n))) = starts in
+      qed 𝓛 (‵ zero_words ∷ ‵ Deeds ∷ []) {P = H.⇛ (ex 𝓤 Made)} (updating ! $
+      use0 𝓛 (later (some (λ (γ : ℕ). ‵ (latest O full_share γ [])))) (via 𝓤 _ (latest_new O 𝓛 []) (basic 𝓛 _)) $ await ! tt $ pick ! (λ s. use1 𝓛 (‵ (latest O half s []) ⊛ ‵ (latest O other s [])) (cut 𝓛 O s [] full_share) $ split ! $
+      use0 𝓛 (later (some (λ (γ : ℕ). ‵ (latest numbers half γ cap) ⊛ ‵ (latest numbers other γ cap)))) (starts cap) $ await ! tt $ pick ! (λ l. split ! $
+      use0 𝓛 (later (some (λ (γ : ℕ). ‵ (latest numbers half γ 0) ⊛ ‵ (latest numbers other γ 0)))) (starts 0) $ await ! tt $ pick ! (λ v. split ! $
+      use0 𝓛 (later (some (λ (γ : ℕ). ‵ (latest numbers half γ 0) ⊛ ‵ (latest numbers other γ 0)))) (starts 0) $ await ! tt $ pick ! (λ i. split ! $
+      move ! (2 ∷ 0 ∷ []) $ fjoin ! $ move ! (2 ∷ 1 ∷ []) $ fjoin ! $ move ! (4 ∷ 2 ∷ 1 ∷ []) $ fjoin3 ! $ move ! (3 ∷ 2 ∷ 1 ∷ []) $ fjoin3 ! $
+      use0 𝓛 (later (some (λ (γ : ℕ). ‵ (latest numbers half γ 0) ⊛ ‵ (latest numbers other γ 0)))) (starts 0) $ await ! tt $ pick ! (λ h. split ! $
+      use0 𝓛 (later (some (λ (γ : ℕ). ‵ (latest numbers half γ 0) ⊛ ‵ (latest numbers other γ 0)))) (starts 0) $ await ! tt $ pick ! (λ j. split ! $
+      move ! (2 ∷ 0 ∷ []) $ fjoin ! $ move ! (2 ∷ 1 ∷ []) $ fjoin ! $
+      use0 𝓛 (later (some (λ (γ : ℕ). ‵ (latest numbers half γ 0) ⊛ ‵ (latest numbers other γ 0)))) (starts 0) $ await ! tt $ pick ! (λ k. split ! $
+      move ! (3 ∷ 0 ∷ []) $ fjoin ! $ move ! (2 ∷ 1 ∷ []) $ fjoin ! $
+      use0 𝓛 (later (some (λ (γ : ℕ). ‵ (latest numbers full_share γ 0)))) (via 𝓤 _ (latest_new numbers 𝓛 0) (basic 𝓛 _)) $ await ! tt $ pick ! (λ x.
+      let z : Names = names_of cap s l h k x v j i in let so : Holds cap fresh = record { known = omega arith; arrived = omega arith; written = omega arith; freed = omega arith; closing = omega arith; shutting = omega arith; stages = (omega arith, omega arith) } in
+      let I : Fml = Inner w p z in let C : Fml = common w p z in
+      move ! (6 ∷ []) $ nothing ! $ fjoin ! $ nothing ! $ fjoin ! $ nothing ! $ nothing ! $ fpack ! (length {A = ℕ} [] ≡ 0 + cap - cap) (λ _. ftrue) (omega arith) $ fjoin ! $ fpack ! (List ℕ) (idle w p z cap (0 + cap - cap)) [] $ fjoin ! $ nothing ! $ fjoin ! $
+      move ! (6 ∷ []) $ fsplit3 ! $
+      rewrite ! 0 (λ (n : ℕ). ‵ (word w 128 n)) (sym (position_zero cap)) refl $ rewrite ! 1 (λ (n : ℕ). ‵ (word w 256 n)) (sym (position_zero cap)) refl $ fjoin3 ! $ fjoin ! $ move ! (1 ∷ 0 ∷ []) $ fjoin ! $
+      move ! (3 ∷ 1 ∷ 0 ∷ []) $ use3 𝓛 (‵ I) (closes 𝓛 w p z fresh so (omega arith)) $ use1 𝓛 (later (‵ (finv I))) (𝓛.invs.inv_new I) $ await ! tt $
+      nothing ! $ fpack ! (Placed w p z) (λ _. ftrue) at $ fjoin ! $ use1 𝓛 (‵ C ⊛ ‵ C) (common_twice 𝓛 w p z) $ split ! $ move ! (3 ∷ []) $ fsplit3 ! $ use1 𝓛 (‵ (latest O half s []) ⊛ ‵ (at_least O s [])) (latest_shows O 𝓛 half s [] [] (prefix_refl [])) $ split ! $ move ! (0 ∷ 2 ∷ 3 ∷ []) $ fjoin3 ! $ move ! (2 ∷ 0 ∷ []) $ fjoin ! $ move ! (1 ∷ []) $ nothing ! $ fpack ! (length {A = ℕ} [] ≡ 0) (λ _. ftrue) refl $ fjoin ! $ move ! (3 ∷ 0 ∷ []) $ fjoin ! $ move ! (2 ∷ 0 ∷ []) $ fjoin ! $
+      now ! $ show ! Made z $ check ! refl $ done !)))))))))

@@ -1,0 +1,225 @@
+-- The invariant is taken apart by what one end knows and put together again; and the steps on the tail, and the look at the head. Assumes `Logic`.
+use Rattle.std.proofs.Common.{◌≡◌, ℕ, zero, suc, ◌+◌, ◌-◌, ◌≤◌, Bool, true, false, List, [], ◌∷◌, ◌++◌, length, drop, sym, refl, ap, ◌∙◌, length-append, arith}
+use seplogic.Ra.Ura.{Ura}
+use base.Fraction.{full_share}
+use base.Stored.{coded_ℕ}
+use base.Growing.{Order, numbers, prefixes, latest, prefix_refl}
+use mathlib.Core.List.{IsPrefix}
+use base.Logic.{SProp, ent, sep, upd, guard, ex, upd_i}
+use base.Fml.{Share, Fml, GName, ftrue, fsep, fex}
+use types.Logic.{Logic, sem}
+use types.Growing.{latest_agrees, latest_grows, latest_bounds, latest_shows}
+use types.Kit.{‵, raw, ◌⊛◌, some, given, ◌$◌, ◌∵◌, !, qed, by, move, split, split3, fsplit, fsplit3, fjoin, fjoin3, fpick, fpack, pick, learn, check, show, frame, assume, settle, suffices, rewrite, use1, use2, use3, done}
+use types.Kit.{drop as forget}
+use denote.RawPtr.{Ptr, block_ptr, block_of, count_of}
+use denote.Steps.{nothing}
+use Rattle.core.specs.Sync.RawAtomic.{asks, always}
+use Rattle.rtrb.specs.Fifo.{position_of}
+use Rattle.rtrb.specs.Shared.{run}
+use Rattle.rtrb.proofs.Asks.{Lies, shared}
+use Rattle.std.proofs.lemmas.List.{drop-append-le, length-drop}
+use Rattle.rtrb.proofs.Spans.{run_join}
+use Rattle.piper_ring.specs.Places.{fact, byte}
+use Rattle.piper_ring.specs.Shared.{Names, State, Holds, half, other, flag, gone, until_both, where_gone, word, blanks, deeds, memory, began, took, writer_knows, reader_knows, ends, standing, Inner, common}
+use Rattle.piper_ring.proofs.Rights.{cut, glue}
+
+pub flag_small : (b : Bool) → flag b ≤ 1
+flag_small false = omega arith
+flag_small true = omega arith
+
+module _ {M : Type 1} {𝓤 : Ura M} (𝓛 : Logic 𝓤) (w p : Ptr) (z : Names) where
+  open 𝓛 use {H, A}
+
+  abbrev Pr : Type 2
+  Pr = SProp 𝓤
+
+  abbrev ◌⊢◌ : Pr → Pr → Type 1
+  P ⊢ Q = ent 𝓤 P Q
+
+  abbrev ◌∗◌ : Pr → Pr → Pr
+  P ∗ Q = sep 𝓤 P Q
+
+  abbrev ⟦◌⟧ : Fml → Pr
+  ⟦ P ⟧ = sem 𝓛 P
+
+  infix 26 ◌⊢◌
+  infixr 35 ◌∗◌
+  abbrev I : Fml
+  I = Inner w p z
+
+  abbrev C : Fml
+  C = common w p z
+
+  abbrev cap : ℕ
+  cap = z.capacity
+
+  abbrev RK : Share → ℕ → ℕ → ℕ → Fml
+  RK = reader_knows w p z
+
+  abbrev WK : Share → List ℕ → ℕ → Bool → ℕ → Fml
+  WK = writer_knows w p z
+
+  -- an access of the word d bytes on
+  abbrev access : (d : ℕ) (f : ℕ → ℕ) (after : ℕ → Fml) → Pr
+  access d f after = let spot : Ptr = block_ptr (block_of w) (d + count_of w) in asks 𝓛 spot f always after
+
+  -- the word d bytes on, under the invariant
+  abbrev Holding : (d : ℕ) (f : ℕ → ℕ) (after : ℕ → Fml) (n : ℕ) → Pr
+  Holding d f after n = Lies 𝓛 (block_of w) (d + count_of w) f after I n
+
+  -- a step beside the invariant
+  pub inside : (d : ℕ) (f : ℕ → ℕ) (after : ℕ → Fml) (X : Pr) → ⟦ I ⟧ ∗ X ⊢ upd 𝓤 (ex 𝓤 (Lies 𝓛 (block_of w) (d + count_of w) f after I)) → ⟦ C ⟧ ∗ X ⊢ access d f after
+  inside d f after X h = qed 𝓛 (‵ C ∷ raw X ∷ []) ∵ fsplit ! $ forget ! $ by ! (shared 𝓛 (block_of w) (d + count_of w) f after I X h)
+
+  abbrev pub Rest : State → Fml
+  Rest s = fsep (ends w p z s.closed) (memory w p z s)
+
+  -- not both ends are gone
+  abbrev pub OneStays : State → Type 0
+  OneStays s = s.reader_stage + s.writer_stage ≤ 3
+
+  abbrev pub ReaderSees : ℕ → ℕ → ℕ → State → Type 0
+  ReaderSees head seen i s = Holds cap s × (head ≡ s.head) × (seen ≡ s.seen) × (i ≡ s.reader_stage)
+
+  abbrev pub WriterSees : List ℕ → ℕ → Bool → ℕ → State → Type 0
+  WriterSees sent limit shut i s = Holds cap s × (sent ≡ s.sent) × (limit ≡ s.limit) × (flag shut ≡ flag s.shut) × (i ≡ s.writer_stage)
+
+  pub stays : (a b : ℕ) (F : Fml) → a + b ≤ 3 → until_both (gone a) (gone b) F ≡ F
+  stays zero b F le = refl
+  stays (suc zero) b F le = refl
+  stays (suc (suc a)) zero F le = refl
+  stays (suc (suc a)) (suc zero) F le = refl
+  stays (suc (suc a)) (suc (suc b)) F le = absurd (omega arith)
+
+  -- what an end that is there gave up is nothing
+  pub not_gone : (i : ℕ) (F G : Fml) → i ≤ 1 → where_gone (gone i) F ≡ where_gone (gone i) G
+  not_gone zero F G le = refl
+  not_gone (suc zero) F G le = refl
+  not_gone (suc (suc i)) F G le = absurd (omega arith)
+
+  abbrev ForReader : Share → ℕ → ℕ → ℕ → State → Pr
+  ForReader q head seen i s = guard 𝓤 (ReaderSees head seen i s) (⟦ RK q head seen i ⟧ ∗ ⟦ RK other s.head s.seen s.reader_stage ⟧ ∗ ⟦ WK other s.sent s.limit s.shut s.writer_stage ⟧ ∗ ⟦ Rest s ⟧)
+
+  pub reader_agrees : (q : Share) (head seen i h k j : ℕ) → ⟦ RK q head seen i ⟧ ∗ ⟦ RK other h k j ⟧ ⊢ guard 𝓤 ((head ≡ h) × (seen ≡ k) × (i ≡ j)) (⟦ RK q head seen i ⟧ ∗ ⟦ RK other h k j ⟧)
+  reader_agrees q head seen i h k j = qed 𝓛 (‵ (RK q head seen i) ∷ ‵ (RK other h k j) ∷ []) ∵ fsplit ! $ fsplit ! $ move ! (3 ∷ []) $ fsplit ! $ fsplit ! $ move ! (3 ∷ 0 ∷ []) $
+      use2 𝓛 (given (head ≡ h) (‵ (latest numbers q z.head head) ⊛ ‵ (latest numbers other z.head h))) (latest_agrees numbers 𝓛 q other z.head head h) $ learn ! (λ e. split ! $ move ! (4 ∷ 2 ∷ []) $
+      use2 𝓛 (given (i ≡ j) (‵ (latest numbers q z.reader_stage i) ⊛ ‵ (latest numbers other z.reader_stage j))) (latest_agrees numbers 𝓛 q other z.reader_stage i j) $ learn ! (λ g. split ! $ move ! (5 ∷ 4 ∷ []) $
+      use2 𝓛 (given (seen ≡ k) (‵ (latest numbers q z.seen seen) ⊛ ‵ (latest numbers other z.seen k))) (latest_agrees numbers 𝓛 q other z.seen seen k) $ learn ! (λ f. split ! $
+      check ! (e, f, g) $ move ! (4 ∷ 2 ∷ []) $ fjoin ! $ move ! (0 ∷ 1 ∷ []) $ fjoin ! $ move ! (3 ∷ 2 ∷ []) $ fjoin ! $ move ! (0 ∷ 2 ∷ []) $ fjoin ! $ move ! (1 ∷ 0 ∷ []) $ done !)))
+
+  pub reader_opens : (q : Share) (head seen i : ℕ) → i ≤ 1 → ⟦ I ⟧ ∗ ⟦ RK q head seen i ⟧ ⊢ ex 𝓤 (ForReader q head seen i)
+  reader_opens q head seen i le = qed 𝓛 (‵ I ∷ ‵ (RK q head seen i) ∷ []) ∵ fpick ! (λ s. fsplit3 ! $ fpick ! (λ so. forget ! $ fsplit3 ! $ move ! (4 ∷ 1 ∷ []) $
+      use2 𝓛 (given ((head ≡ s.head) × (seen ≡ s.seen) × (i ≡ s.reader_stage)) (‵ (RK q head seen i) ⊛ ‵ (RK other s.head s.seen s.reader_stage))) (reader_agrees q head seen i s.head s.seen s.reader_stage) $ learn ! (λ e. split ! $
+      let ei = e.2 in let top = so.stages.1 in move ! (4 ∷ []) $ rewrite ! 0 (λ (F : Fml). ‵ F) {x = memory w p z s} {y = until_both (gone s.reader_stage) (gone s.writer_stage) (memory w p z s)} (stays s.reader_stage s.writer_stage (memory w p z s) (omega arith)) refl $
+      move ! (4 ∷ 0 ∷ []) $ fjoin ! $ show ! (ForReader q head seen i) s $ check ! (so, e.0, e.1, e.2) $ move ! (1 ∷ 2 ∷ 3 ∷ []) $ done !)))
+
+  pub closes : (s : State) → Holds cap s → OneStays s → ⟦ WK other s.sent s.limit s.shut s.writer_stage ⟧ ∗ ⟦ RK other s.head s.seen s.reader_stage ⟧ ∗ ⟦ Rest s ⟧ ⊢ ⟦ I ⟧
+  closes s so le = qed 𝓛 (‵ (WK other s.sent s.limit s.shut s.writer_stage) ∷ ‵ (RK other s.head s.seen s.reader_stage) ∷ ‵ (Rest s) ∷ []) ∵ move ! (2 ∷ []) $ fsplit ! $
+      move ! (1 ∷ []) $ rewrite ! 0 (λ (F : Fml). ‵ F) (sym (stays s.reader_stage s.writer_stage (memory w p z s) le)) refl $ move ! (2 ∷ 3 ∷ 1 ∷ []) $ fjoin3 ! $
+      nothing ! $ fpack ! (Holds cap s) (λ _. ftrue) so $ fjoin3 ! $ fpack ! State (standing w p z) s $ done !
+
+  -- xs was published, and n is where its end stands
+  abbrev pub SawTail : ℕ → ℕ → List ℕ → ℕ → List ℕ → Type 0
+  SawTail head seen told n xs = (n ≡ position_of cap (length xs)) × (seen ≤ length xs) × (length xs ≤ head + cap) × (length told ≤ length xs)
+
+  abbrev pub TailSeen : Share → ℕ → ℕ → ℕ → List ℕ → ℕ → List ℕ → Fml
+  TailSeen q head seen i told n xs = fsep (fact (SawTail head seen told n xs)) (fsep (began z xs) (RK q head seen i))
+
+  abbrev pub AfterLook : Share → ℕ → ℕ → ℕ → List ℕ → ℕ → Fml
+  AfterLook q head seen i told n = fex (List ℕ) (TailSeen q head seen i told n)
+
+  -- a load of the tail by anyone who has a share of what the reader knows
+  pub looks_tail : (q : Share) (head seen i : ℕ) (told : List ℕ) → i ≤ 1 → ⟦ C ⟧ ∗ ⟦ RK q head seen i ⟧ ∗ ⟦ began z told ⟧ ⊢ access 256 (λ n. n) (AfterLook q head seen i told)
+  looks_tail q head seen i told le = let then : ℕ → Fml = AfterLook q head seen i told in let Z : Pr = ex 𝓤 (Holding 256 (λ n. n) then) in let O : Order (List ℕ) = prefixes coded_ℕ in
+      inside 256 (λ n. n) then (⟦ RK q head seen i ⟧ ∗ ⟦ began z told ⟧) (qed 𝓛 (‵ I ∷ ‵ (RK q head seen i) ∷ ‵ (began z told) ∷ []) ∵
+      use2 𝓛 (some (λ (s : State). given (ReaderSees head seen i s) (‵ (RK q head seen i) ⊛ ‵ (RK other s.head s.seen s.reader_stage) ⊛ ‵ (WK other s.sent s.limit s.shut s.writer_stage) ⊛ ‵ (Rest s)))) (reader_opens q head seen i le) $ pick ! (λ s. learn ! (λ so. split3 ! $
+      move ! (2 ∷ []) $ split ! $ fsplit3 ! $ move ! (0 ∷ 6 ∷ []) $
+      use2 𝓛 (given (IsPrefix told s.sent) (‵ (latest O other z.sent s.sent) ⊛ ‵ (began z told))) (latest_bounds O 𝓛 other z.sent s.sent told) $ learn ! (λ pt. split ! $
+      use1 𝓛 (‵ (latest O other z.sent s.sent) ⊛ ‵ (began z s.sent)) (latest_shows O 𝓛 other z.sent s.sent s.sent (prefix_refl s.sent)) $ split ! $ move ! (0 ∷ 3 ∷ 4 ∷ []) $ fjoin3 ! $
+      move ! (3 ∷ []) $ fsplit ! $ move ! (1 ∷ []) $ fsplit ! $ fsplit3 ! $ move ! (1 ∷ []) $
+      let n : ℕ = position_of cap (length s.sent) in let known = so.0.known in let arrived = so.0.arrived in let written = so.0.written in let freed = so.0.freed in let eh = so.1 in let es = so.2 in let ei = so.3 in let top = so.0.stages.1 in let near : OneStays s = omega arith in
+      let long : length (told ++ pt.0) ≡ length told + length pt.0 = length-append told pt.0 in let all : length (told ++ pt.0) ≡ length s.sent = ap length pt.1 in
+      suffices ! _ (upd_i 𝓤 Z) $ show ! (Holding 256 (λ n. n) then) n $ frame ! $ assume ! (‵ (word w 256 n)) $ suffices ! _ (upd_i 𝓤 (⟦ I ⟧ ∗ ⟦ then n ⟧)) $
+      move ! (1 ∷ 0 ∷ []) $ fjoin3 ! $ fjoin ! $ move ! (1 ∷ 0 ∷ []) $ fjoin ! $ move ! (1 ∷ 5 ∷ 0 ∷ []) $ use3 𝓛 (‵ I) (closes s so.0 near) $ frame ! $
+      move ! (1 ∷ []) $ forget ! $ fjoin ! $ nothing ! $ fpack ! (SawTail head seen told n s.sent) (λ _. ftrue) (refl, omega arith, omega arith, omega arith) $ fjoin ! $ fpack ! (List ℕ) (TailSeen q head seen i told n) s.sent $ done !))))
+
+  module _ {X : Type 0} (O : Order X) (γ : GName) where
+    -- the two halves of a right agree, and move up together
+    pub agree : (a b : X) → ⟦ latest O half γ a ⟧ ∗ ⟦ latest O other γ b ⟧ ⊢ guard 𝓤 (a ≡ b) (⟦ latest O half γ a ⟧ ∗ ⟦ latest O other γ b ⟧)
+    agree a b = latest_agrees O 𝓛 half other γ a b
+
+    pub raise : (a b c d : X) → a ≡ b → c ≡ d → O.le a c → ⟦ latest O half γ a ⟧ ∗ ⟦ latest O other γ b ⟧ ⊢ upd 𝓤 (⟦ latest O half γ c ⟧ ∗ ⟦ latest O other γ d ⟧)
+    raise a b c d e f le = let Z : Pr = ⟦ latest O half γ c ⟧ ∗ ⟦ latest O other γ d ⟧ in qed 𝓛 (‵ (latest O half γ a) ∷ ‵ (latest O other γ b) ∷ []) ∵
+        rewrite ! 1 (λ (x : X). ‵ (latest O other γ x)) (sym e) refl $ use2 𝓛 (‵ (latest O full_share γ a)) (glue 𝓛 O γ a full_share) $
+        use1 𝓛 (raw (upd 𝓤 ⟦ latest O full_share γ c ⟧)) (latest_grows O 𝓛 γ a c le) $ settle 𝓛 Z (‵ (latest O full_share γ c)) $ suffices ! _ (upd_i 𝓤 Z) $
+        use1 𝓛 (‵ (latest O half γ c) ⊛ ‵ (latest O other γ c)) (cut 𝓛 O γ c full_share) $ split ! $ rewrite ! 1 (λ (x : X). ‵ (latest O other γ x)) f refl $ done !
+
+  abbrev ForWriter : Share → List ℕ → ℕ → Bool → ℕ → State → Pr
+  ForWriter q sent limit shut i s = guard 𝓤 (WriterSees sent limit shut i s) (⟦ WK q sent limit shut i ⟧ ∗ ⟦ WK other s.sent s.limit s.shut s.writer_stage ⟧ ∗ ⟦ RK other s.head s.seen s.reader_stage ⟧ ∗ ⟦ Rest s ⟧)
+
+  pub writer_agrees : (q : Share) (sent : List ℕ) (limit : ℕ) (shut : Bool) (i : ℕ) (l : List ℕ) (m : ℕ) (b : Bool) (j : ℕ)
+      → ⟦ WK q sent limit shut i ⟧ ∗ ⟦ WK other l m b j ⟧ ⊢ guard 𝓤 ((sent ≡ l) × (limit ≡ m) × (flag shut ≡ flag b) × (i ≡ j)) (⟦ WK q sent limit shut i ⟧ ∗ ⟦ WK other l m b j ⟧)
+  writer_agrees q sent limit shut i l m b j = let O : Order (List ℕ) = prefixes coded_ℕ in qed 𝓛 (‵ (WK q sent limit shut i) ∷ ‵ (WK other l m b j) ∷ []) ∵ fsplit3 ! $ move ! (2 ∷ []) $ fsplit ! $ move ! (4 ∷ []) $ fsplit3 ! $ move ! (2 ∷ []) $ fsplit ! $
+      move ! (6 ∷ 2 ∷ []) $ use2 𝓛 (given (sent ≡ l) (‵ (latest O q z.sent sent) ⊛ ‵ (latest O other z.sent l))) (latest_agrees O 𝓛 q other z.sent sent l) $ learn ! (λ e. split ! $ move ! (7 ∷ 4 ∷ []) $
+      use2 𝓛 (given (limit ≡ m) (‵ (latest numbers q z.limit limit) ⊛ ‵ (latest numbers other z.limit m))) (latest_agrees numbers 𝓛 q other z.limit limit m) $ learn ! (λ f. split ! $ move ! (6 ∷ 4 ∷ []) $
+      use2 𝓛 (given (flag shut ≡ flag b) (‵ (latest numbers q z.shut (flag shut)) ⊛ ‵ (latest numbers other z.shut (flag b)))) (latest_agrees numbers 𝓛 q other z.shut (flag shut) (flag b)) $ learn ! (λ g. split ! $ move ! (7 ∷ 6 ∷ []) $
+      use2 𝓛 (given (i ≡ j) (‵ (latest numbers q z.writer_stage i) ⊛ ‵ (latest numbers other z.writer_stage j))) (latest_agrees numbers 𝓛 q other z.writer_stage i j) $ learn ! (λ k. split ! $
+      check ! (e, f, g, k) $ move ! (2 ∷ 0 ∷ []) $ fjoin ! $ move ! (2 ∷ 1 ∷ []) $ fjoin ! $ move ! (4 ∷ 2 ∷ 1 ∷ []) $ fjoin3 ! $ move ! (3 ∷ 2 ∷ 1 ∷ []) $ fjoin3 ! $ move ! (1 ∷ 0 ∷ []) $ done !))))
+
+  pub writer_opens : (q : Share) (sent : List ℕ) (limit : ℕ) (shut : Bool) (i : ℕ) → i ≤ 1 → ⟦ I ⟧ ∗ ⟦ WK q sent limit shut i ⟧ ⊢ ex 𝓤 (ForWriter q sent limit shut i)
+  writer_opens q sent limit shut i le = qed 𝓛 (‵ I ∷ ‵ (WK q sent limit shut i) ∷ []) ∵ fpick ! (λ s. fsplit3 ! $ fpick ! (λ so. forget ! $ fsplit3 ! $ move ! (4 ∷ 0 ∷ []) $
+      use2 𝓛 (given ((sent ≡ s.sent) × (limit ≡ s.limit) × (flag shut ≡ flag s.shut) × (i ≡ s.writer_stage)) (‵ (WK q sent limit shut i) ⊛ ‵ (WK other s.sent s.limit s.shut s.writer_stage))) (writer_agrees q sent limit shut i s.sent s.limit s.shut s.writer_stage) $ learn ! (λ e. split ! $
+      let ei = e.3 in let top = so.stages.0 in move ! (4 ∷ []) $ rewrite ! 0 (λ (F : Fml). ‵ F) {x = memory w p z s} {y = until_both (gone s.reader_stage) (gone s.writer_stage) (memory w p z s)} (stays s.reader_stage s.writer_stage (memory w p z s) (omega arith)) refl $
+      move ! (4 ∷ 0 ∷ []) $ fjoin ! $ show ! (ForWriter q sent limit shut i) s $ check ! (so, e.0, e.1, e.2, e.3) $ move ! (1 ∷ 2 ∷ 3 ∷ []) $ done !)))
+
+  -- h bytes were consumed, and n is where the next one stands
+  abbrev pub SawHead : List ℕ → ℕ → ℕ → ℕ → ℕ → Type 0
+  SawHead sent limit told n h = (n ≡ position_of cap h) × (h ≤ length sent) × (limit ≤ h + cap) × (told ≤ h)
+
+  abbrev pub HeadSeen : Share → List ℕ → ℕ → Bool → ℕ → ℕ → ℕ → ℕ → Fml
+  HeadSeen q sent limit shut i told n h = fsep (fact (SawHead sent limit told n h)) (fsep (took z h) (WK q sent limit shut i))
+
+  abbrev pub AfterPeek : Share → List ℕ → ℕ → Bool → ℕ → ℕ → ℕ → Fml
+  AfterPeek q sent limit shut i told n = fex ℕ (HeadSeen q sent limit shut i told n)
+
+  -- a load of the head by anyone who has a share of what the writer knows
+  pub looks_head : (q : Share) (sent : List ℕ) (limit : ℕ) (shut : Bool) (i : ℕ) (told : ℕ) → i ≤ 1 → ⟦ C ⟧ ∗ ⟦ WK q sent limit shut i ⟧ ∗ ⟦ took z told ⟧ ⊢ access 128 (λ n. n) (AfterPeek q sent limit shut i told)
+  looks_head q sent limit shut i told le = let then : ℕ → Fml = AfterPeek q sent limit shut i told in let Z : Pr = ex 𝓤 (Holding 128 (λ n. n) then) in
+      inside 128 (λ n. n) then (⟦ WK q sent limit shut i ⟧ ∗ ⟦ took z told ⟧) (qed 𝓛 (‵ I ∷ ‵ (WK q sent limit shut i) ∷ ‵ (took z told) ∷ []) ∵
+      use2 𝓛 (some (λ (s : State). given (WriterSees sent limit shut i s) (‵ (WK q sent limit shut i) ⊛ ‵ (WK other s.sent s.limit s.shut s.writer_stage) ⊛ ‵ (RK other s.head s.seen s.reader_stage) ⊛ ‵ (Rest s)))) (writer_opens q sent limit shut i le) $ pick ! (λ s. learn ! (λ so. split3 ! $
+      move ! (2 ∷ []) $ split ! $ fsplit ! $ fsplit ! $ move ! (0 ∷ 6 ∷ []) $
+      use2 𝓛 (given (told ≤ s.head) (‵ (latest numbers other z.head s.head) ⊛ ‵ (took z told))) (latest_bounds numbers 𝓛 other z.head s.head told) $ learn ! (λ least. split ! $
+      use1 𝓛 (‵ (latest numbers other z.head s.head) ⊛ ‵ (took z s.head)) (latest_shows numbers 𝓛 other z.head s.head s.head (omega arith)) $ split ! $ move ! (0 ∷ 3 ∷ []) $ fjoin ! $ move ! (0 ∷ 3 ∷ []) $ fjoin ! $
+      move ! (3 ∷ []) $ fsplit ! $ move ! (1 ∷ []) $ fsplit ! $ fsplit ! $
+      let n : ℕ = position_of cap s.head in let known = so.0.known in let arrived = so.0.arrived in let written = so.0.written in let freed = so.0.freed in let es : length sent ≡ length s.sent = ap length so.1 in let el = so.2 in let ei = so.4 in let top = so.0.stages.0 in let near : OneStays s = omega arith in
+      suffices ! _ (upd_i 𝓤 Z) $ show ! (Holding 128 (λ n. n) then) n $ frame ! $ assume ! (‵ (word w 128 n)) $ suffices ! _ (upd_i 𝓤 (⟦ I ⟧ ∗ ⟦ then n ⟧)) $
+      fjoin ! $ fjoin ! $ move ! (1 ∷ 0 ∷ []) $ fjoin ! $ move ! (5 ∷ 1 ∷ 0 ∷ []) $ use3 𝓛 (‵ I) (closes s so.0 near) $ frame ! $
+      move ! (1 ∷ []) $ forget ! $ fjoin ! $ nothing ! $ fpack ! (SawHead sent limit told n s.head) (λ _. ftrue) (refl, omega arith, omega arith, least) $ fjoin ! $ fpack ! ℕ (HeadSeen q sent limit shut i told n) s.head $ done !))))
+
+  module _ (sent : List ℕ) (limit : ℕ) (shut : Bool) (i : ℕ) (le : i ≤ 1) (xs : List ℕ) (new : ℕ) (is : new ≡ position_of cap (length sent + length xs)) (room : length sent + length xs ≤ limit) where
+    abbrev Then : Fml
+    Then = WK half (sent ++ xs) limit shut i
+
+    abbrev Gift : Fml
+    Gift = run (byte p cap) (length sent) xs
+
+    -- a store of the tail hands the places of xs over
+    pub publishes : ⟦ C ⟧ ∗ ⟦ WK half sent limit shut i ⟧ ∗ ⟦ Gift ⟧ ⊢ access 256 (λ _. new) (λ _. Then)
+    publishes = let Z : Pr = ex 𝓤 (Holding 256 (λ _. new) (λ _. Then)) in let O : Order (List ℕ) = prefixes coded_ℕ in
+        inside 256 (λ _. new) (λ _. Then) (⟦ WK half sent limit shut i ⟧ ∗ ⟦ Gift ⟧) (qed 𝓛 (‵ I ∷ ‵ (WK half sent limit shut i) ∷ ‵ Gift ∷ []) ∵
+        use2 𝓛 (some (λ (s : State). given (WriterSees sent limit shut i s) (‵ (WK half sent limit shut i) ⊛ ‵ (WK other s.sent s.limit s.shut s.writer_stage) ⊛ ‵ (RK other s.head s.seen s.reader_stage) ⊛ ‵ (Rest s)))) (writer_opens half sent limit shut i le) $ pick ! (λ s. learn ! (λ so. split3 ! $
+        let known = so.0.known in let arrived = so.0.arrived in let written = so.0.written in let freed = so.0.freed in let es : length sent ≡ length s.sent = ap length so.1 in let el = so.2 in
+        let all : List ℕ = s.sent ++ xs in let long : length all ≡ length s.sent + length xs = length-append s.sent xs in let s' : State = record s { sent = all } in
+        let so' : Holds cap s' = record { known = known; arrived = omega arith; written = omega arith; freed = freed; closing = so.0.closing; shutting = so.0.shutting; stages = so.0.stages } in let ei = so.4 in let top = so.0.stages.0 in let near : OneStays s' = omega arith in
+        fsplit3 ! $ move ! (3 ∷ []) $ fsplit3 ! $ move ! (3 ∷ 0 ∷ []) $
+        use2 𝓛 (raw (upd 𝓤 (⟦ latest O half z.sent (sent ++ xs) ⟧ ∗ ⟦ latest O other z.sent all ⟧))) (raise O z.sent sent s.sent (sent ++ xs) all so.1 (ap (λ (l : List ℕ). l ++ xs) so.1) (xs, refl)) $
+        settle 𝓛 Z (‵ (latest O half z.sent (sent ++ xs)) ⊛ ‵ (latest O other z.sent all)) $ suffices ! _ (upd_i 𝓤 Z) $ split ! $
+        move ! (0 ∷ 4 ∷ 5 ∷ []) $ fjoin3 ! $ move ! (1 ∷ 2 ∷ 3 ∷ []) $ fjoin3 ! $ move ! (2 ∷ []) $ split ! $ move ! (1 ∷ []) $ fsplit ! $ move ! (1 ∷ []) $ fsplit ! $ fsplit3 ! $ move ! (1 ∷ []) $
+        show ! (Holding 256 (λ _. new) (λ _. Then)) (position_of cap (length s.sent)) $ frame ! $ assume ! (‵ (word w 256 new)) $ suffices ! _ (upd_i 𝓤 (⟦ I ⟧ ∗ ⟦ Then ⟧)) $
+        rewrite ! 0 (λ (m : ℕ). ‵ (word w 256 m)) (is ∙ ap (position_of cap) (ap (λ (m : ℕ). m + length xs) es ∙ sym long)) refl $
+        move ! (1 ∷ 0 ∷ []) $ fjoin3 ! $ move ! (1 ∷ []) $ fsplit ! $ move ! (1 ∷ []) $ fsplit3 ! $ move ! (2 ∷ []) $
+        rewrite ! 0 (λ (F : Fml). ‵ (fsep F (deeds w p z))) {x = where_gone (gone s.writer_stage) (blanks w p z (length all) (s.limit - length all))} {y = where_gone (gone s.writer_stage) (blanks w p z (length s.sent) (s.limit - length s.sent))} (not_gone s.writer_stage _ _ (omega arith)) refl $
+        move ! (1 ∷ 2 ∷ 0 ∷ []) $ fjoin3 ! $ move ! (1 ∷ 7 ∷ []) $
+        use2 𝓛 (‵ (run (byte p cap) s.seen (drop s.seen s.sent ++ xs))) (run_join 𝓛 (byte p cap) (drop s.seen s.sent) xs s.seen (length sent) (omega (arith, length-drop s.seen s.sent))) $
+        rewrite ! 0 (λ (l : List ℕ). ‵ (run (byte p cap) s.seen l)) (sym (drop-append-le s.seen s.sent xs arrived)) refl $
+        fjoin ! $ move ! (1 ∷ 0 ∷ []) $ fjoin ! $ move ! (1 ∷ 0 ∷ []) $ fjoin ! $ move ! (2 ∷ 1 ∷ 0 ∷ []) $ use3 𝓛 (‵ I) (closes s' so' near) $ frame ! $ done !)))

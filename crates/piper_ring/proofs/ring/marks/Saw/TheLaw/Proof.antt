@@ -1,0 +1,20 @@
+-- A `&` to a mark holds what it knows, which can be had twice. Assumes `Logic`.
+use base.Logic.{snd∗}
+use base.Before.{before}
+use types.Logic.{sem}
+use denote.RawPtr.{RawPtr}
+use denote.Param.Shared.{copy_shared}
+use denote.Struct.Laws.{field_copy}
+use denote.Struct.Lending.{of_Lends}
+use Rattle.core.specs.contracts.marker.PhantomData as marker
+use Rattle.logbook.proofs.Fields.{lends_twice}
+use Rattle.piper_ring.specs.Shared.{raised}
+use Rattle.piper_ring.specs.contracts.ring.marks.Saw as C
+use Rattle.piper_ring.proofs.Evidence.{raised_twice}
+use Rattle.piper_ring.proofs.ring.marks.Saw.TheLaw.Statement.{statement}
+
+pub shares : statement
+shares = of_Lends C.struct (C.the_codes (marker.the_row RawPtr).coded) C.the_heap C.the_lent
+    (λ d p. record { contraction = λ M 𝓤 𝓛 κ. raised_twice 𝓛 d.names.closed d.seen; mono = λ M 𝓤 𝓛 κ' κ. snd∗ 𝓤 (sem 𝓛 (before κ' κ)) (sem 𝓛 (raised d.names.closed d.seen)) })
+    (copy_shared (marker.the_field RawPtr) (field_copy (marker.the_type RawPtr) tt), tt)
+    (λ M 𝓤 𝓛 d p. lends_twice 𝓛 (raised d.names.closed d.seen) (raised_twice 𝓛 d.names.closed d.seen) C.the_row.lives)

@@ -1,0 +1,83 @@
+-- `claim` asks the heap, and keeps what it hands over. Assumes `Logic`.
+use Rattle.std.proofs.Common.{◌≡◌, ℕ, ◌<◌, ◌^◌, [], ◌∷◌, refl, lit<, w64, IfOk, Ok, Err}
+use mir.Syntax.{Ty, Body, named}
+use mir.Val.{Val, vint, vptr, vstruct, vnil, of_list, WT}
+use base.Logic.{SProp, emp}
+use base.Fml.{Share, ftrue, flft}
+use prog.Wp.{Wp, after_seq, at_return}
+use types.Kit.{Post as Next, any_q, ‵, raw, ◌⊛◌, some, given, later, await, pick, at_ret, ◌$◌, ◌∵◌, !, qed, by, move, keep, drop, split, split3, join, fjoin, fpack, learn, use0, use1, use2}
+use types.Match.{live, vrt, in_variant}
+use types.Run.{stop, fld, lit, of_opd, no_more, and_then, first, switches_on, exec, returns, enter}
+use types.ByLocal.{alloc_all, pass_all, free_all, look_at, get, get_in, get_tag, sets, sets_last, lands_as, env}
+use types.Part.{agg, whole}
+use contract.Monad.{fact, fact_i}
+use contract.Running.{tables}
+use denote.Builtin.{RefOf, usize}
+use denote.Exit.{yes}
+use denote.Laws.{Is}
+use denote.RattleType.{RattleType, owns}
+use denote.RawPtr.{Ptr, block_ptr}
+use denote.Plain.{uint_vals, uint_Tells}
+use denote.Ref.{shr_vals, shr_Tells}
+use denote.Signature.{types_at, plain}
+use denote.Steps.{nothing, owned}
+use denote.Struct.Declared as Declared
+use denote.Struct.Struct.{Struct, Struct-Makes}
+use denote.Triple.Call.{calls_at}
+use denote.Triple.Walked.{Stays, stay_dropped, walk_of, Goes-dropped}
+use Rattle.core.proofs.alloc.Calls.{Answer}
+use Rattle.core.proofs.slots.Bodies.{after as from_on, head, arm_body}
+use Rattle.core.specs.Allocator.{block_if_ok}
+use Rattle.core.specs.contracts.result.Result as Either
+use Rattle.std_heap.specs.contracts.Global as Heap
+use Rattle.std_heap.proofs.GlobalAllocator.allocate.Met as allocates
+use Rattle.rtrb.proofs.Calls.{fm}
+use Rattle.rtrb.proofs.Values.{ok_of, err_of}
+use Rattle.rtrb.proofs.Walks.{proved, leaves}
+use Rattle.piper_sides.specs.contracts.memory.OutOfMemory as Want
+use Rattle.piper_ring.specs.Memory.{IsClaim, purpose}
+use Rattle.piper_ring.specs.Shared.{heap_token}
+use Rattle.piper_ring.proofs.Fields.{seat_val, MemoryData, memory_made}
+use Rattle.piper_ring.proofs.Heap.{Asks, asking, may_ask, was_answered, answered}
+use Rattle.piper_ring.specs.contracts.ring.memory.Memory as Memory
+use Rattle.piper_ring.specs.contracts.ring.memory.Memory.claim.{ended, clauses}
+use Rattle.piper_ring.specs.contracts.ring.memory.Memory.claim.Key.{name as #self}
+use Rattle.piper_ring.proofs.ring.memory.Memory.claim.Statement.{statement}
+use Rattle.piper_ring.proofs.ring.memory.Memory.claim.Code as code
+
+pub claim_spec : {M : Type 1} → statement M
+claim_spec 𝓤 𝓛 𝓜 𝓡 wired =
+    let H = 𝓛.H in let 𝓣 = tables 𝓤 H 𝓜 𝓡 𝓡.env in let En = ended in let fn = code.function in let c = clauses 𝓛 𝓜.mem 𝓡.returns in
+    let heap = RefOf (0 ∷ []) tt (plain (λ _. Heap.the_row)) (λ _. tt) in let number = plain (λ _. usize) in let Result : RattleType = Either.the_row Memory.the_row Want.the_row in
+    let hs : Stays En.signature.params En.kept = (stay_dropped heap yes, (stay_dropped number yes, (stay_dropped number yes, tt))) in
+    proved 𝓛 En hs c 𝓜 𝓡 (Goes-dropped 𝓛 1 heap yes (λ κs x f. refl), (Goes-dropped 𝓛 1 number yes (λ κs x f. refl), (Goes-dropped 𝓛 1 number yes (λ κs x f. refl), tt))) #self fn (code.unfolded 𝓤 H 𝓜 𝓡 wired)
+    (λ κs. (shr_vals, (uint_vals w64, (uint_vals w64, tt)))) (λ κs. (shr_Tells (named 0) κs.0 Heap.the_row, (uint_Tells w64, (uint_Tells w64, tt)))) (λ κs qs bounds a gh are.
+    let h = a.0 in let hp : ℕ × ℕ = h.ref_ptr in let n : ℕ = a.1.0 in let w : ℕ = a.1.1.0 in let κ = κs.0 in let q : Share = qs.0 in let τ : Ty = purpose n w in
+    let y : (walk_of 𝓛 En hs c).Ghost = ((κs, qs, bounds, a, (vptr hp.0 hp.1 ∷ [], (vint w64 n ∷ [], (vint w64 w ∷ [], tt)))), gh) in let Post : Val → SProp 𝓤 = (walk_of 𝓛 En hs c).post y in
+    let As : Result.Denot → Type 0 = λ r. IfOk r (λ m. (m.size ≡ n) × (m.align ≡ w)) in let t : (Asks 𝓛 𝓜 𝓡).Ghost = asking 𝓛 𝓜 𝓡 κ q h n w τ in
+    qed 𝓛 (((‵ (flft κ q) ⊛ ‵ ftrue) ⊛ ‵ (owns (types_at En.signature.params κs) a y.0.4)) ∷ given (IsClaim n w) (‵ ftrue) ∷ []) ∵
+    keep ! (1 ∷ 0 ∷ []) $ learn ! (λ asked. drop ! $ split ! $ split ! $ keep ! (2 ∷ 0 ∷ []) $ use2 𝓛 (raw ((Asks 𝓛 𝓜 𝓡).pre t)) (may_ask 𝓛 𝓜 𝓡 κ q h n w τ asked.0) $
+    enter ! 𝓣.C 𝓣.Λ fn (vptr hp.0 hp.1 ∷ vint w64 n ∷ vint w64 w ∷ []) Post $
+    alloc_all ! (λ l. pass_all ! refl ((tt, tt), ((tt, record { fits = are.1.0.1 }), ((tt, record { fits = are.1.1.0.1 }), tt))) $ let Ev = env fn.locals l in
+    let cases : Body = head (from_on 1 fn.body) in
+    let Rest : Next 𝓤 H = any_q (after_seq 𝓤 H (Wp 𝓤 H 𝓣.C 𝓣.Λ Ev (from_on 2 fn.body) (at_return 𝓤 H Ev Post)) (at_return 𝓤 H Ev Post)) in
+    calls_at ! (fm 𝓛 𝓜 𝓡) (Asks 𝓛 𝓜 𝓡) (allocates.met 𝓤 𝓛 𝓜 𝓡 (code.calls-std_heap::GlobalAllocator::allocate 𝓡.env wired)) t (and_then ! (get ! refl) (and_then ! (get ! refl) (and_then ! (get ! refl) (no_more !)))) (λ v.
+    use1 𝓛 (later (some (λ (r : Answer.Denot). ‵ (Answer.own_val r (v ∷ [])) ⊛ ‵ (block_if_ok heap_token τ r) ⊛ ‵ (flft κ q)))) (was_answered 𝓛 𝓜 𝓡 κ q h n w τ v) $ await ! tt $ pick ! (λ r. split3 ! $ answered ! τ v r
+    (λ b o e. let p : Ptr = block_ptr b o in let new : Memory.the_row.Denot = record { start = p; size = n; align = w } in let u : Val = seat_val p in
+    let out : Val = live 0 (of_list (u ∷ [])) in let fine : WT out = (record { fits = lit< tt }, ((tt, tt), tt)) in
+    nothing ! $ fpack ! (n < 2 ^ 63) (λ _. ftrue) asked.1 $ fjoin ! $ use0 𝓛 (‵ (MemoryData.own_val (p, tt) (u ∷ []))) (memory_made 𝓛 p) $ fjoin ! $
+    use1 𝓛 (‵ (Result.own_val (Ok new) (out ∷ []))) (ok_of 𝓛 Memory.the_row Want.the_row new u) $
+    lands_as ! e refl (tt, (record { fits = lit< tt }, (tt, tt))) $ first ! $ switches_on ! (get_tag ! (vrt ! refl (fld ! refl (stop !))) (whole !)) $ exec ! 𝓣.C 𝓣.Λ Ev (arm_body 1 cases) Rest $
+    sets ! (of_opd ! (get_in ! (vrt ! refl (fld ! refl (stop !))) (in_variant ! 0 0 refl refl (whole !)))) refl (tt, tt) $
+    sets ! (agg ! (and_then ! (get ! refl) (no_more !))) refl (tt, (tt, tt)) $ sets_last ! (agg ! (and_then ! (lit ! tt) (and_then ! (get ! refl) (no_more !)))) refl (tt, fine) $
+    exec ! 𝓣.C 𝓣.Λ Ev (from_on 2 fn.body) (at_ret Ev Post) $ sets ! (of_opd ! (get ! refl)) refl (tt, fine) $
+    move ! (1 ∷ []) $ nothing ! $ move ! (1 ∷ 0 ∷ []) $ join ! $ use0 𝓛 (raw (fact 𝓤 (As (Ok new)))) (fact_i 𝓤 (As (Ok new)) (emp 𝓤) (refl, refl)) $ nothing ! $ nothing ! $ fjoin ! $ nothing ! $ fjoin ! $ nothing ! $ fjoin ! $
+    returns ! (look_at ! 0 refl) $ free_all ! refl $ keep ! (2 ∷ 0 ∷ 3 ∷ 1 ∷ []) $ by ! (leaves 𝓛 En hs c y out (Ok new) (tt, (tt, (tt, tt))) (tt, (tt, (tt, tt)))))
+    (λ e. let out : Val = live 1 (of_list (vstruct vnil ∷ [])) in let fine : WT out = (record { fits = lit< tt }, (tt, tt)) in
+    lands_as ! e refl (tt, fine) $ first ! $ switches_on ! (get_tag ! (vrt ! refl (fld ! refl (stop !))) (whole !)) $ exec ! 𝓣.C 𝓣.Λ Ev (arm_body 0 cases) Rest $
+    sets ! (agg ! (no_more !)) refl (tt, tt) $ sets_last ! (agg ! (and_then ! (lit ! tt) (and_then ! (get ! refl) (no_more !)))) refl (tt, fine) $
+    exec ! 𝓣.C 𝓣.Λ Ev (from_on 2 fn.body) (at_ret Ev Post) $ sets ! (of_opd ! (get ! refl)) refl (tt, fine) $
+    owned ! (Struct (Declared.shape Want.the_type)) (Is (Struct (Declared.shape Want.the_type))) (Struct-Makes 𝓛 (Declared.shape Want.the_type) tt) tt (vstruct vnil ∷ []) (tt, (refl, tt)) $
+    use1 𝓛 (‵ (Result.own_val (Err (record {})) (out ∷ []))) (err_of 𝓛 Memory.the_row Want.the_row (record {}) (vstruct vnil)) $
+    move ! (1 ∷ []) $ nothing ! $ move ! (1 ∷ 0 ∷ []) $ join ! $ use0 𝓛 (raw (fact 𝓤 (As (Err (record {}))))) (fact_i 𝓤 (As (Err (record {}))) (emp 𝓤) tt) $ nothing ! $ nothing ! $ fjoin ! $ nothing ! $ fjoin ! $ nothing ! $ fjoin ! $
+    returns ! (look_at ! 0 refl) $ free_all ! refl $ keep ! (2 ∷ 0 ∷ 3 ∷ 1 ∷ []) $ by ! (leaves 𝓛 En hs c y out (Err (record {})) (tt, (tt, (tt, tt))) (tt, (tt, (tt, tt))))))))))

@@ -1,0 +1,17 @@
+-- A `&` to places that need not be set lends none of them. Assumes `Logic`.
+use denote.RawPtr.{RawPtr}
+use denote.SharingLaws.{said_shr_laws}
+use denote.Param.Shared.{copy_shared}
+use denote.Struct.Laws.{field_copy}
+use denote.Struct.Lending.{of_Lends, Lends-first, Lends-said}
+use denote.Sharing.{said}
+use Rattle.core.specs.contracts.marker.PhantomData as marker
+use Rattle.rtrb.specs.Shared.{span}
+use Rattle.piper_ring.specs.Places.{fact, Placed, unset}
+use Rattle.piper_ring.specs.contracts.ring.places.Blank as C
+use Rattle.piper_ring.proofs.ring.places.Blank.TheLaw.Statement.{statement}
+
+pub shares : statement
+shares = of_Lends C.struct (C.the_codes (marker.the_row RawPtr).coded) C.the_heap C.the_lent
+    (λ d p. said_shr_laws (fact (Placed d.at d.capacity)) (λ _. tt)) (copy_shared (marker.the_field RawPtr) (field_copy (marker.the_type RawPtr) tt), tt)
+    (λ M 𝓤 𝓛 d p. Lends-first 𝓛 (fact (Placed d.at d.capacity)) (span (unset d.at d.capacity) d.first d.count) (said (fact (Placed d.at d.capacity))) C.the_row.lives (Lends-said 𝓛 (fact (Placed d.at d.capacity)) (λ _. tt) C.the_row.lives))

@@ -1,0 +1,48 @@
+-- `forget` gives the bytes up, and keeps their places. Assumes `Logic`.
+use Rattle.std.proofs.Common.{◌≡◌, ℕ, List, [], ◌∷◌, length, refl}
+use mir.Val.{Val}
+use base.Logic.{SProp, emp}
+use base.Fml.{ftrue}
+use types.Kit.{‵, raw, ◌⊛◌, ◌$◌, ◌∵◌, !, qed, by, move, keep, split, fsplit, fjoin, use0, use1}
+use types.Kit.{drop as forget}
+use types.Run.{no_more, and_then, returns, enter}
+use types.ByLocal.{alloc_all, pass_all, free_all, look_at, get, sets, env}
+use types.Part.{agg}
+use contract.Monad.{fact, fact_i}
+use contract.Running.{tables}
+use denote.Exit.{yes}
+use denote.RattleType.{RattleType, owns}
+use denote.Signature.{types_at, plain}
+use denote.Steps.{nothing}
+use denote.Triple.Entry.{alive}
+use denote.Triple.Walked.{Stays, stay_dropped, walk_of, Goes-dropped}
+use Rattle.rtrb.specs.Shared.{span}
+use Rattle.rtrb.proofs.Walks.{proved, leaves}
+use Rattle.piper_ring.specs.Places.{unset}
+use Rattle.piper_ring.proofs.Fields.{ghost_val, places_told, BlankData, blank_made}
+use Rattle.piper_ring.proofs.PlacesParts.{forgets}
+use Rattle.piper_ring.specs.contracts.ring.places.Places as Places
+use Rattle.piper_ring.specs.contracts.ring.places.Blank as Blank
+use Rattle.piper_ring.specs.contracts.ring.places.Places.forget.{ended, clauses}
+use Rattle.piper_ring.specs.contracts.ring.places.Places.forget.Key.{name as #self}
+use Rattle.piper_ring.proofs.ring.places.Places.forget.Statement.{statement}
+use Rattle.piper_ring.proofs.ring.places.Places.forget.Code as code
+
+pub forget_spec : {M : Type 1} → statement M
+forget_spec 𝓤 𝓛 𝓜 𝓡 wired =
+    let H = 𝓛.H in let 𝓣 = tables 𝓤 H 𝓜 𝓡 𝓡.env in let En = ended in let fn = code.function in let c = clauses 𝓛 𝓜.mem 𝓡.returns in
+    let Row : RattleType = Places.the_row in let self = plain (λ _. Row) in let BRow : RattleType = Blank.the_row in
+    let hs : Stays En.signature.params En.kept = (stay_dropped self yes, tt) in
+    proved 𝓛 En hs c 𝓜 𝓡 (Goes-dropped 𝓛 0 self yes (λ κs x f. refl), tt) #self fn (code.unfolded 𝓤 H 𝓜 𝓡 wired)
+    (λ κs. ((λ x. ghost_val ∷ []), tt)) (λ κs. ((λ x vs is. places_told vs is.0), tt)) (λ κs qs bounds a gh are.
+    let h = a.0 in let xs : List ℕ = h.bytes in let us : List Val = ghost_val ∷ [] in
+    let new : BRow.Denot = record { mark = record {}; at = h.at; capacity = h.capacity; first = h.first; count = length xs } in
+    let y : (walk_of 𝓛 En hs c).Ghost = ((κs, qs, bounds, a, (ghost_val ∷ [], tt)), gh) in let Post : Val → SProp 𝓤 = (walk_of 𝓛 En hs c).post y in
+    qed 𝓛 ((raw (alive 𝓛 En.signature κs qs) ⊛ ‵ (owns (types_at En.signature.params κs) a y.0.4)) ∷ ‵ ftrue ∷ []) ∵
+    split ! $ move ! (1 ∷ []) $ fsplit ! $ fsplit ! $ forget ! $ fsplit ! $ move ! (1 ∷ []) $
+    use1 𝓛 (‵ (span (unset h.at h.capacity) h.first (length xs))) (forgets 𝓛 h.at h.capacity xs h.first) $ move ! (1 ∷ 0 ∷ []) $ fjoin ! $ use0 𝓛 (‵ (BlankData.own_val (record {}, tt) us)) (blank_made 𝓛) $ fjoin ! $ keep ! (0 ∷ []) $
+    enter ! 𝓣.C 𝓣.Λ fn (ghost_val ∷ []) Post $ alloc_all ! (λ l. pass_all ! refl ((tt, (tt, tt)), tt) $ let Ev = env fn.locals l in
+    sets ! (agg ! (no_more !)) refl (tt, tt) $ sets ! (agg ! (and_then ! (get ! refl) (no_more !))) refl (tt, (tt, tt)) $
+    let Told : Type 0 = (h.at ≡ h.at) × (h.capacity ≡ h.capacity) × (h.first ≡ h.first) × (length xs ≡ length xs) in
+    use0 𝓛 (raw (fact 𝓤 Told)) (fact_i 𝓤 Told (emp 𝓤) (refl, refl, refl, refl)) $ nothing ! $ nothing ! $ fjoin ! $ nothing ! $
+    returns ! (look_at ! 0 refl) $ free_all ! refl $ keep ! (0 ∷ 1 ∷ 3 ∷ 2 ∷ []) $ by ! (leaves 𝓛 En hs c y ghost_val new (tt, tt) (tt, tt))))

@@ -1,0 +1,78 @@
+-- `slice` shows the front of the places that a `&` lends. Assumes `Logic`.
+use Rattle.std.proofs.Common.{◌≡◌, ℕ, ◌+◌, ◌*◌, ◌^◌, ◌<◌, ◌≤◌, List, [], ◌∷◌, length, take, length-take, sym, refl, ap, ◌∙◌, arith, w64}
+use mir.Syntax.{named}
+use mir.Val.{Val, vint, vptr}
+use base.Logic.{SProp, emp}
+use base.Fml.{ftrue, flft, fhide, fat}
+use base.Fraction.{full_share}
+use types.Kit.{‵, raw, ◌⊛◌, given, at_ret, ◌$◌, ◌∵◌, !, qed, by, move, keep, drop, split, join, fsplit, fjoin, fpick, learn, use0, use1, rewrite, feq_i, flt_i}
+use types.Run.{stop, fld, of_opd, and_then, no_more, bin, first, blocks, exec, returns, enter}
+use types.ByLocal.{alloc_all, pass_all, free_all, look_at, get, get_in, sets, sets_last, take_at, give_at, env}
+use types.Part.{agg, sub, whole}
+use contract.Monad.{fact, fact_i}
+use contract.Running.{tables}
+use denote.Exit.{yes}
+use denote.RattleType.{RattleType, owns}
+use denote.Signature.{types_at, plain}
+use denote.RawPtr.{Ptr, block_ptr, block_of, count_of, at_block}
+use denote.Builtin.{u8, usize, RefOf}
+use denote.Plain.{uint_vals, uint_Tells}
+use denote.Ref.{shr_vals, shr_Tells}
+use denote.Memory.{hidden_shr}
+use denote.Opens.{hide, unhide}
+use denote.Steps.{nothing}
+use denote.Slice.{slice_val, elements_shared}
+use denote.Struct.Lending.{lent_out}
+use denote.Struct.Struct.{Struct}
+use denote.Struct.Owning.{shape}
+use denote.RawPtr.{RawPtr}
+use Rattle.core.specs.contracts.marker.PhantomData as marker
+use denote.Param.{layout}
+use Rattle.std_alloc.proofs.RcSteps.{word, word-Good}
+use denote.Triple.Walked.{Stays, stay_dropped, walk_of, Goes-dropped}
+use Rattle.core.proofs.atomic.Steps.{tail}
+use Rattle.rtrb.proofs.Walks.{proved, leaves}
+use Rattle.piper_ring.specs.Places.{places_lent}
+use Rattle.piper_ring.specs.contracts.ring.places.Places as Places
+use Rattle.piper_ring.specs.contracts.ring.places.Base as Base
+use Rattle.piper_ring.proofs.ring.places.Base.TheLaws.{lowers}
+use Rattle.rtrb.specs.Fifo.{slot_of}
+use Rattle.piper_ring.proofs.PlacesParts.{seen}
+use Rattle.piper_ring.specs.contracts.ring.places.Places.slice.{ended, clauses}
+use Rattle.piper_ring.specs.contracts.ring.places.Places.slice.Key.{name as #self}
+use Rattle.piper_ring.proofs.ring.places.Places.slice.Statement.{statement}
+use Rattle.piper_ring.proofs.ring.places.Places.slice.Code as code
+
+abbrev Data : RattleType
+Data = Struct (shape Places.the_type)
+
+pub slice_spec : {M : Type 1} → statement M
+slice_spec 𝓤 𝓛 𝓜 𝓡 wired =
+    let H = 𝓛.H in let 𝓣 = tables 𝓤 H 𝓜 𝓡 𝓡.env in let En = ended in let fn = code.function in let c = clauses 𝓛 𝓜.mem 𝓡.returns in
+    let self = RefOf (0 ∷ []) tt (plain (λ _. Places.the_row)) (λ _. tt) in
+    let hs : Stays En.signature.params En.kept = (stay_dropped self yes, (stay_dropped (plain (λ _. Base.the_row)) yes, (stay_dropped (plain (λ _. usize)) yes, (stay_dropped (plain (λ _. usize)) yes, tt)))) in
+    proved 𝓛 En hs c 𝓜 𝓡 (Goes-dropped 𝓛 1 self yes (λ κs x f. refl), (Goes-dropped 𝓛 1 (plain (λ _. Base.the_row)) yes (λ κs x f. refl), (Goes-dropped 𝓛 1 (plain (λ _. usize)) yes (λ κs x f. refl), (Goes-dropped 𝓛 1 (plain (λ _. usize)) yes (λ κs x f. refl), tt)))) #self fn (code.unfolded 𝓤 H 𝓜 𝓡 wired)
+    (λ κs. (shr_vals, ((λ d. lowers.lowered d ∷ []), (uint_vals w64, (uint_vals w64, tt))))) (λ κs. (shr_Tells (named 0) κs.0 Places.the_row, (lowers.val_is, (uint_Tells w64, (uint_Tells w64, tt))))) (λ κs qs bounds a gh are.
+    let b : ℕ = a.0.ref_ptr.0 in let o : ℕ = a.0.ref_ptr.1 in let h = a.0.now in let at : Ptr = h.at in let κ = κs.0 in let base = a.1.0 in let from : ℕ = a.1.1.0 in let len : ℕ = a.1.1.1.0 in
+    let bv : Val = lowers.lowered base in
+    let y : (walk_of 𝓛 En hs c).Ghost = ((κs, qs, bounds, a, (vptr b o ∷ [], (bv ∷ [], (vint w64 from ∷ [], (vint w64 len ∷ [], tt))))), gh) in let Post : Val → SProp 𝓤 = (walk_of 𝓛 En hs c).post y in
+    let Asked : Type 0 = (base.ptr ≡ at) × (len ≤ length h.bytes) × (from ≡ slot_of h.capacity h.first) × (from + len ≤ h.capacity) in
+    qed 𝓛 (((‵ (flft κ qs.0) ⊛ ‵ ftrue) ⊛ ‵ (owns (types_at En.signature.params κs) a y.0.4)) ∷ given Asked (‵ ftrue) ∷ []) ∵
+    keep ! (1 ∷ 0 ∷ []) $ learn ! (λ asked. drop ! $ split ! $ split ! $ move ! (2 ∷ []) $ fsplit ! $ fsplit ! $ drop ! $
+    use1 𝓛 (‵ (hidden_shr Data κ (record {}, tt) b o) ⊛ ‵ (fhide (places_lent h.at h.capacity h.first h.bytes κ)))
+    (lent_out 𝓛 Places.struct (Places.the_codes (marker.the_row RawPtr).coded) Places.the_heap Places.the_lent κ h b o) $
+    split ! $ drop ! $ unhide ! $ fsplit ! $ fpick ! (λ fine. drop ! $
+    let bp : ℕ = block_of at in let op : ℕ = count_of at in let is_at : base.ptr ≡ block_ptr bp op = asked.0 ∙ at_block at fine.0 in let xs : List ℕ = take len h.bytes in
+    let near : from + len ≤ h.capacity = asked.3 in let small : h.capacity < 2 ^ 63 = fine.1 in let long : length xs ≡ len = omega (arith, length-take len h.bytes, asked.1) in
+    let tight : len < 2 ^ 64 = omega arith in
+    use1 𝓛 (‵ (elements_shared u8 xs bp (from + op) κ)) (seen 𝓛 at h.capacity κ len h.first from (from + op) h.bytes asked.1 (λ _. asked.2) near refl) $ hide ! $ move ! (0 ∷ 2 ∷ []) $
+    enter ! 𝓣.C 𝓣.Λ fn (vptr b o ∷ bv ∷ vint w64 from ∷ vint w64 len ∷ []) Post $ alloc_all ! (λ l. pass_all ! refl ((tt, tt), (word-Good [] base.ptr, ((tt, record { fits = omega arith }), ((tt, record { fits = tight }), tt)))) $ let Ev = env fn.locals l in
+    take_at ! 2 $ rewrite ! 0 (λ (p : Ptr). ‵ (fat full_share (layout Base.the_row) (l 2) 0 (word p))) is_at refl $ give_at ! 2 $ first ! $ blocks ! $
+    sets ! (bin ! (get_in ! (fld ! refl (stop !)) (sub ! 0 refl (whole !))) (get ! refl) tt) refl (tt, tt) $
+    sets_last ! (agg ! (and_then ! (get ! refl) (and_then ! (get ! refl) (no_more !)))) refl (tt, (tt, (record { fits = tight }, tt))) $
+    exec ! 𝓣.C 𝓣.Λ Ev (tail fn.body) (at_ret Ev Post) $ sets ! (of_opd ! (get ! refl)) refl (tt, (tt, (record { fits = tight }, tt))) $
+    flt_i ! (length xs * 1) (2 ^ 63) (omega arith) $ flt_i ! (length xs) (2 ^ 64) (omega arith) $ fjoin ! $
+    feq_i ! (List Val) (slice_val (bp, from + op) len ∷ []) (slice_val (bp, from + op) (length xs) ∷ []) (ap (λ (k : ℕ). slice_val (bp, from + op) k ∷ []) (sym long)) $ fjoin ! $ fjoin ! $
+    use0 𝓛 (raw (fact 𝓤 (xs ≡ xs))) (fact_i 𝓤 (xs ≡ xs) (emp 𝓤) refl) $ nothing ! $ nothing ! $ fjoin ! $ nothing ! $ fjoin ! $ nothing ! $ fjoin ! $ nothing ! $ fjoin ! $
+    nothing ! $ move ! (4 ∷ 0 ∷ []) $ join ! $
+    returns ! (look_at ! 0 refl) $ free_all ! refl $ keep ! (0 ∷ 1 ∷ 3 ∷ 2 ∷ []) $ by ! (leaves 𝓛 En hs c y (slice_val (bp, from + op) len) (record { ref_ptr = (bp, from + op); now = xs }) (tt, (tt, (tt, (tt, tt)))) (tt, (tt, (tt, (tt, tt)))))))))

@@ -1,0 +1,58 @@
+-- `split` cuts the run of places in two. Assumes `Logic`.
+use Rattle.std.proofs.Common.{◌≡◌, ℕ, ◌+◌, ◌≤◌, List, [], ◌∷◌, length, take, drop, refl, w64}
+use mir.Syntax.{named}
+use mir.Val.{Val, vint, vptr}
+use base.Logic.{SProp, emp}
+use base.Fraction.{full_share}
+use base.Fml.{Fml, ftrue, flft}
+use types.Kit.{‵, raw, ◌⊛◌, given, ◌$◌, ◌∵◌, !, qed, by, move, keep, split, join, fsplit, fsplit3, fjoin, fjoin3, fpick, fpack, learn, use0, use1, rewrite, feq_i}
+use types.Kit.{drop as forget}
+use types.Run.{no_more, and_then, returns, enter}
+use types.ByLocal.{alloc_all, pass_all, free_all, look_at, get, sets, env}
+use types.Part.{agg}
+use contract.Monad.{fact, fact_i}
+use contract.Running.{tables}
+use denote.Exit.{yes}
+use denote.RattleType.{RattleType, owns}
+use denote.Signature.{types_at, plain}
+use denote.Builtin.{usize}
+use denote.Laws.{Is, shows}
+use denote.Memory.{cell_at}
+use denote.Ref.{mut_vals, mut_Tells}
+use denote.Plain.{uint_vals, uint_Tells}
+use denote.Steps.{nothing, peeks, opens, closes}
+use denote.Triple.Walked.{Stays, stay_ref, stay_dropped, walk_of, Goes-ref, Goes-dropped}
+use Rattle.rtrb.specs.Shared.{run}
+use Rattle.rtrb.proofs.Walks.{proved, leaves}
+use Rattle.piper_ring.specs.Places.{byte, Placed}
+use Rattle.piper_ring.proofs.Fields.{ghost_val, PlacesData, places_told, places_made}
+use Rattle.piper_ring.proofs.PlacesParts.{run_cut}
+use Rattle.piper_ring.specs.contracts.ring.places.Places.{the_row}
+use Rattle.piper_ring.specs.contracts.ring.places.Places.split.{ended, clauses}
+use Rattle.piper_ring.specs.contracts.ring.places.Places.split.Key.{name as #self}
+use Rattle.piper_ring.proofs.ring.places.Places.split.Statement.{statement}
+use Rattle.piper_ring.proofs.ring.places.Places.split.Code as code
+
+pub split_spec : {M : Type 1} → statement M
+split_spec 𝓤 𝓛 𝓜 𝓡 wired =
+    let H = 𝓛.H in let 𝓣 = tables 𝓤 H 𝓜 𝓡 𝓡.env in let En = ended in let fn = code.function in let c = clauses 𝓛 𝓜.mem 𝓡.returns in
+    let Row : RattleType = the_row in let self = plain (λ _. Row) in
+    let hs : Stays En.signature.params En.kept = (stay_ref (0 ∷ []) tt self, (stay_dropped (plain (λ _. usize)) yes, tt)) in
+    proved 𝓛 En hs c 𝓜 𝓡 (Goes-ref 𝓛 1 0 tt self, (Goes-dropped 𝓛 1 (plain (λ _. usize)) yes (λ κs x f. refl), tt)) #self fn (code.unfolded 𝓤 H 𝓜 𝓡 wired)
+    (λ κs. (mut_vals, (uint_vals w64, tt))) (λ κs. (mut_Tells (named 0) κs.0 Row, (uint_Tells w64, tt))) (λ κs qs bounds a gh are.
+    let b : ℕ = a.0.ref_ptr.0 in let o : ℕ = a.0.ref_ptr.1 in let h = a.0.now in let n : ℕ = a.1.0 in let κ = κs.0 in let xs : List ℕ = h.bytes in let B = byte h.at h.capacity in let us : List Val = ghost_val ∷ [] in
+    let front : Row.Denot = record h { bytes = take n xs } in let back : Row.Denot = record h { first = h.first + n; bytes = drop n xs } in let Data : Fml = PlacesData.own_val (record {}, tt) us in
+    let y : (walk_of 𝓛 En hs c).Ghost = ((κs, qs, bounds, a, (vptr b o ∷ [], (vint w64 n ∷ [], tt))), gh) in let Post : Val → SProp 𝓤 = (walk_of 𝓛 En hs c).post y in
+    qed 𝓛 (((‵ (flft κ qs.0) ⊛ ‵ ftrue) ⊛ ‵ (owns (types_at En.signature.params κs) a y.0.4)) ∷ given (n ≤ length xs) (‵ ftrue) ∷ []) ∵
+    keep ! (1 ∷ 0 ∷ []) $ learn ! (λ asked. forget ! $ split ! $ split ! $ move ! (2 ∷ []) $ fsplit ! $ fsplit3 ! $ keep ! (1 ∷ 2 ∷ 4 ∷ []) $
+    enter ! 𝓣.C 𝓣.Λ fn (vptr b o ∷ vint w64 n ∷ []) Post $ alloc_all ! (λ l. pass_all ! refl ((tt, tt), ((tt, record { fits = are.1.0.1 }), tt)) $ let Ev = env fn.locals l in
+    opens ! tt Row b o (λ vs. move ! (1 ∷ []) $ fsplit ! $ peeks ! PlacesData (Is PlacesData) (shows 𝓛 PlacesData) (record {}, tt) vs (λ is-so. let ev : vs ≡ us = places_told vs is-so in
+    forget ! $ rewrite ! 1 (λ (ws : List Val). ‵ (cell_at full_share Row.mir ws b o)) ev refl $ fsplit ! $ fpick ! (λ fine. forget ! $
+    use1 𝓛 (‵ (run B h.first (take n xs)) ⊛ ‵ (run B (h.first + n) (drop n xs))) (run_cut 𝓛 B n h.first (h.first + n) xs asked refl) $ split ! $
+    sets ! (agg ! (no_more !)) refl (tt, tt) $ sets ! (agg ! (and_then ! (get ! refl) (no_more !))) refl (tt, (tt, tt)) $
+    nothing ! $ fpack ! (Placed h.at h.capacity) (λ _. ftrue) fine $ fjoin ! $ use0 𝓛 (‵ Data) (places_made 𝓛) $ fjoin ! $ move ! (1 ∷ []) $
+    nothing ! $ fpack ! (Placed h.at h.capacity) (λ _. ftrue) fine $ fjoin ! $ use0 𝓛 (‵ Data) (places_made 𝓛) $ fjoin ! $ move ! (2 ∷ 0 ∷ 3 ∷ 4 ∷ 5 ∷ []) $ closes ! tt Row back us b o $ feq_i ! (List Val) (vptr b o ∷ []) (vptr b o ∷ []) refl $ fjoin3 ! $
+    nothing ! $ nothing ! $ fjoin ! $ move ! (1 ∷ 0 ∷ []) $ fjoin ! $ nothing ! $ move ! (2 ∷ 0 ∷ []) $ join ! $
+    let Told : Type 0 = (h.at ≡ h.at) × (h.capacity ≡ h.capacity) × (h.first ≡ h.first) × (front.bytes ≡ front.bytes) × (h.at ≡ h.at) × (h.capacity ≡ h.capacity) × (back.first ≡ back.first) × (back.bytes ≡ back.bytes) in
+    use0 𝓛 (raw (fact 𝓤 Told)) (fact_i 𝓤 Told (emp 𝓤) (refl, refl, refl, refl, refl, refl, refl, refl)) $
+    returns ! (look_at ! 0 refl) $ free_all ! refl $ keep ! (1 ∷ 2 ∷ 3 ∷ 0 ∷ []) $ by ! (leaves 𝓛 En hs c y ghost_val front (back, (tt, tt)) (tt, (tt, tt)))))))))

@@ -1,0 +1,83 @@
+-- `open` writes the four words, and puts them under the ring's invariant. Assumes `Logic`.
+use Rattle.std.proofs.Common.{◌≡◌, ℕ, false, [], ◌∷◌, refl, ap, sym, lit<}
+use mir.Syntax.{Ty}
+use mir.Val.{Val}
+use base.Logic.{SProp, emp, fst∗, never}
+use base.Fml.{ftrue}
+use types.Logic.{sem}
+use types.Kit.{‵, raw, ◌⊛◌, some, given, later, await, pick, at_ret, ◌$◌, ◌∵◌, !, qed, by, move, keep, drop, split, split3, join, fsplit, fsplit3, fjoin, fjoin3, fpick, fpack, learn, use0, use1, use2, rewrite}
+use types.Run.{stop, fld, init, lit, of_opd, bin, no_more, and_then, first, blocks, exec, assigns, assigns_last, returns, enter}
+use types.ByLocal.{alloc_all, pass_all, free_all, look_at, get, get_in, through, sets, is, env}
+use types.Part.{agg, sub, whole}
+use contract.Monad.{fact, fact_i}
+use contract.Running.{tables}
+use denote.Exit.{yes}
+use denote.RattleType.{owns}
+use denote.Signature.{types_at, plain}
+use denote.RawPtr.{Ptr, block_ptr, null_ptr, ptr_val, in_a_block}
+use denote.Builtin.{u8}
+use denote.Steps.{nothing}
+use denote.Triple.Entry.{alive}
+use denote.Triple.Walked.{Stays, stay_dropped, walk_of, Goes-dropped}
+use Rattle.core.specs.Allocator.{array_of, owned_block}
+use Rattle.core.proofs.slots.Bodies.{after as from_on}
+use Rattle.std_alloc.proofs.RcSteps.{word-Good}
+use Rattle.rtrb.specs.Shared.{span}
+use Rattle.rtrb.proofs.Walks.{proved, leaves}
+use Rattle.piper_ring.specs.Places.{unset}
+use Rattle.piper_ring.specs.Places as P
+use Rattle.piper_ring.specs.Shared.{Names, words_type, word_room, heap_token, reader_owns, writer_owns}
+use Rattle.piper_ring.proofs.Fields.{seat_val, ghost_val, four_val, four_of, memory_told, ReadData, read_made, WriteData, write_made, BlankData, blank_made, BaseData, base_made}
+use Rattle.piper_ring.proofs.Opening.{words_out, Rejoin, as_places, begins}
+use Rattle.piper_ring.specs.Memory.{unused}
+use Rattle.piper_ring.specs.contracts.ring.memory.Memory as Memory
+use Rattle.piper_ring.specs.contracts.ring.places.Base as Base
+use Rattle.piper_ring.specs.contracts.ring.places.Blank as Blank
+use Rattle.piper_ring.specs.contracts.ring.seats.ReadSeat as ReadSeat
+use Rattle.piper_ring.specs.contracts.ring.seats.WriteSeat as WriteSeat
+use Rattle.piper_ring.specs.contracts.ring.seats.«open».{ended, clauses}
+use Rattle.piper_ring.specs.contracts.ring.seats.«open».Key.{name as #self}
+use Rattle.piper_ring.proofs.ring.seats.«open».Statement.{statement}
+use Rattle.piper_ring.proofs.ring.seats.«open».Code as code
+
+pub open_spec : {M : Type 1} → statement M
+open_spec 𝓤 𝓛 𝓜 𝓡 wired =
+    let H = 𝓛.H in let 𝓣 = tables 𝓤 H 𝓜 𝓡 𝓡.env in let En = ended in let fn = code.function in let c = clauses 𝓛 𝓜.mem 𝓡.returns in
+    let memory = plain (λ _. Memory.the_row) in let hs : Stays En.signature.params En.kept = (stay_dropped memory yes, (stay_dropped memory yes, tt)) in
+    proved 𝓛 En hs c 𝓜 𝓡 (Goes-dropped 𝓛 0 memory yes (λ κs x f. refl), (Goes-dropped 𝓛 0 memory yes (λ κs x f. refl), tt)) #self fn (code.unfolded 𝓤 H 𝓜 𝓡 wired)
+    (λ κs. ((λ m. seat_val m.start ∷ []), ((λ m. seat_val m.start ∷ []), tt))) (λ κs. ((λ m vs is. memory_told m.start vs is.0), ((λ m vs is. memory_told m.start vs is.0), tt))) (λ κs qs bounds a gh are.
+    let w₀ : Ptr = a.0.start in let p₀ : Ptr = a.1.0.start in let wide : ℕ = a.0.size in let cap : ℕ = a.1.0.size in let τ : Ty = array_of u8 cap in
+    let y : (walk_of 𝓛 En hs c).Ghost = ((κs, qs, bounds, a, (seat_val w₀ ∷ [], (seat_val p₀ ∷ [], tt))), gh) in let Post : Val → SProp 𝓤 = (walk_of 𝓛 En hs c).post y in
+    qed 𝓛 ((raw (alive 𝓛 En.signature κs qs) ⊛ ‵ (owns (types_at En.signature.params κs) a y.0.4)) ∷ given ((a.0.align ≡ 8) × (a.1.0.align ≡ 1)) (‵ ftrue) ∷ []) ∵
+    keep ! (1 ∷ 0 ∷ []) $ learn ! (λ asked. drop ! $ split ! $ move ! (1 ∷ []) $ fsplit3 ! $ fsplit ! $ drop ! $
+    rewrite ! 0 (λ (k : ℕ). ‵ (unused wide k w₀)) asked.0 refl $ fsplit ! $ drop ! $
+    in_a_block ! w₀ (λ q. owned_block heap_token words_type q) (fst∗ 𝓤 (never 𝓤) (sem 𝓛 (heap_token words_type null_ptr))) (λ b o at_w. move ! (1 ∷ []) $ fsplit ! $ drop ! $
+    rewrite ! 0 (λ (k : ℕ). ‵ (unused cap k p₀)) asked.1 refl $ fsplit ! $ fpick ! (λ small. drop ! $
+    in_a_block ! p₀ (λ q. owned_block heap_token τ q) (fst∗ 𝓤 (never 𝓤) (sem 𝓛 (heap_token τ null_ptr))) (λ b' o' at_p. let w : Ptr = block_ptr b o in let p : Ptr = block_ptr b' o' in
+    fsplit ! $ move ! (2 ∷ []) $ fsplit ! $ keep ! (0 ∷ 1 ∷ 3 ∷ 2 ∷ []) $
+    use1 𝓛 (‵ (word_room w 128) ⊛ ‵ (word_room w 256) ⊛ ‵ (word_room w 384) ⊛ ‵ (word_room w 0) ⊛ ‵ (Rejoin 𝓛 w p cap)) (words_out 𝓛 w p cap) $ split3 ! $ move ! (2 ∷ []) $ split3 ! $
+    enter ! 𝓣.C 𝓣.Λ fn (seat_val w₀ ∷ seat_val p₀ ∷ []) Post $ alloc_all ! (λ l. pass_all ! refl (word-Good [] w₀, (word-Good [] p₀, tt)) $ let Ev = env fn.locals l in
+    sets ! (is ! (of_opd ! (get_in ! (fld ! refl (stop !)) (sub ! 0 refl (whole !)))) (ap ptr_val at_p)) refl (tt, tt) $
+    sets ! (is ! (of_opd ! (get_in ! (fld ! refl (stop !)) (sub ! 0 refl (whole !)))) (ap ptr_val at_w)) refl (tt, tt) $ sets ! (of_opd ! (get ! refl)) refl (tt, tt) $ first ! $ blocks ! $
+    sets ! (bin ! (get ! refl) (lit ! tt) tt) refl (tt, tt) $ assigns ! (of_opd ! (lit ! tt)) (through ! refl (stop !)) (init ! 3 refl (tt, record { fits = lit< tt })) $
+    sets ! (bin ! (get ! refl) (lit ! tt) tt) refl (tt, tt) $ assigns ! (of_opd ! (lit ! tt)) (through ! refl (stop !)) (init ! 4 refl (tt, record { fits = lit< tt })) $
+    sets ! (bin ! (get ! refl) (lit ! tt) tt) refl (tt, tt) $ assigns ! (of_opd ! (lit ! tt)) (through ! refl (stop !)) (init ! 0 refl (tt, record { fits = lit< tt })) $
+    sets ! (bin ! (get ! refl) (lit ! tt) tt) refl (tt, tt) $ assigns_last ! (of_opd ! (lit ! tt)) (through ! refl (stop !)) (init ! 1 refl (tt, record { fits = lit< tt })) $
+    exec ! 𝓣.C 𝓣.Λ Ev (from_on 4 fn.body) (at_ret Ev Post) $
+    fjoin ! $ move ! (2 ∷ 3 ∷ 0 ∷ []) $ fjoin3 ! $ move ! (1 ∷ 2 ∷ 3 ∷ []) $ fjoin3 ! $ move ! (1 ∷ 0 ∷ []) $
+    use2 𝓛 (later (some (λ (z : Names). given (z.capacity ≡ cap) (‵ (reader_owns w p z 0 0 [] false) ⊛ ‵ (writer_owns w p z [] cap false))))) (begins 𝓛 w p cap (tt, tt, small)) $ await ! tt $ pick ! (λ z. learn ! (λ ez. split ! $
+    let one : ReadSeat.the_row.Denot = record { words = w; at = p; names = z; head = 0; seen = 0; have = []; leaving = false } in let two : WriteSeat.the_row.Denot = record { words = w; at = p; names = z; sent = []; limit = cap; shut = false } in
+    let three : Blank.the_row.Denot = record { mark = record {}; at = p; capacity = cap; first = 0; count = cap } in let four : Base.the_row.Denot = record { ptr = p } in let v : Val = seat_val w in let q : Val = seat_val p in
+    use0 𝓛 (‵ (ReadData.own_val (w, tt) (v ∷ []))) (read_made 𝓛 w) $ fjoin ! $ move ! (1 ∷ []) $ use0 𝓛 (‵ (WriteData.own_val (w, tt) (v ∷ []))) (write_made 𝓛 w) $ fjoin ! $ move ! (2 ∷ []) $
+    use1 𝓛 (‵ (span (unset p cap) 0 cap)) (as_places 𝓛 w p cap) $ nothing ! $ fpack ! (P.Placed p cap) (λ _. ftrue) (tt, small) $ fjoin ! $ use0 𝓛 (‵ (BlankData.own_val (record {}, tt) (ghost_val ∷ []))) (blank_made 𝓛) $ fjoin ! $
+    use0 𝓛 (‵ (BaseData.own_val (p, tt) (q ∷ []))) (base_made 𝓛 p) $ move ! (1 ∷ 0 ∷ []) $ join ! $ move ! (1 ∷ 0 ∷ []) $ join ! $ move ! (1 ∷ 0 ∷ []) $
+    use2 𝓛 (‵ ((denote.Struct.Tuple.Tuple (ReadSeat.the_row ∷ WriteSeat.the_row ∷ Blank.the_row ∷ Base.the_row ∷ [])).own_val (one, two, three, four) (four_val v v ghost_val q ∷ []))) (four_of 𝓛 ReadSeat.the_row WriteSeat.the_row Blank.the_row Base.the_row one two three four v v ghost_val q) $
+    sets ! (agg ! (and_then ! (get ! refl) (no_more !))) refl (tt, (tt, tt)) $ sets ! (agg ! (and_then ! (get ! refl) (no_more !))) refl (tt, (tt, tt)) $
+    sets ! (agg ! (no_more !)) refl (tt, tt) $ sets ! (agg ! (and_then ! (get ! refl) (no_more !))) refl (tt, (tt, tt)) $
+    sets ! (of_opd ! (get ! refl)) refl (tt, (tt, tt)) $ sets ! (of_opd ! (get ! refl)) refl (tt, (tt, tt)) $ sets ! (of_opd ! (get ! refl)) refl (tt, (tt, tt)) $
+    sets ! (agg ! (and_then ! (get ! refl) (no_more !))) refl (tt, (tt, tt)) $
+    sets ! (agg ! (and_then ! (get ! refl) (and_then ! (get ! refl) (and_then ! (get ! refl) (and_then ! (get ! refl) (no_more !)))))) refl (tt, ((tt, tt), ((tt, tt), ((tt, tt), ((tt, tt), tt))))) $
+    let Told : Type 0 = (w ≡ w₀) × (p ≡ p₀) × (z.capacity ≡ cap) × (0 ≡ 0) × (0 ≡ 0) × (one.have ≡ one.have) × (false ≡ false) × (w ≡ w) × (p ≡ p₀) × (z ≡ z) × (two.sent ≡ two.sent) × (cap ≡ cap) × (false ≡ false) × (p ≡ p₀) × (cap ≡ cap) × (0 ≡ 0) × (cap ≡ cap) × (p ≡ p₀) in
+    use0 𝓛 (raw (fact 𝓤 Told)) (fact_i 𝓤 Told (emp 𝓤) (sym at_w, sym at_p, ez, refl, refl, refl, refl, refl, sym at_p, refl, refl, refl, refl, sym at_p, refl, refl, refl, sym at_p)) $
+    nothing ! $ nothing ! $ fjoin ! $ nothing ! $ fjoin ! $ nothing ! $
+    returns ! (look_at ! 0 refl) $ free_all ! refl $ keep ! (0 ∷ 1 ∷ 3 ∷ 2 ∷ []) $ by ! (leaves 𝓛 En hs c y (four_val v v ghost_val q) (one, two, three, four) (tt, (tt, tt)) (tt, (tt, tt)))))))))))

@@ -1,0 +1,13 @@
+-- What a writer ends as, once a `&mut` into the slice that it lent has ended: what is lent holds what was written there.
+use Rattle.std.specs.Prelude.{ℕ, List}
+use Rattle.std.specs.Borrow.{Fml, MutBor, Array, Lends}
+use denote.Builtin.{u8}
+use Rattle.piper_ring.specs.Lends.{written}
+use Rattle.piper_ring.specs.WriteView.{WriteView, write_view}
+use Rattle.piper_ring.specs.contracts.ends.writer.WriteEnd.{the_row}
+
+abbrev pub with_lent : WriteView → List ℕ → List ℕ → WriteView
+with_lent w xs ws = write_view w.ring w.capacity w.sent w.room (written xs ws) w.shut w.told w.saw
+
+abbrev pub lends_buffer : MutBor WriteView → MutBor (List ℕ) → Fml
+lends_buffer w r = Lends the_row (Array u8 0) w r (with_lent w.now r.now)

@@ -1,0 +1,9 @@
+pub mod Places
+pub mod Shared
+pub mod Memory
+pub mod Lends
+pub mod ReadView
+pub mod RoomOrder
+pub mod WriteView
+pub mod LendsBuffer
+pub mod Opened

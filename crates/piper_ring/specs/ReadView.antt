@@ -1,0 +1,61 @@
+-- What a contract sees of a `ReadEnd`, and how the end keeps it.
+use Rattle.std.specs.Prelude.{◌≡◌, ℕ, ◌+◌, ◌-◌, ◌*◌, ◌^◌, ◌<◌, ◌≤◌, ◌++◌, Bool, false, List, length, take, min, refl}
+use Rattle.std.specs.Coded.{Coded, code_by, coded×, coded_list, coded_ℕ, coded_bool}
+use Rattle.rtrb.specs.Fifo.{position_of, slot_of}
+use Rattle.piper_ring.specs.Shared.{Ring, ring_code}
+use Rattle.piper_ring.specs.declared.ends.reader.ReadParts.{ReadParts}
+
+pub record ReadView : Type 0 where
+  -- which ring it is an end of
+  pub ring : Ring
+  pub capacity : ℕ
+  -- all bytes that it consumed
+  pub taken : List ℕ
+  -- the bytes that it knows of, the next one first
+  pub known : List ℕ
+  -- how many published bytes it was told of, and whether it was told that the writer closed the pipe
+  pub told : ℕ
+  pub told_shut : Bool
+  -- whether a call of its own saw the pipe closed
+  pub saw : Bool
+
+abbrev pub read_view : Ring → ℕ → List ℕ → List ℕ → ℕ → Bool → Bool → ReadView
+read_view i c t k n u s = record { ring = i; capacity = c; taken = t; known = k; told = n; told_shut = u; saw = s }
+
+abbrev pub read_view_code : Coded ReadView
+read_view_code = code_by ((Ring × ℕ) × ((List ℕ × List ℕ) × (ℕ × (Bool × Bool)))) (coded× (coded× ring_code coded_ℕ) (coded× (coded× (coded_list coded_ℕ) (coded_list coded_ℕ)) (coded× coded_ℕ (coded× coded_bool coded_bool))))
+    (λ r. ((r.ring, r.capacity), ((r.taken, r.known), (r.told, (r.told_shut, r.saw))))) (λ p. read_view p.0.0 p.0.1 p.1.0.0 p.1.0.1 p.1.1.0 p.1.1.1.0 p.1.1.1.1) (λ _. refl)
+
+abbrev pub read_view_of : ReadParts → ReadView
+read_view_of e = read_view (e.seat.words, (e.seat.at, e.seat.names)) e.capacity (take e.seat.head e.seat.have) e.known.bytes (length e.told.bytes) e.told.shut e.saw.seen
+
+-- the place of the first known byte
+abbrev pub read_place : ReadView → ℕ
+read_place r = slot_of r.capacity (length r.taken)
+
+-- how many known bytes stand in one piece
+abbrev pub in_one_piece : ReadView → ℕ
+in_one_piece r = min (length r.known) (r.capacity - read_place r)
+
+-- n bytes may be unread: all that the end knows of, all that it was told of, and no more than fit
+pub record MayBeUnread (r : ReadView) (n : ℕ) : Type 0 where
+  pub known : length r.known ≤ n
+  pub told : r.told ≤ length r.taken + n
+  pub fits : n ≤ r.capacity
+
+-- b is the same end as a, and nothing was told to it since
+pub record SameReadEnd (a b : ReadView) : Type 0 where
+  pub ring : b.ring ≡ a.ring
+  pub capacity : b.capacity ≡ a.capacity
+  pub told : b.told ≡ a.told
+  pub told_shut : b.told_shut ≡ a.told_shut
+
+-- how the end keeps its view
+pub record IsReadEnd (e : ReadParts) : Type 0 where
+  pub fits : (e.capacity ≡ e.seat.names.capacity) × (0 < e.capacity) × (e.capacity < 2 ^ 63)
+  pub placed : (e.base.ptr ≡ e.seat.at) × (e.known.at ≡ e.seat.at) × (e.known.capacity ≡ e.seat.names.capacity) × (e.known.first ≡ e.seat.head)
+  pub counts : (e.seat.seen ≡ e.seat.head + length e.known.bytes) × (length e.known.bytes ≤ e.capacity)
+  pub cached : (e.head ≡ position_of e.capacity e.seat.head) × (e.tail ≡ position_of e.capacity e.seat.seen) × (e.head < 2 * e.capacity)
+  pub heard : (e.told.names ≡ e.seat.names) × (e.saw.names ≡ e.seat.names)
+  pub whole : (e.seat.head ≤ length e.seat.have) × (e.seat.have ≡ take e.seat.head e.seat.have ++ e.known.bytes)
+  pub here : e.seat.leaving ≡ false

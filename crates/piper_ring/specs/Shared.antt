@@ -1,0 +1,212 @@
+-- What the two ends of a ring own, and what lies between them under an invariant. Bytes are counted from the first one sent.
+-- The reader owns the places of the bytes that it knows of, the writer those of its known room; the invariant owns the words, all other places, and the rights to free the memory.
+use Rattle.std.specs.Prelude.{◌≡◌, ℕ, zero, suc, ◌+◌, ◌-◌, ◌^◌, ◌<◌, ◌≤◌, Bool, true, false, List, length, drop, refl}
+use mir.Syntax.{Ty, w64, ty_int}
+use mir.Val.{vint}
+use base.Fraction.{full_share}
+use base.Share.{left, right}
+use base.Stored.{coded_ℕ}
+use base.Growing.{numbers, prefixes, latest, at_least}
+use base.Fml.{Lft, Share, Fml, ftrue, fsep, fwand, fex, fat, froom, finv}
+use denote.Builtin.{u8, u64}
+use denote.RawPtr.{Ptr, coded_ptr, block_of, count_of, InBlock}
+use denote.Sharing.{said, beside, one}
+use Rattle.core.specs.Allocator.{array_of}
+use Rattle.std.specs.Coded.{Coded, code_by, coded×}
+use Rattle.std_heap.specs.contracts.GlobalAllocator.TheImpl.{ghosts}
+use Rattle.rtrb.specs.Fifo.{position_of}
+use Rattle.rtrb.specs.Shared.{run, span}
+use Rattle.piper_ring.specs.Places.{fact, byte, unset}
+
+-- The capacity, and the ghost names under which the ring's history is kept: all bytes sent; the place up to which the writer may write; how many bytes were consumed; how many the reader has seen; whether the ring is closed; whether the writer closed it; and how far each end has gone in leaving.
+pub record Names : Type 0 where
+  pub capacity : ℕ
+  pub sent : ℕ
+  pub limit : ℕ
+  pub head : ℕ
+  pub seen : ℕ
+  pub closed : ℕ
+  pub shut : ℕ
+  pub reader_stage : ℕ
+  pub writer_stage : ℕ
+
+abbrev pub names_of : (c s l h e o u i j : ℕ) → Names
+names_of c s l h e o u i j = record { capacity = c; sent = s; limit = l; head = h; seen = e; closed = o; shut = u; reader_stage = i; writer_stage = j }
+
+abbrev pub names_code : Coded Names
+names_code = code_by ((ℕ × (ℕ × ℕ)) × ((ℕ × (ℕ × ℕ)) × (ℕ × (ℕ × ℕ)))) (coded× (coded× coded_ℕ (coded× coded_ℕ coded_ℕ)) (coded× (coded× coded_ℕ (coded× coded_ℕ coded_ℕ)) (coded× coded_ℕ (coded× coded_ℕ coded_ℕ))))
+    (λ z. ((z.capacity, (z.sent, z.limit)), ((z.head, (z.seen, z.closed)), (z.shut, (z.reader_stage, z.writer_stage)))))
+    (λ p. names_of p.0.0 p.0.1.0 p.0.1.1 p.1.0.0 p.1.0.1.0 p.1.0.1.1 p.1.1.0 p.1.1.1.0 p.1.1.1.1) (λ _. refl)
+
+-- which ring it is: where its words and its memory begin, and its names
+abbrev pub Ring : Type 0
+Ring = Ptr × (Ptr × Names)
+
+abbrev pub ring_code : Coded Ring
+ring_code = coded× coded_ptr (coded× coded_ptr names_code)
+
+-- an end's part of what it alone may change, and the invariant's part
+abbrev pub half : Share
+half = left full_share
+
+abbrev pub other : Share
+other = right full_share
+
+abbrev pub flag : Bool → ℕ
+flag false = 0
+flag true = 1
+
+pub record State : Type 0 where
+  pub sent : List ℕ
+  pub limit : ℕ
+  pub head : ℕ
+  pub seen : ℕ
+  pub closed : Bool
+  pub shut : Bool
+  -- 0 while the end is there, 1 once the reader closed the ring to leave, 2 once the end is gone
+  pub reader_stage : ℕ
+  pub writer_stage : ℕ
+
+abbrev pub gone : ℕ → Bool
+gone zero = false
+gone (suc zero) = false
+gone (suc (suc n)) = true
+
+-- the word of leaving: 1 once an end is gone
+abbrev pub one_gone : Bool → Bool → ℕ
+one_gone false b = flag b
+one_gone true b = 1
+
+abbrev pub until_both : Bool → Bool → Fml → Fml
+until_both true true F = ftrue
+until_both false b F = F
+until_both true false F = F
+
+abbrev pub where_gone : Bool → Fml → Fml
+where_gone false F = ftrue
+where_gone true F = F
+
+pub record Holds (capacity : ℕ) (s : State) : Type 0 where
+  pub known : s.head ≤ s.seen
+  pub arrived : s.seen ≤ length s.sent
+  pub written : length s.sent ≤ s.limit
+  pub freed : s.limit ≤ s.head + capacity
+  -- closed only where the writer closed the ring or the reader is leaving
+  pub closing : flag s.closed ≤ flag s.shut + s.reader_stage
+  -- a ring that the writer closed is closed
+  pub shutting : flag s.shut ≤ flag s.closed
+  pub stages : (s.reader_stage ≤ 2) × (s.writer_stage ≤ 2)
+
+-- the word that lies so far after w, in bytes, holds n
+abbrev pub word : Ptr → ℕ → ℕ → Fml
+word w far n = fat full_share (ty_int w64) (block_of w) (far + count_of w) (vint w64 n)
+
+abbrev pub word_room : Ptr → ℕ → Fml
+word_room w far = froom (ty_int w64) (block_of w) (far + count_of w)
+
+-- the words stand 128 bytes apart, so that no two share a cache line
+abbrev pub words_type : Ty
+words_type = array_of u64 64
+
+abbrev pub four_rooms : Ptr → Fml
+four_rooms w = fsep (word_room w 128) (fsep (word_room w 256) (fsep (word_room w 384) (word_room w 0)))
+
+-- the right to give a block back to the heap, which is the same for each handle of it
+abbrev pub heap_token : Ty → Ptr → Fml
+heap_token = ghosts.dealloc_token (record { memory = record { seal = tt } })
+
+-- all bytes sent begin with xs
+abbrev pub began : Names → List ℕ → Fml
+began z xs = at_least (prefixes coded_ℕ) z.sent xs
+
+-- at least n bytes were consumed
+abbrev pub took : Names → ℕ → Fml
+took z n = at_least numbers z.head n
+
+-- the flag of that name was raised for good, where the second is `true`
+abbrev pub raised : ℕ → Bool → Fml
+raised γ false = ftrue
+raised γ true = at_least numbers γ 1
+
+-- what a writer's mark tells: the bytes published begin with xs, and where `shut`, the writer closed the ring
+abbrev pub announced : Names → List ℕ → Bool → Fml
+announced z xs shut = fsep (began z xs) (raised z.shut shut)
+
+module _ (w p : Ptr) (z : Names) where
+  abbrev pub words : State → Fml
+  words s = fsep (word w 128 (position_of z.capacity s.head)) (fsep (word w 256 (position_of z.capacity (length s.sent))) (fsep (word w 384 (flag s.closed)) (word w 0 (one_gone (gone s.reader_stage) (gone s.writer_stage)))))
+
+  abbrev pub idle : ℕ → ℕ → List ℕ → Fml
+  idle limit n xs = fsep (fact (length xs ≡ n)) (run (byte p z.capacity) limit xs)
+
+  -- n places from `limit` on, with bytes that nobody speaks of
+  abbrev pub spare : ℕ → ℕ → Fml
+  spare limit n = fex (List ℕ) (idle limit n)
+
+  -- the bytes between the words, and the rights to free the two blocks
+  abbrev pub deeds : Fml
+  deeds = fsep (fwand (four_rooms w) (froom words_type (block_of w) (count_of w))) (fsep (heap_token words_type w) (heap_token (array_of u8 z.capacity) p))
+
+  -- n places from k on, set or not
+  abbrev pub blanks : ℕ → ℕ → Fml
+  blanks = span (unset p z.capacity)
+
+  -- what each end gave up when it left, and the rights to free the memory
+  abbrev pub given_up : State → Fml
+  given_up s = fsep (where_gone (gone s.reader_stage) (blanks s.head (s.seen - s.head))) (fsep (where_gone (gone s.writer_stage) (blanks (length s.sent) (s.limit - length s.sent))) deeds)
+
+  abbrev pub between : State → Fml
+  between s = fsep (run (byte p z.capacity) s.seen (drop s.seen s.sent)) (fsep (spare s.limit (s.head + z.capacity - s.limit)) (given_up s))
+
+  abbrev pub memory : State → Fml
+  memory s = fsep (words s) (between s)
+
+  abbrev pub writer_knows : Share → List ℕ → ℕ → Bool → ℕ → Fml
+  writer_knows q sent limit shut stage = fsep (latest (prefixes coded_ℕ) q z.sent sent) (fsep (latest numbers q z.limit limit) (fsep (latest numbers q z.shut (flag shut)) (latest numbers q z.writer_stage stage)))
+
+  abbrev pub reader_knows : Share → ℕ → ℕ → ℕ → Fml
+  reader_knows q head seen stage = fsep (fsep (latest numbers q z.head head) (latest numbers q z.reader_stage stage)) (latest numbers q z.seen seen)
+
+  abbrev pub ends : Bool → Fml
+  ends closed = latest numbers full_share z.closed (flag closed)
+
+  abbrev pub views : State → Fml
+  views s = fsep (writer_knows other s.sent s.limit s.shut s.writer_stage) (fsep (reader_knows other s.head s.seen s.reader_stage) (ends s.closed))
+
+  abbrev pub standing : State → Fml
+  standing s = fsep (fact (Holds z.capacity s)) (fsep (views s) (until_both (gone s.reader_stage) (gone s.writer_stage) (memory s)))
+
+  abbrev pub Inner : Fml
+  Inner = fex State standing
+
+  abbrev pub Placed : Type 0
+  Placed = InBlock w × InBlock p × (z.capacity < 2 ^ 63)
+
+  abbrev pub common : Fml
+  common = fsep (fact Placed) (finv Inner)
+
+  -- the bytes `have` were sent first
+  abbrev pub arrived_first : ℕ → List ℕ → Fml
+  arrived_first seen have = fsep (fact (length have ≡ seen)) (began z have)
+
+  -- `have` is all that the reader took, followed by all that it knows of
+  abbrev pub reader_owns : ℕ → ℕ → List ℕ → Bool → Fml
+  reader_owns head seen have leaving = fsep common (fsep (reader_knows half head seen (flag leaving)) (arrived_first seen have))
+
+  abbrev pub reader_lends : ℕ → ℕ → Bool → Lft → Fml
+  reader_lends head seen leaving = beside (said common) (one (λ q. reader_knows q head seen (flag leaving)))
+
+  -- while the writer is there its stage is 0: it closes the ring to leave as it does for good
+  abbrev pub writer_owns : List ℕ → ℕ → Bool → Fml
+  writer_owns sent limit shut = fsep common (writer_knows half sent limit shut 0)
+
+  abbrev pub writer_lends : List ℕ → ℕ → Bool → Lft → Fml
+  writer_lends sent limit shut = beside (said common) (one (λ q. writer_knows q sent limit shut 0))
+
+  -- all of the ring's memory, as the heap gave it: the block of the words and the block of the bytes, each with the right to free it
+  abbrev pub whole : Fml
+  whole = fsep (fsep (froom words_type (block_of w) (count_of w)) (heap_token words_type w)) (fsep (froom (array_of u8 z.capacity) (block_of p) (count_of p)) (heap_token (array_of u8 z.capacity) p))
+
+  -- what an end gets when it leaves: all, where the other end was gone before
+  abbrev pub remains_own : Bool → Fml
+  remains_own last = fsep (fact Placed) (where_gone last whole)

@@ -1,0 +1,72 @@
+-- What a contract sees of a `WriteEnd`, and how the end keeps it.
+use Rattle.std.specs.Prelude.{◌≡◌, ℕ, ◌+◌, ◌-◌, ◌*◌, ◌^◌, ◌<◌, ◌≤◌, Bool, true, false, List, [], length, min, refl}
+use Rattle.std.specs.Coded.{Coded, code_by, coded×, coded_list, coded_ℕ, coded_bool}
+use Rattle.rtrb.specs.Fifo.{position_of, slot_of}
+use Rattle.piper_ring.specs.Shared.{Ring, ring_code}
+use Rattle.piper_ring.specs.RoomOrder.{IsRoom, end_of}
+use Rattle.piper_ring.specs.declared.ends.writer.WriteParts.{WriteParts}
+
+pub record WriteView : Type 0 where
+  -- which ring it is an end of
+  pub ring : Ring
+  pub capacity : ℕ
+  -- all bytes that it published
+  pub sent : List ℕ
+  -- how many bytes it knows to have room for
+  pub room : ℕ
+  -- what is left of the slice last lent, as it stands
+  pub lent : List ℕ
+  -- whether it closed the pipe for good
+  pub shut : Bool
+  -- how many consumed bytes it was told of
+  pub told : ℕ
+  -- whether a call of its own saw the pipe closed, or closed it
+  pub saw : Bool
+
+abbrev pub write_view : Ring → ℕ → List ℕ → ℕ → List ℕ → Bool → ℕ → Bool → WriteView
+write_view i c s r l u n w = record { ring = i; capacity = c; sent = s; room = r; lent = l; shut = u; told = n; saw = w }
+
+abbrev pub write_view_code : Coded WriteView
+write_view_code = code_by (((Ring × ℕ) × (List ℕ × ℕ)) × ((List ℕ × Bool) × (ℕ × Bool))) (coded× (coded× (coded× ring_code coded_ℕ) (coded× (coded_list coded_ℕ) coded_ℕ)) (coded× (coded× (coded_list coded_ℕ) coded_bool) (coded× coded_ℕ coded_bool)))
+    (λ w. (((w.ring, w.capacity), (w.sent, w.room)), ((w.lent, w.shut), (w.told, w.saw)))) (λ p. write_view p.0.0.0 p.0.0.1 p.0.1.0 p.0.1.1 p.1.0.0 p.1.0.1 p.1.1.0 p.1.1.1) (λ _. refl)
+
+abbrev pub either : Bool → Bool → Bool
+either false b = b
+either true b = true
+
+abbrev pub write_view_of : WriteParts → WriteView
+write_view_of e = write_view (e.seat.words, (e.seat.at, e.seat.names)) e.capacity e.seat.sent (e.seat.limit - length e.seat.sent) e.room.lent.bytes e.seat.shut e.told.count (either e.seat.shut e.saw.seen)
+
+-- the place of the next byte
+abbrev pub write_place : WriteView → ℕ
+write_place w = slot_of w.capacity (length w.sent)
+
+-- how many bytes there is room for in one piece
+abbrev pub room_in_one_piece : WriteView → ℕ
+room_in_one_piece w = min w.room (w.capacity - write_place w)
+
+-- a call for at most `max` bytes may lend n: none once the writer closed the pipe, and else all that is asked for and fits, or at least 4,096 of it
+abbrev pub MayLend : WriteView → ℕ → ℕ → Type 0
+MayLend w max n = (w.shut ≡ true → n ≡ 0) × (n ≤ min max (room_in_one_piece w)) × (w.shut ≡ false → min 4096 (min max (room_in_one_piece w)) ≤ n)
+
+-- n bytes may be unread: the room that the end knows of is free, and the bytes that it was told of are consumed
+pub record MayBeUnread (w : WriteView) (n : ℕ) : Type 0 where
+  pub room : n + w.room ≤ w.capacity
+  pub told : n + w.told ≤ length w.sent
+
+-- b is the same end as a, and nothing was told to it since
+pub record SameWriteEnd (a b : WriteView) : Type 0 where
+  pub ring : b.ring ≡ a.ring
+  pub capacity : b.capacity ≡ a.capacity
+  pub told : b.told ≡ a.told
+
+-- how the end keeps its view
+pub record IsWriteEnd (e : WriteParts) : Type 0 where
+  pub fits : (e.capacity ≡ e.seat.names.capacity) × (0 < e.capacity) × (e.capacity < 2 ^ 63)
+  pub room : IsRoom e.room
+  pub placed : (e.base.ptr ≡ e.seat.at) × (e.room.lent.at ≡ e.seat.at) × (e.room.lent.capacity ≡ e.seat.names.capacity) × (e.room.lent.first ≡ length e.seat.sent) × (end_of e.room.later ≡ e.seat.limit)
+  pub freed : (e.capacity ≤ e.seat.limit) × (e.seat.limit ≤ length e.seat.sent + e.capacity)
+  pub cached : (e.tail ≡ position_of e.capacity (length e.seat.sent)) × (e.limit ≡ position_of e.capacity e.seat.limit) × (e.tail < 2 * e.capacity)
+  pub heard : (e.told.names ≡ e.seat.names) × (e.saw.names ≡ e.seat.names)
+  pub closed : e.shut ≡ e.seat.shut
+  pub lends_none : e.seat.shut ≡ true → e.room.lent.bytes ≡ []

@@ -1,0 +1,74 @@
+//! The ends once they closed the ring and are about to leave. The second one to leave frees the memory.
+ghost use Rattle.std.specs.Prelude.{◌≡◌, ◌+◌, length, true};
+ghost use Rattle.piper_ring.specs.Shared.{flag};
+
+use crate::ring::places::{Base, Blank};
+use crate::ring::seats::{ReadSeat, Remains, WORDS_ALIGN, WORDS_SIZE, WriteSeat};
+use std::alloc::Global;
+
+/// The reader's end, which has closed the ring. The places of the bytes that it knew of go to whoever frees them.
+pub(crate) struct LeavingReader {
+    pub(crate) seat: ReadSeat,
+    pub(crate) known: Blank,
+    pub(crate) base: Base,
+    pub(crate) alloc: Global,
+    pub(crate) capacity: usize,
+    ghost closed: { seat.leaving ≡ true },
+    ghost fits: { (capacity ≡ seat.names.capacity) × (base.ptr ≡ seat.at) },
+    ghost placed: { (known.at ≡ seat.at) × (known.capacity ≡ seat.names.capacity) × (known.first ≡ seat.head) × (known.first + known.count ≡ seat.seen) },
+}
+
+impl LeavingReader {
+    /// Leaves, and frees the memory if the writer has left.
+    pub(crate) fn leave(self) {
+        let LeavingReader {
+            seat,
+            known,
+            base,
+            alloc,
+            capacity,
+        } = self;
+        let (found, remains) = seat.leave(known);
+        release(found, remains, base, alloc, capacity);
+    }
+}
+
+/// The writer's end, which has closed the ring. The places of its room go to whoever frees them.
+pub(crate) struct LeavingWriter {
+    pub(crate) seat: WriteSeat,
+    pub(crate) room: Blank,
+    pub(crate) base: Base,
+    pub(crate) alloc: Global,
+    pub(crate) capacity: usize,
+    ghost closed: { seat.shut ≡ true },
+    ghost fits: { (capacity ≡ seat.names.capacity) × (base.ptr ≡ seat.at) },
+    ghost placed: { (room.at ≡ seat.at) × (room.capacity ≡ seat.names.capacity) × (room.first ≡ length seat.sent) × (room.first + room.count ≡ seat.limit) },
+}
+
+impl LeavingWriter {
+    /// Leaves, and frees the memory if the reader has left.
+    pub(crate) fn leave(self) {
+        let LeavingWriter {
+            seat,
+            room,
+            base,
+            alloc,
+            capacity,
+        } = self;
+        let (found, remains) = seat.leave(room);
+        release(found, remains, base, alloc, capacity);
+    }
+}
+
+/// Frees what an end got when it left: all of the memory where `found` is 1, else nothing.
+fn release(found: u64, remains: Remains, base: Base, alloc: Global, capacity: usize)
+    requires { (found ≡ flag remains.last) × (base.ptr ≡ remains.at) × (capacity ≡ remains.names.capacity) }
+{
+    if found == 0 {
+        remains.finish();
+    } else {
+        let (words, bytes) = remains.into_memory(base);
+        bytes.surrender(&alloc, capacity, 1);
+        words.surrender(&alloc, WORDS_SIZE, WORDS_ALIGN);
+    }
+}

@@ -1,0 +1,66 @@
+//! A ring is opened.
+ghost use Rattle.std.specs.Prelude.{◌≡◌, ℕ, ◌*◌, ◌<◌, ◌^◌, [], false, IfOk};
+ghost use Rattle.piper_ring.specs.Opened.{FreshReadEnd, FreshWriteEnd};
+
+use crate::ends::reader::{ReadEnd, ReadParts};
+use crate::ends::room::Room;
+use crate::ends::writer::{WriteEnd, WriteParts};
+use crate::ring::memory::Memory;
+use crate::ring::seats::{WORDS_ALIGN, WORDS_SIZE, open};
+use piper_sides::memory::OutOfMemory;
+use std::alloc::Global;
+
+/// The two ends of a new ring for `capacity` bytes. Where memory is refused, all that was got is given back.
+pub fn open_ring(alloc: Global, capacity: usize) -> Result<(ReadEnd, WriteEnd), OutOfMemory>
+    requires { (0 < capacity) × (2 * capacity < 2 ^ 64) }
+    ensures pair { IfOk result (λ r. r.1.ring ≡ r.0.ring) }
+    ensures reader { IfOk result (λ r. FreshReadEnd capacity r.0) }
+    ensures writer { IfOk result (λ r. FreshWriteEnd capacity r.1) }
+{
+    let (words, bytes) = claim(&alloc, capacity)?;
+    let (read_seat, write_seat, mut blank, base) = open(words, bytes);
+    let told_reader = write_seat.mark();
+    let told_writer = read_seat.mark();
+    let read_saw = read_seat.unseen();
+    let write_saw = read_saw.again();
+    let reader = ReadParts {
+        seat: read_seat,
+        known: blank.none(0),
+        told: told_reader,
+        saw: read_saw,
+        base,
+        alloc,
+        capacity,
+        head: 0,
+        tail: 0,
+    };
+    let writer = WriteParts {
+        seat: write_seat,
+        room: Room::new(blank, capacity),
+        told: told_writer,
+        saw: write_saw,
+        base,
+        alloc,
+        capacity,
+        tail: 0,
+        limit: capacity,
+        shut: false,
+    };
+    Ok((ReadEnd { parts: reader }, WriteEnd { parts: writer }))
+}
+
+/// The memory of the words, and that of the bytes. Where the second is refused, the first is given back.
+fn claim(alloc: &Global, capacity: usize) -> Result<(Memory, Memory), OutOfMemory>
+    requires { (0 < capacity) × (2 * capacity < 2 ^ 64) }
+    ensures words { IfOk result (λ m. (m.0.size ≡ 512) × (m.0.align ≡ 8)) }
+    ensures bytes { IfOk result (λ m. (m.1.size ≡ capacity) × (m.1.align ≡ 1)) }
+{
+    let words = Memory::claim(alloc, WORDS_SIZE, WORDS_ALIGN)?;
+    match Memory::claim(alloc, capacity, 1) {
+        Ok(bytes) => Ok((words, bytes)),
+        Err(refused) => {
+            words.surrender(alloc, WORDS_SIZE, WORDS_ALIGN);
+            Err(refused)
+        }
+    }
+}

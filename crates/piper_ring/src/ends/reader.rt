@@ -1,0 +1,239 @@
+//! The end that reads.
+ghost use Rattle.std.specs.Prelude.{◌≡◌, ℕ, ◌+◌, ◌-◌, ◌*◌, ◌^◌, ◌<◌, ◌≤◌, ◌++◌, ◌↔◌, List, [], length, take, drop, min, max, Bool, true, false, IsTrue};
+
+use crate::ends::leaving::LeavingReader;
+use crate::ends::writer::WriteEnd;
+use crate::position::{advance, distance, none_between, real};
+use crate::ring::marks::{ReadMark, Saw, WriteMark};
+use crate::ring::places::{Base, Places};
+use crate::ring::seats::ReadSeat;
+use std::alloc::Global;
+use std::marker::Model;
+
+/// The parts of the end that reads.
+pub(crate) struct ReadParts {
+    pub(crate) seat: ReadSeat,
+    /// The places of the known bytes.
+    pub(crate) known: Places,
+    /// What the marks tell that it heeded.
+    pub(crate) told: WriteMark,
+    pub(crate) saw: Saw,
+    pub(crate) base: Base,
+    pub(crate) alloc: Global,
+    pub(crate) capacity: usize,
+    /// A copy of the head, which only this end stores.
+    pub(crate) head: usize,
+    /// The tail as this end last saw it.
+    pub(crate) tail: usize,
+}
+
+/// The end that reads.
+pub struct ReadEnd {
+    pub(crate) parts: ReadParts,
+}
+
+impl Model for ReadEnd {
+    ghost use Rattle.piper_ring.specs.ReadView.{ReadView, read_view_of, read_view_code, IsReadEnd};
+
+    ghost Value = { ReadView };
+
+    ghost coded = { read_view_code };
+
+    ghost view = { λ e. read_view_of e.parts };
+
+    ghost invariant = { λ e. IsReadEnd e.parts };
+}
+
+impl ReadEnd {
+    ghost use Rattle.piper_ring.specs.ReadView.{SameReadEnd, MayBeUnread, in_one_piece};
+    ghost use Rattle.piper_ring.specs.WriteView.{SameWriteEnd};
+    ghost use Rattle.piper_ring.specs.Shared.{flag};
+
+    /// The capacity of the ring.
+    pub fn capacity(&self) -> usize
+        ensures { result ≡ self.now.capacity }
+    {
+        self.parts.capacity
+    }
+
+    /// It does nothing: its clauses are what holds of every end that reads.
+    pub fn learn(&self)
+        ensures capacity { (0 < self.now.capacity) × (2 * self.now.capacity < 2 ^ 64) }
+        ensures known { length self.now.known ≤ self.now.capacity }
+    {
+        let _ = &self.parts;
+    }
+
+    /// How many bytes this end knows of.
+    pub fn known_len(&self) -> usize
+        ensures { result ≡ length self.now.known }
+    {
+        distance(self.parts.capacity, self.parts.head, self.parts.tail)
+    }
+
+    /// Whether this end knows of no byte.
+    pub fn knows_none(&self) -> bool
+        ensures { IsTrue result ↔ (length self.now.known ≡ 0) }
+    {
+        none_between(self.parts.head, self.parts.tail)
+    }
+
+    /// How many bytes are unread now. The writer may publish more at any time.
+    pub fn len(&self) -> usize
+        ensures { MayBeUnread self.now result }
+    {
+        let (tail, _) = self.parts.seat.look_tail(&self.parts.told);
+        distance(self.parts.capacity, self.parts.head, tail as usize)
+    }
+
+    /// Whether nothing is unread now. It compares a count within the bounds of `len` with 0.
+    pub fn is_empty(&self) -> bool
+        ensures { (n : ℕ) × MayBeUnread self.now n × (IsTrue result ↔ (n ≡ 0)) }
+    {
+        self.len() == 0
+    }
+
+    /// Whether the ring is full now. It compares a count within the bounds of `len` with the capacity.
+    pub fn is_full(&self) -> bool
+        ensures { (n : ℕ) × MayBeUnread self.now n × (IsTrue result ↔ (n ≡ self.now.capacity)) }
+    {
+        self.len() == self.parts.capacity
+    }
+
+    /// Whether the pipe is closed now. Once this end saw it closed, or was told that the writer closed it, the answer is `true`.
+    pub fn is_closed(&self) -> bool
+        ensures saw { self.now.saw ≡ true → IsTrue result }
+        ensures told { self.now.told_shut ≡ true → IsTrue result }
+    {
+        let mut saw = self.parts.saw.again();
+        self.parts.seat.load_closed(&mut saw, &self.parts.told) != 0
+    }
+
+    /// The known bytes that stand in one piece, at least one where any is known. The slice stays as it is while the writer writes and publishes.
+    pub fn peek_buf(&self) -> &[u8]
+        ensures bytes { result.now ≡ take (in_one_piece self.now) self.now.known }
+        ensures length { length result.now ≡ in_one_piece self.now }
+        ensures some { 0 < length self.now.known → 0 < length result.now }
+    {
+        let from = real(self.parts.capacity, self.parts.head);
+        let len = self.known_len().min(self.parts.capacity - from);
+        self.parts.known.slice(self.parts.base, from, len)
+    }
+
+    /// Evidence of what was consumed, for the other end.
+    pub fn mark(&self) -> ReadMark
+        ensures ring { result.names ≡ self.now.ring.1.1 }
+        ensures count { result.count ≡ length self.now.taken }
+    {
+        self.parts.seat.mark()
+    }
+
+    /// From now on it knows what the mark tells: a reload finds at least the bytes that were published before it, and a ring that the writer closed before it is seen closed.
+    pub fn heed(&mut self, mark: &WriteMark)
+        requires { mark.now.names ≡ self.old.ring.1.1 }
+        ensures told { self.new.told ≡ max self.old.told (length mark.now.bytes) }
+        ensures shut { flag self.new.told_shut ≡ max (flag self.old.told_shut) (flag mark.now.shut) }
+        ensures kept { (self.new.ring ≡ self.old.ring) × (self.new.capacity ≡ self.old.capacity) × (self.new.taken ≡ self.old.taken) × (self.new.known ≡ self.old.known) × (self.new.saw ≡ self.old.saw) }
+    {
+        self.parts.told.heed(mark);
+    }
+
+    /// Looks for bytes that were published. It is for an end that knows of none: one that does has something to do, and need not touch the other's word.
+    pub fn reload(&mut self)
+        requires { length self.old.known ≡ 0 }
+        ensures fresh { self.old.told ≤ length (self.new.taken ++ self.new.known) }
+        ensures kept { SameReadEnd self.old self.new × (self.new.taken ≡ self.old.taken) × (self.new.saw ≡ self.old.saw) }
+    {
+        let parts = &mut self.parts;
+        let (tail, published) = parts.seat.look_tail(&parts.told);
+        parts.seat.accept(&mut parts.known, &published);
+        parts.tail = tail as usize;
+    }
+
+    /// `reload`, where it knows of no byte.
+    pub fn refresh(&mut self)
+        ensures fresh { self.old.known ≡ [] → self.old.told ≤ length (self.new.taken ++ self.new.known) }
+        ensures known { 0 < length self.old.known → self.new ≡ self.old }
+        ensures kept { SameReadEnd self.old self.new × (self.new.taken ≡ self.old.taken) × (self.new.saw ≡ self.old.saw) }
+    {
+        if self.knows_none() {
+            self.reload();
+        }
+    }
+
+    /// Both ends in one hand: then this end knows of all that was published, and the other of all the free room, and where either saw the pipe closed the writer closed it.
+    pub fn meet(&mut self, other: &mut WriteEnd)
+        requires { other.old.ring ≡ self.old.ring }
+        ensures fifo { self.new.taken ++ self.new.known ≡ other.new.sent }
+        ensures room { other.new.room + length self.new.known ≡ self.new.capacity }
+        ensures more { (xs : List ℕ) × (self.new.known ≡ self.old.known ++ xs) }
+        ensures more_room { other.old.room ≤ other.new.room }
+        ensures shut { (flag self.new.saw ≤ flag other.new.shut) × (flag other.new.saw ≤ flag other.new.shut) }
+        ensures reader { SameReadEnd self.old self.new × (self.new.taken ≡ self.old.taken) × (self.new.saw ≡ self.old.saw) }
+        ensures writer { SameWriteEnd other.old other.new × (other.new.sent ≡ other.old.sent) × (other.new.lent ≡ other.old.lent) × (other.new.shut ≡ other.old.shut) × (other.new.saw ≡ other.old.saw) }
+    {
+        let reader = &mut self.parts;
+        let writer = &mut other.parts;
+        let (arrived, freed) = reader.seat.meet(&mut writer.seat, &reader.saw, &writer.saw);
+        reader.known.join(arrived);
+        writer.room.later.join(freed);
+        reader.tail = writer.tail;
+        writer.limit = advance(writer.capacity, reader.head, writer.capacity);
+    }
+
+    /// Looks whether the pipe is closed, and keeps what it saw.
+    pub fn look_closed(&mut self) -> bool
+        ensures saw { result ≡ self.new.saw }
+        ensures stays { flag self.old.saw ≤ flag self.new.saw }
+        ensures told { flag self.old.told_shut ≤ flag self.new.saw }
+        ensures kept { SameReadEnd self.old self.new × (self.new.taken ≡ self.old.taken) × (self.new.known ≡ self.old.known) }
+    {
+        let parts = &mut self.parts;
+        parts.seat.load_closed(&mut parts.saw, &parts.told) != 0
+    }
+
+    /// Takes the first `n` known bytes off, which stand in one piece, and gives their places back to the writer. It wakes nobody.
+    pub fn consume(&mut self, n: usize)
+        requires { n ≤ in_one_piece self.old }
+        ensures taken { self.new.taken ≡ self.old.taken ++ take n self.old.known }
+        ensures known { self.new.known ≡ drop n self.old.known }
+        ensures kept { SameReadEnd self.old self.new × (self.new.saw ≡ self.old.saw) }
+    {
+        let parts = &mut self.parts;
+        let back = parts.known.split(n);
+        parts.head = advance(parts.capacity, parts.head, n);
+        parts.seat.store_head(back, parts.head as u64);
+    }
+
+    /// Closes the pipe, since this end is about to leave.
+    pub(crate) fn close(self) -> LeavingReader
+        ensures { (result.seat.words, (result.seat.at, result.seat.names)) ≡ self.ring }
+    {
+        let ReadEnd { parts } = self;
+        let ReadParts {
+            mut seat,
+            known,
+            told: _,
+            saw: _,
+            base,
+            alloc,
+            capacity,
+            head: _,
+            tail: _,
+        } = parts;
+        seat.store_closed();
+        LeavingReader {
+            seat,
+            known: known.forget(),
+            base,
+            alloc,
+            capacity,
+        }
+    }
+}
+
+impl Drop for ReadEnd {
+    fn drop(self) {
+        self.close().leave();
+    }
+}

@@ -1,0 +1,95 @@
+//! The places that a writer may write to.
+ghost use Rattle.std.specs.Prelude.{◌≡◌, ℕ, ◌+◌, ◌-◌, ◌<◌, ◌≤◌, List, [], length};
+ghost use Rattle.piper_ring.specs.RoomOrder.{IsRoom, SameRoom, end_of};
+
+use crate::ring::places::{Base, Blank, Places};
+
+/// A writer's room, in the order of its places.
+pub(crate) struct Room {
+    /// What is left of the slice last lent.
+    pub(crate) lent: Places,
+    /// The places behind it that are set.
+    pub(crate) ready: Places,
+    /// The places of the first turn that are not set yet.
+    pub(crate) blank: Blank,
+    /// The places of the second turn, kept apart until the first turn is set.
+    pub(crate) later: Places,
+    /// How many places are set, from the memory's beginning.
+    pub(crate) zeroed: usize,
+}
+
+impl Room {
+    /// All places of a new ring. None is set, and none is lent.
+    pub(crate) fn new(mut blank: Blank, capacity: usize) -> Room
+        requires { (capacity ≡ blank.capacity) × (blank.count ≡ blank.capacity) × (blank.first ≡ 0) }
+        ensures room { IsRoom result }
+        ensures whole { (result.lent.first ≡ 0) × (end_of result.later ≡ capacity) }
+        ensures place { (result.lent.at ≡ blank.at) × (result.lent.capacity ≡ blank.capacity) }
+        ensures lent { result.lent.bytes ≡ [] }
+    {
+        Room {
+            lent: blank.none(0),
+            ready: blank.none(0),
+            later: blank.none(capacity),
+            blank,
+            zeroed: 0,
+        }
+    }
+
+    /// Lends its first `len` places, which stand in one piece from the slot `from` on, in place of what was lent before. Those that are not set are zeroed first.
+    pub(crate) fn lend(&mut self, base: Base, capacity: usize, from: usize, len: usize)
+        requires { IsRoom self.old × (base.ptr ≡ self.old.lent.at) × (capacity ≡ self.old.lent.capacity) × (self.old.lent.first < capacity → from ≡ self.old.lent.first) × (from + len ≤ capacity) × (self.old.lent.first + len ≤ end_of self.old.later) }
+        ensures room { IsRoom self.new }
+        ensures same { SameRoom self.old self.new }
+        ensures lent { length self.new.lent.bytes ≡ len }
+    {
+        let mut front = self.lent.take();
+        front.join(self.ready.take());
+        let end = from + len;
+        if self.zeroed < end {
+            zero(&mut front, &mut self.blank, base, self.zeroed, end);
+            self.zeroed = end;
+        }
+        if self.zeroed == capacity {
+            front.join(self.later.take());
+        }
+        self.lent.put(front.split(len));
+        self.ready.put(front);
+    }
+
+    /// All its places, whose bytes nobody speaks of any more.
+    pub(crate) fn forget(self, capacity: usize) -> Blank
+        requires { IsRoom self × (capacity ≡ self.lent.capacity) }
+        ensures { (result.at ≡ self.lent.at) × (result.capacity ≡ self.lent.capacity) × (result.first ≡ self.lent.first) × (result.first + result.count ≡ end_of self.later) }
+    {
+        let Room {
+            lent,
+            ready,
+            blank,
+            later,
+            zeroed,
+        } = self;
+        let mut all = lent.forget();
+        all.join(ready.forget());
+        if zeroed < capacity {
+            all.join(blank);
+        } else {
+            blank.finish();
+        }
+        all.join(later.forget());
+        all
+    }
+}
+
+/// Zeroes the places from the slot `from` up to `end`, which follow `front` and come to it.
+#[cold]
+#[inline(never)]
+fn zero(front: &mut Places, blank: &mut Blank, base: Base, from: usize, end: usize)
+    requires { (base.ptr ≡ blank.old.at) × (front.old.at ≡ blank.old.at) × (front.old.capacity ≡ blank.old.capacity) × (end_of front.old ≡ blank.old.first) × (blank.old.first ≡ from) × (from ≤ end) × (end ≤ blank.old.capacity) × (end ≤ from + blank.old.count) }
+    ensures front { (front.new.at ≡ front.old.at) × (front.new.capacity ≡ front.old.capacity) × (front.new.first ≡ front.old.first) × (end_of front.new ≡ end) }
+    ensures blank { (blank.new.at ≡ blank.old.at) × (blank.new.capacity ≡ blank.old.capacity) × (blank.new.first ≡ end) × (end + blank.new.count ≡ from + blank.old.count) }
+{
+    for slot in from..end {
+        front.join(blank.set(base, slot));
+    }
+}

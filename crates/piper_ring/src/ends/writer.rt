@@ -1,0 +1,259 @@
+//! The end that writes.
+ghost use Rattle.std.specs.Prelude.{◌≡◌, ℕ, ◌+◌, ◌-◌, ◌*◌, ◌^◌, ◌<◌, ◌≤◌, ◌++◌, ◌↔◌, List, [], length, take, drop, min, max, Bool, true, false, IsTrue};
+
+use crate::ends::leaving::LeavingWriter;
+use crate::ends::room::Room;
+use crate::position::{advance, distance, none_between, real};
+use crate::ring::marks::{ReadMark, Saw, WriteMark};
+use crate::ring::places::Base;
+use crate::ring::seats::WriteSeat;
+use std::alloc::Global;
+use std::marker::Model;
+
+/// The parts of the end that writes.
+pub(crate) struct WriteParts {
+    pub(crate) seat: WriteSeat,
+    pub(crate) room: Room,
+    /// What the marks tell that it heeded.
+    pub(crate) told: ReadMark,
+    pub(crate) saw: Saw,
+    pub(crate) base: Base,
+    pub(crate) alloc: Global,
+    pub(crate) capacity: usize,
+    /// A copy of the tail, which only this end stores.
+    pub(crate) tail: usize,
+    /// The index up to which it may write: one turn past the head as this end last saw it.
+    pub(crate) limit: usize,
+    /// Whether it closed the pipe for good.
+    pub(crate) shut: bool,
+}
+
+/// The end that writes.
+pub struct WriteEnd {
+    pub(crate) parts: WriteParts,
+}
+
+impl Model for WriteEnd {
+    ghost use Rattle.piper_ring.specs.WriteView.{WriteView, write_view_of, write_view_code, IsWriteEnd};
+
+    ghost Value = { WriteView };
+
+    ghost coded = { write_view_code };
+
+    ghost view = { λ e. write_view_of e.parts };
+
+    ghost invariant = { λ e. IsWriteEnd e.parts };
+}
+
+impl WriteEnd {
+    ghost use Rattle.piper_ring.specs.WriteView.{SameWriteEnd, MayBeUnread, MayLend, write_place};
+    ghost use Rattle.piper_ring.specs.LendsBuffer.{lends_buffer};
+    ghost use Rattle.std.specs.Borrow.{sem};
+    ghost use Rattle.piper_ring.specs.Shared.{flag};
+
+    /// The capacity of the ring.
+    pub fn capacity(&self) -> usize
+        ensures { result ≡ self.now.capacity }
+    {
+        self.parts.capacity
+    }
+
+    /// It does nothing: its clauses are what holds of every end that writes.
+    pub fn learn(&self)
+        ensures capacity { (0 < self.now.capacity) × (2 * self.now.capacity < 2 ^ 64) }
+        ensures room { self.now.room ≤ self.now.capacity }
+        ensures lent { length self.now.lent ≤ self.now.room }
+        ensures shut { self.now.shut ≡ true → (self.now.lent ≡ []) × (self.now.saw ≡ true) }
+    {
+        let _ = &self.parts;
+    }
+
+    /// How many bytes this end knows to have room for.
+    pub fn room(&self) -> usize
+        ensures { result ≡ self.now.room }
+    {
+        distance(self.parts.capacity, self.parts.tail, self.parts.limit)
+    }
+
+    /// Whether this end knows of no room.
+    pub fn knows_none(&self) -> bool
+        ensures { IsTrue result ↔ (self.now.room ≡ 0) }
+    {
+        none_between(self.parts.tail, self.parts.limit)
+    }
+
+    /// How many bytes are unread now. The reader may consume some at any time.
+    pub fn len(&self) -> usize
+        ensures { MayBeUnread self.now result }
+    {
+        let (head, _) = self.parts.seat.look_head(&self.parts.told);
+        distance(self.parts.capacity, head as usize, self.parts.tail)
+    }
+
+    /// Whether nothing is unread now. It compares a count within the bounds of `len` with 0.
+    pub fn is_empty(&self) -> bool
+        ensures { (n : ℕ) × MayBeUnread self.now n × (IsTrue result ↔ (n ≡ 0)) }
+    {
+        self.len() == 0
+    }
+
+    /// Whether the ring is full now. It compares a count within the bounds of `len` with the capacity.
+    pub fn is_full(&self) -> bool
+        ensures { (n : ℕ) × MayBeUnread self.now n × (IsTrue result ↔ (n ≡ self.now.capacity)) }
+    {
+        self.len() == self.parts.capacity
+    }
+
+    /// Whether the pipe is closed now. Once this end saw it closed, or closed it, the answer is `true`.
+    pub fn is_closed(&self) -> bool
+        ensures { self.now.saw ≡ true → IsTrue result }
+    {
+        let mut saw = self.parts.saw.again();
+        self.parts.seat.load_closed(&mut saw) != 0
+    }
+
+    /// Evidence of what was published, for the other end.
+    pub fn mark(&self) -> WriteMark
+        ensures ring { result.names ≡ self.now.ring.1.1 }
+        ensures bytes { result.bytes ≡ self.now.sent }
+        ensures shut { result.shut ≡ self.now.shut }
+    {
+        self.parts.seat.mark()
+    }
+
+    /// From now on it knows what the mark tells: a reload finds at least the room that was given back before it.
+    pub fn heed(&mut self, mark: &ReadMark)
+        requires { mark.now.names ≡ self.old.ring.1.1 }
+        ensures told { self.new.told ≡ max self.old.told mark.now.count }
+        ensures kept { (self.new.ring ≡ self.old.ring) × (self.new.capacity ≡ self.old.capacity) × (self.new.sent ≡ self.old.sent) × (self.new.room ≡ self.old.room) × (self.new.lent ≡ self.old.lent) × (self.new.shut ≡ self.old.shut) × (self.new.saw ≡ self.old.saw) }
+    {
+        self.parts.told.heed(mark);
+    }
+
+    /// Looks for room that was given back. It is for an end that knows of none, as the reader's `reload`.
+    pub fn reload(&mut self)
+        requires { self.old.room ≡ 0 }
+        ensures fresh { self.old.told + self.old.capacity ≤ length self.new.sent + self.new.room }
+        ensures kept { SameWriteEnd self.old self.new × (self.new.sent ≡ self.old.sent) × (self.new.lent ≡ self.old.lent) × (self.new.shut ≡ self.old.shut) × (self.new.saw ≡ self.old.saw) }
+    {
+        let parts = &mut self.parts;
+        let (head, consumed) = parts.seat.look_head(&parts.told);
+        parts.seat.accept(&mut parts.room.later, &consumed);
+        parts.limit = advance(parts.capacity, head as usize, parts.capacity);
+    }
+
+    /// Looks whether the pipe is closed, and keeps what it saw.
+    pub fn look_closed(&mut self) -> bool
+        ensures saw { result ≡ self.new.saw }
+        ensures stays { flag self.old.saw ≤ flag self.new.saw }
+        ensures kept { SameWriteEnd self.old self.new × (self.new.sent ≡ self.old.sent) × (self.new.room ≡ self.old.room) × (self.new.lent ≡ self.old.lent) × (self.new.shut ≡ self.old.shut) }
+    {
+        let parts = &mut self.parts;
+        parts.seat.load_closed(&mut parts.saw) != 0
+    }
+
+    /// Publishes the first `n` bytes of what is left of the slice last lent, as they stand. It wakes nobody.
+    pub fn produce(&mut self, n: usize)
+        requires { n ≤ length self.old.lent }
+        ensures sent { self.new.sent ≡ self.old.sent ++ take n self.old.lent }
+        ensures lent { self.new.lent ≡ drop n self.old.lent }
+        ensures room { self.new.room + n ≡ self.old.room }
+        ensures kept { SameWriteEnd self.old self.new × (self.new.shut ≡ self.old.shut) × (self.new.saw ≡ self.old.saw) }
+    {
+        let parts = &mut self.parts;
+        let gift = parts.room.lent.split(n);
+        parts.tail = advance(parts.capacity, parts.tail, n);
+        parts.seat.store_tail(gift, parts.tail as u64);
+    }
+
+    /// `reload`, where it knows of no room.
+    pub fn refresh(&mut self)
+        ensures fresh { self.old.room ≡ 0 → self.old.told + self.old.capacity ≤ length self.new.sent + self.new.room }
+        ensures known { 0 < self.old.room → self.new ≡ self.old }
+        ensures kept { SameWriteEnd self.old self.new × (self.new.sent ≡ self.old.sent) × (self.new.lent ≡ self.old.lent) × (self.new.shut ≡ self.old.shut) × (self.new.saw ≡ self.old.saw) }
+    {
+        if self.knows_none() {
+            self.reload();
+        }
+    }
+
+    /// How many bytes a call for at most `max` lends from the slot `from` on. It never asks for more than 4,096 places beyond twice those that are set.
+    fn lendable(&self, max: usize, from: usize) -> usize
+        requires { (from ≡ write_place self.now) × (from < self.now.capacity) }
+        ensures { MayLend self.now max result }
+    {
+        if self.parts.shut {
+            return 0;
+        }
+        let most = max.min(self.room()).min(self.parts.capacity - from);
+        if most <= 4096 {
+            return most;
+        }
+        let doubled = 2 * self.parts.room.zeroed;
+        if most - 4096 <= doubled {
+            most
+        } else {
+            doubled + 4096
+        }
+    }
+
+    /// Lends at most `max` bytes of the room, in one piece, to be written: at least one where there is room, one is asked for and the pipe wasn't closed here. It replaces what was lent before; what stands in the bytes is not said.
+    pub fn write_buf(&mut self, max: usize) -> &mut [u8]
+        ensures* writes { sem 𝓛 (lends_buffer self.entry result) }
+        ensures length { MayLend self.old max (length result.now) }
+        ensures some { self.old.shut ≡ false → 0 < self.old.room → 0 < max → 0 < length result.now }
+    {
+        let from = real(self.parts.capacity, self.parts.tail);
+        let len = self.lendable(max, from);
+        let base = self.parts.base;
+        let capacity = self.parts.capacity;
+        self.parts.room.lend(base, capacity, from, len);
+        self.parts.room.lent.slice_mut(base, from, len)
+    }
+
+    /// Closes the pipe for good. Nothing is lent then. It wakes nobody.
+    pub fn shut(&mut self)
+        ensures shut { (self.new.shut ≡ true) × (self.new.saw ≡ true) }
+        ensures lent { self.new.lent ≡ [] }
+        ensures kept { SameWriteEnd self.old self.new × (self.new.sent ≡ self.old.sent) × (self.new.room ≡ self.old.room) }
+    {
+        let parts = &mut self.parts;
+        let from = real(parts.capacity, parts.tail);
+        parts.room.lend(parts.base, parts.capacity, from, 0);
+        parts.seat.store_shut();
+        parts.shut = true;
+    }
+
+    /// Closes the pipe, since this end is about to leave.
+    pub(crate) fn close(self) -> LeavingWriter
+        ensures { (result.seat.words, (result.seat.at, result.seat.names)) ≡ self.ring }
+    {
+        let WriteEnd { parts } = self;
+        let WriteParts {
+            mut seat,
+            room,
+            told: _,
+            saw: _,
+            base,
+            alloc,
+            capacity,
+            tail: _,
+            limit: _,
+            shut: _,
+        } = parts;
+        seat.store_shut();
+        LeavingWriter {
+            seat,
+            room: room.forget(capacity),
+            base,
+            alloc,
+            capacity,
+        }
+    }
+}
+
+impl Drop for WriteEnd {
+    fn drop(self) {
+        self.close().leave();
+    }
+}

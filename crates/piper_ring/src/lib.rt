@@ -1,0 +1,12 @@
+//! The ring that two threads share without a lock: the two ends of a bounded pipe of bytes, without wakers.
+#![tactic(auto)]
+
+mod ends;
+mod position;
+mod ring;
+
+pub use ends::opening::open_ring;
+pub use ends::reader::ReadEnd;
+pub use ends::writer::WriteEnd;
+pub use piper_sides::memory::OutOfMemory;
+pub use ring::marks::{ReadMark, WriteMark};

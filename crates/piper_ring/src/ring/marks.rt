@@ -1,0 +1,115 @@
+//! Evidence of what the other end did. It takes no space, threads may hand it on, and it stays true for good.
+ghost use Rattle.std.specs.Prelude.{◌≡◌, ℕ, ◌≤◌, Bool, List, length, max};
+ghost use denote.Sharing.{said};
+ghost use Rattle.piper_ring.specs.Shared.{Names, names_code, announced, took, raised, flag};
+
+use std::marker::{Model, PhantomData, Send, Sync};
+
+/// The bytes published begin with `bytes`, and where `shut` is `true` the writer closed the pipe.
+pub struct WriteMark {
+    pub(crate) mark: PhantomData<*mut u8>,
+    pub ghost names: { Names } by { names_code },
+    pub ghost bytes: { List ℕ },
+    pub ghost shut: { Bool },
+}
+
+impl Model for WriteMark {
+    ghost also_owns = { λ m. announced m.names m.bytes m.shut };
+
+    ghost also_shares = { λ m _ κ. said (announced m.names m.bytes m.shut) κ };
+}
+
+unsafe impl Send for WriteMark {}
+
+unsafe impl Sync for WriteMark {}
+
+impl Drop for WriteMark {
+    fn drop(self) {
+        let Self { mark: _ } = self;
+    }
+}
+
+impl WriteMark {
+    /// A copy.
+    pub fn again(&self) -> WriteMark
+        ensures { result ≡ self.now }
+    {
+        WriteMark { mark: PhantomData }
+    }
+
+    /// Afterwards it tells what either of the two told.
+    pub fn heed(&mut self, other: &WriteMark)
+        requires { other.now.names ≡ self.old.names }
+        ensures { (self.new.names ≡ self.old.names) × (length self.new.bytes ≡ max (length self.old.bytes) (length other.now.bytes)) × (flag self.new.shut ≡ max (flag self.old.shut) (flag other.now.shut)) }
+    {}
+}
+
+/// At least `count` bytes were consumed.
+pub struct ReadMark {
+    pub(crate) mark: PhantomData<*mut u8>,
+    pub ghost names: { Names } by { names_code },
+    pub ghost count: { ℕ },
+}
+
+impl Model for ReadMark {
+    ghost also_owns = { λ m. took m.names m.count };
+
+    ghost also_shares = { λ m _ κ. said (took m.names m.count) κ };
+}
+
+unsafe impl Send for ReadMark {}
+
+unsafe impl Sync for ReadMark {}
+
+impl Drop for ReadMark {
+    fn drop(self) {
+        let Self { mark: _ } = self;
+    }
+}
+
+impl ReadMark {
+    /// A copy.
+    pub fn again(&self) -> ReadMark
+        ensures { result ≡ self.now }
+    {
+        ReadMark { mark: PhantomData }
+    }
+
+    /// Afterwards it tells what either of the two told.
+    pub fn heed(&mut self, other: &ReadMark)
+        requires { other.now.names ≡ self.old.names }
+        ensures { (self.new.names ≡ self.old.names) × (self.new.count ≡ max self.old.count other.now.count) }
+    {}
+}
+
+/// Where `seen` is `true`, the ring was seen closed.
+pub(crate) struct Saw {
+    pub(crate) mark: PhantomData<*mut u8>,
+    pub(crate) ghost names: { Names } by { names_code },
+    pub(crate) ghost seen: { Bool },
+}
+
+impl Model for Saw {
+    ghost also_owns = { λ s. raised s.names.closed s.seen };
+
+    ghost also_shares = { λ s _ κ. said (raised s.names.closed s.seen) κ };
+}
+
+unsafe impl Send for Saw {}
+
+unsafe impl Sync for Saw {}
+
+impl Drop for Saw {
+    fn drop(self) {
+        let Self { mark: _ } = self;
+    }
+}
+
+impl Saw {
+    /// A copy.
+    pub(crate) fn again(&self) -> Saw
+        ensures { result ≡ self.now }
+    {
+        Saw { mark: PhantomData }
+    }
+}
