@@ -1,3 +1,5 @@
+pub mod Like
+pub mod Written
 pub mod Slots
 pub mod Counts
 pub mod Ends

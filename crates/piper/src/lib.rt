@@ -1,7 +1,9 @@
 //! A bounded pipe of bytes between one reader and one writer.
 #![tactic(auto)]
 
+pub mod error;
 mod handles;
+pub mod like;
 mod owned;
 mod reader;
 mod slot;
