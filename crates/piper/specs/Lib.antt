@@ -1,3 +1,4 @@
+pub mod Polls
 pub mod Like
 pub mod Written
 pub mod Slots

@@ -3,6 +3,7 @@
 
 pub mod error;
 mod handles;
+pub mod io;
 pub mod like;
 mod owned;
 mod reader;
