@@ -53,6 +53,15 @@ pub record WriterPublished (a b : WriteView) : Type 0 where
   pub shut : b.shut ≡ a.shut
   pub saw : b.saw ≡ a.saw
 
+-- the writer, but for what was lent: nothing is
+pub record WriterUnlent (a b : WriteView) : Type 0 where
+  pub end : SameWriteEnd a b
+  pub sent : b.sent ≡ a.sent
+  pub room : b.room ≡ a.room
+  pub lent : b.lent ≡ []
+  pub shut : b.shut ≡ a.shut
+  pub saw : b.saw ≡ a.saw
+
 -- the writer, which has closed the pipe for good: it lends nothing any more
 pub record WriterShut (a b : WriteView) : Type 0 where
   pub end : SameWriteEnd a b

@@ -4,9 +4,11 @@ ghost use Rattle.futures.specs.Task.{Covers, Keeps};
 ghost use Rattle.futures.specs.Poll.{OnPending};
 ghost use Rattle.piper_ring.specs.ReadView.{in_one_piece};
 ghost use Rattle.piper.specs.Counts.{ReaderMayCount, ReaderCompares};
-ghost use Rattle.piper.specs.Ends.{ReaderConsumed};
+ghost use Rattle.piper.specs.Copies.{Drained, ReaderCopied};
+ghost use Rattle.piper.specs.Ends.{ReaderConsumed, ReaderIsUpToDate};
 ghost use Rattle.piper.specs.Looks.{ReaderFound, ReaderLooked, OnRefused};
 
+use crate::copying::copy_front;
 use crate::handles::Reader;
 use crate::handles::read_steps::take_writer;
 use futures::task::{Context, Poll};
@@ -112,6 +114,44 @@ impl<H: Wait + Clone + Drop> Reader<H> {
     {
         self.store_head(amt);
         self.wake_writer();
+    }
+
+    /// Moves known bytes into the front of `dest`, as many as fit, and answers how many. It looks for more only where none is known, and doesn't wait: 0 is no end.
+    pub fn try_drain(&mut self, dest: &mut [u8]) -> usize
+        ensures count { result ≤ length dest.old }
+        ensures rest { drop result dest.new ≡ drop result dest.old }
+        ensures taken { self.new.end.taken ≡ self.old.end.taken ++ take result dest.new }
+        ensures known { 0 < length self.old.end.known → take result dest.new ++ self.new.end.known ≡ self.old.end.known }
+        ensures most { result < length dest.old → self.new.end.known ≡ [] }
+        ensures fresh { self.old.end.known ≡ [] → ReaderIsUpToDate self.new.end }
+        ensures end { ReaderCopied self.old.end self.new.end }
+        ensures handle { SameReader self.old self.new }
+    {
+        if self.knows_none() && self.load_tail() {
+            self.load_closed();
+            if self.load_tail() {
+                return 0;
+            }
+        }
+        self.drain_rounds(dest)
+    }
+
+    // Moves known bytes in rounds, each in one piece, until none is known or the slice is full.
+    fn drain_rounds(&mut self, dest: &mut [u8]) -> usize
+        ensures moved { Drained result self.old.end dest.old dest.new self.new.end }
+        ensures most { result < length dest.old → self.new.end.known ≡ [] }
+        ensures rest { SameReader self.old self.new }
+    {
+        let mut sum = 0;
+        'rounds: loop {
+            let n = copy_front(self.peek_buf(), &mut dest[sum..]);
+            if n == 0 {
+                return sum;
+            }
+            self.store_head(n);
+            self.wake_writer();
+            sum += n;
+        }
     }
 
     // Wakes the writer.

@@ -1,11 +1,13 @@
 //! The calls of the handle that writes.
-ghost use Rattle.std.specs.Prelude.{◌≡◌, ℕ, ◌+◌, ◌-◌, ◌<◌, ◌≤◌, ◌++◌, ◌↔◌, [], length, take, drop, IsTrue, true, false};
+ghost use Rattle.std.specs.Prelude.{◌≡◌, ℕ, ◌+◌, ◌-◌, ◌<◌, ◌≤◌, ◌++◌, ◌↔◌, [], length, take, drop, IsTrue, IsFalse, true, false};
 ghost use Rattle.futures.specs.Task.{Covers, Keeps};
 ghost use Rattle.futures.specs.Poll.{OnPending};
 ghost use Rattle.piper.specs.Counts.{WriterMayCount, WriterCompares};
-ghost use Rattle.piper.specs.Ends.{WriterPublished, WriterShut};
+ghost use Rattle.piper.specs.Copies.{Filled, WriterCopied, IsReplaced};
+ghost use Rattle.piper.specs.Ends.{WriterPublished, WriterShut, WriterIsUpToDate};
 ghost use Rattle.piper.specs.Looks.{WriterFound, WriterLooked, OnRefused};
 
+use crate::copying::{MOST_A_ROUND, copy_front};
 use crate::handles::Writer;
 use crate::handles::write_steps::take_reader;
 use futures::task::{Context, Poll};
@@ -103,6 +105,68 @@ impl<H: Wait + Clone + Drop> Writer<H> {
     {
         self.store_tail(n);
         self.wake_reader();
+    }
+
+    /// Publishes bytes from the front of `bytes`, as many as there is room for, and answers how many it took. It looks for more room only where none is known, and doesn't wait. Nothing is lent afterwards.
+    ///
+    /// A closed pipe takes none. Where the pipe is seen closed only once some bytes were taken, the last of them, at most one round, are counted and not published.
+    pub fn try_fill(&mut self, bytes: &[u8]) -> usize
+        ensures count { result ≤ length bytes.now }
+        ensures sent { self.new.end.saw ≡ false → self.new.end.sent ≡ self.old.end.sent ++ take result bytes.now }
+        ensures front { (m : ℕ) × (m ≤ result) × (self.new.end.sent ≡ self.old.end.sent ++ take m bytes.now) }
+        ensures room { 0 < self.old.end.room → IsReplaced self.old.end self.new.end }
+        ensures most { result < length bytes.now → self.new.end.saw ≡ false → self.new.end.room ≡ 0 }
+        ensures closed { self.old.end.saw ≡ true → result ≡ 0 }
+        ensures fresh { self.old.end.room ≡ 0 → self.new.end.saw ≡ false → WriterIsUpToDate self.new.end }
+        ensures end { WriterCopied self.old.end self.new.end }
+        ensures handle { SameWriter self.old self.new }
+    {
+        if self.try_look() {
+            return self.fill_rounds(bytes);
+        }
+        self.unlend();
+        0
+    }
+
+    // A look without a context.
+    fn try_look(&mut self) -> bool
+        ensures some { IsTrue result → 0 < self.new.end.room }
+        ensures is_open { IsTrue result → (self.new.end.shut ≡ false) × (self.new.end.saw ≡ false) }
+        ensures none { IsFalse result → self.new.end.saw ≡ false → self.new.end.room ≡ 0 }
+        ensures looked { WriterLooked self.old.end self.new.end }
+        ensures rest { SameWriter self.old self.new }
+    {
+        if self.load_closed() {
+            return false;
+        }
+        if !self.knows_none() || !self.load_head() || !self.load_head() {
+            return true;
+        }
+        self.load_closed();
+        false
+    }
+
+    // Publishes bytes in rounds, each in one piece, until no room is known, all were published, or the pipe is seen closed.
+    fn fill_rounds(&mut self, bytes: &[u8]) -> usize
+        requires { (self.old.end.shut ≡ false) × (self.old.end.saw ≡ false) }
+        ensures all { self.new.end.saw ≡ false → Filled result self.old.end bytes.now self.new.end }
+        ensures some { (m : ℕ) × (m ≤ result) × Filled m self.old.end bytes.now self.new.end }
+        ensures count { result ≤ length bytes.now }
+        ensures most { result < length bytes.now → self.new.end.saw ≡ false → self.new.end.room ≡ 0 }
+        ensures lent { self.new.end.lent ≡ [] }
+        ensures rest { SameWriter self.old self.new }
+    {
+        let mut sum = 0;
+        'rounds: loop {
+            let n = copy_front(&bytes[sum..], self.write_buf(MOST_A_ROUND));
+            if n == 0 || self.load_closed() {
+                self.unlend();
+                return sum + n;
+            }
+            self.store_tail(n);
+            self.wake_reader();
+            sum += n;
+        }
     }
 
     // Wakes the reader.

@@ -64,11 +64,11 @@ module _ (w p : Ptr) (z : Names) where
   pub reader_owns-Keyless : (h k : ℕ) (l : List ℕ) (b : Bool) → Keyless (reader_owns w p z h k l b)
   reader_owns-Keyless h k l b = (common-Keyless, (reader-Keyless _ h k (flag b), arrived-Keyless k l))
 
-  pub writer_owns-Keyless : (l : List ℕ) (n : ℕ) (a b : Bool) → Keyless (writer_owns w p z l n a b)
-  writer_owns-Keyless l n a b = (common-Keyless, writer-Keyless _ l n a (flag b))
+  pub writer_owns-Keyless : (l : List ℕ) (n : ℕ) (a : Bool) → Keyless (writer_owns w p z l n a)
+  writer_owns-Keyless l n a = (common-Keyless, writer-Keyless _ l n a 0)
 
   pub reader_lends-Common : (h k : ℕ) (b : Bool) → Common (reader_lends w p z h k b)
   reader_lends-Common h k b κ = (common-Keyless, λ q. reader-Keyless q h k (flag b))
 
-  pub writer_lends-Common : (l : List ℕ) (n : ℕ) (a b : Bool) → Common (writer_lends w p z l n a b)
-  writer_lends-Common l n a b κ = (common-Keyless, λ q. writer-Keyless q l n a (flag b))
+  pub writer_lends-Common : (l : List ℕ) (n : ℕ) (a : Bool) → Common (writer_lends w p z l n a)
+  writer_lends-Common l n a κ = (common-Keyless, λ q. writer-Keyless q l n a 0)

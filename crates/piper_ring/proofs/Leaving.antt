@@ -26,7 +26,7 @@ use Rattle.piper_ring.specs.Places.{fact, unset}
 use Rattle.piper_ring.proofs.Steps.{flag_small, Rest, OneStays, ReaderSees, WriterSees, reader_opens, writer_opens, closes, inside, raise}
 use denote.Builtin.{u8}
 use Rattle.rtrb.specs.Fifo.{slot_of}
-use Rattle.piper_ring.specs.Shared.{one_gone, Names, State, Holds, half, other, flag, gone, until_both, where_gone, word, word_room, words_type, four_rooms, blanks, deeds, memory, whole, writer_knows, reader_knows, ends, standing, Inner, common}
+use Rattle.piper_ring.specs.Shared.{one_gone, Names, State, Holds, half, other, flag, gone, until_both, where_gone, word, word_room, words_type, four_rooms, blanks, memory, whole, writer_knows, reader_knows, ends, standing, Inner, common}
 
 pub here : (i : ℕ) → i ≤ 1 → gone i ≡ false
 here zero le = refl
@@ -197,22 +197,3 @@ module _ {M : Type 1} {𝓤 : Ura M} (𝓛 : Logic 𝓤) (w p : Ptr) (z : Names)
       move ! (1 ∷ 0 ∷ []) $ fjoin ! $ move ! (1 ∷ 2 ∷ 0 ∷ []) $ fjoin3 ! $ move ! (1 ∷ []) $ fsplit ! $ move ! (1 ∷ []) $ fsplit3 ! $ move ! (2 ∷ []) $ fsplit ! $ move ! (9 ∷ []) $
       rewrite ! 0 (λ (r : List ℕ × ℕ). ‵ (blanks w p z (length r.0) (r.1 - length r.0))) {x = (s.sent, s.limit)} {y = (sent, limit)} (λ j. (so.1 j, el j)) refl $
       move ! (0 ∷ 2 ∷ []) $ fjoin ! $ move ! (2 ∷ 3 ∷ 0 ∷ []) $ fjoin3 ! $ move ! (2 ∷ 0 ∷ []) $ fjoin ! $ move ! (2 ∷ 0 ∷ []) $ fjoin ! $ keep ! (3 ∷ 4 ∷ 2 ∷ 0 ∷ []) $ by ! (writer_seals s so' (gone s.reader_stage) refl))))
-
-  -- the writer closes the ring, as it is about to leave
-  pub writer_closes : (sent : List ℕ) (limit : ℕ) (shut : Bool) (i : ℕ) → i ≤ 1 → ⟦ C ⟧ ∗ ⟦ WK half sent limit shut i ⟧ ⊢ access 384 one (λ _. WK half sent limit shut 1)
-  writer_closes sent limit shut i le = let Then : Fml = WK half sent limit shut 1 in let Z : Pr = ex 𝓤 (Holding 384 one (λ _. Then)) in
-      inside 𝓛 w p z 384 one (λ _. Then) ⟦ WK half sent limit shut i ⟧ (qed 𝓛 (‵ I ∷ ‵ (WK half sent limit shut i) ∷ []) ∵
-      use2 𝓛 (some (λ (s : State). given (WriterSees 𝓛 w p z sent limit shut i s) (‵ (WK half sent limit shut i) ⊛ ‵ (WK other s.sent s.limit s.shut s.writer_stage) ⊛ ‵ (RK other s.head s.seen s.reader_stage) ⊛ ‵ (Rest 𝓛 w p z s)))) (writer_opens 𝓛 w p z half sent limit shut i le) $ pick ! (λ s. learn ! (λ so. split3 ! $
-      let ei = so.4 in let last = so.0.stages.0 in let small = flag_small s.closed in let s' : State = record s { closed = true; writer_stage = 1 } in let near : OneStays 𝓛 w p z s' = omega arith in
-      let so' : Holds cap s' = record { known = so.0.known; arrived = so.0.arrived; written = so.0.written; freed = so.0.freed; closing = omega arith; shutting = flag_small s.shut; stages = (last, omega arith) } in
-      move ! (2 ∷ []) $ split ! $ move ! (1 ∷ []) $ fsplit ! $ use1 𝓛 (raw (upd 𝓤 ⟦ ends w p z true ⟧)) (latest_grows numbers 𝓛 z.closed (flag s.closed) 1 small) $ settle 𝓛 Z (‵ (ends w p z true)) $
-      move ! (3 ∷ []) $ fsplit3 ! $ move ! (2 ∷ []) $ fsplit ! $ move ! (7 ∷ []) $ fsplit3 ! $ move ! (2 ∷ []) $ fsplit ! $ move ! (5 ∷ 1 ∷ []) $
-      use2 𝓛 (raw (upd 𝓤 (⟦ latest numbers half z.writer_stage 1 ⟧ ∗ ⟦ latest numbers other z.writer_stage 1 ⟧))) (raise 𝓛 w p z numbers z.writer_stage i s.writer_stage 1 1 ei refl le) $
-      settle 𝓛 Z (‵ (latest numbers half z.writer_stage 1) ⊛ ‵ (latest numbers other z.writer_stage 1)) $ suffices ! _ (upd_i 𝓤 Z) $ split ! $
-      move ! (2 ∷ 1 ∷ []) $ fjoin ! $ move ! (2 ∷ 3 ∷ 0 ∷ []) $ fjoin3 ! $ move ! (2 ∷ 1 ∷ []) $ fjoin ! $ move ! (2 ∷ 3 ∷ 0 ∷ []) $ fjoin3 ! $
-      move ! (3 ∷ []) $ fsplit ! $ fsplit3 ! $ move ! (2 ∷ []) $ fsplit ! $
-      rewrite ! 1 (λ (c : Bool). ‵ (word w 0 (one_gone (gone s.reader_stage) c))) {x = false} {y = gone s.writer_stage} (here s.writer_stage (omega arith)) refl $
-      show ! (Holding 384 one (λ _. Then)) (flag s.closed) $ frame ! $ assume ! (‵ (word w 384 1)) $ suffices ! _ (upd_i 𝓤 (⟦ I ⟧ ∗ ⟦ Then ⟧)) $
-      fjoin ! $ move ! (1 ∷ 2 ∷ 0 ∷ []) $ fjoin3 ! $ move ! (1 ∷ []) $ fsplit ! $ move ! (1 ∷ []) $ fsplit3 ! $ move ! (2 ∷ []) $
-      rewrite ! 0 (λ (c : Bool). ‵ (fsep (where_gone c (blanks w p z (length s.sent) (s.limit - length s.sent))) (deeds w p z))) {x = false} {y = gone s.writer_stage} (here s.writer_stage (omega arith)) refl $
-      move ! (1 ∷ 2 ∷ 0 ∷ []) $ fjoin3 ! $ move ! (1 ∷ 0 ∷ []) $ fjoin ! $ move ! (1 ∷ 0 ∷ []) $ fjoin ! $ move ! (3 ∷ 0 ∷ []) $ fjoin ! $ move ! (2 ∷ 3 ∷ 0 ∷ []) $ use3 𝓛 (‵ I) (closes 𝓛 w p z s' so' near) $ frame ! $ done !)))

@@ -20,7 +20,7 @@ use Rattle.piper_ring.specs.Shared.{Names, State, Holds, half, other, idle, flag
 use Rattle.piper_ring.proofs.Closing.{ends_tell}
 use Rattle.piper_ring.proofs.Steps.{flag_small, not_gone, Rest, OneStays, WriterSees, writer_opens, reader_agrees, closes, raise}
 
-module _ {M : Type 1} {𝓤 : Ura M} (𝓛 : Logic 𝓤) (w p : Ptr) (z : Names) (head seen : ℕ) (sent : List ℕ) (limit : ℕ) (shut there here : Bool) (have : List ℕ) (saw other_saw : Bool) where
+module _ {M : Type 1} {𝓤 : Ura M} (𝓛 : Logic 𝓤) (w p : Ptr) (z : Names) (head seen : ℕ) (sent : List ℕ) (limit : ℕ) (shut there : Bool) (have : List ℕ) (saw other_saw : Bool) where
   open 𝓛 use {H}
 
   abbrev ⟦◌⟧ : Fml → SProp 𝓤
@@ -49,19 +49,19 @@ module _ {M : Type 1} {𝓤 : Ura M} (𝓛 : Logic 𝓤) (w p : Ptr) (z : Names)
   RK = reader_knows w p z half head seen (flag there)
 
   abbrev WK : Fml
-  WK = writer_knows w p z half sent limit shut (flag here)
+  WK = writer_knows w p z half sent limit shut 0
 
   -- the bytes that the reader did not know of, and those that stand in the places that the writer did not know of
   abbrev pub Apart : List ℕ × List ℕ → Type 0
   Apart r = (have ++ r.0 ≡ sent) × (limit + length r.1 ≡ head + cap) × (flag saw ≤ flag shut) × (flag other_saw ≤ flag shut)
 
   abbrev pub Joined : List ℕ × List ℕ → SProp 𝓤
-  Joined r = guard 𝓤 (Apart r) (⟦ run B seen r.0 ⟧ ∗ ⟦ run B limit r.1 ⟧ ∗ ⟦ reader_knows w p z half head (length sent) (flag there) ⟧ ∗ ⟦ writer_knows w p z half sent (head + cap) shut (flag here) ⟧ ∗ ⟦ Hv sent ⟧)
+  Joined r = guard 𝓤 (Apart r) (⟦ run B seen r.0 ⟧ ∗ ⟦ run B limit r.1 ⟧ ∗ ⟦ reader_knows w p z half head (length sent) (flag there) ⟧ ∗ ⟦ writer_knows w p z half sent (head + cap) shut 0 ⟧ ∗ ⟦ Hv sent ⟧)
 
-  pub joins : length have ≡ seen → there ≡ false → here ≡ false → ent 𝓤 (⟦ common w p z ⟧ ∗ ⟦ RK ⟧ ∗ ⟦ Hv have ⟧ ∗ ⟦ WK ⟧ ∗ ⟦ S saw ⟧ ∗ ⟦ S other_saw ⟧) (H.⇛ (ex 𝓤 Joined))
-  joins lh is_there is_here = let I : Fml = Inner w p z in let Q : SProp 𝓤 = ex 𝓤 Joined in let Z : SProp 𝓤 = ⟦ I ⟧ ∗ Q in
+  pub joins : length have ≡ seen → there ≡ false → ent 𝓤 (⟦ common w p z ⟧ ∗ ⟦ RK ⟧ ∗ ⟦ Hv have ⟧ ∗ ⟦ WK ⟧ ∗ ⟦ S saw ⟧ ∗ ⟦ S other_saw ⟧) (H.⇛ (ex 𝓤 Joined))
+  joins lh is_there = let I : Fml = Inner w p z in let Q : SProp 𝓤 = ex 𝓤 Joined in let Z : SProp 𝓤 = ⟦ I ⟧ ∗ Q in
       qed 𝓛 (‵ (common w p z) ∷ ‵ RK ∷ ‵ (Hv have) ∷ ‵ WK ∷ ‵ (S saw) ∷ ‵ (S other_saw) ∷ []) ∵ fsplit ! $ forget ! $ suffices ! _ (𝓛.invs.inv_acc I Q) $ frame ! $ assume ! (‵ I) $ move ! (0 ∷ 3 ∷ []) $
-      use2 𝓛 (some (λ (s : State). given (WriterSees 𝓛 w p z sent limit shut (flag here) s) (‵ WK ⊛ ‵ (writer_knows w p z other s.sent s.limit s.shut s.writer_stage) ⊛ ‵ (reader_knows w p z other s.head s.seen s.reader_stage) ⊛ ‵ (Rest 𝓛 w p z s)))) (writer_opens 𝓛 w p z half sent limit shut (flag here) (flag_small here)) $ pick ! (λ s. learn ! (λ so. split3 ! $
+      use2 𝓛 (some (λ (s : State). given (WriterSees 𝓛 w p z sent limit shut 0 s) (‵ WK ⊛ ‵ (writer_knows w p z other s.sent s.limit s.shut s.writer_stage) ⊛ ‵ (reader_knows w p z other s.head s.seen s.reader_stage) ⊛ ‵ (Rest 𝓛 w p z s)))) (writer_opens 𝓛 w p z half sent limit shut 0 (flag_small false)) $ pick ! (λ s. learn ! (λ so. split3 ! $
       move ! (2 ∷ []) $ split ! $ move ! (4 ∷ 0 ∷ []) $
       use2 𝓛 (given ((head ≡ s.head) × (seen ≡ s.seen) × (flag there ≡ s.reader_stage)) (‵ RK ⊛ ‵ (reader_knows w p z other s.head s.seen s.reader_stage))) (reader_agrees 𝓛 w p z half head seen (flag there) s.head s.seen s.reader_stage) $ learn ! (λ e. split ! $
       move ! (2 ∷ []) $ fsplit ! $ move ! (0 ∷ 7 ∷ []) $
@@ -69,7 +69,7 @@ module _ {M : Type 1} {𝓤 : Ura M} (𝓛 : Logic 𝓤) (w p : Ptr) (z : Names)
       use2 𝓛 (given (flag other_saw ≤ flag s.closed) (‵ (ends w p z s.closed) ⊛ ‵ (S s.closed))) (ends_tell 𝓛 w p z other_saw s.closed) $ learn ! (λ l2. split ! $
       keep ! (0 ∷ 3 ∷ 4 ∷ 5 ∷ 6 ∷ 7 ∷ 8 ∷ []) $ fjoin ! $ move ! (1 ∷ 2 ∷ 0 ∷ []) $
       let known = so.0.known in let arrived = so.0.arrived in let written = so.0.written in let freed = so.0.freed in let esent : length sent ≡ length s.sent = ap length so.1 in let el = so.2 in let eshut = so.3 in let ewriter = so.4 in let eh = e.0 in let es = e.1 in let ereader = e.2 in
-      let closing = so.0.closing in let no_there : flag there ≡ 0 = ap flag is_there in let no_here : flag here ≡ 0 = ap flag is_here in
+      let closing = so.0.closing in let no_there : flag there ≡ 0 = ap flag is_there in
       move ! (4 ∷ []) $ fsplit3 ! $ move ! (0 ∷ 7 ∷ []) $
       use2 𝓛 (given (IsPrefix have s.sent) (‵ (latest O other z.sent s.sent) ⊛ ‵ (Hv have))) (latest_bounds O 𝓛 other z.sent s.sent have) $ learn ! (λ pre. split ! $ move ! (1 ∷ []) $ forget ! $
       use1 𝓛 (‵ (latest O other z.sent s.sent) ⊛ ‵ (Hv s.sent)) (latest_shows O 𝓛 other z.sent s.sent s.sent (prefix_refl s.sent)) $ split ! $ rewrite ! 1 (λ (l : List ℕ). ‵ (Hv l)) (sym so.1) refl $

@@ -100,7 +100,7 @@ module _ {M : Type 1} {𝓤 : Ura M} (𝓛 : Logic 𝓤) (w p : Ptr) (cap : ℕ)
       subst (λ (m : ℕ). ⟦ F a ⟧ ⊢ ⟦ froom (bare τ) (block_of p) m ⟧) (flat ∙ ap (λ (m : ℕ). slot_of cap m + count_of p) same) (id⊢ 𝓤 ⟦ F a ⟧)))
 
   abbrev pub Made : Names → SProp 𝓤
-  Made z = base.Logic.guard 𝓤 (z.capacity ≡ cap) (sep 𝓤 (sem 𝓛 (reader_owns w p z 0 0 [] false)) (sem 𝓛 (writer_owns w p z [] cap false false)))
+  Made z = base.Logic.guard 𝓤 (z.capacity ≡ cap) (sep 𝓤 (sem 𝓛 (reader_owns w p z 0 0 [] false)) (sem 𝓛 (writer_owns w p z [] cap false)))
 
   abbrev O : Order (List ℕ)
   O = prefixes coded_ℕ

@@ -83,8 +83,8 @@ module _ {M : Type 1} {𝓤 : Ura M} (𝓛 : Logic 𝓤) where
     lends_reader head seen have left l = let Φ : Share → Fml = λ q. reader_knows w p z q head seen (flag left) in let K : Fml = arrived_first w p z seen have in
         Lends-both 𝓛 C (fsep (Φ half) K) (said C) (one Φ) l (lends_twice 𝓛 C common_twice l) (Lends-first 𝓛 (Φ half) K (one Φ) l (fractures Φ half l))
 
-    pub lends_writer : (sent : List ℕ) (limit : ℕ) (shut left : Bool) (l : Lft) → Lends 𝓛 (writer_owns w p z sent limit shut left) (writer_lends w p z sent limit shut left) l
-    lends_writer sent limit shut left l = let Φ : Share → Fml = λ q. writer_knows w p z q sent limit shut (flag left) in Lends-both 𝓛 C (Φ half) (said C) (one Φ) l (lends_twice 𝓛 C common_twice l) (fractures Φ half l)
+    pub lends_writer : (sent : List ℕ) (limit : ℕ) (shut : Bool) (l : Lft) → Lends 𝓛 (writer_owns w p z sent limit shut) (writer_lends w p z sent limit shut) l
+    lends_writer sent limit shut l = let Φ : Share → Fml = λ q. writer_knows w p z q sent limit shut 0 in Lends-both 𝓛 C (Φ half) (said C) (one Φ) l (lends_twice 𝓛 C common_twice l) (fractures Φ half l)
 
 module _ (w p : Ptr) (z : Names) where
   common_laws : ShrLaws (said (common w p z))
@@ -93,5 +93,5 @@ module _ (w p : Ptr) (z : Names) where
   pub reader_laws : (head seen : ℕ) (left : Bool) → ShrLaws (reader_lends w p z head seen left)
   reader_laws head seen left = let Φ : Share → Fml = λ q. reader_knows w p z q head seen (flag left) in beside_shr_laws (said (common w p z)) (one Φ) common_laws (one_shr_laws Φ)
 
-  pub writer_laws : (sent : List ℕ) (limit : ℕ) (shut left : Bool) → ShrLaws (writer_lends w p z sent limit shut left)
-  writer_laws sent limit shut left = let Φ : Share → Fml = λ q. writer_knows w p z q sent limit shut (flag left) in beside_shr_laws (said (common w p z)) (one Φ) common_laws (one_shr_laws Φ)
+  pub writer_laws : (sent : List ℕ) (limit : ℕ) (shut : Bool) → ShrLaws (writer_lends w p z sent limit shut)
+  writer_laws sent limit shut = let Φ : Share → Fml = λ q. writer_knows w p z q sent limit shut 0 in beside_shr_laws (said (common w p z)) (one Φ) common_laws (one_shr_laws Φ)

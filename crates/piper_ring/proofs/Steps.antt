@@ -3,11 +3,12 @@ use Rattle.std.proofs.Common.{◌≡◌, ℕ, zero, suc, ◌+◌, ◌-◌, ◌�
 use seplogic.Ra.Ura.{Ura}
 use base.Fraction.{full_share}
 use base.Stored.{coded_ℕ}
-use base.Growing.{Order, numbers, prefixes, latest}
+use base.Growing.{Order, numbers, prefixes, latest, prefix_refl}
+use mathlib.Core.List.{IsPrefix}
 use base.Logic.{SProp, ent, sep, upd, guard, ex, upd_i}
-use base.Fml.{Share, Fml, GName, ftrue, fsep}
+use base.Fml.{Share, Fml, GName, ftrue, fsep, fex}
 use types.Logic.{Logic, sem}
-use types.Growing.{latest_agrees, latest_grows}
+use types.Growing.{latest_agrees, latest_grows, latest_bounds, latest_shows}
 use types.Kit.{‵, raw, ◌⊛◌, some, given, ◌$◌, ◌∵◌, !, qed, by, move, split, split3, fsplit, fsplit3, fjoin, fjoin3, fpick, fpack, pick, learn, check, show, frame, assume, settle, suffices, rewrite, use1, use2, use3, done}
 use types.Kit.{drop as forget}
 use denote.RawPtr.{Ptr, block_ptr, block_of, count_of}
@@ -19,7 +20,7 @@ use Rattle.rtrb.proofs.Asks.{Lies, shared}
 use Rattle.std.proofs.lemmas.List.{drop-append-le, length-drop}
 use Rattle.rtrb.proofs.Spans.{run_join}
 use Rattle.piper_ring.specs.Places.{fact, byte}
-use Rattle.piper_ring.specs.Shared.{Names, State, Holds, half, other, flag, gone, until_both, where_gone, word, blanks, deeds, memory, writer_knows, reader_knows, ends, standing, Inner, common}
+use Rattle.piper_ring.specs.Shared.{Names, State, Holds, half, other, flag, gone, until_both, where_gone, word, blanks, deeds, memory, began, took, writer_knows, reader_knows, ends, standing, Inner, common}
 use Rattle.piper_ring.proofs.Rights.{cut, glue}
 
 pub flag_small : (b : Bool) → flag b ≤ 1
@@ -117,22 +118,30 @@ module _ {M : Type 1} {𝓤 : Ura M} (𝓛 : Logic 𝓤) (w p : Ptr) (z : Names)
       move ! (1 ∷ []) $ rewrite ! 0 (λ (F : Fml). ‵ F) (sym (stays s.reader_stage s.writer_stage (memory w p z s) le)) refl $ move ! (2 ∷ 3 ∷ 1 ∷ []) $ fjoin3 ! $
       nothing ! $ fpack ! (Holds cap s) (λ _. ftrue) so $ fjoin3 ! $ fpack ! State (standing w p z) s $ done !
 
-  abbrev pub SawTail : ℕ → ℕ → ℕ → Type 0
-  SawTail head seen n = (t : ℕ) × (n ≡ position_of cap t) × (seen ≤ t) × (t ≤ head + cap)
+  -- xs was published, and n is where its end stands
+  abbrev pub SawTail : ℕ → ℕ → List ℕ → ℕ → List ℕ → Type 0
+  SawTail head seen told n xs = (n ≡ position_of cap (length xs)) × (seen ≤ length xs) × (length xs ≤ head + cap) × (length told ≤ length xs)
 
-  abbrev pub AfterLook : Share → ℕ → ℕ → ℕ → ℕ → Fml
-  AfterLook q head seen i n = fsep (fact (SawTail head seen n)) (RK q head seen i)
+  abbrev pub TailSeen : Share → ℕ → ℕ → ℕ → List ℕ → ℕ → List ℕ → Fml
+  TailSeen q head seen i told n xs = fsep (fact (SawTail head seen told n xs)) (fsep (began z xs) (RK q head seen i))
+
+  abbrev pub AfterLook : Share → ℕ → ℕ → ℕ → List ℕ → ℕ → Fml
+  AfterLook q head seen i told n = fex (List ℕ) (TailSeen q head seen i told n)
 
   -- a load of the tail by anyone who has a share of what the reader knows
-  pub looks_tail : (q : Share) (head seen i : ℕ) → i ≤ 1 → ⟦ C ⟧ ∗ ⟦ RK q head seen i ⟧ ⊢ access 256 (λ n. n) (AfterLook q head seen i)
-  looks_tail q head seen i le = let then : ℕ → Fml = AfterLook q head seen i in let Z : Pr = ex 𝓤 (Holding 256 (λ n. n) then) in
-      inside 256 (λ n. n) then ⟦ RK q head seen i ⟧ (qed 𝓛 (‵ I ∷ ‵ (RK q head seen i) ∷ []) ∵
+  pub looks_tail : (q : Share) (head seen i : ℕ) (told : List ℕ) → i ≤ 1 → ⟦ C ⟧ ∗ ⟦ RK q head seen i ⟧ ∗ ⟦ began z told ⟧ ⊢ access 256 (λ n. n) (AfterLook q head seen i told)
+  looks_tail q head seen i told le = let then : ℕ → Fml = AfterLook q head seen i told in let Z : Pr = ex 𝓤 (Holding 256 (λ n. n) then) in let O : Order (List ℕ) = prefixes coded_ℕ in
+      inside 256 (λ n. n) then (⟦ RK q head seen i ⟧ ∗ ⟦ began z told ⟧) (qed 𝓛 (‵ I ∷ ‵ (RK q head seen i) ∷ ‵ (began z told) ∷ []) ∵
       use2 𝓛 (some (λ (s : State). given (ReaderSees head seen i s) (‵ (RK q head seen i) ⊛ ‵ (RK other s.head s.seen s.reader_stage) ⊛ ‵ (WK other s.sent s.limit s.shut s.writer_stage) ⊛ ‵ (Rest s)))) (reader_opens q head seen i le) $ pick ! (λ s. learn ! (λ so. split3 ! $
-      move ! (2 ∷ []) $ split ! $ move ! (1 ∷ []) $ fsplit ! $ move ! (1 ∷ []) $ fsplit ! $ fsplit3 ! $ move ! (1 ∷ []) $
+      move ! (2 ∷ []) $ split ! $ fsplit3 ! $ move ! (0 ∷ 6 ∷ []) $
+      use2 𝓛 (given (IsPrefix told s.sent) (‵ (latest O other z.sent s.sent) ⊛ ‵ (began z told))) (latest_bounds O 𝓛 other z.sent s.sent told) $ learn ! (λ pt. split ! $
+      use1 𝓛 (‵ (latest O other z.sent s.sent) ⊛ ‵ (began z s.sent)) (latest_shows O 𝓛 other z.sent s.sent s.sent (prefix_refl s.sent)) $ split ! $ move ! (0 ∷ 3 ∷ 4 ∷ []) $ fjoin3 ! $
+      move ! (3 ∷ []) $ fsplit ! $ move ! (1 ∷ []) $ fsplit ! $ fsplit3 ! $ move ! (1 ∷ []) $
       let n : ℕ = position_of cap (length s.sent) in let known = so.0.known in let arrived = so.0.arrived in let written = so.0.written in let freed = so.0.freed in let eh = so.1 in let es = so.2 in let ei = so.3 in let top = so.0.stages.1 in let near : OneStays s = omega arith in
+      let long : length (told ++ pt.0) ≡ length told + length pt.0 = length-append told pt.0 in let all : length (told ++ pt.0) ≡ length s.sent = ap length pt.1 in
       suffices ! _ (upd_i 𝓤 Z) $ show ! (Holding 256 (λ n. n) then) n $ frame ! $ assume ! (‵ (word w 256 n)) $ suffices ! _ (upd_i 𝓤 (⟦ I ⟧ ∗ ⟦ then n ⟧)) $
-      move ! (1 ∷ 0 ∷ []) $ fjoin3 ! $ fjoin ! $ move ! (1 ∷ 0 ∷ []) $ fjoin ! $ move ! (1 ∷ 3 ∷ 0 ∷ []) $ use3 𝓛 (‵ I) (closes s so.0 near) $ frame ! $
-      nothing ! $ fpack ! (SawTail head seen n) (λ _. ftrue) (length s.sent, refl, omega arith, omega arith) $ fjoin ! $ done !)))
+      move ! (1 ∷ 0 ∷ []) $ fjoin3 ! $ fjoin ! $ move ! (1 ∷ 0 ∷ []) $ fjoin ! $ move ! (1 ∷ 5 ∷ 0 ∷ []) $ use3 𝓛 (‵ I) (closes s so.0 near) $ frame ! $
+      move ! (1 ∷ []) $ forget ! $ fjoin ! $ nothing ! $ fpack ! (SawTail head seen told n s.sent) (λ _. ftrue) (refl, omega arith, omega arith, omega arith) $ fjoin ! $ fpack ! (List ℕ) (TailSeen q head seen i told n) s.sent $ done !))))
 
   module _ {X : Type 0} (O : Order X) (γ : GName) where
     -- the two halves of a right agree, and move up together
@@ -163,22 +172,29 @@ module _ {M : Type 1} {𝓤 : Ura M} (𝓛 : Logic 𝓤) (w p : Ptr) (z : Names)
       let ei = e.3 in let top = so.stages.0 in move ! (4 ∷ []) $ rewrite ! 0 (λ (F : Fml). ‵ F) {x = memory w p z s} {y = until_both (gone s.reader_stage) (gone s.writer_stage) (memory w p z s)} (stays s.reader_stage s.writer_stage (memory w p z s) (omega arith)) refl $
       move ! (4 ∷ 0 ∷ []) $ fjoin ! $ show ! (ForWriter q sent limit shut i) s $ check ! (so, e.0, e.1, e.2, e.3) $ move ! (1 ∷ 2 ∷ 3 ∷ []) $ done !)))
 
-  abbrev pub SawHead : List ℕ → ℕ → ℕ → Type 0
-  SawHead sent limit n = (h : ℕ) × (n ≡ position_of cap h) × (h ≤ length sent) × (limit ≤ h + cap)
+  -- h bytes were consumed, and n is where the next one stands
+  abbrev pub SawHead : List ℕ → ℕ → ℕ → ℕ → ℕ → Type 0
+  SawHead sent limit told n h = (n ≡ position_of cap h) × (h ≤ length sent) × (limit ≤ h + cap) × (told ≤ h)
 
-  abbrev pub AfterPeek : Share → List ℕ → ℕ → Bool → ℕ → ℕ → Fml
-  AfterPeek q sent limit shut i n = fsep (fact (SawHead sent limit n)) (WK q sent limit shut i)
+  abbrev pub HeadSeen : Share → List ℕ → ℕ → Bool → ℕ → ℕ → ℕ → ℕ → Fml
+  HeadSeen q sent limit shut i told n h = fsep (fact (SawHead sent limit told n h)) (fsep (took z h) (WK q sent limit shut i))
+
+  abbrev pub AfterPeek : Share → List ℕ → ℕ → Bool → ℕ → ℕ → ℕ → Fml
+  AfterPeek q sent limit shut i told n = fex ℕ (HeadSeen q sent limit shut i told n)
 
   -- a load of the head by anyone who has a share of what the writer knows
-  pub looks_head : (q : Share) (sent : List ℕ) (limit : ℕ) (shut : Bool) (i : ℕ) → i ≤ 1 → ⟦ C ⟧ ∗ ⟦ WK q sent limit shut i ⟧ ⊢ access 128 (λ n. n) (AfterPeek q sent limit shut i)
-  looks_head q sent limit shut i le = let then : ℕ → Fml = AfterPeek q sent limit shut i in let Z : Pr = ex 𝓤 (Holding 128 (λ n. n) then) in
-      inside 128 (λ n. n) then ⟦ WK q sent limit shut i ⟧ (qed 𝓛 (‵ I ∷ ‵ (WK q sent limit shut i) ∷ []) ∵
+  pub looks_head : (q : Share) (sent : List ℕ) (limit : ℕ) (shut : Bool) (i : ℕ) (told : ℕ) → i ≤ 1 → ⟦ C ⟧ ∗ ⟦ WK q sent limit shut i ⟧ ∗ ⟦ took z told ⟧ ⊢ access 128 (λ n. n) (AfterPeek q sent limit shut i told)
+  looks_head q sent limit shut i told le = let then : ℕ → Fml = AfterPeek q sent limit shut i told in let Z : Pr = ex 𝓤 (Holding 128 (λ n. n) then) in
+      inside 128 (λ n. n) then (⟦ WK q sent limit shut i ⟧ ∗ ⟦ took z told ⟧) (qed 𝓛 (‵ I ∷ ‵ (WK q sent limit shut i) ∷ ‵ (took z told) ∷ []) ∵
       use2 𝓛 (some (λ (s : State). given (WriterSees sent limit shut i s) (‵ (WK q sent limit shut i) ⊛ ‵ (WK other s.sent s.limit s.shut s.writer_stage) ⊛ ‵ (RK other s.head s.seen s.reader_stage) ⊛ ‵ (Rest s)))) (writer_opens q sent limit shut i le) $ pick ! (λ s. learn ! (λ so. split3 ! $
-      move ! (2 ∷ []) $ split ! $ move ! (1 ∷ []) $ fsplit ! $ move ! (1 ∷ []) $ fsplit ! $ fsplit ! $
+      move ! (2 ∷ []) $ split ! $ fsplit ! $ fsplit ! $ move ! (0 ∷ 6 ∷ []) $
+      use2 𝓛 (given (told ≤ s.head) (‵ (latest numbers other z.head s.head) ⊛ ‵ (took z told))) (latest_bounds numbers 𝓛 other z.head s.head told) $ learn ! (λ least. split ! $
+      use1 𝓛 (‵ (latest numbers other z.head s.head) ⊛ ‵ (took z s.head)) (latest_shows numbers 𝓛 other z.head s.head s.head (omega arith)) $ split ! $ move ! (0 ∷ 3 ∷ []) $ fjoin ! $ move ! (0 ∷ 3 ∷ []) $ fjoin ! $
+      move ! (3 ∷ []) $ fsplit ! $ move ! (1 ∷ []) $ fsplit ! $ fsplit ! $
       let n : ℕ = position_of cap s.head in let known = so.0.known in let arrived = so.0.arrived in let written = so.0.written in let freed = so.0.freed in let es : length sent ≡ length s.sent = ap length so.1 in let el = so.2 in let ei = so.4 in let top = so.0.stages.0 in let near : OneStays s = omega arith in
       suffices ! _ (upd_i 𝓤 Z) $ show ! (Holding 128 (λ n. n) then) n $ frame ! $ assume ! (‵ (word w 128 n)) $ suffices ! _ (upd_i 𝓤 (⟦ I ⟧ ∗ ⟦ then n ⟧)) $
-      fjoin ! $ fjoin ! $ move ! (1 ∷ 0 ∷ []) $ fjoin ! $ move ! (3 ∷ 1 ∷ 0 ∷ []) $ use3 𝓛 (‵ I) (closes s so.0 near) $ frame ! $
-      nothing ! $ fpack ! (SawHead sent limit n) (λ _. ftrue) (s.head, refl, omega arith, omega arith) $ fjoin ! $ done !)))
+      fjoin ! $ fjoin ! $ move ! (1 ∷ 0 ∷ []) $ fjoin ! $ move ! (5 ∷ 1 ∷ 0 ∷ []) $ use3 𝓛 (‵ I) (closes s so.0 near) $ frame ! $
+      move ! (1 ∷ []) $ forget ! $ fjoin ! $ nothing ! $ fpack ! (SawHead sent limit told n s.head) (λ _. ftrue) (refl, omega arith, omega arith, least) $ fjoin ! $ fpack ! ℕ (HeadSeen q sent limit shut i told n) s.head $ done !))))
 
   module _ (sent : List ℕ) (limit : ℕ) (shut : Bool) (i : ℕ) (le : i ≤ 1) (xs : List ℕ) (new : ℕ) (is : new ≡ position_of cap (length sent + length xs)) (room : length sent + length xs ≤ limit) where
     abbrev Then : Fml

@@ -37,6 +37,12 @@ read_place r = slot_of r.capacity (length r.taken)
 abbrev pub in_one_piece : ReadView → ℕ
 in_one_piece r = min (length r.known) (r.capacity - read_place r)
 
+-- n bytes may be unread: all that the end knows of, all that it was told of, and no more than fit
+pub record MayBeUnread (r : ReadView) (n : ℕ) : Type 0 where
+  pub known : length r.known ≤ n
+  pub told : r.told ≤ length r.taken + n
+  pub fits : n ≤ r.capacity
+
 -- b is the same end as a, and nothing was told to it since
 pub record SameReadEnd (a b : ReadView) : Type 0 where
   pub ring : b.ring ≡ a.ring

@@ -63,7 +63,7 @@ pub record State : Type 0 where
   pub seen : ℕ
   pub closed : Bool
   pub shut : Bool
-  -- 0 while the end is there, 1 once it closed the ring to leave, 2 once it is gone
+  -- 0 while the end is there, 1 once the reader closed the ring to leave, 2 once the end is gone
   pub reader_stage : ℕ
   pub writer_stage : ℕ
 
@@ -91,8 +91,8 @@ pub record Holds (capacity : ℕ) (s : State) : Type 0 where
   pub arrived : s.seen ≤ length s.sent
   pub written : length s.sent ≤ s.limit
   pub freed : s.limit ≤ s.head + capacity
-  -- closed only where the writer closed the ring or an end is leaving
-  pub closing : flag s.closed ≤ flag s.shut + (s.reader_stage + s.writer_stage)
+  -- closed only where the writer closed the ring or the reader is leaving
+  pub closing : flag s.closed ≤ flag s.shut + s.reader_stage
   -- a ring that the writer closed is closed
   pub shutting : flag s.shut ≤ flag s.closed
   pub stages : (s.reader_stage ≤ 2) × (s.writer_stage ≤ 2)
@@ -196,11 +196,12 @@ module _ (w p : Ptr) (z : Names) where
   abbrev pub reader_lends : ℕ → ℕ → Bool → Lft → Fml
   reader_lends head seen leaving = beside (said common) (one (λ q. reader_knows q head seen (flag leaving)))
 
-  abbrev pub writer_owns : List ℕ → ℕ → Bool → Bool → Fml
-  writer_owns sent limit shut leaving = fsep common (writer_knows half sent limit shut (flag leaving))
+  -- while the writer is there its stage is 0: it closes the ring to leave as it does for good
+  abbrev pub writer_owns : List ℕ → ℕ → Bool → Fml
+  writer_owns sent limit shut = fsep common (writer_knows half sent limit shut 0)
 
-  abbrev pub writer_lends : List ℕ → ℕ → Bool → Bool → Lft → Fml
-  writer_lends sent limit shut leaving = beside (said common) (one (λ q. writer_knows q sent limit shut (flag leaving)))
+  abbrev pub writer_lends : List ℕ → ℕ → Bool → Lft → Fml
+  writer_lends sent limit shut = beside (said common) (one (λ q. writer_knows q sent limit shut 0))
 
   -- all of the ring's memory, as the heap gave it: the block of the words and the block of the bytes, each with the right to free it
   abbrev pub whole : Fml

@@ -49,6 +49,11 @@ room_in_one_piece w = min w.room (w.capacity - write_place w)
 abbrev pub MayLend : WriteView → ℕ → ℕ → Type 0
 MayLend w max n = (w.shut ≡ true → n ≡ 0) × (n ≤ min max (room_in_one_piece w)) × (w.shut ≡ false → min 4096 (min max (room_in_one_piece w)) ≤ n)
 
+-- n bytes may be unread: the room that the end knows of is free, and the bytes that it was told of are consumed
+pub record MayBeUnread (w : WriteView) (n : ℕ) : Type 0 where
+  pub room : n + w.room ≤ w.capacity
+  pub told : n + w.told ≤ length w.sent
+
 -- b is the same end as a, and nothing was told to it since
 pub record SameWriteEnd (a b : WriteView) : Type 0 where
   pub ring : b.ring ≡ a.ring
@@ -65,4 +70,3 @@ pub record IsWriteEnd (e : WriteParts) : Type 0 where
   pub heard : (e.told.names ≡ e.seat.names) × (e.saw.names ≡ e.seat.names)
   pub closed : e.shut ≡ e.seat.shut
   pub lends_none : e.seat.shut ≡ true → e.room.lent.bytes ≡ []
-  pub here : e.seat.leaving ≡ false

@@ -3,7 +3,7 @@ ghost use Rattle.std.specs.Prelude.{◌≡◌, ◌+◌, ◌-◌, ◌<◌, ◌≤
 ghost use Rattle.std.specs.Arc.{arc_value};
 ghost use Rattle.futures.specs.Task.{Covers, Keeps};
 ghost use Rattle.piper.specs.Slots.{IsFrom, IsEmptied};
-ghost use Rattle.piper.specs.Ends.{WriterIsUpToDate, WriterRefreshed, WriterSaw, WriterPublished, WriterShut};
+ghost use Rattle.piper.specs.Ends.{WriterIsUpToDate, WriterRefreshed, WriterSaw, WriterPublished, WriterUnlent, WriterShut};
 
 use super::{Slots, Writer};
 use crate::slot::Taken;
@@ -32,12 +32,14 @@ impl<H: Wait + Clone + Drop> Writer<H> {
         self.knows_none()
     }
 
-    /// Loads closed.
+    /// Loads closed. A pipe that the writer closed is closed.
     pub(crate) fn load_closed(&mut self) -> bool
         ensures saw { result ≡ self.new.end.saw }
+        ensures shut { self.new.end.shut ≡ true → result ≡ true }
         ensures end { WriterSaw self.old.end self.new.end }
         ensures rest { SameWriter self.old self.new }
     {
+        self.end.learn();
         self.end.look_closed()
     }
 
@@ -65,6 +67,14 @@ impl<H: Wait + Clone + Drop> Writer<H> {
         }
         self.is_registered = false;
         Some(self.slots.writer.take(&self.rt))
+    }
+
+    /// Takes back what is lent.
+    pub(crate) fn unlend(&mut self)
+        ensures end { WriterUnlent self.old.end self.new.end }
+        ensures rest { SameWriter self.old self.new }
+    {
+        self.end.write_buf(0);
     }
 
     /// Stores the tail, `n` bytes further on.

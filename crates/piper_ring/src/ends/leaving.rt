@@ -40,7 +40,7 @@ pub(crate) struct LeavingWriter {
     pub(crate) base: Base,
     pub(crate) alloc: Global,
     pub(crate) capacity: usize,
-    ghost closed: { seat.leaving ≡ true },
+    ghost closed: { seat.shut ≡ true },
     ghost fits: { (capacity ≡ seat.names.capacity) × (base.ptr ≡ seat.at) },
     ghost placed: { (room.at ≡ seat.at) × (room.capacity ≡ seat.names.capacity) × (room.first ≡ length seat.sent) × (room.first + room.count ≡ seat.limit) },
 }

@@ -45,7 +45,7 @@ impl Model for ReadEnd {
 }
 
 impl ReadEnd {
-    ghost use Rattle.piper_ring.specs.ReadView.{SameReadEnd, in_one_piece};
+    ghost use Rattle.piper_ring.specs.ReadView.{SameReadEnd, MayBeUnread, in_one_piece};
     ghost use Rattle.piper_ring.specs.WriteView.{SameWriteEnd};
     ghost use Rattle.piper_ring.specs.Shared.{flag};
 
@@ -80,23 +80,22 @@ impl ReadEnd {
 
     /// How many bytes are unread now. The writer may publish more at any time.
     pub fn len(&self) -> usize
-        ensures known { length self.now.known ≤ result }
-        ensures most { result ≤ self.now.capacity }
+        ensures { MayBeUnread self.now result }
     {
-        let tail = self.parts.seat.look_tail() as usize;
-        distance(self.parts.capacity, self.parts.head, tail)
+        let (tail, _) = self.parts.seat.look_tail(&self.parts.told);
+        distance(self.parts.capacity, self.parts.head, tail as usize)
     }
 
     /// Whether nothing is unread now. It compares a count within the bounds of `len` with 0.
     pub fn is_empty(&self) -> bool
-        ensures { (n : ℕ) × (length self.now.known ≤ n) × (n ≤ self.now.capacity) × (IsTrue result ↔ (n ≡ 0)) }
+        ensures { (n : ℕ) × MayBeUnread self.now n × (IsTrue result ↔ (n ≡ 0)) }
     {
         self.len() == 0
     }
 
     /// Whether the ring is full now. It compares a count within the bounds of `len` with the capacity.
     pub fn is_full(&self) -> bool
-        ensures { (n : ℕ) × (length self.now.known ≤ n) × (n ≤ self.now.capacity) × (IsTrue result ↔ (n ≡ self.now.capacity)) }
+        ensures { (n : ℕ) × MayBeUnread self.now n × (IsTrue result ↔ (n ≡ self.now.capacity)) }
     {
         self.len() == self.parts.capacity
     }
@@ -146,7 +145,9 @@ impl ReadEnd {
         ensures kept { SameReadEnd self.old self.new × (self.new.taken ≡ self.old.taken) × (self.new.saw ≡ self.old.saw) }
     {
         let parts = &mut self.parts;
-        parts.tail = parts.seat.load_tail(&mut parts.known, &parts.told) as usize;
+        let (tail, published) = parts.seat.look_tail(&parts.told);
+        parts.seat.accept(&mut parts.known, &published);
+        parts.tail = tail as usize;
     }
 
     /// `reload`, where it knows of no byte.

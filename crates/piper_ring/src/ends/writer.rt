@@ -46,7 +46,7 @@ impl Model for WriteEnd {
 }
 
 impl WriteEnd {
-    ghost use Rattle.piper_ring.specs.WriteView.{SameWriteEnd, MayLend, write_place};
+    ghost use Rattle.piper_ring.specs.WriteView.{SameWriteEnd, MayBeUnread, MayLend, write_place};
     ghost use Rattle.piper_ring.specs.LendsBuffer.{lends_buffer};
     ghost use Rattle.std.specs.Borrow.{sem};
     ghost use Rattle.piper_ring.specs.Shared.{flag};
@@ -84,22 +84,22 @@ impl WriteEnd {
 
     /// How many bytes are unread now. The reader may consume some at any time.
     pub fn len(&self) -> usize
-        ensures { result ≤ self.now.capacity - self.now.room }
+        ensures { MayBeUnread self.now result }
     {
-        let head = self.parts.seat.look_head() as usize;
-        distance(self.parts.capacity, head, self.parts.tail)
+        let (head, _) = self.parts.seat.look_head(&self.parts.told);
+        distance(self.parts.capacity, head as usize, self.parts.tail)
     }
 
     /// Whether nothing is unread now. It compares a count within the bounds of `len` with 0.
     pub fn is_empty(&self) -> bool
-        ensures { (n : ℕ) × (n ≤ self.now.capacity - self.now.room) × (IsTrue result ↔ (n ≡ 0)) }
+        ensures { (n : ℕ) × MayBeUnread self.now n × (IsTrue result ↔ (n ≡ 0)) }
     {
         self.len() == 0
     }
 
     /// Whether the ring is full now. It compares a count within the bounds of `len` with the capacity.
     pub fn is_full(&self) -> bool
-        ensures { (n : ℕ) × (n ≤ self.now.capacity - self.now.room) × (IsTrue result ↔ (n ≡ self.now.capacity)) }
+        ensures { (n : ℕ) × MayBeUnread self.now n × (IsTrue result ↔ (n ≡ self.now.capacity)) }
     {
         self.len() == self.parts.capacity
     }
@@ -137,8 +137,9 @@ impl WriteEnd {
         ensures kept { SameWriteEnd self.old self.new × (self.new.sent ≡ self.old.sent) × (self.new.lent ≡ self.old.lent) × (self.new.shut ≡ self.old.shut) × (self.new.saw ≡ self.old.saw) }
     {
         let parts = &mut self.parts;
-        let head = parts.seat.load_head(&mut parts.room.later, &parts.told) as usize;
-        parts.limit = advance(parts.capacity, head, parts.capacity);
+        let (head, consumed) = parts.seat.look_head(&parts.told);
+        parts.seat.accept(&mut parts.room.later, &consumed);
+        parts.limit = advance(parts.capacity, head as usize, parts.capacity);
     }
 
     /// Looks whether the pipe is closed, and keeps what it saw.
@@ -240,7 +241,7 @@ impl WriteEnd {
             limit: _,
             shut: _,
         } = parts;
-        seat.store_closed();
+        seat.store_shut();
         LeavingWriter {
             seat,
             room: room.forget(capacity),

@@ -53,13 +53,12 @@ pub(crate) struct WriteSeat {
     pub(crate) ghost sent: { List ℕ },
     pub(crate) ghost limit: { ℕ },
     pub(crate) ghost shut: { Bool },
-    pub(crate) ghost leaving: { Bool },
 }
 
 impl Model for WriteSeat {
-    ghost also_owns = { λ r. writer_owns r.words r.at r.names r.sent r.limit r.shut r.leaving };
+    ghost also_owns = { λ r. writer_owns r.words r.at r.names r.sent r.limit r.shut };
 
-    ghost also_shares = { λ r _ κ. writer_lends r.words r.at r.names r.sent r.limit r.shut r.leaving κ };
+    ghost also_shares = { λ r _ κ. writer_lends r.words r.at r.names r.sent r.limit r.shut κ };
 }
 
 unsafe impl Send for WriteSeat {}
@@ -103,7 +102,7 @@ impl Remains {
 /// The two seats of an empty open ring, its places, all of them the writer's room and none of them set, and where they begin.
 pub(crate) fn open(words: Memory, bytes: Memory) -> (ReadSeat, WriteSeat, Blank, Base)
     requires { (words.align ≡ 8) × (bytes.align ≡ 1) }
-    ensures { (result.0.words ≡ words.start) × (result.0.at ≡ bytes.start) × (result.0.names.capacity ≡ bytes.size) × (result.0.head ≡ 0) × (result.0.seen ≡ 0) × (result.0.have ≡ []) × (result.0.leaving ≡ false) × (result.1.words ≡ result.0.words) × (result.1.at ≡ bytes.start) × (result.1.names ≡ result.0.names) × (result.1.sent ≡ []) × (result.1.limit ≡ bytes.size) × (result.1.shut ≡ false) × (result.1.leaving ≡ false) × (result.2.at ≡ bytes.start) × (result.2.capacity ≡ bytes.size) × (result.2.first ≡ 0) × (result.2.count ≡ bytes.size) × (result.3.ptr ≡ bytes.start) }
+    ensures { (result.0.words ≡ words.start) × (result.0.at ≡ bytes.start) × (result.0.names.capacity ≡ bytes.size) × (result.0.head ≡ 0) × (result.0.seen ≡ 0) × (result.0.have ≡ []) × (result.0.leaving ≡ false) × (result.1.words ≡ result.0.words) × (result.1.at ≡ bytes.start) × (result.1.names ≡ result.0.names) × (result.1.sent ≡ []) × (result.1.limit ≡ bytes.size) × (result.1.shut ≡ false) × (result.2.at ≡ bytes.start) × (result.2.capacity ≡ bytes.size) × (result.2.first ≡ 0) × (result.2.count ≡ bytes.size) × (result.3.ptr ≡ bytes.start) }
 {
     let Memory { start: ptr } = bytes;
     let Memory { start } = words;
@@ -135,20 +134,20 @@ impl ReadSeat {
         Saw { mark: PhantomData }
     }
 
-    /// The reader learns of the bytes that were published, at least of those that it was told of, and gets their places.
-    pub(crate) fn load_tail(&mut self, known: &mut Places, told: &WriteMark) -> u64
-        requires { (known.old.at ≡ self.old.at) × (known.old.capacity ≡ self.old.names.capacity) × (known.old.first + length known.old.bytes ≡ self.old.seen) × (told.now.names ≡ self.old.names) }
-        ensures { (self.new.words ≡ self.old.words) × (self.new.at ≡ self.old.at) × (self.new.names ≡ self.old.names) × (self.new.head ≡ self.old.head) × (self.new.leaving ≡ self.old.leaving) × (known.new.at ≡ known.old.at) × (known.new.capacity ≡ known.old.capacity) × (known.new.first ≡ known.old.first) × (result ≡ position_of self.old.names.capacity self.new.seen) × (self.new.seen ≤ self.old.head + self.old.names.capacity) × (length told.now.bytes ≤ self.new.seen) × ((xs : List ℕ) × (known.new.bytes ≡ known.old.bytes ++ xs) × (self.new.have ≡ self.old.have ++ xs) × (self.new.seen ≡ self.old.seen + length xs)) }
+    /// Where the tail stands: no less than the reader has seen or was told of. With it comes evidence of the bytes that were published.
+    pub(crate) fn look_tail(&self, told: &WriteMark) -> (u64, WriteMark)
+        requires { told.now.names ≡ self.now.names }
+        ensures { (result.1.names ≡ self.now.names) × (result.0 ≡ position_of self.now.names.capacity (length result.1.bytes)) × (self.now.seen ≤ length result.1.bytes) × (length result.1.bytes ≤ self.now.head + self.now.names.capacity) × (length told.now.bytes ≤ length result.1.bytes) }
     {
-        unsafe { raw::load::<Brand>(self.words.add(TAIL_WORD), SeqCst) }
+        let tail = unsafe { raw::load::<Brand>(self.words.add(TAIL_WORD), SeqCst) };
+        (tail, WriteMark { mark: PhantomData })
     }
 
-    /// Where the tail stands: no less than the reader has seen.
-    pub(crate) fn look_tail(&self) -> u64
-        ensures { (t : ℕ) × (result ≡ position_of self.now.names.capacity t) × (self.now.seen ≤ t) × (t ≤ self.now.head + self.now.names.capacity) }
-    {
-        unsafe { raw::load::<Brand>(self.words.add(TAIL_WORD), SeqCst) }
-    }
+    /// The places of the bytes that were seen published come to the reader. It is no step of the program.
+    pub(crate) fn accept(&mut self, known: &mut Places, published: &WriteMark)
+        requires { (known.old.at ≡ self.old.at) × (known.old.capacity ≡ self.old.names.capacity) × (known.old.first + length known.old.bytes ≡ self.old.seen) × (published.now.names ≡ self.old.names) × (self.old.seen ≤ length published.now.bytes) }
+        ensures { (self.new.words ≡ self.old.words) × (self.new.at ≡ self.old.at) × (self.new.names ≡ self.old.names) × (self.new.head ≡ self.old.head) × (self.new.leaving ≡ self.old.leaving) × (known.new.at ≡ known.old.at) × (known.new.capacity ≡ known.old.capacity) × (known.new.first ≡ known.old.first) × (self.new.seen ≡ length published.now.bytes) × ((xs : List ℕ) × (known.new.bytes ≡ known.old.bytes ++ xs) × (self.new.have ≡ self.old.have ++ xs) × (self.new.seen ≡ self.old.seen + length xs)) }
+    {}
 
     /// 1 if the ring is closed, else 0. Once it was seen closed, or the reader was told that the writer closed it, the answer is 1.
     pub(crate) fn load_closed(&self, saw: &mut Saw, told: &WriteMark) -> u64
@@ -192,8 +191,8 @@ impl ReadSeat {
         saw: &Saw,
         other_saw: &Saw,
     ) -> (Places, Places)
-        requires { (other.old.words ≡ self.old.words) × (other.old.at ≡ self.old.at) × (other.old.names ≡ self.old.names) × (saw.now.names ≡ self.old.names) × (other_saw.now.names ≡ self.old.names) × (self.old.leaving ≡ false) × (other.old.leaving ≡ false) }
-        ensures { (self.new.words ≡ self.old.words) × (self.new.at ≡ self.old.at) × (self.new.names ≡ self.old.names) × (self.new.head ≡ self.old.head) × (self.new.seen ≡ length other.old.sent) × (self.new.have ≡ other.old.sent) × (self.new.leaving ≡ self.old.leaving) × (other.new.words ≡ other.old.words) × (other.new.at ≡ other.old.at) × (other.new.names ≡ other.old.names) × (other.new.sent ≡ other.old.sent) × (other.new.limit ≡ self.old.head + self.old.names.capacity) × (other.new.shut ≡ other.old.shut) × (other.new.leaving ≡ other.old.leaving) × (result.0.at ≡ self.old.at) × (result.0.capacity ≡ self.old.names.capacity) × (result.0.first ≡ self.old.seen) × (self.old.have ++ result.0.bytes ≡ other.old.sent) × (result.1.at ≡ self.old.at) × (result.1.capacity ≡ self.old.names.capacity) × (result.1.first ≡ other.old.limit) × (other.old.limit + length result.1.bytes ≡ self.old.head + self.old.names.capacity) × (flag saw.now.seen ≤ flag other.old.shut) × (flag other_saw.now.seen ≤ flag other.old.shut) }
+        requires { (other.old.words ≡ self.old.words) × (other.old.at ≡ self.old.at) × (other.old.names ≡ self.old.names) × (saw.now.names ≡ self.old.names) × (other_saw.now.names ≡ self.old.names) × (self.old.leaving ≡ false) }
+        ensures { (self.new.words ≡ self.old.words) × (self.new.at ≡ self.old.at) × (self.new.names ≡ self.old.names) × (self.new.head ≡ self.old.head) × (self.new.seen ≡ length other.old.sent) × (self.new.have ≡ other.old.sent) × (self.new.leaving ≡ self.old.leaving) × (other.new.words ≡ other.old.words) × (other.new.at ≡ other.old.at) × (other.new.names ≡ other.old.names) × (other.new.sent ≡ other.old.sent) × (other.new.limit ≡ self.old.head + self.old.names.capacity) × (other.new.shut ≡ other.old.shut) × (result.0.at ≡ self.old.at) × (result.0.capacity ≡ self.old.names.capacity) × (result.0.first ≡ self.old.seen) × (self.old.have ++ result.0.bytes ≡ other.old.sent) × (result.1.at ≡ self.old.at) × (result.1.capacity ≡ self.old.names.capacity) × (result.1.first ≡ other.old.limit) × (other.old.limit + length result.1.bytes ≡ self.old.head + self.old.names.capacity) × (flag saw.now.seen ≤ flag other.old.shut) × (flag other_saw.now.seen ≤ flag other.old.shut) }
     {
         (Places { mark: PhantomData }, Places { mark: PhantomData })
     }
@@ -207,20 +206,20 @@ impl WriteSeat {
         WriteMark { mark: PhantomData }
     }
 
-    /// The writer learns of the bytes that were consumed, at least of those that it was told of, and gets the places that are free.
-    pub(crate) fn load_head(&mut self, room: &mut Places, told: &ReadMark) -> u64
-        requires { (room.old.at ≡ self.old.at) × (room.old.capacity ≡ self.old.names.capacity) × (room.old.first + length room.old.bytes ≡ self.old.limit) × (told.now.names ≡ self.old.names) }
-        ensures { (self.new.words ≡ self.old.words) × (self.new.at ≡ self.old.at) × (self.new.names ≡ self.old.names) × (self.new.sent ≡ self.old.sent) × (self.new.shut ≡ self.old.shut) × (self.new.leaving ≡ self.old.leaving) × (room.new.at ≡ room.old.at) × (room.new.capacity ≡ room.old.capacity) × (room.new.first ≡ room.old.first) × ((head : ℕ) × (xs : List ℕ) × (result ≡ position_of self.old.names.capacity head) × (told.now.count ≤ head) × (head ≤ length self.old.sent) × (self.new.limit ≡ head + self.old.names.capacity) × (room.new.bytes ≡ room.old.bytes ++ xs) × (self.new.limit ≡ self.old.limit + length xs)) }
+    /// Where the head stands: no less than the writer was told of, and no room that it knows of is taken away. With it comes evidence of how many bytes were consumed.
+    pub(crate) fn look_head(&self, told: &ReadMark) -> (u64, ReadMark)
+        requires { told.now.names ≡ self.now.names }
+        ensures { (result.1.names ≡ self.now.names) × (result.0 ≡ position_of self.now.names.capacity result.1.count) × (result.1.count ≤ length self.now.sent) × (self.now.limit ≤ result.1.count + self.now.names.capacity) × (told.now.count ≤ result.1.count) }
     {
-        unsafe { raw::load::<Brand>(self.words.add(HEAD_WORD), SeqCst) }
+        let head = unsafe { raw::load::<Brand>(self.words.add(HEAD_WORD), SeqCst) };
+        (head, ReadMark { mark: PhantomData })
     }
 
-    /// Where the head stands: no room that the writer knows of is taken away.
-    pub(crate) fn look_head(&self) -> u64
-        ensures { (h : ℕ) × (result ≡ position_of self.now.names.capacity h) × (h ≤ length self.now.sent) × (self.now.limit ≤ h + self.now.names.capacity) }
-    {
-        unsafe { raw::load::<Brand>(self.words.add(HEAD_WORD), SeqCst) }
-    }
+    /// The places that were seen given back come to the writer. It is no step of the program.
+    pub(crate) fn accept(&mut self, room: &mut Places, consumed: &ReadMark)
+        requires { (room.old.at ≡ self.old.at) × (room.old.capacity ≡ self.old.names.capacity) × (room.old.first + length room.old.bytes ≡ self.old.limit) × (consumed.now.names ≡ self.old.names) × (self.old.limit ≤ consumed.now.count + self.old.names.capacity) }
+        ensures { (self.new.words ≡ self.old.words) × (self.new.at ≡ self.old.at) × (self.new.names ≡ self.old.names) × (self.new.sent ≡ self.old.sent) × (self.new.shut ≡ self.old.shut) × (room.new.at ≡ room.old.at) × (room.new.capacity ≡ room.old.capacity) × (room.new.first ≡ room.old.first) × (self.new.limit ≡ consumed.now.count + self.old.names.capacity) × ((xs : List ℕ) × (room.new.bytes ≡ room.old.bytes ++ xs) × (self.new.limit ≡ self.old.limit + length xs)) }
+    {}
 
     /// 1 if the ring is closed, else 0. Once it was seen closed, or the writer closed it, the answer is 1.
     pub(crate) fn load_closed(&self, saw: &mut Saw) -> u64
@@ -233,29 +232,22 @@ impl WriteSeat {
     /// Publishes the bytes that stand in the places handed over.
     pub(crate) fn store_tail(&mut self, bytes: Places, tail: u64)
         requires { (bytes.at ≡ self.old.at) × (bytes.capacity ≡ self.old.names.capacity) × (bytes.first ≡ length self.old.sent) × (length self.old.sent + length bytes.bytes ≤ self.old.limit) × (tail ≡ position_of self.old.names.capacity (length self.old.sent + length bytes.bytes)) }
-        ensures { (self.new.words ≡ self.old.words) × (self.new.at ≡ self.old.at) × (self.new.names ≡ self.old.names) × (self.new.sent ≡ self.old.sent ++ bytes.bytes) × (self.new.limit ≡ self.old.limit) × (self.new.shut ≡ self.old.shut) × (self.new.leaving ≡ self.old.leaving) }
+        ensures { (self.new.words ≡ self.old.words) × (self.new.at ≡ self.old.at) × (self.new.names ≡ self.old.names) × (self.new.sent ≡ self.old.sent ++ bytes.bytes) × (self.new.limit ≡ self.old.limit) × (self.new.shut ≡ self.old.shut) }
     {
         let Places { mark: _ } = bytes;
         unsafe { raw::store::<Brand>(self.words.add(TAIL_WORD), tail, SeqCst) }
     }
 
-    /// Closes the ring for good.
+    /// Closes the ring for good, or to leave.
     pub(crate) fn store_shut(&mut self)
-        ensures { (self.new.words ≡ self.old.words) × (self.new.at ≡ self.old.at) × (self.new.names ≡ self.old.names) × (self.new.sent ≡ self.old.sent) × (self.new.limit ≡ self.old.limit) × (self.new.shut ≡ true) × (self.new.leaving ≡ self.old.leaving) }
-    {
-        unsafe { raw::store::<Brand>(self.words.add(CLOSED_WORD), 1, SeqCst) }
-    }
-
-    /// Closes the ring, since the writer is about to leave.
-    pub(crate) fn store_closed(&mut self)
-        ensures { (self.new.words ≡ self.old.words) × (self.new.at ≡ self.old.at) × (self.new.names ≡ self.old.names) × (self.new.sent ≡ self.old.sent) × (self.new.limit ≡ self.old.limit) × (self.new.shut ≡ self.old.shut) × (self.new.leaving ≡ true) }
+        ensures { (self.new.words ≡ self.old.words) × (self.new.at ≡ self.old.at) × (self.new.names ≡ self.old.names) × (self.new.sent ≡ self.old.sent) × (self.new.limit ≡ self.old.limit) × (self.new.shut ≡ true) }
     {
         unsafe { raw::store::<Brand>(self.words.add(CLOSED_WORD), 1, SeqCst) }
     }
 
     /// The writer leaves, and gives up the places of its room. The answer is 1 if the reader had left before.
     pub(crate) fn leave(self, room: Blank) -> (u64, Remains)
-        requires { (room.at ≡ self.at) × (room.capacity ≡ self.names.capacity) × (room.first ≡ length self.sent) × (room.first + room.count ≡ self.limit) × (self.leaving ≡ true) }
+        requires { (room.at ≡ self.at) × (room.capacity ≡ self.names.capacity) × (room.first ≡ length self.sent) × (room.first + room.count ≡ self.limit) × (self.shut ≡ true) }
         ensures { (result.0 ≡ flag result.1.last) × (result.1.words ≡ self.words) × (result.1.at ≡ self.at) × (result.1.names ≡ self.names) }
     {
         let WriteSeat { words } = self;

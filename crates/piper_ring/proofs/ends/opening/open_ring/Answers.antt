@@ -9,11 +9,11 @@ use Rattle.piper_ring.proofs.ends.opening.open_ring.Goals as goal
 
 pub invariant_of-result : goal.invariant_of-result
 invariant_of-result c = let o = c.open-read_seat.ensures in let seat = c.open-read_seat.result.0 in let n = c.none.ensures in let size : c.in_ok-words.bytes.size ≡ c.args.capacity = c.in_ok-words.ensures.bytes.0 in let cap : ℕ = c.args.capacity in
-    let most : 2 * cap < 2 ^ 64 = c.requires.1 in let first : c.none.result.first ≡ c.open-read_seat.result.2.first + 0 = n.2 in let start : c.open-read_seat.result.2.first ≡ 0 = o.16 in let none : length c.none.result.bytes ≡ 0 = ap length n.3 in
+    let most : 2 * cap < 2 ^ 64 = c.requires.1 in let first : c.none.result.first ≡ c.open-read_seat.result.2.first + 0 = n.2 in let start : c.open-read_seat.result.2.first ≡ 0 = o.15 in let none : length c.none.result.bytes ≡ 0 = ap length n.3 in
     let head : seat.head ≡ 0 = o.3 in let seen : seat.seen ≡ 0 = o.4 in let pos : 0 < cap = c.requires.0 in
     record {
       fits = (sym (o.2 ∙ size), pos, omega arith);
-      placed = (o.18 ∙ sym o.1, n.0 ∙ o.14 ∙ sym o.1, n.1 ∙ o.15 ∙ sym o.2, omega arith);
+      placed = (o.17 ∙ sym o.1, n.0 ∙ o.13 ∙ sym o.1, n.1 ∙ o.14 ∙ sym o.2, omega arith);
       counts = (omega arith, omega arith);
       cached = (position_none cap seat.head head, position_none cap seat.seen seen, omega arith);
       heard = (c.mark-told_reader.ensures.0 ∙ o.9, c.unseen-read_saw.ensures.0);
@@ -30,11 +30,10 @@ invariant_of-result-2 c = let o = c.open-read_seat.ensures in let seat = c.open-
     record {
       fits = (sym (full ∙ size), pos, omega arith);
       room = room.room;
-      placed = (o.18 ∙ sym o.8, at ∙ o.14 ∙ sym o.8, many ∙ o.15 ∙ sym full, omega arith, omega arith);
+      placed = (o.17 ∙ sym o.8, at ∙ o.13 ∙ sym o.8, many ∙ o.14 ∙ sym full, omega arith, omega arith);
       freed = (omega arith, omega arith);
       cached = (position_none cap (length seat.sent) sent, one_turn cap seat.limit pos limit, omega arith);
       heard = (c.mark-told_writer.ensures.0 ∙ sym o.9, ap (λ (s : Saw). s.names) c.again-write_saw.ensures ∙ c.unseen-read_saw.ensures.0 ∙ sym o.9);
       closed = sym o.12;
       lends_none = λ _. room.lent;
-      here = o.13;
     }

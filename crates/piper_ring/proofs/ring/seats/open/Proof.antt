@@ -65,8 +65,8 @@ open_spec 𝓤 𝓛 𝓜 𝓡 wired =
     sets ! (bin ! (get ! refl) (lit ! tt) tt) refl (tt, tt) $ assigns_last ! (of_opd ! (lit ! tt)) (through ! refl (stop !)) (init ! 1 refl (tt, record { fits = lit< tt })) $
     exec ! 𝓣.C 𝓣.Λ Ev (from_on 4 fn.body) (at_ret Ev Post) $
     fjoin ! $ move ! (2 ∷ 3 ∷ 0 ∷ []) $ fjoin3 ! $ move ! (1 ∷ 2 ∷ 3 ∷ []) $ fjoin3 ! $ move ! (1 ∷ 0 ∷ []) $
-    use2 𝓛 (later (some (λ (z : Names). given (z.capacity ≡ cap) (‵ (reader_owns w p z 0 0 [] false) ⊛ ‵ (writer_owns w p z [] cap false false))))) (begins 𝓛 w p cap (tt, tt, small)) $ await ! tt $ pick ! (λ z. learn ! (λ ez. split ! $
-    let one : ReadSeat.the_row.Denot = record { words = w; at = p; names = z; head = 0; seen = 0; have = []; leaving = false } in let two : WriteSeat.the_row.Denot = record { words = w; at = p; names = z; sent = []; limit = cap; shut = false; leaving = false } in
+    use2 𝓛 (later (some (λ (z : Names). given (z.capacity ≡ cap) (‵ (reader_owns w p z 0 0 [] false) ⊛ ‵ (writer_owns w p z [] cap false))))) (begins 𝓛 w p cap (tt, tt, small)) $ await ! tt $ pick ! (λ z. learn ! (λ ez. split ! $
+    let one : ReadSeat.the_row.Denot = record { words = w; at = p; names = z; head = 0; seen = 0; have = []; leaving = false } in let two : WriteSeat.the_row.Denot = record { words = w; at = p; names = z; sent = []; limit = cap; shut = false } in
     let three : Blank.the_row.Denot = record { mark = record {}; at = p; capacity = cap; first = 0; count = cap } in let four : Base.the_row.Denot = record { ptr = p } in let v : Val = seat_val w in let q : Val = seat_val p in
     use0 𝓛 (‵ (ReadData.own_val (w, tt) (v ∷ []))) (read_made 𝓛 w) $ fjoin ! $ move ! (1 ∷ []) $ use0 𝓛 (‵ (WriteData.own_val (w, tt) (v ∷ []))) (write_made 𝓛 w) $ fjoin ! $ move ! (2 ∷ []) $
     use1 𝓛 (‵ (span (unset p cap) 0 cap)) (as_places 𝓛 w p cap) $ nothing ! $ fpack ! (P.Placed p cap) (λ _. ftrue) (tt, small) $ fjoin ! $ use0 𝓛 (‵ (BlankData.own_val (record {}, tt) (ghost_val ∷ []))) (blank_made 𝓛) $ fjoin ! $
@@ -77,7 +77,7 @@ open_spec 𝓤 𝓛 𝓜 𝓡 wired =
     sets ! (of_opd ! (get ! refl)) refl (tt, (tt, tt)) $ sets ! (of_opd ! (get ! refl)) refl (tt, (tt, tt)) $ sets ! (of_opd ! (get ! refl)) refl (tt, (tt, tt)) $
     sets ! (agg ! (and_then ! (get ! refl) (no_more !))) refl (tt, (tt, tt)) $
     sets ! (agg ! (and_then ! (get ! refl) (and_then ! (get ! refl) (and_then ! (get ! refl) (and_then ! (get ! refl) (no_more !)))))) refl (tt, ((tt, tt), ((tt, tt), ((tt, tt), ((tt, tt), tt))))) $
-    let Told : Type 0 = (w ≡ w₀) × (p ≡ p₀) × (z.capacity ≡ cap) × (0 ≡ 0) × (0 ≡ 0) × (one.have ≡ one.have) × (false ≡ false) × (w ≡ w) × (p ≡ p₀) × (z ≡ z) × (two.sent ≡ two.sent) × (cap ≡ cap) × (false ≡ false) × (false ≡ false) × (p ≡ p₀) × (cap ≡ cap) × (0 ≡ 0) × (cap ≡ cap) × (p ≡ p₀) in
-    use0 𝓛 (raw (fact 𝓤 Told)) (fact_i 𝓤 Told (emp 𝓤) (sym at_w, sym at_p, ez, refl, refl, refl, refl, refl, sym at_p, refl, refl, refl, refl, refl, sym at_p, refl, refl, refl, sym at_p)) $
+    let Told : Type 0 = (w ≡ w₀) × (p ≡ p₀) × (z.capacity ≡ cap) × (0 ≡ 0) × (0 ≡ 0) × (one.have ≡ one.have) × (false ≡ false) × (w ≡ w) × (p ≡ p₀) × (z ≡ z) × (two.sent ≡ two.sent) × (cap ≡ cap) × (false ≡ false) × (p ≡ p₀) × (cap ≡ cap) × (0 ≡ 0) × (cap ≡ cap) × (p ≡ p₀) in
+    use0 𝓛 (raw (fact 𝓤 Told)) (fact_i 𝓤 Told (emp 𝓤) (sym at_w, sym at_p, ez, refl, refl, refl, refl, refl, sym at_p, refl, refl, refl, refl, sym at_p, refl, refl, refl, sym at_p)) $
     nothing ! $ nothing ! $ fjoin ! $ nothing ! $ fjoin ! $ nothing ! $
     returns ! (look_at ! 0 refl) $ free_all ! refl $ keep ! (0 ∷ 1 ∷ 3 ∷ 2 ∷ []) $ by ! (leaves 𝓛 En hs c y (four_val v v ghost_val q) (one, two, three, four) (tt, (tt, tt)) (tt, (tt, tt)))))))))))

@@ -1,17 +1,17 @@
--- What was looked at is at most the capacity less the known room.
-use Rattle.std.proofs.Common.{◌≡◌, ℕ, ◌+◌, ◌-◌, ◌*◌, ◌<◌, ◌≤◌, length, arith, ap, sym, ◌∙◌}
+-- What was looked at leaves the known room free, and the bytes consumed that were told of.
+use Rattle.std.proofs.Common.{◌≡◌, ℕ, ◌+◌, ◌-◌, ◌≤◌, length, arith, ap, sym, subst, ◌∙◌}
 use Rattle.rtrb.specs.Fifo.{position_of}
 use Rattle.rtrb.proofs.Positions.{position_inside}
-use Rattle.piper_ring.specs.WriteView.{WriteView}
+use Rattle.piper_ring.specs.WriteView.{WriteView, MayBeUnread}
 use Rattle.piper_ring.proofs.WriterFacts.{sent_below}
 use Rattle.piper_ring.proofs.ends.writer.WriteEnd.len.Goals as goal
 
 pub distance-requires : goal.distance-requires
-distance-requires c = let e = c.self.inside.parts in let i = c.self.invariant in let saw = c.look_head-head.ensures in let h : ℕ = saw.0 in
-    let lt : c.look_head-head.result < 2 * e.capacity = position_inside e.capacity c.look_head-head.result h (saw.1 ∙ ap (λ (n : ℕ). position_of n h) (sym i.fits.0)) i.fits.1 in (i.fits.1, i.fits.2, lt, position_inside e.capacity e.tail (length e.seat.sent) i.cached.0 i.fits.1)
+distance-requires c = let e = c.self.inside.parts in let i = c.self.invariant in let h : ℕ = c.look_head-head.result.1.count in
+    (i.fits.1, i.fits.2, position_inside e.capacity c.look_head-head.result.0 h (c.look_head-head.ensures.1 ∙ ap (λ (n : ℕ). position_of n h) (sym i.fits.0)) i.fits.1, position_inside e.capacity e.tail (length e.seat.sent) i.cached.0 i.fits.1)
 
 pub returns : goal.returns
 returns c = let e = c.self.inside.parts in let i = c.self.invariant in let s : ℕ = length e.seat.sent in let below : s ≤ e.seat.limit = sent_below e i in let low : e.capacity ≤ e.seat.limit = i.freed.0 in let near : e.seat.limit ≤ s + e.capacity = i.freed.1 in
-    let cap : e.capacity ≡ e.seat.names.capacity = i.fits.0 in let saw = c.look_head-head.ensures in let h : ℕ = saw.0 in let most : h ≤ s = saw.2 in let least : e.seat.limit ≤ h + e.seat.names.capacity = saw.3 in
+    let cap : e.capacity ≡ e.seat.names.capacity = i.fits.0 in let saw = c.look_head-head.ensures in let h : ℕ = c.look_head-head.result.1.count in let most : h ≤ s = saw.2 in let least : e.seat.limit ≤ h + e.seat.names.capacity = saw.3 in let heard : e.told.count ≤ h = saw.4 in
     let far : c.distance.result ≡ s - h = c.distance.ensures h s (omega arith) (omega arith) (saw.1 ∙ ap (λ (n : ℕ). position_of n h) (sym cap)) i.cached.0 in
-    let room : e.seat.limit - s ≡ c.args.self.now.room = ap (λ (w : WriteView). w.room) c.self.view_is in let all : e.capacity ≡ c.args.self.now.capacity = ap (λ (w : WriteView). w.capacity) c.self.view_is in omega arith
+    subst (λ (w : WriteView). MayBeUnread w c.distance.result) c.self.view_is (record { room = omega arith; told = omega arith })

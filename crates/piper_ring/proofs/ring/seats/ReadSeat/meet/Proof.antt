@@ -54,10 +54,10 @@ meet_spec 𝓤 𝓛 𝓜 𝓡 wired =
     proved 𝓛 En hs c 𝓜 𝓡 (Goes-ref 𝓛 4 0 tt self, (Goes-ref 𝓛 4 1 tt writes, (Goes-dropped 𝓛 4 one_saw yes (λ κs x f. refl), (Goes-dropped 𝓛 4 two_saw yes (λ κs x f. refl), tt)))) #self fn (code.unfolded 𝓤 H 𝓜 𝓡 wired)
     (λ κs. (mut_vals, (mut_vals, (shr_vals, (shr_vals, tt))))) (λ κs. (mut_Tells (named 0) κs.0 Row, (mut_Tells (named 1) κs.1.0 WRow, (shr_Tells (named 2) κs.1.1.0 Seen.the_row, (shr_Tells (named 3) κs.1.1.1.0 Seen.the_row, tt))))) (λ κs qs bounds a gh are.
     let b : ℕ = a.0.ref_ptr.0 in let o : ℕ = a.0.ref_ptr.1 in let h = a.0.now in let b' : ℕ = a.1.0.ref_ptr.0 in let o' : ℕ = a.1.0.ref_ptr.1 in let k = a.1.0.now in let u = a.1.1.0.now in let v = a.1.1.1.0.now in let b2 : ℕ = a.1.1.0.ref_ptr.0 in let o2 : ℕ = a.1.1.0.ref_ptr.1 in let b3 : ℕ = a.1.1.1.0.ref_ptr.0 in let o3 : ℕ = a.1.1.1.0.ref_ptr.1 in let w : Ptr = h.words in let p : Ptr = h.at in let z : Names = h.names in
-    let C : Fml = common w p z in let RK : Fml = reader_knows w p z half h.head h.seen (flag h.leaving) in let Hv : List ℕ → Fml = at_least (prefixes coded_ℕ) z.sent in let B = byte p z.capacity in let full : ℕ = h.head + z.capacity in let RK' : Fml = reader_knows w p z half h.head (length k.sent) (flag h.leaving) in let WK' : Fml = writer_knows w p z half k.sent full k.shut (flag k.leaving) in
+    let C : Fml = common w p z in let RK : Fml = reader_knows w p z half h.head h.seen (flag h.leaving) in let Hv : List ℕ → Fml = at_least (prefixes coded_ℕ) z.sent in let B = byte p z.capacity in let full : ℕ = h.head + z.capacity in let RK' : Fml = reader_knows w p z half h.head (length k.sent) (flag h.leaving) in let WK' : Fml = writer_knows w p z half k.sent full k.shut 0 in
     let h' : Row.Denot = record h { seen = length k.sent; have = k.sent } in let k' : WRow.Denot = record k { limit = full } in let Data : Fml = PlacesData.own_val (record {}, tt) (ghost_val ∷ []) in
     let y : (walk_of 𝓛 En hs c).Ghost = ((κs, qs, bounds, a, (vptr b o ∷ [], (vptr b' o' ∷ [], (vptr b2 o2 ∷ [], (vptr b3 o3 ∷ [], tt))))), gh) in let Post : Val → SProp 𝓤 = (walk_of 𝓛 En hs c).post y in
-    let Asked : Type 0 = (k.words ≡ w) × (k.at ≡ p) × (k.names ≡ z) × (u.names ≡ z) × (v.names ≡ z) × (h.leaving ≡ false) × (k.leaving ≡ false) in
+    let Asked : Type 0 = (k.words ≡ w) × (k.at ≡ p) × (k.names ≡ z) × (u.names ≡ z) × (v.names ≡ z) × (h.leaving ≡ false) in
     qed 𝓛 (((‵ (flft κs.0 qs.0) ⊛ ‵ (flft κs.1.0 qs.1.0) ⊛ ‵ (flft κs.1.1.0 qs.1.1.0) ⊛ ‵ (flft κs.1.1.1.0 qs.1.1.1.0) ⊛ ‵ ftrue) ⊛ ‵ (owns (types_at En.signature.params κs) a y.0.4)) ∷ given Asked (‵ ftrue) ∷ []) ∵
     keep ! (1 ∷ 0 ∷ []) $ learn ! (λ asked. drop ! $ split ! $ split3 ! $ move ! (2 ∷ []) $ split3 ! $ move ! (5 ∷ []) $ fsplit3 ! $ move ! (2 ∷ []) $ fsplit3 ! $ fsplit ! $ drop ! $
     use1 𝓛 (‵ (hidden_shr SawData κs.1.1.0 (record {}, tt) b2 o2) ⊛ ‵ (fhide (raised u.names.closed u.seen))) (lent_out 𝓛 Seen.struct (Seen.the_codes (marker.the_row RawPtr).coded) Seen.the_heap Seen.the_lent κs.1.1.0 u b2 o2) $
@@ -68,14 +68,14 @@ meet_spec 𝓤 𝓛 𝓜 𝓡 wired =
     enter ! 𝓣.C 𝓣.Λ fn (vptr b o ∷ vptr b' o' ∷ vptr b2 o2 ∷ vptr b3 o3 ∷ []) Post $ alloc_all ! (λ l. pass_all ! refl ((tt, tt), ((tt, tt), ((tt, tt), ((tt, tt), tt)))) $ let Ev = env fn.locals l in
     opens ! tt WRow b' o' (λ vs'. move ! (1 ∷ []) $ fsplit ! $ move ! (6 ∷ 7 ∷ 8 ∷ []) $
     opens ! tt Row b o (λ vs. move ! (1 ∷ []) $ fsplit ! $ move ! (7 ∷ []) $
-    rewrite ! 0 (λ (r : Ptr × Ptr × Names). ‵ (writer_owns r.0 r.1 r.2 k.sent k.limit k.shut k.leaving)) {x = (w, p, z)} {y = (k.words, k.at, k.names)} (λ i. (asked.0 i, asked.1 i, asked.2 i)) refl $
+    rewrite ! 0 (λ (r : Ptr × Ptr × Names). ‵ (writer_owns r.0 r.1 r.2 k.sent k.limit k.shut)) {x = (w, p, z)} {y = (k.words, k.at, k.names)} (λ i. (asked.0 i, asked.1 i, asked.2 i)) refl $
     fsplit ! $ fsplit ! $ fpick ! (λ at. drop ! $ nothing ! $ fpack ! (Placed w p z) (λ _. ftrue) at $ fjoin ! $ move ! (3 ∷ []) $ fsplit3 ! $ move ! (2 ∷ []) $ fsplit ! $ fpick ! (λ lh. drop ! $
     move ! (1 ∷ []) $ use1 𝓛 (‵ C ⊛ ‵ C) (common_twice 𝓛 w p z) $ split ! $ move ! (16 ∷ 17 ∷ []) $ join ! $ move ! (6 ∷ 0 ∷ []) $ join ! $ move ! (3 ∷ 0 ∷ []) $ join ! $ move ! (1 ∷ 3 ∷ 0 ∷ []) $
-    use3 𝓛 (later (some (λ (r : List ℕ × List ℕ). given (Apart 𝓛 w p z h.head h.seen k.sent k.limit k.shut h.leaving k.leaving h.have u.seen v.seen r) (‵ (run B h.seen r.0) ⊛ ‵ (run B k.limit r.1) ⊛ ‵ RK' ⊛ ‵ WK' ⊛ ‵ (Hv k.sent)))))
-    (joins 𝓛 w p z h.head h.seen k.sent k.limit k.shut h.leaving k.leaving h.have u.seen v.seen lh asked.5 asked.6) $ await ! tt $ pick ! (λ r. learn ! (λ apart. split3 ! $ move ! (2 ∷ []) $ split3 ! $
+    use3 𝓛 (later (some (λ (r : List ℕ × List ℕ). given (Apart 𝓛 w p z h.head h.seen k.sent k.limit k.shut h.leaving h.have u.seen v.seen r) (‵ (run B h.seen r.0) ⊛ ‵ (run B k.limit r.1) ⊛ ‵ RK' ⊛ ‵ WK' ⊛ ‵ (Hv k.sent)))))
+    (joins 𝓛 w p z h.head h.seen k.sent k.limit k.shut h.leaving h.have u.seen v.seen lh asked.5) $ await ! tt $ pick ! (λ r. learn ! (λ apart. split3 ! $ move ! (2 ∷ []) $ split3 ! $
     nothing ! $ fpack ! (length k.sent ≡ length k.sent) (λ _. ftrue) refl $ move ! (0 ∷ 3 ∷ []) $ fjoin ! $ move ! (5 ∷ 1 ∷ 0 ∷ []) $ fjoin3 ! $ move ! (5 ∷ 0 ∷ []) $ fjoin ! $
     move ! (5 ∷ 0 ∷ 6 ∷ 7 ∷ 8 ∷ []) $ closes ! tt Row h' vs b o $ feq_i ! (List Val) (vptr b o ∷ []) (vptr b o ∷ []) refl $ fjoin3 ! $ move ! (5 ∷ 2 ∷ []) $ fjoin ! $
-    rewrite ! 0 (λ (r : Ptr × Ptr × Names). ‵ (writer_owns r.0 r.1 r.2 k.sent full k.shut k.leaving)) {x = (k.words, k.at, k.names)} {y = (w, p, z)} (λ i. (sym asked.0 i, sym asked.1 i, sym asked.2 i)) refl $ move ! (5 ∷ 0 ∷ []) $ fjoin ! $
+    rewrite ! 0 (λ (r : Ptr × Ptr × Names). ‵ (writer_owns r.0 r.1 r.2 k.sent full k.shut)) {x = (k.words, k.at, k.names)} {y = (w, p, z)} (λ i. (sym asked.0 i, sym asked.1 i, sym asked.2 i)) refl $ move ! (5 ∷ 0 ∷ []) $ fjoin ! $
     move ! (5 ∷ 0 ∷ 6 ∷ 7 ∷ 8 ∷ []) $ closes ! tt WRow k' vs' b' o' $ feq_i ! (List Val) (vptr b' o' ∷ []) (vptr b' o' ∷ []) refl $ fjoin3 ! $
     nothing ! $ nothing ! $ fjoin ! $ nothing ! $ fjoin ! $ move ! (1 ∷ 0 ∷ []) $ fjoin ! $ move ! (2 ∷ 0 ∷ []) $ fjoin ! $ nothing ! $ move ! (7 ∷ 0 ∷ []) $ join ! $ move ! (6 ∷ 0 ∷ []) $ join ! $ move ! (2 ∷ 0 ∷ []) $ join ! $ move ! (2 ∷ 0 ∷ []) $ join ! $
     let one : KRow.Denot = record { mark = record {}; at = p; capacity = z.capacity; first = h.seen; bytes = r.0 } in let two : KRow.Denot = record { mark = record {}; at = p; capacity = z.capacity; first = k.limit; bytes = r.1 } in
@@ -85,7 +85,7 @@ meet_spec 𝓤 𝓛 𝓜 𝓡 wired =
     sets ! (agg ! (no_more !)) refl (tt, tt) $ sets ! (agg ! (and_then ! (get ! refl) (no_more !))) refl (tt, (tt, tt)) $
     sets ! (agg ! (no_more !)) refl (tt, tt) $ sets ! (agg ! (and_then ! (get ! refl) (no_more !))) refl (tt, (tt, tt)) $
     sets ! (agg ! (and_then ! (get ! refl) (and_then ! (get ! refl) (no_more !)))) refl (tt, ((tt, tt), ((tt, tt), tt))) $
-    let Told : Type 0 = (w ≡ w) × (p ≡ p) × (z ≡ z) × (h.head ≡ h.head) × (h'.seen ≡ h'.seen) × (k.sent ≡ k.sent) × (h.leaving ≡ h.leaving) × (k.words ≡ k.words) × (k.at ≡ k.at) × (k.names ≡ k.names) × (k.sent ≡ k.sent) × (full ≡ full) × (k.shut ≡ k.shut) × (k.leaving ≡ k.leaving)
+    let Told : Type 0 = (w ≡ w) × (p ≡ p) × (z ≡ z) × (h.head ≡ h.head) × (h'.seen ≡ h'.seen) × (k.sent ≡ k.sent) × (h.leaving ≡ h.leaving) × (k.words ≡ k.words) × (k.at ≡ k.at) × (k.names ≡ k.names) × (k.sent ≡ k.sent) × (full ≡ full) × (k.shut ≡ k.shut)
     × (p ≡ p) × (z.capacity ≡ z.capacity) × (h.seen ≡ h.seen) × (h.have ++ r.0 ≡ k.sent) × (p ≡ p) × (z.capacity ≡ z.capacity) × (k.limit ≡ k.limit) × (k.limit + length r.1 ≡ full) × (flag u.seen ≤ flag k.shut) × (flag v.seen ≤ flag k.shut) in
-    use0 𝓛 (raw (fact 𝓤 Told)) (fact_i 𝓤 Told (emp 𝓤) (refl, refl, refl, refl, refl, refl, refl, refl, refl, refl, refl, refl, refl, refl, refl, refl, refl, apart.0, refl, refl, refl, apart.1, apart.2, apart.3)) $
+    use0 𝓛 (raw (fact 𝓤 Told)) (fact_i 𝓤 Told (emp 𝓤) (refl, refl, refl, refl, refl, refl, refl, refl, refl, refl, refl, refl, refl, refl, refl, refl, apart.0, refl, refl, refl, apart.1, apart.2, apart.3)) $
     returns ! (look_at ! 0 refl) $ free_all ! refl $ keep ! (2 ∷ 3 ∷ 1 ∷ 0 ∷ []) $ by ! (leaves 𝓛 En hs c y (pair_val ghost_val ghost_val) (one, two) (h', (k', (tt, (tt, tt)))) (tt, (tt, (tt, (tt, tt))))))))))))))

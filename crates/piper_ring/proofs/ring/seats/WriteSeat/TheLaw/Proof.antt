@@ -9,5 +9,5 @@ use Rattle.piper_ring.proofs.Rights.{writer_laws, lends_writer}
 
 pub shares : statement
 shares = of_Lends C.struct C.the_codes C.the_heap C.the_lent
-    (λ d _. writer_laws d.words d.at d.names d.sent d.limit d.shut d.leaving) (copy_shared RawPtr-field RawPtr-copy, tt)
-    (λ M 𝓤 𝓛 d _. lends_writer 𝓛 d.words d.at d.names d.sent d.limit d.shut d.leaving C.the_row.lives)
+    (λ d _. writer_laws d.words d.at d.names d.sent d.limit d.shut) (copy_shared RawPtr-field RawPtr-copy, tt)
+    (λ M 𝓤 𝓛 d _. lends_writer 𝓛 d.words d.at d.names d.sent d.limit d.shut C.the_row.lives)

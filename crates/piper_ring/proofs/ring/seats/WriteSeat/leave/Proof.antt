@@ -1,5 +1,5 @@
 -- `leave` is one swap: it gives the end's places to the invariant, and takes all of the memory out where the other end is gone. Assumes `Logic`.
-use Rattle.std.proofs.Common.{true, ◌≡◌, ℕ, ◌+◌, ◌-◌, ◌^◌, List, [], ◌∷◌, length, sym, refl, ap, arith, lit<, w64}
+use Rattle.std.proofs.Common.{false, true, ◌≡◌, ℕ, ◌+◌, ◌-◌, ◌^◌, List, [], ◌∷◌, length, sym, refl, ap, arith, lit<, w64}
 use mir.Val.{Val, vint, vptr}
 use base.Logic.{SProp, emp}
 use base.Fml.{Fml, ftrue}
@@ -47,17 +47,17 @@ leave_spec 𝓤 𝓛 𝓜 𝓡 wired =
     let hs : Stays En.signature.params En.kept = (stay_dropped self yes, (stay_dropped gift yes, tt)) in
     proved 𝓛 En hs c 𝓜 𝓡 (Goes-dropped 𝓛 0 self yes (λ κs x f. refl), (Goes-dropped 𝓛 0 gift yes (λ κs x f. refl), tt)) #self fn (code.unfolded 𝓤 H 𝓜 𝓡 wired)
     (λ κs. ((λ x. seat_val x.words ∷ []), ((λ x. ghost_val ∷ []), tt))) (λ κs. ((λ x vs is. write_told x.words vs is.0), ((λ x vs is. blank_told vs is.0), tt))) (λ κs qs bounds a gh are.
-    let h = a.0 in let g = a.1.0 in let w : Ptr = h.words in let p : Ptr = h.at in let z : Names = h.names in let C : Fml = common w p z in let K : Fml = writer_knows w p z half h.sent h.limit h.shut (flag h.leaving) in
+    let h = a.0 in let g = a.1.0 in let w : Ptr = h.words in let p : Ptr = h.at in let z : Names = h.names in let C : Fml = common w p z in let K : Fml = writer_knows w p z half h.sent h.limit h.shut 0 in
     let low : ℕ = length h.sent in let high : ℕ = h.limit in let G : Fml = blanks w p z low (high - low) in let bw : ℕ = block_of w in let ow : ℕ = count_of w in let w' : Ptr = block_ptr bw ow in let e : ℕ = 0 + ow in let out : ℕ → Fml = Left 𝓛 w p z in
     let Step : SProp 𝓤 = asks 𝓛 (block_ptr bw e) (λ _. 1) always out in
     let y : (walk_of 𝓛 En hs c).Ghost = ((κs, qs, bounds, a, (seat_val w ∷ [], (ghost_val ∷ [], tt))), gh) in let Post : Val → SProp 𝓤 = (walk_of 𝓛 En hs c).post y in
-    let Asked : Type 0 = (g.at ≡ p) × (g.capacity ≡ z.capacity) × (g.first ≡ low) × (g.first + g.count ≡ high) × (h.leaving ≡ true) in
+    let Asked : Type 0 = (g.at ≡ p) × (g.capacity ≡ z.capacity) × (g.first ≡ low) × (g.first + g.count ≡ high) × (h.shut ≡ true) in
     qed 𝓛 ((raw (alive 𝓛 En.signature κs qs) ⊛ ‵ (owns (types_at En.signature.params κs) a y.0.4)) ∷ given Asked (‵ ftrue) ∷ []) ∵
     keep ! (1 ∷ 0 ∷ []) $ learn ! (λ asked. drop ! $ split ! $ move ! (1 ∷ []) $ fsplit3 ! $ fsplit ! $ drop ! $ fsplit ! $ move ! (2 ∷ []) $ fsplit ! $ drop ! $ fsplit ! $ drop ! $
     let eg = asked.2 in let top = asked.3 in let many : g.count ≡ high - low = omega arith in
     rewrite ! 0 (λ (r : Ptr × ℕ × ℕ × ℕ). ‵ (span (unset r.0 r.1) r.2 r.3)) {x = (p, z.capacity, low, high - low)} {y = (g.at, g.capacity, g.first, g.count)} (λ i. (asked.0 i, asked.1 i, asked.2 i, many i)) refl $
     keep ! (1 ∷ 2 ∷ 0 ∷ []) $ use1 𝓛 (‵ C ⊛ ‵ C) (common_twice 𝓛 w p z) $ split ! $ fsplit ! $ fpick ! (λ at. drop ! $ drop ! $ let isw : w ≡ w' = at_block w at.0 in
-    use3 𝓛 (raw Step) (writer_leaves 𝓛 w p z h.sent h.limit h.shut (flag h.leaving) (flag_small h.leaving)) $
+    use3 𝓛 (raw Step) (writer_leaves 𝓛 w p z h.sent h.limit h.shut 0 (flag_small false)) $
     enter ! 𝓣.C 𝓣.Λ fn (seat_val w ∷ ghost_val ∷ []) Post $ alloc_all ! (λ l. pass_all ! refl (word-Good [] w, ((tt, (tt, tt)), tt)) $ let Ev = env fn.locals l in
     sets ! (is ! (of_opd ! (get_in ! (fld ! refl (stop !)) (sub ! 0 refl (shape_all !)))) (ap ptr_val isw)) refl (tt, tt) $ first ! $ blocks ! $ sets ! (bin ! (get ! refl) (lit ! tt) tt) refl (tt, tt) $
     use1 𝓛 (raw (𝓣.C _ (vptr bw e ∷ vint w64 1 ∷ seq_cst ∷ []) (λ u. mean 𝓛 (found out u))))

@@ -1,10 +1,10 @@
 -- `look_head` is one load of the tail, beside a share of what the reader knows. Assumes `Logic`.
-use Rattle.std.proofs.Common.{lit<, ◌≡◌, ℕ, ◌+◌, ◌^◌, List, [], ◌∷◌, refl, w64}
+use Rattle.std.proofs.Common.{false, lit<, ◌≡◌, ℕ, ◌+◌, ◌≤◌, ◌^◌, List, [], ◌∷◌, length, refl, w64}
 use mir.Syntax.{named}
 use mir.Val.{Val, vint, vptr}
 use base.Logic.{SProp, emp, via}
 use base.Fml.{Share, Fml, ftrue, flft, fhide}
-use types.Kit.{‵, raw, ◌⊛◌, mean, at_ret, ◌$◌, ◌∵◌, !, qed, by, move, keep, drop, split, join, fsplit, fjoin, fpick, fpack, use0, use1, use2, feq_i, flt_i}
+use types.Kit.{‵, raw, ◌⊛◌, given, learn, split3, rewrite, use3, mean, at_ret, ◌$◌, ◌∵◌, !, qed, by, move, keep, drop, split, join, fsplit, fjoin, fpick, fpack, use0, use1, use2, feq_i, flt_i}
 use types.Run.{stop, fld, load, look, lit, of_opd, bin, no_more, and_then, first, blocks, exec, Calls-last, returns, enter}
 use types.ByLocal.{alloc_all, pass_all, free_all, look_at, get, through, sets, lands_last, env}
 use types.Part.{agg}
@@ -15,7 +15,7 @@ use denote.Exit.{yes}
 use denote.RattleType.{RattleType, owns}
 use denote.Signature.{types_at, plain}
 use denote.RawPtr.{Ptr, block_ptr, block_of, count_of, at_block}
-use denote.Builtin.{RefOf}
+use denote.Builtin.{RefOf, RawPtr, u64}
 use denote.Ref.{shr_vals, shr_Tells}
 use denote.Memory.{hidden_shr}
 use denote.Opens.{hide, unhide}
@@ -26,11 +26,16 @@ use denote.Struct.Lending.{lent_out}
 use denote.Triple.Walked.{Stays, stay_dropped, walk_of, Goes-dropped}
 use Rattle.core.proofs.atomic.Steps.{tail}
 use Rattle.core.proofs.slots.Lent.{pointer_in, pointer_out}
+use Rattle.core.specs.contracts.marker.PhantomData as marker
+use Rattle.rtrb.specs.Fifo.{position_of}
 use Rattle.rtrb.proofs.Walks.{proved, leaves}
+use Rattle.rtrb.proofs.Values.{pair_val, pair_of}
+use Rattle.piper_ring.proofs.Fields.{ghost_val, TookData, took_made}
+use Rattle.piper_ring.specs.contracts.ring.marks.ReadMark as Mark
 use Rattle.rtrb.proofs.Calls.{seq_cst, fm, found, finds, loads}
-use Rattle.piper_ring.specs.Shared.{Names, flag, Placed, common, writer_knows, writer_lends}
+use Rattle.piper_ring.specs.Shared.{took, Names, Placed, common, writer_knows, writer_lends}
 use Rattle.piper_ring.proofs.Rights.{writer_halves}
-use Rattle.piper_ring.proofs.Steps.{flag_small, SawHead, AfterPeek, looks_head}
+use Rattle.piper_ring.proofs.Steps.{flag_small, AfterPeek, looks_head}
 use Rattle.piper_ring.specs.contracts.ring.seats.WriteSeat as Seat
 use Rattle.piper_ring.specs.contracts.ring.seats.WriteSeat.look_head.{ended, clauses}
 use Rattle.piper_ring.specs.contracts.ring.seats.WriteSeat.look_head.Key.{name as #self}
@@ -43,29 +48,36 @@ Data = Struct (shape Seat.the_type)
 pub look_head_spec : {M : Type 1} → statement M
 look_head_spec 𝓤 𝓛 𝓜 𝓡 wired =
     let H = 𝓛.H in let 𝓣 = tables 𝓤 H 𝓜 𝓡 𝓡.env in let En = ended in let fn = code.function in let c = clauses 𝓛 𝓜.mem 𝓡.returns in
-    let self = RefOf (0 ∷ []) tt (plain (λ _. Seat.the_row)) (λ _. tt) in
-    let hs : Stays En.signature.params En.kept = (stay_dropped self yes, tt) in
-    proved 𝓛 En hs c 𝓜 𝓡 (Goes-dropped 𝓛 1 self yes (λ κs x f. refl), tt) #self fn (code.unfolded 𝓤 H 𝓜 𝓡 wired)
-    (λ κs. (shr_vals, tt)) (λ κs. (shr_Tells (named 0) κs.0 Seat.the_row, tt)) (λ κs qs bounds a gh are.
-    let b : ℕ = a.0.ref_ptr.0 in let o : ℕ = a.0.ref_ptr.1 in let h = a.0.now in let w : Ptr = h.words in let p : Ptr = h.at in let z : Names = h.names in let κ = κs.0 in let q : Share = qs.0 in
-    let C : Fml = common w p z in let Φ : Share → Fml = λ s. writer_knows w p z s h.sent h.limit h.shut (flag h.leaving) in
-    let y : (walk_of 𝓛 En hs c).Ghost = ((κs, qs, bounds, a, (vptr b o ∷ [], tt)), gh) in let Post : Val → SProp 𝓤 = (walk_of 𝓛 En hs c).post y in
-    qed 𝓛 (((‵ (flft κ q) ⊛ ‵ ftrue) ⊛ ‵ (owns (types_at En.signature.params κs) a y.0.4)) ∷ ‵ ftrue ∷ []) ∵
-    split ! $ split ! $ move ! (2 ∷ []) $ fsplit ! $ fsplit ! $ drop ! $
-    use1 𝓛 (‵ (hidden_shr Data κ (w, tt) b o) ⊛ ‵ (fhide (writer_lends w p z h.sent h.limit h.shut h.leaving κ))) (lent_out 𝓛 Seat.struct Seat.the_codes Seat.the_heap Seat.the_lent κ h b o) $
-    split ! $ unhide ! $ fsplit ! $ fsplit ! $ keep ! (0 ∷ 3 ∷ 5 ∷ []) $ hide ! $ move ! (1 ∷ []) $ unhide ! $ fsplit ! $ fsplit ! $ fpick ! (λ at. drop ! $ nothing ! $ fpack ! (Placed w p z) (λ _. ftrue) at $ fjoin ! $
+    let self = RefOf (0 ∷ []) tt (plain (λ _. Seat.the_row)) (λ _. tt) in let told = RefOf (1 ∷ []) tt (plain (λ _. Mark.the_row)) (λ _. tt) in
+    let hs : Stays En.signature.params En.kept = (stay_dropped self yes, (stay_dropped told yes, tt)) in
+    proved 𝓛 En hs c 𝓜 𝓡 (Goes-dropped 𝓛 2 self yes (λ κs x f. refl), (Goes-dropped 𝓛 2 told yes (λ κs x f. refl), tt)) #self fn (code.unfolded 𝓤 H 𝓜 𝓡 wired)
+    (λ κs. (shr_vals, (shr_vals, tt))) (λ κs. (shr_Tells (named 0) κs.0 Seat.the_row, (shr_Tells (named 1) κs.1.0 Mark.the_row, tt))) (λ κs qs bounds a gh are.
+    let b : ℕ = a.0.ref_ptr.0 in let o : ℕ = a.0.ref_ptr.1 in let h = a.0.now in let w : Ptr = h.words in let p : Ptr = h.at in let z : Names = h.names in let t = a.1.0.now in let b2 : ℕ = a.1.0.ref_ptr.0 in let o2 : ℕ = a.1.0.ref_ptr.1 in let κ = κs.0 in
+    let C : Fml = common w p z in let Φ : Share → Fml = λ s. writer_knows w p z s h.sent h.limit h.shut 0 in
+    let y : (walk_of 𝓛 En hs c).Ghost = ((κs, qs, bounds, a, (vptr b o ∷ [], (vptr b2 o2 ∷ [], tt))), gh) in let Post : Val → SProp 𝓤 = (walk_of 𝓛 En hs c).post y in
+    qed 𝓛 (((‵ (flft κ qs.0) ⊛ ‵ (flft κs.1.0 qs.1.0) ⊛ ‵ ftrue) ⊛ ‵ (owns (types_at En.signature.params κs) a y.0.4)) ∷ given (t.names ≡ z) (‵ ftrue) ∷ []) ∵
+    keep ! (1 ∷ 0 ∷ []) $ learn ! (λ asked. drop ! $ split ! $ split3 ! $ move ! (3 ∷ []) $ fsplit ! $ move ! (1 ∷ []) $ fsplit ! $ fsplit ! $ drop ! $
+    use1 𝓛 (‵ (hidden_shr TookData κs.1.0 (record {}, tt) b2 o2) ⊛ ‵ (fhide (took t.names t.count))) (lent_out 𝓛 Mark.struct (Mark.the_codes (marker.the_row RawPtr).coded) Mark.the_heap Mark.the_lent κs.1.0 t b2 o2) $
+    split ! $ drop ! $ unhide ! $ rewrite ! 0 (λ (n : Names). ‵ (took n t.count)) asked refl $ keep ! (2 ∷ 0 ∷ 3 ∷ 4 ∷ []) $ fsplit ! $ drop ! $
+    use1 𝓛 (‵ (hidden_shr Data κ (w, tt) b o) ⊛ ‵ (fhide (writer_lends w p z h.sent h.limit h.shut κ))) (lent_out 𝓛 Seat.struct Seat.the_codes Seat.the_heap Seat.the_lent κ h b o) $
+    split ! $ unhide ! $ fsplit ! $ fsplit ! $ keep ! (0 ∷ 3 ∷ 5 ∷ 4 ∷ 6 ∷ []) $ hide ! $ move ! (1 ∷ []) $ unhide ! $ fsplit ! $ fsplit ! $ fpick ! (λ at. drop ! $ nothing ! $ fpack ! (Placed w p z) (λ _. ftrue) at $ fjoin ! $
     let bw : ℕ = block_of w in let ow : ℕ = count_of w in let e : ℕ = 128 + ow in let isw : w ≡ block_ptr bw ow = at_block w at.0 in
-    enter ! 𝓣.C 𝓣.Λ fn (vptr b o ∷ []) Post $ alloc_all ! (λ l. pass_all ! refl ((tt, tt), tt) $ let Ev = env fn.locals l in first ! $ blocks ! $ move ! (2 ∷ 3 ∷ []) $
+    enter ! 𝓣.C 𝓣.Λ fn (vptr b o ∷ vptr b2 o2 ∷ []) Post $ alloc_all ! (λ l. pass_all ! refl ((tt, tt), ((tt, tt), tt)) $ let Ev = env fn.locals l in first ! $ blocks ! $ move ! (2 ∷ 3 ∷ []) $
     pointer_in ! tt w bw ow isw b (o + 0) (λ r.
     sets ! (of_opd ! (load ! (through ! refl (fld ! refl (stop !))) (look ! 0 refl))) refl (tt, tt) $ pointer_out ! tt w bw ow isw b (o + 0) $
-    sets ! (bin ! (get ! refl) (lit ! tt) tt) refl (tt, tt) $ move ! (2 ∷ 0 ∷ []) $ shr_bor-open ! tt (writer_halves 𝓛 w p z h.sent h.limit h.shut (flag h.leaving)) (λ s. move ! (2 ∷ 1 ∷ []) $
-    let out : ℕ → Fml = AfterPeek 𝓛 w p z s h.sent h.limit h.shut (flag h.leaving) in
-    use2 𝓛 (raw (𝓣.C _ (vptr bw e ∷ seq_cst ∷ []) (λ u. mean 𝓛 (found out u))))
-    (via 𝓤 _ (looks_head 𝓛 w p z s h.sent h.limit h.shut (flag h.leaving) (flag_small h.leaving)) (loads 𝓛 𝓜 𝓡 (code.calls-core::raw_atomic::load 𝓡.env wired) (block_ptr bw e) out)) $
+    sets ! (bin ! (get ! refl) (lit ! tt) tt) refl (tt, tt) $ move ! (2 ∷ 0 ∷ []) $ shr_bor-open ! tt (writer_halves 𝓛 w p z h.sent h.limit h.shut 0) (λ s. move ! (2 ∷ 1 ∷ 3 ∷ []) $
+    let out : ℕ → Fml = AfterPeek 𝓛 w p z s h.sent h.limit h.shut 0 t.count in
+    use3 𝓛 (raw (𝓣.C _ (vptr bw e ∷ seq_cst ∷ []) (λ u. mean 𝓛 (found out u))))
+    (via 𝓤 _ (looks_head 𝓛 w p z s h.sent h.limit h.shut 0 t.count (flag_small false)) (loads 𝓛 𝓜 𝓡 (code.calls-core::raw_atomic::load 𝓡.env wired) (block_ptr bw e) out)) $
     sets ! (agg ! (and_then ! (lit ! tt) (no_more !))) refl (tt, (record { fits = lit< tt }, tt)) $
     Calls-last ! (fm 𝓛 𝓜 𝓡) (found out) (and_then ! (get ! refl) (and_then ! (get ! refl) (no_more !))) (λ u. finds ! out (λ n fits.
     lands_last ! refl (tt, record { fits = fits }) $ exec ! 𝓣.C 𝓣.Λ Ev (tail fn.body) (at_ret Ev Post) $ sets ! (of_opd ! (get ! refl)) refl (tt, record { fits = fits }) $
-    fsplit ! $ fpick ! (λ saw. drop ! $ move ! (1 ∷ 0 ∷ []) $ obor_close ! tt $ drop ! $ nothing ! $ move ! (1 ∷ 0 ∷ []) $ join ! $
-    let Told : Type 0 = SawHead 𝓛 w p z h.sent h.limit n in
-    use0 𝓛 (raw (fact 𝓤 Told)) (fact_i 𝓤 Told (emp 𝓤) saw) $ flt_i ! n (2 ^ 64) fits $ feq_i ! (List Val) (vint w64 n ∷ []) (vint w64 n ∷ []) refl $ fjoin ! $ nothing ! $ nothing ! $ fjoin ! $
-    returns ! (look_at ! 0 refl) $ free_all ! refl $ keep ! (3 ∷ 0 ∷ 1 ∷ 2 ∷ []) $ by ! (leaves 𝓛 En hs c y (vint w64 n) n (tt, tt) (tt, tt))))))))))
+    sets ! (agg ! (no_more !)) refl (tt, tt) $ sets ! (agg ! (and_then ! (get ! refl) (no_more !))) refl (tt, (tt, tt)) $ sets ! (agg ! (and_then ! (get ! refl) (and_then ! (get ! refl) (no_more !)))) refl (tt, (record { fits = fits }, ((tt, tt), tt))) $
+    fpick ! (λ m. fsplit ! $ fpick ! (λ saw. drop ! $ fsplit ! $ move ! (2 ∷ 1 ∷ []) $ obor_close ! tt $ drop ! $ nothing ! $ move ! (3 ∷ 0 ∷ []) $ join ! $ move ! (1 ∷ 0 ∷ []) $ join ! $ move ! (1 ∷ []) $
+    let mark : Mark.the_row.Denot = record { mark = record {}; names = z; count = m } in
+    use0 𝓛 (‵ (TookData.own_val (record {}, tt) (ghost_val ∷ []))) (took_made 𝓛) $ fjoin ! $
+    flt_i ! n (2 ^ 64) fits $ feq_i ! (List Val) (vint w64 n ∷ []) (vint w64 n ∷ []) refl $ fjoin ! $
+    use2 𝓛 (‵ ((denote.Struct.Tuple.Tuple (u64 ∷ Mark.the_row ∷ [])).own_val (n, mark) (pair_val (vint w64 n) ghost_val ∷ []))) (pair_of 𝓛 u64 Mark.the_row n mark (vint w64 n) ghost_val) $
+    let Told : Type 0 = (z ≡ z) × (n ≡ position_of z.capacity m) × (m ≤ length h.sent) × (h.limit ≤ m + z.capacity) × (t.count ≤ m) in
+    use0 𝓛 (raw (fact 𝓤 Told)) (fact_i 𝓤 Told (emp 𝓤) (refl, saw.0, saw.1, saw.2, saw.3)) $ nothing ! $ nothing ! $ fjoin ! $ nothing ! $ fjoin ! $
+    returns ! (look_at ! 0 refl) $ free_all ! refl $ keep ! (3 ∷ 0 ∷ 2 ∷ 1 ∷ []) $ by ! (leaves 𝓛 En hs c y (pair_val (vint w64 n) ghost_val) (n, mark) (tt, (tt, tt)) (tt, (tt, tt)))))))))))))

@@ -52,10 +52,10 @@ mark_spec 𝓤 𝓛 𝓜 𝓡 wired =
     let y : (walk_of 𝓛 En hs c).Ghost = ((κs, qs, bounds, a, (vptr b o ∷ [], tt)), gh) in let Post : Val → SProp 𝓤 = (walk_of 𝓛 En hs c).post y in let O : Order (List ℕ) = prefixes coded_ℕ in
     qed 𝓛 (((‵ (flft κ q) ⊛ ‵ ftrue) ⊛ ‵ (owns (types_at En.signature.params κs) a y.0.4)) ∷ ‵ ftrue ∷ []) ∵
     split ! $ split ! $ move ! (2 ∷ []) $ fsplit ! $ fsplit ! $ drop ! $
-    use1 𝓛 (‵ (hidden_shr Data κ (w, tt) b o) ⊛ ‵ (fhide (writer_lends w p z h.sent h.limit h.shut h.leaving κ))) (lent_out 𝓛 Seat.struct Seat.the_codes Seat.the_heap Seat.the_lent κ h b o) $
+    use1 𝓛 (‵ (hidden_shr Data κ (w, tt) b o) ⊛ ‵ (fhide (writer_lends w p z h.sent h.limit h.shut κ))) (lent_out 𝓛 Seat.struct Seat.the_codes Seat.the_heap Seat.the_lent κ h b o) $
     split ! $ drop ! $ unhide ! $ fsplit ! $ drop ! $ keep ! (0 ∷ 2 ∷ []) $
     enter ! 𝓣.C 𝓣.Λ fn (vptr b o ∷ []) Post $ alloc_all ! (λ l. pass_all ! refl ((tt, tt), tt) $ let Ev = env fn.locals l in
-    shr_bor-open ! tt (writer_halves 𝓛 w p z h.sent h.limit h.shut (flag h.leaving)) (λ s. move ! (1 ∷ []) $ fsplit3 ! $ use1 𝓛 (‵ (latest O s z.sent h.sent) ⊛ ‵ (began z h.sent)) (latest_shows O 𝓛 s z.sent h.sent h.sent (prefix_refl h.sent)) $ split ! $
+    shr_bor-open ! tt (writer_halves 𝓛 w p z h.sent h.limit h.shut 0) (λ s. move ! (1 ∷ []) $ fsplit3 ! $ use1 𝓛 (‵ (latest O s z.sent h.sent) ⊛ ‵ (began z h.sent)) (latest_shows O 𝓛 s z.sent h.sent h.sent (prefix_refl h.sent)) $ split ! $
     move ! (3 ∷ []) $ fsplit ! $ use1 𝓛 (‵ (latest numbers s z.shut (flag h.shut)) ⊛ ‵ (raised z.shut h.shut)) (shows_raised 𝓛 s z.shut h.shut) $ split ! $ move ! (0 ∷ 2 ∷ []) $ fjoin ! $
     move ! (2 ∷ 4 ∷ 0 ∷ []) $ fjoin3 ! $ move ! (2 ∷ 1 ∷ []) $ fjoin ! $ move ! (1 ∷ []) $ move ! (2 ∷ 0 ∷ []) $ obor_close ! tt $ drop ! $ nothing ! $ move ! (1 ∷ 0 ∷ []) $ join ! $ move ! (1 ∷ []) $
     sets ! (agg ! (no_more !)) refl (tt, tt) $ sets ! (agg ! (and_then ! (get ! refl) (no_more !))) refl (tt, (tt, tt)) $

@@ -1,5 +1,5 @@
 -- `store_tail` is one store, which hands places over. Assumes `Logic`.
-use Rattle.std.proofs.Common.{lit<, ◌≡◌, ℕ, ◌+◌, ◌≤◌, List, [], ◌∷◌, ◌++◌, length, refl, ap, w64}
+use Rattle.std.proofs.Common.{false, lit<, ◌≡◌, ℕ, ◌+◌, ◌≤◌, List, [], ◌∷◌, ◌++◌, length, refl, ap, w64}
 use mir.Syntax.{named}
 use mir.Val.{Val, vint, vptr, vunit}
 use base.Logic.{SProp, emp}
@@ -29,7 +29,7 @@ use Rattle.rtrb.specs.Shared.{run}
 use Rattle.rtrb.proofs.Walks.{proved, leaves}
 use Rattle.rtrb.proofs.Calls.{seq_cst, fm, stored, has_stored, stores}
 use Rattle.piper_ring.specs.Places.{byte}
-use Rattle.piper_ring.specs.Shared.{Names, flag, Placed, common, half, writer_knows}
+use Rattle.piper_ring.specs.Shared.{Names, Placed, common, half, writer_knows}
 use Rattle.piper_ring.proofs.Fields.{seat_val, ghost_val, WriteData, write_told, write_made, places_told}
 use Rattle.piper_ring.proofs.Rights.{common_twice}
 use Rattle.piper_ring.proofs.Steps.{flag_small, publishes}
@@ -48,8 +48,8 @@ store_tail_spec 𝓤 𝓛 𝓜 𝓡 wired =
     proved 𝓛 En hs c 𝓜 𝓡 (Goes-ref 𝓛 1 0 tt self, (Goes-dropped 𝓛 1 (plain (λ _. Places.the_row)) yes (λ κs x f. refl), (Goes-dropped 𝓛 1 (plain (λ _. u64)) yes (λ κs x f. refl), tt))) #self fn (code.unfolded 𝓤 H 𝓜 𝓡 wired)
     (λ κs. (mut_vals, ((λ x. ghost_val ∷ []), (uint_vals w64, tt)))) (λ κs. (mut_Tells (named 0) κs.0 Row, ((λ x vs is. places_told vs is.0), (uint_Tells w64, tt)))) (λ κs qs bounds a gh are.
     let b : ℕ = a.0.ref_ptr.0 in let o : ℕ = a.0.ref_ptr.1 in let h = a.0.now in let g = a.1.0 in let new : ℕ = a.1.1.0 in let w : Ptr = h.words in let p : Ptr = h.at in let z : Names = h.names in let κ = κs.0 in let xs : List ℕ = g.bytes in
-    let bw : ℕ = block_of w in let e : ℕ = 256 + count_of w in let us : List Val = seat_val w ∷ [] in let C : Fml = common w p z in let Now : Fml = writer_knows w p z half h.sent h.limit h.shut (flag h.leaving) in
-    let Then : Fml = writer_knows w p z half (h.sent ++ xs) h.limit h.shut (flag h.leaving) in let Step : SProp 𝓤 = asks 𝓛 (block_ptr bw e) (λ _. new) always (λ _. Then) in let h' : Row.Denot = record h { sent = h.sent ++ xs } in
+    let bw : ℕ = block_of w in let e : ℕ = 256 + count_of w in let us : List Val = seat_val w ∷ [] in let C : Fml = common w p z in let Now : Fml = writer_knows w p z half h.sent h.limit h.shut 0 in
+    let Then : Fml = writer_knows w p z half (h.sent ++ xs) h.limit h.shut 0 in let Step : SProp 𝓤 = asks 𝓛 (block_ptr bw e) (λ _. new) always (λ _. Then) in let h' : Row.Denot = record h { sent = h.sent ++ xs } in
     let Data : Fml = WriteData.own_val (w, tt) us in
     let y : (walk_of 𝓛 En hs c).Ghost = ((κs, qs, bounds, a, (vptr b o ∷ [], (ghost_val ∷ [], (vint w64 new ∷ [], tt)))), gh) in let Post : Val → SProp 𝓤 = (walk_of 𝓛 En hs c).post y in
     let Asked : Type 0 = (g.at ≡ p) × (g.capacity ≡ z.capacity) × (g.first ≡ length h.sent) × (length h.sent + length xs ≤ h.limit) × (new ≡ position_of z.capacity (length h.sent + length xs)) in
@@ -60,7 +60,7 @@ store_tail_spec 𝓤 𝓛 𝓜 𝓡 wired =
     opens ! tt Row b o (λ vs. move ! (1 ∷ []) $ fsplit ! $ peeks ! WriteData (Is WriteData) (shows 𝓛 WriteData) (w, tt) vs (λ is-so. let ev : vs ≡ us = write_told w vs is-so in
     drop ! $ rewrite ! 1 (λ (ws : List Val). ‵ (cell_at full_share Row.mir ws b o)) ev refl $ fsplit ! $ fsplit ! $ fpick ! (λ at. drop ! $ nothing ! $ fpack ! (Placed w p z) (λ _. ftrue) at $ fjoin ! $
     use1 𝓛 (‵ C ⊛ ‵ C) (common_twice 𝓛 w p z) $ split ! $ let isw : w ≡ block_ptr bw (count_of w) = at_block w at.0 in
-    move ! (0 ∷ 2 ∷ 7 ∷ []) $ use3 𝓛 (raw Step) (publishes 𝓛 w p z h.sent h.limit h.shut (flag h.leaving) (flag_small h.leaving) xs new asked.4 asked.3) $ first ! $ blocks ! $
+    move ! (0 ∷ 2 ∷ 7 ∷ []) $ use3 𝓛 (raw Step) (publishes 𝓛 w p z h.sent h.limit h.shut 0 (flag_small false) xs new asked.4 asked.3) $ first ! $ blocks ! $
     sets ! (is ! (of_opd ! (load ! (through ! refl (fld ! refl (stop !))) (look_in ! 2 (sub ! 0 refl (whole !))))) (ap ptr_val isw)) refl (tt, tt) $
     sets ! (bin ! (get ! refl) (lit ! tt) tt) refl (tt, tt) $
     use1 𝓛 (raw (𝓣.C _ (vptr bw e ∷ vint w64 new ∷ seq_cst ∷ []) (λ u. mean 𝓛 (stored Then u))))
@@ -70,5 +70,5 @@ store_tail_spec 𝓤 𝓛 𝓜 𝓡 wired =
     lands_last ! refl (tt, tt) $ exec ! 𝓣.C 𝓣.Λ Ev (tail fn.body) (at_ret Ev Post) $ sets ! (of_opd ! (unit_lit !)) refl (tt, tt) $
     move ! (1 ∷ 0 ∷ []) $ fjoin ! $ use0 𝓛 (‵ Data) (write_made 𝓛 w) $ fjoin ! $ move ! (1 ∷ 0 ∷ []) $ closes ! tt Row h' us b o $ feq_i ! (List Val) (vptr b o ∷ []) (vptr b o ∷ []) refl $ fjoin3 ! $
     nothing ! $ nothing ! $ fjoin ! $ nothing ! $ fjoin ! $ move ! (1 ∷ 0 ∷ []) $ fjoin ! $ nothing ! $ move ! (2 ∷ 0 ∷ []) $ join ! $
-    let Told : Type 0 = (w ≡ w) × (p ≡ p) × (z ≡ z) × (h'.sent ≡ h'.sent) × (h.limit ≡ h.limit) × (h.shut ≡ h.shut) × (h.leaving ≡ h.leaving) in use0 𝓛 (raw (fact 𝓤 Told)) (fact_i 𝓤 Told (emp 𝓤) (refl, refl, refl, refl, refl, refl, refl)) $ feq_i ! (List Val) (vunit ∷ []) (vunit ∷ []) refl $
+    let Told : Type 0 = (w ≡ w) × (p ≡ p) × (z ≡ z) × (h'.sent ≡ h'.sent) × (h.limit ≡ h.limit) × (h.shut ≡ h.shut) in use0 𝓛 (raw (fact 𝓤 Told)) (fact_i 𝓤 Told (emp 𝓤) (refl, refl, refl, refl, refl, refl)) $ feq_i ! (List Val) (vunit ∷ []) (vunit ∷ []) refl $
     returns ! (look_at ! 0 refl) $ free_all ! refl $ keep ! (2 ∷ 3 ∷ 0 ∷ 1 ∷ []) $ by ! (leaves 𝓛 En hs c y vunit tt (h', (tt, (tt, tt))) (tt, (tt, (tt, tt))))))))))))

@@ -1,35 +1,32 @@
--- `load_head` is one load, which gives the places that are free. Assumes `Logic`.
-use Rattle.std.proofs.Common.{lit<, ◌≡◌, ℕ, ◌+◌, ◌^◌, ◌≤◌, List, [], ◌∷◌, ◌++◌, length, sym, refl, ap, w64}
+-- `accept` is no step of the program. Assumes `Logic`.
+use Rattle.std.proofs.Common.{◌≡◌, ℕ, ◌+◌, ◌≤◌, List, [], ◌∷◌, ◌++◌, length, sym, refl}
 use mir.Syntax.{named}
-use mir.Val.{Val, vint, vptr}
-use base.Logic.{SProp, emp, via}
+use mir.Val.{Val, vptr, vunit}
+use base.Logic.{SProp, emp}
 use base.Fraction.{full_share}
 use base.Fml.{Fml, ftrue, flft}
-use types.Kit.{‵, raw, ◌⊛◌, given, mean, at_ret, ◌$◌, ◌∵◌, !, qed, by, move, keep, drop, split, split3, join, fsplit, fsplit3, fjoin, fjoin3, fpick, fpack, learn, use0, use1, use2, rewrite, feq_i, flt_i}
-use types.Run.{stop, fld, load, lit, of_opd, bin, no_more, and_then, first, blocks, exec, Calls-last, returns, enter}
-use types.ByLocal.{alloc_all, pass_all, free_all, look_at, get, through, sets, lands_last, is, env}
-use types.Part.{agg, sub, whole, look_in}
+use types.Kit.{‵, raw, ◌⊛◌, some, later, await, pick, given, ◌$◌, ◌∵◌, !, qed, by, move, keep, drop, split, split3, join, fsplit, fsplit3, fjoin, fjoin3, fpick, fpack, learn, use0, use1, use2, use3, rewrite, feq_i}
+use types.Run.{of_opd, unit_lit, returns, enter}
+use types.ByLocal.{alloc_all, pass_all, free_all, look_at, sets, env}
 use contract.Monad.{fact, fact_i}
 use contract.Running.{tables}
 use denote.RattleType.{RattleType, owns}
 use denote.Signature.{types_at, plain}
-use denote.RawPtr.{Ptr, block_ptr, ptr_val, block_of, count_of, at_block}
+use denote.RawPtr.{Ptr}
 use denote.Laws.{Is, shows}
 use denote.Memory.{cell_at}
 use denote.Ref.{mut_vals, mut_Tells}
 use denote.Steps.{nothing, peeks, opens, closes}
 use denote.Triple.Walked.{Stays, stay_ref, walk_of, Goes-ref}
-use Rattle.core.proofs.atomic.Steps.{tail}
-use Rattle.rtrb.specs.Fifo.{position_of}
 use Rattle.rtrb.specs.Shared.{run}
 use Rattle.rtrb.proofs.Walks.{proved, leaves}
-use Rattle.rtrb.proofs.Calls.{seq_cst, fm, found, finds, loads}
 use Rattle.rtrb.proofs.Spans.{run_join}
 use Rattle.piper_ring.specs.Places.{byte}
 use Rattle.piper_ring.specs.Places as P
-use Rattle.piper_ring.specs.Shared.{Names, Placed}
+use Rattle.piper_ring.proofs.Rights.{common_twice}
+use Rattle.piper_ring.specs.Shared.{Names, half, common, writer_knows}
 use Rattle.piper_ring.proofs.Fields.{seat_val, WriteData, write_told, write_made}
-use Rattle.piper_ring.proofs.Reclaim.{Reclaimed, reclaims}
+use Rattle.piper_ring.proofs.Reclaim.{accepts}
 use Rattle.piper_ring.specs.contracts.ring.places.Places as Places
 use base.Fml.{fhide}
 use denote.Builtin.{RefOf, RawPtr}
@@ -44,22 +41,22 @@ use Rattle.piper_ring.specs.contracts.ring.marks.ReadMark as Mark
 use Rattle.piper_ring.specs.Shared.{took}
 use Rattle.piper_ring.proofs.Fields.{TookData}
 use Rattle.piper_ring.specs.contracts.ring.seats.WriteSeat.{the_row}
-use Rattle.piper_ring.specs.contracts.ring.seats.WriteSeat.load_head.{ended, clauses}
-use Rattle.piper_ring.specs.contracts.ring.seats.WriteSeat.load_head.Key.{name as #self}
-use Rattle.piper_ring.proofs.ring.seats.WriteSeat.load_head.Statement.{statement}
-use Rattle.piper_ring.proofs.ring.seats.WriteSeat.load_head.Code as code
+use Rattle.piper_ring.specs.contracts.ring.seats.WriteSeat.accept.{ended, clauses}
+use Rattle.piper_ring.specs.contracts.ring.seats.WriteSeat.accept.Key.{name as #self}
+use Rattle.piper_ring.proofs.ring.seats.WriteSeat.accept.Statement.{statement}
+use Rattle.piper_ring.proofs.ring.seats.WriteSeat.accept.Code as code
 
-pub load_head_spec : {M : Type 1} → statement M
-load_head_spec 𝓤 𝓛 𝓜 𝓡 wired =
+pub accept_spec : {M : Type 1} → statement M
+accept_spec 𝓤 𝓛 𝓜 𝓡 wired =
     let H = 𝓛.H in let 𝓣 = tables 𝓤 H 𝓜 𝓡 𝓡.env in let En = ended in let fn = code.function in let c = clauses 𝓛 𝓜.mem 𝓡.returns in
     let Row : RattleType = the_row in let self = plain (λ _. Row) in let KRow : RattleType = Places.the_row in let known = plain (λ _. KRow) in
     let told = RefOf (2 ∷ []) tt (plain (λ _. Mark.the_row)) (λ _. tt) in let hs : Stays En.signature.params En.kept = (stay_ref (0 ∷ []) tt self, (stay_ref (1 ∷ []) tt known, (stay_dropped told yes, tt))) in
     proved 𝓛 En hs c 𝓜 𝓡 (Goes-ref 𝓛 3 0 tt self, (Goes-ref 𝓛 3 1 tt known, (Goes-dropped 𝓛 3 told yes (λ κs x f. refl), tt))) #self fn (code.unfolded 𝓤 H 𝓜 𝓡 wired)
     (λ κs. (mut_vals, (mut_vals, (shr_vals, tt)))) (λ κs. (mut_Tells (named 0) κs.0 Row, (mut_Tells (named 1) κs.1.0 KRow, (shr_Tells (named 2) κs.1.1.0 Mark.the_row, tt)))) (λ κs qs bounds a gh are.
     let b : ℕ = a.0.ref_ptr.0 in let o : ℕ = a.0.ref_ptr.1 in let h = a.0.now in let b' : ℕ = a.1.0.ref_ptr.0 in let o' : ℕ = a.1.0.ref_ptr.1 in let k = a.1.0.now in let t = a.1.1.0.now in let b2 : ℕ = a.1.1.0.ref_ptr.0 in let o2 : ℕ = a.1.1.0.ref_ptr.1 in let w : Ptr = h.words in let p : Ptr = h.at in let z : Names = h.names in
-    let bw : ℕ = block_of w in let e : ℕ = 128 + count_of w in let us : List Val = seat_val w ∷ [] in let Data : Fml = WriteData.own_val (w, tt) us in let out : ℕ → Fml = Reclaimed 𝓛 w p z h.sent h.limit h.shut h.leaving t.count in
+    let us : List Val = seat_val w ∷ [] in let Data : Fml = WriteData.own_val (w, tt) us in let C : Fml = common w p z in let full : ℕ = t.count + z.capacity in let WK' : Fml = writer_knows w p z half h.sent full h.shut 0 in let B = byte p z.capacity in
     let y : (walk_of 𝓛 En hs c).Ghost = ((κs, qs, bounds, a, (vptr b o ∷ [], (vptr b' o' ∷ [], (vptr b2 o2 ∷ [], tt)))), gh) in let Post : Val → SProp 𝓤 = (walk_of 𝓛 En hs c).post y in
-    let Asked : Type 0 = (k.at ≡ p) × (k.capacity ≡ z.capacity) × (k.first + length k.bytes ≡ h.limit) × (t.names ≡ z) in
+    let Asked : Type 0 = (k.at ≡ p) × (k.capacity ≡ z.capacity) × (k.first + length k.bytes ≡ h.limit) × (t.names ≡ z) × (h.limit ≤ full) in
     qed 𝓛 (((‵ (flft κs.0 qs.0) ⊛ ‵ (flft κs.1.0 qs.1.0) ⊛ ‵ (flft κs.1.1.0 qs.1.1.0) ⊛ ‵ ftrue) ⊛ ‵ (owns (types_at En.signature.params κs) a y.0.4)) ∷ given Asked (‵ ftrue) ∷ []) ∵
     keep ! (1 ∷ 0 ∷ []) $ learn ! (λ asked. drop ! $ split ! $ split3 ! $ move ! (2 ∷ []) $ split ! $ move ! (4 ∷ []) $ fsplit3 ! $ move ! (2 ∷ []) $ fsplit ! $ fsplit ! $ drop ! $
     use1 𝓛 (‵ (hidden_shr TookData κs.1.1.0 (record {}, tt) b2 o2) ⊛ ‵ (fhide (took t.names t.count))) (lent_out 𝓛 Mark.struct (Mark.the_codes (marker.the_row RawPtr).coded) Mark.the_heap Mark.the_lent κs.1.1.0 t b2 o2) $
@@ -67,22 +64,17 @@ load_head_spec 𝓤 𝓛 𝓜 𝓡 wired =
     enter ! 𝓣.C 𝓣.Λ fn (vptr b o ∷ vptr b' o' ∷ vptr b2 o2 ∷ []) Post $ alloc_all ! (λ l. pass_all ! refl ((tt, tt), ((tt, tt), ((tt, tt), tt))) $ let Ev = env fn.locals l in
     opens ! tt KRow b' o' (λ vs'. move ! (1 ∷ []) $ fsplit ! $ move ! (6 ∷ 7 ∷ 8 ∷ []) $
     opens ! tt Row b o (λ vs. move ! (1 ∷ []) $ fsplit ! $ peeks ! WriteData (Is WriteData) (shows 𝓛 WriteData) (w, tt) vs (λ is-so. let ev : vs ≡ us = write_told w vs is-so in
-    drop ! $ rewrite ! 1 (λ (ws : List Val). ‵ (cell_at full_share Row.mir ws b o)) ev refl $ fsplit ! $ fsplit ! $ fpick ! (λ at. drop ! $ nothing ! $ fpack ! (Placed w p z) (λ _. ftrue) at $ fjoin ! $ fjoin ! $ first ! $ blocks ! $
-    sets ! (is ! (of_opd ! (load ! (through ! refl (fld ! refl (stop !))) (look_in ! 1 (sub ! 0 refl (whole !))))) (ap ptr_val (at_block w at.0))) refl (tt, tt) $
-    sets ! (bin ! (get ! refl) (lit ! tt) tt) refl (tt, tt) $
-    move ! (0 ∷ 11 ∷ []) $ use2 𝓛 (raw (𝓣.C _ (vptr bw e ∷ seq_cst ∷ []) (λ u. mean 𝓛 (found out u))))
-    (via 𝓤 _ (reclaims 𝓛 w p z h.sent h.limit h.shut h.leaving t.count) (loads 𝓛 𝓜 𝓡 (code.calls-core::raw_atomic::load 𝓡.env wired) (block_ptr bw e) out)) $
-    sets ! (agg ! (and_then ! (lit ! tt) (no_more !))) refl (tt, (record { fits = lit< tt }, tt)) $
-    Calls-last ! (fm 𝓛 𝓜 𝓡) (found out) (and_then ! (get ! refl) (and_then ! (get ! refl) (no_more !))) (λ u. finds ! out (λ n fits.
-    lands_last ! refl (tt, record { fits = fits }) $ exec ! 𝓣.C 𝓣.Λ Ev (tail fn.body) (at_ret Ev Post) $ sets ! (of_opd ! (get ! refl)) refl (tt, record { fits = fits }) $
-    fpick ! (λ r. let xs : List ℕ = r.1 in let hd : ℕ = r.0 in fsplit ! $ fpick ! (λ saw. drop ! $ fsplit ! $ move ! (7 ∷ []) $ fsplit ! $ fpick ! (λ fine. drop ! $
-    let h' : Row.Denot = record h { limit = hd + z.capacity } in let k' : KRow.Denot = record k { bytes = k.bytes ++ xs } in
+    drop ! $ rewrite ! 1 (λ (ws : List Val). ‵ (cell_at full_share Row.mir ws b o)) ev refl $ fsplit ! $ use1 𝓛 (‵ C ⊛ ‵ C) (common_twice 𝓛 w p z) $ split ! $ move ! (0 ∷ 2 ∷ 13 ∷ []) $
+    use3 𝓛 (later (some (λ (xs : List ℕ). given (full ≡ h.limit + length xs) (‵ (run B h.limit xs) ⊛ ‵ WK'))))
+    (accepts 𝓛 w p z h.sent h.limit h.shut t.count asked.4) $ await ! tt $ pick ! (λ xs. learn ! (λ gained. split ! $ move ! (2 ∷ 1 ∷ []) $ fjoin ! $ move ! (1 ∷ []) $
+    move ! (7 ∷ []) $ fsplit ! $ fpick ! (λ fine. drop ! $
+    let h' : Row.Denot = record h { limit = full } in let k' : KRow.Denot = record k { bytes = k.bytes ++ xs } in
     rewrite ! 1 (λ (r : Ptr × ℕ). ‵ (run (byte r.0 r.1) h.limit xs)) {x = (k.at, k.capacity)} {y = (p, z.capacity)} (λ i. (sym asked.0 i, sym asked.1 i)) refl $
     use2 𝓛 (‵ (run (byte k.at k.capacity) k.first (k.bytes ++ xs))) (run_join 𝓛 (byte k.at k.capacity) k.bytes xs k.first h.limit (sym asked.2)) $
     nothing ! $ fpack ! (P.Placed k.at k.capacity) (λ _. ftrue) fine $ fjoin ! $ move ! (6 ∷ 0 ∷ []) $ fjoin ! $ move ! (6 ∷ 0 ∷ 7 ∷ 8 ∷ 9 ∷ []) $ closes ! tt KRow k' vs' b' o' $ feq_i ! (List Val) (vptr b' o' ∷ []) (vptr b' o' ∷ []) refl $ fjoin3 ! $
-    nothing ! $ nothing ! $ fjoin ! $ move ! (1 ∷ 0 ∷ []) $ fjoin ! $ move ! (2 ∷ 3 ∷ 4 ∷ 5 ∷ 6 ∷ []) $ use0 𝓛 (‵ Data) (write_made 𝓛 w) $ fjoin ! $ move ! (1 ∷ 0 ∷ []) $ closes ! tt Row h' us b o $ feq_i ! (List Val) (vptr b o ∷ []) (vptr b o ∷ []) refl $ fjoin3 ! $
+    nothing ! $ nothing ! $ fjoin ! $ move ! (1 ∷ 0 ∷ []) $ fjoin ! $ move ! (2 ∷ 3 ∷ 4 ∷ 5 ∷ 6 ∷ []) $ use0 𝓛 (‵ Data) (write_made 𝓛 w) $ fjoin ! $ move ! (1 ∷ 0 ∷ []) $ closes ! tt Row h' us b o $ feq_i ! (List Val) (vptr b o ∷ []) (vptr b o ∷ []) refl $ fjoin3 ! $ sets ! (of_opd ! (unit_lit !)) refl (tt, tt) $
     move ! (0 ∷ 2 ∷ []) $ fjoin ! $ nothing ! $ move ! (4 ∷ 0 ∷ []) $ join ! $ move ! (3 ∷ 0 ∷ []) $ join ! $ move ! (2 ∷ 0 ∷ []) $ join ! $
-    let Told : Type 0 = (w ≡ w) × (p ≡ p) × (z ≡ z) × (h.sent ≡ h.sent) × (h.shut ≡ h.shut) × (h.leaving ≡ h.leaving) × (k.at ≡ k.at) × (k.capacity ≡ k.capacity) × (k.first ≡ k.first)
-    × ((m : ℕ) × (ys : List ℕ) × (n ≡ position_of z.capacity m) × (t.count ≤ m) × (m ≤ length h.sent) × (h'.limit ≡ m + z.capacity) × (k'.bytes ≡ k.bytes ++ ys) × (h'.limit ≡ h.limit + length ys)) in
-    use0 𝓛 (raw (fact 𝓤 Told)) (fact_i 𝓤 Told (emp 𝓤) (refl, refl, refl, refl, refl, refl, refl, refl, refl, (hd, xs, saw.0, saw.1, saw.2, refl, refl, saw.3))) $ flt_i ! n (2 ^ 64) fits $ feq_i ! (List Val) (vint w64 n ∷ []) (vint w64 n ∷ []) refl $ fjoin ! $
-    returns ! (look_at ! 0 refl) $ free_all ! refl $ keep ! (2 ∷ 3 ∷ 0 ∷ 1 ∷ []) $ by ! (leaves 𝓛 En hs c y (vint w64 n) n (h', (k', (tt, tt))) (tt, (tt, (tt, tt))))))))))))))))
+    let Told : Type 0 = (w ≡ w) × (p ≡ p) × (z ≡ z) × (h.sent ≡ h.sent) × (h.shut ≡ h.shut) × (k.at ≡ k.at) × (k.capacity ≡ k.capacity) × (k.first ≡ k.first)
+    × (full ≡ full) × ((ys : List ℕ) × (k'.bytes ≡ k.bytes ++ ys) × (full ≡ h.limit + length ys)) in
+    use0 𝓛 (raw (fact 𝓤 Told)) (fact_i 𝓤 Told (emp 𝓤) (refl, refl, refl, refl, refl, refl, refl, refl, refl, (xs, refl, gained))) $ feq_i ! (List Val) (vunit ∷ []) (vunit ∷ []) refl $
+    returns ! (look_at ! 0 refl) $ free_all ! refl $ keep ! (2 ∷ 3 ∷ 0 ∷ 1 ∷ []) $ by ! (leaves 𝓛 En hs c y vunit tt (h', (k', (tt, tt))) (tt, (tt, (tt, tt)))))))))))))

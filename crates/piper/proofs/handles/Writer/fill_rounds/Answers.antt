@@ -1,0 +1,28 @@
+-- A round adds to the rounds before it.
+use Rattle.std.proofs.Common.{◌≡◌, ℕ, ◌-◌, length, min, ap, sym, ◌∙◌, arith, length-drop, drop, take}
+use Rattle.std.proofs.lemmas.List.{take_rest}
+use Rattle.piper_ring.specs.WriteView.{WriteView}
+use Rattle.piper.proofs.Filling.{filled_more}
+use Rattle.piper.proofs.handles.Writer.fill_rounds.Goals as goal
+
+pub rounds-preserved : goal.rounds-preserved
+rounds-preserved g c =
+    let s : ℕ = c.rounds.sum in
+    let n : ℕ = c.copy_front-n.result in
+    let bytes = c.args.bytes.now in
+    let buf = c.write_buf.result.now in
+    let before = c.rounds.invariant in
+    let looked = c.load_closed.ensures in
+    let w : WriteView = c.load_closed.new.self.end in
+    let stored = c.store_tail.ensures in
+    let rest : take (length bytes - s) (drop s bytes) ≡ drop s bytes = take_rest bytes s in
+    let left : length (take (length bytes - s) (drop s bytes)) ≡ length bytes - s = ap length rest ∙ length-drop s bytes in
+    let count : n ≡ min (min (length (take (length bytes - s) (drop s bytes))) (length buf)) 131072 = c.copy_front-n.ensures.count in
+    record {
+      moved = filled_more c.args.self.now.end c.rounds.self.end w c.store_tail.new.self.end bytes (take (length bytes - s) (drop s bytes)) buf c.copy_front-n.new.to s n
+          before.moved rest (omega arith) (omega arith) c.copy_front-n.ensures.bytes
+          looked.end.sent looked.end.room looked.end.shut (record { ring = looked.end.end.ring; capacity = looked.end.end.capacity; told = looked.end.end.told }) looked.end.lent
+          stored.sent stored.room stored.end (omega (arith, before.moved.fits));
+      open_yet = stored.end.saw ∙ sym looked.saw ∙ c.if-load_closed.false;
+      rest = record { slots = stored.rest.slots ∙ looked.rest.slots ∙ before.rest.slots; rng = stored.rest.rng ∙ looked.rest.rng ∙ before.rest.rng };
+    }
