@@ -1,3 +1,6 @@
+pub mod Polls
+pub mod Like
+pub mod Written
 pub mod Slots
 pub mod Copies
 pub mod Counts

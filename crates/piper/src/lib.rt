@@ -2,7 +2,10 @@
 #![tactic(auto)]
 
 mod copying;
+pub mod error;
 mod handles;
+pub mod io;
+pub mod like;
 mod owned;
 mod reader;
 mod slot;

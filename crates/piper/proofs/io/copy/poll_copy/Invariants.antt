@@ -1,0 +1,10 @@
+-- What was taken so far was published.
+use Rattle.futures.specs.Task.{Keeps}
+use Rattle.piper.specs.Polls.{Carries}
+use Rattle.piper.proofs.io.copy.poll_copy.Given as goal
+
+abbrev pub invariant-loop : goal.invariant-loop
+invariant-loop g l = record {
+  carried : Carries (g.R.AsyncBufRead.taken l.initial.reader) (g.R.AsyncBufRead.taken l.reader) (g.W.AsyncWrite.sent l.initial.writer) (g.W.AsyncWrite.sent l.writer) (g.W.AsyncWrite.saw l.writer);
+  kept : Keeps l.initial.cx l.cx;
+}

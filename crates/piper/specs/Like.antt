@@ -1,0 +1,23 @@
+-- What passes through a source or a destination.
+use Rattle.std.specs.Prelude.{◌≡◌, ℕ, ◌+◌, ◌%◌, ◌^◌, List, [], ◌++◌, take, Result, Ok, Err, MatchResult}
+
+-- the type of `gives` and `takes`: a state, the bytes that passed, and the state after
+abbrev pub Passes : Type 0 → Type 1
+Passes S = S → List ℕ → S → Type 0
+
+-- where no byte passes, a state may stay as it is
+abbrev pub PassesNothing : {S : Type 0} → Passes S → Type 0
+PassesNothing {S} passes = (s : S) → passes s [] s
+
+-- what passes after one another passes together, in that order
+abbrev pub PassesInOrder : {S : Type 0} → Passes S → Type 0
+PassesInOrder {S} passes = (a : S) (xs : List ℕ) (b : S) (ys : List ℕ) (c : S) → passes a xs b → passes b ys c → passes a (xs ++ ys) c
+
+-- what passed of a slice in a call with this answer: the first n bytes, or none where it failed
+abbrev pub passed : {E : Type 0} → Result ℕ E → List ℕ → List ℕ
+passed (Ok n) xs = take n xs
+passed (Err e) xs = []
+
+-- a count of failures, modulo 2^64: it goes up by one where the call failed
+abbrev pub Counts : {A E : Type 0} → Result A E → ℕ → ℕ → Type 0
+Counts r old new = MatchResult r (λ _. new ≡ old) (λ _. new ≡ (old + 1) % 2 ^ 64)

@@ -1,0 +1,34 @@
+//! What a call of the pipe may fail with.
+ghost use Rattle.std.specs.Prelude.{◌≡◌};
+
+use piper_ring::OutOfMemory;
+use std::io;
+use thiserror::Error;
+
+/// What a copying call may fail with.
+#[derive(Debug, Drop, Error)]
+pub enum PipeError {
+    /// No waker could be made.
+    #[error("out of memory")]
+    Memory,
+    /// The source or the destination failed, with this error.
+    #[error("io failed")]
+    Io(io::Error),
+}
+
+/// What a copy over any source or destination may fail with.
+#[derive(Debug, Drop)]
+pub enum Inner<E> {
+    /// No waker could be made.
+    Memory,
+    /// The source or the destination failed, with this error.
+    Like(E),
+}
+
+impl From<OutOfMemory> for PipeError {
+    ghost from_gives = { λ _ error. error ≡ PipeError.Memory };
+
+    fn from(_error: OutOfMemory) -> PipeError {
+        PipeError::Memory
+    }
+}

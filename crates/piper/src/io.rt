@@ -1,0 +1,105 @@
+//! Reads and writes that may be pending, and a copy over them.
+ghost use Rattle.std.specs.Prelude.{◌≡◌, ◌<◌, ◌≤◌, ◌++◌, ℕ, List, length, take, drop, Bool, true, Ok};
+ghost use Rattle.std.specs.Borrow.{sem};
+ghost use Rattle.std.specs.Io.{StartsWith};
+ghost use Rattle.std.specs.Io.BufRead.{Rests};
+ghost use Rattle.futures.specs.Task.{Covers, Keeps};
+ghost use Rattle.futures.specs.Poll.{OnPending};
+ghost use Rattle.piper.specs.Polls.{Lends, Reads, Writes, OnReadyOk};
+
+mod copy;
+
+use crate::error::PipeError;
+pub use copy::{Copied, poll_copy};
+use futures::task::{Context, Poll};
+
+/// A reader that copies what it takes.
+pub trait AsyncRead {
+    // all bytes that were taken
+    ghost taken: { Self → List ℕ };
+
+    // whether a call of its own saw the end
+    ghost saw: { Self → Bool };
+
+    // holds of each source that a pending read waits for
+    ghost needs: { Self → ℕ → Type 0 };
+
+    /// Takes bytes, puts them at the front of `dest`, and answers how many; 0 where `dest` has room is the end.
+    fn poll_read(&mut self, cx: &mut Context<'_>, dest: &mut [u8]) -> Poll<Result<usize, PipeError>>
+        ensures read { Reads result dest.old dest.new (taken self.old) (taken self.new) (saw self.new) }
+        ensures stays { saw self.old ≡ true → saw self.new ≡ true }
+        ensures covered { OnPending result (Covers cx.new (needs self.new)) }
+        ensures kept { Keeps cx.old cx.new };
+}
+
+/// A reader that lends the bytes that it knows.
+pub trait AsyncBufRead {
+    // the bytes that it knows, the next one first
+    ghost known: { Self → List ℕ };
+
+    // how many of the first of them stand in one piece
+    ghost piece: { Self → ℕ };
+
+    // all bytes that were taken
+    ghost taken: { Self → List ℕ };
+
+    // whether a call of its own saw the end
+    ghost saw: { Self → Bool };
+
+    // holds of each source that a pending call waits for
+    ghost needs: { Self → ℕ → Type 0 };
+
+    /// Lends the first piece of the bytes that it knows; an empty slice is the end. Bytes that were known stay known, and none is taken.
+    fn poll_fill_buf(&mut self, cx: &mut Context<'_>) -> Poll<Result<&[u8], PipeError>>
+        // said of the reader as it is once the slice is given back
+        ensures* lent { sem 𝓛 (Rests Self.row self.entry (λ new.
+            Lends result (known new) (piece new) (saw new)
+            × StartsWith (known new) (known self.old)
+            × (taken new ≡ taken self.old)
+            × (saw self.old ≡ true → saw new ≡ true)
+            × OnPending result (Covers cx.new (needs new)))) }
+        ensures kept { Keeps cx.old cx.new };
+
+    /// Takes the first `amt` bytes of the piece.
+    fn consume(&mut self, amt: usize)
+        requires { amt ≤ piece self.old }
+        ensures known { known self.new ≡ drop amt (known self.old) }
+        ensures taken { taken self.new ≡ taken self.old ++ take amt (known self.old) }
+        ensures saw { saw self.new ≡ saw self.old };
+}
+
+/// A writer.
+pub trait AsyncWrite {
+    // all bytes that were published
+    ghost sent: { Self → List ℕ };
+
+    // whether a call of its own saw the pipe closed
+    ghost saw: { Self → Bool };
+
+    // holds of each source that a pending call waits for
+    ghost needs: { Self → ℕ → Type 0 };
+
+    /// Publishes bytes from the front of `source`, and answers how many; 0 where there are some says that the pipe is closed, and so does each later answer. Bytes that were counted in the call that sees the pipe closed may be lost.
+    fn poll_write(&mut self, cx: &mut Context<'_>, source: &[u8]) -> Poll<Result<usize, PipeError>>
+        ensures written { Writes result source.now (sent self.old) (sent self.new) (saw self.new) }
+        ensures full { result ≡ Poll.Ready (Ok 0) → 0 < length source.now → saw self.new ≡ true }
+        ensures over { saw self.old ≡ true → result ≡ Poll.Ready (Ok 0) }
+        ensures stays { saw self.old ≡ true → saw self.new ≡ true }
+        ensures covered { OnPending result (Covers cx.new (needs self.new)) }
+        ensures kept { Keeps cx.old cx.new };
+
+    /// Waits until what was written is on its way.
+    fn poll_flush(&mut self, cx: &mut Context<'_>) -> Poll<Result<(), PipeError>>
+        ensures sent { sent self.new ≡ sent self.old }
+        ensures stays { saw self.old ≡ true → saw self.new ≡ true }
+        ensures covered { OnPending result (Covers cx.new (needs self.new)) }
+        ensures kept { Keeps cx.old cx.new };
+
+    /// Closes the pipe for good.
+    fn poll_close(&mut self, cx: &mut Context<'_>) -> Poll<Result<(), PipeError>>
+        ensures closed { OnReadyOk result (saw self.new ≡ true) }
+        ensures sent { sent self.new ≡ sent self.old }
+        ensures stays { saw self.old ≡ true → saw self.new ≡ true }
+        ensures covered { OnPending result (Covers cx.new (needs self.new)) }
+        ensures kept { Keeps cx.old cx.new };
+}

@@ -1,0 +1,54 @@
+//! A copy from any reader that lends to any writer.
+ghost use Rattle.std.specs.Prelude.{◌≡◌, ◌⊎◌, [], true, Ok};
+ghost use Rattle.futures.specs.Task.{Covers, Keeps};
+ghost use Rattle.futures.specs.Poll.{OnPending};
+ghost use Rattle.piper.specs.Polls.{Carries};
+
+use super::{AsyncBufRead, AsyncWrite};
+use crate::error::PipeError;
+use futures::task::{Context, Poll};
+
+/// How many pieces a poll carries at most, so that other tasks get their turn.
+const MOST_PIECES: u32 = 64;
+
+/// Why a copy ended.
+#[derive(Clone, Copy, Debug, PartialEq, Eq)]
+pub enum Copied {
+    /// All that the reader gave was taken.
+    ToTheEnd,
+    /// The writer's pipe is closed.
+    UntilClosed,
+}
+
+/// Copies all bytes from the reader to the writer, in order, up to the end of the one, the close of the other, or the first error.
+///
+/// After 64 pieces it asks for another poll. After an answer other than that the writer's pipe is closed, all that was taken is published, and the next poll goes on from there.
+pub fn poll_copy<R: AsyncBufRead, W: AsyncWrite>(
+    cx: &mut Context<'_>,
+    reader: &mut R,
+    writer: &mut W,
+) -> Poll<Result<Copied, PipeError>>
+    ensures carried { Carries (R.taken reader.old) (R.taken reader.new) (W.sent writer.old) (W.sent writer.new) (W.saw writer.new) }
+    ensures ended { result ≡ Poll.Ready (Ok Copied.ToTheEnd) → (R.known reader.new ≡ []) × (R.saw reader.new ≡ true) }
+    ensures closed { result ≡ Poll.Ready (Ok Copied.UntilClosed) → W.saw writer.new ≡ true }
+    ensures covered { OnPending result (Covers cx.new (R.needs reader.new) ⊎ Covers cx.new (W.needs writer.new)) }
+    ensures kept { Keeps cx.old cx.new }
+{
+    for _ in 0..MOST_PIECES {
+        let piece = match reader.poll_fill_buf(cx) {
+            Poll::Pending => return Poll::Pending,
+            Poll::Ready(Err(error)) => return Poll::Ready(Err(error)),
+            Poll::Ready(Ok(piece)) => piece,
+        };
+        if piece.is_empty() {
+            return Poll::Ready(Ok(Copied::ToTheEnd));
+        }
+        match writer.poll_write(cx, piece) {
+            Poll::Pending => return Poll::Pending,
+            Poll::Ready(Err(error)) => return Poll::Ready(Err(error)),
+            Poll::Ready(Ok(0)) => return Poll::Ready(Ok(Copied::UntilClosed)),
+            Poll::Ready(Ok(n)) => reader.consume(n),
+        }
+    }
+    cx.yield_now()
+}

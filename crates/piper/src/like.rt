@@ -1,0 +1,69 @@
+//! What a copy takes bytes from and gives them to.
+ghost use Rattle.std.specs.Prelude.{◌≡◌, ◌<◌, ◌≤◌, ℕ, List, length, Ok, IfOk, IfErr};
+ghost use Rattle.piper.specs.Like.{PassesNothing, PassesInOrder, Counts, passed};
+
+mod bytes;
+mod streams;
+
+pub use bytes::{ReadBytes, WriteBytes};
+pub use streams::{StdRead, StdWrite};
+
+/// A source of bytes.
+pub trait ReadLike {
+    /// What a read may fail with.
+    type Error: Drop;
+
+    // from the one state to the other, these bytes were given
+    ghost gives: { Self → List ℕ → Self → Type 0 };
+
+    // a read with room gave none
+    ghost is_dry: { Self → Type 0 };
+
+    // a read on the one state may fail with this error, and then leaves the other
+    ghost fails: { Self → Self.Error → Self → Type 0 };
+
+    // how many reads failed, modulo 2^64
+    ghost failures: { Self → ℕ };
+
+    /// Reads bytes to the front of `dest`, and answers how many. A read that fails gives none, though `dest` may be changed.
+    fn read(&mut self, dest: &mut [u8]) -> Result<usize, Self::Error>
+        ensures bound { IfOk result (λ n. n ≤ length dest.new) }
+        ensures bytes { gives self.old (passed result dest.new) self.new }
+        ensures dry { result ≡ Ok 0 → 0 < length dest.new → is_dry self.new }
+        ensures error { IfErr result (λ e. fails self.old e self.new) }
+        ensures failures { Counts result (failures self.old) (failures self.new) };
+
+    ghost gives_nothing: { PassesNothing gives };
+
+    ghost gives_in_order: { PassesInOrder gives };
+}
+
+/// A destination of bytes.
+pub trait WriteLike {
+    /// What a write may fail with.
+    type Error: Drop;
+
+    // from the one state to the other, these bytes were taken
+    ghost takes: { Self → List ℕ → Self → Type 0 };
+
+    // a write of some bytes took none
+    ghost is_full: { Self → Type 0 };
+
+    // a write on the one state may fail with this error, and then leaves the other
+    ghost fails: { Self → Self.Error → Self → Type 0 };
+
+    // how many writes failed, modulo 2^64
+    ghost failures: { Self → ℕ };
+
+    /// Writes bytes from the front of `source`, and answers how many. A write that fails takes none.
+    fn write(&mut self, source: &[u8]) -> Result<usize, Self::Error>
+        ensures bound { IfOk result (λ n. n ≤ length source.now) }
+        ensures bytes { takes self.old (passed result source.now) self.new }
+        ensures full { result ≡ Ok 0 → 0 < length source.now → is_full self.new }
+        ensures error { IfErr result (λ e. fails self.old e self.new) }
+        ensures failures { Counts result (failures self.old) (failures self.new) };
+
+    ghost takes_nothing: { PassesNothing takes };
+
+    ghost takes_in_order: { PassesInOrder takes };
+}

@@ -1,0 +1,93 @@
+//! Slices as sources and destinations. They don't fail.
+ghost use Rattle.std.specs.Prelude.{◌≡◌, ◌+◌, ◌≤◌, ◌++◌, length, refl};
+ghost use Rattle.std.proofs.Common.{◌∙◌};
+ghost use Rattle.piper.specs.Written.{written, written_nothing, written_on, place_on, place_same, front_on};
+
+use super::{ReadLike, WriteLike};
+use std::convert::Infallible;
+
+/// A slice as a source: `rest` is what it has left to give.
+#[derive(Drop)]
+pub struct ReadBytes<'a> {
+    pub rest: &'a [u8],
+}
+
+/// A slice as a destination: up to `place` it is written.
+#[derive(Drop)]
+pub struct WriteBytes<'a> {
+    pub bytes: &'a mut [u8],
+    pub place: usize,
+    ghost within: { place ≤ length bytes.now },
+}
+
+impl<'a> ReadBytes<'a> {
+    /// All of it is left.
+    pub fn new(bytes: &'a [u8]) -> ReadBytes<'a>
+        ensures { result.rest.now ≡ bytes.now }
+    {
+        ReadBytes { rest: bytes }
+    }
+}
+
+impl ReadLike for ReadBytes<'_> {
+    type Error = Infallible;
+
+    ghost gives = { λ old bytes new. old.rest.now ≡ bytes ++ new.rest.now };
+
+    ghost is_dry = { λ s. length s.rest.now ≡ 0 };
+
+    ghost fails = { λ _ _ _. ⊥ };
+
+    ghost failures = { λ _. 0 };
+
+    ghost gives_nothing = { λ _. refl };
+
+    ghost gives_in_order = { λ a xs b ys c p q. front_on a.rest.now xs b.rest.now ys c.rest.now p q };
+
+    fn read(&mut self, dest: &mut [u8]) -> Result<usize, Infallible> {
+        let n = self.rest.len().min(dest.len());
+        let (given, rest) = self.rest.split_at(n);
+        dest[..n].copy_from_slice(given);
+        self.rest = rest;
+        Ok(n)
+    }
+}
+
+impl<'a> WriteBytes<'a> {
+    /// Nothing of it is written.
+    pub fn new(bytes: &'a mut [u8]) -> WriteBytes<'a>
+        ensures same { result.bytes.ghost_name ≡ bytes.entry.ghost_name }
+        ensures bytes { result.bytes.now ≡ bytes.old }
+        ensures place { result.place ≡ 0 }
+    {
+        WriteBytes { bytes, place: 0 }
+    }
+}
+
+impl WriteLike for WriteBytes<'_> {
+    type Error = Infallible;
+
+    ghost takes = { λ old bytes new. (new.bytes.ghost_name ≡ old.bytes.ghost_name) × (new.place ≡ old.place + length bytes)
+        × (new.bytes.now ≡ written old.bytes.now old.place bytes) };
+
+    ghost is_full = { λ w. length w.bytes.now ≡ w.place };
+
+    ghost fails = { λ _ _ _. ⊥ };
+
+    ghost failures = { λ _. 0 };
+
+    ghost takes_nothing = { λ w. (refl, place_same w.place, written_nothing w.bytes.now w.place) };
+
+    ghost takes_in_order = { λ a xs b ys c p q. (
+      q.0 ∙ p.0,
+      place_on a.place b.place c.place xs ys p.1 q.1,
+      written_on a.bytes.now b.bytes.now c.bytes.now a.place b.place xs ys a.within p.2 p.1 q.2,
+    ) };
+
+    fn write(&mut self, source: &[u8]) -> Result<usize, Infallible> {
+        let n = source.len().min(self.bytes.len() - self.place);
+        self.bytes[self.place..self.place + n].copy_from_slice(&source[..n]);
+        self.place += n;
+        Ok(n)
+    }
+}

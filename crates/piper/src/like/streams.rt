@@ -1,0 +1,101 @@
+//! Readers and writers of std as sources and destinations, with a count of their failures.
+ghost use Rattle.std.specs.Prelude.{◌≡◌, ◌+◌, ◌%◌, ◌^◌, refl, ⊤};
+ghost use Rattle.std.specs.Io.KnownBytes.{Consumes, Appends, IsAtEnd};
+ghost use Rattle.std.proofs.Common.{◌∙◌};
+ghost use Rattle.std.proofs.KnownBytes.{Consumes-nil, Consumes-trans, Appends-nil, Appends-trans};
+
+use super::{ReadLike, WriteLike};
+use std::io;
+use std::io::{Read, Write};
+
+/// A reader as a source.
+#[derive(Drop)]
+pub struct StdRead<'a, R: Read> {
+    pub object: &'a mut R,
+    pub failures: u64,
+}
+
+/// A writer as a destination.
+#[derive(Drop)]
+pub struct StdWrite<'a, W: Write> {
+    pub object: &'a mut W,
+    pub failures: u64,
+}
+
+impl<'a, R: Read> StdRead<'a, R> {
+    /// It has not failed yet.
+    pub fn new(object: &'a mut R) -> StdRead<'a, R>
+        ensures same { result.object.ghost_name ≡ object.entry.ghost_name }
+        ensures object { result.object.now ≡ object.old }
+        ensures failures { result.failures ≡ 0 }
+    {
+        StdRead {
+            object,
+            failures: 0,
+        }
+    }
+}
+
+impl<R: Read> ReadLike for StdRead<'_, R> {
+    type Error = io::Error;
+
+    ghost gives = { λ old bytes new. (new.object.ghost_name ≡ old.object.ghost_name)
+        × Consumes (R.remaining old.object.now) (R.remaining new.object.now) bytes };
+
+    ghost is_dry = { λ s. IsAtEnd (R.remaining s.object.now) };
+
+    ghost fails = { λ old _ new. new.failures ≡ (old.failures + 1) % 2 ^ 64 };
+
+    ghost failures = { λ s. s.failures };
+
+    ghost gives_nothing = { λ s. (refl, Consumes-nil (R.remaining s.object.now)) };
+
+    ghost gives_in_order = { λ a xs b ys c p q. (q.0 ∙ p.0, Consumes-trans _ _ _ xs ys p.1 q.1) };
+
+    fn read(&mut self, dest: &mut [u8]) -> io::Result<usize> {
+        let result = self.object.read(dest);
+        if result.is_err() {
+            self.failures = self.failures.wrapping_add(1);
+        }
+        result
+    }
+}
+
+impl<'a, W: Write> StdWrite<'a, W> {
+    /// It has not failed yet.
+    pub fn new(object: &'a mut W) -> StdWrite<'a, W>
+        ensures same { result.object.ghost_name ≡ object.entry.ghost_name }
+        ensures object { result.object.now ≡ object.old }
+        ensures failures { result.failures ≡ 0 }
+    {
+        StdWrite {
+            object,
+            failures: 0,
+        }
+    }
+}
+
+impl<W: Write> WriteLike for StdWrite<'_, W> {
+    type Error = io::Error;
+
+    ghost takes = { λ old bytes new. (new.object.ghost_name ≡ old.object.ghost_name)
+        × Appends (W.contents old.object.now) (W.contents new.object.now) bytes };
+
+    ghost is_full = { λ _. ⊤ };
+
+    ghost fails = { λ old _ new. new.failures ≡ (old.failures + 1) % 2 ^ 64 };
+
+    ghost failures = { λ w. w.failures };
+
+    ghost takes_nothing = { λ w. (refl, Appends-nil (W.contents w.object.now)) };
+
+    ghost takes_in_order = { λ a xs b ys c p q. (q.0 ∙ p.0, Appends-trans _ _ _ xs ys p.1 q.1) };
+
+    fn write(&mut self, source: &[u8]) -> io::Result<usize> {
+        let result = self.object.write(source);
+        if result.is_err() {
+            self.failures = self.failures.wrapping_add(1);
+        }
+        result
+    }
+}
