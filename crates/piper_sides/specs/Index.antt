@@ -1,5 +1,5 @@
 -- Indices of a ring of `capacity` places: they lie in 0..2 * capacity, so that a full ring differs from an empty one.
-use Rattle.std.specs.Prelude.{ℕ, ◌+◌, ◌-◌, ◌*◌, ◌^◌, ◌<◌, ◌≤◌, if◌then◌else◌, nat_lt, nat_le}
+use Rattle.std.specs.Prelude.{ℕ, ◌+◌, ◌-◌, ◌*◌, ◌%◌, ◌^◌, ◌<◌, ◌≤◌, if◌then◌else◌, nat_lt, nat_le}
 
 -- a capacity whose indices fit a machine word
 abbrev pub IsCapacity : ℕ → Type 0
@@ -16,3 +16,11 @@ place_of capacity i = if nat_lt i capacity then i else i - capacity
 -- the index n places further on
 abbrev pub advanced : ℕ → ℕ → ℕ → ℕ
 advanced capacity i n = if nat_lt (i + n) (2 * capacity) then i + n else i + n - 2 * capacity
+
+-- the index one turn of the buffer further on, which is also the one a turn before
+abbrev pub turned : ℕ → ℕ → ℕ
+turned capacity i = if nat_lt i capacity then i + capacity else i - capacity
+
+-- the distance as a remainder modulo two laps
+abbrev pub lap_remainder : ℕ → ℕ → ℕ → ℕ
+lap_remainder capacity from to = (2 * capacity + to - from) % (2 * capacity)

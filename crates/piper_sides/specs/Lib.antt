@@ -1,4 +1,7 @@
 pub mod Index
+pub mod LendBound
+pub mod ReaderIndices
+pub mod WriterIndices
 pub mod Open
 pub mod Call
 pub mod Answer

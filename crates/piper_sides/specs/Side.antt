@@ -9,6 +9,7 @@ use Rattle.piper_sides.specs.declared.table.AfterRead.TheVariants as afterward
 use Rattle.piper_sides.specs.declared.table.AfterWrite.{AfterWrite}
 use Rattle.piper_sides.specs.declared.table.AfterWrite.TheVariants as behind
 use Rattle.piper_sides.specs.Index.{IsCapacity, distance, place_of}
+use Rattle.piper_sides.specs.LendBound.{lend_bound}
 
 pub record Reading : Type 0 where
   pub capacity : ℕ
@@ -47,12 +48,8 @@ room_of w = w.capacity - distance w.capacity w.head w.tail
 abbrev pub left_of : Writing → ℕ
 left_of w = w.capacity - place_of w.capacity w.tail
 
--- what is lent grows with what was set already, so that no call sets a whole large buffer
-abbrev pub lend_bound : Writing → ℕ
-lend_bound w = 2 * w.zeroed + 4096
-
 abbrev pub lend_length : ℕ → Writing → ℕ
-lend_length most w = if w.is_shut then 0 else min (min most (lend_bound w)) (min (room_of w) (left_of w))
+lend_length most w = if w.is_shut then 0 else min (min most (lend_bound w.zeroed)) (min (room_of w) (left_of w))
 
 -- lent from the writer's place on, and set up to the end of that
 abbrev pub lent_out : ℕ → Writing → Writing

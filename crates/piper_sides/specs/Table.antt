@@ -1,5 +1,5 @@
 -- The call table: which step a side makes at each place of a call, and where what it found leads.
-use Rattle.std.specs.Prelude.{ℕ, ◌+◌, Bool, true, false, Option, None, Some, ◌==◌, Result, Ok, Err}
+use Rattle.std.specs.Prelude.{◌≡◌, ℕ, ◌+◌, Bool, true, false, Option, None, Some, ◌==◌, Result, Ok, Err}
 use Rattle.piper_sides.specs.declared.calls.Side.TheVariants.{Reader, Writer}
 use Rattle.piper_sides.specs.declared.calls.Query.{Query}
 use Rattle.piper_sides.specs.declared.calls.Query.TheVariants.{Len, IsEmpty, IsFull}
@@ -50,6 +50,11 @@ goes_on place = record { place = place; answer = None }
 
 abbrev pub ends : {P : Type 0} → P → Answer → Next P
 ends place answer = record { place = place; answer = Some answer }
+
+-- a place, and the answer if there is one, are where a step leads
+pub record Leads {P : Type 0} (to : P × Option Answer) (next : Next P) : Type 0 where
+  pub place : to.0 ≡ next.place
+  pub answer : to.1 ≡ next.answer
 
 abbrev pub query_answer : Query → ℕ → ℕ → Answer
 query_answer Len capacity count = Count count
@@ -161,24 +166,33 @@ abbrev pub writer_taken : AfterRead → Bool → Next ReadPlace
 writer_taken next false = read_done next
 writer_taken next true = goes_on (at.WakeWriter next)
 
--- where the reader of a pipe of this capacity comes to from a place, by what its step found
+-- where the reader comes to from a place, by what its step found; of a query's last load read_after tells
+abbrev pub read_step : ReadPlace → Found → Next ReadPlace
+read_step (at.QueryHead query) found = goes_on (at.QueryTail query)
+read_step at.QueryClosed (flag is_closed) = ends at.Idle (Flag is_closed)
+read_step (at.LookTail l) (refreshed none) = goes_on (reader_looked none l)
+read_step (at.LookRegister l) (granted is_granted) = reader_registered is_granted l
+read_step (at.LookClosed l) (flag is_closed) = goes_on (at.LookTailAgain l is_closed)
+read_step (at.LookTailAgain l was_closed) (refreshed none) = reader_looked_again none l was_closed
+read_step (at.LookTake l) found = reader_is_true l
+read_step at.Yield (granted is_granted) = ends at.Idle (yield_answer is_granted)
+read_step (at.CallDestination form sum) (moved n) = reader_moved (n == 0) n form sum
+read_step (at.CallDestination form sum) failed = ends at.Idle failed_answer
+read_step (at.StoreHead n next) found = goes_on (at.TakeWriter next)
+read_step (at.TakeWriter next) (waker is_found) = writer_taken next is_found
+read_step (at.WakeWriter next) found = read_done next
+read_step at.StoreClosed found = goes_on (at.TakeWriter afterward.Drop)
+read_step place found = goes_on place
+
+-- whether a copy draws behind the step that comes next
+abbrev pub reader_draws_behind : ReadPlace → Bool
+reader_draws_behind (at.LookTake (purpose.Copy form)) = true
+reader_draws_behind place = false
+
+-- the same in a pipe of this capacity
 abbrev pub read_after : ℕ → ReadPlace → Found → Next ReadPlace
-read_after capacity (at.QueryHead query) found = goes_on (at.QueryTail query)
 read_after capacity (at.QueryTail query) (unread count) = ends at.Idle (query_answer query capacity count)
-read_after capacity at.QueryClosed (flag is_closed) = ends at.Idle (Flag is_closed)
-read_after capacity (at.LookTail l) (refreshed none) = goes_on (reader_looked none l)
-read_after capacity (at.LookRegister l) (granted is_granted) = reader_registered is_granted l
-read_after capacity (at.LookClosed l) (flag is_closed) = goes_on (at.LookTailAgain l is_closed)
-read_after capacity (at.LookTailAgain l was_closed) (refreshed none) = reader_looked_again none l was_closed
-read_after capacity (at.LookTake l) found = reader_is_true l
-read_after capacity at.Yield (granted is_granted) = ends at.Idle (yield_answer is_granted)
-read_after capacity (at.CallDestination form sum) (moved n) = reader_moved (n == 0) n form sum
-read_after capacity (at.CallDestination form sum) failed = ends at.Idle failed_answer
-read_after capacity (at.StoreHead n next) found = goes_on (at.TakeWriter next)
-read_after capacity (at.TakeWriter next) (waker is_found) = writer_taken next is_found
-read_after capacity (at.WakeWriter next) found = read_done next
-read_after capacity at.StoreClosed found = goes_on (at.TakeWriter afterward.Drop)
-read_after capacity place found = goes_on place
+read_after capacity place found = read_step place found
 
 -- the writer
 
@@ -268,28 +282,53 @@ abbrev pub own_taken : Bool → Next WritePlace
 own_taken false = ends on.Idle Done
 own_taken true = goes_on on.WakeWriter
 
--- where the writer of a pipe of this capacity and known room comes to from a place, by what its step found
+-- where the writer comes to from a place, by what its step found; of a query's last load, and of the load of
+-- closed that a look begins with, write_after tells
+abbrev pub write_step : WritePlace → Found → Next WritePlace
+write_step (on.QueryHead query) (unread count) = goes_on (on.QueryTail query count)
+write_step on.QueryClosed (flag is_closed) = ends on.Idle (Flag is_closed)
+write_step (on.LookHead l) (refreshed none) = goes_on (writer_looked none l)
+write_step (on.LookRegister l) (granted is_granted) = writer_registered is_granted l
+write_step (on.LookHeadAgain l) (refreshed none) = goes_on (writer_looked_again none l)
+write_step (on.LookClosedAgain l) (flag is_closed) = ends on.Idle (look_answer l (end_or_pending is_closed))
+write_step (on.LookTake l) found = writer_is_true l
+write_step on.Yield (granted is_granted) = ends on.Idle (yield_answer is_granted)
+write_step (on.CallSource form sum) (moved n) = writer_moved (n == 0) n form sum
+write_step (on.CallSource form sum) failed = ends on.Idle failed_answer
+write_step (on.RoundClosed n form sum) (flag is_closed) = writer_rounds is_closed n form sum
+write_step (on.StoreTail n next) found = goes_on (on.TakeReader next)
+write_step (on.TakeReader next) (waker is_found) = reader_taken next is_found
+write_step (on.WakeReader next) found = write_done next
+write_step (on.StoreClosed next) found = goes_on (on.TakeReader next)
+write_step on.TakeWriter (waker is_found) = own_taken is_found
+write_step on.WakeWriter found = ends on.Idle Done
+write_step place found = goes_on place
+
+-- whether a look begins with the step that comes next, so that known room decides where it leads
+abbrev pub begins_look : WritePlace → Bool
+begins_look (on.LookClosed l) = true
+begins_look place = false
+
+-- where a look goes on behind the load of closed that it begins with: `none` is whether no room is known
+abbrev pub look_begun : Bool → WritePlace → Bool → Next WritePlace
+look_begun none (on.LookClosed l) is_closed = writer_is_open is_closed none l
+look_begun none place is_closed = goes_on place
+
+-- where a query's last load leads in a pipe of this capacity
+abbrev pub query_told : ℕ → WritePlace → Next WritePlace
+query_told capacity (on.QueryTail query count) = ends on.Idle (query_answer query capacity count)
+query_told capacity place = goes_on place
+
+-- whether a copy draws behind the step that comes next
+abbrev pub writer_draws_behind : WritePlace → Bool
+writer_draws_behind (on.LookTake (purpose.Copy form)) = true
+writer_draws_behind place = false
+
+-- the same in a pipe of this capacity, of which it knows so much room
 abbrev pub write_after : ℕ → ℕ → WritePlace → Found → Next WritePlace
-write_after capacity room (on.QueryHead query) (unread count) = goes_on (on.QueryTail query count)
 write_after capacity room (on.QueryTail query count) found = ends on.Idle (query_answer query capacity count)
-write_after capacity room on.QueryClosed (flag is_closed) = ends on.Idle (Flag is_closed)
 write_after capacity room (on.LookClosed l) (flag is_closed) = writer_is_open is_closed (room == 0) l
-write_after capacity room (on.LookHead l) (refreshed none) = goes_on (writer_looked none l)
-write_after capacity room (on.LookRegister l) (granted is_granted) = writer_registered is_granted l
-write_after capacity room (on.LookHeadAgain l) (refreshed none) = goes_on (writer_looked_again none l)
-write_after capacity room (on.LookClosedAgain l) (flag is_closed) = ends on.Idle (look_answer l (end_or_pending is_closed))
-write_after capacity room (on.LookTake l) found = writer_is_true l
-write_after capacity room on.Yield (granted is_granted) = ends on.Idle (yield_answer is_granted)
-write_after capacity room (on.CallSource form sum) (moved n) = writer_moved (n == 0) n form sum
-write_after capacity room (on.CallSource form sum) failed = ends on.Idle failed_answer
-write_after capacity room (on.RoundClosed n form sum) (flag is_closed) = writer_rounds is_closed n form sum
-write_after capacity room (on.StoreTail n next) found = goes_on (on.TakeReader next)
-write_after capacity room (on.TakeReader next) (waker is_found) = reader_taken next is_found
-write_after capacity room (on.WakeReader next) found = write_done next
-write_after capacity room (on.StoreClosed next) found = goes_on (on.TakeReader next)
-write_after capacity room on.TakeWriter (waker is_found) = own_taken is_found
-write_after capacity room on.WakeWriter found = ends on.Idle Done
-write_after capacity room place found = goes_on place
+write_after capacity room place found = write_step place found
 
 -- whether the answer of a step at this place would end a fill
 abbrev pub is_copy : Purpose → Bool

@@ -1,6 +1,6 @@
 //! Indices of a ring of `cap` places. They lie in `0..2 * cap`, so that a full ring differs from an empty one.
 ghost use Rattle.std.specs.Prelude.{◌≡◌, ◌+◌, ◌-◌, ◌*◌, ◌%◌, ◌<◌, ◌≤◌};
-ghost use Rattle.piper_sides.specs.Index.{IsCapacity, distance, place_of, advanced};
+ghost use Rattle.piper_sides.specs.Index.{IsCapacity, distance, place_of, advanced, turned};
 
 /// How far the index `to` is past the index `from`.
 pub fn distance(cap: usize, from: usize, to: usize) -> usize
@@ -38,15 +38,26 @@ pub fn real(cap: usize, i: usize) -> usize
     if i < cap { i } else { i - cap }
 }
 
-/// The index `n` places further on, up to the boundary of the buffer.
+/// The index `n` places further on, which may be past the end of the buffer.
 pub fn advance(cap: usize, i: usize, n: usize) -> usize
     requires capacity { IsCapacity cap }
     requires index { i < 2 * cap }
-    requires within { place_of cap i + n ≤ cap }
+    requires within { n ≤ cap }
     ensures value { result ≡ advanced cap i n }
     ensures remainder { result ≡ (i + n) % (2 * cap) }
     ensures below { result < 2 * cap }
 {
-    let sum = i + n;
-    if sum < 2 * cap { sum } else { sum - 2 * cap }
+    let left = 2 * cap - i;
+    if n < left { i + n } else { n - left }
+}
+
+/// The index one turn of the buffer further on, which is also the one a turn before.
+pub fn turned(cap: usize, i: usize) -> usize
+    requires capacity { IsCapacity cap }
+    requires index { i < 2 * cap }
+    ensures value { result ≡ turned cap i }
+    ensures back { turned cap result ≡ i }
+    ensures below { result < 2 * cap }
+{
+    if i < cap { i + cap } else { i - cap }
 }

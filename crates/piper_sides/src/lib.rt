@@ -7,6 +7,9 @@ pub mod events;
 pub mod index;
 pub mod memory;
 pub mod polling;
+pub mod read_call;
+pub mod read_indices;
+mod read_place;
 pub mod read_side;
 pub mod refusals;
 pub mod scripted;
@@ -15,4 +18,7 @@ pub mod table;
 #[cfg(test)]
 mod tests;
 pub mod woken;
+pub mod write_call;
+pub mod write_indices;
+mod write_place;
 pub mod write_side;

@@ -5,10 +5,9 @@ ghost use Rattle.piper_sides.specs.Table.{end_or_pending, read_done, look_answer
 
 use crate::calls::{Query, Side};
 use crate::events::Answer;
-use crate::index;
 use crate::polling::Polled;
-use crate::scripted::Failed;
-use crate::table::{Action, AfterRead, Form, Purpose, ReadPlace};
+use crate::read_indices::ReadIndices;
+use crate::table::{Action, AfterRead, Purpose, ReadPlace};
 use std::marker::Model;
 
 /// What the reader keeps. It knows no buffer, no slot, no waker and no runtime.
@@ -17,9 +16,7 @@ use std::marker::Model;
 /// next, and the function named after that step takes in what was found; it answers where the call ends.
 #[derive(Debug, Drop)]
 pub struct ReadSide {
-    capacity: usize,
-    head: usize,
-    tail: usize,
+    indices: ReadIndices,
     place: ReadPlace,
 }
 
@@ -28,9 +25,9 @@ impl Model for ReadSide {
 
     ghost Value = { Reading };
 
-    ghost view = { λ side. record { capacity = side.capacity; head = side.head; tail = side.tail; place = side.place } };
+    ghost view = { λ side. record { capacity = side.indices.capacity; head = side.indices.head; tail = side.indices.tail; place = side.place } };
 
-    ghost invariant = { λ side. IsReading (record { capacity = side.capacity; head = side.head; tail = side.tail; place = side.place }) };
+    ghost invariant = { λ side. IsReading (record { capacity = side.indices.capacity; head = side.indices.head; tail = side.indices.tail; place = side.place }) };
 }
 
 // What a look that is not true finds behind the closed flag that it loaded.
@@ -65,36 +62,6 @@ pub fn yield_answer(is_granted: bool) -> Answer
     })
 }
 
-// Where a look leads that finds a byte.
-fn found(purpose: Purpose) -> ReadPlace
-    ensures { result ≡ reader_found purpose }
-{
-    match purpose {
-        Purpose::Copy(Form::Try) => ReadPlace::CallDestination(Form::Try, 0),
-        _ => ReadPlace::LookTake(purpose),
-    }
-}
-
-// Where a look leads that finds none.
-fn found_none(purpose: Purpose) -> ReadPlace
-    ensures { result ≡ reader_found_none purpose }
-{
-    match purpose {
-        Purpose::Copy(Form::Try) => ReadPlace::LookClosed(purpose),
-        _ => ReadPlace::LookRegister(purpose),
-    }
-}
-
-// Where a copy goes on whose look is true.
-fn draws(form: Form) -> ReadPlace
-    ensures { result ≡ reader_draws form }
-{
-    match form {
-        Form::Polling { is_drawn: true } => ReadPlace::Yield,
-        _ => ReadPlace::CallDestination(form, 0),
-    }
-}
-
 impl ReadSide {
     ghost use Rattle.piper_sides.specs.Side.{IsReading, fresh_reading, known_of, peekable_of, read_round};
 
@@ -105,9 +72,7 @@ impl ReadSide {
         ensures sound { IsReading result }
     {
         ReadSide {
-            capacity,
-            head: 0,
-            tail: 0,
+            indices: ReadIndices::new(capacity),
             place: ReadPlace::Idle,
         }
     }
@@ -116,14 +81,14 @@ impl ReadSide {
     pub fn capacity(&self) -> usize
         ensures { result ≡ self.now.capacity }
     {
-        self.capacity
+        self.indices.capacity()
     }
 
     /// The reader's own index.
     pub fn head(&self) -> usize
         ensures { result ≡ self.now.head }
     {
-        self.head
+        self.indices.head()
     }
 
     /// The place of the first unread byte.
@@ -131,7 +96,7 @@ impl ReadSide {
         ensures value { result ≡ place_of self.now.capacity self.now.head }
         ensures below { result < self.now.capacity }
     {
-        index::real(self.capacity, self.head)
+        self.indices.front()
     }
 
     /// How many bytes the reader knows of.
@@ -139,14 +104,14 @@ impl ReadSide {
         ensures value { result ≡ known_of self.now }
         ensures within { result ≤ self.now.capacity }
     {
-        index::distance(self.capacity, self.head, self.tail)
+        self.indices.known()
     }
 
     /// How many known bytes stand in one piece.
     pub fn peekable(&self) -> usize
         ensures { result ≡ peekable_of self.now }
     {
-        self.known().min(self.capacity - self.front())
+        self.indices.peekable()
     }
 
     /// Where the reader stands inside its open call.
@@ -180,11 +145,7 @@ impl ReadSide {
         ensures after { self.new ≡ record self.old { place = reader_looks_for (known_of self.old == 0) purpose } }
         ensures sound { IsReading self.new }
     {
-        self.place = if self.known() == 0 {
-            ReadPlace::LookTail(purpose)
-        } else {
-            found(purpose)
-        };
+        self.place = ReadPlace::look(self.indices.knows_none(), purpose);
     }
 
     /// Opens the call that gives up the first `n` bytes.
@@ -238,10 +199,9 @@ impl ReadSide {
         ensures open { self.new.place ≡ ReadPlace.Idle → IsSome result }
         ensures sound { IsReading self.new }
     {
-        if let ReadPlace::QueryHead(query) = self.place {
-            self.place = ReadPlace::QueryTail(query);
-        }
-        None
+        let (place, answer) = self.place.loaded_head();
+        self.place = place;
+        answer
     }
 
     /// The tail was loaded in a query, and so many bytes were unread.
@@ -252,10 +212,9 @@ impl ReadSide {
         ensures open { self.new.place ≡ ReadPlace.Idle → IsSome result }
         ensures sound { IsReading self.new }
     {
-        if let ReadPlace::QueryTail(query) = self.place {
-            return self.ends(query.answer(self.capacity, count));
-        }
-        None
+        let (place, answer) = self.place.loaded_tail(self.indices.capacity(), count);
+        self.place = place;
+        answer
     }
 
     /// The tail was loaded in a look, and stood at this index.
@@ -268,21 +227,10 @@ impl ReadSide {
         ensures open { self.new.place ≡ ReadPlace.Idle → IsSome result }
         ensures sound { IsReading self.new }
     {
-        self.tail = tail;
-        let none = self.known() == 0;
-        match self.place {
-            ReadPlace::LookTail(purpose) => self.place = if none {
-                found_none(purpose)
-            } else {
-                found(purpose)
-            },
-            ReadPlace::LookTailAgain(purpose, was_closed) if none => {
-                return self.ends(look_answer(purpose, end_or_pending(was_closed)));
-            }
-            ReadPlace::LookTailAgain(purpose, _) => self.place = found(purpose),
-            _ => {}
-        }
-        None
+        self.indices.sees(tail);
+        let (place, answer) = self.place.refreshed(self.indices.knows_none());
+        self.place = place;
+        answer
     }
 
     /// Closed was loaded, and the flag was this.
@@ -293,14 +241,9 @@ impl ReadSide {
         ensures open { self.new.place ≡ ReadPlace.Idle → IsSome result }
         ensures sound { IsReading self.new }
     {
-        match self.place {
-            ReadPlace::QueryClosed => return self.ends(Answer::Flag(is_closed)),
-            ReadPlace::LookClosed(purpose) => self.place = ReadPlace::LookTailAgain(
-                purpose, is_closed,
-            ),
-            _ => {}
-        }
-        None
+        let (place, answer) = self.place.loaded_closed(is_closed);
+        self.place = place;
+        answer
     }
 
     /// The call's waker was registered, or its clone was refused.
@@ -311,13 +254,9 @@ impl ReadSide {
         ensures open { self.new.place ≡ ReadPlace.Idle → IsSome result }
         ensures sound { IsReading self.new }
     {
-        if let ReadPlace::LookRegister(purpose) = self.place {
-            if !is_granted {
-                return self.ends(look_answer(purpose, Polled::Memory));
-            }
-            self.place = ReadPlace::LookClosed(purpose);
-        }
-        None
+        let (place, answer) = self.place.registered(is_granted);
+        self.place = place;
+        answer
     }
 
     /// The reader's own slot was emptied.
@@ -328,14 +267,9 @@ impl ReadSide {
         ensures open { self.new.place ≡ ReadPlace.Idle → IsSome result }
         ensures sound { IsReading self.new }
     {
-        match self.place {
-            ReadPlace::LookTake(Purpose::Poll) => self.ends(Answer::Poll(Polled::Ready(true))),
-            ReadPlace::LookTake(Purpose::Copy(form)) => {
-                self.place = draws(form);
-                None
-            }
-            _ => None,
-        }
+        let (place, answer) = self.place.took_own();
+        self.place = place;
+        answer
     }
 
     /// The caller's own waker was called in place of the rounds, or its clone was refused.
@@ -346,10 +280,9 @@ impl ReadSide {
         ensures open { self.new.place ≡ ReadPlace.Idle → IsSome result }
         ensures sound { IsReading self.new }
     {
-        match self.place {
-            ReadPlace::Yield => self.ends(yield_answer(is_granted)),
-            _ => None,
-        }
+        let (place, answer) = self.place.yielded(is_granted);
+        self.place = place;
+        answer
     }
 
     /// The destination took the first `n` bytes of the peeked slice.
@@ -361,14 +294,9 @@ impl ReadSide {
         ensures open { self.new.place ≡ ReadPlace.Idle → IsSome result }
         ensures sound { IsReading self.new }
     {
-        match self.place {
-            ReadPlace::CallDestination(form, sum) if n == 0 => self.ends(form.counted(sum)),
-            ReadPlace::CallDestination(form, sum) => {
-                self.place = ReadPlace::StoreHead(n, AfterRead::Round(form, sum + n));
-                None
-            }
-            _ => None,
-        }
+        let (place, answer) = self.place.destination_took(n);
+        self.place = place;
+        answer
     }
 
     /// The destination failed, and took nothing.
@@ -379,10 +307,9 @@ impl ReadSide {
         ensures open { self.new.place ≡ ReadPlace.Idle → IsSome result }
         ensures sound { IsReading self.new }
     {
-        match self.place {
-            ReadPlace::CallDestination(_, _) => self.ends(Answer::Copy(Polled::Ready(Err(Failed)))),
-            _ => None,
-        }
+        let (place, answer) = self.place.destination_failed();
+        self.place = place;
+        answer
     }
 
     /// The writer's slot was emptied, and a waker stood in it or not.
@@ -393,14 +320,9 @@ impl ReadSide {
         ensures open { self.new.place ≡ ReadPlace.Idle → IsSome result }
         ensures sound { IsReading self.new }
     {
-        match self.place {
-            ReadPlace::TakeWriter(next) if !is_found => self.done(next),
-            ReadPlace::TakeWriter(next) => {
-                self.place = ReadPlace::WakeWriter(next);
-                None
-            }
-            _ => None,
-        }
+        let (place, answer) = self.place.took_writer(is_found);
+        self.place = place;
+        answer
     }
 
     /// The waker that was taken was called.
@@ -411,10 +333,9 @@ impl ReadSide {
         ensures open { self.new.place ≡ ReadPlace.Idle → IsSome result }
         ensures sound { IsReading self.new }
     {
-        match self.place {
-            ReadPlace::WakeWriter(next) => self.done(next),
-            _ => None,
-        }
+        let (place, answer) = self.place.woke();
+        self.place = place;
+        answer
     }
 
     /// The closed flag was set.
@@ -425,10 +346,9 @@ impl ReadSide {
         ensures open { self.new.place ≡ ReadPlace.Idle → IsSome result }
         ensures sound { IsReading self.new }
     {
-        if let ReadPlace::StoreClosed = self.place {
-            self.place = ReadPlace::TakeWriter(AfterRead::Drop);
-        }
-        None
+        let (place, answer) = self.place.stored_closed();
+        self.place = place;
+        answer
     }
 
     /// The head was stored, past `n` bytes.
@@ -440,36 +360,9 @@ impl ReadSide {
         ensures open { self.new.place ≡ ReadPlace.Idle → IsSome result }
         ensures sound { IsReading self.new }
     {
-        self.head = index::advance(self.capacity, self.head, n);
-        if let ReadPlace::StoreHead(_, next) = self.place {
-            self.place = ReadPlace::TakeWriter(next);
-        }
-        None
-    }
-
-    fn ends(&mut self, answer: Answer) -> Option<Answer>
-        ensures after { self.new ≡ record self.old { place = ReadPlace.Idle } }
-        ensures answer { result ≡ Some answer }
-        ensures sound { IsReading self.new }
-    {
-        self.place = ReadPlace::Idle;
-        Some(answer)
-    }
-
-    fn done(&mut self, next: AfterRead) -> Option<Answer>
-        requires { read_round next + known_of self.old ≤ self.old.capacity }
-        ensures after { self.new ≡ record self.old { place = (read_done next).place } }
-        ensures answer { result ≡ (read_done next).answer }
-        ensures sound { IsReading self.new }
-    {
-        match next {
-            AfterRead::Answer => self.place = ReadPlace::Idle,
-            AfterRead::Drop => self.place = ReadPlace::Dropped,
-            AfterRead::Round(form, sum) => {
-                self.place = ReadPlace::CallDestination(form, sum);
-                return None;
-            }
-        }
-        Some(Answer::Done)
+        self.indices.gives(n);
+        let (place, answer) = self.place.stored_head(n);
+        self.place = place;
+        answer
     }
 }

@@ -5,15 +5,9 @@ ghost use Rattle.piper_sides.specs.Index.{IsCapacity, distance, place_of, advanc
 
 use crate::calls::{Query, Side};
 use crate::events::Answer;
-use crate::index;
-use crate::polling::Polled;
-use crate::read_side::{end_or_pending, look_answer, yield_answer};
-use crate::scripted::Failed;
-use crate::table::{Action, AfterWrite, Form, Purpose, WritePlace};
+use crate::table::{Action, AfterWrite, Purpose, WritePlace};
+use crate::write_indices::WriteIndices;
 use std::marker::Model;
-
-/// The least that is lent where the buffer was never written, if there is room for it.
-const LEAST_LEND: usize = 4096;
 
 /// What the writer keeps. It knows no buffer, no slot, no waker and no runtime.
 ///
@@ -21,12 +15,7 @@ const LEAST_LEND: usize = 4096;
 /// next, and the function named after that step takes in what was found; it answers where the call ends.
 #[derive(Debug, Drop)]
 pub struct WriteSide {
-    capacity: usize,
-    tail: usize,
-    head: usize,
-    zeroed: usize,
-    lent: usize,
-    is_shut: bool,
+    indices: WriteIndices,
     place: WritePlace,
 }
 
@@ -35,39 +24,9 @@ impl Model for WriteSide {
 
     ghost Value = { Writing };
 
-    ghost view = { λ side. record { capacity = side.capacity; tail = side.tail; head = side.head; zeroed = side.zeroed; lent = side.lent; is_shut = side.is_shut; place = side.place } };
+    ghost view = { λ side. record { capacity = side.indices.capacity; tail = side.indices.tail; head = side.indices.head; zeroed = side.indices.zeroed; lent = side.indices.lent; is_shut = side.indices.is_shut; place = side.place } };
 
-    ghost invariant = { λ side. IsWriting (record { capacity = side.capacity; tail = side.tail; head = side.head; zeroed = side.zeroed; lent = side.lent; is_shut = side.is_shut; place = side.place }) };
-}
-
-// Where a look leads that finds room.
-fn found(purpose: Purpose) -> WritePlace
-    ensures { result ≡ writer_found purpose }
-{
-    match purpose {
-        Purpose::Copy(Form::Try) => WritePlace::CallSource(Form::Try, 0),
-        _ => WritePlace::LookTake(purpose),
-    }
-}
-
-// Where a look leads that finds none.
-fn found_none(purpose: Purpose) -> WritePlace
-    ensures { result ≡ writer_found_none purpose }
-{
-    match purpose {
-        Purpose::Copy(Form::Try) => WritePlace::LookHeadAgain(purpose),
-        _ => WritePlace::LookRegister(purpose),
-    }
-}
-
-// Where a copy goes on whose look is true.
-fn draws(form: Form) -> WritePlace
-    ensures { result ≡ writer_draws form }
-{
-    match form {
-        Form::Polling { is_drawn: true } => WritePlace::Yield,
-        _ => WritePlace::CallSource(form, 0),
-    }
+    ghost invariant = { λ side. IsWriting (record { capacity = side.indices.capacity; tail = side.indices.tail; head = side.indices.head; zeroed = side.indices.zeroed; lent = side.indices.lent; is_shut = side.indices.is_shut; place = side.place }) };
 }
 
 impl WriteSide {
@@ -80,12 +39,7 @@ impl WriteSide {
         ensures sound { IsWriting result }
     {
         WriteSide {
-            capacity,
-            tail: 0,
-            head: 0,
-            zeroed: 0,
-            lent: 0,
-            is_shut: false,
+            indices: WriteIndices::new(capacity),
             place: WritePlace::Idle,
         }
     }
@@ -94,7 +48,7 @@ impl WriteSide {
     pub fn tail(&self) -> usize
         ensures { result ≡ self.now.tail }
     {
-        self.tail
+        self.indices.tail()
     }
 
     /// The place from which on the writer is lent.
@@ -102,7 +56,7 @@ impl WriteSide {
         ensures value { result ≡ place_of self.now.capacity self.now.tail }
         ensures below { result < self.now.capacity }
     {
-        index::real(self.capacity, self.tail)
+        self.indices.front()
     }
 
     /// How many free places the writer knows of.
@@ -110,14 +64,14 @@ impl WriteSide {
         ensures value { result ≡ room_of self.now }
         ensures within { result ≤ self.now.capacity }
     {
-        index::room(self.capacity, self.head, self.tail)
+        self.indices.room()
     }
 
     /// How many places are lent.
     pub fn lent(&self) -> usize
         ensures { result ≡ self.now.lent }
     {
-        self.lent
+        self.indices.lent()
     }
 
     /// Where the writer stands inside its open call.
@@ -148,12 +102,7 @@ impl WriteSide {
         ensures place { result ≤ left_of self.now }
         ensures shut { self.now.is_shut ≡ true → result ≡ 0 }
     {
-        if self.is_shut {
-            return 0;
-        }
-        let bound = (2 * self.zeroed).saturating_add(LEAST_LEND);
-        let free = self.room().min(self.capacity - self.front());
-        most.min(bound).min(free)
+        self.indices.lendable(most)
     }
 
     /// Lends up to `most` free places in one piece, in place of what was lent before, and answers how many.
@@ -165,11 +114,7 @@ impl WriteSide {
         ensures after { self.new ≡ lent_out result self.old }
         ensures sound { IsWriting self.new }
     {
-        let count = self.lendable(most);
-        let end = self.front() + count;
-        self.zeroed = self.zeroed.max(end);
-        self.lent = count;
-        count
+        self.indices.lend(most)
     }
 
     /// Takes back what is lent.
@@ -178,7 +123,7 @@ impl WriteSide {
         ensures after { self.new ≡ record self.old { lent = 0 } }
         ensures sound { IsWriting self.new }
     {
-        self.lent = 0;
+        self.indices.unlend();
     }
 
     /// Opens a query on the number of unread bytes.
@@ -273,10 +218,9 @@ impl WriteSide {
         ensures open { self.new.place ≡ WritePlace.Idle → IsSome result }
         ensures sound { IsWriting self.new }
     {
-        if let WritePlace::QueryHead(query) = self.place {
-            self.place = WritePlace::QueryTail(query, count);
-        }
-        None
+        let (place, answer) = self.place.loaded_head(count);
+        self.place = place;
+        answer
     }
 
     /// The tail was loaded in a query.
@@ -287,10 +231,9 @@ impl WriteSide {
         ensures open { self.new.place ≡ WritePlace.Idle → IsSome result }
         ensures sound { IsWriting self.new }
     {
-        if let WritePlace::QueryTail(query, count) = self.place {
-            return self.ends(query.answer(self.capacity, count));
-        }
-        None
+        let (place, answer) = self.place.loaded_tail(self.indices.capacity());
+        self.place = place;
+        answer
     }
 
     /// The head was loaded in a look, and stood at this index.
@@ -304,22 +247,10 @@ impl WriteSide {
         ensures open { self.new.place ≡ WritePlace.Idle → IsSome result }
         ensures sound { IsWriting self.new }
     {
-        self.head = head;
-        let none = self.room() == 0;
-        match self.place {
-            WritePlace::LookHead(purpose) => self.place = if none {
-                found_none(purpose)
-            } else {
-                found(purpose)
-            },
-            WritePlace::LookHeadAgain(purpose) => self.place = if none {
-                WritePlace::LookClosedAgain(purpose)
-            } else {
-                found(purpose)
-            },
-            _ => {}
-        }
-        None
+        self.indices.sees(head);
+        let (place, answer) = self.place.refreshed(self.indices.knows_none());
+        self.place = place;
+        answer
     }
 
     /// Closed was loaded, and the flag was this.
@@ -331,32 +262,14 @@ impl WriteSide {
         ensures idle { IsSome result → self.new.place ≡ WritePlace.Idle }
         ensures sound { IsWriting self.new }
     {
-        let none = self.room() == 0;
-        match self.place {
-            WritePlace::QueryClosed => return self.ends(Answer::Flag(is_closed)),
-            WritePlace::LookClosed(purpose) if is_closed => return self.ends(look_answer(
-                purpose,
-                Polled::Ready(false),
-            )),
-            WritePlace::LookClosed(purpose) => self.place = if none {
-                WritePlace::LookHead(purpose)
-            } else {
-                found(purpose)
-            },
-            WritePlace::LookClosedAgain(purpose) => return self.ends(look_answer(
-                purpose,
-                end_or_pending(is_closed),
-            )),
-            WritePlace::RoundClosed(_, form, sum) if is_closed => return self.ends(form.counted(
-                sum,
-            )),
-            WritePlace::RoundClosed(n, form, sum) => self.place = WritePlace::StoreTail(
-                n,
-                AfterWrite::Round(form, sum),
-            ),
-            _ => {}
-        }
-        None
+        let (place, answer) = match self.place {
+            WritePlace::LookClosed(_) => self
+                .place
+                .looked_closed(self.indices.knows_none(), is_closed),
+            _ => self.place.loaded_closed(is_closed),
+        };
+        self.place = place;
+        answer
     }
 
     /// The call's waker was registered, or its clone was refused.
@@ -368,13 +281,9 @@ impl WriteSide {
         ensures idle { IsSome result → self.new.place ≡ WritePlace.Idle }
         ensures sound { IsWriting self.new }
     {
-        if let WritePlace::LookRegister(purpose) = self.place {
-            if !is_granted {
-                return self.ends(look_answer(purpose, Polled::Memory));
-            }
-            self.place = WritePlace::LookHeadAgain(purpose);
-        }
-        None
+        let (place, answer) = self.place.registered(is_granted);
+        self.place = place;
+        answer
     }
 
     /// The writer's own slot was emptied, and a waker stood in it or not.
@@ -385,19 +294,9 @@ impl WriteSide {
         ensures open { self.new.place ≡ WritePlace.Idle → IsSome result }
         ensures sound { IsWriting self.new }
     {
-        match self.place {
-            WritePlace::LookTake(Purpose::Poll) => self.ends(Answer::Poll(Polled::Ready(true))),
-            WritePlace::LookTake(Purpose::Copy(form)) => {
-                self.place = draws(form);
-                None
-            }
-            WritePlace::TakeWriter if is_found => {
-                self.place = WritePlace::WakeWriter;
-                None
-            }
-            WritePlace::TakeWriter => self.ends(Answer::Done),
-            _ => None,
-        }
+        let (place, answer) = self.place.took_own(is_found);
+        self.place = place;
+        answer
     }
 
     /// The caller's own waker was called in place of the rounds, or its clone was refused.
@@ -409,10 +308,9 @@ impl WriteSide {
         ensures idle { IsSome result → self.new.place ≡ WritePlace.Idle }
         ensures sound { IsWriting self.new }
     {
-        match self.place {
-            WritePlace::Yield => self.ends(yield_answer(is_granted)),
-            _ => None,
-        }
+        let (place, answer) = self.place.yielded(is_granted);
+        self.place = place;
+        answer
     }
 
     /// The source gave `n` bytes, which stand at the front of what is lent.
@@ -425,14 +323,9 @@ impl WriteSide {
         ensures idle { IsSome result → self.new.place ≡ WritePlace.Idle }
         ensures sound { IsWriting self.new }
     {
-        match self.place {
-            WritePlace::CallSource(form, sum) if n == 0 => self.ends(form.counted(sum)),
-            WritePlace::CallSource(form, sum) => {
-                self.place = WritePlace::RoundClosed(n, form, sum + n);
-                None
-            }
-            _ => None,
-        }
+        let (place, answer) = self.place.source_gave(n);
+        self.place = place;
+        answer
     }
 
     /// The source failed, and gave nothing.
@@ -444,10 +337,9 @@ impl WriteSide {
         ensures idle { IsSome result → self.new.place ≡ WritePlace.Idle }
         ensures sound { IsWriting self.new }
     {
-        match self.place {
-            WritePlace::CallSource(_, _) => self.ends(Answer::Copy(Polled::Ready(Err(Failed)))),
-            _ => None,
-        }
+        let (place, answer) = self.place.source_failed();
+        self.place = place;
+        answer
     }
 
     /// The reader's slot was emptied, and a waker stood in it or not.
@@ -458,14 +350,9 @@ impl WriteSide {
         ensures open { self.new.place ≡ WritePlace.Idle → IsSome result }
         ensures sound { IsWriting self.new }
     {
-        match self.place {
-            WritePlace::TakeReader(next) if !is_found => self.done(next),
-            WritePlace::TakeReader(next) => {
-                self.place = WritePlace::WakeReader(next);
-                None
-            }
-            _ => None,
-        }
+        let (place, answer) = self.place.took_reader(is_found);
+        self.place = place;
+        answer
     }
 
     /// The waker that was taken was called.
@@ -476,11 +363,9 @@ impl WriteSide {
         ensures open { self.new.place ≡ WritePlace.Idle → IsSome result }
         ensures sound { IsWriting self.new }
     {
-        match self.place {
-            WritePlace::WakeReader(next) => self.done(next),
-            WritePlace::WakeWriter => self.ends(Answer::Done),
-            _ => None,
-        }
+        let (place, answer) = self.place.woke();
+        self.place = place;
+        answer
     }
 
     /// The closed flag was set, by a drop.
@@ -491,10 +376,9 @@ impl WriteSide {
         ensures open { self.new.place ≡ WritePlace.Idle → IsSome result }
         ensures sound { IsWriting self.new }
     {
-        if let WritePlace::StoreClosed(next) = self.place {
-            self.place = WritePlace::TakeReader(next);
-        }
-        None
+        let (place, answer) = self.place.stored_closed();
+        self.place = place;
+        answer
     }
 
     /// The closed flag was set, by a close: nothing is lent from now on.
@@ -505,12 +389,10 @@ impl WriteSide {
         ensures open { self.new.place ≡ WritePlace.Idle → IsSome result }
         ensures sound { IsWriting self.new }
     {
-        self.lent = 0;
-        self.is_shut = true;
-        if let WritePlace::StoreClosed(next) = self.place {
-            self.place = WritePlace::TakeReader(next);
-        }
-        None
+        self.indices.shut();
+        let (place, answer) = self.place.shut();
+        self.place = place;
+        answer
     }
 
     /// The tail was stored, past the first `n` bytes of what is lent.
@@ -522,41 +404,9 @@ impl WriteSide {
         ensures open { self.new.place ≡ WritePlace.Idle → IsSome result }
         ensures sound { IsWriting self.new }
     {
-        self.tail = index::advance(self.capacity, self.tail, n);
-        self.lent -= n;
-        if let WritePlace::StoreTail(_, next) = self.place {
-            self.place = WritePlace::TakeReader(next);
-        }
-        None
-    }
-
-    fn ends(&mut self, answer: Answer) -> Option<Answer>
-        ensures after { self.new ≡ record self.old { place = WritePlace.Idle } }
-        ensures answer { result ≡ Some answer }
-        ensures sound { IsWriting self.new }
-    {
-        self.place = WritePlace::Idle;
-        Some(answer)
-    }
-
-    fn done(&mut self, next: AfterWrite) -> Option<Answer>
-        requires { write_round next + room_of self.old ≤ self.old.capacity }
-        ensures after { self.new ≡ record self.old { place = (write_done next).place } }
-        ensures answer { result ≡ (write_done next).answer }
-        ensures sound { IsWriting self.new }
-    {
-        match next {
-            AfterWrite::Answer => self.place = WritePlace::Idle,
-            AfterWrite::Drop => self.place = WritePlace::Dropped,
-            AfterWrite::WakeWriter => {
-                self.place = WritePlace::TakeWriter;
-                return None;
-            }
-            AfterWrite::Round(form, sum) => {
-                self.place = WritePlace::CallSource(form, sum);
-                return None;
-            }
-        }
-        Some(Answer::Done)
+        self.indices.publishes(n);
+        let (place, answer) = self.place.stored_tail(n);
+        self.place = place;
+        answer
     }
 }
