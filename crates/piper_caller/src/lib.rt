@@ -1,4 +1,4 @@
-//! Callers of the machine, proved from its contracts alone.
+//! Callers of the machine and of open calls, proved from their contracts alone.
 #![tactic(auto)]
 
 ghost use Rattle.std.specs.Prelude.{◌≡◌, ◌≤◌, ◌+◌, ◌*◌, ◌⊎◌, ℕ, List, ◌++◌, ◌∷◌, [], length, replicate, true, IfOk, IfErr, Err};
@@ -25,6 +25,8 @@ ghost use Rattle.piper_machine.specs.Remembered.{other, WasCalled, StandsReady};
 ghost use Rattle.piper_machine.specs.Wait.{wait_of};
 ghost use Rattle.piper_caller.specs.Outside.{IsOutside};
 ghost use Rattle.piper_caller.specs.ToldLast.{IsToldLast};
+
+pub mod by_steps;
 
 use piper_machine::OutOfMemory;
 use piper_machine::calls::Step;

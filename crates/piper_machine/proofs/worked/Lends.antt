@@ -9,7 +9,8 @@ use Rattle.piper_machine.specs.Sound.{IsSound}
 use Rattle.piper_machine.specs.Lend.{Lendable, lend_limit, lending}
 use Rattle.piper_machine.specs.Places.{places_left}
 use Rattle.piper_machine.specs.Move.{produce}
-use Rattle.piper_sides.specs.Side.{fresh_writing, Writing, room_of, left_of, lend_bound, lend_length, lent_out}
+use Rattle.piper_sides.specs.Side.{fresh_writing, Writing, room_of, left_of, lend_length, lent_out}
+use Rattle.piper_sides.specs.LendBound.{lend_bound}
 use Rattle.piper_machine.proofs.worked.Script.{Call, Lend, Produced, lent_count}
 
 -- the writer's side of a pipe as it is made
@@ -88,7 +89,7 @@ none_where_shut false n is_shut = absurd (cc)
 exact_length_is_lendable : (most : ℕ) (w : Writing) (p : Pipe) → p.room ≡ room_of w → places_left p ≡ left_of w → p.is_shut ≡ w.is_shut
     → Lendable most p (lend_length most w)
 exact_length_is_lendable most w p room left shut =
-    let n = min (min most (lend_bound w)) (min (room_of w) (left_of w)) in
+    let n = min (min most (lend_bound w.zeroed)) (min (room_of w) (left_of w)) in
     let limit : lend_limit most p ≡ min most (min (room_of w) (left_of w)) = rw (room, left) refl in
     record {
       at_most = rw limit (at_most_limit w.is_shut (min most (min (room_of w) (left_of w))) n (omega arith));

@@ -1,17 +1,34 @@
-use Rattle.std.proofs.Common.{[], ◌∷◌, ◌++◌, ◌+◌, take, drop, sym, ap, subst, ◌∙◌}
+use Rattle.std.proofs.Common.{rules, ◌≡◌, [], ◌∷◌, ◌++◌, ◌+◌, take, drop, refl, sym, ap, subst, ◌∙◌}
 use Rattle.std.proofs.lemmas.List.{take_more, take_all, drop_more}
+use Rattle.std.proofs.lemmas.Option.{slice_get_read}
 use Rattle.piper_sides.specs.declared.calls.Step.{Step}
 use Rattle.piper_machine.specs.Pipe.{fresh}
 use Rattle.piper_sides.specs.Log.{events}
 use Rattle.piper_machine.specs.Run.{Runs}
 use Rattle.piper_machine.proofs.Runs.{runs_more}
 use Rattle.piper_machine.proofs.Conserving.{capacity-kept, conserved-step}
-use Rattle.piper_machine.proofs.KnownRuns.{known_more, ready-run, counted-run, calls-counted}
-use Rattle.piper_machine.proofs.Honesty.{honest_more}
-use Rattle.piper_machine.proofs.Remembering.{remembers_more}
-use Rattle.piper_machine.proofs.Finality.{final_more}
-use Rattle.piper_machine.proofs.Answering.{Answers, answers_more}
+use Rattle.piper_machine.proofs.KnownRuns.{known_none, known_more, ready-run, counted-run, calls-counted}
+use Rattle.piper_machine.proofs.Honesty.{honest_none, honest_more}
+use Rattle.piper_machine.proofs.Remembering.{remembers_none, remembers_more}
+use Rattle.piper_machine.proofs.Finality.{final_none, final_more}
+use Rattle.piper_machine.proofs.Answering.{Answers, answers_none, answers_more}
 use Rattle.piper_machine.proofs.machine.runs.run.Goals as goal
+
+-- nothing has happened on the new machine
+pub loop-i-init : goal.loop-i-init
+loop-i-init c =
+    let pipe : c.in-Ok.machine ≡ fresh c.args.cap = search rules in
+    let none : events c.new-log.result ≡ [] = c.new-log.ensures in
+    record {
+      capacity = rw pipe refl;
+      runs = (pipe, none);
+      known = rw (pipe, none) (known_none c.args.cap);
+      honest = rw (pipe, none) (honest_none c.args.cap);
+      remembers = rw (pipe, none) (remembers_none c.args.cap);
+      final = rw (pipe, none) (final_none c.args.cap);
+      answers = rw (pipe, none) (answers_none c.args.cap c.args.steps.now);
+      conserved = search rules;
+    }
 
 pub loop-i-preserved : goal.loop-i-preserved
 loop-i-preserved c =
@@ -48,3 +65,14 @@ returns-clause-counted c = counted-run c.args.cap c.args.steps.now c.loop-i.mach
 
 pub returns-clause-called : goal.returns-clause-called
 returns-clause-called c = calls-counted c.args.cap c.args.steps.now c.loop-i.machine (events c.loop-i.log)
+
+-- the pipe and the log before the refused step are those of the steps before it
+pub returns-in-Err-clause-refused : goal.returns-in-Err-clause-refused
+returns-in-Err-clause-refused c = record {
+  pipe = c.loop-i.machine;
+  events = events c.loop-i.log;
+  step = c.index-steps-i.result;
+  runs = c.loop-i.invariant.runs;
+  next = slice_get_read c.args.steps.now _ c.loop-i.i c.index-steps-i.result refl c.loop-i-test.true c.index-steps-i.is;
+  refused = c.in-Err.ensures.refused;
+}
