@@ -9,6 +9,10 @@ use Rattle.piper_script.specs.declared.command.Command.TheVariants.{Pipe, Put, B
 use Rattle.piper_script.specs.Meaning.{Means}
 use Rattle.piper_player.specs.Played.{Says}
 
+-- the most steps that all lines of a script say together
+abbrev pub most_steps_of_a_script : ℕ
+most_steps_of_a_script = 1048576
+
 -- the steps that the command says; a call is opened that is meant
 abbrev pub SaysSteps : Command → List Step → Type 0
 SaysSteps (Begin said) steps = (call : MachineCall) × Means said call × (steps ≡ step.Begin call ∷ [])

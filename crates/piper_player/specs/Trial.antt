@@ -15,7 +15,6 @@ use Rattle.piper_sides.specs.declared.calls.Step.TheVariants.{Go}
 use Rattle.piper_player.specs.declared.trial.Length.{Length}
 use Rattle.piper_player.specs.declared.trial.Length.TheVariants.{Within, FirstIsLong, SecondIsLong}
 use Rattle.piper_player.specs.declared.trial.Move.{Move}
-use Rattle.piper_player.specs.declared.trial.TheConstants.{MOST_STEPS}
 
 pub record Tried : Type 0 where
   pub pipe : Pipe
@@ -27,9 +26,13 @@ abbrev pub steps_by : Side → Tried → ℕ
 steps_by Reader t = t.reader_steps
 steps_by Writer t = t.writer_steps
 
+-- the most steps of a call whose orders are made
+abbrev pub most_steps_of_a_call : ℕ
+most_steps_of_a_call = 8
+
 -- the side's call has made too many steps
 abbrev pub IsLong : Side → Tried → Type 0
-IsLong side t = MOST_STEPS < steps_by side t
+IsLong side t = most_steps_of_a_call < steps_by side t
 
 -- the call of the side is open
 abbrev pub IsOpen : Side → Tried → Type 0

@@ -2,7 +2,7 @@
 
 ghost use Rattle.std.specs.Prelude.{◌≡◌, ◌≤◌, ◌<◌, ◌+◌, [], ◌∷◌, ◌++◌, replicate, vec_len, None, IfOk, IfErr, OnOk, OnErr};
 ghost use Rattle.std.specs.Option.{ForSome};
-ghost use Rattle.piper_player.specs.Script.{AddsLine};
+ghost use Rattle.piper_player.specs.Script.{AddsLine, most_steps_of_a_script};
 ghost use Rattle.piper_sides.specs.Index.{IsCapacity};
 
 use crate::stream::{Lines, stopped, write_reply};
@@ -120,9 +120,9 @@ impl Script {
     // How many steps there are with so many more, unless these are too many.
     fn end_of(&self, count: usize) -> Result<usize, Refusal>
         ensures end { IfOk result (λ end. end ≡ vec_len self.now.steps + count) }
-        ensures within { OnOk result (vec_len self.now.steps + count ≤ MOST_STEPS) }
+        ensures within { OnOk result (vec_len self.now.steps + count ≤ most_steps_of_a_script) }
         ensures refused { IfErr result (λ refusal. refusal ≡ Refusal.Limit) }
-        ensures too_many { OnErr result (MOST_STEPS < vec_len self.now.steps + count) }
+        ensures too_many { OnErr result (most_steps_of_a_script < vec_len self.now.steps + count) }
     {
         let end = self.steps.len().saturating_add(count);
         if end > MOST_STEPS {

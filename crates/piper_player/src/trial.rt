@@ -30,7 +30,7 @@ pub struct Move {
 }
 
 /// How long an order was.
-#[derive(Clone, Copy, Debug, PartialEq, Eq)]
+#[derive(Clone, Copy)]
 pub enum Length {
     /// Neither call made too many steps.
     Within,

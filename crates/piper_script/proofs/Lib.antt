@@ -1,3 +1,4 @@
+pub mod Commands
 pub mod Lists
 pub mod Numbers
 pub mod Replies

@@ -46,6 +46,14 @@ call_text (Produced n) = codes "produced " ++ decimal n
 call_text Close = codes "close"
 call_text (Drop side) = codes "drop " ++ side_text side
 
+-- the names of the calls that take one number
+abbrev pub NamesNumberCall : List ℕ → Type 0
+NamesNumberCall name = (name ≡ codes "drain") ⊎ (name ≡ codes "consume") ⊎ (name ≡ codes "lend") ⊎ (name ≡ codes "produced")
+
+-- the names of the calls that take one side
+abbrev pub NamesSideCall : List ℕ → Type 0
+NamesSideCall name = (name ≡ codes "len") ⊎ (name ≡ codes "empty") ⊎ (name ≡ codes "full") ⊎ (name ≡ codes "closed") ⊎ (name ≡ codes "drop")
+
 abbrev pub steps_text : Steps → List ℕ
 steps_text One = []
 steps_text (Count n) = codes " " ++ decimal n
@@ -79,6 +87,23 @@ IsInLimits (Put offset byte) = offset ≤ greatest_number
 IsInLimits (Begin call) = IsCallInLimits call
 IsInLimits (Go side (Count n)) = (1 ≤ n) × (n ≤ greatest_number)
 IsInLimits command = Unit {0}
+
+-- a call with neither a list nor acts nor luck
+abbrev pub IsPlainCall : Call → Type 0
+IsPlainCall (Poll side waker luck) = ⊥
+IsPlainCall (Fill list) = ⊥
+IsPlainCall (PollFill waker list luck) = ⊥
+IsPlainCall (PollDrain waker most luck) = ⊥
+IsPlainCall (FillFrom waker sources luck) = ⊥
+IsPlainCall (DrainTo waker dests luck) = ⊥
+IsPlainCall call = Unit {0}
+
+-- a command with neither a list nor acts nor luck, nor two numbers
+abbrev pub IsPlain : Command → Type 0
+IsPlain (Whole call) = IsPlainCall call
+IsPlain (Begin call) = IsPlainCall call
+IsPlain (Put offset byte) = ⊥
+IsPlain command = Unit {0}
 
 -- an empty line, or one that begins with a hash
 abbrev pub IsSilent : List ℕ → Type 0

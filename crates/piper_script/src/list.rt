@@ -71,6 +71,7 @@ fn range(first: &str, last: &str) -> Result<Item, Refusal>
     ensures text { IfOk result (λ item. first.now ++ codes ".." ++ last.now ≡ item_text item) }
     ensures item { IfOk result IsItem }
     ensures refused { IfErr result IsTextRefusal }
+    ensures accepts { (a b : ℕ) → first.now ≡ decimal a → last.now ≡ decimal b → a ≤ b → b ≤ 255 → result ≡ Ok (Item.Range a b) }
 {
     match both(byte(first), byte(last)) {
         Ok((first, last)) if first <= last => Ok(Item::Range(first, last)),

@@ -1,10 +1,13 @@
 //! From the bytes of a line to what they say.
 
-ghost use Rattle.std.specs.Prelude.{◌≡◌, ◌≤◌, ◌<◌, ◌++◌, ◌∷◌, length, codes, decimal, IsTrue, ◌↔◌, IfOk, IfErr, IfSome, IfNone};
+ghost use Rattle.std.specs.Prelude.{◌≡◌, ℕ, IsOk, ◌≤◌, ◌<◌, ◌++◌, ◌∷◌, length, codes, decimal, IsTrue, ◌↔◌, IfOk, IfErr, IfSome, IfNone};
 ghost use Rattle.piper_sides.specs.declared.calls.Side.{Side};
-ghost use Rattle.piper_script.specs.Limits.{longest_line};
+ghost use Rattle.piper_script.specs.declared.command.Call.{Call};
+ghost use Rattle.piper_script.specs.declared.command.Command.{Command};
+ghost use Rattle.piper_script.specs.declared.command.Steps.{Steps};
+ghost use Rattle.piper_script.specs.Limits.{greatest_number, longest_line};
 ghost use Rattle.piper_script.specs.Refusal.{IsTextRefusal};
-ghost use Rattle.piper_script.specs.Command.{side_text, word_if, draw_text, luck_text, steps_text, call_text, command_text, IsCallInLimits, IsInLimits, IsSilent};
+ghost use Rattle.piper_script.specs.Command.{side_text, word_if, draw_text, luck_text, steps_text, NamesNumberCall, NamesSideCall, IsPlainCall, IsPlain, call_text, command_text, IsCallInLimits, IsInLimits, IsSilent};
 
 use crate::acts::{Dests, Sources};
 use crate::command::{Call, Command, Luck, MOST, Refusal, Steps};
@@ -24,6 +27,7 @@ pub fn parse(line: &[u8]) -> Result<Option<Command<'_>>, Refusal>
     ensures silence { length line.now ≤ longest_line → IsSilent line.now → result ≡ Ok None }
     ensures long { longest_line < length line.now → result ≡ Err Refusal.Limit }
     ensures refused { IfErr result IsTextRefusal }
+    ensures accepts { (command : Command) → IsPlain command → IsInLimits command → length line.now ≤ longest_line → line.now ≡ command_text command → IsOk result }
 {
     if line.len() > MOST_OF_A_LINE {
         return Err(Refusal::Limit);
@@ -66,6 +70,7 @@ fn command(text: &str) -> Result<Command<'_>, Refusal>
     ensures text { IfOk result (λ command. text.now ≡ command_text command) }
     ensures limits { IfOk result IsInLimits }
     ensures refused { IfErr result IsTextRefusal }
+    ensures accepts { (command : Command) → IsPlain command → IsInLimits command → text.now ≡ command_text command → IsOk result }
 {
     if text == "peek" {
         return Ok(Command::Peek);
@@ -80,6 +85,11 @@ fn command_with<'line>(name: &str, arguments: &'line str) -> Result<Command<'lin
     ensures text { IfOk result (λ command. name.now ++ 32 ∷ arguments.now ≡ command_text command) }
     ensures limits { IfOk result IsInLimits }
     ensures refused { IfErr result IsTextRefusal }
+    ensures accepts_pipe { (n : ℕ) → name.now ≡ codes "pipe" → arguments.now ≡ decimal n → 1 ≤ n → n ≤ greatest_number → IsOk result }
+    ensures accepts_begin { (call : Call) → name.now ≡ codes "begin" → arguments.now ≡ call_text call → IsPlainCall call → IsCallInLimits call → IsOk result }
+    ensures accepts_go { (side : Side) (steps : Steps) → name.now ≡ codes "go" → arguments.now ≡ side_text side ++ steps_text steps → IsInLimits (Command.Go side steps) → IsOk result }
+    ensures accepts_number { (n : ℕ) → NamesNumberCall name.now → arguments.now ≡ decimal n → n ≤ greatest_number → IsOk result }
+    ensures accepts_side { (side : Side) → NamesSideCall name.now → arguments.now ≡ side_text side → IsOk result }
 {
     match name {
         "pipe" => Ok(Command::Pipe(number(arguments, 1, MOST)?)),
@@ -94,6 +104,7 @@ fn call(text: &str) -> Result<Call<'_>, Refusal>
     ensures text { IfOk result (λ call. text.now ≡ call_text call) }
     ensures limits { IfOk result IsCallInLimits }
     ensures refused { IfErr result IsTextRefusal }
+    ensures accepts { (call : Call) → IsPlainCall call → IsCallInLimits call → text.now ≡ call_text call → IsOk result }
 {
     if text == "close" {
         return Ok(Call::Close);
@@ -106,6 +117,8 @@ fn call_with<'line>(name: &str, arguments: &'line str) -> Result<Call<'line>, Re
     ensures text { IfOk result (λ call. name.now ++ 32 ∷ arguments.now ≡ call_text call) }
     ensures limits { IfOk result IsCallInLimits }
     ensures refused { IfErr result IsTextRefusal }
+    ensures accepts_number { (n : ℕ) → NamesNumberCall name.now → arguments.now ≡ decimal n → n ≤ greatest_number → IsOk result }
+    ensures accepts_side { (side : Side) → NamesSideCall name.now → arguments.now ≡ side_text side → IsOk result }
 {
     match name {
         "poll" => poll(arguments),
@@ -124,6 +137,7 @@ fn call_with_number<'line>(name: &str, arguments: &'line str) -> Result<Call<'li
     ensures text { IfOk result (λ call. name.now ++ 32 ∷ arguments.now ≡ call_text call) }
     ensures limits { IfOk result IsCallInLimits }
     ensures refused { IfErr result IsTextRefusal }
+    ensures accepts { (n : ℕ) → NamesNumberCall name.now → arguments.now ≡ decimal n → n ≤ greatest_number → IsOk result }
 {
     let n = number(arguments, 0, MOST)?;
     match name {
@@ -140,6 +154,7 @@ fn call_with_side<'line>(name: &str, arguments: &'line str) -> Result<Call<'line
     ensures text { IfOk result (λ call. name.now ++ 32 ∷ arguments.now ≡ call_text call) }
     ensures limits { IfOk result IsCallInLimits }
     ensures refused { IfErr result IsTextRefusal }
+    ensures accepts { (side : Side) → NamesSideCall name.now → arguments.now ≡ side_text side → IsOk result }
 {
     let side = side(arguments)?;
     match name {
@@ -166,6 +181,7 @@ fn go(arguments: &str) -> Result<Command<'_>, Refusal>
     ensures text { IfOk result (λ command. codes "go " ++ arguments.now ≡ command_text command) }
     ensures limits { IfOk result IsInLimits }
     ensures refused { IfErr result IsTextRefusal }
+    ensures accepts { (side : Side) (steps : Steps) → arguments.now ≡ side_text side ++ steps_text steps → IsInLimits (Command.Go side steps) → IsOk result }
 {
     let Some((mover, count)) = arguments.split_once(' ') else {
         return Ok(Command::Go(side(arguments)?, Steps::One));
