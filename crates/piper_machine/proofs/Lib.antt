@@ -22,6 +22,7 @@ pub mod Standing
 pub mod Falling
 pub mod BySteps
 pub mod Whole
+pub mod WholeCopies
 pub mod WholeBySteps
 mod worked
 pub mod Honesty
