@@ -1,5 +1,5 @@
 -- The same call run whole and made by steps, evaluated side by side.
-use Rattle.std.specs.Prelude.{◌≡◌, ℕ, List, [], ◌∷◌, replicate, None, Some, refl}
+use Rattle.std.specs.Prelude.{◌≡◌, ℕ, [], ◌∷◌, replicate, None, refl}
 use Rattle.piper_sides.specs.declared.calls.Side.TheVariants.{Reader, Writer}
 use Rattle.piper_sides.specs.declared.calls.Call as calls
 use Rattle.piper_sides.specs.declared.calls.Call.TheVariants as call

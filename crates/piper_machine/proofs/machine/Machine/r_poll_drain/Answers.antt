@@ -3,7 +3,7 @@ use Rattle.piper_sides.specs.Answer.{copied_in}
 use Rattle.piper_sides.specs.declared.calls.Call.TheVariants as call
 use Rattle.piper_machine.specs.Look.{context}
 use Rattle.piper_machine.specs.Alone.{Ended}
-use Rattle.piper_machine.proofs.WholeCopies.{drains-to}
+use Rattle.piper_machine.proofs.Resting.{drains-to}
 use Rattle.piper_machine.proofs.machine.Machine.r_poll_drain.Goals as goal
 
 pub returns-clause-answer : goal.returns-clause-answer

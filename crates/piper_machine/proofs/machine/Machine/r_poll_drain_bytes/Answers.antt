@@ -6,7 +6,7 @@ use Rattle.piper_machine.specs.Copy.{drain, count_of}
 use Rattle.piper_machine.specs.Alone.{Ended}
 use Rattle.piper_machine.specs.BySteps.{counted}
 use Rattle.piper_machine.proofs.Draining.{IsCounted, drain-counts, counted-bytes}
-use Rattle.piper_machine.proofs.WholeCopies.{drains, counted-unfailing}
+use Rattle.piper_machine.proofs.Resting.{drains, counted-unfailing}
 use Rattle.piper_machine.proofs.machine.Machine.r_poll_drain_bytes.Goals as goal
 
 pub returns-clause-answer : goal.returns-clause-answer

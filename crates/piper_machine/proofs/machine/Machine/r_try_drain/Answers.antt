@@ -4,7 +4,7 @@ use Rattle.piper_sides.specs.declared.calls.Call.TheVariants as call
 use Rattle.piper_machine.specs.Copy.{try_drain, count_of}
 use Rattle.piper_machine.specs.Alone.{Ended}
 use Rattle.piper_machine.proofs.Draining.{IsCounted, drain-counts, counted-bytes}
-use Rattle.piper_machine.proofs.WholeCopies.{try_drains}
+use Rattle.piper_machine.proofs.Resting.{try_drains}
 use Rattle.piper_machine.proofs.machine.Machine.r_try_drain.Goals as goal
 
 pub returns-clause-count : goal.returns-clause-count

@@ -3,7 +3,7 @@ use Rattle.piper_sides.specs.Answer.{copied_in}
 use Rattle.piper_sides.specs.declared.calls.Call.TheVariants as call
 use Rattle.piper_machine.specs.Look.{context}
 use Rattle.piper_machine.specs.Alone.{Ended}
-use Rattle.piper_machine.proofs.WholeCopies.{fills-from}
+use Rattle.piper_machine.proofs.Resting.{fills-from}
 use Rattle.piper_machine.proofs.machine.Machine.w_poll_fill.Goals as goal
 
 pub returns-clause-answer : goal.returns-clause-answer

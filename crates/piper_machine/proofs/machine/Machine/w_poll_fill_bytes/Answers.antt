@@ -5,7 +5,7 @@ use Rattle.piper_machine.specs.Look.{context}
 use Rattle.piper_machine.specs.Copy.{fill}
 use Rattle.piper_machine.specs.Alone.{Ended}
 use Rattle.piper_machine.specs.BySteps.{counted}
-use Rattle.piper_machine.proofs.WholeCopies.{fills, counted-unfailing}
+use Rattle.piper_machine.proofs.Resting.{fills, counted-unfailing}
 use Rattle.piper_machine.proofs.machine.Machine.w_poll_fill_bytes.Goals as goal
 
 pub returns-clause-answer : goal.returns-clause-answer

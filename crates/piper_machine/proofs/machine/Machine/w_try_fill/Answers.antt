@@ -2,7 +2,7 @@ use Rattle.std.proofs.Common.{◌∙◌, ap}
 use Rattle.piper_sides.specs.Answer.{count_in}
 use Rattle.piper_sides.specs.declared.calls.Call.TheVariants as call
 use Rattle.piper_machine.specs.Alone.{Ended}
-use Rattle.piper_machine.proofs.WholeCopies.{try_fills}
+use Rattle.piper_machine.proofs.Resting.{try_fills}
 use Rattle.piper_machine.proofs.machine.Machine.w_try_fill.Goals as goal
 
 pub returns-clause-count : goal.returns-clause-count

@@ -1,4 +1,4 @@
--- A call that copies, made by a side between two calls, is the copy run whole.
+-- What remains of a call that a side between two calls has opened is the call run whole.
 use Rattle.std.proofs.Common.{◌≡◌, ℕ, List, [], ◌∷◌, None, Some, refl, sym, subst, ap, ◌∙◌}
 use Rattle.piper_sides.specs.declared.calls.Side.TheVariants.{Reader, Writer}
 use Rattle.piper_sides.specs.declared.polling.Context.{Context}
@@ -12,13 +12,14 @@ use Rattle.piper_sides.specs.declared.table.WritePlace.TheVariants as on
 use Rattle.piper_sides.specs.Open.{no_call}
 use Rattle.piper_machine.specs.declared.destination.Destination.TheVariants.{Slice, Acts}
 use Rattle.piper_machine.specs.Pipe.{Pipe, begun}
+use Rattle.piper_machine.specs.Look.{reader_look, writer_look}
 use Rattle.piper_machine.specs.Copy.{try_drain, try_fill, drain, fill}
 use Rattle.piper_machine.specs.Scripted.{drain_to, fill_from}
-use Rattle.piper_machine.specs.Step.{drain_opened, fill_opened}
+use Rattle.piper_machine.specs.Step.{poll_opened, drain_opened, fill_opened}
 use Rattle.piper_machine.specs.Alone.{Ended}
-use Rattle.piper_machine.specs.BySteps.{counted, unfailing, counted_whole, copied_slice, copied_acts}
+use Rattle.piper_machine.specs.BySteps.{looked_whole, counted, unfailing, counted_whole, copied_slice, copied_acts}
 use Rattle.piper_machine.proofs.BySteps.{alone_of}
-use Rattle.piper_machine.proofs.Whole.{reader_resting, writer_resting, try_drain-whole, drain-slice, drain-acts, try_fill-whole, fill-slice, fill-acts}
+use Rattle.piper_machine.proofs.Whole.{reader_resting, writer_resting, reader-polls, writer-polls, try_drain-whole, drain-slice, drain-acts, try_fill-whole, fill-slice, fill-acts}
 
 -- a side between two calls
 pub record ReaderRests (p q : Pipe) : Type 0 where
@@ -47,6 +48,12 @@ from-reader alone run_whole p q rests same = ap alone rests.begins ∙ subst (λ
 
 from-writer : (alone run_whole : Pipe → Ended) (p q : Pipe) → WriterRests p q → alone (begun (writer_resting p)) ≡ run_whole (writer_resting p) → alone q ≡ run_whole p
 from-writer alone run_whole p q rests same = ap alone rests.begins ∙ subst (λ (v : Pipe). alone (begun v) ≡ run_whole v) (writer-rests p q rests) same
+
+pub reader-polled : (cx : Context) (p q : Pipe) → ReaderRests p q → alone_of Reader (poll_opened Reader cx q) ≡ looked_whole (reader_look (Some cx) (begun p))
+reader-polled cx p q rests = from-reader (λ v. alone_of Reader (poll_opened Reader cx v)) (λ v. looked_whole (reader_look (Some cx) (begun v))) p q rests (reader-polls cx p)
+
+pub writer-polled : (cx : Context) (p q : Pipe) → WriterRests p q → alone_of Writer (poll_opened Writer cx q) ≡ looked_whole (writer_look (Some cx) (begun p))
+writer-polled cx p q rests = from-writer (λ v. alone_of Writer (poll_opened Writer cx v)) (λ v. looked_whole (writer_look (Some cx) (begun v))) p q rests (writer-polls cx p)
 
 pub try_drains : (size : ℕ) (p q : Pipe) → ReaderRests p q → alone_of Reader (drain_opened None (Slice size) q) ≡ counted_whole (try_drain size p)
 try_drains size p q rests = from-reader (λ v. alone_of Reader (drain_opened None (Slice size) v)) (λ v. counted_whole (try_drain size v)) p q rests (try_drain-whole size p)
