@@ -1,5 +1,5 @@
 -- A step of a side leaves what remains of its call, and it brings the answer nearer.
-use Rattle.std.proofs.Common.{◌≡◌, ℕ, ◌+◌, ◌-◌, ◌<◌, ◌≤◌, List, length, Bool, true, false, Option, None, Some, if◌then◌else◌, ◌==◌, is_some, lit<, lit≤, refl, arith, length-append}
+use Rattle.std.proofs.Common.{◌≡◌, ℕ, ◌+◌, ◌-◌, ◌<◌, ◌≤◌, List, length, Bool, true, false, Option, None, Some, if◌then◌else◌, ◌==◌, is_some, lit<, lit≤, refl, ap, ◌∙◌, arith, length-append}
 use Rattle.piper_sides.specs.declared.calls.Side.TheVariants.{Reader, Writer}
 use Rattle.piper_sides.specs.declared.calls.SideState.TheVariants.{Busy}
 use Rattle.piper_sides.specs.declared.events.Answer.{Answer}
@@ -237,6 +237,15 @@ plain-step on.WakeWriter lent p plain = refl
 plain-step on.Idle lent p plain = refl
 plain-step on.Dropped lent p plain = refl
 plain-step place lent p plain = absurd (cc)
+
+-- the waker that it calls is heard, and then it goes
+pub writer-went : (p h r : Pipe) (answer : Option Answer) → is_filling p.writer ≡ false → h ≡ heard Writer (write_action p.writer) p → answer ≡ (stepped r.lent (Go Writer) h).answer → r ≡ (stepped r.lent (Go Writer) h).pipe
+    → (answer ≡ (write_step p.writer p).answer) × (r ≡ (write_step p.writer p).pipe)
+writer-went p h r answer plain hears answers after =
+    let same = plain-step p.writer r.lent p plain in (
+      answers ∙ ap (λ (v : Pipe). (stepped r.lent (Go Writer) v).answer) hears ∙ ap (λ (s : Stepped). s.answer) same,
+      after ∙ ap (λ (v : Pipe). (stepped r.lent (Go Writer) v).pipe) hears ∙ ap (λ (s : Stepped). s.pipe) same,
+    )
 
 abbrev pub IsWriterNearer : WritePlace → Pipe → Next WritePlace → Pipe → Type 0
 IsWriterNearer place p next q = next.answer ≡ None → (writer_state next.place ≡ Busy) × (is_filling next.place ≡ false) × Nearer (writes_left place p) (writes_left next.place q) (write_wakes place) (write_wakes next.place) (length p.woken) (length q.woken)

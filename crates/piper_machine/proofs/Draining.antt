@@ -15,7 +15,7 @@ use Rattle.piper_sides.specs.declared.table.Purpose.TheVariants as purpose
 use Rattle.piper_sides.specs.declared.table.AfterRead.TheVariants as afterward
 use Rattle.piper_sides.specs.declared.table.ReadPlace.{ReadPlace}
 use Rattle.piper_sides.specs.declared.table.ReadPlace.TheVariants as at
-use Rattle.piper_sides.specs.Open.{is_granted, no_call}
+use Rattle.piper_sides.specs.Open.{is_granted}
 use Rattle.piper_sides.specs.Side.{head_store}
 use Rattle.piper_sides.specs.Table.{Found, Next, nothing, refreshed, granted, waker, moved, goes_on, read_action, read_after, reader_looks_for, reader_looked, reader_looked_again, reader_registered, reader_is_true, reader_moved, writer_taken}
 use Rattle.piper_machine.specs.declared.destination.Destination.{Destination}
@@ -23,12 +23,9 @@ use Rattle.piper_machine.specs.declared.destination.Destination.TheVariants.{Sli
 use Rattle.piper_machine.specs.Pipe.{Pipe, begun}
 use Rattle.piper_machine.specs.Sound.{IsSound}
 use Rattle.piper_machine.specs.Move.{with_waker}
-use Rattle.piper_machine.specs.Copy.{Copied, count_of, copied_after, drawn, drain_moves, drain, try_drain}
+use Rattle.piper_machine.specs.Copy.{Copied, count_of, copied_after, drawn, drain_moves, drain}
 use Rattle.piper_machine.specs.Look.{reader_look, reader_looks, reader_registers}
 use Rattle.piper_machine.specs.Refresh.{reader_refreshed}
-use Rattle.piper_machine.specs.BySteps.{counted, unfailing, counted_whole, copied_slice}
-use Rattle.piper_machine.proofs.BySteps.{alone_of}
-use Rattle.piper_machine.proofs.Whole.{reader_resting, try_drain-whole, drain-slice}
 use Rattle.piper_sides.specs.declared.polling.Polled.{Polled}
 use Rattle.piper_sides.specs.declared.polling.Polled.TheVariants.{Ready, Pending, Memory}
 use Rattle.piper_sides.specs.declared.scripted.DestAct.{DestAct}
@@ -381,18 +378,3 @@ counted-bytes count before after dest filled_now is bytes =
     let long = ap (λ (xs : List ℕ). length xs) is.left in
     let same : length before - length after ≡ count = omega (arith, long, is.within, length-drop count before) in
     bytes ∙ ap (λ (k : ℕ). take k before ++ drop k dest) same
-
--- a reader between two calls
-pub rests : (p : Pipe) → p.reader ≡ at.Idle → p.reader_call ≡ no_call → p.destination ≡ Slice 0 → reader_resting p ≡ p
-rests p idle of_call destination = sym (λ j. record p { reader = idle j; reader_call = of_call j; destination = destination j })
-
-pub tries : (size : ℕ) (p : Pipe) → reader_resting p ≡ p → alone_of Reader (drain_opened None (Slice size) (begun p)) ≡ counted_whole (try_drain size p)
-tries size p rest = subst (λ (v : Pipe). alone_of Reader (drain_opened None (Slice size) (begun v)) ≡ counted_whole (try_drain size v)) rest (try_drain-whole size p)
-
-pub polls : (cx : Context) (size : ℕ) (p : Pipe) → reader_resting p ≡ p → alone_of Reader (drain_opened (Some cx) (Slice size) (begun p)) ≡ copied_slice (drain (Some cx) size p)
-polls cx size p rest = subst (λ (v : Pipe). alone_of Reader (drain_opened (Some cx) (Slice size) (begun v)) ≡ copied_slice (drain (Some cx) size v)) rest (drain-slice cx size p)
-
-pub counted-unfailing : (answer : Polled ℕ) → counted (unfailing answer) ≡ answer
-counted-unfailing (Ready n) = refl
-counted-unfailing Pending = refl
-counted-unfailing Memory = refl

@@ -22,6 +22,7 @@ pub mod Standing
 pub mod Falling
 pub mod BySteps
 pub mod Whole
+pub mod Resting
 pub mod WholeBySteps
 mod worked
 pub mod Honesty

@@ -36,6 +36,7 @@ use piper_sides::polling::Context;
 use piper_sides::refusals::{RunRefusal, StepRefusal};
 use piper_sides::table::{Action, Form, Purpose, ReadPlace, WritePlace};
 use std::alloc::Global;
+use std::mem;
 
 // Why no call can be opened.
 fn cannot_begin(state: SideState) -> Option<StepRefusal>
@@ -279,15 +280,21 @@ impl Machine {
     }
 
     // Opens a call of a side that is idle, and answers at once where the call makes no step.
-    fn open(&mut self, call: &Call, destination: Destination, source: Source) -> Option<Answer>
+    fn open(
+        &mut self,
+        call: &Call,
+        destination: &mut Destination,
+        source: &mut Source,
+    ) -> Option<Answer>
         requires idle { IsIdle (side_of call.now) self.old }
         requires within { past call.now self.old ≡ None }
-        requires destination { destination ≡ destination_of call.now }
-        requires source { source ≡ source_of call.now }
+        requires destination { destination.old ≡ destination_of call.now }
+        requires source { source.old ≡ source_of call.now }
         ensures after { self.new ≡ opened self.new.lent call.now self.old }
         ensures answer { result ≡ answer_at_once self.new.lent call.now }
         ensures lent { MayLend self.new.lent (Step.Begin call.now) self.old }
     {
+        let alloc = self.alloc;
         let context = call.context();
         match *call {
             Call::Len(side) => self.open_query(side, Query::Len),
@@ -297,11 +304,12 @@ impl Machine {
             Call::Poll(side, waker, luck) => self.open_poll(side, Context { waker, luck }),
             Call::TryDrain(_) | Call::PollDrainBytes(..) | Call::PollDrain(..) => self.open_drain(
                 context,
-                destination,
+                mem::replace(destination, Destination::Slice(0)),
             ),
             Call::Consume(n) => self.read.begin_consume(n),
             Call::TryFill(_) | Call::PollFillBytes(..) | Call::PollFill(..) => self.open_fill(
-                context, source,
+                context,
+                mem::replace(source, Source::none(alloc)),
             ),
             Call::WriteBuf(most) => return Some(Answer::Lent(self.lend(most))),
             Call::Produced(n) => self.write.begin_produced(n),
@@ -394,10 +402,10 @@ impl Machine {
         ensures same_log { OnErr result (events log.new ≡ events log.old) }
         ensures memory { IfErr result (λ refusal. refusal ≡ StepRefusal.Memory) }
     {
-        let destination = self.destination_of(call).map_err(|_| StepRefusal::Memory)?;
-        let source = self.source_of(call).map_err(|_| StepRefusal::Memory)?;
+        let mut destination = self.destination_of(call).map_err(|_| StepRefusal::Memory)?;
+        let mut source = self.source_of(call).map_err(|_| StepRefusal::Memory)?;
         log.reserve().map_err(|_| StepRefusal::Memory)?;
-        let answer = self.open(call, destination, source);
+        let answer = self.open(call, &mut destination, &mut source);
         let began = Event::Began(call.side(), call.kind(), call.waker());
         log.add(Some(began), answered(call.side(), answer));
         Ok(())

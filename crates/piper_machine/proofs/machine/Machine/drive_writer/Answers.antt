@@ -1,7 +1,7 @@
 use Rattle.std.proofs.Common.{◌≡◌, Option, None, sym, ap, ◌∙◌, arith}
 use Rattle.piper_sides.specs.declared.events.Answer.{Answer}
-use Rattle.piper_machine.specs.Step.{Stepped}
-use Rattle.piper_machine.proofs.Alone.{write_step, plain-step, writer_rest, writer-rest, writer-nearer}
+use Rattle.piper_machine.specs.Alone.{Ended}
+use Rattle.piper_machine.proofs.Alone.{write_step, writer-went, writer_rest, writer-rest, writer-nearer}
 use Rattle.piper_machine.proofs.machine.Machine.drive_writer.Goals as goal
 
 pub steps-preserved : goal.steps-preserved
@@ -9,12 +9,10 @@ steps-preserved c =
     let p = c.steps.self in
     let inv = c.steps.invariant in
     let next = write_step p.writer p in
-    let same = plain-step p.writer c.writer_goes.new.self.lent p inv.moves in
-    let after : c.writer_goes.new.self ≡ next.pipe = rw c.hear_writer.ensures.after at c.writer_goes.ensures.after ∙ ap (λ (s : Stepped). s.pipe) same in
-    let answer : c.writer_goes.result ≡ next.answer = rw c.hear_writer.ensures.after at c.writer_goes.ensures.answer ∙ ap (λ (s : Stepped). s.answer) same in
-    let none : next.answer ≡ None = sym answer ∙ c.in-None.is in
+    let went = writer-went p c.hear_writer.new.self c.writer_goes.new.self c.writer_goes.result inv.moves c.hear_writer.ensures.after c.writer_goes.ensures.answer c.writer_goes.ensures.after in
+    let none : next.answer ≡ None = sym went.0 ∙ c.in-None.is in
     let near = writer-nearer p.writer p inv.busy inv.moves none in
-    rw after (record {
+    rw went.1 (record {
       busy = near.0;
       moves = near.1;
       wakes = let fewer = near.2.wakes in omega (arith, inv.wakes);
@@ -24,9 +22,15 @@ steps-preserved c =
 pub steps-smaller : goal.steps-smaller
 steps-smaller c =
     let p = c.steps.self in
+    let inv = c.steps.invariant in
+    let went = writer-went p c.hear_writer.new.self c.writer_goes.new.self c.writer_goes.result inv.moves c.hear_writer.ensures.after c.writer_goes.ensures.answer c.writer_goes.ensures.after in
+    rw went.1 (writer-nearer p.writer p inv.busy inv.moves (sym went.0 ∙ c.in-None.is)).2.steps
+
+pub returns-in-Some : goal.returns-in-Some
+returns-in-Some c =
+    let p = c.steps.self in
+    let inv = c.steps.invariant in
     let next = write_step p.writer p in
-    let same = plain-step p.writer c.writer_goes.new.self.lent p c.steps.invariant.moves in
-    let after : c.writer_goes.new.self ≡ next.pipe = rw c.hear_writer.ensures.after at c.writer_goes.ensures.after ∙ ap (λ (s : Stepped). s.pipe) same in
-    let answer : c.writer_goes.result ≡ next.answer = rw c.hear_writer.ensures.after at c.writer_goes.ensures.answer ∙ ap (λ (s : Stepped). s.answer) same in
-    let none : next.answer ≡ None = sym answer ∙ c.in-None.is in
-    rw after (writer-nearer p.writer p c.steps.invariant.busy c.steps.invariant.moves none).2.steps
+    let went = writer-went p c.hear_writer.new.self c.writer_goes.new.self c.writer_goes.result inv.moves c.hear_writer.ensures.after c.writer_goes.ensures.answer c.writer_goes.ensures.after in
+    let ended = inv.rest ∙ writer-rest p.writer p inv.busy inv.moves ∙ ap (λ (a : Option Answer). writer_rest a next.pipe) (sym went.0 ∙ c.in-Some.is) in
+    record { answer = sym (ap (λ (e : Ended). e.answer) ended); after = went.1 ∙ sym (ap (λ (e : Ended). e.pipe) ended) }

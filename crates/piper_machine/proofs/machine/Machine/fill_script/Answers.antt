@@ -98,6 +98,12 @@ steps-preserved-in-None c =
     let writer = ap (λ (v : Pipe). v.writer) c.write_round-count.ensures.after in
     absurd (failed-ends w.writer w.capacity w.room (ap write_action writer ∙ sym c.writer_next-action.ensures.step ∙ c.in-CallSource.is) (sym c.source_failed.ensures.answer ∙ c.in-None.is))
 
+pub steps-smaller-in-None : goal.steps-smaller-in-None
+steps-smaller-in-None c =
+    let w = c.write_round-count.new.self in
+    let writer = ap (λ (v : Pipe). v.writer) c.write_round-count.ensures.after in
+    absurd (failed-ends w.writer w.capacity w.room (ap write_action writer ∙ sym c.writer_next-action.ensures.step ∙ c.in-CallSource.is) (sym c.source_failed.ensures.answer ∙ c.in-None.is))
+
 pub returns-in-Some-source_gave-clause-answer : goal.returns-in-Some-source_gave-clause-answer
 returns-in-Some-source_gave-clause-answer c =
     let p = fill_opened c.args.context c.args.acts.now c.args.self.now in
