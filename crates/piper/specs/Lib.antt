@@ -1,4 +1,5 @@
 pub mod Slots
+pub mod Calls
 pub mod Copies
 pub mod Counts
 pub mod Ends
