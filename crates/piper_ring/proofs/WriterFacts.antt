@@ -1,14 +1,34 @@
 -- What the parts of a writer's end tell of its indices.
-use Rattle.std.proofs.Common.{◌≡◌, ◌+◌, ◌*◌, ◌<◌, ◌≤◌, length, arith}
-use Rattle.rtrb.proofs.Positions.{position_inside}
+use Rattle.std.proofs.Common.{◌≡◌, ℕ, ◌+◌, ◌-◌, ◌≤◌, Bool, true, false, if◌then◌else◌, length, min, arith, sym, subst, ap, ◌∙◌}
+use Rattle.piper_sides.specs.Index.{distance}
+use Rattle.piper_sides.specs.LendBound.{lend_bound}
+use Rattle.piper_sides.specs.WriterIndices.{WriterIndices, room_in, left_in, lendable_in}
 use Rattle.piper_ring.specs.WriteView.{IsWriteEnd}
 use Rattle.piper_ring.specs.declared.ends.writer.WriteParts.{WriteParts}
+use Rattle.piper_ring.proofs.Indices.{apart}
+
+at_most : (b : Bool) (n : ℕ) → (if b then 0 else n) ≤ n
+at_most false n = omega arith
+at_most true n = omega arith
+
+-- what is lent is within what is asked for, the bound, the room, and the end of the memory
+pub lends_within : (most : ℕ) (w : WriterIndices) (n : ℕ) → n ≡ lendable_in most w → n ≤ min (min most (lend_bound w.zeroed)) (min (room_in w) (left_in w))
+lends_within most w n is = let top : ℕ = min (min most (lend_bound w.zeroed)) (min (room_in w) (left_in w)) in subst (λ (k : ℕ). k ≤ top) (sym is) (at_most w.is_shut top)
+
+-- a pipe that the writer closed lends nothing, and any other all of that
+pub lends_none : (most : ℕ) (w : WriterIndices) (n : ℕ) → n ≡ lendable_in most w → w.is_shut ≡ true → n ≡ 0
+lends_none most w n is shut = is ∙ ap (λ (b : Bool). if b then 0 else min (min most (lend_bound w.zeroed)) (min (room_in w) (left_in w))) shut
+
+pub lends_all : (most : ℕ) (w : WriterIndices) (n : ℕ) → n ≡ lendable_in most w → w.is_shut ≡ false → n ≡ min (min most (lend_bound w.zeroed)) (min (room_in w) (left_in w))
+lends_all most w n is open_still = is ∙ ap (λ (b : Bool). if b then 0 else min (min most (lend_bound w.zeroed)) (min (room_in w) (left_in w))) open_still
 
 module _ (e : WriteParts) (i : IsWriteEnd e) where
   -- all that was published stands below the limit of the room
   pub sent_below : length e.seat.sent ≤ e.seat.limit
-  sent_below = let r = e.room in let a : r.lent.first ≡ length e.seat.sent = i.placed.3 in let b : r.ready.first ≡ r.lent.first + length r.lent.bytes = i.room.chain.0 in let c : r.ready.first + length r.ready.bytes + r.blank.count ≡ r.later.first = i.room.chain.1 in
+  sent_below = let r = e.room in let a : r.lent.first ≡ length e.seat.sent = i.placed.3 in let b : r.ready.first ≡ r.lent.first + length r.lent.bytes = i.room.0.chain.0 in let c : r.ready.first + length r.ready.bytes + r.blank.count ≡ r.later.first = i.room.0.chain.1 in
       let d : r.later.first + length r.later.bytes ≡ e.seat.limit = i.placed.4 in omega arith
 
-  pub limit_inside : e.limit < 2 * e.capacity
-  limit_inside = position_inside e.capacity e.limit e.seat.limit i.cached.1 i.fits.1
+  -- the room is what the end's two indices leave
+  pub room_apart : room_in e.indices ≡ e.seat.limit - length e.seat.sent
+  room_apart = let cap : ℕ = e.indices.capacity in let s : ℕ = length e.seat.sent in let below : s ≤ e.seat.limit = sent_below in let low : cap ≤ e.seat.limit = i.freed.0 in let near : e.seat.limit ≤ s + cap = i.freed.1 in
+      let far : distance cap e.indices.head e.indices.tail ≡ s - (e.seat.limit - cap) = apart cap _ _ (e.seat.limit - cap) s (omega arith) (omega arith) i.cached.1 i.cached.0 in omega arith

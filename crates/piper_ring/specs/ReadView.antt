@@ -1,5 +1,5 @@
 -- What a contract sees of a `ReadEnd`, and how the end keeps it.
-use Rattle.std.specs.Prelude.{◌≡◌, ℕ, ◌+◌, ◌-◌, ◌*◌, ◌^◌, ◌<◌, ◌≤◌, ◌++◌, Bool, false, List, length, take, min, refl}
+use Rattle.std.specs.Prelude.{◌≡◌, ℕ, ◌+◌, ◌-◌, ◌^◌, ◌<◌, ◌≤◌, ◌++◌, Bool, false, List, length, take, min, refl}
 use Rattle.std.specs.Coded.{Coded, code_by, coded×, coded_list, coded_ℕ, coded_bool}
 use Rattle.rtrb.specs.Fifo.{position_of, slot_of}
 use Rattle.piper_ring.specs.Shared.{Ring, ring_code}
@@ -27,7 +27,7 @@ read_view_code = code_by ((Ring × ℕ) × ((List ℕ × List ℕ) × (ℕ × (B
     (λ r. ((r.ring, r.capacity), ((r.taken, r.known), (r.told, (r.told_shut, r.saw))))) (λ p. read_view p.0.0 p.0.1 p.1.0.0 p.1.0.1 p.1.1.0 p.1.1.1.0 p.1.1.1.1) (λ _. refl)
 
 abbrev pub read_view_of : ReadParts → ReadView
-read_view_of e = read_view (e.seat.words, (e.seat.at, e.seat.names)) e.capacity (take e.seat.head e.seat.have) e.known.bytes (length e.told.bytes) e.told.shut e.saw.seen
+read_view_of e = read_view (e.seat.words, (e.seat.at, e.seat.names)) e.indices.capacity (take e.seat.head e.seat.have) e.known.bytes (length e.told.bytes) e.told.shut e.saw.seen
 
 -- the place of the first known byte
 abbrev pub read_place : ReadView → ℕ
@@ -52,10 +52,10 @@ pub record SameReadEnd (a b : ReadView) : Type 0 where
 
 -- how the end keeps its view
 pub record IsReadEnd (e : ReadParts) : Type 0 where
-  pub fits : (e.capacity ≡ e.seat.names.capacity) × (0 < e.capacity) × (e.capacity < 2 ^ 63)
+  pub fits : (e.indices.capacity ≡ e.seat.names.capacity) × (0 < e.indices.capacity) × (e.indices.capacity < 2 ^ 63)
   pub placed : (e.base.ptr ≡ e.seat.at) × (e.known.at ≡ e.seat.at) × (e.known.capacity ≡ e.seat.names.capacity) × (e.known.first ≡ e.seat.head)
-  pub counts : (e.seat.seen ≡ e.seat.head + length e.known.bytes) × (length e.known.bytes ≤ e.capacity)
-  pub cached : (e.head ≡ position_of e.capacity e.seat.head) × (e.tail ≡ position_of e.capacity e.seat.seen) × (e.head < 2 * e.capacity)
+  pub counts : (e.seat.seen ≡ e.seat.head + length e.known.bytes) × (length e.known.bytes ≤ e.indices.capacity)
+  pub cached : (e.indices.head ≡ position_of e.indices.capacity e.seat.head) × (e.indices.tail ≡ position_of e.indices.capacity e.seat.seen)
   pub heard : (e.told.names ≡ e.seat.names) × (e.saw.names ≡ e.seat.names)
   pub whole : (e.seat.head ≤ length e.seat.have) × (e.seat.have ≡ take e.seat.head e.seat.have ++ e.known.bytes)
   pub here : e.seat.leaving ≡ false

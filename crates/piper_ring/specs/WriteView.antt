@@ -1,5 +1,5 @@
 -- What a contract sees of a `WriteEnd`, and how the end keeps it.
-use Rattle.std.specs.Prelude.{◌≡◌, ℕ, ◌+◌, ◌-◌, ◌*◌, ◌^◌, ◌<◌, ◌≤◌, Bool, true, false, List, [], length, min, refl}
+use Rattle.std.specs.Prelude.{◌≡◌, ℕ, ◌+◌, ◌-◌, ◌^◌, ◌<◌, ◌≤◌, Bool, true, false, List, [], length, min, refl}
 use Rattle.std.specs.Coded.{Coded, code_by, coded×, coded_list, coded_ℕ, coded_bool}
 use Rattle.rtrb.specs.Fifo.{position_of, slot_of}
 use Rattle.piper_ring.specs.Shared.{Ring, ring_code}
@@ -35,7 +35,7 @@ either false b = b
 either true b = true
 
 abbrev pub write_view_of : WriteParts → WriteView
-write_view_of e = write_view (e.seat.words, (e.seat.at, e.seat.names)) e.capacity e.seat.sent (e.seat.limit - length e.seat.sent) e.room.lent.bytes e.seat.shut e.told.count (either e.seat.shut e.saw.seen)
+write_view_of e = write_view (e.seat.words, (e.seat.at, e.seat.names)) e.indices.capacity e.seat.sent (e.seat.limit - length e.seat.sent) e.room.lent.bytes e.seat.shut e.told.count (either e.seat.shut e.saw.seen)
 
 -- the place of the next byte
 abbrev pub write_place : WriteView → ℕ
@@ -62,11 +62,12 @@ pub record SameWriteEnd (a b : WriteView) : Type 0 where
 
 -- how the end keeps its view
 pub record IsWriteEnd (e : WriteParts) : Type 0 where
-  pub fits : (e.capacity ≡ e.seat.names.capacity) × (0 < e.capacity) × (e.capacity < 2 ^ 63)
-  pub room : IsRoom e.room
+  pub fits : (e.indices.capacity ≡ e.seat.names.capacity) × (0 < e.indices.capacity) × (e.indices.capacity < 2 ^ 63)
+  pub room : IsRoom e.room × (e.indices.zeroed ≡ e.room.blank.first)
   pub placed : (e.base.ptr ≡ e.seat.at) × (e.room.lent.at ≡ e.seat.at) × (e.room.lent.capacity ≡ e.seat.names.capacity) × (e.room.lent.first ≡ length e.seat.sent) × (end_of e.room.later ≡ e.seat.limit)
-  pub freed : (e.capacity ≤ e.seat.limit) × (e.seat.limit ≤ length e.seat.sent + e.capacity)
-  pub cached : (e.tail ≡ position_of e.capacity (length e.seat.sent)) × (e.limit ≡ position_of e.capacity e.seat.limit) × (e.tail < 2 * e.capacity)
+  pub freed : (e.indices.capacity ≤ e.seat.limit) × (e.seat.limit ≤ length e.seat.sent + e.indices.capacity)
+  pub cached : (e.indices.tail ≡ position_of e.indices.capacity (length e.seat.sent)) × (e.indices.head ≡ position_of e.indices.capacity (e.seat.limit - e.indices.capacity))
+  pub lending : e.indices.lent ≡ length e.room.lent.bytes
   pub heard : (e.told.names ≡ e.seat.names) × (e.saw.names ≡ e.seat.names)
-  pub closed : e.shut ≡ e.seat.shut
+  pub closed : e.indices.is_shut ≡ e.seat.shut
   pub lends_none : e.seat.shut ≡ true → e.room.lent.bytes ≡ []

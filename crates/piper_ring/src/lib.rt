@@ -2,7 +2,6 @@
 #![tactic(auto)]
 
 mod ends;
-mod position;
 mod ring;
 
 pub use ends::opening::open_ring;

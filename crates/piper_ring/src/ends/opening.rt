@@ -8,6 +8,8 @@ use crate::ends::writer::{WriteEnd, WriteParts};
 use crate::ring::memory::Memory;
 use crate::ring::seats::{WORDS_ALIGN, WORDS_SIZE, open};
 use piper_sides::memory::OutOfMemory;
+use piper_sides::read_indices::ReadIndices;
+use piper_sides::write_indices::WriteIndices;
 use std::alloc::Global;
 
 /// The two ends of a new ring for `capacity` bytes. Where memory is refused, all that was got is given back.
@@ -30,9 +32,7 @@ pub fn open_ring(alloc: Global, capacity: usize) -> Result<(ReadEnd, WriteEnd), 
         saw: read_saw,
         base,
         alloc,
-        capacity,
-        head: 0,
-        tail: 0,
+        indices: ReadIndices::new(capacity),
     };
     let writer = WriteParts {
         seat: write_seat,
@@ -41,10 +41,7 @@ pub fn open_ring(alloc: Global, capacity: usize) -> Result<(ReadEnd, WriteEnd), 
         saw: write_saw,
         base,
         alloc,
-        capacity,
-        tail: 0,
-        limit: capacity,
-        shut: false,
+        indices: WriteIndices::new(capacity),
     };
     Ok((ReadEnd { parts: reader }, WriteEnd { parts: writer }))
 }

@@ -3,10 +3,10 @@ ghost use Rattle.std.specs.Prelude.{◌≡◌, ℕ, ◌+◌, ◌-◌, ◌*◌, �
 
 use crate::ends::leaving::LeavingReader;
 use crate::ends::writer::WriteEnd;
-use crate::position::{advance, distance, none_between, real};
 use crate::ring::marks::{ReadMark, Saw, WriteMark};
 use crate::ring::places::{Base, Places};
 use crate::ring::seats::ReadSeat;
+use piper_sides::read_indices::ReadIndices;
 use std::alloc::Global;
 use std::marker::Model;
 
@@ -20,11 +20,8 @@ pub(crate) struct ReadParts {
     pub(crate) saw: Saw,
     pub(crate) base: Base,
     pub(crate) alloc: Global,
-    pub(crate) capacity: usize,
-    /// A copy of the head, which only this end stores.
-    pub(crate) head: usize,
-    /// The tail as this end last saw it.
-    pub(crate) tail: usize,
+    /// A copy of the head, which only this end stores, and the tail as this end last saw it.
+    pub(crate) indices: ReadIndices,
 }
 
 /// The end that reads.
@@ -53,7 +50,7 @@ impl ReadEnd {
     pub fn capacity(&self) -> usize
         ensures { result ≡ self.now.capacity }
     {
-        self.parts.capacity
+        self.parts.indices.capacity()
     }
 
     /// It does nothing: its clauses are what holds of every end that reads.
@@ -68,14 +65,14 @@ impl ReadEnd {
     pub fn known_len(&self) -> usize
         ensures { result ≡ length self.now.known }
     {
-        distance(self.parts.capacity, self.parts.head, self.parts.tail)
+        self.parts.indices.known()
     }
 
     /// Whether this end knows of no byte.
     pub fn knows_none(&self) -> bool
         ensures { IsTrue result ↔ (length self.now.known ≡ 0) }
     {
-        none_between(self.parts.head, self.parts.tail)
+        self.parts.indices.knows_none()
     }
 
     /// How many bytes are unread now. The writer may publish more at any time.
@@ -83,7 +80,7 @@ impl ReadEnd {
         ensures { MayBeUnread self.now result }
     {
         let (tail, _) = self.parts.seat.look_tail(&self.parts.told);
-        distance(self.parts.capacity, self.parts.head, tail as usize)
+        self.parts.indices.unread_to(tail as usize)
     }
 
     /// Whether nothing is unread now. It compares a count within the bounds of `len` with 0.
@@ -97,7 +94,7 @@ impl ReadEnd {
     pub fn is_full(&self) -> bool
         ensures { (n : ℕ) × MayBeUnread self.now n × (IsTrue result ↔ (n ≡ self.now.capacity)) }
     {
-        self.len() == self.parts.capacity
+        self.len() == self.capacity()
     }
 
     /// Whether the pipe is closed now. Once this end saw it closed, or was told that the writer closed it, the answer is `true`.
@@ -115,8 +112,8 @@ impl ReadEnd {
         ensures length { length result.now ≡ in_one_piece self.now }
         ensures some { 0 < length self.now.known → 0 < length result.now }
     {
-        let from = real(self.parts.capacity, self.parts.head);
-        let len = self.known_len().min(self.parts.capacity - from);
+        let indices = &self.parts.indices;
+        let (from, len) = (indices.front(), indices.peekable());
         self.parts.known.slice(self.parts.base, from, len)
     }
 
@@ -147,7 +144,7 @@ impl ReadEnd {
         let parts = &mut self.parts;
         let (tail, published) = parts.seat.look_tail(&parts.told);
         parts.seat.accept(&mut parts.known, &published);
-        parts.tail = tail as usize;
+        parts.indices.sees(tail as usize);
     }
 
     /// `reload`, where it knows of no byte.
@@ -177,8 +174,8 @@ impl ReadEnd {
         let (arrived, freed) = reader.seat.meet(&mut writer.seat, &reader.saw, &writer.saw);
         reader.known.join(arrived);
         writer.room.later.join(freed);
-        reader.tail = writer.tail;
-        writer.limit = advance(writer.capacity, reader.head, writer.capacity);
+        reader.indices.sees(writer.indices.tail());
+        writer.indices.sees(reader.indices.head());
     }
 
     /// Looks whether the pipe is closed, and keeps what it saw.
@@ -201,8 +198,8 @@ impl ReadEnd {
     {
         let parts = &mut self.parts;
         let back = parts.known.split(n);
-        parts.head = advance(parts.capacity, parts.head, n);
-        parts.seat.store_head(back, parts.head as u64);
+        parts.indices.gives(n);
+        parts.seat.store_head(back, parts.indices.head() as u64);
     }
 
     /// Closes the pipe, since this end is about to leave.
@@ -217,9 +214,7 @@ impl ReadEnd {
             saw: _,
             base,
             alloc,
-            capacity,
-            head: _,
-            tail: _,
+            indices,
         } = parts;
         seat.store_closed();
         LeavingReader {
@@ -227,7 +222,7 @@ impl ReadEnd {
             known: known.forget(),
             base,
             alloc,
-            capacity,
+            capacity: indices.capacity(),
         }
     }
 }

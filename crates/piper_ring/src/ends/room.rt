@@ -1,5 +1,5 @@
 //! The places that a writer may write to.
-ghost use Rattle.std.specs.Prelude.{◌≡◌, ℕ, ◌+◌, ◌-◌, ◌<◌, ◌≤◌, List, [], length};
+ghost use Rattle.std.specs.Prelude.{◌≡◌, ℕ, ◌+◌, ◌-◌, ◌<◌, ◌≤◌, List, [], length, max};
 ghost use Rattle.piper_ring.specs.RoomOrder.{IsRoom, SameRoom, end_of};
 
 use crate::ring::places::{Base, Blank, Places};
@@ -14,8 +14,6 @@ pub(crate) struct Room {
     pub(crate) blank: Blank,
     /// The places of the second turn, kept apart until the first turn is set.
     pub(crate) later: Places,
-    /// How many places are set, from the memory's beginning.
-    pub(crate) zeroed: usize,
 }
 
 impl Room {
@@ -24,6 +22,7 @@ impl Room {
         requires { (capacity ≡ blank.capacity) × (blank.count ≡ blank.capacity) × (blank.first ≡ 0) }
         ensures room { IsRoom result }
         ensures whole { (result.lent.first ≡ 0) × (end_of result.later ≡ capacity) }
+        ensures zeroed { result.blank.first ≡ 0 }
         ensures place { (result.lent.at ≡ blank.at) × (result.lent.capacity ≡ blank.capacity) }
         ensures lent { result.lent.bytes ≡ [] }
     {
@@ -32,25 +31,44 @@ impl Room {
             ready: blank.none(0),
             later: blank.none(capacity),
             blank,
-            zeroed: 0,
         }
     }
 
-    /// Lends its first `len` places, which stand in one piece from the slot `from` on, in place of what was lent before. Those that are not set are zeroed first.
-    pub(crate) fn lend(&mut self, base: Base, capacity: usize, from: usize, len: usize)
-        requires { IsRoom self.old × (base.ptr ≡ self.old.lent.at) × (capacity ≡ self.old.lent.capacity) × (self.old.lent.first < capacity → from ≡ self.old.lent.first) × (from + len ≤ capacity) × (self.old.lent.first + len ≤ end_of self.old.later) }
+    /// Takes back what is lent.
+    pub(crate) fn unlend(&mut self)
+        requires { IsRoom self.old }
         ensures room { IsRoom self.new }
+        ensures same { SameRoom self.old self.new × (self.new.blank ≡ self.old.blank) }
+        ensures lent { self.new.lent.bytes ≡ [] }
+    {
+        let mut front = self.lent.take();
+        front.join(self.ready.take());
+        self.lent.put(front.split(0));
+        self.ready.put(front);
+    }
+
+    /// Lends its first `len` places, which stand in one piece from the slot `from` on, in place of what was lent before. Those that are not set, from the slot `zeroed` on, are zeroed first.
+    pub(crate) fn lend(
+        &mut self,
+        base: Base,
+        capacity: usize,
+        zeroed: usize,
+        from: usize,
+        len: usize,
+    )
+        requires { IsRoom self.old × (zeroed ≡ self.old.blank.first) × (base.ptr ≡ self.old.lent.at) × (capacity ≡ self.old.lent.capacity) × (self.old.lent.first < capacity → from ≡ self.old.lent.first) × (from + len ≤ capacity) × (self.old.lent.first + len ≤ end_of self.old.later) }
+        ensures room { IsRoom self.new }
+        ensures zeroed { self.new.blank.first ≡ max zeroed (from + len) }
         ensures same { SameRoom self.old self.new }
         ensures lent { length self.new.lent.bytes ≡ len }
     {
         let mut front = self.lent.take();
         front.join(self.ready.take());
         let end = from + len;
-        if self.zeroed < end {
-            zero(&mut front, &mut self.blank, base, self.zeroed, end);
-            self.zeroed = end;
+        if zeroed < end {
+            zero(&mut front, &mut self.blank, base, zeroed, end);
         }
-        if self.zeroed == capacity {
+        if zeroed.max(end) == capacity {
             front.join(self.later.take());
         }
         self.lent.put(front.split(len));
@@ -58,8 +76,8 @@ impl Room {
     }
 
     /// All its places, whose bytes nobody speaks of any more.
-    pub(crate) fn forget(self, capacity: usize) -> Blank
-        requires { IsRoom self × (capacity ≡ self.lent.capacity) }
+    pub(crate) fn forget(self, capacity: usize, zeroed: usize) -> Blank
+        requires { IsRoom self × (zeroed ≡ self.blank.first) × (capacity ≡ self.lent.capacity) }
         ensures { (result.at ≡ self.lent.at) × (result.capacity ≡ self.lent.capacity) × (result.first ≡ self.lent.first) × (result.first + result.count ≡ end_of self.later) }
     {
         let Room {
@@ -67,7 +85,6 @@ impl Room {
             ready,
             blank,
             later,
-            zeroed,
         } = self;
         let mut all = lent.forget();
         all.join(ready.forget());

@@ -3,10 +3,10 @@ ghost use Rattle.std.specs.Prelude.{◌≡◌, ℕ, ◌+◌, ◌-◌, ◌*◌, �
 
 use crate::ends::leaving::LeavingWriter;
 use crate::ends::room::Room;
-use crate::position::{advance, distance, none_between, real};
 use crate::ring::marks::{ReadMark, Saw, WriteMark};
 use crate::ring::places::Base;
 use crate::ring::seats::WriteSeat;
+use piper_sides::write_indices::WriteIndices;
 use std::alloc::Global;
 use std::marker::Model;
 
@@ -19,13 +19,8 @@ pub(crate) struct WriteParts {
     pub(crate) saw: Saw,
     pub(crate) base: Base,
     pub(crate) alloc: Global,
-    pub(crate) capacity: usize,
-    /// A copy of the tail, which only this end stores.
-    pub(crate) tail: usize,
-    /// The index up to which it may write: one turn past the head as this end last saw it.
-    pub(crate) limit: usize,
-    /// Whether it closed the pipe for good.
-    pub(crate) shut: bool,
+    /// A copy of the tail, which only this end stores, and the head as this end last saw it; how much is lent and set, and whether this end closed the pipe for good.
+    pub(crate) indices: WriteIndices,
 }
 
 /// The end that writes.
@@ -55,7 +50,7 @@ impl WriteEnd {
     pub fn capacity(&self) -> usize
         ensures { result ≡ self.now.capacity }
     {
-        self.parts.capacity
+        self.parts.indices.capacity()
     }
 
     /// It does nothing: its clauses are what holds of every end that writes.
@@ -65,21 +60,21 @@ impl WriteEnd {
         ensures lent { length self.now.lent ≤ self.now.room }
         ensures shut { self.now.shut ≡ true → (self.now.lent ≡ []) × (self.now.saw ≡ true) }
     {
-        let _ = &self.parts;
+        let _ = self.parts.indices.capacity();
     }
 
     /// How many bytes this end knows to have room for.
     pub fn room(&self) -> usize
         ensures { result ≡ self.now.room }
     {
-        distance(self.parts.capacity, self.parts.tail, self.parts.limit)
+        self.parts.indices.room()
     }
 
     /// Whether this end knows of no room.
     pub fn knows_none(&self) -> bool
         ensures { IsTrue result ↔ (self.now.room ≡ 0) }
     {
-        none_between(self.parts.tail, self.parts.limit)
+        self.parts.indices.knows_none()
     }
 
     /// How many bytes are unread now. The reader may consume some at any time.
@@ -87,7 +82,7 @@ impl WriteEnd {
         ensures { MayBeUnread self.now result }
     {
         let (head, _) = self.parts.seat.look_head(&self.parts.told);
-        distance(self.parts.capacity, head as usize, self.parts.tail)
+        self.parts.indices.unread_from(head as usize)
     }
 
     /// Whether nothing is unread now. It compares a count within the bounds of `len` with 0.
@@ -101,7 +96,7 @@ impl WriteEnd {
     pub fn is_full(&self) -> bool
         ensures { (n : ℕ) × MayBeUnread self.now n × (IsTrue result ↔ (n ≡ self.now.capacity)) }
     {
-        self.len() == self.parts.capacity
+        self.len() == self.capacity()
     }
 
     /// Whether the pipe is closed now. Once this end saw it closed, or closed it, the answer is `true`.
@@ -139,7 +134,7 @@ impl WriteEnd {
         let parts = &mut self.parts;
         let (head, consumed) = parts.seat.look_head(&parts.told);
         parts.seat.accept(&mut parts.room.later, &consumed);
-        parts.limit = advance(parts.capacity, head as usize, parts.capacity);
+        parts.indices.sees(head as usize);
     }
 
     /// Looks whether the pipe is closed, and keeps what it saw.
@@ -162,8 +157,8 @@ impl WriteEnd {
     {
         let parts = &mut self.parts;
         let gift = parts.room.lent.split(n);
-        parts.tail = advance(parts.capacity, parts.tail, n);
-        parts.seat.store_tail(gift, parts.tail as u64);
+        parts.indices.publishes(n);
+        parts.seat.store_tail(gift, parts.indices.tail() as u64);
     }
 
     /// `reload`, where it knows of no room.
@@ -177,37 +172,16 @@ impl WriteEnd {
         }
     }
 
-    /// How many bytes a call for at most `max` lends from the slot `from` on. It never asks for more than 4,096 places beyond twice those that are set.
-    fn lendable(&self, max: usize, from: usize) -> usize
-        requires { (from ≡ write_place self.now) × (from < self.now.capacity) }
-        ensures { MayLend self.now max result }
-    {
-        if self.parts.shut {
-            return 0;
-        }
-        let most = max.min(self.room()).min(self.parts.capacity - from);
-        if most <= 4096 {
-            return most;
-        }
-        let doubled = 2 * self.parts.room.zeroed;
-        if most - 4096 <= doubled {
-            most
-        } else {
-            doubled + 4096
-        }
-    }
-
     /// Lends at most `max` bytes of the room, in one piece, to be written: at least one where there is room, one is asked for and the pipe wasn't closed here. It replaces what was lent before; what stands in the bytes is not said.
     pub fn write_buf(&mut self, max: usize) -> &mut [u8]
         ensures* writes { sem 𝓛 (lends_buffer self.entry result) }
         ensures length { MayLend self.old max (length result.now) }
         ensures some { self.old.shut ≡ false → 0 < self.old.room → 0 < max → 0 < length result.now }
     {
-        let from = real(self.parts.capacity, self.parts.tail);
-        let len = self.lendable(max, from);
-        let base = self.parts.base;
-        let capacity = self.parts.capacity;
-        self.parts.room.lend(base, capacity, from, len);
+        let (base, capacity) = (self.parts.base, self.parts.indices.capacity());
+        let (from, zeroed) = (self.parts.indices.front(), self.parts.indices.zeroed());
+        let len = self.parts.indices.lend(max);
+        self.parts.room.lend(base, capacity, zeroed, from, len);
         self.parts.room.lent.slice_mut(base, from, len)
     }
 
@@ -218,10 +192,9 @@ impl WriteEnd {
         ensures kept { SameWriteEnd self.old self.new × (self.new.sent ≡ self.old.sent) × (self.new.room ≡ self.old.room) }
     {
         let parts = &mut self.parts;
-        let from = real(parts.capacity, parts.tail);
-        parts.room.lend(parts.base, parts.capacity, from, 0);
+        parts.room.unlend();
+        parts.indices.shut();
         parts.seat.store_shut();
-        parts.shut = true;
     }
 
     /// Closes the pipe, since this end is about to leave.
@@ -236,15 +209,13 @@ impl WriteEnd {
             saw: _,
             base,
             alloc,
-            capacity,
-            tail: _,
-            limit: _,
-            shut: _,
+            indices,
         } = parts;
+        let capacity = indices.capacity();
         seat.store_shut();
         LeavingWriter {
             seat,
-            room: room.forget(capacity),
+            room: room.forget(capacity, indices.zeroed()),
             base,
             alloc,
             capacity,

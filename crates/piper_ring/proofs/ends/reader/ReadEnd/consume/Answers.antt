@@ -1,24 +1,40 @@
 -- The end keeps its view as the front of the known bytes goes over to what was taken.
-use Rattle.std.proofs.Common.{◌≡◌, ℕ, ◌+◌, ◌-◌, ◌≤◌, ◌++◌, List, length, take, arith, ap, ◌∙◌, sym, subst}
+use Rattle.std.proofs.Common.{◌≡◌, ℕ, ◌+◌, ◌-◌, ◌≤◌, ◌<◌, ◌^◌, ◌++◌, List, length, take, arith, ap, ◌∙◌, sym, subst}
 use Rattle.std.proofs.lemmas.List.{length-take-le, length-drop}
 use Rattle.rtrb.specs.Fifo.{position_of}
+use Rattle.piper_sides.specs.ReaderIndices.{ReaderIndices}
 use Rattle.piper_ring.specs.Shared.{Names}
 use Rattle.piper_ring.specs.ReadView.{ReadView, read_view_of, in_one_piece}
-use Rattle.piper_ring.proofs.ReaderFacts.{within_known}
+use Rattle.piper_ring.proofs.Indices.{further}
+use Rattle.piper_ring.proofs.ReaderFacts.{known_apart, within_known}
 use Rattle.piper_ring.proofs.Taking.{taken_more, whole_still, all_counted}
 use Rattle.piper_ring.proofs.ends.reader.ReadEnd.consume.Goals as goal
+
+pub gives-requires : goal.gives-requires
+gives-requires c = let e = c.self.inside.parts in let le : c.args.n ≤ length e.known.bytes = within_known (read_view_of e) c.args.n (subst (λ (r : ReadView). c.args.n ≤ in_one_piece r) (sym c.self.view_is) c.requires) in
+    subst (λ (k : ℕ). c.args.n ≤ k) (sym (known_apart e c.self.invariant)) le
+
+pub store_head-requires : goal.store_head-requires
+store_head-requires c = let e = c.self.inside.parts in let i = c.self.invariant in let d = c.split-back.ensures in let n : ℕ = c.args.n in let K : List ℕ = e.known.bytes in
+    let le : n ≤ length K = within_known (read_view_of e) n (subst (λ (r : ReadView). n ≤ in_one_piece r) (sym c.self.view_is) c.requires) in let back : length c.split-back.result.bytes ≡ n = ap length d.3 ∙ length-take-le n K le in
+    let sum : e.seat.seen ≡ e.seat.head + length K = i.counts.0 in let more : e.seat.head + length c.split-back.result.bytes ≤ e.seat.seen = omega arith in
+    let cap = i.fits.0 in let there = c.head.ensures.value ∙ further e.indices.capacity _ e.seat.head n _ c.gives.ensures.remainder i.cached.0 in
+    (d.0 ∙ i.placed.1, d.1 ∙ i.placed.2, d.2 ∙ i.placed.3, more, there ∙ sym (λ j. position_of (sym cap j) (e.seat.head + back j)))
 
 pub invariant_of-self : goal.invariant_of-self
 invariant_of-self c = let e = c.self.inside.parts in let i = c.self.invariant in let s = c.store_head.ensures in let d = c.split-back.ensures in let n : ℕ = c.args.n in let K : List ℕ = e.known.bytes in let head : ℕ = e.seat.head in
     let le : n ≤ length K = within_known (read_view_of e) n (subst (λ (r : ReadView). n ≤ in_one_piece r) (sym c.self.view_is) c.requires) in let back : length c.split-back.result.bytes ≡ n = ap length d.3 ∙ length-take-le n K le in
     let top : c.store_head.new.self.head ≡ head + n = s.3 ∙ ap (λ (m : ℕ). head + m) back in let rest : length c.split-back.new.self.bytes ≡ length K - n = ap length d.7 ∙ length-drop n K in
-    let sum : e.seat.seen ≡ head + length K = i.counts.0 in let near : length K ≤ e.capacity = i.counts.1 in let first : e.known.first ≡ head = i.placed.3 in let on : c.split-back.new.self.first ≡ e.known.first + n = d.6 in
+    let sum : e.seat.seen ≡ head + length K = i.counts.0 in let near : length K ≤ e.indices.capacity = i.counts.1 in let first : e.known.first ≡ head = i.placed.3 in let on : c.split-back.new.self.first ≡ e.known.first + n = d.6 in
     let all : length e.seat.have ≡ head + length K = all_counted e.seat.have K head n i.whole.0 i.whole.1 in let seen : c.store_head.new.self.seen ≡ e.seat.seen = s.4 in let same : length c.store_head.new.self.have ≡ length e.seat.have = ap length s.5 in
+    let g = c.gives.new.self in let cap : g.capacity ≡ e.indices.capacity = ap (λ (r : ReaderIndices). r.capacity) c.gives.ensures.after in let tail : g.tail ≡ e.indices.tail = ap (λ (r : ReaderIndices). r.tail) c.gives.ensures.after in
+    let pos : 0 < e.indices.capacity = i.fits.1 in let small : e.indices.capacity < 2 ^ 63 = i.fits.2 in
+    let there : g.head ≡ position_of g.capacity c.store_head.new.self.head = further e.indices.capacity _ head n _ c.gives.ensures.remainder i.cached.0 ∙ sym (λ j. position_of (cap j) (top j)) in
     record {
-      fits = (i.fits.0 ∙ ap (λ (z : Names). z.capacity) (sym s.2), i.fits.1, i.fits.2);
+      fits = (cap ∙ i.fits.0 ∙ ap (λ (z : Names). z.capacity) (sym s.2), omega arith, omega arith);
       placed = (i.placed.0 ∙ sym s.1, d.4 ∙ i.placed.1 ∙ sym s.1, d.5 ∙ i.placed.2 ∙ ap (λ (z : Names). z.capacity) (sym s.2), omega arith);
       counts = (omega arith, omega arith);
-      cached = (c.advance-parts.ensures.position head i.cached.0 ∙ ap (position_of e.capacity) (sym top), i.cached.1 ∙ ap (position_of e.capacity) (sym s.4), c.advance-parts.ensures.bound);
+      cached = (there, tail ∙ i.cached.1 ∙ sym (λ j. position_of (cap j) (s.4 j)));
       heard = (i.heard.0 ∙ sym s.2, i.heard.1 ∙ sym s.2);
       whole = (omega arith, s.5 ∙ whole_still e.seat.have K head n i.whole.0 i.whole.1 ∙ sym (λ j. take (top j) (s.5 j) ++ d.7 j));
       here = s.6 ∙ i.here;

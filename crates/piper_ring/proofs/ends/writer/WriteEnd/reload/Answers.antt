@@ -1,9 +1,17 @@
--- What was loaded is an index of the ring.
-use Rattle.std.proofs.Common.{ℕ, arith, sym, ap, ◌∙◌}
+-- What was loaded is an index of the ring, at most a turn before the tail.
+use Rattle.std.proofs.Common.{◌≡◌, ℕ, ◌+◌, ◌-◌, ◌≤◌, length, arith, sym, subst, ap, ◌∙◌}
 use Rattle.rtrb.specs.Fifo.{position_of}
 use Rattle.rtrb.proofs.Positions.{position_inside}
+use Rattle.piper_ring.proofs.Indices.{apart}
+use Rattle.piper_ring.proofs.WriterFacts.{sent_below}
 use Rattle.piper_ring.proofs.ends.writer.WriteEnd.reload.Goals as goal
 
-pub advance-parts-requires : goal.advance-parts-requires
-advance-parts-requires c = let e = c.self.inside.parts in let i = c.self.invariant in let h : ℕ = c.look_head-head.result.1.count in
-    (position_inside e.capacity c.look_head-head.result.0 h (c.look_head-head.ensures.1 ∙ ap (λ (k : ℕ). position_of k h) (sym i.fits.0)) i.fits.1, omega arith, i.fits.2)
+pub sees-requires-clause-index : goal.sees-requires-clause-index
+sees-requires-clause-index c = let i = c.self.invariant in let h : ℕ = c.look_head-head.result.1.count in
+    position_inside _ _ h (c.look_head-head.ensures.1 ∙ ap (λ (n : ℕ). position_of n h) (sym i.fits.0)) i.fits.1
+
+pub sees-requires-clause-within : goal.sees-requires-clause-within
+sees-requires-clause-within c = let e = c.self.inside.parts in let i = c.self.invariant in let l = c.look_head-head.ensures in let h : ℕ = c.look_head-head.result.1.count in let s : ℕ = length e.seat.sent in
+    let below : s ≤ e.seat.limit = sent_below e i in let most : h ≤ s = l.2 in let least : e.seat.limit ≤ h + e.seat.names.capacity = l.3 in let cap : e.indices.capacity ≡ e.seat.names.capacity = i.fits.0 in
+    let near : s - h ≤ e.indices.capacity = omega arith in
+    subst (λ (k : ℕ). k ≤ e.indices.capacity) (sym (apart _ _ _ h s (omega arith) (omega arith) (l.1 ∙ ap (λ (n : ℕ). position_of n h) (sym cap)) i.cached.0)) near

@@ -1,12 +1,44 @@
 -- What is lent lies in the room and before the end of the memory.
-use Rattle.std.proofs.Common.{◌≡◌, ℕ, ◌+◌, ◌-◌, ◌<◌, ◌≤◌, length, min, arith, sym, ◌∙◌}
+use Rattle.std.proofs.Common.{◌≡◌, ℕ, ◌+◌, ◌-◌, ◌<◌, ◌≤◌, length, min, arith, sym, refl, ap, subst, ◌∙◌}
 use Rattle.rtrb.specs.Fifo.{slot_of}
 use Rattle.rtrb.proofs.Positions.{slot_small}
-use Rattle.piper_ring.proofs.WriterFacts.{sent_below}
+use Rattle.piper_sides.specs.LendBound.{lend_bound}
+use Rattle.piper_sides.specs.WriterIndices.{WriterIndices, room_in, left_in}
+use Rattle.piper_ring.specs.Lends.{written}
+use Rattle.piper_ring.specs.LendsBuffer.{with_lent}
+use Rattle.piper_ring.specs.WriteView.{WriteView, MayLend, either, write_view, write_view_of}
+use Rattle.piper_ring.proofs.Indices.{slot_at}
+use Rattle.piper_ring.proofs.WriterFacts.{sent_below, room_apart, lends_within, lends_none, lends_all}
 use Rattle.piper_ring.proofs.ends.writer.WriteEnd.write_buf.Goals as goal
 
 pub lend-requires : goal.lend-requires
-lend-requires c = let e = c.self.inside.parts in let i = c.self.invariant in let s : ℕ = length e.seat.sent in let from : ℕ = c.real-from.result in let len : ℕ = c.lendable-len.result in let at : from ≡ slot_of e.capacity s = c.real-from.ensures.slot s i.cached.0 in
-    let first : e.room.lent.first ≡ s = i.placed.3 in let last : e.room.later.first + length e.room.later.bytes ≡ e.seat.limit = i.placed.4 in let below : s ≤ e.seat.limit = sent_below e i in let inside : from < e.capacity = c.real-from.ensures.bound in
-    let most : len ≤ min c.args.max (min (e.seat.limit - s) (e.capacity - slot_of e.capacity s)) = c.lendable-len.ensures.1 in
-    (i.room, i.placed.0 ∙ sym i.placed.1, i.fits.0 ∙ sym i.placed.2, (λ lt. let small : s < e.capacity = omega arith in at ∙ slot_small e.capacity s small ∙ sym first), omega arith, omega arith)
+lend-requires c = let e = c.self.inside.parts in let i = c.self.invariant in let cap : ℕ = e.indices.capacity in let s : ℕ = length e.seat.sent in let from : ℕ = c.front-from.result in let len : ℕ = c.lend-len.result in
+    let at : from ≡ slot_of cap s = slot_at cap _ s _ i.cached.0 c.front-from.ensures.remainder in let inside : from < cap = c.front-from.ensures.below in let whole : c.capacity-capacity.result ≡ cap = c.capacity-capacity.ensures.value in
+    let first : e.room.lent.first ≡ s = i.placed.3 in let last : e.room.later.first + length e.room.later.bytes ≡ e.seat.limit = i.placed.4 in let below : s ≤ e.seat.limit = sent_below e i in
+    let most : len ≤ min (min c.args.max (lend_bound e.indices.zeroed)) (min (room_in e.indices) (left_in e.indices)) = lends_within c.args.max e.indices len c.lend-len.ensures.count in
+    let room : room_in e.indices ≡ e.seat.limit - s = room_apart e i in let left : left_in e.indices ≡ cap - from = ap (λ (k : ℕ). cap - k) (sym c.front-from.ensures.value) in
+    (i.room.0, c.zeroed-zeroed.ensures ∙ i.room.1, i.placed.0 ∙ sym i.placed.1, whole ∙ i.fits.0 ∙ sym i.placed.2, (λ lt. let small : s < cap = omega arith in at ∙ slot_small cap s small ∙ sym first), omega arith, omega arith)
+
+pub slice_mut-requires : goal.slice_mut-requires
+slice_mut-requires c = let e = c.self.inside.parts in let i = c.self.invariant in let cap : ℕ = e.indices.capacity in let s : ℕ = length e.seat.sent in let from : ℕ = c.front-from.result in let len : ℕ = c.lend-len.result in let same = c.lend.ensures.same in
+    let at : from ≡ slot_of cap s = slot_at cap _ s _ i.cached.0 c.front-from.ensures.remainder in let inside : from < cap = c.front-from.ensures.below in let all : c.lend.new.self.lent.capacity ≡ cap = same.capacity ∙ i.placed.2 ∙ sym i.fits.0 in
+    let most : len ≤ min (min c.args.max (lend_bound e.indices.zeroed)) (min (room_in e.indices) (left_in e.indices)) = lends_within c.args.max e.indices len c.lend-len.ensures.count in
+    let left : left_in e.indices ≡ cap - from = ap (λ (k : ℕ). cap - k) (sym c.front-from.ensures.value) in
+    (i.placed.0 ∙ sym i.placed.1 ∙ sym same.memory, sym c.lend.ensures.lent, at ∙ sym (λ j. slot_of (all j) ((same.first ∙ i.placed.3) j)), omega arith)
+
+pub returns : goal.returns
+returns c = let e = c.self.inside.parts in let i = c.self.invariant in let w = e.indices in let cap : ℕ = w.capacity in let s : ℕ = length e.seat.sent in let from : ℕ = c.front-from.result in let len : ℕ = c.lend-len.result in let count = c.lend-len.ensures.count in
+    let kept : c.lend-len.new.self.capacity ≡ cap = ap (λ (v : WriterIndices). v.capacity) c.lend-len.ensures.after in
+    let long : length c.slice_mut.result.now ≡ len = ap length c.slice_mut.ensures.value ∙ c.lend.ensures.lent in
+    let at : from ≡ slot_of cap s = slot_at cap _ s _ i.cached.0 c.front-from.ensures.remainder in let inside : from < cap = c.front-from.ensures.below in
+    let most : len ≤ min (min c.args.max (lend_bound w.zeroed)) (min (room_in w) (left_in w)) = lends_within c.args.max w len count in
+    let room : room_in w ≡ e.seat.limit - s = room_apart e i in let left : left_in w ≡ cap - from = ap (λ (k : ℕ). cap - k) (sym c.front-from.ensures.value) in
+    let may : MayLend (write_view_of e) c.args.max len = ((λ shut. lends_none c.args.max w len count (i.closed ∙ shut)), omega arith, λ open_still. let all = lends_all c.args.max w len count (i.closed ∙ open_still) in omega arith) in
+    let told : MayLend c.args.self.now c.args.max len = subst (λ (v : WriteView). MayLend v c.args.max len) c.self.view_is may in (
+      (refl, λ ws. (λ j. write_view (e.seat.words, (e.seat.at, e.seat.names)) (kept j) e.seat.sent (e.seat.limit - s) (written c.slice_mut.result.now ws) e.seat.shut e.told.count (either e.seat.shut e.saw.seen)) ∙ ap (λ (v : WriteView). with_lent v c.slice_mut.result.now ws) c.self.view_is),
+      record {
+        writes = tt;
+        length = subst (λ (k : ℕ). MayLend c.args.self.now c.args.max k) (sym long) told;
+        some = λ open_still any asked. let all = lends_all c.args.max w len count (i.closed ∙ ap (λ (v : WriteView). v.shut) c.self.view_is ∙ open_still) in let same : e.seat.limit - s ≡ c.args.self.now.room = ap (λ (v : WriteView). v.room) c.self.view_is in omega arith;
+      },
+    )
