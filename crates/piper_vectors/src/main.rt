@@ -1,7 +1,7 @@
 //! Replays scripts to which the answers are known, and tells how many are answered alike.
 #![tactic(auto)]
 
-use piper_player::replay::replay;
+use piper_player::replay::{Ended, replay};
 use serde::Deserialize;
 use std::process::ExitCode;
 use std::{fs, io, str};
@@ -34,6 +34,13 @@ struct Vector {
     script: String,
     output: String,
     status: u8,
+}
+
+/// Where a script stands.
+#[derive(Clone, Copy)]
+struct Place<'name> {
+    file: &'name str,
+    line: usize,
 }
 
 /// How many scripts were replayed, and how many of them were answered as they should be.
@@ -72,17 +79,11 @@ fn first_difference<'text>(wanted: &'text str, given: &'text str) -> Option<Diff
     None
 }
 
-/// Replays a script, and tells in a line of its own where its answer differs.
-fn is_alike(rt: &HostRuntime, vector: &Vector) -> io::Result<bool> {
-    let mut output = Vec::new(rt.alloc());
-    let mut input = vector.script.as_bytes();
-    let ended = replay(rt.alloc(), &vector.arguments, &mut input, &mut output);
-    let given = str::from_utf8(&output).unwrap_or("no text");
+/// Whether a script was answered as it should be; if not, tells what differs.
+fn is_alike(rt: &HostRuntime, vector: &Vector, ended: Ended, output: &[u8]) -> io::Result<bool> {
+    let given = str::from_utf8(output).unwrap_or("no text");
     if let Some(difference) = first_difference(vector.output.as_str(), given) {
-        println!(rt;
-            "output line {}: {} in place of {}",
-            difference.line, difference.given, difference.wanted
-        )?;
+        tell_difference(rt, &difference)?;
         return Ok(false);
     }
     if ended.status != vector.status || !ended.text.is_empty() {
@@ -95,18 +96,50 @@ fn is_alike(rt: &HostRuntime, vector: &Vector) -> io::Result<bool> {
     Ok(true)
 }
 
+fn tell_difference(rt: &HostRuntime, difference: &Difference<'_>) -> io::Result<()> {
+    println!(rt;
+        "output line {}: {} in place of {}",
+        difference.line, difference.given, difference.wanted
+    )
+}
+
+/// Replays the script of a line of a file, and tells where its answer differs.
+fn replay_line(rt: &HostRuntime, place: Place<'_>, line: &str) -> Result<bool, anyhow::Error> {
+    let vector: Vector = serde_json::from_str(rt.alloc(), line)?;
+    let mut output = Vec::new(rt.alloc());
+    let mut input = vector.script.as_bytes();
+    let ended = replay(rt.alloc(), &vector.arguments, &mut input, &mut output);
+    let is_alike = is_alike(rt, &vector, ended, &output)?;
+    if !is_alike {
+        tell_place(rt, place, vector.what.as_deref())?;
+    }
+    Ok(is_alike)
+}
+
+/// Tells which script differs.
+fn tell_place(rt: &HostRuntime, place: Place<'_>, what: Option<&str>) -> io::Result<()> {
+    let what = what.unwrap_or("drawn at random");
+    println!(rt; "  in line {} of {}: {what}", place.line, place.file)
+}
+
 /// Replays the scripts of a file, and tells which of them are answered otherwise.
 fn replay_file(rt: &HostRuntime, file: &str, tally: &mut Tally) -> Result<(), anyhow::Error> {
     let text = fs::read_to_string(rt, file)?;
-    for (place, line) in text.lines().enumerate() {
-        let number = place.saturating_add(1);
-        let vector: Vector = serde_json::from_str(rt.alloc(), line)?;
+    replay_lines(rt, file, text.as_str(), tally)
+}
+
+/// Replays the scripts that the lines of a file hold.
+fn replay_lines(
+    rt: &HostRuntime,
+    file: &str,
+    text: &str,
+    tally: &mut Tally,
+) -> Result<(), anyhow::Error> {
+    for (before, script) in text.lines().enumerate() {
+        let line = before.saturating_add(1);
         tally.all = tally.all.saturating_add(1);
-        if is_alike(rt, &vector)? {
+        if replay_line(rt, Place { file, line }, script)? {
             tally.alike = tally.alike.saturating_add(1);
-        } else {
-            let what = vector.what.as_deref().unwrap_or("drawn at random");
-            println!(rt; "  in line {number} of {file}: {what}")?;
         }
     }
     Ok(())
