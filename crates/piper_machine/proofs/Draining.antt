@@ -33,7 +33,7 @@ use Rattle.piper_machine.specs.Round.{taken, found_of, left_of_acts, left_of_des
 use Rattle.piper_machine.specs.Refusal.{reader_state}
 use Rattle.piper_machine.specs.Action.{round_count, destination_called}
 use Rattle.piper_machine.specs.Step.{went, form_of, drain_opened, call_after, destination_after, drain_left, drain_answer}
-use Rattle.piper_machine.specs.Alone.{heard, is_draining, reader_alone}
+use Rattle.piper_machine.specs.Alone.{Ended, heard, is_draining, reader_alone}
 use Rattle.piper_machine.proofs.Alone.{reader_rest, reads_left, read_step}
 use Rattle.piper_machine.proofs.Copies.{drain-rest}
 use Rattle.piper_machine.proofs.Falling.{drain-falls}
@@ -163,6 +163,22 @@ apart place destination p other = record { answer = refl; pipe = refl; destinati
 abbrev pub IsGoneOn : Pipe → Destination → Pipe → Option Answer → Pipe → Type 0
 IsGoneOn p destination q None r = Draining p (placing destination r) × (left_of r < left_of q)
 IsGoneOn p destination q (Some answer) r = reader_alone p.reader p ≡ record { answer = answer; pipe = r }
+
+pub record IsGone (p : Pipe) (destination : Destination) (q : Pipe) (found : Option Answer) (r : Pipe) : Type 0 where
+  pub on : IsGoneOn p destination q found r
+
+-- what that shows in an arm without an answer, and in one with it
+pub goes : {p : Pipe} {destination : Destination} {q r : Pipe} {found : Option Answer} → IsGone p destination q found r → found ≡ None → Draining p (placing destination r) × (left_of r < left_of q)
+goes {p} {destination} {q} {r} gone is = subst (λ (a : Option Answer). IsGoneOn p destination q a r) is gone.on
+
+pub record IsAnswered (p : Pipe) (answer : Answer) (r : Pipe) : Type 0 where
+  pub answer_is : answer ≡ (reader_alone p.reader p).answer
+  pub after : r ≡ (reader_alone p.reader p).pipe
+
+pub ends : {p : Pipe} {destination : Destination} {q r : Pipe} {found : Option Answer} {answer : Answer} → IsGone p destination q found r → found ≡ Some answer → IsAnswered p answer r
+ends {p} {destination} {q} {r} gone is =
+    let ended = subst (λ (a : Option Answer). IsGoneOn p destination q a r) is gone.on in
+    record { answer_is = sym (ap (λ (e : Ended). e.answer) ended); after = sym (ap (λ (e : Ended). e.pipe) ended) }
 
 gone-on : (p q r : Pipe) (destination : Destination) (answer : Option Answer) (s : Pipe) → s ≡ placing (destination_after answer destination) r → r.destination ≡ destination_after answer r.destination → IsDrained p (placing destination q) answer s → IsGoneOn p destination q answer r
 gone-on p q r destination None s is kept drained = subst (λ (v : Pipe). Draining p v × (left_of v < left_of q)) is drained

@@ -29,7 +29,7 @@ use Rattle.piper_machine.specs.Round.{given, found_of, unspent, left_of_source}
 use Rattle.piper_machine.specs.Refusal.{writer_state}
 use Rattle.piper_machine.specs.Action.{source_called}
 use Rattle.piper_machine.specs.Step.{stepped, fill_opened, call_after, source_after, round_left, round_answer, MayOffer}
-use Rattle.piper_machine.specs.Alone.{heard, is_filling, writer_alone}
+use Rattle.piper_machine.specs.Alone.{Ended, heard, is_filling, writer_alone}
 use Rattle.piper_machine.proofs.Alone.{writer_rest, writes_left}
 use Rattle.piper_machine.proofs.Copies.{WriterStands, fill_step, fill-rest}
 use Rattle.piper_machine.proofs.Falling.{fill-falls}
@@ -181,6 +181,22 @@ apart place lent acts p other = record { answer = refl; pipe = refl; source = re
 abbrev pub IsGoneOn : Pipe → List SourceAct → Pipe → Option Answer → Pipe → Type 0
 IsGoneOn p acts q None r = Filling p (giving acts r) × (left_of r < left_of q)
 IsGoneOn p acts q (Some answer) r = writer_alone p.writer p ≡ record { answer = answer; pipe = r }
+
+pub record IsGone (p : Pipe) (acts : List SourceAct) (q : Pipe) (found : Option Answer) (r : Pipe) : Type 0 where
+  pub on : IsGoneOn p acts q found r
+
+-- what that shows in an arm without an answer, and in one with it
+pub goes : {p : Pipe} {acts : List SourceAct} {q r : Pipe} {found : Option Answer} → IsGone p acts q found r → found ≡ None → Filling p (giving acts r) × (left_of r < left_of q)
+goes {p} {acts} {q} {r} gone is = subst (λ (a : Option Answer). IsGoneOn p acts q a r) is gone.on
+
+pub record IsAnswered (p : Pipe) (answer : Answer) (r : Pipe) : Type 0 where
+  pub answer_is : answer ≡ (writer_alone p.writer p).answer
+  pub after : r ≡ (writer_alone p.writer p).pipe
+
+pub ends : {p : Pipe} {acts : List SourceAct} {q r : Pipe} {found : Option Answer} {answer : Answer} → IsGone p acts q found r → found ≡ Some answer → IsAnswered p answer r
+ends {p} {acts} {q} {r} gone is =
+    let ended = subst (λ (a : Option Answer). IsGoneOn p acts q a r) is gone.on in
+    record { answer_is = sym (ap (λ (e : Ended). e.answer) ended); after = sym (ap (λ (e : Ended). e.pipe) ended) }
 
 gone-on : (p q r : Pipe) (acts : List SourceAct) (answer : Option Answer) (s : Pipe) → s ≡ giving (source_after answer acts) r → r.source ≡ source_after answer r.source → IsFilled p (giving acts q) answer s → IsGoneOn p acts q answer r
 gone-on p q r acts None s is kept filled = subst (λ (v : Pipe). Filling p v × (left_of v < left_of q)) is filled
