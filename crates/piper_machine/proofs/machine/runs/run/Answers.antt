@@ -6,6 +6,7 @@ use Rattle.piper_machine.specs.Pipe.{fresh}
 use Rattle.piper_sides.specs.Log.{events}
 use Rattle.piper_machine.specs.Run.{Runs}
 use Rattle.piper_machine.proofs.Runs.{runs_more}
+use Rattle.piper_machine.proofs.Disjointness.{disjoint}
 use Rattle.piper_machine.proofs.Conserving.{capacity-kept, conserved-step}
 use Rattle.piper_machine.proofs.KnownRuns.{known_none, known_more, ready-run, counted-run, calls-counted}
 use Rattle.piper_machine.proofs.Honesty.{honest_none, honest_more}
@@ -76,3 +77,29 @@ returns-in-Err-clause-refused c = record {
   next = slice_get_read c.args.steps.now _ c.loop-i.i c.index-steps-i.result refl c.loop-i-test.true c.index-steps-i.is;
   refused = c.in-Err.ensures.refused;
 }
+pub returns-clause-runs : goal.returns-clause-runs
+returns-clause-runs c = all_made c
+
+pub returns-clause-sound : goal.returns-clause-sound
+returns-clause-sound c = c.learn-2.ensures
+
+pub returns-clause-conserved : goal.returns-clause-conserved
+returns-clause-conserved c = c.loop-i.invariant.conserved
+
+pub returns-clause-disjoint : goal.returns-clause-disjoint
+returns-clause-disjoint c = disjoint c.loop-i.machine c.learn-2.ensures
+
+pub returns-clause-known : goal.returns-clause-known
+returns-clause-known c = c.loop-i.invariant.known
+
+pub returns-clause-honest : goal.returns-clause-honest
+returns-clause-honest c = c.loop-i.invariant.honest.honest
+
+pub returns-clause-finality : goal.returns-clause-finality
+returns-clause-finality c = c.loop-i.invariant.final.final
+
+pub returns-clause-remembered : goal.returns-clause-remembered
+returns-clause-remembered c = c.loop-i.invariant.remembers.remembered
+
+pub returns-clause-answered : goal.returns-clause-answered
+returns-clause-answered c = c.loop-i.invariant.answers.right
