@@ -166,7 +166,8 @@ abbrev pub writer_taken : AfterRead → Bool → Next ReadPlace
 writer_taken next false = read_done next
 writer_taken next true = goes_on (at.WakeWriter next)
 
--- where the reader comes to from a place, by what its step found; of a query's last load read_after tells
+-- where the reader comes to from a place, by what its step found, whatever the capacity; a query's last load, which
+-- compares with the capacity, stands in read_after
 abbrev pub read_step : ReadPlace → Found → Next ReadPlace
 read_step (at.QueryHead query) found = goes_on (at.QueryTail query)
 read_step at.QueryClosed (flag is_closed) = ends at.Idle (Flag is_closed)
@@ -189,7 +190,7 @@ abbrev pub reader_draws_behind : ReadPlace → Bool
 reader_draws_behind (at.LookTake (purpose.Copy form)) = true
 reader_draws_behind place = false
 
--- the same in a pipe of this capacity
+-- where the reader of a pipe of this capacity comes to from a place, by what its step found
 abbrev pub read_after : ℕ → ReadPlace → Found → Next ReadPlace
 read_after capacity (at.QueryTail query) (unread count) = ends at.Idle (query_answer query capacity count)
 read_after capacity place found = read_step place found
@@ -287,8 +288,9 @@ abbrev pub own_taken : Bool → Next WritePlace
 own_taken false = ends on.Idle Done
 own_taken true = goes_on on.WakeWriter
 
--- where the writer comes to from a place, by what its step found; of a query's last load, and of the load of
--- closed that a look begins with, write_after tells
+-- where the writer comes to from a place, by what its step found, whatever the capacity and the known room; a
+-- query's last load, which compares with the capacity, and the load of closed that a look begins with, which goes
+-- on by the known room, stand in write_after
 abbrev pub write_step : WritePlace → Found → Next WritePlace
 write_step (on.QueryHead query) (unread count) = goes_on (on.QueryTail query count)
 write_step on.QueryClosed (flag is_closed) = ends on.Idle (Flag is_closed)
@@ -329,7 +331,7 @@ abbrev pub writer_draws_behind : WritePlace → Bool
 writer_draws_behind (on.LookTake (purpose.Copy form)) = true
 writer_draws_behind place = false
 
--- the same in a pipe of this capacity, of which it knows so much room
+-- where the writer of a pipe of this capacity and known room comes to from a place, by what its step found
 abbrev pub write_after : ℕ → ℕ → WritePlace → Found → Next WritePlace
 write_after capacity room (on.QueryTail query count) found = ends on.Idle (query_answer query capacity count)
 write_after capacity room (on.LookClosed l) (flag is_closed) = writer_is_open is_closed (room == 0) l
