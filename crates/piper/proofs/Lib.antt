@@ -1,3 +1,4 @@
 pub mod Carrying
 mod Draining
 mod Filling
+mod Rounds

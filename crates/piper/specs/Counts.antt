@@ -1,20 +1,11 @@
--- How many bytes a query may count as unread.
-use Rattle.std.specs.Prelude.{◌≡◌, ℕ, ◌-◌, ◌≤◌, ◌↔◌, Bool, IsTrue, length}
-use Rattle.piper_ring.specs.ReadView.{ReadView}
-use Rattle.piper_ring.specs.WriteView.{WriteView}
+-- What the queries compare.
+use Rattle.std.specs.Prelude.{◌≡◌, ℕ, ◌↔◌, Bool, IsTrue}
+use Rattle.piper_ring.specs.ReadView.{ReadView, MayBeUnread as MayBeUnreadHere}
+use Rattle.piper_ring.specs.WriteView.{WriteView, MayBeUnread as MayBeUnreadThere}
 
--- the reader: at least those that it knows of, and no more than fit
-pub record ReaderMayCount (r : ReadView) (n : ℕ) : Type 0 where
-  pub known : length r.known ≤ n
-  pub most : n ≤ r.capacity
-
--- the writer: no more than fit beside the room that it knows of
-abbrev pub WriterMayCount : WriteView → ℕ → Type 0
-WriterMayCount w n = n ≤ w.capacity - w.room
-
--- the answer says whether a number that may be counted is m
+-- the answer says whether a number of bytes that may be unread is m
 abbrev pub ReaderCompares : ReadView → ℕ → Bool → Type 0
-ReaderCompares r m answer = (n : ℕ) × ReaderMayCount r n × (IsTrue answer ↔ (n ≡ m))
+ReaderCompares r m answer = (n : ℕ) × MayBeUnreadHere r n × (IsTrue answer ↔ (n ≡ m))
 
 abbrev pub WriterCompares : WriteView → ℕ → Bool → Type 0
-WriterCompares w m answer = (n : ℕ) × WriterMayCount w n × (IsTrue answer ↔ (n ≡ m))
+WriterCompares w m answer = (n : ℕ) × MayBeUnreadThere w n × (IsTrue answer ↔ (n ≡ m))

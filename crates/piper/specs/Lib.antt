@@ -2,6 +2,7 @@ pub mod Polls
 pub mod Like
 pub mod Written
 pub mod Slots
+pub mod Calls
 pub mod Copies
 pub mod Counts
 pub mod Ends

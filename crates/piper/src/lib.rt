@@ -1,6 +1,7 @@
 //! A bounded pipe of bytes between one reader and one writer.
 #![tactic(auto)]
 
+mod answers;
 mod copying;
 pub mod error;
 mod handles;

@@ -1,31 +1,34 @@
 //! The calls of the handle that reads.
-ghost use Rattle.std.specs.Prelude.{◌≡◌, ℕ, ◌<◌, ◌≤◌, ◌++◌, ◌↔◌, [], length, take, drop, IsTrue, true, false};
+ghost use Rattle.std.specs.Prelude.{◌≡◌, ℕ, ◌<◌, ◌≤◌, ◌++◌, ◌↔◌, [], length, take, drop, IsTrue, Ok, true, false};
 ghost use Rattle.futures.specs.Task.{Covers, Keeps};
 ghost use Rattle.futures.specs.Poll.{OnPending};
-ghost use Rattle.piper_ring.specs.ReadView.{in_one_piece};
-ghost use Rattle.piper.specs.Counts.{ReaderMayCount, ReaderCompares};
+ghost use Rattle.piper_ring.specs.ReadView.{MayBeUnread, in_one_piece};
+ghost use Rattle.piper.specs.Counts.{ReaderCompares};
 ghost use Rattle.piper.specs.Copies.{Drained, ReaderCopied};
 ghost use Rattle.piper.specs.Ends.{ReaderConsumed, ReaderIsUpToDate};
 ghost use Rattle.piper.specs.Looks.{ReaderFound, ReaderLooked, OnRefused};
 
+use crate::answers::{counted, polled, read_wake};
 use crate::copying::copy_front;
 use crate::handles::Reader;
 use crate::handles::read_steps::take_writer;
 use futures::task::{Context, Poll};
 use piper_ring::{OutOfMemory, ReadMark};
+use piper_sides::read_call::ReadCall;
+use piper_sides::table::{Form, Purpose, ReadPlace};
 use std::sync::Wait;
 
 impl<H: Wait + Clone + Drop> Reader<H> {
     ghost use Rattle.piper.specs.Handles.{SameReader, read_source};
 
-    /// How many bytes are unread now. The writer may publish more at any time.
+    /// How many bytes are unread now: at least those that the reader knows of or was told of. The writer may publish more at any time.
     pub fn len(&self) -> usize
-        ensures { ReaderMayCount self.now.end result }
+        ensures { MayBeUnread self.now.end result }
     {
         self.end().len()
     }
 
-    /// Whether nothing is unread now. It compares a count within the bounds of `len` with 0.
+    /// Whether nothing is unread now. It compares such a count as `len` answers with 0.
     pub fn is_empty(&self) -> bool
         ensures { ReaderCompares self.now.end 0 result }
     {
@@ -39,7 +42,7 @@ impl<H: Wait + Clone + Drop> Reader<H> {
         self.end().capacity()
     }
 
-    /// Whether the pipe is full now. It compares a count within the bounds of `len` with the capacity.
+    /// Whether the pipe is full now. It compares such a count as `len` answers with the capacity.
     pub fn is_full(&self) -> bool
         ensures { ReaderCompares self.now.end self.now.end.capacity result }
     {
@@ -66,33 +69,38 @@ impl<H: Wait + Clone + Drop> Reader<H> {
         ensures covered { OnPending result (Covers cx.new (λ s. s ≡ read_source self.old)) }
         ensures kept { Keeps cx.old cx.new }
     {
-        if !self.knows_none() || !self.load_tail() {
-            return self.found();
+        let (call, none) = self.look(Purpose::Poll);
+        if !none {
+            return self.found(call);
         }
-        if !self.register(cx) {
-            return Poll::Ready(Err(OutOfMemory));
+        let (call, none) = self.load_tail(call);
+        if !none {
+            return self.found(call);
         }
-        let is_closed = self.load_closed();
-        if !self.load_tail() {
-            return self.found();
+        let (call, is_granted) = self.register(call, cx);
+        if !is_granted {
+            return polled(call.end());
         }
-        if is_closed {
-            Poll::Ready(Ok(false))
-        } else {
-            Poll::Pending
+        let call = self.load_closed(call);
+        let (call, none) = self.load_tail(call);
+        if !none {
+            return self.found(call);
         }
+        polled(call.end())
     }
 
-    // A look has found a byte.
-    fn found(&mut self) -> Poll<Result<bool, OutOfMemory>>
+    // The look of a poll has found a byte.
+    fn found(&mut self, call: ReadCall) -> Poll<Result<bool, OutOfMemory>>
+        requires { call.place ≡ ReadPlace.LookTake Purpose.Poll }
         ensures answer { result ≡ Poll.Ready (Ok true) }
         ensures end { self.new.end ≡ self.old.end }
         ensures rest { SameReader self.old self.new }
     {
-        if let Some(taken) = self.take_own() {
+        let (call, taken) = self.take_own(call);
+        if let Some(taken) = taken {
             taken.let_go();
         }
-        Poll::Ready(Ok(true))
+        polled(call.end())
     }
 
     /// The known bytes that stand in one piece, the next one first; at least one where any is known. The slice stays as it is while the writer writes and publishes. More bytes become known by a look, as by `poll`.
@@ -112,8 +120,9 @@ impl<H: Wait + Clone + Drop> Reader<H> {
         ensures end { ReaderConsumed self.old.end self.new.end }
         ensures rest { SameReader self.old self.new }
     {
-        self.store_head(amt);
-        self.wake_writer();
+        let call = self.store_head(ReadCall::consume(amt), amt);
+        let (call, taken) = self.take_writer(call);
+        read_wake(call, taken).done();
     }
 
     /// Moves known bytes into the front of `dest`, as many as fit, and answers how many. It looks for more only where none is known, and doesn't wait: 0 is no end.
@@ -127,36 +136,41 @@ impl<H: Wait + Clone + Drop> Reader<H> {
         ensures end { ReaderCopied self.old.end self.new.end }
         ensures handle { SameReader self.old self.new }
     {
-        if self.knows_none() && self.load_tail() {
-            self.load_closed();
-            if self.load_tail() {
-                return 0;
-            }
+        let (call, none) = self.look(Purpose::Copy(Form::Try));
+        if !none {
+            return self.drain_rounds(call, dest);
         }
-        self.drain_rounds(dest)
+        let (call, none) = self.load_tail(call);
+        if !none {
+            return self.drain_rounds(call, dest);
+        }
+        let call = self.load_closed(call);
+        let (call, none) = self.load_tail(call);
+        if !none {
+            return self.drain_rounds(call, dest);
+        }
+        counted(call.end())
     }
 
     // Moves known bytes in rounds, each in one piece, until none is known or the slice is full.
-    fn drain_rounds(&mut self, dest: &mut [u8]) -> usize
+    fn drain_rounds(&mut self, call: ReadCall, dest: &mut [u8]) -> usize
+        requires { call.place ≡ ReadPlace.CallDestination Form.Try 0 }
         ensures moved { Drained result self.old.end dest.old dest.new self.new.end }
         ensures most { result < length dest.old → self.new.end.known ≡ [] }
         ensures rest { SameReader self.old self.new }
     {
+        let mut call = call;
         let mut sum = 0;
         'rounds: loop {
             let n = copy_front(self.peek_buf(), &mut dest[sum..]);
             if n == 0 {
-                return sum;
+                return counted(call.destination_took(0).end());
             }
-            self.store_head(n);
-            self.wake_writer();
+            let round = self.store_head(call.destination_took(n), n);
+            let (round, taken) = self.take_writer(round);
+            call = read_wake(round, taken);
             sum += n;
         }
-    }
-
-    // Wakes the writer.
-    fn wake_writer(&self) {
-        self.take_writer().let_go();
     }
 
     /// Evidence of what was consumed, for the writer to heed.
@@ -169,7 +183,8 @@ impl<H: Wait + Clone + Drop> Reader<H> {
 
     /// Closes the pipe and wakes the writer. The memory is freed if the writer is gone.
     pub fn drop(self) {
-        let (slots, rt) = self.store_closed();
-        take_writer(&slots, &rt).let_go();
+        let (call, slots, rt) = self.store_closed(ReadCall::drop());
+        let (call, taken) = take_writer(&slots, &rt, call);
+        read_wake(call, taken).done();
     }
 }

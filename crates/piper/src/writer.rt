@@ -1,30 +1,34 @@
 //! The calls of the handle that writes.
-ghost use Rattle.std.specs.Prelude.{◌≡◌, ℕ, ◌+◌, ◌-◌, ◌<◌, ◌≤◌, ◌++◌, ◌↔◌, [], length, take, drop, IsTrue, IsFalse, true, false};
+ghost use Rattle.std.specs.Prelude.{◌≡◌, ℕ, ◌+◌, ◌-◌, ◌<◌, ◌≤◌, ◌++◌, ◌↔◌, [], length, take, drop, IsTrue, Ok, true, false};
 ghost use Rattle.futures.specs.Task.{Covers, Keeps};
 ghost use Rattle.futures.specs.Poll.{OnPending};
-ghost use Rattle.piper.specs.Counts.{WriterMayCount, WriterCompares};
+ghost use Rattle.piper_ring.specs.WriteView.{MayBeUnread};
+ghost use Rattle.piper.specs.Counts.{WriterCompares};
 ghost use Rattle.piper.specs.Copies.{Filled, WriterCopied, IsReplaced};
 ghost use Rattle.piper.specs.Ends.{WriterPublished, WriterShut, WriterIsUpToDate};
 ghost use Rattle.piper.specs.Looks.{WriterFound, WriterLooked, OnRefused};
 
+use crate::answers::{counted, polled, write_wake};
 use crate::copying::{MOST_A_ROUND, copy_front};
 use crate::handles::Writer;
 use crate::handles::write_steps::take_reader;
 use futures::task::{Context, Poll};
 use piper_ring::{OutOfMemory, WriteMark};
+use piper_sides::table::{Form, Purpose, WritePlace};
+use piper_sides::write_call::WriteCall;
 use std::sync::Wait;
 
 impl<H: Wait + Clone + Drop> Writer<H> {
     ghost use Rattle.piper.specs.Handles.{SameWriter, write_source};
 
-    /// How many bytes are unread now. The reader may consume some at any time.
+    /// How many bytes are unread now: none of those that the writer was told are consumed. The reader may consume more at any time.
     pub fn len(&self) -> usize
-        ensures { WriterMayCount self.now.end result }
+        ensures { MayBeUnread self.now.end result }
     {
         self.end().len()
     }
 
-    /// Whether nothing is unread now. It compares a count within the bounds of `len` with 0.
+    /// Whether nothing is unread now. It compares such a count as `len` answers with 0.
     pub fn is_empty(&self) -> bool
         ensures { WriterCompares self.now.end 0 result }
     {
@@ -38,7 +42,7 @@ impl<H: Wait + Clone + Drop> Writer<H> {
         self.end().capacity()
     }
 
-    /// Whether the pipe is full now. It compares a count within the bounds of `len` with the capacity.
+    /// Whether the pipe is full now. It compares such a count as `len` answers with the capacity.
     pub fn is_full(&self) -> bool
         ensures { WriterCompares self.now.end self.now.end.capacity result }
     {
@@ -63,35 +67,41 @@ impl<H: Wait + Clone + Drop> Writer<H> {
         ensures covered { OnPending result (Covers cx.new (λ s. s ≡ write_source self.old)) }
         ensures kept { Keeps cx.old cx.new }
     {
-        if self.load_closed() {
-            return Poll::Ready(Ok(false));
+        let (call, is_closed, none) = self.look_closed(WriteCall::look(Purpose::Poll));
+        if is_closed {
+            return polled(call.end());
         }
-        if !self.knows_none() || !self.load_head() {
-            return self.found();
+        if !none {
+            return self.found(call);
         }
-        if !self.register(cx) {
-            return Poll::Ready(Err(OutOfMemory));
+        let (call, none) = self.load_head(call);
+        if !none {
+            return self.found(call);
         }
-        if !self.load_head() {
-            return self.found();
+        let (call, is_granted) = self.register(call, cx);
+        if !is_granted {
+            return polled(call.end());
         }
-        if self.load_closed() {
-            Poll::Ready(Ok(false))
-        } else {
-            Poll::Pending
+        let (call, none) = self.load_head(call);
+        if !none {
+            return self.found(call);
         }
+        let (call, _) = self.load_closed(call);
+        polled(call.end())
     }
 
-    // A look has found room.
-    fn found(&mut self) -> Poll<Result<bool, OutOfMemory>>
+    // The look of a poll has found room.
+    fn found(&mut self, call: WriteCall) -> Poll<Result<bool, OutOfMemory>>
+        requires { call.place ≡ WritePlace.LookTake Purpose.Poll }
         ensures answer { result ≡ Poll.Ready (Ok true) }
         ensures end { self.new.end ≡ self.old.end }
         ensures rest { SameWriter self.old self.new }
     {
-        if let Some(taken) = self.take_own() {
+        let (call, taken) = self.take_own(call);
+        if let Some(taken) = taken {
             taken.let_go();
         }
-        Poll::Ready(Ok(true))
+        polled(call.end())
     }
 
     /// Publishes the first `n` bytes of what is left of the slice last lent, as they stand, and wakes the reader.
@@ -103,8 +113,9 @@ impl<H: Wait + Clone + Drop> Writer<H> {
         ensures end { WriterPublished self.old.end self.new.end }
         ensures rest { SameWriter self.old self.new }
     {
-        self.store_tail(n);
-        self.wake_reader();
+        let call = self.store_tail(WriteCall::produced(n), n);
+        let (call, taken) = self.take_reader(call);
+        write_wake(call, taken).done();
     }
 
     /// Publishes bytes from the front of `bytes`, as many as there is room for, and answers how many it took. It looks for more room only where none is known, and doesn't wait. Nothing is lent afterwards.
@@ -121,34 +132,32 @@ impl<H: Wait + Clone + Drop> Writer<H> {
         ensures end { WriterCopied self.old.end self.new.end }
         ensures handle { SameWriter self.old self.new }
     {
-        if self.try_look() {
-            return self.fill_rounds(bytes);
+        let (call, is_closed, none) = self.look_closed(WriteCall::look(Purpose::Copy(Form::Try)));
+        if !is_closed && !none {
+            return self.fill_rounds(call, bytes);
         }
+        let call = if is_closed {
+            call
+        } else {
+            let (call, none) = self.load_head(call);
+            if !none {
+                return self.fill_rounds(call, bytes);
+            }
+            let (call, none) = self.load_head(call);
+            if !none {
+                return self.fill_rounds(call, bytes);
+            }
+            let (call, _) = self.load_closed(call);
+            call
+        };
         self.unlend();
-        0
-    }
-
-    // A look without a context.
-    fn try_look(&mut self) -> bool
-        ensures some { IsTrue result → 0 < self.new.end.room }
-        ensures is_open { IsTrue result → (self.new.end.shut ≡ false) × (self.new.end.saw ≡ false) }
-        ensures none { IsFalse result → self.new.end.saw ≡ false → self.new.end.room ≡ 0 }
-        ensures looked { WriterLooked self.old.end self.new.end }
-        ensures rest { SameWriter self.old self.new }
-    {
-        if self.load_closed() {
-            return false;
-        }
-        if !self.knows_none() || !self.load_head() || !self.load_head() {
-            return true;
-        }
-        self.load_closed();
-        false
+        counted(call.end())
     }
 
     // Publishes bytes in rounds, each in one piece, until no room is known, all were published, or the pipe is seen closed.
-    fn fill_rounds(&mut self, bytes: &[u8]) -> usize
-        requires { (self.old.end.shut ≡ false) × (self.old.end.saw ≡ false) }
+    fn fill_rounds(&mut self, call: WriteCall, bytes: &[u8]) -> usize
+        requires place { call.place ≡ WritePlace.CallSource Form.Try 0 }
+        requires is_open { (self.old.end.shut ≡ false) × (self.old.end.saw ≡ false) }
         ensures all { self.new.end.saw ≡ false → Filled result self.old.end bytes.now self.new.end }
         ensures some { (m : ℕ) × (m ≤ result) × Filled m self.old.end bytes.now self.new.end }
         ensures count { result ≤ length bytes.now }
@@ -156,22 +165,24 @@ impl<H: Wait + Clone + Drop> Writer<H> {
         ensures lent { self.new.end.lent ≡ [] }
         ensures rest { SameWriter self.old self.new }
     {
+        let mut call = call;
         let mut sum = 0;
         'rounds: loop {
             let n = copy_front(&bytes[sum..], self.write_buf(MOST_A_ROUND));
-            if n == 0 || self.load_closed() {
+            if n == 0 {
                 self.unlend();
-                return sum + n;
+                return counted(call.source_gave(0).end());
             }
-            self.store_tail(n);
-            self.wake_reader();
+            let (round, is_closed) = self.load_closed(call.source_gave(n));
+            if is_closed {
+                self.unlend();
+                return counted(round.end());
+            }
+            let round = self.store_tail(round, n);
+            let (round, taken) = self.take_reader(round);
+            call = write_wake(round, taken);
             sum += n;
         }
-    }
-
-    // Wakes the reader.
-    fn wake_reader(&self) {
-        self.take_reader().let_go();
     }
 
     /// Closes the pipe for good, and wakes both sides. Nothing is lent any more, and what was lent is taken back.
@@ -182,10 +193,13 @@ impl<H: Wait + Clone + Drop> Writer<H> {
         ensures kept { Keeps cx.old cx.new }
     {
         let _unused = cx;
-        self.store_shut();
-        self.wake_reader();
-        if let Some(taken) = self.take_own() {
-            taken.let_go();
+        let call = self.shut(WriteCall::close());
+        let (call, taken) = self.take_reader(call);
+        let call = write_wake(call, taken);
+        let (call, taken) = self.take_own(call);
+        match taken {
+            Some(taken) => write_wake(call, taken).done(),
+            None => call.done(),
         }
         Poll::Ready(Ok(()))
     }
@@ -201,7 +215,8 @@ impl<H: Wait + Clone + Drop> Writer<H> {
 
     /// Closes the pipe and wakes the reader, who can still read what is unread. The memory is freed if the reader is gone.
     pub fn drop(self) {
-        let (slots, rt) = self.store_closed();
-        take_reader(&slots, &rt).let_go();
+        let (call, slots, rt) = self.store_closed(WriteCall::drop());
+        let (call, taken) = take_reader(&slots, &rt, call);
+        write_wake(call, taken).done();
     }
 }

@@ -1,96 +1,119 @@
-//! The steps of the reader: one function for each kind, which makes the one access of its end or of a slot.
-ghost use Rattle.std.specs.Prelude.{◌≡◌, ◌<◌, ◌≤◌, ◌++◌, ◌↔◌, length, take, drop, IsTrue, IsFalse, true, false};
+//! The steps of the reader: one function for each kind, which makes the one access of its end or of a slot and takes the open call one step on.
+ghost use Rattle.std.specs.Prelude.{◌≡◌, ◌≤◌, ◌++◌, ◌↔◌, length, take, drop, IsTrue, IsFalse, true, false};
 ghost use Rattle.std.specs.Arc.{arc_value};
 ghost use Rattle.futures.specs.Task.{Covers, Keeps};
+ghost use Rattle.piper_sides.specs.Table.{goes_on, read_action, read_step, reader_draws_behind, reader_looks_for, nothing, refreshed, flag as loaded, granted, waker};
 ghost use Rattle.piper_ring.specs.ReadView.{in_one_piece};
 ghost use Rattle.piper_ring.specs.Shared.{flag};
-ghost use Rattle.piper.specs.Slots.{IsFrom, IsEmptied};
+ghost use Rattle.piper.specs.Slots.{IsFrom, IsEmptied, found_in};
 ghost use Rattle.piper.specs.Ends.{ReaderIsUpToDate, ReaderRefreshed, ReaderSaw, ReaderConsumed};
 
 use super::{Reader, Slots};
 use crate::slot::Taken;
 use futures::task::Context;
+use piper_sides::calls::Side;
+use piper_sides::read_call::ReadCall;
+use piper_sides::table::{Action, Purpose, ReadPlace};
 use std::sync::{Arc, Wait};
 
 impl<H: Wait + Clone + Drop> Reader<H> {
     ghost use Rattle.piper.specs.Handles.{SameReader, read_source};
 
-    /// Whether no byte is known.
-    pub(crate) fn knows_none(&self) -> bool
-        ensures { IsTrue result ↔ (length self.now.end.known ≡ 0) }
+    /// Opens a call that begins with a look, and tells whether no byte is known.
+    pub(crate) fn look(&self, purpose: Purpose) -> (ReadCall, bool)
+        ensures opened { result.0 ≡ goes_on (reader_looks_for result.1 purpose) }
+        ensures none { IsTrue result.1 ↔ (length self.now.end.known ≡ 0) }
     {
-        self.end.knows_none()
+        let none = self.end.knows_none();
+        (ReadCall::look(none, purpose), none)
     }
 
     /// Loads the tail where no byte is known, and tells whether none is known even now.
-    pub(crate) fn load_tail(&mut self) -> bool
-        requires { length self.old.end.known ≡ 0 }
-        ensures none { IsTrue result ↔ (length self.new.end.known ≡ 0) }
+    pub(crate) fn load_tail(&mut self, call: ReadCall) -> (ReadCall, bool)
+        requires next { read_action call.place ≡ Action.Refresh }
+        requires none { length self.old.end.known ≡ 0 }
+        ensures step { result.0 ≡ read_step call.place (refreshed result.1) }
+        ensures none { IsTrue result.1 ↔ (length self.new.end.known ≡ 0) }
         ensures fresh { ReaderIsUpToDate self.new.end }
         ensures end { ReaderRefreshed self.old.end self.new.end }
         ensures rest { SameReader self.old self.new }
     {
         self.end.reload();
-        self.knows_none()
+        let none = self.end.knows_none();
+        (call.refreshed(none), none)
     }
 
     /// Loads closed.
-    pub(crate) fn load_closed(&mut self) -> bool
-        ensures saw { result ≡ self.new.end.saw }
+    pub(crate) fn load_closed(&mut self, call: ReadCall) -> ReadCall
+        requires next { read_action call.place ≡ Action.LoadClosed }
+        ensures step { result ≡ read_step call.place (loaded self.new.end.saw) }
         ensures told { flag self.old.end.told_shut ≤ flag self.new.end.saw }
         ensures end { ReaderSaw self.old.end self.new.end }
         ensures rest { SameReader self.old self.new }
     {
-        self.end.look_closed()
+        call.loaded_closed(self.end.look_closed())
     }
 
     /// Registers in the reader's slot, and tells whether a waker was granted.
-    pub(crate) fn register(&mut self, cx: &mut Context<'_>) -> bool
+    pub(crate) fn register(&mut self, call: ReadCall, cx: &mut Context<'_>) -> (ReadCall, bool)
+        requires next { read_action call.place ≡ Action.Register }
+        ensures step { result.0 ≡ read_step call.place (granted result.1) }
         ensures covered { Covers cx.new (λ s. s ≡ read_source self.old) }
-        ensures refused { IsFalse result → cx.new.lacks_waker ≡ true }
+        ensures refused { IsFalse result.1 → cx.new.lacks_waker ≡ true }
         ensures kept { Keeps cx.old cx.new }
         ensures end { self.new.end ≡ self.old.end }
         ensures rest { SameReader self.old self.new }
     {
         self.is_registered = self.slots.reader.register(&self.rt, cx).is_ok();
-        self.is_registered
+        (call.registered(self.is_registered), self.is_registered)
     }
 
-    /// Empties the reader's slot, unless it is known to be empty.
-    pub(crate) fn take_own(&mut self) -> Option<Taken>
-        ensures emptied { IsEmptied (arc_value self.old.slots).reader self.old.is_registered result }
+    /// Empties the reader's slot behind the look of a poll, unless the slot is known to be empty.
+    pub(crate) fn take_own(&mut self, call: ReadCall) -> (ReadCall, Option<Taken>)
+        requires next { read_action call.place ≡ Action.Take Side.Reader }
+        requires poll { reader_draws_behind call.place ≡ false }
+        ensures step { result.0 ≡ read_step call.place nothing }
+        ensures emptied { IsEmptied (arc_value self.old.slots).reader self.old.is_registered result.1 }
         ensures known { self.new.is_registered ≡ false }
         ensures end { self.new.end ≡ self.old.end }
         ensures rest { SameReader self.old self.new }
     {
+        let call = call.took_own();
         if !self.is_registered {
-            return None;
+            return (call, None);
         }
         self.is_registered = false;
-        Some(self.slots.reader.take(&self.rt))
+        (call, Some(self.slots.reader.take(&self.rt)))
     }
 
     /// Stores the head, `n` bytes further on.
-    pub(crate) fn store_head(&mut self, n: usize)
-        requires { n ≤ in_one_piece self.old.end }
+    pub(crate) fn store_head(&mut self, call: ReadCall, n: usize) -> ReadCall
+        requires next { read_action call.place ≡ Action.StoreHead n }
+        requires there { n ≤ in_one_piece self.old.end }
+        ensures step { result ≡ read_step call.place nothing }
         ensures taken { self.new.end.taken ≡ self.old.end.taken ++ take n self.old.end.known }
         ensures known { self.new.end.known ≡ drop n self.old.end.known }
         ensures end { ReaderConsumed self.old.end self.new.end }
         ensures rest { SameReader self.old self.new }
     {
         self.end.consume(n);
+        call.stored_head(n)
     }
 
     /// Empties the writer's slot.
-    pub(crate) fn take_writer(&self) -> Taken
-        ensures { IsFrom (arc_value self.now.slots).writer result }
+    pub(crate) fn take_writer(&self, call: ReadCall) -> (ReadCall, Taken)
+        requires next { read_action call.place ≡ Action.Take Side.Writer }
+        ensures step { result.0 ≡ read_step call.place (waker (found_in result.1)) }
+        ensures taken { IsFrom (arc_value self.now.slots).writer result.1 }
     {
-        take_writer(&self.slots, &self.rt)
+        take_writer(&self.slots, &self.rt, call)
     }
 
-    /// Stores closed, and lets the end go. The slots are left.
-    pub(crate) fn store_closed(self) -> (Arc<Slots>, H)
-        ensures { result.0 ≡ self.slots }
+    /// Stores closed as it lets the end go. The slots are left, and what their locks are waited for with.
+    pub(crate) fn store_closed(self, call: ReadCall) -> (ReadCall, Arc<Slots>, H)
+        requires next { read_action call.place ≡ Action.StoreClosed false }
+        ensures step { result.0 ≡ read_step call.place nothing }
+        ensures slots { result.1 ≡ self.slots }
     {
         let Reader {
             end,
@@ -100,13 +123,26 @@ impl<H: Wait + Clone + Drop> Reader<H> {
             is_registered: _,
         } = self;
         drop(end);
-        (slots, rt)
+        (call.stored_closed(), slots, rt)
     }
 }
 
 /// Empties the writer's slot.
-pub(crate) fn take_writer(slots: &Slots, rt: &impl Wait) -> Taken
-    ensures { IsFrom slots.now.writer result }
+pub(crate) fn take_writer(slots: &Slots, rt: &impl Wait, call: ReadCall) -> (ReadCall, Taken)
+    requires next { read_action call.place ≡ Action.Take Side.Writer }
+    ensures step { result.0 ≡ read_step call.place (waker (found_in result.1)) }
+    ensures taken { IsFrom slots.now.writer result.1 }
 {
-    slots.writer.take(rt)
+    let taken = slots.writer.take(rt);
+    (call.took_writer(taken.is_found()), taken)
+}
+
+/// Calls the waker that was taken.
+pub(crate) fn wake(call: ReadCall, taken: Taken) -> ReadCall
+    requires next { read_action call.place ≡ Action.Wake }
+    requires found { found_in taken ≡ true }
+    ensures step { result ≡ read_step call.place nothing }
+{
+    taken.wake();
+    call.woke()
 }

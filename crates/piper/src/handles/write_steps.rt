@@ -1,75 +1,103 @@
-//! The steps of the writer: one function for each kind, which makes the one access of its end or of a slot.
-ghost use Rattle.std.specs.Prelude.{◌≡◌, ◌+◌, ◌-◌, ◌<◌, ◌≤◌, ◌++◌, ◌↔◌, [], length, take, drop, IsTrue, IsFalse, true, false};
+//! The steps of the writer: one function for each kind, which makes the one access of its end or of a slot and takes the open call one step on.
+ghost use Rattle.std.specs.Prelude.{◌≡◌, ◌+◌, ◌≤◌, ◌++◌, ◌↔◌, length, take, drop, IsTrue, IsFalse, true, false};
 ghost use Rattle.std.specs.Arc.{arc_value};
 ghost use Rattle.futures.specs.Task.{Covers, Keeps};
-ghost use Rattle.piper.specs.Slots.{IsFrom, IsEmptied};
+ghost use Rattle.piper_sides.specs.Table.{begins_look, look_begun, write_action, write_step, writer_draws_behind, nothing, refreshed, flag as loaded, granted, waker};
+ghost use Rattle.piper.specs.Slots.{IsFrom, IsEmptied, found_in};
+ghost use Rattle.piper.specs.Calls.{own_found};
 ghost use Rattle.piper.specs.Ends.{WriterIsUpToDate, WriterRefreshed, WriterSaw, WriterPublished, WriterUnlent, WriterShut};
 
 use super::{Slots, Writer};
 use crate::slot::Taken;
 use futures::task::Context;
+use piper_sides::calls::Side;
+use piper_sides::table::Action;
+use piper_sides::write_call::WriteCall;
 use std::sync::{Arc, Wait};
 
 impl<H: Wait + Clone + Drop> Writer<H> {
     ghost use Rattle.piper.specs.Handles.{SameWriter, write_source};
 
-    /// Whether no room is known.
-    pub(crate) fn knows_none(&self) -> bool
-        ensures { IsTrue result ↔ (self.now.end.room ≡ 0) }
+    /// Loads closed where a look begins, and tells what the flag was, and whether no room is known. A pipe that the writer closed is closed.
+    pub(crate) fn look_closed(&mut self, call: WriteCall) -> (WriteCall, bool, bool)
+        requires next { write_action call.place ≡ Action.LoadClosed }
+        requires begins { begins_look call.place ≡ true }
+        ensures step { result.0 ≡ look_begun result.2 call.place result.1 }
+        ensures saw { result.1 ≡ self.new.end.saw }
+        ensures none { IsTrue result.2 ↔ (self.new.end.room ≡ 0) }
+        ensures shut { self.new.end.shut ≡ true → self.new.end.saw ≡ true }
+        ensures end { WriterSaw self.old.end self.new.end }
+        ensures rest { SameWriter self.old self.new }
     {
-        self.end.knows_none()
+        self.end.learn();
+        let is_closed = self.end.look_closed();
+        let none = self.end.knows_none();
+        (call.looked_closed(none, is_closed), is_closed, none)
+    }
+
+    /// Loads closed at the end of a look or in a round, and tells what the flag was. A pipe that the writer closed is closed.
+    pub(crate) fn load_closed(&mut self, call: WriteCall) -> (WriteCall, bool)
+        requires next { write_action call.place ≡ Action.LoadClosed }
+        requires goes_on { begins_look call.place ≡ false }
+        ensures step { result.0 ≡ write_step call.place (loaded result.1) }
+        ensures saw { result.1 ≡ self.new.end.saw }
+        ensures shut { self.new.end.shut ≡ true → self.new.end.saw ≡ true }
+        ensures end { WriterSaw self.old.end self.new.end }
+        ensures rest { SameWriter self.old self.new }
+    {
+        self.end.learn();
+        let is_closed = self.end.look_closed();
+        (call.loaded_closed(is_closed), is_closed)
     }
 
     /// Loads the head where no room is known, and tells whether none is known even now.
-    pub(crate) fn load_head(&mut self) -> bool
-        requires { self.old.end.room ≡ 0 }
-        ensures none { IsTrue result ↔ (self.new.end.room ≡ 0) }
+    pub(crate) fn load_head(&mut self, call: WriteCall) -> (WriteCall, bool)
+        requires next { write_action call.place ≡ Action.Refresh }
+        requires none { self.old.end.room ≡ 0 }
+        ensures step { result.0 ≡ write_step call.place (refreshed result.1) }
+        ensures none { IsTrue result.1 ↔ (self.new.end.room ≡ 0) }
         ensures fresh { WriterIsUpToDate self.new.end }
         ensures end { WriterRefreshed self.old.end self.new.end }
         ensures rest { SameWriter self.old self.new }
     {
         self.end.reload();
-        self.knows_none()
-    }
-
-    /// Loads closed. A pipe that the writer closed is closed.
-    pub(crate) fn load_closed(&mut self) -> bool
-        ensures saw { result ≡ self.new.end.saw }
-        ensures shut { self.new.end.shut ≡ true → result ≡ true }
-        ensures end { WriterSaw self.old.end self.new.end }
-        ensures rest { SameWriter self.old self.new }
-    {
-        self.end.learn();
-        self.end.look_closed()
+        let none = self.end.knows_none();
+        (call.refreshed(none), none)
     }
 
     /// Registers in the writer's slot, and tells whether a waker was granted.
-    pub(crate) fn register(&mut self, cx: &mut Context<'_>) -> bool
+    pub(crate) fn register(&mut self, call: WriteCall, cx: &mut Context<'_>) -> (WriteCall, bool)
+        requires next { write_action call.place ≡ Action.Register }
+        ensures step { result.0 ≡ write_step call.place (granted result.1) }
         ensures covered { Covers cx.new (λ s. s ≡ write_source self.old) }
-        ensures refused { IsFalse result → cx.new.lacks_waker ≡ true }
+        ensures refused { IsFalse result.1 → cx.new.lacks_waker ≡ true }
         ensures kept { Keeps cx.old cx.new }
         ensures end { self.new.end ≡ self.old.end }
         ensures rest { SameWriter self.old self.new }
     {
         self.is_registered = self.slots.writer.register(&self.rt, cx).is_ok();
-        self.is_registered
+        (call.registered(self.is_registered), self.is_registered)
     }
 
-    /// Empties the writer's slot, unless it is known to be empty.
-    pub(crate) fn take_own(&mut self) -> Option<Taken>
-        ensures emptied { IsEmptied (arc_value self.old.slots).writer self.old.is_registered result }
+    /// Empties the writer's slot behind the look of a poll or in a close, unless the slot is known to be empty.
+    pub(crate) fn take_own(&mut self, call: WriteCall) -> (WriteCall, Option<Taken>)
+        requires next { write_action call.place ≡ Action.Take Side.Writer }
+        requires no_copy { writer_draws_behind call.place ≡ false }
+        ensures step { result.0 ≡ write_step call.place (waker (own_found result.1)) }
+        ensures emptied { IsEmptied (arc_value self.old.slots).writer self.old.is_registered result.1 }
         ensures known { self.new.is_registered ≡ false }
         ensures end { self.new.end ≡ self.old.end }
         ensures rest { SameWriter self.old self.new }
     {
         if !self.is_registered {
-            return None;
+            return (call.took_own(false), None);
         }
         self.is_registered = false;
-        Some(self.slots.writer.take(&self.rt))
+        let taken = self.slots.writer.take(&self.rt);
+        (call.took_own(taken.is_found()), Some(taken))
     }
 
-    /// Takes back what is lent.
+    /// Takes back what is lent, where a fill ends. It is no step of the table.
     pub(crate) fn unlend(&mut self)
         ensures end { WriterUnlent self.old.end self.new.end }
         ensures rest { SameWriter self.old self.new }
@@ -78,8 +106,10 @@ impl<H: Wait + Clone + Drop> Writer<H> {
     }
 
     /// Stores the tail, `n` bytes further on.
-    pub(crate) fn store_tail(&mut self, n: usize)
-        requires { n ≤ length self.old.end.lent }
+    pub(crate) fn store_tail(&mut self, call: WriteCall, n: usize) -> WriteCall
+        requires next { write_action call.place ≡ Action.StoreTail n }
+        requires there { n ≤ length self.old.end.lent }
+        ensures step { result ≡ write_step call.place nothing }
         ensures sent { self.new.end.sent ≡ self.old.end.sent ++ take n self.old.end.lent }
         ensures lent { self.new.end.lent ≡ drop n self.old.end.lent }
         ensures room { self.new.end.room + n ≡ self.old.end.room }
@@ -87,26 +117,34 @@ impl<H: Wait + Clone + Drop> Writer<H> {
         ensures rest { SameWriter self.old self.new }
     {
         self.end.produce(n);
+        call.stored_tail(n)
     }
 
     /// Stores closed, for good: nothing is lent any more.
-    pub(crate) fn store_shut(&mut self)
+    pub(crate) fn shut(&mut self, call: WriteCall) -> WriteCall
+        requires next { write_action call.place ≡ Action.StoreClosed true }
+        ensures step { result ≡ write_step call.place nothing }
         ensures end { WriterShut self.old.end self.new.end }
         ensures rest { SameWriter self.old self.new }
     {
         self.end.shut();
+        call.shut()
     }
 
     /// Empties the reader's slot.
-    pub(crate) fn take_reader(&self) -> Taken
-        ensures { IsFrom (arc_value self.now.slots).reader result }
+    pub(crate) fn take_reader(&self, call: WriteCall) -> (WriteCall, Taken)
+        requires next { write_action call.place ≡ Action.Take Side.Reader }
+        ensures step { result.0 ≡ write_step call.place (waker (found_in result.1)) }
+        ensures taken { IsFrom (arc_value self.now.slots).reader result.1 }
     {
-        take_reader(&self.slots, &self.rt)
+        take_reader(&self.slots, &self.rt, call)
     }
 
-    /// Stores closed, and lets the end go. The slots are left.
-    pub(crate) fn store_closed(self) -> (Arc<Slots>, H)
-        ensures { result.0 ≡ self.slots }
+    /// Stores closed as it lets the end go. The slots are left, and what their locks are waited for with.
+    pub(crate) fn store_closed(self, call: WriteCall) -> (WriteCall, Arc<Slots>, H)
+        requires next { write_action call.place ≡ Action.StoreClosed false }
+        ensures step { result.0 ≡ write_step call.place nothing }
+        ensures slots { result.1 ≡ self.slots }
     {
         let Writer {
             end,
@@ -116,13 +154,26 @@ impl<H: Wait + Clone + Drop> Writer<H> {
             is_registered: _,
         } = self;
         drop(end);
-        (slots, rt)
+        (call.stored_closed(), slots, rt)
     }
 }
 
 /// Empties the reader's slot.
-pub(crate) fn take_reader(slots: &Slots, rt: &impl Wait) -> Taken
-    ensures { IsFrom slots.now.reader result }
+pub(crate) fn take_reader(slots: &Slots, rt: &impl Wait, call: WriteCall) -> (WriteCall, Taken)
+    requires next { write_action call.place ≡ Action.Take Side.Reader }
+    ensures step { result.0 ≡ write_step call.place (waker (found_in result.1)) }
+    ensures taken { IsFrom slots.now.reader result.1 }
 {
-    slots.reader.take(rt)
+    let taken = slots.reader.take(rt);
+    (call.took_reader(taken.is_found()), taken)
+}
+
+/// Calls the waker that was taken.
+pub(crate) fn wake(call: WriteCall, taken: Taken) -> WriteCall
+    requires next { write_action call.place ≡ Action.Wake }
+    requires found { found_in taken ≡ true }
+    ensures step { result ≡ write_step call.place nothing }
+{
+    taken.wake();
+    call.woke()
 }

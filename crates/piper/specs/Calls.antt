@@ -1,0 +1,37 @@
+-- What a call of the table is to the caller of a handle.
+use Rattle.std.specs.Prelude.{ℕ, Bool, true, false, Option, None, Some, Result, Ok, Err}
+use Rattle.futures.specs.declared.task.Poll.{Poll}
+use Rattle.futures.specs.declared.task.Poll.TheVariants as polling
+use Rattle.piper_sides.specs.declared.events.Answer.{Answer}
+use Rattle.piper_sides.specs.declared.events.Answer.TheVariants as answer
+use Rattle.piper_sides.specs.declared.memory.OutOfMemory.{OutOfMemory}
+use Rattle.piper_sides.specs.declared.polling.Polled.TheVariants as told
+use Rattle.piper_sides.specs.declared.table.ReadPlace.{ReadPlace}
+use Rattle.piper_sides.specs.declared.table.WritePlace.{WritePlace}
+use Rattle.piper_sides.specs.Table.{Next, read_step, write_step, nothing}
+use Rattle.piper.specs.Slots.{found_in}
+use Rattle.piper.specs.declared.slot.Taken.{Taken}
+
+-- what a poll of the table answers; nothing else is asked for
+abbrev pub poll_of : Answer → Poll (Result Bool OutOfMemory)
+poll_of (answer.Poll (told.Ready found)) = polling.Ready (Ok found)
+poll_of (answer.Poll told.Memory) = polling.Ready (Err (record {}))
+poll_of other = polling.Pending
+
+abbrev pub count_of : Answer → ℕ
+count_of (answer.Count n) = n
+count_of other = 0
+
+-- whether a waker stood in the handle's own slot, where that was emptied
+abbrev pub own_found : Option Taken → Bool
+own_found None = false
+own_found (Some taken) = found_in taken
+
+-- the waker that was taken, if there was one, is called
+abbrev pub read_woken : Bool → Next ReadPlace → Next ReadPlace
+read_woken true call = read_step call.place nothing
+read_woken false call = call
+
+abbrev pub write_woken : Bool → Next WritePlace → Next WritePlace
+write_woken true call = write_step call.place nothing
+write_woken false call = call

@@ -1,0 +1,63 @@
+//! What the call table answers, as the calls of the handles answer it; and the wake at the end of a round or a call.
+ghost use Rattle.std.specs.Prelude.{◌≡◌, ℕ, Bool, true};
+ghost use Rattle.piper_sides.specs.Table.{read_action, write_action};
+ghost use Rattle.piper.specs.Slots.{found_in};
+ghost use Rattle.piper.specs.Calls.{poll_of, count_of, read_woken, write_woken};
+
+use crate::handles::{read_steps, write_steps};
+use crate::slot::Taken;
+use futures::task::Poll;
+use piper_sides::events::Answer;
+use piper_sides::memory::OutOfMemory;
+use piper_sides::polling::Polled;
+use piper_sides::read_call::ReadCall;
+use piper_sides::table::Action;
+use piper_sides::write_call::WriteCall;
+
+/// What a poll answers.
+pub(crate) fn polled(answer: Answer) -> Poll<Result<bool, OutOfMemory>>
+    requires { (p : Polled Bool) × (answer ≡ Answer.Poll p) }
+    ensures { result ≡ poll_of answer }
+{
+    match answer {
+        Answer::Poll(Polled::Ready(found)) => Poll::Ready(Ok(found)),
+        Answer::Poll(Polled::Memory) => Poll::Ready(Err(OutOfMemory)),
+        Answer::Poll(Polled::Pending) => Poll::Pending,
+        _ => unreachable!(),
+    }
+}
+
+/// What a try form answers.
+pub(crate) fn counted(answer: Answer) -> usize
+    requires { (n : ℕ) × (answer ≡ Answer.Count n) }
+    ensures { result ≡ count_of answer }
+{
+    match answer {
+        Answer::Count(n) => n,
+        _ => unreachable!(),
+    }
+}
+
+/// Calls the waker that the reader took, if there was one.
+pub(crate) fn read_wake(call: ReadCall, taken: Taken) -> ReadCall
+    requires next { found_in taken ≡ true → read_action call.place ≡ Action.Wake }
+    ensures { result ≡ read_woken (found_in taken) call }
+{
+    if taken.is_found() {
+        return read_steps::wake(call, taken);
+    }
+    taken.let_go();
+    call
+}
+
+/// Calls the waker that the writer took, if there was one.
+pub(crate) fn write_wake(call: WriteCall, taken: Taken) -> WriteCall
+    requires next { found_in taken ≡ true → write_action call.place ≡ Action.Wake }
+    ensures { result ≡ write_woken (found_in taken) call }
+{
+    if taken.is_found() {
+        return write_steps::wake(call, taken);
+    }
+    taken.let_go();
+    call
+}
