@@ -77,6 +77,7 @@ returns-in-Err-clause-refused c = record {
   next = slice_get_read c.args.steps.now _ c.loop-i.i c.index-steps-i.result refl c.loop-i-test.true c.index-steps-i.is;
   refused = c.in-Err.ensures.refused;
 }
+
 pub returns-clause-runs : goal.returns-clause-runs
 returns-clause-runs c = all_made c
 
