@@ -50,6 +50,27 @@ pub record SameReadEnd (a b : ReadView) : Type 0 where
   pub told : b.told ≡ a.told
   pub told_shut : b.told_shut ≡ a.told_shut
 
+-- b is a, but for bytes that it came to know of since
+pub record KnowsMore (a b : ReadView) : Type 0 where
+  pub end : SameReadEnd a b
+  pub taken : b.taken ≡ a.taken
+  pub known : (xs : List ℕ) × (b.known ≡ a.known ++ xs)
+  pub saw : b.saw ≡ a.saw
+
+-- b is a, but for what was told to it since
+pub record SameButTold (a b : ReadView) : Type 0 where
+  pub ring : b.ring ≡ a.ring
+  pub capacity : b.capacity ≡ a.capacity
+  pub taken : b.taken ≡ a.taken
+  pub known : b.known ≡ a.known
+  pub saw : b.saw ≡ a.saw
+
+-- b is a, but for what it saw of the pipe's end since
+pub record SameButSaw (a b : ReadView) : Type 0 where
+  pub end : SameReadEnd a b
+  pub taken : b.taken ≡ a.taken
+  pub known : b.known ≡ a.known
+
 -- how the end keeps its view
 pub record IsReadEnd (e : ReadParts) : Type 0 where
   pub fits : (e.indices.capacity ≡ e.seat.names.capacity) × (0 < e.indices.capacity) × (e.indices.capacity < 2 ^ 63)

@@ -60,6 +60,33 @@ pub record SameWriteEnd (a b : WriteView) : Type 0 where
   pub capacity : b.capacity ≡ a.capacity
   pub told : b.told ≡ a.told
 
+-- b is a, but for room that it came to know of since
+pub record HasMoreRoom (a b : WriteView) : Type 0 where
+  pub end : SameWriteEnd a b
+  pub sent : b.sent ≡ a.sent
+  pub room : a.room ≤ b.room
+  pub lent : b.lent ≡ a.lent
+  pub shut : b.shut ≡ a.shut
+  pub saw : b.saw ≡ a.saw
+
+-- b is a, but for what was told to it since
+pub record SameButTold (a b : WriteView) : Type 0 where
+  pub ring : b.ring ≡ a.ring
+  pub capacity : b.capacity ≡ a.capacity
+  pub sent : b.sent ≡ a.sent
+  pub room : b.room ≡ a.room
+  pub lent : b.lent ≡ a.lent
+  pub shut : b.shut ≡ a.shut
+  pub saw : b.saw ≡ a.saw
+
+-- b is a, but for what it saw of the pipe's end since
+pub record SameButSaw (a b : WriteView) : Type 0 where
+  pub end : SameWriteEnd a b
+  pub sent : b.sent ≡ a.sent
+  pub room : b.room ≡ a.room
+  pub lent : b.lent ≡ a.lent
+  pub shut : b.shut ≡ a.shut
+
 -- how the end keeps its view
 pub record IsWriteEnd (e : WriteParts) : Type 0 where
   pub fits : (e.indices.capacity ≡ e.seat.names.capacity) × (0 < e.indices.capacity) × (e.indices.capacity < 2 ^ 63)

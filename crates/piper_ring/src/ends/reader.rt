@@ -42,8 +42,8 @@ impl Model for ReadEnd {
 }
 
 impl ReadEnd {
-    ghost use Rattle.piper_ring.specs.ReadView.{SameReadEnd, MayBeUnread, in_one_piece};
-    ghost use Rattle.piper_ring.specs.WriteView.{SameWriteEnd};
+    ghost use Rattle.piper_ring.specs.ReadView.{SameReadEnd, KnowsMore, SameButTold, SameButSaw, MayBeUnread, in_one_piece};
+    ghost use Rattle.piper_ring.specs.WriteView.{HasMoreRoom};
     ghost use Rattle.piper_ring.specs.Shared.{flag};
 
     /// The capacity of the ring.
@@ -130,7 +130,7 @@ impl ReadEnd {
         requires { mark.now.names ≡ self.old.ring.1.1 }
         ensures told { self.new.told ≡ max self.old.told (length mark.now.bytes) }
         ensures shut { flag self.new.told_shut ≡ max (flag self.old.told_shut) (flag mark.now.shut) }
-        ensures kept { (self.new.ring ≡ self.old.ring) × (self.new.capacity ≡ self.old.capacity) × (self.new.taken ≡ self.old.taken) × (self.new.known ≡ self.old.known) × (self.new.saw ≡ self.old.saw) }
+        ensures kept { SameButTold self.old self.new }
     {
         self.parts.told.heed(mark);
     }
@@ -139,7 +139,7 @@ impl ReadEnd {
     pub fn reload(&mut self)
         requires { length self.old.known ≡ 0 }
         ensures fresh { self.old.told ≤ length (self.new.taken ++ self.new.known) }
-        ensures kept { SameReadEnd self.old self.new × (self.new.taken ≡ self.old.taken) × (self.new.saw ≡ self.old.saw) }
+        ensures kept { KnowsMore self.old self.new }
     {
         let parts = &mut self.parts;
         let (tail, published) = parts.seat.look_tail(&parts.told);
@@ -151,7 +151,7 @@ impl ReadEnd {
     pub fn refresh(&mut self)
         ensures fresh { self.old.known ≡ [] → self.old.told ≤ length (self.new.taken ++ self.new.known) }
         ensures known { 0 < length self.old.known → self.new ≡ self.old }
-        ensures kept { SameReadEnd self.old self.new × (self.new.taken ≡ self.old.taken) × (self.new.saw ≡ self.old.saw) }
+        ensures kept { KnowsMore self.old self.new }
     {
         if self.knows_none() {
             self.reload();
@@ -163,11 +163,10 @@ impl ReadEnd {
         requires { other.old.ring ≡ self.old.ring }
         ensures fifo { self.new.taken ++ self.new.known ≡ other.new.sent }
         ensures room { other.new.room + length self.new.known ≡ self.new.capacity }
-        ensures more { (xs : List ℕ) × (self.new.known ≡ self.old.known ++ xs) }
-        ensures more_room { other.old.room ≤ other.new.room }
-        ensures shut { (flag self.new.saw ≤ flag other.new.shut) × (flag other.new.saw ≤ flag other.new.shut) }
-        ensures reader { SameReadEnd self.old self.new × (self.new.taken ≡ self.old.taken) × (self.new.saw ≡ self.old.saw) }
-        ensures writer { SameWriteEnd other.old other.new × (other.new.sent ≡ other.old.sent) × (other.new.lent ≡ other.old.lent) × (other.new.shut ≡ other.old.shut) × (other.new.saw ≡ other.old.saw) }
+        ensures shut { flag self.new.saw ≤ flag other.new.shut }
+        ensures other_shut { flag other.new.saw ≤ flag other.new.shut }
+        ensures reader { KnowsMore self.old self.new }
+        ensures writer { HasMoreRoom other.old other.new }
     {
         let reader = &mut self.parts;
         let writer = &mut other.parts;
@@ -183,7 +182,7 @@ impl ReadEnd {
         ensures saw { result ≡ self.new.saw }
         ensures stays { flag self.old.saw ≤ flag self.new.saw }
         ensures told { flag self.old.told_shut ≤ flag self.new.saw }
-        ensures kept { SameReadEnd self.old self.new × (self.new.taken ≡ self.old.taken) × (self.new.known ≡ self.old.known) }
+        ensures kept { SameButSaw self.old self.new }
     {
         let parts = &mut self.parts;
         parts.seat.load_closed(&mut parts.saw, &parts.told) != 0

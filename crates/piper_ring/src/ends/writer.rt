@@ -41,7 +41,7 @@ impl Model for WriteEnd {
 }
 
 impl WriteEnd {
-    ghost use Rattle.piper_ring.specs.WriteView.{SameWriteEnd, MayBeUnread, MayLend, write_place};
+    ghost use Rattle.piper_ring.specs.WriteView.{SameWriteEnd, HasMoreRoom, SameButTold, SameButSaw, MayBeUnread, MayLend};
     ghost use Rattle.piper_ring.specs.LendsBuffer.{lends_buffer};
     ghost use Rattle.std.specs.Borrow.{sem};
     ghost use Rattle.piper_ring.specs.Shared.{flag};
@@ -120,7 +120,7 @@ impl WriteEnd {
     pub fn heed(&mut self, mark: &ReadMark)
         requires { mark.now.names ≡ self.old.ring.1.1 }
         ensures told { self.new.told ≡ max self.old.told mark.now.count }
-        ensures kept { (self.new.ring ≡ self.old.ring) × (self.new.capacity ≡ self.old.capacity) × (self.new.sent ≡ self.old.sent) × (self.new.room ≡ self.old.room) × (self.new.lent ≡ self.old.lent) × (self.new.shut ≡ self.old.shut) × (self.new.saw ≡ self.old.saw) }
+        ensures kept { SameButTold self.old self.new }
     {
         self.parts.told.heed(mark);
     }
@@ -129,7 +129,7 @@ impl WriteEnd {
     pub fn reload(&mut self)
         requires { self.old.room ≡ 0 }
         ensures fresh { self.old.told + self.old.capacity ≤ length self.new.sent + self.new.room }
-        ensures kept { SameWriteEnd self.old self.new × (self.new.sent ≡ self.old.sent) × (self.new.lent ≡ self.old.lent) × (self.new.shut ≡ self.old.shut) × (self.new.saw ≡ self.old.saw) }
+        ensures kept { HasMoreRoom self.old self.new }
     {
         let parts = &mut self.parts;
         let (head, consumed) = parts.seat.look_head(&parts.told);
@@ -141,7 +141,7 @@ impl WriteEnd {
     pub fn look_closed(&mut self) -> bool
         ensures saw { result ≡ self.new.saw }
         ensures stays { flag self.old.saw ≤ flag self.new.saw }
-        ensures kept { SameWriteEnd self.old self.new × (self.new.sent ≡ self.old.sent) × (self.new.room ≡ self.old.room) × (self.new.lent ≡ self.old.lent) × (self.new.shut ≡ self.old.shut) }
+        ensures kept { SameButSaw self.old self.new }
     {
         let parts = &mut self.parts;
         parts.seat.load_closed(&mut parts.saw) != 0
@@ -153,7 +153,8 @@ impl WriteEnd {
         ensures sent { self.new.sent ≡ self.old.sent ++ take n self.old.lent }
         ensures lent { self.new.lent ≡ drop n self.old.lent }
         ensures room { self.new.room + n ≡ self.old.room }
-        ensures kept { SameWriteEnd self.old self.new × (self.new.shut ≡ self.old.shut) × (self.new.saw ≡ self.old.saw) }
+        ensures kept { SameWriteEnd self.old self.new }
+        ensures closed { (self.new.shut ≡ self.old.shut) × (self.new.saw ≡ self.old.saw) }
     {
         let parts = &mut self.parts;
         let gift = parts.room.lent.split(n);
@@ -165,7 +166,7 @@ impl WriteEnd {
     pub fn refresh(&mut self)
         ensures fresh { self.old.room ≡ 0 → self.old.told + self.old.capacity ≤ length self.new.sent + self.new.room }
         ensures known { 0 < self.old.room → self.new ≡ self.old }
-        ensures kept { SameWriteEnd self.old self.new × (self.new.sent ≡ self.old.sent) × (self.new.lent ≡ self.old.lent) × (self.new.shut ≡ self.old.shut) × (self.new.saw ≡ self.old.saw) }
+        ensures kept { HasMoreRoom self.old self.new }
     {
         if self.knows_none() {
             self.reload();
@@ -189,7 +190,9 @@ impl WriteEnd {
     pub fn shut(&mut self)
         ensures shut { (self.new.shut ≡ true) × (self.new.saw ≡ true) }
         ensures lent { self.new.lent ≡ [] }
-        ensures kept { SameWriteEnd self.old self.new × (self.new.sent ≡ self.old.sent) × (self.new.room ≡ self.old.room) }
+        ensures sent { self.new.sent ≡ self.old.sent }
+        ensures room { self.new.room ≡ self.old.room }
+        ensures kept { SameWriteEnd self.old self.new }
     {
         let parts = &mut self.parts;
         parts.room.unlend();
