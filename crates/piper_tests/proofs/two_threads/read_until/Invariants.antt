@@ -1,0 +1,6 @@
+-- It is still the handle of the same pipe.
+use Rattle.std.proofs.Common.{◌≡◌}
+use Rattle.piper_tests.proofs.two_threads.read_until.Given as goal
+
+abbrev pub invariant-loop : goal.invariant-loop
+invariant-loop g l = l.reader.end.ring ≡ l.initial.reader.end.ring
