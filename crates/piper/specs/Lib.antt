@@ -1,3 +1,7 @@
+pub mod CopyAnswers
+pub mod Drains
+pub mod Draws
+pub mod Fills
 pub mod Polls
 pub mod Like
 pub mod Written

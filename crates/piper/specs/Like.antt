@@ -1,5 +1,6 @@
 -- What passes through a source or a destination.
-use Rattle.std.specs.Prelude.{◌≡◌, ℕ, ◌+◌, ◌%◌, ◌^◌, List, [], ◌++◌, take, Result, Ok, Err, MatchResult}
+use Rattle.std.specs.Prelude.{◌≡◌, ℕ, ◌+◌, ◌%◌, ◌^◌, List, [], ◌++◌, take, Option, Result, Ok, Err, MatchResult}
+use Rattle.std.specs.Io.KnownBytes.{Consumes, Appends}
 
 -- the type of `gives` and `takes`: a state, the bytes that passed, and the state after
 abbrev pub Passes : Type 0 → Type 1
@@ -21,3 +22,10 @@ passed (Err e) xs = []
 -- a count of failures, modulo 2^64: it goes up by one where the call failed
 abbrev pub Counts : {A E : Type 0} → Result A E → ℕ → ℕ → Type 0
 Counts r old new = MatchResult r (λ _. new ≡ old) (λ _. new ≡ (old + 1) % 2 ^ 64)
+
+-- the bytes that std's readers give and std's writers take, where they are known
+abbrev pub consumes_of : {R : Type 0} → (R → Option (List ℕ)) → Passes R
+consumes_of remaining s xs t = Consumes (remaining s) (remaining t) xs
+
+abbrev pub appends_to : {W : Type 0} → (W → Option (List ℕ)) → Passes W
+appends_to contents s xs t = Appends (contents s) (contents t) xs

@@ -10,6 +10,12 @@ OnReadyOk (Ready (Ok x)) P = P
 OnReadyOk (Ready (Err e)) P = ⊤
 OnReadyOk Pending P = ⊤
 
+-- P holds of its answer where the poll was ready and nothing failed
+abbrev pub IfReadyOk : {A E : Type 0} → Poll (Result A E) → (A → Type 0) → Type 0
+IfReadyOk (Ready (Ok x)) P = P x
+IfReadyOk (Ready (Err e)) P = ⊤
+IfReadyOk Pending P = ⊤
+
 -- a slice that was lent: the first piece of the bytes that are known, and an empty one only at an end that was seen. Where
 -- the poll is pending no byte is known
 abbrev pub Lends : {E : Type 0} → Poll (Result (Bor (List ℕ)) E) → List ℕ → ℕ → Bool → Type 0

@@ -7,6 +7,7 @@ ghost use Rattle.piper.specs.Ends.{ReaderRefreshed, ReaderHeeded, WriterRefreshe
 ghost use Rattle.piper.specs.Generator.{generator};
 ghost use Rattle.piper.specs.Handles.{ArePair};
 
+mod draws;
 pub(crate) mod read_steps;
 pub(crate) mod write_steps;
 

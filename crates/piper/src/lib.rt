@@ -2,6 +2,7 @@
 #![tactic(auto)]
 
 mod answers;
+mod copies;
 mod copying;
 pub mod error;
 mod handles;

@@ -1,0 +1,132 @@
+-- Rounds of a fill, one after the other.
+use Rattle.std.proofs.Common.{◌≡◌, ◌==◌, ℕ, ◌+◌, ◌<◌, ◌≤◌, ◌⊎◌, Bool, true, false, List, [], ◌++◌, take, length, Ok, Err, refl, sym, ap, ◌∙◌, subst, append_assoc, append-nil, length-append, length-take-le, inl, inr, arith}
+use Rattle.std.proofs.lemmas.Bool.Decides.{nat_tests}
+use Rattle.futures.specs.declared.task.Poll.TheVariants.{Ready}
+use Rattle.piper_ring.specs.Shared.{flag}
+use Rattle.piper_ring.specs.WriteView.{WriteView}
+use Rattle.piper_sides.specs.Table.{Next, write_step, write_done, writer_moved, reader_taken, nothing, moved, waker, flag as loaded}
+use Rattle.piper_sides.specs.declared.table.Form.TheVariants.{Polling}
+use Rattle.piper_sides.specs.declared.table.AfterWrite.{AfterWrite}
+use Rattle.piper_sides.specs.declared.table.AfterWrite.TheVariants as behind
+use Rattle.piper_sides.specs.declared.table.WritePlace.{WritePlace}
+use Rattle.piper_sides.specs.declared.table.WritePlace.TheVariants as on
+use Rattle.piper.specs.Calls.{write_woken}
+use Rattle.piper.specs.Copies.{IsReplaced}
+use Rattle.piper.specs.Ends.{WriterSaw, WriterPublished}
+use Rattle.piper.specs.Fills.{FillRounds, WriterFilled, WriterRelent}
+use Rattle.piper.specs.Like.{Passes, PassesInOrder}
+use Rattle.piper.specs.declared.error.Inner.TheVariants.{Like}
+
+not_zero : (n : ℕ) → (n ≡ 0 → ⊥) → (n == 0) ≡ false
+not_zero n some = grind (arith, nat_tests, some)
+
+woken_again : (next : AfterWrite) (found : Bool) → write_woken found (reader_taken next found) ≡ write_done next
+woken_again next true = refl
+woken_again next false = refl
+
+-- a round of n bytes, by the call table: behind it the source is called again
+pub source_again : (place : WritePlace) (gave looked stored taken woken : Next WritePlace) (s n : ℕ) (found : Bool) → place ≡ on.CallSource (Polling false) s → (n ≡ 0 → ⊥)
+    → gave ≡ write_step place (moved n) → looked ≡ write_step gave.place (loaded false) → stored ≡ write_step looked.place nothing
+    → taken ≡ write_step stored.place (waker found) → woken ≡ write_woken found taken → woken.place ≡ on.CallSource (Polling false) (s + n)
+source_again place gave looked stored taken woken s n found here some gave_is looked_is stored_is taken_is woken_is =
+    let next : AfterWrite = behind.Round (Polling false) (s + n) in
+    let moves : gave ≡ writer_moved false n (Polling false) s =
+    gave_is ∙ ap (λ (p : WritePlace). write_step p (moved n)) here ∙ ap (λ (b : Bool). writer_moved b n (Polling false) s) (not_zero n some) in
+    let looks : gave.place ≡ on.RoundClosed n (Polling false) (s + n) = ap (λ (c : Next WritePlace). c.place) moves in
+    let stores : looked.place ≡ on.StoreTail n next = ap (λ (c : Next WritePlace). c.place) (looked_is ∙ ap (λ (p : WritePlace). write_step p (loaded false)) looks) in
+    let takes : stored.place ≡ on.TakeReader next = ap (λ (c : Next WritePlace). c.place) (stored_is ∙ ap (λ (p : WritePlace). write_step p nothing) stores) in
+    let wakes : taken ≡ reader_taken next found = taken_is ∙ ap (λ (p : WritePlace). write_step p (waker found)) takes in
+    ap (λ (c : Next WritePlace). c.place) (woken_is ∙ ap (write_woken found) wakes ∙ woken_again next found)
+
+-- the source gave `sum` bytes in the rounds so far, which were published
+pub record Filled {S : Type 0} (gives : Passes S) (a b : WriteView) (s t : S) (sum : ℕ) : Type 0 where
+  pub given : List ℕ
+  pub sent : b.sent ≡ a.sent ++ given
+  pub passed : gives s given t
+  pub count : length given ≡ sum
+  pub room : IsReplaced a b
+  pub end : WriterFilled a b
+
+-- c is the writer b, but for what it lends
+filled_relent : (a b c : WriteView) → WriterFilled a b → WriterRelent b c → WriterFilled a c
+filled_relent a b c p q = record {
+  end = record { ring = q.end.ring ∙ p.end.ring; capacity = q.end.capacity ∙ p.end.capacity; told = q.end.told ∙ p.end.told };
+  shut = q.shut ∙ p.shut;
+  saw = omega (arith, p.saw, ap flag q.saw);
+}
+
+-- and w may have seen closed since
+filled_saw : (a c w : WriteView) → WriterFilled a c → WriterSaw c w → WriterFilled a w
+filled_saw a c w p q = record {
+  end = record { ring = q.end.ring ∙ p.end.ring; capacity = q.end.capacity ∙ p.end.capacity; told = q.end.told ∙ p.end.told };
+  shut = q.shut ∙ p.shut;
+  saw = omega (arith, p.saw, q.saw);
+}
+
+module _ {S : Type 0} (gives : Passes S) (in_order : PassesInOrder gives) (a b c : WriteView) (s t u : S) (sum : ℕ) (d : Filled gives a b s t sum) (relent : WriterRelent b c) where
+  replaced : IsReplaced a c
+  replaced = omega (arith, d.room, ap length relent.sent, relent.room)
+
+  more : (w : WriteView) (n : ℕ) → n ≤ length c.lent → length (d.given ++ take n c.lent) ≡ sum + n
+  more w n within = length-append d.given (take n c.lent) ∙ omega (arith, d.count, length-take-le n c.lent within)
+
+  -- the source gave none
+  pub fill_ended : {E : Type 0} (is_dry : S → Type 0) (fails : S → E → S → Type 0) → gives t [] u → (c.room ≡ 0) ⊎ is_dry u → (c.room ≡ 0 → 0 < sum)
+      → FillRounds gives is_dry fails (Ready (Ok sum)) a c s u
+  fill_ended is_dry fails none most some = record {
+    published = d.given;
+    lost = [];
+    sent = relent.sent ∙ d.sent;
+    all = λ _. refl;
+    room = replaced;
+    copied = (in_order s d.given t [] u d.passed none, ap length (append-nil d.given) ∙ d.count);
+    most = inl (elim most [ inl full ↦ inl (some full, full) | inr dry ↦ inr dry ]);
+    end = filled_relent a b c d.end relent;
+  }
+
+  -- the source failed
+  pub fill_failed : {E : Type 0} (is_dry : S → Type 0) (fails : S → E → S → Type 0) (e : E) → gives t [] u → fails t e u
+      → FillRounds gives is_dry fails (Ready (Err (Like e))) a c s u
+  fill_failed is_dry fails e none failed = record {
+    published = d.given;
+    lost = [];
+    sent = relent.sent ∙ d.sent;
+    all = λ _. refl;
+    room = replaced;
+    copied = (in_order s d.given t [] u d.passed none, (t, subst (λ (l : List ℕ). gives s l t) (sym (append-nil d.given)) d.passed, failed));
+    most = tt;
+    end = filled_relent a b c d.end relent;
+  }
+
+  -- the source gave n bytes to a pipe that was then seen closed
+  pub fill_closed : {E : Type 0} (is_dry : S → Type 0) (fails : S → E → S → Type 0) (w : WriteView) (n : ℕ) → n ≤ length c.lent → gives t (take n c.lent) u → WriterSaw c w → w.saw ≡ true
+      → FillRounds gives is_dry fails (Ready (Ok (sum + n))) a w s u
+  fill_closed is_dry fails w n within some saw closed = record {
+    published = d.given;
+    lost = take n c.lent;
+    sent = saw.sent ∙ relent.sent ∙ d.sent;
+    all = λ unseen. let never = closed in absurd (cc);
+    room = omega (arith, replaced, ap length saw.sent, saw.room);
+    copied = (in_order s d.given t (take n c.lent) u d.passed some, more w n within);
+    most = inr closed;
+    end = filled_saw a c w (filled_relent a b c d.end relent) saw;
+  }
+
+  -- the source gave n bytes, which were published
+  pub filled_more : (w x : WriteView) (n : ℕ) → n ≤ length c.lent → gives t (take n c.lent) u → WriterSaw c w → x.sent ≡ w.sent ++ take n w.lent → x.room + n ≡ w.room → WriterPublished w x
+      → Filled gives a x s u (sum + n)
+  filled_more w x n within some saw stored used published =
+      let before : WriterFilled a w = filled_saw a c w (filled_relent a b c d.end relent) saw in
+      let sent : x.sent ≡ (a.sent ++ d.given) ++ take n c.lent = stored ∙ (λ j. (saw.sent ∙ relent.sent ∙ d.sent) j ++ take n (saw.lent j)) in
+      record {
+        given = d.given ++ take n c.lent;
+        sent = sent ∙ append_assoc a.sent d.given (take n c.lent);
+        passed = in_order s d.given t (take n c.lent) u d.passed some;
+        count = more w n within;
+        room = omega (arith, replaced, ap length saw.sent, saw.room, used, ap length stored, length-append w.sent (take n w.lent), ap length (ap (take n) saw.lent), length-take-le n c.lent within);
+        end = record {
+          end = record { ring = published.end.ring ∙ before.end.ring; capacity = published.end.capacity ∙ before.end.capacity; told = published.end.told ∙ before.end.told };
+          shut = published.shut ∙ before.shut;
+          saw = omega (arith, before.saw, ap flag published.saw);
+        };
+      }

@@ -1,0 +1,18 @@
+-- The bytes of the rounds so far were given to the destination.
+use Rattle.std.proofs.Common.{◌≡◌, length, false}
+use Rattle.piper_sides.specs.declared.table.Form.TheVariants.{Polling}
+use Rattle.piper_sides.specs.declared.table.ReadPlace.TheVariants.{CallDestination}
+use Rattle.piper.specs.Handles.{SameReader}
+use Rattle.piper.proofs.RoundsOut.{Drained}
+use Rattle.piper.proofs.handles.Reader.drain_rounds_to.Given as goal
+
+abbrev pub invariant-rounds : goal.invariant-rounds
+invariant-rounds g l = record {
+  place : l.call.place ≡ CallDestination (Polling false) l.sum;
+  drained : Drained g.W.WriteLike.takes l.initial.self.end l.self.end l.initial.dest l.dest l.sum;
+  failures : g.W.WriteLike.failures l.dest ≡ g.W.WriteLike.failures l.initial.dest;
+  rest : SameReader l.initial.self l.self;
+}
+
+abbrev pub decreases-rounds : goal.decreases-rounds
+decreases-rounds g l = length l.self.end.known

@@ -1,0 +1,44 @@
+-- A round adds to the rounds before it, or ends them.
+use Rattle.std.proofs.Common.{rules, ◌≡◌, ◌+◌, ◌∙◌, ap, [], Ok, true, take, Bool, arith}
+use Rattle.futures.specs.declared.task.Poll.TheVariants.{Ready}
+use Rattle.piper_sides.specs.Table.{write_step, flag}
+use Rattle.piper.specs.Slots.{found_in}
+use Rattle.piper.proofs.RoundsIn.{source_again, fill_ended, fill_failed, fill_closed, filled_more}
+use Rattle.piper.proofs.handles.Writer.fill_rounds_from.Goals as goal
+
+pub returns-in-Err-clause-filled : goal.returns-in-Err-clause-filled
+returns-in-Err-clause-filled g c =
+    let none : g.R.ReadLike.gives c.rounds.source [] c.fill_round.new.source = search rules in
+    fill_failed _ g.met.R.ReadLike.gives_in_order _ _ _ _ _ _ _ c.rounds.invariant.filled c.fill_round.ensures.end _ _ c.in-Err.error none c.in-Err.ensures.error
+
+pub returns-then-n-eq0-clause-filled : goal.returns-then-n-eq0-clause-filled
+returns-then-n-eq0-clause-filled g c =
+    let told : c.copied.result ≡ Ready (Ok c.rounds.sum) = search rules in
+    let none : g.R.ReadLike.gives c.rounds.source [] c.fill_round.new.source = search rules in
+    let dry : c.fill_round.result ≡ Ok 0 = search rules in
+    rw told (fill_ended _ g.met.R.ReadLike.gives_in_order _ _ _ _ _ _ _ c.rounds.invariant.filled c.fill_round.ensures.end _ _ none (c.fill_round.ensures.dry dry)
+    (λ full. omega (arith, c.rounds.invariant.total, c.requires.some, c.fill_round.ensures.end.room, full)))
+
+pub returns-then-is_closed-clause-filled : goal.returns-then-is_closed-clause-filled
+returns-then-is_closed-clause-filled g c =
+    let told : c.copied-then-is_closed.result ≡ Ready (Ok (c.rounds.sum + c.in-Ok.n)) = search rules in
+    let some : g.R.ReadLike.gives c.rounds.source (take c.in-Ok.n c.fill_round.new.self.end.lent) c.fill_round.new.source = search rules in
+    let closed : c.load_closed-round.new.self.end.saw ≡ true = search rules in
+    rw told (fill_closed _ g.met.R.ReadLike.gives_in_order _ _ _ _ _ _ _ c.rounds.invariant.filled c.fill_round.ensures.end _ _ _ _ c.in-Ok.ensures.bound some c.load_closed-round.ensures.end closed)
+
+pub rounds-preserved : goal.rounds-preserved
+rounds-preserved g c =
+    let some : g.R.ReadLike.gives c.rounds.source (take c.in-Ok.n c.fill_round.new.self.end.lent) c.fill_round.new.source = search rules in
+    let stored = c.store_tail-round.ensures in
+    let saw = c.load_closed-round.ensures.end in
+    record {
+      at = source_again c.rounds.call.place c.source_gave-round.result c.load_closed-round.result.0 c.store_tail-round.result c.take_reader-round.result.0 c.write_wake-call.result c.rounds.sum c.in-Ok.n
+          (found_in c.take_reader-round.result.1) c.rounds.invariant.at c.if-n-eq0.false c.source_gave-round.ensures
+          (c.load_closed-round.ensures.step ∙ ap (λ (is_closed : Bool). write_step c.source_gave-round.result.place (flag is_closed)) c.if-is_closed.false)
+          stored.step c.take_reader-round.ensures.step c.write_wake-call.ensures;
+      filled = filled_more _ g.met.R.ReadLike.gives_in_order _ _ _ _ _ _ _ c.rounds.invariant.filled c.fill_round.ensures.end _ _ _ c.in-Ok.ensures.bound some saw stored.sent stored.room stored.end;
+      total = omega (arith, c.rounds.invariant.total, stored.room, saw.room, c.fill_round.ensures.end.room);
+      open_yet = search rules;
+      failures = search rules;
+      rest = search rules;
+    }

@@ -1,0 +1,20 @@
+-- The bytes of the rounds so far were published.
+use Rattle.std.proofs.Common.{◌≡◌, ◌+◌, false}
+use Rattle.piper_sides.specs.declared.table.Form.TheVariants.{Polling}
+use Rattle.piper_sides.specs.declared.table.WritePlace.TheVariants.{CallSource}
+use Rattle.piper.specs.Handles.{SameWriter}
+use Rattle.piper.proofs.RoundsIn.{Filled}
+use Rattle.piper.proofs.handles.Writer.fill_rounds_from.Given as goal
+
+abbrev pub invariant-rounds : goal.invariant-rounds
+invariant-rounds g l = record {
+  at : l.call.place ≡ CallSource (Polling false) l.sum;
+  filled : Filled g.R.ReadLike.gives l.initial.self.end l.self.end l.initial.source l.source l.sum;
+  total : l.sum + l.self.end.room ≡ l.initial.self.end.room;
+  open_yet : l.self.end.saw ≡ false;
+  failures : g.R.ReadLike.failures l.source ≡ g.R.ReadLike.failures l.initial.source;
+  rest : SameWriter l.initial.self l.self;
+}
+
+abbrev pub decreases-rounds : goal.decreases-rounds
+decreases-rounds g l = l.self.end.room

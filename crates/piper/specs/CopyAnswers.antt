@@ -1,0 +1,65 @@
+-- What a copy of the handles answers.
+use Rattle.std.specs.Prelude.{◌≡◌, ℕ, ◌+◌, ◌%◌, ◌^◌, List, [], length, Result, Ok, Err, ⊤}
+use Rattle.futures.specs.declared.task.Poll.{Poll}
+use Rattle.futures.specs.declared.task.Poll.TheVariants.{Ready, Pending}
+use Rattle.piper_sides.specs.declared.events.Answer.{Answer}
+use Rattle.piper_sides.specs.declared.events.Answer.TheVariants as answer
+use Rattle.piper_sides.specs.declared.polling.Polled.TheVariants as told
+use Rattle.piper.specs.Like.{Passes}
+use Rattle.std.specs.declared.convert.Infallible.{Infallible}
+use Rattle.std.specs.declared.io.Error.{Error}
+use Rattle.piper_sides.specs.declared.memory.OutOfMemory.{OutOfMemory}
+use Rattle.piper.specs.declared.error.PipeError.{PipeError}
+use Rattle.piper.specs.declared.error.PipeError.TheVariants as pipe
+use Rattle.piper.specs.declared.error.Inner.{Inner}
+use Rattle.piper.specs.declared.error.Inner.TheVariants.{Memory, Like}
+
+-- the table ended a copy with a count, as pending, or as refused memory
+abbrev pub IsCopied : Answer → Type 0
+IsCopied (answer.Count n) = ⊤
+IsCopied (answer.Copy (told.Ready (Ok n))) = ⊤
+IsCopied (answer.Copy told.Pending) = ⊤
+IsCopied (answer.Copy told.Memory) = ⊤
+IsCopied other = ⊥
+
+-- what the handle's copy then answers
+abbrev pub copied_of : {E : Type 0} → Answer → Poll (Result ℕ (Inner E))
+copied_of (answer.Count n) = Ready (Ok n)
+copied_of (answer.Copy (told.Ready (Ok n))) = Ready (Ok n)
+copied_of (answer.Copy told.Memory) = Ready (Err Memory)
+copied_of other = Pending
+
+-- the same answer of a copy over a reader or a writer of std
+abbrev pub inner_of : Poll (Result ℕ PipeError) → Poll (Result ℕ (Inner Error))
+inner_of (Ready (Ok n)) = Ready (Ok n)
+inner_of (Ready (Err pipe.Memory)) = Ready (Err Memory)
+inner_of (Ready (Err (pipe.Io e))) = Ready (Err (Like e))
+inner_of Pending = Pending
+
+-- and of a copy over a slice, which does not fail
+abbrev pub inner_of_bytes : Poll (Result ℕ OutOfMemory) → Poll (Result ℕ (Inner Infallible))
+inner_of_bytes (Ready (Ok n)) = Ready (Ok n)
+inner_of_bytes (Ready (Err e)) = Ready (Err Memory)
+inner_of_bytes Pending = Pending
+
+-- P holds where the copy was refused memory
+abbrev pub OnMemory : {E : Type 0} → Poll (Result ℕ (Inner E)) → Type 0 → Type 0
+OnMemory (Ready (Ok n)) P = ⊤
+OnMemory (Ready (Err Memory)) P = P
+OnMemory (Ready (Err (Like e))) P = ⊤
+OnMemory Pending P = ⊤
+
+-- xs passed between two states of a source or destination. A count is that of xs; pending and want of memory leave it as it
+-- was; and a failure is one of its own, behind the bytes that passed
+abbrev pub Copies : {S E : Type 0} → Passes S → (S → E → S → Type 0) → Poll (Result ℕ (Inner E)) → S → S → List ℕ → Type 0
+Copies passes fails (Ready (Ok n)) s t xs = passes s xs t × (length xs ≡ n)
+Copies passes fails (Ready (Err Memory)) s t xs = (t ≡ s) × (xs ≡ [])
+Copies {S} passes fails (Ready (Err (Like e))) s t xs = passes s xs t × ((u : S) × passes s xs u × fails u e t)
+Copies passes fails Pending s t xs = (t ≡ s) × (xs ≡ [])
+
+-- the count of failures differs exactly where a failure is answered
+abbrev pub CountsFailure : {E : Type 0} → Poll (Result ℕ (Inner E)) → ℕ → ℕ → Type 0
+CountsFailure (Ready (Ok n)) old new = new ≡ old
+CountsFailure (Ready (Err Memory)) old new = new ≡ old
+CountsFailure (Ready (Err (Like e))) old new = new ≡ (old + 1) % 2 ^ 64
+CountsFailure Pending old new = new ≡ old

@@ -1,0 +1,70 @@
+-- Fills of the writer from any source.
+use Rattle.std.specs.Prelude.{◌≡◌, ℕ, ◌<◌, ◌≤◌, ◌⊎◌, true, false, List, [], ◌++◌, Result, Ok, Err, ⊤}
+use Rattle.futures.specs.declared.task.Poll.{Poll}
+use Rattle.futures.specs.declared.task.Poll.TheVariants.{Ready, Pending}
+use Rattle.piper_ring.specs.Shared.{flag}
+use Rattle.piper_ring.specs.WriteView.{WriteView, SameWriteEnd}
+use Rattle.piper.specs.Copies.{IsReplaced}
+use Rattle.piper.specs.CopyAnswers.{Copies}
+use Rattle.piper.specs.Ends.{WriterIsUpToDate}
+use Rattle.piper.specs.Like.{Passes}
+use Rattle.piper.specs.Polls.{IfReadyOk}
+use Rattle.piper.specs.declared.error.Inner.{Inner}
+use Rattle.piper.specs.declared.error.Inner.TheVariants.{Memory, Like}
+
+-- the writer, but for the bytes that it published, its room, and what it lends: it may have seen closed now
+pub record WriterFilled (a b : WriteView) : Type 0 where
+  pub end : SameWriteEnd a b
+  pub shut : b.shut ≡ a.shut
+  pub saw : flag a.saw ≤ flag b.saw
+
+-- the writer, but for what it lends
+pub record WriterRelent (a b : WriteView) : Type 0 where
+  pub end : SameWriteEnd a b
+  pub sent : b.sent ≡ a.sent
+  pub room : b.room ≡ a.room
+  pub shut : b.shut ≡ a.shut
+  pub saw : b.saw ≡ a.saw
+
+-- rounds from a to b: what was published is a beginning of what the source gave, and all of it unless the pipe was seen closed
+pub record FillRounds {S E : Type 0} (gives : Passes S) (is_dry : S → Type 0) (fails : S → E → S → Type 0) (r : Poll (Result ℕ (Inner E))) (a b : WriteView) (s t : S) : Type 0 where
+  pub published : List ℕ
+  pub lost : List ℕ
+  pub sent : b.sent ≡ a.sent ++ published
+  pub all : b.saw ≡ false → lost ≡ []
+  pub room : IsReplaced a b
+  pub copied : Copies gives fails r s t (published ++ lost)
+  pub most : IfReadyOk r (λ n. (((0 < n) × (b.room ≡ 0)) ⊎ is_dry t) ⊎ (b.saw ≡ true))
+  pub end : WriterFilled a b
+
+-- a fill from a to b, which begins with a look: that finds more room only where none was known
+pub record Fills {S E : Type 0} (gives : Passes S) (is_dry : S → Type 0) (fails : S → E → S → Type 0) (r : Poll (Result ℕ (Inner E))) (a b : WriteView) (s t : S) : Type 0 where
+  pub published : List ℕ
+  pub lost : List ℕ
+  pub sent : b.sent ≡ a.sent ++ published
+  pub all : b.saw ≡ false → lost ≡ []
+  pub room : 0 < a.room → IsReplaced a b
+  pub fresh : a.room ≡ 0 → b.saw ≡ false → WriterIsUpToDate b
+  pub copied : Copies gives fails r s t (published ++ lost)
+  pub most : IfReadyOk r (λ n. (((0 < n) × (b.room ≡ 0)) ⊎ is_dry t) ⊎ (b.saw ≡ true))
+  pub end : WriterFilled a b
+
+-- a look of a fill was not true: the pipe was seen closed, or there is no room, or no waker could be made
+abbrev pub FoundNoRoom : {E : Type 0} → Poll (Result ℕ (Inner E)) → WriteView → Type 0
+FoundNoRoom (Ready (Ok n)) w = (n ≡ 0) × (w.saw ≡ true)
+FoundNoRoom (Ready (Err Memory)) w = (w.room ≡ 0) × (w.saw ≡ false)
+FoundNoRoom (Ready (Err (Like e))) w = ⊥
+FoundNoRoom Pending w = (w.room ≡ 0) × (w.saw ≡ false)
+
+-- by its answer and what it leaves: the look of the fill was true
+abbrev pub FoundRoom : {E : Type 0} → Poll (Result ℕ (Inner E)) → WriteView → Type 0
+FoundRoom (Ready (Ok n)) w = (0 < n) ⊎ (w.saw ≡ false)
+FoundRoom (Ready (Err Memory)) w = ⊥
+FoundRoom (Ready (Err (Like e))) w = ⊤
+FoundRoom Pending w = 0 < w.room
+
+-- P holds where the answer is no count
+abbrev pub OnNoCount : {E : Type 0} → Poll (Result ℕ E) → Type 0 → Type 0
+OnNoCount (Ready (Ok n)) P = ⊤
+OnNoCount (Ready (Err e)) P = P
+OnNoCount Pending P = P

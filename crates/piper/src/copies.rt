@@ -1,0 +1,26 @@
+//! Copies that may wait, between the pipe and any source or destination.
+ghost use Rattle.std.specs.Prelude.{◌≡◌};
+ghost use Rattle.piper.specs.CopyAnswers.{IsCopied, copied_of};
+
+mod draining;
+mod filling;
+mod polling;
+
+use crate::error::Inner;
+use futures::task::Poll;
+use piper_sides::events::Answer;
+use piper_sides::polling::Polled;
+
+/// What a copy answers that did not fail.
+fn copied<E>(answer: Answer) -> Poll<Result<usize, Inner<E>>>
+    requires { IsCopied answer }
+    ensures { result ≡ copied_of answer }
+{
+    match answer {
+        Answer::Count(n) => Poll::Ready(Ok(n)),
+        Answer::Copy(Polled::Ready(Ok(n))) => Poll::Ready(Ok(n)),
+        Answer::Copy(Polled::Memory) => Poll::Ready(Err(Inner::Memory)),
+        Answer::Copy(Polled::Pending) => Poll::Pending,
+        _ => unreachable!(),
+    }
+}

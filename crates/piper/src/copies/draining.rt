@@ -1,0 +1,199 @@
+//! Copies out of the pipe.
+ghost use Rattle.std.specs.Prelude.{◌≡◌, ℕ, ◌<◌, ◌≤◌, ◌⊎◌, [], length, min, IfOk, IfErr, Ok, true, false, ⊤};
+ghost use Rattle.futures.specs.Task.{Covers, Keeps};
+ghost use Rattle.futures.specs.Poll.{OnPending};
+ghost use Rattle.piper_ring.specs.ReadView.{in_one_piece};
+ghost use Rattle.piper_sides.specs.Table.{goes_on};
+ghost use Rattle.piper.specs.Copies.{ReaderCopied};
+ghost use Rattle.piper.specs.CopyAnswers.{OnMemory, CountsFailure, inner_of};
+ghost use Rattle.piper.specs.Draws.{Draws};
+ghost use Rattle.piper.specs.Drains.{Drains, DrainRounds, FoundNoByte, StaysKnown, found_len};
+ghost use Rattle.piper.specs.Ends.{ReaderIsUpToDate};
+ghost use Rattle.piper.specs.Like.{Counts, passed, appends_to};
+ghost use Rattle.piper.specs.Looks.{ReaderLooked, OnRefused};
+ghost use Rattle.piper.specs.Polls.{OnReadyOk, IfReadyOk, Reads};
+
+use super::copied;
+use crate::answers::read_wake;
+use crate::copying::MOST_A_ROUND;
+use crate::error::{Inner, PipeError};
+use crate::handles::Reader;
+use crate::like::{StdWrite, WriteBytes, WriteLike};
+use futures::task::{Context, Poll};
+use piper_ring::OutOfMemory;
+use piper_sides::read_call::ReadCall;
+use piper_sides::table::{Form, Purpose, ReadPlace};
+use std::io::Write;
+use std::sync::Wait;
+
+impl<H: Wait + Clone + Drop> Reader<H> {
+    ghost use Rattle.piper.specs.Handles.{SameReader, read_source};
+
+    /// Moves known bytes into a writer, and answers how many that took.
+    ///
+    /// It begins with the look of `poll`: 0 is the end of a closed pipe, or says that the writer took none, and where nothing is known the call is pending, or wants memory. Once in a hundred calls, as the reader's generator draws, it yields in place of the rounds: it moves nothing and asks for another poll. A round hands the writer at most 131,072 bytes in one piece; the rounds end once nothing is known or the writer takes none. Where the writer fails, what it took in the rounds before stays taken, and its error is answered; no clause can tell that error.
+    pub fn poll_drain<W: Write>(
+        &mut self,
+        cx: &mut Context<'_>,
+        dest: &mut W,
+    ) -> Poll<Result<usize, PipeError>>
+        ensures drained { Drains (appends_to W.contents) (λ _. ⊤) (λ _ _ _. ⊤) (inner_of result) self.old.end self.new.end dest.old dest.new }
+        ensures ended { OnReadyOk result (found_len self.old.end self.new.end ≡ 0 → self.new.end.saw ≡ true) }
+        ensures waits { OnPending result (found_len self.old.end self.new.end ≡ 0 → self.new.end.saw ≡ false) }
+        ensures draws { Draws (0 < found_len self.old.end self.new.end) result self.old.rng self.new.rng }
+        ensures refused { OnMemory (inner_of result) (cx.new.lacks_waker ≡ true) }
+        ensures slots { self.new.slots ≡ self.old.slots }
+        ensures covered { OnPending result (Covers cx.new (λ s. s ≡ read_source self.old)) }
+        ensures kept { Keeps cx.old cx.new }
+    {
+        let mut dest = StdWrite::new(dest);
+        match self.drain_polling(cx, &mut dest) {
+            Poll::Pending => Poll::Pending,
+            Poll::Ready(Ok(count)) => Poll::Ready(Ok(count)),
+            Poll::Ready(Err(Inner::Memory)) => Poll::Ready(Err(PipeError::Memory)),
+            Poll::Ready(Err(Inner::Like(error))) => Poll::Ready(Err(PipeError::Io(error))),
+        }
+    }
+
+    /// Moves known bytes into the front of `dest`, and answers how many: as many as its look left known and as fit.
+    ///
+    /// It looks, draws and waits as `poll_drain` does: 0, where there is room, is the end of a closed pipe.
+    pub fn poll_drain_bytes(
+        &mut self,
+        cx: &mut Context<'_>,
+        dest: &mut [u8],
+    ) -> Poll<Result<usize, OutOfMemory>>
+        ensures read { Reads result dest.old dest.new self.old.end.taken self.new.end.taken self.new.end.saw }
+        ensures count { IfReadyOk result (λ n. n ≡ min (length dest.old) (found_len self.old.end self.new.end)) }
+        ensures known { 0 < length self.old.end.known → StaysKnown self.old.end self.new.end }
+        ensures fresh { self.old.end.known ≡ [] → ReaderIsUpToDate self.new.end }
+        ensures waits { OnPending result (found_len self.old.end self.new.end ≡ 0 → self.new.end.saw ≡ false) }
+        ensures draws { Draws (0 < found_len self.old.end self.new.end) result self.old.rng self.new.rng }
+        ensures refused { OnRefused result (cx.new.lacks_waker ≡ true) }
+        ensures end { ReaderCopied self.old.end self.new.end }
+        ensures slots { self.new.slots ≡ self.old.slots }
+        ensures covered { OnPending result (Covers cx.new (λ s. s ≡ read_source self.old)) }
+        ensures kept { Keeps cx.old cx.new }
+    {
+        let mut bytes = WriteBytes::new(dest);
+        match self.drain_polling(cx, &mut bytes) {
+            Poll::Pending => Poll::Pending,
+            Poll::Ready(Ok(count)) => Poll::Ready(Ok(count)),
+            Poll::Ready(Err(Inner::Memory)) => Poll::Ready(Err(OutOfMemory)),
+            Poll::Ready(Err(Inner::Like(never))) => match never {},
+        }
+    }
+
+    // A drain that waits: the look, the draw, and the rounds.
+    fn drain_polling<W: WriteLike>(
+        &mut self,
+        cx: &mut Context<'_>,
+        dest: &mut W,
+    ) -> Poll<Result<usize, Inner<W::Error>>>
+        ensures drained { Drains W.takes W.is_full W.fails result self.old.end self.new.end dest.old dest.new }
+        ensures failures { CountsFailure result (W.failures dest.old) (W.failures dest.new) }
+        ensures ended { OnReadyOk result (found_len self.old.end self.new.end ≡ 0 → self.new.end.saw ≡ true) }
+        ensures waits { OnPending result (found_len self.old.end self.new.end ≡ 0 → self.new.end.saw ≡ false) }
+        ensures draws { Draws (0 < found_len self.old.end self.new.end) result self.old.rng self.new.rng }
+        ensures refused { OnMemory result (cx.new.lacks_waker ≡ true) }
+        ensures slots { self.new.slots ≡ self.old.slots }
+        ensures covered { OnPending result (Covers cx.new (λ s. s ≡ read_source self.old)) }
+        ensures kept { Keeps cx.old cx.new }
+    {
+        let call = match self.look_to_drain(cx) {
+            Ok(call) => call,
+            Err(told) => return told,
+        };
+        let (call, taken, yields) = self.take_own_and_draw(call);
+        if let Some(taken) = taken {
+            taken.let_go();
+        }
+        if yields {
+            let _pending: Poll<()> = cx.yield_now();
+            return copied(call.yielded(true).end());
+        }
+        self.drain_rounds_to(call, dest)
+    }
+
+    // The look of a drain that waits: its open call once a byte is known, or what it answers.
+    fn look_to_drain<E>(
+        &mut self,
+        cx: &mut Context<'_>,
+    ) -> Result<ReadCall, Poll<Result<usize, Inner<E>>>>
+        ensures found { IfOk result (λ call. call.place ≡ ReadPlace.LookTake (Purpose.Copy (Form.Polling false))) }
+        ensures some { IfOk result (λ _. 0 < length self.new.end.known) }
+        ensures none { IfErr result (λ told. FoundNoByte told self.new.end) }
+        ensures refused { IfErr result (λ told. OnMemory told (cx.new.lacks_waker ≡ true)) }
+        ensures covered { IfErr result (λ told. OnPending told (Covers cx.new (λ s. s ≡ read_source self.old))) }
+        ensures looked { ReaderLooked self.old.end self.new.end }
+        ensures rest { SameReader self.old self.new }
+        ensures kept { Keeps cx.old cx.new }
+    {
+        let (call, none) = self.look(Purpose::Copy(Form::Polling { is_drawn: false }));
+        if !none {
+            return Ok(call);
+        }
+        let (call, none) = self.load_tail(call);
+        if !none {
+            return Ok(call);
+        }
+        let (call, is_granted) = self.register(call, cx);
+        if !is_granted {
+            return Err(copied(call.end()));
+        }
+        let call = self.load_closed(call);
+        let (call, none) = self.load_tail(call);
+        if !none {
+            return Ok(call);
+        }
+        Err(copied(call.end()))
+    }
+
+    // Hands known bytes to the destination in rounds, each in one piece, until none is known or it takes none.
+    fn drain_rounds_to<W: WriteLike>(
+        &mut self,
+        call: ReadCall,
+        dest: &mut W,
+    ) -> Poll<Result<usize, Inner<W::Error>>>
+        requires { call.place ≡ ReadPlace.CallDestination (Form.Polling false) 0 }
+        ensures drained { DrainRounds W.takes W.is_full W.fails result self.old.end self.new.end dest.old dest.new }
+        ensures failures { CountsFailure result (W.failures dest.old) (W.failures dest.new) }
+        ensures ready { OnPending result ⊥ }
+        ensures granted { OnMemory result ⊥ }
+        ensures rest { SameReader self.old self.new }
+    {
+        self.end().learn();
+        let mut call = call;
+        let mut sum = 0;
+        'rounds: loop {
+            let n = match self.drain_round(dest) {
+                Ok(n) => n,
+                Err(error) => {
+                    call.destination_failed().end();
+                    return Poll::Ready(Err(Inner::Like(error)));
+                }
+            };
+            let round = call.destination_took(n);
+            if n == 0 {
+                return copied(round.end());
+            }
+            let round = self.store_head(round, n);
+            let (round, taken) = self.take_writer(round);
+            call = read_wake(round, taken);
+            sum += n;
+        }
+    }
+
+    // One call of the destination, on known bytes in one piece.
+    fn drain_round<W: WriteLike>(&self, dest: &mut W) -> Result<usize, W::Error>
+        ensures bound { IfOk result (λ n. n ≤ in_one_piece self.now.end) }
+        ensures most { IfOk result (λ n. n ≤ MOST_A_ROUND) }
+        ensures bytes { W.takes dest.old (passed result self.now.end.known) dest.new }
+        ensures full { result ≡ Ok 0 → (self.now.end.known ≡ []) ⊎ W.is_full dest.new }
+        ensures error { IfErr result (λ e. W.fails dest.old e dest.new) }
+        ensures failures { Counts result (W.failures dest.old) (W.failures dest.new) }
+    {
+        let piece = self.peek_buf();
+        dest.write(&piece[..piece.len().min(MOST_A_ROUND)])
+    }
+}

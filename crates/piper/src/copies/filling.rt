@@ -1,0 +1,238 @@
+//! Copies into the pipe.
+ghost use Rattle.std.specs.Prelude.{◌≡◌, ℕ, ◌<◌, ◌≤◌, ◌⊎◌, [], length, IfOk, IfErr, OnOk, Ok, true, false, ⊤};
+ghost use Rattle.futures.specs.Task.{Covers, Keeps};
+ghost use Rattle.futures.specs.Poll.{OnPending};
+ghost use Rattle.std.specs.Io.KnownBytes.{IsAtEnd};
+ghost use Rattle.piper.specs.Copies.{IsReplaced};
+ghost use Rattle.piper.specs.CopyAnswers.{OnMemory, CountsFailure, inner_of, inner_of_bytes};
+ghost use Rattle.piper.specs.Draws.{Draws};
+ghost use Rattle.piper.specs.Ends.{WriterIsUpToDate};
+ghost use Rattle.piper.specs.Fills.{Fills, FillRounds, FoundNoRoom, FoundRoom, OnNoCount, WriterFilled, WriterRelent};
+ghost use Rattle.piper.specs.Like.{Counts, passed, consumes_of};
+ghost use Rattle.piper.specs.Looks.{WriterLooked, OnRefused};
+ghost use Rattle.piper.specs.Polls.{IfReadyOk, Writes};
+
+use super::copied;
+use crate::answers::write_wake;
+use crate::copying::MOST_A_ROUND;
+use crate::error::{Inner, PipeError};
+use crate::handles::Writer;
+use crate::like::{ReadBytes, ReadLike, StdRead};
+use futures::task::{Context, Poll};
+use piper_ring::OutOfMemory;
+use piper_sides::table::{Form, Purpose, WritePlace};
+use piper_sides::write_call::WriteCall;
+use std::io::Read;
+use std::sync::Wait;
+
+impl<H: Wait + Clone + Drop> Writer<H> {
+    ghost use Rattle.piper.specs.Handles.{SameWriter, write_source};
+
+    /// Publishes bytes that a reader gives, and answers how many it gave.
+    ///
+    /// It begins with the look of `poll`: 0 says that the pipe is closed, or that the reader gave none, and where no room is known the call is pending, or wants memory. Once in a hundred calls, as the writer's generator draws, it yields in place of the rounds: it moves nothing and asks for another poll. A round lends the reader at most 131,072 places in one piece; the rounds end once there is no room, the reader gives none, or the pipe is seen closed, and what was given in that last round is counted and lost. Where the reader fails, what it gave in the rounds before stays published, and its error is answered; no clause can tell that error. Nothing is lent afterwards.
+    pub fn poll_fill<R: Read>(
+        &mut self,
+        cx: &mut Context<'_>,
+        source: &mut R,
+    ) -> Poll<Result<usize, PipeError>>
+        ensures filled { Fills (consumes_of R.remaining) (λ t. IsAtEnd (R.remaining t)) (λ _ _ _. ⊤) (inner_of result) self.old.end self.new.end source.old source.new }
+        ensures over { self.old.end.saw ≡ true → result ≡ Poll.Ready (Ok 0) }
+        ensures open { OnNoCount (inner_of result) (self.new.end.saw ≡ false) }
+        ensures draws { Draws (FoundRoom (inner_of result) self.new.end) result self.old.rng self.new.rng }
+        ensures lent { self.new.end.lent ≡ [] }
+        ensures refused { OnMemory (inner_of result) (cx.new.lacks_waker ≡ true) }
+        ensures slots { self.new.slots ≡ self.old.slots }
+        ensures covered { OnPending result (Covers cx.new (λ s. s ≡ write_source self.old)) }
+        ensures kept { Keeps cx.old cx.new }
+    {
+        let mut source = StdRead::new(source);
+        match self.fill_polling(cx, &mut source) {
+            Poll::Pending => Poll::Pending,
+            Poll::Ready(Ok(count)) => Poll::Ready(Ok(count)),
+            Poll::Ready(Err(Inner::Memory)) => Poll::Ready(Err(PipeError::Memory)),
+            Poll::Ready(Err(Inner::Like(error))) => Poll::Ready(Err(PipeError::Io(error))),
+        }
+    }
+
+    /// Publishes bytes from the front of `bytes`, and answers how many: as many as there is room for once it looked, and all of them if they fit.
+    ///
+    /// It looks, draws and waits as `poll_fill` does: 0, where there are some, says that the pipe is closed, and so does each later answer. Where the pipe is seen closed only once some bytes were taken, the last of them, at most one round, are counted and lost. Nothing is lent afterwards.
+    pub fn poll_fill_bytes(
+        &mut self,
+        cx: &mut Context<'_>,
+        bytes: &[u8],
+    ) -> Poll<Result<usize, OutOfMemory>>
+        ensures written { Writes result bytes.now self.old.end.sent self.new.end.sent self.new.end.saw }
+        ensures full { result ≡ Poll.Ready (Ok 0) → 0 < length bytes.now → self.new.end.saw ≡ true }
+        ensures most { IfReadyOk result (λ n. n < length bytes.now → self.new.end.saw ≡ false → self.new.end.room ≡ 0) }
+        ensures room { 0 < self.old.end.room → IsReplaced self.old.end self.new.end }
+        ensures fresh { self.old.end.room ≡ 0 → self.new.end.saw ≡ false → WriterIsUpToDate self.new.end }
+        ensures over { self.old.end.saw ≡ true → result ≡ Poll.Ready (Ok 0) }
+        ensures open { OnNoCount result (self.new.end.saw ≡ false) }
+        ensures draws { Draws (FoundRoom (inner_of_bytes result) self.new.end) result self.old.rng self.new.rng }
+        ensures lent { self.new.end.lent ≡ [] }
+        ensures refused { OnRefused result (cx.new.lacks_waker ≡ true) }
+        ensures end { WriterFilled self.old.end self.new.end }
+        ensures slots { self.new.slots ≡ self.old.slots }
+        ensures covered { OnPending result (Covers cx.new (λ s. s ≡ write_source self.old)) }
+        ensures kept { Keeps cx.old cx.new }
+    {
+        let mut source = ReadBytes::new(bytes);
+        match self.fill_polling(cx, &mut source) {
+            Poll::Pending => Poll::Pending,
+            Poll::Ready(Ok(count)) => Poll::Ready(Ok(count)),
+            Poll::Ready(Err(Inner::Memory)) => Poll::Ready(Err(OutOfMemory)),
+            Poll::Ready(Err(Inner::Like(never))) => match never {},
+        }
+    }
+
+    // A fill that waits: the look, the draw, and the rounds. Nothing is lent afterwards.
+    fn fill_polling<R: ReadLike>(
+        &mut self,
+        cx: &mut Context<'_>,
+        source: &mut R,
+    ) -> Poll<Result<usize, Inner<R::Error>>>
+        ensures filled { Fills R.gives R.is_dry R.fails result self.old.end self.new.end source.old source.new }
+        ensures failures { CountsFailure result (R.failures source.old) (R.failures source.new) }
+        ensures over { self.old.end.saw ≡ true → result ≡ Poll.Ready (Ok 0) }
+        ensures open { OnNoCount result (self.new.end.saw ≡ false) }
+        ensures draws { Draws (FoundRoom result self.new.end) result self.old.rng self.new.rng }
+        ensures lent { self.new.end.lent ≡ [] }
+        ensures refused { OnMemory result (cx.new.lacks_waker ≡ true) }
+        ensures slots { self.new.slots ≡ self.old.slots }
+        ensures covered { OnPending result (Covers cx.new (λ s. s ≡ write_source self.old)) }
+        ensures kept { Keeps cx.old cx.new }
+    {
+        let told = self.fill_looking(cx, source);
+        self.unlend();
+        told
+    }
+
+    fn fill_looking<R: ReadLike>(
+        &mut self,
+        cx: &mut Context<'_>,
+        source: &mut R,
+    ) -> Poll<Result<usize, Inner<R::Error>>>
+        ensures filled { Fills R.gives R.is_dry R.fails result self.old.end self.new.end source.old source.new }
+        ensures failures { CountsFailure result (R.failures source.old) (R.failures source.new) }
+        ensures over { self.old.end.saw ≡ true → result ≡ Poll.Ready (Ok 0) }
+        ensures open { OnNoCount result (self.new.end.saw ≡ false) }
+        ensures draws { Draws (FoundRoom result self.new.end) result self.old.rng self.new.rng }
+        ensures refused { OnMemory result (cx.new.lacks_waker ≡ true) }
+        ensures slots { self.new.slots ≡ self.old.slots }
+        ensures covered { OnPending result (Covers cx.new (λ s. s ≡ write_source self.old)) }
+        ensures kept { Keeps cx.old cx.new }
+    {
+        let call = match self.look_to_fill(cx) {
+            Ok(call) => call,
+            Err(told) => return told,
+        };
+        let (call, taken, yields) = self.take_own_and_draw(call);
+        if let Some(taken) = taken {
+            taken.let_go();
+        }
+        if yields {
+            let _pending: Poll<()> = cx.yield_now();
+            return copied(call.yielded(true).end());
+        }
+        self.fill_rounds_from(call, source)
+    }
+
+    // The look of a fill that waits: its open call once there is room, or what it answers.
+    fn look_to_fill<E>(
+        &mut self,
+        cx: &mut Context<'_>,
+    ) -> Result<WriteCall, Poll<Result<usize, Inner<E>>>>
+        ensures found { IfOk result (λ call. call.place ≡ WritePlace.LookTake (Purpose.Copy (Form.Polling false))) }
+        ensures some { OnOk result (0 < self.new.end.room) }
+        ensures is_open { OnOk result ((self.new.end.shut ≡ false) × (self.new.end.saw ≡ false)) }
+        ensures none { IfErr result (λ told. FoundNoRoom told self.new.end) }
+        ensures refused { IfErr result (λ told. OnMemory told (cx.new.lacks_waker ≡ true)) }
+        ensures covered { IfErr result (λ told. OnPending told (Covers cx.new (λ s. s ≡ write_source self.old))) }
+        ensures looked { WriterLooked self.old.end self.new.end }
+        ensures rest { SameWriter self.old self.new }
+        ensures kept { Keeps cx.old cx.new }
+    {
+        let call = WriteCall::look(Purpose::Copy(Form::Polling { is_drawn: false }));
+        let (call, is_closed, none) = self.look_closed(call);
+        if is_closed {
+            return Err(copied(call.end()));
+        }
+        if !none {
+            return Ok(call);
+        }
+        let (call, none) = self.load_head(call);
+        if !none {
+            return Ok(call);
+        }
+        let (call, is_granted) = self.register(call, cx);
+        if !is_granted {
+            return Err(copied(call.end()));
+        }
+        let (call, none) = self.load_head(call);
+        if !none {
+            return Ok(call);
+        }
+        let (call, _is_closed) = self.load_closed(call);
+        Err(copied(call.end()))
+    }
+
+    // Publishes what the source gives in rounds, each in one piece, until there is no room, it gives none, or the pipe is seen closed.
+    fn fill_rounds_from<R: ReadLike>(
+        &mut self,
+        call: WriteCall,
+        source: &mut R,
+    ) -> Poll<Result<usize, Inner<R::Error>>>
+        requires place { call.place ≡ WritePlace.CallSource (Form.Polling false) 0 }
+        requires is_open { (self.old.end.shut ≡ false) × (self.old.end.saw ≡ false) }
+        requires some { 0 < self.old.end.room }
+        ensures filled { FillRounds R.gives R.is_dry R.fails result self.old.end self.new.end source.old source.new }
+        ensures failures { CountsFailure result (R.failures source.old) (R.failures source.new) }
+        ensures open { OnNoCount result (self.new.end.saw ≡ false) }
+        ensures found { FoundRoom result self.new.end }
+        ensures ready { OnPending result ⊥ }
+        ensures granted { OnMemory result ⊥ }
+        ensures rest { SameWriter self.old self.new }
+    {
+        self.end().learn();
+        let mut call = call;
+        let mut sum = 0;
+        'rounds: loop {
+            let n = match self.fill_round(source) {
+                Ok(n) => n,
+                Err(error) => {
+                    call.source_failed().end();
+                    return Poll::Ready(Err(Inner::Like(error)));
+                }
+            };
+            let round = call.source_gave(n);
+            if n == 0 {
+                return copied(round.end());
+            }
+            let (round, is_closed) = self.load_closed(round);
+            if is_closed {
+                return copied(round.end());
+            }
+            let round = self.store_tail(round, n);
+            let (round, taken) = self.take_reader(round);
+            call = write_wake(round, taken);
+            sum += n;
+        }
+    }
+
+    // One call of the source, on room that is lent to it in one piece.
+    fn fill_round<R: ReadLike>(&mut self, source: &mut R) -> Result<usize, R::Error>
+        requires { self.old.end.shut ≡ false }
+        ensures bound { IfOk result (λ n. n ≤ length self.new.end.lent) }
+        ensures most { IfOk result (λ n. n ≤ MOST_A_ROUND) }
+        ensures bytes { R.gives source.old (passed result self.new.end.lent) source.new }
+        ensures dry { result ≡ Ok 0 → (self.new.end.room ≡ 0) ⊎ R.is_dry source.new }
+        ensures error { IfErr result (λ e. R.fails source.old e source.new) }
+        ensures failures { Counts result (R.failures source.old) (R.failures source.new) }
+        ensures end { WriterRelent self.old.end self.new.end }
+        ensures rest { SameWriter self.old self.new }
+    {
+        source.read(self.write_buf(MOST_A_ROUND))
+    }
+}

@@ -1,0 +1,93 @@
+//! The traits of readers and writers, for the handles.
+ghost use Rattle.std.specs.Prelude.{◌≡◌};
+
+use crate::error::PipeError;
+use crate::handles::{Reader, Writer};
+use crate::io::{AsyncBufRead, AsyncRead, AsyncWrite};
+use futures::task::{Context, Poll};
+use piper_ring::OutOfMemory;
+use std::sync::Wait;
+
+impl<H: Wait + Clone + Drop> AsyncRead for Reader<H> {
+    ghost use Rattle.piper.specs.Handles.{read_source};
+
+    ghost taken = { λ r. r.end.taken };
+
+    ghost saw = { λ r. r.end.saw };
+
+    ghost needs = { λ r s. s ≡ read_source r };
+
+    fn poll_read(
+        &mut self,
+        cx: &mut Context<'_>,
+        dest: &mut [u8],
+    ) -> Poll<Result<usize, PipeError>> {
+        match self.poll_drain_bytes(cx, dest) {
+            Poll::Pending => Poll::Pending,
+            Poll::Ready(Ok(count)) => Poll::Ready(Ok(count)),
+            Poll::Ready(Err(OutOfMemory)) => Poll::Ready(Err(PipeError::Memory)),
+        }
+    }
+}
+
+impl<H: Wait + Clone + Drop> AsyncBufRead for Reader<H> {
+    ghost use Rattle.piper_ring.specs.ReadView.{in_one_piece};
+    ghost use Rattle.piper.specs.Handles.{read_source};
+
+    ghost known = { λ r. r.end.known };
+
+    ghost piece = { λ r. in_one_piece r.end };
+
+    ghost taken = { λ r. r.end.taken };
+
+    ghost saw = { λ r. r.end.saw };
+
+    ghost needs = { λ r s. s ≡ read_source r };
+
+    fn poll_fill_buf(&mut self, cx: &mut Context<'_>) -> Poll<Result<&[u8], PipeError>> {
+        match self.poll(cx) {
+            Poll::Pending => Poll::Pending,
+            Poll::Ready(Ok(_)) => Poll::Ready(Ok(self.peek_buf())),
+            Poll::Ready(Err(OutOfMemory)) => Poll::Ready(Err(PipeError::Memory)),
+        }
+    }
+
+    fn consume(&mut self, amt: usize) {
+        Reader::consume(self, amt);
+    }
+}
+
+impl<H: Wait + Clone + Drop> AsyncWrite for Writer<H> {
+    ghost use Rattle.piper.specs.Handles.{write_source};
+
+    ghost sent = { λ w. w.end.sent };
+
+    ghost saw = { λ w. w.end.saw };
+
+    ghost needs = { λ w s. s ≡ write_source w };
+
+    fn poll_write(
+        &mut self,
+        cx: &mut Context<'_>,
+        source: &[u8],
+    ) -> Poll<Result<usize, PipeError>> {
+        match self.poll_fill_bytes(cx, source) {
+            Poll::Pending => Poll::Pending,
+            Poll::Ready(Ok(count)) => Poll::Ready(Ok(count)),
+            Poll::Ready(Err(OutOfMemory)) => Poll::Ready(Err(PipeError::Memory)),
+        }
+    }
+
+    fn poll_flush(&mut self, cx: &mut Context<'_>) -> Poll<Result<(), PipeError>> {
+        let _unused = cx;
+        Poll::Ready(Ok(()))
+    }
+
+    fn poll_close(&mut self, cx: &mut Context<'_>) -> Poll<Result<(), PipeError>> {
+        match Writer::poll_close(self, cx) {
+            Poll::Pending => Poll::Pending,
+            Poll::Ready(Ok(())) => Poll::Ready(Ok(())),
+            Poll::Ready(Err(OutOfMemory)) => Poll::Ready(Err(PipeError::Memory)),
+        }
+    }
+}

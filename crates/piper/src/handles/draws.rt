@@ -1,0 +1,67 @@
+//! The draw of a polling copy, which makes it yield once in a hundred calls.
+ghost use Rattle.std.specs.Prelude.{◌≡◌, ◌↔◌, IsTrue, false};
+ghost use Rattle.std.specs.Arc.{arc_value};
+ghost use Rattle.piper_sides.specs.Table.{reader_is_true, writer_is_true};
+ghost use Rattle.piper.specs.Slots.{IsEmptied};
+ghost use Rattle.piper.specs.Draws.{DrawsYield, drawn_from};
+
+use super::{Reader, Writer};
+use crate::slot::Taken;
+use piper_sides::read_call::ReadCall;
+use piper_sides::table::{Form, Purpose, ReadPlace, WritePlace};
+use piper_sides::write_call::WriteCall;
+use rand_core::utils::NextWord;
+use rand_pcg::Pcg32;
+use std::sync::Wait;
+
+impl<H: Wait + Clone + Drop> Reader<H> {
+    /// Empties the reader's slot behind the true look of a polling copy, unless the slot is known to be empty; then draws, and tells whether the copy yields.
+    pub(crate) fn take_own_and_draw(&mut self, call: ReadCall) -> (ReadCall, Option<Taken>, bool)
+        requires next { call.place ≡ ReadPlace.LookTake (Purpose.Copy (Form.Polling false)) }
+        ensures step { result.0 ≡ reader_is_true (Purpose.Copy (Form.Polling result.2)) }
+        ensures emptied { IsEmptied (arc_value self.old.slots).reader self.old.is_registered result.1 }
+        ensures draw { IsTrue result.2 ↔ DrawsYield self.old.rng }
+        ensures rng { self.new.rng ≡ drawn_from self.old.rng }
+        ensures slots { self.new.slots ≡ self.old.slots }
+        ensures end { self.new.end ≡ self.old.end }
+    {
+        let taken = if self.is_registered {
+            Some(self.slots.reader.take(&self.rt))
+        } else {
+            None
+        };
+        self.is_registered = false;
+        let is_drawn = draw(&mut self.rng);
+        (call.took_own_and_drew(is_drawn), taken, is_drawn)
+    }
+}
+
+impl<H: Wait + Clone + Drop> Writer<H> {
+    /// Empties the writer's slot behind the true look of a polling copy, unless the slot is known to be empty; then draws, and tells whether the copy yields.
+    pub(crate) fn take_own_and_draw(&mut self, call: WriteCall) -> (WriteCall, Option<Taken>, bool)
+        requires next { call.place ≡ WritePlace.LookTake (Purpose.Copy (Form.Polling false)) }
+        ensures step { result.0 ≡ writer_is_true (Purpose.Copy (Form.Polling result.2)) }
+        ensures emptied { IsEmptied (arc_value self.old.slots).writer self.old.is_registered result.1 }
+        ensures draw { IsTrue result.2 ↔ DrawsYield self.old.rng }
+        ensures rng { self.new.rng ≡ drawn_from self.old.rng }
+        ensures slots { self.new.slots ≡ self.old.slots }
+        ensures end { self.new.end ≡ self.old.end }
+    {
+        let taken = if self.is_registered {
+            Some(self.slots.writer.take(&self.rt))
+        } else {
+            None
+        };
+        self.is_registered = false;
+        let is_drawn = draw(&mut self.rng);
+        (call.took_own_and_drew(is_drawn), taken, is_drawn)
+    }
+}
+
+// Takes one word, and tells whether it is 0 modulo 100.
+fn draw(rng: &mut Pcg32) -> bool
+    ensures yields { IsTrue result ↔ DrawsYield rng.old }
+    ensures rest { rng.new ≡ drawn_from rng.old }
+{
+    rng.next_word() % 100 == 0
+}
