@@ -26,7 +26,9 @@ pub enum Inner<E> {
 }
 
 impl From<OutOfMemory> for PipeError {
-    ghost from_gives = { λ _ error. error ≡ PipeError.Memory };
+    ghost use Rattle.piper.specs.declared.error.PipeError.TheVariants.{Memory};
+
+    ghost from_gives = { λ _ error. error ≡ Memory };
 
     fn from(_error: OutOfMemory) -> PipeError {
         PipeError::Memory

@@ -4,7 +4,7 @@
 mod answers;
 mod copies;
 mod copying;
-pub mod error;
+mod error;
 mod handles;
 pub mod io;
 pub mod like;
@@ -13,6 +13,7 @@ mod reader;
 mod slot;
 mod writer;
 
+pub use error::{Inner, PipeError};
 pub use handles::{Reader, Writer, pipe};
 pub use owned::{OwnedReader, OwnedWriter};
 pub use piper_ring::{OutOfMemory, ReadEnd, ReadMark, WriteEnd, WriteMark, open_ring};

@@ -47,7 +47,7 @@ impl<H: Wait + Clone + Drop> Reader<H> {
         ensures kept { Keeps cx.old cx.new }
     {
         let mut dest = StdWrite::new(dest);
-        match self.drain_polling(cx, &mut dest) {
+        match self.drain_inner(cx, &mut dest) {
             Poll::Pending => Poll::Pending,
             Poll::Ready(Ok(count)) => Poll::Ready(Ok(count)),
             Poll::Ready(Err(Inner::Memory)) => Poll::Ready(Err(PipeError::Memory)),
@@ -76,7 +76,7 @@ impl<H: Wait + Clone + Drop> Reader<H> {
         ensures kept { Keeps cx.old cx.new }
     {
         let mut bytes = WriteBytes::new(dest);
-        match self.drain_polling(cx, &mut bytes) {
+        match self.drain_inner(cx, &mut bytes) {
             Poll::Pending => Poll::Pending,
             Poll::Ready(Ok(count)) => Poll::Ready(Ok(count)),
             Poll::Ready(Err(Inner::Memory)) => Poll::Ready(Err(OutOfMemory)),
@@ -84,8 +84,10 @@ impl<H: Wait + Clone + Drop> Reader<H> {
         }
     }
 
-    // A drain that waits: the look, the draw, and the rounds.
-    fn drain_polling<W: WriteLike>(
+    /// Moves known bytes into any destination, as `poll_drain` does into a writer.
+    ///
+    /// A failure is the destination's own error: what it took in the rounds before stays taken, and nothing else moved.
+    pub fn drain_inner<W: WriteLike>(
         &mut self,
         cx: &mut Context<'_>,
         dest: &mut W,

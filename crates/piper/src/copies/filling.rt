@@ -47,7 +47,7 @@ impl<H: Wait + Clone + Drop> Writer<H> {
         ensures kept { Keeps cx.old cx.new }
     {
         let mut source = StdRead::new(source);
-        match self.fill_polling(cx, &mut source) {
+        match self.fill_inner(cx, &mut source) {
             Poll::Pending => Poll::Pending,
             Poll::Ready(Ok(count)) => Poll::Ready(Ok(count)),
             Poll::Ready(Err(Inner::Memory)) => Poll::Ready(Err(PipeError::Memory)),
@@ -79,7 +79,7 @@ impl<H: Wait + Clone + Drop> Writer<H> {
         ensures kept { Keeps cx.old cx.new }
     {
         let mut source = ReadBytes::new(bytes);
-        match self.fill_polling(cx, &mut source) {
+        match self.fill_inner(cx, &mut source) {
             Poll::Pending => Poll::Pending,
             Poll::Ready(Ok(count)) => Poll::Ready(Ok(count)),
             Poll::Ready(Err(Inner::Memory)) => Poll::Ready(Err(OutOfMemory)),
@@ -87,8 +87,10 @@ impl<H: Wait + Clone + Drop> Writer<H> {
         }
     }
 
-    // A fill that waits: the look, the draw, and the rounds. Nothing is lent afterwards.
-    fn fill_polling<R: ReadLike>(
+    /// Publishes bytes that any source gives, as `poll_fill` does those of a reader.
+    ///
+    /// A failure is the source's own error: what it gave in the rounds before stays published, and nothing else moved.
+    pub fn fill_inner<R: ReadLike>(
         &mut self,
         cx: &mut Context<'_>,
         source: &mut R,
@@ -109,6 +111,7 @@ impl<H: Wait + Clone + Drop> Writer<H> {
         told
     }
 
+    // The look, the draw, and the rounds.
     fn fill_looking<R: ReadLike>(
         &mut self,
         cx: &mut Context<'_>,

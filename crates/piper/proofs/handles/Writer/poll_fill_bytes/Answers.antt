@@ -14,6 +14,6 @@ returns-in-Ready-Ok-clause-full g c = λ zero some.
     let none : c.in-Ready-Ok.count ≡ 0 = cc in
     elim filled.most [
       | inl (inl full) ↦ absurd (omega (arith, none, full.0))
-      | inl (inr dry) ↦ absurd (omega (arith, none, some, dry, filled.copied.1, ap length (sym c.new-source.ensures ∙ filled.copied.0), length-append (filled.published ++ filled.lost) c.fill_polling.new.source.rest.now))
+      | inl (inr dry) ↦ absurd (omega (arith, none, some, dry, filled.copied.1, ap length (sym c.new-source.ensures ∙ filled.copied.0), length-append (filled.published ++ filled.lost) c.fill_inner.new.source.rest.now))
       | inr saw ↦ saw
     ]

@@ -2,7 +2,7 @@
 use Rattle.std.proofs.Common.{rules, ◌≡◌, refl}
 use Rattle.futures.specs.declared.task.Poll.TheVariants.{Pending}
 use Rattle.piper.proofs.LookingOut.{drains_none}
-use Rattle.piper.proofs.handles.Reader.drain_polling.Goals as goal
+use Rattle.piper.proofs.handles.Reader.drain_inner.Goals as goal
 
 pub returns-then-yields-clause-drained : goal.returns-then-yields-clause-drained
 returns-then-yields-clause-drained g c =
