@@ -4,6 +4,8 @@
 #[cfg(test)]
 mod compare;
 #[cfg(test)]
+mod copies;
+#[cfg(test)]
 mod first_calls;
 #[cfg(test)]
 mod meeting;
