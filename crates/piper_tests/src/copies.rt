@@ -38,7 +38,7 @@ fn told_with_error(polled: Poll<Result<usize, PipeError>>) -> Moved {
 }
 
 /// Ends the test where a copy doesn't answer as it must.
-fn moved(rt: &impl Abort, what: &str, found: Moved, want: Moved) {
+fn answered(rt: &impl Abort, what: &str, found: Moved, want: Moved) {
     assert!(rt; found == want, "{what}: {found:?} in place of {want:?}");
 }
 
@@ -83,26 +83,26 @@ fn a_copy_waits_until_the_other_side_moves(rt: HostRuntime) -> Result<(), Fail> 
     let task = MockTask::new(&rt)?;
     let (mut reader, mut writer) = pipe(&rt, rt.alloc(), 4, 1)?;
     let mut dest = [0; 8];
-    moved(
+    answered(
         &rt,
         "an empty pipe",
         drain_bytes(&task, &mut reader, &mut dest),
         Moved::Pending,
     );
-    moved(
+    answered(
         &rt,
         "six bytes",
         fill_bytes(&task, &mut writer, b"abcdef"),
         Moved::Bytes(4),
     );
     answer(&rt, "woken", task.is_woken(), true);
-    moved(
+    answered(
         &rt,
         "a full pipe",
         fill_bytes(&task, &mut writer, b"ef"),
         Moved::Pending,
     );
-    moved(
+    answered(
         &rt,
         "four bytes",
         drain_bytes(&task, &mut reader, &mut dest),
@@ -115,7 +115,7 @@ fn a_copy_waits_until_the_other_side_moves(rt: HostRuntime) -> Result<(), Fail> 
         true,
     );
     writer.drop();
-    moved(
+    answered(
         &rt,
         "the end",
         drain_bytes(&task, &mut reader, &mut dest),
@@ -132,9 +132,9 @@ fn a_copy_takes_from_a_reader_and_gives_to_a_writer(rt: HostRuntime) -> Result<(
     let mut source = b"hello".as_slice();
     let mut dest = Vec::new(rt.alloc());
     let found = told_with_error(task.enter(|cx| writer.poll_fill(cx, &mut source)));
-    moved(&rt, "a source of five bytes", found, Moved::Bytes(5));
+    answered(&rt, "a source of five bytes", found, Moved::Bytes(5));
     let found = told_with_error(task.enter(|cx| reader.poll_drain(cx, &mut dest)));
-    moved(&rt, "a destination", found, Moved::Bytes(5));
+    answered(&rt, "a destination", found, Moved::Bytes(5));
     answer(
         &rt,
         "the bytes",
@@ -153,7 +153,7 @@ fn a_reader_that_fails_is_told_and_its_earlier_bytes_stay(rt: HostRuntime) -> Re
         let (mut reader, mut writer) = pipe(&rt, rt.alloc(), 8, 1)?;
         let mut source = Failing { left };
         let found = told_with_error(task.enter(|cx| writer.poll_fill(cx, &mut source)));
-        moved(&rt, "a source that fails", found, Moved::Broken);
+        answered(&rt, "a source that fails", found, Moved::Broken);
         drain(&rt, &mut reader, 8, &[7, 7, 7, 7, 7][..want]);
         fill(&rt, &mut writer, b"ab", 2);
         drain(&rt, &mut reader, 8, b"ab");
