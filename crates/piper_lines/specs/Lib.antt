@@ -1,0 +1,4 @@
+pub mod Line
+pub mod LineAnswers
+pub mod LineReader
+pub mod Moves
