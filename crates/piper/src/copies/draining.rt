@@ -1,17 +1,17 @@
 //! Copies out of the pipe.
-ghost use Rattle.std.specs.Prelude.{◌≡◌, ◌<◌, ◌≤◌, ◌++◌, ◌⊎◌, [], length, take, drop, min, IfOk, IfErr, IsSome, None, Ok, true, false, ⊤};
+ghost use Rattle.std.specs.Prelude.{◌≡◌, ◌<◌, ◌≤◌, ◌++◌, ◌⊎◌, [], length, take, drop, IfOk, IfErr, IsSome, None, Ok, true, false, ⊤};
 ghost use Rattle.futures.specs.Task.{Covers, Keeps};
 ghost use Rattle.futures.specs.Poll.{OnPending};
 ghost use Rattle.piper_ring.specs.ReadView.{in_one_piece};
-ghost use Rattle.piper.specs.Contexts.{IfGiven};
+ghost use Rattle.piper.specs.Contexts.{IfGiven, Arms, LacksWaker};
 ghost use Rattle.piper.specs.Copies.{ReaderCopied};
 ghost use Rattle.piper.specs.CopyAnswers.{OnMemory, CountsFailure, IsAtOnce, inner_of};
 ghost use Rattle.piper.specs.Draws.{Draws, Undrawn};
-ghost use Rattle.piper.specs.Drains.{Drains, DrainRounds, FoundNoByte, StaysKnown, found_len};
+ghost use Rattle.piper.specs.Drains.{Drains, DrainsInto, DrainRounds, EndIsSeen, EndIsUnseen, CountsWhatFits, FoundNoByte, StaysKnown, found_len};
 ghost use Rattle.piper.specs.Ends.{ReaderIsUpToDate};
-ghost use Rattle.piper.specs.Like.{Counts, passed, appends_to};
+ghost use Rattle.piper.specs.Like.{Counts, passed};
 ghost use Rattle.piper.specs.Looks.{ReaderLooked, OnRefused};
-ghost use Rattle.piper.specs.Polls.{OnReadyOk, IfReadyOk, Reads};
+ghost use Rattle.piper.specs.Polls.{Reads};
 
 use super::copied;
 use crate::answers::read_wake;
@@ -37,10 +37,12 @@ impl<H: Wait + Clone + Drop> Reader<H> {
         cx: &mut Context<'_>,
         dest: &mut W,
     ) -> Poll<Result<usize, PipeError>>
-        ensures drained { Drains (appends_to W.contents) (λ _. ⊤) (λ _ _ _. ⊤) (inner_of result) self.old.end self.new.end dest.old dest.new }
-        ensures ended { OnReadyOk result (found_len self.old.end self.new.end ≡ 0 → self.new.end.saw ≡ true) }
-        ensures waits { OnPending result (found_len self.old.end self.new.end ≡ 0 → self.new.end.saw ≡ false) }
-        ensures draws { Draws (0 < found_len self.old.end self.new.end) result self.old.rng self.new.rng }
+        ensures drained { DrainsInto W.contents (inner_of result)
+            self.old.end self.new.end dest.old dest.new }
+        ensures ended { EndIsSeen result self.old.end self.new.end }
+        ensures waits { EndIsUnseen result self.old.end self.new.end }
+        ensures draws { Draws (0 < found_len self.old.end self.new.end) result
+            self.old.rng self.new.rng }
         ensures refused { OnMemory (inner_of result) (cx.new.lacks_waker ≡ true) }
         ensures slots { self.new.slots ≡ self.old.slots }
         ensures covered { OnPending result (Covers cx.new (λ s. s ≡ read_source self.old)) }
@@ -63,12 +65,14 @@ impl<H: Wait + Clone + Drop> Reader<H> {
         cx: &mut Context<'_>,
         dest: &mut [u8],
     ) -> Poll<Result<usize, OutOfMemory>>
-        ensures read { Reads result dest.old dest.new self.old.end.taken self.new.end.taken self.new.end.saw }
-        ensures count { IfReadyOk result (λ n. n ≡ min (length dest.old) (found_len self.old.end self.new.end)) }
+        ensures read { Reads result dest.old dest.new
+            self.old.end.taken self.new.end.taken self.new.end.saw }
+        ensures count { CountsWhatFits result (length dest.old) self.old.end self.new.end }
         ensures known { 0 < length self.old.end.known → StaysKnown self.old.end self.new.end }
         ensures fresh { self.old.end.known ≡ [] → ReaderIsUpToDate self.new.end }
-        ensures waits { OnPending result (found_len self.old.end self.new.end ≡ 0 → self.new.end.saw ≡ false) }
-        ensures draws { Draws (0 < found_len self.old.end self.new.end) result self.old.rng self.new.rng }
+        ensures waits { EndIsUnseen result self.old.end self.new.end }
+        ensures draws { Draws (0 < found_len self.old.end self.new.end) result
+            self.old.rng self.new.rng }
         ensures refused { OnRefused result (cx.new.lacks_waker ≡ true) }
         ensures end { ReaderCopied self.old.end self.new.end }
         ensures slots { self.new.slots ≡ self.old.slots }
@@ -89,7 +93,8 @@ impl<H: Wait + Clone + Drop> Reader<H> {
         ensures count { result ≤ length dest.old }
         ensures rest { drop result dest.new ≡ drop result dest.old }
         ensures taken { self.new.end.taken ≡ self.old.end.taken ++ take result dest.new }
-        ensures known { 0 < length self.old.end.known → take result dest.new ++ self.new.end.known ≡ self.old.end.known }
+        ensures known { 0 < length self.old.end.known →
+            take result dest.new ++ self.new.end.known ≡ self.old.end.known }
         ensures most { result < length dest.old → self.new.end.known ≡ [] }
         ensures fresh { self.old.end.known ≡ [] → ReaderIsUpToDate self.new.end }
         ensures end { ReaderCopied self.old.end self.new.end }
@@ -112,16 +117,19 @@ impl<H: Wait + Clone + Drop> Reader<H> {
         cx: Option<&mut Context<'_>>,
         dest: &mut W,
     ) -> Poll<Result<usize, Inner<W::Error>>>
-        ensures drained { Drains W.takes W.is_full W.fails result self.old.end self.new.end dest.old dest.new }
+        ensures drained { Drains W.takes W.is_full W.fails result
+            self.old.end self.new.end dest.old dest.new }
         ensures failures { CountsFailure result (W.failures dest.old) (W.failures dest.new) }
-        ensures ended { OnReadyOk result (found_len self.old.end self.new.end ≡ 0 → self.new.end.saw ≡ true) }
-        ensures waits { OnPending result (found_len self.old.end self.new.end ≡ 0 → self.new.end.saw ≡ false) }
-        ensures draws { IsSome cx.entry → Draws (0 < found_len self.old.end self.new.end) result self.old.rng self.new.rng }
-        ensures undrawn { cx.entry ≡ None → Undrawn (0 < found_len self.old.end self.new.end) result self.old.rng self.new.rng }
+        ensures ended { EndIsSeen result self.old.end self.new.end }
+        ensures waits { EndIsUnseen result self.old.end self.new.end }
+        ensures draws { IsSome cx.entry →
+            Draws (0 < found_len self.old.end self.new.end) result self.old.rng self.new.rng }
+        ensures undrawn { cx.entry ≡ None →
+            Undrawn (0 < found_len self.old.end self.new.end) result self.old.rng self.new.rng }
         ensures granted { cx.entry ≡ None → OnMemory result ⊥ }
         ensures slots { self.new.slots ≡ self.old.slots }
-        ensures refused { IfGiven cx.entry cx.exit (λ _ left. OnMemory result (left.lacks_waker ≡ true)) }
-        ensures covered { IfGiven cx.entry cx.exit (λ _ left. OnPending result (Covers left (λ s. s ≡ read_source self.old))) }
+        ensures refused { IfGiven cx.entry cx.exit (LacksWaker result) }
+        ensures covered { IfGiven cx.entry cx.exit (Arms result (read_source self.old)) }
         ensures kept { IfGiven cx.entry cx.exit Keeps }
     {
         match cx {
@@ -136,11 +144,13 @@ impl<H: Wait + Clone + Drop> Reader<H> {
         cx: &mut Context<'_>,
         dest: &mut W,
     ) -> Poll<Result<usize, Inner<W::Error>>>
-        ensures drained { Drains W.takes W.is_full W.fails result self.old.end self.new.end dest.old dest.new }
+        ensures drained { Drains W.takes W.is_full W.fails result
+            self.old.end self.new.end dest.old dest.new }
         ensures failures { CountsFailure result (W.failures dest.old) (W.failures dest.new) }
-        ensures ended { OnReadyOk result (found_len self.old.end self.new.end ≡ 0 → self.new.end.saw ≡ true) }
-        ensures waits { OnPending result (found_len self.old.end self.new.end ≡ 0 → self.new.end.saw ≡ false) }
-        ensures draws { Draws (0 < found_len self.old.end self.new.end) result self.old.rng self.new.rng }
+        ensures ended { EndIsSeen result self.old.end self.new.end }
+        ensures waits { EndIsUnseen result self.old.end self.new.end }
+        ensures draws { Draws (0 < found_len self.old.end self.new.end) result
+            self.old.rng self.new.rng }
         ensures refused { OnMemory result (cx.new.lacks_waker ≡ true) }
         ensures slots { self.new.slots ≡ self.old.slots }
         ensures covered { OnPending result (Covers cx.new (λ s. s ≡ read_source self.old)) }
@@ -163,10 +173,12 @@ impl<H: Wait + Clone + Drop> Reader<H> {
 
     // The drain without a context: the look, and the rounds.
     fn drain_at_once<W: WriteLike>(&mut self, dest: &mut W) -> Poll<Result<usize, Inner<W::Error>>>
-        ensures drained { Drains W.takes W.is_full W.fails result self.old.end self.new.end dest.old dest.new }
+        ensures drained { Drains W.takes W.is_full W.fails result
+            self.old.end self.new.end dest.old dest.new }
         ensures failures { CountsFailure result (W.failures dest.old) (W.failures dest.new) }
-        ensures ended { OnReadyOk result (found_len self.old.end self.new.end ≡ 0 → self.new.end.saw ≡ true) }
-        ensures waits { OnPending result ((found_len self.old.end self.new.end ≡ 0) × (self.new.end.saw ≡ false)) }
+        ensures ended { EndIsSeen result self.old.end self.new.end }
+        ensures waits { OnPending result (found_len self.old.end self.new.end ≡ 0) }
+        ensures open { OnPending result (self.new.end.saw ≡ false) }
         ensures granted { OnMemory result ⊥ }
         ensures rest { SameReader self.old self.new }
     {
@@ -181,11 +193,13 @@ impl<H: Wait + Clone + Drop> Reader<H> {
         &mut self,
         cx: &mut Context<'_>,
     ) -> Result<ReadCall, Poll<Result<usize, Inner<E>>>>
-        ensures found { IfOk result (λ call. call.place ≡ ReadPlace.LookTake (Purpose.Copy (Form.Polling false))) }
+        ensures found { IfOk result (λ call.
+            call.place ≡ ReadPlace.LookTake (Purpose.Copy (Form.Polling false))) }
         ensures some { IfOk result (λ _. 0 < length self.new.end.known) }
         ensures none { IfErr result (λ told. FoundNoByte told self.new.end) }
         ensures refused { IfErr result (λ told. OnMemory told (cx.new.lacks_waker ≡ true)) }
-        ensures covered { IfErr result (λ told. OnPending told (Covers cx.new (λ s. s ≡ read_source self.old))) }
+        ensures covered { IfErr result (λ told.
+            OnPending told (Covers cx.new (λ s. s ≡ read_source self.old))) }
         ensures looked { ReaderLooked self.old.end self.new.end }
         ensures rest { SameReader self.old self.new }
         ensures kept { Keeps cx.old cx.new }
@@ -247,7 +261,8 @@ impl<H: Wait + Clone + Drop> Reader<H> {
         dest: &mut W,
     ) -> Poll<Result<usize, Inner<W::Error>>>
         requires { (form : Form) × (call.place ≡ ReadPlace.CallDestination form 0) }
-        ensures drained { DrainRounds W.takes W.is_full W.fails result self.old.end self.new.end dest.old dest.new }
+        ensures drained { DrainRounds W.takes W.is_full W.fails result
+            self.old.end self.new.end dest.old dest.new }
         ensures failures { CountsFailure result (W.failures dest.old) (W.failures dest.new) }
         ensures ready { IsAtOnce result }
         ensures rest { SameReader self.old self.new }

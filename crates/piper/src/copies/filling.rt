@@ -2,14 +2,13 @@
 ghost use Rattle.std.specs.Prelude.{◌≡◌, ℕ, ◌<◌, ◌≤◌, ◌++◌, ◌⊎◌, [], length, take, IfOk, IfErr, OnOk, IsSome, None, Ok, true, false, ⊤};
 ghost use Rattle.futures.specs.Task.{Covers, Keeps};
 ghost use Rattle.futures.specs.Poll.{OnPending};
-ghost use Rattle.std.specs.Io.KnownBytes.{IsAtEnd};
-ghost use Rattle.piper.specs.Contexts.{IfGiven};
+ghost use Rattle.piper.specs.Contexts.{IfGiven, Arms, LacksWaker};
 ghost use Rattle.piper.specs.Copies.{IsReplaced, WriterCopied};
 ghost use Rattle.piper.specs.CopyAnswers.{OnMemory, CountsFailure, IsAtOnce, inner_of, inner_of_bytes};
 ghost use Rattle.piper.specs.Draws.{Draws, Undrawn};
 ghost use Rattle.piper.specs.Ends.{WriterIsUpToDate};
-ghost use Rattle.piper.specs.Fills.{Fills, FillRounds, FoundNoRoom, FoundRoom, OnNoCount, WriterFilled, WriterRelent};
-ghost use Rattle.piper.specs.Like.{Counts, passed, consumes_of};
+ghost use Rattle.piper.specs.Fills.{Fills, FillsFrom, FillRounds, FoundNoRoom, FoundRoom, OnNoCount, WriterFilled, WriterRelent};
+ghost use Rattle.piper.specs.Like.{Counts, passed};
 ghost use Rattle.piper.specs.Looks.{WriterLooked, OnRefused};
 ghost use Rattle.piper.specs.Polls.{IfReadyOk, Writes};
 
@@ -37,10 +36,12 @@ impl<H: Wait + Clone + Drop> Writer<H> {
         cx: &mut Context<'_>,
         source: &mut R,
     ) -> Poll<Result<usize, PipeError>>
-        ensures filled { Fills (consumes_of R.remaining) (λ t. IsAtEnd (R.remaining t)) (λ _ _ _. ⊤) (inner_of result) self.old.end self.new.end source.old source.new }
+        ensures filled { FillsFrom R.remaining (inner_of result)
+            self.old.end self.new.end source.old source.new }
         ensures over { self.old.end.saw ≡ true → result ≡ Poll.Ready (Ok 0) }
         ensures open { OnNoCount (inner_of result) (self.new.end.saw ≡ false) }
-        ensures draws { Draws (FoundRoom (inner_of result) self.new.end) result self.old.rng self.new.rng }
+        ensures draws { Draws (FoundRoom (inner_of result) self.new.end) result
+            self.old.rng self.new.rng }
         ensures lent { self.new.end.lent ≡ [] }
         ensures refused { OnMemory (inner_of result) (cx.new.lacks_waker ≡ true) }
         ensures slots { self.new.slots ≡ self.old.slots }
@@ -64,14 +65,19 @@ impl<H: Wait + Clone + Drop> Writer<H> {
         cx: &mut Context<'_>,
         bytes: &[u8],
     ) -> Poll<Result<usize, OutOfMemory>>
-        ensures written { Writes result bytes.now self.old.end.sent self.new.end.sent self.new.end.saw }
-        ensures full { result ≡ Poll.Ready (Ok 0) → 0 < length bytes.now → self.new.end.saw ≡ true }
-        ensures most { IfReadyOk result (λ n. n < length bytes.now → self.new.end.saw ≡ false → self.new.end.room ≡ 0) }
+        ensures written { Writes result bytes.now
+            self.old.end.sent self.new.end.sent self.new.end.saw }
+        ensures full { result ≡ Poll.Ready (Ok 0) →
+            0 < length bytes.now → self.new.end.saw ≡ true }
+        ensures most { IfReadyOk result (λ n.
+            n < length bytes.now → self.new.end.saw ≡ false → self.new.end.room ≡ 0) }
         ensures room { 0 < self.old.end.room → IsReplaced self.old.end self.new.end }
-        ensures fresh { self.old.end.room ≡ 0 → self.new.end.saw ≡ false → WriterIsUpToDate self.new.end }
+        ensures fresh { self.old.end.room ≡ 0 →
+            self.new.end.saw ≡ false → WriterIsUpToDate self.new.end }
         ensures over { self.old.end.saw ≡ true → result ≡ Poll.Ready (Ok 0) }
         ensures open { OnNoCount result (self.new.end.saw ≡ false) }
-        ensures draws { Draws (FoundRoom (inner_of_bytes result) self.new.end) result self.old.rng self.new.rng }
+        ensures draws { Draws (FoundRoom (inner_of_bytes result) self.new.end) result
+            self.old.rng self.new.rng }
         ensures lent { self.new.end.lent ≡ [] }
         ensures refused { OnRefused result (cx.new.lacks_waker ≡ true) }
         ensures end { WriterFilled self.old.end self.new.end }
@@ -93,12 +99,16 @@ impl<H: Wait + Clone + Drop> Writer<H> {
     /// A closed pipe takes none. Where the pipe is seen closed only once some bytes were taken, the last of them, at most one round, are counted and not published.
     pub fn try_fill(&mut self, bytes: &[u8]) -> usize
         ensures count { result ≤ length bytes.now }
-        ensures sent { self.new.end.saw ≡ false → self.new.end.sent ≡ self.old.end.sent ++ take result bytes.now }
-        ensures front { (m : ℕ) × (m ≤ result) × (self.new.end.sent ≡ self.old.end.sent ++ take m bytes.now) }
+        ensures sent { self.new.end.saw ≡ false →
+            self.new.end.sent ≡ self.old.end.sent ++ take result bytes.now }
+        ensures front { (m : ℕ) × (m ≤ result)
+            × (self.new.end.sent ≡ self.old.end.sent ++ take m bytes.now) }
         ensures room { 0 < self.old.end.room → IsReplaced self.old.end self.new.end }
-        ensures most { result < length bytes.now → self.new.end.saw ≡ false → self.new.end.room ≡ 0 }
+        ensures most { result < length bytes.now →
+            self.new.end.saw ≡ false → self.new.end.room ≡ 0 }
         ensures closed { self.old.end.saw ≡ true → result ≡ 0 }
-        ensures fresh { self.old.end.room ≡ 0 → self.new.end.saw ≡ false → WriterIsUpToDate self.new.end }
+        ensures fresh { self.old.end.room ≡ 0 →
+            self.new.end.saw ≡ false → WriterIsUpToDate self.new.end }
         ensures end { WriterCopied self.old.end self.new.end }
         ensures handle { SameWriter self.old self.new }
     {
@@ -119,17 +129,20 @@ impl<H: Wait + Clone + Drop> Writer<H> {
         cx: Option<&mut Context<'_>>,
         source: &mut R,
     ) -> Poll<Result<usize, Inner<R::Error>>>
-        ensures filled { Fills R.gives R.is_dry R.fails result self.old.end self.new.end source.old source.new }
+        ensures filled { Fills R.gives R.is_dry R.fails result
+            self.old.end self.new.end source.old source.new }
         ensures failures { CountsFailure result (R.failures source.old) (R.failures source.new) }
         ensures over { self.old.end.saw ≡ true → result ≡ Poll.Ready (Ok 0) }
         ensures open { OnNoCount result (self.new.end.saw ≡ false) }
-        ensures draws { IsSome cx.entry → Draws (FoundRoom result self.new.end) result self.old.rng self.new.rng }
-        ensures undrawn { cx.entry ≡ None → Undrawn (FoundRoom result self.new.end) result self.old.rng self.new.rng }
+        ensures draws { IsSome cx.entry →
+            Draws (FoundRoom result self.new.end) result self.old.rng self.new.rng }
+        ensures undrawn { cx.entry ≡ None →
+            Undrawn (FoundRoom result self.new.end) result self.old.rng self.new.rng }
         ensures granted { cx.entry ≡ None → OnMemory result ⊥ }
         ensures lent { self.new.end.lent ≡ [] }
         ensures slots { self.new.slots ≡ self.old.slots }
-        ensures refused { IfGiven cx.entry cx.exit (λ _ left. OnMemory result (left.lacks_waker ≡ true)) }
-        ensures covered { IfGiven cx.entry cx.exit (λ _ left. OnPending result (Covers left (λ s. s ≡ write_source self.old))) }
+        ensures refused { IfGiven cx.entry cx.exit (LacksWaker result) }
+        ensures covered { IfGiven cx.entry cx.exit (Arms result (write_source self.old)) }
         ensures kept { IfGiven cx.entry cx.exit Keeps }
     {
         match cx {
@@ -152,7 +165,8 @@ impl<H: Wait + Clone + Drop> Writer<H> {
         cx: &mut Context<'_>,
         source: &mut R,
     ) -> Poll<Result<usize, Inner<R::Error>>>
-        ensures filled { Fills R.gives R.is_dry R.fails result self.old.end self.new.end source.old source.new }
+        ensures filled { Fills R.gives R.is_dry R.fails result
+            self.old.end self.new.end source.old source.new }
         ensures failures { CountsFailure result (R.failures source.old) (R.failures source.new) }
         ensures over { self.old.end.saw ≡ true → result ≡ Poll.Ready (Ok 0) }
         ensures open { OnNoCount result (self.new.end.saw ≡ false) }
@@ -179,7 +193,8 @@ impl<H: Wait + Clone + Drop> Writer<H> {
 
     // The fill without a context: the look, and the rounds.
     fn fill_at_once<R: ReadLike>(&mut self, source: &mut R) -> Poll<Result<usize, Inner<R::Error>>>
-        ensures filled { Fills R.gives R.is_dry R.fails result self.old.end self.new.end source.old source.new }
+        ensures filled { Fills R.gives R.is_dry R.fails result
+            self.old.end self.new.end source.old source.new }
         ensures failures { CountsFailure result (R.failures source.old) (R.failures source.new) }
         ensures over { self.old.end.saw ≡ true → result ≡ Poll.Ready (Ok 0) }
         ensures open { OnNoCount result (self.new.end.saw ≡ false) }
@@ -198,12 +213,15 @@ impl<H: Wait + Clone + Drop> Writer<H> {
         &mut self,
         cx: &mut Context<'_>,
     ) -> Result<WriteCall, Poll<Result<usize, Inner<E>>>>
-        ensures found { IfOk result (λ call. call.place ≡ WritePlace.LookTake (Purpose.Copy (Form.Polling false))) }
+        ensures found { IfOk result (λ call.
+            call.place ≡ WritePlace.LookTake (Purpose.Copy (Form.Polling false))) }
         ensures some { OnOk result (0 < self.new.end.room) }
-        ensures is_open { OnOk result ((self.new.end.shut ≡ false) × (self.new.end.saw ≡ false)) }
+        ensures is_open { OnOk result (
+            (self.new.end.shut ≡ false) × (self.new.end.saw ≡ false)) }
         ensures none { IfErr result (λ told. FoundNoRoom told self.new.end) }
         ensures refused { IfErr result (λ told. OnMemory told (cx.new.lacks_waker ≡ true)) }
-        ensures covered { IfErr result (λ told. OnPending told (Covers cx.new (λ s. s ≡ write_source self.old))) }
+        ensures covered { IfErr result (λ told.
+            OnPending told (Covers cx.new (λ s. s ≡ write_source self.old))) }
         ensures looked { WriterLooked self.old.end self.new.end }
         ensures rest { SameWriter self.old self.new }
         ensures kept { Keeps cx.old cx.new }
@@ -236,7 +254,8 @@ impl<H: Wait + Clone + Drop> Writer<H> {
     fn look_at_once<E>(&mut self) -> Result<WriteCall, Poll<Result<usize, Inner<E>>>>
         ensures found { IfOk result (λ call. call.place ≡ WritePlace.CallSource Form.Try 0) }
         ensures some { OnOk result (0 < self.new.end.room) }
-        ensures is_open { OnOk result ((self.new.end.shut ≡ false) × (self.new.end.saw ≡ false)) }
+        ensures is_open { OnOk result (
+            (self.new.end.shut ≡ false) × (self.new.end.saw ≡ false)) }
         ensures none { IfErr result (λ told. FoundNoRoom told self.new.end) }
         ensures granted { IfErr result (λ told. OnMemory told ⊥) }
         ensures looked { WriterLooked self.old.end self.new.end }
@@ -275,7 +294,8 @@ impl<H: Wait + Clone + Drop> Writer<H> {
         requires place { (form : Form) × (call.place ≡ WritePlace.CallSource form 0) }
         requires is_open { (self.old.end.shut ≡ false) × (self.old.end.saw ≡ false) }
         requires some { 0 < self.old.end.room }
-        ensures filled { FillRounds R.gives R.is_dry R.fails result self.old.end self.new.end source.old source.new }
+        ensures filled { FillRounds R.gives R.is_dry R.fails result
+            self.old.end self.new.end source.old source.new }
         ensures failures { CountsFailure result (R.failures source.old) (R.failures source.new) }
         ensures open { OnNoCount result (self.new.end.saw ≡ false) }
         ensures found { FoundRoom result self.new.end }
