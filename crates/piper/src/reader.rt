@@ -90,6 +90,7 @@ impl<H: Wait + Clone + Drop> Reader<H> {
     }
 
     // The look of a poll has found a byte.
+    #[inline(always)]
     fn found(&mut self, call: ReadCall) -> Poll<Result<bool, OutOfMemory>>
         requires { call.place ≡ ReadPlace.LookTake Purpose.Poll }
         ensures answer { result ≡ Poll.Ready (Ok true) }
@@ -153,6 +154,7 @@ impl<H: Wait + Clone + Drop> Reader<H> {
     }
 
     // Moves known bytes in rounds, each in one piece, until none is known or the slice is full.
+    #[inline(always)]
     fn drain_rounds(&mut self, call: ReadCall, dest: &mut [u8]) -> usize
         requires { call.place ≡ ReadPlace.CallDestination Form.Try 0 }
         ensures moved { Drained result self.old.end dest.old dest.new self.new.end }

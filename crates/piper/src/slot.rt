@@ -55,6 +55,7 @@ impl Slot {
     }
 
     /// Empties the slot. Where it is empty that is one load, and no lock is taken.
+    #[inline(always)]
     pub fn take(&self, rt: &impl Wait) -> Taken
         ensures { IsFrom self.now result }
     {
@@ -72,10 +73,19 @@ impl Slot {
     }
 
     // Takes out what stands there. An empty slot is not locked.
+    #[inline(always)]
     fn empty(&self, rt: &impl Wait) -> Option<Waker> {
-        if !self.is_filled.load(SeqCst) {
-            return None;
+        if self.is_filled.load(SeqCst) {
+            self.take_out(rt)
+        } else {
+            None
         }
+    }
+
+    // The same of a slot in which a waker stood just now. It stands apart, out of the way of a pipe that flows.
+    #[cold]
+    #[inline(never)]
+    fn take_out(&self, rt: &impl Wait) -> Option<Waker> {
         let mut state = self.state.lock(rt);
         self.is_filled.store(false, SeqCst);
         state.take()

@@ -91,6 +91,7 @@ impl<H: Wait + Clone + Drop> Writer<H> {
     }
 
     // The look of a poll has found room.
+    #[inline(always)]
     fn found(&mut self, call: WriteCall) -> Poll<Result<bool, OutOfMemory>>
         requires { call.place ≡ WritePlace.LookTake Purpose.Poll }
         ensures answer { result ≡ Poll.Ready (Ok true) }
@@ -155,6 +156,7 @@ impl<H: Wait + Clone + Drop> Writer<H> {
     }
 
     // Publishes bytes in rounds, each in one piece, until no room is known, all were published, or the pipe is seen closed.
+    #[inline(always)]
     fn fill_rounds(&mut self, call: WriteCall, bytes: &[u8]) -> usize
         requires place { call.place ≡ WritePlace.CallSource Form.Try 0 }
         requires is_open { (self.old.end.shut ≡ false) × (self.old.end.saw ≡ false) }
