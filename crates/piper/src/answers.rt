@@ -15,6 +15,7 @@ use piper_sides::table::Action;
 use piper_sides::write_call::WriteCall;
 
 /// What a poll answers.
+#[inline(always)]
 pub(crate) fn polled(answer: Answer) -> Poll<Result<bool, OutOfMemory>>
     requires { (p : Polled Bool) × (answer ≡ Answer.Poll p) }
     ensures { result ≡ poll_of answer }
@@ -28,6 +29,7 @@ pub(crate) fn polled(answer: Answer) -> Poll<Result<bool, OutOfMemory>>
 }
 
 /// Calls the waker that the reader took, if there was one.
+#[inline(always)]
 pub(crate) fn read_wake(call: ReadCall, taken: Taken) -> ReadCall
     requires next { found_in taken ≡ true → read_action call.place ≡ Action.Wake }
     ensures { result ≡ read_woken (found_in taken) call }
@@ -40,6 +42,7 @@ pub(crate) fn read_wake(call: ReadCall, taken: Taken) -> ReadCall
 }
 
 /// Calls the waker that the writer took, if there was one.
+#[inline(always)]
 pub(crate) fn write_wake(call: WriteCall, taken: Taken) -> WriteCall
     requires next { found_in taken ≡ true → write_action call.place ≡ Action.Wake }
     ensures { result ≡ write_woken (found_in taken) call }

@@ -88,6 +88,7 @@ impl<H: Wait + Clone + Drop> Reader<H> {
     }
 
     // The look of a poll has found a byte.
+    #[inline(always)]
     fn found(&mut self, call: ReadCall) -> Poll<Result<bool, OutOfMemory>>
         requires { call.place ≡ ReadPlace.LookTake Purpose.Poll }
         ensures answer { result ≡ Poll.Ready (Ok true) }

@@ -6,12 +6,18 @@ use futures::task::{Context, Poll, Source, Waker};
 use piper_sides::memory::OutOfMemory;
 use piper_sides::slot::SlotState;
 use std::snapshot::Snapshot;
+use std::sync::atomic::AtomicBool;
+use std::sync::atomic::Ordering::SeqCst;
 use std::sync::{Mutex, Wait};
 
 /// At most one waker, behind a lock. A waker is called outside the lock.
+///
+/// No wake is lost where the waking side stores what it has to tell and then takes, and the waiting side registers and then looks at that once more, both by sequentially consistent accesses: then the look finds what was stored, or the take finds the waker.
 #[derive(Drop)]
 pub struct Slot {
     state: Mutex<SlotState<Waker>>,
+    /// Whether a waker stands there. It is changed under the lock alone, and read without it.
+    is_filled: AtomicBool,
     source: Source,
 }
 
@@ -28,6 +34,7 @@ impl Slot {
     pub fn new() -> Slot {
         Slot {
             state: Mutex::new(SlotState::new()),
+            is_filled: AtomicBool::new(false),
             source: Source::new(),
         }
     }
@@ -38,23 +45,50 @@ impl Slot {
         ensures refused { OnErr result (cx.new.lacks_waker ≡ true) }
         ensures kept { Keeps cx.old cx.new }
     {
-        let mut held = self.state.lock(rt).take();
+        let mut held = self.empty(rt);
         let _pending: Poll<()> = cx.register(&self.source, &mut held);
         let Some(waker) = held else {
             return Err(OutOfMemory);
         };
-        let _before = self.state.lock(rt).put(waker);
+        let _before = self.fill(rt, waker);
         Ok(())
     }
 
-    /// Empties the slot.
+    /// Empties the slot. Where it is empty that is one load, and no lock is taken.
+    #[inline(always)]
     pub fn take(&self, rt: &impl Wait) -> Taken
         ensures { IsFrom self.now result }
     {
         Taken {
-            waker: self.state.lock(rt).take(),
+            waker: self.empty(rt),
             slot: Snapshot::of(self),
         }
+    }
+
+    // Puts a waker there, and gives what it takes the place of.
+    fn fill(&self, rt: &impl Wait, waker: Waker) -> Option<Waker> {
+        let mut state = self.state.lock(rt);
+        self.is_filled.store(true, SeqCst);
+        state.put(waker)
+    }
+
+    // Takes out what stands there. An empty slot is not locked.
+    #[inline(always)]
+    fn empty(&self, rt: &impl Wait) -> Option<Waker> {
+        if self.is_filled.load(SeqCst) {
+            self.take_out(rt)
+        } else {
+            None
+        }
+    }
+
+    // The same of a slot in which a waker stood just now. It stands apart, out of the way of a pipe that flows.
+    #[cold]
+    #[inline(never)]
+    fn take_out(&self, rt: &impl Wait) -> Option<Waker> {
+        let mut state = self.state.lock(rt);
+        self.is_filled.store(false, SeqCst);
+        state.take()
     }
 }
 

@@ -89,6 +89,7 @@ impl<H: Wait + Clone + Drop> Writer<H> {
     }
 
     // The look of a poll has found room.
+    #[inline(always)]
     fn found(&mut self, call: WriteCall) -> Poll<Result<bool, OutOfMemory>>
         requires { call.place ≡ WritePlace.LookTake Purpose.Poll }
         ensures answer { result ≡ Poll.Ready (Ok true) }

@@ -3,12 +3,15 @@
 
 ghost use Rattle.std.specs.Prelude.{length, ◌≡◌, ◌<◌, ◌≤◌, ◌^◌};
 
-use piper::{OutOfMemory, ReadEnd, WriteEnd, open_ring};
+use piper::{OutOfMemory, OwnedReader, OwnedWriter, ReadEnd, WriteEnd, open_ring, pipe};
 use piper_machine::machine::Machine;
+use pipes::{Copies, InPlace, TryForms, through_pipe};
 use rings::{Input, Output, get_all, in_turn, put_all, yields};
 use rtrb::RingBuffer;
 use std::alloc::AllocError;
+use std::marker::Send;
 use std::process::ExitCode;
+use std::random::RandomSource;
 use std::rt::Clock;
 use std::sync::Wait;
 use std::thread::Threads;
@@ -16,13 +19,32 @@ use std::time::{Duration, Instant};
 use std::{env, io, thread};
 
 mod one_owner;
+mod pipes;
 mod rings;
 
 const USAGE: &str = "usage: piper_bench WHAT CAP CHUNK TOTAL
 Moves TOTAL bytes in pieces of CHUNK through a ring of CAP bytes, and prints bytes, nanoseconds, nanoseconds a piece and a checksum.
 WHAT is ring (one thread, in and out in turn), ring2 (two threads), rtrb or rtrb2 (the same work on rtrb), machine (one thread, through the pure machine) or copy (plain copies into a buffer of CAP bytes and out of it).
+Or it is through the handles of a pipe: pipe (by try forms) and inplace (by polls and lent slices) on one thread, pipe2 and inplace2 between two threads that sleep until they are woken, and on one thread fill and drain (one way by the copy that waits, the other by the try form) and filldrain (both ways by the copies that wait).
 CAP is at least 1 and at most half of the greatest usize, CHUNK is 1 to 16777216.
 Without arguments it makes a short run of each.";
+
+/// What a run without arguments makes, in that order.
+const WORDS: [&str; 13] = [
+    "ring",
+    "ring2",
+    "rtrb",
+    "rtrb2",
+    "machine",
+    "copy",
+    "pipe",
+    "pipe2",
+    "inplace",
+    "inplace2",
+    "fill",
+    "drain",
+    "filldrain",
+];
 
 /// The longest piece.
 const LONGEST: usize = 16_777_216;
@@ -35,8 +57,24 @@ const APART: usize = 128;
 enum What {
     Ring { is_shared: bool },
     Rtrb { is_shared: bool },
+    Pipe { way: Way, is_shared: bool },
     Machine,
     Copies,
+}
+
+/// By which calls of the handles bytes go through a pipe.
+#[derive(Clone, Copy)]
+enum Way {
+    /// Both try forms.
+    Try,
+    /// Polls and lent slices on both sides.
+    InPlace,
+    /// In by the copy that waits.
+    Fill,
+    /// Out by the copy that waits.
+    Drain,
+    /// In and out by the copies that wait.
+    FillDrain,
 }
 
 impl What {
@@ -46,10 +84,21 @@ impl What {
             "ring2" => Some(What::Ring { is_shared: true }),
             "rtrb" => Some(What::Rtrb { is_shared: false }),
             "rtrb2" => Some(What::Rtrb { is_shared: true }),
+            "pipe" => Some(What::pipe(Way::Try, false)),
+            "pipe2" => Some(What::pipe(Way::Try, true)),
+            "inplace" => Some(What::pipe(Way::InPlace, false)),
+            "inplace2" => Some(What::pipe(Way::InPlace, true)),
+            "fill" => Some(What::pipe(Way::Fill, false)),
+            "drain" => Some(What::pipe(Way::Drain, false)),
+            "filldrain" => Some(What::pipe(Way::FillDrain, false)),
             "machine" => Some(What::Machine),
             "copy" => Some(What::Copies),
             _ => None,
         }
+    }
+
+    fn pipe(way: Way, is_shared: bool) -> What {
+        What::Pipe { way, is_shared }
     }
 }
 
@@ -85,10 +134,10 @@ impl Work {
 }
 
 /// Does the work, and answers how long it took and the checksum.
-fn run(
-    rt: &(impl Wait + Threads + Clock + Print + AllocGlobal + Sync),
-    work: Work,
-) -> io::Result<(Duration, u64)> {
+fn run<R>(rt: &R, work: Work) -> io::Result<(Duration, u64)>
+where
+    R: Wait + Threads + Clock + Print + RandomSource + AllocGlobal + Clone + Drop + Send + Sync,
+{
     let source = vec![in rt.alloc(); 7u8; work.chunk + APART]?;
     let mut place = vec![in rt.alloc(); 0u8; APART + work.chunk + APART]?;
     let source = &source[..work.chunk];
@@ -101,6 +150,33 @@ fn run(
         What::Rtrb { is_shared } => {
             let (producer, consumer) = RingBuffer::new(rt.alloc(), work.capacity)?;
             move_bytes(rt, is_shared, work, producer, consumer, source, place)
+        }
+        What::Pipe { way, is_shared } => {
+            let handles = pipe_of(rt, work)?;
+            let start = Instant::now(rt)?;
+            let checksum = match way {
+                Way::Try => {
+                    let ways = (TryForms, TryForms);
+                    through_pipe(rt, ways, handles, is_shared, source, place, work.total)?
+                }
+                Way::InPlace => {
+                    let ways = (InPlace, InPlace);
+                    through_pipe(rt, ways, handles, is_shared, source, place, work.total)?
+                }
+                Way::Fill => {
+                    let ways = (Copies, TryForms);
+                    through_pipe(rt, ways, handles, is_shared, source, place, work.total)?
+                }
+                Way::Drain => {
+                    let ways = (TryForms, Copies);
+                    through_pipe(rt, ways, handles, is_shared, source, place, work.total)?
+                }
+                Way::FillDrain => {
+                    let ways = (Copies, Copies);
+                    through_pipe(rt, ways, handles, is_shared, source, place, work.total)?
+                }
+            };
+            Ok((start.elapsed(rt)?, checksum))
         }
         What::Machine => {
             let machine = machine_of(rt, work)?;
@@ -137,6 +213,16 @@ fn ring_of(
     }
 }
 
+fn pipe_of<R>(rt: &R, work: Work) -> Result<(OwnedReader<R>, OwnedWriter<R>), AllocError>
+where
+    R: Wait + AllocGlobal + Clone + Drop,
+{
+    match pipe(rt, rt.alloc(), work.capacity, 1) {
+        Ok((reader, writer)) => Ok((OwnedReader::new(reader), OwnedWriter::new(writer))),
+        Err(OutOfMemory) => Err(AllocError),
+    }
+}
+
 /// Moves the bytes through a ring, and answers how long it took and the checksum.
 fn move_bytes<I: Input + Drop + Send, O: Output + Drop + Send>(
     rt: &(impl Wait + Threads + Clock + Print + AllocGlobal + Sync),
@@ -168,7 +254,7 @@ fn main(rt: HostRuntime) -> io::Result<ExitCode> {
         words.push(word)?;
     }
     if words.is_empty() {
-        for what in ["ring", "ring2", "rtrb", "rtrb2", "machine", "copy"] {
+        for what in WORDS {
             short_run(&rt, what)?;
         }
         return Ok(ExitCode::SUCCESS);
@@ -189,10 +275,10 @@ fn main(rt: HostRuntime) -> io::Result<ExitCode> {
 }
 
 /// A run of a million bytes, told without its time.
-fn short_run(
-    rt: &(impl Wait + Threads + Clock + Print + AllocGlobal + Sync),
-    word: &str,
-) -> io::Result<()> {
+fn short_run<R>(rt: &R, word: &str) -> io::Result<()>
+where
+    R: Wait + Threads + Clock + Print + RandomSource + AllocGlobal + Clone + Drop + Send + Sync,
+{
     let Some(what) = What::of(word) else {
         return Ok(());
     };

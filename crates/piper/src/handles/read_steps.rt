@@ -20,6 +20,7 @@ impl<H: Wait + Clone + Drop> Reader<H> {
     ghost use Rattle.piper.specs.Handles.{SameReader, read_source};
 
     /// Opens a call that begins with a look, and tells whether no byte is known.
+    #[inline(always)]
     pub(crate) fn look(&self, purpose: Purpose) -> (ReadCall, bool)
         ensures opened { result.0 ≡ goes_on (reader_looks_for result.1 purpose) }
         ensures none { IsTrue result.1 ↔ (length self.now.end.known ≡ 0) }
@@ -29,6 +30,7 @@ impl<H: Wait + Clone + Drop> Reader<H> {
     }
 
     /// Loads the tail where no byte is known, and tells whether none is known even now.
+    #[inline(always)]
     pub(crate) fn load_tail(&mut self, call: ReadCall) -> (ReadCall, bool)
         requires next { read_action call.place ≡ Action.Refresh }
         requires none { length self.old.end.known ≡ 0 }
@@ -44,6 +46,7 @@ impl<H: Wait + Clone + Drop> Reader<H> {
     }
 
     /// Loads closed, and tells what the flag was.
+    #[inline(always)]
     pub(crate) fn load_closed(&mut self, call: ReadCall) -> (ReadCall, bool)
         requires next { read_action call.place ≡ Action.LoadClosed }
         ensures step { result.0 ≡ read_step call.place (loaded result.1) }
@@ -71,6 +74,7 @@ impl<H: Wait + Clone + Drop> Reader<H> {
     }
 
     /// Empties the reader's slot behind the look of a poll, unless the slot is known to be empty.
+    #[inline(always)]
     pub(crate) fn take_own(&mut self, call: ReadCall) -> (ReadCall, Option<Taken>)
         requires next { read_action call.place ≡ Action.Take Side.Reader }
         requires poll { reader_draws_behind call.place ≡ false }
@@ -89,6 +93,7 @@ impl<H: Wait + Clone + Drop> Reader<H> {
     }
 
     /// Stores the head, `n` bytes further on.
+    #[inline(always)]
     pub(crate) fn store_head(&mut self, call: ReadCall, n: usize) -> ReadCall
         requires next { read_action call.place ≡ Action.StoreHead n }
         requires there { n ≤ in_one_piece self.old.end }
@@ -103,6 +108,7 @@ impl<H: Wait + Clone + Drop> Reader<H> {
     }
 
     /// Empties the writer's slot.
+    #[inline(always)]
     pub(crate) fn take_writer(&self, call: ReadCall) -> (ReadCall, Taken)
         requires next { read_action call.place ≡ Action.Take Side.Writer }
         ensures step { result.0 ≡ read_step call.place (waker (found_in result.1)) }
@@ -130,6 +136,7 @@ impl<H: Wait + Clone + Drop> Reader<H> {
 }
 
 /// Empties the writer's slot.
+#[inline(always)]
 pub(crate) fn take_writer(slots: &Slots, rt: &impl Wait, call: ReadCall) -> (ReadCall, Taken)
     requires next { read_action call.place ≡ Action.Take Side.Writer }
     ensures step { result.0 ≡ read_step call.place (waker (found_in result.1)) }
@@ -140,6 +147,7 @@ pub(crate) fn take_writer(slots: &Slots, rt: &impl Wait, call: ReadCall) -> (Rea
 }
 
 /// Calls the waker that was taken.
+#[inline(always)]
 pub(crate) fn wake(call: ReadCall, taken: Taken) -> ReadCall
     requires next { read_action call.place ≡ Action.Wake }
     requires found { found_in taken ≡ true }

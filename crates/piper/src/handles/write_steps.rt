@@ -19,6 +19,7 @@ impl<H: Wait + Clone + Drop> Writer<H> {
     ghost use Rattle.piper.specs.Handles.{SameWriter, write_source};
 
     /// Loads closed where a look begins, and tells what the flag was, and whether no room is known. A pipe that the writer closed is closed.
+    #[inline(always)]
     pub(crate) fn look_closed(&mut self, call: WriteCall) -> (WriteCall, bool, bool)
         requires next { write_action call.place ≡ Action.LoadClosed }
         requires begins { begins_look call.place ≡ true }
@@ -36,6 +37,7 @@ impl<H: Wait + Clone + Drop> Writer<H> {
     }
 
     /// Loads closed at the end of a look or in a round, and tells what the flag was. A pipe that the writer closed is closed.
+    #[inline(always)]
     pub(crate) fn load_closed(&mut self, call: WriteCall) -> (WriteCall, bool)
         requires next { write_action call.place ≡ Action.LoadClosed }
         requires goes_on { begins_look call.place ≡ false }
@@ -51,6 +53,7 @@ impl<H: Wait + Clone + Drop> Writer<H> {
     }
 
     /// Loads the head where no room is known, and tells whether none is known even now.
+    #[inline(always)]
     pub(crate) fn load_head(&mut self, call: WriteCall) -> (WriteCall, bool)
         requires next { write_action call.place ≡ Action.Refresh }
         requires none { self.old.end.room ≡ 0 }
@@ -80,6 +83,7 @@ impl<H: Wait + Clone + Drop> Writer<H> {
     }
 
     /// Empties the writer's slot behind the look of a poll or in a close, unless the slot is known to be empty.
+    #[inline(always)]
     pub(crate) fn take_own(&mut self, call: WriteCall) -> (WriteCall, Option<Taken>)
         requires next { write_action call.place ≡ Action.Take Side.Writer }
         requires no_copy { writer_draws_behind call.place ≡ false }
@@ -98,6 +102,7 @@ impl<H: Wait + Clone + Drop> Writer<H> {
     }
 
     /// Takes back what is lent, where a fill ends. It is no step of the table.
+    #[inline(always)]
     pub(crate) fn unlend(&mut self)
         ensures end { WriterUnlent self.old.end self.new.end }
         ensures rest { SameWriter self.old self.new }
@@ -106,6 +111,7 @@ impl<H: Wait + Clone + Drop> Writer<H> {
     }
 
     /// Stores the tail, `n` bytes further on.
+    #[inline(always)]
     pub(crate) fn store_tail(&mut self, call: WriteCall, n: usize) -> WriteCall
         requires next { write_action call.place ≡ Action.StoreTail n }
         requires there { n ≤ length self.old.end.lent }
@@ -132,6 +138,7 @@ impl<H: Wait + Clone + Drop> Writer<H> {
     }
 
     /// Empties the reader's slot.
+    #[inline(always)]
     pub(crate) fn take_reader(&self, call: WriteCall) -> (WriteCall, Taken)
         requires next { write_action call.place ≡ Action.Take Side.Reader }
         ensures step { result.0 ≡ write_step call.place (waker (found_in result.1)) }
@@ -159,6 +166,7 @@ impl<H: Wait + Clone + Drop> Writer<H> {
 }
 
 /// Empties the reader's slot.
+#[inline(always)]
 pub(crate) fn take_reader(slots: &Slots, rt: &impl Wait, call: WriteCall) -> (WriteCall, Taken)
     requires next { write_action call.place ≡ Action.Take Side.Reader }
     ensures step { result.0 ≡ write_step call.place (waker (found_in result.1)) }
@@ -169,6 +177,7 @@ pub(crate) fn take_reader(slots: &Slots, rt: &impl Wait, call: WriteCall) -> (Wr
 }
 
 /// Calls the waker that was taken.
+#[inline(always)]
 pub(crate) fn wake(call: WriteCall, taken: Taken) -> WriteCall
     requires next { write_action call.place ≡ Action.Wake }
     requires found { found_in taken ≡ true }

@@ -1,0 +1,342 @@
+//! Bytes move through a pipe by its handles: on one thread in turn, or between two, each of which runs a future and sleeps until its waker is called.
+ghost use Rattle.std.specs.Prelude.{◌≡◌};
+ghost use Rattle.futures.specs.Poll.{OnPending};
+ghost use Rattle.futures.specs.Task.{Covers, Keeps};
+ghost use Rattle.piper.specs.Handles.{read_source, write_source};
+
+use crate::rings::{ByLibrary, ByLoop, Copying, add_piece};
+use futures::Future;
+use futures::executor::block_on;
+use futures::task::{Context, Poll};
+use futures::test::MockTask;
+use piper::{OutOfMemory, OwnedReader, OwnedWriter, Reader, Writer};
+use std::alloc::AllocGlobal;
+use std::marker::Send;
+use std::random::RandomSource;
+use std::sync::Wait;
+use std::thread::Threads;
+use std::{io, thread};
+
+/// How pieces go into a pipe.
+pub trait Fill {
+    /// Puts bytes from the front of the piece in, and answers how many. Of a piece that isn't empty it puts none only where the pipe is closed, and it is pending where there is no room.
+    fn fill<C: Copying, H: Wait + Clone + Drop>(
+        &self,
+        writer: &mut Writer<H>,
+        cx: &mut Context<'_>,
+        bytes: &[u8],
+    ) -> Poll<Result<usize, OutOfMemory>>
+        ensures slots { writer.new.slots ≡ writer.old.slots }
+        ensures covered { OnPending result (Covers cx.new (λ s. s ≡ write_source writer.old)) }
+        ensures kept { Keeps cx.old cx.new };
+}
+
+/// How pieces come out of a pipe.
+pub trait Drain {
+    /// Copies bytes out to the front of the place, and answers how many. Into a place that has room it copies none only at the end of the pipe, and it is pending where none is there.
+    fn drain<C: Copying, H: Wait + Clone + Drop>(
+        &self,
+        reader: &mut Reader<H>,
+        cx: &mut Context<'_>,
+        place: &mut [u8],
+    ) -> Poll<Result<usize, OutOfMemory>>
+        ensures slots { reader.new.slots ≡ reader.old.slots }
+        ensures covered { OnPending result (Covers cx.new (λ s. s ≡ read_source reader.old)) }
+        ensures kept { Keeps cx.old cx.new };
+}
+
+/// By the try forms, and by a poll only where these find nothing to do.
+#[derive(Clone, Copy)]
+pub struct TryForms;
+
+/// By a poll, and then by the slices that the handles lend.
+#[derive(Clone, Copy)]
+pub struct InPlace;
+
+/// By the copies that wait. Once in a hundred calls they yield, and are called again.
+#[derive(Clone, Copy)]
+pub struct Copies;
+
+impl Fill for TryForms {
+    #[inline(always)]
+    fn fill<C: Copying, H: Wait + Clone + Drop>(
+        &self,
+        writer: &mut Writer<H>,
+        cx: &mut Context<'_>,
+        bytes: &[u8],
+    ) -> Poll<Result<usize, OutOfMemory>> {
+        let n = writer.try_fill(bytes);
+        if n != 0 {
+            return Poll::Ready(Ok(n));
+        }
+        match writer.poll(cx) {
+            Poll::Pending => Poll::Pending,
+            Poll::Ready(Err(refused)) => Poll::Ready(Err(refused)),
+            Poll::Ready(Ok(_)) => Poll::Ready(Ok(writer.try_fill(bytes))),
+        }
+    }
+}
+
+impl Drain for TryForms {
+    #[inline(always)]
+    fn drain<C: Copying, H: Wait + Clone + Drop>(
+        &self,
+        reader: &mut Reader<H>,
+        cx: &mut Context<'_>,
+        place: &mut [u8],
+    ) -> Poll<Result<usize, OutOfMemory>> {
+        let n = reader.try_drain(place);
+        if n != 0 {
+            return Poll::Ready(Ok(n));
+        }
+        match reader.poll(cx) {
+            Poll::Pending => Poll::Pending,
+            Poll::Ready(Err(refused)) => Poll::Ready(Err(refused)),
+            Poll::Ready(Ok(_)) => Poll::Ready(Ok(reader.try_drain(place))),
+        }
+    }
+}
+
+impl Fill for InPlace {
+    #[inline(always)]
+    fn fill<C: Copying, H: Wait + Clone + Drop>(
+        &self,
+        writer: &mut Writer<H>,
+        cx: &mut Context<'_>,
+        bytes: &[u8],
+    ) -> Poll<Result<usize, OutOfMemory>> {
+        match writer.poll(cx) {
+            Poll::Pending => return Poll::Pending,
+            Poll::Ready(Err(refused)) => return Poll::Ready(Err(refused)),
+            Poll::Ready(Ok(false)) => return Poll::Ready(Ok(0)),
+            Poll::Ready(Ok(true)) => {}
+        }
+        let buf = writer.write_buf(bytes.len());
+        let n = buf.len();
+        C::copy_in(buf, &bytes[..n]);
+        writer.produced(n);
+        Poll::Ready(Ok(n))
+    }
+}
+
+impl Drain for InPlace {
+    #[inline(always)]
+    fn drain<C: Copying, H: Wait + Clone + Drop>(
+        &self,
+        reader: &mut Reader<H>,
+        cx: &mut Context<'_>,
+        place: &mut [u8],
+    ) -> Poll<Result<usize, OutOfMemory>> {
+        match reader.poll(cx) {
+            Poll::Pending => return Poll::Pending,
+            Poll::Ready(Err(refused)) => return Poll::Ready(Err(refused)),
+            Poll::Ready(Ok(false)) => return Poll::Ready(Ok(0)),
+            Poll::Ready(Ok(true)) => {}
+        }
+        let piece = reader.peek_buf();
+        let n = piece.len().min(place.len());
+        C::copy_out(&mut place[..n], &piece[..n]);
+        reader.consume(n);
+        Poll::Ready(Ok(n))
+    }
+}
+
+impl Fill for Copies {
+    #[inline(always)]
+    fn fill<C: Copying, H: Wait + Clone + Drop>(
+        &self,
+        writer: &mut Writer<H>,
+        cx: &mut Context<'_>,
+        bytes: &[u8],
+    ) -> Poll<Result<usize, OutOfMemory>> {
+        writer.poll_fill_bytes(cx, bytes)
+    }
+}
+
+impl Drain for Copies {
+    #[inline(always)]
+    fn drain<C: Copying, H: Wait + Clone + Drop>(
+        &self,
+        reader: &mut Reader<H>,
+        cx: &mut Context<'_>,
+        place: &mut [u8],
+    ) -> Poll<Result<usize, OutOfMemory>> {
+        reader.poll_drain_bytes(cx, place)
+    }
+}
+
+/// How many bytes a poll moved: none where it is pending, since on one thread it is so only where it yielded.
+fn moved(polled: Poll<Result<usize, OutOfMemory>>) -> Result<usize, OutOfMemory> {
+    match polled {
+        Poll::Ready(moved) => moved,
+        Poll::Pending => Ok(0),
+    }
+}
+
+/// Puts `total` bytes in and takes them out again, in turn, on one thread and under one task. It answers the checksum.
+#[inline(never)]
+fn in_turn<F: Fill + Drop, D: Drain + Drop, H: Wait + Clone + Drop>(
+    rt: &impl Wait,
+    (by_fill, by_drain): (F, D),
+    cx: &mut Context<'_>,
+    reader: &mut Reader<H>,
+    writer: &mut Writer<H>,
+    source: &[u8],
+    place: &mut [u8],
+    total: usize,
+) -> Result<u64, OutOfMemory> {
+    let (mut unsent, mut left) = (total, total);
+    let mut checksum = 0u64;
+    for _ in rt.forever() {
+        if left == 0 {
+            return Ok(checksum);
+        }
+        let piece = &source[..unsent.min(source.len())];
+        let sent = moved(by_fill.fill::<ByLibrary, H>(writer, cx, piece))?;
+        unsent = unsent.saturating_sub(sent);
+        let n = moved(by_drain.drain::<ByLibrary, H>(reader, cx, place))?;
+        left = left.saturating_sub(n);
+        checksum = add_piece(checksum, place, n);
+    }
+    unreachable!()
+}
+
+/// Puts in what is left of so many bytes, or less where the pipe is closed.
+#[derive(Drop)]
+struct FillAll<'a, F: Drop, R, H: Wait + Clone + Drop> {
+    rt: &'a R,
+    way: F,
+    writer: &'a mut Writer<H>,
+    source: &'a [u8],
+    left: usize,
+}
+
+impl<F: Fill + Drop, R: Wait, H: Wait + Clone + Drop> Future for FillAll<'_, F, R, H> {
+    type Output = Result<(), OutOfMemory>;
+
+    ghost needs = { λ future s. s ≡ write_source future.writer.now };
+
+    fn poll(&mut self, cx: &mut Context<'_>) -> Poll<Result<(), OutOfMemory>> {
+        for _ in self.rt.forever() {
+            let piece = &self.source[..self.left.min(self.source.len())];
+            match self.way.fill::<ByLoop, H>(self.writer, cx, piece) {
+                Poll::Pending => return Poll::Pending,
+                Poll::Ready(Err(refused)) => return Poll::Ready(Err(refused)),
+                Poll::Ready(Ok(0)) => return Poll::Ready(Ok(())),
+                Poll::Ready(Ok(n)) => self.left = self.left.saturating_sub(n),
+            }
+            if self.left == 0 {
+                return Poll::Ready(Ok(()));
+            }
+        }
+        unreachable!()
+    }
+}
+
+/// Takes bytes out up to the end of the pipe.
+#[derive(Drop)]
+struct DrainAll<'a, D: Drop, R, H: Wait + Clone + Drop> {
+    rt: &'a R,
+    way: D,
+    reader: &'a mut Reader<H>,
+    place: &'a mut [u8],
+    checksum: u64,
+}
+
+impl<D: Drain + Drop, R: Wait, H: Wait + Clone + Drop> Future for DrainAll<'_, D, R, H> {
+    type Output = Result<u64, OutOfMemory>;
+
+    ghost needs = { λ future s. s ≡ read_source future.reader.now };
+
+    fn poll(&mut self, cx: &mut Context<'_>) -> Poll<Result<u64, OutOfMemory>> {
+        for _ in self.rt.forever() {
+            match self.way.drain::<ByLoop, H>(self.reader, cx, self.place) {
+                Poll::Pending => return Poll::Pending,
+                Poll::Ready(Err(refused)) => return Poll::Ready(Err(refused)),
+                Poll::Ready(Ok(0)) => return Poll::Ready(Ok(self.checksum)),
+                Poll::Ready(Ok(n)) => self.checksum = add_piece(self.checksum, self.place, n),
+            }
+        }
+        unreachable!()
+    }
+}
+
+fn fill_all<F: Fill + Drop, R: Wait + RandomSource + AllocGlobal, H: Wait + Clone + Drop>(
+    rt: &R,
+    way: F,
+    mut writer: OwnedWriter<H>,
+    source: &[u8],
+    left: usize,
+) -> io::Result<Result<(), OutOfMemory>> {
+    let writer = writer.get_mut();
+    block_on(
+        rt,
+        FillAll {
+            rt,
+            way,
+            writer,
+            source,
+            left,
+        },
+    )
+}
+
+fn drain_all<D: Drain + Drop, R: Wait + RandomSource + AllocGlobal, H: Wait + Clone + Drop>(
+    rt: &R,
+    way: D,
+    mut reader: OwnedReader<H>,
+    place: &mut [u8],
+) -> io::Result<Result<u64, OutOfMemory>> {
+    let reader = reader.get_mut();
+    block_on(
+        rt,
+        DrainAll {
+            rt,
+            way,
+            reader,
+            place,
+            checksum: 0,
+        },
+    )
+}
+
+/// Moves the bytes through a pipe, and answers the checksum.
+pub fn through_pipe<F, D, R>(
+    rt: &R,
+    ways: (F, D),
+    handles: (OwnedReader<R>, OwnedWriter<R>),
+    is_shared: bool,
+    source: &[u8],
+    place: &mut [u8],
+    total: usize,
+) -> io::Result<u64>
+where
+    F: Fill + Drop + Send,
+    D: Drain + Drop + Send,
+    R: Wait + Threads + RandomSource + AllocGlobal + Clone + Drop + Send + Sync,
+{
+    let (mut reader, mut writer) = handles;
+    let (by_fill, by_drain) = ways;
+    let moved = if is_shared {
+        let (filled, drained) = thread::join(
+            rt,
+            move || fill_all(rt, by_fill, writer, source, total),
+            move || drain_all(rt, by_drain, reader, place),
+        );
+        filled?.and(drained?)
+    } else {
+        let task = MockTask::new(rt)?;
+        let (reader, writer) = (reader.get_mut(), writer.get_mut());
+        task.enter(|cx| in_turn(
+            rt,
+            (by_fill, by_drain),
+            cx,
+            reader,
+            writer,
+            source,
+            place,
+            total,
+        ))
+    };
+    moved.map_err(|_| io::Error::other("out of memory"))
+}
