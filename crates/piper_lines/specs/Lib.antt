@@ -1,4 +1,7 @@
+pub mod AtEnd
 pub mod Frame
+pub mod FrameAnswers
+pub mod FrameReader
 pub mod FrameWriter
 pub mod Line
 pub mod LineAnswers
