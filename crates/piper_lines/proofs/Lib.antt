@@ -1,2 +1,4 @@
+pub mod Framing
 pub mod Growing
 pub mod LineEnds
+pub mod Sending

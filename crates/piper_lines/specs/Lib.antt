@@ -1,4 +1,11 @@
+pub mod AtEnd
+pub mod Frame
+pub mod FrameAnswers
+pub mod FrameReader
+pub mod FrameWriter
 pub mod Line
 pub mod LineAnswers
 pub mod LineReader
+pub mod LineWriter
 pub mod Moves
+pub mod Sends

@@ -5,7 +5,7 @@ ghost use Rattle.futures.specs.Task.{Covers, Keeps};
 ghost use Rattle.futures.specs.Poll.{OnPending};
 ghost use Rattle.piper_lines.specs.Line.{LacksLf, IsLine};
 ghost use Rattle.piper_lines.specs.Moves.{Moves, Grows};
-ghost use Rattle.piper_lines.specs.LineAnswers.{Hands, Gathers};
+ghost use Rattle.piper_lines.specs.LineAnswers.{Gathers, Hands};
 
 use futures::task::{Context, Poll};
 use memchr::memchr;
