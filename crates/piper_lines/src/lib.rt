@@ -1,6 +1,12 @@
 //! Lines and frames over any reader that lends, and over any writer.
 #![tactic(auto)]
 
+mod frame_writer;
 mod line_reader;
+mod line_writer;
+mod write_all;
 
+pub use frame_writer::WriteFrame;
 pub use line_reader::{LineAnswer, Lines};
+pub use line_writer::{WriteLine, is_one_line};
+pub use write_all::{Written, poll_write_all};
