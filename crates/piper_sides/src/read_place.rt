@@ -78,7 +78,7 @@ impl ReadPlace {
     {
         match self {
             ReadPlace::QueryHead(query) => (ReadPlace::QueryTail(query), None),
-            _ => (self, None),
+            _ => unreachable!(),
         }
     }
 
@@ -92,7 +92,7 @@ impl ReadPlace {
     {
         match self {
             ReadPlace::QueryTail(query) => (ReadPlace::Idle, Some(query.answer(capacity, count))),
-            _ => (self, None),
+            _ => unreachable!(),
         }
     }
 
@@ -114,7 +114,7 @@ impl ReadPlace {
                 found(purpose),
                 None,
             ),
-            _ => (self, None),
+            _ => unreachable!(),
         }
     }
 
@@ -129,7 +129,7 @@ impl ReadPlace {
         match self {
             ReadPlace::QueryClosed => (ReadPlace::Idle, Some(Answer::Flag(is_closed))),
             ReadPlace::LookClosed(purpose) => (ReadPlace::LookTailAgain(purpose, is_closed), None),
-            _ => (self, None),
+            _ => unreachable!(),
         }
     }
 
@@ -150,7 +150,7 @@ impl ReadPlace {
                 ReadPlace::Idle,
                 Some(look_answer(purpose, Polled::Memory)),
             ),
-            _ => (self, None),
+            _ => unreachable!(),
         }
     }
 
@@ -168,7 +168,7 @@ impl ReadPlace {
                 Some(Answer::Poll(Polled::Ready(true))),
             ),
             ReadPlace::LookTake(Purpose::Copy(form)) => (draws(form), None),
-            _ => (self, None),
+            _ => unreachable!(),
         }
     }
 
@@ -182,7 +182,7 @@ impl ReadPlace {
     {
         match self {
             ReadPlace::Yield => (ReadPlace::Idle, Some(yield_answer(is_granted))),
-            _ => (self, None),
+            _ => unreachable!(),
         }
     }
 
@@ -204,7 +204,7 @@ impl ReadPlace {
                 ReadPlace::StoreHead(n, AfterRead::Round(form, sum + n)),
                 None,
             ),
-            _ => (self, None),
+            _ => unreachable!(),
         }
     }
 
@@ -221,7 +221,7 @@ impl ReadPlace {
                 ReadPlace::Idle,
                 Some(Answer::Copy(Polled::Ready(Err(Failed)))),
             ),
-            _ => (self, None),
+            _ => unreachable!(),
         }
     }
 
@@ -236,7 +236,7 @@ impl ReadPlace {
     {
         match self {
             ReadPlace::StoreHead(_, next) => (ReadPlace::TakeWriter(next), None),
-            _ => (self, None),
+            _ => unreachable!(),
         }
     }
 
@@ -251,7 +251,7 @@ impl ReadPlace {
         match self {
             ReadPlace::TakeWriter(next) if !is_found => done(next),
             ReadPlace::TakeWriter(next) => (ReadPlace::WakeWriter(next), None),
-            _ => (self, None),
+            _ => unreachable!(),
         }
     }
 
@@ -265,7 +265,7 @@ impl ReadPlace {
     {
         match self {
             ReadPlace::WakeWriter(next) => done(next),
-            _ => (self, None),
+            _ => unreachable!(),
         }
     }
 
@@ -279,7 +279,7 @@ impl ReadPlace {
     {
         match self {
             ReadPlace::StoreClosed => (ReadPlace::TakeWriter(AfterRead::Drop), None),
-            _ => (self, None),
+            _ => unreachable!(),
         }
     }
 }

@@ -66,7 +66,7 @@ impl WritePlace {
     {
         match self {
             WritePlace::QueryHead(query) => (WritePlace::QueryTail(query, count), None),
-            _ => (self, None),
+            _ => unreachable!(),
         }
     }
 
@@ -84,7 +84,7 @@ impl WritePlace {
                 WritePlace::Idle,
                 Some(query.answer(capacity, count)),
             ),
-            _ => (self, None),
+            _ => unreachable!(),
         }
     }
 
@@ -106,7 +106,7 @@ impl WritePlace {
                 found(purpose),
                 None,
             ),
-            _ => (self, None),
+            _ => unreachable!(),
         }
     }
 
@@ -128,7 +128,7 @@ impl WritePlace {
             ),
             WritePlace::LookClosed(purpose) if none => (WritePlace::LookHead(purpose), None),
             WritePlace::LookClosed(purpose) => (found(purpose), None),
-            _ => (self, None),
+            _ => unreachable!(),
         }
     }
 
@@ -157,7 +157,7 @@ impl WritePlace {
                 WritePlace::StoreTail(n, AfterWrite::Round(form, sum)),
                 None,
             ),
-            _ => (self, None),
+            _ => unreachable!(),
         }
     }
 
@@ -179,7 +179,7 @@ impl WritePlace {
                 WritePlace::Idle,
                 Some(look_answer(purpose, Polled::Memory)),
             ),
-            _ => (self, None),
+            _ => unreachable!(),
         }
     }
 
@@ -199,7 +199,7 @@ impl WritePlace {
             WritePlace::LookTake(Purpose::Copy(form)) => (draws(form), None),
             WritePlace::TakeWriter if is_found => (WritePlace::WakeWriter, None),
             WritePlace::TakeWriter => (WritePlace::Idle, Some(Answer::Done)),
-            _ => (self, None),
+            _ => unreachable!(),
         }
     }
 
@@ -214,7 +214,7 @@ impl WritePlace {
     {
         match self {
             WritePlace::Yield => (WritePlace::Idle, Some(yield_answer(is_granted))),
-            _ => (self, None),
+            _ => unreachable!(),
         }
     }
 
@@ -234,7 +234,7 @@ impl WritePlace {
                 Some(form.counted(sum)),
             ),
             WritePlace::CallSource(form, sum) => (WritePlace::RoundClosed(n, form, sum + n), None),
-            _ => (self, None),
+            _ => unreachable!(),
         }
     }
 
@@ -252,7 +252,7 @@ impl WritePlace {
                 WritePlace::Idle,
                 Some(Answer::Copy(Polled::Ready(Err(Failed)))),
             ),
-            _ => (self, None),
+            _ => unreachable!(),
         }
     }
 
@@ -267,7 +267,7 @@ impl WritePlace {
     {
         match self {
             WritePlace::StoreTail(_, next) => (WritePlace::TakeReader(next), None),
-            _ => (self, None),
+            _ => unreachable!(),
         }
     }
 
@@ -282,7 +282,7 @@ impl WritePlace {
         match self {
             WritePlace::TakeReader(next) if !is_found => done(next),
             WritePlace::TakeReader(next) => (WritePlace::WakeReader(next), None),
-            _ => (self, None),
+            _ => unreachable!(),
         }
     }
 
@@ -297,7 +297,7 @@ impl WritePlace {
         match self {
             WritePlace::WakeReader(next) => done(next),
             WritePlace::WakeWriter => (WritePlace::Idle, Some(Answer::Done)),
-            _ => (self, None),
+            _ => unreachable!(),
         }
     }
 
@@ -311,7 +311,7 @@ impl WritePlace {
     {
         match self {
             WritePlace::StoreClosed(next) => (WritePlace::TakeReader(next), None),
-            _ => (self, None),
+            _ => unreachable!(),
         }
     }
 
@@ -325,7 +325,7 @@ impl WritePlace {
     {
         match self {
             WritePlace::StoreClosed(next) => (WritePlace::TakeReader(next), None),
-            _ => (self, None),
+            _ => unreachable!(),
         }
     }
 }
