@@ -30,6 +30,9 @@ pub mod Watching
 pub mod ReaderWaits
 pub mod WriterWaits
 pub mod Remembering
+pub mod Ends
+pub mod Causes
+pub mod Behind
 pub mod Finality
 pub mod Acts
 pub mod Telling
