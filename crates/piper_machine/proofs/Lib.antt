@@ -39,3 +39,4 @@ pub mod Telling
 pub mod ReaderAnswers
 pub mod WriterAnswers
 pub mod Answering
+pub mod Fronts

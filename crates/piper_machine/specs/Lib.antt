@@ -34,4 +34,5 @@ pub mod Final
 pub mod Told
 pub mod Outcome
 pub mod Answered
+pub mod Front
 pub mod Machine
