@@ -1,3 +1,4 @@
+pub mod Collecting
 pub mod Framing
 pub mod Growing
 pub mod LineEnds

@@ -1,4 +1,5 @@
 pub mod AtEnd
+pub mod Collected
 pub mod Frame
 pub mod FrameAnswers
 pub mod FrameReader
@@ -9,3 +10,4 @@ pub mod LineReader
 pub mod LineWriter
 pub mod Moves
 pub mod Sends
+pub mod Split

@@ -1,5 +1,5 @@
 -- What one poll for a line hands out and keeps.
-use Rattle.std.specs.Prelude.{◌≡◌, ℕ, ◌<◌, ◌≤◌, ◌⊎◌, Bool, List, [], length, Result, Ok, Err}
+use Rattle.std.specs.Prelude.{◌≡◌, ℕ, ◌<◌, ◌≤◌, ◌⊎◌, Bool, true, false, List, [], length, Result, Ok, Err}
 use Rattle.futures.specs.declared.task.Poll.{Poll}
 use Rattle.futures.specs.declared.task.Poll.TheVariants.{Ready, Pending}
 use Rattle.piper_lines.specs.declared.line_reader.LineAnswer.{LineAnswer}
@@ -10,6 +10,13 @@ use Rattle.piper_lines.specs.Line.{LacksLf, IsLine}
 -- as many bytes as the limit without LF; or all that was kept before, where that is more
 abbrev pub IsTooLong : ℕ → List ℕ → List ℕ → Type 0
 IsTooLong limit before line = LacksLf line × ((length line ≡ limit) ⊎ ((line ≡ before) × (limit < length line)))
+
+-- the reader ended
+abbrev pub at_end : LineAnswer → Bool
+at_end Line = false
+at_end TooLong = false
+at_end Last = true
+at_end End = true
 
 -- by the answer: the bytes of a line, begun before, that are gathered now
 abbrev pub Gathers : {E : Type 0} → Poll (Result LineAnswer E) → ℕ → List ℕ → List ℕ → List ℕ → Bool → Type 0

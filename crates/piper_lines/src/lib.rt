@@ -1,6 +1,7 @@
 //! Lines and frames over any reader that lends, and over any writer.
 #![tactic(auto)]
 
+mod collect;
 mod frame_reader;
 mod frame_writer;
 mod gather;
@@ -8,6 +9,7 @@ mod line_reader;
 mod line_writer;
 mod write_all;
 
+pub use collect::poll_lines;
 pub use frame_reader::{FrameAnswer, Frames};
 pub use frame_writer::WriteFrame;
 pub use line_reader::{LineAnswer, Lines};

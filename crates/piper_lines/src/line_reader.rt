@@ -27,6 +27,20 @@ pub enum LineAnswer {
     End,
 }
 
+impl LineAnswer {
+    ghost use Rattle.piper_lines.specs.LineAnswers.{at_end};
+
+    /// Whether the reader ended, so that no line comes behind this answer.
+    pub fn is_end(self) -> bool
+        ensures { result ≡ at_end self }
+    {
+        match self {
+            LineAnswer::Line | LineAnswer::TooLong => false,
+            LineAnswer::Last | LineAnswer::End => true,
+        }
+    }
+}
+
 /// The lines of a reader.
 ///
 /// What was taken of a line that has not come to its end is kept from poll to poll. In clauses, `reader_of` is the reader and `kept_of` the bytes that are kept.
