@@ -1,6 +1,6 @@
 -- What is said of a lender, once its loan ends, may be said with less.
 use Rattle.std.specs.Prelude.{⊤}
-use Rattle.std.specs.Borrow.{Fml, RattleType, MutBor, sem}
+use Rattle.std.specs.Borrow.{RattleType, MutBor, sem}
 use Rattle.std.specs.Io.BufRead.{Rests}
 use base.Logic.{SProp, ent, sep, emp, id⊢, ex_i, ex_e, mono_l}
 use borrow.Fn.Refines.{Gives, Turns, by_parts}
