@@ -1,6 +1,7 @@
 //! Handles that are let go by themselves, for a thread or a task that takes one with it.
 ghost use Rattle.std.specs.Prelude.{◌≡◌};
 ghost use Rattle.std.specs.Borrow.{sem};
+ghost use Rattle.piper.specs.declared.error.PipeError.TheVariants.{Memory};
 
 use crate::error::PipeError;
 use crate::handles::{Reader, Writer};
@@ -77,6 +78,8 @@ impl<H: Wait + Clone + Drop> AsyncRead for OwnedReader<H> {
 
     ghost needs = { λ owned s. s ≡ read_source owned.reader };
 
+    ghost fails = { λ _ e. e ≡ Memory };
+
     fn poll_read(
         &mut self,
         cx: &mut Context<'_>,
@@ -100,6 +103,8 @@ impl<H: Wait + Clone + Drop> AsyncBufRead for OwnedReader<H> {
 
     ghost needs = { λ owned s. s ≡ read_source owned.reader };
 
+    ghost fails = { λ _ e. e ≡ Memory };
+
     fn poll_fill_buf(&mut self, cx: &mut Context<'_>) -> Poll<Result<&[u8], PipeError>> {
         self.reader.poll_fill_buf(cx)
     }
@@ -117,6 +122,8 @@ impl<H: Wait + Clone + Drop> AsyncWrite for OwnedWriter<H> {
     ghost saw = { λ owned. owned.writer.end.saw };
 
     ghost needs = { λ owned s. s ≡ write_source owned.writer };
+
+    ghost fails = { λ _ e. e ≡ Memory };
 
     fn poll_write(
         &mut self,

@@ -11,7 +11,9 @@ use Rattle.piper.specs.WriteView.{SameWriteEnd}
 use Rattle.piper.specs.Opened.{FreshReadEnd, FreshWriteEnd}
 use Rattle.piper.specs.Generator.{generator}
 use Rattle.piper.specs.Handles.{ArePair, read_source}
-use Rattle.piper.specs.Polls.{Lends}
+use Rattle.piper.specs.Polls.{Lends, IfReadyErr}
+use Rattle.piper.specs.declared.error.PipeError.{PipeError}
+use Rattle.piper.specs.declared.error.PipeError.TheVariants.{Memory}
 use Rattle.piper.specs.declared.handles.Reader.{Reader}
 use Rattle.piper.specs.declared.handles.Writer.{Writer}
 use Rattle.piper_duplex.specs.declared.end.End.{End}
@@ -37,11 +39,12 @@ pub record OnlyWrites {H : Type 0} (a b : End H) : Type 0 where
   pub slots : b.writer.slots ≡ a.writer.slots
 
 -- a poll of the end a lent the first piece of the known bytes, and left the end as b: no byte was taken, and a pending poll
--- has armed its task
-abbrev pub LendsPiece : {H E : Type 0} → Poll (Result (Bor (List ℕ)) E) → End H → End H → Context → Type 0
+-- has armed its task; a poll that fails wants memory
+abbrev pub LendsPiece : {H : Type 0} → Poll (Result (Bor (List ℕ)) PipeError) → End H → End H → Context → Type 0
 LendsPiece r a b cx =
     Lends r b.reader.end.known (in_one_piece b.reader.end) b.reader.end.saw
     × StartsWith b.reader.end.known a.reader.end.known
     × (b.reader.end.taken ≡ a.reader.end.taken)
     × (a.reader.end.saw ≡ true → b.reader.end.saw ≡ true)
+    × IfReadyErr r (λ e. e ≡ Memory)
     × OnPending r (Covers cx (λ s. s ≡ read_source b.reader))

@@ -6,7 +6,8 @@ ghost use Rattle.futures.specs.Task.{Covers, Keeps};
 ghost use Rattle.futures.specs.Poll.{OnPending};
 ghost use Rattle.piper.specs.Ends.{WriterShut};
 ghost use Rattle.piper.specs.Handles.{read_source, write_source};
-ghost use Rattle.piper.specs.Polls.{Reads, Writes, OnReadyOk};
+ghost use Rattle.piper.specs.Polls.{Reads, Writes, OnReadyOk, IfReadyErr};
+ghost use Rattle.piper.specs.declared.error.PipeError.TheVariants.{Memory};
 ghost use Rattle.piper.specs.ReadView.{in_one_piece};
 ghost use Rattle.piper_duplex.specs.Crosswise.{OnlyReads, OnlyWrites, LendsPiece};
 
@@ -23,8 +24,11 @@ impl<H: Wait + Clone + Drop> AsyncRead for End<H> {
 
     ghost needs = { λ e s. s ≡ read_source e.reader };
 
+    ghost fails = { λ _ e. e ≡ Memory };
+
     fn poll_read(&mut self, cx: &mut Context<'_>, dest: &mut [u8]) -> Poll<Result<usize, PipeError>>
         ensures read { Reads result dest.old dest.new self.old.reader.end.taken self.new.reader.end.taken self.new.reader.end.saw }
+        ensures error { IfReadyErr result (λ e. e ≡ Memory) }
         ensures stays { self.old.reader.end.saw ≡ true → self.new.reader.end.saw ≡ true }
         ensures covered { OnPending result (Covers cx.new (λ s. s ≡ read_source self.new.reader)) }
         ensures kept { Keeps cx.old cx.new }
@@ -50,6 +54,8 @@ impl<H: Wait + Clone + Drop> AsyncBufRead for End<H> {
     ghost saw = { λ e. e.reader.end.saw };
 
     ghost needs = { λ e s. s ≡ read_source e.reader };
+
+    ghost fails = { λ _ e. e ≡ Memory };
 
     fn poll_fill_buf(&mut self, cx: &mut Context<'_>) -> Poll<Result<&[u8], PipeError>>
         // said of the end as it is once the slice is given back
@@ -81,9 +87,12 @@ impl<H: Wait + Clone + Drop> AsyncWrite for End<H> {
 
     ghost needs = { λ e s. s ≡ write_source e.writer };
 
+    ghost fails = { λ _ e. e ≡ Memory };
+
     fn poll_write(&mut self, cx: &mut Context<'_>, source: &[u8]) -> Poll<Result<usize, PipeError>>
         ensures written { Writes result source.now self.old.writer.end.sent self.new.writer.end.sent self.new.writer.end.saw }
         ensures full { result ≡ Poll.Ready (Ok 0) → 0 < length source.now → self.new.writer.end.saw ≡ true }
+        ensures error { IfReadyErr result (λ e. e ≡ Memory) }
         ensures over { self.old.writer.end.saw ≡ true → result ≡ Poll.Ready (Ok 0) }
         ensures stays { self.old.writer.end.saw ≡ true → self.new.writer.end.saw ≡ true }
         ensures covered { OnPending result (Covers cx.new (λ s. s ≡ write_source self.new.writer)) }
