@@ -1,6 +1,4 @@
 pub mod Carrying
-mod Draining
-mod Filling
 mod Rounds
 mod LookingOut
 mod LookingIn

@@ -1,42 +1,13 @@
 -- Rounds of a fill, one after the other.
-use Rattle.std.proofs.Common.{◌≡◌, ◌==◌, ℕ, ◌+◌, ◌<◌, ◌≤◌, ◌⊎◌, Bool, true, false, List, [], ◌++◌, take, length, Ok, Err, refl, sym, ap, ◌∙◌, subst, append_assoc, append-nil, length-append, length-take-le, inl, inr, arith}
-use Rattle.std.proofs.lemmas.Bool.Decides.{nat_tests}
+use Rattle.std.proofs.Common.{◌≡◌, ℕ, ◌+◌, ◌<◌, ◌≤◌, ◌⊎◌, true, List, [], ◌++◌, take, length, Ok, Err, refl, sym, ap, ◌∙◌, subst, append_assoc, append-nil, length-append, length-take-le, inl, inr, arith}
 use Rattle.futures.specs.declared.task.Poll.TheVariants.{Ready}
 use Rattle.piper_ring.specs.Shared.{flag}
 use Rattle.piper_ring.specs.WriteView.{WriteView}
-use Rattle.piper_sides.specs.Table.{Next, write_step, write_done, writer_moved, reader_taken, nothing, moved, waker, flag as loaded}
-use Rattle.piper_sides.specs.declared.table.Form.TheVariants.{Polling}
-use Rattle.piper_sides.specs.declared.table.AfterWrite.{AfterWrite}
-use Rattle.piper_sides.specs.declared.table.AfterWrite.TheVariants as behind
-use Rattle.piper_sides.specs.declared.table.WritePlace.{WritePlace}
-use Rattle.piper_sides.specs.declared.table.WritePlace.TheVariants as on
-use Rattle.piper.specs.Calls.{write_woken}
 use Rattle.piper.specs.Copies.{IsReplaced}
 use Rattle.piper.specs.Ends.{WriterSaw, WriterPublished}
 use Rattle.piper.specs.Fills.{FillRounds, WriterFilled, WriterRelent}
 use Rattle.piper.specs.Like.{Passes, PassesInOrder}
 use Rattle.piper.specs.declared.error.Inner.TheVariants.{Like}
-
-not_zero : (n : ℕ) → (n ≡ 0 → ⊥) → (n == 0) ≡ false
-not_zero n some = grind (arith, nat_tests, some)
-
-woken_again : (next : AfterWrite) (found : Bool) → write_woken found (reader_taken next found) ≡ write_done next
-woken_again next true = refl
-woken_again next false = refl
-
--- a round of n bytes, by the call table: behind it the source is called again
-pub source_again : (place : WritePlace) (gave looked stored taken woken : Next WritePlace) (s n : ℕ) (found : Bool) → place ≡ on.CallSource (Polling false) s → (n ≡ 0 → ⊥)
-    → gave ≡ write_step place (moved n) → looked ≡ write_step gave.place (loaded false) → stored ≡ write_step looked.place nothing
-    → taken ≡ write_step stored.place (waker found) → woken ≡ write_woken found taken → woken.place ≡ on.CallSource (Polling false) (s + n)
-source_again place gave looked stored taken woken s n found here some gave_is looked_is stored_is taken_is woken_is =
-    let next : AfterWrite = behind.Round (Polling false) (s + n) in
-    let moves : gave ≡ writer_moved false n (Polling false) s =
-    gave_is ∙ ap (λ (p : WritePlace). write_step p (moved n)) here ∙ ap (λ (b : Bool). writer_moved b n (Polling false) s) (not_zero n some) in
-    let looks : gave.place ≡ on.RoundClosed n (Polling false) (s + n) = ap (λ (c : Next WritePlace). c.place) moves in
-    let stores : looked.place ≡ on.StoreTail n next = ap (λ (c : Next WritePlace). c.place) (looked_is ∙ ap (λ (p : WritePlace). write_step p (loaded false)) looks) in
-    let takes : stored.place ≡ on.TakeReader next = ap (λ (c : Next WritePlace). c.place) (stored_is ∙ ap (λ (p : WritePlace). write_step p nothing) stores) in
-    let wakes : taken ≡ reader_taken next found = taken_is ∙ ap (λ (p : WritePlace). write_step p (waker found)) takes in
-    ap (λ (c : Next WritePlace). c.place) (woken_is ∙ ap (write_woken found) wakes ∙ woken_again next found)
 
 -- the source gave `sum` bytes in the rounds so far, which were published
 pub record Filled {S : Type 0} (gives : Passes S) (a b : WriteView) (s t : S) (sum : ℕ) : Type 0 where

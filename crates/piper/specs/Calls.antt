@@ -1,5 +1,5 @@
 -- What a call of the table is to the caller of a handle.
-use Rattle.std.specs.Prelude.{ℕ, Bool, true, false, Option, None, Some, Result, Ok, Err}
+use Rattle.std.specs.Prelude.{Bool, true, false, Option, None, Some, Result, Ok, Err}
 use Rattle.futures.specs.declared.task.Poll.{Poll}
 use Rattle.futures.specs.declared.task.Poll.TheVariants as polling
 use Rattle.piper_sides.specs.declared.events.Answer.{Answer}
@@ -17,10 +17,6 @@ abbrev pub poll_of : Answer → Poll (Result Bool OutOfMemory)
 poll_of (answer.Poll (told.Ready found)) = polling.Ready (Ok found)
 poll_of (answer.Poll told.Memory) = polling.Ready (Err (record {}))
 poll_of other = polling.Pending
-
-abbrev pub count_of : Answer → ℕ
-count_of (answer.Count n) = n
-count_of other = 0
 
 -- whether a waker stood in the handle's own slot, where that was emptied
 abbrev pub own_found : Option Taken → Bool

@@ -49,6 +49,13 @@ OnMemory (Ready (Err Memory)) P = P
 OnMemory (Ready (Err (Like e))) P = ⊤
 OnMemory Pending P = ⊤
 
+-- the copy did not wait: it answers a count, or that its source or destination failed
+abbrev pub IsAtOnce : {E : Type 0} → Poll (Result ℕ (Inner E)) → Type 0
+IsAtOnce (Ready (Ok n)) = ⊤
+IsAtOnce (Ready (Err Memory)) = ⊥
+IsAtOnce (Ready (Err (Like e))) = ⊤
+IsAtOnce Pending = ⊥
+
 -- xs passed between two states of a source or destination. A count is that of xs; pending and want of memory leave it as it
 -- was; and a failure is one of its own, behind the bytes that passed
 abbrev pub Copies : {S E : Type 0} → Passes S → (S → E → S → Type 0) → Poll (Result ℕ (Inner E)) → S → S → List ℕ → Type 0

@@ -1,19 +1,32 @@
 -- Drains of the reader into any destination.
-use Rattle.std.specs.Prelude.{◌≡◌, ℕ, ◌+◌, ◌-◌, ◌<◌, ◌⊎◌, true, false, List, [], ◌++◌, length, Result, Ok, Err}
+use Rattle.std.specs.Prelude.{◌≡◌, ℕ, ◌+◌, ◌-◌, ◌<◌, ◌⊎◌, true, false, List, [], ◌++◌, length, min, Option, Result, Ok, Err, ⊤}
 use Rattle.futures.specs.declared.task.Poll.{Poll}
 use Rattle.futures.specs.declared.task.Poll.TheVariants.{Ready, Pending}
+use Rattle.futures.specs.Poll.{OnPending}
 use Rattle.piper_ring.specs.ReadView.{ReadView}
 use Rattle.piper.specs.Copies.{ReaderCopied}
 use Rattle.piper.specs.CopyAnswers.{Copies}
 use Rattle.piper.specs.Ends.{ReaderConsumed, ReaderIsUpToDate}
-use Rattle.piper.specs.Like.{Passes}
-use Rattle.piper.specs.Polls.{OnReadyOk}
+use Rattle.piper.specs.Like.{Passes, appends_to}
+use Rattle.piper.specs.Polls.{OnReadyOk, IfReadyOk}
 use Rattle.piper.specs.declared.error.Inner.{Inner}
 use Rattle.piper.specs.declared.error.Inner.TheVariants.{Memory, Like}
 
 -- how many bytes the reader knew of after its look: those that it took since, and those that it knows of now
 abbrev pub found_len : ReadView → ReadView → ℕ
 found_len a b = length b.taken + length b.known - length a.taken
+
+-- a drain that answers a count found a byte, or saw the pipe closed
+abbrev pub EndIsSeen : {E : Type 0} → Poll (Result ℕ E) → ReadView → ReadView → Type 0
+EndIsSeen r a b = OnReadyOk r (found_len a b ≡ 0 → b.saw ≡ true)
+
+-- a drain that is pending found a byte, or didn't see the pipe closed
+abbrev pub EndIsUnseen : {E : Type 0} → Poll (Result ℕ E) → ReadView → ReadView → Type 0
+EndIsUnseen r a b = OnPending r (found_len a b ≡ 0 → b.saw ≡ false)
+
+-- a drain into a slice of this length answers how many of the bytes that it found fit
+abbrev pub CountsWhatFits : {E : Type 0} → Poll (Result ℕ E) → ℕ → ReadView → ReadView → Type 0
+CountsWhatFits r space a b = IfReadyOk r (λ n. n ≡ min space (found_len a b))
 
 -- what the reader knew it still knows, but for what it took of it
 abbrev pub StaysKnown : ReadView → ReadView → Type 0
@@ -37,6 +50,10 @@ pub record Drains {S E : Type 0} (takes : Passes S) (is_full : S → Type 0) (fa
   pub copied : Copies takes fails r s t moved
   pub most : OnReadyOk r ((b.known ≡ []) ⊎ is_full t)
   pub end : ReaderCopied a b
+
+-- a drain into a writer of std: what that holds may be known, and neither whether it takes more nor its errors are
+abbrev pub DrainsInto : {S E : Type 0} → (S → Option (List ℕ)) → Poll (Result ℕ (Inner E)) → ReadView → ReadView → S → S → Type 0
+DrainsInto contents r a b s t = Drains (appends_to contents) (λ _. ⊤) (λ _ _ _. ⊤) r a b s t
 
 -- a look of a drain found no byte: the pipe was seen closed, or not, or no waker could be made
 abbrev pub FoundNoByte : {E : Type 0} → Poll (Result ℕ (Inner E)) → ReadView → Type 0

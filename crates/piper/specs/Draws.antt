@@ -1,5 +1,6 @@
 -- Draws of a polling copy: it yields where the next word of the handle's generator is 0 modulo 100.
 use Rattle.std.specs.Prelude.{◌≡◌, ◌%◌, ◌↔◌, ⊤}
+use Rattle.futures.specs.Poll.{OnPending}
 use Rattle.rand_pcg.specs.Lcg.{Lcg}
 use Rattle.rand_pcg.specs.Pcg.{pcg32}
 use Rattle.futures.specs.declared.task.Poll.{Poll}
@@ -21,3 +22,8 @@ pub record Draws {A : Type 0} (looked_true : Type 0) (r : Poll A) (old new : Lcg
   pub word : looked_true → new ≡ drawn_from old
   pub yields : looked_true → (IsPending r ↔ DrawsYield old)
   pub none : ¬ looked_true → new ≡ old
+
+-- a copy without a context never draws, and is pending only where its look was not true
+pub record Undrawn {A : Type 0} (looked_true : Type 0) (r : Poll A) (old new : Lcg) : Type 0 where
+  pub rest : new ≡ old
+  pub waits : OnPending r (¬ looked_true)

@@ -1,13 +1,14 @@
 -- Fills of the writer from any source.
-use Rattle.std.specs.Prelude.{◌≡◌, ℕ, ◌<◌, ◌≤◌, ◌⊎◌, true, false, List, [], ◌++◌, Result, Ok, Err, ⊤}
+use Rattle.std.specs.Prelude.{◌≡◌, ℕ, ◌<◌, ◌≤◌, ◌⊎◌, true, false, List, [], ◌++◌, Option, Result, Ok, Err, ⊤}
 use Rattle.futures.specs.declared.task.Poll.{Poll}
 use Rattle.futures.specs.declared.task.Poll.TheVariants.{Ready, Pending}
+use Rattle.std.specs.Io.KnownBytes.{IsAtEnd}
 use Rattle.piper_ring.specs.Shared.{flag}
 use Rattle.piper_ring.specs.WriteView.{WriteView, SameWriteEnd}
 use Rattle.piper.specs.Copies.{IsReplaced}
 use Rattle.piper.specs.CopyAnswers.{Copies}
 use Rattle.piper.specs.Ends.{WriterIsUpToDate}
-use Rattle.piper.specs.Like.{Passes}
+use Rattle.piper.specs.Like.{Passes, consumes_of}
 use Rattle.piper.specs.Polls.{IfReadyOk}
 use Rattle.piper.specs.declared.error.Inner.{Inner}
 use Rattle.piper.specs.declared.error.Inner.TheVariants.{Memory, Like}
@@ -48,6 +49,10 @@ pub record Fills {S E : Type 0} (gives : Passes S) (is_dry : S → Type 0) (fail
   pub copied : Copies gives fails r s t (published ++ lost)
   pub most : IfReadyOk r (λ n. (((0 < n) × (b.room ≡ 0)) ⊎ is_dry t) ⊎ (b.saw ≡ true))
   pub end : WriterFilled a b
+
+-- a fill from a reader of std: what that has left may be known, and its errors are not
+abbrev pub FillsFrom : {S E : Type 0} → (S → Option (List ℕ)) → Poll (Result ℕ (Inner E)) → WriteView → WriteView → S → S → Type 0
+FillsFrom remaining r a b s t = Fills (consumes_of remaining) (λ u. IsAtEnd (remaining u)) (λ _ _ _. ⊤) r a b s t
 
 -- a look of a fill was not true: the pipe was seen closed, or there is no room, or no waker could be made
 abbrev pub FoundNoRoom : {E : Type 0} → Poll (Result ℕ (Inner E)) → WriteView → Type 0

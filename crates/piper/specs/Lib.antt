@@ -7,6 +7,7 @@ pub mod Like
 pub mod Written
 pub mod Slots
 pub mod Calls
+pub mod Contexts
 pub mod Copies
 pub mod Counts
 pub mod Ends

@@ -16,6 +16,12 @@ IfReadyOk (Ready (Ok x)) P = P x
 IfReadyOk (Ready (Err e)) P = ⊤
 IfReadyOk Pending P = ⊤
 
+-- P holds of its error where the poll was ready and failed
+abbrev pub IfReadyErr : {A E : Type 0} → Poll (Result A E) → (E → Type 0) → Type 0
+IfReadyErr (Ready (Ok x)) P = ⊤
+IfReadyErr (Ready (Err e)) P = P e
+IfReadyErr Pending P = ⊤
+
 -- a slice that was lent: the first piece of the bytes that are known, and an empty one only at an end that was seen. Where
 -- the poll is pending no byte is known
 abbrev pub Lends : {E : Type 0} → Poll (Result (Bor (List ℕ)) E) → List ℕ → ℕ → Bool → Type 0

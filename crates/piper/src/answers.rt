@@ -1,8 +1,8 @@
 //! What the call table answers, as the calls of the handles answer it; and the wake at the end of a round or a call.
-ghost use Rattle.std.specs.Prelude.{◌≡◌, ℕ, Bool, true};
+ghost use Rattle.std.specs.Prelude.{◌≡◌, Bool, true};
 ghost use Rattle.piper_sides.specs.Table.{read_action, write_action};
 ghost use Rattle.piper.specs.Slots.{found_in};
-ghost use Rattle.piper.specs.Calls.{poll_of, count_of, read_woken, write_woken};
+ghost use Rattle.piper.specs.Calls.{poll_of, read_woken, write_woken};
 
 use crate::handles::{read_steps, write_steps};
 use crate::slot::Taken;
@@ -24,18 +24,6 @@ pub(crate) fn polled(answer: Answer) -> Poll<Result<bool, OutOfMemory>>
         Answer::Poll(Polled::Ready(found)) => Poll::Ready(Ok(found)),
         Answer::Poll(Polled::Memory) => Poll::Ready(Err(OutOfMemory)),
         Answer::Poll(Polled::Pending) => Poll::Pending,
-        _ => unreachable!(),
-    }
-}
-
-/// What a try form answers.
-#[inline(always)]
-pub(crate) fn counted(answer: Answer) -> usize
-    requires { (n : ℕ) × (answer ≡ Answer.Count n) }
-    ensures { result ≡ count_of answer }
-{
-    match answer {
-        Answer::Count(n) => n,
         _ => unreachable!(),
     }
 }

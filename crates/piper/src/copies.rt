@@ -1,4 +1,4 @@
-//! Copies that may wait, between the pipe and any source or destination.
+//! Copies between the pipe and any source or destination, which wait or don't.
 ghost use Rattle.std.specs.Prelude.{◌≡◌};
 ghost use Rattle.piper.specs.CopyAnswers.{IsCopied, copied_of};
 

@@ -1,11 +1,11 @@
 //! Reads and writes that may be pending, and a copy over them.
-ghost use Rattle.std.specs.Prelude.{◌≡◌, ◌<◌, ◌≤◌, ◌++◌, ℕ, List, length, take, drop, Bool, true, Ok};
+ghost use Rattle.std.specs.Prelude.{◌≡◌, ◌<◌, ◌≤◌, ◌++◌, ℕ, List, length, take, drop, Bool, true, Ok, ⊤};
 ghost use Rattle.std.specs.Borrow.{sem};
 ghost use Rattle.std.specs.Io.{StartsWith};
 ghost use Rattle.std.specs.Io.BufRead.{Rests};
 ghost use Rattle.futures.specs.Task.{Covers, Keeps};
 ghost use Rattle.futures.specs.Poll.{OnPending};
-ghost use Rattle.piper.specs.Polls.{Lends, Reads, Writes, OnReadyOk};
+ghost use Rattle.piper.specs.Polls.{Lends, Reads, Writes, OnReadyOk, IfReadyErr};
 
 mod copy;
 
@@ -15,6 +15,8 @@ use futures::task::{Context, Poll};
 
 /// A reader that copies what it takes.
 pub trait AsyncRead {
+    ghost use Rattle.piper.specs.declared.error.PipeError.{PipeError};
+
     // all bytes that were taken
     ghost taken: { Self → List ℕ };
 
@@ -24,9 +26,14 @@ pub trait AsyncRead {
     // holds of each source that a pending read waits for
     ghost needs: { Self → ℕ → Type 0 };
 
+    // it has failed with this error, and is left so
+    ghost fails: { Self → PipeError → Type 0 } = { λ _ _. ⊤ };
+
     /// Takes bytes, puts them at the front of `dest`, and answers how many; 0 where `dest` has room is the end.
     fn poll_read(&mut self, cx: &mut Context<'_>, dest: &mut [u8]) -> Poll<Result<usize, PipeError>>
-        ensures read { Reads result dest.old dest.new (taken self.old) (taken self.new) (saw self.new) }
+        ensures read { Reads result dest.old dest.new
+            (taken self.old) (taken self.new) (saw self.new) }
+        ensures error { IfReadyErr result (fails self.new) }
         ensures stays { saw self.old ≡ true → saw self.new ≡ true }
         ensures covered { OnPending result (Covers cx.new (needs self.new)) }
         ensures kept { Keeps cx.old cx.new };
@@ -34,6 +41,8 @@ pub trait AsyncRead {
 
 /// A reader that lends the bytes that it knows.
 pub trait AsyncBufRead {
+    ghost use Rattle.piper.specs.declared.error.PipeError.{PipeError};
+
     // the bytes that it knows, the next one first
     ghost known: { Self → List ℕ };
 
@@ -49,6 +58,9 @@ pub trait AsyncBufRead {
     // holds of each source that a pending call waits for
     ghost needs: { Self → ℕ → Type 0 };
 
+    // it has failed with this error, and is left so
+    ghost fails: { Self → PipeError → Type 0 } = { λ _ _. ⊤ };
+
     /// Lends the first piece of the bytes that it knows; an empty slice is the end. Bytes that were known stay known, and none is taken.
     fn poll_fill_buf(&mut self, cx: &mut Context<'_>) -> Poll<Result<&[u8], PipeError>>
         // said of the reader as it is once the slice is given back
@@ -57,6 +69,7 @@ pub trait AsyncBufRead {
             × StartsWith (known new) (known self.old)
             × (taken new ≡ taken self.old)
             × (saw self.old ≡ true → saw new ≡ true)
+            × IfReadyErr result (fails new)
             × OnPending result (Covers cx.new (needs new)))) }
         ensures kept { Keeps cx.old cx.new };
 
@@ -70,6 +83,8 @@ pub trait AsyncBufRead {
 
 /// A writer.
 pub trait AsyncWrite {
+    ghost use Rattle.piper.specs.declared.error.PipeError.{PipeError};
+
     // all bytes that were published
     ghost sent: { Self → List ℕ };
 
@@ -79,10 +94,15 @@ pub trait AsyncWrite {
     // holds of each source that a pending call waits for
     ghost needs: { Self → ℕ → Type 0 };
 
+    // it has failed with this error, and is left so
+    ghost fails: { Self → PipeError → Type 0 } = { λ _ _. ⊤ };
+
     /// Publishes bytes from the front of `source`, and answers how many; 0 where there are some says that the pipe is closed, and so does each later answer. Bytes that were counted in the call that sees the pipe closed may be lost.
     fn poll_write(&mut self, cx: &mut Context<'_>, source: &[u8]) -> Poll<Result<usize, PipeError>>
         ensures written { Writes result source.now (sent self.old) (sent self.new) (saw self.new) }
-        ensures full { result ≡ Poll.Ready (Ok 0) → 0 < length source.now → saw self.new ≡ true }
+        ensures full { result ≡ Poll.Ready (Ok 0) →
+            0 < length source.now → saw self.new ≡ true }
+        ensures error { IfReadyErr result (fails self.new) }
         ensures over { saw self.old ≡ true → result ≡ Poll.Ready (Ok 0) }
         ensures stays { saw self.old ≡ true → saw self.new ≡ true }
         ensures covered { OnPending result (Covers cx.new (needs self.new)) }
@@ -90,6 +110,7 @@ pub trait AsyncWrite {
 
     /// Waits until what was written is on its way.
     fn poll_flush(&mut self, cx: &mut Context<'_>) -> Poll<Result<(), PipeError>>
+        ensures error { IfReadyErr result (fails self.new) }
         ensures sent { sent self.new ≡ sent self.old }
         ensures stays { saw self.old ≡ true → saw self.new ≡ true }
         ensures covered { OnPending result (Covers cx.new (needs self.new)) }
@@ -98,6 +119,7 @@ pub trait AsyncWrite {
     /// Closes the pipe for good.
     fn poll_close(&mut self, cx: &mut Context<'_>) -> Poll<Result<(), PipeError>>
         ensures closed { OnReadyOk result (saw self.new ≡ true) }
+        ensures error { IfReadyErr result (fails self.new) }
         ensures sent { sent self.new ≡ sent self.old }
         ensures stays { saw self.old ≡ true → saw self.new ≡ true }
         ensures covered { OnPending result (Covers cx.new (needs self.new)) }

@@ -3,7 +3,6 @@
 
 mod answers;
 mod copies;
-mod copying;
 mod error;
 mod handles;
 pub mod io;

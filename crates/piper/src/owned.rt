@@ -2,7 +2,10 @@
 ghost use Rattle.std.specs.Prelude.{◌≡◌};
 ghost use Rattle.std.specs.Borrow.{sem};
 
+use crate::error::PipeError;
 use crate::handles::{Reader, Writer};
+use crate::io::{AsyncBufRead, AsyncRead, AsyncWrite};
+use futures::task::{Context, Poll};
 use std::sync::Wait;
 
 /// A reader that is dropped where it is let go: it closes the pipe and wakes the writer.
@@ -62,5 +65,72 @@ impl<H: Wait + Clone + Drop> Drop for OwnedWriter<H> {
     fn drop(self) {
         let OwnedWriter { writer } = self;
         writer.drop();
+    }
+}
+
+impl<H: Wait + Clone + Drop> AsyncRead for OwnedReader<H> {
+    ghost use Rattle.piper.specs.Handles.{read_source};
+
+    ghost taken = { λ owned. owned.reader.end.taken };
+
+    ghost saw = { λ owned. owned.reader.end.saw };
+
+    ghost needs = { λ owned s. s ≡ read_source owned.reader };
+
+    fn poll_read(
+        &mut self,
+        cx: &mut Context<'_>,
+        dest: &mut [u8],
+    ) -> Poll<Result<usize, PipeError>> {
+        self.reader.poll_read(cx, dest)
+    }
+}
+
+impl<H: Wait + Clone + Drop> AsyncBufRead for OwnedReader<H> {
+    ghost use Rattle.piper_ring.specs.ReadView.{in_one_piece};
+    ghost use Rattle.piper.specs.Handles.{read_source};
+
+    ghost known = { λ owned. owned.reader.end.known };
+
+    ghost piece = { λ owned. in_one_piece owned.reader.end };
+
+    ghost taken = { λ owned. owned.reader.end.taken };
+
+    ghost saw = { λ owned. owned.reader.end.saw };
+
+    ghost needs = { λ owned s. s ≡ read_source owned.reader };
+
+    fn poll_fill_buf(&mut self, cx: &mut Context<'_>) -> Poll<Result<&[u8], PipeError>> {
+        self.reader.poll_fill_buf(cx)
+    }
+
+    fn consume(&mut self, amt: usize) {
+        AsyncBufRead::consume(&mut self.reader, amt);
+    }
+}
+
+impl<H: Wait + Clone + Drop> AsyncWrite for OwnedWriter<H> {
+    ghost use Rattle.piper.specs.Handles.{write_source};
+
+    ghost sent = { λ owned. owned.writer.end.sent };
+
+    ghost saw = { λ owned. owned.writer.end.saw };
+
+    ghost needs = { λ owned s. s ≡ write_source owned.writer };
+
+    fn poll_write(
+        &mut self,
+        cx: &mut Context<'_>,
+        source: &[u8],
+    ) -> Poll<Result<usize, PipeError>> {
+        self.writer.poll_write(cx, source)
+    }
+
+    fn poll_flush(&mut self, cx: &mut Context<'_>) -> Poll<Result<(), PipeError>> {
+        self.writer.poll_flush(cx)
+    }
+
+    fn poll_close(&mut self, cx: &mut Context<'_>) -> Poll<Result<(), PipeError>> {
+        AsyncWrite::poll_close(&mut self.writer, cx)
     }
 }

@@ -1,21 +1,19 @@
 //! The calls of the handle that reads.
-ghost use Rattle.std.specs.Prelude.{◌≡◌, ℕ, ◌<◌, ◌≤◌, ◌++◌, ◌↔◌, [], length, take, drop, IsTrue, Ok, true, false};
+ghost use Rattle.std.specs.Prelude.{◌≡◌, ◌<◌, ◌≤◌, ◌++◌, length, take, drop, IsTrue, Ok, true, false};
 ghost use Rattle.futures.specs.Task.{Covers, Keeps};
 ghost use Rattle.futures.specs.Poll.{OnPending};
 ghost use Rattle.piper_ring.specs.ReadView.{MayBeUnread, in_one_piece};
 ghost use Rattle.piper.specs.Counts.{ReaderCompares};
-ghost use Rattle.piper.specs.Copies.{Drained, ReaderCopied};
-ghost use Rattle.piper.specs.Ends.{ReaderConsumed, ReaderIsUpToDate};
+ghost use Rattle.piper.specs.Ends.{ReaderConsumed};
 ghost use Rattle.piper.specs.Looks.{ReaderFound, ReaderLooked, OnRefused};
 
-use crate::answers::{counted, polled, read_wake};
-use crate::copying::copy_front;
+use crate::answers::{polled, read_wake};
 use crate::handles::Reader;
 use crate::handles::read_steps::take_writer;
 use futures::task::{Context, Poll};
 use piper_ring::{OutOfMemory, ReadMark};
 use piper_sides::read_call::ReadCall;
-use piper_sides::table::{Form, Purpose, ReadPlace};
+use piper_sides::table::{Purpose, ReadPlace};
 use std::sync::Wait;
 
 impl<H: Wait + Clone + Drop> Reader<H> {
@@ -81,7 +79,7 @@ impl<H: Wait + Clone + Drop> Reader<H> {
         if !is_granted {
             return polled(call.end());
         }
-        let call = self.load_closed(call);
+        let (call, _is_closed) = self.load_closed(call);
         let (call, none) = self.load_tail(call);
         if !none {
             return self.found(call);
@@ -124,55 +122,6 @@ impl<H: Wait + Clone + Drop> Reader<H> {
         let call = self.store_head(ReadCall::consume(amt), amt);
         let (call, taken) = self.take_writer(call);
         read_wake(call, taken).done();
-    }
-
-    /// Moves known bytes into the front of `dest`, as many as fit, and answers how many. It looks for more only where none is known, and doesn't wait: 0 is no end.
-    pub fn try_drain(&mut self, dest: &mut [u8]) -> usize
-        ensures count { result ≤ length dest.old }
-        ensures rest { drop result dest.new ≡ drop result dest.old }
-        ensures taken { self.new.end.taken ≡ self.old.end.taken ++ take result dest.new }
-        ensures known { 0 < length self.old.end.known → take result dest.new ++ self.new.end.known ≡ self.old.end.known }
-        ensures most { result < length dest.old → self.new.end.known ≡ [] }
-        ensures fresh { self.old.end.known ≡ [] → ReaderIsUpToDate self.new.end }
-        ensures end { ReaderCopied self.old.end self.new.end }
-        ensures handle { SameReader self.old self.new }
-    {
-        let (call, none) = self.look(Purpose::Copy(Form::Try));
-        if !none {
-            return self.drain_rounds(call, dest);
-        }
-        let (call, none) = self.load_tail(call);
-        if !none {
-            return self.drain_rounds(call, dest);
-        }
-        let call = self.load_closed(call);
-        let (call, none) = self.load_tail(call);
-        if !none {
-            return self.drain_rounds(call, dest);
-        }
-        counted(call.end())
-    }
-
-    // Moves known bytes in rounds, each in one piece, until none is known or the slice is full.
-    #[inline(always)]
-    fn drain_rounds(&mut self, call: ReadCall, dest: &mut [u8]) -> usize
-        requires { call.place ≡ ReadPlace.CallDestination Form.Try 0 }
-        ensures moved { Drained result self.old.end dest.old dest.new self.new.end }
-        ensures most { result < length dest.old → self.new.end.known ≡ [] }
-        ensures rest { SameReader self.old self.new }
-    {
-        let mut call = call;
-        let mut sum = 0;
-        'rounds: loop {
-            let n = copy_front(self.peek_buf(), &mut dest[sum..]);
-            if n == 0 {
-                return counted(call.destination_took(0).end());
-            }
-            let round = self.store_head(call.destination_took(n), n);
-            let (round, taken) = self.take_writer(round);
-            call = read_wake(round, taken);
-            sum += n;
-        }
     }
 
     /// Evidence of what was consumed, for the writer to heed.

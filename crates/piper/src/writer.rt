@@ -1,20 +1,18 @@
 //! The calls of the handle that writes.
-ghost use Rattle.std.specs.Prelude.{◌≡◌, ℕ, ◌+◌, ◌-◌, ◌<◌, ◌≤◌, ◌++◌, ◌↔◌, [], length, take, drop, IsTrue, Ok, true, false};
+ghost use Rattle.std.specs.Prelude.{◌≡◌, ◌+◌, ◌-◌, ◌<◌, ◌≤◌, ◌++◌, length, take, drop, IsTrue, Ok, true, false};
 ghost use Rattle.futures.specs.Task.{Covers, Keeps};
 ghost use Rattle.futures.specs.Poll.{OnPending};
 ghost use Rattle.piper_ring.specs.WriteView.{MayBeUnread};
 ghost use Rattle.piper.specs.Counts.{WriterCompares};
-ghost use Rattle.piper.specs.Copies.{Filled, WriterCopied, IsReplaced};
-ghost use Rattle.piper.specs.Ends.{WriterPublished, WriterShut, WriterIsUpToDate};
+ghost use Rattle.piper.specs.Ends.{WriterPublished, WriterShut};
 ghost use Rattle.piper.specs.Looks.{WriterFound, WriterLooked, OnRefused};
 
-use crate::answers::{counted, polled, write_wake};
-use crate::copying::{MOST_A_ROUND, copy_front};
+use crate::answers::{polled, write_wake};
 use crate::handles::Writer;
 use crate::handles::write_steps::take_reader;
 use futures::task::{Context, Poll};
 use piper_ring::{OutOfMemory, WriteMark};
-use piper_sides::table::{Form, Purpose, WritePlace};
+use piper_sides::table::{Purpose, WritePlace};
 use piper_sides::write_call::WriteCall;
 use std::sync::Wait;
 
@@ -117,74 +115,6 @@ impl<H: Wait + Clone + Drop> Writer<H> {
         let call = self.store_tail(WriteCall::produced(n), n);
         let (call, taken) = self.take_reader(call);
         write_wake(call, taken).done();
-    }
-
-    /// Publishes bytes from the front of `bytes`, as many as there is room for, and answers how many it took. It looks for more room only where none is known, and doesn't wait. Nothing is lent afterwards.
-    ///
-    /// A closed pipe takes none. Where the pipe is seen closed only once some bytes were taken, the last of them, at most one round, are counted and not published.
-    pub fn try_fill(&mut self, bytes: &[u8]) -> usize
-        ensures count { result ≤ length bytes.now }
-        ensures sent { self.new.end.saw ≡ false → self.new.end.sent ≡ self.old.end.sent ++ take result bytes.now }
-        ensures front { (m : ℕ) × (m ≤ result) × (self.new.end.sent ≡ self.old.end.sent ++ take m bytes.now) }
-        ensures room { 0 < self.old.end.room → IsReplaced self.old.end self.new.end }
-        ensures most { result < length bytes.now → self.new.end.saw ≡ false → self.new.end.room ≡ 0 }
-        ensures closed { self.old.end.saw ≡ true → result ≡ 0 }
-        ensures fresh { self.old.end.room ≡ 0 → self.new.end.saw ≡ false → WriterIsUpToDate self.new.end }
-        ensures end { WriterCopied self.old.end self.new.end }
-        ensures handle { SameWriter self.old self.new }
-    {
-        let (call, is_closed, none) = self.look_closed(WriteCall::look(Purpose::Copy(Form::Try)));
-        if !is_closed && !none {
-            return self.fill_rounds(call, bytes);
-        }
-        let call = if is_closed {
-            call
-        } else {
-            let (call, none) = self.load_head(call);
-            if !none {
-                return self.fill_rounds(call, bytes);
-            }
-            let (call, none) = self.load_head(call);
-            if !none {
-                return self.fill_rounds(call, bytes);
-            }
-            let (call, _) = self.load_closed(call);
-            call
-        };
-        self.unlend();
-        counted(call.end())
-    }
-
-    // Publishes bytes in rounds, each in one piece, until no room is known, all were published, or the pipe is seen closed.
-    #[inline(always)]
-    fn fill_rounds(&mut self, call: WriteCall, bytes: &[u8]) -> usize
-        requires place { call.place ≡ WritePlace.CallSource Form.Try 0 }
-        requires is_open { (self.old.end.shut ≡ false) × (self.old.end.saw ≡ false) }
-        ensures all { self.new.end.saw ≡ false → Filled result self.old.end bytes.now self.new.end }
-        ensures some { (m : ℕ) × (m ≤ result) × Filled m self.old.end bytes.now self.new.end }
-        ensures count { result ≤ length bytes.now }
-        ensures most { result < length bytes.now → self.new.end.saw ≡ false → self.new.end.room ≡ 0 }
-        ensures lent { self.new.end.lent ≡ [] }
-        ensures rest { SameWriter self.old self.new }
-    {
-        let mut call = call;
-        let mut sum = 0;
-        'rounds: loop {
-            let n = copy_front(&bytes[sum..], self.write_buf(MOST_A_ROUND));
-            if n == 0 {
-                self.unlend();
-                return counted(call.source_gave(0).end());
-            }
-            let (round, is_closed) = self.load_closed(call.source_gave(n));
-            if is_closed {
-                self.unlend();
-                return counted(round.end());
-            }
-            let round = self.store_tail(round, n);
-            let (round, taken) = self.take_reader(round);
-            call = write_wake(round, taken);
-            sum += n;
-        }
     }
 
     /// Closes the pipe for good, and wakes both sides. Nothing is lent any more, and what was lent is taken back.

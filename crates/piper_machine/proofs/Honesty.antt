@@ -111,10 +111,18 @@ writer-answers : (h : History) (answer : Option Answer) → IsHonestFrom h (answ
 writer-answers h None = tt
 writer-answers h (Some answer) = (tt, tt)
 
--- the reader stands between its load of closed and its last look, and the flag was set
+-- what the reader loaded of the flag, between this load and its last look
+abbrev pub loaded : ReadPlace → Option Bool
+loaded (at.LookTailAgain l was_closed) = Some was_closed
+loaded place = None
+
+-- it stands there, and the flag was set
+abbrev pub is_set : Option Bool → Bool
+is_set (Some is_closed) = is_closed
+is_set None = false
+
 abbrev pub saw_close : ReadPlace → Bool
-saw_close (at.LookTailAgain l was_closed) = was_closed
-saw_close place = false
+saw_close place = is_set (loaded place)
 
 -- what the reader answers where it stands, behind the events of its step
 abbrev told : History → ReadPlace → Pipe → History
@@ -197,56 +205,57 @@ module _ (h : History) (p : Pipe) where
   place-honest (at.WakeWriter next) same seen = done-honest (told h (at.WakeWriter next) p) next
   place-honest at.StoreClosed same seen = tt
 
--- where the reader comes to, it saw the close only if the pipe is closed
+-- where the reader comes to, it has loaded the flag only by the step that loads it
 
-found-see : (l : Purpose) → saw_close (reader_found l) ≡ false
-found-see purpose.Poll = refl
-found-see (purpose.Copy Try) = refl
-found-see (purpose.Copy (Polling is_drawn)) = refl
+pub found-unloaded : (l : Purpose) → loaded (reader_found l) ≡ None
+found-unloaded purpose.Poll = refl
+found-unloaded (purpose.Copy Try) = refl
+found-unloaded (purpose.Copy (Polling is_drawn)) = refl
 
-looks-see : (none : Bool) (l : Purpose) → saw_close (reader_looked none l) ≡ false
-looks-see true purpose.Poll = refl
-looks-see true (purpose.Copy Try) = refl
-looks-see true (purpose.Copy (Polling is_drawn)) = refl
-looks-see false l = found-see l
+pub looks-unloaded : (none : Bool) (l : Purpose) → loaded (reader_looked none l) ≡ None
+looks-unloaded true purpose.Poll = refl
+looks-unloaded true (purpose.Copy Try) = refl
+looks-unloaded true (purpose.Copy (Polling is_drawn)) = refl
+looks-unloaded false l = found-unloaded l
 
-opens-see : (none : Bool) (l : Purpose) → saw_close (reader_looks_for none l) ≡ false
-opens-see true l = refl
-opens-see false l = found-see l
+pub opens-unloaded : (none : Bool) (l : Purpose) → loaded (reader_looks_for none l) ≡ None
+opens-unloaded true l = refl
+opens-unloaded false l = found-unloaded l
 
-registers-see : (is_granted : Bool) (l : Purpose) → saw_close (reader_registered is_granted l).place ≡ false
-registers-see true l = refl
-registers-see false l = refl
+pub registers-unloaded : (is_granted : Bool) (l : Purpose) → loaded (reader_registered is_granted l).place ≡ None
+registers-unloaded true l = refl
+registers-unloaded false l = refl
 
-again-see : (none was_closed : Bool) (l : Purpose) → saw_close (reader_looked_again none l was_closed).place ≡ false
-again-see true was_closed l = refl
-again-see false was_closed l = found-see l
+pub again-unloaded : (none was_closed : Bool) (l : Purpose) → loaded (reader_looked_again none l was_closed).place ≡ None
+again-unloaded true was_closed l = refl
+again-unloaded false was_closed l = found-unloaded l
 
-true-see : (l : Purpose) → saw_close (reader_is_true l).place ≡ false
-true-see purpose.Poll = refl
-true-see (purpose.Copy Try) = refl
-true-see (purpose.Copy (Polling true)) = refl
-true-see (purpose.Copy (Polling false)) = refl
+pub true-unloaded : (l : Purpose) → loaded (reader_is_true l).place ≡ None
+true-unloaded purpose.Poll = refl
+true-unloaded (purpose.Copy Try) = refl
+true-unloaded (purpose.Copy (Polling true)) = refl
+true-unloaded (purpose.Copy (Polling false)) = refl
 
-round-see : (none : Bool) (n : ℕ) (form : Form) (sum : ℕ) → saw_close (reader_moved none n form sum).place ≡ false
-round-see true n form sum = refl
-round-see false n form sum = refl
+pub round-unloaded : (none : Bool) (n : ℕ) (form : Form) (sum : ℕ) → loaded (reader_moved none n form sum).place ≡ None
+round-unloaded true n form sum = refl
+round-unloaded false n form sum = refl
 
-moved-see : (capacity : ℕ) (moved : Result ℕ Failed) (form : Form) (sum : ℕ) → saw_close (read_after capacity (at.CallDestination form sum) (found_of moved)).place ≡ false
-moved-see capacity (Ok n) form sum = round-see (n == 0) n form sum
-moved-see capacity (Err fails) form sum = refl
+pub moved-unloaded : (capacity : ℕ) (moved : Result ℕ Failed) (form : Form) (sum : ℕ) → loaded (read_after capacity (at.CallDestination form sum) (found_of moved)).place ≡ None
+moved-unloaded capacity (Ok n) form sum = round-unloaded (n == 0) n form sum
+moved-unloaded capacity (Err fails) form sum = refl
 
-done-see : (next : AfterRead) → saw_close (read_done next).place ≡ false
-done-see afterward.Answer = refl
-done-see afterward.Drop = refl
-done-see (afterward.Round form sum) = refl
+pub done-unloaded : (next : AfterRead) → loaded (read_done next).place ≡ None
+done-unloaded afterward.Answer = refl
+done-unloaded afterward.Drop = refl
+done-unloaded (afterward.Round form sum) = refl
 
-take-see : (next : AfterRead) (is_found : Bool) → saw_close (writer_taken next is_found).place ≡ false
-take-see next false = done-see next
-take-see next true = refl
+pub take-unloaded : (next : AfterRead) (is_found : Bool) → loaded (writer_taken next is_found).place ≡ None
+take-unloaded next false = done-unloaded next
+take-unloaded next true = refl
 
-unseen : (saw is_closed : Bool) → saw ≡ false → saw ≡ true → is_closed ≡ true
-unseen saw is_closed not_seen seen = absurd (cc)
+unseen : (load : Option Bool) (is_closed : Bool) → load ≡ None → is_set load ≡ true → is_closed ≡ true
+unseen None is_closed unloaded seen = absurd (cc)
+unseen (Some flag) is_closed unloaded seen = absurd (cc)
 
 reader-sees : (place : ReadPlace) (p : Pipe) → let q = (went Reader (record p { reader = place })).pipe in saw_close q.reader ≡ true → q.is_closed ≡ true
 reader-sees at.Idle p saw = absurd (cc)
@@ -254,16 +263,16 @@ reader-sees at.Dropped p saw = absurd (cc)
 reader-sees (at.QueryHead query) p saw = absurd (cc)
 reader-sees (at.QueryTail query) p saw = absurd (cc)
 reader-sees at.QueryClosed p saw = absurd (cc)
-reader-sees (at.LookTail l) p saw = unseen _ _ (looks-see (length p.unread == 0) l) saw
-reader-sees (at.LookRegister l) p saw = unseen _ _ (registers-see (is_granted p.reader_call.context) l) saw
+reader-sees (at.LookTail l) p saw = unseen _ _ (looks-unloaded (length p.unread == 0) l) saw
+reader-sees (at.LookRegister l) p saw = unseen _ _ (registers-unloaded (is_granted p.reader_call.context) l) saw
 reader-sees (at.LookClosed l) p saw = saw
-reader-sees (at.LookTailAgain l was_closed) p saw = unseen _ _ (again-see (length p.unread == 0) was_closed l) saw
-reader-sees (at.LookTake l) p saw = unseen _ _ (true-see l) saw
+reader-sees (at.LookTailAgain l was_closed) p saw = unseen _ _ (again-unloaded (length p.unread == 0) was_closed l) saw
+reader-sees (at.LookTake l) p saw = unseen _ _ (true-unloaded l) saw
 reader-sees at.Yield p saw = absurd (cc)
-reader-sees (at.CallDestination form sum) p saw = unseen _ _ (moved-see p.capacity (taken (round_count p) p.destination) form sum) saw
+reader-sees (at.CallDestination form sum) p saw = unseen _ _ (moved-unloaded p.capacity (taken (round_count p) p.destination) form sum) saw
 reader-sees (at.StoreHead n next) p saw = absurd (cc)
-reader-sees (at.TakeWriter next) p saw = unseen _ _ (take-see next (is_some p.writer_waker)) saw
-reader-sees (at.WakeWriter next) p saw = unseen _ _ (done-see next) saw
+reader-sees (at.TakeWriter next) p saw = unseen _ _ (take-unloaded next (is_some p.writer_waker)) saw
+reader-sees (at.WakeWriter next) p saw = unseen _ _ (done-unloaded next) saw
 reader-sees at.StoreClosed p saw = absurd (cc)
 
 -- an opened call leaves the flag, and has not loaded it
@@ -277,11 +286,11 @@ opened-sees lent (call.IsFull Reader) p seen = (refl, λ saw. absurd (cc))
 opened-sees lent (call.IsFull Writer) p seen = (refl, seen)
 opened-sees lent (call.IsClosed Reader) p seen = (refl, λ saw. absurd (cc))
 opened-sees lent (call.IsClosed Writer) p seen = (refl, seen)
-opened-sees lent (call.Poll Reader waker luck) p seen = (refl, unseen _ _ (opens-see (p.known == 0) purpose.Poll))
+opened-sees lent (call.Poll Reader waker luck) p seen = (refl, unseen _ _ (opens-unloaded (p.known == 0) purpose.Poll))
 opened-sees lent (call.Poll Writer waker luck) p seen = (refl, seen)
-opened-sees lent (call.TryDrain size) p seen = (refl, unseen _ _ (opens-see (p.known == 0) _))
-opened-sees lent (call.PollDrainBytes waker luck size) p seen = (refl, unseen _ _ (opens-see (p.known == 0) _))
-opened-sees lent (call.PollDrain waker luck acts) p seen = (refl, unseen _ _ (opens-see (p.known == 0) _))
+opened-sees lent (call.TryDrain size) p seen = (refl, unseen _ _ (opens-unloaded (p.known == 0) _))
+opened-sees lent (call.PollDrainBytes waker luck size) p seen = (refl, unseen _ _ (opens-unloaded (p.known == 0) _))
+opened-sees lent (call.PollDrain waker luck acts) p seen = (refl, unseen _ _ (opens-unloaded (p.known == 0) _))
 opened-sees lent (call.TryFill bytes) p seen = (refl, seen)
 opened-sees lent (call.PollFillBytes waker luck bytes) p seen = (refl, seen)
 opened-sees lent (call.PollFill waker luck acts) p seen = (refl, seen)
@@ -329,7 +338,7 @@ answered-tells h es side answer is_closed tells honest = (
   ap (λ (k : History). k.is_closed) (history-append h es (answer_event side answer) ∙ answer-keeps (history_from h es) side answer) ∙ tells.1,
 )
 
-writer-flag : (action : Action) (p : Pipe) → p.is_closed ≡ true → (performed Writer action p).is_closed ≡ true
+pub writer-flag : (action : Action) (p : Pipe) → p.is_closed ≡ true → (performed Writer action p).is_closed ≡ true
 writer-flag (does.StoreClosed true) p closed = refl
 writer-flag (does.StoreClosed false) p closed = refl
 writer-flag does.Rest p closed = closed

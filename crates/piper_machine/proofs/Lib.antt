@@ -30,9 +30,13 @@ pub mod Watching
 pub mod ReaderWaits
 pub mod WriterWaits
 pub mod Remembering
+pub mod Ends
+pub mod Causes
+pub mod Behind
 pub mod Finality
 pub mod Acts
 pub mod Telling
 pub mod ReaderAnswers
 pub mod WriterAnswers
 pub mod Answering
+pub mod Fronts

@@ -17,4 +17,5 @@ mod Refusals
 mod HonestEnd
 mod Waiters
 mod ToldEnd
+mod Fronts
 mod WhatCallsAnswer

@@ -1,22 +1,42 @@
 -- A told end is final: behind it no byte comes any more.
-use Rattle.std.specs.Prelude.{◌≡◌, ◌⊎◌, List, [], ◌∷◌, ◌++◌, All, false, ⊤}
+use Rattle.std.specs.Prelude.{◌≡◌, ◌⊎◌, List, [], ◌∷◌, ◌++◌, All, true, false, Ok, ⊤}
 use Rattle.piper_sides.specs.declared.calls.Side.TheVariants.{Reader}
 use Rattle.piper_sides.specs.declared.events.Event.{Event}
-use Rattle.piper_sides.specs.declared.events.Event.TheVariants.{Published, Answered}
-use Rattle.piper_sides.specs.declared.events.Answer.TheVariants.{Poll}
+use Rattle.piper_sides.specs.declared.events.Event.TheVariants.{Looked, Published, Consumed, Answered}
+use Rattle.piper_sides.specs.declared.events.Seen.TheVariants.{Head, Tail, Closed}
+use Rattle.piper_sides.specs.declared.events.Answer.{Answer}
+use Rattle.piper_sides.specs.declared.events.Answer.TheVariants.{Count, Poll, Copy}
 use Rattle.piper_sides.specs.declared.polling.Polled.TheVariants.{Ready, Memory}
 use Rattle.piper_machine.specs.Pipe.{Pipe}
+use Rattle.piper_machine.specs.End.{saw_closed, found_none}
 
 -- a poll tells the reader false
 abbrev pub told_end : Event
 told_end = Answered Reader (Poll (Ready false))
 
--- behind it no byte is published, and a poll of the reader answers false again, or wants memory
+-- what the reader is answered behind an end: false, no byte, or want of memory
+abbrev pub IsEndAnswer : Answer → Type 0
+IsEndAnswer (Poll answer) = (answer ≡ Ready false) ⊎ (answer ≡ Memory)
+IsEndAnswer (Copy answer) = (answer ≡ Ready (Ok 0)) ⊎ (answer ≡ Memory)
+IsEndAnswer (Count number) = (number ≡ 0)
+IsEndAnswer answer = ⊤
+
+-- behind it no byte is published or consumed, and each look of either side finds a closed pipe and no byte
 abbrev pub IsBehindEnd : Event → Type 0
 IsBehindEnd (Published bytes) = (bytes ≡ [])
-IsBehindEnd (Answered Reader (Poll answer)) = (answer ≡ Ready false) ⊎ (answer ≡ Memory)
+IsBehindEnd (Consumed bytes) = (bytes ≡ [])
+IsBehindEnd (Looked side (Head unread)) = (unread ≡ 0)
+IsBehindEnd (Looked side (Tail unread)) = (unread ≡ 0)
+IsBehindEnd (Looked side (Closed is_closed)) = (is_closed ≡ true)
+IsBehindEnd (Answered Reader answer) = IsEndAnswer answer
 IsBehindEnd event = ⊤
 
--- wherever an end was told
-abbrev pub IsFinal : Pipe → List Event → Type 0
-IsFinal p events = (before after : List Event) → events ≡ before ++ told_end ∷ after → All IsBehindEnd after × (p.unread ≡ [])
+-- nothing comes any more, and nothing is left
+abbrev pub IsOver : Pipe → List Event → Type 0
+IsOver p after = All IsBehindEnd after × (p.unread ≡ [])
+
+pub record IsFinal (p : Pipe) (events : List Event) : Type 0 where
+  -- wherever a call of the reader found the end, a poll or a drain
+  pub found : (before after : List Event) → events ≡ before ++ found_none ∷ after → saw_closed before ≡ true → IsOver p after
+  -- and wherever a poll told it
+  pub told : (before after : List Event) → events ≡ before ++ told_end ∷ after → IsOver p after

@@ -29,8 +29,10 @@ pub mod Honest
 pub mod Waiting
 pub mod Wait
 pub mod Remembered
+pub mod End
 pub mod Final
 pub mod Told
 pub mod Outcome
 pub mod Answered
+pub mod Front
 pub mod Machine

@@ -8,7 +8,7 @@ use std::alloc::Global;
 use std::marker::Model;
 
 /// A script of which the first acts are spent.
-#[derive(Debug, Drop)]
+#[derive(Drop)]
 pub struct Acts {
     script: Vec<DestAct>,
     spent: usize,
@@ -24,7 +24,7 @@ impl Model for Acts {
 }
 
 /// Where a drain puts its bytes.
-#[derive(Debug, Drop)]
+#[derive(Drop)]
 pub enum Destination {
     /// So many places of a slice.
     Slice(usize),

@@ -31,7 +31,7 @@ mod whole;
 pub use runs::run;
 
 /// A pipe of bytes and its two sides. Each call of a side is run whole: the other side makes no step during it.
-#[derive(Debug, Drop)]
+#[derive(Drop)]
 pub struct Machine {
     alloc: Global,
     bytes: Vec<u8>,

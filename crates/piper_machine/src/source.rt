@@ -10,7 +10,7 @@ use std::alloc::Global;
 use std::marker::Model;
 
 /// A script of which the first acts are spent, and some bytes of the next one.
-#[derive(Debug, Drop)]
+#[derive(Drop)]
 pub struct Source {
     script: Script<SourceAct>,
     spent: usize,

@@ -169,7 +169,7 @@ fn a_reader_waits_for_a_byte_and_finds_it(rt: HostRuntime) {
         side.took_own(),
         Some(Answer::Poll(Polled::Ready(true))),
     );
-    same(&rt, (side.place(), side.known()), (ReadPlace::Idle, 1));
+    same(&rt, (side.next(), side.known()), (Action::Rest, 1));
 }
 
 #[test]
@@ -205,11 +205,8 @@ fn a_reader_is_dropped(rt: HostRuntime) {
     side.begin_drop();
     same(&rt, side.stored_closed(), None);
     same(&rt, side.took_writer(false), Some(Answer::Done));
-    same(
-        &rt,
-        (side.place(), side.next()),
-        (ReadPlace::Dropped, Action::Rest),
-    );
+    assert!(rt; matches!(side.place(), ReadPlace::Dropped));
+    same(&rt, side.next(), Action::Rest);
 }
 
 /// A writer that was lent two places, and published both, of two.
@@ -254,7 +251,7 @@ fn a_writer_waits_for_room_and_finds_it(rt: HostRuntime) {
         side.took_own(true),
         Some(Answer::Poll(Polled::Ready(true))),
     );
-    same(&rt, (side.place(), side.room()), (WritePlace::Idle, 1));
+    same(&rt, (side.next(), side.room()), (Action::Rest, 1));
 }
 
 #[test]
@@ -280,7 +277,7 @@ fn a_writer_produces_and_closes(rt: HostRuntime) {
     same(&rt, side.shut(), None);
     same(&rt, side.took_reader(false), None);
     same(&rt, side.took_own(false), Some(Answer::Done));
-    same(&rt, (side.place(), side.lent()), (WritePlace::Idle, 0));
+    same(&rt, (side.next(), side.lent()), (Action::Rest, 0));
 }
 
 #[test]
@@ -289,9 +286,6 @@ fn a_writer_is_dropped(rt: HostRuntime) {
     side.begin_drop();
     same(&rt, side.stored_closed(), None);
     same(&rt, side.took_reader(false), Some(Answer::Done));
-    same(
-        &rt,
-        (side.place(), side.next()),
-        (WritePlace::Dropped, Action::Rest),
-    );
+    assert!(rt; matches!(side.place(), WritePlace::Dropped));
+    same(&rt, side.next(), Action::Rest);
 }

@@ -33,7 +33,7 @@ pub enum Query {
 }
 
 /// A call. Those that both sides have name their side.
-#[derive(Debug, Drop)]
+#[derive(Drop)]
 pub enum Call {
     Len(Side),
     IsEmpty(Side),
@@ -82,7 +82,7 @@ pub enum Kind {
 }
 
 /// One step of a run.
-#[derive(Debug, Drop)]
+#[derive(Drop)]
 pub enum Step {
     /// Opens a call of its side.
     Begin(Call),
@@ -93,7 +93,7 @@ pub enum Step {
 }
 
 /// What an open call of a side holds besides its place.
-#[derive(Clone, Copy, Debug, PartialEq, Eq)]
+#[derive(Clone, Copy)]
 pub struct OpenCall {
     /// The context of a polling call.
     pub context: Option<Context>,

@@ -91,7 +91,7 @@ pub enum Event {
 }
 
 /// What happened, oldest first.
-#[derive(Debug, Drop)]
+#[derive(Drop)]
 pub struct Log {
     pub(crate) items: Vec<Event>,
 }

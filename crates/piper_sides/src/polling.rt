@@ -1,7 +1,7 @@
 //! What a polling call is handed, and what it answers.
 
 /// The outcomes of a polling call that lie outside the pipe: its draw, and whether memory is granted.
-#[derive(Clone, Copy, Debug, PartialEq, Eq)]
+#[derive(Clone, Copy)]
 pub struct Luck {
     /// The number drawn, below 100: a copying call yields exactly at 0.
     pub draw: u32,
@@ -23,7 +23,7 @@ pub enum Polled<T> {
 }
 
 /// The context of a polling call. The try forms have none.
-#[derive(Clone, Copy, Debug, PartialEq, Eq)]
+#[derive(Clone, Copy)]
 pub struct Context {
     /// The name of the caller's waker.
     pub waker: u32,

@@ -6,7 +6,7 @@ use crate::index;
 use std::marker::Model;
 
 /// What the reader keeps from call to call. All counts are of bytes.
-#[derive(Debug, Drop)]
+#[derive(Drop)]
 pub struct ReadIndices {
     capacity: usize,
     head: usize,

@@ -14,7 +14,7 @@ use std::marker::Model;
 ///
 /// A call is opened by one of the `begin_` functions. `next` then says which step the call table puts
 /// next, and the function named after that step takes in what was found; it answers where the call ends.
-#[derive(Debug, Drop)]
+#[derive(Drop)]
 pub struct ReadSide {
     indices: ReadIndices,
     place: ReadPlace,

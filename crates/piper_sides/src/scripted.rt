@@ -10,7 +10,7 @@ use std::marker::Model;
 pub const MOST_A_ROUND: usize = 131_072;
 
 /// What a scripted source does.
-#[derive(Debug, Drop)]
+#[derive(Drop)]
 pub enum SourceAct {
     /// Gives these bytes, as many at a call as fit. No bytes are an end.
     Bytes(Bytes),
@@ -19,7 +19,7 @@ pub enum SourceAct {
 }
 
 /// What a scripted destination does in one call.
-#[derive(Clone, Copy, Debug, PartialEq, Eq)]
+#[derive(Clone, Copy)]
 pub enum DestAct {
     /// Takes at most so many bytes.
     Take(usize),
@@ -32,7 +32,7 @@ pub enum DestAct {
 pub struct Failed;
 
 /// What a source or destination does, act by act.
-#[derive(Debug, Drop)]
+#[derive(Drop)]
 pub struct Script<A> {
     acts: Vec<A>,
 }

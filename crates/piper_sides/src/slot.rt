@@ -4,7 +4,7 @@ ghost use Rattle.std.specs.Prelude.{◌≡◌};
 use std::marker::Model;
 
 /// At most one waker.
-#[derive(Debug, Drop)]
+#[derive(Drop)]
 pub struct SlotState<T> {
     content: Option<T>,
 }

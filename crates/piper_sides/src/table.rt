@@ -37,7 +37,7 @@ pub enum Action {
 }
 
 /// In which form a copying call is made.
-#[derive(Clone, Copy, Debug, PartialEq, Eq)]
+#[derive(Clone, Copy)]
 pub enum Form {
     /// Without a context: it registers nothing, and answers a count.
     Try,
@@ -46,7 +46,7 @@ pub enum Form {
 }
 
 /// What a look is for.
-#[derive(Clone, Copy, Debug, PartialEq, Eq)]
+#[derive(Clone, Copy)]
 pub enum Purpose {
     /// A poll answers what the look finds.
     Poll,
@@ -55,7 +55,7 @@ pub enum Purpose {
 }
 
 /// What follows the reader's wake of the writer.
-#[derive(Clone, Copy, Debug, PartialEq, Eq)]
+#[derive(Clone, Copy)]
 pub enum AfterRead {
     Answer,
     Drop,
@@ -64,7 +64,7 @@ pub enum AfterRead {
 }
 
 /// What follows the writer's wake of the reader.
-#[derive(Clone, Copy, Debug, PartialEq, Eq)]
+#[derive(Clone, Copy)]
 pub enum AfterWrite {
     Answer,
     Drop,
@@ -75,7 +75,7 @@ pub enum AfterWrite {
 }
 
 /// Where the reader stands: named after the step that comes next.
-#[derive(Clone, Copy, Debug, PartialEq, Eq)]
+#[derive(Clone, Copy)]
 pub enum ReadPlace {
     Idle,
     Dropped,
@@ -97,7 +97,7 @@ pub enum ReadPlace {
 }
 
 /// Where the writer stands: named after the step that comes next.
-#[derive(Clone, Copy, Debug, PartialEq, Eq)]
+#[derive(Clone, Copy)]
 pub enum WritePlace {
     Idle,
     Dropped,

@@ -4,7 +4,7 @@ ghost use Rattle.std.specs.Prelude.{◌≡◌, ◌<◌, [], ◌∷◌, ◌++◌,
 use std::marker::Model;
 
 /// At most two names, oldest first.
-#[derive(Debug, Drop)]
+#[derive(Drop)]
 pub struct Woken {
     names: [u32; 2],
     count: usize,

@@ -9,7 +9,7 @@ use std::marker::Model;
 const LEAST_LEND: usize = 4096;
 
 /// What the writer keeps from call to call. All counts are of places.
-#[derive(Debug, Drop)]
+#[derive(Drop)]
 pub struct WriteIndices {
     capacity: usize,
     tail: usize,

@@ -13,7 +13,7 @@ use std::marker::Model;
 ///
 /// A call is opened by one of the `begin_` functions. `next` then says which step the call table puts
 /// next, and the function named after that step takes in what was found; it answers where the call ends.
-#[derive(Debug, Drop)]
+#[derive(Drop)]
 pub struct WriteSide {
     indices: WriteIndices,
     place: WritePlace,
@@ -86,9 +86,9 @@ impl WriteSide {
         ensures { result ≡ ends_fill self.now.place }
     {
         match self.place {
-            WritePlace::LookClosed(purpose)
-            | WritePlace::LookRegister(purpose)
-            | WritePlace::LookClosedAgain(purpose) => purpose != Purpose::Poll,
+            WritePlace::LookClosed(Purpose::Copy(_))
+            | WritePlace::LookRegister(Purpose::Copy(_))
+            | WritePlace::LookClosedAgain(Purpose::Copy(_)) => true,
             WritePlace::Yield | WritePlace::CallSource(_, _) | WritePlace::RoundClosed(_, _, _) =>
                 true,
             _ => false,

@@ -1,185 +1,285 @@
-//! Copies that wait: over slices, and over readers and writers of std.
-use crate::compare::{answer, drain, fill};
-use futures::task::Poll;
-use futures::test::MockTask;
-use piper::{OutOfMemory, PipeError, Reader, Writer, pipe};
-use std::io;
-use std::io::Read;
+//! Copies that wait: between the pipe and slices, readers, writers, and sources and destinations of its own traits.
+ghost use Rattle.std.specs.Prelude.{◌<◌, ◌*◌, ◌^◌};
+
+use crate::ends::End;
+use crate::pair::{Act, Moved, Pair, Polled, same};
+use std::alloc::AllocGlobal;
+use std::io::ErrorKind;
 use std::process::Abort;
+use std::random::RandomSource;
 use std::sync::Wait;
-use std::test::Fail;
 
-/// What a copy is to a test.
-#[derive(Clone, Copy, Debug, PartialEq, Eq)]
-enum Moved {
-    Pending,
-    Bytes(usize),
-    Broken,
-    Other,
+/// Kinds of errors, among them those that a copy might take for something else.
+const KINDS: [ErrorKind; 8] = [
+    ErrorKind::BrokenPipe,
+    ErrorKind::Interrupted,
+    ErrorKind::OutOfMemory,
+    ErrorKind::WouldBlock,
+    ErrorKind::UnexpectedEof,
+    ErrorKind::WriteZero,
+    ErrorKind::TimedOut,
+    ErrorKind::Other,
+];
+
+#[test]
+fn a_copy_waits_until_the_other_side_moves(rt: HostRuntime) {
+    let acts = [
+        Act::PollDrain(8, None),
+        Act::ReaderIsWoken(false),
+        Act::PollDrain(8, None),
+        Act::ReaderIsWoken(false),
+        Act::PollFill(b"abcdef", Some(4)),
+        Act::ReaderIsWoken(true),
+        Act::PollFill(b"ef", None),
+        Act::WriterIsWoken(false),
+        Act::PollFill(b"ef", None),
+        Act::WriterIsWoken(false),
+        Act::PollDrain(8, Some(b"abcd")),
+        Act::WriterIsWoken(true),
+        Act::DropWriter,
+        Act::PollDrain(8, Some(b"")),
+    ];
+    Pair::new(&rt, 4).play(&rt, &acts);
 }
 
-fn told(polled: Poll<Result<usize, OutOfMemory>>) -> Moved {
-    match polled {
-        Poll::Pending => Moved::Pending,
-        Poll::Ready(Ok(count)) => Moved::Bytes(count),
-        Poll::Ready(Err(_)) => Moved::Other,
+#[test]
+fn a_fill_of_a_pipe_that_was_closed_takes_nothing(rt: HostRuntime) {
+    let acts = [
+        Act::Fill(b"a", 1),
+        Act::PollFill(b"b", None),
+        Act::DropReader,
+        Act::WriterIsWoken(true),
+        Act::PollFill(b"b", Some(0)),
+        Act::Closed(true),
+    ];
+    Pair::new(&rt, 1).play(&rt, &acts);
+}
+
+#[test]
+fn a_drain_of_a_pipe_that_was_closed_is_at_the_end(rt: HostRuntime) {
+    let acts = [
+        Act::PollDrain(1, None),
+        Act::DropWriter,
+        Act::ReaderIsWoken(true),
+        Act::PollDrain(1, Some(b"")),
+        Act::Closed(true),
+    ];
+    Pair::new(&rt, 1).play(&rt, &acts);
+}
+
+/// Through which call a copy goes.
+#[derive(Clone, Copy, Debug)]
+enum Through {
+    /// Over a reader or writer of std.
+    Std,
+    /// Over a source or destination of the test's own.
+    Inner,
+}
+
+/// What a copy answers whose last call of the end fails with an error of this kind, or moves none.
+fn ended(moved: usize, error: Option<ErrorKind>) -> Moved {
+    match error {
+        Some(kind) => Moved::Failed(kind),
+        None => Moved::Bytes(moved),
     }
 }
 
-fn told_with_error(polled: Poll<Result<usize, PipeError>>) -> Moved {
-    match polled {
-        Poll::Pending => Moved::Pending,
-        Poll::Ready(Ok(count)) => Moved::Bytes(count),
-        Poll::Ready(Err(PipeError::Io(error))) if error.kind() == io::ErrorKind::BrokenPipe => {
-            Moved::Broken
+/// A source gives a byte a call, and its call `last` fails or gives none. What it gave before stays published.
+fn fill_ends_at<H>(rt: &H, through: Through, capacity: usize, last: usize, error: Option<ErrorKind>)
+where
+    H: Abort + Wait + RandomSource + AllocGlobal + Clone + Drop,
+    requires { (0 < capacity) × (2 * capacity < 2 ^ 64) × (0 < last) }
+{
+    let given = (last - 1).min(capacity);
+    let is_called = last - 1 <= capacity;
+    let want = ended(given, error.filter(|_| is_called));
+    let mut source = End::new(1, last, error);
+    let mut pair = Pair::new(rt, capacity);
+    pair.play(rt, &[Act::PollReader(Polled::Pending)]);
+    let seen = match through {
+        Through::Std => pair.fill_from(rt, &mut source),
+        Through::Inner => pair.fill_inner(rt, &mut source),
+    };
+    let what = (through, capacity, last);
+    same(rt, &what, seen, want);
+    same(rt, &what, source.moved(), Some(given));
+    let left = [
+        Act::ReaderIsWoken(given > 0),
+        Act::WriterIsWoken(false),
+        Act::Unread(given),
+        Act::Closed(false),
+        Act::Drain(given, &[0, 1, 2, 3, 4, 5, 6, 7][..given.min(8)]),
+        Act::Fill(b"z", 1),
+        Act::Drain(16, b"z"),
+    ];
+    pair.play(rt, &left);
+}
+
+#[test]
+fn a_source_that_fails_is_told_and_its_earlier_bytes_stay(rt: HostRuntime) {
+    for (i, kind) in KINDS.into_iter().enumerate() {
+        for capacity in [3, 16] {
+            fill_ends_at(&rt, Through::Std, capacity, i + 1, Some(kind));
+            fill_ends_at(&rt, Through::Inner, capacity, i + 1, Some(kind));
         }
-        Poll::Ready(Err(_)) => Moved::Other,
     }
 }
 
-/// Ends the test where a copy doesn't answer as it must.
-fn answered(rt: &impl Abort, what: &str, found: Moved, want: Moved) {
-    assert!(rt; found == want, "{what}: {found:?} in place of {want:?}");
-}
-
-/// Fills from a slice once, as a task.
-fn fill_bytes<H: Wait + Clone + Drop>(
-    task: &MockTask,
-    writer: &mut Writer<H>,
-    bytes: &[u8],
-) -> Moved {
-    told(task.enter(|cx| writer.poll_fill_bytes(cx, bytes)))
-}
-
-/// Drains into a slice once, as a task.
-fn drain_bytes<H: Wait + Clone + Drop>(
-    task: &MockTask,
-    reader: &mut Reader<H>,
-    dest: &mut [u8],
-) -> Moved {
-    told(task.enter(|cx| reader.poll_drain_bytes(cx, dest)))
-}
-
-/// A reader of so many bytes 7, at most two at a time, that then fails.
-#[derive(Drop)]
-struct Failing {
-    left: usize,
-}
-
-impl Read for Failing {
-    fn read(&mut self, buf: &mut [u8]) -> io::Result<usize> {
-        if self.left == 0 {
-            return Err(io::Error::from(io::ErrorKind::BrokenPipe));
+#[test]
+fn a_source_that_gives_none_ends_a_fill(rt: HostRuntime) {
+    for last in 1..9 {
+        for capacity in [3, 16] {
+            fill_ends_at(&rt, Through::Std, capacity, last, None);
+            fill_ends_at(&rt, Through::Inner, capacity, last, None);
         }
-        let most = self.left.min(buf.len()).min(2);
-        buf[..most].fill(7);
-        self.left -= most;
-        Ok(most)
+    }
+}
+
+/// A destination takes a byte a call of the eight of a full pipe, and its call `last` fails or takes none. What it took before is gone from the pipe.
+fn drain_ends_at<H>(rt: &H, through: Through, last: usize, error: Option<ErrorKind>)
+where
+    H: Abort + Wait + RandomSource + AllocGlobal + Clone + Drop,
+    requires { 0 < last }
+{
+    let taken = (last - 1).min(8);
+    let all = [0, 1, 2, 3, 4, 5, 6, 7];
+    let mut dest = End::new(1, last, error);
+    let mut pair = Pair::new(rt, 8);
+    pair.play(rt, &[Act::Fill(&all, 8), Act::PollWriter(Polled::Pending)]);
+    let seen = match through {
+        Through::Std => pair.drain_to(rt, &mut dest),
+        Through::Inner => pair.drain_inner(rt, &mut dest),
+    };
+    let what = (through, last);
+    same(rt, &what, seen, ended(taken, error));
+    same(rt, &what, dest.moved(), Some(taken));
+    let left = [
+        Act::WriterIsWoken(taken > 0),
+        Act::ReaderIsWoken(false),
+        Act::Unread(8 - taken),
+        Act::Closed(false),
+        Act::Drain(16, &all[taken..]),
+        Act::Drain(16, b""),
+    ];
+    pair.play(rt, &left);
+}
+
+#[test]
+fn a_destination_that_fails_is_told_and_what_it_took_is_gone(rt: HostRuntime) {
+    for (i, kind) in KINDS.into_iter().enumerate() {
+        drain_ends_at(&rt, Through::Std, i + 1, Some(kind));
+        drain_ends_at(&rt, Through::Inner, i + 1, Some(kind));
     }
 }
 
 #[test]
-fn a_copy_waits_until_the_other_side_moves(rt: HostRuntime) -> Result<(), Fail> {
-    let task = MockTask::new(&rt)?;
-    let (mut reader, mut writer) = pipe(&rt, rt.alloc(), 4, 1)?;
-    let mut dest = [0; 8];
-    answered(
-        &rt,
-        "an empty pipe",
-        drain_bytes(&task, &mut reader, &mut dest),
-        Moved::Pending,
-    );
-    answered(
-        &rt,
-        "six bytes",
-        fill_bytes(&task, &mut writer, b"abcdef"),
-        Moved::Bytes(4),
-    );
-    answer(&rt, "woken", task.is_woken(), true);
-    answered(
-        &rt,
-        "a full pipe",
-        fill_bytes(&task, &mut writer, b"ef"),
-        Moved::Pending,
-    );
-    answered(
-        &rt,
-        "four bytes",
-        drain_bytes(&task, &mut reader, &mut dest),
-        Moved::Bytes(4),
-    );
-    answer(
-        &rt,
-        "the bytes",
-        dest.as_slice() == b"abcd\0\0\0\0".as_slice(),
-        true,
-    );
-    writer.drop();
-    answered(
-        &rt,
-        "the end",
-        drain_bytes(&task, &mut reader, &mut dest),
-        Moved::Bytes(0),
-    );
-    reader.drop();
-    Ok(())
-}
-
-#[test]
-fn a_copy_takes_from_a_reader_and_gives_to_a_writer(rt: HostRuntime) -> Result<(), Fail> {
-    let task = MockTask::new(&rt)?;
-    let (mut reader, mut writer) = pipe(&rt, rt.alloc(), 8, 1)?;
-    let mut source = b"hello".as_slice();
-    let mut dest = Vec::new(rt.alloc());
-    let found = told_with_error(task.enter(|cx| writer.poll_fill(cx, &mut source)));
-    answered(&rt, "a source of five bytes", found, Moved::Bytes(5));
-    let found = told_with_error(task.enter(|cx| reader.poll_drain(cx, &mut dest)));
-    answered(&rt, "a destination", found, Moved::Bytes(5));
-    answer(
-        &rt,
-        "the bytes",
-        dest.as_slice() == b"hello".as_slice(),
-        true,
-    );
-    reader.drop();
-    writer.drop();
-    Ok(())
-}
-
-#[test]
-fn a_reader_that_fails_is_told_and_its_earlier_bytes_stay(rt: HostRuntime) -> Result<(), Fail> {
-    let task = MockTask::new(&rt)?;
-    for (left, want) in [(0, 0), (1, 1), (2, 2), (5, 5)] {
-        let (mut reader, mut writer) = pipe(&rt, rt.alloc(), 8, 1)?;
-        let mut source = Failing { left };
-        let found = told_with_error(task.enter(|cx| writer.poll_fill(cx, &mut source)));
-        answered(&rt, "a source that fails", found, Moved::Broken);
-        drain(&rt, &mut reader, 8, &[7, 7, 7, 7, 7][..want]);
-        fill(&rt, &mut writer, b"ab", 2);
-        drain(&rt, &mut reader, 8, b"ab");
-        reader.drop();
-        writer.drop();
+fn a_destination_that_takes_none_ends_a_drain(rt: HostRuntime) {
+    for last in 1..10 {
+        drain_ends_at(&rt, Through::Std, last, None);
+        drain_ends_at(&rt, Through::Inner, last, None);
     }
-    Ok(())
 }
 
 #[test]
-fn one_copy_in_a_hundred_yields_and_moves_nothing(rt: HostRuntime) -> Result<(), Fail> {
-    let task = MockTask::new(&rt)?;
-    let (mut reader, mut writer) = pipe(&rt, rt.alloc(), 1, 1)?;
-    let mut yielded: u32 = 0;
+fn a_copy_moves_whole_slices(rt: HostRuntime) {
+    let mut pair = Pair::new(&rt, 200_000);
+    let mut source = End::willing();
+    let mut dest = End::willing();
+    same(
+        &rt,
+        &"in",
+        pair.fill_from(&rt, &mut source),
+        Moved::Bytes(200_000),
+    );
+    same(
+        &rt,
+        &"in",
+        source.lens(),
+        [4_096, 12_288, 36_864, 110_592, 36_160, 0].as_slice(),
+    );
+    same(
+        &rt,
+        &"out",
+        pair.drain_to(&rt, &mut dest),
+        Moved::Bytes(200_000),
+    );
+    same(&rt, &"out", dest.lens(), [131_072, 68_928, 0].as_slice());
+    same(&rt, &"in order", dest.moved(), Some(200_000));
+}
+
+#[test]
+fn a_copy_over_slices_moves_all_that_fits(rt: HostRuntime) {
+    let mut pair = Pair::new(&rt, 8);
+    let mut source = b"hello world".as_slice();
+    let mut dest = [0; 16];
+    let mut places = dest.as_mut_slice();
+    same(
+        &rt,
+        &"in",
+        pair.fill_from(&rt, &mut source),
+        Moved::Bytes(8),
+    );
+    same(&rt, &"left", source, b"rld".as_slice());
+    same(
+        &rt,
+        &"out",
+        pair.drain_to(&rt, &mut places),
+        Moved::Bytes(8),
+    );
+    same(&rt, &"the bytes", &dest[..9], b"hello wo\0".as_slice());
+}
+
+/// Holds a count of yields in so many polls against one in a hundred.
+fn one_in_a_hundred(rt: &impl Abort, yielded: u32, polls: u32) {
+    assert!(rt; yielded > 0 && yielded < polls / 33, "{yielded} of {polls}");
+}
+
+#[test]
+fn one_drain_in_a_hundred_yields_and_moves_nothing(rt: HostRuntime) {
+    let mut pair = Pair::new(&rt, 1);
+    let mut yielded = 0u32;
     for _ in 0..2_000 {
-        fill(&rt, &mut writer, b"a", 1);
-        let mut dest = [0; 1];
-        if drain_bytes(&task, &mut reader, &mut dest) == Moved::Pending {
-            answer(&rt, "asks for another poll", task.is_woken(), true);
-            answer(&rt, "the byte stays", reader.len() == 1, true);
-            drain(&rt, &mut reader, 1, b"a");
+        pair.play(&rt, &[Act::Fill(b"a", 1)]);
+        if pair.drain_to(&rt, &mut End::willing()) == Moved::Pending {
+            let left = [
+                Act::ReaderIsWoken(true),
+                Act::Unread(1),
+                Act::Drain(1, b"a"),
+            ];
+            pair.play(&rt, &left);
             yielded = yielded.saturating_add(1);
         }
     }
-    assert!(rt; yielded > 0 && yielded < 60, "{yielded} of 2,000");
-    reader.drop();
-    writer.drop();
-    Ok(())
+    one_in_a_hundred(&rt, yielded, 2_000);
+}
+
+#[test]
+fn one_fill_in_a_hundred_yields_and_moves_nothing(rt: HostRuntime) {
+    let mut pair = Pair::new(&rt, 1);
+    let mut yielded = 0u32;
+    for _ in 0..2_000 {
+        if pair.fill_from(&rt, &mut End::willing()) == Moved::Pending {
+            let left = [Act::WriterIsWoken(true), Act::Unread(0), Act::Fill(&[0], 1)];
+            pair.play(&rt, &left);
+            yielded = yielded.saturating_add(1);
+        }
+        pair.play(&rt, &[Act::Drain(1, &[0])]);
+    }
+    one_in_a_hundred(&rt, yielded, 2_000);
+}
+
+#[test]
+fn a_drain_into_nothing_is_no_end(rt: HostRuntime) {
+    let mut pair = Pair::new(&rt, 1);
+    pair.play(&rt, &[Act::Fill(b"a", 1)]);
+    let mut yielded = 0u32;
+    for _ in 0..1_000 {
+        let mut nothing: &mut [u8] = &mut [];
+        if pair.drain_to(&rt, &mut nothing) != Moved::Bytes(0) {
+            pair.play(&rt, &[Act::ReaderIsWoken(true)]);
+            yielded = yielded.saturating_add(1);
+        }
+    }
+    one_in_a_hundred(&rt, yielded, 1_000);
+    pair.play(&rt, &[Act::Drain(1, b"a")]);
 }

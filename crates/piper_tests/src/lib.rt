@@ -2,13 +2,19 @@
 #![tactic(auto)]
 
 #[cfg(test)]
-mod compare;
-#[cfg(test)]
 mod copies;
+#[cfg(test)]
+mod crossing;
+#[cfg(test)]
+mod ends;
 #[cfg(test)]
 mod first_calls;
 #[cfg(test)]
 mod meeting;
+#[cfg(test)]
+mod pair;
+#[cfg(test)]
+mod tasks;
 #[cfg(test)]
 mod two_threads;
 #[cfg(test)]

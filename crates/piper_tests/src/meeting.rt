@@ -1,50 +1,51 @@
 //! Both handles in one hand, and marks carried from one to the other.
-use crate::compare::{Polled, drain, fill, looked, peek, poll_reader};
-use futures::test::MockTask;
-use piper::pipe;
-use std::test::Fail;
+ghost use Rattle.std.specs.Prelude.{◌≡◌};
 
-#[test]
-fn after_a_meeting_each_knows_all(rt: HostRuntime) -> Result<(), Fail> {
-    let (mut reader, mut writer) = pipe(&rt, rt.alloc(), 8, 1)?;
-    fill(&rt, &mut writer, &[1, 2, 3, 4, 5], 5);
-    drain(&rt, &mut reader, 4, &[1, 2, 3, 4]);
-    fill(&rt, &mut writer, &[6, 7], 2);
-    peek(&rt, &reader, &[5]);
-    reader.meet(&mut writer);
-    peek(&rt, &reader, &[5, 6, 7]);
-    fill(&rt, &mut writer, &[8, 9, 10, 11, 12, 13], 5);
+use crate::pair::{granted, pipe_at_last, same, task_at_last};
+use std::alloc::AllocGlobal;
+use std::process::Abort;
+use std::sync::Wait;
+
+/// The reader knows of one of its three bytes, and the writer of one of its five places, unless they meet. The answer is how many bytes the writer then takes.
+fn taken_after<H>(rt: &H, they_meet: bool) -> usize
+where
+    H: Abort + Wait + AllocGlobal + Clone + Drop,
+{
+    let (mut reader, mut writer) = pipe_at_last(rt, 8);
+    let mut dest = [0; 4];
+    same(rt, &"taken at first", writer.try_fill(b"abcde"), 5);
+    same(rt, &"drained", reader.try_drain(&mut dest), 4);
+    same(rt, &"taken then", writer.try_fill(b"fg"), 2);
+    same(rt, &"known", reader.peek_buf(), b"e".as_slice());
+    if they_meet {
+        reader.meet(&mut writer);
+        same(rt, &"known", reader.peek_buf(), b"efg".as_slice());
+    }
+    let taken = writer.try_fill(b"hijklm");
     reader.drop();
     writer.drop();
-    Ok(())
+    taken
 }
 
 #[test]
-fn without_a_meeting_the_writer_takes_one_byte(rt: HostRuntime) -> Result<(), Fail> {
-    let (mut reader, mut writer) = pipe(&rt, rt.alloc(), 8, 1)?;
-    fill(&rt, &mut writer, &[1, 2, 3, 4, 5], 5);
-    drain(&rt, &mut reader, 4, &[1, 2, 3, 4]);
-    fill(&rt, &mut writer, &[6, 7], 2);
-    fill(&rt, &mut writer, &[8, 9, 10, 11, 12, 13], 1);
-    reader.drop();
-    writer.drop();
-    Ok(())
+fn after_a_meeting_each_knows_all(rt: HostRuntime) {
+    same(&rt, &"taken", taken_after(&rt, true), 5);
 }
 
 #[test]
-fn a_heeded_mark_is_found(rt: HostRuntime) -> Result<(), Fail> {
-    let task = MockTask::new(&rt)?;
-    let (mut reader, mut writer) = pipe(&rt, rt.alloc(), 8, 1)?;
-    fill(&rt, &mut writer, &[1, 2], 2);
+fn without_a_meeting_the_writer_takes_one_byte(rt: HostRuntime) {
+    same(&rt, &"taken", taken_after(&rt, false), 1);
+}
+
+#[test]
+fn a_heeded_mark_is_found(rt: HostRuntime) {
+    let task = task_at_last(&rt);
+    let (mut reader, mut writer) = pipe_at_last(&rt, 8);
+    same(&rt, &"taken", writer.try_fill(b"ab"), 2);
     reader.heed(&writer.mark());
-    looked(
-        &rt,
-        "a byte",
-        poll_reader(&task, &mut reader),
-        Polled::Found,
-    );
-    peek(&rt, &reader, &[1, 2]);
+    let found = task.enter(|cx| reader.poll(cx));
+    same(&rt, &"found", granted(&rt, found), Some(true));
+    same(&rt, &"known", reader.peek_buf(), b"ab".as_slice());
     reader.drop();
     writer.drop();
-    Ok(())
 }

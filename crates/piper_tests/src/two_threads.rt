@@ -1,19 +1,17 @@
-//! Two threads that must see each other: neither alone can end these tests.
-ghost use Rattle.std.specs.Prelude.{◌≡◌, ◌<◌, ◌^◌};
+//! Two threads that must see each other: neither alone can end these tests. None holds a lock while a slice is lent.
+ghost use Rattle.std.specs.Prelude.{◌≡◌};
 
-use crate::compare::{MOST_TURNS, Polled, answer, count, drain, fill, looked, peek, poll_reader};
-use futures::test::MockTask;
-use piper::{ReadEnd, Reader, WriteEnd, Writer, pipe};
+use crate::ends::byte_at;
+use crate::pair::{pipe_at_last, same};
+use piper::{ReadEnd, Reader, WriteEnd, Writer};
 use std::marker::{Send, Sync};
+use std::process::Abort;
 use std::sync::Wait;
 use std::sync::atomic::{AtomicBool, Ordering};
-use std::test::Fail;
 use std::thread;
 
-/// The byte that goes through as the `index`th.
-fn byte_at(index: usize) -> u8 {
-    (index % 251) as u8
-}
+/// The most turns that a thread makes before the test fails.
+const MOST_TURNS: u32 = 50_000_000;
 
 /// Writes bytes in pieces until `total` are in, or the other thread says stop. The answer is how many are in.
 fn write_until<H: Wait + Clone + Drop>(
@@ -72,30 +70,35 @@ fn read_until<H: Wait + Clone + Drop>(
 }
 
 #[test]
-fn a_pipe_of_one_place_carries_all_bytes(rt: HostRuntime) -> Result<(), Fail> {
-    let (mut reader, mut writer) = pipe(&rt, rt.alloc(), 1, 1)?;
+fn a_pipe_of_one_place_carries_all_bytes(rt: HostRuntime) {
+    let (mut reader, mut writer) = pipe_at_last(&rt, 1);
     let stop = AtomicBool::new(false);
     let never = AtomicBool::new(false);
-    let (came, sent) = thread::join(
+    let moved = thread::join(
         &rt,
         || read_until(&mut reader, 10_000, &stop),
         || write_until(&mut writer, 10_000, &never),
     );
-    count(
-        &rt,
-        "bytes that came, each right",
-        came.unwrap_or(0),
-        10_000,
-    );
-    count(&rt, "bytes that were taken", sent, 10_000);
+    same(&rt, &"came and sent", moved, (Some(10_000), 10_000));
     reader.drop();
     writer.drop();
-    Ok(())
+}
+
+/// Drains what is left, at most 64 bytes, and tells how many came if each is the one that is due behind `came`.
+fn drain_rest<H: Wait + Clone + Drop>(reader: &mut Reader<H>, came: usize) -> Option<usize> {
+    let mut rest = [0; 64];
+    let left = reader.try_drain(&mut rest);
+    for (i, byte) in rest[..left].iter().enumerate() {
+        if *byte != byte_at(came.wrapping_add(i)) {
+            return None;
+        }
+    }
+    Some(came.saturating_add(left))
 }
 
 #[test]
-fn what_is_left_is_found_when_they_meet(rt: HostRuntime) -> Result<(), Fail> {
-    let (mut reader, mut writer) = pipe(&rt, rt.alloc(), 64, 1)?;
+fn what_is_left_is_found_when_they_meet(rt: HostRuntime) {
+    let (mut reader, mut writer) = pipe_at_last(&rt, 64);
     let stop = AtomicBool::new(false);
     let (came, sent) = thread::join_mut(
         &rt,
@@ -104,69 +107,110 @@ fn what_is_left_is_found_when_they_meet(rt: HostRuntime) -> Result<(), Fail> {
     );
     reader.meet(&mut writer);
     let came = came.unwrap_or(0);
-    let mut rest = [0; 64];
-    let left = reader.try_drain(&mut rest);
-    let mut is_right = true;
-    for (i, byte) in rest[..left].iter().enumerate() {
-        is_right = is_right && *byte == byte_at(came.wrapping_add(i));
+    same(&rt, &"at least half came", came >= 5_000, true);
+    same(&rt, &"in all", drain_rest(&mut reader, came), Some(sent));
+    reader.drop();
+    writer.drop();
+}
+
+/// Waits until the other thread says so.
+fn waits_for(flag: &AtomicBool) -> bool {
+    for _ in 0..MOST_TURNS {
+        if flag.load(Ordering::SeqCst) {
+            return true;
+        }
+        thread::yield_now();
     }
-    answer(&rt, "at least half came before", came >= 5_000, true);
-    answer(&rt, "what was left is right", is_right, true);
-    count(&rt, "bytes in all", came.wrapping_add(left), sent);
-    reader.drop();
-    writer.drop();
-    Ok(())
+    false
 }
 
-#[test]
-fn a_peeked_slice_stays_while_the_writer_publishes(rt: HostRuntime) -> Result<(), Fail> {
-    let task = MockTask::new(&rt)?;
-    let (mut reader, mut writer) = pipe(&rt, rt.alloc(), 8, 1)?;
-    fill(&rt, &mut writer, &[1, 2], 2);
-    looked(
-        &rt,
-        "a byte",
-        poll_reader(&task, &mut reader),
-        Polled::Found,
-    );
+/// Holds what is peeked until four bytes are unread, and tells whether it stayed.
+fn holds_peeked<H: Wait + Clone + Drop>(reader: &Reader<H>, is_held: &AtomicBool) -> bool {
     let piece = reader.peek_buf();
-    let (taken, _) = thread::join(&rt, || writer.try_fill(&[3, 4]), || ());
-    count(&rt, "bytes that were taken meanwhile", taken, 2);
-    answer(&rt, "the slice stayed", piece == [1, 2].as_slice(), true);
-    count(&rt, "unread bytes", reader.len(), 4);
-    drain(&rt, &mut reader, 2, &[1, 2]);
-    looked(
-        &rt,
-        "a byte",
-        poll_reader(&task, &mut reader),
-        Polled::Found,
-    );
-    peek(&rt, &reader, &[3, 4]);
-    reader.drop();
-    writer.drop();
-    Ok(())
+    is_held.store(true, Ordering::SeqCst);
+    for _ in 0..MOST_TURNS {
+        if reader.len() == 4 {
+            return piece == b"ab".as_slice();
+        }
+        thread::yield_now();
+    }
+    false
 }
 
-/// Drains, and answers how many bytes came.
-fn drained<H: Wait + Clone + Drop>(reader: &mut Reader<H>) -> usize {
+/// Drains once: these bytes must come.
+fn drains<H: Wait + Clone + Drop>(rt: &impl Abort, reader: &mut Reader<H>, want: &[u8]) {
     let mut dest = [0; 8];
-    reader.try_drain(&mut dest)
+    let n = reader.try_drain(&mut dest);
+    same(rt, &"drained", &dest[..n], want);
 }
 
 #[test]
-fn a_lent_slice_is_written_while_the_reader_drains(rt: HostRuntime) -> Result<(), Fail> {
-    let (mut reader, mut writer) = pipe(&rt, rt.alloc(), 8, 1)?;
-    fill(&rt, &mut writer, &[1, 2], 2);
-    let buf = writer.write_buf(4);
-    let (came, _) = thread::join(&rt, || drained(&mut reader), || ());
-    let n = buf.len().min(4);
-    buf[..n].copy_from_slice(&[5u8, 6, 7, 8][..n]);
-    writer.produced(n);
-    count(&rt, "bytes that came meanwhile", came, 2);
-    drain(&rt, &mut reader, 8, &[5, 6, 7, 8]);
+fn a_peeked_slice_stays_while_the_writer_publishes(rt: HostRuntime) {
+    let (mut reader, mut writer) = pipe_at_last(&rt, 8);
+    same(&rt, &"taken", writer.try_fill(b"ab"), 2);
+    same(&rt, &"drained", reader.try_drain(&mut []), 0);
+    let is_held = AtomicBool::new(false);
+    let came = thread::join(
+        &rt,
+        || holds_peeked(&reader, &is_held),
+        || waits_for(&is_held) && writer.try_fill(b"cd") == 2,
+    );
+    same(&rt, &"it stayed, and they were taken", came, (true, true));
+    drains(&rt, &mut reader, b"ab");
+    drains(&rt, &mut reader, b"cd");
     reader.drop();
     writer.drop();
-    Ok(())
+}
+
+/// Holds a lent slice until the reader drained, then writes to it and publishes.
+fn holds_lent<H: Wait + Clone + Drop>(
+    writer: &mut Writer<H>,
+    is_held: &AtomicBool,
+    is_drained: &AtomicBool,
+) -> bool {
+    let buf = writer.write_buf(4);
+    is_held.store(true, Ordering::SeqCst);
+    let goes_on = waits_for(is_drained) && buf.len() == 4;
+    if goes_on {
+        buf.copy_from_slice(b"cdef");
+        writer.produced(4);
+    }
+    goes_on
+}
+
+/// Drains two bytes while the writer holds a lent slice, and the four that are written to it then.
+fn drains_twice<H: Wait + Clone + Drop>(
+    reader: &mut Reader<H>,
+    is_held: &AtomicBool,
+    is_drained: &AtomicBool,
+) -> [u8; 6] {
+    let mut dest = [0; 6];
+    if waits_for(is_held) && reader.try_drain(&mut dest[..2]) == 2 {
+        is_drained.store(true, Ordering::SeqCst);
+    }
+    for _ in 0..MOST_TURNS {
+        if reader.try_drain(&mut dest[2..]) == 4 {
+            break;
+        }
+        thread::yield_now();
+    }
+    dest
+}
+
+#[test]
+fn a_lent_slice_is_written_while_the_reader_drains(rt: HostRuntime) {
+    let (mut reader, mut writer) = pipe_at_last(&rt, 8);
+    same(&rt, &"taken", writer.try_fill(b"ab"), 2);
+    let is_held = AtomicBool::new(false);
+    let is_drained = AtomicBool::new(false);
+    let came = thread::join(
+        &rt,
+        || holds_lent(&mut writer, &is_held, &is_drained),
+        || drains_twice(&mut reader, &is_held, &is_drained),
+    );
+    same(&rt, &"it was written, and came", came, (true, *b"abcdef"));
+    reader.drop();
+    writer.drop();
 }
 
 /// It is there for the bounds that its type has.
@@ -176,8 +220,8 @@ fn crosses_threads<T: Send + Sync>(_value: &T) {}
 fn moves_to_a_thread<T: Send>(_value: &T) {}
 
 #[test]
-fn ends_are_shared_and_handles_are_moved(rt: HostRuntime) -> Result<(), Fail> {
-    let (reader, writer) = pipe(&rt, rt.alloc(), 8, 1)?;
+fn ends_are_shared_and_handles_are_moved(rt: HostRuntime) {
+    let (reader, writer) = pipe_at_last(&rt, 8);
     let read_end: &ReadEnd = reader.end();
     let write_end: &WriteEnd = writer.end();
     crosses_threads(read_end);
@@ -186,5 +230,4 @@ fn ends_are_shared_and_handles_are_moved(rt: HostRuntime) -> Result<(), Fail> {
     moves_to_a_thread(&writer);
     reader.drop();
     writer.drop();
-    Ok(())
 }

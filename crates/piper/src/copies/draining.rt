@@ -1,27 +1,27 @@
 //! Copies out of the pipe.
-ghost use Rattle.std.specs.Prelude.{◌≡◌, ℕ, ◌<◌, ◌≤◌, ◌⊎◌, [], length, min, IfOk, IfErr, Ok, true, false, ⊤};
+ghost use Rattle.std.specs.Prelude.{◌≡◌, ◌<◌, ◌≤◌, ◌++◌, ◌⊎◌, [], length, take, drop, IfOk, IfErr, IsSome, None, Ok, true, false};
 ghost use Rattle.futures.specs.Task.{Covers, Keeps};
 ghost use Rattle.futures.specs.Poll.{OnPending};
 ghost use Rattle.piper_ring.specs.ReadView.{in_one_piece};
-ghost use Rattle.piper_sides.specs.Table.{goes_on};
+ghost use Rattle.piper.specs.Contexts.{IfGiven, Arms, LacksWaker};
 ghost use Rattle.piper.specs.Copies.{ReaderCopied};
-ghost use Rattle.piper.specs.CopyAnswers.{OnMemory, CountsFailure, inner_of};
-ghost use Rattle.piper.specs.Draws.{Draws};
-ghost use Rattle.piper.specs.Drains.{Drains, DrainRounds, FoundNoByte, StaysKnown, found_len};
+ghost use Rattle.piper.specs.CopyAnswers.{OnMemory, CountsFailure, IsAtOnce, inner_of};
+ghost use Rattle.piper.specs.Draws.{Draws, Undrawn};
+ghost use Rattle.piper.specs.Drains.{Drains, DrainsInto, DrainRounds, EndIsSeen, EndIsUnseen, CountsWhatFits, FoundNoByte, StaysKnown, found_len};
 ghost use Rattle.piper.specs.Ends.{ReaderIsUpToDate};
-ghost use Rattle.piper.specs.Like.{Counts, passed, appends_to};
+ghost use Rattle.piper.specs.Like.{Counts, passed};
 ghost use Rattle.piper.specs.Looks.{ReaderLooked, OnRefused};
-ghost use Rattle.piper.specs.Polls.{OnReadyOk, IfReadyOk, Reads};
+ghost use Rattle.piper.specs.Polls.{Reads};
 
 use super::copied;
 use crate::answers::read_wake;
-use crate::copying::MOST_A_ROUND;
 use crate::error::{Inner, PipeError};
 use crate::handles::Reader;
 use crate::like::{StdWrite, WriteBytes, WriteLike};
 use futures::task::{Context, Poll};
 use piper_ring::OutOfMemory;
 use piper_sides::read_call::ReadCall;
+use piper_sides::scripted::MOST_A_ROUND;
 use piper_sides::table::{Form, Purpose, ReadPlace};
 use std::io::Write;
 use std::sync::Wait;
@@ -37,17 +37,19 @@ impl<H: Wait + Clone + Drop> Reader<H> {
         cx: &mut Context<'_>,
         dest: &mut W,
     ) -> Poll<Result<usize, PipeError>>
-        ensures drained { Drains (appends_to W.contents) (λ _. ⊤) (λ _ _ _. ⊤) (inner_of result) self.old.end self.new.end dest.old dest.new }
-        ensures ended { OnReadyOk result (found_len self.old.end self.new.end ≡ 0 → self.new.end.saw ≡ true) }
-        ensures waits { OnPending result (found_len self.old.end self.new.end ≡ 0 → self.new.end.saw ≡ false) }
-        ensures draws { Draws (0 < found_len self.old.end self.new.end) result self.old.rng self.new.rng }
+        ensures drained { DrainsInto W.contents (inner_of result)
+            self.old.end self.new.end dest.old dest.new }
+        ensures ended { EndIsSeen result self.old.end self.new.end }
+        ensures waits { EndIsUnseen result self.old.end self.new.end }
+        ensures draws { Draws (0 < found_len self.old.end self.new.end) result
+            self.old.rng self.new.rng }
         ensures refused { OnMemory (inner_of result) (cx.new.lacks_waker ≡ true) }
         ensures slots { self.new.slots ≡ self.old.slots }
         ensures covered { OnPending result (Covers cx.new (λ s. s ≡ read_source self.old)) }
         ensures kept { Keeps cx.old cx.new }
     {
         let mut dest = StdWrite::new(dest);
-        match self.drain_inner(cx, &mut dest) {
+        match self.drain_inner(Some(cx), &mut dest) {
             Poll::Pending => Poll::Pending,
             Poll::Ready(Ok(count)) => Poll::Ready(Ok(count)),
             Poll::Ready(Err(Inner::Memory)) => Poll::Ready(Err(PipeError::Memory)),
@@ -63,12 +65,14 @@ impl<H: Wait + Clone + Drop> Reader<H> {
         cx: &mut Context<'_>,
         dest: &mut [u8],
     ) -> Poll<Result<usize, OutOfMemory>>
-        ensures read { Reads result dest.old dest.new self.old.end.taken self.new.end.taken self.new.end.saw }
-        ensures count { IfReadyOk result (λ n. n ≡ min (length dest.old) (found_len self.old.end self.new.end)) }
+        ensures read { Reads result dest.old dest.new
+            self.old.end.taken self.new.end.taken self.new.end.saw }
+        ensures count { CountsWhatFits result (length dest.old) self.old.end self.new.end }
         ensures known { 0 < length self.old.end.known → StaysKnown self.old.end self.new.end }
         ensures fresh { self.old.end.known ≡ [] → ReaderIsUpToDate self.new.end }
-        ensures waits { OnPending result (found_len self.old.end self.new.end ≡ 0 → self.new.end.saw ≡ false) }
-        ensures draws { Draws (0 < found_len self.old.end self.new.end) result self.old.rng self.new.rng }
+        ensures waits { EndIsUnseen result self.old.end self.new.end }
+        ensures draws { Draws (0 < found_len self.old.end self.new.end) result
+            self.old.rng self.new.rng }
         ensures refused { OnRefused result (cx.new.lacks_waker ≡ true) }
         ensures end { ReaderCopied self.old.end self.new.end }
         ensures slots { self.new.slots ≡ self.old.slots }
@@ -76,7 +80,7 @@ impl<H: Wait + Clone + Drop> Reader<H> {
         ensures kept { Keeps cx.old cx.new }
     {
         let mut bytes = WriteBytes::new(dest);
-        match self.drain_inner(cx, &mut bytes) {
+        match self.drain_inner(Some(cx), &mut bytes) {
             Poll::Pending => Poll::Pending,
             Poll::Ready(Ok(count)) => Poll::Ready(Ok(count)),
             Poll::Ready(Err(Inner::Memory)) => Poll::Ready(Err(OutOfMemory)),
@@ -84,19 +88,69 @@ impl<H: Wait + Clone + Drop> Reader<H> {
         }
     }
 
-    /// Moves known bytes into any destination, as `poll_drain` does into a writer.
+    /// Moves known bytes into the front of `dest`, as many as fit, and answers how many. It looks for more only where none is known, and doesn't wait: 0 is no end.
+    pub fn try_drain(&mut self, dest: &mut [u8]) -> usize
+        ensures count { result ≤ length dest.old }
+        ensures rest { drop result dest.new ≡ drop result dest.old }
+        ensures taken { self.new.end.taken ≡ self.old.end.taken ++ take result dest.new }
+        ensures known { 0 < length self.old.end.known →
+            take result dest.new ++ self.new.end.known ≡ self.old.end.known }
+        ensures most { result < length dest.old → self.new.end.known ≡ [] }
+        ensures fresh { self.old.end.known ≡ [] → ReaderIsUpToDate self.new.end }
+        ensures end { ReaderCopied self.old.end self.new.end }
+        ensures handle { SameReader self.old self.new }
+    {
+        let mut bytes = WriteBytes::new(dest);
+        match self.drain_inner(None, &mut bytes) {
+            Poll::Ready(Ok(count)) => count,
+            Poll::Ready(Err(Inner::Like(never))) => match never {},
+            Poll::Ready(Err(Inner::Memory)) => unreachable!(),
+            Poll::Pending => 0,
+        }
+    }
+
+    /// Moves known bytes into any destination. With a context it does so as `poll_drain` does into a writer; without one it registers no task and doesn't draw: it is pending where the look knows of no byte and didn't see the pipe closed.
     ///
     /// A failure is the destination's own error: what it took in the rounds before stays taken, and nothing else moved.
     pub fn drain_inner<W: WriteLike>(
         &mut self,
+        cx: Option<&mut Context<'_>>,
+        dest: &mut W,
+    ) -> Poll<Result<usize, Inner<W::Error>>>
+        ensures drained { Drains W.takes W.is_full W.fails result
+            self.old.end self.new.end dest.old dest.new }
+        ensures failures { CountsFailure result (W.failures dest.old) (W.failures dest.new) }
+        ensures ended { EndIsSeen result self.old.end self.new.end }
+        ensures waits { EndIsUnseen result self.old.end self.new.end }
+        ensures draws { IsSome cx.entry →
+            Draws (0 < found_len self.old.end self.new.end) result self.old.rng self.new.rng }
+        ensures undrawn { cx.entry ≡ None →
+            Undrawn (0 < found_len self.old.end self.new.end) result self.old.rng self.new.rng }
+        ensures granted { cx.entry ≡ None → OnMemory result ⊥ }
+        ensures slots { self.new.slots ≡ self.old.slots }
+        ensures refused { IfGiven cx.entry cx.exit (LacksWaker result) }
+        ensures covered { IfGiven cx.entry cx.exit (Arms result (read_source self.old)) }
+        ensures kept { IfGiven cx.entry cx.exit Keeps }
+    {
+        match cx {
+            Some(cx) => self.drain_waiting(cx, dest),
+            None => self.drain_at_once(dest),
+        }
+    }
+
+    // The drain with a context: the look, the draw, and the rounds.
+    fn drain_waiting<W: WriteLike>(
+        &mut self,
         cx: &mut Context<'_>,
         dest: &mut W,
     ) -> Poll<Result<usize, Inner<W::Error>>>
-        ensures drained { Drains W.takes W.is_full W.fails result self.old.end self.new.end dest.old dest.new }
+        ensures drained { Drains W.takes W.is_full W.fails result
+            self.old.end self.new.end dest.old dest.new }
         ensures failures { CountsFailure result (W.failures dest.old) (W.failures dest.new) }
-        ensures ended { OnReadyOk result (found_len self.old.end self.new.end ≡ 0 → self.new.end.saw ≡ true) }
-        ensures waits { OnPending result (found_len self.old.end self.new.end ≡ 0 → self.new.end.saw ≡ false) }
-        ensures draws { Draws (0 < found_len self.old.end self.new.end) result self.old.rng self.new.rng }
+        ensures ended { EndIsSeen result self.old.end self.new.end }
+        ensures waits { EndIsUnseen result self.old.end self.new.end }
+        ensures draws { Draws (0 < found_len self.old.end self.new.end) result
+            self.old.rng self.new.rng }
         ensures refused { OnMemory result (cx.new.lacks_waker ≡ true) }
         ensures slots { self.new.slots ≡ self.old.slots }
         ensures covered { OnPending result (Covers cx.new (λ s. s ≡ read_source self.old)) }
@@ -114,7 +168,24 @@ impl<H: Wait + Clone + Drop> Reader<H> {
             let _pending: Poll<()> = cx.yield_now();
             return copied(call.yielded(true).end());
         }
-        self.drain_rounds_to(call, dest)
+        self.drain_rounds(call, dest)
+    }
+
+    // The drain without a context: the look, and the rounds.
+    fn drain_at_once<W: WriteLike>(&mut self, dest: &mut W) -> Poll<Result<usize, Inner<W::Error>>>
+        ensures drained { Drains W.takes W.is_full W.fails result
+            self.old.end self.new.end dest.old dest.new }
+        ensures failures { CountsFailure result (W.failures dest.old) (W.failures dest.new) }
+        ensures ended { EndIsSeen result self.old.end self.new.end }
+        ensures waits { OnPending result (found_len self.old.end self.new.end ≡ 0) }
+        ensures open { OnPending result (self.new.end.saw ≡ false) }
+        ensures granted { OnMemory result ⊥ }
+        ensures rest { SameReader self.old self.new }
+    {
+        match self.look_at_once() {
+            Ok(call) => self.drain_rounds(call, dest),
+            Err(told) => told,
+        }
     }
 
     // The look of a drain that waits: its open call once a byte is known, or what it answers.
@@ -122,11 +193,13 @@ impl<H: Wait + Clone + Drop> Reader<H> {
         &mut self,
         cx: &mut Context<'_>,
     ) -> Result<ReadCall, Poll<Result<usize, Inner<E>>>>
-        ensures found { IfOk result (λ call. call.place ≡ ReadPlace.LookTake (Purpose.Copy (Form.Polling false))) }
+        ensures found { IfOk result (λ call.
+            call.place ≡ ReadPlace.LookTake (Purpose.Copy (Form.Polling false))) }
         ensures some { IfOk result (λ _. 0 < length self.new.end.known) }
         ensures none { IfErr result (λ told. FoundNoByte told self.new.end) }
         ensures refused { IfErr result (λ told. OnMemory told (cx.new.lacks_waker ≡ true)) }
-        ensures covered { IfErr result (λ told. OnPending told (Covers cx.new (λ s. s ≡ read_source self.old))) }
+        ensures covered { IfErr result (λ told.
+            OnPending told (Covers cx.new (λ s. s ≡ read_source self.old))) }
         ensures looked { ReaderLooked self.old.end self.new.end }
         ensures rest { SameReader self.old self.new }
         ensures kept { Keeps cx.old cx.new }
@@ -143,7 +216,7 @@ impl<H: Wait + Clone + Drop> Reader<H> {
         if !is_granted {
             return Err(copied(call.end()));
         }
-        let call = self.load_closed(call);
+        let (call, _is_closed) = self.load_closed(call);
         let (call, none) = self.load_tail(call);
         if !none {
             return Ok(call);
@@ -151,17 +224,47 @@ impl<H: Wait + Clone + Drop> Reader<H> {
         Err(copied(call.end()))
     }
 
+    // The look of a drain that doesn't wait: its open call once a byte is known, or what it answers, pending where it would wait.
+    fn look_at_once<E>(&mut self) -> Result<ReadCall, Poll<Result<usize, Inner<E>>>>
+        ensures found { IfOk result (λ call. call.place ≡ ReadPlace.CallDestination Form.Try 0) }
+        ensures some { IfOk result (λ _. 0 < length self.new.end.known) }
+        ensures none { IfErr result (λ told. FoundNoByte told self.new.end) }
+        ensures granted { IfErr result (λ told. OnMemory told ⊥) }
+        ensures looked { ReaderLooked self.old.end self.new.end }
+        ensures rest { SameReader self.old self.new }
+    {
+        let (call, none) = self.look(Purpose::Copy(Form::Try));
+        if !none {
+            return Ok(call);
+        }
+        let (call, none) = self.load_tail(call);
+        if !none {
+            return Ok(call);
+        }
+        let (call, is_closed) = self.load_closed(call);
+        let (call, none) = self.load_tail(call);
+        if !none {
+            return Ok(call);
+        }
+        let answer = call.end();
+        Err(if is_closed {
+            copied(answer)
+        } else {
+            Poll::Pending
+        })
+    }
+
     // Hands known bytes to the destination in rounds, each in one piece, until none is known or it takes none.
-    fn drain_rounds_to<W: WriteLike>(
+    fn drain_rounds<W: WriteLike>(
         &mut self,
         call: ReadCall,
         dest: &mut W,
     ) -> Poll<Result<usize, Inner<W::Error>>>
-        requires { call.place ≡ ReadPlace.CallDestination (Form.Polling false) 0 }
-        ensures drained { DrainRounds W.takes W.is_full W.fails result self.old.end self.new.end dest.old dest.new }
+        requires { (form : Form) × (call.place ≡ ReadPlace.CallDestination form 0) }
+        ensures drained { DrainRounds W.takes W.is_full W.fails result
+            self.old.end self.new.end dest.old dest.new }
         ensures failures { CountsFailure result (W.failures dest.old) (W.failures dest.new) }
-        ensures ready { OnPending result ⊥ }
-        ensures granted { OnMemory result ⊥ }
+        ensures ready { IsAtOnce result }
         ensures rest { SameReader self.old self.new }
     {
         self.end().learn();

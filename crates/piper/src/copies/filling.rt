@@ -1,25 +1,25 @@
 //! Copies into the pipe.
-ghost use Rattle.std.specs.Prelude.{◌≡◌, ℕ, ◌<◌, ◌≤◌, ◌⊎◌, [], length, IfOk, IfErr, OnOk, Ok, true, false, ⊤};
+ghost use Rattle.std.specs.Prelude.{◌≡◌, ℕ, ◌<◌, ◌≤◌, ◌++◌, ◌⊎◌, [], length, take, IfOk, IfErr, OnOk, IsSome, None, Ok, true, false};
 ghost use Rattle.futures.specs.Task.{Covers, Keeps};
 ghost use Rattle.futures.specs.Poll.{OnPending};
-ghost use Rattle.std.specs.Io.KnownBytes.{IsAtEnd};
-ghost use Rattle.piper.specs.Copies.{IsReplaced};
-ghost use Rattle.piper.specs.CopyAnswers.{OnMemory, CountsFailure, inner_of, inner_of_bytes};
-ghost use Rattle.piper.specs.Draws.{Draws};
+ghost use Rattle.piper.specs.Contexts.{IfGiven, Arms, LacksWaker};
+ghost use Rattle.piper.specs.Copies.{IsReplaced, WriterCopied};
+ghost use Rattle.piper.specs.CopyAnswers.{OnMemory, CountsFailure, IsAtOnce, inner_of, inner_of_bytes};
+ghost use Rattle.piper.specs.Draws.{Draws, Undrawn};
 ghost use Rattle.piper.specs.Ends.{WriterIsUpToDate};
-ghost use Rattle.piper.specs.Fills.{Fills, FillRounds, FoundNoRoom, FoundRoom, OnNoCount, WriterFilled, WriterRelent};
-ghost use Rattle.piper.specs.Like.{Counts, passed, consumes_of};
+ghost use Rattle.piper.specs.Fills.{Fills, FillsFrom, FillRounds, FoundNoRoom, FoundRoom, OnNoCount, WriterFilled, WriterRelent};
+ghost use Rattle.piper.specs.Like.{Counts, passed};
 ghost use Rattle.piper.specs.Looks.{WriterLooked, OnRefused};
 ghost use Rattle.piper.specs.Polls.{IfReadyOk, Writes};
 
 use super::copied;
 use crate::answers::write_wake;
-use crate::copying::MOST_A_ROUND;
 use crate::error::{Inner, PipeError};
 use crate::handles::Writer;
 use crate::like::{ReadBytes, ReadLike, StdRead};
 use futures::task::{Context, Poll};
 use piper_ring::OutOfMemory;
+use piper_sides::scripted::MOST_A_ROUND;
 use piper_sides::table::{Form, Purpose, WritePlace};
 use piper_sides::write_call::WriteCall;
 use std::io::Read;
@@ -36,10 +36,12 @@ impl<H: Wait + Clone + Drop> Writer<H> {
         cx: &mut Context<'_>,
         source: &mut R,
     ) -> Poll<Result<usize, PipeError>>
-        ensures filled { Fills (consumes_of R.remaining) (λ t. IsAtEnd (R.remaining t)) (λ _ _ _. ⊤) (inner_of result) self.old.end self.new.end source.old source.new }
+        ensures filled { FillsFrom R.remaining (inner_of result)
+            self.old.end self.new.end source.old source.new }
         ensures over { self.old.end.saw ≡ true → result ≡ Poll.Ready (Ok 0) }
         ensures open { OnNoCount (inner_of result) (self.new.end.saw ≡ false) }
-        ensures draws { Draws (FoundRoom (inner_of result) self.new.end) result self.old.rng self.new.rng }
+        ensures draws { Draws (FoundRoom (inner_of result) self.new.end) result
+            self.old.rng self.new.rng }
         ensures lent { self.new.end.lent ≡ [] }
         ensures refused { OnMemory (inner_of result) (cx.new.lacks_waker ≡ true) }
         ensures slots { self.new.slots ≡ self.old.slots }
@@ -47,7 +49,7 @@ impl<H: Wait + Clone + Drop> Writer<H> {
         ensures kept { Keeps cx.old cx.new }
     {
         let mut source = StdRead::new(source);
-        match self.fill_inner(cx, &mut source) {
+        match self.fill_inner(Some(cx), &mut source) {
             Poll::Pending => Poll::Pending,
             Poll::Ready(Ok(count)) => Poll::Ready(Ok(count)),
             Poll::Ready(Err(Inner::Memory)) => Poll::Ready(Err(PipeError::Memory)),
@@ -63,14 +65,19 @@ impl<H: Wait + Clone + Drop> Writer<H> {
         cx: &mut Context<'_>,
         bytes: &[u8],
     ) -> Poll<Result<usize, OutOfMemory>>
-        ensures written { Writes result bytes.now self.old.end.sent self.new.end.sent self.new.end.saw }
-        ensures full { result ≡ Poll.Ready (Ok 0) → 0 < length bytes.now → self.new.end.saw ≡ true }
-        ensures most { IfReadyOk result (λ n. n < length bytes.now → self.new.end.saw ≡ false → self.new.end.room ≡ 0) }
+        ensures written { Writes result bytes.now
+            self.old.end.sent self.new.end.sent self.new.end.saw }
+        ensures full { result ≡ Poll.Ready (Ok 0) →
+            0 < length bytes.now → self.new.end.saw ≡ true }
+        ensures most { IfReadyOk result (λ n.
+            n < length bytes.now → self.new.end.saw ≡ false → self.new.end.room ≡ 0) }
         ensures room { 0 < self.old.end.room → IsReplaced self.old.end self.new.end }
-        ensures fresh { self.old.end.room ≡ 0 → self.new.end.saw ≡ false → WriterIsUpToDate self.new.end }
+        ensures fresh { self.old.end.room ≡ 0 →
+            self.new.end.saw ≡ false → WriterIsUpToDate self.new.end }
         ensures over { self.old.end.saw ≡ true → result ≡ Poll.Ready (Ok 0) }
         ensures open { OnNoCount result (self.new.end.saw ≡ false) }
-        ensures draws { Draws (FoundRoom (inner_of_bytes result) self.new.end) result self.old.rng self.new.rng }
+        ensures draws { Draws (FoundRoom (inner_of_bytes result) self.new.end) result
+            self.old.rng self.new.rng }
         ensures lent { self.new.end.lent ≡ [] }
         ensures refused { OnRefused result (cx.new.lacks_waker ≡ true) }
         ensures end { WriterFilled self.old.end self.new.end }
@@ -79,7 +86,7 @@ impl<H: Wait + Clone + Drop> Writer<H> {
         ensures kept { Keeps cx.old cx.new }
     {
         let mut source = ReadBytes::new(bytes);
-        match self.fill_inner(cx, &mut source) {
+        match self.fill_inner(Some(cx), &mut source) {
             Poll::Pending => Poll::Pending,
             Poll::Ready(Ok(count)) => Poll::Ready(Ok(count)),
             Poll::Ready(Err(Inner::Memory)) => Poll::Ready(Err(OutOfMemory)),
@@ -87,37 +94,79 @@ impl<H: Wait + Clone + Drop> Writer<H> {
         }
     }
 
-    /// Publishes bytes that any source gives, as `poll_fill` does those of a reader.
+    /// Publishes bytes from the front of `bytes`, as many as there is room for, and answers how many it took. It looks for more room only where none is known, and doesn't wait. Nothing is lent afterwards.
+    ///
+    /// A closed pipe takes none. Where the pipe is seen closed only once some bytes were taken, the last of them, at most one round, are counted and not published.
+    pub fn try_fill(&mut self, bytes: &[u8]) -> usize
+        ensures count { result ≤ length bytes.now }
+        ensures sent { self.new.end.saw ≡ false →
+            self.new.end.sent ≡ self.old.end.sent ++ take result bytes.now }
+        ensures front { (m : ℕ) × (m ≤ result)
+            × (self.new.end.sent ≡ self.old.end.sent ++ take m bytes.now) }
+        ensures room { 0 < self.old.end.room → IsReplaced self.old.end self.new.end }
+        ensures most { result < length bytes.now →
+            self.new.end.saw ≡ false → self.new.end.room ≡ 0 }
+        ensures closed { self.old.end.saw ≡ true → result ≡ 0 }
+        ensures fresh { self.old.end.room ≡ 0 →
+            self.new.end.saw ≡ false → WriterIsUpToDate self.new.end }
+        ensures end { WriterCopied self.old.end self.new.end }
+        ensures handle { SameWriter self.old self.new }
+    {
+        let mut source = ReadBytes::new(bytes);
+        match self.fill_inner(None, &mut source) {
+            Poll::Ready(Ok(count)) => count,
+            Poll::Ready(Err(Inner::Like(never))) => match never {},
+            Poll::Ready(Err(Inner::Memory)) => unreachable!(),
+            Poll::Pending => 0,
+        }
+    }
+
+    /// Publishes bytes that any source gives. With a context it does so as `poll_fill` does those of a reader; without one it registers no task and doesn't draw: it is pending where the look knows of no room and didn't see the pipe closed.
     ///
     /// A failure is the source's own error: what it gave in the rounds before stays published, and nothing else moved.
     pub fn fill_inner<R: ReadLike>(
         &mut self,
-        cx: &mut Context<'_>,
+        cx: Option<&mut Context<'_>>,
         source: &mut R,
     ) -> Poll<Result<usize, Inner<R::Error>>>
-        ensures filled { Fills R.gives R.is_dry R.fails result self.old.end self.new.end source.old source.new }
+        ensures filled { Fills R.gives R.is_dry R.fails result
+            self.old.end self.new.end source.old source.new }
         ensures failures { CountsFailure result (R.failures source.old) (R.failures source.new) }
         ensures over { self.old.end.saw ≡ true → result ≡ Poll.Ready (Ok 0) }
         ensures open { OnNoCount result (self.new.end.saw ≡ false) }
-        ensures draws { Draws (FoundRoom result self.new.end) result self.old.rng self.new.rng }
+        ensures draws { IsSome cx.entry →
+            Draws (FoundRoom result self.new.end) result self.old.rng self.new.rng }
+        ensures undrawn { cx.entry ≡ None →
+            Undrawn (FoundRoom result self.new.end) result self.old.rng self.new.rng }
+        ensures granted { cx.entry ≡ None → OnMemory result ⊥ }
         ensures lent { self.new.end.lent ≡ [] }
-        ensures refused { OnMemory result (cx.new.lacks_waker ≡ true) }
         ensures slots { self.new.slots ≡ self.old.slots }
-        ensures covered { OnPending result (Covers cx.new (λ s. s ≡ write_source self.old)) }
-        ensures kept { Keeps cx.old cx.new }
+        ensures refused { IfGiven cx.entry cx.exit (LacksWaker result) }
+        ensures covered { IfGiven cx.entry cx.exit (Arms result (write_source self.old)) }
+        ensures kept { IfGiven cx.entry cx.exit Keeps }
     {
-        let told = self.fill_looking(cx, source);
-        self.unlend();
-        told
+        match cx {
+            Some(cx) => {
+                let told = self.fill_waiting(cx, source);
+                self.unlend();
+                told
+            }
+            None => {
+                let told = self.fill_at_once(source);
+                self.unlend();
+                told
+            }
+        }
     }
 
-    // The look, the draw, and the rounds.
-    fn fill_looking<R: ReadLike>(
+    // The fill with a context: the look, the draw, and the rounds.
+    fn fill_waiting<R: ReadLike>(
         &mut self,
         cx: &mut Context<'_>,
         source: &mut R,
     ) -> Poll<Result<usize, Inner<R::Error>>>
-        ensures filled { Fills R.gives R.is_dry R.fails result self.old.end self.new.end source.old source.new }
+        ensures filled { Fills R.gives R.is_dry R.fails result
+            self.old.end self.new.end source.old source.new }
         ensures failures { CountsFailure result (R.failures source.old) (R.failures source.new) }
         ensures over { self.old.end.saw ≡ true → result ≡ Poll.Ready (Ok 0) }
         ensures open { OnNoCount result (self.new.end.saw ≡ false) }
@@ -139,7 +188,24 @@ impl<H: Wait + Clone + Drop> Writer<H> {
             let _pending: Poll<()> = cx.yield_now();
             return copied(call.yielded(true).end());
         }
-        self.fill_rounds_from(call, source)
+        self.fill_rounds(call, source)
+    }
+
+    // The fill without a context: the look, and the rounds.
+    fn fill_at_once<R: ReadLike>(&mut self, source: &mut R) -> Poll<Result<usize, Inner<R::Error>>>
+        ensures filled { Fills R.gives R.is_dry R.fails result
+            self.old.end self.new.end source.old source.new }
+        ensures failures { CountsFailure result (R.failures source.old) (R.failures source.new) }
+        ensures over { self.old.end.saw ≡ true → result ≡ Poll.Ready (Ok 0) }
+        ensures open { OnNoCount result (self.new.end.saw ≡ false) }
+        ensures waits { OnPending result (self.new.end.room ≡ 0) }
+        ensures granted { OnMemory result ⊥ }
+        ensures rest { SameWriter self.old self.new }
+    {
+        match self.look_at_once() {
+            Ok(call) => self.fill_rounds(call, source),
+            Err(told) => told,
+        }
     }
 
     // The look of a fill that waits: its open call once there is room, or what it answers.
@@ -147,12 +213,15 @@ impl<H: Wait + Clone + Drop> Writer<H> {
         &mut self,
         cx: &mut Context<'_>,
     ) -> Result<WriteCall, Poll<Result<usize, Inner<E>>>>
-        ensures found { IfOk result (λ call. call.place ≡ WritePlace.LookTake (Purpose.Copy (Form.Polling false))) }
+        ensures found { IfOk result (λ call.
+            call.place ≡ WritePlace.LookTake (Purpose.Copy (Form.Polling false))) }
         ensures some { OnOk result (0 < self.new.end.room) }
-        ensures is_open { OnOk result ((self.new.end.shut ≡ false) × (self.new.end.saw ≡ false)) }
+        ensures is_open { OnOk result (
+            (self.new.end.shut ≡ false) × (self.new.end.saw ≡ false)) }
         ensures none { IfErr result (λ told. FoundNoRoom told self.new.end) }
         ensures refused { IfErr result (λ told. OnMemory told (cx.new.lacks_waker ≡ true)) }
-        ensures covered { IfErr result (λ told. OnPending told (Covers cx.new (λ s. s ≡ write_source self.old))) }
+        ensures covered { IfErr result (λ told.
+            OnPending told (Covers cx.new (λ s. s ≡ write_source self.old))) }
         ensures looked { WriterLooked self.old.end self.new.end }
         ensures rest { SameWriter self.old self.new }
         ensures kept { Keeps cx.old cx.new }
@@ -181,21 +250,56 @@ impl<H: Wait + Clone + Drop> Writer<H> {
         Err(copied(call.end()))
     }
 
+    // The look of a fill that doesn't wait: its open call once there is room, or what it answers, pending where it would wait.
+    fn look_at_once<E>(&mut self) -> Result<WriteCall, Poll<Result<usize, Inner<E>>>>
+        ensures found { IfOk result (λ call. call.place ≡ WritePlace.CallSource Form.Try 0) }
+        ensures some { OnOk result (0 < self.new.end.room) }
+        ensures is_open { OnOk result (
+            (self.new.end.shut ≡ false) × (self.new.end.saw ≡ false)) }
+        ensures none { IfErr result (λ told. FoundNoRoom told self.new.end) }
+        ensures granted { IfErr result (λ told. OnMemory told ⊥) }
+        ensures looked { WriterLooked self.old.end self.new.end }
+        ensures rest { SameWriter self.old self.new }
+    {
+        let (call, is_closed, none) = self.look_closed(WriteCall::look(Purpose::Copy(Form::Try)));
+        if is_closed {
+            return Err(copied(call.end()));
+        }
+        if !none {
+            return Ok(call);
+        }
+        let (call, none) = self.load_head(call);
+        if !none {
+            return Ok(call);
+        }
+        let (call, none) = self.load_head(call);
+        if !none {
+            return Ok(call);
+        }
+        let (call, is_closed) = self.load_closed(call);
+        let answer = call.end();
+        Err(if is_closed {
+            copied(answer)
+        } else {
+            Poll::Pending
+        })
+    }
+
     // Publishes what the source gives in rounds, each in one piece, until there is no room, it gives none, or the pipe is seen closed.
-    fn fill_rounds_from<R: ReadLike>(
+    fn fill_rounds<R: ReadLike>(
         &mut self,
         call: WriteCall,
         source: &mut R,
     ) -> Poll<Result<usize, Inner<R::Error>>>
-        requires place { call.place ≡ WritePlace.CallSource (Form.Polling false) 0 }
+        requires place { (form : Form) × (call.place ≡ WritePlace.CallSource form 0) }
         requires is_open { (self.old.end.shut ≡ false) × (self.old.end.saw ≡ false) }
         requires some { 0 < self.old.end.room }
-        ensures filled { FillRounds R.gives R.is_dry R.fails result self.old.end self.new.end source.old source.new }
+        ensures filled { FillRounds R.gives R.is_dry R.fails result
+            self.old.end self.new.end source.old source.new }
         ensures failures { CountsFailure result (R.failures source.old) (R.failures source.new) }
         ensures open { OnNoCount result (self.new.end.saw ≡ false) }
         ensures found { FoundRoom result self.new.end }
-        ensures ready { OnPending result ⊥ }
-        ensures granted { OnMemory result ⊥ }
+        ensures ready { IsAtOnce result }
         ensures rest { SameWriter self.old self.new }
     {
         self.end().learn();

@@ -1,5 +1,6 @@
 //! The traits of readers and writers, for the handles.
 ghost use Rattle.std.specs.Prelude.{◌≡◌};
+ghost use Rattle.piper.specs.declared.error.PipeError.TheVariants.{Memory};
 
 use crate::error::PipeError;
 use crate::handles::{Reader, Writer};
@@ -16,6 +17,8 @@ impl<H: Wait + Clone + Drop> AsyncRead for Reader<H> {
     ghost saw = { λ r. r.end.saw };
 
     ghost needs = { λ r s. s ≡ read_source r };
+
+    ghost fails = { λ _ e. e ≡ Memory };
 
     fn poll_read(
         &mut self,
@@ -44,6 +47,8 @@ impl<H: Wait + Clone + Drop> AsyncBufRead for Reader<H> {
 
     ghost needs = { λ r s. s ≡ read_source r };
 
+    ghost fails = { λ _ e. e ≡ Memory };
+
     fn poll_fill_buf(&mut self, cx: &mut Context<'_>) -> Poll<Result<&[u8], PipeError>> {
         match self.poll(cx) {
             Poll::Pending => Poll::Pending,
@@ -65,6 +70,8 @@ impl<H: Wait + Clone + Drop> AsyncWrite for Writer<H> {
     ghost saw = { λ w. w.end.saw };
 
     ghost needs = { λ w s. s ≡ write_source w };
+
+    ghost fails = { λ _ e. e ≡ Memory };
 
     fn poll_write(
         &mut self,

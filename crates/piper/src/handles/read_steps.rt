@@ -45,16 +45,18 @@ impl<H: Wait + Clone + Drop> Reader<H> {
         (call.refreshed(none), none)
     }
 
-    /// Loads closed.
+    /// Loads closed, and tells what the flag was.
     #[inline(always)]
-    pub(crate) fn load_closed(&mut self, call: ReadCall) -> ReadCall
+    pub(crate) fn load_closed(&mut self, call: ReadCall) -> (ReadCall, bool)
         requires next { read_action call.place ≡ Action.LoadClosed }
-        ensures step { result ≡ read_step call.place (loaded self.new.end.saw) }
+        ensures step { result.0 ≡ read_step call.place (loaded result.1) }
+        ensures saw { result.1 ≡ self.new.end.saw }
         ensures told { flag self.old.end.told_shut ≤ flag self.new.end.saw }
         ensures end { ReaderSaw self.old.end self.new.end }
         ensures rest { SameReader self.old self.new }
     {
-        call.loaded_closed(self.end.look_closed())
+        let is_closed = self.end.look_closed();
+        (call.loaded_closed(is_closed), is_closed)
     }
 
     /// Registers in the reader's slot, and tells whether a waker was granted.

@@ -2,7 +2,7 @@
 ghost use Rattle.std.specs.Prelude.{◌≡◌, ◌⊎◌, [], true, Ok};
 ghost use Rattle.futures.specs.Task.{Covers, Keeps};
 ghost use Rattle.futures.specs.Poll.{OnPending};
-ghost use Rattle.piper.specs.Polls.{Carries};
+ghost use Rattle.piper.specs.Polls.{Carries, IfReadyErr};
 
 use super::{AsyncBufRead, AsyncWrite};
 use crate::error::PipeError;
@@ -28,10 +28,14 @@ pub fn poll_copy<R: AsyncBufRead, W: AsyncWrite>(
     reader: &mut R,
     writer: &mut W,
 ) -> Poll<Result<Copied, PipeError>>
-    ensures carried { Carries (R.taken reader.old) (R.taken reader.new) (W.sent writer.old) (W.sent writer.new) (W.saw writer.new) }
-    ensures ended { result ≡ Poll.Ready (Ok Copied.ToTheEnd) → (R.known reader.new ≡ []) × (R.saw reader.new ≡ true) }
+    ensures carried { Carries (R.taken reader.old) (R.taken reader.new)
+        (W.sent writer.old) (W.sent writer.new) (W.saw writer.new) }
+    ensures ended { result ≡ Poll.Ready (Ok Copied.ToTheEnd) →
+        (R.known reader.new ≡ []) × (R.saw reader.new ≡ true) }
     ensures closed { result ≡ Poll.Ready (Ok Copied.UntilClosed) → W.saw writer.new ≡ true }
-    ensures covered { OnPending result (Covers cx.new (R.needs reader.new) ⊎ Covers cx.new (W.needs writer.new)) }
+    ensures error { IfReadyErr result (λ e. R.fails reader.new e ⊎ W.fails writer.new e) }
+    ensures covered { OnPending result (
+        Covers cx.new (R.needs reader.new) ⊎ Covers cx.new (W.needs writer.new)) }
     ensures kept { Keeps cx.old cx.new }
 {
     for _ in 0..MOST_PIECES {

@@ -42,7 +42,8 @@ impl ReadLike for ReadBytes<'_> {
 
     ghost gives_nothing = { λ _. refl };
 
-    ghost gives_in_order = { λ a xs b ys c p q. front_on a.rest.now xs b.rest.now ys c.rest.now p q };
+    ghost gives_in_order = { λ a xs b ys c p q.
+        front_on a.rest.now xs b.rest.now ys c.rest.now p q };
 
     fn read(&mut self, dest: &mut [u8]) -> Result<usize, Infallible> {
         let n = self.rest.len().min(dest.len());
@@ -67,7 +68,9 @@ impl<'a> WriteBytes<'a> {
 impl WriteLike for WriteBytes<'_> {
     type Error = Infallible;
 
-    ghost takes = { λ old bytes new. (new.bytes.ghost_name ≡ old.bytes.ghost_name) × (new.place ≡ old.place + length bytes)
+    ghost takes = { λ old bytes new.
+        (new.bytes.ghost_name ≡ old.bytes.ghost_name)
+        × (new.place ≡ old.place + length bytes)
         × (new.bytes.now ≡ written old.bytes.now old.place bytes) };
 
     ghost is_full = { λ w. length w.bytes.now ≡ w.place };

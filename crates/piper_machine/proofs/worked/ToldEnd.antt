@@ -1,5 +1,5 @@
 -- A told end, and what may be logged behind it.
-use Rattle.std.specs.Prelude.{◌≡◌, List, [], ◌∷◌, ◌++◌, true, None, Some, refl}
+use Rattle.std.specs.Prelude.{◌≡◌, List, [], ◌∷◌, ◌++◌, true, false, None, Some, Ok, refl}
 use Rattle.std.proofs.Common.{inl, inr}
 use Rattle.piper_sides.specs.declared.calls.Side.TheVariants.{Reader, Writer}
 use Rattle.piper_sides.specs.declared.calls.Call.TheVariants as call
@@ -12,6 +12,7 @@ use Rattle.piper_sides.specs.declared.events.Seen.TheVariants as seen
 use Rattle.piper_sides.specs.declared.events.Answer.TheVariants as answer
 use Rattle.piper_sides.specs.declared.polling.Polled.TheVariants as polled
 use Rattle.piper_machine.specs.Pipe.{fresh}
+use Rattle.piper_machine.specs.End.{saw_closed, found_none}
 use Rattle.piper_machine.specs.Final.{told_end, IsBehindEnd}
 use Rattle.piper_machine.proofs.worked.Script.{by}
 use Rattle.piper_machine.proofs.worked.StepScript.{gone}
@@ -36,6 +37,44 @@ told_and_empty :
     × ((gone asked_twice (fresh 4)).pipe.unread ≡ [])
 told_and_empty = (refl, refl)
 
+-- A drain finds the end as a poll does, and answers no byte; the writer looks at the same empty pipe behind it.
+abbrev drained_to_the_end : List Step
+drained_to_the_end =
+    Begin call.Close ∷ Go Writer ∷ Go Writer ∷ Go Writer
+    ∷ Begin (call.TryDrain 4) ∷ Go Reader ∷ Go Reader ∷ Go Reader
+    ∷ Begin (call.Len Writer) ∷ Go Writer ∷ []
+
+abbrev before_it_is_found : List Event
+before_it_is_found =
+    Began Writer kind.Close None ∷ Closed Writer ∷ Answered Writer answer.Done
+    ∷ Began Reader kind.TryDrain None ∷ Looked Reader (seen.Tail 0) ∷ Looked Reader (seen.Closed true) ∷ []
+
+abbrev behind_what_is_found : List Event
+behind_what_is_found = Answered Reader (answer.Count 0) ∷ Began Writer kind.Len None ∷ Looked Writer (seen.Head 0) ∷ []
+
+found_by_a_drain :
+    ((gone drained_to_the_end (fresh 4)).events ≡ before_it_is_found ++ found_none ∷ behind_what_is_found)
+    × (saw_closed before_it_is_found ≡ true)
+found_by_a_drain = (refl, refl)
+
+-- A drain that looked at closed before the close answers 0 as well, and found no end: the writer may have published in between.
+abbrev drained_over_the_drop : List Step
+drained_over_the_drop = Begin (call.TryDrain 4) ∷ Go Reader ∷ Go Reader ∷ Begin (call.Drop Writer) ∷ Go Writer ∷ Go Reader ∷ []
+
+abbrev before_its_last_look : List Event
+before_its_last_look =
+    Began Reader kind.TryDrain None ∷ Looked Reader (seen.Tail 0) ∷ Looked Reader (seen.Closed false)
+    ∷ Began Writer kind.Drop None ∷ Closed Writer ∷ []
+
+zero_is_no_end :
+    ((gone drained_over_the_drop (fresh 4)).events ≡ before_its_last_look ++ found_none ∷ Answered Reader (answer.Count 0) ∷ [])
+    × (saw_closed before_its_last_look ≡ false)
+zero_is_no_end = (refl, refl)
+
+-- what a call saw is forgotten with the next
+forgotten_by_the_next : saw_closed (before_it_is_found ++ Began Reader kind.Len None ∷ []) ≡ false
+forgotten_by_the_next = refl
+
 -- The reader closes its own end in the middle of a publication: a drop of the reader does not shut, and the writer goes on. No end
 -- was told, so this is allowed.
 abbrev published_after_a_drop : List Step
@@ -58,3 +97,13 @@ true_refused (inr same) = absurd (cc)
 pending_refused : IsBehindEnd (Answered Reader (answer.Poll polled.Pending)) → ⊥
 pending_refused (inl same) = absurd (cc)
 pending_refused (inr same) = absurd (cc)
+
+drains_allowed : IsBehindEnd (Answered Reader (answer.Count 0)) × IsBehindEnd (Answered Reader (answer.Copy (polled.Ready (Ok 0)))) × IsBehindEnd (Answered Reader (answer.Copy polled.Memory))
+drains_allowed = (refl, inl refl, inr refl)
+
+waiting_drain_refused : IsBehindEnd (Answered Reader (answer.Copy polled.Pending)) → ⊥
+waiting_drain_refused (inl same) = absurd (cc)
+waiting_drain_refused (inr same) = absurd (cc)
+
+open_pipe_refused : IsBehindEnd (Looked Reader (seen.Closed false)) → ⊥
+open_pipe_refused same = absurd (cc)

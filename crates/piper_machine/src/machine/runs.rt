@@ -23,6 +23,7 @@ ghost use Rattle.piper_machine.specs.Final.{IsFinal};
 ghost use Rattle.piper_machine.specs.Remembered.{AreRemembered};
 ghost use Rattle.piper_machine.specs.Answered.{AreAnswered};
 ghost use Rattle.piper_machine.specs.Sound.{IsSound};
+ghost use Rattle.piper_machine.specs.Front.{Front};
 ghost use Rattle.piper_machine.specs.Run.{Made, IsStepped, Runs, IsRefusal, IsRunRefusal};
 
 use super::Machine;
@@ -491,6 +492,7 @@ pub fn run(alloc: Global, cap: usize, steps: &[Step]) -> Result<(Machine, Log), 
     ensures runs { IfOk result (λ run. Runs (fresh cap) [] steps.now run.0 (events run.1)) }
     ensures capacity { IfOk result (λ run. run.0.capacity ≡ cap) }
     ensures refused { IfErr result (IsRunRefusal cap steps.now) }
+    ensures fronts { IfOk result (λ run. (i : ℕ) → Front cap steps.now i run.0 (events run.1)) }
     ensures sound { IfOk result (λ run. IsSound run.0) }
     ensures conserved { IfOk result (λ run. IsConserved run.0 (events run.1)) }
     ensures disjoint { IfOk result (λ run. IsDisjoint run.0) }

@@ -1,10 +1,11 @@
--- A drain that yields moves nothing.
-use Rattle.std.proofs.Common.{rules, ◌≡◌, refl}
-use Rattle.futures.specs.declared.task.Poll.TheVariants.{Pending}
-use Rattle.piper.proofs.LookingOut.{drains_none}
+-- The context of a drain that waits is left as the drain leaves it.
 use Rattle.piper.proofs.handles.Reader.drain_inner.Goals as goal
 
-pub returns-then-yields-clause-drained : goal.returns-then-yields-clause-drained
-returns-then-yields-clause-drained g c =
-    let waits : c.copied.result ≡ Pending = search rules in
-    rw (waits, c.take_own_and_draw-call.ensures.end) (drains_none _ _ _ Pending _ _ _ c.in-Ok.ensures.looked (refl, refl) tt)
+pub returns-in-Some-clause-refused : goal.returns-in-Some-clause-refused
+returns-in-Some-clause-refused g c = rw c.in-Some.is c.drain_waiting.ensures.refused
+
+pub returns-in-Some-clause-covered : goal.returns-in-Some-clause-covered
+returns-in-Some-clause-covered g c = rw c.in-Some.is c.drain_waiting.ensures.covered
+
+pub returns-in-Some-clause-kept : goal.returns-in-Some-clause-kept
+returns-in-Some-clause-kept g c = rw c.in-Some.is c.drain_waiting.ensures.kept

@@ -1,34 +1,43 @@
--- A round adds to the rounds before it.
-use Rattle.std.proofs.Common.{◌≡◌, ℕ, ◌-◌, length, min, ap, sym, ◌∙◌, arith, length-drop, drop, take, Bool}
-use Rattle.std.proofs.lemmas.List.{take_rest}
-use Rattle.piper_ring.specs.WriteView.{WriteView}
-use Rattle.piper_sides.specs.Table.{write_step, flag}
+-- A round adds to the rounds before it, or ends them.
+use Rattle.std.proofs.Common.{rules, ◌≡◌, ◌+◌, [], Ok, true, take, arith}
+use Rattle.futures.specs.declared.task.Poll.TheVariants.{Ready}
 use Rattle.piper.specs.Slots.{found_in}
-use Rattle.piper.proofs.Filling.{filled_more}
 use Rattle.piper.proofs.Rounds.{fill_round}
+use Rattle.piper.proofs.RoundsIn.{fill_ended, fill_failed, fill_closed, filled_more}
 use Rattle.piper.proofs.handles.Writer.fill_rounds.Goals as goal
+
+pub returns-in-Err-clause-filled : goal.returns-in-Err-clause-filled
+returns-in-Err-clause-filled g c =
+    let none : g.R.ReadLike.gives c.rounds.source [] c.fill_round.new.source = search rules in
+    fill_failed _ g.met.R.ReadLike.gives_in_order _ _ _ _ _ _ _ c.rounds.invariant.filled c.fill_round.ensures.end _ _ c.in-Err.error none c.in-Err.ensures.error
+
+pub returns-then-n-eq0-clause-filled : goal.returns-then-n-eq0-clause-filled
+returns-then-n-eq0-clause-filled g c =
+    let told : c.copied.result ≡ Ready (Ok c.rounds.sum) = search rules in
+    let none : g.R.ReadLike.gives c.rounds.source [] c.fill_round.new.source = search rules in
+    let dry : c.fill_round.result ≡ Ok 0 = search rules in
+    rw told (fill_ended _ g.met.R.ReadLike.gives_in_order _ _ _ _ _ _ _ c.rounds.invariant.filled c.fill_round.ensures.end _ _ none (c.fill_round.ensures.dry dry)
+    (λ full. omega (arith, c.rounds.invariant.total, c.requires.some, c.fill_round.ensures.end.room, full)))
+
+pub returns-then-is_closed-clause-filled : goal.returns-then-is_closed-clause-filled
+returns-then-is_closed-clause-filled g c =
+    let told : c.copied-then-is_closed.result ≡ Ready (Ok (c.rounds.sum + c.in-Ok.n)) = search rules in
+    let some : g.R.ReadLike.gives c.rounds.source (take c.in-Ok.n c.fill_round.new.self.end.lent) c.fill_round.new.source = search rules in
+    let closed : c.load_closed-round.new.self.end.saw ≡ true = search rules in
+    rw told (fill_closed _ g.met.R.ReadLike.gives_in_order _ _ _ _ _ _ _ c.rounds.invariant.filled c.fill_round.ensures.end _ _ _ _ c.in-Ok.ensures.bound some c.load_closed-round.ensures.end closed)
 
 pub rounds-preserved : goal.rounds-preserved
 rounds-preserved g c =
-    let s : ℕ = c.rounds.sum in
-    let n : ℕ = c.copy_front-n.result in
-    let bytes = c.args.bytes.now in
-    let buf = c.write_buf.result.now in
-    let before = c.rounds.invariant in
-    let looked = c.load_closed-round.ensures in
-    let w : WriteView = c.load_closed-round.new.self.end in
+    let some : g.R.ReadLike.gives c.rounds.source (take c.in-Ok.n c.fill_round.new.self.end.lent) c.fill_round.new.source = search rules in
     let stored = c.store_tail-round.ensures in
-    let rest : take (length bytes - s) (drop s bytes) ≡ drop s bytes = take_rest bytes s in
-    let left : length (take (length bytes - s) (drop s bytes)) ≡ length bytes - s = ap length rest ∙ length-drop s bytes in
-    let count : n ≡ min (min (length (take (length bytes - s) (drop s bytes))) (length buf)) 131072 = c.copy_front-n.ensures.count in
+    let saw = c.load_closed-round.ensures.end in
     record {
-      at = fill_round c.rounds.call.place c.source_gave-in-rounds.result c.load_closed-round.result.0 c.store_tail-round.result c.take_reader-round.result.0 c.write_wake-call.result s n (found_in c.take_reader-round.result.1)
-          before.at c.if-n-eq0.false c.source_gave-in-rounds.ensures (looked.step ∙ ap (λ (is_closed : Bool). write_step c.source_gave-in-rounds.result.place (flag is_closed)) c.if-is_closed.false)
-          stored.step c.take_reader-round.ensures.step c.write_wake-call.ensures;
-      moved = filled_more c.args.self.now.end c.rounds.self.end w c.store_tail-round.new.self.end bytes (take (length bytes - s) (drop s bytes)) buf c.copy_front-n.new.to s n
-          before.moved rest (omega arith) (omega arith) c.copy_front-n.ensures.bytes
-          looked.end.sent looked.end.room looked.end.shut (record { ring = looked.end.end.ring; capacity = looked.end.end.capacity; told = looked.end.end.told }) looked.end.lent
-          stored.sent stored.room stored.end (omega (arith, before.moved.fits));
-      open_yet = stored.end.saw ∙ sym looked.saw ∙ c.if-is_closed.false;
-      rest = record { slots = stored.rest.slots ∙ looked.rest.slots ∙ before.rest.slots; rng = stored.rest.rng ∙ looked.rest.rng ∙ before.rest.rng };
+      at = fill_round c.rounds.call.place c.rounds.sum c.in-Ok.n c.rounds.invariant.at c.source_gave-round.result c.source_gave-round.ensures c.if-n-eq0.false
+          c.load_closed-round.result.0 c.load_closed-round.result.1 c.load_closed-round.ensures.step c.store_tail-round.result c.take_reader-round.result.0 c.write_wake-call.result
+          (found_in c.take_reader-round.result.1) c.if-is_closed.false stored.step c.take_reader-round.ensures.step c.write_wake-call.ensures;
+      filled = filled_more _ g.met.R.ReadLike.gives_in_order _ _ _ _ _ _ _ c.rounds.invariant.filled c.fill_round.ensures.end _ _ _ c.in-Ok.ensures.bound some saw stored.sent stored.room stored.end;
+      total = omega (arith, c.rounds.invariant.total, stored.room, saw.room, c.fill_round.ensures.end.room);
+      open_yet = search rules;
+      failures = search rules;
+      rest = search rules;
     }

@@ -1,13 +1,20 @@
--- The bytes of the rounds so far were published, and the call asks its source again.
-use Rattle.std.proofs.Common.{◌≡◌, ◌-◌, length, false}
-use Rattle.piper_sides.specs.declared.table.Form.TheVariants.{Try}
+-- The bytes of the rounds so far were published.
+use Rattle.std.proofs.Common.{◌≡◌, ◌+◌, false}
+use Rattle.piper_sides.specs.declared.table.Form.{Form}
 use Rattle.piper_sides.specs.declared.table.WritePlace.TheVariants.{CallSource}
-use Rattle.piper.specs.Copies.{Filled}
 use Rattle.piper.specs.Handles.{SameWriter}
+use Rattle.piper.proofs.RoundsIn.{Filled}
 use Rattle.piper.proofs.handles.Writer.fill_rounds.Given as goal
 
 abbrev pub invariant-rounds : goal.invariant-rounds
-invariant-rounds g l = record { at : l.call.place ≡ CallSource Try l.sum; moved : Filled l.sum l.initial.self.end l.bytes l.self.end; open_yet : l.self.end.saw ≡ false; rest : SameWriter l.initial.self l.self }
+invariant-rounds g l = record {
+  at : (form : Form) × (l.call.place ≡ CallSource form l.sum);
+  filled : Filled g.R.ReadLike.gives l.initial.self.end l.self.end l.initial.source l.source l.sum;
+  total : l.sum + l.self.end.room ≡ l.initial.self.end.room;
+  open_yet : l.self.end.saw ≡ false;
+  failures : g.R.ReadLike.failures l.source ≡ g.R.ReadLike.failures l.initial.source;
+  rest : SameWriter l.initial.self l.self;
+}
 
 abbrev pub decreases-rounds : goal.decreases-rounds
-decreases-rounds g l = length l.bytes - l.sum
+decreases-rounds g l = l.self.end.room

@@ -1,9 +1,10 @@
-use Rattle.std.proofs.Common.{◌≡◌, take, drop, []}
+use Rattle.std.proofs.Common.{◌≡◌, ℕ, take, drop, []}
 use Rattle.piper_machine.specs.Pipe.{fresh}
 use Rattle.piper_sides.specs.Log.{events}
 use Rattle.piper_machine.specs.Run.{Runs}
 use Rattle.piper_machine.specs.Conservation.{IsConserved}
 use Rattle.piper_machine.specs.Known.{IsKnown}
+use Rattle.piper_machine.specs.Front.{Front}
 use Rattle.piper_machine.proofs.Honesty.{Honest}
 use Rattle.piper_machine.proofs.Finality.{Final}
 use Rattle.piper_machine.proofs.Remembering.{Remembers}
@@ -19,5 +20,6 @@ invariant-loop-i l = record {
   remembers : Remembers l.machine (events l.log);
   final : Final l.machine (events l.log);
   answers : Answers l.cap l.steps (drop l.i l.steps) l.machine (events l.log);
+  fronts : (j : ℕ) → Front l.cap (take l.i l.steps) j l.machine (events l.log);
   conserved : IsConserved l.machine (events l.log);
 }

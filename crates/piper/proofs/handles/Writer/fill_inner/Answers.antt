@@ -1,0 +1,11 @@
+-- The context of a fill that waits is left as the fill leaves it.
+use Rattle.piper.proofs.handles.Writer.fill_inner.Goals as goal
+
+pub returns-in-Some-clause-refused : goal.returns-in-Some-clause-refused
+returns-in-Some-clause-refused g c = rw c.in-Some.is c.fill_waiting-told.ensures.refused
+
+pub returns-in-Some-clause-covered : goal.returns-in-Some-clause-covered
+returns-in-Some-clause-covered g c = rw c.in-Some.is c.fill_waiting-told.ensures.covered
+
+pub returns-in-Some-clause-kept : goal.returns-in-Some-clause-kept
+returns-in-Some-clause-kept g c = rw c.in-Some.is c.fill_waiting-told.ensures.kept

@@ -1,0 +1,25 @@
+-- The context that a copy is handed, and what it is left as.
+use Rattle.std.specs.Prelude.{◌≡◌, ℕ, true, Option, Some, None, Result, ⊤, ◌⊎◌}
+use Rattle.std.specs.Borrow.{MutBor}
+use Rattle.std.proofs.Common.{inl, inr}
+use Rattle.futures.specs.Task.{Covers}
+use Rattle.futures.specs.Poll.{OnPending}
+use Rattle.futures.specs.declared.task.context.Context.{Context}
+use Rattle.futures.specs.declared.task.Poll.{Poll}
+use Rattle.piper.specs.CopyAnswers.{OnMemory}
+use Rattle.piper.specs.declared.error.Inner.{Inner}
+
+-- P holds of the context as it was handed in and as it was left, where there was one
+abbrev pub IfGiven : Option (MutBor Context) → Unit {0} ⊎ ((MutBor Context × Unit {0}) ⊎ ⊥) → (Context → Context → Type 0) → Type 0
+IfGiven None left P = ⊤
+IfGiven (Some cx) (inl none) P = ⊥
+IfGiven (Some cx) (inr (inl left)) P = P cx.now left.0.now
+IfGiven (Some cx) (inr (inr never)) P = ⊥
+
+-- a copy that is pending has armed its task at the source
+abbrev pub Arms : {A : Type 0} → Poll A → ℕ → Context → Context → Type 0
+Arms r source old left = OnPending r (Covers left (λ s. s ≡ source))
+
+-- a copy wants memory only where no waker could be made
+abbrev pub LacksWaker : {E : Type 0} → Poll (Result ℕ (Inner E)) → Context → Context → Type 0
+LacksWaker r old left = OnMemory r (left.lacks_waker ≡ true)

@@ -1,0 +1,47 @@
+-- Two pipes between the same two ends, one for each way.
+use Rattle.std.specs.Prelude.{◌≡◌, ℕ, true, List, Result, bit_xor}
+use Rattle.std.specs.Io.{StartsWith}
+use denote.Ref.{Bor}
+use Rattle.futures.specs.Task.{Covers}
+use Rattle.futures.specs.Poll.{OnPending}
+use Rattle.futures.specs.declared.task.Poll.{Poll}
+use Rattle.futures.specs.declared.task.context.Context.{Context}
+use Rattle.piper.specs.ReadView.{SameReadEnd, in_one_piece}
+use Rattle.piper.specs.WriteView.{SameWriteEnd}
+use Rattle.piper.specs.Opened.{FreshReadEnd, FreshWriteEnd}
+use Rattle.piper.specs.Generator.{generator}
+use Rattle.piper.specs.Handles.{ArePair, read_source}
+use Rattle.piper.specs.Polls.{Lends}
+use Rattle.piper.specs.declared.handles.Reader.{Reader}
+use Rattle.piper.specs.declared.handles.Writer.{Writer}
+use Rattle.piper_duplex.specs.declared.end.End.{End}
+
+-- the handles of a new pipe of `cap` bytes, whose generators begin at `seed`
+pub record IsNewPipe {H : Type 0} (cap seed : ℕ) (reader : Reader H) (writer : Writer H) : Type 0 where
+  pub pair : ArePair reader writer
+  pub read_end : FreshReadEnd cap reader.end
+  pub write_end : FreshWriteEnd cap writer.end
+  pub reader_rng : reader.rng ≡ generator seed
+  pub writer_rng : writer.rng ≡ generator (bit_xor seed 1)
+
+-- b is the end a, but for what its reader took, knows, saw and drew
+pub record OnlyReads {H : Type 0} (a b : End H) : Type 0 where
+  pub writer : b.writer ≡ a.writer
+  pub end : SameReadEnd a.reader.end b.reader.end
+  pub slots : b.reader.slots ≡ a.reader.slots
+
+-- b is the end a, but for what its writer published, lends, saw and drew, and for its room
+pub record OnlyWrites {H : Type 0} (a b : End H) : Type 0 where
+  pub reader : b.reader ≡ a.reader
+  pub end : SameWriteEnd a.writer.end b.writer.end
+  pub slots : b.writer.slots ≡ a.writer.slots
+
+-- a poll of the end a lent the first piece of the known bytes, and left the end as b: no byte was taken, and a pending poll
+-- has armed its task
+abbrev pub LendsPiece : {H E : Type 0} → Poll (Result (Bor (List ℕ)) E) → End H → End H → Context → Type 0
+LendsPiece r a b cx =
+    Lends r b.reader.end.known (in_one_piece b.reader.end) b.reader.end.saw
+    × StartsWith b.reader.end.known a.reader.end.known
+    × (b.reader.end.taken ≡ a.reader.end.taken)
+    × (a.reader.end.saw ≡ true → b.reader.end.saw ≡ true)
+    × OnPending r (Covers cx (λ s. s ≡ read_source b.reader))

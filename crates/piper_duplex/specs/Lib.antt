@@ -1,0 +1,2 @@
+pub mod Crosswise
+pub mod Echoes

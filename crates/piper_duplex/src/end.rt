@@ -1,0 +1,84 @@
+//! The two ends of a duplex stream. Each reads from the one pipe and writes into the other.
+ghost use Rattle.std.specs.Prelude.{◌≡◌, ◌*◌, ◌^◌, ◌<◌, IfOk};
+ghost use Rattle.piper_duplex.specs.Crosswise.{IsNewPipe};
+
+mod streams;
+
+use piper::{OutOfMemory, Reader, Writer, pipe};
+use std::alloc::Global;
+use std::sync::Wait;
+
+/// One end of a duplex stream.
+///
+/// It is made by `duplex`, can't be cloned, and has to be spent: by its call `drop`, or by `into_halves`. In clauses, `reader` and `writer` are the handles that the calls of these names lend.
+pub struct End<H: Wait + Clone + Drop> {
+    reader: Reader<H>,
+    writer: Writer<H>,
+}
+
+/// Creates a duplex stream: what the first end writes the second reads, through a pipe of `cap_a` bytes, and what the second writes the first reads, through one of `cap_b`.
+///
+/// Each of the four handles keeps a clone of `rt`, and both pipes take `seed`. Where memory is refused, all that was got is given back.
+pub fn duplex<H: Wait + Clone + Drop>(
+    rt: &H,
+    alloc: Global,
+    cap_a: usize,
+    cap_b: usize,
+    seed: u64,
+) -> Result<(End<H>, End<H>), OutOfMemory>
+    requires there { (0 < cap_a) × (2 * cap_a < 2 ^ 64) }
+    requires back { (0 < cap_b) × (2 * cap_b < 2 ^ 64) }
+    ensures there { IfOk result (λ (first, second). IsNewPipe cap_a seed second.reader first.writer) }
+    ensures back { IfOk result (λ (first, second). IsNewPipe cap_b seed first.reader second.writer) }
+{
+    let (there_reader, there_writer) = pipe(rt, alloc, cap_a, seed)?;
+    let (back_reader, back_writer) = match pipe(rt, alloc, cap_b, seed) {
+        Ok(handles) => handles,
+        Err(refused) => {
+            there_writer.drop();
+            there_reader.drop();
+            return Err(refused);
+        }
+    };
+    let first = End {
+        reader: back_reader,
+        writer: there_writer,
+    };
+    let second = End {
+        reader: there_reader,
+        writer: back_writer,
+    };
+    Ok((first, second))
+}
+
+impl<H: Wait + Clone + Drop> End<H> {
+    /// The handle that reads what the other end writes.
+    pub fn reader(&self) -> &Reader<H>
+        ensures { result.now ≡ self.now.reader }
+    {
+        &self.reader
+    }
+
+    /// The handle that writes what the other end reads.
+    pub fn writer(&self) -> &Writer<H>
+        ensures { result.now ≡ self.now.writer }
+    {
+        &self.writer
+    }
+
+    /// Both handles, each for itself: for two tasks, or for a reader of lines over the one and answers through the other.
+    pub fn into_halves(self) -> (Reader<H>, Writer<H>)
+        ensures reader { result.0 ≡ self.reader }
+        ensures writer { result.1 ≡ self.writer }
+    {
+        let End { reader, writer } = self;
+        (reader, writer)
+    }
+
+    /// Closes both pipes, first the one that it writes into, and wakes who waits at the other end. What is unread there can still be read.
+    pub fn drop(self) {
+        let End { reader, writer } = self;
+        writer.drop();
+        reader.drop();
+    }
+}

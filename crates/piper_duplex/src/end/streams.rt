@@ -1,0 +1,122 @@
+//! The traits of readers and writers, for an end. Each call is that call of one of its handles, and leaves the other as it is.
+ghost use Rattle.std.specs.Prelude.{◌≡◌, ◌<◌, ◌≤◌, ◌++◌, length, take, drop, true, Ok};
+ghost use Rattle.std.specs.Borrow.{sem};
+ghost use Rattle.std.specs.Io.BufRead.{Rests};
+ghost use Rattle.futures.specs.Task.{Covers, Keeps};
+ghost use Rattle.futures.specs.Poll.{OnPending};
+ghost use Rattle.piper.specs.Ends.{WriterShut};
+ghost use Rattle.piper.specs.Handles.{read_source, write_source};
+ghost use Rattle.piper.specs.Polls.{Reads, Writes, OnReadyOk};
+ghost use Rattle.piper.specs.ReadView.{in_one_piece};
+ghost use Rattle.piper_duplex.specs.Crosswise.{OnlyReads, OnlyWrites, LendsPiece};
+
+use super::End;
+use futures::task::{Context, Poll};
+use piper::io::{AsyncBufRead, AsyncRead, AsyncWrite};
+use piper::{OutOfMemory, PipeError};
+use std::sync::Wait;
+
+impl<H: Wait + Clone + Drop> AsyncRead for End<H> {
+    ghost taken = { λ e. e.reader.end.taken };
+
+    ghost saw = { λ e. e.reader.end.saw };
+
+    ghost needs = { λ e s. s ≡ read_source e.reader };
+
+    fn poll_read(&mut self, cx: &mut Context<'_>, dest: &mut [u8]) -> Poll<Result<usize, PipeError>>
+        ensures read { Reads result dest.old dest.new self.old.reader.end.taken self.new.reader.end.taken self.new.reader.end.saw }
+        ensures stays { self.old.reader.end.saw ≡ true → self.new.reader.end.saw ≡ true }
+        ensures covered { OnPending result (Covers cx.new (λ s. s ≡ read_source self.new.reader)) }
+        ensures kept { Keeps cx.old cx.new }
+        ensures rest { OnlyReads self.old self.new }
+    {
+        match self.reader.poll_drain_bytes(cx, dest) {
+            Poll::Pending => Poll::Pending,
+            Poll::Ready(Ok(count)) => Poll::Ready(Ok(count)),
+            Poll::Ready(Err(OutOfMemory)) => Poll::Ready(Err(PipeError::Memory)),
+        }
+    }
+}
+
+impl<H: Wait + Clone + Drop> AsyncBufRead for End<H> {
+    ghost use Rattle.piper_duplex.specs.contracts.end.End.{the_row};
+
+    ghost known = { λ e. e.reader.end.known };
+
+    ghost piece = { λ e. in_one_piece e.reader.end };
+
+    ghost taken = { λ e. e.reader.end.taken };
+
+    ghost saw = { λ e. e.reader.end.saw };
+
+    ghost needs = { λ e s. s ≡ read_source e.reader };
+
+    fn poll_fill_buf(&mut self, cx: &mut Context<'_>) -> Poll<Result<&[u8], PipeError>>
+        // said of the end as it is once the slice is given back
+        ensures* lent { sem 𝓛 (Rests (the_row H.row) self.entry (λ new. OnlyReads self.old new × LendsPiece result self.old new cx.new)) }
+        ensures kept { Keeps cx.old cx.new }
+    {
+        match self.reader.poll(cx) {
+            Poll::Pending => Poll::Pending,
+            Poll::Ready(Ok(_)) => Poll::Ready(Ok(self.reader.peek_buf())),
+            Poll::Ready(Err(OutOfMemory)) => Poll::Ready(Err(PipeError::Memory)),
+        }
+    }
+
+    fn consume(&mut self, amt: usize)
+        requires { amt ≤ in_one_piece self.old.reader.end }
+        ensures known { self.new.reader.end.known ≡ drop amt self.old.reader.end.known }
+        ensures taken { self.new.reader.end.taken ≡ self.old.reader.end.taken ++ take amt self.old.reader.end.known }
+        ensures saw { self.new.reader.end.saw ≡ self.old.reader.end.saw }
+        ensures rest { OnlyReads self.old self.new }
+    {
+        self.reader.consume(amt);
+    }
+}
+
+impl<H: Wait + Clone + Drop> AsyncWrite for End<H> {
+    ghost sent = { λ e. e.writer.end.sent };
+
+    ghost saw = { λ e. e.writer.end.saw };
+
+    ghost needs = { λ e s. s ≡ write_source e.writer };
+
+    fn poll_write(&mut self, cx: &mut Context<'_>, source: &[u8]) -> Poll<Result<usize, PipeError>>
+        ensures written { Writes result source.now self.old.writer.end.sent self.new.writer.end.sent self.new.writer.end.saw }
+        ensures full { result ≡ Poll.Ready (Ok 0) → 0 < length source.now → self.new.writer.end.saw ≡ true }
+        ensures over { self.old.writer.end.saw ≡ true → result ≡ Poll.Ready (Ok 0) }
+        ensures stays { self.old.writer.end.saw ≡ true → self.new.writer.end.saw ≡ true }
+        ensures covered { OnPending result (Covers cx.new (λ s. s ≡ write_source self.new.writer)) }
+        ensures kept { Keeps cx.old cx.new }
+        ensures rest { OnlyWrites self.old self.new }
+    {
+        match self.writer.poll_fill_bytes(cx, source) {
+            Poll::Pending => Poll::Pending,
+            Poll::Ready(Ok(count)) => Poll::Ready(Ok(count)),
+            Poll::Ready(Err(OutOfMemory)) => Poll::Ready(Err(PipeError::Memory)),
+        }
+    }
+
+    fn poll_flush(&mut self, cx: &mut Context<'_>) -> Poll<Result<(), PipeError>>
+        ensures answer { result ≡ Poll.Ready (Ok (record {})) }
+        ensures end { self.new ≡ self.old }
+        ensures kept { Keeps cx.old cx.new }
+    {
+        // What was written is published already.
+        let _unused = cx;
+        Poll::Ready(Ok(()))
+    }
+
+    fn poll_close(&mut self, cx: &mut Context<'_>) -> Poll<Result<(), PipeError>>
+        ensures answer { result ≡ Poll.Ready (Ok (record {})) }
+        ensures shut { WriterShut self.old.writer.end self.new.writer.end }
+        ensures kept { Keeps cx.old cx.new }
+        ensures rest { OnlyWrites self.old self.new }
+    {
+        match self.writer.poll_close(cx) {
+            Poll::Pending => Poll::Pending,
+            Poll::Ready(Ok(())) => Poll::Ready(Ok(())),
+            Poll::Ready(Err(OutOfMemory)) => Poll::Ready(Err(PipeError::Memory)),
+        }
+    }
+}

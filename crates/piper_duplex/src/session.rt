@@ -1,0 +1,212 @@
+//! Text through a duplex stream and back: one thread sends its lines, and another writes them back.
+ghost use Rattle.std.specs.Prelude.{◌≡◌, ◌<◌, ◌≤◌, length, IfOk};
+
+use crate::end::duplex;
+use crate::waiting::{EchoAll, MOST_OF_A_LINE, ReadSome, WriteAll};
+use futures::executor::block_on;
+use piper::io::{AsyncRead, AsyncWrite};
+use piper::{OwnedReader, OwnedWriter};
+use piper_lines::Written;
+use std::alloc::{AllocGlobal, Global};
+use std::io::{BufRead, BufReader, Read, Write};
+use std::marker::Send;
+use std::random::RandomSource;
+use std::sync::Wait;
+use std::thread;
+use std::thread::Threads;
+
+/// How many bytes each way of the stream can hold.
+const CAPACITY: usize = 64;
+
+/// How many bytes are printed at once.
+const PIECE: usize = 64;
+
+/// How an echo ended.
+#[derive(Clone, Copy, Debug, PartialEq, Eq)]
+pub struct Ended {
+    /// The exit status.
+    pub status: u8,
+    /// The line for standard error, without its LF; empty where there is none.
+    pub text: &'static str,
+}
+
+impl Ended {
+    pub const DONE: Ended = Ended {
+        status: 0,
+        text: "",
+    };
+
+    pub const WRONG_ARGUMENTS: Ended = Ended {
+        status: 1,
+        text: "",
+    };
+
+    pub const OUT_OF_MEMORY: Ended = Ended {
+        status: 2,
+        text: "memory",
+    };
+
+    pub const READ_FAILED: Ended = Ended {
+        status: 2,
+        text: "read failed",
+    };
+
+    pub const WRITE_FAILED: Ended = Ended {
+        status: 2,
+        text: "write failed",
+    };
+}
+
+/// Sends the text that `input` gives line by line through a duplex stream, at the other end of which a thread writes each line back, and prints what comes back to `output`. `words` are the arguments of the command line; there are to be none.
+///
+/// A line is printed before the next one is read. One that is longer than 65,536 bytes goes through in pieces of that many.
+pub fn echo<R, I, O>(
+    rt: &R,
+    alloc: Global,
+    words: &[String],
+    input: &mut I,
+    output: &mut O,
+) -> Ended
+where
+    R: Wait + Threads + RandomSource + AllocGlobal + Clone + Drop + Send + 'static,
+    I: Read,
+    O: Write,
+    ensures { 0 < length words.now → result.status ≡ 1 }
+{
+    if !words.is_empty() {
+        return Ended::WRONG_ARGUMENTS;
+    }
+    match echo_through(rt, alloc, input, output) {
+        Ok(()) => Ended::DONE,
+        Err(ended) => ended,
+    }
+}
+
+// Makes the stream, starts the thread that answers, and talks to it.
+fn echo_through<R, I, O>(rt: &R, alloc: Global, input: &mut I, output: &mut O) -> Result<(), Ended>
+where
+    R: Wait + Threads + RandomSource + AllocGlobal + Clone + Drop + Send + 'static,
+    I: Read,
+    O: Write,
+{
+    let theirs = rt.clone().map_err(|_| Ended::OUT_OF_MEMORY)?;
+    let (first, second) = duplex(rt, alloc, CAPACITY, CAPACITY, 1).map_err(
+        |_| Ended::OUT_OF_MEMORY,
+    )?;
+    let (reader, writer) = second.into_halves();
+    let echo = EchoAll::new(alloc, OwnedReader::new(reader), OwnedWriter::new(writer));
+    let child = thread::spawn(rt, move || {
+        let _ = block_on(&theirs, echo);
+    });
+    let (mut reader, mut writer) = first.into_halves();
+    let sent = talk(rt, alloc, &mut reader, &mut writer, input, output);
+    writer.drop();
+    let printed = sent.and_then(|()| print_rest(rt, &mut reader, output));
+    reader.drop();
+    if let Ok(child) = child {
+        child.join(rt);
+    }
+    printed
+}
+
+// Sends the input line by line, and prints each line that was sent whole once it comes back.
+fn talk<R, A, B, I, O>(
+    rt: &R,
+    alloc: Global,
+    reader: &mut A,
+    writer: &mut B,
+    input: &mut I,
+    output: &mut O,
+) -> Result<(), Ended>
+where
+    R: Wait + RandomSource + AllocGlobal,
+    A: AsyncRead,
+    B: AsyncWrite,
+    I: Read,
+    O: Write,
+{
+    let mut line = Vec::with_capacity(alloc, MOST_OF_A_LINE).map_err(|_| Ended::OUT_OF_MEMORY)?;
+    let mut input = BufReader::new(alloc, input).map_err(|_| Ended::OUT_OF_MEMORY)?;
+    for _ in 0..u64::MAX {
+        line.clear();
+        let count = input
+            .by_ref()
+            .take(MOST_OF_A_LINE as u64)
+            .read_until(b'\n', &mut line)
+            .map_err(|_| Ended::READ_FAILED)?;
+        if count == 0 {
+            break;
+        }
+        send(rt, writer, &line)?;
+        if line.last() == Some(&b'\n') || line.len() == MOST_OF_A_LINE {
+            print_answer(rt, reader, line.len(), output)?;
+        }
+    }
+    Ok(())
+}
+
+// Sends the bytes whole. Only a thread that is refused memory stops to answer.
+fn send<R, W>(rt: &R, writer: &mut W, bytes: &[u8]) -> Result<(), Ended>
+where
+    R: Wait + RandomSource + AllocGlobal,
+    W: AsyncWrite,
+{
+    match block_on(rt, WriteAll::new(writer, bytes)) {
+        Ok(Ok(Written::Whole)) => Ok(()),
+        _ => Err(Ended::OUT_OF_MEMORY),
+    }
+}
+
+// Receives bytes, at most `most`, and prints them. The answer is how many; 0 is the end.
+fn print_some<R, A, O>(rt: &R, reader: &mut A, most: usize, output: &mut O) -> Result<usize, Ended>
+where
+    R: Wait + RandomSource + AllocGlobal,
+    A: AsyncRead,
+    O: Write,
+    ensures { IfOk result (λ n. n ≤ most) }
+{
+    let mut place = [0; PIECE];
+    let room = &mut place[..most.min(PIECE)];
+    match block_on(rt, ReadSome::new(reader, room)) {
+        Ok(Ok(count)) => {
+            output
+                .write_all(&place[..count])
+                .map_err(|_| Ended::WRITE_FAILED)?;
+            Ok(count)
+        }
+        _ => Err(Ended::OUT_OF_MEMORY),
+    }
+}
+
+// Prints the next `total` bytes that come. Where the end comes first, the thread that answers was refused memory.
+fn print_answer<R, A, O>(rt: &R, reader: &mut A, total: usize, output: &mut O) -> Result<(), Ended>
+where
+    R: Wait + RandomSource + AllocGlobal,
+    A: AsyncRead,
+    O: Write,
+{
+    let mut left = total;
+    while left > 0 {
+        let count = print_some(rt, reader, left, output)?;
+        if count == 0 {
+            return Err(Ended::OUT_OF_MEMORY);
+        }
+        left -= count;
+    }
+    output.flush().map_err(|_| Ended::WRITE_FAILED)
+}
+
+// Prints all that comes up to the end.
+fn print_rest<R, A, O>(rt: &R, reader: &mut A, output: &mut O) -> Result<(), Ended>
+where
+    R: Wait + RandomSource + AllocGlobal,
+    A: AsyncRead,
+    O: Write,
+{
+    for _ in 0..u64::MAX {
+        if print_some(rt, reader, PIECE, output)? == 0 {
+            break;
+        }
+    }
+    output.flush().map_err(|_| Ended::WRITE_FAILED)
+}

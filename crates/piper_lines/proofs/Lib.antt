@@ -1,0 +1,5 @@
+pub mod Collecting
+pub mod Framing
+pub mod Growing
+pub mod LineEnds
+pub mod Sending

@@ -1,0 +1,36 @@
+use Rattle.std.proofs.Common.{rules, ◌≡◌, length, true, Ok, ap, ◌∙◌}
+use Rattle.futures.specs.declared.task.Poll.TheVariants.{Ready}
+use Rattle.piper_lines.specs.Frame.{length_bytes}
+use Rattle.piper_lines.proofs.Framing.{keeping_header, keeping_body, keeping_frame}
+use Rattle.piper_lines.proofs.frame_reader.Frames.poll_frame.Goals as goal
+
+pub returns-in-Pending-fill_up-clause-moved : goal.returns-in-Pending-fill_up-clause-moved
+returns-in-Pending-fill_up-clause-moved g c =
+    let passed : c.pass_over.result ≡ Ready (Ok true) = cc in
+    keeping_header _ _ _ c.args.self.now.header.items c.fill_up.new.gathered.items c.args.self.now.body.items _ _ c.pass_over.ensures.passed c.fill_up.ensures.grown
+    c.args.self.now.header_first c.fill_up.ensures.within (c.pass_over.ensures.done passed)
+
+pub returns-in-Ready-Err-fill_up-clause-moved : goal.returns-in-Ready-Err-fill_up-clause-moved
+returns-in-Ready-Err-fill_up-clause-moved g c =
+    let passed : c.pass_over.result ≡ Ready (Ok true) = cc in
+    keeping_header _ _ _ c.args.self.now.header.items c.fill_up.new.gathered.items c.args.self.now.body.items _ _ c.pass_over.ensures.passed c.fill_up.ensures.grown
+    c.args.self.now.header_first c.fill_up.ensures.within (c.pass_over.ensures.done passed)
+
+pub returns-then-size-limit-clause-moved : goal.returns-then-size-limit-clause-moved
+returns-then-size-limit-clause-moved g c =
+    let passed : c.pass_over.result ≡ Ready (Ok true) = cc in
+    keeping_header _ _ _ c.args.self.now.header.items c.fill_up.new.gathered.items c.args.self.now.body.items _ _ c.pass_over.ensures.passed c.fill_up.ensures.grown
+    c.args.self.now.header_first c.fill_up.ensures.within (c.pass_over.ensures.done passed)
+
+pub returns-in-Ready-Ok-true-fill_up-2-clause-moved : goal.returns-in-Ready-Ok-true-fill_up-2-clause-moved
+returns-in-Ready-Ok-true-fill_up-2-clause-moved g c =
+    let passed : c.pass_over.result ≡ Ready (Ok true) = cc in
+    let is_full : c.fill_up-2.result ≡ Ready (Ok true) = cc in
+    let skipped = c.pass_over.ensures.done passed in
+    let header = keeping_header _ _ _ c.args.self.now.header.items c.fill_up.new.gathered.items c.args.self.now.body.items _ _ c.pass_over.ensures.passed c.fill_up.ensures.grown
+    c.args.self.now.header_first c.fill_up.ensures.within skipped in
+    let body = keeping_body _ _ _ _ c.fill_up.new.gathered.items c.args.self.now.body.items c.fill_up-2.new.gathered.items _ _ header c.fill_up-2.ensures.grown skipped in
+    let spelled : length_bytes (length c.fill_up-2.new.gathered.items) ≡ c.fill_up.new.gathered.items =
+    ap length_bytes (c.fill_up-2.ensures.full is_full) ∙ c.number-size.ensures.spelled ∙ c.deref-2.ensures.value in
+    keeping_frame _ _ c.fill_up.new.gathered.items c.fill_up-2.new.gathered.items c.swap.new.x.items c.clear-in-Ready-Ok-true-fill_up-2.new.self.items c.swap.new.y.items _ _ _ body spelled
+    (search rules) c.clear-in-Ready-Ok-true-fill_up-2.ensures.items (search rules)

@@ -1,0 +1,15 @@
+-- What was taken so far stands at the end of what is gathered.
+use Rattle.std.proofs.Common.{◌≤◌, ◌-◌, length}
+use Rattle.futures.specs.Task.{Keeps}
+use Rattle.piper_lines.specs.Moves.{Grows}
+use Rattle.piper_lines.proofs.gather.fill_up.Given as goal
+
+abbrev pub invariant-loop-reader : goal.invariant-loop-reader
+invariant-loop-reader g l = record {
+  grown : Grows (g.R.AsyncBufRead.taken l.fn.reader) (g.R.AsyncBufRead.taken l.reader) l.fn.gathered.items l.gathered.items;
+  within : length l.gathered.items ≤ l.size;
+  kept : Keeps l.fn.cx l.cx;
+}
+
+abbrev pub decreases-loop-reader : goal.decreases-loop-reader
+decreases-loop-reader g l = l.size - length l.gathered.items

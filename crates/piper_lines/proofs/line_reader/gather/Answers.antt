@@ -1,0 +1,28 @@
+use Rattle.std.proofs.Common.{rules, ◌≡◌, ◌++◌, List, ℕ, take, length, ap, inl, arith, length-append, length-take}
+use Rattle.std.proofs.lemmas.Grind.{common_steps}
+use Rattle.piper_lines.specs.Line.{LacksLf, IsLine}
+use Rattle.piper_lines.proofs.Growing.{grows_more}
+use Rattle.piper_lines.proofs.LineEnds.{IsLine-append, LacksLf-append}
+use Rattle.piper_lines.proofs.line_reader.gather.Goals as goal
+
+pub returns-then-is_found-clause-gathers : goal.returns-then-is_found-clause-gathers
+returns-then-is_found-clause-gathers g c =
+    let more : List ℕ = take c.through_lf-count.result.0 (take c.min.result c.in-Ready-Ok.lent.now) in
+    let grown : c.extend_from_slice.new.self.items ≡ c.loop-limit.line.items ++ more = search rules in
+    let is_line : IsLine more = rw c.if-is_found.true at c.through_lf-count.ensures.through in (
+      rw grown (IsLine-append c.loop-limit.line.items more c.loop-limit.invariant.unfinished is_line),
+      omega (arith, ap length grown, length-append c.loop-limit.line.items more, length-take c.through_lf-count.result.0 (take c.min.result c.in-Ready-Ok.lent.now), length-take c.min.result c.in-Ready-Ok.lent.now),
+    )
+
+pub loop-limit-preserved : goal.loop-limit-preserved
+loop-limit-preserved g c =
+    let more : List ℕ = take c.through_lf-count.result.0 (take c.min.result c.in-Ready-Ok.lent.now) in
+    let grown : c.extend_from_slice.new.self.items ≡ c.loop-limit.line.items ++ more = search rules in
+    let lacks : LacksLf more = rw c.if-is_found.false at c.through_lf-count.ensures.through in
+    let taken : g.R.AsyncBufRead.taken c.consume.new.self ≡ g.R.AsyncBufRead.taken c.loop-limit.reader ++ more = grind (arith, common_steps) in
+    record {
+      grown = grows_more _ _ _ _ _ _ more c.loop-limit.invariant.grown taken grown;
+      unfinished = rw grown (LacksLf-append c.loop-limit.line.items more c.loop-limit.invariant.unfinished lacks);
+      within = inl (omega (arith, ap length grown, length-append c.loop-limit.line.items more, length-take c.through_lf-count.result.0 (take c.min.result c.in-Ready-Ok.lent.now), length-take c.min.result c.in-Ready-Ok.lent.now));
+      kept = search rules;
+    }

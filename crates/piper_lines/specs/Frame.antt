@@ -1,0 +1,15 @@
+-- A frame: a piece of bytes with its length before it.
+use Rattle.std.specs.Prelude.{ℕ, List, ◌++◌, length}
+use Rattle.std.specs.Int.{w32, to_be_bytes, from_be_bytes}
+
+-- a length as four bytes, the most significant first
+abbrev pub length_bytes : ℕ → List ℕ
+length_bytes n = to_be_bytes w32 n
+
+-- the number that four bytes tell, the most significant first
+abbrev pub told_length : List ℕ → ℕ
+told_length bytes = from_be_bytes w32 bytes
+
+-- the bytes of the frame that has this body
+abbrev pub frame_bytes : List ℕ → List ℕ
+frame_bytes body = length_bytes (length body) ++ body

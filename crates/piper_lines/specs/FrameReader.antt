@@ -1,0 +1,29 @@
+-- What a reader of frames has.
+use Rattle.std.specs.Prelude.{ℕ, List, ◌++◌}
+use Rattle.std.specs.Borrow.{Fml, RattleType, MutBor, Lends}
+use Rattle.piper_lines.specs.declared.frame_reader.Frames.{Frames}
+use Rattle.piper_lines.specs.contracts.frame_reader.Frames.{the_row}
+
+-- the reader below
+abbrev pub reader_of : {R : Type 0} → Frames R → R
+reader_of frames = frames.reader
+
+-- what was taken of the length of a frame
+abbrev pub header_of : {R : Type 0} → Frames R → List ℕ
+header_of frames = frames.header.items
+
+-- what was taken of the frame behind its length
+abbrev pub body_of : {R : Type 0} → Frames R → List ℕ
+body_of frames = frames.body.items
+
+-- what was taken of a frame that has not come to its end
+abbrev pub kept_of : {R : Type 0} → Frames R → List ℕ
+kept_of frames = header_of frames ++ body_of frames
+
+-- how many bytes of a skipped frame have still to pass
+abbrev pub skips_of : {R : Type 0} → Frames R → ℕ
+skips_of frames = frames.to_skip
+
+-- the frames, once a `&mut` to the reader has ended: they have the reader as it was left
+abbrev pub lends_reader : (R : RattleType) → MutBor (Frames R.Denot) → MutBor R.Denot → Fml
+lends_reader R frames reader = Lends (the_row R) R frames reader (λ (w : R.Denot). record frames.now { reader = w })

@@ -1,0 +1,13 @@
+pub mod AtEnd
+pub mod Collected
+pub mod Frame
+pub mod FrameAnswers
+pub mod FrameReader
+pub mod FrameWriter
+pub mod Line
+pub mod LineAnswers
+pub mod LineReader
+pub mod LineWriter
+pub mod Moves
+pub mod Sends
+pub mod Split

@@ -1,0 +1,17 @@
+-- What a reader of lines has.
+use Rattle.std.specs.Prelude.{ℕ, List}
+use Rattle.std.specs.Borrow.{Fml, RattleType, MutBor, Lends}
+use Rattle.piper_lines.specs.declared.line_reader.Lines.{Lines}
+use Rattle.piper_lines.specs.contracts.line_reader.Lines.{the_row}
+
+-- the reader below
+abbrev pub reader_of : {R : Type 0} → Lines R → R
+reader_of lines = lines.reader
+
+-- what was taken of a line that has not come to its end
+abbrev pub kept_of : {R : Type 0} → Lines R → List ℕ
+kept_of lines = lines.kept.items
+
+-- the lines, once a `&mut` to the reader has ended: they have the reader as it was left
+abbrev pub lends_reader : (R : RattleType) → MutBor (Lines R.Denot) → MutBor R.Denot → Fml
+lends_reader R lines reader = Lends (the_row R) R lines reader (λ (w : R.Denot). record lines.now { reader = w })

@@ -1,0 +1,19 @@
+-- What a text is split into.
+use Rattle.std.specs.Prelude.{◌≡◌, ℕ, ◌<◌, ◌≤◌, ◌⊎◌, List, ◌++◌, length, All, Vec}
+use Rattle.std.specs.List.{flat_map}
+use Rattle.std.specs.declared.alloc.Global.{Global}
+use Rattle.piper_lines.specs.Line.{LacksLf, IsLine}
+
+-- a whole line of at most `limit` bytes, or `limit` bytes of a longer one
+abbrev pub IsPiece : ℕ → List ℕ → Type 0
+IsPiece limit piece = (IsLine piece × (length piece ≤ limit)) ⊎ (LacksLf piece × (length piece ≡ limit))
+
+-- the text that these pieces make
+abbrev pub joined : List (Vec ℕ Global) → List ℕ
+joined pieces = flat_map (λ (piece : Vec ℕ Global). piece.items) pieces
+
+-- only such pieces were added, if less than one was kept before
+abbrev pub AddsPieces : ℕ → List ℕ → List (Vec ℕ Global) → List (Vec ℕ Global) → Type 0
+AddsPieces limit kept before after =
+    (added : List (Vec ℕ Global)) × (after ≡ before ++ added)
+    × (length kept < limit → All (λ (piece : Vec ℕ Global). IsPiece limit piece.items) added)

@@ -1,0 +1,166 @@
+//! Frames, taken whole from a reader that gives bytes as they come.
+ghost use Rattle.std.specs.Prelude.{◌≡◌, ◌+◌, ◌<◌, ◌≤◌, [], length};
+ghost use Rattle.std.specs.Borrow.{sem};
+ghost use Rattle.futures.specs.Task.{Covers, Keeps};
+ghost use Rattle.futures.specs.Poll.{OnPending};
+ghost use Rattle.piper_lines.specs.Frame.{length_bytes, told_length};
+
+use crate::gather::{fill_up, pass_over};
+use futures::task::{Context, Poll};
+use piper::PipeError;
+use piper::io::AsyncBufRead;
+use std::alloc::Global;
+use std::mem;
+
+/// How many bytes tell the length of a frame.
+const HEADER_BYTES: usize = 4;
+
+/// What a poll for a frame answers.
+#[derive(Debug, Drop, Clone, Copy, PartialEq, Eq)]
+pub enum FrameAnswer {
+    /// A whole frame, of at most as many bytes as the limit.
+    Frame,
+    /// The next frame has this many bytes, which are more than the limit. None of them was taken by this poll.
+    TooLong(usize),
+    /// The end of the reader, inside a frame.
+    Truncated,
+    /// The end of the reader, behind a whole frame.
+    End,
+}
+
+/// The frames of a reader: pieces of bytes with their length before them, in four bytes, the most significant first.
+///
+/// What was taken of a frame that has not come to its end is kept from poll to poll. In clauses, `reader_of` is the reader, `header_of` and `body_of` the bytes that are kept of the length and of the frame itself, `kept_of` all of them, and `skips_of` how many bytes of a skipped frame have still to pass.
+#[derive(Drop)]
+pub struct Frames<R> {
+    reader: R,
+    header: Vec<u8>,
+    body: Vec<u8>,
+    to_skip: usize,
+    ghost header_first: { length header.items < 4 → body.items ≡ [] },
+    ghost fits: { length body.items ≤ told_length header.items },
+    ghost short: { length header.items ≤ 4 },
+    ghost skips_first: { 0 < to_skip → header.items ≡ [] },
+}
+
+impl<R: AsyncBufRead> Frames<R> {
+    ghost use Rattle.piper_lines.specs.FrameReader.{reader_of, kept_of, header_of, body_of, skips_of, lends_reader};
+    ghost use Rattle.piper_lines.specs.FrameAnswers.{HandsFrame, MovesFrames};
+
+    /// Nothing is kept yet, and no memory is asked for.
+    pub fn new(alloc: Global, reader: R) -> Frames<R>
+        ensures reader { reader_of result ≡ reader }
+        ensures kept { kept_of result ≡ [] }
+        ensures skips { skips_of result ≡ 0 }
+    {
+        let header = Vec::new(alloc);
+        let body = Vec::new(alloc);
+        Frames {
+            reader,
+            header,
+            body,
+            to_skip: 0,
+        }
+    }
+
+    /// The reader. What is kept of a frame stays.
+    pub fn reader_mut(&mut self) -> &mut R
+        ensures value { result.now ≡ reader_of self.old }
+        ensures* writes_back { sem 𝓛 (lends_reader R.row self.entry result) }
+    {
+        &mut self.reader
+    }
+
+    /// Gives the reader back. What is kept of a frame is let go.
+    pub fn into_reader(self) -> R
+        ensures { result ≡ reader_of self }
+    {
+        let Frames {
+            reader,
+            header: _,
+            body: _,
+            to_skip: _,
+        } = self;
+        reader
+    }
+
+    /// Gives up the frame whose length was told: the next polls pass over its bytes, and then take the frame behind it.
+    pub fn skip(&mut self)
+        requires { length (header_of self.old) ≡ 4 }
+        ensures reader { reader_of self.new ≡ reader_of self.old }
+        ensures kept { kept_of self.new ≡ [] }
+        ensures skips { skips_of self.new + length (body_of self.old) ≡ told_length (header_of self.old) }
+    {
+        self.to_skip = number(&self.header) - self.body.len();
+        self.body.clear();
+        self.header.clear();
+    }
+
+    /// Replaces `frame` by the next frame of the reader, if that has at most `limit` bytes.
+    ///
+    /// It is empty where no frame is handed out: on another answer, where the poll is pending, and on an error. What was taken by then is kept, and the next poll goes on from there. Memory is asked for before bytes are taken, so a refusal loses none. After `TooLong` the caller can skip the frame, ask again with another limit, or stop. A pending poll is woken by the reader, or at once where it has passed over many bytes.
+    pub fn poll_frame(
+        &mut self,
+        cx: &mut Context<'_>,
+        frame: &mut Vec<u8>,
+        limit: usize,
+    ) -> Poll<Result<FrameAnswer, PipeError>>
+        ensures moved { MovesFrames result frame.new.items (R.taken (reader_of self.old))
+            (R.taken (reader_of self.new)) (kept_of self.old) (kept_of self.new)
+            (skips_of self.old) (skips_of self.new) }
+        ensures hands { HandsFrame result limit frame.new.items (header_of self.new)
+            (body_of self.old) (body_of self.new) (skips_of self.new)
+            (R.known (reader_of self.new)) (R.saw (reader_of self.new)) }
+        ensures covered { OnPending result (Covers cx.new (R.needs (reader_of self.new))) }
+        ensures kept { Keeps cx.old cx.new }
+    {
+        frame.clear();
+        match pass_over(&mut self.reader, cx, &mut self.to_skip) {
+            Poll::Pending => return Poll::Pending,
+            Poll::Ready(Err(error)) => return Poll::Ready(Err(error)),
+            Poll::Ready(Ok(false)) => return Poll::Ready(Ok(FrameAnswer::Truncated)),
+            Poll::Ready(Ok(true)) => {}
+        }
+        match fill_up(&mut self.reader, cx, &mut self.header, HEADER_BYTES) {
+            Poll::Pending => return Poll::Pending,
+            Poll::Ready(Err(error)) => return Poll::Ready(Err(error)),
+            Poll::Ready(Ok(false)) => return Poll::Ready(Ok(ended(&self.header))),
+            Poll::Ready(Ok(true)) => {}
+        }
+        let size = number(&self.header);
+        if size > limit {
+            return Poll::Ready(Ok(FrameAnswer::TooLong(size)));
+        }
+        match fill_up(&mut self.reader, cx, &mut self.body, size) {
+            Poll::Pending => Poll::Pending,
+            Poll::Ready(Err(error)) => Poll::Ready(Err(error)),
+            Poll::Ready(Ok(false)) => Poll::Ready(Ok(FrameAnswer::Truncated)),
+            Poll::Ready(Ok(true)) => {
+                mem::swap(frame, &mut self.body);
+                self.header.clear();
+                Poll::Ready(Ok(FrameAnswer::Frame))
+            }
+        }
+    }
+}
+
+// What the end of the reader says behind these bytes of a length.
+fn ended(header: &[u8]) -> FrameAnswer
+    ensures clean { header.now ≡ [] → result ≡ FrameAnswer.End }
+    ensures inside { 0 < length header.now → result ≡ FrameAnswer.Truncated }
+{
+    if header.is_empty() {
+        FrameAnswer::End
+    } else {
+        FrameAnswer::Truncated
+    }
+}
+
+// The number that four bytes tell, the most significant first.
+fn number(header: &[u8]) -> usize
+    requires { length header.now ≡ 4 }
+    ensures told { result ≡ told_length header.now }
+    ensures spelled { length_bytes result ≡ header.now }
+{
+    u32::from_be_bytes([header[0], header[1], header[2], header[3]]) as usize
+}

@@ -1,0 +1,65 @@
+//! A frame that is written whole.
+ghost use Rattle.std.specs.Prelude.{◌≡◌, ◌^◌, ◌<◌, ◌≤◌, [], length, true, Ok};
+ghost use Rattle.futures.specs.Task.{Covers, Keeps};
+ghost use Rattle.futures.specs.Poll.{OnPending};
+ghost use Rattle.piper_lines.specs.Frame.{frame_bytes};
+ghost use Rattle.piper_lines.specs.Sends.{Sends};
+
+use crate::write_all::{Written, poll_write_all};
+use futures::task::{Context, Poll};
+use piper::PipeError;
+use piper::io::AsyncWrite;
+
+/// What is left of a frame that is being written: the length of a body in four bytes, the most significant first, and the body.
+///
+/// In clauses, `left_of` are the bytes that are left.
+#[derive(Drop)]
+pub struct WriteFrame<'a> {
+    header: [u8; 4],
+    header_written: usize,
+    body: &'a [u8],
+    body_written: usize,
+    ghost within_header: { header_written ≤ 4 },
+    ghost within: { body_written ≤ length body.now },
+}
+
+impl<'a> WriteFrame<'a> {
+    ghost use Rattle.piper_lines.specs.FrameWriter.{left_of};
+
+    /// The frame with this body, none of which is written yet.
+    pub fn new(body: &'a [u8]) -> WriteFrame<'a>
+        requires { length body.now < 2 ^ 32 }
+        ensures { left_of result ≡ frame_bytes body.now }
+    {
+        WriteFrame {
+            header: (body.len() as u32).to_be_bytes(),
+            header_written: 0,
+            body,
+            body_written: 0,
+        }
+    }
+
+    /// Writes what is left of the frame.
+    ///
+    /// Where it is pending, or on an error, the rest is left for the next poll. It is woken by the writer, and asks for no memory of its own. Bytes that were counted in the poll that sees the pipe closed may be lost.
+    pub fn poll<W: AsyncWrite>(
+        &mut self,
+        cx: &mut Context<'_>,
+        writer: &mut W,
+    ) -> Poll<Result<Written, PipeError>>
+        ensures sends { Sends (left_of self.old) (left_of self.new)
+            (W.sent writer.old) (W.sent writer.new) (W.saw writer.old) (W.saw writer.new) }
+        ensures whole { result ≡ Poll.Ready (Ok Written.Whole) → left_of self.new ≡ [] }
+        ensures closed { result ≡ Poll.Ready (Ok Written.Closed) → W.saw writer.new ≡ true }
+        ensures stays { W.saw writer.old ≡ true → W.saw writer.new ≡ true }
+        ensures covered { OnPending result (Covers cx.new (W.needs writer.new)) }
+        ensures kept { Keeps cx.old cx.new }
+    {
+        match poll_write_all(writer, cx, &self.header, &mut self.header_written) {
+            Poll::Ready(Ok(Written::Whole)) => {
+                poll_write_all(writer, cx, self.body, &mut self.body_written)
+            }
+            unfinished => unfinished,
+        }
+    }
+}

@@ -1,0 +1,77 @@
+//! Bytes, gathered from a reader up to a number of them, and bytes that are passed over.
+ghost use Rattle.std.specs.Prelude.{◌≡◌, ◌<◌, ◌≤◌, [], length, true, false, Ok};
+ghost use Rattle.futures.specs.Task.{Covers, Keeps};
+ghost use Rattle.futures.specs.Poll.{OnPending};
+ghost use Rattle.piper_lines.specs.AtEnd.{AtEnd};
+ghost use Rattle.piper_lines.specs.Moves.{Grows, Passes};
+
+use futures::task::{Context, Poll};
+use piper::PipeError;
+use piper::io::AsyncBufRead;
+
+/// How many pieces a poll passes over at most, so that other tasks get their turn.
+const MOST_PIECES: u32 = 64;
+
+// Takes bytes from the reader to the end of `gathered`, until it has `size` of them; false at the end of the reader.
+pub(crate) fn fill_up<R: AsyncBufRead>(
+    reader: &mut R,
+    cx: &mut Context<'_>,
+    gathered: &mut Vec<u8>,
+    size: usize,
+) -> Poll<Result<bool, PipeError>>
+    requires { length gathered.old.items ≤ size }
+    ensures grown { Grows (R.taken reader.old) (R.taken reader.new) gathered.old.items gathered.new.items }
+    ensures within { length gathered.new.items ≤ size }
+    ensures full { result ≡ Poll.Ready (Ok true) → length gathered.new.items ≡ size }
+    ensures ended { result ≡ Poll.Ready (Ok false) → (length gathered.new.items < size) × AtEnd (R.known reader.new) (R.saw reader.new) }
+    ensures covered { OnPending result (Covers cx.new (R.needs reader.new)) }
+    ensures kept { Keeps cx.old cx.new }
+{
+    while gathered.len() < size {
+        let lent = match reader.poll_fill_buf(cx) {
+            Poll::Pending => return Poll::Pending,
+            Poll::Ready(Err(error)) => return Poll::Ready(Err(error)),
+            Poll::Ready(Ok(lent)) => lent,
+        };
+        if lent.is_empty() {
+            return Poll::Ready(Ok(false));
+        }
+        let count = lent.len().min(size - gathered.len());
+        if gathered.extend_from_slice(&lent[..count]).is_err() {
+            return Poll::Ready(Err(PipeError::Memory));
+        }
+        reader.consume(count);
+    }
+    Poll::Ready(Ok(true))
+}
+
+// Takes `left` bytes from the reader and lets them go; false at the end of the reader. After many pieces it asks for another poll.
+pub(crate) fn pass_over<R: AsyncBufRead>(
+    reader: &mut R,
+    cx: &mut Context<'_>,
+    left: &mut usize,
+) -> Poll<Result<bool, PipeError>>
+    ensures passed { Passes (R.taken reader.old) (R.taken reader.new) left.old left.new }
+    ensures done { result ≡ Poll.Ready (Ok true) → left.new ≡ 0 }
+    ensures ended { result ≡ Poll.Ready (Ok false) → (0 < left.new) × AtEnd (R.known reader.new) (R.saw reader.new) }
+    ensures covered { OnPending result (Covers cx.new (R.needs reader.new)) }
+    ensures kept { Keeps cx.old cx.new }
+{
+    for _ in 0..MOST_PIECES {
+        if *left == 0 {
+            return Poll::Ready(Ok(true));
+        }
+        let lent = match reader.poll_fill_buf(cx) {
+            Poll::Pending => return Poll::Pending,
+            Poll::Ready(Err(error)) => return Poll::Ready(Err(error)),
+            Poll::Ready(Ok(lent)) => lent,
+        };
+        if lent.is_empty() {
+            return Poll::Ready(Ok(false));
+        }
+        let count = lent.len().min(*left);
+        reader.consume(count);
+        *left -= count;
+    }
+    cx.yield_now()
+}

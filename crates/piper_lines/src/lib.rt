@@ -1,0 +1,17 @@
+//! Lines and frames over any reader that lends, and over any writer.
+#![tactic(auto)]
+
+mod collect;
+mod frame_reader;
+mod frame_writer;
+mod gather;
+mod line_reader;
+mod line_writer;
+mod write_all;
+
+pub use collect::poll_lines;
+pub use frame_reader::{FrameAnswer, Frames};
+pub use frame_writer::WriteFrame;
+pub use line_reader::{LineAnswer, Lines};
+pub use line_writer::{WriteLine, is_one_line};
+pub use write_all::{Written, poll_write_all};

@@ -1,0 +1,162 @@
+//! Lines, taken whole from a reader that gives bytes as they come.
+ghost use Rattle.std.specs.Prelude.{◌≡◌, ◌<◌, ◌≤◌, ◌++◌, [], length, take, MatchBool};
+ghost use Rattle.std.specs.Borrow.{sem};
+ghost use Rattle.futures.specs.Task.{Covers, Keeps};
+ghost use Rattle.futures.specs.Poll.{OnPending};
+ghost use Rattle.piper_lines.specs.Line.{LacksLf, IsLine};
+ghost use Rattle.piper_lines.specs.Moves.{Moves, Grows};
+ghost use Rattle.piper_lines.specs.LineAnswers.{Gathers, Hands};
+
+use futures::task::{Context, Poll};
+use memchr::memchr;
+use piper::PipeError;
+use piper::io::AsyncBufRead;
+use std::alloc::Global;
+use std::mem;
+
+/// What a poll for a line answers.
+#[derive(Debug, Drop, Clone, Copy, PartialEq, Eq)]
+pub enum LineAnswer {
+    /// A whole line with its LF, of at most as many bytes as the limit.
+    Line,
+    /// As many bytes as the limit, or all that was kept where that is more, without an LF.
+    TooLong,
+    /// What stands behind the last LF, at the end of the reader.
+    Last,
+    /// The end of the reader, with nothing left of a line.
+    End,
+}
+
+impl LineAnswer {
+    ghost use Rattle.piper_lines.specs.LineAnswers.{at_end};
+
+    /// Whether the reader ended, so that no line comes behind this answer.
+    pub fn is_end(self) -> bool
+        ensures { result ≡ at_end self }
+    {
+        match self {
+            LineAnswer::Line | LineAnswer::TooLong => false,
+            LineAnswer::Last | LineAnswer::End => true,
+        }
+    }
+}
+
+/// The lines of a reader.
+///
+/// What was taken of a line that has not come to its end is kept from poll to poll. In clauses, `reader_of` is the reader and `kept_of` the bytes that are kept.
+#[derive(Drop)]
+pub struct Lines<R> {
+    reader: R,
+    kept: Vec<u8>,
+    ghost unfinished: { LacksLf kept.items },
+}
+
+impl<R: AsyncBufRead> Lines<R> {
+    ghost use Rattle.piper_lines.specs.LineReader.{reader_of, kept_of, lends_reader};
+
+    /// Nothing is kept yet, and no memory is asked for.
+    pub fn new(alloc: Global, reader: R) -> Lines<R>
+        ensures reader { reader_of result ≡ reader }
+        ensures kept { kept_of result ≡ [] }
+    {
+        let kept = Vec::new(alloc);
+        Lines { reader, kept }
+    }
+
+    /// The reader. What is kept of a line stays.
+    pub fn reader_mut(&mut self) -> &mut R
+        ensures value { result.now ≡ reader_of self.old }
+        ensures* writes_back { sem 𝓛 (lends_reader R.row self.entry result) }
+    {
+        &mut self.reader
+    }
+
+    /// Gives the reader back. What is kept of a line is let go.
+    pub fn into_reader(self) -> R
+        ensures { result ≡ reader_of self }
+    {
+        let Lines { reader, kept: _ } = self;
+        reader
+    }
+
+    /// Replaces `line` by the next line of the reader, up to `limit` bytes of it.
+    ///
+    /// It is empty where nothing is handed out: at the end, where the poll is pending, and on an error. What was taken by then is kept, and the next poll goes on from there. Memory is asked for before bytes are taken, so a refusal loses none. A pending poll is woken by the reader.
+    pub fn poll_line(
+        &mut self,
+        cx: &mut Context<'_>,
+        line: &mut Vec<u8>,
+        limit: usize,
+    ) -> Poll<Result<LineAnswer, PipeError>>
+        requires { 0 < limit }
+        ensures moved { Moves (R.taken (reader_of self.old)) (R.taken (reader_of self.new))
+            (kept_of self.old) line.new.items (kept_of self.new) }
+        ensures hands { Hands result limit (kept_of self.old) line.new.items (kept_of self.new)
+            (R.known (reader_of self.new)) (R.saw (reader_of self.new)) }
+        ensures covered { OnPending result (Covers cx.new (R.needs (reader_of self.new))) }
+        ensures kept { Keeps cx.old cx.new }
+    {
+        line.clear();
+        mem::swap(line, &mut self.kept);
+        let polled = gather(&mut self.reader, cx, line, limit);
+        match &polled {
+            Poll::Ready(Ok(_)) => {}
+            _ => mem::swap(line, &mut self.kept),
+        }
+        polled
+    }
+}
+
+// Takes bytes from the reader to the end of `line`, through the first LF, up to the limit or to the end.
+fn gather<R: AsyncBufRead>(
+    reader: &mut R,
+    cx: &mut Context<'_>,
+    line: &mut Vec<u8>,
+    limit: usize,
+) -> Poll<Result<LineAnswer, PipeError>>
+    requires unfinished { LacksLf line.old.items }
+    ensures grown { Grows (R.taken reader.old) (R.taken reader.new) line.old.items line.new.items }
+    ensures gathers { Gathers result limit line.old.items line.new.items (R.known reader.new) (R.saw reader.new) }
+    ensures covered { OnPending result (Covers cx.new (R.needs reader.new)) }
+    ensures kept { Keeps cx.old cx.new }
+{
+    loop {
+        if line.len() >= limit {
+            return Poll::Ready(Ok(LineAnswer::TooLong));
+        }
+        let room = limit - line.len();
+        let lent = match reader.poll_fill_buf(cx) {
+            Poll::Pending => return Poll::Pending,
+            Poll::Ready(Err(error)) => return Poll::Ready(Err(error)),
+            Poll::Ready(Ok(lent)) => lent,
+        };
+        if lent.is_empty() {
+            return Poll::Ready(Ok(if line.is_empty() {
+                LineAnswer::End
+            } else {
+                LineAnswer::Last
+            }));
+        }
+        let front = &lent[..lent.len().min(room)];
+        let (count, is_found) = through_lf(front);
+        if line.extend_from_slice(&front[..count]).is_err() {
+            return Poll::Ready(Err(PipeError::Memory));
+        }
+        reader.consume(count);
+        if is_found {
+            return Poll::Ready(Ok(LineAnswer::Line));
+        }
+    }
+}
+
+// How many bytes there are through the first LF and that there is one, or all of them.
+fn through_lf(bytes: &[u8]) -> (usize, bool)
+    ensures within { result.0 ≤ length bytes.now }
+    ensures some { 0 < length bytes.now → 0 < result.0 }
+    ensures through { MatchBool result.1 (IsLine (take result.0 bytes.now)) (LacksLf (take result.0 bytes.now)) }
+{
+    match memchr(b'\n', bytes) {
+        Some(before) => (before + 1, true),
+        None => (bytes.len(), false),
+    }
+}

@@ -1,0 +1,71 @@
+//! A line that is written whole.
+ghost use Rattle.std.specs.Prelude.{◌≡◌, ◌↔◌, ◌≤◌, ◌++◌, [], ◌∷◌, IsTrue, length, true, Ok};
+ghost use Rattle.futures.specs.Task.{Covers, Keeps};
+ghost use Rattle.futures.specs.Poll.{OnPending};
+ghost use Rattle.piper_lines.specs.Line.{LacksLf, line_feed};
+ghost use Rattle.piper_lines.specs.Sends.{Sends};
+
+use crate::write_all::{Written, poll_write_all};
+use futures::task::{Context, Poll};
+use memchr::memchr;
+use piper::PipeError;
+use piper::io::AsyncWrite;
+
+/// What is left of a line that is being written: a text, and the LF behind it.
+///
+/// In clauses, `left_of` are the bytes that are left.
+#[derive(Drop)]
+pub struct WriteLine<'a> {
+    text: &'a [u8],
+    text_written: usize,
+    end_written: usize,
+    ghost within: { text_written ≤ length text.now },
+    ghost within_end: { end_written ≤ 1 },
+}
+
+/// Whether the text has no LF, so that with an LF behind it it is one line.
+pub fn is_one_line(text: &[u8]) -> bool
+    ensures { IsTrue result ↔ LacksLf text.now }
+{
+    memchr(b'\n', text).is_none()
+}
+
+impl<'a> WriteLine<'a> {
+    ghost use Rattle.piper_lines.specs.LineWriter.{left_of};
+
+    /// The text with an LF behind it, none of which is written yet.
+    pub fn new(text: &'a [u8]) -> WriteLine<'a>
+        requires { LacksLf text.now }
+        ensures { left_of result ≡ text.now ++ line_feed ∷ [] }
+    {
+        WriteLine {
+            text,
+            text_written: 0,
+            end_written: 0,
+        }
+    }
+
+    /// Writes what is left of the line.
+    ///
+    /// Where it is pending, or on an error, the rest is left for the next poll. It is woken by the writer, and asks for no memory of its own. Bytes that were counted in the poll that sees the pipe closed may be lost.
+    pub fn poll<W: AsyncWrite>(
+        &mut self,
+        cx: &mut Context<'_>,
+        writer: &mut W,
+    ) -> Poll<Result<Written, PipeError>>
+        ensures sends { Sends (left_of self.old) (left_of self.new)
+            (W.sent writer.old) (W.sent writer.new) (W.saw writer.old) (W.saw writer.new) }
+        ensures whole { result ≡ Poll.Ready (Ok Written.Whole) → left_of self.new ≡ [] }
+        ensures closed { result ≡ Poll.Ready (Ok Written.Closed) → W.saw writer.new ≡ true }
+        ensures stays { W.saw writer.old ≡ true → W.saw writer.new ≡ true }
+        ensures covered { OnPending result (Covers cx.new (W.needs writer.new)) }
+        ensures kept { Keeps cx.old cx.new }
+    {
+        match poll_write_all(writer, cx, self.text, &mut self.text_written) {
+            Poll::Ready(Ok(Written::Whole)) => {
+                poll_write_all(writer, cx, b"\n", &mut self.end_written)
+            }
+            unfinished => unfinished,
+        }
+    }
+}

@@ -1,0 +1,48 @@
+//! Bytes, written whole to a writer that takes as many as it has room for.
+ghost use Rattle.std.specs.Prelude.{◌≡◌, ◌≤◌, drop, length, true, Ok};
+ghost use Rattle.futures.specs.Task.{Covers, Keeps};
+ghost use Rattle.futures.specs.Poll.{OnPending};
+ghost use Rattle.piper_lines.specs.Sends.{Sends};
+
+use futures::task::{Context, Poll};
+use piper::PipeError;
+use piper::io::AsyncWrite;
+
+/// How a write of bytes ended.
+#[derive(Clone, Copy, Debug, PartialEq, Eq)]
+pub enum Written {
+    /// All of them are written.
+    Whole,
+    /// The writer's pipe is closed.
+    Closed,
+}
+
+/// Writes what is left of `bytes`, from `written` on, and adds what it wrote to `written`.
+///
+/// Where it is pending, or on an error, the next poll goes on from there. It is woken by the writer, and asks for no memory of its own. Bytes that were counted in the poll that sees the pipe closed may be lost.
+pub fn poll_write_all<W: AsyncWrite>(
+    writer: &mut W,
+    cx: &mut Context<'_>,
+    bytes: &[u8],
+    written: &mut usize,
+) -> Poll<Result<Written, PipeError>>
+    requires { written.old ≤ length bytes.now }
+    ensures within { written.new ≤ length bytes.now }
+    ensures sends { Sends (drop written.old bytes.now) (drop written.new bytes.now)
+        (W.sent writer.old) (W.sent writer.new) (W.saw writer.old) (W.saw writer.new) }
+    ensures whole { result ≡ Poll.Ready (Ok Written.Whole) → written.new ≡ length bytes.now }
+    ensures closed { result ≡ Poll.Ready (Ok Written.Closed) → W.saw writer.new ≡ true }
+    ensures stays { W.saw writer.old ≡ true → W.saw writer.new ≡ true }
+    ensures covered { OnPending result (Covers cx.new (W.needs writer.new)) }
+    ensures kept { Keeps cx.old cx.new }
+{
+    while *written < bytes.len() {
+        match writer.poll_write(cx, &bytes[*written..]) {
+            Poll::Pending => return Poll::Pending,
+            Poll::Ready(Err(error)) => return Poll::Ready(Err(error)),
+            Poll::Ready(Ok(0)) => return Poll::Ready(Ok(Written::Closed)),
+            Poll::Ready(Ok(n)) => *written += n,
+        }
+    }
+    Poll::Ready(Ok(Written::Whole))
+}

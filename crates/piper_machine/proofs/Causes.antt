@@ -1,0 +1,183 @@
+-- Who has closed: the reader by its drop; or the writer, by its drop or its close, and then it publishes nothing more.
+use Rattle.std.proofs.Common.{◌≡◌, ◌⊎◌, inl, inr, ℕ, ◌-◌, List, length, Bool, true, false, ◌==◌, is_some, Result, Ok, Err, refl}
+use Rattle.piper_sides.specs.declared.calls.Side.TheVariants.{Reader, Writer}
+use Rattle.piper_sides.specs.declared.scripted.Failed.{Failed}
+use Rattle.piper_sides.specs.declared.table.Form.{Form}
+use Rattle.piper_sides.specs.declared.table.Form.TheVariants.{Try, Polling}
+use Rattle.piper_sides.specs.declared.table.Purpose.{Purpose}
+use Rattle.piper_sides.specs.declared.table.Purpose.TheVariants as purpose
+use Rattle.piper_sides.specs.declared.table.AfterRead.{AfterRead}
+use Rattle.piper_sides.specs.declared.table.AfterRead.TheVariants as afterward
+use Rattle.piper_sides.specs.declared.table.AfterWrite.{AfterWrite}
+use Rattle.piper_sides.specs.declared.table.AfterWrite.TheVariants as behind
+use Rattle.piper_sides.specs.declared.table.ReadPlace.{ReadPlace}
+use Rattle.piper_sides.specs.declared.table.ReadPlace.TheVariants as at
+use Rattle.piper_sides.specs.declared.table.WritePlace.{WritePlace}
+use Rattle.piper_sides.specs.declared.table.WritePlace.TheVariants as on
+use Rattle.piper_sides.specs.Open.{is_granted}
+use Rattle.piper_sides.specs.Table.{writer_taken, read_done, writer_is_open, writer_looked, writer_looked_again, writer_registered, reader_taken, own_taken, write_done, write_after, writer_moved, writer_rounds, writer_draws}
+use Rattle.piper_machine.specs.Pipe.{Pipe}
+use Rattle.piper_machine.specs.Step.{went, offering}
+use Rattle.piper_machine.specs.Round.{given, found_of}
+
+abbrev pub read_leaves : ReadPlace → Bool
+read_leaves at.Dropped = true
+read_leaves (at.TakeWriter afterward.Drop) = true
+read_leaves (at.WakeWriter afterward.Drop) = true
+read_leaves place = false
+
+abbrev pub write_leaves : WritePlace → Bool
+write_leaves on.Dropped = true
+write_leaves (on.TakeReader behind.Drop) = true
+write_leaves (on.WakeReader behind.Drop) = true
+write_leaves place = false
+
+abbrev pub IsEnded : Pipe → Type 0
+IsEnded p = (write_leaves p.writer ≡ true) ⊎ (p.is_shut ≡ true)
+
+abbrev pub IsCaused : Pipe → Type 0
+IsCaused p = (read_leaves p.reader ≡ true) ⊎ IsEnded p
+
+-- the writer stores closed only as it is dropped or closes
+abbrev pub is_known : WritePlace → Bool
+is_known (on.StoreClosed behind.Answer) = false
+is_known (on.StoreClosed (behind.Round form sum)) = false
+is_known place = true
+
+-- the reader's own steps
+
+abbrev pub reader_after : ReadPlace → Pipe → Pipe
+reader_after place p = (went Reader (record p { reader = place })).pipe
+
+pub reader-caused : (place : ReadPlace) (p : Pipe) → (p.is_closed ≡ true → IsCaused (record p { reader = place })) → (reader_after place p).is_closed ≡ true → IsCaused (reader_after place p)
+reader-caused at.Dropped p caused closed = inl refl
+reader-caused at.StoreClosed p caused closed = inl refl
+reader-caused (at.StoreHead n next) p caused closed = elim (caused closed) [ inl leaves ↦ absurd (cc) | inr ended ↦ inr ended ]
+reader-caused (at.TakeWriter next) p caused closed = take-caused next (is_some p.writer_waker) (caused closed)
+  where
+    done-caused : (next : AfterRead) → (read_leaves (at.TakeWriter next) ≡ true) ⊎ IsEnded p → (read_leaves (read_done next).place ≡ true) ⊎ IsEnded p
+    done-caused afterward.Answer caused = elim caused [ inl leaves ↦ absurd (cc) | inr ended ↦ inr ended ]
+    done-caused afterward.Drop caused = inl refl
+    done-caused (afterward.Round form sum) caused = elim caused [ inl leaves ↦ absurd (cc) | inr ended ↦ inr ended ]
+
+    take-caused : (next : AfterRead) (is_found : Bool) → (read_leaves (at.TakeWriter next) ≡ true) ⊎ IsEnded p → (read_leaves (writer_taken next is_found).place ≡ true) ⊎ IsEnded p
+    take-caused next false caused = done-caused next caused
+    take-caused afterward.Answer true caused = elim caused [ inl leaves ↦ absurd (cc) | inr ended ↦ inr ended ]
+    take-caused afterward.Drop true caused = inl refl
+    take-caused (afterward.Round form sum) true caused = elim caused [ inl leaves ↦ absurd (cc) | inr ended ↦ inr ended ]
+reader-caused (at.WakeWriter afterward.Answer) p caused closed = elim (caused closed) [ inl leaves ↦ absurd (cc) | inr ended ↦ inr ended ]
+reader-caused (at.WakeWriter afterward.Drop) p caused closed = inl refl
+reader-caused (at.WakeWriter (afterward.Round form sum)) p caused closed = elim (caused closed) [ inl leaves ↦ absurd (cc) | inr ended ↦ inr ended ]
+reader-caused place p caused closed = elim (caused closed) [ inl leaves ↦ absurd (cc) | inr ended ↦ inr ended ]
+
+-- the writer's own steps
+
+-- where a call of the source is lent these places first
+abbrev pub writer_after : List ℕ → WritePlace → Pipe → Pipe
+writer_after offered place p = (went Writer (offering offered (record p { writer = place }))).pipe
+
+-- once the writer has closed it stays so
+module _ (p : Pipe) where
+  done-leaves : (next : AfterWrite) → (write_leaves (on.TakeReader next) ≡ true) ⊎ (p.is_shut ≡ true) → (write_leaves (write_done next).place ≡ true) ⊎ (p.is_shut ≡ true)
+  done-leaves behind.Answer h = elim h [ inl leaves ↦ absurd (cc) | inr shut ↦ inr shut ]
+  done-leaves behind.Drop h = inl refl
+  done-leaves behind.WakeWriter h = elim h [ inl leaves ↦ absurd (cc) | inr shut ↦ inr shut ]
+  done-leaves (behind.Round form sum) h = elim h [ inl leaves ↦ absurd (cc) | inr shut ↦ inr shut ]
+
+  take-leaves : (next : AfterWrite) (is_found : Bool) → (write_leaves (on.TakeReader next) ≡ true) ⊎ (p.is_shut ≡ true) → (write_leaves (reader_taken next is_found).place ≡ true) ⊎ (p.is_shut ≡ true)
+  take-leaves next false h = done-leaves next h
+  take-leaves behind.Answer true h = elim h [ inl leaves ↦ absurd (cc) | inr shut ↦ inr shut ]
+  take-leaves behind.Drop true h = inl refl
+  take-leaves behind.WakeWriter true h = elim h [ inl leaves ↦ absurd (cc) | inr shut ↦ inr shut ]
+  take-leaves (behind.Round form sum) true h = elim h [ inl leaves ↦ absurd (cc) | inr shut ↦ inr shut ]
+
+pub writer-ended : (offered : List ℕ) (place : WritePlace) (p : Pipe) → IsEnded (record p { writer = place }) → IsEnded (writer_after offered place p)
+writer-ended offered on.Dropped p h = inl refl
+writer-ended offered (on.TakeReader next) p h = take-leaves p next (is_some p.reader_waker) h
+writer-ended offered (on.WakeReader behind.Answer) p h = elim h [ inl leaves ↦ absurd (cc) | inr shut ↦ inr shut ]
+writer-ended offered (on.WakeReader behind.Drop) p h = inl refl
+writer-ended offered (on.WakeReader behind.WakeWriter) p h = elim h [ inl leaves ↦ absurd (cc) | inr shut ↦ inr shut ]
+writer-ended offered (on.WakeReader (behind.Round form sum)) p h = elim h [ inl leaves ↦ absurd (cc) | inr shut ↦ inr shut ]
+writer-ended offered (on.StoreClosed (behind.Round form sum)) p h = elim h [ inl leaves ↦ absurd (cc) | inr shut ↦ inr shut ]
+writer-ended offered (on.StoreClosed behind.Answer) p h = elim h [ inl leaves ↦ absurd (cc) | inr shut ↦ inr shut ]
+writer-ended offered (on.StoreClosed behind.Drop) p h = inl refl
+writer-ended offered (on.StoreClosed behind.WakeWriter) p h = inr refl
+writer-ended offered place p h = elim h [ inl leaves ↦ absurd (cc) | inr shut ↦ inr shut ]
+
+-- where the writer comes to it does not store closed
+open-known : (is_closed none : Bool) (l : Purpose) → is_known (writer_is_open is_closed none l).place ≡ true
+open-known true none l = refl
+open-known false true l = refl
+open-known false false purpose.Poll = refl
+open-known false false (purpose.Copy Try) = refl
+open-known false false (purpose.Copy (Polling is_drawn)) = refl
+
+looks-known : (none : Bool) (l : Purpose) → is_known (writer_looked none l) ≡ true
+looks-known true purpose.Poll = refl
+looks-known false purpose.Poll = refl
+looks-known true (purpose.Copy Try) = refl
+looks-known false (purpose.Copy Try) = refl
+looks-known true (purpose.Copy (Polling is_drawn)) = refl
+looks-known false (purpose.Copy (Polling is_drawn)) = refl
+
+registers-known : (granted : Bool) (l : Purpose) → is_known (writer_registered granted l).place ≡ true
+registers-known true l = refl
+registers-known false l = refl
+
+again-known : (none : Bool) (l : Purpose) → is_known (writer_looked_again none l) ≡ true
+again-known true l = refl
+again-known false purpose.Poll = refl
+again-known false (purpose.Copy Try) = refl
+again-known false (purpose.Copy (Polling is_drawn)) = refl
+
+draws-known : (form : Form) → is_known (writer_draws form) ≡ true
+draws-known Try = refl
+draws-known (Polling true) = refl
+draws-known (Polling false) = refl
+
+moved-known : (none : Bool) (n : ℕ) (form : Form) (sum : ℕ) → is_known (writer_moved none n form sum).place ≡ true
+moved-known true n form sum = refl
+moved-known false n form sum = refl
+
+round-known : (given : Result ℕ Failed) (capacity room : ℕ) (form : Form) (sum : ℕ) → is_known (write_after capacity room (on.CallSource form sum) (found_of given)).place ≡ true
+round-known (Ok n) capacity room form sum = moved-known (n == 0) n form sum
+round-known (Err fails) capacity room form sum = refl
+
+rounds-known : (is_closed : Bool) (n : ℕ) (form : Form) (sum : ℕ) → is_known (writer_rounds is_closed n form sum).place ≡ true
+rounds-known true n form sum = refl
+rounds-known false n form sum = refl
+
+done-known : (next : AfterWrite) → is_known (write_done next).place ≡ true
+done-known behind.Answer = refl
+done-known behind.Drop = refl
+done-known behind.WakeWriter = refl
+done-known (behind.Round form sum) = refl
+
+take-known : (next : AfterWrite) (is_found : Bool) → is_known (reader_taken next is_found).place ≡ true
+take-known next false = done-known next
+take-known next true = refl
+
+own-known : (is_found : Bool) → is_known (own_taken is_found).place ≡ true
+own-known false = refl
+own-known true = refl
+
+pub writer-known : (offered : List ℕ) (place : WritePlace) (p : Pipe) → is_known (writer_after offered place p).writer ≡ true
+writer-known offered (on.LookClosed l) p = open-known p.is_closed (p.room == 0) l
+writer-known offered (on.LookHead l) p = looks-known (p.capacity - length p.unread == 0) l
+writer-known offered (on.LookRegister l) p = registers-known (is_granted p.writer_call.context) l
+writer-known offered (on.LookHeadAgain l) p = again-known (p.capacity - length p.unread == 0) l
+writer-known offered (on.LookTake purpose.Poll) p = refl
+writer-known offered (on.LookTake (purpose.Copy form)) p = draws-known form
+writer-known offered (on.CallSource form sum) p = round-known (given (length offered) p.source) p.capacity p.room form sum
+writer-known offered (on.RoundClosed n form sum) p = rounds-known p.is_closed n form sum
+writer-known offered (on.TakeReader next) p = take-known next (is_some p.reader_waker)
+writer-known offered (on.WakeReader next) p = done-known next
+writer-known offered on.TakeWriter p = own-known (is_some p.writer_waker)
+writer-known offered place p = refl
+
+pub writer-caused : (offered : List ℕ) (place : WritePlace) (p : Pipe) → is_known place ≡ true → (p.is_closed ≡ true → IsCaused (record p { writer = place })) → (writer_after offered place p).is_closed ≡ true → IsCaused (writer_after offered place p)
+writer-caused offered (on.StoreClosed behind.Answer) p known caused closed = absurd (cc)
+writer-caused offered (on.StoreClosed (behind.Round form sum)) p known caused closed = absurd (cc)
+writer-caused offered (on.StoreClosed behind.Drop) p known caused closed = inr (inl refl)
+writer-caused offered (on.StoreClosed behind.WakeWriter) p known caused closed = inr (inr refl)
+writer-caused offered place p known caused closed = elim (caused closed) [ inl leaves ↦ inl leaves | inr ended ↦ inr (writer-ended offered place p ended) ]

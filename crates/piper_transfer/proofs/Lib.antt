@@ -1,0 +1,3 @@
+pub mod Digits
+pub mod Sides
+pub mod Whole

@@ -1,0 +1,40 @@
+-- What a side does in one step after another.
+use Rattle.std.proofs.Common.{◌≡◌, ℕ, List, [], ◌++◌, Option, refl, sym, ap, ◌∙◌, append_assoc, append-nil}
+use Rattle.std.proofs.KnownBytes.{Consumes-nil, Consumes-trans, Appends-nil, Appends-trans, Appends-kept}
+use Rattle.std.specs.Io.KnownBytes.{Keeps}
+use Rattle.piper.specs.ReadView.{ReadView}
+use Rattle.piper.specs.WriteView.{WriteView}
+use Rattle.piper_transfer.specs.Transfer.{Fed, PouredAll}
+
+pub fed_none : (i : Option (List ℕ)) (a : WriteView) → Fed i i a a
+fed_none i a = record { given = []; consumed = Consumes-nil i; sent = sym (append-nil a.sent); ring = refl }
+
+pub fed_more : (i j k : Option (List ℕ)) (a b c : WriteView) → Fed i j a b → Fed j k b c → Fed i k a c
+fed_more i j k a b c p q = record {
+  given = p.given ++ q.given;
+  consumed = Consumes-trans i j k p.given q.given p.consumed q.consumed;
+  sent = q.sent ∙ ap (λ xs. xs ++ q.given) p.sent ∙ append_assoc a.sent p.given q.given;
+  ring = q.ring ∙ p.ring;
+}
+
+-- what the end published stays so
+pub fed_same : (i j : Option (List ℕ)) (a b c : WriteView) → Fed i j a b → c.sent ≡ b.sent → c.ring ≡ b.ring → Fed i j a c
+fed_same i j a b c p sent ring = record { given = p.given; consumed = p.consumed; sent = sent ∙ p.sent; ring = ring ∙ p.ring }
+
+pub poured_none : (i : Option (List ℕ)) (a : ReadView) → PouredAll i i a a
+poured_none i a = record { written = []; appended = Appends-nil i; taken = sym (append-nil a.taken); ring = refl }
+
+pub poured_more : (i j k : Option (List ℕ)) (a b c : ReadView) → PouredAll i j a b → PouredAll j k b c → PouredAll i k a c
+poured_more i j k a b c p q = record {
+  written = p.written ++ q.written;
+  appended = Appends-trans i j k p.written q.written p.appended q.appended;
+  taken = q.taken ∙ ap (λ xs. xs ++ q.written) p.taken ∙ append_assoc a.taken p.written q.written;
+  ring = q.ring ∙ p.ring;
+}
+
+pub poured_same : (i j : Option (List ℕ)) (a b c : ReadView) → PouredAll i j a b → c.taken ≡ b.taken → c.ring ≡ b.ring → PouredAll i j a c
+poured_same i j a b c p taken ring = record { written = p.written; appended = p.appended; taken = taken ∙ p.taken; ring = ring ∙ p.ring }
+
+-- an output that keeps what it has, as where it is flushed
+pub poured_kept : (i j k : Option (List ℕ)) (a b : ReadView) → PouredAll i j a b → Keeps j k → PouredAll i k a b
+poured_kept i j k a b p kept = record { written = p.written; appended = Appends-kept i j k p.written p.appended kept; taken = p.taken; ring = p.ring }

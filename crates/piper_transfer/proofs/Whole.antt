@@ -1,0 +1,50 @@
+-- What both sides did is a transfer.
+use Rattle.std.proofs.Common.{◌≡◌, ℕ, List, [], ◌++◌, Option, Result, refl, sym, ap, subst, ◌∙◌, append_assoc, append-nil}
+use Rattle.std.specs.Prelude.{OnOk}
+use Rattle.std.specs.Io.KnownBytes.{Consumes, IsAtEnd}
+use Rattle.std.proofs.KnownBytes.{Consumes-nil, Appends-nil}
+use Rattle.piper.specs.ReadView.{ReadView}
+use Rattle.piper.specs.WriteView.{WriteView}
+use Rattle.piper_transfer.specs.Transfer.{Fed, Poured, PouredAll, Transfers, WritesAll}
+use Rattle.piper_transfer.specs.declared.error.TransferError.{TransferError}
+
+-- nothing was moved
+pub nothing_moved : (r : Result Unit TransferError) (i o : Option (List ℕ)) → OnOk r (IsAtEnd i) → Transfers r i i o o
+nothing_moved r i o ended = record { written = []; left = []; given = Consumes-nil i; appended = Appends-nil o; all = λ _. refl; ended = ended }
+
+-- what the input gave is what was published, and so what was taken and what is still known
+pub given_is_seen : (i j : Option (List ℕ)) (w0 w1 : WriteView) (r : ReadView) (xs : List ℕ) → w0.sent ≡ [] → Fed i j w0 w1 → r.taken ++ r.known ≡ w1.sent → r.taken ≡ xs → Consumes i j (xs ++ r.known)
+given_is_seen i j w0 w1 r xs fresh fed fifo taken =
+    let given : w1.sent ≡ fed.given = fed.sent ∙ ap (λ ys. ys ++ fed.given) fresh in
+    subst (Consumes i j) (sym given ∙ sym fifo ∙ ap (λ ys. ys ++ r.known) taken) fed.consumed
+
+-- the output failed: bytes were lost, and some may still be known
+pub output_failed : (r : Result Unit TransferError) (i j o p : Option (List ℕ)) (w0 w1 : WriteView) (r0 r1 r2 : ReadView)
+    → w0.sent ≡ [] → r0.taken ≡ [] → Fed i j w0 w1 → Poured o p r0 r1 → r2.taken ≡ r1.taken → r2.taken ++ r2.known ≡ w1.sent
+    → ¬ WritesAll r → OnOk r (IsAtEnd j) → Transfers r i j o p
+output_failed r i j o p w0 w1 r0 r1 r2 new_writer new_reader fed poured same fifo failed ended =
+    let taken : r2.taken ≡ poured.written ++ poured.lost = same ∙ poured.taken ∙ ap (λ xs. xs ++ (poured.written ++ poured.lost)) new_reader in
+    let given : Consumes i j ((poured.written ++ poured.lost) ++ r2.known) = given_is_seen i j w0 w1 r2 (poured.written ++ poured.lost) new_writer fed fifo taken in
+    record {
+      written = poured.written;
+      left = poured.lost ++ r2.known;
+      given = subst (Consumes i j) (append_assoc poured.written poured.lost r2.known) given;
+      appended = poured.appended;
+      all = λ writes. absurd (failed writes);
+      ended = ended;
+    }
+
+-- nothing was lost: what is left is what is still known
+pub nothing_lost : (r : Result Unit TransferError) (i j o p : Option (List ℕ)) (w0 w1 : WriteView) (r0 r1 : ReadView)
+    → w0.sent ≡ [] → r0.taken ≡ [] → Fed i j w0 w1 → PouredAll o p r0 r1 → r1.taken ++ r1.known ≡ w1.sent
+    → (WritesAll r → r1.known ≡ []) → OnOk r (IsAtEnd j) → Transfers r i j o p
+nothing_lost r i j o p w0 w1 r0 r1 new_writer new_reader fed poured fifo all ended =
+    let taken : r1.taken ≡ poured.written = poured.taken ∙ ap (λ xs. xs ++ poured.written) new_reader in
+    record {
+      written = poured.written;
+      left = r1.known;
+      given = given_is_seen i j w0 w1 r1 poured.written new_writer fed fifo taken;
+      appended = poured.appended;
+      all = all;
+      ended = ended;
+    }

@@ -1,0 +1,42 @@
+use Rattle.std.proofs.Common.{rules, ◌≡◌, ◌++◌, List, ℕ, [], OnOk, ◌∙◌, append-nil, sym, ap}
+use Rattle.std.specs.Io.KnownBytes.{IsAtEnd}
+use Rattle.piper_transfer.specs.Transfer.{Poured, PouredAll, Transfers, WritesAll}
+use Rattle.piper_transfer.proofs.Sides.{poured_more, poured_same}
+use Rattle.piper_transfer.proofs.Whole.{nothing_moved, output_failed, nothing_lost}
+use Rattle.piper_transfer.proofs.both_sides.transfer.Goals.{in-Ok, in-Err}
+use Rattle.piper_transfer.proofs.both_sides.transfer.Goals as goal
+
+pub returns-in_err-input : goal.returns-in_err-input
+returns-in_err-input g c = nothing_moved c.from_residual.result _ _ (search rules)
+
+pub returns : goal.returns
+returns g c =
+    let remaining = g.S.Read.remaining in
+    let contents = g.D.Write.contents in
+    let both = c.on_two_threads-filled in
+    let w0 = c.in_ok-input.input.writer.end in
+    let w1 = both.new.input.writer.end in
+    let r0 = c.in_ok-input.output.reader.end in
+    let r1 = both.new.output.reader.end in
+    let r2 = c.meet.new.self.end in
+    let i = remaining c.args.source.now in
+    let j = remaining both.new.source in
+    let o = contents c.args.dest.now in
+    let p = contents both.new.dest in
+    let new_writer = c.in_ok-input.ensures.input.sent in
+    let new_reader = c.in_ok-input.ensures.output.taken in
+    let fifo = c.meet.ensures.fifo ∙ c.meet.ensures.writer.sent in
+    elim c.match-drained.branch [
+      | in-Ok w ↦
+          let q = contents w.drain_known.new.dest in
+          let r3 = w.drain_known.new.reader.end in
+          let drained : PouredAll o p r0 r1 = search rules in
+          let poured : PouredAll o q r0 r3 = poured_more o p q r0 r2 r3 (poured_same o p r0 r1 r2 drained c.meet.ensures.reader.taken c.meet.ensures.reader.end.ring) w.drain_known.ensures.poured in
+          let all : WritesAll c.match-drained.ended → r3.known ≡ [] = search rules in
+          let ended : OnOk c.match-drained.ended (IsAtEnd j) = search rules in
+          rw w.dest-is (nothing_lost c.match-drained.ended i j o q w0 w1 r0 r3 new_writer new_reader both.ensures.fed poured (w.drain_known.ensures.known ∙ fifo) all ended)
+      | in-Err w ↦
+          let failed : ¬ WritesAll c.match-drained.ended = search rules in
+          let ended : OnOk c.match-drained.ended (IsAtEnd j) = rw w.ended-is tt in
+          rw w.dest-is (output_failed c.match-drained.ended i j o p w0 w1 r0 r1 r2 new_writer new_reader both.ensures.fed both.ensures.poured c.meet.ensures.reader.taken fifo failed ended)
+    ]

@@ -1,0 +1,8 @@
+-- What was taken out of the pipe so far was written.
+use Rattle.piper_transfer.specs.Transfer.{PouredAll}
+use Rattle.piper_transfer.proofs.draining.drain_in_turns.Given as goal
+
+abbrev pub invariant-loop : goal.invariant-loop
+invariant-loop g l =
+    (goal.iterator-loop g).can_next l.iterator' × (goal.iterator-loop g).is_finite l.iterator'
+    × PouredAll (g.D.Write.contents l.initial.dest) (g.D.Write.contents l.dest) l.initial.reader.end l.reader.end

@@ -1,0 +1,9 @@
+-- What the input gave so far is published, and the pipe is open.
+use Rattle.piper_transfer.specs.Transfer.{Fed, IsOpen}
+use Rattle.piper_transfer.proofs.filling.fill_turn.Given as goal
+
+abbrev pub invariant-loop : goal.invariant-loop
+invariant-loop g l =
+    (goal.iterator-loop g).can_next l.iterator' × (goal.iterator-loop g).is_finite l.iterator'
+    × Fed (g.S.Read.remaining l.initial.source) (g.S.Read.remaining l.source) l.initial.writer.end l.writer.end
+    × IsOpen l.writer.end

@@ -1,0 +1,52 @@
+-- What a transfer moves, and what each of its sides does.
+use Rattle.std.specs.Prelude.{◌≡◌, ℕ, List, [], ◌++◌, Option, Result, Ok, Err, OnOk, ⊤, false}
+use Rattle.std.specs.Io.KnownBytes.{Consumes, Appends, IsAtEnd}
+use Rattle.piper.specs.ReadView.{ReadView}
+use Rattle.piper.specs.WriteView.{WriteView}
+use Rattle.piper_transfer.specs.declared.error.TransferError.{TransferError}
+use Rattle.piper_transfer.specs.declared.error.TransferError.TheVariants.{Read}
+
+-- its handle neither closed the pipe nor saw it closed
+abbrev pub IsOpen : WriteView → Type 0
+IsOpen w = (w.shut ≡ false) × (w.saw ≡ false)
+
+-- the writing end published what the input gave, all of it and in order
+pub record Fed (input_old input_new : Option (List ℕ)) (a b : WriteView) : Type 0 where
+  pub given : List ℕ
+  pub consumed : Consumes input_old input_new given
+  pub sent : b.sent ≡ a.sent ++ given
+  pub ring : b.ring ≡ a.ring
+
+-- the output was given the front of what was taken from the reading end; the rest was let go
+pub record Poured (output_old output_new : Option (List ℕ)) (a b : ReadView) : Type 0 where
+  pub written : List ℕ
+  pub lost : List ℕ
+  pub appended : Appends output_old output_new written
+  pub taken : b.taken ≡ a.taken ++ (written ++ lost)
+  pub ring : b.ring ≡ a.ring
+
+-- nothing of what was taken from the reading end was let go
+pub record PouredAll (output_old output_new : Option (List ℕ)) (a b : ReadView) : Type 0 where
+  pub written : List ℕ
+  pub appended : Appends output_old output_new written
+  pub taken : b.taken ≡ a.taken ++ written
+  pub ring : b.ring ≡ a.ring
+
+-- the input failed
+abbrev pub IsOfInput : TransferError → Type 0
+IsOfInput (Read e) = ⊤
+IsOfInput other = ⊥
+
+-- a transfer with this answer wrote all that the input gave: no error is told, or one of the input
+abbrev pub WritesAll : Result Unit TransferError → Type 0
+WritesAll (Ok _) = ⊤
+WritesAll (Err e) = IsOfInput e
+
+-- what the output was given is a front of what the input gave
+pub record Transfers (r : Result Unit TransferError) (input_old input_new output_old output_new : Option (List ℕ)) : Type 0 where
+  pub written : List ℕ
+  pub left : List ℕ
+  pub given : Consumes input_old input_new (written ++ left)
+  pub appended : Appends output_old output_new written
+  pub all : WritesAll r → left ≡ []
+  pub ended : OnOk r (IsAtEnd input_new)

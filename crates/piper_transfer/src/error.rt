@@ -1,0 +1,23 @@
+//! Why a transfer stopped before the input's end.
+use std::io;
+use thiserror::Error;
+
+/// Why a transfer stopped before the input's end was written.
+#[derive(Debug, Drop, Error)]
+pub enum TransferError {
+    /// Reading the input failed. All that it gave before was written.
+    #[error("reading the input failed: {0}")]
+    Read(io::Error),
+    /// Writing the output failed.
+    #[error("writing the output failed: {0}")]
+    Write(io::Error),
+    /// The output takes no more bytes.
+    #[error("the output takes no more bytes")]
+    Full,
+    /// Memory was refused: for the pipe, or for a waker.
+    #[error("out of memory")]
+    Memory,
+    /// The system granted no random bytes for a thread's name of its own, or no memory for its turns.
+    #[error("a thread can't be made to wait: {0}")]
+    Turns(io::Error),
+}

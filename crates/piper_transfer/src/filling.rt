@@ -1,0 +1,141 @@
+//! The side that reads the input into the pipe.
+ghost use Rattle.std.specs.Prelude.{◌≡◌, ◌<◌, Ok, OnOk};
+ghost use Rattle.std.specs.Io.KnownBytes.{IsAtEnd};
+ghost use Rattle.futures.specs.Task.{IsArmed};
+ghost use Rattle.futures.specs.Poll.{IfReady, OnPending};
+ghost use Rattle.piper_transfer.specs.Transfer.{Fed, IsOpen};
+
+use crate::error::TransferError;
+use crate::meter::Meter;
+use crate::turns::{Input, Turns};
+use futures::task::{Context, Poll};
+use piper::Writer;
+use std::io;
+use std::io::{ErrorKind, Read};
+use std::sync::Wait;
+use std::time::{Clock, Instant};
+
+/// Reads the input into the pipe, at most `chunk` bytes at a time, up to its end, and closes the pipe.
+pub(crate) fn fill<R, S, H>(
+    rt: &R,
+    input: &mut Input<H>,
+    source: &mut S,
+    chunk: usize,
+    meter: &Meter,
+) -> Result<(), TransferError>
+where
+    R: Wait + Clock,
+    S: Read,
+    H: Wait + Clone + Drop,
+    requires chunk { 0 < chunk }
+    requires is_open { IsOpen input.old.writer.end }
+    ensures fed { Fed (S.remaining source.old) (S.remaining source.new) input.old.writer.end input.new.writer.end }
+    ensures ended { OnOk result (IsAtEnd (S.remaining source.new)) }
+{
+    fill_in_turns(rt, &input.turns, source, &mut input.writer, chunk, meter)
+}
+
+#[tactic(auto, using(crate::proofs::Sides::fed_none, crate::proofs::Sides::fed_more))]
+fn fill_in_turns<R, S, H>(
+    rt: &R,
+    turns: &Turns,
+    source: &mut S,
+    writer: &mut Writer<H>,
+    chunk: usize,
+    meter: &Meter,
+) -> Result<(), TransferError>
+where
+    R: Wait + Clock,
+    S: Read,
+    H: Wait + Clone + Drop,
+    requires chunk { 0 < chunk }
+    requires is_open { IsOpen writer.old.end }
+    ensures fed { Fed (S.remaining source.old) (S.remaining source.new) writer.old.end writer.new.end }
+    ensures ended { OnOk result (IsAtEnd (S.remaining source.new)) }
+{
+    for _ in rt.forever() {
+        let since = Instant::now(rt).ok();
+        let Some(mut cx) = turns.next(rt) else {
+            return Err(TransferError::Memory);
+        };
+        meter.input.add_wait(rt, since);
+        let turn = fill_turn(rt, &mut cx, source, writer, chunk, meter);
+        cx.end(&turn);
+        if let Poll::Ready(ended) = turn {
+            return ended;
+        }
+    }
+    unreachable!()
+}
+
+// Goes on until there is no room, or the side has ended; then the pipe is closed.
+#[tactic(auto, using(crate::proofs::Sides::fed_none, crate::proofs::Sides::fed_more, crate::proofs::Sides::fed_same))]
+fn fill_turn<R, S, H>(
+    rt: &R,
+    cx: &mut Context<'_>,
+    source: &mut S,
+    writer: &mut Writer<H>,
+    chunk: usize,
+    meter: &Meter,
+) -> Poll<Result<(), TransferError>>
+where
+    R: Wait,
+    S: Read,
+    H: Wait + Clone + Drop,
+    requires chunk { 0 < chunk }
+    requires is_open { IsOpen writer.old.end }
+    ensures fed { Fed (S.remaining source.old) (S.remaining source.new) writer.old.end writer.new.end }
+    ensures ended { IfReady result (λ r. OnOk r (IsAtEnd (S.remaining source.new))) }
+    ensures is_open { OnPending result (IsOpen writer.new.end) }
+    ensures armed { OnPending result (IsArmed cx.new) }
+{
+    for _ in rt.forever() {
+        if meter.is_output_over() {
+            return close(cx, writer, Err(TransferError::Full));
+        }
+        match writer.poll(cx) {
+            Poll::Pending => return Poll::Pending,
+            Poll::Ready(Ok(true)) => {}
+            Poll::Ready(Ok(false)) => return close(cx, writer, Err(TransferError::Full)),
+            Poll::Ready(Err(_)) => return close(cx, writer, Err(TransferError::Memory)),
+        }
+        match read_chunk(source, writer, chunk) {
+            Ok(0) => return close(cx, writer, Ok(())),
+            Ok(count) => meter.input.add_bytes(count),
+            Err(error) if error.kind() == ErrorKind::Interrupted => {}
+            Err(error) => return close(cx, writer, Err(TransferError::Read(error))),
+        }
+    }
+    unreachable!()
+}
+
+// Publishes what one read gives, and answers how many bytes; 0 is the input's end.
+fn read_chunk<S, H>(source: &mut S, writer: &mut Writer<H>, chunk: usize) -> io::Result<usize>
+where
+    S: Read,
+    H: Wait + Clone + Drop,
+    requires chunk { 0 < chunk }
+    requires room { 0 < writer.old.end.room }
+    requires is_open { IsOpen writer.old.end }
+    ensures fed { Fed (S.remaining source.old) (S.remaining source.new) writer.old.end writer.new.end }
+    ensures ended { result ≡ Ok 0 → IsAtEnd (S.remaining source.new) }
+    ensures is_open { IsOpen writer.new.end }
+{
+    let count = source.read(writer.write_buf(chunk))?;
+    writer.produced(count);
+    Ok(count)
+}
+
+// Closes the pipe, so that the other side ends once it has taken what was published.
+fn close<H: Wait + Clone + Drop>(
+    cx: &mut Context<'_>,
+    writer: &mut Writer<H>,
+    ended: Result<(), TransferError>,
+) -> Poll<Result<(), TransferError>>
+    ensures answer { result ≡ Poll.Ready ended }
+    ensures sent { writer.new.end.sent ≡ writer.old.end.sent }
+    ensures ring { writer.new.end.ring ≡ writer.old.end.ring }
+{
+    let _closed = writer.poll_close(cx);
+    Poll::Ready(ended)
+}

@@ -1,0 +1,15 @@
+//! Moves bytes from a reader to a writer through a pipe: one thread reads and another writes, so neither waits for the other while the pipe has room and bytes.
+#![tactic(auto)]
+
+mod both_sides;
+mod draining;
+mod error;
+mod filling;
+mod meter;
+mod size;
+mod turns;
+
+pub use both_sides::{Sizes, transfer};
+pub use error::TransferError;
+pub use meter::{Meter, Side};
+pub use size::{NotASize, parse_size};
