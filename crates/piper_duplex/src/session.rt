@@ -95,17 +95,19 @@ where
     )?;
     let (reader, writer) = second.into_halves();
     let echo = EchoAll::new(alloc, OwnedReader::new(reader), OwnedWriter::new(writer));
-    let child = thread::spawn(rt, move || {
+    let spawned = thread::spawn(rt, move || {
         let _ = block_on(&theirs, echo);
     });
+    let Ok(child) = spawned else {
+        first.drop();
+        return Err(Ended::OUT_OF_MEMORY);
+    };
     let (mut reader, mut writer) = first.into_halves();
     let sent = talk(rt, alloc, &mut reader, &mut writer, input, output);
     writer.drop();
     let printed = sent.and_then(|()| print_rest(rt, &mut reader, output));
     reader.drop();
-    if let Ok(child) = child {
-        child.join(rt);
-    }
+    child.join(rt);
     printed
 }
 
