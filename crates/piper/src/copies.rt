@@ -12,6 +12,7 @@ use piper_sides::events::Answer;
 use piper_sides::polling::Polled;
 
 /// What a copy answers that did not fail.
+#[inline(always)]
 fn copied<E>(answer: Answer) -> Poll<Result<usize, Inner<E>>>
     requires { IsCopied answer }
     ensures { result ≡ copied_of answer }

@@ -112,6 +112,7 @@ impl<H: Wait + Clone + Drop> Reader<H> {
     /// Moves known bytes into any destination. With a context it does so as `poll_drain` does into a writer; without one it registers no task and doesn't draw: it is pending where the look knows of no byte and didn't see the pipe closed.
     ///
     /// A failure is the destination's own error: what it took in the rounds before stays taken, and nothing else moved.
+    #[inline(always)]
     pub fn drain_inner<W: WriteLike>(
         &mut self,
         cx: Option<&mut Context<'_>>,
@@ -139,6 +140,7 @@ impl<H: Wait + Clone + Drop> Reader<H> {
     }
 
     // The drain with a context: the look, the draw, and the rounds.
+    #[inline(always)]
     fn drain_waiting<W: WriteLike>(
         &mut self,
         cx: &mut Context<'_>,
@@ -172,6 +174,7 @@ impl<H: Wait + Clone + Drop> Reader<H> {
     }
 
     // The drain without a context: the look, and the rounds.
+    #[inline(always)]
     fn drain_at_once<W: WriteLike>(&mut self, dest: &mut W) -> Poll<Result<usize, Inner<W::Error>>>
         ensures drained { Drains W.takes W.is_full W.fails result
             self.old.end self.new.end dest.old dest.new }
@@ -189,6 +192,7 @@ impl<H: Wait + Clone + Drop> Reader<H> {
     }
 
     // The look of a drain that waits: its open call once a byte is known, or what it answers.
+    #[inline(always)]
     fn look_to_drain<E>(
         &mut self,
         cx: &mut Context<'_>,
@@ -225,6 +229,7 @@ impl<H: Wait + Clone + Drop> Reader<H> {
     }
 
     // The look of a drain that doesn't wait: its open call once a byte is known, or what it answers, pending where it would wait.
+    #[inline(always)]
     fn look_at_once<E>(&mut self) -> Result<ReadCall, Poll<Result<usize, Inner<E>>>>
         ensures found { IfOk result (λ call. call.place ≡ ReadPlace.CallDestination Form.Try 0) }
         ensures some { IfOk result (λ _. 0 < length self.new.end.known) }
@@ -255,6 +260,7 @@ impl<H: Wait + Clone + Drop> Reader<H> {
     }
 
     // Hands known bytes to the destination in rounds, each in one piece, until none is known or it takes none.
+    #[inline(always)]
     fn drain_rounds<W: WriteLike>(
         &mut self,
         call: ReadCall,
@@ -290,6 +296,7 @@ impl<H: Wait + Clone + Drop> Reader<H> {
     }
 
     // One call of the destination, on known bytes in one piece.
+    #[inline(always)]
     fn drain_round<W: WriteLike>(&self, dest: &mut W) -> Result<usize, W::Error>
         ensures bound { IfOk result (λ n. n ≤ in_one_piece self.now.end) }
         ensures most { IfOk result (λ n. n ≤ MOST_A_ROUND) }

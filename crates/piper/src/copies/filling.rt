@@ -124,6 +124,7 @@ impl<H: Wait + Clone + Drop> Writer<H> {
     /// Publishes bytes that any source gives. With a context it does so as `poll_fill` does those of a reader; without one it registers no task and doesn't draw: it is pending where the look knows of no room and didn't see the pipe closed.
     ///
     /// A failure is the source's own error: what it gave in the rounds before stays published, and nothing else moved.
+    #[inline(always)]
     pub fn fill_inner<R: ReadLike>(
         &mut self,
         cx: Option<&mut Context<'_>>,
@@ -160,6 +161,7 @@ impl<H: Wait + Clone + Drop> Writer<H> {
     }
 
     // The fill with a context: the look, the draw, and the rounds.
+    #[inline(always)]
     fn fill_waiting<R: ReadLike>(
         &mut self,
         cx: &mut Context<'_>,
@@ -192,6 +194,7 @@ impl<H: Wait + Clone + Drop> Writer<H> {
     }
 
     // The fill without a context: the look, and the rounds.
+    #[inline(always)]
     fn fill_at_once<R: ReadLike>(&mut self, source: &mut R) -> Poll<Result<usize, Inner<R::Error>>>
         ensures filled { Fills R.gives R.is_dry R.fails result
             self.old.end self.new.end source.old source.new }
@@ -209,6 +212,7 @@ impl<H: Wait + Clone + Drop> Writer<H> {
     }
 
     // The look of a fill that waits: its open call once there is room, or what it answers.
+    #[inline(always)]
     fn look_to_fill<E>(
         &mut self,
         cx: &mut Context<'_>,
@@ -251,6 +255,7 @@ impl<H: Wait + Clone + Drop> Writer<H> {
     }
 
     // The look of a fill that doesn't wait: its open call once there is room, or what it answers, pending where it would wait.
+    #[inline(always)]
     fn look_at_once<E>(&mut self) -> Result<WriteCall, Poll<Result<usize, Inner<E>>>>
         ensures found { IfOk result (λ call. call.place ≡ WritePlace.CallSource Form.Try 0) }
         ensures some { OnOk result (0 < self.new.end.room) }
@@ -286,6 +291,7 @@ impl<H: Wait + Clone + Drop> Writer<H> {
     }
 
     // Publishes what the source gives in rounds, each in one piece, until there is no room, it gives none, or the pipe is seen closed.
+    #[inline(always)]
     fn fill_rounds<R: ReadLike>(
         &mut self,
         call: WriteCall,
@@ -329,6 +335,7 @@ impl<H: Wait + Clone + Drop> Writer<H> {
     }
 
     // One call of the source, on room that is lent to it in one piece.
+    #[inline(always)]
     fn fill_round<R: ReadLike>(&mut self, source: &mut R) -> Result<usize, R::Error>
         requires { self.old.end.shut ≡ false }
         ensures bound { IfOk result (λ n. n ≤ length self.new.end.lent) }

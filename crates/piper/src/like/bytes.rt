@@ -45,6 +45,7 @@ impl ReadLike for ReadBytes<'_> {
     ghost gives_in_order = { λ a xs b ys c p q.
         front_on a.rest.now xs b.rest.now ys c.rest.now p q };
 
+    #[inline(always)]
     fn read(&mut self, dest: &mut [u8]) -> Result<usize, Infallible> {
         let n = self.rest.len().min(dest.len());
         let (given, rest) = self.rest.split_at(n);
@@ -87,6 +88,7 @@ impl WriteLike for WriteBytes<'_> {
       written_on a.bytes.now b.bytes.now c.bytes.now a.place b.place xs ys a.within p.2 p.1 q.2,
     ) };
 
+    #[inline(always)]
     fn write(&mut self, source: &[u8]) -> Result<usize, Infallible> {
         let n = source.len().min(self.bytes.len() - self.place);
         self.bytes[self.place..self.place + n].copy_from_slice(&source[..n]);
