@@ -2,6 +2,8 @@
 #![tactic(auto)]
 
 #[cfg(test)]
+mod carries;
+#[cfg(test)]
 mod copies;
 #[cfg(test)]
 mod crossing;

@@ -1,6 +1,6 @@
 //! What the Rust crate tests of its own pipe, without sleeps: a first run, reads and buffered reads across threads, and drops.
 use crate::crossing::drains_all;
-use crate::pair::same;
+use crate::pair::{Act, Pair, same};
 use crate::tasks::{ReadExact, ReadLine, WriteAll, ends, owned_pipe};
 use piper::{OwnedReader, OwnedWriter};
 use std::alloc::AllocGlobal;
@@ -53,23 +53,15 @@ where
 
 #[test]
 fn smoke(rt: HostRuntime) {
-    let (mut reader, mut writer) = owned_pipe(&rt, 8);
-    for text in [b"12345678".as_slice(), b"9abcdefg".as_slice()] {
-        let future = WriteAll {
-            writer: writer.get_mut(),
-            rest: text,
-        };
-        ends(&rt, future);
-        reads(&rt, &mut reader, text);
-    }
-    drop(writer);
-    let mut dest = [0; 8];
-    let future = ReadExact {
-        reader: reader.get_mut(),
-        dest: &mut dest,
-        came: 0,
-    };
-    same(&rt, &"the end", ends(&rt, future), 0);
+    let acts = [
+        Act::PollFill(b"12345678", Some(8)),
+        Act::PollDrain(8, Some(b"12345678")),
+        Act::PollFill(b"9abcdefg", Some(8)),
+        Act::PollDrain(8, Some(b"9abcdefg")),
+        Act::DropWriter,
+        Act::PollDrain(8, Some(b"")),
+    ];
+    Pair::new(&rt, 8).play(&rt, &acts);
 }
 
 #[test]
