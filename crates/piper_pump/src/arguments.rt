@@ -31,8 +31,8 @@ fn words(rt: &HostRuntime) -> io::Result<Vec<String>> {
 fn read_words(alloc: Global, words: &[String]) -> Result<Arguments, Error> {
     let mut command = command(alloc)?;
     let matches = command.try_get_matches_from_mut(words)?;
-    let capacity = size(&mut command, &matches, "capacity", "1M")?;
-    let chunk = size(&mut command, &matches, "chunk", "64K")?;
+    let capacity = size(alloc, &mut command, &matches, "capacity", "1M")?;
+    let chunk = size(alloc, &mut command, &matches, "chunk", "64K")?;
     Ok(Arguments {
         sizes: Sizes { capacity, chunk },
         shows_progress: matches.get_flag("progress"),
@@ -64,6 +64,7 @@ fn command<'a>(alloc: Global) -> Result<Command<'a>, Error> {
 
 // The size that this argument has, or else the one that stands for it.
 fn size<'a>(
+    alloc: Global,
     command: &mut Command<'a>,
     matches: &ArgMatches<'a>,
     name: &'a str,
@@ -74,6 +75,9 @@ fn size<'a>(
     let text = matches.get_str(name).unwrap_or(left_out);
     match parse_size(text) {
         Ok(size) => Ok(size),
-        Err(_) => Err(command.error(ErrorKind::ValueValidation, "not a size")?),
+        Err(error) => {
+            let message = format!(in alloc; "invalid value '{text}' for '--{name} <N>': {error}")?;
+            Err(command.error(ErrorKind::ValueValidation, message.as_str())?)
+        }
     }
 }

@@ -1,0 +1,44 @@
+//! Sizes as they are written.
+use piper_transfer::parse_size;
+
+#[test]
+fn a_size_is_digits_and_perhaps_a_unit(rt: HostRuntime) {
+    let sizes = [
+        ("1", 1),
+        ("4096", 4_096),
+        ("0064", 64),
+        ("64K", 65_536),
+        ("16M", 16_777_216),
+        ("2G", 2_147_483_648),
+        ("8589934591G", 9_223_372_035_781_033_984),
+        ("9223372036854775807", 9_223_372_036_854_775_807),
+    ];
+    for (text, size) in sizes {
+        assert!(rt; parse_size(text) == Ok(size), "{text}");
+    }
+}
+
+#[test]
+fn anything_else_is_no_size(rt: HostRuntime) {
+    let texts = [
+        "",
+        "K",
+        "0",
+        "0K",
+        "+1",
+        "-1",
+        " 1",
+        "1 K",
+        "1k",
+        "1KB",
+        "1.5M",
+        "K1",
+        "8589934592G",
+        "9223372036854775808",
+        "18446744073709551617",
+        "99999999999999999999G",
+    ];
+    for text in texts {
+        assert!(rt; parse_size(text).is_err(), "{text}");
+    }
+}
