@@ -11,6 +11,7 @@ pub mod Contexts
 pub mod Copies
 pub mod Counts
 pub mod Ends
+pub mod Failed
 pub mod Generator
 pub mod Handles
 pub mod Looks

@@ -34,3 +34,17 @@ impl From<OutOfMemory> for PipeError {
         PipeError::Memory
     }
 }
+
+/// So that `?` takes a failed call of the pipe to an `io::Result`: want of memory by its kind, and the error of a source or destination as it is.
+impl From<PipeError> for io::Error {
+    ghost use Rattle.piper.specs.Failed.{TellsFailure};
+
+    ghost from_gives = { λ failed error. TellsFailure failed error };
+
+    fn from(failed: PipeError) -> io::Error {
+        match failed {
+            PipeError::Memory => io::Error::from(io::ErrorKind::OutOfMemory),
+            PipeError::Io(error) => error,
+        }
+    }
+}

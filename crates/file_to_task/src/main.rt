@@ -1,0 +1,90 @@
+//! A thread reads a file into a pipe, and a task counts its lines as they come. The thread may wait for the file; the task is only polled, and sleeps while nothing is there.
+#![tactic(auto)]
+
+ghost use Rattle.std.specs.Prelude.{◌≡◌};
+ghost use Rattle.piper.specs.Handles.{read_source, write_source};
+
+use futures::Future;
+use futures::executor::block_on;
+use futures::task::{Context, Poll};
+use piper::{OutOfMemory, OwnedWriter, Reader, Writer, pipe};
+use std::fs;
+use std::io::{self, Read};
+use std::sync::Wait;
+use std::thread;
+
+/// Fills the pipe with what a file holds.
+#[derive(Drop)]
+struct Fill<'a, H: Wait + Clone + Drop, F: Read + Drop> {
+    writer: &'a mut Writer<H>,
+    file: F,
+}
+
+impl<H: Wait + Clone + Drop, F: Read + Drop> Future for Fill<'_, H, F> {
+    type Output = io::Result<()>;
+
+    ghost needs = { λ future s. s ≡ write_source future.writer.now };
+
+    fn poll(&mut self, cx: &mut Context<'_>) -> Poll<io::Result<()>> {
+        match self.writer.poll_fill(cx, &mut self.file) {
+            Poll::Pending => Poll::Pending,
+            Poll::Ready(Err(failed)) => Poll::Ready(Err(failed.into())),
+            Poll::Ready(Ok(0)) => Poll::Ready(Ok(())),
+            Poll::Ready(Ok(_)) => cx.yield_now(),
+        }
+    }
+}
+
+/// Counts the lines of what comes, up to the pipe's end.
+#[derive(Drop)]
+struct CountLines<'a, H: Wait + Clone + Drop> {
+    reader: &'a mut Reader<H>,
+    count: u64,
+}
+
+impl<H: Wait + Clone + Drop> CountLines<'_, H> {
+    // Takes the bytes that are there in one piece.
+    fn take(&mut self) {
+        let piece = self.reader.peek_buf();
+        let lines = piece.iter().filter(|byte| **byte == b'\n').count();
+        let taken = piece.len();
+        self.reader.consume(taken);
+        self.count = self.count.wrapping_add(lines as u64);
+    }
+}
+
+impl<H: Wait + Clone + Drop> Future for CountLines<'_, H> {
+    type Output = Result<u64, OutOfMemory>;
+
+    ghost needs = { λ future s. s ≡ read_source future.reader.now };
+
+    fn poll(&mut self, cx: &mut Context<'_>) -> Poll<Result<u64, OutOfMemory>> {
+        match self.reader.poll(cx) {
+            Poll::Pending => Poll::Pending,
+            Poll::Ready(Err(refused)) => Poll::Ready(Err(refused)),
+            Poll::Ready(Ok(false)) => Poll::Ready(Ok(self.count)),
+            Poll::Ready(Ok(true)) => {
+                self.take();
+                cx.yield_now()
+            }
+        }
+    }
+}
+
+fn main(rt: HostRuntime) -> io::Result<()> {
+    let file = fs::open(&rt, "poem.txt")?;
+    let theirs = rt.clone()?;
+    let (mut reader, writer) = pipe(&rt, rt.alloc(), 64, 1).map_err(|_| io::ErrorKind::OutOfMemory)?;
+    let mut writer = OwnedWriter::new(writer);
+    let child = thread::spawn(&rt, move || {
+        let fill = Fill { writer: writer.get_mut(), file };
+        block_on(&theirs, fill)?
+    });
+    let lines = block_on(&rt, CountLines { reader: &mut reader, count: 0 });
+    reader.drop();
+    child?.join(&rt)?;
+    match lines? {
+        Ok(count) => println!(&rt; "{count} lines"),
+        Err(OutOfMemory) => Err(io::ErrorKind::OutOfMemory.into()),
+    }
+}
