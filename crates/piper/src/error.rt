@@ -8,7 +8,7 @@ use thiserror::Error;
 /// What a copying call may fail with.
 #[derive(Debug, Drop, Error)]
 pub enum PipeError {
-    /// No waker could be made.
+    /// No waker could be made, or no room for bytes that are gathered.
     #[error("out of memory")]
     Memory,
     /// The source or the destination failed, with this error.

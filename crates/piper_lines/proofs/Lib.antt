@@ -1,3 +1,4 @@
+mod Worked
 pub mod Collecting
 pub mod Framing
 pub mod Growing
