@@ -49,6 +49,10 @@ rounds_of_a_fill :
     ≡ (4096 ∷ 12288 ∷ 36864 ∷ 110592 ∷ 36160 ∷ 0 ∷ [])
 rounds_of_a_fill = refl
 
+-- The round of a fill whose source fails at once lends as any first round does: the lend behind it finds 4096 places set.
+lend_behind_a_failure : lengths (writer 200000) (Lend 131072 ∷ Lend 131072 ∷ []) ≡ (4096 ∷ 12288 ∷ [])
+lend_behind_a_failure = refl
+
 -- What the pipe says of the first of these: of 10,000 free places at least 4096 are lent, and then at least 4096 of 5904.
 first_lend_between : (n : ℕ) → Lendable 10000 (fresh 10000) n → (4096 ≤ n) × (n ≤ 10000)
 first_lend_between n lendable =
