@@ -1,14 +1,10 @@
 -- A fill whose pipe is closed between its round and its look: what its source gave is counted, and not published.
-use Rattle.std.specs.Prelude.{◌≡◌, List, [], ◌∷◌, ◌++◌, replicate, true, false, None, refl}
+use Rattle.std.specs.Prelude.{◌≡◌, List, [], ◌∷◌, ◌++◌, true, false, None, refl}
 use Rattle.piper_sides.specs.declared.calls.Side.TheVariants.{Reader, Writer}
-use Rattle.piper_sides.specs.declared.calls.Call.TheVariants as call
 use Rattle.piper_sides.specs.declared.calls.Kind.TheVariants as kind
-use Rattle.piper_sides.specs.declared.calls.Step.TheVariants.{Begin, Go}
 use Rattle.piper_sides.specs.declared.events.Event.{Event}
-use Rattle.piper_sides.specs.declared.events.Event.TheVariants.{Began, Looked, Published, Closed, Answered}
+use Rattle.piper_sides.specs.declared.events.Event.TheVariants.{Began, Looked, Published, Closed}
 use Rattle.piper_sides.specs.declared.events.Seen.TheVariants as seen
-use Rattle.piper_sides.specs.declared.events.Answer.TheVariants as answer
-use Rattle.piper_machine.specs.Pipe.{fresh}
 use Rattle.piper_machine.specs.End.{saw_closed}
 use Rattle.piper_machine.specs.Heed.{IsHeeded}
 
