@@ -68,7 +68,7 @@ no_byte xs h = none_left xs (rw h refl)
 -- what tells nothing of an end
 
 abbrev pub Quiet : Bool → Bool → List Event → Type 0
-Quiet saw ended es = IsFinalFrom saw ended es × (ended_from saw ended es ≡ ended) × (saw_closed_from saw es ≡ saw)
+Quiet saw ended es = IsFinalFrom saw ended es × (ended_from saw ended es ≡ ended) × (saw_closed_from Reader saw es ≡ saw)
 
 module _ (saw ended : Bool) where
   registration-quiet : (side : Side) (granted : Bool) (name : ℕ) → Quiet saw ended (registration side granted name)
@@ -151,7 +151,7 @@ unlinked (Some flag) saw unloaded = absurd (cc)
 abbrev pub Sees : Bool → Pipe → Type 0
 Sees saw p = (saw ≡ true → p.is_closed ≡ true) × IsLinked (loaded p.reader) saw
 
-pub reader-sees : (saw : Bool) (p : Pipe) (closed : saw ≡ true → p.is_closed ≡ true) (place : ReadPlace) → IsLinked (loaded place) saw → Sees (saw_closed_from saw (logged_at place p)) (reader_after place p)
+pub reader-sees : (saw : Bool) (p : Pipe) (closed : saw ≡ true → p.is_closed ≡ true) (place : ReadPlace) → IsLinked (loaded place) saw → Sees (saw_closed_from Reader saw (logged_at place p)) (reader_after place p)
 reader-sees saw p closed at.Idle link = (closed, tt)
 reader-sees saw p closed at.Dropped link = (closed, tt)
 reader-sees saw p closed (at.QueryHead query) link = (closed, tt)

@@ -172,7 +172,7 @@ may-unnamed (on.CallSource form sum) lent names p may = offers p.source may
     offers [] may = tt
     offers (source.Fail ∷ acts) may = tt
     offers (source.Bytes [] ∷ acts) may = tt
-    offers (source.Bytes (byte ∷ bytes) ∷ acts) may = record { at_most = may.at_most; at_least = may.at_least; shut = may.shut }
+    offers (source.Bytes (byte ∷ bytes) ∷ acts) may = record { at_most = may.at_most; at_least = may.at_least; some = may.some; shut = may.shut }
 may-unnamed place lent names p may = tt
 
 writer_step : (lent : List ℕ) (p : Pipe) (names : List ℕ) → state_of Writer p ≡ Busy → Stands Writer p → MayOffer p.writer p.source lent (named names p) → let made = stepped lent (Go Writer) (named names p) in IsHeard Writer p names made made.answer

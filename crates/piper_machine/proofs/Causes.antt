@@ -104,75 +104,87 @@ writer-ended offered (on.StoreClosed behind.Drop) p h = inl refl
 writer-ended offered (on.StoreClosed behind.WakeWriter) p h = inr refl
 writer-ended offered place p h = elim h [ inl leaves ↦ absurd (cc) | inr shut ↦ inr shut ]
 
--- where the writer comes to it does not store closed
-open-known : (is_closed none : Bool) (l : Purpose) → is_known (writer_is_open is_closed none l).place ≡ true
-open-known true none l = refl
-open-known false true l = refl
-open-known false false purpose.Poll = refl
-open-known false false (purpose.Copy Try) = refl
-open-known false false (purpose.Copy (Polling is_drawn)) = refl
+-- a step leads to a place that stores nothing, but for a round's
+abbrev pub is_ordinary : WritePlace → Bool
+is_ordinary (on.StoreTail n next) = false
+is_ordinary (on.StoreClosed next) = false
+is_ordinary place = true
 
-looks-known : (none : Bool) (l : Purpose) → is_known (writer_looked none l) ≡ true
-looks-known true purpose.Poll = refl
-looks-known false purpose.Poll = refl
-looks-known true (purpose.Copy Try) = refl
-looks-known false (purpose.Copy Try) = refl
-looks-known true (purpose.Copy (Polling is_drawn)) = refl
-looks-known false (purpose.Copy (Polling is_drawn)) = refl
+pub open-ordinary : (is_closed none : Bool) (l : Purpose) → is_ordinary (writer_is_open is_closed none l).place ≡ true
+open-ordinary true none l = refl
+open-ordinary false true l = refl
+open-ordinary false false purpose.Poll = refl
+open-ordinary false false (purpose.Copy Try) = refl
+open-ordinary false false (purpose.Copy (Polling is_drawn)) = refl
 
-registers-known : (granted : Bool) (l : Purpose) → is_known (writer_registered granted l).place ≡ true
-registers-known true l = refl
-registers-known false l = refl
+pub looks-ordinary : (none : Bool) (l : Purpose) → is_ordinary (writer_looked none l) ≡ true
+looks-ordinary true purpose.Poll = refl
+looks-ordinary false purpose.Poll = refl
+looks-ordinary true (purpose.Copy Try) = refl
+looks-ordinary false (purpose.Copy Try) = refl
+looks-ordinary true (purpose.Copy (Polling is_drawn)) = refl
+looks-ordinary false (purpose.Copy (Polling is_drawn)) = refl
 
-again-known : (none : Bool) (l : Purpose) → is_known (writer_looked_again none l) ≡ true
-again-known true l = refl
-again-known false purpose.Poll = refl
-again-known false (purpose.Copy Try) = refl
-again-known false (purpose.Copy (Polling is_drawn)) = refl
+pub registers-ordinary : (granted : Bool) (l : Purpose) → is_ordinary (writer_registered granted l).place ≡ true
+registers-ordinary true l = refl
+registers-ordinary false l = refl
 
-draws-known : (form : Form) → is_known (writer_draws form) ≡ true
-draws-known Try = refl
-draws-known (Polling true) = refl
-draws-known (Polling false) = refl
+pub again-ordinary : (none : Bool) (l : Purpose) → is_ordinary (writer_looked_again none l) ≡ true
+again-ordinary true l = refl
+again-ordinary false purpose.Poll = refl
+again-ordinary false (purpose.Copy Try) = refl
+again-ordinary false (purpose.Copy (Polling is_drawn)) = refl
 
-moved-known : (none : Bool) (n : ℕ) (form : Form) (sum : ℕ) → is_known (writer_moved none n form sum).place ≡ true
-moved-known true n form sum = refl
-moved-known false n form sum = refl
+pub draws-ordinary : (form : Form) → is_ordinary (writer_draws form) ≡ true
+draws-ordinary Try = refl
+draws-ordinary (Polling true) = refl
+draws-ordinary (Polling false) = refl
 
-round-known : (given : Result ℕ Failed) (capacity room : ℕ) (form : Form) (sum : ℕ) → is_known (write_after capacity room (on.CallSource form sum) (found_of given)).place ≡ true
-round-known (Ok n) capacity room form sum = moved-known (n == 0) n form sum
-round-known (Err fails) capacity room form sum = refl
+pub moved-ordinary : (none : Bool) (n : ℕ) (form : Form) (sum : ℕ) → is_ordinary (writer_moved none n form sum).place ≡ true
+moved-ordinary true n form sum = refl
+moved-ordinary false n form sum = refl
+
+pub round-ordinary : (given : Result ℕ Failed) (capacity room : ℕ) (form : Form) (sum : ℕ) → is_ordinary (write_after capacity room (on.CallSource form sum) (found_of given)).place ≡ true
+round-ordinary (Ok n) capacity room form sum = moved-ordinary (n == 0) n form sum
+round-ordinary (Err fails) capacity room form sum = refl
+
+pub done-ordinary : (next : AfterWrite) → is_ordinary (write_done next).place ≡ true
+done-ordinary behind.Answer = refl
+done-ordinary behind.Drop = refl
+done-ordinary behind.WakeWriter = refl
+done-ordinary (behind.Round form sum) = refl
+
+pub take-ordinary : (next : AfterWrite) (is_found : Bool) → is_ordinary (reader_taken next is_found).place ≡ true
+take-ordinary next false = done-ordinary next
+take-ordinary next true = refl
+
+pub own-ordinary : (is_found : Bool) → is_ordinary (own_taken is_found).place ≡ true
+own-ordinary false = refl
+own-ordinary true = refl
+
+ordinary-known : (place : WritePlace) → is_ordinary place ≡ true → is_known place ≡ true
+ordinary-known (on.StoreClosed behind.Answer) ordinary = absurd (cc)
+ordinary-known (on.StoreClosed (behind.Round form sum)) ordinary = absurd (cc)
+ordinary-known (on.StoreClosed behind.Drop) ordinary = refl
+ordinary-known (on.StoreClosed behind.WakeWriter) ordinary = refl
+ordinary-known place ordinary = refl
 
 rounds-known : (is_closed : Bool) (n : ℕ) (form : Form) (sum : ℕ) → is_known (writer_rounds is_closed n form sum).place ≡ true
 rounds-known true n form sum = refl
 rounds-known false n form sum = refl
 
-done-known : (next : AfterWrite) → is_known (write_done next).place ≡ true
-done-known behind.Answer = refl
-done-known behind.Drop = refl
-done-known behind.WakeWriter = refl
-done-known (behind.Round form sum) = refl
-
-take-known : (next : AfterWrite) (is_found : Bool) → is_known (reader_taken next is_found).place ≡ true
-take-known next false = done-known next
-take-known next true = refl
-
-own-known : (is_found : Bool) → is_known (own_taken is_found).place ≡ true
-own-known false = refl
-own-known true = refl
-
 pub writer-known : (offered : List ℕ) (place : WritePlace) (p : Pipe) → is_known (writer_after offered place p).writer ≡ true
-writer-known offered (on.LookClosed l) p = open-known p.is_closed (p.room == 0) l
-writer-known offered (on.LookHead l) p = looks-known (p.capacity - length p.unread == 0) l
-writer-known offered (on.LookRegister l) p = registers-known (is_granted p.writer_call.context) l
-writer-known offered (on.LookHeadAgain l) p = again-known (p.capacity - length p.unread == 0) l
+writer-known offered (on.LookClosed l) p = ordinary-known (writer_is_open p.is_closed (p.room == 0) l).place (open-ordinary p.is_closed (p.room == 0) l)
+writer-known offered (on.LookHead l) p = ordinary-known (writer_looked (p.capacity - length p.unread == 0) l) (looks-ordinary (p.capacity - length p.unread == 0) l)
+writer-known offered (on.LookRegister l) p = ordinary-known (writer_registered (is_granted p.writer_call.context) l).place (registers-ordinary (is_granted p.writer_call.context) l)
+writer-known offered (on.LookHeadAgain l) p = ordinary-known (writer_looked_again (p.capacity - length p.unread == 0) l) (again-ordinary (p.capacity - length p.unread == 0) l)
 writer-known offered (on.LookTake purpose.Poll) p = refl
-writer-known offered (on.LookTake (purpose.Copy form)) p = draws-known form
-writer-known offered (on.CallSource form sum) p = round-known (given (length offered) p.source) p.capacity p.room form sum
+writer-known offered (on.LookTake (purpose.Copy form)) p = ordinary-known (writer_draws form) (draws-ordinary form)
+writer-known offered (on.CallSource form sum) p = ordinary-known (write_after p.capacity p.room (on.CallSource form sum) (found_of (given (length offered) p.source))).place (round-ordinary (given (length offered) p.source) p.capacity p.room form sum)
 writer-known offered (on.RoundClosed n form sum) p = rounds-known p.is_closed n form sum
-writer-known offered (on.TakeReader next) p = take-known next (is_some p.reader_waker)
-writer-known offered (on.WakeReader next) p = done-known next
-writer-known offered on.TakeWriter p = own-known (is_some p.writer_waker)
+writer-known offered (on.TakeReader next) p = ordinary-known (reader_taken next (is_some p.reader_waker)).place (take-ordinary next (is_some p.reader_waker))
+writer-known offered (on.WakeReader next) p = ordinary-known (write_done next).place (done-ordinary next)
+writer-known offered on.TakeWriter p = ordinary-known (own_taken (is_some p.writer_waker)).place (own-ordinary (is_some p.writer_waker))
 writer-known offered place p = refl
 
 pub writer-caused : (offered : List ℕ) (place : WritePlace) (p : Pipe) → is_known place ≡ true → (p.is_closed ≡ true → IsCaused (record p { writer = place })) → (writer_after offered place p).is_closed ≡ true → IsCaused (writer_after offered place p)

@@ -25,23 +25,23 @@ ended_after saw ended event = ended
 
 abbrev pub ended_from : Bool → Bool → List Event → Bool
 ended_from saw ended [] = ended
-ended_from saw ended (e ∷ es) = ended_from (saw_closed_after saw e) (ended_after saw ended e) es
+ended_from saw ended (e ∷ es) = ended_from (saw_closed_after Reader saw e) (ended_after saw ended e) es
 
 abbrev pub IsFinalFrom : Bool → Bool → List Event → Type 0
 IsFinalFrom saw ended [] = ⊤
-IsFinalFrom saw ended (e ∷ es) = (ended ≡ true → IsBehindEnd e) × IsFinalFrom (saw_closed_after saw e) (ended_after saw ended e) es
+IsFinalFrom saw ended (e ∷ es) = (ended ≡ true → IsBehindEnd e) × IsFinalFrom (saw_closed_after Reader saw e) (ended_after saw ended e) es
 
-pub saw-append : (saw : Bool) (es fs : List Event) → saw_closed_from saw (es ++ fs) ≡ saw_closed_from (saw_closed_from saw es) fs
+pub saw-append : (saw : Bool) (es fs : List Event) → saw_closed_from Reader saw (es ++ fs) ≡ saw_closed_from Reader (saw_closed_from Reader saw es) fs
 saw-append saw [] fs = refl
-saw-append saw (e ∷ es) fs = saw-append (saw_closed_after saw e) es fs
+saw-append saw (e ∷ es) fs = saw-append (saw_closed_after Reader saw e) es fs
 
-pub ended-append : (saw ended : Bool) (es fs : List Event) → ended_from saw ended (es ++ fs) ≡ ended_from (saw_closed_from saw es) (ended_from saw ended es) fs
+pub ended-append : (saw ended : Bool) (es fs : List Event) → ended_from saw ended (es ++ fs) ≡ ended_from (saw_closed_from Reader saw es) (ended_from saw ended es) fs
 ended-append saw ended [] fs = refl
-ended-append saw ended (e ∷ es) fs = ended-append (saw_closed_after saw e) (ended_after saw ended e) es fs
+ended-append saw ended (e ∷ es) fs = ended-append (saw_closed_after Reader saw e) (ended_after saw ended e) es fs
 
-pub final-append : (saw ended : Bool) (es fs : List Event) → IsFinalFrom saw ended es → IsFinalFrom (saw_closed_from saw es) (ended_from saw ended es) fs → IsFinalFrom saw ended (es ++ fs)
+pub final-append : (saw ended : Bool) (es fs : List Event) → IsFinalFrom saw ended es → IsFinalFrom (saw_closed_from Reader saw es) (ended_from saw ended es) fs → IsFinalFrom saw ended (es ++ fs)
 final-append saw ended [] fs first then = then
-final-append saw ended (e ∷ es) fs first then = (first.0, final-append (saw_closed_after saw e) (ended_after saw ended e) es fs first.1 then)
+final-append saw ended (e ∷ es) fs first then = (first.0, final-append (saw_closed_after Reader saw e) (ended_after saw ended e) es fs first.1 then)
 
 -- what that says of every place of a log
 
@@ -58,16 +58,16 @@ still-ended saw e = refl
 behind-end : (saw : Bool) (es : List Event) → IsFinalFrom saw true es → All IsBehindEnd es × (ended_from saw true es ≡ true)
 behind-end saw [] h = (All-nil IsBehindEnd, refl)
 behind-end saw (e ∷ es) h =
-    let on = behind-end (saw_closed_after saw e) es (subst (λ (b : Bool). IsFinalFrom (saw_closed_after saw e) b es) (still-ended saw e) h.1) in
-    (All-cons IsBehindEnd e es (h.0 refl) on.0, ap (λ (b : Bool). ended_from (saw_closed_after saw e) b es) (still-ended saw e) ∙ on.1)
+    let on = behind-end (saw_closed_after Reader saw e) es (subst (λ (b : Bool). IsFinalFrom (saw_closed_after Reader saw e) b es) (still-ended saw e) h.1) in
+    (All-cons IsBehindEnd e es (h.0 refl) on.0, ap (λ (b : Bool). ended_from (saw_closed_after Reader saw e) b es) (still-ended saw e) ∙ on.1)
 
 -- behind an event with which an end was found
-pub final-behind : (saw ended : Bool) (before after : List Event) (e : Event) → ended_after (saw_closed_from saw before) (ended_from saw ended before) e ≡ true
+pub final-behind : (saw ended : Bool) (before after : List Event) (e : Event) → ended_after (saw_closed_from Reader saw before) (ended_from saw ended before) e ≡ true
     → IsFinalFrom saw ended (before ++ e ∷ after) → All IsBehindEnd after × (ended_from saw ended (before ++ e ∷ after) ≡ true)
 final-behind saw ended [] after e here h =
-    let on = behind-end (saw_closed_after saw e) after (subst (λ (b : Bool). IsFinalFrom (saw_closed_after saw e) b after) here h.1) in
-    (on.0, ap (λ (b : Bool). ended_from (saw_closed_after saw e) b after) here ∙ on.1)
-final-behind saw ended (first ∷ before) after e here h = final-behind (saw_closed_after saw first) (ended_after saw ended first) before after e here h.1
+    let on = behind-end (saw_closed_after Reader saw e) after (subst (λ (b : Bool). IsFinalFrom (saw_closed_after Reader saw e) b after) here h.1) in
+    (on.0, ap (λ (b : Bool). ended_from (saw_closed_after Reader saw e) b after) here ∙ on.1)
+final-behind saw ended (first ∷ before) after e here h = final-behind (saw_closed_after Reader saw first) (ended_after saw ended first) before after e here h.1
 
 -- a look that finds none behind one that saw the pipe closed is such an event
 pub found-here : (saw ended : Bool) → saw ≡ true → ended_after saw ended found_none ≡ true

@@ -257,7 +257,7 @@ called acts rest found p q w r answer calls filling lendable lent given_is found
     let u = giving acts q in
     let step = call-step q.writer w.lent u calls in
     let answer_is : (fill_step q.writer w.lent u).answer ≡ answer = step.answer ∙ ap (λ (f : Found). round_answer f u) found_is ∙ ap (round_answer found) (sym lent) ∙ sym round.answer_is in
-    let may = may-call q.writer acts w.lent u (record { at_most = lendable.at_most; at_least = lendable.at_least; shut = lendable.shut }) in
+    let may = may-call q.writer acts w.lent u (record { at_most = lendable.at_most; at_least = lendable.at_least; some = lendable.some; shut = lendable.shut }) in
     let pipe : (fill_step q.writer w.lent u).pipe ≡ giving (source_after answer rest) r =
     step.pipe
     ∙ ap (λ (f : Found). round_left f (source_called (lending w.lent u))) found_is

@@ -151,7 +151,7 @@ module _ (p : Pipe) (saw ended : Bool) (h : Lasts p saw ended) where
   fills l context source idle = writer-opens (on.LookClosed l) (called_with context) source idle refl
 
 abbrev Adds : Bool → Bool → Stepped → Type 0
-Adds saw ended new = IsFinalFrom saw ended new.events × Lasts new.pipe (saw_closed_from saw new.events) (ended_from saw ended new.events)
+Adds saw ended new = IsFinalFrom saw ended new.events × Lasts new.pipe (saw_closed_from Reader saw new.events) (ended_from saw ended new.events)
 
 begin-lasts : (lent : List ℕ) (c : Call) (p : Pipe) (saw ended : Bool) → IsSound p → refusal_of (Begin c) p ≡ None → Lasts p saw ended → Adds saw ended (stepped lent (Begin c) p)
 begin-lasts lent (call.Len Reader) p saw ended sound accepted h = ((λ t. tt, tt), reader-opens p saw ended h (at.QueryHead Len) p.reader_call p.destination (reader-idle p.reader _ accepted) (λ empty. refl) refl)
@@ -178,15 +178,15 @@ begin-lasts lent call.Close p saw ended sound accepted h = ((λ t. tt, tt), writ
 begin-lasts lent (call.Drop Writer) p saw ended sound accepted h = ((λ t. tt, tt), writer-opens p saw ended h (on.StoreClosed behind.Drop) p.writer_call p.source (writer-idle p.writer _ accepted) refl)
 
 -- the events of the answer behind those of the action
-adds : (saw ended : Bool) (es fs : List Event) (q : Pipe) → IsFinalFrom saw ended es → IsFinalFrom (saw_closed_from saw es) (ended_from saw ended es) fs
-    → Lasts q (saw_closed_from (saw_closed_from saw es) fs) (ended_from (saw_closed_from saw es) (ended_from saw ended es) fs)
-    → IsFinalFrom saw ended (es ++ fs) × Lasts q (saw_closed_from saw (es ++ fs)) (ended_from saw ended (es ++ fs))
+adds : (saw ended : Bool) (es fs : List Event) (q : Pipe) → IsFinalFrom saw ended es → IsFinalFrom (saw_closed_from Reader saw es) (ended_from saw ended es) fs
+    → Lasts q (saw_closed_from Reader (saw_closed_from Reader saw es) fs) (ended_from (saw_closed_from Reader saw es) (ended_from saw ended es) fs)
+    → IsFinalFrom saw ended (es ++ fs) × Lasts q (saw_closed_from Reader saw (es ++ fs)) (ended_from saw ended (es ++ fs))
 adds saw ended es fs q first then lasts = (
   final-append saw ended es fs first then,
-  subst (λ (b : Bool). Lasts q b (ended_from saw ended (es ++ fs))) (sym (saw-append saw es fs)) (subst (λ (b : Bool). Lasts q (saw_closed_from (saw_closed_from saw es) fs) b) (sym (ended-append saw ended es fs)) lasts),
+  subst (λ (b : Bool). Lasts q b (ended_from saw ended (es ++ fs))) (sym (saw-append saw es fs)) (subst (λ (b : Bool). Lasts q (saw_closed_from Reader (saw_closed_from Reader saw es) fs) b) (sym (ended-append saw ended es fs)) lasts),
 )
 
-answers-saw : (saw : Bool) (answer : Option Answer) → saw_closed_from saw (answer_event Reader answer) ≡ saw
+answers-saw : (saw : Bool) (answer : Option Answer) → saw_closed_from Reader saw (answer_event Reader answer) ≡ saw
 answers-saw saw None = refl
 answers-saw saw (Some answer) = refl
 
@@ -196,13 +196,13 @@ step-lasts lent (Go Reader) p saw ended sound accepted seen h =
     let es = logged_of Reader (read_action p.reader) p in
     let to = went Reader p in
     let logs = reader-logs saw ended p h.sees.0 p.reader h.sees.1 h.caused h.over in
-    let ends = reader-ends (saw_closed_from saw es) (ended_from saw ended es) p p.reader seen h.caused logs.1 in
+    let ends = reader-ends (saw_closed_from Reader saw es) (ended_from saw ended es) p p.reader seen h.caused logs.1 in
     let sees = reader-sees saw p h.sees.0 p.reader h.sees.1 in
     adds saw ended es (answer_event Reader to.answer) to.pipe logs.0 ends.0 (record {
       known = rw (reader_leaves (read_action p.reader) p).0 h.known;
       caused = reader-caused p.reader p h.caused;
       over = ends.1;
-      sees = subst (λ (b : Bool). Sees b to.pipe) (sym (answers-saw (saw_closed_from saw es) to.answer)) sees;
+      sees = subst (λ (b : Bool). Sees b to.pipe) (sym (answers-saw (saw_closed_from Reader saw es) to.answer)) sees;
     })
 step-lasts lent (Go Writer) p saw ended sound accepted seen h =
     let action = write_action p.writer in
@@ -211,7 +211,7 @@ step-lasts lent (Go Writer) p saw ended sound accepted seen h =
     let to = went Writer offered in
     let unlent : (n : ℕ) → action ≡ does.StoreTail n → ended ≡ true → offered.lent ≡ [] = λ n e t. publishes-lent p.writer n lent p.lent e ∙ none_lent p sound (writer-publishes p.writer n e) (h.over t).ended in
     let logs = writer-logs saw ended offered (λ t. (h.over t).unread) (λ t. (h.over t).closed) action unlent in
-    let answers = writer-answers (saw_closed_from saw es) (ended_from saw ended es) to.answer in
+    let answers = writer-answers (saw_closed_from Reader saw es) (ended_from saw ended es) to.answer in
     let leaves = (writer_leaves-reader action offered (writer_never-head p.writer)).0 in
     let sees : Sees saw to.pipe = (λ closed. writer-flag action offered (h.sees.0 closed), subst (λ (place : ReadPlace). IsLinked (loaded place) saw) (sym leaves) h.sees.1) in
     adds saw ended es (answer_event Writer to.answer) to.pipe logs.0 answers.0 (record {
@@ -225,20 +225,20 @@ step-lasts lent (Put offset byte) p saw ended sound accepted seen h = (tt, lends
 -- what that says of every list of steps
 
 pub record Final (p : Pipe) (events : List Event) : Type 0 where
-  pub lasts : Lasts p (saw_closed events) (ended_from false false events)
+  pub lasts : Lasts p (saw_closed Reader events) (ended_from false false events)
   pub so_far : IsFinalFrom false false events
   pub final : IsFinal p events
 
-final : (p : Pipe) (events : List Event) → Lasts p (saw_closed events) (ended_from false false events) → IsFinalFrom false false events → Final p events
+final : (p : Pipe) (events : List Event) → Lasts p (saw_closed Reader events) (ended_from false false events) → IsFinalFrom false false events → Final p events
 final p events lasts so_far = record { lasts = lasts; so_far = so_far; final = record { found = found; told = told } }
   where
-    over : (before after : List Event) (e : Event) → events ≡ before ++ e ∷ after → ended_after (saw_closed before) (ended_from false false before) e ≡ true → IsOver p after
+    over : (before after : List Event) (e : Event) → events ≡ before ++ e ∷ after → ended_after (saw_closed Reader before) (ended_from false false before) e ≡ true → IsOver p after
     over before after e parts here =
         let behind = final-behind false false before after e here (subst (λ (es : List Event). IsFinalFrom false false es) parts so_far) in
         (behind.0, (lasts.over (ap (λ (es : List Event). ended_from false false es) parts ∙ behind.1)).unread)
 
-    found : (before after : List Event) → events ≡ before ++ found_none ∷ after → saw_closed before ≡ true → IsOver p after
-    found before after parts seen = over before after found_none parts (found-here (saw_closed before) (ended_from false false before) seen)
+    found : (before after : List Event) → events ≡ before ++ found_none ∷ after → saw_closed Reader before ≡ true → IsOver p after
+    found before after parts seen = over before after found_none parts (found-here (saw_closed Reader before) (ended_from false false before) seen)
 
     told : (before after : List Event) → events ≡ before ++ told_end ∷ after → IsOver p after
     told before after parts = over before after told_end parts refl
@@ -250,7 +250,7 @@ pub final_more : (p q : Pipe) (s : Step) (before after : List Event) → IsSound
 final_more p q s before after sound honest kept made =
     let new = stepped q.lent s p in
     let es = before ++ new.events in
-    let on = step-lasts q.lent s p (saw_closed before) (ended_from false false before) sound made.accepted honest.aware.saw kept.lasts in
+    let on = step-lasts q.lent s p (saw_closed Reader before) (ended_from false false before) sound made.accepted honest.aware.saw kept.lasts in
     let added = adds false false before new.events new.pipe kept.so_far on.0 on.1 in
     let next : Final new.pipe es = final new.pipe es added.1 added.0 in
     subst (λ (fs : List Event). Final q fs) (sym made.made.events) (subst (λ (x : Pipe). Final x es) (sym made.made.pipe) next)

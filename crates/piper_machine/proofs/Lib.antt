@@ -39,4 +39,5 @@ pub mod Telling
 pub mod ReaderAnswers
 pub mod WriterAnswers
 pub mod Answering
+pub mod Heeding
 pub mod Fronts

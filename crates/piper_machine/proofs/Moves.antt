@@ -1,5 +1,5 @@
 -- A machine after one of its sides has moved, or a lent place was written: it is a machine again, and which pipe it stands for.
-use Rattle.std.proofs.Common.{◌≡◌, ◌==◌, ◌+◌, ◌-◌, ◌*◌, ◌<◌, ◌≤◌, ℕ, List, ◌++◌, take, drop, length, inl, inr, refl, sym, ap, ◌∙◌, arith, length-take-le}
+use Rattle.std.proofs.Common.{◌≡◌, ◌==◌, ◌+◌, ◌-◌, ◌*◌, ◌<◌, ◌≤◌, ℕ, List, ◌++◌, take, drop, length, min, false, inl, inr, refl, sym, ap, ◌∙◌, arith, length-take-le}
 use Rattle.std.proofs.lemmas.List.{drop-take, drop-drop, take-take, drop_at}
 use Rattle.std.proofs.lemmas.Bool.{cases_lt}
 use Rattle.std.proofs.Math.Seq.{take-append-add}
@@ -11,7 +11,7 @@ use Rattle.piper_sides.specs.declared.table.ReadPlace.{ReadPlace}
 use Rattle.piper_sides.specs.declared.table.WritePlace.{WritePlace}
 use Rattle.piper_sides.specs.Index.{distance, place_of, advanced}
 use Rattle.piper_machine.specs.Places.{places_left}
-use Rattle.piper_machine.specs.Lend.{Lendable}
+use Rattle.piper_machine.specs.Lend.{Lendable, lend_limit}
 use Rattle.piper_machine.specs.Move.{published, consumed}
 use Rattle.piper_sides.specs.Table.{write_after, refreshed}
 use Rattle.piper_sides.specs.Side.{Reading, Writing, known_of, room_of, left_of, lend_length}
@@ -22,7 +22,7 @@ use Rattle.piper_machine.proofs.Indices.{distance-advanced_to, distance-advanced
 use Rattle.piper_machine.proofs.Between.{between-advanced_tail, between-advanced_head, between-written, between-set}
 use Rattle.piper_machine.proofs.Ring.{slice-set, slice-written}
 use Rattle.std.proofs.Math.ListN.{set}
-use Rattle.piper_machine.proofs.Soundness.{tail_below, length-unread, end_place-of, place-same}
+use Rattle.piper_machine.proofs.Soundness.{sound, some_lent, tail_below, length-unread, end_place-of, place-same}
 
 -- the reader has seen where the tail stands
 module _ (m : Inside) (i : IsMachine m) (r : Reading) (place : ReadPlace) (call : OpenCall) (destination : Destination) (is : r ≡ record m.read { tail = m.write.tail; place = place }) where
@@ -60,9 +60,11 @@ lend_length-Lendable m i most =
     let e = end_place-of m i in
     let same = place-same m i in
     let left : places_left (pipe_of m) ≡ left_of m.write = omega (arith, i.capacity) in
+    let enough : (pipe_of m).is_shut ≡ false → min 4096 (lend_limit most (pipe_of m)) ≤ lend_length most m.write = λ is_open. rw (left, is_open) (omega arith) in
     record {
       at_most = grind (arith, nat_tests, left);
-      at_least = λ is_open. rw (left, is_open) (omega arith);
+      at_least = enough;
+      some = λ is_open asked known. some_lent most (pipe_of m) (lend_length most m.write) (sound m i (pipe_of m) refl) asked known (enough is_open);
       shut = λ is_shut. rw is_shut refl;
     }
 

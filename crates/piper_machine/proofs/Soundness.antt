@@ -1,8 +1,10 @@
 -- A machine whose invariant holds stands for a sound pipe.
-use Rattle.std.proofs.Common.{◌≡◌, ◌+◌, ◌<◌, ◌≤◌, ◌*◌, ℕ, take, drop, length, sym, ap, ◌∙◌, subst, arith, length-take-le, length-drop}
+use Rattle.std.proofs.Common.{◌≡◌, ◌+◌, ◌<◌, ◌≤◌, ◌*◌, ◌-◌, min, ℕ, take, drop, length, sym, ap, ◌∙◌, subst, arith, length-take-le, length-drop}
 use Rattle.piper_sides.specs.Index.{distance, place_of}
 use Rattle.piper_machine.specs.Pipe.{Pipe}
-use Rattle.piper_machine.specs.Places.{end_place}
+use Rattle.std.proofs.lemmas.Bool.Decides.{nat_tests}
+use Rattle.piper_machine.specs.Lend.{lend_limit}
+use Rattle.piper_machine.specs.Places.{end_place, places_left}
 use Rattle.piper_machine.specs.Sound.{IsSound}
 use Rattle.piper_machine.specs.Machine.{pipe_of, IsMachine}
 use Rattle.piper_machine.specs.declared.machine.Machine.TheInside.{Inside}
@@ -55,3 +57,13 @@ module _ (m : Inside) (i : IsMachine m) where
 
   pub sound : (p : Pipe) → pipe_of m ≡ p → IsSound p
   sound p e = subst IsSound e sound_of
+
+-- of a sound pipe something is lent, wherever something is asked for and room is known
+place_left : (capacity place : ℕ) → place < 2 * capacity → 1 ≤ capacity - place_of capacity place
+place_left capacity place below = grind (arith, nat_tests)
+
+pub some_lent : (most : ℕ) (p : Pipe) (n : ℕ) → IsSound p → 1 ≤ most → 1 ≤ p.room → min 4096 (lend_limit most p) ≤ n → 1 ≤ n
+some_lent most p n sound asked known least =
+    let inside : p.start + length p.unread < 2 * p.capacity = omega (arith, sound.start, sound.unread) in
+    let left : 1 ≤ places_left p = place_left p.capacity (p.start + length p.unread) inside in
+    omega arith

@@ -1,11 +1,13 @@
 -- What is left of a source that has given some bytes more.
-use Rattle.std.proofs.Common.{◌≡◌, ℕ, ◌+◌, ◌-◌, ◌<◌, ◌≤◌, List, [], ◌∷◌, length, take, drop, ◌++◌, min, refl, sym, ap, ◌∙◌, arith, length-drop}
+use Rattle.std.proofs.Common.{subst, ◌≡◌, ℕ, ◌+◌, ◌-◌, ◌<◌, ◌≤◌, List, [], ◌∷◌, length, take, drop, ◌++◌, min, refl, sym, ap, ◌∙◌, arith, length-drop}
 use Rattle.std.proofs.lemmas.List.{drop-drop, take-append-drop}
 use Rattle.piper_sides.specs.declared.scripted.SourceAct.{SourceAct}
 use Rattle.piper_sides.specs.declared.scripted.SourceAct.TheVariants as source
 use Rattle.piper_machine.specs.Source.{bytes_of, without}
 use Rattle.piper_machine.specs.Pipe.{Pipe}
-use Rattle.piper_machine.specs.Lend.{lending}
+use Rattle.piper_sides.specs.declared.scripted.TheConstants.{MOST_A_ROUND}
+use Rattle.piper_machine.specs.Lend.{Lendable, lending}
+use Rattle.piper_machine.specs.Places.{places_left}
 use Rattle.piper_machine.specs.Action.{source_called}
 use Rattle.piper_machine.specs.Round.{given, moved_by, unspent, left_of_source}
 
@@ -52,3 +54,18 @@ source-called p q n held rest is count front left =
     let whole : take n (bytes_of p.source) ++ drop n q.lent ≡ q.lent = ap (λ (xs : List ℕ). xs ++ drop n q.lent) (sym front) ∙ take-append-drop n q.lent in
     ap (λ (x : Pipe). record x { source = rest }) is
     ∙ rw moved (rw (whole, ← left) refl)
+
+-- a source that was called was lent places within the bounds
+lendable-after : (most : ℕ) (p q : Pipe) (n : ℕ) → q.room ≡ p.room → q.is_shut ≡ p.is_shut → places_left q ≡ places_left p → Lendable most p n → Lendable most q n
+lendable-after most p q n room shut left lendable = record {
+  at_most = rw (room, left) lendable.at_most;
+  at_least = λ is_open. rw (room, left) (lendable.at_least (sym shut ∙ is_open));
+  some = λ is_open asked known. lendable.some (sym shut ∙ is_open) asked (rw room at known);
+  shut = λ is_shut. lendable.shut (sym shut ∙ is_shut);
+}
+
+pub lent-anew : (p w : Pipe) → Lendable MOST_A_ROUND p (length w.lent) → w ≡ lending w.lent p → Lendable MOST_A_ROUND w (length w.lent)
+lent-anew p w lendable is = subst (λ (x : Pipe). Lendable MOST_A_ROUND x (length w.lent)) (sym is) (lendable-after MOST_A_ROUND p (lending w.lent p) (length w.lent) refl refl refl lendable)
+
+pub lent-called : (p w : Pipe) → Lendable MOST_A_ROUND p (length w.lent) → w ≡ source_called (lending w.lent p) → Lendable MOST_A_ROUND w (length w.lent)
+lent-called p w lendable is = subst (λ (x : Pipe). Lendable MOST_A_ROUND x (length w.lent)) (sym is) (lendable-after MOST_A_ROUND p (source_called (lending w.lent p)) (length w.lent) refl refl refl lendable)

@@ -18,4 +18,5 @@ mod HonestEnd
 mod Waiters
 mod ToldEnd
 mod Fronts
+mod Heeds
 mod WhatCallsAnswer

@@ -31,6 +31,7 @@ pub mod Wait
 pub mod Remembered
 pub mod End
 pub mod Final
+pub mod Heed
 pub mod Told
 pub mod Outcome
 pub mod Answered

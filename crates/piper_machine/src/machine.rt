@@ -7,6 +7,7 @@ ghost use Rattle.piper_machine.specs.Buffer.{written};
 ghost use Rattle.piper_machine.specs.Places.{peeked, peeked_count, IsPeekHeld, IsLentHeld};
 ghost use Rattle.piper_machine.specs.BySteps.{AreWholeBySteps};
 ghost use Rattle.piper_machine.specs.Sound.{IsSound};
+ghost use Rattle.piper_machine.specs.Disjoint.{IsDisjoint};
 ghost use Rattle.piper_machine.specs.Lend.{Lendable, lending};
 
 use crate::destination::Destination;
@@ -133,6 +134,8 @@ impl Machine {
         ensures bytes { result.now ≡ peeked self.now }
         ensures count { length result.now ≡ peeked_count self.now }
         ensures held { IsPeekHeld self.now }
+        ensures sound { IsSound self.now }
+        ensures disjoint { IsDisjoint self.now }
     {
         self.learn();
         let place = self.read.front();
@@ -198,7 +201,10 @@ impl Machine {
     pub fn w_lent(&self) -> &[u8]
         ensures bytes { result.now ≡ self.now.lent }
         ensures held { IsLentHeld self.now }
+        ensures sound { IsSound self.now }
+        ensures disjoint { IsDisjoint self.now }
     {
+        self.learn();
         let place = self.write.front();
         &self.bytes[place..place + self.write.lent()]
     }

@@ -2,8 +2,7 @@
 use Rattle.std.specs.Prelude.{◌≡◌, ℕ, ◌+◌, ◌-◌, ◌*◌, ◌<◌, ◌≤◌, min, List, [], ◌∷◌, length, take, Bool, true, false, if◌then◌else◌, refl}
 use Rattle.std.proofs.Common.{◌∙◌, sym, arith}
 use Rattle.std.proofs.lemmas.List.{length-take}
-use Rattle.std.proofs.lemmas.Bool.Decides.{nat_tests}
-use Rattle.piper_sides.specs.Index.{place_of, advanced}
+use Rattle.piper_sides.specs.Index.{advanced}
 use Rattle.piper_machine.specs.Pipe.{Pipe, fresh}
 use Rattle.piper_machine.specs.Sound.{IsSound}
 use Rattle.piper_machine.specs.Lend.{Lendable, lend_limit, lending}
@@ -11,6 +10,7 @@ use Rattle.piper_machine.specs.Places.{places_left}
 use Rattle.piper_machine.specs.Move.{produce}
 use Rattle.piper_sides.specs.Side.{fresh_writing, Writing, room_of, left_of, lend_length, lent_out}
 use Rattle.piper_sides.specs.LendBound.{lend_bound}
+use Rattle.piper_machine.proofs.Soundness.{some_lent}
 use Rattle.piper_machine.proofs.worked.Script.{Call, Lend, Produced, lent_count}
 
 -- the writer's side of a pipe as it is made
@@ -47,6 +47,10 @@ rounds_of_a_fill :
     ∷ Lend 131072 ∷ Produced 110592 ∷ Lend 131072 ∷ Produced 36160 ∷ Lend 131072 ∷ [])
     ≡ (4096 ∷ 12288 ∷ 36864 ∷ 110592 ∷ 36160 ∷ 0 ∷ [])
 rounds_of_a_fill = refl
+
+-- The round of a fill whose source fails at once lends as any first round does: the lend behind it finds 4096 places set.
+lend_behind_a_failure : lengths (writer 200000) (Lend 131072 ∷ Lend 131072 ∷ []) ≡ (4096 ∷ 12288 ∷ [])
+lend_behind_a_failure = refl
 
 -- What the pipe says of the first of these: of 10,000 free places at least 4096 are lent, and then at least 4096 of 5904.
 first_lend_between : (n : ℕ) → Lendable 10000 (fresh 10000) n → (4096 ≤ n) × (n ≤ 10000)
@@ -87,23 +91,22 @@ none_where_shut true n is_shut = refl
 none_where_shut false n is_shut = absurd (cc)
 
 exact_length_is_lendable : (most : ℕ) (w : Writing) (p : Pipe) → p.room ≡ room_of w → places_left p ≡ left_of w → p.is_shut ≡ w.is_shut
-    → Lendable most p (lend_length most w)
-exact_length_is_lendable most w p room left shut =
+    → IsSound p → Lendable most p (lend_length most w)
+exact_length_is_lendable most w p room left shut sound =
     let n = min (min most (lend_bound w.zeroed)) (min (room_of w) (left_of w)) in
     let limit : lend_limit most p ≡ min most (min (room_of w) (left_of w)) = rw (room, left) refl in
+    let enough : p.is_shut ≡ false → min 4096 (lend_limit most p) ≤ lend_length most w =
+        λ is_open. rw limit (at_least_limit w.is_shut (min 4096 (min most (min (room_of w) (left_of w)))) n (omega arith) (sym shut ∙ is_open)) in
     record {
       at_most = rw limit (at_most_limit w.is_shut (min most (min (room_of w) (left_of w))) n (omega arith));
-      at_least = λ is_open. rw limit (at_least_limit w.is_shut (min 4096 (min most (min (room_of w) (left_of w)))) n (omega arith) (sym shut ∙ is_open));
+      at_least = enough;
+      some = λ is_open asked known. some_lent most p (lend_length most w) sound asked known (enough is_open);
       shut = λ is_shut. none_where_shut w.is_shut n (sym shut ∙ is_shut);
     }
 
--- Of a sound pipe that is not shut something is lent, wherever something is asked for and room is known.
-place_left : (capacity place : ℕ) → place < 2 * capacity → 1 ≤ capacity - place_of capacity place
-place_left capacity place below = grind (arith, nat_tests)
+-- Of an open pipe with room something is lent to whoever asks for something; to who asks for nothing, nothing.
+open_pipe_lends : (n : ℕ) → Lendable 1 (fresh 4) n → 1 ≤ n
+open_pipe_lends n lendable = lendable.some refl (omega arith) (omega arith)
 
-something_is_lent : (most : ℕ) (p : Pipe) (n : ℕ) → IsSound p → p.is_shut ≡ false → 1 ≤ most → 1 ≤ p.room → Lendable most p n → 1 ≤ n
-something_is_lent most p n sound is_open asked known lendable =
-    let inside : p.start + length p.unread < 2 * p.capacity = omega (arith, sound.start, sound.unread) in
-    let left : 1 ≤ places_left p = place_left p.capacity (p.start + length p.unread) inside in
-    let least : min 4096 (lend_limit most p) ≤ n = lendable.at_least is_open in
-    omega arith
+nothing_asked_for : (n : ℕ) → Lendable 0 (fresh 4) n → n ≡ 0
+nothing_asked_for n lendable = let most : n ≤ 0 = lendable.at_most in omega arith

@@ -100,7 +100,7 @@ steps_in_place = (refl, refl, refl)
 
 -- And these steps are a run, as the contract of `run` has it.
 two_places_are_lendable : Lendable 2 (fresh 2) 2
-two_places_are_lendable = record { at_most = omega arith; at_least = λ is_open. omega arith; shut = λ is_shut. absurd (cc) }
+two_places_are_lendable = record { at_most = omega arith; at_least = λ is_open. omega arith; some = λ is_open asked known. omega arith; shut = λ is_shut. absurd (cc) }
 
 abbrev lent_two : Pipe
 lent_two = (stepped (0 ∷ 0 ∷ []) (step.Begin (call.WriteBuf 2)) (fresh 2)).pipe

@@ -54,7 +54,7 @@ behind_what_is_found = Answered Reader (answer.Count 0) ∷ Began Writer kind.Le
 
 found_by_a_drain :
     ((gone drained_to_the_end (fresh 4)).events ≡ before_it_is_found ++ found_none ∷ behind_what_is_found)
-    × (saw_closed before_it_is_found ≡ true)
+    × (saw_closed Reader before_it_is_found ≡ true)
 found_by_a_drain = (refl, refl)
 
 -- A drain that looked at closed before the close answers 0 as well, and found no end: the writer may have published in between.
@@ -68,11 +68,11 @@ before_its_last_look =
 
 zero_is_no_end :
     ((gone drained_over_the_drop (fresh 4)).events ≡ before_its_last_look ++ found_none ∷ Answered Reader (answer.Count 0) ∷ [])
-    × (saw_closed before_its_last_look ≡ false)
+    × (saw_closed Reader before_its_last_look ≡ false)
 zero_is_no_end = (refl, refl)
 
 -- what a call saw is forgotten with the next
-forgotten_by_the_next : saw_closed (before_it_is_found ++ Began Reader kind.Len None ∷ []) ≡ false
+forgotten_by_the_next : saw_closed Reader (before_it_is_found ++ Began Reader kind.Len None ∷ []) ≡ false
 forgotten_by_the_next = refl
 
 -- The reader closes its own end in the middle of a publication: a drop of the reader does not shut, and the writer goes on. No end

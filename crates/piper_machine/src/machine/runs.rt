@@ -20,6 +20,7 @@ ghost use Rattle.piper_machine.specs.Conservation.{IsConserved};
 ghost use Rattle.piper_machine.specs.Disjoint.{IsDisjoint, KeepsKnown, IsWriterStep};
 ghost use Rattle.piper_machine.specs.Honest.{IsHonest};
 ghost use Rattle.piper_machine.specs.Final.{IsFinal};
+ghost use Rattle.piper_machine.specs.Heed.{IsHeeded};
 ghost use Rattle.piper_machine.specs.Remembered.{AreRemembered};
 ghost use Rattle.piper_machine.specs.Answered.{AreAnswered};
 ghost use Rattle.piper_machine.specs.Sound.{IsSound};
@@ -502,6 +503,7 @@ pub fn run(alloc: Global, cap: usize, steps: &[Step]) -> Result<(Machine, Log), 
     ensures called { IfOk result (λ run. AreCallsCounted cap steps.now run.0 (events run.1)) }
     ensures honest { IfOk result (λ run. IsHonest (events run.1)) }
     ensures finality { IfOk result (λ run. IsFinal run.0 (events run.1)) }
+    ensures heeded { IfOk result (λ run. IsHeeded (events run.1)) }
     ensures remembered { IfOk result (λ run. AreRemembered run.0 (events run.1)) }
     ensures answered { IfOk result (λ run. AreAnswered cap steps.now (events run.1)) }
 {

@@ -418,8 +418,10 @@ impl Machine {
         settle_writer(self.alloc, &mut self.writer_call, &mut self.source, answer)
     }
 
+    // The source failed, which was lent places as one that gives bytes is.
     pub(super) fn source_failed(&mut self) -> Option<Answer>
-        requires { write_action self.old.writer ≡ Action.CallSource }
+        requires next { write_action self.old.writer ≡ Action.CallSource }
+        requires lent { Lendable MOST_A_ROUND self.old (length self.old.lent) }
         ensures after { self.new ≡ round_left failed self.old }
         ensures answer { result ≡ round_answer failed self.old }
     {

@@ -6,6 +6,7 @@ use Rattle.piper_machine.specs.Round.{left_of_source}
 use Rattle.piper_machine.specs.Pipe.{Pipe}
 use Rattle.piper_machine.specs.Step.{fill_opened}
 use Rattle.piper_machine.proofs.Filling.{Filling, IsGone, giving, opened-script, goes-on, goes, ends, gave, gave-up, failed-ends, without-failing, wake-room}
+use Rattle.piper_machine.proofs.Sources.{lent-anew}
 use Rattle.piper_machine.proofs.machine.Machine.fill_script.Goals as goal
 use Rattle.piper_machine.proofs.machine.Machine.fill_script.Goals.{After-writer_goes, After-source_failed, After-source_gave}
 
@@ -45,6 +46,10 @@ pub returns-in-Some-writer_goes : goal.returns-in-Some-writer_goes
 returns-in-Some-writer_goes c =
     let ended = ends (gone-past (goal.at.returns-in-Some-writer_goes c).After-writer_goes) c.in-Some-writer_goes.is in
     record { answer = ended.answer_is; after = ended.after }
+
+-- a source is lent places before it is asked
+pub source_failed-requires-clause-lent : goal.source_failed-requires-clause-lent
+source_failed-requires-clause-lent c = lent-anew c.steps.self c.write_round-count.new.self c.write_round-count.ensures.lent c.write_round-count.ensures.after
 
 -- a call of a source that fails
 gone-up : (c : After-source_failed) → IsGone (fill_opened c.args.context c.args.acts.now c.args.self.now) (left_of_source c.write_round-count.result (source_left c.steps.given c.steps.spent c.args.acts.now)) c.steps.self c.source_failed.result c.source_failed.new.self

@@ -8,7 +8,7 @@ pub returns-clause-lent : goal.returns-clause-lent
 returns-clause-lent c =
     let long = ap (λ (p : Pipe). length p.lent) c.self-2.view_is in
     let lent = c.write_round-count.ensures.lent in
-    rw (← c.self.view_is) (rw long (record { at_most = lent.at_most; at_least = lent.at_least; shut = lent.shut }))
+    rw (← c.self.view_is) (rw long (record { at_most = lent.at_most; at_least = lent.at_least; some = lent.some; shut = lent.shut }))
 
 pub returns-clause-after : goal.returns-clause-after
 returns-clause-after c =

@@ -4,6 +4,7 @@ use Rattle.piper_machine.specs.Places.{peeked}
 use Rattle.piper_machine.proofs.Indices.{place_below, place_of_low}
 use Rattle.piper_machine.proofs.Between.{take-between}
 use Rattle.piper_machine.proofs.Soundness.{tail_below}
+use Rattle.piper_machine.proofs.Disjointness.{disjoint}
 use Rattle.piper_machine.proofs.machine.Machine.r_peek.Goals as goal
 
 pub returns-clause-bytes : goal.returns-clause-bytes
@@ -27,3 +28,6 @@ returns-clause-held c i within =
       is_known = omega arith;
       stands = sym (place_of_low p.capacity (p.start + i) (omega (arith, c.learn.ensures.start)));
     }
+
+pub returns-clause-disjoint : goal.returns-clause-disjoint
+returns-clause-disjoint c = disjoint _ c.learn.ensures

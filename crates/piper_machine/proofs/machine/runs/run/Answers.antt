@@ -14,6 +14,7 @@ use Rattle.piper_machine.proofs.KnownRuns.{known_none, known_more, ready-run, co
 use Rattle.piper_machine.proofs.Honesty.{honest_none, honest_more}
 use Rattle.piper_machine.proofs.Remembering.{remembers_none, remembers_more}
 use Rattle.piper_machine.proofs.Finality.{final_none, final_more}
+use Rattle.piper_machine.proofs.Heeding.{heeds_none, heeds_more}
 use Rattle.piper_machine.proofs.Answering.{Answers, answers_none, answers_more}
 use Rattle.piper_machine.proofs.Fronts.{sound-fresh, conserved_none, lawful, fronts_none, fronts_more}
 use Rattle.piper_machine.proofs.machine.runs.run.Goals as goal
@@ -32,6 +33,7 @@ loop-i-init c =
       known = rw (pipe, none) (known_none c.args.cap);
       honest = rw (pipe, none) (honest_none c.args.cap);
       remembers = rw (pipe, none) (remembers_none c.args.cap);
+      heeds = rw (pipe, none) (heeds_none c.args.cap);
       final = rw (pipe, none) (final_none c.args.cap);
       answers = rw (pipe, none) (answers_none c.args.cap c.args.steps.now);
       fronts = rw (pipe, none) (fronts_none cap start);
@@ -60,6 +62,7 @@ loop-i-preserved c =
       honest = honest_more before after _ es fs inv.honest made;
       remembers = remembers;
       answers = answers_more c.args.steps.now (drop (c.loop-i.i + 1) c.args.steps.now) _ c.args.cap before after es fs c.learn.ensures inv.capacity (subst (λ ss. Answers c.args.cap c.args.steps.now ss before es) coming inv.answers) made;
+      heeds = heeds_more before after _ es fs inv.heeds made;
       final = final_more before after _ es fs c.learn.ensures inv.honest inv.final made;
       fronts = subst (λ ss. (j : ℕ) → Front c.args.cap ss j after fs) (sym longer)
           (fronts_more c.args.cap (take c.loop-i.i c.args.steps.now) _ before after es fs inv.fronts made (lawful c.args.cap _ after fs on c.learn-in-Ok-step.ensures conserved known remembers.remembered));
@@ -110,6 +113,9 @@ returns-clause-honest c = c.loop-i.invariant.honest.honest
 
 pub returns-clause-finality : goal.returns-clause-finality
 returns-clause-finality c = c.loop-i.invariant.final.final
+
+pub returns-clause-heeded : goal.returns-clause-heeded
+returns-clause-heeded c = c.loop-i.invariant.heeds.heeded
 
 pub returns-clause-remembered : goal.returns-clause-remembered
 returns-clause-remembered c = c.loop-i.invariant.remembers.remembered

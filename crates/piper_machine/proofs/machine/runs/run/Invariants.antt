@@ -7,6 +7,7 @@ use Rattle.piper_machine.specs.Known.{IsKnown}
 use Rattle.piper_machine.specs.Front.{Front}
 use Rattle.piper_machine.proofs.Honesty.{Honest}
 use Rattle.piper_machine.proofs.Finality.{Final}
+use Rattle.piper_machine.proofs.Heeding.{Heeds}
 use Rattle.piper_machine.proofs.Remembering.{Remembers}
 use Rattle.piper_machine.proofs.Answering.{Answers}
 use Rattle.piper_machine.proofs.machine.runs.run.Given as goal
@@ -18,6 +19,7 @@ invariant-loop-i l = record {
   known : IsKnown l.machine (events l.log);
   honest : Honest l.machine (events l.log);
   remembers : Remembers l.machine (events l.log);
+  heeds : Heeds l.machine (events l.log);
   final : Final l.machine (events l.log);
   answers : Answers l.cap l.steps (drop l.i l.steps) l.machine (events l.log);
   fronts : (j : ℕ) → Front l.cap (take l.i l.steps) j l.machine (events l.log);

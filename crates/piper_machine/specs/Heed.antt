@@ -1,0 +1,10 @@
+-- A close that is seen is heeded: a call of the writer that looked at closed and found it publishes nothing behind that.
+use Rattle.std.specs.Prelude.{◌≡◌, ℕ, List, ◌∷◌, ◌++◌, false}
+use Rattle.piper_sides.specs.declared.calls.Side.TheVariants.{Writer}
+use Rattle.piper_sides.specs.declared.events.Event.{Event}
+use Rattle.piper_sides.specs.declared.events.Event.TheVariants.{Published}
+use Rattle.piper_machine.specs.End.{saw_closed}
+
+-- wherever bytes are published
+abbrev pub IsHeeded : List Event → Type 0
+IsHeeded events = (before after : List Event) (bytes : List ℕ) → events ≡ before ++ Published bytes ∷ after → saw_closed Writer before ≡ false
