@@ -8,10 +8,9 @@ use futures::Future;
 use futures::executor::block_on;
 use futures::task::{Context, Poll};
 use piper::{OutOfMemory, OwnedWriter, Reader, Writer, pipe};
-use std::fs;
 use std::io::{self, Read};
 use std::sync::Wait;
-use std::thread;
+use std::{fs, thread};
 
 /// Fills the pipe with what a file holds.
 #[derive(Drop)]
@@ -74,13 +73,24 @@ impl<H: Wait + Clone + Drop> Future for CountLines<'_, H> {
 fn main(rt: HostRuntime) -> io::Result<()> {
     let file = fs::open(&rt, "poem.txt")?;
     let theirs = rt.clone()?;
-    let (mut reader, writer) = pipe(&rt, rt.alloc(), 64, 1).map_err(|_| io::ErrorKind::OutOfMemory)?;
+    let (mut reader, writer) = pipe(&rt, rt.alloc(), 64, 1).map_err(
+        |_| io::ErrorKind::OutOfMemory,
+    )?;
     let mut writer = OwnedWriter::new(writer);
     let child = thread::spawn(&rt, move || {
-        let fill = Fill { writer: writer.get_mut(), file };
+        let fill = Fill {
+            writer: writer.get_mut(),
+            file,
+        };
         block_on(&theirs, fill)?
     });
-    let lines = block_on(&rt, CountLines { reader: &mut reader, count: 0 });
+    let lines = block_on(
+        &rt,
+        CountLines {
+            reader: &mut reader,
+            count: 0,
+        },
+    );
     reader.drop();
     child?.join(&rt)?;
     match lines? {

@@ -37,7 +37,7 @@ split : (i : ℕ) (ss : List Step) (s : Step) → IsBefore i ss s ⊎ AreAll i s
 split zero ss s = inl (record { taken = refl; left = refl })
 split (suc i) [] s = inr (record { taken = ap (λ (xs : List Step). s ∷ xs) (take_nothing i); left = drop_nothing i })
 split (suc i) (t ∷ ss) s = elim (split i ss s) [
-    inl before ↦ inl (record { taken = ap (λ (xs : List Step). t ∷ xs) before.taken; left = before.left })
+  | inl before ↦ inl (record { taken = ap (λ (xs : List Step). t ∷ xs) before.taken; left = before.left })
   | inr all ↦ inr (record { taken = ap (λ (xs : List Step). t ∷ xs) all.taken; left = all.left })
 ]
 
@@ -77,7 +77,7 @@ fronts_none capacity kept (suc i) = record { pipe = fresh capacity; log = []; la
 pub fronts_more : (capacity : ℕ) (ss : List Step) (s : Step) (p q : Pipe) (before after : List Event) → ((i : ℕ) → Front capacity ss i p before) → Made p s q before after
     → IsLawful capacity (ss ++ s ∷ []) q after → (i : ℕ) → Front capacity (ss ++ s ∷ []) i q after
 fronts_more capacity ss s p q before after fronts made kept i = elim (split i ss s) [
-    inl earlier ↦
+  | inl earlier ↦
       let front = fronts i in
       record {
         pipe = front.pipe;
@@ -86,9 +86,9 @@ fronts_more capacity ss s p q before after fronts made kept i = elim (split i ss
         rest = subst (λ (xs : List Step). Runs front.pipe front.log xs q after) (sym earlier.left) (runs_more front.pipe p q (drop i ss) s front.log before after front.rest made);
       }
   | inr all ↦ record {
-      pipe = q;
-      log = after;
-      lawful = subst (λ (xs : List Step). IsLawful capacity xs q after) (sym all.taken) kept;
-      rest = subst (λ (xs : List Step). Runs q after xs q after) (sym all.left) (refl, refl);
-    }
+    pipe = q;
+    log = after;
+    lawful = subst (λ (xs : List Step). IsLawful capacity xs q after) (sym all.taken) kept;
+    rest = subst (λ (xs : List Step). Runs q after xs q after) (sym all.left) (refl, refl);
+  }
 ]

@@ -96,7 +96,7 @@ exact_length_is_lendable most w p room left shut sound =
     let n = min (min most (lend_bound w.zeroed)) (min (room_of w) (left_of w)) in
     let limit : lend_limit most p ≡ min most (min (room_of w) (left_of w)) = rw (room, left) refl in
     let enough : p.is_shut ≡ false → min 4096 (lend_limit most p) ≤ lend_length most w =
-        λ is_open. rw limit (at_least_limit w.is_shut (min 4096 (min most (min (room_of w) (left_of w)))) n (omega arith) (sym shut ∙ is_open)) in
+    λ is_open. rw limit (at_least_limit w.is_shut (min 4096 (min most (min (room_of w) (left_of w)))) n (omega arith) (sym shut ∙ is_open)) in
     record {
       at_most = rw limit (at_most_limit w.is_shut (min most (min (room_of w) (left_of w))) n (omega arith));
       at_least = enough;
