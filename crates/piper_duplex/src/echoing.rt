@@ -69,7 +69,8 @@ impl LineEcho {
             × AtEnd (R.known (reader_of lines.new)) (R.saw (reader_of lines.new)) }
         ensures closed { result ≡ Poll.Ready (Ok Echoed.UntilClosed) → W.saw writer.new ≡ true }
         ensures stays { W.saw writer.old ≡ true → W.saw writer.new ≡ true }
-        ensures covered { OnPending result (Covers cx.new (WaitsFor (R.needs (reader_of lines.new)) (W.needs writer.new) self.new)) }
+        ensures covered { OnPending result (Covers cx.new
+            (WaitsFor (R.needs (reader_of lines.new)) (W.needs writer.new) self.new)) }
         ensures kept { Keeps cx.old cx.new }
     {
         for _ in 0..MOST_LINES {

@@ -28,8 +28,10 @@ pub fn duplex<H: Wait + Clone + Drop>(
 ) -> Result<(End<H>, End<H>), OutOfMemory>
     requires there { (0 < cap_a) × (2 * cap_a < 2 ^ 64) }
     requires back { (0 < cap_b) × (2 * cap_b < 2 ^ 64) }
-    ensures there { IfOk result (λ (first, second). IsNewPipe cap_a seed second.reader first.writer) }
-    ensures back { IfOk result (λ (first, second). IsNewPipe cap_b seed first.reader second.writer) }
+    ensures there { IfOk result
+        (λ (first, second). IsNewPipe cap_a seed second.reader first.writer) }
+    ensures back { IfOk result
+        (λ (first, second). IsNewPipe cap_b seed first.reader second.writer) }
 {
     let (there_reader, there_writer) = pipe(rt, alloc, cap_a, seed)?;
     let (back_reader, back_writer) = match pipe(rt, alloc, cap_b, seed) {

@@ -92,7 +92,8 @@ impl<R: AsyncBufRead + Drop, W: AsyncWrite + Drop> Future for EchoAll<R, W> {
 
     type Output = Result<Echoed, PipeError>;
 
-    ghost needs = { λ future. WaitsFor (R.needs (reader_of future.lines)) (W.needs future.writer) future.echo };
+    ghost needs = { λ future. WaitsFor (R.needs (reader_of future.lines)) (W.needs future.writer)
+        future.echo };
 
     fn poll(&mut self, cx: &mut Context<'_>) -> Poll<Result<Echoed, PipeError>> {
         self.echo

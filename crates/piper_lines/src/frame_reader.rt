@@ -89,7 +89,8 @@ impl<R: AsyncBufRead> Frames<R> {
         requires { length (header_of self.old) ≡ 4 }
         ensures reader { reader_of self.new ≡ reader_of self.old }
         ensures kept { kept_of self.new ≡ [] }
-        ensures skips { skips_of self.new + length (body_of self.old) ≡ told_length (header_of self.old) }
+        ensures skips { skips_of self.new + length (body_of self.old)
+            ≡ told_length (header_of self.old) }
     {
         self.to_skip = number(&self.header) - self.body.len();
         self.body.clear();

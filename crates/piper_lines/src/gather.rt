@@ -20,10 +20,12 @@ pub(crate) fn fill_up<R: AsyncBufRead>(
     size: usize,
 ) -> Poll<Result<bool, PipeError>>
     requires { length gathered.old.items ≤ size }
-    ensures grown { Grows (R.taken reader.old) (R.taken reader.new) gathered.old.items gathered.new.items }
+    ensures grown { Grows (R.taken reader.old) (R.taken reader.new)
+        gathered.old.items gathered.new.items }
     ensures within { length gathered.new.items ≤ size }
     ensures full { result ≡ Poll.Ready (Ok true) → length gathered.new.items ≡ size }
-    ensures ended { result ≡ Poll.Ready (Ok false) → (length gathered.new.items < size) × AtEnd (R.known reader.new) (R.saw reader.new) }
+    ensures ended { result ≡ Poll.Ready (Ok false) →
+        (length gathered.new.items < size) × AtEnd (R.known reader.new) (R.saw reader.new) }
     ensures covered { OnPending result (Covers cx.new (R.needs reader.new)) }
     ensures kept { Keeps cx.old cx.new }
 {
@@ -53,7 +55,8 @@ pub(crate) fn pass_over<R: AsyncBufRead>(
 ) -> Poll<Result<bool, PipeError>>
     ensures passed { Passes (R.taken reader.old) (R.taken reader.new) left.old left.new }
     ensures done { result ≡ Poll.Ready (Ok true) → left.new ≡ 0 }
-    ensures ended { result ≡ Poll.Ready (Ok false) → (0 < left.new) × AtEnd (R.known reader.new) (R.saw reader.new) }
+    ensures ended { result ≡ Poll.Ready (Ok false) →
+        (0 < left.new) × AtEnd (R.known reader.new) (R.saw reader.new) }
     ensures covered { OnPending result (Covers cx.new (R.needs reader.new)) }
     ensures kept { Keeps cx.old cx.new }
 {

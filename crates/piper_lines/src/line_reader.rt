@@ -116,7 +116,8 @@ fn gather<R: AsyncBufRead>(
 ) -> Poll<Result<LineAnswer, PipeError>>
     requires unfinished { LacksLf line.old.items }
     ensures grown { Grows (R.taken reader.old) (R.taken reader.new) line.old.items line.new.items }
-    ensures gathers { Gathers result limit line.old.items line.new.items (R.known reader.new) (R.saw reader.new) }
+    ensures gathers { Gathers result limit line.old.items line.new.items
+        (R.known reader.new) (R.saw reader.new) }
     ensures covered { OnPending result (Covers cx.new (R.needs reader.new)) }
     ensures kept { Keeps cx.old cx.new }
 {
@@ -153,7 +154,8 @@ fn gather<R: AsyncBufRead>(
 fn through_lf(bytes: &[u8]) -> (usize, bool)
     ensures within { result.0 ≤ length bytes.now }
     ensures some { 0 < length bytes.now → 0 < result.0 }
-    ensures through { MatchBool result.1 (IsLine (take result.0 bytes.now)) (LacksLf (take result.0 bytes.now)) }
+    ensures through { MatchBool result.1 (IsLine (take result.0 bytes.now))
+        (LacksLf (take result.0 bytes.now)) }
 {
     match memchr(b'\n', bytes) {
         Some(before) => (before + 1, true),

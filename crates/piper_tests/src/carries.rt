@@ -57,7 +57,8 @@ impl<'a> Lender<'a> {
     }
 
     fn front(&self) -> &[u8]
-        ensures { result.now ≡ take (min 1 (length (drop self.now.taken self.now.bytes.now))) (drop self.now.taken self.now.bytes.now) }
+        ensures { result.now ≡ take (min 1 (length (drop self.now.taken self.now.bytes.now)))
+            (drop self.now.taken self.now.bytes.now) }
     {
         let rest = &self.bytes[self.taken..];
         &rest[..rest.len().min(1)]

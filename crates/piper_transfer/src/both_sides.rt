@@ -42,7 +42,8 @@ where
     R: Wait + Threads + Clock + RandomSource + AllocGlobal + Clone + Drop + Send + Sync,
     S: Read + Send,
     D: Write,
-    ensures { Transfers result (S.remaining source.old) (S.remaining source.new) (D.contents dest.old) (D.contents dest.new) }
+    ensures { Transfers result (S.remaining source.old) (S.remaining source.new)
+        (D.contents dest.old) (D.contents dest.new) }
 {
     let (mut input, mut output) = open(rt, sizes.capacity)?;
     let chunk = sizes.chunk;
@@ -107,10 +108,13 @@ where
     D: Write,
     requires chunk { 0 < chunk }
     requires is_open { IsOpen input.old.writer.end }
-    ensures fed { Fed (S.remaining source.old) (S.remaining source.new) input.old.writer.end input.new.writer.end }
+    ensures fed { Fed (S.remaining source.old) (S.remaining source.new)
+        input.old.writer.end input.new.writer.end }
     ensures input_ended { OnOk result.0 (IsAtEnd (S.remaining source.new)) }
-    ensures poured { Poured (D.contents dest.old) (D.contents dest.new) output.old.reader.end output.new.reader.end }
-    ensures all { OnOk result.1 (PouredAll (D.contents dest.old) (D.contents dest.new) output.old.reader.end output.new.reader.end) }
+    ensures poured { Poured (D.contents dest.old) (D.contents dest.new)
+        output.old.reader.end output.new.reader.end }
+    ensures all { OnOk result.1 (PouredAll (D.contents dest.old) (D.contents dest.new)
+        output.old.reader.end output.new.reader.end) }
     ensures kind { IfErr result.1 (λ e. ¬ IsOfInput e) }
 {
     join_mut(

@@ -29,8 +29,10 @@ where
     R: Wait + Clock,
     D: Write,
     H: Wait + Clone + Drop,
-    ensures poured { Poured (D.contents dest.old) (D.contents dest.new) output.old.reader.end output.new.reader.end }
-    ensures all { OnOk result (PouredAll (D.contents dest.old) (D.contents dest.new) output.old.reader.end output.new.reader.end) }
+    ensures poured { Poured (D.contents dest.old) (D.contents dest.new)
+        output.old.reader.end output.new.reader.end }
+    ensures all { OnOk result (PouredAll (D.contents dest.old) (D.contents dest.new)
+        output.old.reader.end output.new.reader.end) }
     ensures kind { IfErr result (λ e. ¬ IsOfInput e) }
 {
     let ended = drain_in_turns(rt, &output.turns, &mut output.reader, dest, chunk, meter);
@@ -63,7 +65,8 @@ where
     R: Wait + Clock,
     D: Write,
     H: Wait + Clone + Drop,
-    ensures poured { PouredAll (D.contents dest.old) (D.contents dest.new) reader.old.end reader.new.end }
+    ensures poured { PouredAll (D.contents dest.old) (D.contents dest.new)
+        reader.old.end reader.new.end }
     ensures kind { IfErr result (λ e. ¬ IsOfInput e) }
 {
     for _ in rt.forever() {
@@ -95,7 +98,8 @@ where
     R: Wait,
     D: Write,
     H: Wait + Clone + Drop,
-    ensures poured { PouredAll (D.contents dest.old) (D.contents dest.new) reader.old.end reader.new.end }
+    ensures poured { PouredAll (D.contents dest.old) (D.contents dest.new)
+        reader.old.end reader.new.end }
     ensures kind { IfReady result (λ r. IfErr r (λ e. ¬ IsOfInput e)) }
     ensures armed { OnPending result (IsArmed cx.new) }
 {
@@ -126,7 +130,8 @@ where
     R: Wait,
     D: Write,
     H: Wait + Clone + Drop,
-    ensures poured { PouredAll (D.contents dest.old) (D.contents dest.new) reader.old.end reader.new.end }
+    ensures poured { PouredAll (D.contents dest.old) (D.contents dest.new)
+        reader.old.end reader.new.end }
     ensures known { StaysKnown reader.old.end reader.new.end }
     ensures all { OnOk result (reader.new.end.known ≡ []) }
     ensures kind { IfErr result (λ e. ¬ IsOfInput e) }
@@ -150,7 +155,8 @@ fn write_some<D, H>(
 where
     D: Write,
     H: Wait + Clone + Drop,
-    ensures poured { PouredAll (D.contents dest.old) (D.contents dest.new) reader.old.end reader.new.end }
+    ensures poured { PouredAll (D.contents dest.old) (D.contents dest.new)
+        reader.old.end reader.new.end }
     ensures known { StaysKnown reader.old.end reader.new.end }
     ensures kind { IfErr result (λ e. ¬ IsOfInput e) }
 {
@@ -170,7 +176,8 @@ fn write_chunk<D, H>(reader: &mut Reader<H>, dest: &mut D, chunk: usize) -> io::
 where
     D: Write,
     H: Wait + Clone + Drop,
-    ensures poured { PouredAll (D.contents dest.old) (D.contents dest.new) reader.old.end reader.new.end }
+    ensures poured { PouredAll (D.contents dest.old) (D.contents dest.new)
+        reader.old.end reader.new.end }
     ensures known { StaysKnown reader.old.end reader.new.end }
 {
     let piece = reader.peek_buf();

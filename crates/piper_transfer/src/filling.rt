@@ -29,7 +29,8 @@ where
     H: Wait + Clone + Drop,
     requires chunk { 0 < chunk }
     requires is_open { IsOpen input.old.writer.end }
-    ensures fed { Fed (S.remaining source.old) (S.remaining source.new) input.old.writer.end input.new.writer.end }
+    ensures fed { Fed (S.remaining source.old) (S.remaining source.new)
+        input.old.writer.end input.new.writer.end }
     ensures ended { OnOk result (IsAtEnd (S.remaining source.new)) }
 {
     fill_in_turns(rt, &input.turns, source, &mut input.writer, chunk, meter)
@@ -50,7 +51,8 @@ where
     H: Wait + Clone + Drop,
     requires chunk { 0 < chunk }
     requires is_open { IsOpen writer.old.end }
-    ensures fed { Fed (S.remaining source.old) (S.remaining source.new) writer.old.end writer.new.end }
+    ensures fed { Fed (S.remaining source.old) (S.remaining source.new)
+        writer.old.end writer.new.end }
     ensures ended { OnOk result (IsAtEnd (S.remaining source.new)) }
 {
     for _ in rt.forever() {
@@ -84,7 +86,8 @@ where
     H: Wait + Clone + Drop,
     requires chunk { 0 < chunk }
     requires is_open { IsOpen writer.old.end }
-    ensures fed { Fed (S.remaining source.old) (S.remaining source.new) writer.old.end writer.new.end }
+    ensures fed { Fed (S.remaining source.old) (S.remaining source.new)
+        writer.old.end writer.new.end }
     ensures ended { IfReady result (λ r. OnOk r (IsAtEnd (S.remaining source.new))) }
     ensures is_open { OnPending result (IsOpen writer.new.end) }
     ensures armed { OnPending result (IsArmed cx.new) }
@@ -117,7 +120,8 @@ where
     requires chunk { 0 < chunk }
     requires room { 0 < writer.old.end.room }
     requires is_open { IsOpen writer.old.end }
-    ensures fed { Fed (S.remaining source.old) (S.remaining source.new) writer.old.end writer.new.end }
+    ensures fed { Fed (S.remaining source.old) (S.remaining source.new)
+        writer.old.end writer.new.end }
     ensures ended { result ≡ Ok 0 → IsAtEnd (S.remaining source.new) }
     ensures is_open { IsOpen writer.new.end }
 {

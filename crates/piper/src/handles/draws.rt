@@ -19,7 +19,8 @@ impl<H: Wait + Clone + Drop> Reader<H> {
     pub(crate) fn take_own_and_draw(&mut self, call: ReadCall) -> (ReadCall, Option<Taken>, bool)
         requires next { call.place ≡ ReadPlace.LookTake (Purpose.Copy (Form.Polling false)) }
         ensures step { result.0 ≡ reader_is_true (Purpose.Copy (Form.Polling result.2)) }
-        ensures emptied { IsEmptied (arc_value self.old.slots).reader self.old.is_registered result.1 }
+        ensures emptied { IsEmptied (arc_value self.old.slots).reader
+            self.old.is_registered result.1 }
         ensures draw { IsTrue result.2 ↔ DrawsYield self.old.rng }
         ensures rng { self.new.rng ≡ drawn_from self.old.rng }
         ensures slots { self.new.slots ≡ self.old.slots }
@@ -41,7 +42,8 @@ impl<H: Wait + Clone + Drop> Writer<H> {
     pub(crate) fn take_own_and_draw(&mut self, call: WriteCall) -> (WriteCall, Option<Taken>, bool)
         requires next { call.place ≡ WritePlace.LookTake (Purpose.Copy (Form.Polling false)) }
         ensures step { result.0 ≡ writer_is_true (Purpose.Copy (Form.Polling result.2)) }
-        ensures emptied { IsEmptied (arc_value self.old.slots).writer self.old.is_registered result.1 }
+        ensures emptied { IsEmptied (arc_value self.old.slots).writer
+            self.old.is_registered result.1 }
         ensures draw { IsTrue result.2 ↔ DrawsYield self.old.rng }
         ensures rng { self.new.rng ≡ drawn_from self.old.rng }
         ensures slots { self.new.slots ≡ self.old.slots }

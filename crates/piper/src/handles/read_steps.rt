@@ -79,7 +79,8 @@ impl<H: Wait + Clone + Drop> Reader<H> {
         requires next { read_action call.place ≡ Action.Take Side.Reader }
         requires poll { reader_draws_behind call.place ≡ false }
         ensures step { result.0 ≡ read_step call.place nothing }
-        ensures emptied { IsEmptied (arc_value self.old.slots).reader self.old.is_registered result.1 }
+        ensures emptied { IsEmptied (arc_value self.old.slots).reader
+            self.old.is_registered result.1 }
         ensures known { self.new.is_registered ≡ false }
         ensures end { self.new.end ≡ self.old.end }
         ensures rest { SameReader self.old self.new }

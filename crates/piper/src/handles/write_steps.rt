@@ -88,7 +88,8 @@ impl<H: Wait + Clone + Drop> Writer<H> {
         requires next { write_action call.place ≡ Action.Take Side.Writer }
         requires no_copy { writer_draws_behind call.place ≡ false }
         ensures step { result.0 ≡ write_step call.place (waker (own_found result.1)) }
-        ensures emptied { IsEmptied (arc_value self.old.slots).writer self.old.is_registered result.1 }
+        ensures emptied { IsEmptied (arc_value self.old.slots).writer
+            self.old.is_registered result.1 }
         ensures known { self.new.is_registered ≡ false }
         ensures end { self.new.end ≡ self.old.end }
         ensures rest { SameWriter self.old self.new }

@@ -27,7 +27,8 @@ impl<H: Wait + Clone + Drop> AsyncRead for End<H> {
     ghost fails = { λ _ e. e ≡ Memory };
 
     fn poll_read(&mut self, cx: &mut Context<'_>, dest: &mut [u8]) -> Poll<Result<usize, PipeError>>
-        ensures read { Reads result dest.old dest.new self.old.reader.end.taken self.new.reader.end.taken self.new.reader.end.saw }
+        ensures read { Reads result dest.old dest.new
+            self.old.reader.end.taken self.new.reader.end.taken self.new.reader.end.saw }
         ensures error { IfReadyErr result (λ e. e ≡ Memory) }
         ensures stays { self.old.reader.end.saw ≡ true → self.new.reader.end.saw ≡ true }
         ensures covered { OnPending result (Covers cx.new (λ s. s ≡ read_source self.new.reader)) }
@@ -59,7 +60,8 @@ impl<H: Wait + Clone + Drop> AsyncBufRead for End<H> {
 
     fn poll_fill_buf(&mut self, cx: &mut Context<'_>) -> Poll<Result<&[u8], PipeError>>
         // said of the end as it is once the slice is given back
-        ensures* lent { sem 𝓛 (Rests (the_row H.row) self.entry (λ new. OnlyReads self.old new × LendsPiece result self.old new cx.new)) }
+        ensures* lent { sem 𝓛 (Rests (the_row H.row) self.entry
+            (λ new. OnlyReads self.old new × LendsPiece result self.old new cx.new)) }
         ensures kept { Keeps cx.old cx.new }
     {
         match self.reader.poll(cx) {
@@ -72,7 +74,8 @@ impl<H: Wait + Clone + Drop> AsyncBufRead for End<H> {
     fn consume(&mut self, amt: usize)
         requires { amt ≤ in_one_piece self.old.reader.end }
         ensures known { self.new.reader.end.known ≡ drop amt self.old.reader.end.known }
-        ensures taken { self.new.reader.end.taken ≡ self.old.reader.end.taken ++ take amt self.old.reader.end.known }
+        ensures taken { self.new.reader.end.taken
+            ≡ self.old.reader.end.taken ++ take amt self.old.reader.end.known }
         ensures saw { self.new.reader.end.saw ≡ self.old.reader.end.saw }
         ensures rest { OnlyReads self.old self.new }
     {
@@ -90,8 +93,10 @@ impl<H: Wait + Clone + Drop> AsyncWrite for End<H> {
     ghost fails = { λ _ e. e ≡ Memory };
 
     fn poll_write(&mut self, cx: &mut Context<'_>, source: &[u8]) -> Poll<Result<usize, PipeError>>
-        ensures written { Writes result source.now self.old.writer.end.sent self.new.writer.end.sent self.new.writer.end.saw }
-        ensures full { result ≡ Poll.Ready (Ok 0) → 0 < length source.now → self.new.writer.end.saw ≡ true }
+        ensures written { Writes result source.now
+            self.old.writer.end.sent self.new.writer.end.sent self.new.writer.end.saw }
+        ensures full { result ≡ Poll.Ready (Ok 0) →
+            0 < length source.now → self.new.writer.end.saw ≡ true }
         ensures error { IfReadyErr result (λ e. e ≡ Memory) }
         ensures over { self.old.writer.end.saw ≡ true → result ≡ Poll.Ready (Ok 0) }
         ensures stays { self.old.writer.end.saw ≡ true → self.new.writer.end.saw ≡ true }
