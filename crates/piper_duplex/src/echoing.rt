@@ -3,7 +3,7 @@ ghost use Rattle.std.specs.Prelude.{◌≡◌, ◌<◌, ◌≤◌, [], length, t
 ghost use Rattle.futures.specs.Task.{Covers, Keeps};
 ghost use Rattle.futures.specs.Poll.{OnPending};
 ghost use Rattle.piper_lines.specs.LineReader.{reader_of, kept_of};
-ghost use Rattle.piper_lines.specs.LineAnswers.{AtEnd};
+ghost use Rattle.piper_lines.specs.AtEnd.{AtEnd};
 ghost use Rattle.piper_lines.specs.Moves.{Moves};
 ghost use Rattle.piper_lines.specs.Sends.{Sends};
 

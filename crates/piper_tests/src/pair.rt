@@ -254,7 +254,7 @@ impl<H: Wait + Clone + Drop> Pair<H> {
         S: ReadLike<Error = ErrorKind>,
     {
         let writer = writer_of(rt, &mut self.writer);
-        copied_inner(self.writing.enter(|cx| writer.fill_inner(cx, source)))
+        copied_inner(self.writing.enter(|cx| writer.fill_inner(Some(cx), source)))
     }
 
     /// `drain_inner` into the destination.
@@ -263,7 +263,7 @@ impl<H: Wait + Clone + Drop> Pair<H> {
         D: WriteLike<Error = ErrorKind>,
     {
         let reader = reader_of(rt, &mut self.reader);
-        copied_inner(self.reading.enter(|cx| reader.drain_inner(cx, dest)))
+        copied_inner(self.reading.enter(|cx| reader.drain_inner(Some(cx), dest)))
     }
 
     fn make(&mut self, rt: &impl Abort, index: usize, act: &Act<'_>) {
