@@ -4,6 +4,7 @@ pub mod Memory
 pub mod Lends
 pub mod ReadView
 pub mod RoomOrder
+pub mod Stretches
 pub mod WriteView
 pub mod LendsBuffer
 pub mod Opened

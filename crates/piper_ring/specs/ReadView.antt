@@ -20,14 +20,30 @@ pub record ReadView : Type 0 where
   pub saw : Bool
 
 abbrev pub read_view : Ring → ℕ → List ℕ → List ℕ → ℕ → Bool → Bool → ReadView
-read_view i c t k n u s = record { ring = i; capacity = c; taken = t; known = k; told = n; told_shut = u; saw = s }
+read_view i c t k n u s = record {
+  ring = i;
+  capacity = c;
+  taken = t;
+  known = k;
+  told = n;
+  told_shut = u;
+  saw = s;
+}
 
 abbrev pub read_view_code : Coded ReadView
-read_view_code = code_by ((Ring × ℕ) × ((List ℕ × List ℕ) × (ℕ × (Bool × Bool)))) (coded× (coded× ring_code coded_ℕ) (coded× (coded× (coded_list coded_ℕ) (coded_list coded_ℕ)) (coded× coded_ℕ (coded× coded_bool coded_bool))))
-    (λ r. ((r.ring, r.capacity), ((r.taken, r.known), (r.told, (r.told_shut, r.saw))))) (λ p. read_view p.0.0 p.0.1 p.1.0.0 p.1.0.1 p.1.1.0 p.1.1.1.0 p.1.1.1.1) (λ _. refl)
+read_view_code =
+    code_by ((Ring × ℕ) × ((List ℕ × List ℕ) × (ℕ × (Bool × Bool))))
+    (coded× (coded× ring_code coded_ℕ)
+    (coded× (coded× (coded_list coded_ℕ) (coded_list coded_ℕ))
+    (coded× coded_ℕ (coded× coded_bool coded_bool))))
+    (λ r. ((r.ring, r.capacity), ((r.taken, r.known), (r.told, (r.told_shut, r.saw)))))
+    (λ p. read_view p.0.0 p.0.1 p.1.0.0 p.1.0.1 p.1.1.0 p.1.1.1.0 p.1.1.1.1) (λ _. refl)
 
 abbrev pub read_view_of : ReadParts → ReadView
-read_view_of e = read_view (e.seat.words, (e.seat.at, e.seat.names)) e.indices.capacity (take e.seat.head e.seat.have) e.known.bytes (length e.told.bytes) e.told.shut e.saw.seen
+read_view_of e =
+    read_view (e.seat.words, (e.seat.at, e.seat.names)) e.indices.capacity
+    (take e.seat.head e.seat.have) e.known.bytes
+    (length e.told.bytes) e.told.shut e.saw.seen
 
 -- the place of the first known byte
 abbrev pub read_place : ReadView → ℕ
@@ -73,10 +89,20 @@ pub record SameButSaw (a b : ReadView) : Type 0 where
 
 -- how the end keeps its view
 pub record IsReadEnd (e : ReadParts) : Type 0 where
-  pub fits : (e.indices.capacity ≡ e.seat.names.capacity) × (0 < e.indices.capacity) × (e.indices.capacity < 2 ^ 63)
-  pub placed : (e.base.ptr ≡ e.seat.at) × (e.known.at ≡ e.seat.at) × (e.known.capacity ≡ e.seat.names.capacity) × (e.known.first ≡ e.seat.head)
-  pub counts : (e.seat.seen ≡ e.seat.head + length e.known.bytes) × (length e.known.bytes ≤ e.indices.capacity)
-  pub cached : (e.indices.head ≡ position_of e.indices.capacity e.seat.head) × (e.indices.tail ≡ position_of e.indices.capacity e.seat.seen)
+  pub fits :
+      (e.indices.capacity ≡ e.seat.names.capacity) × (0 < e.indices.capacity)
+      × (e.indices.capacity < 2 ^ 63)
+  pub placed :
+      (e.base.ptr ≡ e.seat.at) × (e.known.at ≡ e.seat.at)
+      × (e.known.capacity ≡ e.seat.names.capacity) × (e.known.first ≡ e.seat.head)
+  pub counts :
+      (e.seat.seen ≡ e.seat.head + length e.known.bytes)
+      × (length e.known.bytes ≤ e.indices.capacity)
+  pub cached :
+      (e.indices.head ≡ position_of e.indices.capacity e.seat.head)
+      × (e.indices.tail ≡ position_of e.indices.capacity e.seat.seen)
   pub heard : (e.told.names ≡ e.seat.names) × (e.saw.names ≡ e.seat.names)
-  pub whole : (e.seat.head ≤ length e.seat.have) × (e.seat.have ≡ take e.seat.head e.seat.have ++ e.known.bytes)
+  pub whole :
+      (e.seat.head ≤ length e.seat.have)
+      × (e.seat.have ≡ take e.seat.head e.seat.have ++ e.known.bytes)
   pub here : e.seat.leaving ≡ false

@@ -9,10 +9,13 @@ end_of p = p.first + length p.bytes
 
 pub record IsRoom (r : Room) : Type 0 where
   pub memory : (r.ready.at ≡ r.lent.at) × (r.blank.at ≡ r.lent.at) × (r.later.at ≡ r.lent.at)
-  pub capacity : (r.ready.capacity ≡ r.lent.capacity) × (r.blank.capacity ≡ r.lent.capacity) × (r.later.capacity ≡ r.lent.capacity)
+  pub capacity :
+      (r.ready.capacity ≡ r.lent.capacity) × (r.blank.capacity ≡ r.lent.capacity)
+      × (r.later.capacity ≡ r.lent.capacity)
   pub chain : (r.ready.first ≡ end_of r.lent) × (end_of r.ready + r.blank.count ≡ r.later.first)
   -- as many places are set as lie before the first that is not
-  pub zeroing : (r.blank.first ≤ r.lent.capacity) × (r.blank.count ≡ r.lent.capacity - r.blank.first)
+  pub zeroing :
+      (r.blank.first ≤ r.lent.capacity) × (r.blank.count ≡ r.lent.capacity - r.blank.first)
   pub first_turn : r.blank.first < r.lent.capacity → end_of r.ready ≡ r.blank.first
 
 -- b is the same stretch of the same memory as a

@@ -18,25 +18,54 @@ use Rattle.rtrb.specs.Fifo.{position_of}
 use Rattle.rtrb.specs.Shared.{run, span}
 use Rattle.piper_ring.specs.Places.{fact, byte, unset}
 
--- The capacity, and the ghost names under which the ring's history is kept: all bytes sent; the place up to which the writer may write; how many bytes were consumed; how many the reader has seen; whether the ring is closed; whether the writer closed it; and how far each end has gone in leaving.
+-- The capacity, and the ghost names under which the ring's history is kept.
 pub record Names : Type 0 where
   pub capacity : ℕ
+  -- all bytes sent
   pub sent : ℕ
+  -- the place up to which the writer may write
   pub limit : ℕ
+  -- how many bytes were consumed
   pub head : ℕ
+  -- how many the reader has seen
   pub seen : ℕ
+  -- whether the ring is closed, and whether the writer closed it
   pub closed : ℕ
   pub shut : ℕ
+  -- how far each end has gone in leaving
   pub reader_stage : ℕ
   pub writer_stage : ℕ
 
 abbrev pub names_of : (c s l h e o u i j : ℕ) → Names
-names_of c s l h e o u i j = record { capacity = c; sent = s; limit = l; head = h; seen = e; closed = o; shut = u; reader_stage = i; writer_stage = j }
+names_of c s l h e o u i j = record {
+  capacity = c;
+  sent = s;
+  limit = l;
+  head = h;
+  seen = e;
+  closed = o;
+  shut = u;
+  reader_stage = i;
+  writer_stage = j;
+}
+
+abbrev pub Three : Type 0
+Three = ℕ × (ℕ × ℕ)
+
+abbrev pub coded_three : Coded Three
+coded_three = coded× coded_ℕ (coded× coded_ℕ coded_ℕ)
+
+abbrev pub of_threes : Three → Three → Three → Names
+of_threes a b c = names_of a.0 a.1.0 a.1.1 b.0 b.1.0 b.1.1 c.0 c.1.0 c.1.1
 
 abbrev pub names_code : Coded Names
-names_code = code_by ((ℕ × (ℕ × ℕ)) × ((ℕ × (ℕ × ℕ)) × (ℕ × (ℕ × ℕ)))) (coded× (coded× coded_ℕ (coded× coded_ℕ coded_ℕ)) (coded× (coded× coded_ℕ (coded× coded_ℕ coded_ℕ)) (coded× coded_ℕ (coded× coded_ℕ coded_ℕ))))
-    (λ z. ((z.capacity, (z.sent, z.limit)), ((z.head, (z.seen, z.closed)), (z.shut, (z.reader_stage, z.writer_stage)))))
-    (λ p. names_of p.0.0 p.0.1.0 p.0.1.1 p.1.0.0 p.1.0.1.0 p.1.0.1.1 p.1.1.0 p.1.1.1.0 p.1.1.1.1) (λ _. refl)
+names_code =
+    code_by (Three × (Three × Three)) (coded× coded_three (coded× coded_three coded_three))
+    (λ z. (
+      (z.capacity, (z.sent, z.limit)),
+      ((z.head, (z.seen, z.closed)), (z.shut, (z.reader_stage, z.writer_stage))),
+    ))
+    (λ p. of_threes p.0 p.1.0 p.1.1) (λ _. refl)
 
 -- which ring it is: where its words and its memory begin, and its names
 abbrev pub Ring : Type 0
@@ -109,7 +138,8 @@ abbrev pub words_type : Ty
 words_type = array_of u64 64
 
 abbrev pub four_rooms : Ptr → Fml
-four_rooms w = fsep (word_room w 128) (fsep (word_room w 256) (fsep (word_room w 384) (word_room w 0)))
+four_rooms w =
+    fsep (word_room w 128) (fsep (word_room w 256) (fsep (word_room w 384) (word_room w 0)))
 
 -- the right to give a block back to the heap, which is the same for each handle of it
 abbrev pub heap_token : Ty → Ptr → Fml
@@ -134,7 +164,11 @@ announced z xs shut = fsep (began z xs) (raised z.shut shut)
 
 module _ (w p : Ptr) (z : Names) where
   abbrev pub words : State → Fml
-  words s = fsep (word w 128 (position_of z.capacity s.head)) (fsep (word w 256 (position_of z.capacity (length s.sent))) (fsep (word w 384 (flag s.closed)) (word w 0 (one_gone (gone s.reader_stage) (gone s.writer_stage)))))
+  words s =
+      fsep (word w 128 (position_of z.capacity s.head))
+      (fsep (word w 256 (position_of z.capacity (length s.sent)))
+      (fsep (word w 384 (flag s.closed))
+      (word w 0 (one_gone (gone s.reader_stage) (gone s.writer_stage)))))
 
   abbrev pub idle : ℕ → ℕ → List ℕ → Fml
   idle limit n xs = fsep (fact (length xs ≡ n)) (run (byte p z.capacity) limit xs)
@@ -145,7 +179,9 @@ module _ (w p : Ptr) (z : Names) where
 
   -- the bytes between the words, and the rights to free the two blocks
   abbrev pub deeds : Fml
-  deeds = fsep (fwand (four_rooms w) (froom words_type (block_of w) (count_of w))) (fsep (heap_token words_type w) (heap_token (array_of u8 z.capacity) p))
+  deeds =
+      fsep (fwand (four_rooms w) (froom words_type (block_of w) (count_of w)))
+      (fsep (heap_token words_type w) (heap_token (array_of u8 z.capacity) p))
 
   -- n places from k on, set or not
   abbrev pub blanks : ℕ → ℕ → Fml
@@ -153,28 +189,42 @@ module _ (w p : Ptr) (z : Names) where
 
   -- what each end gave up when it left, and the rights to free the memory
   abbrev pub given_up : State → Fml
-  given_up s = fsep (where_gone (gone s.reader_stage) (blanks s.head (s.seen - s.head))) (fsep (where_gone (gone s.writer_stage) (blanks (length s.sent) (s.limit - length s.sent))) deeds)
+  given_up s =
+      fsep (where_gone (gone s.reader_stage) (blanks s.head (s.seen - s.head)))
+      (fsep (where_gone (gone s.writer_stage) (blanks (length s.sent) (s.limit - length s.sent)))
+      deeds)
 
   abbrev pub between : State → Fml
-  between s = fsep (run (byte p z.capacity) s.seen (drop s.seen s.sent)) (fsep (spare s.limit (s.head + z.capacity - s.limit)) (given_up s))
+  between s =
+      fsep (run (byte p z.capacity) s.seen (drop s.seen s.sent))
+      (fsep (spare s.limit (s.head + z.capacity - s.limit)) (given_up s))
 
   abbrev pub memory : State → Fml
   memory s = fsep (words s) (between s)
 
   abbrev pub writer_knows : Share → List ℕ → ℕ → Bool → ℕ → Fml
-  writer_knows q sent limit shut stage = fsep (latest (prefixes coded_ℕ) q z.sent sent) (fsep (latest numbers q z.limit limit) (fsep (latest numbers q z.shut (flag shut)) (latest numbers q z.writer_stage stage)))
+  writer_knows q sent limit shut stage =
+      fsep (latest (prefixes coded_ℕ) q z.sent sent)
+      (fsep (latest numbers q z.limit limit)
+      (fsep (latest numbers q z.shut (flag shut)) (latest numbers q z.writer_stage stage)))
 
   abbrev pub reader_knows : Share → ℕ → ℕ → ℕ → Fml
-  reader_knows q head seen stage = fsep (fsep (latest numbers q z.head head) (latest numbers q z.reader_stage stage)) (latest numbers q z.seen seen)
+  reader_knows q head seen stage =
+      fsep (fsep (latest numbers q z.head head) (latest numbers q z.reader_stage stage))
+      (latest numbers q z.seen seen)
 
   abbrev pub ends : Bool → Fml
   ends closed = latest numbers full_share z.closed (flag closed)
 
   abbrev pub views : State → Fml
-  views s = fsep (writer_knows other s.sent s.limit s.shut s.writer_stage) (fsep (reader_knows other s.head s.seen s.reader_stage) (ends s.closed))
+  views s =
+      fsep (writer_knows other s.sent s.limit s.shut s.writer_stage)
+      (fsep (reader_knows other s.head s.seen s.reader_stage) (ends s.closed))
 
   abbrev pub standing : State → Fml
-  standing s = fsep (fact (Holds z.capacity s)) (fsep (views s) (until_both (gone s.reader_stage) (gone s.writer_stage) (memory s)))
+  standing s =
+      fsep (fact (Holds z.capacity s))
+      (fsep (views s) (until_both (gone s.reader_stage) (gone s.writer_stage) (memory s)))
 
   abbrev pub Inner : Fml
   Inner = fex State standing
@@ -191,10 +241,12 @@ module _ (w p : Ptr) (z : Names) where
 
   -- `have` is all that the reader took, followed by all that it knows of
   abbrev pub reader_owns : ℕ → ℕ → List ℕ → Bool → Fml
-  reader_owns head seen have leaving = fsep common (fsep (reader_knows half head seen (flag leaving)) (arrived_first seen have))
+  reader_owns head seen have leaving =
+      fsep common (fsep (reader_knows half head seen (flag leaving)) (arrived_first seen have))
 
   abbrev pub reader_lends : ℕ → ℕ → Bool → Lft → Fml
-  reader_lends head seen leaving = beside (said common) (one (λ q. reader_knows q head seen (flag leaving)))
+  reader_lends head seen leaving =
+      beside (said common) (one (λ q. reader_knows q head seen (flag leaving)))
 
   -- while the writer is there its stage is 0: it closes the ring to leave as it does for good
   abbrev pub writer_owns : List ℕ → ℕ → Bool → Fml
@@ -205,7 +257,10 @@ module _ (w p : Ptr) (z : Names) where
 
   -- all of the ring's memory, as the heap gave it: the block of the words and the block of the bytes, each with the right to free it
   abbrev pub whole : Fml
-  whole = fsep (fsep (froom words_type (block_of w) (count_of w)) (heap_token words_type w)) (fsep (froom (array_of u8 z.capacity) (block_of p) (count_of p)) (heap_token (array_of u8 z.capacity) p))
+  whole =
+      fsep (fsep (froom words_type (block_of w) (count_of w)) (heap_token words_type w))
+      (fsep (froom (array_of u8 z.capacity) (block_of p) (count_of p))
+      (heap_token (array_of u8 z.capacity) p))
 
   -- what an end gets when it leaves: all, where the other end was gone before
   abbrev pub remains_own : Bool → Fml

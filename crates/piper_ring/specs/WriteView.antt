@@ -24,18 +24,34 @@ pub record WriteView : Type 0 where
   pub saw : Bool
 
 abbrev pub write_view : Ring → ℕ → List ℕ → ℕ → List ℕ → Bool → ℕ → Bool → WriteView
-write_view i c s r l u n w = record { ring = i; capacity = c; sent = s; room = r; lent = l; shut = u; told = n; saw = w }
+write_view i c s r l u n w = record {
+  ring = i;
+  capacity = c;
+  sent = s;
+  room = r;
+  lent = l;
+  shut = u;
+  told = n;
+  saw = w;
+}
 
 abbrev pub write_view_code : Coded WriteView
-write_view_code = code_by (((Ring × ℕ) × (List ℕ × ℕ)) × ((List ℕ × Bool) × (ℕ × Bool))) (coded× (coded× (coded× ring_code coded_ℕ) (coded× (coded_list coded_ℕ) coded_ℕ)) (coded× (coded× (coded_list coded_ℕ) coded_bool) (coded× coded_ℕ coded_bool)))
-    (λ w. (((w.ring, w.capacity), (w.sent, w.room)), ((w.lent, w.shut), (w.told, w.saw)))) (λ p. write_view p.0.0.0 p.0.0.1 p.0.1.0 p.0.1.1 p.1.0.0 p.1.0.1 p.1.1.0 p.1.1.1) (λ _. refl)
+write_view_code =
+    code_by (((Ring × ℕ) × (List ℕ × ℕ)) × ((List ℕ × Bool) × (ℕ × Bool)))
+    (coded× (coded× (coded× ring_code coded_ℕ) (coded× (coded_list coded_ℕ) coded_ℕ))
+    (coded× (coded× (coded_list coded_ℕ) coded_bool) (coded× coded_ℕ coded_bool)))
+    (λ w. (((w.ring, w.capacity), (w.sent, w.room)), ((w.lent, w.shut), (w.told, w.saw))))
+    (λ p. write_view p.0.0.0 p.0.0.1 p.0.1.0 p.0.1.1 p.1.0.0 p.1.0.1 p.1.1.0 p.1.1.1) (λ _. refl)
 
 abbrev pub either : Bool → Bool → Bool
 either false b = b
 either true b = true
 
 abbrev pub write_view_of : WriteParts → WriteView
-write_view_of e = write_view (e.seat.words, (e.seat.at, e.seat.names)) e.indices.capacity e.seat.sent (e.seat.limit - length e.seat.sent) e.room.lent.bytes e.seat.shut e.told.count (either e.seat.shut e.saw.seen)
+write_view_of e =
+    write_view (e.seat.words, (e.seat.at, e.seat.names)) e.indices.capacity
+    e.seat.sent (e.seat.limit - length e.seat.sent) e.room.lent.bytes
+    e.seat.shut e.told.count (either e.seat.shut e.saw.seen)
 
 -- the place of the next byte
 abbrev pub write_place : WriteView → ℕ
@@ -45,9 +61,12 @@ write_place w = slot_of w.capacity (length w.sent)
 abbrev pub room_in_one_piece : WriteView → ℕ
 room_in_one_piece w = min w.room (w.capacity - write_place w)
 
--- a call for at most `max` bytes may lend n: none once the writer closed the pipe, and else all that is asked for and fits, or at least 4,096 of it
+-- a call for at most `max` bytes may lend n: none once the writer closed the pipe, and else all that
+-- is asked for and fits, or at least 4,096 of it
 abbrev pub MayLend : WriteView → ℕ → ℕ → Type 0
-MayLend w max n = (w.shut ≡ true → n ≡ 0) × (n ≤ min max (room_in_one_piece w)) × (w.shut ≡ false → min 4096 (min max (room_in_one_piece w)) ≤ n)
+MayLend w max n =
+    (w.shut ≡ true → n ≡ 0) × (n ≤ min max (room_in_one_piece w))
+    × (w.shut ≡ false → min 4096 (min max (room_in_one_piece w)) ≤ n)
 
 -- n bytes may be unread: the room that the end knows of is free, and the bytes that it was told of are consumed
 pub record MayBeUnread (w : WriteView) (n : ℕ) : Type 0 where
@@ -89,11 +108,20 @@ pub record SameButSaw (a b : WriteView) : Type 0 where
 
 -- how the end keeps its view
 pub record IsWriteEnd (e : WriteParts) : Type 0 where
-  pub fits : (e.indices.capacity ≡ e.seat.names.capacity) × (0 < e.indices.capacity) × (e.indices.capacity < 2 ^ 63)
+  pub fits :
+      (e.indices.capacity ≡ e.seat.names.capacity) × (0 < e.indices.capacity)
+      × (e.indices.capacity < 2 ^ 63)
   pub room : IsRoom e.room × (e.indices.zeroed ≡ e.room.blank.first)
-  pub placed : (e.base.ptr ≡ e.seat.at) × (e.room.lent.at ≡ e.seat.at) × (e.room.lent.capacity ≡ e.seat.names.capacity) × (e.room.lent.first ≡ length e.seat.sent) × (end_of e.room.later ≡ e.seat.limit)
-  pub freed : (e.indices.capacity ≤ e.seat.limit) × (e.seat.limit ≤ length e.seat.sent + e.indices.capacity)
-  pub cached : (e.indices.tail ≡ position_of e.indices.capacity (length e.seat.sent)) × (e.indices.head ≡ position_of e.indices.capacity (e.seat.limit - e.indices.capacity))
+  pub placed :
+      (e.base.ptr ≡ e.seat.at) × (e.room.lent.at ≡ e.seat.at)
+      × (e.room.lent.capacity ≡ e.seat.names.capacity)
+      × (e.room.lent.first ≡ length e.seat.sent) × (end_of e.room.later ≡ e.seat.limit)
+  pub freed :
+      (e.indices.capacity ≤ e.seat.limit)
+      × (e.seat.limit ≤ length e.seat.sent + e.indices.capacity)
+  pub cached :
+      (e.indices.tail ≡ position_of e.indices.capacity (length e.seat.sent))
+      × (e.indices.head ≡ position_of e.indices.capacity (e.seat.limit - e.indices.capacity))
   pub lending : e.indices.lent ≡ length e.room.lent.bytes
   pub heard : (e.told.names ≡ e.seat.names) × (e.saw.names ≡ e.seat.names)
   pub closed : e.indices.is_shut ≡ e.seat.shut

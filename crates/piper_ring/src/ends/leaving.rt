@@ -1,6 +1,7 @@
 //! The ends once they closed the ring and are about to leave. The second one to leave frees the memory.
 ghost use Rattle.std.specs.Prelude.{◌≡◌, ◌+◌, length, true};
 ghost use Rattle.piper_ring.specs.Shared.{flag};
+ghost use Rattle.piper_ring.specs.Stretches.{IsBlankFrom};
 
 use crate::ring::places::{Base, Blank};
 use crate::ring::seats::{ReadSeat, Remains, WORDS_ALIGN, WORDS_SIZE, WriteSeat};
@@ -15,7 +16,7 @@ pub(crate) struct LeavingReader {
     pub(crate) capacity: usize,
     ghost closed: { seat.leaving ≡ true },
     ghost fits: { (capacity ≡ seat.names.capacity) × (base.ptr ≡ seat.at) },
-    ghost placed: { (known.at ≡ seat.at) × (known.capacity ≡ seat.names.capacity) × (known.first ≡ seat.head) × (known.first + known.count ≡ seat.seen) },
+    ghost placed: { IsBlankFrom seat.at seat.names.capacity seat.head seat.seen known },
 }
 
 impl LeavingReader {
@@ -42,7 +43,7 @@ pub(crate) struct LeavingWriter {
     pub(crate) capacity: usize,
     ghost closed: { seat.shut ≡ true },
     ghost fits: { (capacity ≡ seat.names.capacity) × (base.ptr ≡ seat.at) },
-    ghost placed: { (room.at ≡ seat.at) × (room.capacity ≡ seat.names.capacity) × (room.first ≡ length seat.sent) × (room.first + room.count ≡ seat.limit) },
+    ghost placed: { IsBlankFrom seat.at seat.names.capacity (length seat.sent) seat.limit room },
 }
 
 impl LeavingWriter {
@@ -62,7 +63,8 @@ impl LeavingWriter {
 
 /// Frees what an end got when it left: all of the memory where `found` is 1, else nothing.
 fn release(found: u64, remains: Remains, base: Base, alloc: Global, capacity: usize)
-    requires { (found ≡ flag remains.last) × (base.ptr ≡ remains.at) × (capacity ≡ remains.names.capacity) }
+    requires { (found ≡ flag remains.last) × (base.ptr ≡ remains.at)
+        × (capacity ≡ remains.names.capacity) }
 {
     if found == 0 {
         remains.finish();

@@ -129,7 +129,8 @@ impl ReadEnd {
     pub fn heed(&mut self, mark: &WriteMark)
         requires { mark.now.names ≡ self.old.ring.1.1 }
         ensures told { self.new.told ≡ max self.old.told (length mark.now.bytes) }
-        ensures shut { flag self.new.told_shut ≡ max (flag self.old.told_shut) (flag mark.now.shut) }
+        ensures shut { flag self.new.told_shut
+            ≡ max (flag self.old.told_shut) (flag mark.now.shut) }
         ensures kept { SameButTold self.old self.new }
     {
         self.parts.told.heed(mark);
@@ -149,7 +150,8 @@ impl ReadEnd {
 
     /// `reload`, where it knows of no byte.
     pub fn refresh(&mut self)
-        ensures fresh { self.old.known ≡ [] → self.old.told ≤ length (self.new.taken ++ self.new.known) }
+        ensures fresh { self.old.known ≡ [] →
+            self.old.told ≤ length (self.new.taken ++ self.new.known) }
         ensures known { 0 < length self.old.known → self.new ≡ self.old }
         ensures kept { KnowsMore self.old self.new }
     {

@@ -1,6 +1,7 @@
 //! The places that a writer may write to.
 ghost use Rattle.std.specs.Prelude.{◌≡◌, ℕ, ◌+◌, ◌-◌, ◌<◌, ◌≤◌, List, [], length, max};
 ghost use Rattle.piper_ring.specs.RoomOrder.{IsRoom, SameRoom, end_of};
+ghost use Rattle.piper_ring.specs.Stretches.{BeginsAt, IsBlankFrom};
 
 use crate::ring::places::{Base, Blank, Places};
 
@@ -19,7 +20,8 @@ pub(crate) struct Room {
 impl Room {
     /// All places of a new ring. None is set, and none is lent.
     pub(crate) fn new(mut blank: Blank, capacity: usize) -> Room
-        requires { (capacity ≡ blank.capacity) × (blank.count ≡ blank.capacity) × (blank.first ≡ 0) }
+        requires { (capacity ≡ blank.capacity) × (blank.count ≡ blank.capacity)
+            × (blank.first ≡ 0) }
         ensures room { IsRoom result }
         ensures whole { (result.lent.first ≡ 0) × (end_of result.later ≡ capacity) }
         ensures zeroed { result.blank.first ≡ 0 }
@@ -56,7 +58,10 @@ impl Room {
         from: usize,
         len: usize,
     )
-        requires { IsRoom self.old × (zeroed ≡ self.old.blank.first) × (base.ptr ≡ self.old.lent.at) × (capacity ≡ self.old.lent.capacity) × (self.old.lent.first < capacity → from ≡ self.old.lent.first) × (from + len ≤ capacity) × (self.old.lent.first + len ≤ end_of self.old.later) }
+        requires { IsRoom self.old × (zeroed ≡ self.old.blank.first)
+            × (base.ptr ≡ self.old.lent.at) × (capacity ≡ self.old.lent.capacity)
+            × (self.old.lent.first < capacity → from ≡ self.old.lent.first)
+            × (from + len ≤ capacity) × (self.old.lent.first + len ≤ end_of self.old.later) }
         ensures room { IsRoom self.new }
         ensures zeroed { self.new.blank.first ≡ max zeroed (from + len) }
         ensures same { SameRoom self.old self.new }
@@ -78,7 +83,8 @@ impl Room {
     /// All its places, whose bytes nobody speaks of any more.
     pub(crate) fn forget(self, capacity: usize, zeroed: usize) -> Blank
         requires { IsRoom self × (zeroed ≡ self.blank.first) × (capacity ≡ self.lent.capacity) }
-        ensures { (result.at ≡ self.lent.at) × (result.capacity ≡ self.lent.capacity) × (result.first ≡ self.lent.first) × (result.first + result.count ≡ end_of self.later) }
+        ensures { IsBlankFrom self.lent.at self.lent.capacity self.lent.first
+            (end_of self.later) result }
     {
         let Room {
             lent,
@@ -102,9 +108,14 @@ impl Room {
 #[cold]
 #[inline(never)]
 fn zero(front: &mut Places, blank: &mut Blank, base: Base, from: usize, end: usize)
-    requires { (base.ptr ≡ blank.old.at) × (front.old.at ≡ blank.old.at) × (front.old.capacity ≡ blank.old.capacity) × (end_of front.old ≡ blank.old.first) × (blank.old.first ≡ from) × (from ≤ end) × (end ≤ blank.old.capacity) × (end ≤ from + blank.old.count) }
-    ensures front { (front.new.at ≡ front.old.at) × (front.new.capacity ≡ front.old.capacity) × (front.new.first ≡ front.old.first) × (end_of front.new ≡ end) }
-    ensures blank { (blank.new.at ≡ blank.old.at) × (blank.new.capacity ≡ blank.old.capacity) × (blank.new.first ≡ end) × (end + blank.new.count ≡ from + blank.old.count) }
+    requires { (base.ptr ≡ blank.old.at) × (front.old.at ≡ blank.old.at)
+        × (front.old.capacity ≡ blank.old.capacity) × (end_of front.old ≡ blank.old.first)
+        × (blank.old.first ≡ from) × (from ≤ end) × (end ≤ blank.old.capacity)
+        × (end ≤ from + blank.old.count) }
+    ensures front { BeginsAt front.old.at front.old.capacity front.old.first front.new }
+    ensures set { end_of front.new ≡ end }
+    ensures blank { IsBlankFrom blank.old.at blank.old.capacity end
+        (from + blank.old.count) blank.new }
 {
     for slot in from..end {
         front.join(blank.set(base, slot));

@@ -164,7 +164,8 @@ impl WriteEnd {
 
     /// `reload`, where it knows of no room.
     pub fn refresh(&mut self)
-        ensures fresh { self.old.room ≡ 0 → self.old.told + self.old.capacity ≤ length self.new.sent + self.new.room }
+        ensures fresh { self.old.room ≡ 0 →
+            self.old.told + self.old.capacity ≤ length self.new.sent + self.new.room }
         ensures known { 0 < self.old.room → self.new ≡ self.old }
         ensures kept { HasMoreRoom self.old self.new }
     {

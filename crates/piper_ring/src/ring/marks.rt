@@ -40,7 +40,10 @@ impl WriteMark {
     /// Afterwards it tells what either of the two told.
     pub fn heed(&mut self, other: &WriteMark)
         requires { other.now.names ≡ self.old.names }
-        ensures { (self.new.names ≡ self.old.names) × (length self.new.bytes ≡ max (length self.old.bytes) (length other.now.bytes)) × (flag self.new.shut ≡ max (flag self.old.shut) (flag other.now.shut)) }
+        ensures ring { self.new.names ≡ self.old.names }
+        ensures bytes { length self.new.bytes
+            ≡ max (length self.old.bytes) (length other.now.bytes) }
+        ensures shut { flag self.new.shut ≡ max (flag self.old.shut) (flag other.now.shut) }
     {}
 }
 
@@ -78,7 +81,8 @@ impl ReadMark {
     /// Afterwards it tells what either of the two told.
     pub fn heed(&mut self, other: &ReadMark)
         requires { other.now.names ≡ self.old.names }
-        ensures { (self.new.names ≡ self.old.names) × (self.new.count ≡ max self.old.count other.now.count) }
+        ensures ring { self.new.names ≡ self.old.names }
+        ensures count { self.new.count ≡ max self.old.count other.now.count }
     {}
 }
 

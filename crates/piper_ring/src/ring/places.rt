@@ -59,10 +59,11 @@ unsafe impl Sync for Blank {}
 impl Places {
     ghost use Rattle.std.specs.Borrow.{sem};
     ghost use Rattle.piper_ring.specs.Lends.{lends_bytes};
+    ghost use Rattle.piper_ring.specs.Stretches.{IsPiece, Follows, forgotten};
 
     /// Its bytes, to be written. There are `len`, in one piece from the slot `from` on.
     pub(crate) fn slice_mut(&mut self, base: Base, from: usize, len: usize) -> &mut [u8]
-        requires { (base.ptr ≡ self.old.at) × (len ≡ length self.old.bytes) × (from ≡ slot_of self.old.capacity self.old.first) × (from + len ≤ self.old.capacity) }
+        requires { IsPiece base.ptr from len self.old × (len ≡ length self.old.bytes) }
         ensures* writes_back { sem 𝓛 (lends_bytes self.entry result) }
         ensures value { result.now ≡ self.old.bytes }
     {
@@ -71,7 +72,7 @@ impl Places {
 
     /// The first `len` bytes, to be read. They stand in one piece from slot `from` on.
     pub(crate) fn slice(&self, base: Base, from: usize, len: usize) -> &[u8]
-        requires { (base.ptr ≡ self.now.at) × (len ≤ length self.now.bytes) × (from ≡ slot_of self.now.capacity self.now.first) × (from + len ≤ self.now.capacity) }
+        requires { IsPiece base.ptr from len self.now }
         ensures { result.now ≡ take len self.now.bytes }
     {
         unsafe { slice::from_raw_parts(base.ptr.add(from), len) }
@@ -80,7 +81,11 @@ impl Places {
     /// The first `n` places, which then leave it.
     pub(crate) fn split(&mut self, n: usize) -> Places
         requires { n ≤ length self.old.bytes }
-        ensures { (result.at ≡ self.old.at) × (result.capacity ≡ self.old.capacity) × (result.first ≡ self.old.first) × (result.bytes ≡ take n self.old.bytes) × (self.new.at ≡ self.old.at) × (self.new.capacity ≡ self.old.capacity) × (self.new.first ≡ self.old.first + n) × (self.new.bytes ≡ drop n self.old.bytes) }
+        ensures front { result ≡ record self.old { bytes = take n self.old.bytes } }
+        ensures rest { self.new ≡ record self.old {
+          first = self.old.first + n;
+          bytes = drop n self.old.bytes;
+        } }
     {
         let _ = n;
         Places { mark: PhantomData }
@@ -88,7 +93,11 @@ impl Places {
 
     /// All its places, which then leave it.
     pub(crate) fn take(&mut self) -> Places
-        ensures { (result.at ≡ self.old.at) × (result.capacity ≡ self.old.capacity) × (result.first ≡ self.old.first) × (result.bytes ≡ self.old.bytes) × (self.new.at ≡ self.old.at) × (self.new.capacity ≡ self.old.capacity) × (self.new.first ≡ self.old.first + length self.old.bytes) × (self.new.bytes ≡ []) }
+        ensures all { result ≡ self.old }
+        ensures rest { self.new ≡ record self.old {
+          first = self.old.first + length self.old.bytes;
+          bytes = [];
+        } }
     {
         Places { mark: PhantomData }
     }
@@ -103,15 +112,15 @@ impl Places {
 
     /// The places that follow come to it.
     pub(crate) fn join(&mut self, more: Places)
-        requires { (more.at ≡ self.old.at) × (more.capacity ≡ self.old.capacity) × (more.first ≡ self.old.first + length self.old.bytes) }
-        ensures { (self.new.at ≡ self.old.at) × (self.new.capacity ≡ self.old.capacity) × (self.new.first ≡ self.old.first) × (self.new.bytes ≡ self.old.bytes ++ more.bytes) }
+        requires { Follows self.old more }
+        ensures { self.new ≡ record self.old { bytes = self.old.bytes ++ more.bytes } }
     {
         let Places { mark: _ } = more;
     }
 
     /// The same places, whose bytes nobody speaks of any more.
     pub(crate) fn forget(self) -> Blank
-        ensures { (result.at ≡ self.at) × (result.capacity ≡ self.capacity) × (result.first ≡ self.first) × (result.count ≡ length self.bytes) }
+        ensures { result ≡ forgotten self }
     {
         let Places { mark: _ } = self;
         Blank { mark: PhantomData }
@@ -119,9 +128,12 @@ impl Places {
 }
 
 impl Blank {
+    ghost use Rattle.piper_ring.specs.Stretches.{FollowsBlank, places_from};
+
     /// No places, as they stand `skip` places after its first.
     pub(crate) fn none(&mut self, skip: usize) -> Places
-        ensures { (result.at ≡ self.old.at) × (result.capacity ≡ self.old.capacity) × (result.first ≡ self.old.first + skip) × (result.bytes ≡ []) × (self.new ≡ self.old) }
+        ensures none { result ≡ places_from self.old (self.old.first + skip) [] }
+        ensures same { self.new ≡ self.old }
     {
         let _ = skip;
         Places { mark: PhantomData }
@@ -129,8 +141,13 @@ impl Blank {
 
     /// Zeroes the first place, which stands in the slot `slot`. It then leaves it.
     pub(crate) fn set(&mut self, base: Base, slot: usize) -> Places
-        requires { (base.ptr ≡ self.old.at) × (0 < self.old.count) × (slot ≡ slot_of self.old.capacity self.old.first) × (slot < self.old.capacity) }
-        ensures { (result.at ≡ self.old.at) × (result.capacity ≡ self.old.capacity) × (result.first ≡ self.old.first) × (result.bytes ≡ 0 ∷ []) × (self.new.at ≡ self.old.at) × (self.new.capacity ≡ self.old.capacity) × (self.new.first ≡ self.old.first + 1) × (self.new.count ≡ self.old.count - 1) }
+        requires { (base.ptr ≡ self.old.at) × (0 < self.old.count)
+            × (slot ≡ slot_of self.old.capacity self.old.first) × (slot < self.old.capacity) }
+        ensures place { result ≡ places_from self.old self.old.first (0 ∷ []) }
+        ensures rest { self.new ≡ record self.old {
+          first = self.old.first + 1;
+          count = self.old.count - 1;
+        } }
     {
         unsafe { base.ptr.add(slot).write(0) };
         Places { mark: PhantomData }
@@ -138,8 +155,8 @@ impl Blank {
 
     /// The places that follow come to it.
     pub(crate) fn join(&mut self, more: Blank)
-        requires { (more.at ≡ self.old.at) × (more.capacity ≡ self.old.capacity) × (more.first ≡ self.old.first + self.old.count) }
-        ensures { (self.new.at ≡ self.old.at) × (self.new.capacity ≡ self.old.capacity) × (self.new.first ≡ self.old.first) × (self.new.count ≡ self.old.count + more.count) }
+        requires { FollowsBlank self.old more }
+        ensures { self.new ≡ record self.old { count = self.old.count + more.count } }
     {
         let Blank { mark: _ } = more;
     }

@@ -88,7 +88,8 @@ impl Remains {
     /// The memory as the heap gave it: that of the words, and that of the bytes.
     pub(crate) fn into_memory(self, base: Base) -> (Memory, Memory)
         requires { (self.last ≡ true) × (base.ptr ≡ self.at) }
-        ensures { (result.0.size ≡ 512) × (result.0.align ≡ 8) × (result.1.size ≡ self.names.capacity) × (result.1.align ≡ 1) }
+        ensures words { (result.0.size ≡ 512) × (result.0.align ≡ 8) }
+        ensures bytes { (result.1.size ≡ self.names.capacity) × (result.1.align ≡ 1) }
     {
         let Remains { words } = self;
         let words = Memory {
@@ -102,7 +103,17 @@ impl Remains {
 /// The two seats of an empty open ring, its places, all of them the writer's room and none of them set, and where they begin.
 pub(crate) fn open(words: Memory, bytes: Memory) -> (ReadSeat, WriteSeat, Blank, Base)
     requires { (words.align ≡ 8) × (bytes.align ≡ 1) }
-    ensures { (result.0.words ≡ words.start) × (result.0.at ≡ bytes.start) × (result.0.names.capacity ≡ bytes.size) × (result.0.head ≡ 0) × (result.0.seen ≡ 0) × (result.0.have ≡ []) × (result.0.leaving ≡ false) × (result.1.words ≡ result.0.words) × (result.1.at ≡ bytes.start) × (result.1.names ≡ result.0.names) × (result.1.sent ≡ []) × (result.1.limit ≡ bytes.size) × (result.1.shut ≡ false) × (result.2.at ≡ bytes.start) × (result.2.capacity ≡ bytes.size) × (result.2.first ≡ 0) × (result.2.count ≡ bytes.size) × (result.3.ptr ≡ bytes.start) }
+    ensures ring { (result.0.words ≡ words.start) × (result.0.at ≡ bytes.start)
+        × (result.0.names.capacity ≡ bytes.size) }
+    ensures reader { (result.0.head ≡ 0) × (result.0.seen ≡ 0) × (result.0.have ≡ [])
+        × (result.0.leaving ≡ false) }
+    ensures pair { (result.1.words ≡ result.0.words) × (result.1.at ≡ bytes.start)
+        × (result.1.names ≡ result.0.names) }
+    ensures writer { (result.1.sent ≡ []) × (result.1.limit ≡ bytes.size)
+        × (result.1.shut ≡ false) }
+    ensures room { (result.2.at ≡ bytes.start) × (result.2.capacity ≡ bytes.size)
+        × (result.2.first ≡ 0) × (result.2.count ≡ bytes.size) }
+    ensures base { result.3.ptr ≡ bytes.start }
 {
     let Memory { start: ptr } = bytes;
     let Memory { start } = words;
@@ -120,6 +131,8 @@ pub(crate) fn open(words: Memory, bytes: Memory) -> (ReadSeat, WriteSeat, Blank,
 }
 
 impl ReadSeat {
+    ghost use Rattle.piper_ring.specs.Stretches.{BeginsAt, IsBlankFrom, ReadGains, AreOfOneRing};
+
     /// Evidence of what was consumed.
     pub(crate) fn mark(&self) -> ReadMark
         ensures { (result.names ≡ self.now.names) × (result.count ≡ self.now.head) }
@@ -137,7 +150,11 @@ impl ReadSeat {
     /// Where the tail stands: no less than the reader has seen or was told of. With it comes evidence of the bytes that were published.
     pub(crate) fn look_tail(&self, told: &WriteMark) -> (u64, WriteMark)
         requires { told.now.names ≡ self.now.names }
-        ensures { (result.1.names ≡ self.now.names) × (result.0 ≡ position_of self.now.names.capacity (length result.1.bytes)) × (self.now.seen ≤ length result.1.bytes) × (length result.1.bytes ≤ self.now.head + self.now.names.capacity) × (length told.now.bytes ≤ length result.1.bytes) }
+        ensures ring { result.1.names ≡ self.now.names }
+        ensures tail { result.0 ≡ position_of self.now.names.capacity (length result.1.bytes) }
+        ensures seen { self.now.seen ≤ length result.1.bytes }
+        ensures within { length result.1.bytes ≤ self.now.head + self.now.names.capacity }
+        ensures told { length told.now.bytes ≤ length result.1.bytes }
     {
         let tail = unsafe { raw::load::<Brand>(self.words.add(TAIL_WORD), SeqCst) };
         (tail, WriteMark { mark: PhantomData })
@@ -145,22 +162,30 @@ impl ReadSeat {
 
     /// The places of the bytes that were seen published come to the reader. It is no step of the program.
     pub(crate) fn accept(&mut self, known: &mut Places, published: &WriteMark)
-        requires { (known.old.at ≡ self.old.at) × (known.old.capacity ≡ self.old.names.capacity) × (known.old.first + length known.old.bytes ≡ self.old.seen) × (published.now.names ≡ self.old.names) × (self.old.seen ≤ length published.now.bytes) }
-        ensures { (self.new.words ≡ self.old.words) × (self.new.at ≡ self.old.at) × (self.new.names ≡ self.old.names) × (self.new.head ≡ self.old.head) × (self.new.leaving ≡ self.old.leaving) × (known.new.at ≡ known.old.at) × (known.new.capacity ≡ known.old.capacity) × (known.new.first ≡ known.old.first) × (self.new.seen ≡ length published.now.bytes) × ((xs : List ℕ) × (known.new.bytes ≡ known.old.bytes ++ xs) × (self.new.have ≡ self.old.have ++ xs) × (self.new.seen ≡ self.old.seen + length xs)) }
+        requires { (known.old.at ≡ self.old.at) × (known.old.capacity ≡ self.old.names.capacity)
+            × (known.old.first + length known.old.bytes ≡ self.old.seen)
+            × (published.now.names ≡ self.old.names)
+            × (self.old.seen ≤ length published.now.bytes) }
+        ensures { ReadGains self.old self.new known.old known.new published.now.bytes }
     {}
 
     /// 1 if the ring is closed, else 0. Once it was seen closed, or the reader was told that the writer closed it, the answer is 1.
     pub(crate) fn load_closed(&self, saw: &mut Saw, told: &WriteMark) -> u64
         requires { (saw.old.names ≡ self.now.names) × (told.now.names ≡ self.now.names) }
-        ensures { (saw.new.names ≡ saw.old.names) × (result ≡ flag saw.new.seen) × (flag saw.old.seen ≤ result) × (flag told.now.shut ≤ result) }
+        ensures ring { saw.new.names ≡ saw.old.names }
+        ensures answer { result ≡ flag saw.new.seen }
+        ensures stays { flag saw.old.seen ≤ result }
+        ensures told { flag told.now.shut ≤ result }
     {
         unsafe { raw::load::<Brand>(self.words.add(CLOSED_WORD), SeqCst) }
     }
 
     /// Gives the places of the oldest bytes back.
     pub(crate) fn store_head(&mut self, back: Places, head: u64)
-        requires { (back.at ≡ self.old.at) × (back.capacity ≡ self.old.names.capacity) × (back.first ≡ self.old.head) × (self.old.head + length back.bytes ≤ self.old.seen) × (head ≡ position_of self.old.names.capacity (self.old.head + length back.bytes)) }
-        ensures { (self.new.words ≡ self.old.words) × (self.new.at ≡ self.old.at) × (self.new.names ≡ self.old.names) × (self.new.head ≡ self.old.head + length back.bytes) × (self.new.seen ≡ self.old.seen) × (self.new.have ≡ self.old.have) × (self.new.leaving ≡ self.old.leaving) }
+        requires { BeginsAt self.old.at self.old.names.capacity self.old.head back
+            × (self.old.head + length back.bytes ≤ self.old.seen)
+            × (head ≡ position_of self.old.names.capacity (self.old.head + length back.bytes)) }
+        ensures { self.new ≡ record self.old { head = self.old.head + length back.bytes } }
     {
         let Places { mark: _ } = back;
         unsafe { raw::store::<Brand>(self.words.add(HEAD_WORD), head, SeqCst) }
@@ -168,15 +193,18 @@ impl ReadSeat {
 
     /// Closes the ring, since the reader is about to leave.
     pub(crate) fn store_closed(&mut self)
-        ensures { (self.new.words ≡ self.old.words) × (self.new.at ≡ self.old.at) × (self.new.names ≡ self.old.names) × (self.new.head ≡ self.old.head) × (self.new.seen ≡ self.old.seen) × (self.new.have ≡ self.old.have) × (self.new.leaving ≡ true) }
+        ensures { self.new ≡ record self.old { leaving = true } }
     {
         unsafe { raw::store::<Brand>(self.words.add(CLOSED_WORD), 1, SeqCst) }
     }
 
     /// The reader leaves, and gives up the places of the bytes that it knows of. The answer is 1 if the writer had left before.
     pub(crate) fn leave(self, known: Blank) -> (u64, Remains)
-        requires { (known.at ≡ self.at) × (known.capacity ≡ self.names.capacity) × (known.first ≡ self.head) × (known.first + known.count ≡ self.seen) × (self.leaving ≡ true) }
-        ensures { (result.0 ≡ flag result.1.last) × (result.1.words ≡ self.words) × (result.1.at ≡ self.at) × (result.1.names ≡ self.names) }
+        requires { IsBlankFrom self.at self.names.capacity self.head self.seen known
+            × (self.leaving ≡ true) }
+        ensures last { result.0 ≡ flag result.1.last }
+        ensures memory { (result.1.words ≡ self.words) × (result.1.at ≡ self.at) }
+        ensures ring { result.1.names ≡ self.names }
     {
         let ReadSeat { words } = self;
         let Blank { mark: _ } = known;
@@ -191,17 +219,34 @@ impl ReadSeat {
         saw: &Saw,
         other_saw: &Saw,
     ) -> (Places, Places)
-        requires { (other.old.words ≡ self.old.words) × (other.old.at ≡ self.old.at) × (other.old.names ≡ self.old.names) × (saw.now.names ≡ self.old.names) × (other_saw.now.names ≡ self.old.names) × (self.old.leaving ≡ false) }
-        ensures { (self.new.words ≡ self.old.words) × (self.new.at ≡ self.old.at) × (self.new.names ≡ self.old.names) × (self.new.head ≡ self.old.head) × (self.new.seen ≡ length other.old.sent) × (self.new.have ≡ other.old.sent) × (self.new.leaving ≡ self.old.leaving) × (other.new.words ≡ other.old.words) × (other.new.at ≡ other.old.at) × (other.new.names ≡ other.old.names) × (other.new.sent ≡ other.old.sent) × (other.new.limit ≡ self.old.head + self.old.names.capacity) × (other.new.shut ≡ other.old.shut) × (result.0.at ≡ self.old.at) × (result.0.capacity ≡ self.old.names.capacity) × (result.0.first ≡ self.old.seen) × (self.old.have ++ result.0.bytes ≡ other.old.sent) × (result.1.at ≡ self.old.at) × (result.1.capacity ≡ self.old.names.capacity) × (result.1.first ≡ other.old.limit) × (other.old.limit + length result.1.bytes ≡ self.old.head + self.old.names.capacity) × (flag saw.now.seen ≤ flag other.old.shut) × (flag other_saw.now.seen ≤ flag other.old.shut) }
+        requires { AreOfOneRing self.old other.old × (saw.now.names ≡ self.old.names)
+            × (other_saw.now.names ≡ self.old.names) × (self.old.leaving ≡ false) }
+        ensures reader { self.new ≡ record self.old {
+          seen = length other.old.sent;
+          have = other.old.sent;
+        } }
+        ensures writer { other.new ≡ record other.old {
+          limit = self.old.head + self.old.names.capacity;
+        } }
+        ensures arrived { BeginsAt self.old.at self.old.names.capacity self.old.seen result.0 }
+        ensures published { self.old.have ++ result.0.bytes ≡ other.old.sent }
+        ensures freed { BeginsAt self.old.at self.old.names.capacity other.old.limit result.1 }
+        ensures room { other.old.limit + length result.1.bytes
+            ≡ self.old.head + self.old.names.capacity }
+        ensures shut { flag saw.now.seen ≤ flag other.old.shut }
+        ensures other_shut { flag other_saw.now.seen ≤ flag other.old.shut }
     {
         (Places { mark: PhantomData }, Places { mark: PhantomData })
     }
 }
 
 impl WriteSeat {
+    ghost use Rattle.piper_ring.specs.Stretches.{BeginsAt, IsBlankFrom, WriteGains};
+
     /// Evidence of what was published.
     pub(crate) fn mark(&self) -> WriteMark
-        ensures { (result.names ≡ self.now.names) × (result.bytes ≡ self.now.sent) × (result.shut ≡ self.now.shut) }
+        ensures { (result.names ≡ self.now.names) × (result.bytes ≡ self.now.sent)
+            × (result.shut ≡ self.now.shut) }
     {
         WriteMark { mark: PhantomData }
     }
@@ -209,7 +254,11 @@ impl WriteSeat {
     /// Where the head stands: no less than the writer was told of, and no room that it knows of is taken away. With it comes evidence of how many bytes were consumed.
     pub(crate) fn look_head(&self, told: &ReadMark) -> (u64, ReadMark)
         requires { told.now.names ≡ self.now.names }
-        ensures { (result.1.names ≡ self.now.names) × (result.0 ≡ position_of self.now.names.capacity result.1.count) × (result.1.count ≤ length self.now.sent) × (self.now.limit ≤ result.1.count + self.now.names.capacity) × (told.now.count ≤ result.1.count) }
+        ensures ring { result.1.names ≡ self.now.names }
+        ensures head { result.0 ≡ position_of self.now.names.capacity result.1.count }
+        ensures sent { result.1.count ≤ length self.now.sent }
+        ensures room { self.now.limit ≤ result.1.count + self.now.names.capacity }
+        ensures told { told.now.count ≤ result.1.count }
     {
         let head = unsafe { raw::load::<Brand>(self.words.add(HEAD_WORD), SeqCst) };
         (head, ReadMark { mark: PhantomData })
@@ -217,22 +266,32 @@ impl WriteSeat {
 
     /// The places that were seen given back come to the writer. It is no step of the program.
     pub(crate) fn accept(&mut self, room: &mut Places, consumed: &ReadMark)
-        requires { (room.old.at ≡ self.old.at) × (room.old.capacity ≡ self.old.names.capacity) × (room.old.first + length room.old.bytes ≡ self.old.limit) × (consumed.now.names ≡ self.old.names) × (self.old.limit ≤ consumed.now.count + self.old.names.capacity) }
-        ensures { (self.new.words ≡ self.old.words) × (self.new.at ≡ self.old.at) × (self.new.names ≡ self.old.names) × (self.new.sent ≡ self.old.sent) × (self.new.shut ≡ self.old.shut) × (room.new.at ≡ room.old.at) × (room.new.capacity ≡ room.old.capacity) × (room.new.first ≡ room.old.first) × (self.new.limit ≡ consumed.now.count + self.old.names.capacity) × ((xs : List ℕ) × (room.new.bytes ≡ room.old.bytes ++ xs) × (self.new.limit ≡ self.old.limit + length xs)) }
+        requires { (room.old.at ≡ self.old.at) × (room.old.capacity ≡ self.old.names.capacity)
+            × (room.old.first + length room.old.bytes ≡ self.old.limit)
+            × (consumed.now.names ≡ self.old.names)
+            × (self.old.limit ≤ consumed.now.count + self.old.names.capacity) }
+        ensures { WriteGains self.old self.new room.old room.new
+            (consumed.now.count + self.old.names.capacity) }
     {}
 
     /// 1 if the ring is closed, else 0. Once it was seen closed, or the writer closed it, the answer is 1.
     pub(crate) fn load_closed(&self, saw: &mut Saw) -> u64
         requires { saw.old.names ≡ self.now.names }
-        ensures { (saw.new.names ≡ saw.old.names) × (result ≡ flag saw.new.seen) × (flag saw.old.seen ≤ result) × (flag self.now.shut ≤ result) }
+        ensures ring { saw.new.names ≡ saw.old.names }
+        ensures answer { result ≡ flag saw.new.seen }
+        ensures stays { flag saw.old.seen ≤ result }
+        ensures shut { flag self.now.shut ≤ result }
     {
         unsafe { raw::load::<Brand>(self.words.add(CLOSED_WORD), SeqCst) }
     }
 
     /// Publishes the bytes that stand in the places handed over.
     pub(crate) fn store_tail(&mut self, bytes: Places, tail: u64)
-        requires { (bytes.at ≡ self.old.at) × (bytes.capacity ≡ self.old.names.capacity) × (bytes.first ≡ length self.old.sent) × (length self.old.sent + length bytes.bytes ≤ self.old.limit) × (tail ≡ position_of self.old.names.capacity (length self.old.sent + length bytes.bytes)) }
-        ensures { (self.new.words ≡ self.old.words) × (self.new.at ≡ self.old.at) × (self.new.names ≡ self.old.names) × (self.new.sent ≡ self.old.sent ++ bytes.bytes) × (self.new.limit ≡ self.old.limit) × (self.new.shut ≡ self.old.shut) }
+        requires { BeginsAt self.old.at self.old.names.capacity (length self.old.sent) bytes
+            × (length self.old.sent + length bytes.bytes ≤ self.old.limit)
+            × (tail ≡ position_of self.old.names.capacity
+            (length self.old.sent + length bytes.bytes)) }
+        ensures { self.new ≡ record self.old { sent = self.old.sent ++ bytes.bytes } }
     {
         let Places { mark: _ } = bytes;
         unsafe { raw::store::<Brand>(self.words.add(TAIL_WORD), tail, SeqCst) }
@@ -240,15 +299,18 @@ impl WriteSeat {
 
     /// Closes the ring for good, or to leave.
     pub(crate) fn store_shut(&mut self)
-        ensures { (self.new.words ≡ self.old.words) × (self.new.at ≡ self.old.at) × (self.new.names ≡ self.old.names) × (self.new.sent ≡ self.old.sent) × (self.new.limit ≡ self.old.limit) × (self.new.shut ≡ true) }
+        ensures { self.new ≡ record self.old { shut = true } }
     {
         unsafe { raw::store::<Brand>(self.words.add(CLOSED_WORD), 1, SeqCst) }
     }
 
     /// The writer leaves, and gives up the places of its room. The answer is 1 if the reader had left before.
     pub(crate) fn leave(self, room: Blank) -> (u64, Remains)
-        requires { (room.at ≡ self.at) × (room.capacity ≡ self.names.capacity) × (room.first ≡ length self.sent) × (room.first + room.count ≡ self.limit) × (self.shut ≡ true) }
-        ensures { (result.0 ≡ flag result.1.last) × (result.1.words ≡ self.words) × (result.1.at ≡ self.at) × (result.1.names ≡ self.names) }
+        requires { IsBlankFrom self.at self.names.capacity (length self.sent) self.limit room
+            × (self.shut ≡ true) }
+        ensures last { result.0 ≡ flag result.1.last }
+        ensures memory { (result.1.words ≡ self.words) × (result.1.at ≡ self.at) }
+        ensures ring { result.1.names ≡ self.names }
     {
         let WriteSeat { words } = self;
         let Blank { mark: _ } = room;

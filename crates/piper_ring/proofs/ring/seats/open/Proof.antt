@@ -77,7 +77,11 @@ open_spec 𝓤 𝓛 𝓜 𝓡 wired =
     sets ! (of_opd ! (get ! refl)) refl (tt, (tt, tt)) $ sets ! (of_opd ! (get ! refl)) refl (tt, (tt, tt)) $ sets ! (of_opd ! (get ! refl)) refl (tt, (tt, tt)) $
     sets ! (agg ! (and_then ! (get ! refl) (no_more !))) refl (tt, (tt, tt)) $
     sets ! (agg ! (and_then ! (get ! refl) (and_then ! (get ! refl) (and_then ! (get ! refl) (and_then ! (get ! refl) (no_more !)))))) refl (tt, ((tt, tt), ((tt, tt), ((tt, tt), ((tt, tt), tt))))) $
-    let Told : Type 0 = (w ≡ w₀) × (p ≡ p₀) × (z.capacity ≡ cap) × (0 ≡ 0) × (0 ≡ 0) × (one.have ≡ one.have) × (false ≡ false) × (w ≡ w) × (p ≡ p₀) × (z ≡ z) × (two.sent ≡ two.sent) × (cap ≡ cap) × (false ≡ false) × (p ≡ p₀) × (cap ≡ cap) × (0 ≡ 0) × (cap ≡ cap) × (p ≡ p₀) in
-    use0 𝓛 (raw (fact 𝓤 Told)) (fact_i 𝓤 Told (emp 𝓤) (sym at_w, sym at_p, ez, refl, refl, refl, refl, refl, sym at_p, refl, refl, refl, refl, sym at_p, refl, refl, refl, sym at_p)) $
+    use0 𝓛 (raw (fact 𝓤 (p ≡ p₀))) (fact_i 𝓤 (p ≡ p₀) (emp 𝓤) (sym at_p)) $
+    use0 𝓛 (raw (fact 𝓤 ((p ≡ p₀) × (cap ≡ cap) × (0 ≡ 0) × (cap ≡ cap)))) (fact_i 𝓤 ((p ≡ p₀) × (cap ≡ cap) × (0 ≡ 0) × (cap ≡ cap)) (emp 𝓤) (sym at_p, refl, refl, refl)) $ join ! $
+    use0 𝓛 (raw (fact 𝓤 ((two.sent ≡ two.sent) × (cap ≡ cap) × (false ≡ false)))) (fact_i 𝓤 ((two.sent ≡ two.sent) × (cap ≡ cap) × (false ≡ false)) (emp 𝓤) (refl, refl, refl)) $ join ! $
+    use0 𝓛 (raw (fact 𝓤 ((w ≡ w) × (p ≡ p₀) × (z ≡ z)))) (fact_i 𝓤 ((w ≡ w) × (p ≡ p₀) × (z ≡ z)) (emp 𝓤) (refl, sym at_p, refl)) $ join ! $
+    use0 𝓛 (raw (fact 𝓤 ((0 ≡ 0) × (0 ≡ 0) × (one.have ≡ one.have) × (false ≡ false)))) (fact_i 𝓤 ((0 ≡ 0) × (0 ≡ 0) × (one.have ≡ one.have) × (false ≡ false)) (emp 𝓤) (refl, refl, refl, refl)) $ join ! $
+    use0 𝓛 (raw (fact 𝓤 ((w ≡ w₀) × (p ≡ p₀) × (z.capacity ≡ cap)))) (fact_i 𝓤 ((w ≡ w₀) × (p ≡ p₀) × (z.capacity ≡ cap)) (emp 𝓤) (sym at_w, sym at_p, ez)) $ join ! $
     nothing ! $ nothing ! $ fjoin ! $ nothing ! $ fjoin ! $ nothing ! $
     returns ! (look_at ! 0 refl) $ free_all ! refl $ keep ! (0 ∷ 1 ∷ 3 ∷ 2 ∷ []) $ by ! (leaves 𝓛 En hs c y (four_val v v ghost_val q) (one, two, three, four) (tt, (tt, tt)) (tt, (tt, tt)))))))))))

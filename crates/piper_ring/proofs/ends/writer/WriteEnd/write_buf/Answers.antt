@@ -24,7 +24,8 @@ slice_mut-requires c = let e = c.self.inside.parts in let i = c.self.invariant i
     let at : from ≡ slot_of cap s = slot_at cap _ s _ i.cached.0 c.front-from.ensures.remainder in let inside : from < cap = c.front-from.ensures.below in let all : c.lend.new.self.lent.capacity ≡ cap = same.capacity ∙ i.placed.2 ∙ sym i.fits.0 in
     let most : len ≤ min (min c.args.max (lend_bound e.indices.zeroed)) (min (room_in e.indices) (left_in e.indices)) = lends_within c.args.max e.indices len c.lend-len.ensures.count in
     let left : left_in e.indices ≡ cap - from = ap (λ (k : ℕ). cap - k) (sym c.front-from.ensures.value) in
-    (i.placed.0 ∙ sym i.placed.1 ∙ sym same.memory, sym c.lend.ensures.lent, at ∙ sym (λ j. slot_of (all j) ((same.first ∙ i.placed.3) j)), omega arith)
+    let many : len ≡ length c.lend.new.self.lent.bytes = sym c.lend.ensures.lent in
+    ((i.placed.0 ∙ sym i.placed.1 ∙ sym same.memory, omega arith, at ∙ sym (λ j. slot_of (all j) ((same.first ∙ i.placed.3) j)), omega arith), many)
 
 pub returns : goal.returns
 returns c = let e = c.self.inside.parts in let i = c.self.invariant in let w = e.indices in let cap : ℕ = w.capacity in let s : ℕ = length e.seat.sent in let from : ℕ = c.front-from.result in let len : ℕ = c.lend-len.result in let count = c.lend-len.ensures.count in

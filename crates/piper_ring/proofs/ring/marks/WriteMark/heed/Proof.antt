@@ -54,5 +54,7 @@ heed_spec 𝓤 𝓛 𝓜 𝓡 wired =
     use2 𝓛 (some (λ (r : List ℕ × Bool). given (Joined h.bytes h.shut g.bytes g.shut r) (‵ (announced z r.0 r.1)))) (both 𝓛 z h.bytes h.shut g.bytes g.shut) $ pick ! (λ r. learn ! (λ most. let l : List ℕ = r.0 in let h' : Row.Denot = record h { bytes = l; shut = r.1 } in
     move ! (1 ∷ 0 ∷ []) $ fjoin ! $ move ! (1 ∷ 0 ∷ []) $ closes ! tt Row h' vs b o $ feq_i ! (List Val) (vptr b o ∷ []) (vptr b o ∷ []) refl $ fjoin3 ! $ sets ! (of_opd ! (unit_lit !)) refl (tt, tt) $
     nothing ! $ nothing ! $ fjoin ! $ move ! (1 ∷ 0 ∷ []) $ fjoin ! $ move ! (2 ∷ []) $ nothing ! $ move ! (1 ∷ 0 ∷ []) $ join ! $ move ! (2 ∷ 0 ∷ []) $ join ! $
-    let Told : Type 0 = (z ≡ z) × (length l ≡ max (length h.bytes) (length g.bytes)) × (flag r.1 ≡ max (flag h.shut) (flag g.shut)) in use0 𝓛 (raw (fact 𝓤 Told)) (fact_i 𝓤 Told (emp 𝓤) (refl, most.0, most.1)) $ feq_i ! (List Val) (vunit ∷ []) (vunit ∷ []) refl $
+    use0 𝓛 (raw (fact 𝓤 (flag r.1 ≡ max (flag h.shut) (flag g.shut)))) (fact_i 𝓤 (flag r.1 ≡ max (flag h.shut) (flag g.shut)) (emp 𝓤) most.1) $
+    use0 𝓛 (raw (fact 𝓤 (length l ≡ max (length h.bytes) (length g.bytes)))) (fact_i 𝓤 (length l ≡ max (length h.bytes) (length g.bytes)) (emp 𝓤) most.0) $ join ! $
+    use0 𝓛 (raw (fact 𝓤 (z ≡ z))) (fact_i 𝓤 (z ≡ z) (emp 𝓤) refl) $ join ! $ feq_i ! (List Val) (vunit ∷ []) (vunit ∷ []) refl $
     returns ! (look_at ! 0 refl) $ free_all ! refl $ keep ! (2 ∷ 3 ∷ 0 ∷ 1 ∷ []) $ by ! (leaves 𝓛 En hs c y vunit tt (h', (tt, tt)) (tt, (tt, tt)))))))))

@@ -50,5 +50,5 @@ join_spec 𝓤 𝓛 𝓜 𝓡 wired =
     move ! (0 ∷ 5 ∷ []) $ use2 𝓛 (‵ (span U h.first (h.count + g.count))) (span_join 𝓛 U h.count h.first g.first g.count (h.count + g.count) asked.2 refl) $ nothing ! $ fpack ! (Placed h.at h.capacity) (λ _. ftrue) fine $ fjoin ! $ use0 𝓛 (‵ Data) (blank_made 𝓛) $ fjoin ! $
     move ! (1 ∷ 0 ∷ []) $ closes ! tt Row all us b o $ feq_i ! (List Val) (vptr b o ∷ []) (vptr b o ∷ []) refl $ fjoin3 ! $ sets ! (of_opd ! (unit_lit !)) refl (tt, tt) $
     nothing ! $ nothing ! $ fjoin ! $ move ! (1 ∷ 0 ∷ []) $ fjoin ! $ nothing ! $ move ! (2 ∷ 0 ∷ []) $ join ! $
-    let Told : Type 0 = (h.at ≡ h.at) × (h.capacity ≡ h.capacity) × (h.first ≡ h.first) × (all.count ≡ all.count) in use0 𝓛 (raw (fact 𝓤 Told)) (fact_i 𝓤 Told (emp 𝓤) (refl, refl, refl, refl)) $ feq_i ! (List Val) (vunit ∷ []) (vunit ∷ []) refl $
+    use0 𝓛 (raw (fact 𝓤 (all ≡ all))) (fact_i 𝓤 (all ≡ all) (emp 𝓤) refl) $ feq_i ! (List Val) (vunit ∷ []) (vunit ∷ []) refl $
     returns ! (look_at ! 0 refl) $ free_all ! refl $ keep ! (2 ∷ 3 ∷ 0 ∷ 1 ∷ []) $ by ! (leaves 𝓛 En hs c y vunit tt (all, (tt, tt)) (tt, (tt, tt)))))))))

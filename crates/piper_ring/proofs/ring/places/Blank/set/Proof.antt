@@ -70,6 +70,5 @@ set_spec 𝓤 𝓛 𝓜 𝓡 wired =
     rewrite ! 0 (λ (i : ℕ). ‵ (span U i m)) more refl $ nothing ! $ fpack ! (Placed at h.capacity) (λ _. ftrue) fine $ fjoin ! $ use0 𝓛 (‵ (BlankData.own_val (record {}, tt) us)) (blank_made 𝓛) $ fjoin ! $
     move ! (2 ∷ 0 ∷ 3 ∷ 4 ∷ 5 ∷ []) $ closes ! tt Row back us b o $ feq_i ! (List Val) (vptr b o ∷ []) (vptr b o ∷ []) refl $ fjoin3 ! $
     nothing ! $ nothing ! $ fjoin ! $ nothing ! $ fjoin ! $ move ! (1 ∷ 0 ∷ []) $ fjoin ! $ nothing ! $ move ! (2 ∷ 0 ∷ []) $ join ! $
-    let Told : Type 0 = (at ≡ at) × (h.capacity ≡ h.capacity) × (h.first ≡ h.first) × (new.bytes ≡ new.bytes) × (at ≡ at) × (h.capacity ≡ h.capacity) × (back.first ≡ back.first) × (back.count ≡ back.count) in
-    use0 𝓛 (raw (fact 𝓤 Told)) (fact_i 𝓤 Told (emp 𝓤) (refl, refl, refl, refl, refl, refl, refl, refl)) $
+    use0 𝓛 (raw (fact 𝓤 (back ≡ back))) (fact_i 𝓤 (back ≡ back) (emp 𝓤) refl) $ use0 𝓛 (raw (fact 𝓤 (new ≡ new))) (fact_i 𝓤 (new ≡ new) (emp 𝓤) refl) $ join ! $
     returns ! (look_at ! 0 refl) $ free_all ! refl $ keep ! (1 ∷ 2 ∷ 3 ∷ 0 ∷ []) $ by ! (leaves 𝓛 En hs c y ghost_val new (back, (tt, (tt, tt))) (tt, (tt, (tt, tt))))))))))

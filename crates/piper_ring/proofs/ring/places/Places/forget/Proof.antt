@@ -43,6 +43,5 @@ forget_spec 𝓤 𝓛 𝓜 𝓡 wired =
     use1 𝓛 (‵ (span (unset h.at h.capacity) h.first (length xs))) (forgets 𝓛 h.at h.capacity xs h.first) $ move ! (1 ∷ 0 ∷ []) $ fjoin ! $ use0 𝓛 (‵ (BlankData.own_val (record {}, tt) us)) (blank_made 𝓛) $ fjoin ! $ keep ! (0 ∷ []) $
     enter ! 𝓣.C 𝓣.Λ fn (ghost_val ∷ []) Post $ alloc_all ! (λ l. pass_all ! refl ((tt, (tt, tt)), tt) $ let Ev = env fn.locals l in
     sets ! (agg ! (no_more !)) refl (tt, tt) $ sets ! (agg ! (and_then ! (get ! refl) (no_more !))) refl (tt, (tt, tt)) $
-    let Told : Type 0 = (h.at ≡ h.at) × (h.capacity ≡ h.capacity) × (h.first ≡ h.first) × (length xs ≡ length xs) in
-    use0 𝓛 (raw (fact 𝓤 Told)) (fact_i 𝓤 Told (emp 𝓤) (refl, refl, refl, refl)) $ nothing ! $ nothing ! $ fjoin ! $ nothing ! $
+    use0 𝓛 (raw (fact 𝓤 (new ≡ new))) (fact_i 𝓤 (new ≡ new) (emp 𝓤) refl) $ nothing ! $ nothing ! $ fjoin ! $ nothing ! $
     returns ! (look_at ! 0 refl) $ free_all ! refl $ keep ! (0 ∷ 1 ∷ 3 ∷ 2 ∷ []) $ by ! (leaves 𝓛 En hs c y ghost_val new (tt, tt) (tt, tt))))

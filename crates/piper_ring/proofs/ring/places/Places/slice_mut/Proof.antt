@@ -81,19 +81,19 @@ slice_mut_spec 𝓤 𝓛 𝓜 𝓡 wired =
     let rb : ℕ = a.0.ref_ptr.0 in let ro : ℕ = a.0.ref_ptr.1 in let γ : GName = a.0.ghost_name in let d = a.0.now in let at : Ptr = d.at in let κ = κs.0 in let q = qs.0 in let base = a.1.0 in let from : ℕ = a.1.1.0 in let len : ℕ = a.1.1.1.0 in
     let bv : Val = lowers.lowered base in let new : List ℕ → Row.Denot = with_bytes d d.bytes in let u = Row.coded.code d in
     let y : (walk_of 𝓛 En hs c).Ghost = ((κs, qs, bounds, a, (vptr rb ro ∷ [], (bv ∷ [], (vint w64 from ∷ [], (vint w64 len ∷ [], tt))))), gh) in let Post : Val → SProp 𝓤 = (walk_of 𝓛 En hs c).post y in
-    let Asked : Type 0 = (base.ptr ≡ at) × (len ≡ length d.bytes) × (from ≡ slot_of d.capacity d.first) × (from + len ≤ d.capacity) in
+    let Asked : Type 0 = ((base.ptr ≡ at) × (len ≤ length d.bytes) × (from ≡ slot_of d.capacity d.first) × (from + len ≤ d.capacity)) × (len ≡ length d.bytes) in
     qed 𝓛 (((‵ (flft κ q) ⊛ ‵ ftrue) ⊛ ‵ (owns (types_at En.signature.params κs) a y.0.4)) ∷ given Asked (‵ ftrue) ∷ []) ∵
     keep ! (1 ∷ 0 ∷ []) $ learn ! (λ asked. forget ! $ split ! $ split ! $ move ! (2 ∷ []) $ fsplit ! $ fsplit3 ! $ keep ! (1 ∷ 2 ∷ 4 ∷ []) $
     enter ! 𝓣.C 𝓣.Λ fn (vptr rb ro ∷ bv ∷ vint w64 from ∷ vint w64 len ∷ []) Post $ alloc_all ! (λ l. pass_all ! refl ((tt, tt), (word-Good [] base.ptr, ((tt, record { fits = are.1.1.0.1 }), ((tt, record { fits = are.1.1.1.0.1 }), tt)))) $ let Ev = env fn.locals l in
     opens ! tt Row {h = d} rb ro (λ vs. move ! (1 ∷ []) $ fsplit ! $ move ! (1 ∷ []) $ fsplit ! $ fpick ! (λ fine. forget ! $
-    let bp : ℕ = block_of at in let op : ℕ = count_of at in let is_at : base.ptr ≡ block_ptr bp op = asked.0 ∙ at_block at fine.0 in let xs : List ℕ = d.bytes in
-    let near : from + len ≤ d.capacity = asked.3 in let small : d.capacity < 2 ^ 63 = fine.1 in let long : length xs ≡ len = sym asked.1 in let tight : len < 2 ^ 64 = omega arith in
+    let bp : ℕ = block_of at in let op : ℕ = count_of at in let is_at : base.ptr ≡ block_ptr bp op = asked.0.0 ∙ at_block at fine.0 in let xs : List ℕ = d.bytes in
+    let near : from + len ≤ d.capacity = asked.0.3 in let small : d.capacity < 2 ^ 63 = fine.1 in let long : length xs ≡ len = sym asked.1 in let tight : len < 2 ^ 64 = omega arith in
     take_at ! 2 $ rewrite ! 0 (λ (p : Ptr). ‵ (fat full_share (layout Base.the_row) (l 2) 0 (word p))) is_at refl $ give_at ! 2 $ first ! $ blocks ! $
     sets ! (bin ! (get_in ! (fld ! refl (stop !)) (sub ! 0 refl (whole !))) (get ! refl) tt) refl (tt, tt) $
-    use1 𝓛 (‵ (cells (mem u8) xs bp (from + op))) (to_cells 𝓛 at d.capacity xs d.first from (from + op) (λ _. asked.2) (omega arith) refl) $
+    use1 𝓛 (‵ (cells (mem u8) xs bp (from + op))) (to_cells 𝓛 at d.capacity xs d.first from (from + op) (λ _. asked.0.2) (omega arith) refl) $
     sets_last ! (agg ! (and_then ! (get ! refl) (and_then ! (get ! refl) (no_more !)))) refl (tt, (tt, (record { fits = tight }, tt))) $
     exec ! 𝓣.C 𝓣.Λ Ev (tail fn.body) (at_ret Ev Post) $ sets ! (of_opd ! (get ! refl)) refl (tt, (tt, (record { fits = tight }, tt))) $
-    let o' : ℕ = from + op in let R : SProp 𝓤 = sem 𝓛 (Rest 𝓛 d vs rb ro from) in let roomy : length xs < 2 ^ 64 = omega arith in let fitting : length xs * 1 < 2 ^ 63 = omega arith in let way = back 𝓛 d vs rb ro from fine asked.2 (omega arith) in
+    let o' : ℕ = from + op in let R : SProp 𝓤 = sem 𝓛 (Rest 𝓛 d vs rb ro from) in let roomy : length xs < 2 ^ 64 = omega arith in let fitting : length xs * 1 < 2 ^ 63 = omega arith in let way = back 𝓛 d vs rb ro from fine asked.0.2 (omega arith) in
     move ! (1 ∷ 2 ∷ []) $ fjoin ! $ move ! (2 ∷ 3 ∷ 4 ∷ 1 ∷ 0 ∷ []) $ group ! 5 $
     use1 𝓛 (later (some (λ (δ : GName). raw (Elements 𝓛 Row u8 new (named 0) κ q rb ro bp o' γ xs (roomy, fitting) R way δ))))
     (lends_Elements 𝓛 Row u8 new (named 0) κ q rb ro bp o' γ xs (roomy, fitting) R way u u) $ await ! tt $ pick ! (λ δ.

@@ -47,6 +47,5 @@ take_spec 𝓤 𝓛 𝓜 𝓡 wired =
     nothing ! $ fpack ! (Placed h.at h.capacity) (λ _. ftrue) fine $ fjoin ! $ use0 𝓛 (‵ Data) (places_made 𝓛) $ fjoin ! $
     nothing ! $ nothing ! $ fpack ! (Placed h.at h.capacity) (λ _. ftrue) fine $ fjoin ! $ use0 𝓛 (‵ Data) (places_made 𝓛) $ fjoin ! $ move ! (2 ∷ 0 ∷ 3 ∷ 4 ∷ 5 ∷ []) $ closes ! tt Row back us b o $ feq_i ! (List Val) (vptr b o ∷ []) (vptr b o ∷ []) refl $ fjoin3 ! $
     nothing ! $ move ! (1 ∷ 0 ∷ []) $ fjoin ! $ nothing ! $ move ! (2 ∷ 0 ∷ []) $ join ! $
-    let Told : Type 0 = (h.at ≡ h.at) × (h.capacity ≡ h.capacity) × (h.first ≡ h.first) × (h.bytes ≡ h.bytes) × (h.at ≡ h.at) × (h.capacity ≡ h.capacity) × (back.first ≡ back.first) × (back.bytes ≡ back.bytes) in
-    use0 𝓛 (raw (fact 𝓤 Told)) (fact_i 𝓤 Told (emp 𝓤) (refl, refl, refl, refl, refl, refl, refl, refl)) $
+    use0 𝓛 (raw (fact 𝓤 (back ≡ back))) (fact_i 𝓤 (back ≡ back) (emp 𝓤) refl) $ use0 𝓛 (raw (fact 𝓤 (h ≡ h))) (fact_i 𝓤 (h ≡ h) (emp 𝓤) refl) $ join ! $
     returns ! (look_at ! 0 refl) $ free_all ! refl $ keep ! (1 ∷ 2 ∷ 3 ∷ 0 ∷ []) $ by ! (leaves 𝓛 En hs c y ghost_val h (back, tt) (tt, tt)))))))

@@ -24,6 +24,7 @@ use Rattle.rtrb.proofs.Spans.{run_join}
 use Rattle.piper_ring.specs.Places.{byte}
 use Rattle.piper_ring.specs.Places as P
 use base.Stored.{coded_ℕ}
+use Rattle.piper_ring.specs.Stretches.{ReadGains}
 use base.Growing.{prefixes, at_least}
 use Rattle.piper_ring.proofs.Rights.{common_twice}
 use Rattle.piper_ring.specs.Shared.{Names, half, flag, common, reader_knows}
@@ -77,6 +78,5 @@ accept_spec 𝓤 𝓛 𝓜 𝓡 wired =
     nothing ! $ fpack ! (P.Placed k.at k.capacity) (λ _. ftrue) fine $ fjoin ! $ move ! (6 ∷ 0 ∷ []) $ fjoin ! $ move ! (6 ∷ 0 ∷ 7 ∷ 8 ∷ 9 ∷ []) $ closes ! tt KRow k' vs' b' o' $ feq_i ! (List Val) (vptr b' o' ∷ []) (vptr b' o' ∷ []) refl $ fjoin3 ! $
     nothing ! $ nothing ! $ fjoin ! $ move ! (1 ∷ 0 ∷ []) $ fjoin ! $ move ! (2 ∷ 3 ∷ 4 ∷ 5 ∷ 6 ∷ []) $ use0 𝓛 (‵ Data) (read_made 𝓛 w) $ fjoin ! $ move ! (1 ∷ 0 ∷ []) $ closes ! tt Row h' us b o $ feq_i ! (List Val) (vptr b o ∷ []) (vptr b o ∷ []) refl $ fjoin3 ! $ sets ! (of_opd ! (unit_lit !)) refl (tt, tt) $
     move ! (0 ∷ 2 ∷ []) $ fjoin ! $ nothing ! $ move ! (4 ∷ 0 ∷ []) $ join ! $ move ! (3 ∷ 0 ∷ []) $ join ! $ move ! (2 ∷ 0 ∷ []) $ join ! $
-    let Told : Type 0 = (w ≡ w) × (p ≡ p) × (z ≡ z) × (h.head ≡ h.head) × (h.leaving ≡ h.leaving) × (k.at ≡ k.at) × (k.capacity ≡ k.capacity) × (k.first ≡ k.first) × (h'.seen ≡ length t.bytes) × ((ys : List ℕ) × (k'.bytes ≡ k.bytes ++ ys) × (h'.have ≡ h.have ++ ys) × (h'.seen ≡ h.seen + length ys)) in
-    use0 𝓛 (raw (fact 𝓤 Told)) (fact_i 𝓤 Told (emp 𝓤) (refl, refl, refl, refl, refl, refl, refl, refl, refl, (xs, refl, sym saw.0, saw.1))) $ feq_i ! (List Val) (vunit ∷ []) (vunit ∷ []) refl $
+    use0 𝓛 (raw (fact 𝓤 (ReadGains h h' k k' t.bytes))) (fact_i 𝓤 (ReadGains h h' k k' t.bytes) (emp 𝓤) (record { bytes = xs; places = refl; seat = (λ j. record h { seen = length t.bytes; have = sym saw.0 j }); seen = saw.1 })) $ feq_i ! (List Val) (vunit ∷ []) (vunit ∷ []) refl $
     returns ! (look_at ! 0 refl) $ free_all ! refl $ keep ! (2 ∷ 3 ∷ 0 ∷ 1 ∷ []) $ by ! (leaves 𝓛 En hs c y vunit tt (h', (k', (tt, tt))) (tt, (tt, (tt, tt))))))))))))))

@@ -3,7 +3,7 @@ use Rattle.std.proofs.Common.{true, ◌≡◌, ℕ, ◌+◌, ◌-◌, ◌^◌, L
 use mir.Val.{Val, vint, vptr}
 use base.Logic.{SProp, emp}
 use base.Fml.{Fml, ftrue}
-use types.Kit.{‵, raw, ◌⊛◌, given, mean, at_ret, ◌$◌, ◌∵◌, !, qed, by, move, keep, drop, split, fsplit, fsplit3, fjoin, fpick, fpack, learn, use0, use1, use2, use3, rewrite, feq_i, flt_i}
+use types.Kit.{‵, raw, ◌⊛◌, given, mean, at_ret, ◌$◌, ◌∵◌, !, qed, by, move, keep, drop, join, split, fsplit, fsplit3, fjoin, fpick, fpack, learn, use0, use1, use2, use3, rewrite, feq_i, flt_i}
 use types.Run.{stop, fld, lit, of_opd, bin, no_more, and_then, first, blocks, exec, Calls-last, returns, enter}
 use types.ByLocal.{alloc_all, pass_all, free_all, look_at, get, get_in, sets, lands_last, is, env}
 use types.Part.{agg, sub}
@@ -51,11 +51,11 @@ leave_spec 𝓤 𝓛 𝓜 𝓡 wired =
     let low : ℕ = h.head in let high : ℕ = h.seen in let G : Fml = blanks w p z low (high - low) in let bw : ℕ = block_of w in let ow : ℕ = count_of w in let w' : Ptr = block_ptr bw ow in let e : ℕ = 0 + ow in let out : ℕ → Fml = Left 𝓛 w p z in
     let Step : SProp 𝓤 = asks 𝓛 (block_ptr bw e) (λ _. 1) always out in
     let y : (walk_of 𝓛 En hs c).Ghost = ((κs, qs, bounds, a, (seat_val w ∷ [], (ghost_val ∷ [], tt))), gh) in let Post : Val → SProp 𝓤 = (walk_of 𝓛 En hs c).post y in
-    let Asked : Type 0 = (g.at ≡ p) × (g.capacity ≡ z.capacity) × (g.first ≡ low) × (g.first + g.count ≡ high) × (h.leaving ≡ true) in
+    let Asked : Type 0 = ((g.at ≡ p) × (g.capacity ≡ z.capacity) × (g.first ≡ low) × (g.first + g.count ≡ high)) × (h.leaving ≡ true) in
     qed 𝓛 ((raw (alive 𝓛 En.signature κs qs) ⊛ ‵ (owns (types_at En.signature.params κs) a y.0.4)) ∷ given Asked (‵ ftrue) ∷ []) ∵
     keep ! (1 ∷ 0 ∷ []) $ learn ! (λ asked. drop ! $ split ! $ move ! (1 ∷ []) $ fsplit3 ! $ fsplit ! $ drop ! $ fsplit3 ! $ move ! (3 ∷ []) $ fsplit ! $ drop ! $ fsplit ! $ drop ! $
-    let eg = asked.2 in let top = asked.3 in let many : g.count ≡ high - low = omega arith in
-    rewrite ! 0 (λ (r : Ptr × ℕ × ℕ × ℕ). ‵ (span (unset r.0 r.1) r.2 r.3)) {x = (p, z.capacity, low, high - low)} {y = (g.at, g.capacity, g.first, g.count)} (λ i. (asked.0 i, asked.1 i, asked.2 i, many i)) refl $
+    let eg = asked.0.2 in let top = asked.0.3 in let many : g.count ≡ high - low = omega arith in
+    rewrite ! 0 (λ (r : Ptr × ℕ × ℕ × ℕ). ‵ (span (unset r.0 r.1) r.2 r.3)) {x = (p, z.capacity, low, high - low)} {y = (g.at, g.capacity, g.first, g.count)} (λ i. (asked.0.0 i, asked.0.1 i, asked.0.2 i, many i)) refl $
     keep ! (1 ∷ 2 ∷ 0 ∷ []) $ use1 𝓛 (‵ C ⊛ ‵ C) (common_twice 𝓛 w p z) $ split ! $ fsplit ! $ fpick ! (λ at. drop ! $ drop ! $ let isw : w ≡ w' = at_block w at.0 in
     use3 𝓛 (raw Step) (reader_leaves 𝓛 w p z h.head h.seen (flag h.leaving) (flag_small h.leaving)) $
     enter ! 𝓣.C 𝓣.Λ fn (seat_val w ∷ ghost_val ∷ []) Post $ alloc_all ! (λ l. pass_all ! refl (word-Good [] w, ((tt, (tt, tt)), tt)) $ let Ev = env fn.locals l in
@@ -71,6 +71,7 @@ leave_spec 𝓤 𝓛 𝓜 𝓡 wired =
     nothing ! $ fpack ! (Placed w' p z) (λ _. ftrue) (tt, at.1, at.2) $ fjoin ! $ use0 𝓛 (‵ (RemainsData.own_val (w', tt) (seat_val w' ∷ []))) (remains_made 𝓛 w') $ fjoin ! $
     flt_i ! n (2 ^ 64) fits $ feq_i ! (List Val) (vint w64 n ∷ []) (vint w64 n ∷ []) refl $ fjoin ! $
     use2 𝓛 (‵ ((denote.Struct.Tuple.Tuple (u64 ∷ Remains.the_row ∷ [])).own_val (n, rest) (pair_val (vint w64 n) (seat_val w') ∷ []))) (pair_of 𝓛 u64 Remains.the_row n rest (vint w64 n) (seat_val w')) $
-    let Told : Type 0 = (n ≡ flag last) × (w' ≡ w) × (p ≡ p) × (z ≡ z) in use0 𝓛 (raw (fact 𝓤 Told)) (fact_i 𝓤 Told (emp 𝓤) (told, sym isw, refl, refl)) $
+    use0 𝓛 (raw (fact 𝓤 (z ≡ z))) (fact_i 𝓤 (z ≡ z) (emp 𝓤) refl) $ use0 𝓛 (raw (fact 𝓤 ((w' ≡ w) × (p ≡ p)))) (fact_i 𝓤 ((w' ≡ w) × (p ≡ p)) (emp 𝓤) (sym isw, refl)) $ join ! $
+    use0 𝓛 (raw (fact 𝓤 (n ≡ flag last))) (fact_i 𝓤 (n ≡ flag last) (emp 𝓤) told) $ join ! $
     nothing ! $ nothing ! $ fjoin ! $ nothing ! $ fjoin ! $ nothing ! $
     returns ! (look_at ! 0 refl) $ free_all ! refl $ keep ! (0 ∷ 1 ∷ 3 ∷ 2 ∷ []) $ by ! (leaves 𝓛 En hs c y (pair_val (vint w64 n) (seat_val w')) (n, rest) (tt, (tt, tt)) (tt, (tt, tt)))))))))))

@@ -33,6 +33,7 @@ use Rattle.piper_ring.specs.Places as P
 use Rattle.piper_ring.specs.Shared.{flag, raised, Names, Placed, half, common, reader_knows, writer_knows, writer_owns}
 use Rattle.piper_ring.proofs.Fields.{SawData, ghost_val, PlacesData, places_made}
 use base.Stored.{coded_ℕ}
+use Rattle.piper_ring.specs.Stretches.{AreOfOneRing}
 use base.Growing.{prefixes, at_least}
 use Rattle.rtrb.proofs.Values.{pair_val, pair_of}
 use Rattle.piper_ring.proofs.Meet.{Apart, joins}
@@ -57,25 +58,25 @@ meet_spec 𝓤 𝓛 𝓜 𝓡 wired =
     let C : Fml = common w p z in let RK : Fml = reader_knows w p z half h.head h.seen (flag h.leaving) in let Hv : List ℕ → Fml = at_least (prefixes coded_ℕ) z.sent in let B = byte p z.capacity in let full : ℕ = h.head + z.capacity in let RK' : Fml = reader_knows w p z half h.head (length k.sent) (flag h.leaving) in let WK' : Fml = writer_knows w p z half k.sent full k.shut 0 in
     let h' : Row.Denot = record h { seen = length k.sent; have = k.sent } in let k' : WRow.Denot = record k { limit = full } in let Data : Fml = PlacesData.own_val (record {}, tt) (ghost_val ∷ []) in
     let y : (walk_of 𝓛 En hs c).Ghost = ((κs, qs, bounds, a, (vptr b o ∷ [], (vptr b' o' ∷ [], (vptr b2 o2 ∷ [], (vptr b3 o3 ∷ [], tt))))), gh) in let Post : Val → SProp 𝓤 = (walk_of 𝓛 En hs c).post y in
-    let Asked : Type 0 = (k.words ≡ w) × (k.at ≡ p) × (k.names ≡ z) × (u.names ≡ z) × (v.names ≡ z) × (h.leaving ≡ false) in
+    let Asked : Type 0 = AreOfOneRing h k × (u.names ≡ z) × (v.names ≡ z) × (h.leaving ≡ false) in
     qed 𝓛 (((‵ (flft κs.0 qs.0) ⊛ ‵ (flft κs.1.0 qs.1.0) ⊛ ‵ (flft κs.1.1.0 qs.1.1.0) ⊛ ‵ (flft κs.1.1.1.0 qs.1.1.1.0) ⊛ ‵ ftrue) ⊛ ‵ (owns (types_at En.signature.params κs) a y.0.4)) ∷ given Asked (‵ ftrue) ∷ []) ∵
     keep ! (1 ∷ 0 ∷ []) $ learn ! (λ asked. drop ! $ split ! $ split3 ! $ move ! (2 ∷ []) $ split3 ! $ move ! (5 ∷ []) $ fsplit3 ! $ move ! (2 ∷ []) $ fsplit3 ! $ fsplit ! $ drop ! $
     use1 𝓛 (‵ (hidden_shr SawData κs.1.1.0 (record {}, tt) b2 o2) ⊛ ‵ (fhide (raised u.names.closed u.seen))) (lent_out 𝓛 Seen.struct (Seen.the_codes (marker.the_row RawPtr).coded) Seen.the_heap Seen.the_lent κs.1.1.0 u b2 o2) $
-    split ! $ drop ! $ unhide ! $ rewrite ! 0 (λ (n : Names). ‵ (raised n.closed u.seen)) asked.3 refl $ move ! (1 ∷ []) $ fsplit ! $ drop ! $
+    split ! $ drop ! $ unhide ! $ rewrite ! 0 (λ (n : Names). ‵ (raised n.closed u.seen)) asked.1 refl $ move ! (1 ∷ []) $ fsplit ! $ drop ! $
     use1 𝓛 (‵ (hidden_shr SawData κs.1.1.1.0 (record {}, tt) b3 o3) ⊛ ‵ (fhide (raised v.names.closed v.seen))) (lent_out 𝓛 Seen.struct (Seen.the_codes (marker.the_row RawPtr).coded) Seen.the_heap Seen.the_lent κs.1.1.1.0 v b3 o3) $
-    split ! $ drop ! $ unhide ! $ rewrite ! 0 (λ (n : Names). ‵ (raised n.closed v.seen)) asked.4 refl $
+    split ! $ drop ! $ unhide ! $ rewrite ! 0 (λ (n : Names). ‵ (raised n.closed v.seen)) asked.2 refl $
     move ! (3 ∷ []) $ fsplit3 ! $ move ! (6 ∷ []) $ fsplit3 ! $ keep ! (1 ∷ 2 ∷ 13 ∷ 4 ∷ 5 ∷ 12 ∷ 7 ∷ 6 ∷ 9 ∷ 10 ∷ []) $
     enter ! 𝓣.C 𝓣.Λ fn (vptr b o ∷ vptr b' o' ∷ vptr b2 o2 ∷ vptr b3 o3 ∷ []) Post $ alloc_all ! (λ l. pass_all ! refl ((tt, tt), ((tt, tt), ((tt, tt), ((tt, tt), tt)))) $ let Ev = env fn.locals l in
     opens ! tt WRow b' o' (λ vs'. move ! (1 ∷ []) $ fsplit ! $ move ! (6 ∷ 7 ∷ 8 ∷ []) $
     opens ! tt Row b o (λ vs. move ! (1 ∷ []) $ fsplit ! $ move ! (7 ∷ []) $
-    rewrite ! 0 (λ (r : Ptr × Ptr × Names). ‵ (writer_owns r.0 r.1 r.2 k.sent k.limit k.shut)) {x = (w, p, z)} {y = (k.words, k.at, k.names)} (λ i. (asked.0 i, asked.1 i, asked.2 i)) refl $
+    rewrite ! 0 (λ (r : Ptr × Ptr × Names). ‵ (writer_owns r.0 r.1 r.2 k.sent k.limit k.shut)) {x = (w, p, z)} {y = (k.words, k.at, k.names)} (λ i. (asked.0.words i, asked.0.memory i, asked.0.names i)) refl $
     fsplit ! $ fsplit ! $ fpick ! (λ at. drop ! $ nothing ! $ fpack ! (Placed w p z) (λ _. ftrue) at $ fjoin ! $ move ! (3 ∷ []) $ fsplit3 ! $ move ! (2 ∷ []) $ fsplit ! $ fpick ! (λ lh. drop ! $
     move ! (1 ∷ []) $ use1 𝓛 (‵ C ⊛ ‵ C) (common_twice 𝓛 w p z) $ split ! $ move ! (16 ∷ 17 ∷ []) $ join ! $ move ! (6 ∷ 0 ∷ []) $ join ! $ move ! (3 ∷ 0 ∷ []) $ join ! $ move ! (1 ∷ 3 ∷ 0 ∷ []) $
     use3 𝓛 (later (some (λ (r : List ℕ × List ℕ). given (Apart 𝓛 w p z h.head h.seen k.sent k.limit k.shut h.leaving h.have u.seen v.seen r) (‵ (run B h.seen r.0) ⊛ ‵ (run B k.limit r.1) ⊛ ‵ RK' ⊛ ‵ WK' ⊛ ‵ (Hv k.sent)))))
-    (joins 𝓛 w p z h.head h.seen k.sent k.limit k.shut h.leaving h.have u.seen v.seen lh asked.5) $ await ! tt $ pick ! (λ r. learn ! (λ apart. split3 ! $ move ! (2 ∷ []) $ split3 ! $
+    (joins 𝓛 w p z h.head h.seen k.sent k.limit k.shut h.leaving h.have u.seen v.seen lh asked.3) $ await ! tt $ pick ! (λ r. learn ! (λ apart. split3 ! $ move ! (2 ∷ []) $ split3 ! $
     nothing ! $ fpack ! (length k.sent ≡ length k.sent) (λ _. ftrue) refl $ move ! (0 ∷ 3 ∷ []) $ fjoin ! $ move ! (5 ∷ 1 ∷ 0 ∷ []) $ fjoin3 ! $ move ! (5 ∷ 0 ∷ []) $ fjoin ! $
     move ! (5 ∷ 0 ∷ 6 ∷ 7 ∷ 8 ∷ []) $ closes ! tt Row h' vs b o $ feq_i ! (List Val) (vptr b o ∷ []) (vptr b o ∷ []) refl $ fjoin3 ! $ move ! (5 ∷ 2 ∷ []) $ fjoin ! $
-    rewrite ! 0 (λ (r : Ptr × Ptr × Names). ‵ (writer_owns r.0 r.1 r.2 k.sent full k.shut)) {x = (k.words, k.at, k.names)} {y = (w, p, z)} (λ i. (sym asked.0 i, sym asked.1 i, sym asked.2 i)) refl $ move ! (5 ∷ 0 ∷ []) $ fjoin ! $
+    rewrite ! 0 (λ (r : Ptr × Ptr × Names). ‵ (writer_owns r.0 r.1 r.2 k.sent full k.shut)) {x = (k.words, k.at, k.names)} {y = (w, p, z)} (λ i. (sym asked.0.words i, sym asked.0.memory i, sym asked.0.names i)) refl $ move ! (5 ∷ 0 ∷ []) $ fjoin ! $
     move ! (5 ∷ 0 ∷ 6 ∷ 7 ∷ 8 ∷ []) $ closes ! tt WRow k' vs' b' o' $ feq_i ! (List Val) (vptr b' o' ∷ []) (vptr b' o' ∷ []) refl $ fjoin3 ! $
     nothing ! $ nothing ! $ fjoin ! $ nothing ! $ fjoin ! $ move ! (1 ∷ 0 ∷ []) $ fjoin ! $ move ! (2 ∷ 0 ∷ []) $ fjoin ! $ nothing ! $ move ! (7 ∷ 0 ∷ []) $ join ! $ move ! (6 ∷ 0 ∷ []) $ join ! $ move ! (2 ∷ 0 ∷ []) $ join ! $ move ! (2 ∷ 0 ∷ []) $ join ! $
     let one : KRow.Denot = record { mark = record {}; at = p; capacity = z.capacity; first = h.seen; bytes = r.0 } in let two : KRow.Denot = record { mark = record {}; at = p; capacity = z.capacity; first = k.limit; bytes = r.1 } in
@@ -85,7 +86,11 @@ meet_spec 𝓤 𝓛 𝓜 𝓡 wired =
     sets ! (agg ! (no_more !)) refl (tt, tt) $ sets ! (agg ! (and_then ! (get ! refl) (no_more !))) refl (tt, (tt, tt)) $
     sets ! (agg ! (no_more !)) refl (tt, tt) $ sets ! (agg ! (and_then ! (get ! refl) (no_more !))) refl (tt, (tt, tt)) $
     sets ! (agg ! (and_then ! (get ! refl) (and_then ! (get ! refl) (no_more !)))) refl (tt, ((tt, tt), ((tt, tt), tt))) $
-    let Told : Type 0 = (w ≡ w) × (p ≡ p) × (z ≡ z) × (h.head ≡ h.head) × (h'.seen ≡ h'.seen) × (k.sent ≡ k.sent) × (h.leaving ≡ h.leaving) × (k.words ≡ k.words) × (k.at ≡ k.at) × (k.names ≡ k.names) × (k.sent ≡ k.sent) × (full ≡ full) × (k.shut ≡ k.shut)
-    × (p ≡ p) × (z.capacity ≡ z.capacity) × (h.seen ≡ h.seen) × (h.have ++ r.0 ≡ k.sent) × (p ≡ p) × (z.capacity ≡ z.capacity) × (k.limit ≡ k.limit) × (k.limit + length r.1 ≡ full) × (flag u.seen ≤ flag k.shut) × (flag v.seen ≤ flag k.shut) in
-    use0 𝓛 (raw (fact 𝓤 Told)) (fact_i 𝓤 Told (emp 𝓤) (refl, refl, refl, refl, refl, refl, refl, refl, refl, refl, refl, refl, refl, refl, refl, refl, apart.0, refl, refl, refl, apart.1, apart.2, apart.3)) $
+    use0 𝓛 (raw (fact 𝓤 (flag v.seen ≤ flag k.shut))) (fact_i 𝓤 (flag v.seen ≤ flag k.shut) (emp 𝓤) apart.3) $
+    use0 𝓛 (raw (fact 𝓤 (flag u.seen ≤ flag k.shut))) (fact_i 𝓤 (flag u.seen ≤ flag k.shut) (emp 𝓤) apart.2) $ join ! $
+    use0 𝓛 (raw (fact 𝓤 (k.limit + length r.1 ≡ full))) (fact_i 𝓤 (k.limit + length r.1 ≡ full) (emp 𝓤) apart.1) $ join ! $
+    use0 𝓛 (raw (fact 𝓤 ((p ≡ p) × (z.capacity ≡ z.capacity) × (k.limit ≡ k.limit)))) (fact_i 𝓤 ((p ≡ p) × (z.capacity ≡ z.capacity) × (k.limit ≡ k.limit)) (emp 𝓤) (refl, refl, refl)) $ join ! $
+    use0 𝓛 (raw (fact 𝓤 (h.have ++ r.0 ≡ k.sent))) (fact_i 𝓤 (h.have ++ r.0 ≡ k.sent) (emp 𝓤) apart.0) $ join ! $
+    use0 𝓛 (raw (fact 𝓤 ((p ≡ p) × (z.capacity ≡ z.capacity) × (h.seen ≡ h.seen)))) (fact_i 𝓤 ((p ≡ p) × (z.capacity ≡ z.capacity) × (h.seen ≡ h.seen)) (emp 𝓤) (refl, refl, refl)) $ join ! $
+    use0 𝓛 (raw (fact 𝓤 (k' ≡ k'))) (fact_i 𝓤 (k' ≡ k') (emp 𝓤) refl) $ join ! $ use0 𝓛 (raw (fact 𝓤 (h' ≡ h'))) (fact_i 𝓤 (h' ≡ h') (emp 𝓤) refl) $ join ! $
     returns ! (look_at ! 0 refl) $ free_all ! refl $ keep ! (2 ∷ 3 ∷ 1 ∷ 0 ∷ []) $ by ! (leaves 𝓛 En hs c y (pair_val ghost_val ghost_val) (one, two) (h', (k', (tt, (tt, tt)))) (tt, (tt, (tt, (tt, tt))))))))))))))

@@ -62,5 +62,5 @@ store_closed_spec 𝓤 𝓛 𝓜 𝓡 wired =
     lands_last ! refl (tt, tt) $ exec ! 𝓣.C 𝓣.Λ Ev (tail fn.body) (at_ret Ev Post) $ sets ! (of_opd ! (unit_lit !)) refl (tt, tt) $
     move ! (0 ∷ 2 ∷ []) $ fjoin ! $ move ! (1 ∷ 0 ∷ []) $ fjoin ! $ use0 𝓛 (‵ Data) (read_made 𝓛 w) $ fjoin ! $ move ! (1 ∷ 0 ∷ []) $ closes ! tt Row h' us b o $ feq_i ! (List Val) (vptr b o ∷ []) (vptr b o ∷ []) refl $ fjoin3 ! $
     nothing ! $ move ! (1 ∷ 0 ∷ []) $ fjoin ! $ nothing ! $ move ! (2 ∷ 0 ∷ []) $ join ! $
-    let Told : Type 0 = (w ≡ w) × (p ≡ p) × (z ≡ z) × (h.head ≡ h.head) × (h.seen ≡ h.seen) × (h.have ≡ h.have) × (true ≡ true) in use0 𝓛 (raw (fact 𝓤 Told)) (fact_i 𝓤 Told (emp 𝓤) (refl, refl, refl, refl, refl, refl, refl)) $ feq_i ! (List Val) (vunit ∷ []) (vunit ∷ []) refl $
+    use0 𝓛 (raw (fact 𝓤 (h' ≡ h'))) (fact_i 𝓤 (h' ≡ h') (emp 𝓤) refl) $ feq_i ! (List Val) (vunit ∷ []) (vunit ∷ []) refl $
     returns ! (look_at ! 0 refl) $ free_all ! refl $ keep ! (2 ∷ 3 ∷ 0 ∷ 1 ∷ []) $ by ! (leaves 𝓛 En hs c y vunit tt (h', tt) (tt, tt)))))))))

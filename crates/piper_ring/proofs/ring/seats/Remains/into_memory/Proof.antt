@@ -6,7 +6,7 @@ use base.Logic.{SProp, emp}
 use base.Fml.{ftrue, fat}
 use base.Fraction.{full_share}
 use denote.Param.{layout}
-use types.Kit.{‵, raw, ◌⊛◌, given, ◌$◌, ◌∵◌, !, qed, by, move, keep, drop, split, fsplit, fjoin, fpick, fpack, learn, use0, use2, rewrite}
+use types.Kit.{‵, raw, ◌⊛◌, given, ◌$◌, ◌∵◌, !, qed, by, move, keep, drop, join, split, fsplit, fjoin, fpick, fpack, learn, use0, use2, rewrite}
 use types.Run.{stop, fld, of_opd, no_more, and_then, returns, enter}
 use types.ByLocal.{take_at, give_at, alloc_all, pass_all, free_all, look_at, get, get_in, sets, is, env}
 use types.Part.{agg, sub, whole}
@@ -63,7 +63,7 @@ into_memory_spec 𝓤 𝓛 𝓜 𝓡 wired =
     sets ! (agg ! (and_then ! (get_in ! (fld ! refl (stop !)) (sub ! 0 refl (whole !))) (no_more !))) refl (tt, (tt, tt)) $
     sets ! (of_opd ! (get ! refl)) refl (tt, (tt, tt)) $ sets ! (of_opd ! (get ! refl)) refl (tt, (tt, tt)) $
     sets ! (agg ! (and_then ! (get ! refl) (and_then ! (get ! refl) (no_more !)))) refl (tt, ((tt, tt), ((tt, tt), tt))) $
-    let Told : Type 0 = (512 ≡ 512) × (8 ≡ 8) × (cap ≡ cap) × (1 ≡ 1) in
-    use0 𝓛 (raw (fact 𝓤 Told)) (fact_i 𝓤 Told (emp 𝓤) (refl, refl, refl, refl)) $
+    use0 𝓛 (raw (fact 𝓤 ((cap ≡ cap) × (1 ≡ 1)))) (fact_i 𝓤 ((cap ≡ cap) × (1 ≡ 1)) (emp 𝓤) (refl, refl)) $
+    use0 𝓛 (raw (fact 𝓤 ((512 ≡ 512) × (8 ≡ 8)))) (fact_i 𝓤 ((512 ≡ 512) × (8 ≡ 8)) (emp 𝓤) (refl, refl)) $ join ! $
     nothing ! $ nothing ! $ fjoin ! $ nothing ! $ fjoin ! $
     returns ! (look_at ! 0 refl) $ free_all ! refl $ keep ! (3 ∷ 0 ∷ 2 ∷ 1 ∷ []) $ by ! (leaves 𝓛 En hs c y (pair_val u v) (one, two) (tt, (tt, tt)) (tt, (tt, tt)))))))

@@ -24,6 +24,7 @@ use Rattle.rtrb.proofs.Spans.{run_join}
 use Rattle.piper_ring.specs.Places.{byte}
 use Rattle.piper_ring.specs.Places as P
 use Rattle.piper_ring.proofs.Rights.{common_twice}
+use Rattle.piper_ring.specs.Stretches.{WriteGains}
 use Rattle.piper_ring.specs.Shared.{Names, half, common, writer_knows}
 use Rattle.piper_ring.proofs.Fields.{seat_val, WriteData, write_told, write_made}
 use Rattle.piper_ring.proofs.Reclaim.{accepts}
@@ -74,7 +75,5 @@ accept_spec 𝓤 𝓛 𝓜 𝓡 wired =
     nothing ! $ fpack ! (P.Placed k.at k.capacity) (λ _. ftrue) fine $ fjoin ! $ move ! (6 ∷ 0 ∷ []) $ fjoin ! $ move ! (6 ∷ 0 ∷ 7 ∷ 8 ∷ 9 ∷ []) $ closes ! tt KRow k' vs' b' o' $ feq_i ! (List Val) (vptr b' o' ∷ []) (vptr b' o' ∷ []) refl $ fjoin3 ! $
     nothing ! $ nothing ! $ fjoin ! $ move ! (1 ∷ 0 ∷ []) $ fjoin ! $ move ! (2 ∷ 3 ∷ 4 ∷ 5 ∷ 6 ∷ []) $ use0 𝓛 (‵ Data) (write_made 𝓛 w) $ fjoin ! $ move ! (1 ∷ 0 ∷ []) $ closes ! tt Row h' us b o $ feq_i ! (List Val) (vptr b o ∷ []) (vptr b o ∷ []) refl $ fjoin3 ! $ sets ! (of_opd ! (unit_lit !)) refl (tt, tt) $
     move ! (0 ∷ 2 ∷ []) $ fjoin ! $ nothing ! $ move ! (4 ∷ 0 ∷ []) $ join ! $ move ! (3 ∷ 0 ∷ []) $ join ! $ move ! (2 ∷ 0 ∷ []) $ join ! $
-    let Told : Type 0 = (w ≡ w) × (p ≡ p) × (z ≡ z) × (h.sent ≡ h.sent) × (h.shut ≡ h.shut) × (k.at ≡ k.at) × (k.capacity ≡ k.capacity) × (k.first ≡ k.first)
-    × (full ≡ full) × ((ys : List ℕ) × (k'.bytes ≡ k.bytes ++ ys) × (full ≡ h.limit + length ys)) in
-    use0 𝓛 (raw (fact 𝓤 Told)) (fact_i 𝓤 Told (emp 𝓤) (refl, refl, refl, refl, refl, refl, refl, refl, refl, (xs, refl, gained))) $ feq_i ! (List Val) (vunit ∷ []) (vunit ∷ []) refl $
+    use0 𝓛 (raw (fact 𝓤 (WriteGains h h' k k' full))) (fact_i 𝓤 (WriteGains h h' k k' full) (emp 𝓤) (record { bytes = xs; places = refl; seat = refl; grown = gained })) $ feq_i ! (List Val) (vunit ∷ []) (vunit ∷ []) refl $
     returns ! (look_at ! 0 refl) $ free_all ! refl $ keep ! (2 ∷ 3 ∷ 0 ∷ 1 ∷ []) $ by ! (leaves 𝓛 En hs c y vunit tt (h', (k', (tt, tt))) (tt, (tt, (tt, tt)))))))))))))
