@@ -1,5 +1,6 @@
--- Lines that come one after the other.
+-- Lines or frames that come one after the other.
 use Rattle.std.proofs.Common.{◌≡◌, ℕ, ◌<◌, inl, inr, Bool, true, false, List, [], ◌∷◌, ◌++◌, length, Vec, Ok, ap, ◌∙◌, sym, subst, append_assoc, append-nil, arith}
+use Rattle.std.specs.List.{flat_map}
 use Rattle.std.specs.declared.alloc.Global.{Global}
 use Rattle.std.proofs.lemmas.Grind.{flat_map-append}
 use Rattle.std.proofs.lemmas.List.Elements.{All-push}
@@ -7,37 +8,26 @@ use Rattle.futures.specs.declared.task.Poll.TheVariants.{Ready}
 use Rattle.piper_lines.specs.declared.line_reader.LineAnswer.{LineAnswer}
 use Rattle.piper_lines.specs.declared.line_reader.LineAnswer.TheVariants.{Line, TooLong, Last, End}
 use Rattle.piper_lines.specs.AtEnd.{AtEnd}
+use Rattle.piper_lines.specs.Frame.{frame_bytes}
 use Rattle.piper_lines.specs.LineAnswers.{Hands, IsTooLong, at_end}
-use Rattle.piper_lines.specs.Moves.{Moves}
-use Rattle.piper_lines.specs.Split.{IsPiece, joined, AddsPieces}
+use Rattle.piper_lines.specs.Moves.{Moves, PassesMoves}
+use Rattle.piper_lines.specs.Split.{IsPiece, joined, joined_frames, Adds}
+use Rattle.piper_lines.proofs.Moving.{moves_then, passes_then}
 
--- the pieces with one more
-pub joined-push : (pieces : List (Vec ℕ Global)) (piece : Vec ℕ Global) → joined (pieces ++ piece ∷ []) ≡ joined pieces ++ piece.items
-joined-push pieces piece =
-    flat_map-append (λ (v : Vec ℕ Global). v.items) pieces (piece ∷ []) ∙ ap (λ ws. joined pieces ++ ws) (append-nil piece.items)
+-- the bytes of the pieces with one more
+pub flat_map-push : (bytes : Vec ℕ Global → List ℕ) (pieces : List (Vec ℕ Global)) (piece : Vec ℕ Global)
+    → flat_map bytes (pieces ++ piece ∷ []) ≡ flat_map bytes pieces ++ bytes piece
+flat_map-push bytes pieces piece = flat_map-append bytes pieces (piece ∷ []) ∙ ap (λ ws. flat_map bytes pieces ++ ws) (append-nil (bytes piece))
 
--- one move after the other
-pub moves_then : (t0 t1 t2 k0 k1 k2 out line : List ℕ) → Moves t0 t1 k0 out k1 → Moves t1 t2 k1 line k2 → Moves t0 t2 k0 (out ++ line) k2
-moves_then t0 t1 t2 k0 k1 k2 out line first second = (
-  first.0 ++ second.0,
-  second.1 ∙ ap (λ ws. ws ++ second.0) first.1 ∙ append_assoc t0 first.0 second.0,
-  sym (append_assoc k0 first.0 second.0) ∙ ap (λ ws. ws ++ second.0) first.2 ∙ append_assoc out k1 second.0 ∙ ap (λ ws. out ++ ws) second.2
-      ∙ sym (append_assoc out line k2),
-)
+pub adds_none : (Fits : List ℕ → Type 0) (out : List (Vec ℕ Global)) → Adds Fits out out
+adds_none Fits out = ([], sym (append-nil out), λ k d within. absurd (omega arith))
 
--- nothing has moved yet
-pub moves_none : (t kept out : List ℕ) → Moves t t (out ++ kept) out kept
-moves_none t kept out = ([], sym (append-nil t), append-nil (out ++ kept))
-
-pub adds_none : (limit : ℕ) (kept : List ℕ) (out : List (Vec ℕ Global)) → AddsPieces limit kept out out
-adds_none limit kept out = ([], sym (append-nil out), λ short k d within. absurd (omega arith))
-
-pub adds_piece : (limit : ℕ) (kept : List ℕ) (out0 out1 out2 : List (Vec ℕ Global)) (piece : Vec ℕ Global) → AddsPieces limit kept out0 out1
-    → out2 ≡ out1 ++ piece ∷ [] → (length kept < limit → IsPiece limit piece.items) → AddsPieces limit kept out0 out2
-adds_piece limit kept out0 out1 out2 piece adds pushed is_piece = (
+pub adds_piece : (Fits : List ℕ → Type 0) (out0 out1 out2 : List (Vec ℕ Global)) (piece : Vec ℕ Global) → Adds Fits out0 out1
+    → out2 ≡ out1 ++ piece ∷ [] → Fits piece.items → Adds Fits out0 out2
+adds_piece Fits out0 out1 out2 piece adds pushed fits = (
   adds.0 ++ piece ∷ [],
   pushed ∙ ap (λ ws. ws ++ piece ∷ []) adds.1 ∙ append_assoc out0 adds.0 (piece ∷ []),
-  λ short. All-push (λ (v : Vec ℕ Global). IsPiece limit v.items) adds.0 piece (adds.2 short) (is_piece short),
+  All-push (λ (v : Vec ℕ Global). Fits v.items) adds.0 piece adds.2 fits,
 )
 
 -- less was kept than the limit, so it is as long as that
@@ -67,3 +57,20 @@ pub moves_line : (t0 t1 t2 k0 k1 k2 line rest : List ℕ) (out1 out2 : List (Vec
 moves_line t0 t1 t2 k0 k1 k2 line rest out1 out2 first second same is_rest =
     subst (λ (out : List (Vec ℕ Global)). Moves t0 t2 k0 (joined out ++ rest) k2) (sym same)
     (subst (λ ws. Moves t0 t2 k0 (joined out1 ++ ws) k2) is_rest (moves_then t0 t1 t2 k0 k1 k2 (joined out1) line first second))
+
+-- a poll more, that handed out no frame
+pub passes_no_frame : (t0 t1 t2 k0 k1 k2 : List ℕ) (s0 s1 s2 : ℕ) (out1 out2 : List (Vec ℕ Global)) → PassesMoves t0 t1 s0 s1 k0 (joined_frames out1) k1
+    → PassesMoves t1 t2 s1 s2 k1 [] k2 → out2 ≡ out1 → PassesMoves t0 t2 s0 s2 k0 (joined_frames out2) k2
+passes_no_frame t0 t1 t2 k0 k1 k2 s0 s1 s2 out1 out2 first second same =
+    subst (λ ws. PassesMoves t0 t2 s0 s2 k0 ws k2) (append-nil (joined_frames out1) ∙ ap joined_frames (sym same))
+    (passes_then t0 t1 t2 k0 k1 k2 (joined_frames out1) [] s0 s1 s2 first second)
+
+-- a frame more
+pub passes_frame : (t0 t1 t2 k0 k1 k2 : List ℕ) (s0 s1 s2 : ℕ) (out1 out2 : List (Vec ℕ Global)) (body : Vec ℕ Global)
+    → PassesMoves t0 t1 s0 s1 k0 (joined_frames out1) k1 → PassesMoves t1 t2 s1 s2 k1 (frame_bytes body.items) k2 → out2 ≡ out1 ++ body ∷ []
+    → PassesMoves t0 t2 s0 s2 k0 (joined_frames out2) k2
+passes_frame t0 t1 t2 k0 k1 k2 s0 s1 s2 out1 out2 body first second pushed =
+    let together : joined_frames out1 ++ frame_bytes body.items ≡ joined_frames out2 =
+    sym (ap joined_frames pushed ∙ flat_map-push (λ (v : Vec ℕ Global). frame_bytes v.items) out1 body) in
+    subst (λ ws. PassesMoves t0 t2 s0 s2 k0 ws k2) together
+    (passes_then t0 t1 t2 k0 k1 k2 (joined_frames out1) (frame_bytes body.items) s0 s1 s2 first second)

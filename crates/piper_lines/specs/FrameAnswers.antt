@@ -1,5 +1,5 @@
 -- What one poll for a frame hands out and keeps.
-use Rattle.std.specs.Prelude.{◌≡◌, ℕ, ◌+◌, ◌<◌, ◌≤◌, ◌⊎◌, Bool, List, [], ◌++◌, length, Result, Ok, Err}
+use Rattle.std.specs.Prelude.{◌≡◌, ℕ, ◌<◌, ◌≤◌, ◌⊎◌, Bool, List, [], length, Result, Ok, Err}
 use Rattle.futures.specs.declared.task.Poll.{Poll}
 use Rattle.futures.specs.declared.task.Poll.TheVariants.{Ready, Pending}
 use Rattle.piper_lines.specs.AtEnd.{AtEnd}
@@ -15,14 +15,6 @@ handed (Ready (Ok Truncated)) frame = []
 handed (Ready (Ok End)) frame = []
 handed (Ready (Err e)) frame = []
 handed Pending frame = []
-
--- the bytes that were taken since are those that pass of a skipped frame, and then more, only once all of that has passed. None
--- of these is lost: what was kept before, joined with them, is what was handed out, joined with what is kept now
-abbrev pub MovesFrames : {E : Type 0} → Poll (Result FrameAnswer E) → List ℕ → List ℕ → List ℕ → List ℕ → List ℕ → ℕ → ℕ → Type 0
-MovesFrames result frame taken_before taken_after kept_before kept_after skips_before skips_after =
-    (passed : List ℕ) × (more : List ℕ) × (taken_after ≡ taken_before ++ (passed ++ more))
-    × (length passed + skips_after ≡ skips_before) × (0 < skips_after → more ≡ [])
-    × (kept_before ++ more ≡ handed result frame ++ kept_after)
 
 -- by the answer: the frame that is handed out, and what is kept and has still to pass. What was taken of the body before stays
 -- where the frame is too long, and is at most more elsewhere

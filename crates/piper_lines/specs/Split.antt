@@ -1,7 +1,8 @@
 -- What a text is split into.
-use Rattle.std.specs.Prelude.{◌≡◌, ℕ, ◌<◌, ◌≤◌, ◌⊎◌, List, ◌++◌, length, All, Vec}
+use Rattle.std.specs.Prelude.{◌≡◌, ℕ, ◌≤◌, ◌⊎◌, List, ◌++◌, length, All, Vec}
 use Rattle.std.specs.List.{flat_map}
 use Rattle.std.specs.declared.alloc.Global.{Global}
+use Rattle.piper_lines.specs.Frame.{frame_bytes}
 use Rattle.piper_lines.specs.Line.{LacksLf, IsLine}
 
 -- a whole line of at most `limit` bytes, or `limit` bytes of a longer one
@@ -12,8 +13,11 @@ IsPiece limit piece = (IsLine piece × (length piece ≤ limit)) ⊎ (LacksLf pi
 abbrev pub joined : List (Vec ℕ Global) → List ℕ
 joined pieces = flat_map (λ (piece : Vec ℕ Global). piece.items) pieces
 
--- only such pieces were added, if less than one was kept before
-abbrev pub AddsPieces : ℕ → List ℕ → List (Vec ℕ Global) → List (Vec ℕ Global) → Type 0
-AddsPieces limit kept before after =
-    (added : List (Vec ℕ Global)) × (after ≡ before ++ added)
-    × (length kept < limit → All (λ (piece : Vec ℕ Global). IsPiece limit piece.items) added)
+-- the bytes of the frames that have these bodies
+abbrev pub joined_frames : List (Vec ℕ Global) → List ℕ
+joined_frames bodies = flat_map (λ (body : Vec ℕ Global). frame_bytes body.items) bodies
+
+-- nothing was added but what fits
+abbrev pub Adds : (List ℕ → Type 0) → List (Vec ℕ Global) → List (Vec ℕ Global) → Type 0
+Adds Fits before after =
+    (added : List (Vec ℕ Global)) × (after ≡ before ++ added) × All (λ (piece : Vec ℕ Global). Fits piece.items) added

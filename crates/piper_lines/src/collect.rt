@@ -1,65 +1,32 @@
-//! All lines of a reader.
+//! All lines of a reader, or all frames.
 ghost use Rattle.std.specs.Prelude.{◌≡◌, ◌<◌, ◌++◌, [], ◌∷◌, vec_len, vec_capacity};
-ghost use Rattle.futures.specs.Task.{Covers, Keeps};
-ghost use Rattle.futures.specs.Poll.{OnPending};
-ghost use Rattle.piper.specs.Polls.{IfReadyOk};
-ghost use Rattle.piper_lines.specs.AtEnd.{AtEnd};
-ghost use Rattle.piper_lines.specs.Split.{joined, AddsPieces};
-ghost use Rattle.piper_lines.specs.LineReader.{reader_of, kept_of};
-ghost use Rattle.piper_lines.specs.Moves.{Moves};
-ghost use Rattle.piper_lines.specs.Collected.{rest_of};
 
-use crate::line_reader::Lines;
-use futures::task::{Context, Poll};
-use piper::PipeError;
-use piper::io::AsyncBufRead;
+mod all_frames;
+mod all_lines;
 
-/// How many lines a poll takes at most, so that other tasks get their turn.
+pub use all_frames::poll_frames;
+pub use all_lines::poll_lines;
+
+/// How many lines or frames a poll takes at most, so that other tasks get their turn.
 const MOST_PIECES: u32 = 64;
 
-/// Appends the lines of the reader to `out`, up to its end, and answers what stands behind the last LF.
-///
-/// A line of more than `limit` bytes comes in pieces of that many. Memory is asked for before bytes are taken: after an error, as where it is pending, `out` has each line that was handed out, and the next poll goes on from there. After 64 lines it asks for another poll.
-pub fn poll_lines<R: AsyncBufRead>(
-    lines: &mut Lines<R>,
-    cx: &mut Context<'_>,
-    out: &mut Vec<Vec<u8>>,
-    limit: usize,
-) -> Poll<Result<Vec<u8>, PipeError>>
-    requires { 0 < limit }
-    ensures moved { Moves (R.taken (reader_of lines.old)) (R.taken (reader_of lines.new))
-        (joined out.old.items ++ kept_of lines.old)
-        (joined out.new.items ++ rest_of result) (kept_of lines.new) }
-    ensures split { AddsPieces limit (kept_of lines.old) out.old.items out.new.items }
-    ensures ended { IfReadyOk result (λ _. (kept_of lines.new ≡ [])
-        × AtEnd (R.known (reader_of lines.new)) (R.saw (reader_of lines.new))) }
-    ensures covered { OnPending result (Covers cx.new (R.needs (reader_of lines.new))) }
-    ensures kept { Keeps cx.old cx.new }
-{
-    for _ in 0..MOST_PIECES {
-        if out.reserve(1).is_err() {
-            return Poll::Ready(Err(PipeError::Memory));
-        }
-        let mut line = Vec::new(*out.allocator());
-        let answer = match lines.poll_line(cx, &mut line, limit) {
-            Poll::Pending => return Poll::Pending,
-            Poll::Ready(Err(error)) => return Poll::Ready(Err(error)),
-            Poll::Ready(Ok(answer)) => answer,
-        };
-        if answer.is_end() {
-            return Poll::Ready(Ok(line));
-        }
-        push(out, line);
-    }
-    cx.yield_now()
+/// Why a poll for all frames ended.
+#[derive(Clone, Copy, Debug, PartialEq, Eq)]
+pub enum Collected {
+    /// The end of the reader, behind a whole frame.
+    ToTheEnd,
+    /// The end of the reader, inside a frame.
+    Truncated,
+    /// The next frame has this many bytes, which are more than the limit.
+    UntilTooLong(usize),
 }
 
 // Appends where there is room already.
-fn push(out: &mut Vec<Vec<u8>>, line: Vec<u8>)
+fn push(out: &mut Vec<Vec<u8>>, piece: Vec<u8>)
     requires { vec_len out.old < vec_capacity out.old }
-    ensures { out.new.items ≡ out.old.items ++ line ∷ [] }
+    ensures { out.new.items ≡ out.old.items ++ piece ∷ [] }
 {
-    match out.push(line) {
+    match out.push(piece) {
         Ok(()) => {}
         Err(_) => unreachable!(),
     }

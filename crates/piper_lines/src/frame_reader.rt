@@ -45,7 +45,8 @@ pub struct Frames<R> {
 
 impl<R: AsyncBufRead> Frames<R> {
     ghost use Rattle.piper_lines.specs.FrameReader.{reader_of, kept_of, header_of, body_of, skips_of, lends_reader};
-    ghost use Rattle.piper_lines.specs.FrameAnswers.{HandsFrame, MovesFrames};
+    ghost use Rattle.piper_lines.specs.FrameAnswers.{HandsFrame, handed};
+    ghost use Rattle.piper_lines.specs.Moves.{PassesMoves};
 
     /// Nothing is kept yet, and no memory is asked for.
     pub fn new(alloc: Global, reader: R) -> Frames<R>
@@ -106,9 +107,9 @@ impl<R: AsyncBufRead> Frames<R> {
         frame: &mut Vec<u8>,
         limit: usize,
     ) -> Poll<Result<FrameAnswer, PipeError>>
-        ensures moved { MovesFrames result frame.new.items (R.taken (reader_of self.old))
-            (R.taken (reader_of self.new)) (kept_of self.old) (kept_of self.new)
-            (skips_of self.old) (skips_of self.new) }
+        ensures moved { PassesMoves (R.taken (reader_of self.old)) (R.taken (reader_of self.new))
+            (skips_of self.old) (skips_of self.new)
+            (kept_of self.old) (handed result frame.new.items) (kept_of self.new) }
         ensures hands { HandsFrame result limit frame.new.items (header_of self.new)
             (body_of self.old) (body_of self.new) (skips_of self.new)
             (R.known (reader_of self.new)) (R.saw (reader_of self.new)) }

@@ -9,7 +9,7 @@ mod line_reader;
 mod line_writer;
 mod write_all;
 
-pub use collect::poll_lines;
+pub use collect::{Collected, poll_frames, poll_lines};
 pub use frame_reader::{FrameAnswer, Frames};
 pub use frame_writer::WriteFrame;
 pub use line_reader::{LineAnswer, Lines};

@@ -1,8 +1,21 @@
 use Rattle.std.proofs.Common.{rules, ◌≡◌, length, true, Ok, ap, ◌∙◌}
 use Rattle.futures.specs.declared.task.Poll.TheVariants.{Ready}
 use Rattle.piper_lines.specs.Frame.{length_bytes}
-use Rattle.piper_lines.proofs.Framing.{keeping_header, keeping_body, keeping_frame}
+use Rattle.piper_lines.specs.FrameReader.{kept_of}
+use Rattle.piper_lines.proofs.Framing.{keeping_none, keeping_header, keeping_body, keeping_frame}
 use Rattle.piper_lines.proofs.frame_reader.Frames.poll_frame.Goals as goal
+
+pub returns-in-Pending-clause-moved : goal.returns-in-Pending-clause-moved
+returns-in-Pending-clause-moved g c =
+    keeping_none _ _ (kept_of c.args.self.now) _ _ c.pass_over.ensures.passed
+
+pub returns-in-Ready-Err-clause-moved : goal.returns-in-Ready-Err-clause-moved
+returns-in-Ready-Err-clause-moved g c =
+    keeping_none _ _ (kept_of c.args.self.now) _ _ c.pass_over.ensures.passed
+
+pub returns-in-Ready-Ok-false-clause-moved : goal.returns-in-Ready-Ok-false-clause-moved
+returns-in-Ready-Ok-false-clause-moved g c =
+    keeping_none _ _ (kept_of c.args.self.now) _ _ c.pass_over.ensures.passed
 
 pub returns-in-Pending-fill_up-clause-moved : goal.returns-in-Pending-fill_up-clause-moved
 returns-in-Pending-fill_up-clause-moved g c =
@@ -22,14 +35,30 @@ returns-then-size-limit-clause-moved g c =
     keeping_header _ _ _ c.args.self.now.header.items c.fill_up.new.gathered.items c.args.self.now.body.items _ _ c.pass_over.ensures.passed c.fill_up.ensures.grown
     c.args.self.now.header_first c.fill_up.ensures.within (c.pass_over.ensures.done passed)
 
+pub returns-in-Pending-fill_up-2-clause-moved : goal.returns-in-Pending-fill_up-2-clause-moved
+returns-in-Pending-fill_up-2-clause-moved g c =
+    let passed : c.pass_over.result ≡ Ready (Ok true) = cc in
+    keeping_body _ _ _ _ c.args.self.now.header.items c.fill_up.new.gathered.items c.args.self.now.body.items c.fill_up-2.new.gathered.items _ _
+    c.pass_over.ensures.passed c.fill_up.ensures.grown c.fill_up-2.ensures.grown c.args.self.now.header_first c.fill_up.ensures.within (c.pass_over.ensures.done passed)
+
+pub returns-in-Ready-Err-fill_up-2-clause-moved : goal.returns-in-Ready-Err-fill_up-2-clause-moved
+returns-in-Ready-Err-fill_up-2-clause-moved g c =
+    let passed : c.pass_over.result ≡ Ready (Ok true) = cc in
+    keeping_body _ _ _ _ c.args.self.now.header.items c.fill_up.new.gathered.items c.args.self.now.body.items c.fill_up-2.new.gathered.items _ _
+    c.pass_over.ensures.passed c.fill_up.ensures.grown c.fill_up-2.ensures.grown c.args.self.now.header_first c.fill_up.ensures.within (c.pass_over.ensures.done passed)
+
+pub returns-in-Ready-Ok-false-fill_up-2-clause-moved : goal.returns-in-Ready-Ok-false-fill_up-2-clause-moved
+returns-in-Ready-Ok-false-fill_up-2-clause-moved g c =
+    let passed : c.pass_over.result ≡ Ready (Ok true) = cc in
+    keeping_body _ _ _ _ c.args.self.now.header.items c.fill_up.new.gathered.items c.args.self.now.body.items c.fill_up-2.new.gathered.items _ _
+    c.pass_over.ensures.passed c.fill_up.ensures.grown c.fill_up-2.ensures.grown c.args.self.now.header_first c.fill_up.ensures.within (c.pass_over.ensures.done passed)
+
 pub returns-in-Ready-Ok-true-fill_up-2-clause-moved : goal.returns-in-Ready-Ok-true-fill_up-2-clause-moved
 returns-in-Ready-Ok-true-fill_up-2-clause-moved g c =
     let passed : c.pass_over.result ≡ Ready (Ok true) = cc in
     let is_full : c.fill_up-2.result ≡ Ready (Ok true) = cc in
-    let skipped = c.pass_over.ensures.done passed in
-    let header = keeping_header _ _ _ c.args.self.now.header.items c.fill_up.new.gathered.items c.args.self.now.body.items _ _ c.pass_over.ensures.passed c.fill_up.ensures.grown
-    c.args.self.now.header_first c.fill_up.ensures.within skipped in
-    let body = keeping_body _ _ _ _ c.fill_up.new.gathered.items c.args.self.now.body.items c.fill_up-2.new.gathered.items _ _ header c.fill_up-2.ensures.grown skipped in
+    let body = keeping_body _ _ _ _ c.args.self.now.header.items c.fill_up.new.gathered.items c.args.self.now.body.items c.fill_up-2.new.gathered.items _ _
+    c.pass_over.ensures.passed c.fill_up.ensures.grown c.fill_up-2.ensures.grown c.args.self.now.header_first c.fill_up.ensures.within (c.pass_over.ensures.done passed) in
     let spelled : length_bytes (length c.fill_up-2.new.gathered.items) ≡ c.fill_up.new.gathered.items =
     ap length_bytes (c.fill_up-2.ensures.full is_full) ∙ c.number-size.ensures.spelled ∙ c.deref-2.ensures.value in
     keeping_frame _ _ c.fill_up.new.gathered.items c.fill_up-2.new.gathered.items c.swap.new.x.items c.clear-in-Ready-Ok-true-fill_up-2.new.self.items c.swap.new.y.items _ _ _ body spelled

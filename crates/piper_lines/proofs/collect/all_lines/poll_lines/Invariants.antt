@@ -3,14 +3,14 @@ use Rattle.std.proofs.Common.{◌<◌, ◌++◌, length}
 use Rattle.futures.specs.Task.{Keeps}
 use Rattle.piper_lines.specs.LineReader.{reader_of, kept_of}
 use Rattle.piper_lines.specs.Moves.{Moves}
-use Rattle.piper_lines.specs.Split.{joined, AddsPieces}
-use Rattle.piper_lines.proofs.collect.poll_lines.Given as goal
+use Rattle.piper_lines.specs.Split.{joined, Adds, IsPiece}
+use Rattle.piper_lines.proofs.collect.all_lines.poll_lines.Given as goal
 
 abbrev pub invariant-loop : goal.invariant-loop
 invariant-loop g l = record {
   moved : Moves (g.R.AsyncBufRead.taken (reader_of l.initial.lines)) (g.R.AsyncBufRead.taken (reader_of l.lines))
       (joined l.initial.out.items ++ kept_of l.initial.lines) (joined l.out.items) (kept_of l.lines);
-  split : AddsPieces l.limit (kept_of l.initial.lines) l.initial.out.items l.out.items;
+  split : Adds (λ piece. length (kept_of l.initial.lines) < l.limit → IsPiece l.limit piece) l.initial.out.items l.out.items;
   short : length (kept_of l.initial.lines) < l.limit → length (kept_of l.lines) < l.limit;
   kept : Keeps l.initial.cx l.cx;
 }

@@ -1,16 +1,17 @@
-use Rattle.std.proofs.Common.{rules, ◌≡◌, ◌++◌, ◌∷◌, [], List, ℕ, Vec, length, ap, ◌∙◌, sym, subst, refl, arith}
+use Rattle.std.proofs.Common.{rules, ◌≡◌, ◌<◌, ◌++◌, ◌∷◌, [], List, ℕ, Vec, length, ap, ◌∙◌, sym, subst, refl, arith}
 use Rattle.std.specs.declared.alloc.Global.{Global}
 use Rattle.piper.specs.declared.error.PipeError.{PipeError}
 use Rattle.piper_lines.specs.Moves.{Moves}
-use Rattle.piper_lines.specs.Split.{joined}
+use Rattle.piper_lines.specs.Split.{joined, IsPiece}
 use Rattle.piper_lines.specs.LineReader.{reader_of, kept_of}
-use Rattle.piper_lines.proofs.Collecting.{moves_none, moves_line, moves_then, joined-push, adds_none, adds_piece, hands_piece, hands_end}
-use Rattle.piper_lines.proofs.collect.poll_lines.Goals as goal
+use Rattle.piper_lines.proofs.Moving.{moves_none, moves_then}
+use Rattle.piper_lines.proofs.Collecting.{moves_line, flat_map-push, adds_none, adds_piece, hands_piece, hands_end}
+use Rattle.piper_lines.proofs.collect.all_lines.poll_lines.Goals as goal
 
 pub loop-init : goal.loop-init
 loop-init g c = record {
   moved = moves_none (g.R.AsyncBufRead.taken (reader_of c.args.lines.now)) (kept_of c.args.lines.now) (joined c.args.out.now.items);
-  split = adds_none c.args.limit (kept_of c.args.lines.now) c.args.out.now.items;
+  split = adds_none (λ piece. length (kept_of c.args.lines.now) < c.args.limit → IsPiece c.args.limit piece) c.args.out.now.items;
   short = λ short. short;
   kept = λ fact held. held;
 }
@@ -40,10 +41,10 @@ loop-preserved g c =
     let line : Vec ℕ Global = c.poll_line.new.line in
     let moved = moves_then _ _ _ _ _ _ (joined c.loop.out.items) line.items c.loop.invariant.moved c.poll_line.ensures.moved in
     let pushed : c.push.new.out.items ≡ c.loop.out.items ++ line ∷ [] = c.push.ensures ∙ ap (λ (out : List (Vec ℕ Global)). out ++ line ∷ []) c.reserve.ensures.items in
-    let together : joined c.loop.out.items ++ line.items ≡ joined c.push.new.out.items = sym (ap joined pushed ∙ joined-push c.loop.out.items line) in
+    let together : joined c.loop.out.items ++ line.items ≡ joined c.push.new.out.items = sym (ap joined pushed ∙ flat_map-push (λ (v : Vec ℕ Global). v.items) c.loop.out.items line) in
     record {
       moved = subst (λ ws. Moves (g.R.AsyncBufRead.taken (reader_of c.args.lines.now)) (g.R.AsyncBufRead.taken (reader_of c.poll_line.new.self)) (joined c.args.out.now.items ++ kept_of c.args.lines.now) ws (kept_of c.poll_line.new.self)) together moved;
-      split = adds_piece c.args.limit (kept_of c.args.lines.now) c.args.out.now.items c.loop.out.items c.push.new.out.items line c.loop.invariant.split pushed (λ short. piece.1 (c.loop.invariant.short short));
+      split = adds_piece (λ piece. length (kept_of c.args.lines.now) < c.args.limit → IsPiece c.args.limit piece) c.args.out.now.items c.loop.out.items c.push.new.out.items line c.loop.invariant.split pushed (λ short. piece.1 (c.loop.invariant.short short));
       short = λ short. omega (arith, ap length piece.0);
       kept = search rules;
     }

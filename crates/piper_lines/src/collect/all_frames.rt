@@ -1,0 +1,55 @@
+//! All frames of a reader.
+ghost use Rattle.std.specs.Prelude.{◌≤◌, ◌++◌, length};
+ghost use Rattle.futures.specs.Task.{Covers, Keeps};
+ghost use Rattle.futures.specs.Poll.{OnPending};
+ghost use Rattle.piper_lines.specs.Split.{joined_frames, Adds};
+ghost use Rattle.piper_lines.specs.FrameReader.{reader_of, kept_of, header_of, body_of, skips_of};
+ghost use Rattle.piper_lines.specs.Moves.{PassesMoves};
+ghost use Rattle.piper_lines.specs.Collected.{EndsFrames};
+
+use super::{Collected, MOST_PIECES, push};
+use crate::frame_reader::{FrameAnswer, Frames};
+use futures::task::{Context, Poll};
+use piper::PipeError;
+use piper::io::AsyncBufRead;
+
+/// Appends the frames of the reader to `out`, up to its end or to a frame of more than `limit` bytes.
+///
+/// Of a frame past the limit no byte is taken: the caller can skip it and poll again, or ask again with another limit. Memory is asked for before bytes are taken: after an error, as where it is pending, `out` has each frame that was handed out, and the next poll goes on from there. After 64 frames it asks for another poll.
+pub fn poll_frames<R: AsyncBufRead>(
+    frames: &mut Frames<R>,
+    cx: &mut Context<'_>,
+    out: &mut Vec<Vec<u8>>,
+    limit: usize,
+) -> Poll<Result<Collected, PipeError>>
+    ensures moved { PassesMoves (R.taken (reader_of frames.old)) (R.taken (reader_of frames.new))
+        (skips_of frames.old) (skips_of frames.new)
+        (joined_frames out.old.items ++ kept_of frames.old)
+        (joined_frames out.new.items) (kept_of frames.new) }
+    ensures within { Adds (λ body. length body ≤ limit) out.old.items out.new.items }
+    ensures ended { EndsFrames result limit (header_of frames.new)
+        (body_of frames.old) (body_of frames.new) (skips_of frames.new)
+        (R.known (reader_of frames.new)) (R.saw (reader_of frames.new)) }
+    ensures covered { OnPending result (Covers cx.new (R.needs (reader_of frames.new))) }
+    ensures kept { Keeps cx.old cx.new }
+{
+    for _ in 0..MOST_PIECES {
+        if out.reserve(1).is_err() {
+            return Poll::Ready(Err(PipeError::Memory));
+        }
+        let mut frame = Vec::new(*out.allocator());
+        match frames.poll_frame(cx, &mut frame, limit) {
+            Poll::Pending => return Poll::Pending,
+            Poll::Ready(Err(error)) => return Poll::Ready(Err(error)),
+            Poll::Ready(Ok(FrameAnswer::TooLong(size))) => {
+                return Poll::Ready(Ok(Collected::UntilTooLong(size)));
+            }
+            Poll::Ready(Ok(FrameAnswer::Truncated)) => {
+                return Poll::Ready(Ok(Collected::Truncated));
+            }
+            Poll::Ready(Ok(FrameAnswer::End)) => return Poll::Ready(Ok(Collected::ToTheEnd)),
+            Poll::Ready(Ok(FrameAnswer::Frame)) => push(out, frame),
+        }
+    }
+    cx.yield_now()
+}

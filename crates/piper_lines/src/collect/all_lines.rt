@@ -1,0 +1,54 @@
+//! All lines of a reader.
+ghost use Rattle.std.specs.Prelude.{◌≡◌, ◌<◌, ◌++◌, [], length};
+ghost use Rattle.futures.specs.Task.{Covers, Keeps};
+ghost use Rattle.futures.specs.Poll.{OnPending};
+ghost use Rattle.piper.specs.Polls.{IfReadyOk};
+ghost use Rattle.piper_lines.specs.AtEnd.{AtEnd};
+ghost use Rattle.piper_lines.specs.Split.{joined, Adds, IsPiece};
+ghost use Rattle.piper_lines.specs.LineReader.{reader_of, kept_of};
+ghost use Rattle.piper_lines.specs.Moves.{Moves};
+ghost use Rattle.piper_lines.specs.Collected.{rest_of};
+
+use super::{MOST_PIECES, push};
+use crate::line_reader::Lines;
+use futures::task::{Context, Poll};
+use piper::PipeError;
+use piper::io::AsyncBufRead;
+
+/// Appends the lines of the reader to `out`, up to its end, and answers what stands behind the last LF.
+///
+/// A line of more than `limit` bytes comes in pieces of that many. Memory is asked for before bytes are taken: after an error, as where it is pending, `out` has each line that was handed out, and the next poll goes on from there. After 64 lines it asks for another poll.
+pub fn poll_lines<R: AsyncBufRead>(
+    lines: &mut Lines<R>,
+    cx: &mut Context<'_>,
+    out: &mut Vec<Vec<u8>>,
+    limit: usize,
+) -> Poll<Result<Vec<u8>, PipeError>>
+    requires { 0 < limit }
+    ensures moved { Moves (R.taken (reader_of lines.old)) (R.taken (reader_of lines.new))
+        (joined out.old.items ++ kept_of lines.old)
+        (joined out.new.items ++ rest_of result) (kept_of lines.new) }
+    ensures split { Adds (λ piece. length (kept_of lines.old) < limit → IsPiece limit piece)
+        out.old.items out.new.items }
+    ensures ended { IfReadyOk result (λ _. (kept_of lines.new ≡ [])
+        × AtEnd (R.known (reader_of lines.new)) (R.saw (reader_of lines.new))) }
+    ensures covered { OnPending result (Covers cx.new (R.needs (reader_of lines.new))) }
+    ensures kept { Keeps cx.old cx.new }
+{
+    for _ in 0..MOST_PIECES {
+        if out.reserve(1).is_err() {
+            return Poll::Ready(Err(PipeError::Memory));
+        }
+        let mut line = Vec::new(*out.allocator());
+        let answer = match lines.poll_line(cx, &mut line, limit) {
+            Poll::Pending => return Poll::Pending,
+            Poll::Ready(Err(error)) => return Poll::Ready(Err(error)),
+            Poll::Ready(Ok(answer)) => answer,
+        };
+        if answer.is_end() {
+            return Poll::Ready(Ok(line));
+        }
+        push(out, line);
+    }
+    cx.yield_now()
+}
