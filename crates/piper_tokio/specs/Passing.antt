@@ -1,0 +1,32 @@
+-- What passes through a handle of the pipe while `tokio` reads or writes it.
+use Rattle.std.specs.Prelude.{◌≡◌, ◌≤◌, ◌++◌, true, false, List, [], ℕ}
+use Rattle.piper.specs.ReadView.{SameReadEnd}
+use Rattle.piper.specs.WriteView.{SameWriteEnd}
+use Rattle.piper.specs.Shared.{flag}
+use Rattle.piper.specs.declared.handles.Reader.{Reader}
+use Rattle.piper.specs.declared.handles.Writer.{Writer}
+
+-- the reader a took the bytes xs, in this order, and is b now: an end of the same pipe, and what it saw of closed it keeps
+pub record Took {H : Type 0} (a : Reader H) (xs : List ℕ) (b : Reader H) : Type 0 where
+  pub taken : b.end.taken ≡ a.end.taken ++ xs
+  pub saw : flag a.end.saw ≤ flag b.end.saw
+  pub end : SameReadEnd a.end b.end
+  pub slots : b.slots ≡ a.slots
+
+-- the reader saw the pipe closed, and knows of no byte
+pub record AtEnd {H : Type 0} (reader : Reader H) : Type 0 where
+  pub saw : reader.end.saw ≡ true
+  pub known : reader.end.known ≡ []
+
+-- the writer a was given the bytes xs, in this order, and is b now: an end of the same pipe. What it published of them is
+-- their front, and all of them unless it saw the pipe closed; and none once it saw that
+pub record Gave {H : Type 0} (a : Writer H) (xs : List ℕ) (b : Writer H) : Type 0 where
+  pub published : List ℕ
+  pub lost : List ℕ
+  pub given : xs ≡ published ++ lost
+  pub sent : b.end.sent ≡ a.end.sent ++ published
+  pub all : b.end.saw ≡ false → lost ≡ []
+  pub over : a.end.saw ≡ true → published ≡ []
+  pub saw : flag a.end.saw ≤ flag b.end.saw
+  pub end : SameWriteEnd a.end b.end
+  pub slots : b.slots ≡ a.slots

@@ -1,0 +1,89 @@
+-- What passes in two steps passes in order, and where nothing passes a handle is as it was.
+use Rattle.std.specs.Prelude.{◌≡◌, ◌≤◌, ◌++◌, Bool, true, false, List, [], ℕ, refl}
+use Rattle.std.proofs.Common.{sym, ap, ap₂, ◌∙◌, append_assoc, append-nil, le_refl, le_trans, not-suc-le-zero, true≢false}
+use Rattle.piper.specs.ReadView.{ReadView, SameReadEnd}
+use Rattle.piper.specs.WriteView.{WriteView, SameWriteEnd}
+use Rattle.piper.specs.Shared.{flag}
+use Rattle.piper.specs.declared.handles.Reader.{Reader}
+use Rattle.piper.specs.declared.handles.Writer.{Writer}
+use Rattle.piper_tokio.specs.Passing.{Took, Gave}
+
+-- what was seen stays seen
+pub seen_on : (a b : Bool) → flag a ≤ flag b → a ≡ true → b ≡ true
+seen_on true true le e = refl
+seen_on true false le e = absurd (not-suc-le-zero le)
+seen_on false b le e = absurd (true≢false (sym e))
+
+-- what is unseen was unseen
+pub unseen_before : (a b : Bool) → flag a ≤ flag b → b ≡ false → a ≡ false
+unseen_before false b le e = refl
+unseen_before true true le e = absurd (true≢false e)
+unseen_before true false le e = absurd (not-suc-le-zero le)
+
+pub same_read_end : (a b c : ReadView) → SameReadEnd a b → SameReadEnd b c → SameReadEnd a c
+same_read_end a b c p q = record { ring = q.ring ∙ p.ring; capacity = q.capacity ∙ p.capacity; told = q.told ∙ p.told; told_shut = q.told_shut ∙ p.told_shut }
+
+pub same_write_end : (a b c : WriteView) → SameWriteEnd a b → SameWriteEnd b c → SameWriteEnd a c
+same_write_end a b c p q = record { ring = q.ring ∙ p.ring; capacity = q.capacity ∙ p.capacity; told = q.told ∙ p.told }
+
+-- bytes joined on behind others
+pub joined_on : (us vs ws xs ys : List ℕ) → vs ≡ us ++ xs → ws ≡ vs ++ ys → ws ≡ us ++ (xs ++ ys)
+joined_on us vs ws xs ys p q = q ∙ ap (λ zs. zs ++ ys) p ∙ append_assoc us xs ys
+
+pub took_nothing : {H : Type 0} (a : Reader H) → Took a [] a
+took_nothing a =
+    record {
+      taken = sym (append-nil a.end.taken);
+      saw = le_refl (flag a.end.saw);
+      end = record { ring = refl; capacity = refl; told = refl; told_shut = refl };
+      slots = refl;
+    }
+
+pub took_in_order : {H : Type 0} (a : Reader H) (xs : List ℕ) (b : Reader H) (ys : List ℕ) (c : Reader H) → Took a xs b → Took b ys c → Took a (xs ++ ys) c
+took_in_order a xs b ys c p q =
+    record {
+      taken = joined_on a.end.taken b.end.taken c.end.taken xs ys p.taken q.taken;
+      saw = le_trans p.saw q.saw;
+      end = same_read_end a.end b.end c.end p.end q.end;
+      slots = q.slots ∙ p.slots;
+    }
+
+pub gave_nothing : {H : Type 0} (a : Writer H) → Gave a [] a
+gave_nothing a =
+    record {
+      published = [];
+      lost = [];
+      given = refl;
+      sent = sym (append-nil a.end.sent);
+      all = λ _. refl;
+      over = λ _. refl;
+      saw = le_refl (flag a.end.saw);
+      end = record { ring = refl; capacity = refl; told = refl };
+      slots = refl;
+    }
+
+-- two pieces were given: of the first nothing was lost, or of the second nothing was published
+pub given_on : (saw : Bool) (xs ys us vs ws zs : List ℕ) → xs ≡ us ++ vs → ys ≡ ws ++ zs → (saw ≡ false → vs ≡ []) → (saw ≡ true → ws ≡ []) → xs ++ ys ≡ (us ++ ws) ++ (vs ++ zs)
+given_on false xs ys us vs ws zs p q all over =
+    let none : vs ≡ [] = all refl in
+    ap₂ (λ ks ls. ks ++ ls) (p ∙ ap (λ ks. us ++ ks) none ∙ append-nil us) q ∙ sym (append_assoc us ws zs) ∙ ap (λ ks. (us ++ ws) ++ (ks ++ zs)) (sym none)
+given_on true xs ys us vs ws zs p q all over =
+    let none : ws ≡ [] = over refl in
+    ap₂ (λ ks ls. ks ++ ls) p (q ∙ ap (λ ks. ks ++ zs) none) ∙ append_assoc us vs zs ∙ ap (λ ks. ks ++ (vs ++ zs)) (sym (append-nil us)) ∙ ap (λ ks. (us ++ ks) ++ (vs ++ zs)) (sym none)
+
+pub both_nil : (xs ys : List ℕ) → xs ≡ [] → ys ≡ [] → xs ++ ys ≡ []
+both_nil xs ys p q = ap₂ (λ ks ls. ks ++ ls) p q
+
+pub gave_in_order : {H : Type 0} (a : Writer H) (xs : List ℕ) (b : Writer H) (ys : List ℕ) (c : Writer H) → Gave a xs b → Gave b ys c → Gave a (xs ++ ys) c
+gave_in_order a xs b ys c p q =
+    record {
+      published = p.published ++ q.published;
+      lost = p.lost ++ q.lost;
+      given = given_on b.end.saw xs ys p.published p.lost q.published q.lost p.given q.given p.all q.over;
+      sent = joined_on a.end.sent b.end.sent c.end.sent p.published q.published p.sent q.sent;
+      all = λ unseen. both_nil p.lost q.lost (p.all (unseen_before b.end.saw c.end.saw q.saw unseen)) (q.all unseen);
+      over = λ seen. both_nil p.published q.published (p.over seen) (q.over (seen_on a.end.saw b.end.saw p.saw seen));
+      saw = le_trans p.saw q.saw;
+      end = same_write_end a.end b.end c.end p.end q.end;
+      slots = q.slots ∙ p.slots;
+    }

@@ -1,0 +1,114 @@
+//! An end of a duplex stream, for `tokio`.
+ghost use Rattle.std.specs.Prelude.{◌≡◌, true, refl};
+ghost use Rattle.std.proofs.Common.{◌∙◌};
+ghost use Rattle.std.specs.IoError.{error_kind};
+ghost use Rattle.std.specs.declared.io.ErrorKind.TheVariants.{OutOfMemory as OutOfMemoryKind};
+ghost use Rattle.piper.specs.Handles.{read_source, write_source};
+ghost use Rattle.piper_tokio.specs.Passing.{Took, AtEnd, Gave};
+ghost use Rattle.piper_tokio.specs.PassingLaws.{took_nothing, took_in_order, gave_nothing, gave_in_order};
+
+use crate::reader::CompatReader;
+use crate::writer::CompatWriter;
+use futures::task::{Context, Poll};
+use piper_duplex::End;
+use std::io;
+use std::sync::Wait;
+use tokio::io::{AsyncBufRead, AsyncRead, AsyncWrite};
+
+/// An end of a duplex stream, as a reader and a writer of `tokio`. Where it is let go it closes both pipes, first the one that it writes into, and wakes who waits at the other end.
+///
+/// In clauses, `reader` and `writer` are what `into_halves` gives.
+#[derive(Drop)]
+pub struct CompatEnd<H: Wait + Clone + Drop> {
+    writer: CompatWriter<H>,
+    reader: CompatReader<H>,
+}
+
+impl<H: Wait + Clone + Drop> CompatEnd<H> {
+    pub fn new(end: End<H>) -> CompatEnd<H>
+        ensures reader { result.reader.reader ≡ end.reader }
+        ensures shown { result.reader.shown ≡ 0 }
+        ensures writer { result.writer.writer ≡ end.writer }
+    {
+        let (reader, writer) = end.into_halves();
+        CompatEnd {
+            writer: CompatWriter::new(writer),
+            reader: CompatReader::new(reader),
+        }
+    }
+
+    /// Both halves, each for itself: for two tasks.
+    pub fn into_halves(self) -> (CompatReader<H>, CompatWriter<H>)
+        ensures reader { result.0 ≡ self.reader }
+        ensures writer { result.1 ≡ self.writer }
+    {
+        let CompatEnd { writer, reader } = self;
+        (reader, writer)
+    }
+}
+
+impl<H: Wait + Clone + Drop> AsyncRead for CompatEnd<H> {
+    ghost needs = { λ compat s. s ≡ read_source compat.reader.reader };
+
+    ghost reads = { λ a xs b. Took a.reader.reader xs b.reader.reader × (b.writer ≡ a.writer) };
+
+    ghost is_at_end = { λ compat. AtEnd compat.reader.reader };
+
+    ghost fails = { λ _ e. error_kind e ≡ OutOfMemoryKind };
+
+    ghost reads_nothing = { λ a. (took_nothing a.reader.reader, refl) };
+
+    ghost reads_in_order = { λ a xs b ys c p q.
+        (took_in_order a.reader.reader xs b.reader.reader ys c.reader.reader p.0 q.0, q.1 ∙ p.1) };
+
+    fn poll_read(&mut self, cx: &mut Context<'_>, buf: &mut [u8]) -> Poll<io::Result<usize>> {
+        self.reader.poll_read(cx, buf)
+    }
+}
+
+impl<H: Wait + Clone + Drop> AsyncBufRead for CompatEnd<H> {
+    ghost use Rattle.std.specs.Prelude.{take};
+
+    ghost buffered = { λ compat. take compat.reader.shown compat.reader.reader.end.known };
+
+    fn poll_fill_buf(&mut self, cx: &mut Context<'_>) -> Poll<io::Result<()>> {
+        self.reader.poll_fill_buf(cx)
+    }
+
+    fn buffer(&self) -> &[u8] {
+        self.reader.buffer()
+    }
+
+    fn consume(&mut self, amount: usize) {
+        self.reader.consume(amount);
+    }
+}
+
+impl<H: Wait + Clone + Drop> AsyncWrite for CompatEnd<H> {
+    ghost needs = { λ compat s. s ≡ write_source compat.writer.writer };
+
+    ghost writes = { λ a xs b. Gave a.writer.writer xs b.writer.writer × (b.reader ≡ a.reader) };
+
+    ghost is_shut_down = { λ compat. compat.writer.writer.end.shut ≡ true };
+
+    ghost is_full = { λ compat. compat.writer.writer.end.saw ≡ true };
+
+    ghost fails = { λ _ e. error_kind e ≡ OutOfMemoryKind };
+
+    ghost writes_nothing = { λ a. (gave_nothing a.writer.writer, refl) };
+
+    ghost writes_in_order = { λ a xs b ys c p q.
+        (gave_in_order a.writer.writer xs b.writer.writer ys c.writer.writer p.0 q.0, q.1 ∙ p.1) };
+
+    fn poll_write(&mut self, cx: &mut Context<'_>, buf: &[u8]) -> Poll<io::Result<usize>> {
+        self.writer.poll_write(cx, buf)
+    }
+
+    fn poll_flush(&mut self, cx: &mut Context<'_>) -> Poll<io::Result<()>> {
+        self.writer.poll_flush(cx)
+    }
+
+    fn poll_shutdown(&mut self, cx: &mut Context<'_>) -> Poll<io::Result<()>> {
+        self.writer.poll_shutdown(cx)
+    }
+}

@@ -1,0 +1,88 @@
+//! The handle that writes, for `tokio`.
+ghost use Rattle.std.specs.Prelude.{◌≡◌, true};
+ghost use Rattle.std.specs.IoError.{error_kind};
+ghost use Rattle.std.specs.declared.io.ErrorKind.TheVariants.{OutOfMemory as OutOfMemoryKind};
+ghost use Rattle.piper.specs.Handles.{write_source};
+ghost use Rattle.piper_tokio.specs.Passing.{Gave};
+ghost use Rattle.piper_tokio.specs.PassingLaws.{gave_nothing, gave_in_order};
+
+use futures::task::{Context, Poll};
+use piper::{OutOfMemory, Writer};
+use std::io;
+use std::sync::Wait;
+
+/// The writing side of a pipe, as a writer of `tokio`. Where it is let go it closes the pipe and wakes the reader.
+///
+/// In clauses, `writer` is the handle that `get_ref` lends.
+pub struct CompatWriter<H: Wait + Clone + Drop> {
+    writer: Writer<H>,
+}
+
+impl<H: Wait + Clone + Drop> CompatWriter<H> {
+    pub fn new(writer: Writer<H>) -> CompatWriter<H>
+        ensures { result.writer ≡ writer }
+    {
+        CompatWriter { writer }
+    }
+
+    /// The handle.
+    pub fn get_ref(&self) -> &Writer<H>
+        ensures { result.now ≡ self.now.writer }
+    {
+        &self.writer
+    }
+
+    /// The handle, which has to be spent now.
+    pub fn into_inner(self) -> Writer<H>
+        ensures { result ≡ self.writer }
+    {
+        let CompatWriter { writer } = self;
+        writer
+    }
+}
+
+impl<H: Wait + Clone + Drop> Drop for CompatWriter<H> {
+    fn drop(self) {
+        let CompatWriter { writer } = self;
+        writer.drop();
+    }
+}
+
+impl<H: Wait + Clone + Drop> tokio::io::AsyncWrite for CompatWriter<H> {
+    ghost needs = { λ compat s. s ≡ write_source compat.writer };
+
+    ghost writes = { λ a xs b. Gave a.writer xs b.writer };
+
+    ghost is_shut_down = { λ compat. compat.writer.end.shut ≡ true };
+
+    ghost is_full = { λ compat. compat.writer.end.saw ≡ true };
+
+    ghost fails = { λ _ e. error_kind e ≡ OutOfMemoryKind };
+
+    ghost writes_nothing = { λ a. gave_nothing a.writer };
+
+    ghost writes_in_order = { λ a xs b ys c p q.
+        gave_in_order a.writer xs b.writer ys c.writer p q };
+
+    fn poll_write(&mut self, cx: &mut Context<'_>, buf: &[u8]) -> Poll<io::Result<usize>> {
+        match self.writer.poll_fill_bytes(cx, buf) {
+            Poll::Pending => Poll::Pending,
+            Poll::Ready(Ok(count)) => Poll::Ready(Ok(count)),
+            Poll::Ready(Err(OutOfMemory)) => Poll::Ready(Err(io::ErrorKind::OutOfMemory.into())),
+        }
+    }
+
+    fn poll_flush(&mut self, cx: &mut Context<'_>) -> Poll<io::Result<()>> {
+        // What was written is published already.
+        let _unused = cx;
+        Poll::Ready(Ok(()))
+    }
+
+    fn poll_shutdown(&mut self, cx: &mut Context<'_>) -> Poll<io::Result<()>> {
+        match self.writer.poll_close(cx) {
+            Poll::Pending => Poll::Pending,
+            Poll::Ready(Ok(())) => Poll::Ready(Ok(())),
+            Poll::Ready(Err(OutOfMemory)) => Poll::Ready(Err(io::ErrorKind::OutOfMemory.into())),
+        }
+    }
+}
