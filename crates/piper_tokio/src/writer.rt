@@ -1,8 +1,14 @@
 //! The handle that writes, for `tokio`.
-ghost use Rattle.std.specs.Prelude.{◌≡◌, true};
+ghost use Rattle.std.specs.Prelude.{◌≡◌, ◌<◌, ◌≤◌, [], length, false, true, Ok};
 ghost use Rattle.std.specs.IoError.{error_kind};
 ghost use Rattle.std.specs.declared.io.ErrorKind.TheVariants.{OutOfMemory as OutOfMemoryKind};
-ghost use Rattle.piper.specs.Handles.{write_source};
+ghost use Rattle.futures.specs.Poll.{OnPending};
+ghost use Rattle.futures.specs.Task.{Covers, Keeps};
+ghost use Rattle.tokio.specs.Io.Moved.{bytes_moved, count_moved, IfReadyErr};
+ghost use Rattle.piper.specs.Ends.{WriterShut};
+ghost use Rattle.piper.specs.Fills.{OnNoCount};
+ghost use Rattle.piper.specs.Handles.{SameWriter, write_source};
+ghost use Rattle.piper.specs.Polls.{IfReadyOk};
 ghost use Rattle.piper_tokio.specs.Passing.{Gave};
 ghost use Rattle.piper_tokio.specs.PassingLaws.{gave_nothing, gave_in_order};
 
@@ -64,7 +70,21 @@ impl<H: Wait + Clone + Drop> tokio::io::AsyncWrite for CompatWriter<H> {
     ghost writes_in_order = { λ a xs b ys c p q.
         gave_in_order a.writer xs b.writer ys c.writer p q };
 
-    fn poll_write(&mut self, cx: &mut Context<'_>, buf: &[u8]) -> Poll<io::Result<usize>> {
+    fn poll_write(&mut self, cx: &mut Context<'_>, buf: &[u8]) -> Poll<io::Result<usize>>
+        ensures bound { count_moved result ≤ length buf.now }
+        ensures bytes { Gave self.old.writer (bytes_moved result buf.now) self.new.writer }
+        ensures most { IfReadyOk result (λ n. n < length buf.now →
+            self.new.writer.end.saw ≡ false → self.new.writer.end.room ≡ 0) }
+        ensures full { result ≡ Poll.Ready (Ok 0) →
+            0 < length buf.now → self.new.writer.end.saw ≡ true }
+        ensures over { self.old.writer.end.saw ≡ true → result ≡ Poll.Ready (Ok 0) }
+        ensures open { OnNoCount result (self.new.writer.end.saw ≡ false) }
+        ensures failed { IfReadyErr result (λ e. error_kind e ≡ OutOfMemoryKind) }
+        ensures refused { IfReadyErr result (λ _. cx.new.lacks_waker ≡ true) }
+        ensures registered { OnPending result
+            (Covers cx.new (λ s. s ≡ write_source self.new.writer)) }
+        ensures kept { Keeps cx.old cx.new }
+    {
         match self.writer.poll_fill_bytes(cx, buf) {
             Poll::Pending => Poll::Pending,
             Poll::Ready(Ok(count)) => Poll::Ready(Ok(count)),
@@ -72,13 +92,24 @@ impl<H: Wait + Clone + Drop> tokio::io::AsyncWrite for CompatWriter<H> {
         }
     }
 
-    fn poll_flush(&mut self, cx: &mut Context<'_>) -> Poll<io::Result<()>> {
+    fn poll_flush(&mut self, cx: &mut Context<'_>) -> Poll<io::Result<()>>
+        ensures answer { result ≡ Poll.Ready (Ok (record {})) }
+        ensures handle { self.new ≡ self.old }
+        ensures bytes { Gave self.old.writer [] self.new.writer }
+        ensures kept { Keeps cx.old cx.new }
+    {
         // What was written is published already.
         let _unused = cx;
         Poll::Ready(Ok(()))
     }
 
-    fn poll_shutdown(&mut self, cx: &mut Context<'_>) -> Poll<io::Result<()>> {
+    fn poll_shutdown(&mut self, cx: &mut Context<'_>) -> Poll<io::Result<()>>
+        ensures answer { result ≡ Poll.Ready (Ok (record {})) }
+        ensures shut { WriterShut self.old.writer.end self.new.writer.end }
+        ensures handle { SameWriter self.old.writer self.new.writer }
+        ensures bytes { Gave self.old.writer [] self.new.writer }
+        ensures kept { Keeps cx.old cx.new }
+    {
         match self.writer.poll_close(cx) {
             Poll::Pending => Poll::Pending,
             Poll::Ready(Ok(())) => Poll::Ready(Ok(())),
