@@ -101,8 +101,11 @@ impl ReadCall {
         requires next { read_action self.place ≡ Action.LoadHead }
         ensures { result ≡ read_step self.place nothing }
     {
-        let ReadCall { place, answer: _ } = self;
-        let (place, answer) = place.loaded_head();
+        let ReadCall {
+            mut place,
+            answer: _,
+        } = self;
+        let answer = place.loaded_head();
         ReadCall { place, answer }
     }
 
@@ -111,8 +114,11 @@ impl ReadCall {
         requires next { read_action self.place ≡ Action.LoadTail }
         ensures { result ≡ read_after capacity self.place (unread count) }
     {
-        let ReadCall { place, answer: _ } = self;
-        let (place, answer) = place.loaded_tail(capacity, count);
+        let ReadCall {
+            mut place,
+            answer: _,
+        } = self;
+        let answer = place.loaded_tail(capacity, count);
         ReadCall { place, answer }
     }
 
@@ -121,8 +127,11 @@ impl ReadCall {
         requires next { read_action self.place ≡ Action.Refresh }
         ensures { result ≡ read_step self.place (refreshed none) }
     {
-        let ReadCall { place, answer: _ } = self;
-        let (place, answer) = place.refreshed(none);
+        let ReadCall {
+            mut place,
+            answer: _,
+        } = self;
+        let answer = place.refreshed(none);
         ReadCall { place, answer }
     }
 
@@ -131,8 +140,11 @@ impl ReadCall {
         requires next { read_action self.place ≡ Action.LoadClosed }
         ensures { result ≡ read_step self.place (flag is_closed) }
     {
-        let ReadCall { place, answer: _ } = self;
-        let (place, answer) = place.loaded_closed(is_closed);
+        let ReadCall {
+            mut place,
+            answer: _,
+        } = self;
+        let answer = place.loaded_closed(is_closed);
         ReadCall { place, answer }
     }
 
@@ -141,8 +153,11 @@ impl ReadCall {
         requires next { read_action self.place ≡ Action.Register }
         ensures { result ≡ read_step self.place (granted is_granted) }
     {
-        let ReadCall { place, answer: _ } = self;
-        let (place, answer) = place.registered(is_granted);
+        let ReadCall {
+            mut place,
+            answer: _,
+        } = self;
+        let answer = place.registered(is_granted);
         ReadCall { place, answer }
     }
 
@@ -152,8 +167,11 @@ impl ReadCall {
         requires poll { reader_draws_behind self.place ≡ false }
         ensures { result ≡ read_step self.place nothing }
     {
-        let ReadCall { place, answer: _ } = self;
-        let (place, answer) = place.took_own();
+        let ReadCall {
+            mut place,
+            answer: _,
+        } = self;
+        let answer = place.took_own();
         ReadCall { place, answer }
     }
 
@@ -168,7 +186,8 @@ impl ReadCall {
             answer: _,
         } = self;
         let drawn = Purpose::Copy(Form::Polling { is_drawn });
-        let (place, answer) = ReadPlace::LookTake(drawn).took_own();
+        let mut place = ReadPlace::LookTake(drawn);
+        let answer = place.took_own();
         ReadCall { place, answer }
     }
 
@@ -177,8 +196,11 @@ impl ReadCall {
         requires next { read_action self.place ≡ Action.Yield }
         ensures { result ≡ read_step self.place (granted is_granted) }
     {
-        let ReadCall { place, answer: _ } = self;
-        let (place, answer) = place.yielded(is_granted);
+        let ReadCall {
+            mut place,
+            answer: _,
+        } = self;
+        let answer = place.yielded(is_granted);
         ReadCall { place, answer }
     }
 
@@ -188,8 +210,11 @@ impl ReadCall {
         requires fits { read_sum self.place + n < 2 ^ 64 }
         ensures { result ≡ read_step self.place (moved n) }
     {
-        let ReadCall { place, answer: _ } = self;
-        let (place, answer) = place.destination_took(n);
+        let ReadCall {
+            mut place,
+            answer: _,
+        } = self;
+        let answer = place.destination_took(n);
         ReadCall { place, answer }
     }
 
@@ -198,8 +223,11 @@ impl ReadCall {
         requires next { read_action self.place ≡ Action.CallDestination }
         ensures { result ≡ read_step self.place failed }
     {
-        let ReadCall { place, answer: _ } = self;
-        let (place, answer) = place.destination_failed();
+        let ReadCall {
+            mut place,
+            answer: _,
+        } = self;
+        let answer = place.destination_failed();
         ReadCall { place, answer }
     }
 
@@ -208,8 +236,11 @@ impl ReadCall {
         requires next { read_action self.place ≡ Action.StoreHead n }
         ensures { result ≡ read_step self.place nothing }
     {
-        let ReadCall { place, answer: _ } = self;
-        let (place, answer) = place.stored_head(n);
+        let ReadCall {
+            mut place,
+            answer: _,
+        } = self;
+        let answer = place.stored_head(n);
         ReadCall { place, answer }
     }
 
@@ -218,8 +249,11 @@ impl ReadCall {
         requires next { read_action self.place ≡ Action.Take Side.Writer }
         ensures { result ≡ read_step self.place (waker is_found) }
     {
-        let ReadCall { place, answer: _ } = self;
-        let (place, answer) = place.took_writer(is_found);
+        let ReadCall {
+            mut place,
+            answer: _,
+        } = self;
+        let answer = place.took_writer(is_found);
         ReadCall { place, answer }
     }
 
@@ -228,8 +262,11 @@ impl ReadCall {
         requires next { read_action self.place ≡ Action.Wake }
         ensures { result ≡ read_step self.place nothing }
     {
-        let ReadCall { place, answer: _ } = self;
-        let (place, answer) = place.woke();
+        let ReadCall {
+            mut place,
+            answer: _,
+        } = self;
+        let answer = place.woke();
         ReadCall { place, answer }
     }
 
@@ -238,8 +275,11 @@ impl ReadCall {
         requires next { read_action self.place ≡ Action.StoreClosed false }
         ensures { result ≡ read_step self.place nothing }
     {
-        let ReadCall { place, answer: _ } = self;
-        let (place, answer) = place.stored_closed();
+        let ReadCall {
+            mut place,
+            answer: _,
+        } = self;
+        let answer = place.stored_closed();
         ReadCall { place, answer }
     }
 }

@@ -1,4 +1,6 @@
-//! The rows of the reader's calls: one function a kind of step, allowed where it is next.
+//! The rows of the reader's calls: one function a kind of step, allowed where it is next, which changes the place to the next one.
+//!
+//! They are inlined, so that a call whose place is known keeps none at run time.
 ghost use Rattle.std.specs.Prelude.{IsSome, ◌≡◌, ℕ, ◌+◌, ◌^◌, ◌<◌, ◌≤◌, true, false};
 ghost use Rattle.piper_sides.specs.Table.{Leads, ReadLeads, read_action, read_after, read_done, read_step, reader_draws, reader_found, reader_found_none, reader_looks_for, nothing, unread, refreshed, flag, granted, waker, moved, failed};
 ghost use Rattle.piper_sides.specs.Side.{head_store, read_sum, read_round};
@@ -41,21 +43,31 @@ fn draws(form: Form) -> ReadPlace
 }
 
 // Where a call goes on that has woken the writer, and what it answers if it ends there.
-fn done(next: AfterRead) -> (ReadPlace, Option<Answer>)
-    ensures place { result.0 ≡ (read_done next).place }
-    ensures answer { result.1 ≡ (read_done next).answer }
-    ensures no_store { head_store result.0 ≡ 0 }
-    ensures sum { read_sum result.0 ≤ read_round next }
+fn done(place: &mut ReadPlace, next: AfterRead) -> Option<Answer>
+    ensures place { place.new ≡ (read_done next).place }
+    ensures answer { result ≡ (read_done next).answer }
+    ensures no_store { head_store place.new ≡ 0 }
+    ensures sum { read_sum place.new ≤ read_round next }
 {
     match next {
-        AfterRead::Answer => (ReadPlace::Idle, Some(Answer::Done)),
-        AfterRead::Drop => (ReadPlace::Dropped, Some(Answer::Done)),
-        AfterRead::Round(form, sum) => (ReadPlace::CallDestination(form, sum), None),
+        AfterRead::Answer => {
+            *place = ReadPlace::Idle;
+            Some(Answer::Done)
+        }
+        AfterRead::Drop => {
+            *place = ReadPlace::Dropped;
+            Some(Answer::Done)
+        }
+        AfterRead::Round(form, sum) => {
+            *place = ReadPlace::CallDestination(form, sum);
+            None
+        }
     }
 }
 
 impl ReadPlace {
     /// Where a call begins that looks: a known byte needs no load.
+    #[inline(always)]
     pub(crate) fn look(none: bool, purpose: Purpose) -> ReadPlace
         ensures place { result ≡ reader_looks_for none purpose }
         ensures no_store { head_store result ≡ 0 }
@@ -69,216 +81,259 @@ impl ReadPlace {
     }
 
     /// The head was loaded in a query.
-    pub(crate) fn loaded_head(self) -> (ReadPlace, Option<Answer>)
-        requires next { read_action self ≡ Action.LoadHead }
-        ensures leads { ReadLeads result self nothing }
-        ensures open { result.0 ≡ ReadPlace.Idle → IsSome result.1 }
-        ensures no_store { head_store result.0 ≡ 0 }
-        ensures no_sum { read_sum result.0 ≡ 0 }
+    #[inline(always)]
+    pub(crate) fn loaded_head(&mut self) -> Option<Answer>
+        requires next { read_action self.old ≡ Action.LoadHead }
+        ensures leads { ReadLeads (self.new, result) self.old nothing }
+        ensures open { self.new ≡ ReadPlace.Idle → IsSome result }
+        ensures no_store { head_store self.new ≡ 0 }
+        ensures no_sum { read_sum self.new ≡ 0 }
     {
-        match self {
-            ReadPlace::QueryHead(query) => (ReadPlace::QueryTail(query), None),
+        match *self {
+            ReadPlace::QueryHead(query) => {
+                *self = ReadPlace::QueryTail(query);
+                None
+            }
             _ => unreachable!(),
         }
     }
 
     /// The tail was loaded in a query, and so many bytes were unread.
-    pub(crate) fn loaded_tail(self, capacity: usize, count: usize) -> (ReadPlace, Option<Answer>)
-        requires next { read_action self ≡ Action.LoadTail }
-        ensures after { Leads result (read_after capacity self (unread count)) }
-        ensures open { result.0 ≡ ReadPlace.Idle → IsSome result.1 }
-        ensures no_store { head_store result.0 ≡ 0 }
-        ensures no_sum { read_sum result.0 ≡ 0 }
+    #[inline(always)]
+    pub(crate) fn loaded_tail(&mut self, capacity: usize, count: usize) -> Option<Answer>
+        requires next { read_action self.old ≡ Action.LoadTail }
+        ensures after { Leads (self.new, result) (read_after capacity self.old (unread count)) }
+        ensures open { self.new ≡ ReadPlace.Idle → IsSome result }
+        ensures no_store { head_store self.new ≡ 0 }
+        ensures no_sum { read_sum self.new ≡ 0 }
     {
-        match self {
-            ReadPlace::QueryTail(query) => (ReadPlace::Idle, Some(query.answer(capacity, count))),
+        match *self {
+            ReadPlace::QueryTail(query) => {
+                *self = ReadPlace::Idle;
+                Some(query.answer(capacity, count))
+            }
             _ => unreachable!(),
         }
     }
 
     /// The tail was loaded in a look, and the reader knows of no byte even now, or of some.
-    pub(crate) fn refreshed(self, none: bool) -> (ReadPlace, Option<Answer>)
-        requires next { read_action self ≡ Action.Refresh }
-        ensures leads { ReadLeads result self (refreshed none) }
-        ensures open { result.0 ≡ ReadPlace.Idle → IsSome result.1 }
-        ensures no_store { head_store result.0 ≡ 0 }
-        ensures no_sum { read_sum result.0 ≡ 0 }
+    #[inline(always)]
+    pub(crate) fn refreshed(&mut self, none: bool) -> Option<Answer>
+        requires next { read_action self.old ≡ Action.Refresh }
+        ensures leads { ReadLeads (self.new, result) self.old (refreshed none) }
+        ensures open { self.new ≡ ReadPlace.Idle → IsSome result }
+        ensures no_store { head_store self.new ≡ 0 }
+        ensures no_sum { read_sum self.new ≡ 0 }
     {
-        match self {
-            ReadPlace::LookTail(purpose) if none => (found_none(purpose), None),
-            ReadPlace::LookTailAgain(purpose, was_closed) if none => (
-                ReadPlace::Idle,
-                Some(look_answer(purpose, end_or_pending(was_closed))),
-            ),
-            ReadPlace::LookTail(purpose) | ReadPlace::LookTailAgain(purpose, _) => (
-                found(purpose),
-                None,
-            ),
+        match *self {
+            ReadPlace::LookTail(purpose) if none => {
+                *self = found_none(purpose);
+                None
+            }
+            ReadPlace::LookTailAgain(purpose, was_closed) if none => {
+                *self = ReadPlace::Idle;
+                Some(look_answer(purpose, end_or_pending(was_closed)))
+            }
+            ReadPlace::LookTail(purpose) | ReadPlace::LookTailAgain(purpose, _) => {
+                *self = found(purpose);
+                None
+            }
             _ => unreachable!(),
         }
     }
 
     /// Closed was loaded, and the flag was this.
-    pub(crate) fn loaded_closed(self, is_closed: bool) -> (ReadPlace, Option<Answer>)
-        requires next { read_action self ≡ Action.LoadClosed }
-        ensures leads { ReadLeads result self (flag is_closed) }
-        ensures open { result.0 ≡ ReadPlace.Idle → IsSome result.1 }
-        ensures no_store { head_store result.0 ≡ 0 }
-        ensures no_sum { read_sum result.0 ≡ 0 }
+    #[inline(always)]
+    pub(crate) fn loaded_closed(&mut self, is_closed: bool) -> Option<Answer>
+        requires next { read_action self.old ≡ Action.LoadClosed }
+        ensures leads { ReadLeads (self.new, result) self.old (flag is_closed) }
+        ensures open { self.new ≡ ReadPlace.Idle → IsSome result }
+        ensures no_store { head_store self.new ≡ 0 }
+        ensures no_sum { read_sum self.new ≡ 0 }
     {
-        match self {
-            ReadPlace::QueryClosed => (ReadPlace::Idle, Some(Answer::Flag(is_closed))),
-            ReadPlace::LookClosed(purpose) => (ReadPlace::LookTailAgain(purpose, is_closed), None),
+        match *self {
+            ReadPlace::QueryClosed => {
+                *self = ReadPlace::Idle;
+                Some(Answer::Flag(is_closed))
+            }
+            ReadPlace::LookClosed(purpose) => {
+                *self = ReadPlace::LookTailAgain(purpose, is_closed);
+                None
+            }
             _ => unreachable!(),
         }
     }
 
     /// The call's waker was registered, or its clone was refused.
-    pub(crate) fn registered(self, is_granted: bool) -> (ReadPlace, Option<Answer>)
-        requires next { read_action self ≡ Action.Register }
-        ensures leads { ReadLeads result self (granted is_granted) }
-        ensures open { result.0 ≡ ReadPlace.Idle → IsSome result.1 }
-        ensures no_store { head_store result.0 ≡ 0 }
-        ensures no_sum { read_sum result.0 ≡ 0 }
+    #[inline(always)]
+    pub(crate) fn registered(&mut self, is_granted: bool) -> Option<Answer>
+        requires next { read_action self.old ≡ Action.Register }
+        ensures leads { ReadLeads (self.new, result) self.old (granted is_granted) }
+        ensures open { self.new ≡ ReadPlace.Idle → IsSome result }
+        ensures no_store { head_store self.new ≡ 0 }
+        ensures no_sum { read_sum self.new ≡ 0 }
     {
-        match self {
-            ReadPlace::LookRegister(purpose) if is_granted => (
-                ReadPlace::LookClosed(purpose),
-                None,
-            ),
-            ReadPlace::LookRegister(purpose) => (
-                ReadPlace::Idle,
-                Some(look_answer(purpose, Polled::Memory)),
-            ),
+        match *self {
+            ReadPlace::LookRegister(purpose) if is_granted => {
+                *self = ReadPlace::LookClosed(purpose);
+                None
+            }
+            ReadPlace::LookRegister(purpose) => {
+                *self = ReadPlace::Idle;
+                Some(look_answer(purpose, Polled::Memory))
+            }
             _ => unreachable!(),
         }
     }
 
     /// The reader's own slot was emptied.
-    pub(crate) fn took_own(self) -> (ReadPlace, Option<Answer>)
-        requires next { read_action self ≡ Action.Take Side.Reader }
-        ensures leads { ReadLeads result self nothing }
-        ensures open { result.0 ≡ ReadPlace.Idle → IsSome result.1 }
-        ensures no_store { head_store result.0 ≡ 0 }
-        ensures no_sum { read_sum result.0 ≡ 0 }
+    #[inline(always)]
+    pub(crate) fn took_own(&mut self) -> Option<Answer>
+        requires next { read_action self.old ≡ Action.Take Side.Reader }
+        ensures leads { ReadLeads (self.new, result) self.old nothing }
+        ensures open { self.new ≡ ReadPlace.Idle → IsSome result }
+        ensures no_store { head_store self.new ≡ 0 }
+        ensures no_sum { read_sum self.new ≡ 0 }
     {
-        match self {
-            ReadPlace::LookTake(Purpose::Poll) => (
-                ReadPlace::Idle,
-                Some(Answer::Poll(Polled::Ready(true))),
-            ),
-            ReadPlace::LookTake(Purpose::Copy(form)) => (draws(form), None),
+        match *self {
+            ReadPlace::LookTake(Purpose::Poll) => {
+                *self = ReadPlace::Idle;
+                Some(Answer::Poll(Polled::Ready(true)))
+            }
+            ReadPlace::LookTake(Purpose::Copy(form)) => {
+                *self = draws(form);
+                None
+            }
             _ => unreachable!(),
         }
     }
 
     /// The caller's own waker was called in place of the rounds, or its clone was refused.
-    pub(crate) fn yielded(self, is_granted: bool) -> (ReadPlace, Option<Answer>)
-        requires next { read_action self ≡ Action.Yield }
-        ensures leads { ReadLeads result self (granted is_granted) }
-        ensures open { result.0 ≡ ReadPlace.Idle → IsSome result.1 }
-        ensures no_store { head_store result.0 ≡ 0 }
-        ensures no_sum { read_sum result.0 ≡ 0 }
+    #[inline(always)]
+    pub(crate) fn yielded(&mut self, is_granted: bool) -> Option<Answer>
+        requires next { read_action self.old ≡ Action.Yield }
+        ensures leads { ReadLeads (self.new, result) self.old (granted is_granted) }
+        ensures open { self.new ≡ ReadPlace.Idle → IsSome result }
+        ensures no_store { head_store self.new ≡ 0 }
+        ensures no_sum { read_sum self.new ≡ 0 }
     {
-        match self {
-            ReadPlace::Yield => (ReadPlace::Idle, Some(yield_answer(is_granted))),
+        match *self {
+            ReadPlace::Yield => {
+                *self = ReadPlace::Idle;
+                Some(yield_answer(is_granted))
+            }
             _ => unreachable!(),
         }
     }
 
     /// The destination took the first `n` bytes of the peeked slice.
-    pub(crate) fn destination_took(self, n: usize) -> (ReadPlace, Option<Answer>)
-        requires next { read_action self ≡ Action.CallDestination }
-        requires fits { read_sum self + n < 2 ^ 64 }
-        ensures leads { ReadLeads result self (moved n) }
-        ensures open { result.0 ≡ ReadPlace.Idle → IsSome result.1 }
-        ensures stored { head_store result.0 ≤ n }
-        ensures sum { read_sum result.0 ≤ read_sum self + head_store result.0 }
+    #[inline(always)]
+    pub(crate) fn destination_took(&mut self, n: usize) -> Option<Answer>
+        requires next { read_action self.old ≡ Action.CallDestination }
+        requires fits { read_sum self.old + n < 2 ^ 64 }
+        ensures leads { ReadLeads (self.new, result) self.old (moved n) }
+        ensures open { self.new ≡ ReadPlace.Idle → IsSome result }
+        ensures stored { head_store self.new ≤ n }
+        ensures sum { read_sum self.new ≤ read_sum self.old + head_store self.new }
     {
-        match self {
-            ReadPlace::CallDestination(form, sum) if n == 0 => (
-                ReadPlace::Idle,
-                Some(form.counted(sum)),
-            ),
-            ReadPlace::CallDestination(form, sum) => (
-                ReadPlace::StoreHead(n, AfterRead::Round(form, sum + n)),
-                None,
-            ),
+        match *self {
+            ReadPlace::CallDestination(form, sum) if n == 0 => {
+                *self = ReadPlace::Idle;
+                Some(form.counted(sum))
+            }
+            ReadPlace::CallDestination(form, sum) => {
+                *self = ReadPlace::StoreHead(n, AfterRead::Round(form, sum + n));
+                None
+            }
             _ => unreachable!(),
         }
     }
 
     /// The destination failed, and took nothing.
-    pub(crate) fn destination_failed(self) -> (ReadPlace, Option<Answer>)
-        requires next { read_action self ≡ Action.CallDestination }
-        ensures leads { ReadLeads result self failed }
-        ensures open { result.0 ≡ ReadPlace.Idle → IsSome result.1 }
-        ensures no_store { head_store result.0 ≡ 0 }
-        ensures no_sum { read_sum result.0 ≡ 0 }
+    #[inline(always)]
+    pub(crate) fn destination_failed(&mut self) -> Option<Answer>
+        requires next { read_action self.old ≡ Action.CallDestination }
+        ensures leads { ReadLeads (self.new, result) self.old failed }
+        ensures open { self.new ≡ ReadPlace.Idle → IsSome result }
+        ensures no_store { head_store self.new ≡ 0 }
+        ensures no_sum { read_sum self.new ≡ 0 }
     {
-        match self {
-            ReadPlace::CallDestination(_, _) => (
-                ReadPlace::Idle,
-                Some(Answer::Copy(Polled::Ready(Err(Failed)))),
-            ),
+        match *self {
+            ReadPlace::CallDestination(_, _) => {
+                *self = ReadPlace::Idle;
+                Some(Answer::Copy(Polled::Ready(Err(Failed))))
+            }
             _ => unreachable!(),
         }
     }
 
     /// The head was stored, past `n` bytes.
-    pub(crate) fn stored_head(self, n: usize) -> (ReadPlace, Option<Answer>)
-        requires next { read_action self ≡ Action.StoreHead n }
-        ensures leads { ReadLeads result self nothing }
-        ensures open { result.0 ≡ ReadPlace.Idle → IsSome result.1 }
-        ensures stored { head_store self ≡ n }
-        ensures no_store { head_store result.0 ≡ 0 }
-        ensures sum { read_sum result.0 ≡ read_sum self }
+    #[inline(always)]
+    pub(crate) fn stored_head(&mut self, n: usize) -> Option<Answer>
+        requires next { read_action self.old ≡ Action.StoreHead n }
+        ensures leads { ReadLeads (self.new, result) self.old nothing }
+        ensures open { self.new ≡ ReadPlace.Idle → IsSome result }
+        ensures stored { head_store self.old ≡ n }
+        ensures no_store { head_store self.new ≡ 0 }
+        ensures sum { read_sum self.new ≡ read_sum self.old }
     {
-        match self {
-            ReadPlace::StoreHead(_, next) => (ReadPlace::TakeWriter(next), None),
+        match *self {
+            ReadPlace::StoreHead(_, next) => {
+                *self = ReadPlace::TakeWriter(next);
+                None
+            }
             _ => unreachable!(),
         }
     }
 
     /// The writer's slot was emptied, and a waker stood in it or not.
-    pub(crate) fn took_writer(self, is_found: bool) -> (ReadPlace, Option<Answer>)
-        requires next { read_action self ≡ Action.Take Side.Writer }
-        ensures leads { ReadLeads result self (waker is_found) }
-        ensures open { result.0 ≡ ReadPlace.Idle → IsSome result.1 }
-        ensures no_store { head_store result.0 ≡ 0 }
-        ensures sum { read_sum result.0 ≤ read_sum self }
+    #[inline(always)]
+    pub(crate) fn took_writer(&mut self, is_found: bool) -> Option<Answer>
+        requires next { read_action self.old ≡ Action.Take Side.Writer }
+        ensures leads { ReadLeads (self.new, result) self.old (waker is_found) }
+        ensures open { self.new ≡ ReadPlace.Idle → IsSome result }
+        ensures no_store { head_store self.new ≡ 0 }
+        ensures sum { read_sum self.new ≤ read_sum self.old }
     {
-        match self {
-            ReadPlace::TakeWriter(next) if !is_found => done(next),
-            ReadPlace::TakeWriter(next) => (ReadPlace::WakeWriter(next), None),
+        match *self {
+            ReadPlace::TakeWriter(next) if !is_found => done(self, next),
+            ReadPlace::TakeWriter(next) => {
+                *self = ReadPlace::WakeWriter(next);
+                None
+            }
             _ => unreachable!(),
         }
     }
 
     /// The waker that was taken was called.
-    pub(crate) fn woke(self) -> (ReadPlace, Option<Answer>)
-        requires next { read_action self ≡ Action.Wake }
-        ensures leads { ReadLeads result self nothing }
-        ensures open { result.0 ≡ ReadPlace.Idle → IsSome result.1 }
-        ensures no_store { head_store result.0 ≡ 0 }
-        ensures sum { read_sum result.0 ≤ read_sum self }
+    #[inline(always)]
+    pub(crate) fn woke(&mut self) -> Option<Answer>
+        requires next { read_action self.old ≡ Action.Wake }
+        ensures leads { ReadLeads (self.new, result) self.old nothing }
+        ensures open { self.new ≡ ReadPlace.Idle → IsSome result }
+        ensures no_store { head_store self.new ≡ 0 }
+        ensures sum { read_sum self.new ≤ read_sum self.old }
     {
-        match self {
-            ReadPlace::WakeWriter(next) => done(next),
+        match *self {
+            ReadPlace::WakeWriter(next) => done(self, next),
             _ => unreachable!(),
         }
     }
 
     /// The closed flag was set.
-    pub(crate) fn stored_closed(self) -> (ReadPlace, Option<Answer>)
-        requires next { read_action self ≡ Action.StoreClosed false }
-        ensures leads { ReadLeads result self nothing }
-        ensures open { result.0 ≡ ReadPlace.Idle → IsSome result.1 }
-        ensures no_store { head_store result.0 ≡ 0 }
-        ensures no_sum { read_sum result.0 ≡ 0 }
+    #[inline(always)]
+    pub(crate) fn stored_closed(&mut self) -> Option<Answer>
+        requires next { read_action self.old ≡ Action.StoreClosed false }
+        ensures leads { ReadLeads (self.new, result) self.old nothing }
+        ensures open { self.new ≡ ReadPlace.Idle → IsSome result }
+        ensures no_store { head_store self.new ≡ 0 }
+        ensures no_sum { read_sum self.new ≡ 0 }
     {
-        match self {
-            ReadPlace::StoreClosed => (ReadPlace::TakeWriter(AfterRead::Drop), None),
+        match *self {
+            ReadPlace::StoreClosed => {
+                *self = ReadPlace::TakeWriter(AfterRead::Drop);
+                None
+            }
             _ => unreachable!(),
         }
     }

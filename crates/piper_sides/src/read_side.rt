@@ -199,9 +199,7 @@ impl ReadSide {
         ensures open { self.new.place ≡ ReadPlace.Idle → IsSome result }
         ensures sound { IsReading self.new }
     {
-        let (place, answer) = self.place.loaded_head();
-        self.place = place;
-        answer
+        self.place.loaded_head()
     }
 
     /// The tail was loaded in a query, and so many bytes were unread.
@@ -212,9 +210,7 @@ impl ReadSide {
         ensures open { self.new.place ≡ ReadPlace.Idle → IsSome result }
         ensures sound { IsReading self.new }
     {
-        let (place, answer) = self.place.loaded_tail(self.indices.capacity(), count);
-        self.place = place;
-        answer
+        self.place.loaded_tail(self.indices.capacity(), count)
     }
 
     /// The tail was loaded in a look, and stood at this index.
@@ -228,9 +224,7 @@ impl ReadSide {
         ensures sound { IsReading self.new }
     {
         self.indices.sees(tail);
-        let (place, answer) = self.place.refreshed(self.indices.knows_none());
-        self.place = place;
-        answer
+        self.place.refreshed(self.indices.knows_none())
     }
 
     /// Closed was loaded, and the flag was this.
@@ -241,9 +235,7 @@ impl ReadSide {
         ensures open { self.new.place ≡ ReadPlace.Idle → IsSome result }
         ensures sound { IsReading self.new }
     {
-        let (place, answer) = self.place.loaded_closed(is_closed);
-        self.place = place;
-        answer
+        self.place.loaded_closed(is_closed)
     }
 
     /// The call's waker was registered, or its clone was refused.
@@ -254,9 +246,7 @@ impl ReadSide {
         ensures open { self.new.place ≡ ReadPlace.Idle → IsSome result }
         ensures sound { IsReading self.new }
     {
-        let (place, answer) = self.place.registered(is_granted);
-        self.place = place;
-        answer
+        self.place.registered(is_granted)
     }
 
     /// The reader's own slot was emptied.
@@ -267,9 +257,7 @@ impl ReadSide {
         ensures open { self.new.place ≡ ReadPlace.Idle → IsSome result }
         ensures sound { IsReading self.new }
     {
-        let (place, answer) = self.place.took_own();
-        self.place = place;
-        answer
+        self.place.took_own()
     }
 
     /// The caller's own waker was called in place of the rounds, or its clone was refused.
@@ -280,9 +268,7 @@ impl ReadSide {
         ensures open { self.new.place ≡ ReadPlace.Idle → IsSome result }
         ensures sound { IsReading self.new }
     {
-        let (place, answer) = self.place.yielded(is_granted);
-        self.place = place;
-        answer
+        self.place.yielded(is_granted)
     }
 
     /// The destination took the first `n` bytes of the peeked slice.
@@ -294,9 +280,7 @@ impl ReadSide {
         ensures open { self.new.place ≡ ReadPlace.Idle → IsSome result }
         ensures sound { IsReading self.new }
     {
-        let (place, answer) = self.place.destination_took(n);
-        self.place = place;
-        answer
+        self.place.destination_took(n)
     }
 
     /// The destination failed, and took nothing.
@@ -307,9 +291,7 @@ impl ReadSide {
         ensures open { self.new.place ≡ ReadPlace.Idle → IsSome result }
         ensures sound { IsReading self.new }
     {
-        let (place, answer) = self.place.destination_failed();
-        self.place = place;
-        answer
+        self.place.destination_failed()
     }
 
     /// The writer's slot was emptied, and a waker stood in it or not.
@@ -320,9 +302,7 @@ impl ReadSide {
         ensures open { self.new.place ≡ ReadPlace.Idle → IsSome result }
         ensures sound { IsReading self.new }
     {
-        let (place, answer) = self.place.took_writer(is_found);
-        self.place = place;
-        answer
+        self.place.took_writer(is_found)
     }
 
     /// The waker that was taken was called.
@@ -333,9 +313,7 @@ impl ReadSide {
         ensures open { self.new.place ≡ ReadPlace.Idle → IsSome result }
         ensures sound { IsReading self.new }
     {
-        let (place, answer) = self.place.woke();
-        self.place = place;
-        answer
+        self.place.woke()
     }
 
     /// The closed flag was set.
@@ -346,9 +324,7 @@ impl ReadSide {
         ensures open { self.new.place ≡ ReadPlace.Idle → IsSome result }
         ensures sound { IsReading self.new }
     {
-        let (place, answer) = self.place.stored_closed();
-        self.place = place;
-        answer
+        self.place.stored_closed()
     }
 
     /// The head was stored, past `n` bytes.
@@ -361,8 +337,6 @@ impl ReadSide {
         ensures sound { IsReading self.new }
     {
         self.indices.gives(n);
-        let (place, answer) = self.place.stored_head(n);
-        self.place = place;
-        answer
+        self.place.stored_head(n)
     }
 }

@@ -108,8 +108,11 @@ impl WriteCall {
         requires next { write_action self.place ≡ Action.LoadHead }
         ensures { result ≡ write_step self.place (unread count) }
     {
-        let WriteCall { place, answer: _ } = self;
-        let (place, answer) = place.loaded_head(count);
+        let WriteCall {
+            mut place,
+            answer: _,
+        } = self;
+        let answer = place.loaded_head(count);
         WriteCall { place, answer }
     }
 
@@ -118,8 +121,11 @@ impl WriteCall {
         requires next { write_action self.place ≡ Action.LoadTail }
         ensures { result ≡ query_told capacity self.place }
     {
-        let WriteCall { place, answer: _ } = self;
-        let (place, answer) = place.loaded_tail(capacity);
+        let WriteCall {
+            mut place,
+            answer: _,
+        } = self;
+        let answer = place.loaded_tail(capacity);
         WriteCall { place, answer }
     }
 
@@ -129,8 +135,11 @@ impl WriteCall {
         requires begins { begins_look self.place ≡ true }
         ensures { result ≡ look_begun none self.place is_closed }
     {
-        let WriteCall { place, answer: _ } = self;
-        let (place, answer) = place.looked_closed(none, is_closed);
+        let WriteCall {
+            mut place,
+            answer: _,
+        } = self;
+        let answer = place.looked_closed(none, is_closed);
         WriteCall { place, answer }
     }
 
@@ -140,8 +149,11 @@ impl WriteCall {
         requires goes_on { begins_look self.place ≡ false }
         ensures { result ≡ write_step self.place (flag is_closed) }
     {
-        let WriteCall { place, answer: _ } = self;
-        let (place, answer) = place.loaded_closed(is_closed);
+        let WriteCall {
+            mut place,
+            answer: _,
+        } = self;
+        let answer = place.loaded_closed(is_closed);
         WriteCall { place, answer }
     }
 
@@ -150,8 +162,11 @@ impl WriteCall {
         requires next { write_action self.place ≡ Action.Refresh }
         ensures { result ≡ write_step self.place (refreshed none) }
     {
-        let WriteCall { place, answer: _ } = self;
-        let (place, answer) = place.refreshed(none);
+        let WriteCall {
+            mut place,
+            answer: _,
+        } = self;
+        let answer = place.refreshed(none);
         WriteCall { place, answer }
     }
 
@@ -160,8 +175,11 @@ impl WriteCall {
         requires next { write_action self.place ≡ Action.Register }
         ensures { result ≡ write_step self.place (granted is_granted) }
     {
-        let WriteCall { place, answer: _ } = self;
-        let (place, answer) = place.registered(is_granted);
+        let WriteCall {
+            mut place,
+            answer: _,
+        } = self;
+        let answer = place.registered(is_granted);
         WriteCall { place, answer }
     }
 
@@ -172,8 +190,11 @@ impl WriteCall {
         requires no_copy { writer_draws_behind self.place ≡ false }
         ensures { result ≡ write_step self.place (waker is_found) }
     {
-        let WriteCall { place, answer: _ } = self;
-        let (place, answer) = place.took_own(is_found);
+        let WriteCall {
+            mut place,
+            answer: _,
+        } = self;
+        let answer = place.took_own(is_found);
         WriteCall { place, answer }
     }
 
@@ -188,7 +209,8 @@ impl WriteCall {
             answer: _,
         } = self;
         let drawn = Purpose::Copy(Form::Polling { is_drawn });
-        let (place, answer) = WritePlace::LookTake(drawn).took_own(false);
+        let mut place = WritePlace::LookTake(drawn);
+        let answer = place.took_own(false);
         WriteCall { place, answer }
     }
 
@@ -197,8 +219,11 @@ impl WriteCall {
         requires next { write_action self.place ≡ Action.Yield }
         ensures { result ≡ write_step self.place (granted is_granted) }
     {
-        let WriteCall { place, answer: _ } = self;
-        let (place, answer) = place.yielded(is_granted);
+        let WriteCall {
+            mut place,
+            answer: _,
+        } = self;
+        let answer = place.yielded(is_granted);
         WriteCall { place, answer }
     }
 
@@ -208,8 +233,11 @@ impl WriteCall {
         requires fits { write_sum self.place + n < 2 ^ 64 }
         ensures { result ≡ write_step self.place (moved n) }
     {
-        let WriteCall { place, answer: _ } = self;
-        let (place, answer) = place.source_gave(n);
+        let WriteCall {
+            mut place,
+            answer: _,
+        } = self;
+        let answer = place.source_gave(n);
         WriteCall { place, answer }
     }
 
@@ -218,8 +246,11 @@ impl WriteCall {
         requires next { write_action self.place ≡ Action.CallSource }
         ensures { result ≡ write_step self.place failed }
     {
-        let WriteCall { place, answer: _ } = self;
-        let (place, answer) = place.source_failed();
+        let WriteCall {
+            mut place,
+            answer: _,
+        } = self;
+        let answer = place.source_failed();
         WriteCall { place, answer }
     }
 
@@ -228,8 +259,11 @@ impl WriteCall {
         requires next { write_action self.place ≡ Action.StoreTail n }
         ensures { result ≡ write_step self.place nothing }
     {
-        let WriteCall { place, answer: _ } = self;
-        let (place, answer) = place.stored_tail(n);
+        let WriteCall {
+            mut place,
+            answer: _,
+        } = self;
+        let answer = place.stored_tail(n);
         WriteCall { place, answer }
     }
 
@@ -238,8 +272,11 @@ impl WriteCall {
         requires next { write_action self.place ≡ Action.Take Side.Reader }
         ensures { result ≡ write_step self.place (waker is_found) }
     {
-        let WriteCall { place, answer: _ } = self;
-        let (place, answer) = place.took_reader(is_found);
+        let WriteCall {
+            mut place,
+            answer: _,
+        } = self;
+        let answer = place.took_reader(is_found);
         WriteCall { place, answer }
     }
 
@@ -248,8 +285,11 @@ impl WriteCall {
         requires next { write_action self.place ≡ Action.Wake }
         ensures { result ≡ write_step self.place nothing }
     {
-        let WriteCall { place, answer: _ } = self;
-        let (place, answer) = place.woke();
+        let WriteCall {
+            mut place,
+            answer: _,
+        } = self;
+        let answer = place.woke();
         WriteCall { place, answer }
     }
 
@@ -258,8 +298,11 @@ impl WriteCall {
         requires next { write_action self.place ≡ Action.StoreClosed false }
         ensures { result ≡ write_step self.place nothing }
     {
-        let WriteCall { place, answer: _ } = self;
-        let (place, answer) = place.stored_closed();
+        let WriteCall {
+            mut place,
+            answer: _,
+        } = self;
+        let answer = place.stored_closed();
         WriteCall { place, answer }
     }
 
@@ -268,8 +311,11 @@ impl WriteCall {
         requires next { write_action self.place ≡ Action.StoreClosed true }
         ensures { result ≡ write_step self.place nothing }
     {
-        let WriteCall { place, answer: _ } = self;
-        let (place, answer) = place.shut();
+        let WriteCall {
+            mut place,
+            answer: _,
+        } = self;
+        let answer = place.shut();
         WriteCall { place, answer }
     }
 }

@@ -218,9 +218,7 @@ impl WriteSide {
         ensures open { self.new.place ≡ WritePlace.Idle → IsSome result }
         ensures sound { IsWriting self.new }
     {
-        let (place, answer) = self.place.loaded_head(count);
-        self.place = place;
-        answer
+        self.place.loaded_head(count)
     }
 
     /// The tail was loaded in a query.
@@ -231,9 +229,7 @@ impl WriteSide {
         ensures open { self.new.place ≡ WritePlace.Idle → IsSome result }
         ensures sound { IsWriting self.new }
     {
-        let (place, answer) = self.place.loaded_tail(self.indices.capacity());
-        self.place = place;
-        answer
+        self.place.loaded_tail(self.indices.capacity())
     }
 
     /// The head was loaded in a look, and stood at this index.
@@ -248,9 +244,7 @@ impl WriteSide {
         ensures sound { IsWriting self.new }
     {
         self.indices.sees(head);
-        let (place, answer) = self.place.refreshed(self.indices.knows_none());
-        self.place = place;
-        answer
+        self.place.refreshed(self.indices.knows_none())
     }
 
     /// Closed was loaded, and the flag was this.
@@ -262,14 +256,12 @@ impl WriteSide {
         ensures idle { IsSome result → self.new.place ≡ WritePlace.Idle }
         ensures sound { IsWriting self.new }
     {
-        let (place, answer) = match self.place {
+        match self.place {
             WritePlace::LookClosed(_) => self
                 .place
                 .looked_closed(self.indices.knows_none(), is_closed),
             _ => self.place.loaded_closed(is_closed),
-        };
-        self.place = place;
-        answer
+        }
     }
 
     /// The call's waker was registered, or its clone was refused.
@@ -281,9 +273,7 @@ impl WriteSide {
         ensures idle { IsSome result → self.new.place ≡ WritePlace.Idle }
         ensures sound { IsWriting self.new }
     {
-        let (place, answer) = self.place.registered(is_granted);
-        self.place = place;
-        answer
+        self.place.registered(is_granted)
     }
 
     /// The writer's own slot was emptied, and a waker stood in it or not.
@@ -294,9 +284,7 @@ impl WriteSide {
         ensures open { self.new.place ≡ WritePlace.Idle → IsSome result }
         ensures sound { IsWriting self.new }
     {
-        let (place, answer) = self.place.took_own(is_found);
-        self.place = place;
-        answer
+        self.place.took_own(is_found)
     }
 
     /// The caller's own waker was called in place of the rounds, or its clone was refused.
@@ -308,9 +296,7 @@ impl WriteSide {
         ensures idle { IsSome result → self.new.place ≡ WritePlace.Idle }
         ensures sound { IsWriting self.new }
     {
-        let (place, answer) = self.place.yielded(is_granted);
-        self.place = place;
-        answer
+        self.place.yielded(is_granted)
     }
 
     /// The source gave `n` bytes, which stand at the front of what is lent.
@@ -323,9 +309,7 @@ impl WriteSide {
         ensures idle { IsSome result → self.new.place ≡ WritePlace.Idle }
         ensures sound { IsWriting self.new }
     {
-        let (place, answer) = self.place.source_gave(n);
-        self.place = place;
-        answer
+        self.place.source_gave(n)
     }
 
     /// The source failed, and gave nothing.
@@ -337,9 +321,7 @@ impl WriteSide {
         ensures idle { IsSome result → self.new.place ≡ WritePlace.Idle }
         ensures sound { IsWriting self.new }
     {
-        let (place, answer) = self.place.source_failed();
-        self.place = place;
-        answer
+        self.place.source_failed()
     }
 
     /// The reader's slot was emptied, and a waker stood in it or not.
@@ -350,9 +332,7 @@ impl WriteSide {
         ensures open { self.new.place ≡ WritePlace.Idle → IsSome result }
         ensures sound { IsWriting self.new }
     {
-        let (place, answer) = self.place.took_reader(is_found);
-        self.place = place;
-        answer
+        self.place.took_reader(is_found)
     }
 
     /// The waker that was taken was called.
@@ -363,9 +343,7 @@ impl WriteSide {
         ensures open { self.new.place ≡ WritePlace.Idle → IsSome result }
         ensures sound { IsWriting self.new }
     {
-        let (place, answer) = self.place.woke();
-        self.place = place;
-        answer
+        self.place.woke()
     }
 
     /// The closed flag was set, by a drop.
@@ -376,9 +354,7 @@ impl WriteSide {
         ensures open { self.new.place ≡ WritePlace.Idle → IsSome result }
         ensures sound { IsWriting self.new }
     {
-        let (place, answer) = self.place.stored_closed();
-        self.place = place;
-        answer
+        self.place.stored_closed()
     }
 
     /// The closed flag was set, by a close: nothing is lent from now on.
@@ -390,9 +366,7 @@ impl WriteSide {
         ensures sound { IsWriting self.new }
     {
         self.indices.shut();
-        let (place, answer) = self.place.shut();
-        self.place = place;
-        answer
+        self.place.shut()
     }
 
     /// The tail was stored, past the first `n` bytes of what is lent.
@@ -405,8 +379,6 @@ impl WriteSide {
         ensures sound { IsWriting self.new }
     {
         self.indices.publishes(n);
-        let (place, answer) = self.place.stored_tail(n);
-        self.place = place;
-        answer
+        self.place.stored_tail(n)
     }
 }
