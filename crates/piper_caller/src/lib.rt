@@ -57,15 +57,24 @@ pub fn made_by_the_laws(
 ) -> Result<(Machine, Log), RunRefusal>
     requires { IsCapacity cap }
     ensures made { IfOk result (λ run. Runs (fresh cap) [] steps.now run.0 (events run.1)) }
-    ensures refused { (i : ℕ) (why : StepRefusal) → result ≡ Err (RunRefusal.At i why) → RefusedAt cap steps.now i why }
-    ensures first_in_first_out { IfOk result (λ run. consumed_of (events run.1) ++ run.0.unread ≡ published_of (events run.1)) }
+    ensures refused { (i : ℕ) (why : StepRefusal) →
+        result ≡ Err (RunRefusal.At i why) → RefusedAt cap steps.now i why }
+    ensures first_in_first_out { IfOk result (λ run.
+        consumed_of (events run.1) ++ run.0.unread ≡ published_of (events run.1)) }
     ensures never_overfull { IfOk result (λ run. length run.0.unread ≤ cap) }
-    ensures no_place_is_shared { IfOk result (λ run. (place : ℕ) → HeldByReader run.0 place → HeldByWriter run.0 place → ⊥) }
-    ensures nothing_is_left_at_the_end { IfOk result (λ run. (before after : List Event) → events run.1 ≡ before ++ told_end ∷ after → consumed_of (events run.1) ≡ published_of (events run.1)) }
-    ensures nobody_is_forgotten { IfOk result (λ run. (side : Side) → IsIdle side run.0 → IsOutside (other side) run.0 → let w = wait_of side (events run.1) in w.is_pending ≡ true → WasCalled w ⊎ StandsReady side run.0 w) }
+    ensures no_place_is_shared { IfOk result (λ run. (place : ℕ) →
+        HeldByReader run.0 place → HeldByWriter run.0 place → ⊥) }
+    ensures nothing_is_left_at_the_end { IfOk result (λ run. (before after : List Event) →
+        events run.1 ≡ before ++ told_end ∷ after →
+        consumed_of (events run.1) ≡ published_of (events run.1)) }
+    ensures nobody_is_forgotten { IfOk result (λ run. (side : Side) →
+        IsIdle side run.0 → IsOutside (other side) run.0 →
+        let w = wait_of side (events run.1) in
+        w.is_pending ≡ true → WasCalled w ⊎ StandsReady side run.0 w) }
     ensures the_end_is_honest { IfOk result (λ run. IsHonest (events run.1)) }
     ensures answers_are_right { IfOk result (λ run. AreAnswered cap steps.now (events run.1)) }
-    ensures few_steps { IfOk result (λ run. (side : Side) → (tally_of side steps.now).made ≤ 6 + 5 * cap) }
+    ensures few_steps { IfOk result (λ run. (side : Side) →
+        (tally_of side steps.now).made ≤ 6 + 5 * cap) }
 {
     run(alloc, cap, steps)
 }
@@ -75,7 +84,9 @@ pub fn counted_alone(machine: &mut Machine) -> usize
     requires { machine.old.reader ≡ ReadPlace.Idle }
     ensures value { result ≡ unread_count machine.old }
     ensures after { machine.new ≡ begun machine.old }
-    ensures by_steps { (k : ℕ) (q : Pipe) (before after : List Event) → Runs machine.old before (Begin (call.Len Reader) ∷ replicate k (Go Reader)) q after → IsOutside Reader q → IsToldLast (Count result) before after }
+    ensures by_steps { (k : ℕ) (q : Pipe) (before after : List Event) →
+        Runs machine.old before (Begin (call.Len Reader) ∷ replicate k (Go Reader)) q after →
+        IsOutside Reader q → IsToldLast (Count result) before after }
 {
     machine.r_len()
 }

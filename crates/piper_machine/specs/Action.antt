@@ -52,7 +52,8 @@ registered_in (Some cx) slot = registered_if cx.luck.register_granted cx.waker s
 
 -- a slot is emptied, and the call holds what stood there
 abbrev pub taken_by : Side → Side → Pipe → Pipe
-taken_by side slot p = with_call side (record (call_of side p) { taken = waker_in slot p }) (with_waker_in slot None p)
+taken_by side slot p =
+    with_call side (record (call_of side p) { taken = waker_in slot p }) (with_waker_in slot None p)
 
 abbrev pub closed_by : Bool → Pipe → Pipe
 closed_by false p = record p { is_closed = true }
@@ -68,7 +69,10 @@ destination_called p = record p { destination = left_of_destination (round_count
 -- what the source gives stands at the front of what it was lent
 abbrev pub source_called : Pipe → Pipe
 source_called p = let n = moved_by (given (length p.lent) p.source) in
-    record p { lent = take n (bytes_of p.source) ++ drop n p.lent; source = left_of_source n p.source }
+    record p {
+      lent = take n (bytes_of p.source) ++ drop n p.lent;
+      source = left_of_source n p.source;
+    }
 
 -- the pipe after a step of this side
 abbrev pub performed : Side → Action → Pipe → Pipe
@@ -77,7 +81,8 @@ performed side does.LoadHead p = p
 performed side does.LoadTail p = p
 performed side does.Refresh p = refreshed_by side p
 performed side does.LoadClosed p = p
-performed side does.Register p = with_waker_in side (registered_in (call_of side p).context (waker_in side p)) p
+performed side does.Register p =
+    with_waker_in side (registered_in (call_of side p).context (waker_in side p)) p
 performed side (does.StoreHead n) p = consumed n p
 performed side (does.StoreTail n) p = published n p
 performed side (does.StoreClosed is_shut) p = closed_by is_shut p

@@ -49,7 +49,8 @@ yield_waker (Some cx) = waker_if cx.luck.yield_granted cx.waker
 
 abbrev pub heard : Side → Action → Pipe → Pipe
 heard side does.Wake p = record p { woken = with_waker p.woken (call_of side p).taken }
-heard side does.Yield p = record p { woken = with_waker p.woken (yield_waker (call_of side p).context) }
+heard side does.Yield p =
+    record p { woken = with_waker p.woken (yield_waker (call_of side p).context) }
 heard side action p = p
 
 -- what the rounds of a copy answer: one without a context a count, and then neither end of it can fail
@@ -68,7 +69,8 @@ reader_ended place answer p = record { answer = answer; pipe = reader_left place
 
 -- the rounds of a drain, where so many bytes have moved before
 abbrev pub drain_moves_on : Destination → ℕ → Pipe → Copied (Result ℕ Failed)
-drain_moves_on (Slice size) sum p = let n = min size p.known in answered (Ready (Ok (sum + n))) (drained n p)
+drain_moves_on (Slice size) sum p =
+    let n = min size p.known in answered (Ready (Ok (sum + n))) (drained n p)
 drain_moves_on (Acts acts) sum p = drain_moves_to acts sum p
 
 abbrev pub reader_moves_alone : Form → ℕ → Pipe → Ended
@@ -79,7 +81,8 @@ reader_moves_alone form sum p =
 abbrev pub reader_yields_alone : Pipe → Ended
 reader_yields_alone p =
     let context = p.reader_call.context in
-    reader_ended at.Idle (yield_answer (is_yield_granted context)) (record p { woken = with_waker p.woken (yield_waker context) })
+    reader_ended at.Idle (yield_answer (is_yield_granted context))
+    (record p { woken = with_waker p.woken (yield_waker context) })
 
 abbrev pub reader_draws_alone : Form → Pipe → Ended
 reader_draws_alone (Polling true) p = reader_yields_alone p
@@ -87,8 +90,10 @@ reader_draws_alone form p = reader_moves_alone form 0 p
 
 -- the look is true
 abbrev pub reader_takes_alone : Purpose → Pipe → Ended
-reader_takes_alone purpose.Poll p = reader_ended at.Idle (Poll (Ready true)) (record p { reader_waker = None })
-reader_takes_alone (purpose.Copy form) p = reader_draws_alone form (record p { reader_waker = None })
+reader_takes_alone purpose.Poll p =
+    reader_ended at.Idle (Poll (Ready true)) (record p { reader_waker = None })
+reader_takes_alone (purpose.Copy form) p =
+    reader_draws_alone form (record p { reader_waker = None })
 
 -- a byte is known
 abbrev pub reader_finds_alone : Purpose → Pipe → Ended
@@ -96,12 +101,14 @@ reader_finds_alone (purpose.Copy Try) p = reader_moves_alone Try 0 p
 reader_finds_alone l p = reader_takes_alone l p
 
 abbrev pub reader_again_alone : Bool → Purpose → Bool → Pipe → Ended
-reader_again_alone true l was_closed p = reader_ended at.Idle (look_answer l (end_or_pending was_closed)) p
+reader_again_alone true l was_closed p =
+    reader_ended at.Idle (look_answer l (end_or_pending was_closed)) p
 reader_again_alone false l was_closed p = reader_finds_alone l p
 
 -- the second load of tail
 abbrev pub reader_looks_again_alone : Purpose → Bool → Pipe → Ended
-reader_looks_again_alone l was_closed p = reader_again_alone (length p.unread == 0) l was_closed (refreshed_by Reader p)
+reader_looks_again_alone l was_closed p =
+    reader_again_alone (length p.unread == 0) l was_closed (refreshed_by Reader p)
 
 abbrev pub reader_granted_alone : Bool → Purpose → Pipe → Ended
 reader_granted_alone true l p = reader_looks_again_alone l p.is_closed p
@@ -110,11 +117,13 @@ reader_granted_alone false l p = reader_ended at.Idle (look_answer l Memory) p
 abbrev pub reader_registers_alone : Purpose → Pipe → Ended
 reader_registers_alone l p =
     let context = p.reader_call.context in
-    reader_granted_alone (is_granted context) l (record p { reader_waker = registered_in context p.reader_waker })
+    reader_granted_alone (is_granted context) l
+    (record p { reader_waker = registered_in context p.reader_waker })
 
 -- no byte is known
 abbrev pub reader_finds_none_alone : Purpose → Pipe → Ended
-reader_finds_none_alone (purpose.Copy Try) p = reader_looks_again_alone (purpose.Copy Try) p.is_closed p
+reader_finds_none_alone (purpose.Copy Try) p =
+    reader_looks_again_alone (purpose.Copy Try) p.is_closed p
 reader_finds_none_alone l p = reader_registers_alone l p
 
 -- the first load of tail
@@ -131,10 +140,13 @@ reader_done_alone (afterward.Round form sum) p = reader_moves_alone form sum p
 abbrev pub reader_remains : ReadPlace → Pipe → Ended
 reader_remains at.Idle p = reader_ended at.Idle Done p
 reader_remains at.Dropped p = reader_ended at.Dropped Done p
-reader_remains (at.QueryHead query) p = reader_ended at.Idle (query_answer query p.capacity (length p.unread)) p
-reader_remains (at.QueryTail query) p = reader_ended at.Idle (query_answer query p.capacity (length p.unread)) p
+reader_remains (at.QueryHead query) p =
+    reader_ended at.Idle (query_answer query p.capacity (length p.unread)) p
+reader_remains (at.QueryTail query) p =
+    reader_ended at.Idle (query_answer query p.capacity (length p.unread)) p
 reader_remains at.QueryClosed p = reader_ended at.Idle (Flag p.is_closed) p
-reader_remains (at.LookTail l) p = reader_looks_alone (length p.unread == 0) l (refreshed_by Reader p)
+reader_remains (at.LookTail l) p =
+    reader_looks_alone (length p.unread == 0) l (refreshed_by Reader p)
 reader_remains (at.LookRegister l) p = reader_registers_alone l p
 reader_remains (at.LookClosed l) p = reader_looks_again_alone l p.is_closed p
 reader_remains (at.LookTailAgain l was_closed) p = reader_looks_again_alone l was_closed p
@@ -143,8 +155,10 @@ reader_remains at.Yield p = reader_yields_alone p
 reader_remains (at.CallDestination form sum) p = reader_moves_alone form sum p
 reader_remains (at.StoreHead n next) p = reader_done_alone next (writer_woken (consumed n p))
 reader_remains (at.TakeWriter next) p = reader_done_alone next (writer_woken p)
-reader_remains (at.WakeWriter next) p = reader_done_alone next (record p { woken = with_waker p.woken p.reader_call.taken })
-reader_remains at.StoreClosed p = reader_done_alone afterward.Drop (writer_woken (closed_by false p))
+reader_remains (at.WakeWriter next) p =
+    reader_done_alone next (record p { woken = with_waker p.woken p.reader_call.taken })
+reader_remains at.StoreClosed p =
+    reader_done_alone afterward.Drop (writer_woken (closed_by false p))
 
 -- the place itself is of no more use
 abbrev pub reader_alone : ReadPlace → Pipe → Ended
@@ -210,7 +224,10 @@ read_wakes place = 0
 -- the writer
 
 abbrev pub writer_ended : WritePlace → Answer → Pipe → Ended
-writer_ended place answer p = record { answer = answer; pipe = record p { writer = place; writer_call = no_call; source = [] } }
+writer_ended place answer p = record {
+  answer = answer;
+  pipe = record p { writer = place; writer_call = no_call; source = [] };
+}
 
 -- a fill leaves nothing lent
 abbrev pub writer_filled : Answer → Pipe → Ended
@@ -218,16 +235,20 @@ writer_filled answer p = writer_ended on.Idle answer (record p { lent = [] })
 
 abbrev pub writer_looked_alone : Purpose → Polled Bool → Pipe → Ended
 writer_looked_alone purpose.Poll answer p = writer_ended on.Idle (Poll answer) p
-writer_looked_alone (purpose.Copy form) answer p = writer_filled (look_answer (purpose.Copy form) answer) p
+writer_looked_alone (purpose.Copy form) answer p =
+    writer_filled (look_answer (purpose.Copy form) answer) p
 
 -- the rounds of a fill of an open pipe, where so many bytes have moved before
 abbrev pub writer_moves_alone : Form → ℕ → Pipe → Ended
-writer_moves_alone form sum p = let moved = fill_moves_more sum p.source p in writer_ended on.Idle (moved_answer form moved.answer) moved.pipe
+writer_moves_alone form sum p =
+    let moved = fill_moves_more sum p.source p in
+    writer_ended on.Idle (moved_answer form moved.answer) moved.pipe
 
 abbrev pub writer_yields_alone : Pipe → Ended
 writer_yields_alone p =
     let context = p.writer_call.context in
-    writer_filled (yield_answer (is_yield_granted context)) (record p { woken = with_waker p.woken (yield_waker context) })
+    writer_filled (yield_answer (is_yield_granted context))
+    (record p { woken = with_waker p.woken (yield_waker context) })
 
 abbrev pub writer_draws_alone : Form → Pipe → Ended
 writer_draws_alone (Polling true) p = writer_yields_alone p
@@ -235,8 +256,10 @@ writer_draws_alone form p = writer_moves_alone form 0 p
 
 -- the look is true
 abbrev pub writer_takes_alone : Purpose → Pipe → Ended
-writer_takes_alone purpose.Poll p = writer_ended on.Idle (Poll (Ready true)) (record p { writer_waker = None })
-writer_takes_alone (purpose.Copy form) p = writer_draws_alone form (record p { writer_waker = None })
+writer_takes_alone purpose.Poll p =
+    writer_ended on.Idle (Poll (Ready true)) (record p { writer_waker = None })
+writer_takes_alone (purpose.Copy form) p =
+    writer_draws_alone form (record p { writer_waker = None })
 
 -- room is known
 abbrev pub writer_finds_alone : Purpose → Pipe → Ended
@@ -258,7 +281,8 @@ writer_granted_alone false l p = writer_looked_alone l Memory p
 abbrev pub writer_registers_alone : Purpose → Pipe → Ended
 writer_registers_alone l p =
     let context = p.writer_call.context in
-    writer_granted_alone (is_granted context) l (record p { writer_waker = registered_in context p.writer_waker })
+    writer_granted_alone (is_granted context) l
+    (record p { writer_waker = registered_in context p.writer_waker })
 
 -- no room is known
 abbrev pub writer_finds_none_alone : Purpose → Pipe → Ended
@@ -299,8 +323,10 @@ shuts next = false
 abbrev pub writer_remains : WritePlace → Pipe → Ended
 writer_remains on.Idle p = writer_ended on.Idle Done p
 writer_remains on.Dropped p = writer_ended on.Dropped Done p
-writer_remains (on.QueryHead query) p = writer_ended on.Idle (query_answer query p.capacity (length p.unread)) p
-writer_remains (on.QueryTail query count) p = writer_ended on.Idle (query_answer query p.capacity count) p
+writer_remains (on.QueryHead query) p =
+    writer_ended on.Idle (query_answer query p.capacity (length p.unread)) p
+writer_remains (on.QueryTail query count) p =
+    writer_ended on.Idle (query_answer query p.capacity count) p
 writer_remains on.QueryClosed p = writer_ended on.Idle (Flag p.is_closed) p
 writer_remains (on.LookClosed l) p = writer_open_alone p.is_closed (p.room == 0) l p
 writer_remains (on.LookHead l) p = writer_loads_alone l p
@@ -313,10 +339,13 @@ writer_remains (on.CallSource form sum) p = writer_moves_alone form sum p
 writer_remains (on.RoundClosed n form sum) p = writer_rounds_alone p.is_closed n form sum p
 writer_remains (on.StoreTail n next) p = writer_done_alone next (reader_woken (published n p))
 writer_remains (on.TakeReader next) p = writer_done_alone next (reader_woken p)
-writer_remains (on.WakeReader next) p = writer_done_alone next (record p { woken = with_waker p.woken p.writer_call.taken })
-writer_remains (on.StoreClosed next) p = writer_done_alone next (reader_woken (closed_by (shuts next) p))
+writer_remains (on.WakeReader next) p =
+    writer_done_alone next (record p { woken = with_waker p.woken p.writer_call.taken })
+writer_remains (on.StoreClosed next) p =
+    writer_done_alone next (reader_woken (closed_by (shuts next) p))
 writer_remains on.TakeWriter p = writer_ended on.Idle Done (writer_woken p)
-writer_remains on.WakeWriter p = writer_ended on.Idle Done (record p { woken = with_waker p.woken p.writer_call.taken })
+writer_remains on.WakeWriter p =
+    writer_ended on.Idle Done (record p { woken = with_waker p.woken p.writer_call.taken })
 
 abbrev pub writer_alone : WritePlace → Pipe → Ended
 writer_alone place p = writer_remains place (record p { writer = on.Idle })

@@ -20,16 +20,22 @@ IsNext (c ∷ cs) kind waker = (kind ≡ kind_of c) × (waker ≡ waker_of c)
 abbrev pub IsRight : ℕ → Side → Told → Event → Type 0
 IsRight capacity Reader t (Began Reader kind waker) = IsNext t.coming kind waker
 IsRight capacity Writer t (Began Writer kind waker) = IsNext t.coming kind waker
-IsRight capacity Reader t (Consumed bytes) = IsSomeAnd t.call (λ c. MayHaveMoved c (t.moved ++ bytes))
-IsRight capacity Writer t (Published bytes) = IsSomeAnd t.call (λ c. MayHaveMoved c (t.moved ++ bytes))
-IsRight capacity Reader t (Answered Reader answer) = IsSomeAnd t.call (λ c. IsAnswer capacity c t.looks t.moved answer)
-IsRight capacity Writer t (Answered Writer answer) = IsSomeAnd t.call (λ c. IsAnswer capacity c t.looks t.moved answer)
+IsRight capacity Reader t (Consumed bytes) =
+    IsSomeAnd t.call (λ c. MayHaveMoved c (t.moved ++ bytes))
+IsRight capacity Writer t (Published bytes) =
+    IsSomeAnd t.call (λ c. MayHaveMoved c (t.moved ++ bytes))
+IsRight capacity Reader t (Answered Reader answer) =
+    IsSomeAnd t.call (λ c. IsAnswer capacity c t.looks t.moved answer)
+IsRight capacity Writer t (Answered Writer answer) =
+    IsSomeAnd t.call (λ c. IsAnswer capacity c t.looks t.moved answer)
 IsRight capacity side t event = ⊤
 
 abbrev pub AreRightFrom : ℕ → Side → Told → List Event → Type 0
 AreRightFrom capacity side t [] = ⊤
-AreRightFrom capacity side t (e ∷ es) = IsRight capacity side t e × AreRightFrom capacity side (told_after side t e) es
+AreRightFrom capacity side t (e ∷ es) =
+    IsRight capacity side t e × AreRightFrom capacity side (told_after side t e) es
 
 -- the events of a run of these steps: each side's calls move and answer what is right
 abbrev pub AreAnswered : ℕ → List Step → List Event → Type 0
-AreAnswered capacity steps events = (side : Side) → AreRightFrom capacity side (untold (calls_of side steps)) events
+AreAnswered capacity steps events =
+    (side : Side) → AreRightFrom capacity side (untold (calls_of side steps)) events

@@ -4,7 +4,9 @@ use Rattle.piper_sides.specs.Index.{distance, place_of}
 
 -- the bytes of a ring from the index `head` to the index `tail`, round the end of the buffer
 unfoldable pub between : ℕ → ℕ → ℕ → List ℕ → List ℕ
-between capacity head tail bytes = take (distance capacity head tail) (drop (place_of capacity head) bytes ++ take (place_of capacity head) bytes)
+between capacity head tail bytes =
+    let from = place_of capacity head in
+    take (distance capacity head tail) (drop from bytes ++ take from bytes)
 
 -- the bytes with `source` in the places from `place` on
 abbrev pub written : List ℕ → ℕ → List ℕ → List ℕ

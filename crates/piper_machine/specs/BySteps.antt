@@ -73,12 +73,16 @@ whole lent (call.IsFull side) p = answering (Flag (is_full p)) (begun p)
 whole lent (call.IsClosed side) p = answering (Flag (is_closed p)) (begun p)
 whole lent (call.Poll side waker luck) p = polled_whole side (context waker luck) p
 whole lent (call.TryDrain size) p = counted_whole (try_drain size p)
-whole lent (call.PollDrainBytes waker luck size) p = copied_slice (drain (Some (context waker luck)) size p)
-whole lent (call.PollDrain waker luck acts) p = copied_acts (drain_to (Some (context waker luck)) acts p)
+whole lent (call.PollDrainBytes waker luck size) p =
+    copied_slice (drain (Some (context waker luck)) size p)
+whole lent (call.PollDrain waker luck acts) p =
+    copied_acts (drain_to (Some (context waker luck)) acts p)
 whole lent (call.Consume n) p = answering Done (consume n (begun p))
 whole lent (call.TryFill bytes) p = counted_whole (try_fill bytes p)
-whole lent (call.PollFillBytes waker luck bytes) p = copied_slice (fill (Some (context waker luck)) bytes p)
-whole lent (call.PollFill waker luck acts) p = copied_acts (fill_from (Some (context waker luck)) acts p)
+whole lent (call.PollFillBytes waker luck bytes) p =
+    copied_slice (fill (Some (context waker luck)) bytes p)
+whole lent (call.PollFill waker luck acts) p =
+    copied_acts (fill_from (Some (context waker luck)) acts p)
 whole lent (call.WriteBuf most) p = answering (Lent (length lent)) (lending lent (begun p))
 whole lent (call.Produced n) p = answering Done (produce n (begun p))
 whole lent call.Close p = answering Done (close (begun p))
@@ -94,7 +98,8 @@ names_of [] = []
 names_of (e ∷ es) = named_by e ++ names_of es
 
 -- the log tells the answer last, and before it the wakers that the whole call keeps the names of
-pub record IsMadeWhole (side : Side) (p : Pipe) (before : List Event) (q : Pipe) (after : List Event) (run_whole : Ended) : Type 0 where
+pub record IsMadeWhole (side : Side) (p : Pipe) (before : List Event) (q : Pipe)
+    (after : List Event) (run_whole : Ended) : Type 0 where
   pub log : List Event
   pub events : after ≡ before ++ (log ++ Answered side run_whole.answer ∷ [])
   pub woken : names_of log ≡ run_whole.pipe.woken
@@ -107,7 +112,11 @@ found_alone Writer p = (writer_refreshed p).room
 
 -- as soon as steps of its side alone leave that side without an open call, the call is made as if it were run whole, and in no more steps than it may make
 pub record IsWholeBySteps (c : Call) (p : Pipe) : Type 0 where
-  pub made : (k : ℕ) (q : Pipe) (before after : List Event) → let side = side_of c in Runs p before (Begin c ∷ replicate k (Go side)) q after → (state_of side q ≡ Busy → ⊥) → (k ≤ most_steps (found_alone side p) c) × IsMadeWhole side p before q after (whole q.lent c p)
+  pub made : (k : ℕ) (q : Pipe) (before after : List Event) →
+      let side = side_of c in
+      Runs p before (Begin c ∷ replicate k (Go side)) q after → (state_of side q ≡ Busy → ⊥) →
+      (k ≤ most_steps (found_alone side p) c)
+      × IsMadeWhole side p before q after (whole q.lent c p)
 
 -- of every call that may be opened here
 abbrev pub AreWholeBySteps : Pipe → Type 0

@@ -35,14 +35,17 @@ called side p (Go other) n = more_if (is_same side other) (calls_of (action_of s
 called side p (Put offset byte) n = n
 
 -- along a run
-abbrev pub calls_from : (side : Side) (n : ℕ) (ss : List Step) (p : Pipe) (before : List Event) (q : Pipe) (after : List Event)
+abbrev pub calls_from : (side : Side) (n : ℕ) (ss : List Step)
+    (p : Pipe) (before : List Event) (q : Pipe) (after : List Event)
     → Runs p before ss q after → ℕ
 calls_from side n [] p before q after run = n
-calls_from side n (s ∷ ss) p before q after run = calls_from side (called side p s n) ss run.0 run.1 q after run.3
+calls_from side n (s ∷ ss) p before q after run =
+    calls_from side (called side p s n) ss run.0 run.1 q after run.3
 
 -- in whichever way these steps lead to this pipe and log: once for each byte that the look of the call found, or for each free place,
 -- and once more
 abbrev pub AreCallsCounted : ℕ → List Step → Pipe → List Event → Type 0
 AreCallsCounted capacity steps p events =
     (side : Side) (run : Runs (fresh capacity) [] steps p events)
-    → calls_from side 0 steps (fresh capacity) [] p events run ≤ (knowledge_of capacity side events).found + 1
+    → calls_from side 0 steps (fresh capacity) [] p events run
+    ≤ (knowledge_of capacity side events).found + 1

@@ -38,7 +38,8 @@ moved_unless_drawn None moves p = moves p
 moved_unless_drawn (Some cx) moves p = drawn (cx.luck.draw == 0) cx moves p
 
 -- what follows a look: `moves` where it was true, the answer `none` at an end
-abbrev pub copied_after : {A : Type 0} → Option Context → A → (Pipe → Copied A) → Polled Bool → Pipe → Copied A
+abbrev pub copied_after : {A : Type 0} →
+    Option Context → A → (Pipe → Copied A) → Polled Bool → Pipe → Copied A
 copied_after cx none moves (Ready true) p = moved_unless_drawn cx moves p
 copied_after cx none moves (Ready false) p = answered (Ready none) p
 copied_after cx none moves Pending p = answered Pending p
@@ -75,7 +76,8 @@ drained n p =
 
 -- as many of the first bytes as there is known room
 abbrev pub fill_moves : List ℕ → Pipe → Copied ℕ
-fill_moves bytes p = let n = min (length bytes) p.room in answered (Ready n) (filled (take n bytes) p)
+fill_moves bytes p =
+    let n = min (length bytes) p.room in answered (Ready n) (filled (take n bytes) p)
 
 -- as many of the first known bytes as fit
 abbrev pub drain_moves : ℕ → Pipe → Copied ℕ
@@ -86,10 +88,14 @@ abbrev pub unlent : Pipe → Pipe
 unlent p = record p { lent = [] }
 
 abbrev pub fill : Option Context → List ℕ → Pipe → Copied ℕ
-fill cx bytes p = let look = writer_look cx (unlent (begun p)) in copied_after cx 0 (fill_moves bytes) look.answer look.pipe
+fill cx bytes p =
+    let look = writer_look cx (unlent (begun p)) in
+    copied_after cx 0 (fill_moves bytes) look.answer look.pipe
 
 abbrev pub drain : Option Context → ℕ → Pipe → Copied ℕ
-drain cx size p = let look = reader_look cx (begun p) in copied_after cx 0 (drain_moves size) look.answer look.pipe
+drain cx size p =
+    let look = reader_look cx (begun p) in
+    copied_after cx 0 (drain_moves size) look.answer look.pipe
 
 -- the try forms answer a count: 0 where there was nothing to move
 abbrev pub count_of : Polled ℕ → ℕ

@@ -68,4 +68,6 @@ tally_of side steps = tally_from side (record { made = 0; call = None }) steps
 
 -- on a pipe of this capacity no call has made more steps than its most, by what its look found
 abbrev pub IsCounted : ℕ → List Step → List Event → Type 0
-IsCounted capacity steps events = (side : Side) → let t = tally_of side steps in t.made ≤ most_of (knowledge_of capacity side events).found t.call
+IsCounted capacity steps events = (side : Side) →
+    let t = tally_of side steps in
+    t.made ≤ most_of (knowledge_of capacity side events).found t.call

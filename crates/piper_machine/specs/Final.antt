@@ -37,6 +37,7 @@ IsOver p after = All IsBehindEnd after × (p.unread ≡ [])
 
 pub record IsFinal (p : Pipe) (events : List Event) : Type 0 where
   -- wherever a call of the reader found the end, a poll or a drain
-  pub found : (before after : List Event) → events ≡ before ++ found_none ∷ after → saw_closed Reader before ≡ true → IsOver p after
+  pub found : (before after : List Event) → events ≡ before ++ found_none ∷ after →
+      saw_closed Reader before ≡ true → IsOver p after
   -- and wherever a poll told it
   pub told : (before after : List Event) → events ≡ before ++ told_end ∷ after → IsOver p after

@@ -7,4 +7,5 @@ use Rattle.piper_machine.specs.End.{saw_closed}
 
 -- wherever bytes are published
 abbrev pub IsHeeded : List Event → Type 0
-IsHeeded events = (before after : List Event) (bytes : List ℕ) → events ≡ before ++ Published bytes ∷ after → saw_closed Writer before ≡ false
+IsHeeded events = (before after : List Event) (bytes : List ℕ) →
+    events ≡ before ++ Published bytes ∷ after → saw_closed Writer before ≡ false

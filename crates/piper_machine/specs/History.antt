@@ -24,7 +24,8 @@ unwritten = record { is_closed = false; last_look = None }
 abbrev pub history_after : History → Event → History
 history_after h (Closed side) = record h { is_closed = true }
 history_after h (Began Reader kind waker) = record h { last_look = None }
-history_after h (Looked Reader (Tail count)) = record h { last_look = Some (record { count = count; is_after_close = h.is_closed }) }
+history_after h (Looked Reader (Tail count)) =
+    record h { last_look = Some (record { count = count; is_after_close = h.is_closed }) }
 history_after h event = h
 
 -- over a list of events, from a history on

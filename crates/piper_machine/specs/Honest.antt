@@ -9,7 +9,8 @@ use Rattle.piper_machine.specs.History.{History, unwritten, history_after}
 
 -- where an answer is false, the last look of the call found nothing, and the pipe was closed before it
 abbrev pub IsHonestAnswer : History → Event → Type 0
-IsHonestAnswer h (Answered Reader (Poll (Ready false))) = (h.last_look ≡ Some (record { count = 0; is_after_close = true }))
+IsHonestAnswer h (Answered Reader (Poll (Ready false))) =
+    (h.last_look ≡ Some (record { count = 0; is_after_close = true }))
 IsHonestAnswer h event = ⊤
 
 abbrev pub IsHonestFrom : History → List Event → Type 0

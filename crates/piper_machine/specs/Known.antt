@@ -41,14 +41,16 @@ knowledge_after capacity Reader k (Began Reader kind waker) = opened_with kind k
 knowledge_after capacity Reader k (Looked Reader (Tail unread)) = taken_in k.is_query unread k
 knowledge_after capacity Reader k (Consumed bytes) = used_up (length bytes) k
 knowledge_after capacity Writer k (Began Writer kind waker) = opened_with kind k
-knowledge_after capacity Writer k (Looked Writer (Head unread)) = taken_in k.is_query (capacity - unread) k
+knowledge_after capacity Writer k (Looked Writer (Head unread)) =
+    taken_in k.is_query (capacity - unread) k
 knowledge_after capacity Writer k (Published bytes) = used_up (length bytes) k
 knowledge_after capacity side k event = k
 
 -- over a list of events, from a knowledge on
 abbrev pub knowledge_from : ℕ → Side → Knowledge → List Event → Knowledge
 knowledge_from capacity side k [] = k
-knowledge_from capacity side k (e ∷ es) = knowledge_from capacity side (knowledge_after capacity side k e) es
+knowledge_from capacity side k (e ∷ es) =
+    knowledge_from capacity side (knowledge_after capacity side k e) es
 
 -- of a pipe as it is made the reader knows of no byte, and the writer of every place
 abbrev pub known_first : ℕ → Side → ℕ
@@ -56,10 +58,12 @@ known_first capacity Reader = 0
 known_first capacity Writer = capacity
 
 abbrev pub knowledge_first : ℕ → Side → Knowledge
-knowledge_first capacity side = let n = known_first capacity side in record { known = n; found = n; is_query = false }
+knowledge_first capacity side =
+    let n = known_first capacity side in record { known = n; found = n; is_query = false }
 
 abbrev pub knowledge_of : ℕ → Side → List Event → Knowledge
-knowledge_of capacity side events = knowledge_from capacity side (knowledge_first capacity side) events
+knowledge_of capacity side events =
+    knowledge_from capacity side (knowledge_first capacity side) events
 
 -- the log tells what each side knows, and no look finds more than the capacity
 pub record IsKnown (p : Pipe) (events : List Event) : Type 0 where

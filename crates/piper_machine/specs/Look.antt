@@ -23,7 +23,8 @@ looked answer p = record { answer = answer; pipe = p }
 -- the reader's waker is registered, if its clone is granted
 abbrev pub reader_registers : Bool → ℕ → Pipe → Look
 reader_registers false waker p = looked Memory p
-reader_registers true waker p = looked (end_or_pending p.is_closed) (record p { reader_waker = Some waker })
+reader_registers true waker p =
+    looked (end_or_pending p.is_closed) (record p { reader_waker = Some waker })
 
 -- the reader found no byte
 abbrev pub reader_waits : Option Context → Pipe → Look
@@ -64,7 +65,8 @@ writer_looks false cx p = writer_finds cx p
 -- a closed pipe is the end before anything else is looked at
 abbrev pub writer_looks_if_closed : Bool → Option Context → Pipe → Look
 writer_looks_if_closed true cx p = looked (Ready false) p
-writer_looks_if_closed false cx p = writer_looks ((writer_refreshed p).room == 0) cx (writer_refreshed p)
+writer_looks_if_closed false cx p =
+    writer_looks ((writer_refreshed p).room == 0) cx (writer_refreshed p)
 
 abbrev pub writer_look : Option Context → Pipe → Look
 writer_look cx p = writer_looks_if_closed p.is_closed cx p

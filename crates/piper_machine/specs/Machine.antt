@@ -39,7 +39,8 @@ pub record IsMachine (m : Inside) : Type 0 where
   pub bytes : length m.bytes.items ≡ m.read.capacity
   pub unread : distance m.read.capacity m.read.head m.write.tail ≤ m.read.capacity
   pub known : known_of m.read ≤ distance m.read.capacity m.read.head m.write.tail
-  pub room : distance m.read.capacity m.read.head m.write.tail ≤ distance m.write.capacity m.write.head m.write.tail
+  pub room : distance m.read.capacity m.read.head m.write.tail
+      ≤ distance m.write.capacity m.write.head m.write.tail
   pub shut : m.write.is_shut ≡ true → m.is_closed ≡ true
   pub reader_call : m.read.place ≡ at.Idle → m.reader_call ≡ no_call
   pub writer_call : m.write.place ≡ on.Idle → m.writer_call ≡ no_call

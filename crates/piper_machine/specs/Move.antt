@@ -17,11 +17,16 @@ writer_woken p = record p { writer_waker = None; woken = with_waker p.woken p.wr
 
 -- the first n bytes of what is lent, as they stand now, become unread bytes
 abbrev pub published : ℕ → Pipe → Pipe
-published n p = record p { unread = p.unread ++ take n p.lent; room = p.room - n; lent = drop n p.lent }
+published n p =
+    record p { unread = p.unread ++ take n p.lent; room = p.room - n; lent = drop n p.lent }
 
 -- the first n unread bytes are given up, and their places become free
 abbrev pub consumed : ℕ → Pipe → Pipe
-consumed n p = record p { unread = drop n p.unread; known = p.known - n; start = place_of p.capacity (p.start + n) }
+consumed n p = record p {
+  unread = drop n p.unread;
+  known = p.known - n;
+  start = place_of p.capacity (p.start + n);
+}
 
 abbrev pub produce : ℕ → Pipe → Pipe
 produce n p = reader_woken (published n p)

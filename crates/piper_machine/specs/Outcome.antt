@@ -50,7 +50,8 @@ number_found Writer (Tail later ∷ Head number ∷ []) = Some number
 number_found side looks = None
 
 -- the answer follows from the number of unread bytes that the query found
-pub record IsQueried (capacity : ℕ) (side : Side) (looks : List Seen) (follows : ℕ → Answer) (answer : Answer) : Type 0 where
+pub record IsQueried (capacity : ℕ) (side : Side) (looks : List Seen)
+    (follows : ℕ → Answer) (answer : Answer) : Type 0 where
   pub number : ℕ
   pub is_found : number_found side looks ≡ Some number
   pub within : number ≤ capacity
@@ -75,7 +76,8 @@ first_look (later ∷ look ∷ looks) = first_look (look ∷ looks)
 
 -- A fill counts the bytes that it published. Where it found the pipe closed behind a round, it counts what its source gave in that round
 -- too; where it found it closed at first, it counts none.
-pub record IsFilled (handed : List ℕ) (looks : List Seen) (moved : List ℕ) (count : ℕ) : Type 0 where
+pub record IsFilled (handed : List ℕ) (looks : List Seen) (moved : List ℕ)
+    (count : ℕ) : Type 0 where
   pub published : found_closed looks ≡ false → count ≡ length moved
   pub none : first_look looks ≡ Some (Closed true) → count ≡ 0
   pub at_least : length moved ≤ count
@@ -95,18 +97,25 @@ IsCopied Counts Fails moved Memory = moved ≡ []
 
 -- the answer is right of a call that looked and moved so, on a pipe of this capacity
 abbrev pub IsAnswer : ℕ → Call → List Seen → List ℕ → Answer → Type 0
-IsAnswer capacity (call.Len side) looks moved answer = IsQueried capacity side looks (λ number. Count number) answer
-IsAnswer capacity (call.IsEmpty side) looks moved answer = IsQueried capacity side looks (λ number. Flag (number == 0)) answer
-IsAnswer capacity (call.IsFull side) looks moved answer = IsQueried capacity side looks (λ number. Flag (number == capacity)) answer
+IsAnswer capacity (call.Len side) looks moved answer =
+    IsQueried capacity side looks (λ number. Count number) answer
+IsAnswer capacity (call.IsEmpty side) looks moved answer =
+    IsQueried capacity side looks (λ number. Flag (number == 0)) answer
+IsAnswer capacity (call.IsFull side) looks moved answer =
+    IsQueried capacity side looks (λ number. Flag (number == capacity)) answer
 IsAnswer capacity (call.IsClosed side) looks moved (Flag is_closed) = looks ≡ Closed is_closed ∷ []
 IsAnswer capacity (call.Poll side waker luck) looks moved (Poll polled) = ⊤
 IsAnswer capacity (call.TryDrain size) looks moved (Count count) = IsDrained size moved count
-IsAnswer capacity (call.PollDrainBytes waker luck size) looks moved (Copy copied) = IsCopied (IsDrained size moved) ⊥ moved copied
-IsAnswer capacity (call.PollDrain waker luck acts) looks moved (Copy copied) = IsCopied (IsDrained (places_of acts) moved) (may_fail acts ≡ true) moved copied
+IsAnswer capacity (call.PollDrainBytes waker luck size) looks moved (Copy copied) =
+    IsCopied (IsDrained size moved) ⊥ moved copied
+IsAnswer capacity (call.PollDrain waker luck acts) looks moved (Copy copied) =
+    IsCopied (IsDrained (places_of acts) moved) (may_fail acts ≡ true) moved copied
 IsAnswer capacity (call.Consume n) looks moved Done = length moved ≡ n
 IsAnswer capacity (call.TryFill bytes) looks moved (Count count) = IsFilled bytes looks moved count
-IsAnswer capacity (call.PollFillBytes waker luck bytes) looks moved (Copy copied) = IsCopied (IsFilled bytes looks moved) ⊥ moved copied
-IsAnswer capacity (call.PollFill waker luck acts) looks moved (Copy copied) = IsCopied (IsFilled (bytes_given acts) looks moved) (HasFailed acts moved) moved copied
+IsAnswer capacity (call.PollFillBytes waker luck bytes) looks moved (Copy copied) =
+    IsCopied (IsFilled bytes looks moved) ⊥ moved copied
+IsAnswer capacity (call.PollFill waker luck acts) looks moved (Copy copied) =
+    IsCopied (IsFilled (bytes_given acts) looks moved) (HasFailed acts moved) moved copied
 IsAnswer capacity (call.WriteBuf most) looks moved (Lent count) = count ≤ most
 IsAnswer capacity (call.Produced n) looks moved Done = length moved ≡ n
 IsAnswer capacity call.Close looks moved Done = ⊤

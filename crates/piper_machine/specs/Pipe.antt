@@ -41,7 +41,25 @@ pub record Pipe : Type 0 where
 
 -- a pipe as it is made
 abbrev pub fresh : ℕ → Pipe
-fresh capacity = record { capacity = capacity; unread = []; start = 0; known = 0; room = capacity; lent = []; is_closed = false; is_shut = false; reader_waker = None; writer_waker = None; woken = []; reader = at.Idle; reader_call = no_call; writer = on.Idle; writer_call = no_call; destination = Slice 0; source = [] }
+fresh capacity = record {
+  capacity = capacity;
+  unread = [];
+  start = 0;
+  known = 0;
+  room = capacity;
+  lent = [];
+  is_closed = false;
+  is_shut = false;
+  reader_waker = None;
+  writer_waker = None;
+  woken = [];
+  reader = at.Idle;
+  reader_call = no_call;
+  writer = on.Idle;
+  writer_call = no_call;
+  destination = Slice 0;
+  source = [];
+}
 
 -- a whole call begins: it has called no waker yet
 abbrev pub begun : Pipe → Pipe

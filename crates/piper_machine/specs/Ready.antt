@@ -15,8 +15,10 @@ IsReadyAnswer side k event = ⊤
 
 abbrev pub IsReadyFrom : ℕ → Side → Knowledge → List Event → Type 0
 IsReadyFrom capacity side k [] = ⊤
-IsReadyFrom capacity side k (e ∷ es) = IsReadyAnswer side k e × IsReadyFrom capacity side (knowledge_after capacity side k e) es
+IsReadyFrom capacity side k (e ∷ es) =
+    IsReadyAnswer side k e × IsReadyFrom capacity side (knowledge_after capacity side k e) es
 
 -- at each such answer of the log, by what the log tells before it
 abbrev pub IsReady : ℕ → List Event → Type 0
-IsReady capacity events = (side : Side) → IsReadyFrom capacity side (knowledge_first capacity side) events
+IsReady capacity events =
+    (side : Side) → IsReadyFrom capacity side (knowledge_first capacity side) events

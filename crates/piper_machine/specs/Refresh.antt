@@ -6,4 +6,5 @@ abbrev pub reader_refreshed : Pipe → Pipe
 reader_refreshed p = record p { known = if p.known == 0 then length p.unread else p.known }
 
 abbrev pub writer_refreshed : Pipe → Pipe
-writer_refreshed p = record p { room = if p.room == 0 then p.capacity - length p.unread else p.room }
+writer_refreshed p =
+    record p { room = if p.room == 0 then p.capacity - length p.unread else p.room }

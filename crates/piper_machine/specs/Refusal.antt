@@ -65,6 +65,9 @@ past (call.Produced n) p = unless (nat_le n (length p.lent)) PastLent
 past c p = None
 
 abbrev pub refusal_of : Step → Pipe → Option StepRefusal
-refusal_of (Begin c) p = or_else (cannot_begin (state_of (side_of c) p)) (or_else (unless (has_good_draw c) BadDraw) (past c p))
+refusal_of (Begin c) p =
+    or_else (cannot_begin (state_of (side_of c) p))
+    (or_else (unless (has_good_draw c) BadDraw) (past c p))
 refusal_of (Go side) p = cannot_go (state_of side p)
-refusal_of (Put offset byte) p = or_else (cannot_begin (state_of Writer p)) (unless (nat_lt offset (length p.lent)) PastLent)
+refusal_of (Put offset byte) p =
+    or_else (cannot_begin (state_of Writer p)) (unless (nat_lt offset (length p.lent)) PastLent)

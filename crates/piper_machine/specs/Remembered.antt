@@ -23,11 +23,14 @@ StandsReady side p w = (waker_in side p ≡ Some w.handed) × IsBlocked side p
 
 -- the other side stands between a store and its wake: the waker is in the slot that it empties, or in its hand
 abbrev pub IsAboutToBeCalled : Side → Pipe → Wait → Type 0
-IsAboutToBeCalled side p w = (stands_between side p ≡ true) × ((waker_in side p ≡ Some w.handed) ⊎ ((call_of (other side) p).taken ≡ Some w.handed))
+IsAboutToBeCalled side p w =
+    (stands_between side p ≡ true)
+    × ((waker_in side p ≡ Some w.handed) ⊎ ((call_of (other side) p).taken ≡ Some w.handed))
 
 abbrev pub IsRemembered : Side → Pipe → Wait → Type 0
 IsRemembered side p w = WasCalled w ⊎ (StandsReady side p w ⊎ IsAboutToBeCalled side p w)
 
 -- each side outside any call whose last polling call answered pending
 abbrev pub AreRemembered : Pipe → List Event → Type 0
-AreRemembered p events = (side : Side) → IsIdle side p → let w = wait_of side events in w.is_pending ≡ true → IsRemembered side p w
+AreRemembered p events = (side : Side) → IsIdle side p →
+    let w = wait_of side events in w.is_pending ≡ true → IsRemembered side p w

@@ -24,7 +24,8 @@ pub record Made (old : Pipe) (s : Step) (new : Pipe) (before after : List Event)
 -- from one pipe and log to another by these steps
 abbrev pub Runs : Pipe → List Event → List Step → Pipe → List Event → Type 0
 Runs p before [] q after = (q ≡ p) × (after ≡ before)
-Runs p before (s ∷ ss) q after = (mid : Pipe) × (events : List Event) × Made p s mid before events × Runs mid events ss q after
+Runs p before (s ∷ ss) q after =
+    (mid : Pipe) × (events : List Event) × Made p s mid before events × Runs mid events ss q after
 
 -- why a step is refused: by the pipe, or for want of memory where the pipe accepts it
 abbrev pub IsRefusal : Step → Pipe → StepRefusal → Type 0

@@ -38,7 +38,8 @@ abbrev pub fill_moves_more : ℕ → List SourceAct → Pipe → Copied (Result 
 fill_moves_more sum acts p =
     let bytes = bytes_given acts in
     let n = min (length bytes) p.room in
-    answered (Ready (source_answer (nat_lt p.room (length bytes)) (ends_in_failure acts) (sum + n))) (filled (take n bytes) p)
+    let answer = source_answer (nat_lt p.room (length bytes)) (ends_in_failure acts) (sum + n) in
+    answered (Ready answer) (filled (take n bytes) p)
 
 abbrev pub fill_moves_from : List SourceAct → Pipe → Copied (Result ℕ Failed)
 fill_moves_from = fill_moves_more 0

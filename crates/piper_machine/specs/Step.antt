@@ -80,7 +80,12 @@ reader_stepped action p =
     let after = performed Reader action p in
     let next = read_after p.capacity p.reader (found_by Reader action p) in
     record {
-      pipe = record after { reader = next.place; reader_call = call_after next.answer after.reader_call; destination = destination_after next.answer after.destination };
+      pipe =
+          record after {
+            reader = next.place;
+            reader_call = call_after next.answer after.reader_call;
+            destination = destination_after next.answer after.destination;
+          };
       answer = next.answer;
       events = logged_of Reader action p ++ answer_event Reader next.answer;
     }
@@ -123,7 +128,11 @@ drain_answer found p = (read_after p.capacity p.reader found).answer
 abbrev pub drain_left : Found → Pipe → Pipe
 drain_left found p =
     let next = read_after p.capacity p.reader found in
-    record p { reader = next.place; reader_call = call_after next.answer p.reader_call; destination = destination_after next.answer p.destination }
+    record p {
+      reader = next.place;
+      reader_call = call_after next.answer p.reader_call;
+      destination = destination_after next.answer p.destination;
+    }
 
 -- the kind of the step that the call table puts next
 abbrev pub action_of : Side → Pipe → Action
@@ -146,8 +155,10 @@ is_closed_opened Reader p = record p { reader = at.QueryClosed }
 is_closed_opened Writer p = record p { writer = on.QueryClosed }
 
 abbrev pub poll_opened : Side → Context → Pipe → Pipe
-poll_opened Reader cx p = record p { reader = reader_looks_for (p.known == 0) Poll; reader_call = called_with (Some cx) }
-poll_opened Writer cx p = record p { writer = on.LookClosed Poll; writer_call = called_with (Some cx) }
+poll_opened Reader cx p =
+    record p { reader = reader_looks_for (p.known == 0) Poll; reader_call = called_with (Some cx) }
+poll_opened Writer cx p =
+    record p { writer = on.LookClosed Poll; writer_call = called_with (Some cx) }
 
 abbrev pub drop_opened : Side → Pipe → Pipe
 drop_opened Reader p = record p { reader = at.StoreClosed }
@@ -159,10 +170,18 @@ form_of None = Try
 form_of (Some cx) = Polling (cx.luck.draw == 0)
 
 abbrev pub drain_opened : Option Context → Destination → Pipe → Pipe
-drain_opened cx destination p = record p { reader = reader_looks_for (p.known == 0) (Copy (form_of cx)); reader_call = called_with cx; destination = destination }
+drain_opened cx destination p = record p {
+  reader = reader_looks_for (p.known == 0) (Copy (form_of cx));
+  reader_call = called_with cx;
+  destination = destination;
+}
 
 abbrev pub fill_opened : Option Context → List SourceAct → Pipe → Pipe
-fill_opened cx acts p = record p { writer = on.LookClosed (Copy (form_of cx)); writer_call = called_with cx; source = acts }
+fill_opened cx acts p = record p {
+  writer = on.LookClosed (Copy (form_of cx));
+  writer_call = called_with cx;
+  source = acts;
+}
 
 -- the pipe as a call is opened, with these bytes in what a call of write_buf lends
 abbrev pub opened : List ℕ → Call → Pipe → Pipe
@@ -172,11 +191,14 @@ opened lent (call.IsFull side) p = query_opened side IsFull p
 opened lent (call.IsClosed side) p = is_closed_opened side p
 opened lent (call.Poll side waker luck) p = poll_opened side (context waker luck) p
 opened lent (call.TryDrain size) p = drain_opened None (Slice size) p
-opened lent (call.PollDrainBytes waker luck size) p = drain_opened (Some (context waker luck)) (Slice size) p
-opened lent (call.PollDrain waker luck acts) p = drain_opened (Some (context waker luck)) (Acts acts) p
+opened lent (call.PollDrainBytes waker luck size) p =
+    drain_opened (Some (context waker luck)) (Slice size) p
+opened lent (call.PollDrain waker luck acts) p =
+    drain_opened (Some (context waker luck)) (Acts acts) p
 opened lent (call.Consume n) p = record p { reader = at.StoreHead n afterward.Answer }
 opened lent (call.TryFill bytes) p = fill_opened None (source.Bytes bytes ∷ []) p
-opened lent (call.PollFillBytes waker luck bytes) p = fill_opened (Some (context waker luck)) (source.Bytes bytes ∷ []) p
+opened lent (call.PollFillBytes waker luck bytes) p =
+    fill_opened (Some (context waker luck)) (source.Bytes bytes ∷ []) p
 opened lent (call.PollFill waker luck acts) p = fill_opened (Some (context waker luck)) acts p
 opened lent (call.WriteBuf most) p = lending lent p
 opened lent (call.Produced n) p = record p { writer = on.StoreTail n behind.Answer }
@@ -191,7 +213,12 @@ answer_at_once lent c = None
 abbrev pub began : List ℕ → Call → Pipe → Stepped
 began lent c p =
     let answer = answer_at_once lent c in
-    record { pipe = opened lent c p; answer = answer; events = Began (side_of c) (kind_of c) (waker_of c) ∷ answer_event (side_of c) answer }
+    record {
+      pipe = opened lent c p;
+      answer = answer;
+      events =
+          Began (side_of c) (kind_of c) (waker_of c) ∷ answer_event (side_of c) answer;
+    }
 
 -- a call of the source is lent places first
 abbrev pub lent_at : WritePlace → List ℕ → List ℕ → List ℕ
@@ -205,11 +232,13 @@ abbrev pub stepped : List ℕ → Step → Pipe → Stepped
 stepped lent (Begin c) p = began lent c p
 stepped lent (Go Reader) p = went Reader p
 stepped lent (Go Writer) p = went Writer (offering lent p)
-stepped lent (Put offset byte) p = record { pipe = lending (slice_set p.lent offset byte) p; answer = None; events = [] }
+stepped lent (Put offset byte) p =
+    record { pipe = lending (slice_set p.lent offset byte) p; answer = None; events = [] }
 
 -- these bytes may be lent to the source: where it gives none, the fill ends and leaves nothing lent
 abbrev pub MayOffer : WritePlace → List SourceAct → List ℕ → Pipe → Type 0
-MayOffer (on.CallSource form sum) (source.Bytes (byte ∷ bytes) ∷ acts) lent p = Lendable MOST_A_ROUND p (length lent)
+MayOffer (on.CallSource form sum) (source.Bytes (byte ∷ bytes) ∷ acts) lent p =
+    Lendable MOST_A_ROUND p (length lent)
 MayOffer place acts lent p = ⊤
 
 -- these bytes may be lent by the step

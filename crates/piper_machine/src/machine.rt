@@ -169,7 +169,8 @@ impl Machine {
     /// Writes into the front of what is lent.
     fn write_front(&mut self, source: &[u8])
         requires { length source.now ≤ length self.old.lent }
-        ensures { self.new ≡ lending (source.now ++ drop (length source.now) self.old.lent) self.old }
+        ensures { self.new
+            ≡ lending (source.now ++ drop (length source.now) self.old.lent) self.old }
     {
         write_at(&mut self.bytes, self.write.front(), source);
     }

@@ -54,7 +54,8 @@ pub fn front(acts: &[SourceAct], spent: usize, given: usize) -> &[u8]
 pub fn passed(acts: &[SourceAct], spent: usize, given: usize, n: usize) -> (usize, usize)
     requires before { IsSource given spent acts.now }
     requires within { n ≤ length (bytes_of (source_left given spent acts.now)) }
-    ensures left { source_left result.1 result.0 acts.now ≡ left_of_source n (source_left given spent acts.now) }
+    ensures left { source_left result.1 result.0 acts.now
+        ≡ left_of_source n (source_left given spent acts.now) }
     ensures after { IsSource result.1 result.0 acts.now }
 {
     let end = match acts.get(spent) {

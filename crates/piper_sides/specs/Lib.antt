@@ -8,3 +8,4 @@ pub mod Answer
 pub mod Log
 pub mod Table
 pub mod Side
+pub mod SideSteps

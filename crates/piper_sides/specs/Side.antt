@@ -49,18 +49,28 @@ abbrev pub left_of : Writing → ℕ
 left_of w = w.capacity - place_of w.capacity w.tail
 
 abbrev pub lend_length : ℕ → Writing → ℕ
-lend_length most w = if w.is_shut then 0 else min (min most (lend_bound w.zeroed)) (min (room_of w) (left_of w))
+lend_length most w =
+    if w.is_shut then 0 else min (min most (lend_bound w.zeroed)) (min (room_of w) (left_of w))
 
 -- lent from the writer's place on, and set up to the end of that
 abbrev pub lent_out : ℕ → Writing → Writing
-lent_out count w = record w { lent = count; zeroed = max w.zeroed (place_of w.capacity w.tail + count) }
+lent_out count w =
+    record w { lent = count; zeroed = max w.zeroed (place_of w.capacity w.tail + count) }
 
 -- the sides of an empty pipe
 abbrev pub fresh_reading : ℕ → Reading
 fresh_reading capacity = record { capacity = capacity; head = 0; tail = 0; place = at.Idle }
 
 abbrev pub fresh_writing : ℕ → Writing
-fresh_writing capacity = record { capacity = capacity; tail = 0; head = 0; zeroed = 0; lent = 0; is_shut = false; place = on.Idle }
+fresh_writing capacity = record {
+  capacity = capacity;
+  tail = 0;
+  head = 0;
+  zeroed = 0;
+  lent = 0;
+  is_shut = false;
+  place = on.Idle;
+}
 
 -- how many bytes a store gives up that is next
 abbrev pub head_store : ReadPlace → ℕ

@@ -123,7 +123,8 @@ reader_found (purpose.Copy (Polling is_drawn)) = at.LookTake (purpose.Copy (Poll
 abbrev pub reader_found_none : Purpose → ReadPlace
 reader_found_none purpose.Poll = at.LookRegister purpose.Poll
 reader_found_none (purpose.Copy Try) = at.LookClosed (purpose.Copy Try)
-reader_found_none (purpose.Copy (Polling is_drawn)) = at.LookRegister (purpose.Copy (Polling is_drawn))
+reader_found_none (purpose.Copy (Polling is_drawn)) =
+    at.LookRegister (purpose.Copy (Polling is_drawn))
 
 abbrev pub reader_looked : Bool → Purpose → ReadPlace
 reader_looked true l = reader_found_none l
@@ -192,11 +193,13 @@ reader_draws_behind place = false
 
 -- where the reader of a pipe of this capacity comes to from a place, by what its step found
 abbrev pub read_after : ℕ → ReadPlace → Found → Next ReadPlace
-read_after capacity (at.QueryTail query) (unread count) = ends at.Idle (query_answer query capacity count)
+read_after capacity (at.QueryTail query) (unread count) =
+    ends at.Idle (query_answer query capacity count)
 read_after capacity place found = read_step place found
 
 -- where a step of the reader leads, whatever the capacity
-pub record ReadLeads (to : ReadPlace × Option Answer) (place : ReadPlace) (found : Found) : Type 0 where
+pub record ReadLeads (to : ReadPlace × Option Answer) (place : ReadPlace)
+    (found : Found) : Type 0 where
   pub step : Leads to (read_step place found)
   pub after : (capacity : ℕ) → Leads to (read_after capacity place found)
 
@@ -234,7 +237,8 @@ writer_found (purpose.Copy (Polling is_drawn)) = on.LookTake (purpose.Copy (Poll
 abbrev pub writer_found_none : Purpose → WritePlace
 writer_found_none purpose.Poll = on.LookRegister purpose.Poll
 writer_found_none (purpose.Copy Try) = on.LookHeadAgain (purpose.Copy Try)
-writer_found_none (purpose.Copy (Polling is_drawn)) = on.LookRegister (purpose.Copy (Polling is_drawn))
+writer_found_none (purpose.Copy (Polling is_drawn)) =
+    on.LookRegister (purpose.Copy (Polling is_drawn))
 
 -- the first load of closed: the end, or the look goes on at the known room
 abbrev pub writer_is_open : Bool → Bool → Purpose → Next WritePlace
@@ -297,7 +301,8 @@ write_step on.QueryClosed (flag is_closed) = ends on.Idle (Flag is_closed)
 write_step (on.LookHead l) (refreshed none) = goes_on (writer_looked none l)
 write_step (on.LookRegister l) (granted is_granted) = writer_registered is_granted l
 write_step (on.LookHeadAgain l) (refreshed none) = goes_on (writer_looked_again none l)
-write_step (on.LookClosedAgain l) (flag is_closed) = ends on.Idle (look_answer l (end_or_pending is_closed))
+write_step (on.LookClosedAgain l) (flag is_closed) =
+    ends on.Idle (look_answer l (end_or_pending is_closed))
 write_step (on.LookTake l) found = writer_is_true l
 write_step on.Yield (granted is_granted) = ends on.Idle (yield_answer is_granted)
 write_step (on.CallSource form sum) (moved n) = writer_moved (n == 0) n form sum
@@ -333,12 +338,15 @@ writer_draws_behind place = false
 
 -- where the writer of a pipe of this capacity and known room comes to from a place, by what its step found
 abbrev pub write_after : ℕ → ℕ → WritePlace → Found → Next WritePlace
-write_after capacity room (on.QueryTail query count) found = ends on.Idle (query_answer query capacity count)
-write_after capacity room (on.LookClosed l) (flag is_closed) = writer_is_open is_closed (room == 0) l
+write_after capacity room (on.QueryTail query count) found =
+    ends on.Idle (query_answer query capacity count)
+write_after capacity room (on.LookClosed l) (flag is_closed) =
+    writer_is_open is_closed (room == 0) l
 write_after capacity room place found = write_step place found
 
 -- where a step of the writer leads, whatever the capacity and the known room
-pub record WriteLeads (to : WritePlace × Option Answer) (place : WritePlace) (found : Found) : Type 0 where
+pub record WriteLeads (to : WritePlace × Option Answer) (place : WritePlace)
+    (found : Found) : Type 0 where
   pub step : Leads to (write_step place found)
   pub after : (capacity room : ℕ) → Leads to (write_after capacity room place found)
 

@@ -25,11 +25,13 @@ left_in w = w.capacity - place_of w.capacity w.tail
 
 -- how many places are lent where `most` are asked for
 abbrev pub lendable_in : ℕ → WriterIndices → ℕ
-lendable_in most w = if w.is_shut then 0 else min (min most (lend_bound w.zeroed)) (min (room_in w) (left_in w))
+lendable_in most w =
+    if w.is_shut then 0 else min (min most (lend_bound w.zeroed)) (min (room_in w) (left_in w))
 
 -- lent from the writer's place on, and set up to the end of that
 abbrev pub lent_from : ℕ → WriterIndices → WriterIndices
-lent_from count w = record w { lent = count; zeroed = max w.zeroed (place_of w.capacity w.tail + count) }
+lent_from count w =
+    record w { lent = count; zeroed = max w.zeroed (place_of w.capacity w.tail + count) }
 
 -- the reader's index was seen there
 abbrev pub head_seen : ℕ → WriterIndices → WriterIndices
@@ -41,7 +43,14 @@ tail_passed n w = record w { tail = advanced w.capacity w.tail n; lent = w.lent 
 
 -- the writer of an empty pipe
 abbrev pub fresh_writer : ℕ → WriterIndices
-fresh_writer capacity = record { capacity = capacity; tail = 0; head = 0; zeroed = 0; lent = 0; is_shut = false }
+fresh_writer capacity = record {
+  capacity = capacity;
+  tail = 0;
+  head = 0;
+  zeroed = 0;
+  lent = 0;
+  is_shut = false;
+}
 
 pub record AreWriterIndices (w : WriterIndices) : Type 0 where
   pub capacity : IsCapacity w.capacity

@@ -20,7 +20,11 @@ impl Model for ReadIndices {
 
     ghost view = { λ r. record { capacity = r.capacity; head = r.head; tail = r.tail } };
 
-    ghost invariant = { λ r. AreReaderIndices (record { capacity = r.capacity; head = r.head; tail = r.tail }) };
+    ghost invariant = { λ r. AreReaderIndices (record {
+      capacity = r.capacity;
+      head = r.head;
+      tail = r.tail;
+    }) };
 }
 
 impl ReadIndices {

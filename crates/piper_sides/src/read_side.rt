@@ -1,7 +1,7 @@
 //! The reader's side: its own index, the writer's as it last saw it, and its place inside the open call.
 ghost use Rattle.std.specs.Prelude.{IsSome, ◌≡◌, ◌≢◌, true, ℕ, ◌*◌, ◌<◌, ◌≤◌, false, ◌==◌};
 ghost use Rattle.piper_sides.specs.Index.{IsCapacity, distance, place_of, advanced};
-ghost use Rattle.piper_sides.specs.Table.{end_or_pending, look_answer, read_action, read_after, reader_looks_for, yield_answer, nothing, unread, refreshed, flag, granted, waker, moved, failed};
+ghost use Rattle.piper_sides.specs.Table.{end_or_pending, look_answer, read_action, reader_looks_for, yield_answer, nothing, unread, flag, granted, waker, moved, failed};
 
 use crate::calls::{Query, Side};
 use crate::events::Answer;
@@ -22,12 +22,13 @@ pub struct ReadSide {
 
 impl Model for ReadSide {
     ghost use Rattle.piper_sides.specs.Side.{Reading, IsReading};
+    ghost use Rattle.piper_sides.specs.SideSteps.{reading_of};
 
     ghost Value = { Reading };
 
-    ghost view = { λ side. record { capacity = side.indices.capacity; head = side.indices.head; tail = side.indices.tail; place = side.place } };
+    ghost view = { λ side. reading_of side.indices side.place };
 
-    ghost invariant = { λ side. IsReading (record { capacity = side.indices.capacity; head = side.indices.head; tail = side.indices.tail; place = side.place }) };
+    ghost invariant = { λ side. IsReading (reading_of side.indices side.place) };
 }
 
 // What a look that is not true finds behind the closed flag that it loaded.
@@ -64,6 +65,7 @@ pub fn yield_answer(is_granted: bool) -> Answer
 
 impl ReadSide {
     ghost use Rattle.piper_sides.specs.Side.{IsReading, fresh_reading, known_of, peekable_of};
+    ghost use Rattle.piper_sides.specs.SideSteps.{reading_after, reading_answer, tail_found};
 
     /// The reader of an empty pipe.
     pub fn new(capacity: usize) -> Self
@@ -142,7 +144,9 @@ impl ReadSide {
     /// Opens a call that begins with a look.
     pub fn begin_look(&mut self, purpose: Purpose)
         requires { self.old.place ≡ ReadPlace.Idle }
-        ensures after { self.new ≡ record self.old { place = reader_looks_for (known_of self.old == 0) purpose } }
+        ensures after { self.new ≡ record self.old {
+          place = reader_looks_for (known_of self.old == 0) purpose;
+        } }
         ensures sound { IsReading self.new }
     {
         self.place = ReadPlace::look(self.indices.knows_none(), purpose);
@@ -152,7 +156,9 @@ impl ReadSide {
     pub fn begin_consume(&mut self, n: usize)
         requires idle { self.old.place ≡ ReadPlace.Idle }
         requires within { n ≤ peekable_of self.old }
-        ensures after { self.new ≡ record self.old { place = ReadPlace.StoreHead n AfterRead.Answer } }
+        ensures after { self.new ≡ record self.old {
+          place = ReadPlace.StoreHead n AfterRead.Answer;
+        } }
         ensures sound { IsReading self.new }
     {
         self.place = ReadPlace::StoreHead(n, AfterRead::Answer);
@@ -194,8 +200,8 @@ impl ReadSide {
     /// The head was loaded in a query.
     pub fn loaded_head(&mut self) -> Option<Answer>
         requires next { read_action self.old.place ≡ Action.LoadHead }
-        ensures after { self.new ≡ record self.old { place = (read_after self.old.capacity self.old.place nothing).place } }
-        ensures answer { result ≡ (read_after self.old.capacity self.old.place nothing).answer }
+        ensures after { self.new ≡ reading_after nothing self.old }
+        ensures answer { result ≡ reading_answer nothing self.old }
         ensures open { self.new.place ≡ ReadPlace.Idle → IsSome result }
         ensures sound { IsReading self.new }
     {
@@ -205,8 +211,8 @@ impl ReadSide {
     /// The tail was loaded in a query, and so many bytes were unread.
     pub fn loaded_tail(&mut self, count: usize) -> Option<Answer>
         requires next { read_action self.old.place ≡ Action.LoadTail }
-        ensures after { self.new ≡ record self.old { place = (read_after self.old.capacity self.old.place (unread count)).place } }
-        ensures answer { result ≡ (read_after self.old.capacity self.old.place (unread count)).answer }
+        ensures after { self.new ≡ reading_after (unread count) self.old }
+        ensures answer { result ≡ reading_answer (unread count) self.old }
         ensures open { self.new.place ≡ ReadPlace.Idle → IsSome result }
         ensures sound { IsReading self.new }
     {
@@ -218,8 +224,10 @@ impl ReadSide {
         requires next { read_action self.old.place ≡ Action.Refresh }
         requires index { tail < 2 * self.old.capacity }
         requires within { distance self.old.capacity self.old.head tail ≤ self.old.capacity }
-        ensures after { self.new ≡ record (record self.old { tail = tail }) { place = (read_after self.old.capacity self.old.place (refreshed (distance self.old.capacity self.old.head tail == 0))).place } }
-        ensures answer { result ≡ (read_after self.old.capacity self.old.place (refreshed (distance self.old.capacity self.old.head tail == 0))).answer }
+        ensures after { self.new ≡ record (reading_after (tail_found tail self.old) self.old) {
+          tail = tail;
+        } }
+        ensures answer { result ≡ reading_answer (tail_found tail self.old) self.old }
         ensures open { self.new.place ≡ ReadPlace.Idle → IsSome result }
         ensures sound { IsReading self.new }
     {
@@ -230,8 +238,8 @@ impl ReadSide {
     /// Closed was loaded, and the flag was this.
     pub fn loaded_closed(&mut self, is_closed: bool) -> Option<Answer>
         requires next { read_action self.old.place ≡ Action.LoadClosed }
-        ensures after { self.new ≡ record self.old { place = (read_after self.old.capacity self.old.place (flag is_closed)).place } }
-        ensures answer { result ≡ (read_after self.old.capacity self.old.place (flag is_closed)).answer }
+        ensures after { self.new ≡ reading_after (flag is_closed) self.old }
+        ensures answer { result ≡ reading_answer (flag is_closed) self.old }
         ensures open { self.new.place ≡ ReadPlace.Idle → IsSome result }
         ensures sound { IsReading self.new }
     {
@@ -241,8 +249,8 @@ impl ReadSide {
     /// The call's waker was registered, or its clone was refused.
     pub fn registered(&mut self, is_granted: bool) -> Option<Answer>
         requires next { read_action self.old.place ≡ Action.Register }
-        ensures after { self.new ≡ record self.old { place = (read_after self.old.capacity self.old.place (granted is_granted)).place } }
-        ensures answer { result ≡ (read_after self.old.capacity self.old.place (granted is_granted)).answer }
+        ensures after { self.new ≡ reading_after (granted is_granted) self.old }
+        ensures answer { result ≡ reading_answer (granted is_granted) self.old }
         ensures open { self.new.place ≡ ReadPlace.Idle → IsSome result }
         ensures sound { IsReading self.new }
     {
@@ -252,8 +260,8 @@ impl ReadSide {
     /// The reader's own slot was emptied.
     pub fn took_own(&mut self) -> Option<Answer>
         requires next { read_action self.old.place ≡ Action.Take Side.Reader }
-        ensures after { self.new ≡ record self.old { place = (read_after self.old.capacity self.old.place nothing).place } }
-        ensures answer { result ≡ (read_after self.old.capacity self.old.place nothing).answer }
+        ensures after { self.new ≡ reading_after nothing self.old }
+        ensures answer { result ≡ reading_answer nothing self.old }
         ensures open { self.new.place ≡ ReadPlace.Idle → IsSome result }
         ensures sound { IsReading self.new }
     {
@@ -263,8 +271,8 @@ impl ReadSide {
     /// The caller's own waker was called in place of the rounds, or its clone was refused.
     pub fn yielded(&mut self, is_granted: bool) -> Option<Answer>
         requires next { read_action self.old.place ≡ Action.Yield }
-        ensures after { self.new ≡ record self.old { place = (read_after self.old.capacity self.old.place (granted is_granted)).place } }
-        ensures answer { result ≡ (read_after self.old.capacity self.old.place (granted is_granted)).answer }
+        ensures after { self.new ≡ reading_after (granted is_granted) self.old }
+        ensures answer { result ≡ reading_answer (granted is_granted) self.old }
         ensures open { self.new.place ≡ ReadPlace.Idle → IsSome result }
         ensures sound { IsReading self.new }
     {
@@ -275,8 +283,8 @@ impl ReadSide {
     pub fn destination_took(&mut self, n: usize) -> Option<Answer>
         requires next { read_action self.old.place ≡ Action.CallDestination }
         requires within { n ≤ peekable_of self.old }
-        ensures after { self.new ≡ record self.old { place = (read_after self.old.capacity self.old.place (moved n)).place } }
-        ensures answer { result ≡ (read_after self.old.capacity self.old.place (moved n)).answer }
+        ensures after { self.new ≡ reading_after (moved n) self.old }
+        ensures answer { result ≡ reading_answer (moved n) self.old }
         ensures open { self.new.place ≡ ReadPlace.Idle → IsSome result }
         ensures sound { IsReading self.new }
     {
@@ -286,8 +294,8 @@ impl ReadSide {
     /// The destination failed, and took nothing.
     pub fn destination_failed(&mut self) -> Option<Answer>
         requires next { read_action self.old.place ≡ Action.CallDestination }
-        ensures after { self.new ≡ record self.old { place = (read_after self.old.capacity self.old.place failed).place } }
-        ensures answer { result ≡ (read_after self.old.capacity self.old.place failed).answer }
+        ensures after { self.new ≡ reading_after failed self.old }
+        ensures answer { result ≡ reading_answer failed self.old }
         ensures open { self.new.place ≡ ReadPlace.Idle → IsSome result }
         ensures sound { IsReading self.new }
     {
@@ -297,8 +305,8 @@ impl ReadSide {
     /// The writer's slot was emptied, and a waker stood in it or not.
     pub fn took_writer(&mut self, is_found: bool) -> Option<Answer>
         requires next { read_action self.old.place ≡ Action.Take Side.Writer }
-        ensures after { self.new ≡ record self.old { place = (read_after self.old.capacity self.old.place (waker is_found)).place } }
-        ensures answer { result ≡ (read_after self.old.capacity self.old.place (waker is_found)).answer }
+        ensures after { self.new ≡ reading_after (waker is_found) self.old }
+        ensures answer { result ≡ reading_answer (waker is_found) self.old }
         ensures open { self.new.place ≡ ReadPlace.Idle → IsSome result }
         ensures sound { IsReading self.new }
     {
@@ -308,8 +316,8 @@ impl ReadSide {
     /// The waker that was taken was called.
     pub fn woke(&mut self) -> Option<Answer>
         requires next { read_action self.old.place ≡ Action.Wake }
-        ensures after { self.new ≡ record self.old { place = (read_after self.old.capacity self.old.place nothing).place } }
-        ensures answer { result ≡ (read_after self.old.capacity self.old.place nothing).answer }
+        ensures after { self.new ≡ reading_after nothing self.old }
+        ensures answer { result ≡ reading_answer nothing self.old }
         ensures open { self.new.place ≡ ReadPlace.Idle → IsSome result }
         ensures sound { IsReading self.new }
     {
@@ -319,8 +327,8 @@ impl ReadSide {
     /// The closed flag was set.
     pub fn stored_closed(&mut self) -> Option<Answer>
         requires next { read_action self.old.place ≡ Action.StoreClosed false }
-        ensures after { self.new ≡ record self.old { place = (read_after self.old.capacity self.old.place nothing).place } }
-        ensures answer { result ≡ (read_after self.old.capacity self.old.place nothing).answer }
+        ensures after { self.new ≡ reading_after nothing self.old }
+        ensures answer { result ≡ reading_answer nothing self.old }
         ensures open { self.new.place ≡ ReadPlace.Idle → IsSome result }
         ensures sound { IsReading self.new }
     {
@@ -331,8 +339,10 @@ impl ReadSide {
     pub fn stored_head(&mut self, n: usize) -> Option<Answer>
         requires next { read_action self.old.place ≡ Action.StoreHead n }
         requires within { n ≤ peekable_of self.old }
-        ensures after { self.new ≡ record (record self.old { head = advanced self.old.capacity self.old.head n }) { place = (read_after self.old.capacity self.old.place nothing).place } }
-        ensures answer { result ≡ (read_after self.old.capacity self.old.place nothing).answer }
+        ensures after { self.new ≡ record (reading_after nothing self.old) {
+          head = advanced self.old.capacity self.old.head n;
+        } }
+        ensures answer { result ≡ reading_answer nothing self.old }
         ensures open { self.new.place ≡ ReadPlace.Idle → IsSome result }
         ensures sound { IsReading self.new }
     {

@@ -28,9 +28,23 @@ impl Model for WriteIndices {
 
     ghost Value = { WriterIndices };
 
-    ghost view = { λ w. record { capacity = w.capacity; tail = w.tail; head = turned w.capacity w.limit; zeroed = w.zeroed; lent = w.lent; is_shut = w.is_shut } };
+    ghost view = { λ w. record {
+      capacity = w.capacity;
+      tail = w.tail;
+      head = turned w.capacity w.limit;
+      zeroed = w.zeroed;
+      lent = w.lent;
+      is_shut = w.is_shut;
+    } };
 
-    ghost invariant = { λ w. (w.limit < 2 * w.capacity) × AreWriterIndices (record { capacity = w.capacity; tail = w.tail; head = turned w.capacity w.limit; zeroed = w.zeroed; lent = w.lent; is_shut = w.is_shut }) };
+    ghost invariant = { λ w. (w.limit < 2 * w.capacity) × AreWriterIndices (record {
+      capacity = w.capacity;
+      tail = w.tail;
+      head = turned w.capacity w.limit;
+      zeroed = w.zeroed;
+      lent = w.lent;
+      is_shut = w.is_shut;
+    }) };
 }
 
 impl WriteIndices {

@@ -138,7 +138,8 @@ impl WritePlace {
     pub(crate) fn looked_closed(&mut self, none: bool, is_closed: bool) -> Option<Answer>
         requires next { write_action self.old ≡ Action.LoadClosed }
         requires begins { begins_look self.old ≡ true }
-        ensures after { (c r : ℕ) → (r == 0) ≡ none → Leads (self.new, result) (write_after c r self.old (flag is_closed)) }
+        ensures after { (c r : ℕ) → (r == 0) ≡ none →
+            Leads (self.new, result) (write_after c r self.old (flag is_closed)) }
         ensures step { Leads (self.new, result) (look_begun none self.old is_closed) }
         ensures open { self.new ≡ WritePlace.Idle → IsSome result }
         ensures idle { IsSome result → self.new ≡ WritePlace.Idle }

@@ -1,6 +1,6 @@
 //! The writer's side: its own index, the reader's as it last saw it, what is lent, and its place inside the open call.
 ghost use Rattle.std.specs.Prelude.{IsSome, ◌≡◌, ◌≢◌, ℕ, ◌+◌, ◌-◌, ◌*◌, ◌<◌, ◌≤◌, true, false, ◌==◌};
-ghost use Rattle.piper_sides.specs.Table.{write_action, write_after, ends_fill, nothing, unread, refreshed, flag, granted, waker, moved, failed};
+ghost use Rattle.piper_sides.specs.Table.{write_action, ends_fill, nothing, unread, flag, granted, waker, moved, failed};
 ghost use Rattle.piper_sides.specs.Index.{IsCapacity, distance, place_of, advanced};
 
 use crate::calls::{Query, Side};
@@ -21,16 +21,18 @@ pub struct WriteSide {
 
 impl Model for WriteSide {
     ghost use Rattle.piper_sides.specs.Side.{Writing, IsWriting};
+    ghost use Rattle.piper_sides.specs.SideSteps.{writing_of};
 
     ghost Value = { Writing };
 
-    ghost view = { λ side. record { capacity = side.indices.capacity; tail = side.indices.tail; head = side.indices.head; zeroed = side.indices.zeroed; lent = side.indices.lent; is_shut = side.indices.is_shut; place = side.place } };
+    ghost view = { λ side. writing_of side.indices side.place };
 
-    ghost invariant = { λ side. IsWriting (record { capacity = side.indices.capacity; tail = side.indices.tail; head = side.indices.head; zeroed = side.indices.zeroed; lent = side.indices.lent; is_shut = side.indices.is_shut; place = side.place }) };
+    ghost invariant = { λ side. IsWriting (writing_of side.indices side.place) };
 }
 
 impl WriteSide {
     ghost use Rattle.piper_sides.specs.Side.{IsWriting, fresh_writing, room_of, left_of, lend_length, lent_out, tail_store};
+    ghost use Rattle.piper_sides.specs.SideSteps.{writing_after, writing_answer, head_found};
 
     /// The writer of an empty pipe.
     pub fn new(capacity: usize) -> Self
@@ -157,7 +159,9 @@ impl WriteSide {
     pub fn begin_produced(&mut self, n: usize)
         requires idle { self.old.place ≡ WritePlace.Idle }
         requires within { n ≤ self.old.lent }
-        ensures after { self.new ≡ record self.old { place = WritePlace.StoreTail n AfterWrite.Answer } }
+        ensures after { self.new ≡ record self.old {
+          place = WritePlace.StoreTail n AfterWrite.Answer;
+        } }
         ensures sound { IsWriting self.new }
     {
         self.place = WritePlace::StoreTail(n, AfterWrite::Answer);
@@ -166,7 +170,9 @@ impl WriteSide {
     /// Opens the close.
     pub fn begin_close(&mut self)
         requires { self.old.place ≡ WritePlace.Idle }
-        ensures after { self.new ≡ record self.old { place = WritePlace.StoreClosed AfterWrite.WakeWriter } }
+        ensures after { self.new ≡ record self.old {
+          place = WritePlace.StoreClosed AfterWrite.WakeWriter;
+        } }
         ensures sound { IsWriting self.new }
     {
         self.place = WritePlace::StoreClosed(AfterWrite::WakeWriter);
@@ -175,7 +181,9 @@ impl WriteSide {
     /// Opens the writer's drop.
     pub fn begin_drop(&mut self)
         requires { self.old.place ≡ WritePlace.Idle }
-        ensures after { self.new ≡ record self.old { place = WritePlace.StoreClosed AfterWrite.Drop } }
+        ensures after { self.new ≡ record self.old {
+          place = WritePlace.StoreClosed AfterWrite.Drop;
+        } }
         ensures sound { IsWriting self.new }
     {
         self.place = WritePlace::StoreClosed(AfterWrite::Drop);
@@ -213,8 +221,8 @@ impl WriteSide {
     /// The head was loaded in a query, and so many bytes were unread.
     pub fn loaded_head(&mut self, count: usize) -> Option<Answer>
         requires next { write_action self.old.place ≡ Action.LoadHead }
-        ensures after { self.new ≡ record self.old { place = (write_after self.old.capacity (room_of self.old) self.old.place (unread count)).place } }
-        ensures answer { result ≡ (write_after self.old.capacity (room_of self.old) self.old.place (unread count)).answer }
+        ensures after { self.new ≡ writing_after (unread count) self.old }
+        ensures answer { result ≡ writing_answer (unread count) self.old }
         ensures open { self.new.place ≡ WritePlace.Idle → IsSome result }
         ensures sound { IsWriting self.new }
     {
@@ -224,8 +232,8 @@ impl WriteSide {
     /// The tail was loaded in a query.
     pub fn loaded_tail(&mut self) -> Option<Answer>
         requires next { write_action self.old.place ≡ Action.LoadTail }
-        ensures after { self.new ≡ record self.old { place = (write_after self.old.capacity (room_of self.old) self.old.place nothing).place } }
-        ensures answer { result ≡ (write_after self.old.capacity (room_of self.old) self.old.place nothing).answer }
+        ensures after { self.new ≡ writing_after nothing self.old }
+        ensures answer { result ≡ writing_answer nothing self.old }
         ensures open { self.new.place ≡ WritePlace.Idle → IsSome result }
         ensures sound { IsWriting self.new }
     {
@@ -237,9 +245,12 @@ impl WriteSide {
         requires next { write_action self.old.place ≡ Action.Refresh }
         requires index { head < 2 * self.old.capacity }
         requires within { distance self.old.capacity head self.old.tail ≤ self.old.capacity }
-        requires lent { self.old.lent ≤ self.old.capacity - distance self.old.capacity head self.old.tail }
-        ensures after { self.new ≡ record (record self.old { head = head }) { place = (write_after self.old.capacity (room_of self.old) self.old.place (refreshed (self.old.capacity - distance self.old.capacity head self.old.tail == 0))).place } }
-        ensures answer { result ≡ (write_after self.old.capacity (room_of self.old) self.old.place (refreshed (self.old.capacity - distance self.old.capacity head self.old.tail == 0))).answer }
+        requires lent { self.old.lent
+            ≤ self.old.capacity - distance self.old.capacity head self.old.tail }
+        ensures after { self.new ≡ record (writing_after (head_found head self.old) self.old) {
+          head = head;
+        } }
+        ensures answer { result ≡ writing_answer (head_found head self.old) self.old }
         ensures open { self.new.place ≡ WritePlace.Idle → IsSome result }
         ensures sound { IsWriting self.new }
     {
@@ -250,8 +261,8 @@ impl WriteSide {
     /// Closed was loaded, and the flag was this.
     pub fn loaded_closed(&mut self, is_closed: bool) -> Option<Answer>
         requires next { write_action self.old.place ≡ Action.LoadClosed }
-        ensures after { self.new ≡ record self.old { place = (write_after self.old.capacity (room_of self.old) self.old.place (flag is_closed)).place } }
-        ensures answer { result ≡ (write_after self.old.capacity (room_of self.old) self.old.place (flag is_closed)).answer }
+        ensures after { self.new ≡ writing_after (flag is_closed) self.old }
+        ensures answer { result ≡ writing_answer (flag is_closed) self.old }
         ensures open { self.new.place ≡ WritePlace.Idle → IsSome result }
         ensures idle { IsSome result → self.new.place ≡ WritePlace.Idle }
         ensures sound { IsWriting self.new }
@@ -267,8 +278,8 @@ impl WriteSide {
     /// The call's waker was registered, or its clone was refused.
     pub fn registered(&mut self, is_granted: bool) -> Option<Answer>
         requires next { write_action self.old.place ≡ Action.Register }
-        ensures after { self.new ≡ record self.old { place = (write_after self.old.capacity (room_of self.old) self.old.place (granted is_granted)).place } }
-        ensures answer { result ≡ (write_after self.old.capacity (room_of self.old) self.old.place (granted is_granted)).answer }
+        ensures after { self.new ≡ writing_after (granted is_granted) self.old }
+        ensures answer { result ≡ writing_answer (granted is_granted) self.old }
         ensures open { self.new.place ≡ WritePlace.Idle → IsSome result }
         ensures idle { IsSome result → self.new.place ≡ WritePlace.Idle }
         ensures sound { IsWriting self.new }
@@ -279,8 +290,8 @@ impl WriteSide {
     /// The writer's own slot was emptied, and a waker stood in it or not.
     pub fn took_own(&mut self, is_found: bool) -> Option<Answer>
         requires next { write_action self.old.place ≡ Action.Take Side.Writer }
-        ensures after { self.new ≡ record self.old { place = (write_after self.old.capacity (room_of self.old) self.old.place (waker is_found)).place } }
-        ensures answer { result ≡ (write_after self.old.capacity (room_of self.old) self.old.place (waker is_found)).answer }
+        ensures after { self.new ≡ writing_after (waker is_found) self.old }
+        ensures answer { result ≡ writing_answer (waker is_found) self.old }
         ensures open { self.new.place ≡ WritePlace.Idle → IsSome result }
         ensures sound { IsWriting self.new }
     {
@@ -290,8 +301,8 @@ impl WriteSide {
     /// The caller's own waker was called in place of the rounds, or its clone was refused.
     pub fn yielded(&mut self, is_granted: bool) -> Option<Answer>
         requires next { write_action self.old.place ≡ Action.Yield }
-        ensures after { self.new ≡ record self.old { place = (write_after self.old.capacity (room_of self.old) self.old.place (granted is_granted)).place } }
-        ensures answer { result ≡ (write_after self.old.capacity (room_of self.old) self.old.place (granted is_granted)).answer }
+        ensures after { self.new ≡ writing_after (granted is_granted) self.old }
+        ensures answer { result ≡ writing_answer (granted is_granted) self.old }
         ensures open { self.new.place ≡ WritePlace.Idle → IsSome result }
         ensures idle { IsSome result → self.new.place ≡ WritePlace.Idle }
         ensures sound { IsWriting self.new }
@@ -303,8 +314,8 @@ impl WriteSide {
     pub fn source_gave(&mut self, n: usize) -> Option<Answer>
         requires next { write_action self.old.place ≡ Action.CallSource }
         requires within { n ≤ self.old.lent }
-        ensures after { self.new ≡ record self.old { place = (write_after self.old.capacity (room_of self.old) self.old.place (moved n)).place } }
-        ensures answer { result ≡ (write_after self.old.capacity (room_of self.old) self.old.place (moved n)).answer }
+        ensures after { self.new ≡ writing_after (moved n) self.old }
+        ensures answer { result ≡ writing_answer (moved n) self.old }
         ensures open { self.new.place ≡ WritePlace.Idle → IsSome result }
         ensures idle { IsSome result → self.new.place ≡ WritePlace.Idle }
         ensures sound { IsWriting self.new }
@@ -315,8 +326,8 @@ impl WriteSide {
     /// The source failed, and gave nothing.
     pub fn source_failed(&mut self) -> Option<Answer>
         requires next { write_action self.old.place ≡ Action.CallSource }
-        ensures after { self.new ≡ record self.old { place = (write_after self.old.capacity (room_of self.old) self.old.place failed).place } }
-        ensures answer { result ≡ (write_after self.old.capacity (room_of self.old) self.old.place failed).answer }
+        ensures after { self.new ≡ writing_after failed self.old }
+        ensures answer { result ≡ writing_answer failed self.old }
         ensures open { self.new.place ≡ WritePlace.Idle → IsSome result }
         ensures idle { IsSome result → self.new.place ≡ WritePlace.Idle }
         ensures sound { IsWriting self.new }
@@ -327,8 +338,8 @@ impl WriteSide {
     /// The reader's slot was emptied, and a waker stood in it or not.
     pub fn took_reader(&mut self, is_found: bool) -> Option<Answer>
         requires next { write_action self.old.place ≡ Action.Take Side.Reader }
-        ensures after { self.new ≡ record self.old { place = (write_after self.old.capacity (room_of self.old) self.old.place (waker is_found)).place } }
-        ensures answer { result ≡ (write_after self.old.capacity (room_of self.old) self.old.place (waker is_found)).answer }
+        ensures after { self.new ≡ writing_after (waker is_found) self.old }
+        ensures answer { result ≡ writing_answer (waker is_found) self.old }
         ensures open { self.new.place ≡ WritePlace.Idle → IsSome result }
         ensures sound { IsWriting self.new }
     {
@@ -338,8 +349,8 @@ impl WriteSide {
     /// The waker that was taken was called.
     pub fn woke(&mut self) -> Option<Answer>
         requires next { write_action self.old.place ≡ Action.Wake }
-        ensures after { self.new ≡ record self.old { place = (write_after self.old.capacity (room_of self.old) self.old.place nothing).place } }
-        ensures answer { result ≡ (write_after self.old.capacity (room_of self.old) self.old.place nothing).answer }
+        ensures after { self.new ≡ writing_after nothing self.old }
+        ensures answer { result ≡ writing_answer nothing self.old }
         ensures open { self.new.place ≡ WritePlace.Idle → IsSome result }
         ensures sound { IsWriting self.new }
     {
@@ -349,8 +360,8 @@ impl WriteSide {
     /// The closed flag was set, by a drop.
     pub fn stored_closed(&mut self) -> Option<Answer>
         requires next { write_action self.old.place ≡ Action.StoreClosed false }
-        ensures after { self.new ≡ record self.old { place = (write_after self.old.capacity (room_of self.old) self.old.place nothing).place } }
-        ensures answer { result ≡ (write_after self.old.capacity (room_of self.old) self.old.place nothing).answer }
+        ensures after { self.new ≡ writing_after nothing self.old }
+        ensures answer { result ≡ writing_answer nothing self.old }
         ensures open { self.new.place ≡ WritePlace.Idle → IsSome result }
         ensures sound { IsWriting self.new }
     {
@@ -360,8 +371,11 @@ impl WriteSide {
     /// The closed flag was set, by a close: nothing is lent from now on.
     pub fn shut(&mut self) -> Option<Answer>
         requires next { write_action self.old.place ≡ Action.StoreClosed true }
-        ensures after { self.new ≡ record (record self.old { lent = 0; is_shut = true }) { place = (write_after self.old.capacity (room_of self.old) self.old.place nothing).place } }
-        ensures answer { result ≡ (write_after self.old.capacity (room_of self.old) self.old.place nothing).answer }
+        ensures after { self.new ≡ record (writing_after nothing self.old) {
+          lent = 0;
+          is_shut = true;
+        } }
+        ensures answer { result ≡ writing_answer nothing self.old }
         ensures open { self.new.place ≡ WritePlace.Idle → IsSome result }
         ensures sound { IsWriting self.new }
     {
@@ -373,8 +387,11 @@ impl WriteSide {
     pub fn stored_tail(&mut self, n: usize) -> Option<Answer>
         requires next { write_action self.old.place ≡ Action.StoreTail n }
         requires within { n ≤ self.old.lent }
-        ensures after { self.new ≡ record (record self.old { tail = advanced self.old.capacity self.old.tail n; lent = self.old.lent - n }) { place = (write_after self.old.capacity (room_of self.old) self.old.place nothing).place } }
-        ensures answer { result ≡ (write_after self.old.capacity (room_of self.old) self.old.place nothing).answer }
+        ensures after { self.new ≡ record (writing_after nothing self.old) {
+          tail = advanced self.old.capacity self.old.tail n;
+          lent = self.old.lent - n;
+        } }
+        ensures answer { result ≡ writing_answer nothing self.old }
         ensures open { self.new.place ≡ WritePlace.Idle → IsSome result }
         ensures sound { IsWriting self.new }
     {

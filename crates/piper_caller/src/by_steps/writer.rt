@@ -17,7 +17,8 @@ pub trait WriteWords {
     /// for what is lent.
     fn load_head(&mut self, indices: &WriteIndices) -> usize
         ensures index { result < 2 * indices.now.capacity }
-        ensures within { distance indices.now.capacity result indices.now.tail ≤ indices.now.capacity }
+        ensures within { distance indices.now.capacity result indices.now.tail
+            ≤ indices.now.capacity }
         ensures lent { indices.now.lent ≤ room_in (head_seen result indices.now) };
 
     /// Loads the closed flag.

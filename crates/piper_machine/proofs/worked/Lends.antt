@@ -1,5 +1,5 @@
 -- How much is lent: exactly by the writer's side, which knows how much was set to zero already, and within bounds for the pipe.
-use Rattle.std.specs.Prelude.{◌≡◌, ℕ, ◌+◌, ◌-◌, ◌*◌, ◌<◌, ◌≤◌, min, List, [], ◌∷◌, length, take, Bool, true, false, if◌then◌else◌, refl}
+use Rattle.std.specs.Prelude.{◌≡◌, ℕ, ◌-◌, ◌≤◌, min, List, [], ◌∷◌, length, take, Bool, true, false, if◌then◌else◌, refl}
 use Rattle.std.proofs.Common.{◌∙◌, sym, arith}
 use Rattle.std.proofs.lemmas.List.{length-take}
 use Rattle.piper_sides.specs.Index.{advanced}

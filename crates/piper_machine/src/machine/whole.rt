@@ -238,7 +238,8 @@ impl Machine {
     pub fn r_poll(&mut self, waker: u32, luck: Luck) -> Polled<bool>
         requires idle { self.old.reader ≡ ReadPlace.Idle }
         requires draw { luck.draw < 100 }
-        ensures answer { result ≡ (reader_look (Some (context waker luck)) (begun self.old)).answer }
+        ensures answer { result
+            ≡ (reader_look (Some (context waker luck)) (begun self.old)).answer }
         ensures after { self.new ≡ (reader_look (Some (context waker luck)) (begun self.old)).pipe }
         ensures by_steps { IsWholeBySteps (Call.Poll Side.Reader waker luck) self.old }
     {
@@ -255,7 +256,8 @@ impl Machine {
     pub fn w_poll(&mut self, waker: u32, luck: Luck) -> Polled<bool>
         requires idle { self.old.writer ≡ WritePlace.Idle }
         requires draw { luck.draw < 100 }
-        ensures answer { result ≡ (writer_look (Some (context waker luck)) (begun self.old)).answer }
+        ensures answer { result
+            ≡ (writer_look (Some (context waker luck)) (begun self.old)).answer }
         ensures after { self.new ≡ (writer_look (Some (context waker luck)) (begun self.old)).pipe }
         ensures by_steps { IsWholeBySteps (Call.Poll Side.Writer waker luck) self.old }
     {
