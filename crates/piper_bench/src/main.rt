@@ -3,6 +3,7 @@
 
 ghost use Rattle.std.specs.Prelude.{length, ◌≡◌, ◌<◌, ◌≤◌, ◌^◌};
 
+use lines::through_lines;
 use piper::{OutOfMemory, OwnedReader, OwnedWriter, ReadEnd, WriteEnd, open_ring, pipe};
 use piper_machine::machine::Machine;
 use pipes::{Copies, InPlace, TryForms, through_pipe};
@@ -18,6 +19,7 @@ use std::thread::Threads;
 use std::time::{Duration, Instant};
 use std::{env, io, thread};
 
+mod lines;
 mod one_owner;
 mod pipes;
 mod rings;
@@ -25,12 +27,12 @@ mod rings;
 const USAGE: &str = "usage: piper_bench WHAT CAP CHUNK TOTAL
 Moves TOTAL bytes in pieces of CHUNK through a ring of CAP bytes, and prints bytes, nanoseconds, nanoseconds a piece and a checksum.
 WHAT is ring (one thread, in and out in turn), ring2 (two threads), rtrb or rtrb2 (the same work on rtrb), machine (one thread, through the pure machine) or copy (plain copies into a buffer of CAP bytes and out of it).
-Or it is through the handles of a pipe: pipe (by try forms) and inplace (by polls and lent slices) on one thread, pipe2 and inplace2 between two threads that sleep until they are woken, and on one thread fill and drain (one way by the copy that waits, the other by the try form) and filldrain (both ways by the copies that wait).
+Or it is through the handles of a pipe: pipe (by try forms) and inplace (by polls and lent slices) on one thread, pipe2 and inplace2 between two threads that sleep until they are woken, and on one thread fill and drain (one way by the copy that waits, the other by the try form) and filldrain (both ways by the copies that wait); and lines takes lines of CHUNK bytes out of one, the LF with them.
 CAP is at least 1 and at most half of the greatest usize, CHUNK is 1 to 16777216.
 Without arguments it makes a short run of each.";
 
 /// What a run without arguments makes, in that order.
-const WORDS: [&str; 13] = [
+const WORDS: [&str; 14] = [
     "ring",
     "ring2",
     "rtrb",
@@ -44,6 +46,7 @@ const WORDS: [&str; 13] = [
     "fill",
     "drain",
     "filldrain",
+    "lines",
 ];
 
 /// The longest piece.
@@ -58,6 +61,7 @@ enum What {
     Ring { is_shared: bool },
     Rtrb { is_shared: bool },
     Pipe { way: Way, is_shared: bool },
+    Lines,
     Machine,
     Copies,
 }
@@ -91,6 +95,7 @@ impl What {
             "fill" => Some(What::pipe(Way::Fill, false)),
             "drain" => Some(What::pipe(Way::Drain, false)),
             "filldrain" => Some(What::pipe(Way::FillDrain, false)),
+            "lines" => Some(What::Lines),
             "machine" => Some(What::Machine),
             "copy" => Some(What::Copies),
             _ => None,
@@ -176,6 +181,12 @@ where
                     through_pipe(rt, ways, handles, is_shared, source, place, work.total)?
                 }
             };
+            Ok((start.elapsed(rt)?, checksum))
+        }
+        What::Lines => {
+            let handles = pipe_of(rt, work)?;
+            let start = Instant::now(rt)?;
+            let checksum = through_lines(rt, handles, work.chunk, work.total)?;
             Ok((start.elapsed(rt)?, checksum))
         }
         What::Machine => {

@@ -6,4 +6,8 @@ mod compare;
 #[cfg(test)]
 mod frames;
 #[cfg(test)]
+mod going_on;
+#[cfg(test)]
+mod halting;
+#[cfg(test)]
 mod lines;
