@@ -1,0 +1,7 @@
+//! Values held against each other, proved once.
+
+use std::process::Abort;
+
+pub(crate) fn same(rt: &impl Abort, got: &[u8], wanted: &[u8]) {
+    assert_eq!(rt; got, wanted);
+}

@@ -1,0 +1,15 @@
+//! Tests of `tokio`, its codecs and `tungstenite` over pipes. They stand apart, so that the crate is proved once.
+#![tactic(auto)]
+
+#[cfg(test)]
+mod blocking;
+#[cfg(test)]
+mod codecs;
+#[cfg(test)]
+mod compare;
+#[cfg(test)]
+mod copies;
+#[cfg(test)]
+mod pieces;
+#[cfg(test)]
+mod sockets;
