@@ -1,0 +1,96 @@
+//! A client and a server of HTTP speak through a duplex stream in place of a socket, so that a service can be tried with no network. Each line of standard input is a path that the client asks for.
+#![tactic(auto)]
+
+use bytes::Bytes;
+use futures::executor::block_on;
+use futures::future::{Ready, join};
+use futures::{TryFutureExt, future};
+use http_body_util::{BodyExt, Full};
+use hyper::body::Incoming;
+use hyper::service::Service;
+use hyper::{Request, Response, StatusCode, client, header, server};
+use piper::OutOfMemory;
+use piper_duplex::duplex;
+use piper_tokio::CompatEnd;
+use std::alloc::{AllocGlobal, Global};
+use std::convert::Infallible;
+use std::hash::RandomState;
+use std::io::{BufRead, BufReader};
+use std::random::RandomSource;
+use std::sync::Wait;
+use std::thread;
+use tokio::io::{AsyncRead, AsyncWrite};
+
+/// The service that is tried: two pages, and 404 for all other paths.
+#[derive(Clone, Copy)]
+struct Pages(Global);
+
+impl<I: Drop> Service<Request<Incoming<I>>> for Pages {
+    type Response = Response<Full<Bytes>>;
+
+    type Error = Infallible;
+
+    type Future = Ready<Result<Response<Full<Bytes>>, Infallible>>;
+
+    fn call(&self, request: Request<Incoming<I>>) -> Self::Future {
+        let (status, page) = match request.uri().path() {
+            "/" => (StatusCode::OK, b"the first page".as_slice()),
+            "/next" => (StatusCode::OK, b"the next page".as_slice()),
+            _ => (StatusCode::NOT_FOUND, b"no such page".as_slice()),
+        };
+        let mut response = Response::new(self.0, Full::new(Bytes::from_static(page)));
+        *response.status_mut() = status;
+        future::ok(response)
+    }
+}
+
+/// Serves until the client is done.
+fn serve<R, I>(rt: &R, io: I) -> anyhow::Result<()>
+where
+    R: Wait + RandomSource + AllocGlobal,
+    I: AsyncRead + AsyncWrite,
+{
+    let http = server::conn::http1::Builder::new(rt.alloc(), RandomState::new(rt)?);
+    Ok(block_on(rt, http.serve_connection(io, Pages(rt.alloc())))??)
+}
+
+/// Asks for one page: its status and its bytes.
+fn fetch<R, I>(rt: &R, io: I, path: &str) -> anyhow::Result<(StatusCode, Bytes)>
+where
+    R: Wait + RandomSource + AllocGlobal,
+    I: AsyncRead + AsyncWrite,
+{
+    let alloc = rt.alloc();
+    let (mut sender, connection) = client::conn::http1::handshake(
+        alloc,
+        RandomState::new(rt)?,
+        io,
+    )?;
+    let request = Request::get(alloc, path).header(header::HOST, "pages");
+    let page = sender
+        .send_request(request.body(Full::<Bytes>::new(Bytes::new()))?)
+        .and_then(move |response| {
+            let status = response.status();
+            response
+                .into_body()
+                .collect(alloc)
+                .map_ok(move |body| (status, body))
+        });
+    drop(sender);
+    let (status, body) = block_on(rt, join(page, connection))?.0?;
+    Ok((status, body.to_bytes()?))
+}
+
+fn main(rt: HostRuntime) -> anyhow::Result<()> {
+    for path in BufReader::new(rt.alloc(), rt.stdin())?.lines(rt.alloc()) {
+        let path = path?;
+        let theirs = rt.clone()?;
+        let (near, far) = duplex(&rt, rt.alloc(), 64, 64, 1)?;
+        let (near, far) = (CompatEnd::new(near), CompatEnd::new(far));
+        let child = thread::spawn(&rt, move || serve(&theirs, far))?;
+        let (status, page) = fetch(&rt, near, path.as_str())?;
+        child.join(&rt)?;
+        println!(&rt; "{path}: {status}, {}", page.as_slice().escape_ascii())?;
+    }
+    Ok(())
+}
