@@ -1,6 +1,7 @@
 -- Runs: lists of steps, made one after another on a fresh pipe with an empty log.
-use Rattle.std.specs.Prelude.{◌≡◌, ℕ, List, [], ◌∷◌, ◌++◌, take, slice_get, None, Some, ⊤}
+use Rattle.std.specs.Prelude.{◌≡◌, ℕ, List, [], ◌∷◌, ◌++◌, take, slice_get, None, Some, ⊤, Bool, true, false}
 use Rattle.piper_sides.specs.declared.calls.Step.{Step}
+use Rattle.piper_sides.specs.declared.calls.Step.TheVariants.{Put}
 use Rattle.piper_sides.specs.declared.events.Event.{Event}
 use Rattle.piper_sides.specs.declared.refusals.StepRefusal.{StepRefusal}
 use Rattle.piper_sides.specs.declared.refusals.StepRefusal.TheVariants.{Memory}
@@ -27,9 +28,14 @@ Runs p before [] q after = (q ≡ p) × (after ≡ before)
 Runs p before (s ∷ ss) q after =
     (mid : Pipe) × (events : List Event) × Made p s mid before events × Runs mid events ss q after
 
--- why a step is refused: by the pipe, or for want of memory where the pipe accepts it
+-- whether a step asks for memory: for its events in the log, and for what it copies
+abbrev pub asks_for_memory : Step → Bool
+asks_for_memory (Put offset byte) = false
+asks_for_memory s = true
+
+-- why a step is refused: by the pipe, or for want of the memory that it asks for where the pipe accepts it
 abbrev pub IsRefusal : Step → Pipe → StepRefusal → Type 0
-IsRefusal s p Memory = refusal_of s p ≡ None
+IsRefusal s p Memory = (refusal_of s p ≡ None) × (asks_for_memory s ≡ true)
 IsRefusal s p r = refusal_of s p ≡ Some r
 
 -- the first i steps were made from a fresh pipe, and the next one is refused so
