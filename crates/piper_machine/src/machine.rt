@@ -25,6 +25,9 @@ use std::alloc::Global;
 use std::marker::Model;
 
 mod copying;
+mod logging;
+mod opening;
+mod refusals;
 mod runs;
 mod steps;
 mod whole;
@@ -108,13 +111,15 @@ impl Machine {
         self.read.capacity()
     }
 
+    // Any machine is sound. No work is done: a call of it hands this fact to the proof of its caller.
     fn learn(&self)
         ensures { IsSound self.now }
     {
         let _ = &self.is_closed;
     }
 
-    // Each call that may be opened now is the same run whole and made by steps alone.
+    // Each call that may be opened now is the same run whole and made by steps alone. As `learn`, it does no work:
+    // a whole call hands the fact on as its clause `by_steps`.
     fn learn_steps(&self)
         ensures { AreWholeBySteps self.now }
     {

@@ -1,0 +1,104 @@
+//! What is logged of a step before it is made.
+ghost use Rattle.std.specs.Prelude.{◌≡◌, ◌≤◌, ℕ, length, take, IfOk};
+ghost use Rattle.piper_sides.specs.Log.{listed};
+ghost use Rattle.piper_machine.specs.Places.{peeked_count};
+ghost use Rattle.piper_machine.specs.Action.{call_of, logged_of, refresh_event, wake_of, yield_of, registration_of};
+ghost use Rattle.piper_machine.specs.Step.{action_of};
+
+use super::Machine;
+use piper_sides::bytes::Bytes;
+use piper_sides::calls::{OpenCall, Side};
+use piper_sides::events::{Event, Seen};
+use piper_sides::memory::OutOfMemory;
+use piper_sides::polling::Context;
+use piper_sides::table::Action;
+
+// What a refresh of the side is logged as.
+fn refresh_event(side: Side, count: usize) -> Event
+    ensures { result ≡ refresh_event side count }
+{
+    match side {
+        Side::Reader => Event::Looked(side, Seen::Tail(count)),
+        Side::Writer => Event::Looked(side, Seen::Head(count)),
+    }
+}
+
+// What the registration of the context's waker is logged as.
+fn registration(side: Side, context: Option<Context>) -> Option<Event>
+    ensures { listed result ≡ registration_of side context }
+{
+    match context {
+        Some(cx) if cx.luck.register_granted => Some(Event::Registered(side, cx.waker)),
+        _ => None,
+    }
+}
+
+// What the call of a waker is logged as.
+fn wake(taken: Option<u32>) -> Option<Event>
+    ensures { listed result ≡ wake_of taken }
+{
+    taken.map(Event::Woken)
+}
+
+// What a yield is logged as.
+fn yield_event(context: Option<Context>) -> Option<Event>
+    ensures { listed result ≡ yield_of context }
+{
+    match context {
+        Some(cx) if cx.luck.yield_granted => Some(Event::Woken(cx.waker)),
+        _ => None,
+    }
+}
+
+impl Machine {
+    // What the open call of the side holds.
+    fn call(&self, side: Side) -> OpenCall
+        ensures { result ≡ call_of side self.now }
+    {
+        match side {
+            Side::Reader => self.reader_call,
+            Side::Writer => self.writer_call,
+        }
+    }
+
+    // What is logged of the step that the side makes next, which is of this kind.
+    pub(super) fn event(&self, side: Side, action: Action) -> Result<Option<Event>, OutOfMemory>
+        requires next { action ≡ action_of side self.now }
+        requires head { (n : ℕ) → action ≡ Action.StoreHead n → n ≤ peeked_count self.now }
+        requires tail { (n : ℕ) → action ≡ Action.StoreTail n → n ≤ length self.now.lent }
+        ensures { IfOk result (λ event. listed event ≡ logged_of side (action_of side self.now) self.now) }
+    {
+        let call = self.call(side);
+        let event = match action {
+            Action::Rest | Action::Take(_) => None,
+            Action::LoadHead => Some(Event::Looked(side, Seen::Head(self.len()))),
+            Action::LoadTail => Some(Event::Looked(side, Seen::Tail(self.len()))),
+            Action::Refresh => Some(refresh_event(side, self.len())),
+            Action::LoadClosed => Some(Event::Looked(side, Seen::Closed(self.is_closed))),
+            Action::Register => registration(side, call.context),
+            Action::StoreHead(n) => Some(Event::Consumed(self.front_bytes(n)?)),
+            Action::StoreTail(n) => Some(Event::Published(self.lent_bytes(n)?)),
+            Action::StoreClosed { is_shut: _ } => Some(Event::Closed(side)),
+            Action::Wake => wake(call.taken),
+            Action::Yield => yield_event(call.context),
+            Action::CallDestination | Action::CallSource => None,
+        };
+        Ok(event)
+    }
+
+    // A copy of the first unread bytes.
+    fn front_bytes(&self, n: usize) -> Result<Bytes, OutOfMemory>
+        requires { n ≤ peeked_count self.now }
+        ensures { IfOk result (λ bytes. bytes ≡ take n self.now.unread) }
+    {
+        Bytes::copy_of(self.alloc, &self.r_peek()[..n])
+    }
+
+    // A copy of the first lent bytes.
+    fn lent_bytes(&self, n: usize) -> Result<Bytes, OutOfMemory>
+        requires { n ≤ length self.now.lent }
+        ensures { IfOk result (λ bytes. bytes ≡ take n self.now.lent) }
+    {
+        Bytes::copy_of(self.alloc, &self.w_lent()[..n])
+    }
+}
