@@ -19,14 +19,14 @@ use Rattle.piper_ring.specs.Places.{byte}
 use Rattle.piper_ring.proofs.Steps.{not_gone, Rest, OneStays, ReaderSees, reader_opens, closes, inside, raise}
 use denote.Builtin.{u8}
 use denote.Memory.{part_at}
-use Rattle.rtrb.specs.Fifo.{slot_of}
+use Rattle.rtrb.specs.Fifo.{slot_of as offset_of}
 use Rattle.rtrb.proofs.Positions.{slot_turn}
 use Rattle.piper_ring.specs.Shared.{idle, Names, State, Holds, half, other, gone, where_gone, word, blanks, writer_knows, reader_knows, Inner, common}
 
 -- one turn on lie the same places
 pub run_turn : (p : Ptr) (cap : ℕ) (xs : List ℕ) (k j : ℕ) → k + cap ≡ j → run (byte p cap) k xs ≡ run (byte p cap) j xs
 run_turn p cap [] k j e = refl
-run_turn p cap (x ∷ xs) k j e = let same : slot_of cap k + count_of p ≡ slot_of cap j + count_of p = ap (λ (m : ℕ). m + count_of p) (sym (slot_turn cap k) ∙ ap (slot_of cap) e) in
+run_turn p cap (x ∷ xs) k j e = let same : offset_of cap k + count_of p ≡ offset_of cap j + count_of p = ap (λ (m : ℕ). m + count_of p) (sym (slot_turn cap k) ∙ ap (offset_of cap) e) in
     let more : run (byte p cap) (suc k) xs ≡ run (byte p cap) (suc j) xs = run_turn p cap xs (suc k) (suc j) (omega arith) in λ t. fsep (part_at u8 full_share x (block_of p) (same t)) (more t)
 
 module _ {M : Type 1} {𝓤 : Ura M} (𝓛 : Logic 𝓤) (w p : Ptr) (z : Names) where

@@ -1,14 +1,14 @@
 -- What `piper_sides` says of indices, said of counts of bytes.
 use Rattle.std.proofs.Common.{◌≡◌, ℕ, ◌+◌, ◌-◌, ◌*◌, ◌%◌, ◌<◌, ◌≤◌, ap, ◌∙◌, arith}
 use native.Mathlib.Nat.{mod-add-mod, mod-mod_of_dvd, dvd-mul_left}
-use Rattle.rtrb.specs.Fifo.{position_of, slot_of}
+use Rattle.rtrb.specs.Fifo.{position_of, slot_of as offset_of}
 use Rattle.rtrb.proofs.Positions.{position_apart}
 use Rattle.piper_sides.specs.Index.{distance}
 
--- the remainder of an index is the slot of its count
-pub slot_at : (c i n r : ℕ) → i ≡ position_of c n → r ≡ i % c → r ≡ slot_of c n
-unfolding position_of slot_of
-slot_at c i n r at is = is ∙ ap (λ (x : ℕ). x % c) at ∙ mod-mod_of_dvd c n (dvd-mul_left c 2)
+-- the remainder of an index is the offset of its count
+pub offset_at : (c i n r : ℕ) → i ≡ position_of c n → r ≡ i % c → r ≡ offset_of c n
+unfolding position_of offset_of
+offset_at c i n r at is = is ∙ ap (λ (x : ℕ). x % c) at ∙ mod-mod_of_dvd c n (dvd-mul_left c 2)
 
 -- the distance of two indices is that of their counts
 pub apart : (c a b m n : ℕ) → m ≤ n → n ≤ m + c → a ≡ position_of c m → b ≡ position_of c n → distance c a b ≡ n - m

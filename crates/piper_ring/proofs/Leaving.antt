@@ -25,7 +25,7 @@ use base.Fml.{froom, fex}
 use Rattle.piper_ring.specs.Places.{fact, unset}
 use Rattle.piper_ring.proofs.Steps.{flag_small, Rest, OneStays, ReaderSees, WriterSees, reader_opens, writer_opens, closes, inside, raise}
 use denote.Builtin.{u8}
-use Rattle.rtrb.specs.Fifo.{slot_of}
+use Rattle.rtrb.specs.Fifo.{slot_of as offset_of}
 use Rattle.piper_ring.specs.Shared.{one_gone, Names, State, Holds, half, other, flag, gone, until_both, where_gone, word, word_room, words_type, four_rooms, blanks, memory, whole, writer_knows, reader_knows, ends, standing, Inner, common}
 
 pub here : (i : ℕ) → i ≤ 1 → gone i ≡ false
@@ -89,9 +89,9 @@ module _ {M : Type 1} {𝓤 : Ura M} (𝓛 : Logic 𝓤) (w p : Ptr) (z : Names)
 
   -- one turn of places is the block of the bytes
   as_array : (k : ℕ) → ⟦ blanks w p z k cap ⟧ ⊢ ⟦ froom (array_of u8 cap) (block_of p) (count_of p) ⟧
-  as_array k = let F : ℕ → Fml = λ i. froom (bare τ) (block_of p) (slot_of cap i * 1 + count_of p) in
-      via 𝓤 _ (span_map 𝓛 U F cap k k (λ a b e le lt. let same : a ≡ b = omega arith in let flat : slot_of cap b + count_of p ≡ slot_of cap b * 1 + count_of p = omega arith in
-      subst (λ (m : ℕ). ⟦ U a ⟧ ⊢ ⟦ froom (bare τ) (block_of p) m ⟧) (ap (λ (m : ℕ). slot_of cap m + count_of p) same ∙ flat) (id⊢ 𝓤 ⟦ U a ⟧)))
+  as_array k = let F : ℕ → Fml = λ i. froom (bare τ) (block_of p) (offset_of cap i * 1 + count_of p) in
+      via 𝓤 _ (span_map 𝓛 U F cap k k (λ a b e le lt. let same : a ≡ b = omega arith in let flat : offset_of cap b + count_of p ≡ offset_of cap b * 1 + count_of p = omega arith in
+      subst (λ (m : ℕ). ⟦ U a ⟧ ⊢ ⟦ froom (bare τ) (block_of p) m ⟧) (ap (λ (m : ℕ). offset_of cap m + count_of p) same ∙ flat) (id⊢ 𝓤 ⟦ U a ⟧)))
       (ring_in 𝓛 τ (block_of p) (count_of p) cap k)
 
   abbrev u : Ty

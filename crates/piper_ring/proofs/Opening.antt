@@ -21,7 +21,7 @@ use denote.RawPtr.Room.{past as beyond, room_cut, room_glue}
 use Rattle.core.specs.Allocator.{array_of}
 use base.Fml.{fwand, froom}
 use Rattle.rtrb.specs.Shared.{span}
-use Rattle.rtrb.specs.Fifo.{slot_of}
+use Rattle.rtrb.specs.Fifo.{slot_of as offset_of}
 use Rattle.rtrb.proofs.Spans.{span_map, ring_out}
 use Rattle.rtrb.proofs.Positions.{position_zero}
 use Rattle.piper_ring.specs.Places.{unset}
@@ -95,9 +95,9 @@ module _ {M : Type 1} {𝓤 : Ura M} (𝓛 : Logic 𝓤) (w p : Ptr) (cap : ℕ)
 
   -- the block of the bytes is one turn of places
   pub as_places : ⟦ froom (array_of u8 cap) (block_of p) (count_of p) ⟧ ⊢ ⟦ span (unset p cap) 0 cap ⟧
-  as_places = let F : ℕ → Fml = λ i. froom (bare τ) (block_of p) (slot_of cap i * 1 + count_of p) in
-      via 𝓤 _ (ring_out 𝓛 τ (block_of p) (count_of p) cap) (span_map 𝓛 F (unset p cap) cap 0 0 (λ a e is le lt. let same : a ≡ e = omega arith in let flat : slot_of cap a * 1 + count_of p ≡ slot_of cap a + count_of p = omega arith in
-      subst (λ (m : ℕ). ⟦ F a ⟧ ⊢ ⟦ froom (bare τ) (block_of p) m ⟧) (flat ∙ ap (λ (m : ℕ). slot_of cap m + count_of p) same) (id⊢ 𝓤 ⟦ F a ⟧)))
+  as_places = let F : ℕ → Fml = λ i. froom (bare τ) (block_of p) (offset_of cap i * 1 + count_of p) in
+      via 𝓤 _ (ring_out 𝓛 τ (block_of p) (count_of p) cap) (span_map 𝓛 F (unset p cap) cap 0 0 (λ a e is le lt. let same : a ≡ e = omega arith in let flat : offset_of cap a * 1 + count_of p ≡ offset_of cap a + count_of p = omega arith in
+      subst (λ (m : ℕ). ⟦ F a ⟧ ⊢ ⟦ froom (bare τ) (block_of p) m ⟧) (flat ∙ ap (λ (m : ℕ). offset_of cap m + count_of p) same) (id⊢ 𝓤 ⟦ F a ⟧)))
 
   abbrev pub Made : Names → SProp 𝓤
   Made z = base.Logic.guard 𝓤 (z.capacity ≡ cap) (sep 𝓤 (sem 𝓛 (reader_owns w p z 0 0 [] false)) (sem 𝓛 (writer_owns w p z [] cap false)))

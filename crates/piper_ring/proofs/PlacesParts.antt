@@ -9,7 +9,7 @@ use denote.Builtin.{u8}
 use denote.RawPtr.{Ptr, block_of, count_of}
 use denote.Slice.{elements_shared}
 use denote.Memory.{shared_of}
-use Rattle.rtrb.specs.Fifo.{slot_of}
+use Rattle.rtrb.specs.Fifo.{slot_of as offset_of}
 use Rattle.rtrb.proofs.Positions.{slot_small, slot_add}
 use types.SemTy.{cells}
 use denote.Memory.{mem}
@@ -25,15 +25,15 @@ use Rattle.rtrb.specs.Shared.{run, span}
 use Rattle.piper_ring.specs.Places.{run_lent, place, byte, unset}
 
 -- the next place, where the row does not wrap
-pub next_place : (cap k s : ℕ) → s ≡ slot_of cap k → s + 1 < cap → suc s ≡ slot_of cap (suc k)
+pub next_place : (cap k s : ℕ) → s ≡ offset_of cap k → s + 1 < cap → suc s ≡ offset_of cap (suc k)
 next_place cap k s e lt = let more : k + 1 ≡ suc k = omega arith in let up : s + 1 ≡ suc s = omega arith in
-    sym up ∙ sym (slot_small cap (s + 1) lt) ∙ ap (λ (x : ℕ). slot_of cap (x + 1)) e ∙ slot_add cap k 1 ∙ ap (slot_of cap) more
+    sym up ∙ sym (slot_small cap (s + 1) lt) ∙ ap (λ (x : ℕ). offset_of cap (x + 1)) e ∙ slot_add cap k 1 ∙ ap (offset_of cap) more
 
 module _ {M : Type 1} {𝓤 : Ura M} (𝓛 : Logic 𝓤) (at : Ptr) (cap : ℕ) (κ : Lft) where
   seen_end : (n k s : ℕ) (xs : List ℕ) → n ≤ length xs → (n ≡ 0) → ent 𝓤 (sem 𝓛 (run_lent at cap k xs κ)) (sem 𝓛 (elements_shared u8 [] (block_of at) (s + count_of at) κ))
   seen_end n k s xs le e = qed 𝓛 (‵ (run_lent at cap k xs κ) ∷ []) ∵ keep ! [] $ done !
 
-  pub seen : (n k s o : ℕ) (xs : List ℕ) → n ≤ length xs → (0 < n → s ≡ slot_of cap k) → s + n ≤ cap → o ≡ s + count_of at
+  pub seen : (n k s o : ℕ) (xs : List ℕ) → n ≤ length xs → (0 < n → s ≡ offset_of cap k) → s + n ≤ cap → o ≡ s + count_of at
       → ent 𝓤 (sem 𝓛 (run_lent at cap k xs κ)) (sem 𝓛 (elements_shared u8 (take n xs) (block_of at) o κ))
   seen zero k s o xs le e near is = qed 𝓛 (‵ (run_lent at cap k xs κ) ∷ []) ∵ keep ! [] $ done !
   seen (suc n) k s o [] le e near is = absurd (omega arith)
@@ -52,14 +52,14 @@ module _ {M : Type 1} {𝓤 : Ura M} (𝓛 : Logic 𝓤) where
 
   module _ (at : Ptr) (cap : ℕ) where
     -- bytes side by side are the cells of an array
-    pub to_cells : (xs : List ℕ) (k s o : ℕ) → (0 < length xs → s ≡ slot_of cap k) → s + length xs ≤ cap → o ≡ s + count_of at
+    pub to_cells : (xs : List ℕ) (k s o : ℕ) → (0 < length xs → s ≡ offset_of cap k) → s + length xs ≤ cap → o ≡ s + count_of at
         → ent 𝓤 (sem 𝓛 (run (byte at cap) k xs)) (sem 𝓛 (cells (mem u8) xs (block_of at) o))
     to_cells [] k s o e near is = id⊢ 𝓤 (emp 𝓤)
     to_cells (x ∷ xs) k s o e near is = let within : s + suc (length xs) ≤ cap = near in let here = e (omega arith) in let same : place at cap k ≡ o = ap (λ (m : ℕ). m + count_of at) (sym here) ∙ sym is in
         subst (λ (q : ℕ). ent 𝓤 (sem 𝓛 (run (byte at cap) k (x ∷ xs))) (sem 𝓛 (cells (mem u8) (x ∷ xs) (block_of at) q))) same
         (mono_r 𝓤 (sem 𝓛 (byte at cap k x)) (to_cells xs (suc k) (suc s) (place at cap k + 1) (λ pos. next_place cap k s here (omega arith)) (omega arith) (ap (λ (m : ℕ). m + 1) same ∙ ap (λ (m : ℕ). m + 1) is ∙ omega arith)))
 
-    pub of_cells : (xs : List ℕ) (k s o : ℕ) → (0 < length xs → s ≡ slot_of cap k) → s + length xs ≤ cap → o ≡ s + count_of at
+    pub of_cells : (xs : List ℕ) (k s o : ℕ) → (0 < length xs → s ≡ offset_of cap k) → s + length xs ≤ cap → o ≡ s + count_of at
         → ent 𝓤 (sem 𝓛 (cells (mem u8) xs (block_of at) o)) (sem 𝓛 (run (byte at cap) k xs))
     of_cells [] k s o e near is = id⊢ 𝓤 (emp 𝓤)
     of_cells (x ∷ xs) k s o e near is = let within : s + suc (length xs) ≤ cap = near in let here = e (omega arith) in let same : place at cap k ≡ o = ap (λ (m : ℕ). m + count_of at) (sym here) ∙ sym is in

@@ -1,4 +1,4 @@
--- What the owners of a stretch of the ring's places own and lend. Places are counted from the first byte ever sent, and the k-th stands in the slot `slot_of capacity k`: so a stretch that goes round the end of the memory is cut and joined like any other.
+-- What the owners of a stretch of the ring's places own and lend. Places are counted from the first byte ever sent, and the k-th stands at the offset `offset_of capacity k`: so a stretch that goes round the end of the memory is cut and joined like any other.
 use Rattle.std.specs.Prelude.{ℕ, suc, ◌+◌, ◌^◌, ◌<◌, List, [], ◌∷◌}
 use mir.Raw.{raw}
 use base.Fraction.{full_share}
@@ -7,7 +7,7 @@ use denote.Builtin.{u8}
 use denote.Memory.{lone, part_at, shared_of}
 use denote.Sharing.{nothing, said, beside}
 use denote.RawPtr.{Ptr, block_of, count_of, InBlock}
-use Rattle.rtrb.specs.Fifo.{slot_of}
+use Rattle.rtrb.specs.Fifo.{slot_of as offset_of}
 use Rattle.rtrb.specs.Shared.{run, span}
 
 abbrev pub fact : Type 0 → Fml
@@ -17,7 +17,7 @@ fact φ = fex φ (λ _. ftrue)
 module _ (at : Ptr) (capacity : ℕ) where
   -- where the k-th place lies in its block
   abbrev pub place : ℕ → ℕ
-  place k = slot_of capacity k + count_of at
+  place k = offset_of capacity k + count_of at
 
   -- the k-th place holds x
   abbrev pub byte : ℕ → ℕ → Fml

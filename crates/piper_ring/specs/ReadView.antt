@@ -1,7 +1,7 @@
 -- What a contract sees of a `ReadEnd`, and how the end keeps it.
 use Rattle.std.specs.Prelude.{◌≡◌, ℕ, ◌+◌, ◌-◌, ◌^◌, ◌<◌, ◌≤◌, ◌++◌, Bool, false, List, length, take, min, refl}
 use Rattle.std.specs.Coded.{Coded, code_by, coded×, coded_list, coded_ℕ, coded_bool}
-use Rattle.rtrb.specs.Fifo.{position_of, slot_of}
+use Rattle.rtrb.specs.Fifo.{position_of, slot_of as offset_of}
 use Rattle.piper_ring.specs.Shared.{Ring, ring_code}
 use Rattle.piper_ring.specs.declared.ends.reader.ReadParts.{ReadParts}
 
@@ -47,7 +47,7 @@ read_view_of e =
 
 -- the place of the first known byte
 abbrev pub read_place : ReadView → ℕ
-read_place r = slot_of r.capacity (length r.taken)
+read_place r = offset_of r.capacity (length r.taken)
 
 -- how many known bytes stand in one piece
 abbrev pub in_one_piece : ReadView → ℕ

@@ -1,7 +1,7 @@
 -- How stretches of places follow one another, and what each end gains as it accepts more.
 use Rattle.std.specs.Prelude.{◌≡◌, ℕ, ◌+◌, ◌≤◌, ◌++◌, List, length}
 use denote.RawPtr.{Ptr}
-use Rattle.rtrb.specs.Fifo.{slot_of}
+use Rattle.rtrb.specs.Fifo.{slot_of as offset_of}
 use Rattle.piper_ring.specs.declared.ring.places.Places.{Places}
 use Rattle.piper_ring.specs.declared.ring.places.Blank.{Blank}
 use Rattle.piper_ring.specs.declared.ring.seats.ReadSeat.{ReadSeat}
@@ -16,10 +16,10 @@ abbrev pub IsBlankFrom : Ptr → ℕ → ℕ → ℕ → Blank → Type 0
 IsBlankFrom at capacity k end b =
     (b.at ≡ at) × (b.capacity ≡ capacity) × (b.first ≡ k) × (b.first + b.count ≡ end)
 
--- the first `len` places of p stand in one piece, from the slot `from` of the memory at `base` on
+-- the first `len` places of p stand in one piece, from the offset `from` of the memory at `base` on
 abbrev pub IsPiece : Ptr → ℕ → ℕ → Places → Type 0
 IsPiece base from len p =
-    (base ≡ p.at) × (len ≤ length p.bytes) × (from ≡ slot_of p.capacity p.first)
+    (base ≡ p.at) × (len ≤ length p.bytes) × (from ≡ offset_of p.capacity p.first)
     × (from + len ≤ p.capacity)
 
 -- `more` begins where p ends

@@ -1,7 +1,7 @@
 -- What a contract sees of a `WriteEnd`, and how the end keeps it.
 use Rattle.std.specs.Prelude.{◌≡◌, ℕ, ◌+◌, ◌-◌, ◌^◌, ◌<◌, ◌≤◌, Bool, true, false, List, [], length, min, refl}
 use Rattle.std.specs.Coded.{Coded, code_by, coded×, coded_list, coded_ℕ, coded_bool}
-use Rattle.rtrb.specs.Fifo.{position_of, slot_of}
+use Rattle.rtrb.specs.Fifo.{position_of, slot_of as offset_of}
 use Rattle.piper_ring.specs.Shared.{Ring, ring_code}
 use Rattle.piper_ring.specs.RoomOrder.{IsRoom, end_of}
 use Rattle.piper_ring.specs.declared.ends.writer.WriteParts.{WriteParts}
@@ -55,7 +55,7 @@ write_view_of e =
 
 -- the place of the next byte
 abbrev pub write_place : WriteView → ℕ
-write_place w = slot_of w.capacity (length w.sent)
+write_place w = offset_of w.capacity (length w.sent)
 
 -- how many bytes there is room for in one piece
 abbrev pub room_in_one_piece : WriteView → ℕ

@@ -49,7 +49,7 @@ impl Room {
         self.ready.put(front);
     }
 
-    /// Lends its first `len` places, which stand in one piece from the slot `from` on, in place of what was lent before. Those that are not set, from the slot `zeroed` on, are zeroed first.
+    /// Lends its first `len` places, which stand in one piece from the offset `from` on, in place of what was lent before. Those that are not set, from the offset `zeroed` on, are zeroed first.
     pub(crate) fn lend(
         &mut self,
         base: Base,
@@ -104,7 +104,7 @@ impl Room {
     }
 }
 
-/// Zeroes the places from the slot `from` up to `end`, which follow `front` and come to it.
+/// Zeroes the places from the offset `from` up to `end`, which follow `front` and come to it.
 #[cold]
 #[inline(never)]
 fn zero(front: &mut Places, blank: &mut Blank, base: Base, from: usize, end: usize)
@@ -117,7 +117,7 @@ fn zero(front: &mut Places, blank: &mut Blank, base: Base, from: usize, end: usi
     ensures blank { IsBlankFrom blank.old.at blank.old.capacity end
         (from + blank.old.count) blank.new }
 {
-    for slot in from..end {
-        front.join(blank.set(base, slot));
+    for offset in from..end {
+        front.join(blank.set(base, offset));
     }
 }

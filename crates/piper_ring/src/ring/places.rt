@@ -2,7 +2,7 @@
 ghost use Rattle.std.specs.Prelude.{◌≡◌, ℕ, ◌+◌, ◌-◌, ◌<◌, ◌≤◌, ◌++◌, List, [], ◌∷◌, length, take, drop};
 ghost use denote.RawPtr.{Ptr};
 ghost use denote.Sharing.{said};
-ghost use Rattle.rtrb.specs.Fifo.{slot_of};
+ghost use Rattle.rtrb.specs.Fifo.{slot_of as offset_of};
 ghost use Rattle.piper_ring.specs.Places.{places_own, places_lent, blank_own, fact, Placed};
 
 use std::marker::{Model, PhantomData, Send, Sync};
@@ -61,7 +61,7 @@ impl Places {
     ghost use Rattle.piper_ring.specs.Lends.{lends_bytes};
     ghost use Rattle.piper_ring.specs.Stretches.{IsPiece, Follows, forgotten};
 
-    /// Its bytes, to be written. There are `len`, in one piece from the slot `from` on.
+    /// Its bytes, to be written. There are `len`, in one piece from the offset `from` on.
     pub(crate) fn slice_mut(&mut self, base: Base, from: usize, len: usize) -> &mut [u8]
         requires { IsPiece base.ptr from len self.old × (len ≡ length self.old.bytes) }
         ensures* writes_back { sem 𝓛 (lends_bytes self.entry result) }
@@ -70,7 +70,7 @@ impl Places {
         unsafe { slice::from_raw_parts_mut(base.ptr.add(from), len) }
     }
 
-    /// The first `len` bytes, to be read. They stand in one piece from slot `from` on.
+    /// The first `len` bytes, to be read. They stand in one piece from the offset `from` on.
     pub(crate) fn slice(&self, base: Base, from: usize, len: usize) -> &[u8]
         requires { IsPiece base.ptr from len self.now }
         ensures { result.now ≡ take len self.now.bytes }
@@ -139,17 +139,17 @@ impl Blank {
         Places { mark: PhantomData }
     }
 
-    /// Zeroes the first place, which stands in the slot `slot`. It then leaves it.
-    pub(crate) fn set(&mut self, base: Base, slot: usize) -> Places
+    /// Zeroes the first place, which stands at `offset`. It then leaves it.
+    pub(crate) fn set(&mut self, base: Base, offset: usize) -> Places
         requires { (base.ptr ≡ self.old.at) × (0 < self.old.count)
-            × (slot ≡ slot_of self.old.capacity self.old.first) × (slot < self.old.capacity) }
+            × (offset ≡ offset_of self.old.capacity self.old.first) × (offset < self.old.capacity) }
         ensures place { result ≡ places_from self.old self.old.first (0 ∷ []) }
         ensures rest { self.new ≡ record self.old {
           first = self.old.first + 1;
           count = self.old.count - 1;
         } }
     {
-        unsafe { base.ptr.add(slot).write(0) };
+        unsafe { base.ptr.add(offset).write(0) };
         Places { mark: PhantomData }
     }
 

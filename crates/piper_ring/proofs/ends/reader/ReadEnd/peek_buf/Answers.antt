@@ -1,9 +1,9 @@
--- The known bytes that stand in one piece lie from the head's slot on.
+-- The known bytes that stand in one piece lie from the head's offset on.
 use Rattle.std.proofs.Common.{◌≡◌, ℕ, ◌-◌, ◌≤◌, ◌<◌, length, take, min, arith, sym, ap, ◌∙◌}
 use Rattle.std.proofs.lemmas.List.{length-take-le}
-use Rattle.rtrb.specs.Fifo.{slot_of}
+use Rattle.rtrb.specs.Fifo.{slot_of as offset_of}
 use Rattle.piper_ring.specs.ReadView.{ReadView, in_one_piece}
-use Rattle.piper_ring.proofs.Indices.{slot_at}
+use Rattle.piper_ring.proofs.Indices.{offset_at}
 use Rattle.piper_ring.proofs.ReaderFacts.{known_apart}
 use Rattle.piper_ring.proofs.ends.reader.ReadEnd.peek_buf.Goals as goal
 
@@ -11,19 +11,19 @@ pub slice-requires : goal.slice-requires
 slice-requires c = let e = c.self.inside.parts in let i = c.self.invariant in let cap : ℕ = e.indices.capacity in let from : ℕ = c.front-from.result in let many : ℕ = length e.known.bytes in
     let is : c.peekable-len.result ≡ min many (cap - from) = c.peekable-len.ensures ∙ (λ j. min (known_apart e i j) (cap - sym c.front-from.ensures.value j)) in let below : from < cap = c.front-from.ensures.below in
     let same : cap ≡ e.known.capacity = i.fits.0 ∙ sym i.placed.2 in
-    (i.placed.0 ∙ sym i.placed.1, omega arith, slot_at cap _ e.seat.head _ i.cached.0 c.front-from.ensures.remainder ∙ (λ j. slot_of (same j) (sym i.placed.3 j)), omega arith)
+    (i.placed.0 ∙ sym i.placed.1, omega arith, offset_at cap _ e.seat.head _ i.cached.0 c.front-from.ensures.remainder ∙ (λ j. offset_of (same j) (sym i.placed.3 j)), omega arith)
 
 pub returns-clause-bytes : goal.returns-clause-bytes
 returns-clause-bytes c = let e = c.self.inside.parts in let i = c.self.invariant in let cap : ℕ = e.indices.capacity in let from : ℕ = c.front-from.result in let many : ℕ = length e.known.bytes in
     let is : c.peekable-len.result ≡ min many (cap - from) = c.peekable-len.ensures ∙ (λ j. min (known_apart e i j) (cap - sym c.front-from.ensures.value j)) in
-    let slot : from ≡ slot_of cap (length (take e.seat.head e.seat.have)) = slot_at cap _ e.seat.head _ i.cached.0 c.front-from.ensures.remainder ∙ ap (λ (n : ℕ). slot_of cap n) (sym (length-take-le e.seat.head e.seat.have i.whole.0)) in
-    c.slice.ensures ∙ ap (λ (n : ℕ). take n e.known.bytes) (is ∙ ap (λ (s : ℕ). min many (cap - s)) slot) ∙ ap (λ (r : ReadView). take (in_one_piece r) r.known) c.self.view_is
+    let offset : from ≡ offset_of cap (length (take e.seat.head e.seat.have)) = offset_at cap _ e.seat.head _ i.cached.0 c.front-from.ensures.remainder ∙ ap (λ (n : ℕ). offset_of cap n) (sym (length-take-le e.seat.head e.seat.have i.whole.0)) in
+    c.slice.ensures ∙ ap (λ (n : ℕ). take n e.known.bytes) (is ∙ ap (λ (s : ℕ). min many (cap - s)) offset) ∙ ap (λ (r : ReadView). take (in_one_piece r) r.known) c.self.view_is
 
 pub returns-clause-length : goal.returns-clause-length
 returns-clause-length c = let e = c.self.inside.parts in let i = c.self.invariant in let cap : ℕ = e.indices.capacity in let from : ℕ = c.front-from.result in let many : ℕ = length e.known.bytes in
     let is : c.peekable-len.result ≡ min many (cap - from) = c.peekable-len.ensures ∙ (λ j. min (known_apart e i j) (cap - sym c.front-from.ensures.value j)) in let few : c.peekable-len.result ≤ many = omega arith in
-    let slot : from ≡ slot_of cap (length (take e.seat.head e.seat.have)) = slot_at cap _ e.seat.head _ i.cached.0 c.front-from.ensures.remainder ∙ ap (λ (n : ℕ). slot_of cap n) (sym (length-take-le e.seat.head e.seat.have i.whole.0)) in
-    ap length c.slice.ensures ∙ length-take-le c.peekable-len.result e.known.bytes few ∙ is ∙ ap (λ (s : ℕ). min many (cap - s)) slot ∙ ap (λ (r : ReadView). in_one_piece r) c.self.view_is
+    let offset : from ≡ offset_of cap (length (take e.seat.head e.seat.have)) = offset_at cap _ e.seat.head _ i.cached.0 c.front-from.ensures.remainder ∙ ap (λ (n : ℕ). offset_of cap n) (sym (length-take-le e.seat.head e.seat.have i.whole.0)) in
+    ap length c.slice.ensures ∙ length-take-le c.peekable-len.result e.known.bytes few ∙ is ∙ ap (λ (s : ℕ). min many (cap - s)) offset ∙ ap (λ (r : ReadView). in_one_piece r) c.self.view_is
 
 pub returns-clause-some : goal.returns-clause-some
 returns-clause-some c = λ any. let e = c.self.inside.parts in let i = c.self.invariant in let cap : ℕ = e.indices.capacity in let from : ℕ = c.front-from.result in let many : ℕ = length e.known.bytes in

@@ -1,19 +1,19 @@
 -- What is lent lies in the room and before the end of the memory.
 use Rattle.std.proofs.Common.{◌≡◌, ℕ, ◌+◌, ◌-◌, ◌<◌, ◌≤◌, length, min, arith, sym, refl, ap, subst, ◌∙◌}
-use Rattle.rtrb.specs.Fifo.{slot_of}
+use Rattle.rtrb.specs.Fifo.{slot_of as offset_of}
 use Rattle.rtrb.proofs.Positions.{slot_small}
 use Rattle.piper_sides.specs.LendBound.{lend_bound}
 use Rattle.piper_sides.specs.WriterIndices.{WriterIndices, room_in, left_in}
 use Rattle.piper_ring.specs.Lends.{written}
 use Rattle.piper_ring.specs.LendsBuffer.{with_lent}
 use Rattle.piper_ring.specs.WriteView.{WriteView, MayLend, either, write_view, write_view_of}
-use Rattle.piper_ring.proofs.Indices.{slot_at}
+use Rattle.piper_ring.proofs.Indices.{offset_at}
 use Rattle.piper_ring.proofs.WriterFacts.{sent_below, room_apart, lends_within, lends_none, lends_all}
 use Rattle.piper_ring.proofs.ends.writer.WriteEnd.write_buf.Goals as goal
 
 pub lend-requires : goal.lend-requires
 lend-requires c = let e = c.self.inside.parts in let i = c.self.invariant in let cap : ℕ = e.indices.capacity in let s : ℕ = length e.seat.sent in let from : ℕ = c.front-from.result in let len : ℕ = c.lend-len.result in
-    let at : from ≡ slot_of cap s = slot_at cap _ s _ i.cached.0 c.front-from.ensures.remainder in let inside : from < cap = c.front-from.ensures.below in let whole : c.capacity-capacity.result ≡ cap = c.capacity-capacity.ensures.value in
+    let at : from ≡ offset_of cap s = offset_at cap _ s _ i.cached.0 c.front-from.ensures.remainder in let inside : from < cap = c.front-from.ensures.below in let whole : c.capacity-capacity.result ≡ cap = c.capacity-capacity.ensures.value in
     let first : e.room.lent.first ≡ s = i.placed.3 in let last : e.room.later.first + length e.room.later.bytes ≡ e.seat.limit = i.placed.4 in let below : s ≤ e.seat.limit = sent_below e i in
     let most : len ≤ min (min c.args.max (lend_bound e.indices.zeroed)) (min (room_in e.indices) (left_in e.indices)) = lends_within c.args.max e.indices len c.lend-len.ensures.count in
     let room : room_in e.indices ≡ e.seat.limit - s = room_apart e i in let left : left_in e.indices ≡ cap - from = ap (λ (k : ℕ). cap - k) (sym c.front-from.ensures.value) in
@@ -21,17 +21,17 @@ lend-requires c = let e = c.self.inside.parts in let i = c.self.invariant in let
 
 pub slice_mut-requires : goal.slice_mut-requires
 slice_mut-requires c = let e = c.self.inside.parts in let i = c.self.invariant in let cap : ℕ = e.indices.capacity in let s : ℕ = length e.seat.sent in let from : ℕ = c.front-from.result in let len : ℕ = c.lend-len.result in let same = c.lend.ensures.same in
-    let at : from ≡ slot_of cap s = slot_at cap _ s _ i.cached.0 c.front-from.ensures.remainder in let inside : from < cap = c.front-from.ensures.below in let all : c.lend.new.self.lent.capacity ≡ cap = same.capacity ∙ i.placed.2 ∙ sym i.fits.0 in
+    let at : from ≡ offset_of cap s = offset_at cap _ s _ i.cached.0 c.front-from.ensures.remainder in let inside : from < cap = c.front-from.ensures.below in let all : c.lend.new.self.lent.capacity ≡ cap = same.capacity ∙ i.placed.2 ∙ sym i.fits.0 in
     let most : len ≤ min (min c.args.max (lend_bound e.indices.zeroed)) (min (room_in e.indices) (left_in e.indices)) = lends_within c.args.max e.indices len c.lend-len.ensures.count in
     let left : left_in e.indices ≡ cap - from = ap (λ (k : ℕ). cap - k) (sym c.front-from.ensures.value) in
     let many : len ≡ length c.lend.new.self.lent.bytes = sym c.lend.ensures.lent in
-    ((i.placed.0 ∙ sym i.placed.1 ∙ sym same.memory, omega arith, at ∙ sym (λ j. slot_of (all j) ((same.first ∙ i.placed.3) j)), omega arith), many)
+    ((i.placed.0 ∙ sym i.placed.1 ∙ sym same.memory, omega arith, at ∙ sym (λ j. offset_of (all j) ((same.first ∙ i.placed.3) j)), omega arith), many)
 
 pub returns : goal.returns
 returns c = let e = c.self.inside.parts in let i = c.self.invariant in let w = e.indices in let cap : ℕ = w.capacity in let s : ℕ = length e.seat.sent in let from : ℕ = c.front-from.result in let len : ℕ = c.lend-len.result in let count = c.lend-len.ensures.count in
     let kept : c.lend-len.new.self.capacity ≡ cap = ap (λ (v : WriterIndices). v.capacity) c.lend-len.ensures.after in
     let long : length c.slice_mut.result.now ≡ len = ap length c.slice_mut.ensures.value ∙ c.lend.ensures.lent in
-    let at : from ≡ slot_of cap s = slot_at cap _ s _ i.cached.0 c.front-from.ensures.remainder in let inside : from < cap = c.front-from.ensures.below in
+    let at : from ≡ offset_of cap s = offset_at cap _ s _ i.cached.0 c.front-from.ensures.remainder in let inside : from < cap = c.front-from.ensures.below in
     let most : len ≤ min (min c.args.max (lend_bound w.zeroed)) (min (room_in w) (left_in w)) = lends_within c.args.max w len count in
     let room : room_in w ≡ e.seat.limit - s = room_apart e i in let left : left_in w ≡ cap - from = ap (λ (k : ℕ). cap - k) (sym c.front-from.ensures.value) in
     let may : MayLend (write_view_of e) c.args.max len = ((λ shut. lends_none c.args.max w len count (i.closed ∙ shut)), omega arith, λ open_still. let all = lends_all c.args.max w len count (i.closed ∙ open_still) in omega arith) in

@@ -26,7 +26,7 @@ use denote.Steps.{nothing, peeks, opens, closes}
 use denote.Triple.Walked.{Stays, stay_ref, stay_dropped, walk_of, Goes-ref, Goes-dropped}
 use Rattle.std_alloc.proofs.RcSteps.{word, word-Good}
 use Rattle.core.proofs.atomic.Steps.{tail}
-use Rattle.rtrb.specs.Fifo.{slot_of}
+use Rattle.rtrb.specs.Fifo.{slot_of as offset_of}
 use Rattle.rtrb.specs.Shared.{span}
 use Rattle.rtrb.proofs.Spans.{span_first}
 use Rattle.rtrb.proofs.Walks.{proved, leaves}
@@ -51,7 +51,7 @@ set_spec 𝓤 𝓛 𝓜 𝓡 wired =
     let b : ℕ = a.0.ref_ptr.0 in let o : ℕ = a.0.ref_ptr.1 in let h = a.0.now in let base = a.1.0 in let k : ℕ = a.1.1.0 in let κ = κs.0 in let at : Ptr = h.at in let us : List Val = ghost_val ∷ [] in let bv : Val = lowers.lowered base in
     let back : Row.Denot = record h { first = h.first + 1; count = h.count - 1 } in let new : KRow.Denot = record { mark = record {}; at = at; capacity = h.capacity; first = h.first; bytes = 0 ∷ [] } in
     let y : (walk_of 𝓛 En hs c).Ghost = ((κs, qs, bounds, a, (vptr b o ∷ [], (bv ∷ [], (vint w64 k ∷ [], tt)))), gh) in let Post : Val → SProp 𝓤 = (walk_of 𝓛 En hs c).post y in
-    let Asked : Type 0 = (base.ptr ≡ at) × (0 < h.count) × (k ≡ slot_of h.capacity h.first) × (k < h.capacity) in
+    let Asked : Type 0 = (base.ptr ≡ at) × (0 < h.count) × (k ≡ offset_of h.capacity h.first) × (k < h.capacity) in
     qed 𝓛 (((‵ (flft κ qs.0) ⊛ ‵ ftrue) ⊛ ‵ (owns (types_at En.signature.params κs) a y.0.4)) ∷ given Asked (‵ ftrue) ∷ []) ∵
     keep ! (1 ∷ 0 ∷ []) $ learn ! (λ asked. forget ! $ split ! $ split ! $ move ! (2 ∷ []) $ fsplit ! $ fsplit3 ! $ keep ! (1 ∷ 2 ∷ 4 ∷ []) $
     enter ! 𝓣.C 𝓣.Λ fn (vptr b o ∷ bv ∷ vint w64 k ∷ []) Post $ alloc_all ! (λ l. pass_all ! refl ((tt, tt), (word-Good [] base.ptr, ((tt, record { fits = are.1.1.0.1 }), tt))) $ let Ev = env fn.locals l in

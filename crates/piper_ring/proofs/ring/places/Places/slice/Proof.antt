@@ -36,7 +36,7 @@ use Rattle.piper_ring.specs.Places.{places_lent}
 use Rattle.piper_ring.specs.contracts.ring.places.Places as Places
 use Rattle.piper_ring.specs.contracts.ring.places.Base as Base
 use Rattle.piper_ring.proofs.ring.places.Base.TheLaws.{lowers}
-use Rattle.rtrb.specs.Fifo.{slot_of}
+use Rattle.rtrb.specs.Fifo.{slot_of as offset_of}
 use Rattle.piper_ring.proofs.PlacesParts.{seen}
 use Rattle.piper_ring.specs.contracts.ring.places.Places.slice.{ended, clauses}
 use Rattle.piper_ring.specs.contracts.ring.places.Places.slice.Key.{name as #self}
@@ -56,7 +56,7 @@ slice_spec 𝓤 𝓛 𝓜 𝓡 wired =
     let b : ℕ = a.0.ref_ptr.0 in let o : ℕ = a.0.ref_ptr.1 in let h = a.0.now in let at : Ptr = h.at in let κ = κs.0 in let base = a.1.0 in let from : ℕ = a.1.1.0 in let len : ℕ = a.1.1.1.0 in
     let bv : Val = lowers.lowered base in
     let y : (walk_of 𝓛 En hs c).Ghost = ((κs, qs, bounds, a, (vptr b o ∷ [], (bv ∷ [], (vint w64 from ∷ [], (vint w64 len ∷ [], tt))))), gh) in let Post : Val → SProp 𝓤 = (walk_of 𝓛 En hs c).post y in
-    let Asked : Type 0 = (base.ptr ≡ at) × (len ≤ length h.bytes) × (from ≡ slot_of h.capacity h.first) × (from + len ≤ h.capacity) in
+    let Asked : Type 0 = (base.ptr ≡ at) × (len ≤ length h.bytes) × (from ≡ offset_of h.capacity h.first) × (from + len ≤ h.capacity) in
     qed 𝓛 (((‵ (flft κ qs.0) ⊛ ‵ ftrue) ⊛ ‵ (owns (types_at En.signature.params κs) a y.0.4)) ∷ given Asked (‵ ftrue) ∷ []) ∵
     keep ! (1 ∷ 0 ∷ []) $ learn ! (λ asked. drop ! $ split ! $ split ! $ move ! (2 ∷ []) $ fsplit ! $ fsplit ! $ drop ! $
     use1 𝓛 (‵ (hidden_shr Data κ (record {}, tt) b o) ⊛ ‵ (fhide (places_lent h.at h.capacity h.first h.bytes κ)))

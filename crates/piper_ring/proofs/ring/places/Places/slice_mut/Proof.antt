@@ -35,7 +35,7 @@ use lib.Seq.{take_at as take_front}
 use Rattle.core.proofs.atomic.Steps.{tail}
 use Rattle.std_alloc.proofs.RcSteps.{word, word-Good}
 use Rattle.rtrb.proofs.Walks.{proved}
-use Rattle.rtrb.specs.Fifo.{slot_of}
+use Rattle.rtrb.specs.Fifo.{slot_of as offset_of}
 use Rattle.rtrb.specs.Shared.{run}
 use Rattle.piper_ring.specs.Places.{byte, Placed}
 use Rattle.piper_ring.specs.Lends.{with_bytes, written}
@@ -62,7 +62,7 @@ module _ {M : Type 1} {𝓤 : Ura M} (𝓛 : Logic 𝓤) (d : Row.Denot) (vs : L
   abbrev Rest : Fml
   Rest = fsep (Data.own_val (record {}, tt) vs) (cell_at full_share Row.mir vs rb ro)
 
-  back : Placed at d.capacity → from ≡ slot_of d.capacity d.first → from + length d.bytes ≤ d.capacity → (ws : List ℕ) → length ws ≡ length d.bytes
+  back : Placed at d.capacity → from ≡ offset_of d.capacity d.first → from + length d.bytes ≤ d.capacity → (ws : List ℕ) → length ws ≡ length d.bytes
       → ent 𝓤 (sep 𝓤 (sem 𝓛 (cells (mem u8) ws (block_of at) (from + count_of at))) (sem 𝓛 Rest)) (sem 𝓛 ((mem Row).own_at (with_bytes d d.bytes ws) rb ro))
   unfolding denote.Memory.part_of
   back fine is near ws same = let all : written d.bytes ws ≡ ws = take_front ws (drop (length ws) d.bytes) (length d.bytes) same in
@@ -81,7 +81,7 @@ slice_mut_spec 𝓤 𝓛 𝓜 𝓡 wired =
     let rb : ℕ = a.0.ref_ptr.0 in let ro : ℕ = a.0.ref_ptr.1 in let γ : GName = a.0.ghost_name in let d = a.0.now in let at : Ptr = d.at in let κ = κs.0 in let q = qs.0 in let base = a.1.0 in let from : ℕ = a.1.1.0 in let len : ℕ = a.1.1.1.0 in
     let bv : Val = lowers.lowered base in let new : List ℕ → Row.Denot = with_bytes d d.bytes in let u = Row.coded.code d in
     let y : (walk_of 𝓛 En hs c).Ghost = ((κs, qs, bounds, a, (vptr rb ro ∷ [], (bv ∷ [], (vint w64 from ∷ [], (vint w64 len ∷ [], tt))))), gh) in let Post : Val → SProp 𝓤 = (walk_of 𝓛 En hs c).post y in
-    let Asked : Type 0 = ((base.ptr ≡ at) × (len ≤ length d.bytes) × (from ≡ slot_of d.capacity d.first) × (from + len ≤ d.capacity)) × (len ≡ length d.bytes) in
+    let Asked : Type 0 = ((base.ptr ≡ at) × (len ≤ length d.bytes) × (from ≡ offset_of d.capacity d.first) × (from + len ≤ d.capacity)) × (len ≡ length d.bytes) in
     qed 𝓛 (((‵ (flft κ q) ⊛ ‵ ftrue) ⊛ ‵ (owns (types_at En.signature.params κs) a y.0.4)) ∷ given Asked (‵ ftrue) ∷ []) ∵
     keep ! (1 ∷ 0 ∷ []) $ learn ! (λ asked. forget ! $ split ! $ split ! $ move ! (2 ∷ []) $ fsplit ! $ fsplit3 ! $ keep ! (1 ∷ 2 ∷ 4 ∷ []) $
     enter ! 𝓣.C 𝓣.Λ fn (vptr rb ro ∷ bv ∷ vint w64 from ∷ vint w64 len ∷ []) Post $ alloc_all ! (λ l. pass_all ! refl ((tt, tt), (word-Good [] base.ptr, ((tt, record { fits = are.1.1.0.1 }), ((tt, record { fits = are.1.1.1.0.1 }), tt)))) $ let Ev = env fn.locals l in
