@@ -24,6 +24,6 @@ drains-all bytes some =
     let test : (length bytes == 0) ≡ false = grind (arith, nat_tests) in
     rw test (least-same (length bytes))
 
--- a place that is filled to its end holds these bytes alone
-pub fills-place : (place bytes : List ℕ) → length place ≡ length bytes → take (length bytes) bytes ++ drop (length bytes) place ≡ bytes
-fills-place place bytes same = ap (λ n. take (length bytes) bytes ++ drop n place) (sym same) ∙ ap (λ rest. take (length bytes) bytes ++ rest) (drop-length place) ∙ append-nil _ ∙ take-length bytes
+-- a destination that is filled to its end holds these bytes alone
+pub fills-dest : (dest bytes : List ℕ) → length dest ≡ length bytes → take (length bytes) bytes ++ drop (length bytes) dest ≡ bytes
+fills-dest dest bytes same = ap (λ n. take (length bytes) bytes ++ drop n dest) (sym same) ∙ ap (λ rest. take (length bytes) bytes ++ rest) (drop-length dest) ∙ append-nil _ ∙ take-length bytes

@@ -37,16 +37,16 @@ use piper_sides::table::ReadPlace;
 use std::alloc::Global;
 
 /// The bytes go in, and come out as they went in.
-pub fn through(alloc: Global, bytes: &[u8], place: &mut [u8]) -> Result<usize, OutOfMemory>
+pub fn through(alloc: Global, bytes: &[u8], dest: &mut [u8]) -> Result<usize, OutOfMemory>
     requires capacity { IsCapacity (length bytes.now) }
-    requires fits { length place.old ≡ length bytes.now }
+    requires fits { length dest.old ≡ length bytes.now }
     ensures count { IfOk result (λ n. n ≡ length bytes.now) }
-    ensures same { IfOk result (λ n. place.new ≡ bytes.now) }
-    ensures untouched { IfErr result (λ _. place.new ≡ place.old) }
+    ensures same { IfOk result (λ n. dest.new ≡ bytes.now) }
+    ensures untouched { IfErr result (λ _. dest.new ≡ dest.old) }
 {
     let mut machine = Machine::new(alloc, bytes.len())?;
     machine.w_try_fill(bytes);
-    Ok(machine.r_try_drain(place))
+    Ok(machine.r_try_drain(dest))
 }
 
 /// Makes the steps, whoever chose them, and says what every one of their orders keeps.

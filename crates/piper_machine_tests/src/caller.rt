@@ -6,9 +6,9 @@ use std::test::Fail;
 
 #[test]
 fn bytes_come_out_as_they_went_in(rt: HostRuntime) -> Result<(), Fail> {
-    let mut place = [0; 3];
-    same(&rt, through(rt.alloc(), b"abc", &mut place)?, 3);
-    same(&rt, place.as_slice(), b"abc".as_slice());
+    let mut dest = [0; 3];
+    same(&rt, through(rt.alloc(), b"abc", &mut dest)?, 3);
+    same(&rt, dest.as_slice(), b"abc".as_slice());
     Ok(())
 }
 
