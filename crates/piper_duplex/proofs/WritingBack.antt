@@ -13,7 +13,7 @@ echoes_none taken held sent saw0 saw1 =
     ([], sym (append-nil taken), subst (λ ws. Sends ws held sent sent saw0 saw1) (sym (append-nil held)) (sends_none held sent saw0 saw1))
 
 -- of the line some was written
-pub echoes_written : (taken line0 line1 kept sent0 sent1 : List ℕ) (saw0 saw1 : Bool) → Sends line0 line1 sent0 sent1 saw0 saw1
+echoes_written : (taken line0 line1 kept sent0 sent1 : List ℕ) (saw0 saw1 : Bool) → Sends line0 line1 sent0 sent1 saw0 saw1
     → Echoes taken taken (line0 ++ kept) (line1 ++ kept) sent0 sent1 saw0 saw1
 echoes_written taken line0 line1 kept sent0 sent1 saw0 saw1 sends = (
   [],
@@ -22,7 +22,7 @@ echoes_written taken line0 line1 kept sent0 sent1 saw0 saw1 sends = (
 )
 
 -- the next line was read, where none was left
-pub echoes_read : (taken0 taken1 line0 line1 kept0 kept1 sent : List ℕ) (saw0 saw1 : Bool) → line0 ≡ [] → Moves taken0 taken1 kept0 line1 kept1
+echoes_read : (taken0 taken1 line0 line1 kept0 kept1 sent : List ℕ) (saw0 saw1 : Bool) → line0 ≡ [] → Moves taken0 taken1 kept0 line1 kept1
     → Echoes taken0 taken1 (line0 ++ kept0) (line1 ++ kept1) sent sent saw0 saw1
 echoes_read taken0 taken1 line0 line1 kept0 kept1 sent saw0 saw1 none moves = (
   moves.0,
@@ -31,7 +31,7 @@ echoes_read taken0 taken1 line0 line1 kept0 kept1 sent saw0 saw1 none moves = (
 )
 
 -- one after the other
-pub echoes_then : (t0 t1 t2 h0 h1 h2 s0 s1 s2 : List ℕ) (saw0 saw1 saw2 : Bool) → Echoes t0 t1 h0 h1 s0 s1 saw0 saw1 → Echoes t1 t2 h1 h2 s1 s2 saw1 saw2
+echoes_then : (t0 t1 t2 h0 h1 h2 s0 s1 s2 : List ℕ) (saw0 saw1 saw2 : Bool) → Echoes t0 t1 h0 h1 s0 s1 saw0 saw1 → Echoes t1 t2 h1 h2 s1 s2 saw1 saw2
     → (saw0 ≡ true → saw1 ≡ true) → (saw1 ≡ true → saw2 ≡ true) → Echoes t0 t2 h0 h2 s0 s2 saw0 saw2
 echoes_then t0 t1 t2 h0 h1 h2 s0 s1 s2 saw0 saw1 saw2 first second stays0 stays1 =
     let more : List ℕ = first.0 ++ second.0 in
@@ -42,6 +42,23 @@ echoes_then t0 t1 t2 h0 h1 h2 s0 s1 s2 saw0 saw1 saw2 first second stays0 stays1
       subst (λ ws. Sends ws h2 s0 s2 saw0 saw2) (append_assoc h0 first.0 second.0) all,
     )
 
+-- then some of the line was written
+pub echoes_line : (t0 t1 h0 line1 line2 kept s0 s1 s2 : List ℕ) (saw0 saw1 saw2 : Bool) → Echoes t0 t1 h0 (line1 ++ kept) s0 s1 saw0 saw1
+    → Sends line1 line2 s1 s2 saw1 saw2 → (saw0 ≡ true → saw1 ≡ true) → (saw1 ≡ true → saw2 ≡ true) → Echoes t0 t1 h0 (line2 ++ kept) s0 s2 saw0 saw2
+echoes_line t0 t1 h0 line1 line2 kept s0 s1 s2 saw0 saw1 saw2 echoes sends stays0 stays1 =
+    echoes_then t0 t1 t1 h0 (line1 ++ kept) (line2 ++ kept) s0 s1 s2 saw0 saw1 saw2 echoes
+    (echoes_written t1 line1 line2 kept s1 s2 saw1 saw2 sends) stays0 stays1
+
 -- a line that is written has nothing left
-pub nothing_left : (echo : LineEcho) → echo.is_written ≡ true → left_of echo ≡ []
+nothing_left : (echo : LineEcho) → echo.is_written ≡ true → left_of echo ≡ []
 nothing_left echo is_written = drop_all echo.written echo.line.items (omega (arith, echo.whole is_written))
+
+-- then all of the line was written, and the next one read
+pub echoes_turn : (t0 t1 t2 h0 line1 line2 kept1 kept2 s0 s1 s2 : List ℕ) (saw0 saw1 saw2 : Bool) (wrote : LineEcho) → Echoes t0 t1 h0 (line1 ++ kept1) s0 s1 saw0 saw1
+    → Sends line1 (left_of wrote) s1 s2 saw1 saw2 → wrote.is_written ≡ true → Moves t1 t2 kept1 line2 kept2
+    → (saw0 ≡ true → saw1 ≡ true) → (saw1 ≡ true → saw2 ≡ true) → Echoes t0 t2 h0 (line2 ++ kept2) s0 s2 saw0 saw2
+echoes_turn t0 t1 t2 h0 line1 line2 kept1 kept2 s0 s1 s2 saw0 saw1 saw2 wrote echoes sends is_written moves stays0 stays1 =
+    echoes_then t0 t1 t2 h0 (left_of wrote ++ kept1) (line2 ++ kept2) s0 s2 s2 saw0 saw2 saw2
+    (echoes_line t0 t1 h0 line1 (left_of wrote) kept1 s0 s1 s2 saw0 saw1 saw2 echoes sends stays0 stays1)
+    (echoes_read t1 t2 (left_of wrote) line2 kept1 kept2 s2 saw2 saw2 (nothing_left wrote is_written) moves)
+    (λ seen. stays1 (stays0 seen)) (λ seen. seen)

@@ -5,7 +5,7 @@ ghost use Rattle.futures.specs.Poll.{OnPending};
 ghost use Rattle.piper_lines.specs.Frame.{frame_bytes};
 ghost use Rattle.piper_lines.specs.Sends.{Sends};
 
-use crate::write_all::{Written, poll_write_all};
+use crate::write_all::{Written, poll_write_both};
 use futures::task::{Context, Poll};
 use piper::PipeError;
 use piper::io::AsyncWrite;
@@ -55,11 +55,13 @@ impl<'a> WriteFrame<'a> {
         ensures covered { OnPending result (Covers cx.new (W.needs writer.new)) }
         ensures kept { Keeps cx.old cx.new }
     {
-        match poll_write_all(writer, cx, &self.header, &mut self.header_written) {
-            Poll::Ready(Ok(Written::Whole)) => {
-                poll_write_all(writer, cx, self.body, &mut self.body_written)
-            }
-            unfinished => unfinished,
-        }
+        poll_write_both(
+            writer,
+            cx,
+            &self.header,
+            &mut self.header_written,
+            self.body,
+            &mut self.body_written,
+        )
     }
 }

@@ -5,7 +5,7 @@ ghost use Rattle.futures.specs.Poll.{OnPending};
 ghost use Rattle.piper_lines.specs.Line.{LacksLf, line_feed};
 ghost use Rattle.piper_lines.specs.Sends.{Sends};
 
-use crate::write_all::{Written, poll_write_all};
+use crate::write_all::{Written, poll_write_both};
 use futures::task::{Context, Poll};
 use memchr::memchr;
 use piper::PipeError;
@@ -61,11 +61,13 @@ impl<'a> WriteLine<'a> {
         ensures covered { OnPending result (Covers cx.new (W.needs writer.new)) }
         ensures kept { Keeps cx.old cx.new }
     {
-        match poll_write_all(writer, cx, self.text, &mut self.text_written) {
-            Poll::Ready(Ok(Written::Whole)) => {
-                poll_write_all(writer, cx, b"\n", &mut self.end_written)
-            }
-            unfinished => unfinished,
-        }
+        poll_write_both(
+            writer,
+            cx,
+            self.text,
+            &mut self.text_written,
+            b"\n",
+            &mut self.end_written,
+        )
     }
 }

@@ -1,5 +1,5 @@
 //! Bytes, written whole to a writer that takes as many as it has room for.
-ghost use Rattle.std.specs.Prelude.{◌≡◌, ◌≤◌, drop, length, true, Ok};
+ghost use Rattle.std.specs.Prelude.{◌≡◌, ◌≤◌, ◌++◌, drop, length, true, Ok};
 ghost use Rattle.futures.specs.Task.{Covers, Keeps};
 ghost use Rattle.futures.specs.Poll.{OnPending};
 ghost use Rattle.piper_lines.specs.Sends.{Sends};
@@ -45,4 +45,33 @@ pub fn poll_write_all<W: AsyncWrite>(
         }
     }
     Poll::Ready(Ok(Written::Whole))
+}
+
+// Writes what is left of both slices, one after the other, as `poll_write_all` does.
+pub(crate) fn poll_write_both<W: AsyncWrite>(
+    writer: &mut W,
+    cx: &mut Context<'_>,
+    front: &[u8],
+    front_written: &mut usize,
+    back: &[u8],
+    back_written: &mut usize,
+) -> Poll<Result<Written, PipeError>>
+    requires front { front_written.old ≤ length front.now }
+    requires back { back_written.old ≤ length back.now }
+    ensures within_front { front_written.new ≤ length front.now }
+    ensures within_back { back_written.new ≤ length back.now }
+    ensures sends { Sends (drop front_written.old front.now ++ drop back_written.old back.now)
+        (drop front_written.new front.now ++ drop back_written.new back.now)
+        (W.sent writer.old) (W.sent writer.new) (W.saw writer.old) (W.saw writer.new) }
+    ensures whole { result ≡ Poll.Ready (Ok Written.Whole) →
+        (front_written.new ≡ length front.now) × (back_written.new ≡ length back.now) }
+    ensures closed { result ≡ Poll.Ready (Ok Written.Closed) → W.saw writer.new ≡ true }
+    ensures stays { W.saw writer.old ≡ true → W.saw writer.new ≡ true }
+    ensures covered { OnPending result (Covers cx.new (W.needs writer.new)) }
+    ensures kept { Keeps cx.old cx.new }
+{
+    match poll_write_all(writer, cx, front, front_written) {
+        Poll::Ready(Ok(Written::Whole)) => poll_write_all(writer, cx, back, back_written),
+        unfinished => unfinished,
+    }
 }

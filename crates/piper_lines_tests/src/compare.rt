@@ -13,6 +13,7 @@ use std::sync::Wait;
 pub(crate) enum Polled<A> {
     Pending,
     Told(A),
+    Refused,
     Failed,
 }
 
@@ -20,7 +21,8 @@ fn told<A: Drop>(polled: Poll<Result<A, PipeError>>) -> Polled<A> {
     match polled {
         Poll::Pending => Polled::Pending,
         Poll::Ready(Ok(answer)) => Polled::Told(answer),
-        Poll::Ready(Err(_)) => Polled::Failed,
+        Poll::Ready(Err(PipeError::Memory)) => Polled::Refused,
+        Poll::Ready(Err(PipeError::Io(_))) => Polled::Failed,
     }
 }
 
@@ -46,24 +48,31 @@ pub(crate) fn feed<H: Wait + Clone + Drop>(
     *sent = sent.saturating_add(taken);
 }
 
-/// Polls once for a line, as a task.
+/// Polls once for a line, as a task, and again where memory is refused.
 pub(crate) fn poll_line<H: Wait + Clone + Drop>(
     task: &MockTask,
     lines: &mut Lines<Reader<H>>,
     line: &mut Vec<u8>,
     limit: usize,
 ) -> Polled<LineAnswer> {
-    told(task.enter(|cx| lines.poll_line(cx, line, limit.max(1))))
+    let limit = limit.max(1);
+    match told(task.enter(|cx| lines.poll_line(cx, line, limit))) {
+        Polled::Refused => told(task.enter(|cx| lines.poll_line(cx, line, limit))),
+        answer => answer,
+    }
 }
 
-/// Polls once for a frame, as a task.
+/// Polls once for a frame, as a task, and again where memory is refused.
 pub(crate) fn poll_frame<H: Wait + Clone + Drop>(
     task: &MockTask,
     frames: &mut Frames<Reader<H>>,
     frame: &mut Vec<u8>,
     limit: usize,
 ) -> Polled<FrameAnswer> {
-    told(task.enter(|cx| frames.poll_frame(cx, frame, limit)))
+    match told(task.enter(|cx| frames.poll_frame(cx, frame, limit))) {
+        Polled::Refused => told(task.enter(|cx| frames.poll_frame(cx, frame, limit))),
+        answer => answer,
+    }
 }
 
 /// Polls a line once that is being written, as a task.

@@ -2,7 +2,7 @@
 use crate::compare::{Polled, feed, poll_line, same, same_bytes, write_line};
 use futures::task::Poll;
 use futures::test::MockTask;
-use piper::{PipeError, Reader, Writer, pipe};
+use piper::{Reader, Writer, pipe};
 use piper_lines::{LineAnswer, Lines, WriteLine, Written, is_one_line, poll_lines};
 use rand_core::{Rng, SeedableRng};
 use rand_pcg::Pcg32;
@@ -146,7 +146,7 @@ fn random_text(alloc: Global, rng: &mut Pcg32) -> Result<Vec<u8>, AllocError> {
     Ok(text)
 }
 
-/// Sends the text in random pieces, closes, and collects the lines: the last is what stands behind the last LF.
+/// Sends the text in random pieces, closes, and collects the lines: the last is what stands behind the last LF. Where memory is refused it polls again.
 fn lines_through<H: Wait + Clone + Drop>(
     task: &MockTask,
     alloc: Global,
@@ -155,7 +155,7 @@ fn lines_through<H: Wait + Clone + Drop>(
     text: &[u8],
     limit: usize,
     rng: &mut Pcg32,
-) -> Result<Vec<Vec<u8>>, PipeError> {
+) -> Result<Vec<Vec<u8>>, AllocError> {
     let mut found = Vec::new(alloc);
     let mut sent = 0;
     for _ in 0..MOST_TURNS {
@@ -163,13 +163,10 @@ fn lines_through<H: Wait + Clone + Drop>(
         if sent >= text.len() {
             let _closed = task.enter(|cx| writer.poll_close(cx));
         }
-        match task.enter(|cx| poll_lines(lines, cx, &mut found, limit.max(1))) {
-            Poll::Pending => {}
-            Poll::Ready(Err(error)) => return Err(error),
-            Poll::Ready(Ok(rest)) => {
-                found.push(rest).map_err(|_| PipeError::Memory)?;
-                return Ok(found);
-            }
+        let polled = task.enter(|cx| poll_lines(lines, cx, &mut found, limit.max(1)));
+        if let Poll::Ready(Ok(rest)) = polled {
+            found.push(rest)?;
+            break;
         }
     }
     Ok(found)
@@ -196,10 +193,7 @@ fn random_texts_come_as_a_plain_split_gives_them(rt: HostRuntime) -> Result<(), 
         );
         writer.drop();
         lines.into_reader().drop();
-        assert!(rt;
-            matches!(&found, Ok(pieces) if *pieces == wanted),
-            "limit {limit}"
-        );
+        assert!(rt; found? == wanted, "limit {limit}");
     }
     Ok(())
 }

@@ -3,12 +3,12 @@ use Rattle.std.proofs.lemmas.List.{drop_all}
 use Rattle.futures.specs.declared.task.Poll.TheVariants.{Ready}
 use Rattle.piper_lines.specs.declared.write_all.Written.TheVariants.{Whole}
 use Rattle.piper_lines.proofs.Sending.{sends_both}
-use Rattle.piper_lines.proofs.frame_writer.WriteFrame.poll.Goals as goal
+use Rattle.piper_lines.proofs.write_all.poll_write_both.Goals as goal
 
 pub returns-in-Ready-Ok-Whole-clause-sends : goal.returns-in-Ready-Ok-Whole-clause-sends
 returns-in-Ready-Ok-Whole-clause-sends g c =
     let is_whole : c.poll_write_all.result ≡ Ready (Ok Whole) = cc in
     let whole = c.poll_write_all.ensures.whole is_whole in
-    let none : drop c.poll_write_all.new.written c.args.self.now.header ≡ [] = drop_all _ c.args.self.now.header (omega arith) in
+    let none : drop c.poll_write_all.new.written c.args.front.now ≡ [] = drop_all _ c.args.front.now (omega arith) in
     sends_both _ _ _ _ _ _ _ _ _ _ c.poll_write_all.ensures.sends none c.poll_write_all-in-Ready-Ok-Whole.ensures.sends
     c.poll_write_all.ensures.stays c.poll_write_all-in-Ready-Ok-Whole.ensures.stays
