@@ -1,4 +1,7 @@
 //! How the program ends: what it says, and its exit status.
+ghost use Rattle.std.specs.Process.{exit_status};
+ghost use Rattle.piper_pump.specs.Ended.{EndsAs, HasStatus};
+
 use piper_transfer::TransferError;
 use std::io::ErrorKind;
 use std::process::ExitCode;
@@ -22,7 +25,9 @@ pub enum Ended {
 
 impl Ended {
     /// How a transfer ended.
-    pub fn of(moved: Result<(), TransferError>) -> Ended {
+    pub fn of(moved: Result<(), TransferError>) -> Ended
+        ensures { EndsAs moved result }
+    {
         match moved {
             Ok(()) => Ended::Moved,
             Err(TransferError::Read(error)) => Ended::Input(TransferError::Read(error)),
@@ -36,7 +41,9 @@ impl Ended {
     }
 
     /// Says why it ended early, if it did, and answers the status.
-    pub fn tell(&self, rt: &(impl Print + Eprint)) -> ExitCode {
+    pub fn tell(&self, rt: &(impl Print + Eprint)) -> ExitCode
+        ensures { HasStatus self.now (exit_status result) }
+    {
         let (told, status) = match self {
             Ended::Moved => (Ok(()), 0),
             Ended::Words(error) => (error.print(rt), error.exit_code() as u8),

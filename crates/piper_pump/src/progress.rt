@@ -1,4 +1,7 @@
 //! Lines on standard error that tell how far a transfer is.
+ghost use Rattle.std.specs.Prelude.{◌≡◌, ◌-◌, ◌*◌, ◌/◌, ◌^◌, min, max};
+ghost use Rattle.std.specs.Duration.{as_nanos};
+
 use piper_transfer::Meter;
 use std::fmt;
 use std::fmt::{Display, Formatter};
@@ -75,13 +78,17 @@ pub fn watch(rt: &(impl Wait + Clock + Eprint), meter: &Meter, capacity: usize, 
 }
 
 // Bytes a second.
-fn rate(bytes: u64, spent: Duration) -> u64 {
+fn rate(bytes: u64, spent: Duration) -> u64
+    ensures { result ≡ min (bytes * 1_000 / max (as_nanos spent / 1_000_000) 1) (2 ^ 64 - 1) }
+{
     let milliseconds = spent.as_millis().max(1);
     (bytes as u128 * 1_000 / milliseconds).min(u64::MAX as u128) as u64
 }
 
 // How much of the capacity is taken, in percent.
-fn percent(held: u64, capacity: usize) -> u64 {
+fn percent(held: u64, capacity: usize) -> u64
+    ensures { result ≡ min (held * 100 / max capacity 1) 100 }
+{
     let capacity = (capacity as u128).max(1);
     (held as u128 * 100 / capacity).min(100) as u64
 }
