@@ -1,18 +1,12 @@
 -- A round of a fill by the call table, from one call of its source to the next.
-use Rattle.std.proofs.Common.{◌≡◌, ◌==◌, ℕ, ◌+◌, ◌∙◌, ap, arith, Bool, true, false, refl}
+use Rattle.std.proofs.Common.{◌≡◌, ◌==◌, ℕ, ◌+◌, ◌∙◌, ap, arith, Bool, false}
 use Rattle.std.proofs.lemmas.Bool.Decides.{nat_tests}
-use Rattle.piper_sides.specs.Table.{Next, write_step, write_done, writer_moved, writer_rounds, reader_taken, nothing, moved, waker, flag}
+use Rattle.piper_sides.specs.Table.{Next, write_step, writer_moved, writer_rounds, nothing, moved, waker, flag}
 use Rattle.piper_sides.specs.declared.table.Form.{Form}
 use Rattle.piper_sides.specs.declared.table.AfterWrite.{AfterWrite}
 use Rattle.piper_sides.specs.declared.table.AfterWrite.TheVariants as behind
 use Rattle.piper_sides.specs.declared.table.WritePlace.{WritePlace}
 use Rattle.piper_sides.specs.declared.table.WritePlace.TheVariants as on
-use Rattle.piper.specs.Calls.{write_woken}
-
--- the call goes on behind a wake as where no waker was found
-reader_woken : (next : AfterWrite) (found : Bool) → write_woken found (reader_taken next found) ≡ write_done next
-reader_woken next true = refl
-reader_woken next false = refl
 
 not_zero : (n : ℕ) → (n ≡ 0 → ⊥) → (n == 0) ≡ false
 not_zero n some = grind (arith, nat_tests, some)
@@ -34,11 +28,10 @@ module _ (place : WritePlace) (s n : ℕ) (here : (form : Form) × (place ≡ on
     looks = looked_is ∙ ap (λ (p : WritePlace). write_step p (flag is_closed)) gives
 
     -- they are published, and it is called again
-    pub fill_round : (stored taken woken : Next WritePlace) (found : Bool) → is_closed ≡ false → stored ≡ write_step looked.place nothing
-        → taken ≡ write_step stored.place (waker found) → woken ≡ write_woken found taken → (f : Form) × (woken.place ≡ on.CallSource f (s + n))
-    fill_round stored taken woken found is_open stored_is taken_is woken_is =
+    pub fill_round : (stored woken : Next WritePlace) → is_closed ≡ false → stored ≡ write_step looked.place nothing
+        → woken ≡ write_step stored.place (waker false) → (f : Form) × (woken.place ≡ on.CallSource f (s + n))
+    fill_round stored woken is_open stored_is woken_is =
         let next : AfterWrite = behind.Round form (s + n) in
         let store : looked.place ≡ on.StoreTail n next = ap (λ (c : Next WritePlace). c.place) (looks ∙ ap (λ (b : Bool). writer_rounds b n form (s + n)) is_open) in
         let take : stored.place ≡ on.TakeReader next = ap (λ (c : Next WritePlace). c.place) (stored_is ∙ ap (λ (p : WritePlace). write_step p nothing) store) in
-        let wake : taken ≡ reader_taken next found = taken_is ∙ ap (λ (p : WritePlace). write_step p (waker found)) take in
-        (form, ap (λ (c : Next WritePlace). c.place) (woken_is ∙ ap (write_woken found) wake ∙ reader_woken next found))
+        (form, ap (λ (c : Next WritePlace). c.place) (woken_is ∙ ap (λ (p : WritePlace). write_step p (waker false)) take))

@@ -16,4 +16,4 @@ pub use error::{Inner, PipeError};
 pub use handles::{Reader, Writer, pipe};
 pub use owned::{OwnedReader, OwnedWriter};
 pub use piper_ring::{OutOfMemory, ReadEnd, ReadMark, WriteEnd, WriteMark, open_ring};
-pub use slot::{Slot, Taken};
+pub use slot::{NoWaker, Slot, Taken};

@@ -33,6 +33,14 @@ pub trait ReadLike {
         ensures error { IfErr result (λ e. fails self.old e self.new) }
         ensures failures { Counts result (failures self.old) (failures self.new) };
 
+    /// For how many bytes it asks next: for 0 only where it has none left to give. One that can't tell asks for any number of them.
+    #[inline(always)]
+    fn asks(&self) -> usize
+        ensures { result ≡ 0 → is_dry self.now }
+    {
+        usize::MAX
+    }
+
     ghost gives_nothing: { PassesNothing gives };
 
     ghost gives_in_order: { PassesInOrder gives };
@@ -62,6 +70,14 @@ pub trait WriteLike {
         ensures full { result ≡ Ok 0 → 0 < length source.now → is_full self.new }
         ensures error { IfErr result (λ e. fails self.old e self.new) }
         ensures failures { Counts result (failures self.old) (failures self.new) };
+
+    /// For how many bytes it asks next: for 0 only where it takes no more. One that can't tell asks for any number of them.
+    #[inline(always)]
+    fn asks(&self) -> usize
+        ensures { result ≡ 0 → is_full self.now }
+    {
+        usize::MAX
+    }
 
     ghost takes_nothing: { PassesNothing takes };
 

@@ -2,6 +2,7 @@
 ghost use Rattle.std.specs.Prelude.{◌≡◌, ◌<◌, ◌≤◌, ◌++◌, length, take, drop, IsTrue, Ok, true, false};
 ghost use Rattle.futures.specs.Task.{Covers, Keeps};
 ghost use Rattle.futures.specs.Poll.{OnPending};
+ghost use Rattle.piper_sides.specs.Table.{read_action, read_step, waker};
 ghost use Rattle.piper_ring.specs.ReadView.{MayBeUnread, in_one_piece};
 ghost use Rattle.piper.specs.Counts.{ReaderCompares};
 ghost use Rattle.piper.specs.Ends.{ReaderConsumed};
@@ -12,8 +13,9 @@ use crate::handles::Reader;
 use crate::handles::read_steps::take_writer;
 use futures::task::{Context, Poll};
 use piper_ring::{OutOfMemory, ReadMark};
+use piper_sides::calls::Side;
 use piper_sides::read_call::ReadCall;
-use piper_sides::table::{Purpose, ReadPlace};
+use piper_sides::table::{Action, Purpose, ReadPlace};
 use std::sync::Wait;
 
 impl<H: Wait + Clone + Drop> Reader<H> {
@@ -95,11 +97,16 @@ impl<H: Wait + Clone + Drop> Reader<H> {
         ensures end { self.new.end ≡ self.old.end }
         ensures rest { SameReader self.old self.new }
     {
-        let (call, taken) = self.take_own(call);
-        if let Some(taken) = taken {
-            taken.let_go();
+        match self.skip_own(call) {
+            Ok(call) => polled(call.end()),
+            Err(call) => {
+                let (call, taken) = self.take_own(call);
+                if let Some(taken) = taken {
+                    taken.let_go();
+                }
+                polled(call.end())
+            }
         }
-        polled(call.end())
     }
 
     /// The known bytes that stand in one piece, the next one first; at least one where any is known. The slice stays as it is while the writer writes and publishes. More bytes become known by a look, as by `poll`.
@@ -120,8 +127,22 @@ impl<H: Wait + Clone + Drop> Reader<H> {
         ensures rest { SameReader self.old self.new }
     {
         let call = self.store_head(ReadCall::consume(amt), amt);
-        let (call, taken) = self.take_writer(call);
-        read_wake(call, taken).done();
+        self.wake_writer(call).done();
+    }
+
+    /// Empties the writer's slot, and calls the waker that stood in it.
+    #[inline(always)]
+    pub(crate) fn wake_writer(&self, call: ReadCall) -> ReadCall
+        requires next { read_action call.place ≡ Action.Take Side.Writer }
+        ensures { result ≡ read_step call.place (waker false) }
+    {
+        match self.find_no_writer(call) {
+            Ok((call, _none)) => call,
+            Err(call) => {
+                let (call, taken) = self.take_writer(call);
+                read_wake(call, taken)
+            }
+        }
     }
 
     /// Evidence of what was consumed, for the writer to heed.

@@ -1,5 +1,5 @@
 //! A waker's slot that two threads share.
-ghost use Rattle.std.specs.Prelude.{◌≡◌, OnErr, true};
+ghost use Rattle.std.specs.Prelude.{◌≡◌, OnErr, IfSome, true};
 ghost use Rattle.futures.specs.Task.{Covers, Keeps};
 
 use futures::task::{Context, Poll, Source, Waker};
@@ -27,8 +27,14 @@ pub struct Taken {
     slot: Snapshot<Slot>,
 }
 
+/// That no waker stood in a slot when its flag was read.
+#[derive(Drop)]
+pub struct NoWaker {
+    slot: Snapshot<Slot>,
+}
+
 impl Slot {
-    ghost use Rattle.piper.specs.Slots.{source_of, IsFrom};
+    ghost use Rattle.piper.specs.Slots.{source_of, IsFrom, IsNoneOf};
 
     /// An empty slot.
     pub fn new() -> Slot {
@@ -52,6 +58,19 @@ impl Slot {
         };
         let _before = self.fill(rt, waker);
         Ok(())
+    }
+
+    /// Reads whether a waker stands there. Where none does the slot is as a take leaves it, and no lock was taken; else it is still to be emptied.
+    #[inline(always)]
+    pub fn find_none(&self) -> Option<NoWaker>
+        ensures { IfSome result (IsNoneOf self.now) }
+    {
+        if self.is_filled.load(SeqCst) {
+            return None;
+        }
+        Some(NoWaker {
+            slot: Snapshot::of(self),
+        })
     }
 
     /// Empties the slot. Where it is empty that is one load, and no lock is taken.

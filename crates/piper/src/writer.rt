@@ -2,6 +2,7 @@
 ghost use Rattle.std.specs.Prelude.{◌≡◌, ◌+◌, ◌-◌, ◌<◌, ◌≤◌, ◌++◌, length, take, drop, IsTrue, Ok, true, false};
 ghost use Rattle.futures.specs.Task.{Covers, Keeps};
 ghost use Rattle.futures.specs.Poll.{OnPending};
+ghost use Rattle.piper_sides.specs.Table.{write_action, write_step, waker};
 ghost use Rattle.piper_ring.specs.WriteView.{MayBeUnread};
 ghost use Rattle.piper.specs.Counts.{WriterCompares};
 ghost use Rattle.piper.specs.Ends.{WriterPublished, WriterShut};
@@ -12,7 +13,8 @@ use crate::handles::Writer;
 use crate::handles::write_steps::take_reader;
 use futures::task::{Context, Poll};
 use piper_ring::{OutOfMemory, WriteMark};
-use piper_sides::table::{Purpose, WritePlace};
+use piper_sides::calls::Side;
+use piper_sides::table::{Action, Purpose, WritePlace};
 use piper_sides::write_call::WriteCall;
 use std::sync::Wait;
 
@@ -96,11 +98,16 @@ impl<H: Wait + Clone + Drop> Writer<H> {
         ensures end { self.new.end ≡ self.old.end }
         ensures rest { SameWriter self.old self.new }
     {
-        let (call, taken) = self.take_own(call);
-        if let Some(taken) = taken {
-            taken.let_go();
+        match self.skip_own(call) {
+            Ok(call) => polled(call.end()),
+            Err(call) => {
+                let (call, taken) = self.take_own(call);
+                if let Some(taken) = taken {
+                    taken.let_go();
+                }
+                polled(call.end())
+            }
         }
-        polled(call.end())
     }
 
     /// Publishes the first `n` bytes of what is left of the slice last lent, as they stand, and wakes the reader.
@@ -113,8 +120,22 @@ impl<H: Wait + Clone + Drop> Writer<H> {
         ensures rest { SameWriter self.old self.new }
     {
         let call = self.store_tail(WriteCall::produced(n), n);
-        let (call, taken) = self.take_reader(call);
-        write_wake(call, taken).done();
+        self.wake_reader(call).done();
+    }
+
+    /// Empties the reader's slot, and calls the waker that stood in it.
+    #[inline(always)]
+    pub(crate) fn wake_reader(&self, call: WriteCall) -> WriteCall
+        requires next { write_action call.place ≡ Action.Take Side.Reader }
+        ensures { result ≡ write_step call.place (waker false) }
+    {
+        match self.find_no_reader(call) {
+            Ok((call, _none)) => call,
+            Err(call) => {
+                let (call, taken) = self.take_reader(call);
+                write_wake(call, taken)
+            }
+        }
     }
 
     /// Closes the pipe for good, and wakes both sides. Nothing is lent any more, and what was lent is taken back.

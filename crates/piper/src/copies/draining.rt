@@ -1,12 +1,13 @@
 //! Copies out of the pipe.
-ghost use Rattle.std.specs.Prelude.{◌≡◌, ◌<◌, ◌≤◌, ◌++◌, ◌⊎◌, [], length, take, drop, IfOk, IfErr, IsSome, None, Ok, true, false};
+ghost use Rattle.std.specs.Prelude.{◌≡◌, ◌<◌, ◌≤◌, ◌++◌, ◌⊎◌, [], length, take, drop, IfOk, IfErr, IsSome, IsTrue, ◌↔◌, None, Ok, true, false};
 ghost use Rattle.futures.specs.Task.{Covers, Keeps};
 ghost use Rattle.futures.specs.Poll.{OnPending};
 ghost use Rattle.piper_ring.specs.ReadView.{in_one_piece};
+ghost use Rattle.piper_sides.specs.Table.{reader_is_true};
 ghost use Rattle.piper.specs.Contexts.{IfGiven, Arms, LacksWaker};
 ghost use Rattle.piper.specs.Copies.{ReaderCopied};
 ghost use Rattle.piper.specs.CopyAnswers.{OnMemory, CountsFailure, IsAtOnce, inner_of};
-ghost use Rattle.piper.specs.Draws.{Draws, Undrawn};
+ghost use Rattle.piper.specs.Draws.{Draws, DrawsYield, Undrawn, drawn_from};
 ghost use Rattle.piper.specs.Drains.{Drains, DrainsInto, DrainRounds, EndIsSeen, EndIsUnseen, CountsWhatFits, FoundNoByte, StaysKnown, found_len};
 ghost use Rattle.piper.specs.Ends.{ReaderIsUpToDate};
 ghost use Rattle.piper.specs.Like.{Counts, passed};
@@ -14,7 +15,6 @@ ghost use Rattle.piper.specs.Looks.{ReaderLooked, OnRefused};
 ghost use Rattle.piper.specs.Polls.{Reads};
 
 use super::copied;
-use crate::answers::read_wake;
 use crate::error::{Inner, PipeError};
 use crate::handles::Reader;
 use crate::like::{StdWrite, WriteBytes, WriteLike};
@@ -162,15 +162,33 @@ impl<H: Wait + Clone + Drop> Reader<H> {
             Ok(call) => call,
             Err(told) => return told,
         };
-        let (call, taken, yields) = self.take_own_and_draw(call);
-        if let Some(taken) = taken {
-            taken.let_go();
-        }
+        let (call, yields) = self.empty_own_and_draw(call);
         if yields {
             let _pending: Poll<()> = cx.yield_now();
             return copied(call.yielded(true).end());
         }
         self.drain_rounds(call, dest)
+    }
+
+    // The draw behind the look, and whether the copy yields. A waker that may stand in the reader's slot is let go first.
+    #[inline(always)]
+    fn empty_own_and_draw(&mut self, call: ReadCall) -> (ReadCall, bool)
+        requires next { call.place ≡ ReadPlace.LookTake (Purpose.Copy (Form.Polling false)) }
+        ensures step { result.0 ≡ reader_is_true (Purpose.Copy (Form.Polling result.1)) }
+        ensures draw { IsTrue result.1 ↔ DrawsYield self.old.rng }
+        ensures rng { self.new.rng ≡ drawn_from self.old.rng }
+        ensures slots { self.new.slots ≡ self.old.slots }
+        ensures end { self.new.end ≡ self.old.end }
+    {
+        let call = match self.skip_own_and_draw(call) {
+            Ok(drawn) => return drawn,
+            Err(call) => call,
+        };
+        let (call, taken, yields) = self.take_own_and_draw(call);
+        if let Some(taken) = taken {
+            taken.let_go();
+        }
+        (call, yields)
     }
 
     // The drain without a context: the look, and the rounds.
@@ -277,6 +295,9 @@ impl<H: Wait + Clone + Drop> Reader<H> {
         let mut call = call;
         let mut sum = 0;
         'rounds: loop {
+            if dest.asks() == 0 {
+                return copied(call.destination_took(0).end());
+            }
             let n = match self.drain_round(dest) {
                 Ok(n) => n,
                 Err(error) => {
@@ -289,8 +310,7 @@ impl<H: Wait + Clone + Drop> Reader<H> {
                 return copied(round.end());
             }
             let round = self.store_head(round, n);
-            let (round, taken) = self.take_writer(round);
-            call = read_wake(round, taken);
+            call = self.wake_writer(round);
             sum += n;
         }
     }

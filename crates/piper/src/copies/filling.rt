@@ -1,11 +1,12 @@
 //! Copies into the pipe.
-ghost use Rattle.std.specs.Prelude.{◌≡◌, ℕ, ◌<◌, ◌≤◌, ◌++◌, ◌⊎◌, [], length, take, IfOk, IfErr, OnOk, IsSome, None, Ok, true, false};
+ghost use Rattle.std.specs.Prelude.{◌≡◌, ℕ, ◌<◌, ◌≤◌, ◌++◌, ◌⊎◌, [], length, take, IfOk, IfErr, OnOk, IsSome, IsTrue, ◌↔◌, None, Ok, true, false};
 ghost use Rattle.futures.specs.Task.{Covers, Keeps};
 ghost use Rattle.futures.specs.Poll.{OnPending};
+ghost use Rattle.piper_sides.specs.Table.{writer_is_true};
 ghost use Rattle.piper.specs.Contexts.{IfGiven, Arms, LacksWaker};
 ghost use Rattle.piper.specs.Copies.{IsReplaced, WriterCopied};
 ghost use Rattle.piper.specs.CopyAnswers.{OnMemory, CountsFailure, IsAtOnce, inner_of, inner_of_bytes};
-ghost use Rattle.piper.specs.Draws.{Draws, Undrawn};
+ghost use Rattle.piper.specs.Draws.{Draws, DrawsYield, Undrawn, drawn_from};
 ghost use Rattle.piper.specs.Ends.{WriterIsUpToDate};
 ghost use Rattle.piper.specs.Fills.{Fills, FillsFrom, FillRounds, FoundNoRoom, FoundRoom, OnNoCount, WriterFilled, WriterRelent};
 ghost use Rattle.piper.specs.Like.{Counts, passed};
@@ -13,7 +14,6 @@ ghost use Rattle.piper.specs.Looks.{WriterLooked, OnRefused};
 ghost use Rattle.piper.specs.Polls.{IfReadyOk, Writes};
 
 use super::copied;
-use crate::answers::write_wake;
 use crate::error::{Inner, PipeError};
 use crate::handles::Writer;
 use crate::like::{ReadBytes, ReadLike, StdRead};
@@ -182,15 +182,33 @@ impl<H: Wait + Clone + Drop> Writer<H> {
             Ok(call) => call,
             Err(told) => return told,
         };
-        let (call, taken, yields) = self.take_own_and_draw(call);
-        if let Some(taken) = taken {
-            taken.let_go();
-        }
+        let (call, yields) = self.empty_own_and_draw(call);
         if yields {
             let _pending: Poll<()> = cx.yield_now();
             return copied(call.yielded(true).end());
         }
         self.fill_rounds(call, source)
+    }
+
+    // The draw behind the look, and whether the copy yields. A waker that may stand in the writer's slot is let go first.
+    #[inline(always)]
+    fn empty_own_and_draw(&mut self, call: WriteCall) -> (WriteCall, bool)
+        requires next { call.place ≡ WritePlace.LookTake (Purpose.Copy (Form.Polling false)) }
+        ensures step { result.0 ≡ writer_is_true (Purpose.Copy (Form.Polling result.1)) }
+        ensures draw { IsTrue result.1 ↔ DrawsYield self.old.rng }
+        ensures rng { self.new.rng ≡ drawn_from self.old.rng }
+        ensures slots { self.new.slots ≡ self.old.slots }
+        ensures end { self.new.end ≡ self.old.end }
+    {
+        let call = match self.skip_own_and_draw(call) {
+            Ok(drawn) => return drawn,
+            Err(call) => call,
+        };
+        let (call, taken, yields) = self.take_own_and_draw(call);
+        if let Some(taken) = taken {
+            taken.let_go();
+        }
+        (call, yields)
     }
 
     // The fill without a context: the look, and the rounds.
@@ -312,7 +330,11 @@ impl<H: Wait + Clone + Drop> Writer<H> {
         let mut call = call;
         let mut sum = 0;
         'rounds: loop {
-            let n = match self.fill_round(source) {
+            let asks = source.asks();
+            if asks == 0 {
+                return copied(call.source_gave(0).end());
+            }
+            let n = match self.fill_round(asks, source) {
                 Ok(n) => n,
                 Err(error) => {
                     call.source_failed().end();
@@ -328,16 +350,16 @@ impl<H: Wait + Clone + Drop> Writer<H> {
                 return copied(round.end());
             }
             let round = self.store_tail(round, n);
-            let (round, taken) = self.take_reader(round);
-            call = write_wake(round, taken);
+            call = self.wake_reader(round);
             sum += n;
         }
     }
 
-    // One call of the source, on room that is lent to it in one piece.
+    // One call of the source, on room that is lent to it in one piece, no more than it asks for.
     #[inline(always)]
-    fn fill_round<R: ReadLike>(&mut self, source: &mut R) -> Result<usize, R::Error>
-        requires { self.old.end.shut ≡ false }
+    fn fill_round<R: ReadLike>(&mut self, asks: usize, source: &mut R) -> Result<usize, R::Error>
+        requires is_open { self.old.end.shut ≡ false }
+        requires some { 0 < asks }
         ensures bound { IfOk result (λ n. n ≤ length self.new.end.lent) }
         ensures most { IfOk result (λ n. n ≤ MOST_A_ROUND) }
         ensures bytes { R.gives source.old (passed result self.new.end.lent) source.new }
@@ -347,6 +369,6 @@ impl<H: Wait + Clone + Drop> Writer<H> {
         ensures end { WriterRelent self.old.end self.new.end }
         ensures rest { SameWriter self.old self.new }
     {
-        source.read(self.write_buf(MOST_A_ROUND))
+        source.read(self.write_buf(asks.min(MOST_A_ROUND)))
     }
 }

@@ -1,5 +1,5 @@
 //! The draw of a polling copy, which makes it yield once in a hundred calls.
-ghost use Rattle.std.specs.Prelude.{◌≡◌, ◌↔◌, IsTrue, false};
+ghost use Rattle.std.specs.Prelude.{◌≡◌, ◌↔◌, IsTrue, IfOk, IfErr, false};
 ghost use Rattle.std.specs.Arc.{arc_value};
 ghost use Rattle.piper_sides.specs.Table.{reader_is_true, writer_is_true};
 ghost use Rattle.piper.specs.Slots.{IsEmptied};
@@ -15,6 +15,29 @@ use rand_pcg::Pcg32;
 use std::sync::Wait;
 
 impl<H: Wait + Clone + Drop> Reader<H> {
+    /// Behind the true look of a polling copy, where the reader's slot is known to be empty: draws, and tells whether the copy yields. Else the call stays where it is, and nothing was drawn.
+    #[inline(always)]
+    pub(crate) fn skip_own_and_draw(&mut self, call: ReadCall) -> Result<(ReadCall, bool), ReadCall>
+        requires next { call.place ≡ ReadPlace.LookTake (Purpose.Copy (Form.Polling false)) }
+        ensures step { IfOk result (λ drawn. (self.old.is_registered ≡ false)
+            × (drawn.0 ≡ reader_is_true (Purpose.Copy (Form.Polling drawn.1)))) }
+        ensures draw { IfOk result (λ drawn. (IsTrue drawn.1 ↔ DrawsYield self.old.rng)
+            × (self.new.rng ≡ drawn_from self.old.rng)) }
+        ensures stays { IfErr result (λ same. (same ≡ call) × (self.new ≡ self.old)) }
+        ensures slots { self.new.slots ≡ self.old.slots }
+        ensures end { self.new.end ≡ self.old.end }
+    {
+        if self.is_registered {
+            return Err(call);
+        }
+        // One branch each: so the compiler knows where a copy stands that goes on.
+        Ok(if draw(&mut self.rng) {
+            (call.took_own_and_drew(true), true)
+        } else {
+            (call.took_own_and_drew(false), false)
+        })
+    }
+
     /// Empties the reader's slot behind the true look of a polling copy, unless the slot is known to be empty; then draws, and tells whether the copy yields.
     pub(crate) fn take_own_and_draw(&mut self, call: ReadCall) -> (ReadCall, Option<Taken>, bool)
         requires next { call.place ≡ ReadPlace.LookTake (Purpose.Copy (Form.Polling false)) }
@@ -38,6 +61,32 @@ impl<H: Wait + Clone + Drop> Reader<H> {
 }
 
 impl<H: Wait + Clone + Drop> Writer<H> {
+    /// Behind the true look of a polling copy, where the writer's slot is known to be empty: draws, and tells whether the copy yields. Else the call stays where it is, and nothing was drawn.
+    #[inline(always)]
+    pub(crate) fn skip_own_and_draw(
+        &mut self,
+        call: WriteCall,
+    ) -> Result<(WriteCall, bool), WriteCall>
+        requires next { call.place ≡ WritePlace.LookTake (Purpose.Copy (Form.Polling false)) }
+        ensures step { IfOk result (λ drawn. (self.old.is_registered ≡ false)
+            × (drawn.0 ≡ writer_is_true (Purpose.Copy (Form.Polling drawn.1)))) }
+        ensures draw { IfOk result (λ drawn. (IsTrue drawn.1 ↔ DrawsYield self.old.rng)
+            × (self.new.rng ≡ drawn_from self.old.rng)) }
+        ensures stays { IfErr result (λ same. (same ≡ call) × (self.new ≡ self.old)) }
+        ensures slots { self.new.slots ≡ self.old.slots }
+        ensures end { self.new.end ≡ self.old.end }
+    {
+        if self.is_registered {
+            return Err(call);
+        }
+        // One branch each: so the compiler knows where a copy stands that goes on.
+        Ok(if draw(&mut self.rng) {
+            (call.took_own_and_drew(true), true)
+        } else {
+            (call.took_own_and_drew(false), false)
+        })
+    }
+
     /// Empties the writer's slot behind the true look of a polling copy, unless the slot is known to be empty; then draws, and tells whether the copy yields.
     pub(crate) fn take_own_and_draw(&mut self, call: WriteCall) -> (WriteCall, Option<Taken>, bool)
         requires next { call.place ≡ WritePlace.LookTake (Purpose.Copy (Form.Polling false)) }

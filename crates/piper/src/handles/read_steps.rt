@@ -1,15 +1,15 @@
 //! The steps of the reader: one function for each kind, which makes the one access of its end or of a slot and takes the open call one step on.
-ghost use Rattle.std.specs.Prelude.{◌≡◌, ◌≤◌, ◌++◌, ◌↔◌, length, take, drop, IsTrue, IsFalse, true, false};
+ghost use Rattle.std.specs.Prelude.{◌≡◌, ◌≤◌, ◌++◌, ◌↔◌, length, take, drop, IsTrue, IsFalse, IfOk, IfErr, true, false};
 ghost use Rattle.std.specs.Arc.{arc_value};
 ghost use Rattle.futures.specs.Task.{Covers, Keeps};
 ghost use Rattle.piper_sides.specs.Table.{goes_on, read_action, read_step, reader_draws_behind, reader_looks_for, nothing, refreshed, flag as loaded, granted, waker};
 ghost use Rattle.piper_ring.specs.ReadView.{in_one_piece};
 ghost use Rattle.piper_ring.specs.Shared.{flag};
-ghost use Rattle.piper.specs.Slots.{IsFrom, IsEmptied, found_in};
+ghost use Rattle.piper.specs.Slots.{IsFrom, IsNoneOf, IsEmptied, found_in};
 ghost use Rattle.piper.specs.Ends.{ReaderIsUpToDate, ReaderRefreshed, ReaderSaw, ReaderConsumed};
 
 use super::{Reader, Slots};
-use crate::slot::Taken;
+use crate::slot::{NoWaker, Taken};
 use futures::task::Context;
 use piper_sides::calls::Side;
 use piper_sides::read_call::ReadCall;
@@ -106,6 +106,35 @@ impl<H: Wait + Clone + Drop> Reader<H> {
     {
         self.end.consume(n);
         call.stored_head(n)
+    }
+
+    /// Behind the look of a poll, where the reader's slot is known to be empty: the step is made, and no access. Else the call stays where it is.
+    #[inline(always)]
+    pub(crate) fn skip_own(&self, call: ReadCall) -> Result<ReadCall, ReadCall>
+        requires next { read_action call.place ≡ Action.Take Side.Reader }
+        requires poll { reader_draws_behind call.place ≡ false }
+        ensures skipped { IfOk result (λ after. (self.now.is_registered ≡ false)
+            × (after ≡ read_step call.place nothing)) }
+        ensures stays { IfErr result (λ same. same ≡ call) }
+    {
+        if self.is_registered {
+            return Err(call);
+        }
+        Ok(call.took_own())
+    }
+
+    /// Empties the writer's slot where no waker stands in it, which takes no lock. Where one stands there, the call stays where it is.
+    #[inline(always)]
+    pub(crate) fn find_no_writer(&self, call: ReadCall) -> Result<(ReadCall, NoWaker), ReadCall>
+        requires next { read_action call.place ≡ Action.Take Side.Writer }
+        ensures none { IfOk result (λ found. (found.0 ≡ read_step call.place (waker false))
+            × IsNoneOf (arc_value self.now.slots).writer found.1) }
+        ensures stays { IfErr result (λ same. same ≡ call) }
+    {
+        match self.slots.writer.find_none() {
+            Some(none) => Ok((call.took_writer(false), none)),
+            None => Err(call),
+        }
     }
 
     /// Empties the writer's slot.

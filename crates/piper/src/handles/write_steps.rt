@@ -1,14 +1,14 @@
 //! The steps of the writer: one function for each kind, which makes the one access of its end or of a slot and takes the open call one step on.
-ghost use Rattle.std.specs.Prelude.{◌≡◌, ◌+◌, ◌≤◌, ◌++◌, ◌↔◌, length, take, drop, IsTrue, IsFalse, true, false};
+ghost use Rattle.std.specs.Prelude.{◌≡◌, ◌+◌, ◌≤◌, ◌++◌, ◌↔◌, length, take, drop, IsTrue, IsFalse, IfOk, IfErr, true, false};
 ghost use Rattle.std.specs.Arc.{arc_value};
 ghost use Rattle.futures.specs.Task.{Covers, Keeps};
 ghost use Rattle.piper_sides.specs.Table.{begins_look, look_begun, write_action, write_step, writer_draws_behind, nothing, refreshed, flag as loaded, granted, waker};
-ghost use Rattle.piper.specs.Slots.{IsFrom, IsEmptied, found_in};
+ghost use Rattle.piper.specs.Slots.{IsFrom, IsNoneOf, IsEmptied, found_in};
 ghost use Rattle.piper.specs.Calls.{own_found};
 ghost use Rattle.piper.specs.Ends.{WriterIsUpToDate, WriterRefreshed, WriterSaw, WriterPublished, WriterUnlent, WriterShut};
 
 use super::{Slots, Writer};
-use crate::slot::Taken;
+use crate::slot::{NoWaker, Taken};
 use futures::task::Context;
 use piper_sides::calls::Side;
 use piper_sides::table::Action;
@@ -136,6 +136,35 @@ impl<H: Wait + Clone + Drop> Writer<H> {
     {
         self.end.shut();
         call.shut()
+    }
+
+    /// Behind the look of a poll, where the writer's slot is known to be empty: the step is made, and no access. Else the call stays where it is.
+    #[inline(always)]
+    pub(crate) fn skip_own(&self, call: WriteCall) -> Result<WriteCall, WriteCall>
+        requires next { write_action call.place ≡ Action.Take Side.Writer }
+        requires poll { writer_draws_behind call.place ≡ false }
+        ensures skipped { IfOk result (λ after. (self.now.is_registered ≡ false)
+            × (after ≡ write_step call.place (waker false))) }
+        ensures stays { IfErr result (λ same. same ≡ call) }
+    {
+        if self.is_registered {
+            return Err(call);
+        }
+        Ok(call.took_own(false))
+    }
+
+    /// Empties the reader's slot where no waker stands in it, which takes no lock. Where one stands there, the call stays where it is.
+    #[inline(always)]
+    pub(crate) fn find_no_reader(&self, call: WriteCall) -> Result<(WriteCall, NoWaker), WriteCall>
+        requires next { write_action call.place ≡ Action.Take Side.Reader }
+        ensures none { IfOk result (λ found. (found.0 ≡ write_step call.place (waker false))
+            × IsNoneOf (arc_value self.now.slots).reader found.1) }
+        ensures stays { IfErr result (λ same. same ≡ call) }
+    {
+        match self.slots.reader.find_none() {
+            Some(none) => Ok((call.took_reader(false), none)),
+            None => Err(call),
+        }
     }
 
     /// Empties the reader's slot.

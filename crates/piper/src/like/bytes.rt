@@ -53,6 +53,11 @@ impl ReadLike for ReadBytes<'_> {
         self.rest = rest;
         Ok(n)
     }
+
+    #[inline(always)]
+    fn asks(&self) -> usize {
+        self.rest.len()
+    }
 }
 
 impl<'a> WriteBytes<'a> {
@@ -94,5 +99,10 @@ impl WriteLike for WriteBytes<'_> {
         self.bytes[self.place..self.place + n].copy_from_slice(&source[..n]);
         self.place += n;
         Ok(n)
+    }
+
+    #[inline(always)]
+    fn asks(&self) -> usize {
+        self.bytes.len() - self.place
     }
 }

@@ -9,9 +9,9 @@ use Rattle.piper.proofs.handles.Reader.drain_waiting.Goals as goal
 pub returns-then-yields-clause-drained : goal.returns-then-yields-clause-drained
 returns-then-yields-clause-drained g c =
     let waits : c.copied.result ≡ Pending = search rules in
-    rw (waits, c.take_own_and_draw-call.ensures.end) (drains_none _ _ _ Pending _ _ _ c.in-Ok.ensures.looked (refl, refl) tt)
+    rw (waits, c.empty_own_and_draw-call.ensures.end) (drains_none _ _ _ Pending _ _ _ c.in-Ok.ensures.looked (refl, refl) tt)
 
 pub drain_rounds-requires : goal.drain_rounds-requires
 drain_rounds-requires g c =
-    let here : c.take_own_and_draw-call.result.0.place ≡ CallDestination (Polling false) 0 = search rules in
+    let here : c.empty_own_and_draw-call.result.0.place ≡ CallDestination (Polling false) 0 = search rules in
     (Polling false, here)
