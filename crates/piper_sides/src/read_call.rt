@@ -29,6 +29,7 @@ impl Model for ReadCall {
 
 impl ReadCall {
     /// A query on the number of unread bytes.
+    #[inline(always)]
     pub fn query(query: Query) -> ReadCall
         ensures { result ≡ goes_on (ReadPlace.QueryHead query) }
     {
@@ -36,6 +37,7 @@ impl ReadCall {
     }
 
     /// The query whether the pipe is closed.
+    #[inline(always)]
     pub fn is_closed() -> ReadCall
         ensures { result ≡ goes_on ReadPlace.QueryClosed }
     {
@@ -45,6 +47,7 @@ impl ReadCall {
     /// A call that begins with a look, where no byte is known (`none`) or some are.
     ///
     /// A polling copy is opened as one that has not drawn: `Form::Polling { is_drawn: false }`.
+    #[inline(always)]
     pub fn look(none: bool, purpose: Purpose) -> ReadCall
         ensures { result ≡ goes_on (reader_looks_for none purpose) }
     {
@@ -52,6 +55,7 @@ impl ReadCall {
     }
 
     /// The call that gives up the first `n` bytes.
+    #[inline(always)]
     pub fn consume(n: usize) -> ReadCall
         ensures { result ≡ goes_on (ReadPlace.StoreHead n AfterRead.Answer) }
     {
@@ -59,12 +63,14 @@ impl ReadCall {
     }
 
     /// The reader's drop.
+    #[inline(always)]
     pub fn drop() -> ReadCall
         ensures { result ≡ goes_on ReadPlace.StoreClosed }
     {
         ReadCall::at(ReadPlace::StoreClosed)
     }
 
+    #[inline(always)]
     fn at(place: ReadPlace) -> ReadCall
         ensures { result ≡ goes_on place }
     {
@@ -75,6 +81,7 @@ impl ReadCall {
     }
 
     /// The answer, where the table has ended the call.
+    #[inline(always)]
     pub fn end(self) -> Answer
         requires { IsSome self.answer }
         ensures { self.answer ≡ Some result }
@@ -87,6 +94,7 @@ impl ReadCall {
     }
 
     /// Ends a call that answers no more than that it is done.
+    #[inline(always)]
     pub fn done(self)
         requires { self.answer ≡ Some Answer.Done }
     {
@@ -97,6 +105,7 @@ impl ReadCall {
     }
 
     /// The head was loaded in a query.
+    #[inline(always)]
     pub fn loaded_head(self) -> ReadCall
         requires next { read_action self.place ≡ Action.LoadHead }
         ensures { result ≡ read_step self.place nothing }
@@ -110,6 +119,7 @@ impl ReadCall {
     }
 
     /// The tail was loaded in a query, and so many bytes were unread in a pipe of this capacity.
+    #[inline(always)]
     pub fn loaded_tail(self, capacity: usize, count: usize) -> ReadCall
         requires next { read_action self.place ≡ Action.LoadTail }
         ensures { result ≡ read_after capacity self.place (unread count) }
@@ -123,6 +133,7 @@ impl ReadCall {
     }
 
     /// The tail was loaded in a look, and no byte is known even now (`none`), or some is.
+    #[inline(always)]
     pub fn refreshed(self, none: bool) -> ReadCall
         requires next { read_action self.place ≡ Action.Refresh }
         ensures { result ≡ read_step self.place (refreshed none) }
@@ -136,6 +147,7 @@ impl ReadCall {
     }
 
     /// Closed was loaded, and the flag was this.
+    #[inline(always)]
     pub fn loaded_closed(self, is_closed: bool) -> ReadCall
         requires next { read_action self.place ≡ Action.LoadClosed }
         ensures { result ≡ read_step self.place (flag is_closed) }
@@ -149,6 +161,7 @@ impl ReadCall {
     }
 
     /// The call's waker was registered, or its clone was refused.
+    #[inline(always)]
     pub fn registered(self, is_granted: bool) -> ReadCall
         requires next { read_action self.place ≡ Action.Register }
         ensures { result ≡ read_step self.place (granted is_granted) }
@@ -162,6 +175,7 @@ impl ReadCall {
     }
 
     /// The reader's own slot was emptied, behind the look of a poll.
+    #[inline(always)]
     pub fn took_own(self) -> ReadCall
         requires next { read_action self.place ≡ Action.Take Side.Reader }
         requires poll { reader_draws_behind self.place ≡ false }
@@ -177,6 +191,7 @@ impl ReadCall {
 
     /// The reader's own slot was emptied behind the true look of a polling copy, which then drew whether to
     /// yield.
+    #[inline(always)]
     pub fn took_own_and_drew(self, is_drawn: bool) -> ReadCall
         requires next { self.place ≡ ReadPlace.LookTake (Purpose.Copy (Form.Polling false)) }
         ensures { result ≡ reader_is_true (Purpose.Copy (Form.Polling is_drawn)) }
@@ -192,6 +207,7 @@ impl ReadCall {
     }
 
     /// The caller's own waker was called in place of the rounds, or its clone was refused.
+    #[inline(always)]
     pub fn yielded(self, is_granted: bool) -> ReadCall
         requires next { read_action self.place ≡ Action.Yield }
         ensures { result ≡ read_step self.place (granted is_granted) }
@@ -205,6 +221,7 @@ impl ReadCall {
     }
 
     /// The destination took the first `n` bytes of the peeked slice.
+    #[inline(always)]
     pub fn destination_took(self, n: usize) -> ReadCall
         requires next { read_action self.place ≡ Action.CallDestination }
         requires fits { read_sum self.place + n < 2 ^ 64 }
@@ -219,6 +236,7 @@ impl ReadCall {
     }
 
     /// The destination failed, and took nothing.
+    #[inline(always)]
     pub fn destination_failed(self) -> ReadCall
         requires next { read_action self.place ≡ Action.CallDestination }
         ensures { result ≡ read_step self.place failed }
@@ -232,6 +250,7 @@ impl ReadCall {
     }
 
     /// The head was stored, past `n` bytes.
+    #[inline(always)]
     pub fn stored_head(self, n: usize) -> ReadCall
         requires next { read_action self.place ≡ Action.StoreHead n }
         ensures { result ≡ read_step self.place nothing }
@@ -245,6 +264,7 @@ impl ReadCall {
     }
 
     /// The writer's slot was emptied, and a waker stood in it or not.
+    #[inline(always)]
     pub fn took_writer(self, is_found: bool) -> ReadCall
         requires next { read_action self.place ≡ Action.Take Side.Writer }
         ensures { result ≡ read_step self.place (waker is_found) }
@@ -258,6 +278,7 @@ impl ReadCall {
     }
 
     /// The waker that was taken was called.
+    #[inline(always)]
     pub fn woke(self) -> ReadCall
         requires next { read_action self.place ≡ Action.Wake }
         ensures { result ≡ read_step self.place nothing }
@@ -271,6 +292,7 @@ impl ReadCall {
     }
 
     /// The closed flag was set.
+    #[inline(always)]
     pub fn stored_closed(self) -> ReadCall
         requires next { read_action self.place ≡ Action.StoreClosed false }
         ensures { result ≡ read_step self.place nothing }

@@ -13,6 +13,7 @@ use crate::scripted::Failed;
 use crate::table::{Action, AfterRead, Form, Purpose, ReadPlace};
 
 // Where a look leads that finds a byte.
+#[inline(always)]
 fn found(purpose: Purpose) -> ReadPlace
     ensures { result ≡ reader_found purpose }
 {
@@ -23,6 +24,7 @@ fn found(purpose: Purpose) -> ReadPlace
 }
 
 // Where a look leads that finds none.
+#[inline(always)]
 fn found_none(purpose: Purpose) -> ReadPlace
     ensures { result ≡ reader_found_none purpose }
 {
@@ -33,6 +35,7 @@ fn found_none(purpose: Purpose) -> ReadPlace
 }
 
 // Where a copy goes on whose look is true.
+#[inline(always)]
 fn draws(form: Form) -> ReadPlace
     ensures { result ≡ reader_draws form }
 {
@@ -43,6 +46,7 @@ fn draws(form: Form) -> ReadPlace
 }
 
 // Where a call goes on that has woken the writer, and what it answers if it ends there.
+#[inline(always)]
 fn done(place: &mut ReadPlace, next: AfterRead) -> Option<Answer>
     ensures place { place.new ≡ (read_done next).place }
     ensures answer { result ≡ (read_done next).answer }

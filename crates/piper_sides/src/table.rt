@@ -125,6 +125,7 @@ pub enum WritePlace {
 
 impl Query {
     /// What a query answers where so many bytes are unread.
+    #[inline(always)]
     pub fn answer(self, capacity: usize, unread: usize) -> Answer
         ensures { result ≡ query_answer self capacity unread }
     {
@@ -138,6 +139,7 @@ impl Query {
 
 impl Form {
     /// What a copying call answers whose look was not true.
+    #[inline(always)]
     pub fn looked(self, answer: Polled<bool>) -> Answer
         ensures { result ≡ copy_answer self answer }
     {
@@ -152,6 +154,7 @@ impl Form {
     }
 
     /// What a copying call answers that ends with a count.
+    #[inline(always)]
     pub fn counted(self, count: usize) -> Answer
         ensures { result ≡ count_answer self count }
     {

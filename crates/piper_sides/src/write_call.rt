@@ -29,6 +29,7 @@ impl Model for WriteCall {
 
 impl WriteCall {
     /// A query on the number of unread bytes.
+    #[inline(always)]
     pub fn query(query: Query) -> WriteCall
         ensures { result ≡ goes_on (WritePlace.QueryHead query) }
     {
@@ -36,6 +37,7 @@ impl WriteCall {
     }
 
     /// The query whether the pipe is closed.
+    #[inline(always)]
     pub fn is_closed() -> WriteCall
         ensures { result ≡ goes_on WritePlace.QueryClosed }
     {
@@ -45,6 +47,7 @@ impl WriteCall {
     /// A call that begins with a look, and so with a load of closed.
     ///
     /// A polling copy is opened as one that has not drawn: `Form::Polling { is_drawn: false }`.
+    #[inline(always)]
     pub fn look(purpose: Purpose) -> WriteCall
         ensures { result ≡ goes_on (WritePlace.LookClosed purpose) }
     {
@@ -52,6 +55,7 @@ impl WriteCall {
     }
 
     /// The call that publishes the first `n` bytes of what is lent.
+    #[inline(always)]
     pub fn produced(n: usize) -> WriteCall
         ensures { result ≡ goes_on (WritePlace.StoreTail n AfterWrite.Answer) }
     {
@@ -59,6 +63,7 @@ impl WriteCall {
     }
 
     /// The close.
+    #[inline(always)]
     pub fn close() -> WriteCall
         ensures { result ≡ goes_on (WritePlace.StoreClosed AfterWrite.WakeWriter) }
     {
@@ -66,12 +71,14 @@ impl WriteCall {
     }
 
     /// The writer's drop.
+    #[inline(always)]
     pub fn drop() -> WriteCall
         ensures { result ≡ goes_on (WritePlace.StoreClosed AfterWrite.Drop) }
     {
         WriteCall::at(WritePlace::StoreClosed(AfterWrite::Drop))
     }
 
+    #[inline(always)]
     fn at(place: WritePlace) -> WriteCall
         ensures { result ≡ goes_on place }
     {
@@ -82,6 +89,7 @@ impl WriteCall {
     }
 
     /// The answer, where the table has ended the call.
+    #[inline(always)]
     pub fn end(self) -> Answer
         requires { IsSome self.answer }
         ensures { self.answer ≡ Some result }
@@ -94,6 +102,7 @@ impl WriteCall {
     }
 
     /// Ends a call that answers no more than that it is done.
+    #[inline(always)]
     pub fn done(self)
         requires { self.answer ≡ Some Answer.Done }
     {
@@ -104,6 +113,7 @@ impl WriteCall {
     }
 
     /// The head was loaded in a query, and so many bytes were unread.
+    #[inline(always)]
     pub fn loaded_head(self, count: usize) -> WriteCall
         requires next { write_action self.place ≡ Action.LoadHead }
         ensures { result ≡ write_step self.place (unread count) }
@@ -117,6 +127,7 @@ impl WriteCall {
     }
 
     /// The tail was loaded in a query of a pipe of this capacity.
+    #[inline(always)]
     pub fn loaded_tail(self, capacity: usize) -> WriteCall
         requires next { write_action self.place ≡ Action.LoadTail }
         ensures { result ≡ query_told capacity self.place }
@@ -130,6 +141,7 @@ impl WriteCall {
     }
 
     /// Closed was loaded where a look begins, and the flag was this. No room is known (`none`), or some is.
+    #[inline(always)]
     pub fn looked_closed(self, none: bool, is_closed: bool) -> WriteCall
         requires next { write_action self.place ≡ Action.LoadClosed }
         requires begins { begins_look self.place ≡ true }
@@ -144,6 +156,7 @@ impl WriteCall {
     }
 
     /// Closed was loaded in a query, at the end of a look or in a round, and the flag was this.
+    #[inline(always)]
     pub fn loaded_closed(self, is_closed: bool) -> WriteCall
         requires next { write_action self.place ≡ Action.LoadClosed }
         requires goes_on { begins_look self.place ≡ false }
@@ -158,6 +171,7 @@ impl WriteCall {
     }
 
     /// The head was loaded in a look, and no room is known even now (`none`), or some is.
+    #[inline(always)]
     pub fn refreshed(self, none: bool) -> WriteCall
         requires next { write_action self.place ≡ Action.Refresh }
         ensures { result ≡ write_step self.place (refreshed none) }
@@ -171,6 +185,7 @@ impl WriteCall {
     }
 
     /// The call's waker was registered, or its clone was refused.
+    #[inline(always)]
     pub fn registered(self, is_granted: bool) -> WriteCall
         requires next { write_action self.place ≡ Action.Register }
         ensures { result ≡ write_step self.place (granted is_granted) }
@@ -185,6 +200,7 @@ impl WriteCall {
 
     /// The writer's own slot was emptied, behind the look of a poll or in a close, and a waker stood in it
     /// or not.
+    #[inline(always)]
     pub fn took_own(self, is_found: bool) -> WriteCall
         requires next { write_action self.place ≡ Action.Take Side.Writer }
         requires no_copy { writer_draws_behind self.place ≡ false }
@@ -200,6 +216,7 @@ impl WriteCall {
 
     /// The writer's own slot was emptied behind the true look of a polling copy, which then drew whether to
     /// yield.
+    #[inline(always)]
     pub fn took_own_and_drew(self, is_drawn: bool) -> WriteCall
         requires next { self.place ≡ WritePlace.LookTake (Purpose.Copy (Form.Polling false)) }
         ensures { result ≡ writer_is_true (Purpose.Copy (Form.Polling is_drawn)) }
@@ -215,6 +232,7 @@ impl WriteCall {
     }
 
     /// The caller's own waker was called in place of the rounds, or its clone was refused.
+    #[inline(always)]
     pub fn yielded(self, is_granted: bool) -> WriteCall
         requires next { write_action self.place ≡ Action.Yield }
         ensures { result ≡ write_step self.place (granted is_granted) }
@@ -228,6 +246,7 @@ impl WriteCall {
     }
 
     /// The source gave `n` bytes, which stand at the front of what is lent.
+    #[inline(always)]
     pub fn source_gave(self, n: usize) -> WriteCall
         requires next { write_action self.place ≡ Action.CallSource }
         requires fits { write_sum self.place + n < 2 ^ 64 }
@@ -242,6 +261,7 @@ impl WriteCall {
     }
 
     /// The source failed, and gave nothing.
+    #[inline(always)]
     pub fn source_failed(self) -> WriteCall
         requires next { write_action self.place ≡ Action.CallSource }
         ensures { result ≡ write_step self.place failed }
@@ -255,6 +275,7 @@ impl WriteCall {
     }
 
     /// The tail was stored, past `n` bytes.
+    #[inline(always)]
     pub fn stored_tail(self, n: usize) -> WriteCall
         requires next { write_action self.place ≡ Action.StoreTail n }
         ensures { result ≡ write_step self.place nothing }
@@ -268,6 +289,7 @@ impl WriteCall {
     }
 
     /// The reader's slot was emptied, and a waker stood in it or not.
+    #[inline(always)]
     pub fn took_reader(self, is_found: bool) -> WriteCall
         requires next { write_action self.place ≡ Action.Take Side.Reader }
         ensures { result ≡ write_step self.place (waker is_found) }
@@ -281,6 +303,7 @@ impl WriteCall {
     }
 
     /// The waker that was taken was called.
+    #[inline(always)]
     pub fn woke(self) -> WriteCall
         requires next { write_action self.place ≡ Action.Wake }
         ensures { result ≡ write_step self.place nothing }
@@ -294,6 +317,7 @@ impl WriteCall {
     }
 
     /// The closed flag was set, by a drop.
+    #[inline(always)]
     pub fn stored_closed(self) -> WriteCall
         requires next { write_action self.place ≡ Action.StoreClosed false }
         ensures { result ≡ write_step self.place nothing }
@@ -307,6 +331,7 @@ impl WriteCall {
     }
 
     /// The closed flag was set, by a close.
+    #[inline(always)]
     pub fn shut(self) -> WriteCall
         requires next { write_action self.place ≡ Action.StoreClosed true }
         ensures { result ≡ write_step self.place nothing }

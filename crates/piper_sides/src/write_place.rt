@@ -13,6 +13,7 @@ use crate::scripted::Failed;
 use crate::table::{Action, AfterWrite, Form, Purpose, WritePlace};
 
 // Where a look leads that finds room.
+#[inline(always)]
 fn found(purpose: Purpose) -> WritePlace
     ensures { result ≡ writer_found purpose }
 {
@@ -23,6 +24,7 @@ fn found(purpose: Purpose) -> WritePlace
 }
 
 // Where a look leads that finds none.
+#[inline(always)]
 fn found_none(purpose: Purpose) -> WritePlace
     ensures { result ≡ writer_found_none purpose }
 {
@@ -33,6 +35,7 @@ fn found_none(purpose: Purpose) -> WritePlace
 }
 
 // Where a copy goes on whose look is true.
+#[inline(always)]
 fn draws(form: Form) -> WritePlace
     ensures { result ≡ writer_draws form }
 {
@@ -43,6 +46,7 @@ fn draws(form: Form) -> WritePlace
 }
 
 // Where a call goes on that has woken the reader, and what it answers if it ends there.
+#[inline(always)]
 fn done(place: &mut WritePlace, next: AfterWrite) -> Option<Answer>
     ensures place { place.new ≡ (write_done next).place }
     ensures answer { result ≡ (write_done next).answer }
