@@ -2,7 +2,6 @@
 ghost use Rattle.std.specs.Prelude.{◌≡◌, ◌≤◌, length};
 
 use piper_ring::{ReadEnd, WriteEnd};
-use std::alloc::AllocError;
 use std::process::Abort;
 
 /// Publishes as many of the bytes as there is room for in one piece.
@@ -18,18 +17,13 @@ pub(crate) fn send(writer: &mut WriteEnd, bytes: &[u8]) -> usize
     n
 }
 
-/// Appends the bytes that stand in one piece to `out`, at most `most`.
-pub(crate) fn receive(
-    reader: &mut ReadEnd,
-    out: &mut Vec<u8>,
-    most: usize,
-) -> Result<(), AllocError> {
+/// Appends the bytes that stand in one piece to `out`, at most `most`. Ends the test where memory is refused.
+pub(crate) fn receive(rt: &impl Abort, reader: &mut ReadEnd, out: &mut Vec<u8>, most: usize) {
     reader.refresh();
     let piece = reader.peek_buf();
     let n = piece.len().min(most);
-    out.extend_from_slice(&piece[..n])?;
+    out.extend_from_slice(&piece[..n]).expect(rt, "memory");
     reader.consume(n);
-    Ok(())
 }
 
 /// Consumes the bytes that stand in one piece, and answers how many.

@@ -1,33 +1,46 @@
 //! With both ends on one thread: that bytes come through, and that the second end frees the memory.
+ghost use Rattle.std.specs.Prelude.{◌<◌, ◌≤◌};
+
 use crate::moves::{answer, count, receive, send};
 use piper_ring::{ReadEnd, WriteEnd, open_ring};
+use std::alloc::AllocGlobal;
 use std::process::Abort;
 use std::test::Fail;
 
+/// A piece whose bytes differ from place to place and from round to round.
+fn piece_of(round: usize) -> [u8; 9] {
+    let mut piece = [0; 9];
+    for (i, place) in piece.iter_mut().enumerate() {
+        *place = (round.wrapping_mul(31).wrapping_add(i * 7) % 256) as u8;
+    }
+    piece
+}
+
+/// Sends pieces of `len` bytes round a ring, at most nine, and receives them behind those that were sent before.
+fn goes_round(rt: &(impl Abort + AllocGlobal), capacity: usize, len: usize)
+    requires { (0 < capacity) × (capacity ≤ 8) }
+{
+    let (mut reader, mut writer) = open_ring(rt.alloc(), capacity).expect(rt, "a ring");
+    let mut sent = Vec::new(rt.alloc());
+    let mut received = Vec::new(rt.alloc());
+    for round in 0..7 * capacity {
+        let most = if round < 5 * capacity { len } else { 0 };
+        let piece = piece_of(round);
+        let n = send(&mut writer, &piece[..most.min(9)]);
+        sent.extend_from_slice(&piece[..n]).expect(rt, "memory");
+        receive(rt, &mut reader, &mut received, 1 + round % 3);
+    }
+    answer(rt, "all came through", sent == received, true);
+    both_tell(rt, &reader, &writer, 0, capacity);
+}
+
 #[test]
-fn bytes_go_round_the_ring(rt: HostRuntime) -> Result<(), Fail> {
+fn bytes_go_round_the_ring(rt: HostRuntime) {
     for capacity in [1usize, 2, 3, 8] {
         for len in 0..=capacity + 1 {
-            let (mut reader, mut writer) = open_ring(rt.alloc(), capacity)?;
-            let mut sent = Vec::new(rt.alloc());
-            let mut received = Vec::new(rt.alloc());
-            for round in 0..5 * capacity {
-                let mut piece = Vec::new(rt.alloc());
-                for i in 0..len {
-                    piece.push(((round * 31 + i * 7) % 256) as u8)?;
-                }
-                let n = send(&mut writer, piece.as_slice());
-                sent.extend_from_slice(&piece[..n])?;
-                receive(&mut reader, &mut received, 1 + round % 3)?;
-            }
-            for _ in 0..2 * capacity {
-                receive(&mut reader, &mut received, capacity)?;
-            }
-            answer(&rt, "all came through", sent == received, true);
-            both_tell(&rt, &reader, &writer, 0, capacity);
+            goes_round(&rt, capacity, len);
         }
     }
-    Ok(())
 }
 
 /// Ends the test unless both ends tell that so many bytes are unread.
@@ -58,7 +71,7 @@ fn both_ends_tell_what_is_unread(rt: HostRuntime) -> Result<(), Fail> {
         send(&mut writer, &[7]);
     }
     let mut out = Vec::new(rt.alloc());
-    receive(&mut reader, &mut out, 1)?;
+    receive(&rt, &mut reader, &mut out, 1);
     both_tell(&rt, &reader, &writer, 2, 3);
     answer(
         &rt,
