@@ -1,8 +1,10 @@
 //! Replays scripts to which the answers are known, and tells how many are answered alike.
 #![tactic(auto)]
 
+use anyhow::Context;
 use piper_player::replay::{Ended, replay};
-use serde::Deserialize;
+use serde_json::Value;
+use std::alloc::Global;
 use std::process::ExitCode;
 use std::{fs, io, str};
 
@@ -23,17 +25,42 @@ const OF_THE_LANGUAGE: [&str; 9] = [
 ];
 
 /// A script, what it prints, and the status with which its replay ends.
-#[derive(Drop, Deserialize)]
-struct Vector {
+#[derive(Clone, Copy)]
+struct Vector<'json> {
     /// What the script shows, unless it was drawn at random.
-    #[serde(default)]
-    what: Option<String>,
-    /// The arguments of the command line.
-    #[serde(default)]
-    arguments: Vec<String>,
-    script: String,
-    output: String,
-    status: u8,
+    what: Option<&'json str>,
+    script: &'json str,
+    output: &'json str,
+    status: u64,
+}
+
+impl Vector<'_> {
+    /// The script that a line of a file has, if no member is missing.
+    fn of(line: &Value) -> Option<Vector<'_>> {
+        Some(Vector {
+            what: text_of(line, "what"),
+            script: text_of(line, "script")?,
+            output: text_of(line, "output")?,
+            status: line.get("status")?.as_u64()?,
+        })
+    }
+}
+
+/// A member that is a text, if it is there.
+fn text_of<'json>(line: &'json Value, name: &str) -> Option<&'json str> {
+    line.get(name)?.as_str()
+}
+
+/// The arguments of the command line: none where the member is absent.
+fn arguments_of(alloc: Global, line: &Value) -> Result<Vec<String>, anyhow::Error> {
+    let mut arguments = Vec::new(alloc);
+    if let Some(words) = line.get("arguments") {
+        for word in words.as_array().context("arguments are no array")? {
+            let word = word.as_str().context("an argument is no text")?;
+            arguments.push(String::from_str(alloc, word)?)?;
+        }
+    }
+    Ok(arguments)
 }
 
 /// Where a script stands.
@@ -80,13 +107,18 @@ fn first_difference<'text>(wanted: &'text str, given: &'text str) -> Option<Diff
 }
 
 /// Whether a script was answered as it should be; if not, tells what differs.
-fn is_alike(rt: &HostRuntime, vector: &Vector, ended: Ended, output: &[u8]) -> io::Result<bool> {
+fn is_alike(
+    rt: &HostRuntime,
+    vector: &Vector<'_>,
+    ended: Ended,
+    output: &[u8],
+) -> io::Result<bool> {
     let given = str::from_utf8(output).unwrap_or("no text");
-    if let Some(difference) = first_difference(vector.output.as_str(), given) {
+    if let Some(difference) = first_difference(vector.output, given) {
         tell_difference(rt, &difference)?;
         return Ok(false);
     }
-    if ended.status != vector.status || !ended.text.is_empty() {
+    if u64::from(ended.status) != vector.status || !ended.text.is_empty() {
         println!(rt;
             "status {} {} in place of {}",
             ended.status, ended.text, vector.status
@@ -104,21 +136,22 @@ fn tell_difference(rt: &HostRuntime, difference: &Difference<'_>) -> io::Result<
 }
 
 /// Replays the script of a line of a file, and tells where its answer differs.
-fn replay_line(rt: &HostRuntime, place: Place<'_>, line: &str) -> Result<bool, anyhow::Error> {
-    let vector: Vector = serde_json::from_str(rt.alloc(), line)?;
+fn replay_line(rt: &HostRuntime, place: &Place<'_>, line: &str) -> Result<bool, anyhow::Error> {
+    let line = Value::from_str(rt.alloc(), line)?;
+    let vector = Vector::of(&line).context("a member is missing")?;
+    let arguments = arguments_of(rt.alloc(), &line)?;
     let mut output = Vec::new(rt.alloc());
     let mut input = vector.script.as_bytes();
-    let ended = replay(rt.alloc(), &vector.arguments, &mut input, &mut output);
+    let ended = replay(rt.alloc(), &arguments, &mut input, &mut output);
     let is_alike = is_alike(rt, &vector, ended, &output)?;
     if !is_alike {
-        tell_place(rt, place, vector.what.as_deref())?;
+        tell_place(rt, place, vector.what.unwrap_or("drawn at random"))?;
     }
     Ok(is_alike)
 }
 
 /// Tells which script differs.
-fn tell_place(rt: &HostRuntime, place: Place<'_>, what: Option<&str>) -> io::Result<()> {
-    let what = what.unwrap_or("drawn at random");
+fn tell_place(rt: &HostRuntime, place: &Place<'_>, what: &str) -> io::Result<()> {
     println!(rt; "  in line {} of {}: {what}", place.line, place.file)
 }
 
@@ -138,7 +171,7 @@ fn replay_lines(
     for (before, script) in text.lines().enumerate() {
         let line = before.saturating_add(1);
         tally.all = tally.all.saturating_add(1);
-        if replay_line(rt, Place { file, line }, script)? {
+        if replay_line(rt, &Place { file, line }, script)? {
             tally.alike = tally.alike.saturating_add(1);
         }
     }
