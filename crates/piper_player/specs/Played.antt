@@ -1,7 +1,7 @@
 -- What a command does to the pipe that is played on, and what it prints behind what was printed before.
 use Rattle.std.specs.Prelude.{◌≡◌, ℕ, List, [], ◌++◌, codes, take, Option, None, Some, Ok}
 use Rattle.piper_sides.specs.declared.calls.Side.{Side}
-use Rattle.piper_sides.specs.declared.calls.Call.{Call as MachineCall}
+use Rattle.piper_sides.specs.declared.calls.Call.{Call}
 use Rattle.piper_sides.specs.declared.calls.Call.TheVariants.{TryDrain, PollDrainBytes}
 use Rattle.piper_sides.specs.declared.calls.Step.TheVariants as step
 use Rattle.piper_sides.specs.declared.polling.Polled.TheVariants.{Ready}
@@ -11,7 +11,7 @@ use Rattle.piper_sides.specs.declared.events.Event.{Event}
 use Rattle.piper_machine.specs.Pipe.{Pipe, fresh}
 use Rattle.piper_machine.specs.Places.{peeked}
 use Rattle.piper_machine.specs.Run.{Made}
-use Rattle.piper_script.specs.declared.command.Call.{Call}
+use Rattle.piper_script.specs.declared.command.SaidCall.{SaidCall}
 use Rattle.piper_script.specs.declared.command.Steps.{Steps}
 use Rattle.piper_script.specs.declared.command.Command.{Command}
 use Rattle.piper_script.specs.declared.command.Command.TheVariants.{Pipe as NewPipe, Peek, Whole, Put, Begin, Go}
@@ -26,7 +26,7 @@ use Rattle.piper_player.specs.Steps.{GoesAs}
 use Rattle.piper_player.specs.Whole.{IsReady}
 
 -- how many bytes are shown behind the answer of a call that moved bytes out of the pipe
-abbrev pub shown : MachineCall → Answer → Option ℕ
+abbrev pub shown : Call → Answer → Option ℕ
 shown (TryDrain most) (Count n) = Some n
 shown (PollDrainBytes waker luck most) (Copy (Ready (Ok n))) = Some n
 shown call answer = None
@@ -37,18 +37,18 @@ shown_text None bytes = []
 shown_text (Some n) bytes = codes " " ++ printed_list (take n bytes)
 
 -- the answer, the bytes that were moved out, and whom the call woke
-abbrev pub whole_text : MachineCall → Answer → Pipe → Pipe → List ℕ
+abbrev pub whole_text : Call → Answer → Pipe → Pipe → List ℕ
 whole_text call answer old new = answer_text answer ++ shown_text (shown call answer) old.unread ++ woken_text new.woken
 
 -- the call was made, and its answer is shown
-pub record ShowsWhole (call : MachineCall) (old new : Pipe) (before after : List ℕ) : Type 0 where
+pub record ShowsWhole (call : Call) (old new : Pipe) (before after : List ℕ) : Type 0 where
   pub answer : Answer
   pub made : Makes call old answer new
   pub printed : after ≡ before ++ whole_text call answer old new
 
 -- the call that is meant may be made, and was
-pub record MakesWhole (said : Call) (old new : Pipe) (before after : List ℕ) : Type 0 where
-  pub call : MachineCall
+pub record MakesWhole (said : SaidCall) (old new : Pipe) (before after : List ℕ) : Type 0 where
+  pub call : Call
   pub meant : Means said call
   pub ready : IsReady call old
   pub shown_whole : ShowsWhole call old new before after
@@ -64,13 +64,13 @@ pub record Puts (offset byte : ℕ) (old new : Pipe) (before after : List ℕ) :
   pub printed : after ≡ before ++ codes "ok"
 
 -- the call that is meant was opened, and is logged
-pub record Opens (said : Call) (old new : Pipe) (before after : List Event) : Type 0 where
-  pub call : MachineCall
+pub record Opens (said : SaidCall) (old new : Pipe) (before after : List Event) : Type 0 where
+  pub call : Call
   pub meant : Means said call
   pub made : Made old (step.Begin call) new before after
 
 -- what happened as the call was opened is shown
-pub record ShowsOpened (said : Call) (old new : Pipe) (before after : List ℕ) : Type 0 where
+pub record ShowsOpened (said : SaidCall) (old new : Pipe) (before after : List ℕ) : Type 0 where
   pub events : List Event
   pub opened : Opens said old new [] events
   pub printed : after ≡ before ++ printed_events events

@@ -1,6 +1,6 @@
 -- What a line adds to a script of steps.
 use Rattle.std.specs.Prelude.{◌≡◌, ℕ, List, [], ◌∷◌, ◌++◌, replicate, Option, None, Some}
-use Rattle.piper_sides.specs.declared.calls.Call.{Call as MachineCall}
+use Rattle.piper_sides.specs.declared.calls.Call.{Call}
 use Rattle.piper_sides.specs.declared.calls.Step.{Step}
 use Rattle.piper_sides.specs.declared.calls.Step.TheVariants as step
 use Rattle.piper_script.specs.declared.command.Steps.TheVariants.{One, Count}
@@ -15,7 +15,7 @@ most_steps_of_a_script = 1048576
 
 -- the steps that the command says; a call is opened that is meant
 abbrev pub SaysSteps : Command → List Step → Type 0
-SaysSteps (Begin said) steps = (call : MachineCall) × Means said call × (steps ≡ step.Begin call ∷ [])
+SaysSteps (Begin said) steps = (call : Call) × Means said call × (steps ≡ step.Begin call ∷ [])
 SaysSteps (Put offset byte) steps = steps ≡ step.Put offset byte ∷ []
 SaysSteps (Go side One) steps = steps ≡ step.Go side ∷ []
 SaysSteps (Go side (Count n)) steps = steps ≡ replicate n (step.Go side)

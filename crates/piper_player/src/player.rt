@@ -8,11 +8,11 @@ ghost use Rattle.piper_player.specs.Whole.{IsReady};
 
 use crate::steps::make;
 use crate::whole::{answer, check, room_for};
-use piper_machine::calls::{self, Side, Step};
+use piper_machine::calls::{Call, Side, Step};
 use piper_machine::events::{Answer, Log};
 use piper_machine::machine::Machine;
 use piper_machine::polling::Polled;
-use piper_script::command::{Call, Command, Refusal, Steps};
+use piper_script::command::{Command, Refusal, SaidCall, Steps};
 use piper_script::reply::Reply;
 use piper_script::stop::Stop;
 use std::alloc::{AllocError, Global};
@@ -80,7 +80,7 @@ impl Player {
         Ok(())
     }
 
-    fn whole(&mut self, said: Call, reply: &mut Reply) -> Result<(), Stop>
+    fn whole(&mut self, said: SaidCall, reply: &mut Reply) -> Result<(), Stop>
         ensures makes { OnOk result (OnPipe (λ p q. MakesWhole said.entry p q reply.old reply.new) self.old self.new) }
         ensures no_pipe { self.old ≡ None → result ≡ Err (Stop.Refused Refusal.NoPipe) }
         ensures same { IfErr result (λ stop. IsRefused stop → self.new ≡ self.old) }
@@ -103,7 +103,7 @@ impl Player {
     }
 
     /// Opens a call, and logs it.
-    pub fn begin(&mut self, call: Call, log: &mut Log) -> Result<(), Stop>
+    pub fn begin(&mut self, call: SaidCall, log: &mut Log) -> Result<(), Stop>
         ensures opens { OnOk result (OnPipe (λ p q. Opens call.entry p q (events log.old) (events log.new)) self.old self.new) }
         ensures no_pipe { self.old ≡ None → result ≡ Err (Stop.Refused Refusal.NoPipe) }
         ensures same { OnErr result (self.new ≡ self.old) }
@@ -135,7 +135,7 @@ impl Player {
 // Makes a call that may be made, and writes its answer.
 fn make_whole(
     machine: &mut Machine,
-    call: &calls::Call,
+    call: &Call,
     room: &mut Vec<u8>,
     reply: &mut Reply,
 ) -> Result<(), AllocError>
@@ -160,12 +160,12 @@ fn room_of(most: usize, room: &mut Vec<u8>) -> Result<&mut [u8], AllocError>
 }
 
 // How many bytes are shown behind the answer of a call that moved bytes out of the pipe.
-fn shown(call: &calls::Call, answer: Answer) -> Option<usize>
+fn shown(call: &Call, answer: Answer) -> Option<usize>
     ensures { result ≡ shown call.now answer }
 {
     match (call, answer) {
-        (calls::Call::TryDrain(_), Answer::Count(count)) => Some(count),
-        (calls::Call::PollDrainBytes(..), Answer::Copy(Polled::Ready(Ok(count)))) => Some(count),
+        (Call::TryDrain(_), Answer::Count(count)) => Some(count),
+        (Call::PollDrainBytes(..), Answer::Copy(Polled::Ready(Ok(count)))) => Some(count),
         _ => None,
     }
 }

@@ -1,7 +1,9 @@
--- The texts of plain commands are text.
-use Rattle.std.proofs.Common.{◌≡◌, ℕ, ◌≤◌, ◌<◌, List, [], ◌∷◌, ◌++◌, codes, decimal, Bool, true, false, cond, nat_lt, refl, arith}
+-- The texts of commands are text.
+use Rattle.std.proofs.Common.{◌≡◌, ℕ, ◌≤◌, ◌<◌, ◌^◌, List, [], ◌∷◌, ◌++◌, codes, decimal, All, Bool, true, false, cond, nat_lt, Option, None, Some, refl, arith}
+use Rattle.std.specs.Prelude.{IfSome}
 use Rattle.std.specs.Str.{IsAscii, IsUtf8}
-use Rattle.std.proofs.lemmas.Str.{IsUtf8-append, IsUtf8-from_ascii}
+use Rattle.std.proofs.lemmas.List.Elements.{All-head, All-tail}
+use Rattle.std.proofs.lemmas.Str.{IsAscii-append, IsUtf8-from_ascii}
 use Rattle.std.proofs.lemmas.Str.Ascii.{IsAscii-nil, IsAscii-cons}
 use Rattle.std.proofs.lemmas.Bool.Decides.{nat_tests}
 use Rattle.std.proofs.lemmas.Fmt.{IsAscii-decimal}
@@ -9,12 +11,14 @@ use Rattle.piper_sides.specs.declared.calls.Side.{Side}
 use Rattle.piper_sides.specs.declared.calls.Side.TheVariants.{Reader, Writer}
 use Rattle.piper_script.specs.declared.command.Steps.{Steps}
 use Rattle.piper_script.specs.declared.command.Steps.TheVariants.{One, Count, ToAnswer}
-use Rattle.piper_script.specs.declared.command.Call.{Call}
-use Rattle.piper_script.specs.declared.command.Call.TheVariants.{Len, IsEmpty, IsFull, IsClosed, Poll, Fill, Drain, PollFill, PollDrain, FillFrom, DrainTo, Consume, Lend, Produced, Close, Drop}
+use Rattle.piper_script.specs.declared.command.SaidLuck.{SaidLuck}
+use Rattle.piper_script.specs.declared.command.SaidCall.{SaidCall}
+use Rattle.piper_script.specs.declared.command.SaidCall.TheVariants.{Len, IsEmpty, IsFull, IsClosed, Poll, Fill, Drain, PollFill, PollDrain, FillFrom, DrainTo, Consume, Lend, Produced, Close, Drop}
 use Rattle.piper_script.specs.declared.command.Command.{Command}
 use Rattle.piper_script.specs.declared.command.Command.TheVariants.{Pipe, Peek, Whole, Put, Begin, Go}
-use Rattle.piper_script.specs.Limits.{greatest_number}
-use Rattle.piper_script.specs.Command.{side_text, steps_text, call_text, command_text, IsCallInLimits, IsInLimits, IsPlainCall, IsPlain}
+use Rattle.piper_script.specs.Limits.{greatest_name}
+use Rattle.piper_script.specs.Command.{spaced, side_text, steps_text, draw_text, denials_text, luck_text, call_name, call_arguments, call_text, command_text, IsLuck, IsCallInLimits, IsInLimits}
+use Rattle.piper_script.proofs.Spaces.{IsWordByte, list_is_word, sources_are_word, dests_are_word}
 
 -- whether each byte of a word is ASCII
 abbrev is_ascii_word : List ℕ → Bool
@@ -27,53 +31,100 @@ first_is_ascii b rest tests = grind (arith, nat_tests)
 rest_is_ascii : (b : ℕ) (rest : Bool) → cond (nat_lt b 128) rest false ≡ true → rest ≡ true
 rest_is_ascii b rest tests = grind (arith, nat_tests)
 
-ascii_word : (word : List ℕ) → is_ascii_word word ≡ true → IsAscii word
-ascii_word [] tests = IsAscii-nil
-ascii_word (b ∷ bs) tests = IsAscii-cons b bs (first_is_ascii b (is_ascii_word bs) tests) (ascii_word bs (rest_is_ascii b (is_ascii_word bs) tests))
+word : (text : List ℕ) → is_ascii_word text ≡ true → IsAscii text
+word [] tests = IsAscii-nil
+word (b ∷ bs) tests = IsAscii-cons b bs (first_is_ascii b (is_ascii_word bs) tests) (word bs (rest_is_ascii b (is_ascii_word bs) tests))
 
-word_utf8 : (word : List ℕ) → is_ascii_word word ≡ true → IsUtf8 word
-word_utf8 word tests = IsUtf8-from_ascii word (ascii_word word tests)
+ascii : (text : List ℕ) → All IsWordByte text → IsAscii text
+ascii [] bytes = IsAscii-nil
+ascii (b ∷ bs) bytes = IsAscii-cons b bs (omega (arith, All-head IsWordByte b bs bytes)) (ascii bs (All-tail IsWordByte b bs bytes))
 
--- a word and a number
-number_utf8 : (word : List ℕ) (n : ℕ) → is_ascii_word word ≡ true → n ≤ greatest_number → IsUtf8 (word ++ decimal n)
-number_utf8 word n text small = IsUtf8-append word (decimal n) (word_utf8 word text) (IsUtf8-from_ascii (decimal n) (IsAscii-decimal n (omega (arith, small))))
+behind : (text : List ℕ) → IsAscii text → IsAscii (spaced text)
+behind text rest = IsAscii-cons 32 text (omega arith) rest
 
-letter_utf8 : (side : Side) → IsUtf8 (side_text side)
-letter_utf8 Reader = word_utf8 (codes "r") refl
-letter_utf8 Writer = word_utf8 (codes "w") refl
+number : (n : ℕ) → n < 2 ^ 64 → IsAscii (spaced (decimal n))
+number n small = behind (decimal n) (IsAscii-decimal n small)
 
--- a word and a side
-side_utf8 : (word : List ℕ) (side : Side) → is_ascii_word word ≡ true → IsUtf8 (word ++ side_text side)
-side_utf8 word side text = IsUtf8-append word (side_text side) (word_utf8 word text) (letter_utf8 side)
+side : (of : Side) → IsAscii (spaced (side_text of))
+side Reader = word (codes " r") refl
+side Writer = word (codes " w") refl
 
-call_utf8 : (call : Call) → IsPlainCall call → IsCallInLimits call → IsUtf8 (call_text call)
-call_utf8 (Len side) plain limits = side_utf8 (codes "len ") side refl
-call_utf8 (IsEmpty side) plain limits = side_utf8 (codes "empty ") side refl
-call_utf8 (IsFull side) plain limits = side_utf8 (codes "full ") side refl
-call_utf8 (IsClosed side) plain limits = side_utf8 (codes "closed ") side refl
-call_utf8 (Poll side waker luck) plain limits = absurd plain
-call_utf8 (Fill list) plain limits = absurd plain
-call_utf8 (Drain most) plain limits = number_utf8 (codes "drain ") most refl limits
-call_utf8 (PollFill waker list luck) plain limits = absurd plain
-call_utf8 (PollDrain waker most luck) plain limits = absurd plain
-call_utf8 (FillFrom waker sources luck) plain limits = absurd plain
-call_utf8 (DrainTo waker dests luck) plain limits = absurd plain
-call_utf8 (Consume n) plain limits = number_utf8 (codes "consume ") n refl limits
-call_utf8 (Lend most) plain limits = number_utf8 (codes "lend ") most refl limits
-call_utf8 (Produced n) plain limits = number_utf8 (codes "produced ") n refl limits
-call_utf8 Close plain limits = word_utf8 (codes "close") refl
-call_utf8 (Drop side) plain limits = side_utf8 (codes "drop ") side refl
+denials : (no_register no_yield : Bool) → IsAscii (denials_text no_register no_yield)
+denials true true = word (denials_text true true) refl
+denials true false = word (denials_text true false) refl
+denials false true = word (denials_text false true) refl
+denials false false = IsAscii-nil
 
--- a side and how many of its steps
-moves_utf8 : (side : Side) (steps : Steps) → IsInLimits (Go side steps) → IsUtf8 (side_text side ++ steps_text steps)
-moves_utf8 side One limits = IsUtf8-append (side_text side) (steps_text One) (letter_utf8 side) (word_utf8 (steps_text One) refl)
-moves_utf8 side (Count n) limits = IsUtf8-append (side_text side) (steps_text (Count n)) (letter_utf8 side) (number_utf8 (codes " ") n refl limits.1)
-moves_utf8 side ToAnswer limits = IsUtf8-append (side_text side) (steps_text ToAnswer) (letter_utf8 side) (word_utf8 (codes " end") refl)
+luck : (said : SaidLuck) → IsLuck said → IsAscii (luck_text said)
+luck said small = IsAscii-append (draw_text said.draw) (denials_text said.no_register said.no_yield) (drawn said.draw small) (denials said.no_register said.no_yield)
+  where
+    drawn : (draw : Option ℕ) → IfSome draw (λ n. n ≤ greatest_name) → IsAscii (draw_text draw)
+    drawn None small = IsAscii-nil
+    drawn (Some n) small = IsAscii-append (codes " draw=") (decimal n) (word (codes " draw=") refl) (IsAscii-decimal n (omega (arith, small)))
 
-pub plain_utf8 : (command : Command) → IsPlain command → IsInLimits command → IsUtf8 (command_text command)
-plain_utf8 (Pipe capacity) plain limits = number_utf8 (codes "pipe ") capacity refl limits.1
-plain_utf8 Peek plain limits = word_utf8 (codes "peek") refl
-plain_utf8 (Whole call) plain limits = call_utf8 call plain limits
-plain_utf8 (Put offset byte) plain limits = absurd plain
-plain_utf8 (Begin call) plain limits = IsUtf8-append (codes "begin ") (call_text call) (word_utf8 (codes "begin ") refl) (call_utf8 call plain limits)
-plain_utf8 (Go side steps) plain limits = IsUtf8-append (codes "go ") (side_text side ++ steps_text steps) (word_utf8 (codes "go ") refl) (moves_utf8 side steps limits)
+-- two words, and luck behind them
+three : (first second : List ℕ) (said : SaidLuck) → IsAscii (spaced first) → IsAscii (spaced second) → IsLuck said → IsAscii (spaced first ++ spaced second ++ luck_text said)
+three first second said a b small = IsAscii-append (spaced first ++ spaced second) (luck_text said) (IsAscii-append (spaced first) (spaced second) a b) (luck said small)
+
+name : (said : SaidCall) → IsAscii (call_name said)
+name (Len of) = word (codes "len") refl
+name (IsEmpty of) = word (codes "empty") refl
+name (IsFull of) = word (codes "full") refl
+name (IsClosed of) = word (codes "closed") refl
+name (Poll of waker luck) = word (codes "poll") refl
+name (Fill list) = word (codes "fill") refl
+name (Drain most) = word (codes "drain") refl
+name (PollFill waker list luck) = word (codes "pollfill") refl
+name (PollDrain waker most luck) = word (codes "polldrain") refl
+name (FillFrom waker sources luck) = word (codes "fillfrom") refl
+name (DrainTo waker dests luck) = word (codes "drainto") refl
+name (Consume n) = word (codes "consume") refl
+name (Lend most) = word (codes "lend") refl
+name (Produced n) = word (codes "produced") refl
+name Close = word (codes "close") refl
+name (Drop of) = word (codes "drop") refl
+
+arguments : (said : SaidCall) → IsCallInLimits said → IsAscii (call_arguments said)
+arguments (Len of) limits = side of
+arguments (IsEmpty of) limits = side of
+arguments (IsFull of) limits = side of
+arguments (IsClosed of) limits = side of
+arguments (Poll of waker luck) limits = three (side_text of) (decimal waker) luck (side of) (number waker (omega (arith, limits.0))) limits.1
+arguments (Fill list) limits = behind list.text.now (ascii list.text.now (list_is_word list.text.now list.len limits))
+arguments (Drain most) limits = number most (omega (arith, limits))
+arguments (PollFill waker list luck) limits =
+    three (decimal waker) list.text.now luck (number waker (omega (arith, limits.0))) (behind list.text.now (ascii list.text.now (list_is_word list.text.now list.len limits.1))) limits.2
+arguments (PollDrain waker most luck) limits = three (decimal waker) (decimal most) luck (number waker (omega (arith, limits.0))) (number most (omega (arith, limits.1))) limits.2
+arguments (FillFrom waker sources luck) limits =
+    three (decimal waker) sources.text.now luck (number waker (omega (arith, limits.0))) (behind sources.text.now (ascii sources.text.now (sources_are_word sources.text.now sources.len limits.1))) limits.2
+arguments (DrainTo waker dests luck) limits =
+    three (decimal waker) dests.text.now luck (number waker (omega (arith, limits.0))) (behind dests.text.now (ascii dests.text.now (dests_are_word dests.text.now limits.1))) limits.2
+arguments (Consume n) limits = number n (omega (arith, limits))
+arguments (Lend most) limits = number most (omega (arith, limits))
+arguments (Produced n) limits = number n (omega (arith, limits))
+arguments Close limits = IsAscii-nil
+arguments (Drop of) limits = side of
+
+call : (said : SaidCall) → IsCallInLimits said → IsAscii (call_text said)
+call said limits = IsAscii-append (call_name said) (call_arguments said) (name said) (arguments said limits)
+
+steps : (of : Side) (many : Steps) → IsInLimits (Go of many) → IsAscii (steps_text many)
+steps of One limits = IsAscii-nil
+steps of (Count n) limits = number n (omega (arith, limits.1))
+steps of ToAnswer limits = word (codes " end") refl
+
+-- a name and what stands behind it
+text : (name arguments : List ℕ) → is_ascii_word name ≡ true → IsAscii arguments → IsAscii (name ++ arguments)
+text name arguments tests rest = IsAscii-append name arguments (word name tests) rest
+
+command : (said : Command) → IsInLimits said → IsAscii (command_text said)
+command (Pipe capacity) limits = text (codes "pipe") (spaced (decimal capacity)) refl (number capacity (omega (arith, limits.1)))
+command Peek limits = word (codes "peek") refl
+command (Whole said) limits = call said limits
+command (Put offset byte) limits =
+    text (codes "put") (spaced (decimal offset) ++ spaced (decimal byte)) refl (IsAscii-append (spaced (decimal offset)) (spaced (decimal byte)) (number offset (omega (arith, limits.0))) (number byte (omega (arith, limits.1))))
+command (Begin said) limits = text (codes "begin") (spaced (call_text said)) refl (behind (call_text said) (call said limits))
+command (Go of many) limits = text (codes "go") (spaced (side_text of) ++ steps_text many) refl (IsAscii-append (spaced (side_text of)) (steps_text many) (side of) (steps of many limits))
+
+pub command_utf8 : (said : Command) → IsInLimits said → IsUtf8 (command_text said)
+command_utf8 said limits = IsUtf8-from_ascii (command_text said) (command said limits)

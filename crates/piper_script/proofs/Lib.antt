@@ -1,5 +1,9 @@
 pub mod Commands
+pub mod Items
+pub mod Joined
 pub mod Lists
 pub mod Numbers
 pub mod Replies
 pub mod ScriptedActs
+pub mod Spaces
+pub mod Texts

@@ -1,33 +1,15 @@
--- Texts that are joined from the texts of some things, and the bytes of items.
-use Rattle.std.proofs.Common.{◌≡◌, ℕ, zero, suc, ◌+◌, ◌-◌, ◌≤◌, List, [], ◌∷◌, ◌++◌, length, codes, Bor, refl, ap, ◌∙◌, sym, map, append_assoc, append-nil, arith, add-zero}
-use Rattle.std.specs.List.{slice_split, flat_map, join_with_byte}
-use Rattle.std.proofs.lemmas.List.{map-append}
+-- Items, their texts and their bytes.
+use Rattle.std.proofs.Common.{◌≡◌, ◌≢◌, ℕ, zero, suc, ◌+◌, ◌-◌, ◌<◌, ◌≤◌, get_or, List, [], ◌∷◌, ◌++◌, length, codes, Bor, All, true, Result, Ok, Err, refl, ap, ◌∙◌, sym, map, append_assoc, append-nil, arith, add-zero}
+use Rattle.std.specs.Prelude.{is_ok, IsOkAnd}
+use Rattle.std.specs.List.{flat_map}
 use Rattle.std.proofs.lemmas.List.Concat.{flat_map-append}
-use Rattle.std.proofs.lemmas.List.Splits.{length-slice_split, join_with_byte-slice_split}
-use lib.Dec.{eqb}
-use Rattle.piper_script.specs.Joined.{joined_or}
+use Rattle.std.proofs.lemmas.List.Elements.{All-nil, All-push, All-head}
+use Rattle.piper_script.specs.Limits.{greatest_number}
+use Rattle.piper_script.proofs.Joined.{texts_of, texts_of-append, parts_at, joined_parts, Counts, refused_part, counts_all}
+use Rattle.piper_script.proofs.Texts.{item_lacks, some_item, dash_is_no_item, dash_is_no_list}
 use Rattle.piper_script.specs.declared.list.Item.{Item}
 use Rattle.piper_script.specs.declared.list.Item.TheVariants.{Range}
-use Rattle.piper_script.specs.List.{numbers_from, item_text, item_bytes, IsItem, StandsFor}
-
--- the texts that a loop over the parts of a text went by
-abbrev pub texts_of : List (Bor (List ℕ)) → List (List ℕ)
-texts_of parts = map (λ part. part.now) parts
-
--- one part more is the text of one thing more
-pub texts_of-append : {A : Type 0} (text : A → List ℕ) (parts : List (Bor (List ℕ))) (part : Bor (List ℕ)) (said : List A) (next : A) → texts_of parts ≡ map text said → part.now ≡ text next → texts_of (parts ++ part ∷ []) ≡ map text (said ++ next ∷ [])
-texts_of-append text parts part said next so_far here =
-    map-append (λ (p : Bor (List ℕ)). p.now) parts (part ∷ [])
-    ∙ ap (λ (ts : List (List ℕ)). ts ++ part.now ∷ []) so_far
-    ∙ ap (λ (t : List ℕ). map text said ++ t ∷ []) here
-    ∙ sym (map-append text said (next ∷ []))
-
--- a text is joined from its parts
-pub joined_parts : {A : Type 0} (none : List ℕ) (separator : ℕ) (text : A → List ℕ) (line : List ℕ) (said : List A) → slice_split (λ c. eqb c separator) line ≡ map text said → line ≡ joined_or none separator text said
-joined_parts none separator text line [] written =
-    let some = length-slice_split (λ c. eqb c separator) line in
-    absurd (omega (arith, some, ap length written))
-joined_parts none separator text line (x ∷ xs) written = sym (join_with_byte-slice_split separator line) ∙ ap (join_with_byte separator) written
+use Rattle.piper_script.specs.List.{numbers_from, item_text, list_text, item_bytes, IsItem, StandsFor, IsListText}
 
 pub length-numbers_from : (first count : ℕ) → length (numbers_from first count) ≡ count
 length-numbers_from first zero = refl
@@ -44,7 +26,7 @@ numbers_from-more first (suc count) =
 -- how many bytes a range has
 pub length-item_bytes-range : (item : Item) (first last n : ℕ) → item ≡ Range first last → IsItem item → n ≡ last - first → n + 1 ≡ length (item_bytes item)
 length-item_bytes-range item first last n is valid gap =
-    let ordered : first ≤ last = rw is at valid in
+    let ordered = rw is at valid in
     rw is (omega (arith, length-numbers_from first (last + 1 - first), ordered, gap))
 
 -- one number more, behind those that stand there already
@@ -61,22 +43,61 @@ numbers_from-append first value before old new ordered was push =
 pub record WritesItems (texts : List (List ℕ)) (bytes : List ℕ) : Type 0 where
   pub items : List Item
   pub written : texts ≡ map item_text items
+  pub valid : All IsItem items
   pub meant : bytes ≡ flat_map item_bytes items
 
 pub no_items : WritesItems [] []
-no_items = record { items = []; written = refl; meant = refl }
+no_items = record { items = []; written = refl; valid = All-nil IsItem; meant = refl }
 
 -- the parts between the commas of a text are those of its items
-pub list_of_parts : (text bytes : List ℕ) → WritesItems (slice_split (λ c. eqb c 44) text) bytes → StandsFor text bytes
+pub list_of_parts : (text bytes : List ℕ) → WritesItems (parts_at 44 text) bytes → StandsFor text bytes
 list_of_parts text bytes parts = record {
   items = parts.items;
   written = joined_parts (codes "-") 44 item_text text parts.items parts.written;
   meant = parts.meant;
 }
 
-pub one_part_more : (parts : List (Bor (List ℕ))) (part : Bor (List ℕ)) (bytes new : List ℕ) (item : Item) → WritesItems (texts_of parts) bytes → part.now ≡ item_text item → new ≡ bytes ++ item_bytes item → WritesItems (texts_of (parts ++ part ∷ [])) new
-one_part_more parts part bytes new item so_far here grown = record {
+pub list_text_of_parts : (text bytes : List ℕ) (len : ℕ) → WritesItems (parts_at 44 text) bytes → length bytes ≡ len → len ≤ greatest_number → IsListText text len
+list_text_of_parts text bytes len parts sized within = record {
+  items = parts.items;
+  written = joined_parts (codes "-") 44 item_text text parts.items parts.written;
+  valid = parts.valid;
+  sized = ap length (sym parts.meant) ∙ sized;
+  within = within;
+}
+
+pub one_part_more : (parts : List (Bor (List ℕ))) (part : Bor (List ℕ)) (bytes new : List ℕ) (item : Item) → WritesItems (texts_of parts) bytes → part.now ≡ item_text item → IsItem item → new ≡ bytes ++ item_bytes item → WritesItems (texts_of (parts ++ part ∷ [])) new
+one_part_more parts part bytes new item so_far here valid grown = record {
   items = so_far.items ++ item ∷ [];
   written = texts_of-append item_text parts part so_far.items item so_far.written here;
+  valid = All-push IsItem so_far.items item so_far.valid valid;
   meant = grown ∙ ap (λ (bs : List ℕ). bs ++ item_bytes item) so_far.meant ∙ ap (λ (bs : List ℕ). flat_map item_bytes so_far.items ++ bs) (sym (append-nil (item_bytes item))) ∙ sym (flat_map-append item_bytes so_far.items (item ∷ []));
 }
+
+-- how many bytes were counted of the parts so far
+abbrev pub CountsItems : List ℕ → ℕ → ℕ → Type 0
+CountsItems = Counts (codes "-") 44 item_text IsItem item_bytes item_lacks
+
+-- an empty list, and no other, is a dash
+pub dash_is_empty : (text : List ℕ) (len : ℕ) → text ≡ codes "-" → IsListText text len → 0 ≡ len
+dash_is_empty text len dash list = empty list.items list.written list.valid list.sized
+  where
+    empty : (items : List Item) → text ≡ list_text items → All IsItem items → length (flat_map item_bytes items) ≡ len → 0 ≡ len
+    empty [] written valid sized = sized
+    empty (x ∷ []) written valid sized = absurd (dash_is_no_item x (All-head IsItem x [] valid) (sym written ∙ dash))
+    empty (x ∷ y ∷ rest) written valid sized =
+        absurd (dash_is_no_list (item_text x) (list_text (y ∷ rest)) (some_item x (All-head IsItem x (y ∷ rest) valid)) (sym written ∙ dash))
+
+-- a part that is no item stands in no list
+pub refused_item : (text part : List ℕ) (n len : ℕ) → text ≢ codes "-" → (n < length (parts_at 44 text)) × (part ≡ get_or (parts_at 44 text) n part) → ((item : Item) → IsItem item → part ≡ item_text item → ⊥) → IsListText text len → ⊥
+refused_item text part n len some turn refuses list =
+    refused_part (codes "-") 44 item_text IsItem item_bytes item_lacks text list.items n part list.written some list.valid (omega (arith, list.sized, list.within)) turn (λ item valid here small. refuses item valid here)
+
+-- the count of all parts is that of the list
+pub counted_list : (text : List ℕ) (n counted len : ℕ) → text ≢ codes "-" → CountsItems text n counted → n ≡ length (parts_at 44 text) → IsListText text len → counted ≡ len
+counted_list text n counted len some counts end list =
+    counts_all (codes "-") 44 item_text IsItem item_bytes item_lacks text n counted list.items some counts end list.written list.valid (omega (arith, list.sized, list.within)) ∙ list.sized
+
+pub ok_and : {T E : Type 0} (r : Result T E) (P : T → Type 0) → IsOkAnd r P → is_ok r ≡ true
+ok_and (Ok x) P holds = refl
+ok_and (Err e) P holds = absurd holds

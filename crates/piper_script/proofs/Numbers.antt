@@ -7,10 +7,10 @@ use Rattle.std.proofs.lemmas.Str.Parse.{IsNumeralModel, numerals_by_value, tells
 use Rattle.std.proofs.lemmas.Fmt.{parse-decimal, decimal-digits_value, digits_decimal, decimal_nonempty, first_decimal, decimal_digit}
 use Rattle.piper_script.specs.Number.{IsNumber}
 
-abbrev HasDigits : List ℕ → Type 0
+abbrev pub HasDigits : List ℕ → Type 0
 HasDigits text = (i : ℕ) → i < length text → IsInRange 48 57 (get_or text i 0)
 
-numerals : IsNumeralModel HasDigits (digits_value 10)
+pub numerals : IsNumeralModel HasDigits (digits_value 10)
 numerals = numerals_by_value HasDigits tells_by_index
 
 single_zero : (text : List ℕ) → IsNumber text → get_or text 0 0 ≡ 48 → length text ≡ 1

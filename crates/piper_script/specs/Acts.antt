@@ -7,9 +7,8 @@ use Rattle.piper_sides.specs.declared.scripted.DestAct.{DestAct}
 use Rattle.piper_sides.specs.declared.scripted.DestAct.TheVariants as dest
 use Rattle.piper_script.specs.Limits.{greatest_number}
 use Rattle.piper_script.specs.declared.list.Item.{Item}
-use Rattle.piper_script.specs.declared.acts.Sources.{Sources}
 use Rattle.piper_script.specs.Joined.{joined_or}
-use Rattle.piper_script.specs.List.{list_text, item_bytes}
+use Rattle.piper_script.specs.List.{list_text, item_bytes, IsItem}
 
 -- a source gives the bytes of a list, or fails where there is none
 abbrev pub source_text : Option (List Item) → List ℕ
@@ -19,6 +18,15 @@ source_text (Some items) = list_text items
 abbrev pub source_act : Option (List Item) → SourceAct
 source_act None = source.Fail
 source_act (Some items) = source.Bytes (flat_map item_bytes items)
+
+-- the bytes that a source gives
+abbrev pub source_bytes : Option (List Item) → List ℕ
+source_bytes None = []
+source_bytes (Some items) = flat_map item_bytes items
+
+abbrev pub IsSource : Option (List Item) → Type 0
+IsSource None = Unit {0}
+IsSource (Some items) = All IsItem items
 
 -- the text writes this one act
 pub record WritesSource (text : List ℕ) (act : SourceAct) : Type 0 where
@@ -32,21 +40,21 @@ pub record StandsForActs (text : List ℕ) (acts : List SourceAct) : Type 0 wher
   pub written : text ≡ joined_or (codes "none") 47 source_text said
   pub meant : acts ≡ map source_act said
 
-abbrev pub bytes_of : SourceAct → List ℕ
-bytes_of source.Fail = []
-bytes_of (source.Bytes bytes) = bytes
+-- the text writes one act of a source, of so many bytes
+pub record IsSourceText (text : List ℕ) (len : ℕ) : Type 0 where
+  pub said : Option (List Item)
+  pub written : text ≡ source_text said
+  pub valid : IsSource said
+  pub sized : length (source_bytes said) ≡ len
+  pub within : len ≤ greatest_number
 
--- the text writes one act of so many bytes
-pub record IsSource (text : List ℕ) (count : ℕ) : Type 0 where
-  pub act : SourceAct
-  pub meant : WritesSource text act
-  pub counted : length (bytes_of act) ≡ count
-
--- the count is that of all bytes that the acts give
-pub record IsSources (sources : Sources) : Type 0 where
-  pub acts : List SourceAct
-  pub meant : StandsForActs sources.text.now acts
-  pub counted : length (flat_map bytes_of acts) ≡ sources.len
+-- the text writes acts of a source, of so many bytes together, within the limit
+pub record IsSourcesText (text : List ℕ) (len : ℕ) : Type 0 where
+  pub said : List (Option (List Item))
+  pub written : text ≡ joined_or (codes "none") 47 source_text said
+  pub valid : All IsSource said
+  pub sized : length (flat_map source_bytes said) ≡ len
+  pub within : len ≤ greatest_number
 
 abbrev pub dest_text : DestAct → List ℕ
 dest_text (dest.Take most) = decimal most
@@ -60,7 +68,7 @@ abbrev pub dests_text : List DestAct → List ℕ
 dests_text acts = joined_or (codes "none") 47 dest_text acts
 
 -- the text writes acts of a destination, each within its limits
-pub record IsDests (text : List ℕ) : Type 0 where
+pub record IsDestsText (text : List ℕ) : Type 0 where
   pub acts : List DestAct
   pub written : text ≡ dests_text acts
   pub within : All IsDestInLimits acts

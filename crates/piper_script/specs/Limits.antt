@@ -1,6 +1,9 @@
 -- The limits of the language.
 use Rattle.std.specs.Prelude.{ℕ}
 
+abbrev pub greatest_byte : ℕ
+greatest_byte = 255
+
 -- a number of a script, and the bytes of the lists of one line together
 abbrev pub greatest_number : ℕ
 greatest_number = 1048576

@@ -1,9 +1,8 @@
 -- Lists of bytes, as a script writes them.
-use Rattle.std.specs.Prelude.{◌≡◌, ℕ, zero, suc, ◌+◌, ◌-◌, ◌≤◌, List, [], ◌∷◌, ◌++◌, codes, decimal, replicate, length}
+use Rattle.std.specs.Prelude.{◌≡◌, ℕ, zero, suc, ◌+◌, ◌-◌, ◌≤◌, List, [], ◌∷◌, ◌++◌, codes, decimal, replicate, length, All}
 use Rattle.std.specs.List.{flat_map}
-use Rattle.piper_script.specs.Limits.{greatest_number}
+use Rattle.piper_script.specs.Limits.{greatest_byte, greatest_number}
 use Rattle.piper_script.specs.Joined.{joined_or_dash}
-use Rattle.piper_script.specs.declared.list.List.{List as ByteList}
 use Rattle.piper_script.specs.declared.list.Item.{Item}
 use Rattle.piper_script.specs.declared.list.Item.TheVariants.{Byte, Range, Repeat}
 
@@ -22,11 +21,11 @@ item_bytes (Byte value) = value ∷ []
 item_bytes (Range first last) = numbers_from first (last + 1 - first)
 item_bytes (Repeat value count) = replicate count value
 
--- a range does not run down, and no byte is repeated past the limit
+-- a byte is at most 255, a range does not run down, and no byte is repeated past the limit
 abbrev pub IsItem : Item → Type 0
-IsItem (Byte value) = Unit {0}
-IsItem (Range first last) = first ≤ last
-IsItem (Repeat value count) = count ≤ greatest_number
+IsItem (Byte value) = value ≤ greatest_byte
+IsItem (Range first last) = (first ≤ last) × (last ≤ greatest_byte)
+IsItem (Repeat value count) = (value ≤ greatest_byte) × (count ≤ greatest_number)
 
 abbrev pub list_text : List Item → List ℕ
 list_text items = joined_or_dash 44 item_text items
@@ -37,8 +36,10 @@ pub record StandsFor (text bytes : List ℕ) : Type 0 where
   pub written : text ≡ list_text items
   pub meant : bytes ≡ flat_map item_bytes items
 
--- the list's count is that of the bytes that its text stands for
-pub record IsList (list : ByteList) : Type 0 where
-  pub bytes : List ℕ
-  pub meant : StandsFor list.text.now bytes
-  pub counted : length bytes ≡ list.len
+-- the text writes items that stand for so many bytes together, within the limit
+pub record IsListText (text : List ℕ) (len : ℕ) : Type 0 where
+  pub items : List Item
+  pub written : text ≡ list_text items
+  pub valid : All IsItem items
+  pub sized : length (flat_map item_bytes items) ≡ len
+  pub within : len ≤ greatest_number

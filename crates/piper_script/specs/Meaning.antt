@@ -1,11 +1,11 @@
 -- What the calls of a script ask of the machine.
 use Rattle.std.specs.Prelude.{◌≡◌, ℕ, List, Bool, true, false, unwrap_or}
-use Rattle.piper_sides.specs.declared.calls.Call.{Call as MachineCall}
+use Rattle.piper_sides.specs.declared.calls.Call.{Call}
 use Rattle.piper_sides.specs.declared.calls.Call.TheVariants as machine
-use Rattle.piper_sides.specs.declared.polling.Luck.{Luck as MachineLuck}
-use Rattle.piper_script.specs.declared.command.Luck.{Luck}
-use Rattle.piper_script.specs.declared.command.Call.{Call}
-use Rattle.piper_script.specs.declared.command.Call.TheVariants.{Len, IsEmpty, IsFull, IsClosed, Poll, Fill, Drain, PollFill, PollDrain, FillFrom, DrainTo, Consume, Lend, Produced, Close, Drop}
+use Rattle.piper_sides.specs.declared.polling.Luck.{Luck}
+use Rattle.piper_script.specs.declared.command.SaidLuck.{SaidLuck}
+use Rattle.piper_script.specs.declared.command.SaidCall.{SaidCall}
+use Rattle.piper_script.specs.declared.command.SaidCall.TheVariants.{Len, IsEmpty, IsFull, IsClosed, Poll, Fill, Drain, PollFill, PollDrain, FillFrom, DrainTo, Consume, Lend, Produced, Close, Drop}
 use Rattle.piper_sides.specs.declared.scripted.SourceAct.{SourceAct}
 use Rattle.piper_sides.specs.declared.scripted.DestAct.{DestAct}
 use Rattle.piper_script.specs.List.{StandsFor}
@@ -16,7 +16,7 @@ not true = false
 not false = true
 
 -- all is granted, and 1 is drawn, but where the line says otherwise
-abbrev pub luck_of : Luck → MachineLuck
+abbrev pub luck_of : SaidLuck → Luck
 luck_of luck = record {
   draw = unwrap_or luck.draw 1;
   register_granted = not luck.no_register;
@@ -24,12 +24,12 @@ luck_of luck = record {
 }
 
 -- the call is made with something that is meant
-pub record MadeWith (A : Type 0) (IsMeant : A → Type 0) (call : A → MachineCall) (made : MachineCall) : Type 0 where
+pub record MadeWith (A : Type 0) (IsMeant : A → Type 0) (call : A → Call) (made : Call) : Type 0 where
   pub with_this : A
   pub meant : IsMeant with_this
   pub same : made ≡ call with_this
 
-abbrev pub Means : Call → MachineCall → Type 0
+abbrev pub Means : SaidCall → Call → Type 0
 Means (Len side) call = call ≡ machine.Len side
 Means (IsEmpty side) call = call ≡ machine.IsEmpty side
 Means (IsFull side) call = call ≡ machine.IsFull side

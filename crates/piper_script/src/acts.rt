@@ -1,9 +1,9 @@
 //! What scripted sources and destinations do, as a script writes it.
 
-ghost use Rattle.std.specs.Prelude.{◌≡◌, ◌≤◌, [], ◌++◌, length, codes, decimal, IfOk, IfErr, OnOk};
+ghost use Rattle.std.specs.Prelude.{◌≡◌, ℕ, ◌≤◌, [], ◌++◌, length, codes, decimal, IsOk, IfOk, IfErr, OnOk};
 ghost use Rattle.piper_script.specs.Limits.{greatest_number};
 ghost use Rattle.piper_script.specs.Refusal.{IsTextRefusal};
-ghost use Rattle.piper_script.specs.Acts.{IsSource, dest_text, IsDestInLimits, WritesSource};
+ghost use Rattle.piper_script.specs.Acts.{IsSourceText, dest_text, IsDestInLimits, WritesSource};
 
 use crate::command::{MOST, Refusal};
 use crate::list::List;
@@ -20,14 +20,14 @@ pub struct Sources<'line> {
 }
 
 impl<'line> Sources<'line> {
-    ghost use Rattle.piper_script.specs.Acts.{IsSources, StandsForActs};
+    ghost use Rattle.piper_script.specs.Acts.{IsSourcesText, StandsForActs};
 
     /// The acts that the text writes, if their lists have at most [`MOST`] bytes together.
     pub fn parse(text: &'line str) -> Result<Sources<'line>, Refusal>
         ensures text { IfOk result (λ sources. sources.text.now ≡ text.now) }
-        ensures acts { IfOk result IsSources }
-        ensures limits { IfOk result (λ sources. sources.len ≤ greatest_number) }
+        ensures acts { IfOk result (λ sources. IsSourcesText sources.text.now sources.len) }
         ensures refused { IfErr result IsTextRefusal }
+        ensures accepts { (len : ℕ) → IsSourcesText text.now len → IsOk result }
     {
         if text == "none" {
             return Ok(Sources { text, len: 0 });
@@ -72,8 +72,9 @@ impl<'line> Sources<'line> {
 
 // How many bytes an act of a source stands for.
 fn source_len(text: &str) -> Result<usize, Refusal>
-    ensures source { IfOk result (IsSource text.now) }
+    ensures source { IfOk result (IsSourceText text.now) }
     ensures refused { IfErr result IsTextRefusal }
+    ensures accepts { (len : ℕ) → IsSourceText text.now len → result ≡ Ok len }
 {
     if text == "fail" {
         return Ok(0);
@@ -98,13 +99,14 @@ pub struct Dests<'line> {
 }
 
 impl<'line> Dests<'line> {
-    ghost use Rattle.piper_script.specs.Acts.{IsDests, dests_text};
+    ghost use Rattle.piper_script.specs.Acts.{IsDestsText, dests_text};
 
     /// The acts that the text writes.
     pub fn parse(text: &'line str) -> Result<Dests<'line>, Refusal>
         ensures text { IfOk result (λ dests. dests.text.now ≡ text.now) }
-        ensures acts { IfOk result (λ dests. IsDests dests.text.now) }
+        ensures acts { IfOk result (λ dests. IsDestsText dests.text.now) }
         ensures refused { IfErr result IsTextRefusal }
+        ensures accepts { IsDestsText text.now → IsOk result }
     {
         if text == "none" {
             return Ok(Dests { text });
@@ -152,6 +154,7 @@ fn dest(text: &str) -> Result<DestAct, Refusal>
     ensures text { IfOk result (λ act. text.now ≡ dest_text act) }
     ensures limits { IfOk result IsDestInLimits }
     ensures refused { IfErr result IsTextRefusal }
+    ensures accepts { (act : DestAct) → IsDestInLimits act → text.now ≡ dest_text act → result ≡ Ok act }
 {
     if text == "fail" {
         return Ok(DestAct::Fail);

@@ -16,36 +16,36 @@ pub enum Command<'line> {
     /// Shows the known bytes that stand in one piece.
     Peek,
     /// A call, made whole.
-    Whole(Call<'line>),
+    Whole(SaidCall<'line>),
     /// Writes a byte at this offset of what is lent.
     Put(usize, u8),
     /// Opens a call.
-    Begin(Call<'line>),
+    Begin(SaidCall<'line>),
     /// Makes steps of the side's open call.
     Go(Side, Steps),
 }
 
 /// A call of the reader or the writer.
 #[derive(Clone, Copy)]
-pub enum Call<'line> {
+pub enum SaidCall<'line> {
     Len(Side),
     IsEmpty(Side),
     IsFull(Side),
     IsClosed(Side),
     /// The side looks, and hands over the waker of this name.
-    Poll(Side, u32, Luck),
+    Poll(Side, u32, SaidLuck),
     /// The writer offers these bytes without waiting.
     Fill(List<'line>),
     /// The reader takes at most so many bytes without waiting.
     Drain(usize),
     /// The writer offers these bytes, and hands over the waker of this name.
-    PollFill(u32, List<'line>, Luck),
+    PollFill(u32, List<'line>, SaidLuck),
     /// The reader takes at most so many bytes, and hands over the waker of this name.
-    PollDrain(u32, usize, Luck),
+    PollDrain(u32, usize, SaidLuck),
     /// The writer offers what a source gives.
-    FillFrom(u32, Sources<'line>, Luck),
+    FillFrom(u32, Sources<'line>, SaidLuck),
     /// The reader hands bytes to a destination.
-    DrainTo(u32, Dests<'line>, Luck),
+    DrainTo(u32, Dests<'line>, SaidLuck),
     /// The reader gives up so many of the bytes that it peeks.
     Consume(usize),
     /// The writer is lent at most so many places.
@@ -58,7 +58,7 @@ pub enum Call<'line> {
 
 /// What happens to a poll from outside the pipe, as its line says it.
 #[derive(Clone, Copy)]
-pub struct Luck {
+pub struct SaidLuck {
     /// The number drawn; 1 where the line names none.
     pub draw: Option<u32>,
     /// No waker can be cloned to be registered.

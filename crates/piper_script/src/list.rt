@@ -1,6 +1,6 @@
 //! Lists of bytes, as a script writes them.
-ghost use Rattle.std.specs.Prelude.{◌≡◌, ℕ, ◌≤◌, ◌<◌, ◌++◌, length, codes, decimal, IfOk, IfErr, OnOk, IsErrOf, ◌↔◌, ◌⊎◌};
-ghost use Rattle.piper_script.specs.Limits.{greatest_number};
+ghost use Rattle.std.specs.Prelude.{◌≡◌, ℕ, ◌≤◌, ◌<◌, ◌++◌, length, codes, decimal, IsOk, IsOkAnd, IfOk, IfErr, OnOk, IsErrOf, ◌↔◌, ◌⊎◌};
+ghost use Rattle.piper_script.specs.Limits.{greatest_byte};
 ghost use Rattle.piper_script.specs.Refusal.{IsTextRefusal};
 ghost use Rattle.piper_script.specs.Number.{IsNumber};
 ghost use Rattle.piper_script.specs.List.{item_text, item_bytes, IsItem};
@@ -27,6 +27,7 @@ impl Item {
         ensures text { IfOk result (λ item. text.now ≡ item_text item) }
         ensures item { IfOk result IsItem }
         ensures refused { IfErr result IsTextRefusal }
+        ensures accepts { (item : Item) → IsItem item → text.now ≡ item_text item → result ≡ Ok item }
     {
         if let Some((first, last)) = text.split_once("..") {
             return range(first, last);
@@ -71,7 +72,8 @@ fn range(first: &str, last: &str) -> Result<Item, Refusal>
     ensures text { IfOk result (λ item. first.now ++ codes ".." ++ last.now ≡ item_text item) }
     ensures item { IfOk result IsItem }
     ensures refused { IfErr result IsTextRefusal }
-    ensures accepts { (a b : ℕ) → first.now ≡ decimal a → last.now ≡ decimal b → a ≤ b → b ≤ 255 → result ≡ Ok (Item.Range a b) }
+    ensures accepts { (a b : ℕ) → IsItem (Item.Range a b) →
+        first.now ≡ decimal a → last.now ≡ decimal b → result ≡ Ok (Item.Range a b) }
 {
     match both(byte(first), byte(last)) {
         Ok((first, last)) if first <= last => Ok(Item::Range(first, last)),
@@ -85,7 +87,8 @@ pub fn byte(text: &str) -> Result<u8, Refusal>
     ensures text { IfOk result (λ value. text.now ≡ decimal value) }
     ensures syntax { IsErrOf result Refusal.Syntax ↔ (¬ IsNumber text.now) }
     ensures refused { IfErr result IsTextRefusal }
-    ensures accepts { (n : ℕ) → text.now ≡ decimal n → n ≤ 255 → result ≡ Ok n }
+    ensures limits { IfOk result (λ value. value ≤ greatest_byte) }
+    ensures accepts { (n : ℕ) → text.now ≡ decimal n → n ≤ greatest_byte → result ≡ Ok n }
 {
     let value = number(text, 0, 255)?;
     Ok(value as u8)
@@ -99,14 +102,15 @@ pub struct List<'line> {
 }
 
 impl<'line> List<'line> {
-    ghost use Rattle.piper_script.specs.List.{IsList, StandsFor};
+    ghost use Rattle.piper_script.specs.List.{IsListText, StandsFor};
 
     /// The list that the text writes, if it has at most [`MOST`] bytes.
     pub fn parse(text: &'line str) -> Result<List<'line>, Refusal>
         ensures text { IfOk result (λ list. list.text.now ≡ text.now) }
-        ensures list { IfOk result IsList }
-        ensures limits { IfOk result (λ list. list.len ≤ greatest_number) }
+        ensures list { IfOk result (λ list. IsListText list.text.now list.len) }
         ensures refused { IfErr result IsTextRefusal }
+        ensures accepts { (len : ℕ) → IsListText text.now len →
+            IsOkAnd result (λ list. list.len ≡ len) }
     {
         if text == "-" {
             return Ok(List { text, len: 0 });
@@ -158,6 +162,7 @@ pub fn both<A: Drop, B: Drop>(
     ensures ok { IfOk result (λ values. (first ≡ Ok values.0) × (second ≡ Ok values.1)) }
     ensures syntax { IsErrOf result Refusal.Syntax ↔ (IsErrOf first Refusal.Syntax ⊎ IsErrOf second Refusal.Syntax) }
     ensures refused { IfErr result (λ refusal. IsErrOf first refusal ⊎ IsErrOf second refusal) }
+    ensures accepts { IsOk first → IsOk second → IsOk result }
 {
     match (first, second) {
         (Err(Refusal::Syntax), _) | (_, Err(Refusal::Syntax)) => Err(Refusal::Syntax),

@@ -3,17 +3,17 @@
 ghost use Rattle.std.specs.Prelude.{◌≡◌, IfOk};
 ghost use Rattle.piper_script.specs.Meaning.{Means};
 
-use crate::command::{Call, Luck};
+use crate::command::{SaidCall, SaidLuck};
 use crate::stop::Stop;
 use piper_sides::{calls, polling};
 use std::alloc::Global;
 
-impl From<Luck> for polling::Luck {
+impl From<SaidLuck> for polling::Luck {
     ghost use Rattle.piper_script.specs.Meaning.{luck_of};
 
     ghost from_gives = { λ said luck. luck ≡ luck_of said };
 
-    fn from(said: Luck) -> polling::Luck {
+    fn from(said: SaidLuck) -> polling::Luck {
         polling::Luck {
             draw: said.draw.unwrap_or(1),
             register_granted: !said.no_register,
@@ -22,36 +22,36 @@ impl From<Luck> for polling::Luck {
     }
 }
 
-impl Call<'_> {
+impl SaidCall<'_> {
     /// The call of the machine that the script asks for, with bytes and acts of its own.
     pub fn to_machine(self, alloc: Global) -> Result<calls::Call, Stop>
         ensures { IfOk result (Means self.entry) }
     {
         Ok(match self {
-            Call::Len(side) => calls::Call::Len(side),
-            Call::IsEmpty(side) => calls::Call::IsEmpty(side),
-            Call::IsFull(side) => calls::Call::IsFull(side),
-            Call::IsClosed(side) => calls::Call::IsClosed(side),
-            Call::Poll(side, waker, luck) => calls::Call::Poll(side, waker, luck.into()),
-            Call::Fill(list) => calls::Call::TryFill(list.bytes(alloc)?),
-            Call::Drain(most) => calls::Call::TryDrain(most),
-            Call::PollFill(waker, list, luck) => {
+            SaidCall::Len(side) => calls::Call::Len(side),
+            SaidCall::IsEmpty(side) => calls::Call::IsEmpty(side),
+            SaidCall::IsFull(side) => calls::Call::IsFull(side),
+            SaidCall::IsClosed(side) => calls::Call::IsClosed(side),
+            SaidCall::Poll(side, waker, luck) => calls::Call::Poll(side, waker, luck.into()),
+            SaidCall::Fill(list) => calls::Call::TryFill(list.bytes(alloc)?),
+            SaidCall::Drain(most) => calls::Call::TryDrain(most),
+            SaidCall::PollFill(waker, list, luck) => {
                 calls::Call::PollFillBytes(waker, luck.into(), list.bytes(alloc)?)
             }
-            Call::PollDrain(waker, most, luck) => {
+            SaidCall::PollDrain(waker, most, luck) => {
                 calls::Call::PollDrainBytes(waker, luck.into(), most)
             }
-            Call::FillFrom(waker, sources, luck) => {
+            SaidCall::FillFrom(waker, sources, luck) => {
                 calls::Call::PollFill(waker, luck.into(), sources.acts(alloc)?)
             }
-            Call::DrainTo(waker, dests, luck) => {
+            SaidCall::DrainTo(waker, dests, luck) => {
                 calls::Call::PollDrain(waker, luck.into(), dests.acts(alloc)?)
             }
-            Call::Consume(n) => calls::Call::Consume(n),
-            Call::Lend(most) => calls::Call::WriteBuf(most),
-            Call::Produced(n) => calls::Call::Produced(n),
-            Call::Close => calls::Call::Close,
-            Call::Drop(side) => calls::Call::Drop(side),
+            SaidCall::Consume(n) => calls::Call::Consume(n),
+            SaidCall::Lend(most) => calls::Call::WriteBuf(most),
+            SaidCall::Produced(n) => calls::Call::Produced(n),
+            SaidCall::Close => calls::Call::Close,
+            SaidCall::Drop(side) => calls::Call::Drop(side),
         })
     }
 }

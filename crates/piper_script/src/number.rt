@@ -24,7 +24,8 @@ pub fn number(text: &str, least: usize, most: usize) -> Result<usize, Refusal>
     ensures limits { IfOk result (λ n. (least ≤ n) × (n ≤ most)) }
     ensures syntax { IsErrOf result Refusal.Syntax ↔ (¬ IsNumber text.now) }
     ensures refused { IfErr result IsTextRefusal }
-    ensures accepts { (n : ℕ) → text.now ≡ decimal n → least ≤ n → n ≤ most → result ≡ Ok n }
+    ensures accepts { (n : ℕ) →
+        text.now ≡ decimal n → least ≤ n → n ≤ most → result ≡ Ok n }
 {
     if !is_number(text) {
         return Err(Refusal::Syntax);
@@ -41,6 +42,7 @@ pub fn name(text: &str) -> Result<u32, Refusal>
     ensures text { IfOk result (λ value. text.now ≡ decimal value) }
     ensures syntax { IsErrOf result Refusal.Syntax ↔ (¬ IsNumber text.now) }
     ensures refused { IfErr result IsTextRefusal }
+    ensures limits { IfOk result (λ value. value ≤ greatest_name) }
     ensures accepts { (n : ℕ) → text.now ≡ decimal n → n ≤ greatest_name → result ≡ Ok n }
 {
     let value = number(text, 0, MOST_OF_A_NAME)?;

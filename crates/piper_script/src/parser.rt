@@ -1,16 +1,20 @@
 //! From the bytes of a line to what they say.
 
-ghost use Rattle.std.specs.Prelude.{◌≡◌, ℕ, IsOk, ◌≤◌, ◌<◌, ◌++◌, ◌∷◌, length, codes, decimal, IsTrue, ◌↔◌, IfOk, IfErr, IfSome, IfNone};
+ghost use Rattle.std.specs.Prelude.{◌≡◌, ℕ, Bool, IsOk, IsOkAnd, ◌≤◌, ◌<◌, ◌++◌, ◌∷◌, length, codes, decimal, IsTrue, ◌↔◌, IfOk, IfErr, IfSome, IfNone};
 ghost use Rattle.piper_sides.specs.declared.calls.Side.{Side};
-ghost use Rattle.piper_script.specs.declared.command.Call.{Call};
+ghost use Rattle.piper_script.specs.declared.acts.Dests.{Dests};
+ghost use Rattle.piper_script.specs.declared.acts.Sources.{Sources};
 ghost use Rattle.piper_script.specs.declared.command.Command.{Command};
+ghost use Rattle.piper_script.specs.declared.command.SaidCall.{SaidCall};
+ghost use Rattle.piper_script.specs.declared.command.SaidLuck.{SaidLuck};
 ghost use Rattle.piper_script.specs.declared.command.Steps.{Steps};
-ghost use Rattle.piper_script.specs.Limits.{greatest_number, longest_line};
+ghost use Rattle.piper_script.specs.declared.list.List.{List as ByteList};
+ghost use Rattle.piper_script.specs.Limits.{longest_line};
 ghost use Rattle.piper_script.specs.Refusal.{IsTextRefusal};
-ghost use Rattle.piper_script.specs.Command.{side_text, word_if, draw_text, luck_text, steps_text, NamesNumberCall, NamesSideCall, IsPlainCall, IsPlain, call_text, command_text, IsCallInLimits, IsInLimits, IsSilent};
+ghost use Rattle.piper_script.specs.Command.{Text, side_text, spaced, denials_text, luck_text, call_name, call_text, command_name, command_text, IsLuck, IsCallInLimits, IsInLimits, Asks, AsksCommand, TakesNumber, TakesSide, HasNoSpace, IsSilent};
 
 use crate::acts::{Dests, Sources};
-use crate::command::{Call, Command, Luck, MOST, Refusal, Steps};
+use crate::command::{Command, MOST, Refusal, SaidCall, SaidLuck, Steps};
 use crate::list::{List, both, byte};
 use crate::number::{name, number};
 use piper_sides::calls::Side;
@@ -27,7 +31,8 @@ pub fn parse(line: &[u8]) -> Result<Option<Command<'_>>, Refusal>
     ensures silence { length line.now ≤ longest_line → IsSilent line.now → result ≡ Ok None }
     ensures long { longest_line < length line.now → result ≡ Err Refusal.Limit }
     ensures refused { IfErr result IsTextRefusal }
-    ensures accepts { (command : Command) → IsPlain command → IsInLimits command → length line.now ≤ longest_line → line.now ≡ command_text command → IsOk result }
+    ensures accepts { (said : Command) → IsInLimits said →
+        length line.now ≤ longest_line → line.now ≡ command_text said → IsOk result }
 {
     if line.len() > MOST_OF_A_LINE {
         return Err(Refusal::Limit);
@@ -70,7 +75,8 @@ fn command(text: &str) -> Result<Command<'_>, Refusal>
     ensures text { IfOk result (λ command. text.now ≡ command_text command) }
     ensures limits { IfOk result IsInLimits }
     ensures refused { IfErr result IsTextRefusal }
-    ensures accepts { (command : Command) → IsPlain command → IsInLimits command → text.now ≡ command_text command → IsOk result }
+    ensures accepts { (said : Command) → IsInLimits said →
+        text.now ≡ command_text said → IsOk result }
 {
     if text == "peek" {
         return Ok(Command::Peek);
@@ -85,11 +91,8 @@ fn command_with<'line>(name: &str, arguments: &'line str) -> Result<Command<'lin
     ensures text { IfOk result (λ command. name.now ++ 32 ∷ arguments.now ≡ command_text command) }
     ensures limits { IfOk result IsInLimits }
     ensures refused { IfErr result IsTextRefusal }
-    ensures accepts_pipe { (n : ℕ) → name.now ≡ codes "pipe" → arguments.now ≡ decimal n → 1 ≤ n → n ≤ greatest_number → IsOk result }
-    ensures accepts_begin { (call : Call) → name.now ≡ codes "begin" → arguments.now ≡ call_text call → IsPlainCall call → IsCallInLimits call → IsOk result }
-    ensures accepts_go { (side : Side) (steps : Steps) → name.now ≡ codes "go" → arguments.now ≡ side_text side ++ steps_text steps → IsInLimits (Command.Go side steps) → IsOk result }
-    ensures accepts_number { (n : ℕ) → NamesNumberCall name.now → arguments.now ≡ decimal n → n ≤ greatest_number → IsOk result }
-    ensures accepts_side { (side : Side) → NamesSideCall name.now → arguments.now ≡ side_text side → IsOk result }
+    ensures accepts { (said : Command) → name.now ≡ command_name said →
+        AsksCommand arguments.now said → IsOk result }
 {
     match name {
         "pipe" => Ok(Command::Pipe(number(arguments, 1, MOST)?)),
@@ -100,29 +103,30 @@ fn command_with<'line>(name: &str, arguments: &'line str) -> Result<Command<'lin
     }
 }
 
-fn call(text: &str) -> Result<Call<'_>, Refusal>
+fn call(text: &str) -> Result<SaidCall<'_>, Refusal>
     ensures text { IfOk result (λ call. text.now ≡ call_text call) }
     ensures limits { IfOk result IsCallInLimits }
     ensures refused { IfErr result IsTextRefusal }
-    ensures accepts { (call : Call) → IsPlainCall call → IsCallInLimits call → text.now ≡ call_text call → IsOk result }
+    ensures accepts { (said : SaidCall) → IsCallInLimits said →
+        text.now ≡ call_text said → IsOk result }
 {
     if text == "close" {
-        return Ok(Call::Close);
+        return Ok(SaidCall::Close);
     }
     let (name, arguments) = text.split_once(' ').ok_or(Refusal::Syntax)?;
     call_with(name, arguments)
 }
 
-fn call_with<'line>(name: &str, arguments: &'line str) -> Result<Call<'line>, Refusal>
+fn call_with<'line>(name: &str, arguments: &'line str) -> Result<SaidCall<'line>, Refusal>
     ensures text { IfOk result (λ call. name.now ++ 32 ∷ arguments.now ≡ call_text call) }
     ensures limits { IfOk result IsCallInLimits }
     ensures refused { IfErr result IsTextRefusal }
-    ensures accepts_number { (n : ℕ) → NamesNumberCall name.now → arguments.now ≡ decimal n → n ≤ greatest_number → IsOk result }
-    ensures accepts_side { (side : Side) → NamesSideCall name.now → arguments.now ≡ side_text side → IsOk result }
+    ensures accepts { (said : SaidCall) → name.now ≡ call_name said →
+        Asks arguments.now said → IsOk result }
 {
     match name {
         "poll" => poll(arguments),
-        "fill" => Ok(Call::Fill(List::parse(arguments)?)),
+        "fill" => Ok(SaidCall::Fill(List::parse(arguments)?)),
         "pollfill" => poll_fill(arguments),
         "polldrain" => poll_drain(arguments),
         "fillfrom" => fill_from(arguments),
@@ -133,44 +137,48 @@ fn call_with<'line>(name: &str, arguments: &'line str) -> Result<Call<'line>, Re
 }
 
 // A call whose one argument is a number.
-fn call_with_number<'line>(name: &str, arguments: &'line str) -> Result<Call<'line>, Refusal>
+fn call_with_number<'line>(name: &str, arguments: &'line str) -> Result<SaidCall<'line>, Refusal>
     ensures text { IfOk result (λ call. name.now ++ 32 ∷ arguments.now ≡ call_text call) }
     ensures limits { IfOk result IsCallInLimits }
     ensures refused { IfErr result IsTextRefusal }
-    ensures accepts { (n : ℕ) → NamesNumberCall name.now → arguments.now ≡ decimal n → n ≤ greatest_number → IsOk result }
+    ensures accepts { (said : SaidCall) → name.now ≡ call_name said →
+        Asks arguments.now said → TakesNumber said → IsOk result }
 {
     let n = number(arguments, 0, MOST)?;
     match name {
-        "drain" => Ok(Call::Drain(n)),
-        "consume" => Ok(Call::Consume(n)),
-        "lend" => Ok(Call::Lend(n)),
-        "produced" => Ok(Call::Produced(n)),
+        "drain" => Ok(SaidCall::Drain(n)),
+        "consume" => Ok(SaidCall::Consume(n)),
+        "lend" => Ok(SaidCall::Lend(n)),
+        "produced" => Ok(SaidCall::Produced(n)),
         _ => Err(Refusal::Syntax),
     }
 }
 
 // A call whose one argument is a side.
-fn call_with_side<'line>(name: &str, arguments: &'line str) -> Result<Call<'line>, Refusal>
+fn call_with_side<'line>(name: &str, arguments: &'line str) -> Result<SaidCall<'line>, Refusal>
     ensures text { IfOk result (λ call. name.now ++ 32 ∷ arguments.now ≡ call_text call) }
     ensures limits { IfOk result IsCallInLimits }
     ensures refused { IfErr result IsTextRefusal }
-    ensures accepts { (side : Side) → NamesSideCall name.now → arguments.now ≡ side_text side → IsOk result }
+    ensures accepts { (said : SaidCall) → name.now ≡ call_name said →
+        Asks arguments.now said → TakesSide said → IsOk result }
 {
     let side = side(arguments)?;
     match name {
-        "len" => Ok(Call::Len(side)),
-        "empty" => Ok(Call::IsEmpty(side)),
-        "full" => Ok(Call::IsFull(side)),
-        "closed" => Ok(Call::IsClosed(side)),
-        "drop" => Ok(Call::Drop(side)),
+        "len" => Ok(SaidCall::Len(side)),
+        "empty" => Ok(SaidCall::IsEmpty(side)),
+        "full" => Ok(SaidCall::IsFull(side)),
+        "closed" => Ok(SaidCall::IsClosed(side)),
+        "drop" => Ok(SaidCall::Drop(side)),
         _ => Err(Refusal::Syntax),
     }
 }
 
 fn put(arguments: &str) -> Result<Command<'_>, Refusal>
-    ensures text { IfOk result (λ command. codes "put " ++ arguments.now ≡ command_text command) }
+    ensures text { IfOk result (λ said. codes "put " ++ arguments.now ≡ command_text said) }
     ensures limits { IfOk result IsInLimits }
     ensures refused { IfErr result IsTextRefusal }
+    ensures accepts { (offset byte : ℕ) →
+        AsksCommand arguments.now (Command.Put offset byte) → IsOk result }
 {
     let (offset, value) = arguments.split_once(' ').ok_or(Refusal::Syntax)?;
     let (offset, value) = both(number(offset, 0, MOST), byte(value))?;
@@ -181,7 +189,8 @@ fn go(arguments: &str) -> Result<Command<'_>, Refusal>
     ensures text { IfOk result (λ command. codes "go " ++ arguments.now ≡ command_text command) }
     ensures limits { IfOk result IsInLimits }
     ensures refused { IfErr result IsTextRefusal }
-    ensures accepts { (side : Side) (steps : Steps) → arguments.now ≡ side_text side ++ steps_text steps → IsInLimits (Command.Go side steps) → IsOk result }
+    ensures accepts { (side : Side) (steps : Steps) →
+        AsksCommand arguments.now (Command.Go side steps) → IsOk result }
 {
     let Some((mover, count)) = arguments.split_once(' ') else {
         return Ok(Command::Go(side(arguments)?, Steps::One));
@@ -193,104 +202,160 @@ fn go(arguments: &str) -> Result<Command<'_>, Refusal>
     Ok(Command::Go(mover, Steps::Count(number(count, 1, MOST)?)))
 }
 
-fn poll(arguments: &str) -> Result<Call<'_>, Refusal>
+fn poll(arguments: &str) -> Result<SaidCall<'_>, Refusal>
     ensures text { IfOk result (λ call. codes "poll " ++ arguments.now ≡ call_text call) }
     ensures limits { IfOk result IsCallInLimits }
     ensures refused { IfErr result IsTextRefusal }
+    ensures accepts { (side : Side) (waker : ℕ) (luck : SaidLuck) →
+        Asks arguments.now (SaidCall.Poll side waker luck) → IsOk result }
 {
-    let (looker, rest) = arguments.split_once(' ').ok_or(Refusal::Syntax)?;
+    let (looker, waker, luck) = two_words(arguments)?;
     let looker = side(looker)?;
-    let (waker, luck) = without_luck(rest);
     let (waker, luck) = both(name(waker), luck)?;
-    Ok(Call::Poll(looker, waker, luck))
+    Ok(SaidCall::Poll(looker, waker, luck))
 }
 
-fn poll_fill(arguments: &str) -> Result<Call<'_>, Refusal>
+fn poll_fill(arguments: &str) -> Result<SaidCall<'_>, Refusal>
     ensures text { IfOk result (λ call. codes "pollfill " ++ arguments.now ≡ call_text call) }
     ensures limits { IfOk result IsCallInLimits }
     ensures refused { IfErr result IsTextRefusal }
+    ensures accepts { (waker : ℕ) (list : ByteList) (luck : SaidLuck) →
+        Asks arguments.now (SaidCall.PollFill waker list luck) → IsOk result }
 {
-    let (waker, rest) = arguments.split_once(' ').ok_or(Refusal::Syntax)?;
-    let (list, luck) = without_luck(rest);
+    let (waker, list, luck) = two_words(arguments)?;
     let (waker, (list, luck)) = both(name(waker), both(List::parse(list), luck))?;
-    Ok(Call::PollFill(waker, list, luck))
+    Ok(SaidCall::PollFill(waker, list, luck))
 }
 
-fn poll_drain(arguments: &str) -> Result<Call<'_>, Refusal>
+fn poll_drain(arguments: &str) -> Result<SaidCall<'_>, Refusal>
     ensures text { IfOk result (λ call. codes "polldrain " ++ arguments.now ≡ call_text call) }
     ensures limits { IfOk result IsCallInLimits }
     ensures refused { IfErr result IsTextRefusal }
+    ensures accepts { (waker most : ℕ) (luck : SaidLuck) →
+        Asks arguments.now (SaidCall.PollDrain waker most luck) → IsOk result }
 {
-    let (waker, rest) = arguments.split_once(' ').ok_or(Refusal::Syntax)?;
-    let (most, luck) = without_luck(rest);
+    let (waker, most, luck) = two_words(arguments)?;
     let (waker, (most, luck)) = both(name(waker), both(number(most, 0, MOST), luck))?;
-    Ok(Call::PollDrain(waker, most, luck))
+    Ok(SaidCall::PollDrain(waker, most, luck))
 }
 
-fn fill_from(arguments: &str) -> Result<Call<'_>, Refusal>
+fn fill_from(arguments: &str) -> Result<SaidCall<'_>, Refusal>
     ensures text { IfOk result (λ call. codes "fillfrom " ++ arguments.now ≡ call_text call) }
     ensures limits { IfOk result IsCallInLimits }
     ensures refused { IfErr result IsTextRefusal }
+    ensures accepts { (waker : ℕ) (sources : Sources) (luck : SaidLuck) →
+        Asks arguments.now (SaidCall.FillFrom waker sources luck) → IsOk result }
 {
-    let (waker, rest) = arguments.split_once(' ').ok_or(Refusal::Syntax)?;
-    let (sources, luck) = without_luck(rest);
+    let (waker, sources, luck) = two_words(arguments)?;
     let (waker, (sources, luck)) = both(name(waker), both(Sources::parse(sources), luck))?;
-    Ok(Call::FillFrom(waker, sources, luck))
+    Ok(SaidCall::FillFrom(waker, sources, luck))
 }
 
-fn drain_to(arguments: &str) -> Result<Call<'_>, Refusal>
+fn drain_to(arguments: &str) -> Result<SaidCall<'_>, Refusal>
     ensures text { IfOk result (λ call. codes "drainto " ++ arguments.now ≡ call_text call) }
     ensures limits { IfOk result IsCallInLimits }
     ensures refused { IfErr result IsTextRefusal }
+    ensures accepts { (waker : ℕ) (dests : Dests) (luck : SaidLuck) →
+        Asks arguments.now (SaidCall.DrainTo waker dests luck) → IsOk result }
 {
-    let (waker, rest) = arguments.split_once(' ').ok_or(Refusal::Syntax)?;
-    let (dests, luck) = without_luck(rest);
+    let (waker, dests, luck) = two_words(arguments)?;
     let (waker, (dests, luck)) = both(name(waker), both(Dests::parse(dests), luck))?;
-    Ok(Call::DrainTo(waker, dests, luck))
+    Ok(SaidCall::DrainTo(waker, dests, luck))
 }
 
-// The text without the word at its end, and whether that stood there.
-fn without<'text>(text: &'text str, word: &str) -> (&'text str, bool)
-    ensures { text.now ≡ result.0.now ++ word_if result.1 word.now }
+type TwoWords<'line> = (&'line str, &'line str, Result<SaidLuck, Refusal>);
+
+// Two words, and the luck behind them.
+fn two_words(arguments: &str) -> Result<TwoWords<'_>, Refusal>
+    ensures text { IfOk result (λ (first, second, luck). IfOk luck (λ luck.
+        spaced arguments.now ≡ spaced first.now ++ spaced second.now ++ luck_text luck)) }
+    ensures luck { IfOk result (λ (first, second, luck). IfErr luck IsTextRefusal) }
+    ensures refused { IfErr result IsTextRefusal }
+    ensures accepts { (first second : Text) (luck : SaidLuck) →
+        HasNoSpace first → HasNoSpace second → IsLuck luck →
+        spaced arguments.now ≡ spaced first ++ spaced second ++ luck_text luck →
+        IsOkAnd result (λ (one, other, read).
+        (one.now ≡ first) × (other.now ≡ second) × (read ≡ Ok luck)) }
 {
-    match text.strip_suffix(word) {
-        Some(rest) => (rest, true),
-        None => (text, false),
-    }
+    let (first, rest) = arguments.split_once(' ').ok_or(Refusal::Syntax)?;
+    let (second, luck) = without_luck(rest);
+    Ok((first, second, luck))
 }
 
-// The text without the luck at its end, and that luck.
-fn without_luck(text: &str) -> (&str, Result<Luck, Refusal>)
+// The text before the first space, and the luck that stands behind it.
+fn without_luck(text: &str) -> (&str, Result<SaidLuck, Refusal>)
     ensures text { IfOk result.1 (λ luck. text.now ≡ result.0.now ++ luck_text luck) }
     ensures refused { IfErr result.1 IsTextRefusal }
+    ensures accepts { (front : Text) (luck : SaidLuck) → HasNoSpace front → IsLuck luck →
+        text.now ≡ front ++ luck_text luck → (result.0.now ≡ front) × (result.1 ≡ Ok luck) }
 {
-    let (rest, no_yield) = without(text, " noyield");
-    let (rest, no_register) = without(rest, " noregister");
-    let (rest, draw) = without_draw(rest);
-    match draw {
-        Ok(draw) => (
-            rest,
-            Ok(Luck {
-                draw,
-                no_register,
-                no_yield,
+    match text.split_once(' ') {
+        Some((front, words)) => (front, luck(words)),
+        None => (
+            text,
+            Ok(SaidLuck {
+                draw: None,
+                no_register: false,
+                no_yield: false,
             }),
         ),
-        Err(refusal) => (rest, Err(refusal)),
     }
 }
 
-// The text without the draw at its end, and that draw.
-fn without_draw(text: &str) -> (&str, Result<Option<u32>, Refusal>)
-    ensures text { IfOk result.1 (λ draw. text.now ≡ result.0.now ++ draw_text draw) }
-    ensures refused { IfErr result.1 IsTextRefusal }
+// The luck that these words say.
+fn luck(words: &str) -> Result<SaidLuck, Refusal>
+    ensures text { IfOk result (λ luck. spaced words.now ≡ luck_text luck) }
+    ensures refused { IfErr result IsTextRefusal }
+    ensures accepts { (luck : SaidLuck) → IsLuck luck →
+        spaced words.now ≡ luck_text luck → result ≡ Ok luck }
 {
-    let Some((rest, draw)) = text.split_once(" draw=") else {
-        return (text, Ok(None));
+    if let Some(rest) = words.strip_prefix("draw=") {
+        return drawn(rest);
+    }
+    let (no_register, no_yield) = denials(words)?;
+    Ok(SaidLuck {
+        draw: None,
+        no_register,
+        no_yield,
+    })
+}
+
+// The luck that a number says which is drawn, and the words behind it.
+fn drawn(words: &str) -> Result<SaidLuck, Refusal>
+    ensures text { IfOk result (λ luck. codes " draw=" ++ words.now ≡ luck_text luck) }
+    ensures refused { IfErr result IsTextRefusal }
+    ensures accepts { (luck : SaidLuck) → IsLuck luck →
+        codes " draw=" ++ words.now ≡ luck_text luck → result ≡ Ok luck }
+{
+    let Some((draw, words)) = words.split_once(' ') else {
+        return Ok(SaidLuck {
+            draw: Some(name(words)?),
+            no_register: false,
+            no_yield: false,
+        });
     };
-    match name(draw) {
-        Ok(draw) => (rest, Ok(Some(draw))),
-        Err(refusal) => (rest, Err(refusal)),
+    let (draw, (no_register, no_yield)) = both(name(draw), denials(words))?;
+    Ok(SaidLuck {
+        draw: Some(draw),
+        no_register,
+        no_yield,
+    })
+}
+
+// Whether these words deny memory to register a waker, and whether to wake one by a yield.
+fn denials(words: &str) -> Result<(bool, bool), Refusal>
+    ensures text { IfOk result (λ (no_register, no_yield).
+        spaced words.now ≡ denials_text no_register no_yield) }
+    ensures refused { IfErr result IsTextRefusal }
+    ensures accepts { (no_register no_yield : Bool) →
+        spaced words.now ≡ denials_text no_register no_yield →
+        result ≡ Ok (no_register, no_yield) }
+{
+    match words {
+        "noregister" => Ok((true, false)),
+        "noyield" => Ok((false, true)),
+        "noregister noyield" => Ok((true, true)),
+        _ => Err(Refusal::Syntax),
     }
 }
 

@@ -1,5 +1,5 @@
 use Rattle.piper_script.specs.Acts.{dest_text}
-use Rattle.piper_script.proofs.Lists.{texts_of-append}
+use Rattle.piper_script.proofs.Joined.{texts_of-append}
 use Rattle.piper_script.proofs.acts.Dests.add_to.Goals as goal
 
 pub loop-act-preserved : goal.loop-act-preserved

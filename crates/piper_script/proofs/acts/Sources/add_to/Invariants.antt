@@ -1,4 +1,4 @@
-use Rattle.piper_script.proofs.Lists.{texts_of}
+use Rattle.piper_script.proofs.Joined.{texts_of}
 use Rattle.piper_script.proofs.ScriptedActs.{WritesActs}
 use Rattle.piper_script.proofs.acts.Sources.add_to.Given as goal
 

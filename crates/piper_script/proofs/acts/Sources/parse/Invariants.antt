@@ -1,10 +1,10 @@
-use Rattle.std.proofs.Common.{◌≡◌, ◌<◌, ◌^◌, ◌-◌, List, length}
-use Rattle.std.specs.List.{flat_map}
-use Rattle.piper_sides.specs.declared.scripted.SourceAct.{SourceAct}
-use Rattle.piper_script.specs.Acts.{bytes_of}
-use Rattle.piper_script.proofs.Lists.{texts_of}
-use Rattle.piper_script.proofs.ScriptedActs.{WritesActs}
+use Rattle.std.proofs.Common.{◌<◌, ◌^◌, ◌-◌, length}
+use Rattle.piper_script.proofs.Joined.{texts_of}
+use Rattle.piper_script.proofs.ScriptedActs.{WritesSources, CountsSources}
 use Rattle.piper_script.proofs.acts.Sources.parse.Given as goal
 
 abbrev pub invariant-loop-act : goal.invariant-loop-act
-invariant-loop-act l = l.len < 2 ^ 64 - 1 → (acts : List SourceAct) × WritesActs (texts_of l.yielded) acts × (length (flat_map bytes_of acts) ≡ l.len)
+invariant-loop-act l = record {
+  reads : l.len < 2 ^ 64 - 1 → WritesSources (texts_of l.yielded) l.len;
+  counts : CountsSources l.text (length l.yielded) l.len;
+}
