@@ -3,6 +3,7 @@ ghost use Rattle.std.specs.Prelude.{◌≡◌, ◌≤◌, length, take, drop, mi
 
 use crate::pair::{same, task_at_last};
 use futures::task::{Context, Poll};
+use futures::test::MockTask;
 use piper::PipeError;
 use piper::io::{AsyncBufRead, AsyncWrite, Copied, poll_copy};
 use std::alloc::AllocGlobal;
@@ -142,6 +143,11 @@ fn told(polled: Poll<Result<Copied, PipeError>>) -> Ended {
     }
 }
 
+/// Polls a copy.
+fn poll(task: &MockTask, lender: &mut Lender<'_>, keeper: &mut Keeper) -> Ended {
+    told(task.enter(|cx| poll_copy(cx, lender, keeper)))
+}
+
 /// Copies eight bytes, while the one end fails at its call `read`, or the other at its call `write`: so many were carried, and none is lost.
 fn copies<R>(rt: &R, read: usize, write: usize, want: Ended, carried: usize)
 where
@@ -150,9 +156,9 @@ where
     let task = task_at_last(rt);
     let mut lender = Lender::new(b"abcdefgh", read);
     let mut keeper = Keeper::new(rt, write);
-    let polled = task.enter(|cx| poll_copy(cx, &mut lender, &mut keeper));
+    let ended = poll(&task, &mut lender, &mut keeper);
     let what = (read, write);
-    same(rt, &what, told(polled), want);
+    same(rt, &what, ended, want);
     same(rt, &what, lender.taken, carried);
     same(
         rt,
@@ -172,31 +178,42 @@ fn a_copy_ends_at_the_first_error(rt: HostRuntime) {
     copies(&rt, 10, 9, Ended::Copied(Copied::ToTheEnd), 8);
 }
 
+/// A copy of a hundred pieces takes two polls.
+fn takes_two_polls<R>(rt: &R)
+where
+    R: Abort + RandomSource + AllocGlobal,
+{
+    let task = task_at_last(rt);
+    let mut lender = Lender::new(&[7; 100], 0);
+    let mut keeper = Keeper::new(rt, 0);
+    let ended = poll(&task, &mut lender, &mut keeper);
+    same(rt, &"at first", ended, Ended::Pending);
+    same(rt, &"woken", (task.is_woken(), lender.taken), (true, 64));
+    let ended = poll(&task, &mut lender, &mut keeper);
+    same(rt, &"then", ended, Ended::Copied(Copied::ToTheEnd));
+    same(rt, &"all", keeper.bytes.as_slice(), [7; 100].as_slice());
+}
+
 #[test]
 fn a_long_copy_asks_for_another_poll_after_64_pieces(rt: HostRuntime) {
-    let task = task_at_last(&rt);
-    let mut lender = Lender::new(&[7; 100], 0);
-    let mut keeper = Keeper::new(&rt, 0);
-    let polled = task.enter(|cx| poll_copy(cx, &mut lender, &mut keeper));
-    same(&rt, &"at first", told(polled), Ended::Pending);
-    same(&rt, &"woken", (task.is_woken(), lender.taken), (true, 64));
-    let polled = task.enter(|cx| poll_copy(cx, &mut lender, &mut keeper));
-    same(&rt, &"then", told(polled), Ended::Copied(Copied::ToTheEnd));
-    same(&rt, &"all", keeper.bytes.as_slice(), [7; 100].as_slice());
+    takes_two_polls(&rt);
+}
+
+/// A copy to a writer that was closed ends, and leaves the reader's bytes.
+fn takes_nothing<R>(rt: &R)
+where
+    R: Abort + RandomSource + AllocGlobal,
+{
+    let task = task_at_last(rt);
+    let mut lender = Lender::new(b"a", 0);
+    let mut keeper = Keeper::new(rt, 0);
+    keeper.is_closed = true;
+    let ended = poll(&task, &mut lender, &mut keeper);
+    same(rt, &"closed", ended, Ended::Copied(Copied::UntilClosed));
+    same(rt, &"taken", lender.taken, 0);
 }
 
 #[test]
 fn a_copy_to_a_closed_writer_takes_nothing(rt: HostRuntime) {
-    let task = task_at_last(&rt);
-    let mut lender = Lender::new(b"a", 0);
-    let mut keeper = Keeper::new(&rt, 0);
-    keeper.is_closed = true;
-    let polled = task.enter(|cx| poll_copy(cx, &mut lender, &mut keeper));
-    same(
-        &rt,
-        &"closed",
-        told(polled),
-        Ended::Copied(Copied::UntilClosed),
-    );
-    same(&rt, &"taken", lender.taken, 0);
+    takes_nothing(&rt);
 }

@@ -2,7 +2,7 @@
 ghost use Rattle.std.specs.Prelude.{◌<◌, ◌*◌, ◌^◌};
 
 use crate::ends::End;
-use crate::pair::{Act, Moved, Pair, Polled, same};
+use crate::pair::{Act, Moved, Pair, Polled, plays, same};
 use std::alloc::AllocGlobal;
 use std::io::ErrorKind;
 use std::process::Abort;
@@ -23,7 +23,7 @@ const KINDS: [ErrorKind; 8] = [
 
 #[test]
 fn a_copy_waits_until_the_other_side_moves(rt: HostRuntime) {
-    let acts = [
+    let acts = &[
         Act::PollDrain(8, None),
         Act::ReaderIsWoken(false),
         Act::PollDrain(8, None),
@@ -39,12 +39,12 @@ fn a_copy_waits_until_the_other_side_moves(rt: HostRuntime) {
         Act::DropWriter,
         Act::PollDrain(8, Some(b"")),
     ];
-    Pair::new(&rt, 4).play(&rt, &acts);
+    plays(&rt, 4, acts);
 }
 
 #[test]
 fn a_fill_of_a_pipe_that_was_closed_takes_nothing(rt: HostRuntime) {
-    let acts = [
+    let acts = &[
         Act::Fill(b"a", 1),
         Act::PollFill(b"b", None),
         Act::DropReader,
@@ -52,19 +52,19 @@ fn a_fill_of_a_pipe_that_was_closed_takes_nothing(rt: HostRuntime) {
         Act::PollFill(b"b", Some(0)),
         Act::Closed(true),
     ];
-    Pair::new(&rt, 1).play(&rt, &acts);
+    plays(&rt, 1, acts);
 }
 
 #[test]
 fn a_drain_of_a_pipe_that_was_closed_is_at_the_end(rt: HostRuntime) {
-    let acts = [
+    let acts = &[
         Act::PollDrain(1, None),
         Act::DropWriter,
         Act::ReaderIsWoken(true),
         Act::PollDrain(1, Some(b"")),
         Act::Closed(true),
     ];
-    Pair::new(&rt, 1).play(&rt, &acts);
+    plays(&rt, 1, acts);
 }
 
 /// Through which call a copy goes.
@@ -115,23 +115,29 @@ where
     pair.play(rt, &left);
 }
 
+/// Through either call, into a pipe that is full before that and into one that is not.
+fn fills_end_at<H>(rt: &H, last: usize, error: Option<ErrorKind>)
+where
+    H: Abort + Wait + RandomSource + AllocGlobal + Clone + Drop,
+    requires { 0 < last }
+{
+    fill_ends_at(rt, Through::Std, 3, last, error);
+    fill_ends_at(rt, Through::Inner, 3, last, error);
+    fill_ends_at(rt, Through::Std, 16, last, error);
+    fill_ends_at(rt, Through::Inner, 16, last, error);
+}
+
 #[test]
 fn a_source_that_fails_is_told_and_its_earlier_bytes_stay(rt: HostRuntime) {
     for (i, kind) in KINDS.into_iter().enumerate() {
-        for capacity in [3, 16] {
-            fill_ends_at(&rt, Through::Std, capacity, i + 1, Some(kind));
-            fill_ends_at(&rt, Through::Inner, capacity, i + 1, Some(kind));
-        }
+        fills_end_at(&rt, i + 1, Some(kind));
     }
 }
 
 #[test]
 fn a_source_that_gives_none_ends_a_fill(rt: HostRuntime) {
     for last in 1..9 {
-        for capacity in [3, 16] {
-            fill_ends_at(&rt, Through::Std, capacity, last, None);
-            fill_ends_at(&rt, Through::Inner, capacity, last, None);
-        }
+        fills_end_at(&rt, last, None);
     }
 }
 
@@ -164,69 +170,83 @@ where
     pair.play(rt, &left);
 }
 
+/// Through either call.
+fn drains_end_at<H>(rt: &H, last: usize, error: Option<ErrorKind>)
+where
+    H: Abort + Wait + RandomSource + AllocGlobal + Clone + Drop,
+    requires { 0 < last }
+{
+    drain_ends_at(rt, Through::Std, last, error);
+    drain_ends_at(rt, Through::Inner, last, error);
+}
+
 #[test]
 fn a_destination_that_fails_is_told_and_what_it_took_is_gone(rt: HostRuntime) {
     for (i, kind) in KINDS.into_iter().enumerate() {
-        drain_ends_at(&rt, Through::Std, i + 1, Some(kind));
-        drain_ends_at(&rt, Through::Inner, i + 1, Some(kind));
+        drains_end_at(&rt, i + 1, Some(kind));
     }
 }
 
 #[test]
 fn a_destination_that_takes_none_ends_a_drain(rt: HostRuntime) {
     for last in 1..10 {
-        drain_ends_at(&rt, Through::Std, last, None);
-        drain_ends_at(&rt, Through::Inner, last, None);
+        drains_end_at(&rt, last, None);
     }
 }
 
-#[test]
-fn a_copy_moves_whole_slices(rt: HostRuntime) {
-    let mut pair = Pair::new(&rt, 200_000);
+/// Both copies call the ends on slices as long as they can be.
+fn moves_whole_slices<H>(rt: &H)
+where
+    H: Abort + Wait + RandomSource + AllocGlobal + Clone + Drop,
+{
+    let mut pair = Pair::new(rt, 200_000);
     let mut source = End::willing();
     let mut dest = End::willing();
     same(
-        &rt,
+        rt,
         &"in",
-        pair.fill_from(&rt, &mut source),
+        pair.fill_from(rt, &mut source),
         Moved::Bytes(200_000),
     );
     same(
-        &rt,
+        rt,
         &"in",
         source.lens(),
         [4_096, 12_288, 36_864, 110_592, 36_160, 0].as_slice(),
     );
     same(
-        &rt,
+        rt,
         &"out",
-        pair.drain_to(&rt, &mut dest),
+        pair.drain_to(rt, &mut dest),
         Moved::Bytes(200_000),
     );
-    same(&rt, &"out", dest.lens(), [131_072, 68_928, 0].as_slice());
-    same(&rt, &"in order", dest.moved(), Some(200_000));
+    same(rt, &"out", dest.lens(), [131_072, 68_928, 0].as_slice());
+    same(rt, &"in order", dest.moved(), Some(200_000));
+}
+
+#[test]
+fn a_copy_moves_whole_slices(rt: HostRuntime) {
+    moves_whole_slices(&rt);
+}
+
+/// Between a pipe and slices, of which the one is longer than it and the other too.
+fn moves_all_that_fits<H>(rt: &H)
+where
+    H: Abort + Wait + RandomSource + AllocGlobal + Clone + Drop,
+{
+    let mut pair = Pair::new(rt, 8);
+    let mut source = b"hello world".as_slice();
+    let mut dest = [0; 16];
+    let mut places = dest.as_mut_slice();
+    same(rt, &"in", pair.fill_from(rt, &mut source), Moved::Bytes(8));
+    same(rt, &"left", source, b"rld".as_slice());
+    same(rt, &"out", pair.drain_to(rt, &mut places), Moved::Bytes(8));
+    same(rt, &"the bytes", &dest[..9], b"hello wo\0".as_slice());
 }
 
 #[test]
 fn a_copy_over_slices_moves_all_that_fits(rt: HostRuntime) {
-    let mut pair = Pair::new(&rt, 8);
-    let mut source = b"hello world".as_slice();
-    let mut dest = [0; 16];
-    let mut places = dest.as_mut_slice();
-    same(
-        &rt,
-        &"in",
-        pair.fill_from(&rt, &mut source),
-        Moved::Bytes(8),
-    );
-    same(&rt, &"left", source, b"rld".as_slice());
-    same(
-        &rt,
-        &"out",
-        pair.drain_to(&rt, &mut places),
-        Moved::Bytes(8),
-    );
-    same(&rt, &"the bytes", &dest[..9], b"hello wo\0".as_slice());
+    moves_all_that_fits(&rt);
 }
 
 /// Holds a count of yields in so many polls against one in a hundred.
@@ -234,52 +254,76 @@ fn one_in_a_hundred(rt: &impl Abort, yielded: u32, polls: u32) {
     assert!(rt; yielded > 0 && yielded < polls / 33, "{yielded} of {polls}");
 }
 
-#[test]
-fn one_drain_in_a_hundred_yields_and_moves_nothing(rt: HostRuntime) {
-    let mut pair = Pair::new(&rt, 1);
+/// Drains of a full pipe: those that yield leave it as it was.
+fn drains_yield<H>(rt: &H)
+where
+    H: Abort + Wait + RandomSource + AllocGlobal + Clone + Drop,
+{
+    let mut pair = Pair::new(rt, 1);
     let mut yielded = 0u32;
     for _ in 0..2_000 {
-        pair.play(&rt, &[Act::Fill(b"a", 1)]);
-        if pair.drain_to(&rt, &mut End::willing()) == Moved::Pending {
+        pair.play(rt, &[Act::Fill(b"a", 1)]);
+        if pair.drain_to(rt, &mut End::willing()) == Moved::Pending {
             let left = [
                 Act::ReaderIsWoken(true),
                 Act::Unread(1),
                 Act::Drain(1, b"a"),
             ];
-            pair.play(&rt, &left);
+            pair.play(rt, &left);
             yielded = yielded.saturating_add(1);
         }
     }
-    one_in_a_hundred(&rt, yielded, 2_000);
+    one_in_a_hundred(rt, yielded, 2_000);
+}
+
+#[test]
+fn one_drain_in_a_hundred_yields_and_moves_nothing(rt: HostRuntime) {
+    drains_yield(&rt);
+}
+
+/// Fills of an empty pipe: those that yield leave it as it was.
+fn fills_yield<H>(rt: &H)
+where
+    H: Abort + Wait + RandomSource + AllocGlobal + Clone + Drop,
+{
+    let mut pair = Pair::new(rt, 1);
+    let mut yielded = 0u32;
+    for _ in 0..2_000 {
+        if pair.fill_from(rt, &mut End::willing()) == Moved::Pending {
+            let left = [Act::WriterIsWoken(true), Act::Unread(0), Act::Fill(&[0], 1)];
+            pair.play(rt, &left);
+            yielded = yielded.saturating_add(1);
+        }
+        pair.play(rt, &[Act::Drain(1, &[0])]);
+    }
+    one_in_a_hundred(rt, yielded, 2_000);
 }
 
 #[test]
 fn one_fill_in_a_hundred_yields_and_moves_nothing(rt: HostRuntime) {
-    let mut pair = Pair::new(&rt, 1);
+    fills_yield(&rt);
+}
+
+/// Drains into no place move nothing, and some yield.
+fn drains_into_nothing<H>(rt: &H)
+where
+    H: Abort + Wait + RandomSource + AllocGlobal + Clone + Drop,
+{
+    let mut pair = Pair::new(rt, 1);
+    pair.play(rt, &[Act::Fill(b"a", 1)]);
     let mut yielded = 0u32;
-    for _ in 0..2_000 {
-        if pair.fill_from(&rt, &mut End::willing()) == Moved::Pending {
-            let left = [Act::WriterIsWoken(true), Act::Unread(0), Act::Fill(&[0], 1)];
-            pair.play(&rt, &left);
+    for _ in 0..1_000 {
+        let mut nothing: &mut [u8] = &mut [];
+        if pair.drain_to(rt, &mut nothing) != Moved::Bytes(0) {
+            pair.play(rt, &[Act::ReaderIsWoken(true)]);
             yielded = yielded.saturating_add(1);
         }
-        pair.play(&rt, &[Act::Drain(1, &[0])]);
     }
-    one_in_a_hundred(&rt, yielded, 2_000);
+    one_in_a_hundred(rt, yielded, 1_000);
+    pair.play(rt, &[Act::Drain(1, b"a")]);
 }
 
 #[test]
 fn a_drain_into_nothing_is_no_end(rt: HostRuntime) {
-    let mut pair = Pair::new(&rt, 1);
-    pair.play(&rt, &[Act::Fill(b"a", 1)]);
-    let mut yielded = 0u32;
-    for _ in 0..1_000 {
-        let mut nothing: &mut [u8] = &mut [];
-        if pair.drain_to(&rt, &mut nothing) != Moved::Bytes(0) {
-            pair.play(&rt, &[Act::ReaderIsWoken(true)]);
-            yielded = yielded.saturating_add(1);
-        }
-    }
-    one_in_a_hundred(&rt, yielded, 1_000);
-    pair.play(&rt, &[Act::Drain(1, b"a")]);
+    drains_into_nothing(&rt);
 }

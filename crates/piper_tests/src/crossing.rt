@@ -79,30 +79,46 @@ where
     same(rt, &"all", &dest[..came.min(TOTAL)] == want, true);
 }
 
+/// Through pipes of one place, of twenty and of a hundred.
+fn cross_by_fills_and_drains<H>(rt: &H)
+where
+    H: Abort + Threads + Wait + RandomSource + AllocGlobal + Clone + Drop + Send + Sync,
+{
+    let bytes = bytes_to_cross(rt);
+    for capacity in [1, 20, 100] {
+        let (mut reader, writer) = owned_pipe(rt, capacity);
+        thread::join(
+            rt,
+            || drains_all(rt, &mut reader, &bytes),
+            || fills_all(rt, writer, &bytes),
+        );
+    }
+}
+
 #[test]
 fn bytes_cross_by_fills_and_drains(rt: HostRuntime) {
-    let bytes = bytes_to_cross(&rt);
+    cross_by_fills_and_drains(&rt);
+}
+
+/// Through pipes of one place, of twenty and of a hundred.
+fn cross_by_reads_and_writes<H>(rt: &H)
+where
+    H: Abort + Threads + Wait + RandomSource + AllocGlobal + Clone + Drop + Send + Sync,
+{
+    let bytes = bytes_to_cross(rt);
     for capacity in [1, 20, 100] {
-        let (mut reader, writer) = owned_pipe(&rt, capacity);
+        let (mut reader, mut writer) = owned_pipe(rt, capacity);
         thread::join(
-            &rt,
-            || drains_all(&rt, &mut reader, &bytes),
-            || fills_all(&rt, writer, &bytes),
+            rt,
+            || reads_all(rt, &mut reader, &bytes),
+            || writes_all(rt, &mut writer, &bytes),
         );
     }
 }
 
 #[test]
 fn bytes_cross_by_reads_and_writes(rt: HostRuntime) {
-    let bytes = bytes_to_cross(&rt);
-    for capacity in [1, 20, 100] {
-        let (mut reader, mut writer) = owned_pipe(&rt, capacity);
-        thread::join(
-            &rt,
-            || reads_all(&rt, &mut reader, &bytes),
-            || writes_all(&rt, &mut writer, &bytes),
-        );
-    }
+    cross_by_reads_and_writes(&rt);
 }
 
 /// Copies from the one pipe to the other, and drops both handles. The answer is why the copy ended.
@@ -136,15 +152,23 @@ where
     copied
 }
 
+/// One thread fills the first pipe, one copies to the second, and one drains that.
+fn cross_two_pipes<H>(rt: &H)
+where
+    H: Abort + Threads + Wait + RandomSource + AllocGlobal + Clone + Drop + Send + Sync,
+{
+    let bytes = bytes_to_cross(rt);
+    let (from, writer) = owned_pipe(rt, 20);
+    let (mut last, to) = owned_pipe(rt, 7);
+    let (_, copied) = thread::join(
+        rt,
+        || fills_all(rt, writer, &bytes),
+        || copies_and_drains(rt, from, to, &mut last, &bytes),
+    );
+    same(rt, &"copied", copied, Copied::ToTheEnd);
+}
+
 #[test]
 fn bytes_cross_two_pipes_by_a_copy(rt: HostRuntime) {
-    let bytes = bytes_to_cross(&rt);
-    let (from, writer) = owned_pipe(&rt, 20);
-    let (mut last, to) = owned_pipe(&rt, 7);
-    let (_, copied) = thread::join(
-        &rt,
-        || fills_all(&rt, writer, &bytes),
-        || copies_and_drains(&rt, from, to, &mut last, &bytes),
-    );
-    same(&rt, &"copied", copied, Copied::ToTheEnd);
+    cross_two_pipes(&rt);
 }

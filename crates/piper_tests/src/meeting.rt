@@ -4,6 +4,7 @@ ghost use Rattle.std.specs.Prelude.{◌≡◌};
 use crate::pair::{granted, pipe_at_last, same, task_at_last};
 use std::alloc::AllocGlobal;
 use std::process::Abort;
+use std::random::RandomSource;
 use std::sync::Wait;
 
 /// The reader knows of one of its three bytes, and the writer of one of its five places, unless they meet. The answer is how many bytes the writer then takes.
@@ -37,15 +38,23 @@ fn without_a_meeting_the_writer_takes_one_byte(rt: HostRuntime) {
     same(&rt, &"taken", taken_after(&rt, false), 1);
 }
 
-#[test]
-fn a_heeded_mark_is_found(rt: HostRuntime) {
-    let task = task_at_last(&rt);
-    let (mut reader, mut writer) = pipe_at_last(&rt, 8);
-    same(&rt, &"taken", writer.try_fill(b"ab"), 2);
+/// A poll behind a heeded mark finds the bytes that were published before it.
+fn finds_what_was_marked<H>(rt: &H)
+where
+    H: Abort + Wait + RandomSource + AllocGlobal + Clone + Drop,
+{
+    let task = task_at_last(rt);
+    let (mut reader, mut writer) = pipe_at_last(rt, 8);
+    same(rt, &"taken", writer.try_fill(b"ab"), 2);
     reader.heed(&writer.mark());
     let found = task.enter(|cx| reader.poll(cx));
-    same(&rt, &"found", granted(&rt, found), Some(true));
-    same(&rt, &"known", reader.peek_buf(), b"ab".as_slice());
+    same(rt, &"found", granted(rt, found), Some(true));
+    same(rt, &"known", reader.peek_buf(), b"ab".as_slice());
     reader.drop();
     writer.drop();
+}
+
+#[test]
+fn a_heeded_mark_is_found(rt: HostRuntime) {
+    finds_what_was_marked(&rt);
 }

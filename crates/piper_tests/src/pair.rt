@@ -203,6 +203,15 @@ fn writer_of<'a, H: Wait + Clone + Drop>(
     }
 }
 
+/// Makes these acts with a new pipe.
+pub(crate) fn plays<H>(rt: &H, capacity: usize, acts: &[Act<'_>])
+where
+    H: Abort + Wait + RandomSource + AllocGlobal + Clone + Drop,
+    requires { (0 < capacity) × (2 * capacity < 2 ^ 64) }
+{
+    Pair::new(rt, capacity).play(rt, acts);
+}
+
 impl<H: Wait + Clone + Drop> Pair<H> {
     /// A pipe of which nothing is known.
     pub(crate) fn new(rt: &H, capacity: usize) -> Pair<H>

@@ -170,7 +170,10 @@ impl<R: AsyncBufRead> Future for ReadLine<'_, '_, R> {
             Poll::Ready(Ok(piece)) => piece,
         };
         let end = piece.iter().position(|byte| *byte == b'\n');
-        let count = end.map_or(piece.len(), |i| piece.len().min(i.saturating_add(1)));
+        let count = match end {
+            Some(i) => piece.len().min(i.saturating_add(1)),
+            None => piece.len(),
+        };
         if self.line.extend_from_slice(&piece[..count]).is_err() {
             return Poll::Ready(Err(PipeError::Memory));
         }

@@ -4,11 +4,13 @@ ghost use Rattle.std.specs.Prelude.{◌≡◌};
 use crate::ends::byte_at;
 use crate::pair::{pipe_at_last, same};
 use piper::{ReadEnd, Reader, WriteEnd, Writer};
+use std::alloc::AllocGlobal;
 use std::marker::{Send, Sync};
 use std::process::Abort;
 use std::sync::Wait;
 use std::sync::atomic::{AtomicBool, Ordering};
 use std::thread;
+use std::thread::Threads;
 
 /// The most turns that a thread makes before the test fails.
 const MOST_TURNS: u32 = 50_000_000;
@@ -69,19 +71,27 @@ fn read_until<H: Wait + Clone + Drop>(
     Some(came)
 }
 
-#[test]
-fn a_pipe_of_one_place_carries_all_bytes(rt: HostRuntime) {
-    let (mut reader, mut writer) = pipe_at_last(&rt, 1);
+/// Ten thousand bytes go through a pipe of one place.
+fn carries_by_single_bytes<H>(rt: &H)
+where
+    H: Abort + Threads + Wait + AllocGlobal + Clone + Drop + Send + Sync,
+{
+    let (mut reader, mut writer) = pipe_at_last(rt, 1);
     let stop = AtomicBool::new(false);
     let never = AtomicBool::new(false);
     let moved = thread::join(
-        &rt,
+        rt,
         || read_until(&mut reader, 10_000, &stop),
         || write_until(&mut writer, 10_000, &never),
     );
-    same(&rt, &"came and sent", moved, (Some(10_000), 10_000));
+    same(rt, &"came and sent", moved, (Some(10_000), 10_000));
     reader.drop();
     writer.drop();
+}
+
+#[test]
+fn a_pipe_of_one_place_carries_all_bytes(rt: HostRuntime) {
+    carries_by_single_bytes(&rt);
 }
 
 /// Drains what is left, at most 64 bytes, and tells how many came if each is the one that is due behind `came`.
@@ -144,22 +154,30 @@ fn drains<H: Wait + Clone + Drop>(rt: &impl Abort, reader: &mut Reader<H>, want:
     same(rt, &"drained", &dest[..n], want);
 }
 
-#[test]
-fn a_peeked_slice_stays_while_the_writer_publishes(rt: HostRuntime) {
-    let (mut reader, mut writer) = pipe_at_last(&rt, 8);
-    same(&rt, &"taken", writer.try_fill(b"ab"), 2);
-    same(&rt, &"drained", reader.try_drain(&mut []), 0);
+/// The writer publishes while the reader holds a peeked slice.
+fn publishes_beside_a_peeked_slice<H>(rt: &H)
+where
+    H: Abort + Threads + Wait + AllocGlobal + Clone + Drop + Send + Sync,
+{
+    let (mut reader, mut writer) = pipe_at_last(rt, 8);
+    same(rt, &"taken", writer.try_fill(b"ab"), 2);
+    same(rt, &"drained", reader.try_drain(&mut []), 0);
     let is_held = AtomicBool::new(false);
     let came = thread::join(
-        &rt,
+        rt,
         || holds_peeked(&reader, &is_held),
         || waits_for(&is_held) && writer.try_fill(b"cd") == 2,
     );
-    same(&rt, &"it stayed, and they were taken", came, (true, true));
-    drains(&rt, &mut reader, b"ab");
-    drains(&rt, &mut reader, b"cd");
+    same(rt, &"it stayed, and they were taken", came, (true, true));
+    drains(rt, &mut reader, b"ab");
+    drains(rt, &mut reader, b"cd");
     reader.drop();
     writer.drop();
+}
+
+#[test]
+fn a_peeked_slice_stays_while_the_writer_publishes(rt: HostRuntime) {
+    publishes_beside_a_peeked_slice(&rt);
 }
 
 /// Holds a lent slice until the reader drained, then writes to it and publishes.
@@ -197,20 +215,28 @@ fn drains_twice<H: Wait + Clone + Drop>(
     dest
 }
 
-#[test]
-fn a_lent_slice_is_written_while_the_reader_drains(rt: HostRuntime) {
-    let (mut reader, mut writer) = pipe_at_last(&rt, 8);
-    same(&rt, &"taken", writer.try_fill(b"ab"), 2);
+/// The reader drains while the writer holds a lent slice.
+fn drains_beside_a_lent_slice<H>(rt: &H)
+where
+    H: Abort + Threads + Wait + AllocGlobal + Clone + Drop + Send + Sync,
+{
+    let (mut reader, mut writer) = pipe_at_last(rt, 8);
+    same(rt, &"taken", writer.try_fill(b"ab"), 2);
     let is_held = AtomicBool::new(false);
     let is_drained = AtomicBool::new(false);
     let came = thread::join(
-        &rt,
+        rt,
         || holds_lent(&mut writer, &is_held, &is_drained),
         || drains_twice(&mut reader, &is_held, &is_drained),
     );
-    same(&rt, &"it was written, and came", came, (true, *b"abcdef"));
+    same(rt, &"it was written, and came", came, (true, *b"abcdef"));
     reader.drop();
     writer.drop();
+}
+
+#[test]
+fn a_lent_slice_is_written_while_the_reader_drains(rt: HostRuntime) {
+    drains_beside_a_lent_slice(&rt);
 }
 
 /// It is there for the bounds that its type has.

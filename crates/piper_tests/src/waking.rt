@@ -1,5 +1,5 @@
 //! Polls, lent slices, and who is woken. A task is woken where a call of the other side changed what it waits for.
-use crate::pair::{Act, Pair, Polled, same, task_at_last};
+use crate::pair::{Act, Pair, Polled, plays, same, task_at_last};
 use piper::Slot;
 use std::alloc::AllocGlobal;
 use std::marker::{Send, Sync};
@@ -11,7 +11,7 @@ use std::thread::Threads;
 
 #[test]
 fn a_poll_brings_what_was_published_before(rt: HostRuntime) {
-    let acts = [
+    let acts = &[
         Act::Fill(b"abcdef", 6),
         Act::Drain(6, b"abcdef"),
         Act::Fill(b"gh", 2),
@@ -20,19 +20,19 @@ fn a_poll_brings_what_was_published_before(rt: HostRuntime) {
         Act::Peek(b"gh"),
         Act::Unread(6),
     ];
-    Pair::new(&rt, 8).play(&rt, &acts);
+    plays(&rt, 8, acts);
 }
 
 #[test]
 fn lent_slices_carry_bytes_through(rt: HostRuntime) {
-    let acts = [
+    let acts = &[
         Act::Produce(b"hello world"),
         Act::PollReader(Polled::Found),
         Act::Peek(b"hello world"),
         Act::Consume(1),
         Act::Peek(b"ello world"),
     ];
-    Pair::new(&rt, 1024).play(&rt, &acts);
+    plays(&rt, 1024, acts);
 }
 
 /// A reader waits for a byte, is woken by the acts of another thread, and is not woken again by its own next poll.
@@ -41,9 +41,9 @@ where
     H: Abort + Threads + Wait + RandomSource + AllocGlobal + Clone + Drop + Send + Sync,
 {
     let mut pair = Pair::new(rt, 4);
-    let waits = [Act::PollReader(Polled::Pending), Act::ReaderIsWoken(false)];
-    pair.play(rt, &waits);
-    pair.play(rt, &waits);
+    let waits = &[Act::PollReader(Polled::Pending), Act::ReaderIsWoken(false)];
+    pair.play(rt, waits);
+    pair.play(rt, waits);
     pair.play_elsewhere(rt, acts);
     let goes_on = [
         Act::ReaderIsWoken(true),
@@ -59,10 +59,10 @@ where
     H: Abort + Threads + Wait + RandomSource + AllocGlobal + Clone + Drop + Send + Sync,
 {
     let mut pair = Pair::new(rt, 1);
-    let waits = [Act::PollWriter(Polled::Pending), Act::WriterIsWoken(false)];
+    let waits = &[Act::PollWriter(Polled::Pending), Act::WriterIsWoken(false)];
     pair.play(rt, &[Act::Fill(b"a", 1)]);
-    pair.play(rt, &waits);
-    pair.play(rt, &waits);
+    pair.play(rt, waits);
+    pair.play(rt, waits);
     pair.play_elsewhere(rt, acts);
     let goes_on = [
         Act::WriterIsWoken(true),
@@ -108,13 +108,21 @@ fn takes(rt: &impl Wait, slot: &Slot) -> bool {
     is_found
 }
 
+/// Two threads empty a slot with a waker: one of them gets it.
+fn two_threads_take<H>(rt: &H)
+where
+    H: Abort + Threads + Wait + RandomSource + AllocGlobal + Sync,
+{
+    let task = task_at_last(rt);
+    let slot = Slot::new();
+    let is_granted = task.enter(|cx| slot.register(rt, cx).is_ok());
+    same(rt, &"a waker was made", is_granted, true);
+    let (here, there) = thread::join(rt, || takes(rt, &slot), || takes(rt, &slot));
+    same(rt, &"one of them got it", here != there, true);
+    same(rt, &"the task is woken", task.is_woken(), true);
+}
+
 #[test]
 fn one_of_two_threads_gets_the_waker(rt: HostRuntime) {
-    let task = task_at_last(&rt);
-    let slot = Slot::new();
-    let is_granted = task.enter(|cx| slot.register(&rt, cx).is_ok());
-    same(&rt, &"a waker was made", is_granted, true);
-    let (here, there) = thread::join(&rt, || takes(&rt, &slot), || takes(&rt, &slot));
-    same(&rt, &"one of them got it", here != there, true);
-    same(&rt, &"the task is woken", task.is_woken(), true);
+    two_threads_take(&rt);
 }
