@@ -111,15 +111,15 @@ impl Machine {
         self.read.capacity()
     }
 
-    // Any machine is sound. No work is done: a call of it hands this fact to the proof of its caller.
+    // It does nothing: its clause is what holds of every machine, for the proof of its caller.
     fn learn(&self)
         ensures { IsSound self.now }
     {
         let _ = &self.is_closed;
     }
 
-    // Each call that may be opened now is the same run whole and made by steps alone. As `learn`, it does no work:
-    // a whole call hands the fact on as its clause `by_steps`.
+    // It does nothing, as `learn`. Its clause is that each call which may be opened now is the same run whole and
+    // made by steps alone; a whole call hands it on as `by_steps`.
     fn learn_steps(&self)
         ensures { AreWholeBySteps self.now }
     {

@@ -3,7 +3,6 @@ ghost use Rattle.std.specs.Prelude.{◌≡◌, ◌≤◌, ℕ, length, take, IfO
 ghost use Rattle.piper_sides.specs.Log.{listed};
 ghost use Rattle.piper_machine.specs.Places.{peeked_count};
 ghost use Rattle.piper_machine.specs.Action.{call_of, logged_of, refresh_event, wake_of, yield_of, registration_of};
-ghost use Rattle.piper_machine.specs.Step.{action_of};
 
 use super::Machine;
 use piper_sides::bytes::Bytes;
@@ -61,12 +60,11 @@ impl Machine {
         }
     }
 
-    // What is logged of the step that the side makes next, which is of this kind.
+    // What is logged of a step of this kind.
     pub(super) fn event(&self, side: Side, action: Action) -> Result<Option<Event>, OutOfMemory>
-        requires next { action ≡ action_of side self.now }
         requires head { (n : ℕ) → action ≡ Action.StoreHead n → n ≤ peeked_count self.now }
         requires tail { (n : ℕ) → action ≡ Action.StoreTail n → n ≤ length self.now.lent }
-        ensures { IfOk result (λ event. listed event ≡ logged_of side (action_of side self.now) self.now) }
+        ensures { IfOk result (λ event. listed event ≡ logged_of side action self.now) }
     {
         let call = self.call(side);
         let event = match action {

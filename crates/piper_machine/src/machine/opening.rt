@@ -177,7 +177,8 @@ impl Machine {
     pub(super) fn begin(&mut self, call: &Call, log: &mut Log) -> Result<(), StepRefusal>
         requires idle { IsIdle (side_of call.now) self.old }
         requires within { past call.now self.old ≡ None }
-        ensures ok { OnOk result (IsStepped self.old (Step.Begin call.now) self.new (events log.old) (events log.new)) }
+        ensures ok { OnOk result
+            (IsStepped self.old (Step.Begin call.now) self.new (events log.old) (events log.new)) }
         ensures same { OnErr result (self.new ≡ self.old) }
         ensures same_log { OnErr result (events log.new ≡ events log.old) }
         ensures memory { IfErr result (λ refusal. refusal ≡ StepRefusal.Memory) }

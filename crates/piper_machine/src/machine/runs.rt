@@ -46,9 +46,10 @@ impl Machine {
     // Makes the reader's next step, which is of this kind, and logs it after this event.
     fn go_reader(&mut self, action: Action, event: Option<Event>, log: &mut Log)
         requires next { action ≡ read_action self.old.reader }
-        requires event { listed event ≡ logged_of Side.Reader (action_of Side.Reader self.old) self.old }
+        requires event { listed event ≡ logged_of Side.Reader action self.old }
         requires room { HasRoom log.old }
-        ensures { IsStepped self.old (Step.Go Side.Reader) self.new (events log.old) (events log.new) }
+        ensures { IsStepped self.old (Step.Go Side.Reader)
+            self.new (events log.old) (events log.new) }
     {
         let answer = self.reader_goes(action);
         log.add(event, answered(Side::Reader, answer));
@@ -57,9 +58,10 @@ impl Machine {
     // Makes the writer's next step, which is of this kind, and logs it after this event.
     fn go_writer(&mut self, action: Action, event: Option<Event>, log: &mut Log)
         requires next { action ≡ write_action self.old.writer }
-        requires event { listed event ≡ logged_of Side.Writer (action_of Side.Writer self.old) self.old }
+        requires event { listed event ≡ logged_of Side.Writer action self.old }
         requires room { HasRoom log.old }
-        ensures { IsStepped self.old (Step.Go Side.Writer) self.new (events log.old) (events log.new) }
+        ensures { IsStepped self.old (Step.Go Side.Writer)
+            self.new (events log.old) (events log.new) }
     {
         let answer = self.writer_goes(action);
         log.add(event, answered(Side::Writer, answer));
@@ -67,7 +69,8 @@ impl Machine {
 
     // Makes the side's next step and logs it.
     fn go(&mut self, side: Side, log: &mut Log) -> Result<(), StepRefusal>
-        ensures ok { OnOk result (IsStepped self.old (Step.Go side) self.new (events log.old) (events log.new)) }
+        ensures ok { OnOk result
+            (IsStepped self.old (Step.Go side) self.new (events log.old) (events log.new)) }
         ensures same { OnErr result (self.new ≡ self.old) }
         ensures same_log { OnErr result (events log.new ≡ events log.old) }
         ensures memory { IfErr result (λ refusal. refusal ≡ StepRefusal.Memory) }
@@ -96,7 +99,8 @@ impl Machine {
     ///
     /// A refused step changes neither the machine nor the log: all memory is asked for before anything changes.
     pub fn step(&mut self, step: &Step, log: &mut Log) -> Result<(), StepRefusal>
-        ensures made { OnOk result (Made self.old step.now self.new (events log.old) (events log.new)) }
+        ensures made { OnOk result
+            (Made self.old step.now self.new (events log.old) (events log.new)) }
         ensures refused { IfErr result (λ refusal. IsRefusal step.now self.old refusal) }
         ensures known_kept { IsWriterStep step.now → KeepsKnown self.old self.new }
         ensures same { OnErr result (self.new ≡ self.old) }
