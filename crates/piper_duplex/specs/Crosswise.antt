@@ -1,5 +1,5 @@
 -- Two pipes between the same two ends, one for each way.
-use Rattle.std.specs.Prelude.{◌≡◌, ℕ, true, List, Result, bit_xor}
+use Rattle.std.specs.Prelude.{◌≡◌, ℕ, ◌+◌, true, List, ◌++◌, length, Result, bit_xor}
 use Rattle.std.specs.Io.{StartsWith}
 use denote.Ref.{Bor}
 use Rattle.futures.specs.Task.{Covers}
@@ -10,7 +10,8 @@ use Rattle.piper.specs.ReadView.{SameReadEnd, in_one_piece}
 use Rattle.piper.specs.WriteView.{SameWriteEnd}
 use Rattle.piper.specs.Opened.{FreshReadEnd, FreshWriteEnd}
 use Rattle.piper.specs.Generator.{generator}
-use Rattle.piper.specs.Handles.{ArePair, read_source}
+use Rattle.piper.specs.Ends.{ReaderRefreshed, WriterRefreshed}
+use Rattle.piper.specs.Handles.{ArePair, SameReader, SameWriter, read_source}
 use Rattle.piper.specs.Polls.{Lends, IfReadyErr}
 use Rattle.piper.specs.declared.error.PipeError.{PipeError}
 use Rattle.piper.specs.declared.error.PipeError.TheVariants.{Memory}
@@ -37,6 +38,14 @@ pub record OnlyWrites {H : Type 0} (a b : End H) : Type 0 where
   pub reader : b.reader ≡ a.reader
   pub end : SameWriteEnd a.writer.end b.writer.end
   pub slots : b.writer.slots ≡ a.writer.slots
+
+-- the handles of one pipe, once they were in one hand: what was taken and what is known make up what was published, first in,
+-- first out, room and known bytes make up the capacity, and nothing else has changed
+pub record HaveMet {H : Type 0} (reader0 reader1 : Reader H) (writer0 writer1 : Writer H) : Type 0 where
+  pub fifo : reader1.end.taken ++ reader1.end.known ≡ writer1.end.sent
+  pub room : writer1.end.room + length reader1.end.known ≡ reader1.end.capacity
+  pub reader : ReaderRefreshed reader0.end reader1.end × SameReader reader0 reader1
+  pub writer : WriterRefreshed writer0.end writer1.end × SameWriter writer0 writer1
 
 -- a poll of the end a lent the first piece of the known bytes, and left the end as b: no byte was taken, and a pending poll
 -- has armed its task; a poll that fails wants memory

@@ -54,6 +54,8 @@ pub fn duplex<H: Wait + Clone + Drop>(
 }
 
 impl<H: Wait + Clone + Drop> End<H> {
+    ghost use Rattle.piper_duplex.specs.Crosswise.{HaveMet};
+
     /// The handle that reads what the other end writes.
     pub fn reader(&self) -> &Reader<H>
         ensures { result.now ≡ self.now.reader }
@@ -75,6 +77,17 @@ impl<H: Wait + Clone + Drop> End<H> {
     {
         let End { reader, writer } = self;
         (reader, writer)
+    }
+
+    /// Both ends in one hand: then each reader knows of all that the writer at the other end published, in its order. It takes no lock and no memory.
+    pub fn meet(&mut self, other: &mut End<H>)
+        requires there { self.old.writer.end.ring ≡ other.old.reader.end.ring }
+        requires back { other.old.writer.end.ring ≡ self.old.reader.end.ring }
+        ensures there { HaveMet other.old.reader other.new.reader self.old.writer self.new.writer }
+        ensures back { HaveMet self.old.reader self.new.reader other.old.writer other.new.writer }
+    {
+        other.reader.meet(&mut self.writer);
+        self.reader.meet(&mut other.writer);
     }
 
     /// Closes both pipes, first the one that it writes into, and wakes who waits at the other end. What is unread there can still be read.

@@ -1,5 +1,5 @@
 //! Text through a duplex stream and back: one thread sends its lines, and another writes them back.
-ghost use Rattle.std.specs.Prelude.{◌≡◌, ◌<◌, ◌≤◌, length, IfOk};
+ghost use Rattle.std.specs.Prelude.{◌≡◌, ◌<◌, ◌≤◌, ◌⊎◌, [], length, IfOk, IfErr};
 
 use crate::end::duplex;
 use crate::waiting::{EchoAll, MOST_OF_A_LINE, ReadSome, WriteAll};
@@ -71,7 +71,8 @@ where
     R: Wait + Threads + RandomSource + AllocGlobal + Clone + Drop + Send + 'static,
     I: Read,
     O: Write,
-    ensures { 0 < length words.now → result.status ≡ 1 }
+    ensures words { 0 < length words.now → result.status ≡ 1 }
+    ensures none { words.now ≡ [] → (result.status ≡ 0) ⊎ (result.status ≡ 2) }
 {
     if !words.is_empty() {
         return Ended::WRONG_ARGUMENTS;
@@ -88,6 +89,7 @@ where
     R: Wait + Threads + RandomSource + AllocGlobal + Clone + Drop + Send + 'static,
     I: Read,
     O: Write,
+    ensures { IfErr result (λ e. e.status ≡ 2) }
 {
     let theirs = rt.clone().map_err(|_| Ended::OUT_OF_MEMORY)?;
     let (first, second) = duplex(rt, alloc, CAPACITY, CAPACITY, 1).map_err(
@@ -126,6 +128,7 @@ where
     B: AsyncWrite,
     I: Read,
     O: Write,
+    ensures { IfErr result (λ e. e.status ≡ 2) }
 {
     let mut line = Vec::with_capacity(alloc, MOST_OF_A_LINE).map_err(|_| Ended::OUT_OF_MEMORY)?;
     let mut input = BufReader::new(alloc, input).map_err(|_| Ended::OUT_OF_MEMORY)?;
@@ -152,6 +155,7 @@ fn send<R, W>(rt: &R, writer: &mut W, bytes: &[u8]) -> Result<(), Ended>
 where
     R: Wait + RandomSource + AllocGlobal,
     W: AsyncWrite,
+    ensures { IfErr result (λ e. e.status ≡ 2) }
 {
     match block_on(rt, WriteAll::new(writer, bytes)) {
         Ok(Ok(Written::Whole)) => Ok(()),
@@ -165,7 +169,8 @@ where
     R: Wait + RandomSource + AllocGlobal,
     A: AsyncRead,
     O: Write,
-    ensures { IfOk result (λ n. n ≤ most) }
+    ensures count { IfOk result (λ n. n ≤ most) }
+    ensures failed { IfErr result (λ e. e.status ≡ 2) }
 {
     let mut place = [0; PIECE];
     let room = &mut place[..most.min(PIECE)];
@@ -186,6 +191,7 @@ where
     R: Wait + RandomSource + AllocGlobal,
     A: AsyncRead,
     O: Write,
+    ensures { IfErr result (λ e. e.status ≡ 2) }
 {
     let mut left = total;
     while left > 0 {
@@ -204,6 +210,7 @@ where
     R: Wait + RandomSource + AllocGlobal,
     A: AsyncRead,
     O: Write,
+    ensures { IfErr result (λ e. e.status ≡ 2) }
 {
     for _ in 0..u64::MAX {
         if print_some(rt, reader, PIECE, output)? == 0 {

@@ -59,6 +59,15 @@ fn what_one_end_writes_the_other_reads(rt: HostRuntime) {
 }
 
 #[test]
+fn fresh_ends_that_meet_know_of_nothing(rt: HostRuntime) {
+    let (mut first, mut second) = duplex(&rt, rt.alloc(), 4, 8, 1).expect(&rt, "memory");
+    first.meet(&mut second);
+    assert!(&rt; first.reader().is_empty() && second.reader().is_empty());
+    first.drop();
+    second.drop();
+}
+
+#[test]
 fn a_dropped_end_wakes_who_reads_and_who_writes(rt: HostRuntime) {
     let (first, mut second) = duplex(&rt, rt.alloc(), 4, 4, 1).expect(&rt, "memory");
     let reading = MockTask::new(&rt).expect(&rt, "memory");
