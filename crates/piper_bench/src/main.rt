@@ -1,11 +1,14 @@
-//! Moves bytes through a ring or the machine and tells how long it took, beside the same work on `rtrb` or by plain copies.
+//! Moves bytes through a ring, a pipe or the machine and tells how long it took, beside the same work on `rtrb`, by plain copies, or by other means of the toolchain.
 #![tactic(auto)]
 
 ghost use Rattle.std.specs.Prelude.{length, ◌≡◌, ◌<◌, ◌≤◌, ◌^◌};
 
+use crossbeam_channel::bounded;
 use lines::through_lines;
+use peers::{through_channel, through_stream};
 use piper::{OutOfMemory, OwnedReader, OwnedWriter, ReadEnd, WriteEnd, open_ring, pipe};
 use piper_machine::machine::Machine;
+use piper_tokio::{CompatReader, CompatWriter};
 use pipes::{Copies, InPlace, TryForms, through_pipe};
 use rings::{Input, Output, get_all, in_turn, put_all, yields};
 use rtrb::RingBuffer;
@@ -21,6 +24,7 @@ use std::{env, io, thread};
 
 mod lines;
 mod one_owner;
+mod peers;
 mod pipes;
 mod rings;
 
@@ -28,11 +32,12 @@ const USAGE: &str = "usage: piper_bench WHAT CAP CHUNK TOTAL
 Moves TOTAL bytes in pieces of CHUNK through a ring of CAP bytes, and prints bytes, nanoseconds, nanoseconds a piece and a checksum.
 WHAT is ring (one thread, in and out in turn), ring2 (two threads), rtrb or rtrb2 (the same work on rtrb), machine (one thread, through the pure machine) or copy (plain copies into a buffer of CAP bytes and out of it).
 Or it is through the handles of a pipe: pipe (by try forms) and inplace (by polls and lent slices) on one thread, pipe2 and inplace2 between two threads that sleep until they are woken, and on one thread fill and drain (one way by the copy that waits, the other by the try form) and filldrain (both ways by the copies that wait); and lines takes lines of CHUNK bytes out of one, the LF with them.
+Or it is one of its peers, between two threads that sleep until they are woken: tokio2 (a pipe by the traits of tokio), stream2 (the stream in memory of tokio, by the same) and channel2 (a bounded channel of pieces, each in memory of its own).
 CAP is at least 1 and at most half of the greatest usize, CHUNK is 1 to 16777216.
 Without arguments it makes a short run of each.";
 
 /// What a run without arguments makes, in that order.
-const WORDS: [&str; 14] = [
+const WORDS: [&str; 17] = [
     "ring",
     "ring2",
     "rtrb",
@@ -47,6 +52,9 @@ const WORDS: [&str; 14] = [
     "drain",
     "filldrain",
     "lines",
+    "tokio2",
+    "stream2",
+    "channel2",
 ];
 
 /// The longest piece.
@@ -62,6 +70,7 @@ enum What {
     Rtrb { is_shared: bool },
     Pipe { way: Way, is_shared: bool },
     Lines,
+    Peer(Peer),
     Machine,
     Copies,
 }
@@ -81,6 +90,17 @@ enum Way {
     FillDrain,
 }
 
+/// What else moves bytes between two threads.
+#[derive(Clone, Copy)]
+enum Peer {
+    /// A pipe, by the traits of `tokio`.
+    Pipe,
+    /// The stream in memory of `tokio`.
+    Stream,
+    /// A bounded channel of pieces.
+    Channel,
+}
+
 impl What {
     fn of(word: &str) -> Option<What> {
         match word {
@@ -96,6 +116,9 @@ impl What {
             "drain" => Some(What::pipe(Way::Drain, false)),
             "filldrain" => Some(What::pipe(Way::FillDrain, false)),
             "lines" => Some(What::Lines),
+            "tokio2" => Some(What::Peer(Peer::Pipe)),
+            "stream2" => Some(What::Peer(Peer::Stream)),
+            "channel2" => Some(What::Peer(Peer::Channel)),
             "machine" => Some(What::Machine),
             "copy" => Some(What::Copies),
             _ => None,
@@ -189,6 +212,7 @@ where
             let checksum = through_lines(rt, handles, work.chunk, work.total)?;
             Ok((start.elapsed(rt)?, checksum))
         }
+        What::Peer(peer) => through_peer(rt, peer, work, source, place),
         What::Machine => {
             let machine = machine_of(rt, work)?;
             let start = Instant::now(rt)?;
@@ -201,6 +225,45 @@ where
             let checksum = one_owner::through_buffer(rt, &mut buffer, source, place, work.total);
             Ok((start.elapsed(rt)?, checksum))
         }
+    }
+}
+
+/// Moves the bytes through a peer, and answers how long it took and the checksum.
+fn through_peer<R>(
+    rt: &R,
+    peer: Peer,
+    work: Work,
+    source: &[u8],
+    place: &mut [u8],
+) -> io::Result<(Duration, u64)>
+where
+    R: Wait + Threads + Clock + RandomSource + AllocGlobal + Clone + Drop + Send + Sync,
+{
+    let start = Instant::now(rt)?;
+    let checksum = match peer {
+        Peer::Pipe => {
+            let ends = compat_of(rt, work)?;
+            through_stream(rt, ends, source, place, work.total)?
+        }
+        Peer::Stream => {
+            let ends = tokio::io::duplex(rt.alloc(), work.capacity)?;
+            through_stream(rt, ends, source, place, work.total)?
+        }
+        Peer::Channel => {
+            let ends = bounded(rt.alloc(), work.capacity.div_ceil(work.chunk))?;
+            through_channel(rt, ends, source, place, work.total)?
+        }
+    };
+    Ok((start.elapsed(rt)?, checksum))
+}
+
+fn compat_of<R>(rt: &R, work: Work) -> Result<(CompatReader<R>, CompatWriter<R>), AllocError>
+where
+    R: Wait + AllocGlobal + Clone + Drop,
+{
+    match pipe(rt, rt.alloc(), work.capacity, 1) {
+        Ok((reader, writer)) => Ok((CompatReader::new(reader), CompatWriter::new(writer))),
+        Err(OutOfMemory) => Err(AllocError),
     }
 }
 
