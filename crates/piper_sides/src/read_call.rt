@@ -80,6 +80,19 @@ impl ReadCall {
         }
     }
 
+    /// The same call, told anew where it stands before a round of a copy.
+    #[inline(always)]
+    pub fn before_round(self, form: Form, sum: usize) -> ReadCall
+        requires { self ≡ goes_on (ReadPlace.CallDestination form sum) }
+        ensures { result ≡ self }
+    {
+        let ReadCall {
+            place: _,
+            answer: _,
+        } = self;
+        ReadCall::at(ReadPlace::CallDestination(form, sum))
+    }
+
     /// The answer, where the table has ended the call.
     #[inline(always)]
     pub fn end(self) -> Answer

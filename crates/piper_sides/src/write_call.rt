@@ -88,6 +88,19 @@ impl WriteCall {
         }
     }
 
+    /// The same call, told anew where it stands before a round of a copy.
+    #[inline(always)]
+    pub fn before_round(self, form: Form, sum: usize) -> WriteCall
+        requires { self ≡ goes_on (WritePlace.CallSource form sum) }
+        ensures { result ≡ self }
+    {
+        let WriteCall {
+            place: _,
+            answer: _,
+        } = self;
+        WriteCall::at(WritePlace::CallSource(form, sum))
+    }
+
     /// The answer, where the table has ended the call.
     #[inline(always)]
     pub fn end(self) -> Answer
