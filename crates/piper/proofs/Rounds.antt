@@ -1,7 +1,7 @@
 -- A round of a fill by the call table, from one call of its source to the next.
 use Rattle.std.proofs.Common.{◌≡◌, ◌==◌, ℕ, ◌+◌, ◌∙◌, ap, arith, Bool, false}
 use Rattle.std.proofs.lemmas.Bool.Decides.{nat_tests}
-use Rattle.piper_sides.specs.Table.{Next, write_step, writer_moved, writer_rounds, nothing, moved, waker, flag}
+use Rattle.piper_sides.specs.Table.{Next, goes_on, write_step, writer_moved, writer_rounds, nothing, moved, waker, flag}
 use Rattle.piper_sides.specs.declared.table.Form.{Form}
 use Rattle.piper_sides.specs.declared.table.AfterWrite.{AfterWrite}
 use Rattle.piper_sides.specs.declared.table.AfterWrite.TheVariants as behind
@@ -12,12 +12,9 @@ not_zero : (n : ℕ) → (n ≡ 0 → ⊥) → (n == 0) ≡ false
 not_zero n some = grind (arith, nat_tests, some)
 
 -- the writer stands before a call of its source, which gave s bytes so far
-module _ (place : WritePlace) (s n : ℕ) (here : (form : Form) × (place ≡ on.CallSource form s)) (gave : Next WritePlace) (gave_is : gave ≡ write_step place (moved n)) where
-  abbrev form : Form
-  form = here.0
-
+module _ (place : WritePlace) (form : Form) (s n : ℕ) (here : place ≡ on.CallSource form s) (gave : Next WritePlace) (gave_is : gave ≡ write_step place (moved n)) where
   gave_here : gave ≡ writer_moved (n == 0) n form s
-  gave_here = gave_is ∙ ap (λ (p : WritePlace). write_step p (moved n)) here.1
+  gave_here = gave_is ∙ ap (λ (p : WritePlace). write_step p (moved n)) here
 
   -- it gave some
   module _ (some : n ≡ 0 → ⊥) (looked : Next WritePlace) (is_closed : Bool) (looked_is : looked ≡ write_step gave.place (flag is_closed)) where
@@ -29,9 +26,9 @@ module _ (place : WritePlace) (s n : ℕ) (here : (form : Form) × (place ≡ on
 
     -- they are published, and it is called again
     pub fill_round : (stored woken : Next WritePlace) → is_closed ≡ false → stored ≡ write_step looked.place nothing
-        → woken ≡ write_step stored.place (waker false) → (f : Form) × (woken.place ≡ on.CallSource f (s + n))
+        → woken ≡ write_step stored.place (waker false) → woken ≡ goes_on (on.CallSource form (s + n))
     fill_round stored woken is_open stored_is woken_is =
         let next : AfterWrite = behind.Round form (s + n) in
         let store : looked.place ≡ on.StoreTail n next = ap (λ (c : Next WritePlace). c.place) (looks ∙ ap (λ (b : Bool). writer_rounds b n form (s + n)) is_open) in
         let take : stored.place ≡ on.TakeReader next = ap (λ (c : Next WritePlace). c.place) (stored_is ∙ ap (λ (p : WritePlace). write_step p nothing) store) in
-        (form, ap (λ (c : Next WritePlace). c.place) (woken_is ∙ ap (λ (p : WritePlace). write_step p (waker false)) take))
+        woken_is ∙ ap (λ (p : WritePlace). write_step p (waker false)) take

@@ -3,7 +3,7 @@ ghost use Rattle.std.specs.Prelude.{◌≡◌, ◌<◌, ◌≤◌, ◌++◌, ◌
 ghost use Rattle.futures.specs.Task.{Covers, Keeps};
 ghost use Rattle.futures.specs.Poll.{OnPending};
 ghost use Rattle.piper_ring.specs.ReadView.{in_one_piece};
-ghost use Rattle.piper_sides.specs.Table.{reader_is_true};
+ghost use Rattle.piper_sides.specs.Table.{goes_on, reader_is_true};
 ghost use Rattle.piper.specs.Contexts.{IfGiven, Arms, LacksWaker};
 ghost use Rattle.piper.specs.Copies.{ReaderCopied};
 ghost use Rattle.piper.specs.CopyAnswers.{OnMemory, CountsFailure, IsAtOnce, inner_of};
@@ -167,7 +167,7 @@ impl<H: Wait + Clone + Drop> Reader<H> {
             let _pending: Poll<()> = cx.yield_now();
             return copied(call.yielded(true).end());
         }
-        self.drain_rounds(call, dest)
+        self.drain_rounds(call, Form::Polling { is_drawn: false }, dest)
     }
 
     // The draw behind the look, and whether the copy yields. A waker that may stand in the reader's slot is let go first.
@@ -204,7 +204,7 @@ impl<H: Wait + Clone + Drop> Reader<H> {
         ensures rest { SameReader self.old self.new }
     {
         match self.look_at_once() {
-            Ok(call) => self.drain_rounds(call, dest),
+            Ok(call) => self.drain_rounds(call, Form::Try, dest),
             Err(told) => told,
         }
     }
@@ -249,7 +249,8 @@ impl<H: Wait + Clone + Drop> Reader<H> {
     // The look of a drain that doesn't wait: its open call once a byte is known, or what it answers, pending where it would wait.
     #[inline(always)]
     fn look_at_once<E>(&mut self) -> Result<ReadCall, Poll<Result<usize, Inner<E>>>>
-        ensures found { IfOk result (λ call. call.place ≡ ReadPlace.CallDestination Form.Try 0) }
+        ensures found { IfOk result (λ call.
+            call ≡ goes_on (ReadPlace.CallDestination Form.Try 0)) }
         ensures some { IfOk result (λ _. 0 < length self.new.end.known) }
         ensures none { IfErr result (λ told. FoundNoByte told self.new.end) }
         ensures granted { IfErr result (λ told. OnMemory told ⊥) }
@@ -282,9 +283,10 @@ impl<H: Wait + Clone + Drop> Reader<H> {
     fn drain_rounds<W: WriteLike>(
         &mut self,
         call: ReadCall,
+        form: Form,
         dest: &mut W,
     ) -> Poll<Result<usize, Inner<W::Error>>>
-        requires { (form : Form) × (call.place ≡ ReadPlace.CallDestination form 0) }
+        requires { call ≡ goes_on (ReadPlace.CallDestination form 0) }
         ensures drained { DrainRounds W.takes W.is_full W.fails result
             self.old.end self.new.end dest.old dest.new }
         ensures failures { CountsFailure result (W.failures dest.old) (W.failures dest.new) }
@@ -295,6 +297,7 @@ impl<H: Wait + Clone + Drop> Reader<H> {
         let mut call = call;
         let mut sum = 0;
         'rounds: loop {
+            call = call.before_round(form, sum);
             if dest.asks() == 0 {
                 return copied(call.destination_took(0).end());
             }

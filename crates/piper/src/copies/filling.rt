@@ -2,7 +2,7 @@
 ghost use Rattle.std.specs.Prelude.{◌≡◌, ℕ, ◌<◌, ◌≤◌, ◌++◌, ◌⊎◌, [], length, take, IfOk, IfErr, OnOk, IsSome, IsTrue, ◌↔◌, None, Ok, true, false};
 ghost use Rattle.futures.specs.Task.{Covers, Keeps};
 ghost use Rattle.futures.specs.Poll.{OnPending};
-ghost use Rattle.piper_sides.specs.Table.{writer_is_true};
+ghost use Rattle.piper_sides.specs.Table.{goes_on, writer_is_true};
 ghost use Rattle.piper.specs.Contexts.{IfGiven, Arms, LacksWaker};
 ghost use Rattle.piper.specs.Copies.{IsReplaced, WriterCopied};
 ghost use Rattle.piper.specs.CopyAnswers.{OnMemory, CountsFailure, IsAtOnce, inner_of, inner_of_bytes};
@@ -187,7 +187,7 @@ impl<H: Wait + Clone + Drop> Writer<H> {
             let _pending: Poll<()> = cx.yield_now();
             return copied(call.yielded(true).end());
         }
-        self.fill_rounds(call, source)
+        self.fill_rounds(call, Form::Polling { is_drawn: false }, source)
     }
 
     // The draw behind the look, and whether the copy yields. A waker that may stand in the writer's slot is let go first.
@@ -224,7 +224,7 @@ impl<H: Wait + Clone + Drop> Writer<H> {
         ensures rest { SameWriter self.old self.new }
     {
         match self.look_at_once() {
-            Ok(call) => self.fill_rounds(call, source),
+            Ok(call) => self.fill_rounds(call, Form::Try, source),
             Err(told) => told,
         }
     }
@@ -275,7 +275,7 @@ impl<H: Wait + Clone + Drop> Writer<H> {
     // The look of a fill that doesn't wait: its open call once there is room, or what it answers, pending where it would wait.
     #[inline(always)]
     fn look_at_once<E>(&mut self) -> Result<WriteCall, Poll<Result<usize, Inner<E>>>>
-        ensures found { IfOk result (λ call. call.place ≡ WritePlace.CallSource Form.Try 0) }
+        ensures found { IfOk result (λ call. call ≡ goes_on (WritePlace.CallSource Form.Try 0)) }
         ensures some { OnOk result (0 < self.new.end.room) }
         ensures is_open { OnOk result (
             (self.new.end.shut ≡ false) × (self.new.end.saw ≡ false)) }
@@ -313,9 +313,10 @@ impl<H: Wait + Clone + Drop> Writer<H> {
     fn fill_rounds<R: ReadLike>(
         &mut self,
         call: WriteCall,
+        form: Form,
         source: &mut R,
     ) -> Poll<Result<usize, Inner<R::Error>>>
-        requires place { (form : Form) × (call.place ≡ WritePlace.CallSource form 0) }
+        requires place { call ≡ goes_on (WritePlace.CallSource form 0) }
         requires is_open { (self.old.end.shut ≡ false) × (self.old.end.saw ≡ false) }
         requires some { 0 < self.old.end.room }
         ensures filled { FillRounds R.gives R.is_dry R.fails result
@@ -330,6 +331,7 @@ impl<H: Wait + Clone + Drop> Writer<H> {
         let mut call = call;
         let mut sum = 0;
         'rounds: loop {
+            call = call.before_round(form, sum);
             let asks = source.asks();
             if asks == 0 {
                 return copied(call.source_gave(0).end());

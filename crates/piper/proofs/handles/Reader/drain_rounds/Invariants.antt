@@ -1,6 +1,6 @@
 -- The bytes of the rounds so far were given to the destination.
 use Rattle.std.proofs.Common.{◌≡◌, length}
-use Rattle.piper_sides.specs.declared.table.Form.{Form}
+use Rattle.piper_sides.specs.Table.{goes_on}
 use Rattle.piper_sides.specs.declared.table.ReadPlace.TheVariants.{CallDestination}
 use Rattle.piper.specs.Handles.{SameReader}
 use Rattle.piper.proofs.RoundsOut.{Drained}
@@ -8,7 +8,7 @@ use Rattle.piper.proofs.handles.Reader.drain_rounds.Given as goal
 
 abbrev pub invariant-rounds : goal.invariant-rounds
 invariant-rounds g l = record {
-  at : (form : Form) × (l.call.place ≡ CallDestination form l.sum);
+  at : l.call ≡ goes_on (CallDestination l.form l.sum);
   drained : Drained g.W.WriteLike.takes l.initial.self.end l.self.end l.initial.dest l.dest l.sum;
   failures : g.W.WriteLike.failures l.dest ≡ g.W.WriteLike.failures l.initial.dest;
   rest : SameReader l.initial.self l.self;

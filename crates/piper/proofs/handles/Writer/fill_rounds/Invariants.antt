@@ -1,6 +1,6 @@
 -- The bytes of the rounds so far were published.
 use Rattle.std.proofs.Common.{◌≡◌, ◌+◌, false}
-use Rattle.piper_sides.specs.declared.table.Form.{Form}
+use Rattle.piper_sides.specs.Table.{goes_on}
 use Rattle.piper_sides.specs.declared.table.WritePlace.TheVariants.{CallSource}
 use Rattle.piper.specs.Handles.{SameWriter}
 use Rattle.piper.proofs.RoundsIn.{Filled}
@@ -8,7 +8,7 @@ use Rattle.piper.proofs.handles.Writer.fill_rounds.Given as goal
 
 abbrev pub invariant-rounds : goal.invariant-rounds
 invariant-rounds g l = record {
-  at : (form : Form) × (l.call.place ≡ CallSource form l.sum);
+  at : l.call ≡ goes_on (CallSource l.form l.sum);
   filled : Filled g.R.ReadLike.gives l.initial.self.end l.self.end l.initial.source l.source l.sum;
   total : l.sum + l.self.end.room ≡ l.initial.self.end.room;
   open_yet : l.self.end.saw ≡ false;

@@ -1,8 +1,6 @@
 -- Nothing is moved where the look is not true, or where the fill yields.
-use Rattle.std.proofs.Common.{rules, ◌≡◌, refl, false}
+use Rattle.std.proofs.Common.{rules, ◌≡◌, refl}
 use Rattle.futures.specs.declared.task.Poll.TheVariants.{Pending}
-use Rattle.piper_sides.specs.declared.table.Form.TheVariants.{Polling}
-use Rattle.piper_sides.specs.declared.table.WritePlace.TheVariants.{CallSource}
 use Rattle.piper.proofs.LookingIn.{fills_none, fills_unfound, still_open, unfound_closed}
 use Rattle.piper.proofs.handles.Writer.fill_waiting.Goals as goal
 
@@ -20,8 +18,3 @@ returns-in-Err-clause-over g c = λ seen. unfound_closed c.in-Err.told _ _ c.loo
 
 pub returns-then-yields-clause-over : goal.returns-then-yields-clause-over
 returns-then-yields-clause-over g c = λ seen. absurd (still_open _ _ c.look_to_fill.ensures.looked c.in-Ok.ensures.is_open.1 seen)
-
-pub fill_rounds-requires-clause-place : goal.fill_rounds-requires-clause-place
-fill_rounds-requires-clause-place g c =
-    let here : c.empty_own_and_draw-call.result.0.place ≡ CallSource (Polling false) 0 = search rules in
-    (Polling false, here)
