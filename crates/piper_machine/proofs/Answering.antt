@@ -104,17 +104,7 @@ begin-reader lent (call.PollDrain waker luck acts) p steps t h =
 begin-reader lent (call.Consume n) p steps t h = reader-begins p.capacity (call.Consume n) steps t (opened lent (call.Consume n) p) h.coming (refl, refl)
 begin-reader lent (call.Drop Reader) p steps t h = reader-begins p.capacity (call.Drop Reader) steps t (opened lent (call.Drop Reader) p) h.coming refl
 begin-reader lent (call.WriteBuf most) p steps t h = ((tt, (tt, tt)), record { coming = h.coming; stands = h.stands })
-begin-reader lent (call.Len Writer) p steps t h = ((tt, tt), record { coming = h.coming; stands = h.stands })
-begin-reader lent (call.IsEmpty Writer) p steps t h = ((tt, tt), record { coming = h.coming; stands = h.stands })
-begin-reader lent (call.IsFull Writer) p steps t h = ((tt, tt), record { coming = h.coming; stands = h.stands })
-begin-reader lent (call.IsClosed Writer) p steps t h = ((tt, tt), record { coming = h.coming; stands = h.stands })
-begin-reader lent (call.Poll Writer waker luck) p steps t h = ((tt, tt), record { coming = h.coming; stands = h.stands })
-begin-reader lent (call.Drop Writer) p steps t h = ((tt, tt), record { coming = h.coming; stands = h.stands })
-begin-reader lent (call.TryFill bytes) p steps t h = ((tt, tt), record { coming = h.coming; stands = h.stands })
-begin-reader lent (call.PollFillBytes waker luck bytes) p steps t h = ((tt, tt), record { coming = h.coming; stands = h.stands })
-begin-reader lent (call.PollFill waker luck acts) p steps t h = ((tt, tt), record { coming = h.coming; stands = h.stands })
-begin-reader lent (call.Produced n) p steps t h = ((tt, tt), record { coming = h.coming; stands = h.stands })
-begin-reader lent call.Close p steps t h = ((tt, tt), record { coming = h.coming; stands = h.stands })
+begin-reader lent c p steps t h = ((tt, tt), record { coming = h.coming; stands = h.stands })
 
 -- a slice is lent as the call is opened
 lends : (lent : List ℕ) (most : ℕ) (p : Pipe) (steps : List Step) (t : Told) → p.writer ≡ on.Idle → Lendable most p (length lent) → t.coming ≡ call.WriteBuf most ∷ calls_of Writer steps → Keeps p.capacity Writer steps (stepped lent (Begin (call.WriteBuf most)) p) t
@@ -148,16 +138,7 @@ begin-writer lent (call.WriteBuf most) p steps t may accepted h = lends lent mos
 begin-writer lent (call.Produced n) p steps t may accepted h = writer-begins p.capacity (call.Produced n) steps t (opened lent (call.Produced n) p) h.coming (refl, refl)
 begin-writer lent call.Close p steps t may accepted h = writer-begins p.capacity call.Close steps t (opened lent call.Close p) h.coming refl
 begin-writer lent (call.Drop Writer) p steps t may accepted h = writer-begins p.capacity (call.Drop Writer) steps t (opened lent (call.Drop Writer) p) h.coming refl
-begin-writer lent (call.Len Reader) p steps t may accepted h = ((tt, tt), record { coming = h.coming; stands = h.stands })
-begin-writer lent (call.IsEmpty Reader) p steps t may accepted h = ((tt, tt), record { coming = h.coming; stands = h.stands })
-begin-writer lent (call.IsFull Reader) p steps t may accepted h = ((tt, tt), record { coming = h.coming; stands = h.stands })
-begin-writer lent (call.IsClosed Reader) p steps t may accepted h = ((tt, tt), record { coming = h.coming; stands = h.stands })
-begin-writer lent (call.Poll Reader waker luck) p steps t may accepted h = ((tt, tt), record { coming = h.coming; stands = h.stands })
-begin-writer lent (call.Drop Reader) p steps t may accepted h = ((tt, tt), record { coming = h.coming; stands = h.stands })
-begin-writer lent (call.TryDrain size) p steps t may accepted h = ((tt, tt), record { coming = h.coming; stands = h.stands })
-begin-writer lent (call.PollDrainBytes waker luck size) p steps t may accepted h = ((tt, tt), record { coming = h.coming; stands = h.stands })
-begin-writer lent (call.PollDrain waker luck acts) p steps t may accepted h = ((tt, tt), record { coming = h.coming; stands = h.stands })
-begin-writer lent (call.Consume n) p steps t may accepted h = ((tt, tt), record { coming = h.coming; stands = h.stands })
+begin-writer lent c p steps t may accepted h = ((tt, tt), record { coming = h.coming; stands = h.stands })
 
 -- a side's step leaves what the other side has in hand
 

@@ -8,8 +8,6 @@ use Rattle.std.proofs.lemmas.Bool.{cases_lt}
 use Rattle.std.proofs.lemmas.Bool.Decides.{nat_tests}
 use Rattle.piper_sides.specs.declared.calls.Side.{Side}
 use Rattle.piper_sides.specs.declared.calls.Side.TheVariants.{Reader, Writer}
-use Rattle.piper_sides.specs.declared.calls.Call.{Call}
-use Rattle.piper_sides.specs.declared.calls.Call.TheVariants as call
 use Rattle.piper_sides.specs.declared.calls.Step.{Step}
 use Rattle.piper_sides.specs.declared.calls.Step.TheVariants.{Begin, Go, Put}
 use Rattle.piper_sides.specs.declared.events.Answer.{Answer}
@@ -31,6 +29,7 @@ use Rattle.piper_machine.specs.Action.{performed, logged_of, registration_of, re
 use Rattle.piper_machine.specs.Step.{went, opened, stepped, offering, answer_at_once}
 use Rattle.piper_sides.specs.Log.{answer_event}
 use Rattle.piper_machine.specs.Run.{Made}
+use Rattle.piper_machine.proofs.Opened.{opened-leaves}
 use Rattle.piper_machine.proofs.Counting.{writer_never-head}
 use Rattle.piper_machine.specs.Conservation.{consumed_in, published_in, consumed_of, published_of, IsConserved}
 
@@ -148,35 +147,11 @@ read_store : (place : ReadPlace) (n : ℕ) → read_action place ≡ does.StoreH
 read_store (at.StoreHead m next) n e = cc
 read_store place n e = absurd (cc)
 
-call-rests : (lent : List ℕ) (c : Call) (p : Pipe) → let q = opened lent c p in (q.capacity ≡ p.capacity) × (q.unread ≡ p.unread) × (q.start ≡ p.start)
-call-rests lent (call.Len Reader) p = (refl, refl, refl)
-call-rests lent (call.Len Writer) p = (refl, refl, refl)
-call-rests lent (call.IsEmpty Reader) p = (refl, refl, refl)
-call-rests lent (call.IsEmpty Writer) p = (refl, refl, refl)
-call-rests lent (call.IsFull Reader) p = (refl, refl, refl)
-call-rests lent (call.IsFull Writer) p = (refl, refl, refl)
-call-rests lent (call.IsClosed Reader) p = (refl, refl, refl)
-call-rests lent (call.IsClosed Writer) p = (refl, refl, refl)
-call-rests lent (call.Poll Reader waker luck) p = (refl, refl, refl)
-call-rests lent (call.Poll Writer waker luck) p = (refl, refl, refl)
-call-rests lent (call.TryDrain size) p = (refl, refl, refl)
-call-rests lent (call.PollDrainBytes waker luck size) p = (refl, refl, refl)
-call-rests lent (call.PollDrain waker luck acts) p = (refl, refl, refl)
-call-rests lent (call.TryFill bytes) p = (refl, refl, refl)
-call-rests lent (call.PollFillBytes waker luck bytes) p = (refl, refl, refl)
-call-rests lent (call.PollFill waker luck acts) p = (refl, refl, refl)
-call-rests lent (call.Consume n) p = (refl, refl, refl)
-call-rests lent (call.WriteBuf most) p = (refl, refl, refl)
-call-rests lent (call.Produced n) p = (refl, refl, refl)
-call-rests lent call.Close p = (refl, refl, refl)
-call-rests lent (call.Drop Reader) p = (refl, refl, refl)
-call-rests lent (call.Drop Writer) p = (refl, refl, refl)
-
 pub step-moves : (lent : List ℕ) (s : Step) (p : Pipe) → IsSound p → let new = stepped lent s p in Moves p new.pipe new.events
 step-moves lent (Begin c) p sound =
-    let same = call-rests lent c p in
+    let same = opened-leaves lent c p in
     let began = quiet p p (Began (side_of c) (kind_of c) (waker_of c) ∷ []) sound.start refl refl refl (refl, refl) in
-    answered-moves p p (opened lent c p) (Began (side_of c) (kind_of c) (waker_of c) ∷ []) (side_of c) (answer_at_once lent c) began same.0 same.1 same.2
+    answered-moves p p (opened lent c p) (Began (side_of c) (kind_of c) (waker_of c) ∷ []) (side_of c) (answer_at_once lent c) began same.capacity same.unread same.start
 step-moves lent (Go Reader) p sound =
     let action = read_action p.reader in
     let moves = action-moves Reader action p sound.start sound.known (λ n e. omega (arith, read_store p.reader n e, sound.head_store)) in

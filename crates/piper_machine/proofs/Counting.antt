@@ -144,28 +144,7 @@ begin-counts Reader cap lent (call.PollDrainBytes waker luck size) p k t calls a
 begin-counts Reader cap lent (call.PollDrain waker luck acts) p k t calls accepted held = drains-count p.known k (p.known == 0) _ (call.PollDrain waker luck acts) refl held.enough (λ f. refl)
 begin-counts Reader cap lent (call.Consume n) p k t calls accepted held = record { sees = tt; enough = held.enough; within = λ f least. plain f 3 (call.Consume n) (omega arith) }
 begin-counts Reader cap lent (call.Drop Reader) p k t calls accepted held = record { sees = tt; enough = held.enough; within = λ f least. plain f 3 (call.Drop Reader) (omega arith) }
-begin-counts Reader cap lent (call.Len Writer) p k t calls accepted held = held
-begin-counts Reader cap lent (call.IsEmpty Writer) p k t calls accepted held = held
-begin-counts Reader cap lent (call.IsFull Writer) p k t calls accepted held = held
-begin-counts Reader cap lent (call.IsClosed Writer) p k t calls accepted held = held
-begin-counts Reader cap lent (call.Poll Writer waker luck) p k t calls accepted held = held
-begin-counts Reader cap lent (call.TryFill bytes) p k t calls accepted held = held
-begin-counts Reader cap lent (call.PollFillBytes waker luck bytes) p k t calls accepted held = held
-begin-counts Reader cap lent (call.PollFill waker luck acts) p k t calls accepted held = held
-begin-counts Reader cap lent (call.WriteBuf most) p k t calls accepted held = held
-begin-counts Reader cap lent (call.Produced n) p k t calls accepted held = held
-begin-counts Reader cap lent call.Close p k t calls accepted held = held
-begin-counts Reader cap lent (call.Drop Writer) p k t calls accepted held = held
-begin-counts Writer cap lent (call.Len Reader) p k t calls accepted held = held
-begin-counts Writer cap lent (call.IsEmpty Reader) p k t calls accepted held = held
-begin-counts Writer cap lent (call.IsFull Reader) p k t calls accepted held = held
-begin-counts Writer cap lent (call.IsClosed Reader) p k t calls accepted held = held
-begin-counts Writer cap lent (call.Poll Reader waker luck) p k t calls accepted held = held
-begin-counts Writer cap lent (call.TryDrain size) p k t calls accepted held = held
-begin-counts Writer cap lent (call.PollDrainBytes waker luck size) p k t calls accepted held = held
-begin-counts Writer cap lent (call.PollDrain waker luck acts) p k t calls accepted held = held
-begin-counts Writer cap lent (call.Consume n) p k t calls accepted held = held
-begin-counts Writer cap lent (call.Drop Reader) p k t calls accepted held = held
+begin-counts Reader cap lent c p k t calls accepted held = held
 begin-counts Writer cap lent (call.Len Writer) p k t calls accepted held = record { sees = refl; enough = held.enough; within = λ f least. plain f 2 (call.Len Writer) (omega arith) }
 begin-counts Writer cap lent (call.IsEmpty Writer) p k t calls accepted held = record { sees = refl; enough = held.enough; within = λ f least. plain f 2 (call.IsEmpty Writer) (omega arith) }
 begin-counts Writer cap lent (call.IsFull Writer) p k t calls accepted held = record { sees = refl; enough = held.enough; within = λ f least. plain f 2 (call.IsFull Writer) (omega arith) }
@@ -178,6 +157,7 @@ begin-counts Writer cap lent (call.WriteBuf most) p k t calls accepted held = le
 begin-counts Writer cap lent (call.Produced n) p k t calls accepted held = record { sees = tt; enough = held.enough; within = λ f least. plain f 3 (call.Produced n) (omega arith) }
 begin-counts Writer cap lent call.Close p k t calls accepted held = record { sees = tt; enough = held.enough; within = λ f least. plain f 5 call.Close (omega arith) }
 begin-counts Writer cap lent (call.Drop Writer) p k t calls accepted held = record { sees = tt; enough = held.enough; within = λ f least. plain f 3 (call.Drop Writer) (omega arith) }
+begin-counts Writer cap lent c p k t calls accepted held = held
 
 -- what a step tells a side, with the answer behind it
 pub told : (c : ℕ) (side teller : Side) (k j : Knowledge) (es : List Event) (answer : Option Answer) → knowledge_from c side k es ≡ j → knowledge_from c side k (es ++ answer_event teller answer) ≡ j

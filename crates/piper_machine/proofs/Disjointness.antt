@@ -3,19 +3,17 @@ use Rattle.std.proofs.Common.{◌≡◌, ◌≢◌, ℕ, ◌+◌, ◌-◌, ◌<�
 use Rattle.std.proofs.lemmas.List.{take-append-le}
 use Rattle.std.proofs.lemmas.Bool.Decides.{nat_tests}
 use Rattle.piper_sides.specs.declared.calls.Side.TheVariants.{Reader, Writer}
-use Rattle.piper_sides.specs.declared.calls.Call.{Call}
-use Rattle.piper_sides.specs.declared.calls.Call.TheVariants as call
 use Rattle.piper_sides.specs.declared.calls.Step.{Step}
 use Rattle.piper_sides.specs.declared.calls.Step.TheVariants.{Begin, Go, Put}
 use Rattle.piper_sides.specs.declared.table.Action.{Action}
 use Rattle.piper_sides.specs.declared.table.Action.TheVariants as does
 use Rattle.piper_sides.specs.Index.{place_of}
 use Rattle.piper_machine.specs.Pipe.{Pipe}
-use Rattle.piper_sides.specs.Call.{side_of}
 use Rattle.piper_machine.specs.Sound.{IsSound}
 use Rattle.piper_sides.specs.Table.{write_action}
 use Rattle.piper_machine.specs.Action.{performed}
-use Rattle.piper_machine.specs.Step.{opened, stepped, offering}
+use Rattle.piper_machine.specs.Step.{stepped, offering}
+use Rattle.piper_machine.proofs.Opened.{opened-leaves}
 use Rattle.piper_machine.proofs.Counting.{writer_never-head}
 use Rattle.piper_machine.specs.Disjoint.{IsDisjoint, KeepsKnown, IsWriterStep}
 
@@ -50,32 +48,10 @@ writer-keeps does.Yield p known never = keeps_all p _ refl refl refl refl
 writer-keeps does.CallDestination p known never = keeps_all p _ refl refl refl refl
 writer-keeps does.CallSource p known never = keeps_all p _ refl refl refl refl
 
-call-keeps : (lent : List ℕ) (c : Call) (p : Pipe) → side_of c ≡ Writer → KeepsKnown p (opened lent c p)
-call-keeps lent (call.Len Writer) p e = keeps_all p _ refl refl refl refl
-call-keeps lent (call.IsEmpty Writer) p e = keeps_all p _ refl refl refl refl
-call-keeps lent (call.IsFull Writer) p e = keeps_all p _ refl refl refl refl
-call-keeps lent (call.IsClosed Writer) p e = keeps_all p _ refl refl refl refl
-call-keeps lent (call.Poll Writer waker luck) p e = keeps_all p _ refl refl refl refl
-call-keeps lent (call.TryFill bytes) p e = keeps_all p _ refl refl refl refl
-call-keeps lent (call.PollFillBytes waker luck bytes) p e = keeps_all p _ refl refl refl refl
-call-keeps lent (call.PollFill waker luck acts) p e = keeps_all p _ refl refl refl refl
-call-keeps lent (call.WriteBuf most) p e = keeps_all p _ refl refl refl refl
-call-keeps lent (call.Produced n) p e = keeps_all p _ refl refl refl refl
-call-keeps lent call.Close p e = keeps_all p _ refl refl refl refl
-call-keeps lent (call.Drop Writer) p e = keeps_all p _ refl refl refl refl
-call-keeps lent (call.Len Reader) p e = absurd (cc)
-call-keeps lent (call.IsEmpty Reader) p e = absurd (cc)
-call-keeps lent (call.IsFull Reader) p e = absurd (cc)
-call-keeps lent (call.IsClosed Reader) p e = absurd (cc)
-call-keeps lent (call.Poll Reader waker luck) p e = absurd (cc)
-call-keeps lent (call.TryDrain size) p e = absurd (cc)
-call-keeps lent (call.PollDrainBytes waker luck size) p e = absurd (cc)
-call-keeps lent (call.PollDrain waker luck acts) p e = absurd (cc)
-call-keeps lent (call.Consume n) p e = absurd (cc)
-call-keeps lent (call.Drop Reader) p e = absurd (cc)
-
 pub step-keeps : (lent : List ℕ) (s : Step) (p : Pipe) → IsSound p → IsWriterStep s → KeepsKnown p (stepped lent s p).pipe
-step-keeps lent (Begin c) p sound writer = call-keeps lent c p writer
+step-keeps lent (Begin c) p sound writer =
+    let same = opened-leaves lent c p in
+    keeps_all p _ same.capacity same.start same.known same.unread
 step-keeps lent (Go Writer) p sound writer =
     let kept = writer-keeps (write_action p.writer) (offering lent p) sound.known (writer_never-head p.writer) in
     record { capacity = kept.capacity; start = kept.start; known = kept.known; bytes = kept.bytes }

@@ -156,17 +156,7 @@ begin-heeds lent (call.PollDrainBytes waker luck size) p saw stores = ((tt, tt),
 begin-heeds lent (call.PollDrain waker luck acts) p saw stores = ((tt, tt), stores)
 begin-heeds lent (call.Consume n) p saw stores = ((tt, tt), stores)
 begin-heeds lent (call.WriteBuf most) p saw stores = ((tt, (tt, tt)), λ storing. refl)
-begin-heeds lent (call.Len Writer) p saw stores = ((tt, tt), λ storing. refl)
-begin-heeds lent (call.IsEmpty Writer) p saw stores = ((tt, tt), λ storing. refl)
-begin-heeds lent (call.IsFull Writer) p saw stores = ((tt, tt), λ storing. refl)
-begin-heeds lent (call.IsClosed Writer) p saw stores = ((tt, tt), λ storing. refl)
-begin-heeds lent (call.Poll Writer waker luck) p saw stores = ((tt, tt), λ storing. refl)
-begin-heeds lent (call.Drop Writer) p saw stores = ((tt, tt), λ storing. refl)
-begin-heeds lent (call.TryFill bytes) p saw stores = ((tt, tt), λ storing. refl)
-begin-heeds lent (call.PollFillBytes waker luck bytes) p saw stores = ((tt, tt), λ storing. refl)
-begin-heeds lent (call.PollFill waker luck acts) p saw stores = ((tt, tt), λ storing. refl)
-begin-heeds lent (call.Produced n) p saw stores = ((tt, tt), λ storing. refl)
-begin-heeds lent call.Close p saw stores = ((tt, tt), λ storing. refl)
+begin-heeds lent c p saw stores = ((tt, tt), λ storing. refl)
 
 step-heeds : (lent : List ℕ) (s : Step) (p : Pipe) (saw : Bool) → (is_storing p.writer ≡ true → saw ≡ false) → Adds saw (stepped lent s p)
 step-heeds lent (Begin c) p saw stores = begin-heeds lent c p saw stores

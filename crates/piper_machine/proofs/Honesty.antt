@@ -5,13 +5,14 @@ use Rattle.piper_sides.specs.declared.calls.Side.{Side}
 use Rattle.piper_sides.specs.declared.calls.Side.TheVariants.{Reader, Writer}
 use Rattle.piper_sides.specs.declared.calls.Call.{Call}
 use Rattle.piper_sides.specs.declared.calls.Call.TheVariants as call
+use Rattle.piper_sides.specs.declared.calls.Kind.{Kind}
 use Rattle.piper_sides.specs.declared.calls.Query.{Query}
 use Rattle.piper_sides.specs.declared.calls.Query.TheVariants.{Len, IsEmpty, IsFull}
 use Rattle.piper_sides.specs.declared.calls.Step.{Step}
 use Rattle.piper_sides.specs.declared.calls.Step.TheVariants.{Begin, Go, Put}
 use Rattle.piper_sides.specs.declared.events.Answer.{Answer}
 use Rattle.piper_sides.specs.declared.events.Event.{Event}
-use Rattle.piper_sides.specs.declared.events.Event.TheVariants.{Looked}
+use Rattle.piper_sides.specs.declared.events.Event.TheVariants.{Began, Looked}
 use Rattle.piper_sides.specs.declared.events.Seen.TheVariants.{Tail}
 use Rattle.piper_sides.specs.declared.polling.Context.{Context}
 use Rattle.piper_sides.specs.declared.table.Action.{Action}
@@ -27,6 +28,7 @@ use Rattle.piper_sides.specs.declared.scripted.Failed.{Failed}
 use Rattle.piper_sides.specs.declared.table.Form.{Form}
 use Rattle.piper_sides.specs.declared.table.Form.TheVariants.{Try, Polling}
 use Rattle.piper_sides.specs.declared.table.Purpose.{Purpose}
+use Rattle.piper_sides.specs.Call.{side_of, kind_of, waker_of}
 use Rattle.piper_sides.specs.Open.{is_granted, is_yield_granted}
 use Rattle.piper_machine.specs.Round.{taken, found_of}
 use Rattle.piper_sides.specs.Table.{read_after, reader_found, reader_is_true, reader_moved, copy_answer, count_answer, yield_answer, end_or_pending, read_action, write_action, query_answer, reader_looks_for, reader_looked, reader_looked_again, reader_registered, writer_taken, read_done}
@@ -279,51 +281,24 @@ reader-sees at.StoreClosed p saw = absurd (cc)
 opened-sees : (lent : List ℕ) (c : Call) (p : Pipe) → (saw_close p.reader ≡ true → p.is_closed ≡ true)
     → let q = opened lent c p in (q.is_closed ≡ p.is_closed) × (saw_close q.reader ≡ true → p.is_closed ≡ true)
 opened-sees lent (call.Len Reader) p seen = (refl, λ saw. absurd (cc))
-opened-sees lent (call.Len Writer) p seen = (refl, seen)
 opened-sees lent (call.IsEmpty Reader) p seen = (refl, λ saw. absurd (cc))
-opened-sees lent (call.IsEmpty Writer) p seen = (refl, seen)
 opened-sees lent (call.IsFull Reader) p seen = (refl, λ saw. absurd (cc))
-opened-sees lent (call.IsFull Writer) p seen = (refl, seen)
 opened-sees lent (call.IsClosed Reader) p seen = (refl, λ saw. absurd (cc))
-opened-sees lent (call.IsClosed Writer) p seen = (refl, seen)
 opened-sees lent (call.Poll Reader waker luck) p seen = (refl, unseen _ _ (opens-unloaded (p.known == 0) purpose.Poll))
-opened-sees lent (call.Poll Writer waker luck) p seen = (refl, seen)
 opened-sees lent (call.TryDrain size) p seen = (refl, unseen _ _ (opens-unloaded (p.known == 0) _))
 opened-sees lent (call.PollDrainBytes waker luck size) p seen = (refl, unseen _ _ (opens-unloaded (p.known == 0) _))
 opened-sees lent (call.PollDrain waker luck acts) p seen = (refl, unseen _ _ (opens-unloaded (p.known == 0) _))
-opened-sees lent (call.TryFill bytes) p seen = (refl, seen)
-opened-sees lent (call.PollFillBytes waker luck bytes) p seen = (refl, seen)
-opened-sees lent (call.PollFill waker luck acts) p seen = (refl, seen)
 opened-sees lent (call.Consume n) p seen = (refl, λ saw. absurd (cc))
-opened-sees lent (call.WriteBuf most) p seen = (refl, seen)
-opened-sees lent (call.Produced n) p seen = (refl, seen)
-opened-sees lent call.Close p seen = (refl, seen)
 opened-sees lent (call.Drop Reader) p seen = (refl, λ saw. absurd (cc))
-opened-sees lent (call.Drop Writer) p seen = (refl, seen)
+opened-sees lent c p seen = (refl, seen)
+
+began-leaves : (h : History) (side : Side) (kind : Kind) (waker : Option ℕ) → (history_after h (Began side kind waker)).is_closed ≡ h.is_closed
+began-leaves h Reader kind waker = refl
+began-leaves h Writer kind waker = refl
 
 began-tells : (h : History) (lent : List ℕ) (c : Call) (p : Pipe) → h.is_closed ≡ p.is_closed → Tells h (stepped lent (Begin c) p).events p.is_closed
-began-tells h lent (call.Len Reader) p same = ((tt, tt), same)
-began-tells h lent (call.Len Writer) p same = ((tt, tt), same)
-began-tells h lent (call.IsEmpty Reader) p same = ((tt, tt), same)
-began-tells h lent (call.IsEmpty Writer) p same = ((tt, tt), same)
-began-tells h lent (call.IsFull Reader) p same = ((tt, tt), same)
-began-tells h lent (call.IsFull Writer) p same = ((tt, tt), same)
-began-tells h lent (call.IsClosed Reader) p same = ((tt, tt), same)
-began-tells h lent (call.IsClosed Writer) p same = ((tt, tt), same)
-began-tells h lent (call.Poll Reader waker luck) p same = ((tt, tt), same)
-began-tells h lent (call.Poll Writer waker luck) p same = ((tt, tt), same)
-began-tells h lent (call.TryDrain size) p same = ((tt, tt), same)
-began-tells h lent (call.PollDrainBytes waker luck size) p same = ((tt, tt), same)
-began-tells h lent (call.PollDrain waker luck acts) p same = ((tt, tt), same)
-began-tells h lent (call.TryFill bytes) p same = ((tt, tt), same)
-began-tells h lent (call.PollFillBytes waker luck bytes) p same = ((tt, tt), same)
-began-tells h lent (call.PollFill waker luck acts) p same = ((tt, tt), same)
-began-tells h lent (call.Consume n) p same = ((tt, tt), same)
 began-tells h lent (call.WriteBuf most) p same = ((tt, (tt, tt)), same)
-began-tells h lent (call.Produced n) p same = ((tt, tt), same)
-began-tells h lent call.Close p same = ((tt, tt), same)
-began-tells h lent (call.Drop Reader) p same = ((tt, tt), same)
-began-tells h lent (call.Drop Writer) p same = ((tt, tt), same)
+began-tells h lent c p same = ((tt, tt), began-leaves h (side_of c) (kind_of c) (waker_of c) ∙ same)
 
 -- what the log says of the flag is so, and what the reader carries of it, too
 pub record Aware (p : Pipe) (h : History) : Type 0 where

@@ -33,6 +33,7 @@ use Rattle.piper_machine.specs.Ready.{IsReadyFrom, IsReady}
 use Rattle.piper_machine.specs.Counts.{Tally, tallied, tally_from, tally_of, IsCounted, is_same}
 use Rattle.piper_machine.specs.Called.{called, calls_from, AreCallsCounted}
 use Rattle.piper_machine.specs.Run.{Made, Runs}
+use Rattle.piper_machine.proofs.Opened.{opened-leaves}
 use Rattle.piper_machine.proofs.Knowing.{knowledge-append, answer-tells, learns, learned, learned-enough, learned-exactly, Stores, knows, writer-tells, reader-tells, IsReadyNext}
 use Rattle.piper_machine.proofs.ReaderCounts.{reader-fits, reader-goes}
 use Rattle.piper_machine.proofs.WriterCounts.{writer-fits, writer-goes}
@@ -134,27 +135,12 @@ ready-step side (Put offset byte) lent p k t calls may accepted held = tt
 
 -- a step leaves the capacity, and a call as it is opened what is known
 
-opened-leaves : (lent : List ℕ) (c : Call) (p : Pipe) → let q = opened lent c p in (q.capacity ≡ p.capacity) × (q.known ≡ p.known) × (q.room ≡ p.room)
-opened-leaves lent (call.Len Reader) p = (refl, refl, refl)
-opened-leaves lent (call.Len Writer) p = (refl, refl, refl)
-opened-leaves lent (call.IsEmpty Reader) p = (refl, refl, refl)
-opened-leaves lent (call.IsEmpty Writer) p = (refl, refl, refl)
-opened-leaves lent (call.IsFull Reader) p = (refl, refl, refl)
-opened-leaves lent (call.IsFull Writer) p = (refl, refl, refl)
-opened-leaves lent (call.IsClosed Reader) p = (refl, refl, refl)
-opened-leaves lent (call.IsClosed Writer) p = (refl, refl, refl)
-opened-leaves lent (call.Poll Reader waker luck) p = (refl, refl, refl)
-opened-leaves lent (call.Poll Writer waker luck) p = (refl, refl, refl)
-opened-leaves lent (call.Drop Reader) p = (refl, refl, refl)
-opened-leaves lent (call.Drop Writer) p = (refl, refl, refl)
-opened-leaves lent c p = (refl, refl, refl)
-
 opened-knows : (side : Side) (lent : List ℕ) (c : Call) (p : Pipe) → knows side (opened lent c p) ≡ knows side p
-opened-knows Reader lent c p = (opened-leaves lent c p).1
-opened-knows Writer lent c p = (opened-leaves lent c p).2
+opened-knows Reader lent c p = (opened-leaves lent c p).known
+opened-knows Writer lent c p = (opened-leaves lent c p).room
 
 step-capacity : (s : Step) (lent : List ℕ) (p : Pipe) → (stepped lent s p).pipe.capacity ≡ p.capacity
-step-capacity (Begin c) lent p = (opened-leaves lent c p).0
+step-capacity (Begin c) lent p = (opened-leaves lent c p).capacity
 step-capacity (Go Reader) lent p = (reader_leaves-writer (read_action p.reader) p (reader_never-tail p.reader)).2
 step-capacity (Go Writer) lent p = (writer_leaves-reader (write_action p.writer) (offering lent p) (writer_never-head p.writer)).2
 step-capacity (Put offset byte) lent p = refl

@@ -7,6 +7,7 @@ pub mod Rounds
 pub mod Runs
 pub mod Sources
 pub mod Offering
+pub mod Opened
 pub mod Knowing
 pub mod ReaderCounts
 pub mod WriterCounts

@@ -144,16 +144,11 @@ opens (call.Produced n) lent others r stepped sound fits =
     let within = within-of n _ (test-holds _ _ fits) in
     let room = sound.lent_room in
     record { commutes = refl; at_once = refl; busy = refl; stands = (record { unread = sound.unread; start = sound.start; room = sound.room; store = omega arith; shut = sound.closed; unclosed = λ saw. absurd (cc) }, refl); rest = refl; unwoken = refl; few = omega arith }
-opens (call.Len Writer) lent others r stepped sound fits = record { commutes = refl; at_once = refl; busy = refl; stands = (record { unread = sound.unread; start = sound.start; room = sound.room; store = omega arith; shut = sound.closed; unclosed = λ saw. absurd (cc) }, refl); rest = refl; unwoken = refl; few = omega arith }
-opens (call.IsEmpty Writer) lent others r stepped sound fits = record { commutes = refl; at_once = refl; busy = refl; stands = (record { unread = sound.unread; start = sound.start; room = sound.room; store = omega arith; shut = sound.closed; unclosed = λ saw. absurd (cc) }, refl); rest = refl; unwoken = refl; few = omega arith }
-opens (call.IsFull Writer) lent others r stepped sound fits = record { commutes = refl; at_once = refl; busy = refl; stands = (record { unread = sound.unread; start = sound.start; room = sound.room; store = omega arith; shut = sound.closed; unclosed = λ saw. absurd (cc) }, refl); rest = refl; unwoken = refl; few = omega arith }
-opens (call.IsClosed Writer) lent others r stepped sound fits = record { commutes = refl; at_once = refl; busy = refl; stands = (record { unread = sound.unread; start = sound.start; room = sound.room; store = omega arith; shut = sound.closed; unclosed = λ saw. absurd (cc) }, refl); rest = refl; unwoken = refl; few = omega arith }
 opens (call.Poll Writer waker luck) lent others r stepped sound fits = record { commutes = refl; at_once = refl; busy = refl; stands = (record { unread = sound.unread; start = sound.start; room = sound.room; store = omega arith; shut = sound.closed; unclosed = λ saw. absurd (cc) }, refl); rest = writer-polls (context waker luck) r; unwoken = refl; few = omega arith }
 opens (call.TryFill bytes) lent others r stepped sound fits = record { commutes = refl; at_once = refl; busy = refl; stands = (record { unread = sound.unread; start = sound.start; room = sound.room; store = omega arith; shut = sound.closed; unclosed = λ saw. absurd (cc) }, refl); rest = try_fill-whole bytes r; unwoken = refl; few = omega arith }
 opens (call.PollFillBytes waker luck bytes) lent others r stepped sound fits = record { commutes = refl; at_once = refl; busy = refl; stands = (record { unread = sound.unread; start = sound.start; room = sound.room; store = omega arith; shut = sound.closed; unclosed = λ saw. absurd (cc) }, refl); rest = fill-slice (context waker luck) bytes r; unwoken = refl; few = omega arith }
 opens (call.PollFill waker luck acts) lent others r stepped sound fits = record { commutes = refl; at_once = refl; busy = refl; stands = (record { unread = sound.unread; start = sound.start; room = sound.room; store = omega arith; shut = sound.closed; unclosed = λ saw. absurd (cc) }, refl); rest = fill-acts (context waker luck) acts r; unwoken = refl; few = omega arith }
-opens call.Close lent others r stepped sound fits = record { commutes = refl; at_once = refl; busy = refl; stands = (record { unread = sound.unread; start = sound.start; room = sound.room; store = omega arith; shut = sound.closed; unclosed = λ saw. absurd (cc) }, refl); rest = refl; unwoken = refl; few = omega arith }
-opens (call.Drop Writer) lent others r stepped sound fits = record { commutes = refl; at_once = refl; busy = refl; stands = (record { unread = sound.unread; start = sound.start; room = sound.room; store = omega arith; shut = sound.closed; unclosed = λ saw. absurd (cc) }, refl); rest = refl; unwoken = refl; few = omega arith }
+opens c lent others r stepped sound fits = record { commutes = refl; at_once = refl; busy = refl; stands = (record { unread = sound.unread; start = sound.start; room = sound.room; store = omega arith; shut = sound.closed; unclosed = λ saw. absurd (cc) }, refl); rest = refl; unwoken = refl; few = omega arith }
 
 or_else-second : (first second : Option StepRefusal) → or_else first second ≡ None → second ≡ None
 or_else-second None second none = none
