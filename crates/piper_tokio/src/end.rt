@@ -1,10 +1,11 @@
 //! An end of a duplex stream, for `tokio`.
-ghost use Rattle.std.specs.Prelude.{◌≡◌, true, refl};
+ghost use Rattle.std.specs.Prelude.{◌≡◌, true, [], refl};
 ghost use Rattle.std.proofs.Common.{◌∙◌};
 ghost use Rattle.std.specs.IoError.{error_kind};
 ghost use Rattle.std.specs.declared.io.ErrorKind.TheVariants.{OutOfMemory as OutOfMemoryKind};
 ghost use Rattle.piper.specs.Handles.{read_source, write_source};
 ghost use Rattle.piper_tokio.specs.Passing.{Took, AtEnd, Gave};
+ghost use Rattle.piper_tokio.specs.Shown.{shown_by};
 ghost use Rattle.piper_tokio.specs.PassingLaws.{took_nothing, took_in_order, gave_nothing, gave_in_order};
 
 use crate::reader::CompatReader;
@@ -27,7 +28,7 @@ pub struct CompatEnd<H: Wait + Clone + Drop> {
 impl<H: Wait + Clone + Drop> CompatEnd<H> {
     pub fn new(end: End<H>) -> CompatEnd<H>
         ensures reader { result.reader.reader ≡ end.reader }
-        ensures shown { result.reader.shown ≡ 0 }
+        ensures shown { shown_by result.reader ≡ [] }
         ensures writer { result.writer.writer ≡ end.writer }
     {
         let (reader, writer) = end.into_halves();
@@ -67,9 +68,7 @@ impl<H: Wait + Clone + Drop> AsyncRead for CompatEnd<H> {
 }
 
 impl<H: Wait + Clone + Drop> AsyncBufRead for CompatEnd<H> {
-    ghost use Rattle.std.specs.Prelude.{take};
-
-    ghost buffered = { λ compat. take compat.reader.shown compat.reader.reader.end.known };
+    ghost buffered = { λ compat. shown_by compat.reader };
 
     fn poll_fill_buf(&mut self, cx: &mut Context<'_>) -> Poll<io::Result<()>> {
         self.reader.poll_fill_buf(cx)

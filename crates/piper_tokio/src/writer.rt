@@ -19,7 +19,7 @@ use std::sync::Wait;
 
 /// The writing side of a pipe, as a writer of `tokio`. Where it is let go it closes the pipe and wakes the reader.
 ///
-/// In clauses, `writer` is the handle that `get_ref` lends.
+/// In clauses, `writer` is the handle that the call of this name lends.
 pub struct CompatWriter<H: Wait + Clone + Drop> {
     writer: Writer<H>,
 }
@@ -32,7 +32,7 @@ impl<H: Wait + Clone + Drop> CompatWriter<H> {
     }
 
     /// The handle.
-    pub fn get_ref(&self) -> &Writer<H>
+    pub fn writer(&self) -> &Writer<H>
         ensures { result.now ≡ self.now.writer }
     {
         &self.writer
