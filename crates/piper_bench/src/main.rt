@@ -4,6 +4,7 @@
 ghost use Rattle.std.specs.Prelude.{length, ◌≡◌, ◌<◌, ◌≤◌, ◌^◌};
 
 use crossbeam_channel::bounded;
+use futures::test::MockTask;
 use lines::through_lines;
 use peers::{through_channel, through_stream};
 use piper::{OutOfMemory, OwnedReader, OwnedWriter, ReadEnd, WriteEnd, open_ring, pipe};
@@ -181,27 +182,38 @@ where
         }
         What::Pipe { way, is_shared } => {
             let handles = pipe_of(rt, work)?;
+            let task = MockTask::new(rt)?;
             let start = Instant::now(rt)?;
             let checksum = match way {
                 Way::Try => {
                     let ways = (TryForms, TryForms);
-                    through_pipe(rt, ways, handles, is_shared, source, place, work.total)?
+                    through_pipe(
+                        rt, &task, ways, handles, is_shared, source, place, work.total,
+                    )?
                 }
                 Way::InPlace => {
                     let ways = (InPlace, InPlace);
-                    through_pipe(rt, ways, handles, is_shared, source, place, work.total)?
+                    through_pipe(
+                        rt, &task, ways, handles, is_shared, source, place, work.total,
+                    )?
                 }
                 Way::Fill => {
                     let ways = (Copies, TryForms);
-                    through_pipe(rt, ways, handles, is_shared, source, place, work.total)?
+                    through_pipe(
+                        rt, &task, ways, handles, is_shared, source, place, work.total,
+                    )?
                 }
                 Way::Drain => {
                     let ways = (TryForms, Copies);
-                    through_pipe(rt, ways, handles, is_shared, source, place, work.total)?
+                    through_pipe(
+                        rt, &task, ways, handles, is_shared, source, place, work.total,
+                    )?
                 }
                 Way::FillDrain => {
                     let ways = (Copies, Copies);
-                    through_pipe(rt, ways, handles, is_shared, source, place, work.total)?
+                    through_pipe(
+                        rt, &task, ways, handles, is_shared, source, place, work.total,
+                    )?
                 }
             };
             Ok((start.elapsed(rt)?, checksum))

@@ -300,9 +300,10 @@ fn drain_all<D: Drain + Drop, R: Wait + RandomSource + AllocGlobal, H: Wait + Cl
     )
 }
 
-/// Moves the bytes through a pipe, and answers the checksum.
+/// Moves the bytes through a pipe, and answers the checksum: on one thread under this task, between two under a task each.
 pub fn through_pipe<F, D, R>(
     rt: &R,
+    task: &MockTask,
     ways: (F, D),
     handles: (OwnedReader<R>, OwnedWriter<R>),
     is_shared: bool,
@@ -325,7 +326,6 @@ where
         );
         filled?.and(drained?)
     } else {
-        let task = MockTask::new(rt)?;
         let (reader, writer) = (reader.get_mut(), writer.get_mut());
         task.enter(|cx| in_turn(
             rt,
