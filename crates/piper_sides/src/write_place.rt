@@ -96,7 +96,8 @@ impl WritePlace {
     #[inline(always)]
     pub(crate) fn loaded_tail(&mut self, capacity: usize) -> Option<Answer>
         requires next { write_action self.old ≡ Action.LoadTail }
-        ensures after { (room : ℕ) → Leads (self.new, result) (write_after capacity room self.old nothing) }
+        ensures after { (room : ℕ) →
+            Leads (self.new, result) (write_after capacity room self.old nothing) }
         ensures step { Leads (self.new, result) (query_told capacity self.old) }
         ensures open { self.new ≡ WritePlace.Idle → IsSome result }
         ensures no_store { tail_store self.new ≡ 0 }

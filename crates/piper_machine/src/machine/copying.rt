@@ -34,8 +34,10 @@ impl Machine {
     fn fill_slice(&mut self, context: Option<Context>, bytes: &[u8]) -> Answer
         requires idle { self.old.writer ≡ WritePlace.Idle }
         requires woken { self.old.woken ≡ [] }
-        ensures answer { let p = fill_opened context (SourceAct.Bytes bytes.now ∷ []) self.old in result ≡ (writer_alone p.writer p).answer }
-        ensures after { let p = fill_opened context (SourceAct.Bytes bytes.now ∷ []) self.old in self.new ≡ (writer_alone p.writer p).pipe }
+        ensures answer { let p = fill_opened context (SourceAct.Bytes bytes.now ∷ []) self.old in
+            result ≡ (writer_alone p.writer p).answer }
+        ensures after { let p = fill_opened context (SourceAct.Bytes bytes.now ∷ []) self.old in
+            self.new ≡ (writer_alone p.writer p).pipe }
     {
         self.learn();
         self.open_fill(context, Source::none(self.alloc));
@@ -74,9 +76,14 @@ impl Machine {
     fn drain_slice(&mut self, context: Option<Context>, dest: &mut [u8]) -> Answer
         requires idle { self.old.reader ≡ ReadPlace.Idle }
         requires woken { self.old.woken ≡ [] }
-        ensures answer { let p = drain_opened context (Destination.Slice (length dest.old)) self.old in result ≡ (reader_alone p.reader p).answer }
-        ensures after { let p = drain_opened context (Destination.Slice (length dest.old)) self.old in self.new ≡ (reader_alone p.reader p).pipe }
-        ensures bytes { let n = length self.old.unread - length self.new.unread in dest.new ≡ take n self.old.unread ++ drop n dest.old }
+        ensures answer { let p =
+            drain_opened context (Destination.Slice (length dest.old)) self.old in
+            result ≡ (reader_alone p.reader p).answer }
+        ensures after { let p =
+            drain_opened context (Destination.Slice (length dest.old)) self.old in
+            self.new ≡ (reader_alone p.reader p).pipe }
+        ensures bytes { let n = length self.old.unread - length self.new.unread in
+            dest.new ≡ take n self.old.unread ++ drop n dest.old }
     {
         self.learn();
         self.open_drain(context, Destination::Slice(0));
@@ -104,8 +111,10 @@ impl Machine {
     fn fill_script(&mut self, context: Option<Context>, acts: &[SourceAct]) -> Answer
         requires idle { self.old.writer ≡ WritePlace.Idle }
         requires woken { self.old.woken ≡ [] }
-        ensures answer { let p = fill_opened context acts.now self.old in result ≡ (writer_alone p.writer p).answer }
-        ensures after { let p = fill_opened context acts.now self.old in self.new ≡ (writer_alone p.writer p).pipe }
+        ensures answer { let p = fill_opened context acts.now self.old in
+            result ≡ (writer_alone p.writer p).answer }
+        ensures after { let p = fill_opened context acts.now self.old in
+            self.new ≡ (writer_alone p.writer p).pipe }
     {
         self.learn();
         self.open_fill(context, Source::none(self.alloc));
@@ -141,8 +150,10 @@ impl Machine {
     fn drain_script(&mut self, context: Option<Context>, acts: &[DestAct]) -> Answer
         requires idle { self.old.reader ≡ ReadPlace.Idle }
         requires woken { self.old.woken ≡ [] }
-        ensures answer { let p = drain_opened context (Destination.Acts acts.now) self.old in result ≡ (reader_alone p.reader p).answer }
-        ensures after { let p = drain_opened context (Destination.Acts acts.now) self.old in self.new ≡ (reader_alone p.reader p).pipe }
+        ensures answer { let p = drain_opened context (Destination.Acts acts.now) self.old in
+            result ≡ (reader_alone p.reader p).answer }
+        ensures after { let p = drain_opened context (Destination.Acts acts.now) self.old in
+            self.new ≡ (reader_alone p.reader p).pipe }
     {
         self.learn();
         self.open_drain(context, Destination::Slice(0));
@@ -221,10 +232,14 @@ impl Machine {
     pub fn r_poll_drain_bytes(&mut self, waker: u32, luck: Luck, dest: &mut [u8]) -> Polled<usize>
         requires idle { self.old.reader ≡ ReadPlace.Idle }
         requires draw { luck.draw < 100 }
-        ensures answer { result ≡ (drain (Some (context waker luck)) (length dest.old) self.old).answer }
-        ensures bytes { let n = count_of result in dest.new ≡ take n self.old.unread ++ drop n dest.old }
-        ensures after { self.new ≡ (drain (Some (context waker luck)) (length dest.old) self.old).pipe }
-        ensures by_steps { IsWholeBySteps (Call.PollDrainBytes waker luck (length dest.old)) self.old }
+        ensures answer { result
+            ≡ (drain (Some (context waker luck)) (length dest.old) self.old).answer }
+        ensures bytes { let n = count_of result in
+            dest.new ≡ take n self.old.unread ++ drop n dest.old }
+        ensures after { self.new
+            ≡ (drain (Some (context waker luck)) (length dest.old) self.old).pipe }
+        ensures by_steps { IsWholeBySteps
+            (Call.PollDrainBytes waker luck (length dest.old)) self.old }
     {
         self.learn();
         self.learn_steps();

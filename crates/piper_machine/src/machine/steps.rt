@@ -88,7 +88,8 @@ fn settle_writer(
 // Nothing stays lent where a fill has answered.
 fn settle_lent(write: &mut WriteSide, is_fill: bool, answer: Option<Answer>)
     requires { IsSome answer → write.old.place ≡ WritePlace.Idle }
-    ensures { write.new ≡ record write.old { lent = lent_count_after is_fill answer write.old.lent } }
+    ensures { write.new
+        ≡ record write.old { lent = lent_count_after is_fill answer write.old.lent } }
 {
     if is_fill && answer.is_some() {
         write.unlend();
