@@ -180,44 +180,7 @@ where
             let (producer, consumer) = RingBuffer::new(rt.alloc(), work.capacity)?;
             move_bytes(rt, is_shared, work, producer, consumer, source, place)
         }
-        What::Pipe { way, is_shared } => {
-            let handles = pipe_of(rt, work)?;
-            let task = MockTask::new(rt)?;
-            let start = Instant::now(rt)?;
-            let checksum = match way {
-                Way::Try => {
-                    let ways = (TryForms, TryForms);
-                    through_pipe(
-                        rt, &task, ways, handles, is_shared, source, place, work.total,
-                    )?
-                }
-                Way::InPlace => {
-                    let ways = (InPlace, InPlace);
-                    through_pipe(
-                        rt, &task, ways, handles, is_shared, source, place, work.total,
-                    )?
-                }
-                Way::Fill => {
-                    let ways = (Copies, TryForms);
-                    through_pipe(
-                        rt, &task, ways, handles, is_shared, source, place, work.total,
-                    )?
-                }
-                Way::Drain => {
-                    let ways = (TryForms, Copies);
-                    through_pipe(
-                        rt, &task, ways, handles, is_shared, source, place, work.total,
-                    )?
-                }
-                Way::FillDrain => {
-                    let ways = (Copies, Copies);
-                    through_pipe(
-                        rt, &task, ways, handles, is_shared, source, place, work.total,
-                    )?
-                }
-            };
-            Ok((start.elapsed(rt)?, checksum))
-        }
+        What::Pipe { way, is_shared } => through_way(rt, way, is_shared, work, source, place),
         What::Lines => {
             let handles = pipe_of(rt, work)?;
             let start = Instant::now(rt)?;
@@ -238,6 +201,56 @@ where
             Ok((start.elapsed(rt)?, checksum))
         }
     }
+}
+
+/// Moves the bytes through the handles of a pipe, and answers how long it took and the checksum.
+fn through_way<R>(
+    rt: &R,
+    way: Way,
+    is_shared: bool,
+    work: Work,
+    source: &[u8],
+    place: &mut [u8],
+) -> io::Result<(Duration, u64)>
+where
+    R: Wait + Threads + Clock + RandomSource + AllocGlobal + Clone + Drop + Send + Sync,
+{
+    let handles = pipe_of(rt, work)?;
+    let task = MockTask::new(rt)?;
+    let start = Instant::now(rt)?;
+    let checksum = match way {
+        Way::Try => {
+            let ways = (TryForms, TryForms);
+            through_pipe(
+                rt, &task, ways, handles, is_shared, source, place, work.total,
+            )?
+        }
+        Way::InPlace => {
+            let ways = (InPlace, InPlace);
+            through_pipe(
+                rt, &task, ways, handles, is_shared, source, place, work.total,
+            )?
+        }
+        Way::Fill => {
+            let ways = (Copies, TryForms);
+            through_pipe(
+                rt, &task, ways, handles, is_shared, source, place, work.total,
+            )?
+        }
+        Way::Drain => {
+            let ways = (TryForms, Copies);
+            through_pipe(
+                rt, &task, ways, handles, is_shared, source, place, work.total,
+            )?
+        }
+        Way::FillDrain => {
+            let ways = (Copies, Copies);
+            through_pipe(
+                rt, &task, ways, handles, is_shared, source, place, work.total,
+            )?
+        }
+    };
+    Ok((start.elapsed(rt)?, checksum))
 }
 
 /// Moves the bytes through a peer, and answers how long it took and the checksum.
