@@ -1,7 +1,6 @@
 use Rattle.std.proofs.Common.{Option, ap, ◌∙◌}
 use Rattle.piper_sides.specs.declared.calls.Side.TheVariants.{Writer}
 use Rattle.piper_sides.specs.declared.events.Answer.{Answer}
-use Rattle.piper_sides.specs.declared.table.Action.{Action}
 use Rattle.piper_sides.specs.Log.{events, listed, answer_event}
 use Rattle.piper_machine.specs.Action.{logged_of}
 use Rattle.piper_machine.proofs.Offering.{writer_made}
@@ -11,5 +10,4 @@ pub returns : goal.returns
 returns c =
     let goes = c.writer_goes-answer.ensures in
     let answers = c.answered.ensures ∙ ap (λ (answer : Option Answer). answer_event Writer answer) goes.answer in
-    let event = c.requires.event ∙ ap (λ (action : Action). logged_of Writer action c.args.self.now) c.requires.next in
-    writer_made c.args.self.now c.writer_goes-answer.new.self (listed c.args.event) (listed c.answered.result) (events c.args.log.now) (events c.add.new.self) goes.lent goes.after event answers c.add.ensures
+    writer_made c.args.self.now c.writer_goes-answer.new.self (listed c.args.event) (listed c.answered.result) (events c.args.log.now) (events c.add.new.self) goes.lent goes.after (c.requires.event ∙ ap (λ action. logged_of Writer action c.args.self.now) c.requires.next) answers c.add.ensures
