@@ -243,7 +243,7 @@ impl ReadPlace {
         match *self {
             ReadPlace::CallDestination(form, sum) if n == 0 => {
                 *self = ReadPlace::Idle;
-                Some(form.counted(sum))
+                Some(form.count_answer(sum))
             }
             ReadPlace::CallDestination(form, sum) => {
                 *self = ReadPlace::StoreHead(n, AfterRead::Round(form, sum + n));

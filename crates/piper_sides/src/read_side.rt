@@ -48,7 +48,7 @@ pub fn look_answer(purpose: Purpose, answer: Polled<bool>) -> Answer
 {
     match purpose {
         Purpose::Poll => Answer::Poll(answer),
-        Purpose::Copy(form) => form.looked(answer),
+        Purpose::Copy(form) => form.copy_answer(answer),
     }
 }
 

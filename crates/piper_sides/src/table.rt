@@ -140,7 +140,7 @@ impl Query {
 impl Form {
     /// What a copying call answers whose look was not true.
     #[inline(always)]
-    pub fn looked(self, answer: Polled<bool>) -> Answer
+    pub fn copy_answer(self, answer: Polled<bool>) -> Answer
         ensures { result ≡ copy_answer self answer }
     {
         match self {
@@ -155,7 +155,7 @@ impl Form {
 
     /// What a copying call answers that ends with a count.
     #[inline(always)]
-    pub fn counted(self, count: usize) -> Answer
+    pub fn count_answer(self, count: usize) -> Answer
         ensures { result ≡ count_answer self count }
     {
         match self {

@@ -191,7 +191,7 @@ impl WritePlace {
             }
             WritePlace::RoundClosed(_, form, sum) if is_closed => {
                 *self = WritePlace::Idle;
-                Some(form.counted(sum))
+                Some(form.count_answer(sum))
             }
             WritePlace::RoundClosed(n, form, sum) => {
                 *self = WritePlace::StoreTail(n, AfterWrite::Round(form, sum));
@@ -287,7 +287,7 @@ impl WritePlace {
         match *self {
             WritePlace::CallSource(form, sum) if n == 0 => {
                 *self = WritePlace::Idle;
-                Some(form.counted(sum))
+                Some(form.count_answer(sum))
             }
             WritePlace::CallSource(form, sum) => {
                 *self = WritePlace::RoundClosed(n, form, sum + n);
