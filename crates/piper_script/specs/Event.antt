@@ -66,4 +66,7 @@ event_line event = side_prefix (side_of_event event) ++ event_word event ++ code
 -- what two calls answered, whom they woke, and what they left unread
 abbrev pub outcome_line : Answer → Answer → List ℕ → List ℕ → List ℕ
 outcome_line reader writer woken unread =
-    codes "r=" ++ answer_word reader ++ codes " w=" ++ answer_word writer ++ codes " woken=" ++ printed_list woken ++ codes " unread=" ++ printed_list unread ++ codes "\n"
+    codes "r=" ++ answer_word reader
+    ++ codes " w=" ++ answer_word writer
+    ++ codes " woken=" ++ printed_list woken
+    ++ codes " unread=" ++ printed_list unread ++ codes "\n"

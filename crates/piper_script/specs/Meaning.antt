@@ -24,7 +24,8 @@ luck_of luck = record {
 }
 
 -- the call is made with something that is meant
-pub record MadeWith (A : Type 0) (IsMeant : A → Type 0) (call : A → Call) (made : Call) : Type 0 where
+pub record MadeWith (A : Type 0) (IsMeant : A → Type 0) (call : A → Call)
+    (made : Call) : Type 0 where
   pub with_this : A
   pub meant : IsMeant with_this
   pub same : made ≡ call with_this
@@ -37,10 +38,15 @@ Means (IsClosed side) call = call ≡ machine.IsClosed side
 Means (Poll side waker luck) call = call ≡ machine.Poll side waker (luck_of luck)
 Means (Fill list) call = MadeWith (List ℕ) (StandsFor list.text.now) machine.TryFill call
 Means (Drain most) call = call ≡ machine.TryDrain most
-Means (PollFill waker list luck) call = MadeWith (List ℕ) (StandsFor list.text.now) (machine.PollFillBytes waker (luck_of luck)) call
+Means (PollFill waker list luck) call =
+    MadeWith (List ℕ) (StandsFor list.text.now) (machine.PollFillBytes waker (luck_of luck)) call
 Means (PollDrain waker most luck) call = call ≡ machine.PollDrainBytes waker (luck_of luck) most
-Means (FillFrom waker sources luck) call = MadeWith (List SourceAct) (StandsForActs sources.text.now) (machine.PollFill waker (luck_of luck)) call
-Means (DrainTo waker dests luck) call = MadeWith (List DestAct) (λ acts. dests.text.now ≡ dests_text acts) (machine.PollDrain waker (luck_of luck)) call
+Means (FillFrom waker sources luck) call =
+    MadeWith (List SourceAct) (StandsForActs sources.text.now)
+    (machine.PollFill waker (luck_of luck)) call
+Means (DrainTo waker dests luck) call =
+    MadeWith (List DestAct) (λ acts. dests.text.now ≡ dests_text acts)
+    (machine.PollDrain waker (luck_of luck)) call
 Means (Consume n) call = call ≡ machine.Consume n
 Means (Lend most) call = call ≡ machine.WriteBuf most
 Means (Produced n) call = call ≡ machine.Produced n

@@ -56,4 +56,5 @@ refusal_name PastLent = codes "PastLent"
 refusal_name PastPeek = codes "PastPeek"
 
 abbrev pub printed_refusal : ℕ → Refusal → List ℕ
-printed_refusal line refusal = codes "line " ++ decimal line ++ codes ": " ++ refusal_name refusal ++ codes "\n"
+printed_refusal line refusal =
+    codes "line " ++ decimal line ++ codes ": " ++ refusal_name refusal ++ codes "\n"

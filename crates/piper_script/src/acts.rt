@@ -154,7 +154,8 @@ fn dest(text: &str) -> Result<DestAct, Refusal>
     ensures text { IfOk result (λ act. text.now ≡ dest_text act) }
     ensures limits { IfOk result IsDestInLimits }
     ensures refused { IfErr result IsTextRefusal }
-    ensures accepts { (act : DestAct) → IsDestInLimits act → text.now ≡ dest_text act → result ≡ Ok act }
+    ensures accepts { (act : DestAct) → IsDestInLimits act →
+        text.now ≡ dest_text act → result ≡ Ok act }
 {
     if text == "fail" {
         return Ok(DestAct::Fail);

@@ -93,7 +93,8 @@ impl Reply {
         woken: &[u32],
         unread: &[u8],
     ) -> Result<(), AllocError>
-        ensures { OnOk result (self.new ≡ self.old ++ outcome_line reader writer woken.now unread.now) }
+        ensures { OnOk result (self.new
+            ≡ self.old ++ outcome_line reader writer woken.now unread.now) }
     {
         self.write("r=")?;
         self.write_answer_word(reader)?;

@@ -27,7 +27,8 @@ impl Item {
         ensures text { IfOk result (λ item. text.now ≡ item_text item) }
         ensures item { IfOk result IsItem }
         ensures refused { IfErr result IsTextRefusal }
-        ensures accepts { (item : Item) → IsItem item → text.now ≡ item_text item → result ≡ Ok item }
+        ensures accepts { (item : Item) → IsItem item →
+            text.now ≡ item_text item → result ≡ Ok item }
     {
         if let Some((first, last)) = text.split_once("..") {
             return range(first, last);
@@ -160,7 +161,8 @@ pub fn both<A: Drop, B: Drop>(
     second: Result<B, Refusal>,
 ) -> Result<(A, B), Refusal>
     ensures ok { IfOk result (λ values. (first ≡ Ok values.0) × (second ≡ Ok values.1)) }
-    ensures syntax { IsErrOf result Refusal.Syntax ↔ (IsErrOf first Refusal.Syntax ⊎ IsErrOf second Refusal.Syntax) }
+    ensures syntax { IsErrOf result Refusal.Syntax
+        ↔ (IsErrOf first Refusal.Syntax ⊎ IsErrOf second Refusal.Syntax) }
     ensures refused { IfErr result (λ refusal. IsErrOf first refusal ⊎ IsErrOf second refusal) }
     ensures accepts { IsOk first → IsOk second → IsOk result }
 {
