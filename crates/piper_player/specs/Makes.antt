@@ -29,10 +29,10 @@ pub record Lends (most : ℕ) (p : Pipe) (answer : Answer) (new : Pipe) : Type 0
   pub left : new ≡ lending new.lent (begun p)
 
 -- a copy over a slice never fails
-abbrev pub counted : Polled ℕ → Polled (Result ℕ Failed)
-counted Pending = Pending
-counted (Ready n) = Ready (Ok n)
-counted Memory = Memory
+abbrev pub slice_copied : Polled ℕ → Polled (Result ℕ Failed)
+slice_copied Pending = Pending
+slice_copied (Ready n) = Ready (Ok n)
+slice_copied Memory = Memory
 
 abbrev pub GivesLook : Look → Answer → Pipe → Type 0
 GivesLook look answer new = Gives answer (Poll look.answer) new look.pipe
@@ -42,7 +42,7 @@ abbrev pub GivesCount : Copied ℕ → Answer → Pipe → Type 0
 GivesCount copied answer new = Gives answer (Count (count_of copied.answer)) new copied.pipe
 
 abbrev pub GivesCounted : Copied ℕ → Answer → Pipe → Type 0
-GivesCounted copied answer new = Gives answer (Copy (counted copied.answer)) new copied.pipe
+GivesCounted copied answer new = Gives answer (Copy (slice_copied copied.answer)) new copied.pipe
 
 abbrev pub GivesCopied : Copied (Result ℕ Failed) → Answer → Pipe → Type 0
 GivesCopied copied answer new = Gives answer (Copy copied.answer) new copied.pipe
@@ -52,14 +52,20 @@ Makes (call.Len side) p answer new = Gives answer (Count (unread_count p)) new (
 Makes (call.IsEmpty side) p answer new = Gives answer (Flag (is_empty p)) new (begun p)
 Makes (call.IsFull side) p answer new = Gives answer (Flag (is_full p)) new (begun p)
 Makes (call.IsClosed side) p answer new = Gives answer (Flag (is_closed p)) new (begun p)
-Makes (call.Poll Reader waker luck) p answer new = GivesLook (reader_look (Some (context waker luck)) (begun p)) answer new
-Makes (call.Poll Writer waker luck) p answer new = GivesLook (writer_look (Some (context waker luck)) (begun p)) answer new
+Makes (call.Poll Reader waker luck) p answer new =
+    GivesLook (reader_look (Some (context waker luck)) (begun p)) answer new
+Makes (call.Poll Writer waker luck) p answer new =
+    GivesLook (writer_look (Some (context waker luck)) (begun p)) answer new
 Makes (call.TryFill bytes) p answer new = GivesCount (try_fill bytes p) answer new
 Makes (call.TryDrain most) p answer new = GivesCount (try_drain most p) answer new
-Makes (call.PollFillBytes waker luck bytes) p answer new = GivesCounted (fill (Some (context waker luck)) bytes p) answer new
-Makes (call.PollDrainBytes waker luck most) p answer new = GivesCounted (drain (Some (context waker luck)) most p) answer new
-Makes (call.PollFill waker luck acts) p answer new = GivesCopied (fill_from (Some (context waker luck)) acts p) answer new
-Makes (call.PollDrain waker luck acts) p answer new = GivesCopied (drain_to (Some (context waker luck)) acts p) answer new
+Makes (call.PollFillBytes waker luck bytes) p answer new =
+    GivesCounted (fill (Some (context waker luck)) bytes p) answer new
+Makes (call.PollDrainBytes waker luck most) p answer new =
+    GivesCounted (drain (Some (context waker luck)) most p) answer new
+Makes (call.PollFill waker luck acts) p answer new =
+    GivesCopied (fill_from (Some (context waker luck)) acts p) answer new
+Makes (call.PollDrain waker luck acts) p answer new =
+    GivesCopied (drain_to (Some (context waker luck)) acts p) answer new
 Makes (call.Consume n) p answer new = Gives answer Done new (consume n (begun p))
 Makes (call.WriteBuf most) p answer new = Lends most p answer new
 Makes (call.Produced n) p answer new = Gives answer Done new (produce n (begun p))

@@ -38,7 +38,8 @@ shown_text (Some n) bytes = codes " " ++ printed_list (take n bytes)
 
 -- the answer, the bytes that were moved out, and whom the call woke
 abbrev pub whole_text : Call → Answer → Pipe → Pipe → List ℕ
-whole_text call answer old new = answer_text answer ++ shown_text (shown call answer) old.unread ++ woken_text new.woken
+whole_text call answer old new =
+    answer_text answer ++ shown_text (shown call answer) old.unread ++ woken_text new.woken
 
 -- the call was made, and its answer is shown
 pub record ShowsWhole (call : Call) (old new : Pipe) (before after : List ℕ) : Type 0 where
@@ -76,7 +77,8 @@ pub record ShowsOpened (said : SaidCall) (old new : Pipe) (before after : List �
   pub printed : after ≡ before ++ printed_events events
 
 -- what happened in these steps is shown
-pub record ShowsSteps (steps : Steps) (side : Side) (old new : Pipe) (before after : List ℕ) : Type 0 where
+pub record ShowsSteps (steps : Steps) (side : Side) (old new : Pipe)
+    (before after : List ℕ) : Type 0 where
   pub events : List Event
   pub gone : GoesAs steps side old [] new events
   pub printed : after ≡ before ++ printed_events events
@@ -98,9 +100,11 @@ abbrev pub Plays : Command → Option Pipe → Option Pipe → List ℕ → List
 Plays (NewPipe capacity) old new before after = PutsPipe capacity new before after
 Plays Peek old new before after = OnPipe (λ p q. ShowsPeek p q before after) old new
 Plays (Whole call) old new before after = OnPipe (λ p q. MakesWhole call p q before after) old new
-Plays (Put offset byte) old new before after = OnPipe (λ p q. Puts offset byte p q before after) old new
+Plays (Put offset byte) old new before after =
+    OnPipe (λ p q. Puts offset byte p q before after) old new
 Plays (Begin call) old new before after = OnPipe (λ p q. ShowsOpened call p q before after) old new
-Plays (Go side steps) old new before after = OnPipe (λ p q. ShowsSteps steps side p q before after) old new
+Plays (Go side steps) old new before after =
+    OnPipe (λ p q. ShowsSteps steps side p q before after) old new
 
 -- all but a new pipe ask for one
 abbrev pub NeedsPipe : Command → Type 0
@@ -125,7 +129,8 @@ Says line (Some command) = line ≡ command_text command
 -- a line that says nothing changes nothing, and another one is played and its text ended
 abbrev pub PlaysSaid : Option Command → Option Pipe → Option Pipe → List ℕ → List ℕ → Type 0
 PlaysSaid None old new before after = (new ≡ old) × (after ≡ before)
-PlaysSaid (Some command) old new before after = (text : List ℕ) × Plays command old new before text × (after ≡ text ++ codes "\n")
+PlaysSaid (Some command) old new before after =
+    (text : List ℕ) × Plays command old new before text × (after ≡ text ++ codes "\n")
 
 pub record PlaysLine (line : List ℕ) (old new : Option Pipe) (before after : List ℕ) : Type 0 where
   pub said : Option Command
@@ -135,10 +140,13 @@ pub record PlaysLine (line : List ℕ) (old new : Option Pipe) (before after : L
 -- an opened call is logged, and nothing is logged of another command
 abbrev pub LogsSaid : Option Command → Option Pipe → Option Pipe → List Event → List Event → Type 0
 LogsSaid None old new before after = (new ≡ old) × (after ≡ before)
-LogsSaid (Some (Begin call)) old new before after = OnPipe (λ p q. Opens call p q before after) old new
-LogsSaid (Some command) old new before after = (text : List ℕ) × Plays command old new [] text × (after ≡ before)
+LogsSaid (Some (Begin call)) old new before after =
+    OnPipe (λ p q. Opens call p q before after) old new
+LogsSaid (Some command) old new before after =
+    (text : List ℕ) × Plays command old new [] text × (after ≡ before)
 
-pub record LogsLine (line : List ℕ) (old new : Option Pipe) (before after : List Event) : Type 0 where
+pub record LogsLine (line : List ℕ) (old new : Option Pipe)
+    (before after : List Event) : Type 0 where
   pub said : Option Command
   pub says : Says line said
   pub logs : LogsSaid said old new before after

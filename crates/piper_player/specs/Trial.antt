@@ -59,17 +59,17 @@ answer_of side events = unwrap_or (last_or None (filter_map (answer_in side) eve
 abbrev pub HasNoOther : Move → Type 0
 HasNoOther next = next.has_other ≡ false
 
--- here is the last step that the writer can make in place of the reader
-pub record IsLastOther (place : ℕ) (moves : List Move) : Type 0 where
-  pub within : place < length moves
-  pub has_other : HoldsAt (λ next. next.has_other ≡ true) moves place
-  pub last : All HasNoOther (drop (place + 1) moves)
+-- here is the last step that the writer can make in index of the reader
+pub record IsLastOther (index : ℕ) (moves : List Move) : Type 0 where
+  pub within : index < length moves
+  pub has_other : HoldsAt (λ next. next.has_other ≡ true) moves index
+  pub last : All HasNoOther (drop (index + 1) moves)
 
 -- there the writer makes it, and nothing is said of the steps behind it
 pub record IsNext (old new : List Move) : Type 0 where
-  pub place : ℕ
-  pub other : IsLastOther place old
-  pub next : new ≡ take place old ++ alone Writer ∷ []
+  pub index : ℕ
+  pub other : IsLastOther index old
+  pub next : new ≡ take index old ++ alone Writer ∷ []
 
 -- no step has another
 pub record IsLast (old new : List Move) : Type 0 where
@@ -78,13 +78,17 @@ pub record IsLast (old new : List Move) : Type 0 where
 
 -- the steps that the moves say, one after another
 abbrev pub GoesMoves : List Move → Tried → Tried → Type 0
-GoesMoves moves old new = Runs old.pipe old.events (map (λ next. Go next.side) moves) new.pipe new.events
+GoesMoves moves old new =
+    Runs old.pipe old.events (map (λ next. Go next.side) moves) new.pipe new.events
 
 abbrev pub HasEnded : Tried → Type 0
 HasEnded t = (¬ IsOpen Reader t) × (¬ IsOpen Writer t)
 
 -- all moves were made, until both calls had answered; or those up to one which is too many
 abbrev pub GoesAsLong : Length → Side → List Move → Tried → Tried → Type 0
-GoesAsLong Within first moves old new = GoesMoves moves old new × HasEnded new × (¬ IsLong (other_of first) new)
-GoesAsLong SecondIsLong first moves old new = GoesMoves moves old new × HasEnded new × IsLong (other_of first) new
-GoesAsLong FirstIsLong first moves old new = (n : ℕ) × GoesMoves (take n moves) old new × IsLong first new
+GoesAsLong Within first moves old new =
+    GoesMoves moves old new × HasEnded new × (¬ IsLong (other_of first) new)
+GoesAsLong SecondIsLong first moves old new =
+    GoesMoves moves old new × HasEnded new × IsLong (other_of first) new
+GoesAsLong FirstIsLong first moves old new =
+    (n : ℕ) × GoesMoves (take n moves) old new × IsLong first new

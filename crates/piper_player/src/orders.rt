@@ -26,7 +26,7 @@ struct Opening {
 
 /// A script of whole calls and of one call of each side that is opened.
 #[derive(Drop)]
-struct Script {
+struct CallsToOrder {
     /// The lines that say commands.
     lines: Vec<Vec<u8>>,
     first: Option<Opening>,
@@ -35,9 +35,9 @@ struct Script {
     line: u64,
 }
 
-impl Script {
-    fn new(alloc: Global) -> Script {
-        Script {
+impl CallsToOrder {
+    fn new(alloc: Global) -> CallsToOrder {
+        CallsToOrder {
             lines: Vec::new(alloc),
             first: None,
             second: None,
@@ -138,7 +138,8 @@ impl Script {
 
 // Makes what a line says. What it prints is let go, and what happens in an open call is logged.
 fn make(alloc: Global, player: &mut Player, line: &[u8], log: &mut Log) -> Result<(), Stop>
-    ensures { OnOk result (LogsLine line.now player.old player.new (events log.old) (events log.new)) }
+    ensures { OnOk result
+        (LogsLine line.now player.old player.new (events log.old) (events log.new)) }
 {
     match parse(line)? {
         None => Ok(()),
@@ -159,7 +160,7 @@ enum Explored {
 // Makes the steps in one order, from the start. Its outcome is kept, unless a call makes too many steps.
 fn make_order(
     alloc: Global,
-    script: &Script,
+    script: &CallsToOrder,
     first: Side,
     moves: &mut Vec<Move>,
     outcomes: &mut BTreeSet<Vec<u8>>,
@@ -188,7 +189,7 @@ fn keep_outcome(
 // Makes the steps of both calls in every order, each from the start.
 fn explore(
     alloc: Global,
-    script: &Script,
+    script: &CallsToOrder,
     first: Opening,
     second: Opening,
 ) -> Result<Explored, Stop> {
@@ -219,7 +220,7 @@ pub fn run_all<I: Read, O: Write>(
     input: &mut I,
     output: &mut O,
 ) -> Result<(), Stop> {
-    let mut script = Script::new(alloc);
+    let mut script = CallsToOrder::new(alloc);
     if let Err(stop) = script.read(alloc, input) {
         return stopped(alloc, script.line, stop, output);
     }

@@ -50,8 +50,10 @@ impl Player {
     pub fn play(&mut self, command: Command, reply: &mut Reply) -> Result<(), Stop>
         requires { IsInLimits command }
         ensures plays { OnOk result (Plays command.entry self.old self.new reply.old reply.new) }
-        ensures no_pipe { NeedsPipe command.entry → self.old ≡ None → result ≡ Err (Stop.Refused Refusal.NoPipe) }
-        ensures same { IfErr result (λ stop. IsRefused stop → IsOneMove command.entry → self.new ≡ self.old) }
+        ensures no_pipe { NeedsPipe command.entry → self.old ≡ None →
+            result ≡ Err (Stop.Refused Refusal.NoPipe) }
+        ensures same { IfErr result (λ stop.
+            IsRefused stop → IsOneMove command.entry → self.new ≡ self.old) }
     {
         match command {
             Command::Pipe(capacity) => {
@@ -72,7 +74,8 @@ impl Player {
     }
 
     fn peek(&self, reply: &mut Reply) -> Result<(), Stop>
-        ensures shows { OnOk result (OnPipe (λ p q. ShowsPeek p q reply.old reply.new) self.now self.now) }
+        ensures shows { OnOk result
+            (OnPipe (λ p q. ShowsPeek p q reply.old reply.new) self.now self.now) }
         ensures no_pipe { self.now ≡ None → result ≡ Err (Stop.Refused Refusal.NoPipe) }
     {
         let machine = self.machine.as_ref().ok_or(Refusal::NoPipe)?;
@@ -81,7 +84,8 @@ impl Player {
     }
 
     fn whole(&mut self, said: SaidCall, reply: &mut Reply) -> Result<(), Stop>
-        ensures makes { OnOk result (OnPipe (λ p q. MakesWhole said.entry p q reply.old reply.new) self.old self.new) }
+        ensures makes { OnOk result
+            (OnPipe (λ p q. MakesWhole said.entry p q reply.old reply.new) self.old self.new) }
         ensures no_pipe { self.old ≡ None → result ≡ Err (Stop.Refused Refusal.NoPipe) }
         ensures same { IfErr result (λ stop. IsRefused stop → self.new ≡ self.old) }
     {
@@ -92,7 +96,8 @@ impl Player {
     }
 
     fn put(&mut self, offset: usize, byte: u8, reply: &mut Reply) -> Result<(), Stop>
-        ensures puts { OnOk result (OnPipe (λ p q. Puts offset byte p q reply.old reply.new) self.old self.new) }
+        ensures puts { OnOk result
+            (OnPipe (λ p q. Puts offset byte p q reply.old reply.new) self.old self.new) }
         ensures no_pipe { self.old ≡ None → result ≡ Err (Stop.Refused Refusal.NoPipe) }
         ensures same { IfErr result (λ stop. IsRefused stop → self.new ≡ self.old) }
     {
@@ -104,7 +109,8 @@ impl Player {
 
     /// Opens a call, and logs it.
     pub fn begin(&mut self, call: SaidCall, log: &mut Log) -> Result<(), Stop>
-        ensures opens { OnOk result (OnPipe (λ p q. Opens call.entry p q (events log.old) (events log.new)) self.old self.new) }
+        ensures opens { OnOk result (OnPipe
+            (λ p q. Opens call.entry p q (events log.old) (events log.new)) self.old self.new) }
         ensures no_pipe { self.old ≡ None → result ≡ Err (Stop.Refused Refusal.NoPipe) }
         ensures same { OnErr result (self.new ≡ self.old) }
     {
@@ -121,7 +127,8 @@ impl Player {
     }
 
     fn go(&mut self, side: Side, steps: Steps, reply: &mut Reply) -> Result<(), Stop>
-        ensures shows { OnOk result (OnPipe (λ p q. ShowsSteps steps side p q reply.old reply.new) self.old self.new) }
+        ensures shows { OnOk result (OnPipe
+            (λ p q. ShowsSteps steps side p q reply.old reply.new) self.old self.new) }
         ensures no_pipe { self.old ≡ None → result ≡ Err (Stop.Refused Refusal.NoPipe) }
     {
         let machine = self.machine.as_mut().ok_or(Refusal::NoPipe)?;

@@ -1,8 +1,8 @@
 //! The engine: a script in, its output out.
 
-ghost use Rattle.std.specs.Prelude.{◌↔◌, codes, IsNone, OnOk};
-ghost use Rattle.piper_player.specs.Ended.{EndsWith};
-ghost use Rattle.piper_player.specs.Arguments.{IsWrong};
+ghost use Rattle.std.specs.Prelude.{◌↔◌, codes, IsNone, IsOk, IfSome, IfErr, OnOk};
+ghost use Rattle.piper_player.specs.Ended.{EndsWith, IsEndOf};
+ghost use Rattle.piper_player.specs.Arguments.{IsWrong, AsksFor};
 ghost use Rattle.piper_player.specs.Played.{PlaysLine};
 
 use crate::orders::run_all;
@@ -85,7 +85,8 @@ enum Mode {
 
 // The mode that the arguments ask for, if they ask for one.
 fn mode_of(words: &[String]) -> Option<Mode>
-    ensures { IsNone result ↔ IsWrong words.now }
+    ensures wrong { IsNone result ↔ IsWrong words.now }
+    ensures asked { IfSome result (AsksFor words.now) }
 {
     let Some((word, rest)) = words.split_first() else {
         return Some(Mode::Play);
@@ -119,6 +120,14 @@ pub fn replay<I: Read, O: Write>(
         Some(Mode::Run) => run(alloc, input, output),
         Some(Mode::All) => run_all(alloc, input, output),
     };
+    end_of(played)
+}
+
+// How a replay ended that was made, or stopped.
+fn end_of(played: Result<(), Stop>) -> Ended
+    ensures done { IsOk played → EndsWith result 0 (codes "") }
+    ensures stopped { IfErr played (λ stop. IsEndOf stop result) }
+{
     match played {
         Ok(()) => Ended::DONE,
         Err(stop) => Ended::from(stop),

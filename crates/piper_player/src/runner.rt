@@ -2,7 +2,7 @@
 
 ghost use Rattle.std.specs.Prelude.{◌≡◌, ◌≤◌, ◌<◌, ◌+◌, [], ◌∷◌, ◌++◌, replicate, vec_len, None, IfOk, IfErr, OnOk, OnErr};
 ghost use Rattle.std.specs.Option.{ForSome};
-ghost use Rattle.piper_player.specs.Script.{AddsLine, most_steps_of_a_script};
+ghost use Rattle.piper_player.specs.StepsToRun.{AddsLine, most_steps_of_a_script};
 ghost use Rattle.piper_sides.specs.Index.{IsCapacity};
 
 use crate::stream::{Lines, stopped, write_reply};
@@ -22,7 +22,7 @@ const MOST_STEPS: usize = 1_048_576;
 
 /// The steps that a script says, and the lines that say them.
 #[derive(Drop)]
-struct Script {
+struct StepsToRun {
     /// The capacity of the pipe, once its line was read.
     capacity: Option<usize>,
     steps: Vec<Step>,
@@ -33,13 +33,13 @@ struct Script {
     ghost capacity_in_limits: { ForSome capacity IsCapacity },
 }
 
-impl Script {
-    fn new(alloc: Global) -> Script
+impl StepsToRun {
+    fn new(alloc: Global) -> StepsToRun
         ensures capacity { result.capacity ≡ None }
         ensures steps { result.steps.items ≡ [] }
         ensures lines { result.lines.items ≡ [] }
     {
-        Script {
+        StepsToRun {
             capacity: None,
             steps: Vec::new(alloc),
             lines: Vec::new(alloc),
@@ -65,7 +65,8 @@ impl Script {
     }
 
     fn add_line(&mut self, alloc: Global, line: &[u8]) -> Result<(), Stop>
-        ensures { OnOk result (AddsLine line.now self.old.capacity self.new.capacity self.old.steps.items self.new.steps.items) }
+        ensures { OnOk result (AddsLine line.now self.old.capacity self.new.capacity
+            self.old.steps.items self.new.steps.items) }
     {
         if line.len() <= MOST_OF_A_LINE && !self.takes(line) {
             return Err(Stop::Refused(Refusal::Syntax));
@@ -96,7 +97,8 @@ impl Script {
     // Adds the step of the line read last.
     fn add(&mut self, step: Step) -> Result<(), Stop>
         ensures step { OnOk result (self.new.steps.items ≡ self.old.steps.items ++ step ∷ []) }
-        ensures line { OnOk result (self.new.lines.items ≡ self.old.lines.items ++ (self.old.line, vec_len self.old.steps + 1) ∷ []) }
+        ensures line { OnOk result (self.new.lines.items
+            ≡ self.old.lines.items ++ (self.old.line, vec_len self.old.steps + 1) ∷ []) }
         ensures capacity { self.new.capacity ≡ self.old.capacity }
     {
         let end = self.end_of(1)?;
@@ -107,8 +109,10 @@ impl Script {
 
     // Adds the steps of the line read last: so many of one side's open call.
     fn add_steps(&mut self, side: Side, count: usize) -> Result<(), Stop>
-        ensures steps { OnOk result (self.new.steps.items ≡ self.old.steps.items ++ replicate count (Step.Go side)) }
-        ensures line { OnOk result (self.new.lines.items ≡ self.old.lines.items ++ (self.old.line, vec_len self.old.steps + count) ∷ []) }
+        ensures steps { OnOk result (self.new.steps.items
+            ≡ self.old.steps.items ++ replicate count (Step.Go side)) }
+        ensures line { OnOk result (self.new.lines.items
+            ≡ self.old.lines.items ++ (self.old.line, vec_len self.old.steps + count) ∷ []) }
         ensures capacity { self.new.capacity ≡ self.old.capacity }
     {
         let end = self.end_of(count)?;
@@ -131,9 +135,9 @@ impl Script {
         Ok(end)
     }
 
-    // The number of the line that says the step at this place.
-    fn line_of(&self, place: usize) -> u64 {
-        let line = self.lines.iter().find(|(_, end)| place < *end);
+    // The number of the line that says the step of this index.
+    fn line_of(&self, index: usize) -> u64 {
+        let line = self.lines.iter().find(|(_, end)| index < *end);
         line.map_or(self.line, |(number, _)| *number)
     }
 }
@@ -151,7 +155,7 @@ fn push_steps(steps: &mut Vec<Step>, side: Side, count: usize) -> Result<(), All
 /// Reads the script that `input` gives to its end, runs its steps on a new machine, and writes what
 /// happened to `output`.
 pub fn run<I: Read, O: Write>(alloc: Global, input: &mut I, output: &mut O) -> Result<(), Stop> {
-    let mut script = Script::new(alloc);
+    let mut script = StepsToRun::new(alloc);
     if let Err(stop) = script.read(alloc, input) {
         return stopped(alloc, script.line, stop, output);
     }
@@ -161,8 +165,8 @@ pub fn run<I: Read, O: Write>(alloc: Global, input: &mut I, output: &mut O) -> R
     match machine::run(alloc, capacity, script.steps.as_slice()) {
         Ok((machine, log)) => print(alloc, &machine, &log, output),
         Err(RunRefusal::NoMachine) => Err(Stop::Memory),
-        Err(RunRefusal::At(place, refusal)) => {
-            stopped(alloc, script.line_of(place), Stop::from(refusal), output)
+        Err(RunRefusal::At(index, refusal)) => {
+            stopped(alloc, script.line_of(index), Stop::from(refusal), output)
         }
     }
 }

@@ -19,7 +19,8 @@ pub fn make(
     steps: Steps,
     log: &mut Log,
 ) -> Result<(), StepRefusal>
-    ensures { OnOk result (GoesAs steps side machine.old (events log.old) machine.new (events log.new)) }
+    ensures { OnOk result
+        (GoesAs steps side machine.old (events log.old) machine.new (events log.new)) }
 {
     match steps {
         Steps::One => make_some(machine, side, 1, log),
@@ -34,7 +35,8 @@ fn make_some(
     count: usize,
     log: &mut Log,
 ) -> Result<(), StepRefusal>
-    ensures { OnOk result (Goes count side machine.old (events log.old) machine.new (events log.new)) }
+    ensures { OnOk result
+        (Goes count side machine.old (events log.old) machine.new (events log.new)) }
 {
     for _ in 0..count {
         go(machine, side, log)?;
@@ -44,22 +46,24 @@ fn make_some(
 
 // Makes one step of the side's open call.
 fn go(machine: &mut Machine, side: Side, log: &mut Log) -> Result<(), StepRefusal>
-    ensures { OnOk result (Made machine.old (Step.Go side) machine.new (events log.old) (events log.new)) }
+    ensures { OnOk result
+        (Made machine.old (Step.Go side) machine.new (events log.old) (events log.new)) }
 {
     machine.step(&Step::Go(side), log)
 }
 
 // Makes steps of the side until its open call answers.
 fn make_to_answer(machine: &mut Machine, side: Side, log: &mut Log) -> Result<(), StepRefusal>
-    ensures { OnOk result (GoesAs Steps.ToAnswer side machine.old (events log.old) machine.new (events log.new)) }
+    ensures { OnOk result
+        (GoesAs Steps.ToAnswer side machine.old (events log.old) machine.new (events log.new)) }
 {
     go(machine, side, log)?;
-    // No call makes as many steps.
     for _ in 0..u64::MAX {
         if state(machine, side) != SideState::Busy {
-            break;
+            return Ok(());
         }
         go(machine, side, log)?;
     }
-    Ok(())
+    // No call makes as many steps.
+    Err(StepRefusal::Busy)
 }

@@ -55,12 +55,22 @@ impl Model for Trial {
 
     ghost Value = { Tried };
 
-    ghost view = { λ t. record { pipe = t.machine; events = events t.log; reader_steps = t.reader_steps; writer_steps = t.writer_steps } };
+    ghost view = { λ t. record {
+      pipe = t.machine;
+      events = events t.log;
+      reader_steps = t.reader_steps;
+      writer_steps = t.writer_steps;
+    } };
 }
 
 impl Trial {
     pub fn new(machine: Machine, log: Log) -> Trial
-        ensures { result ≡ record { pipe = machine; events = events log; reader_steps = 0; writer_steps = 0 } }
+        ensures { result ≡ record {
+          pipe = machine;
+          events = events log;
+          reader_steps = 0;
+          writer_steps = 0;
+        } }
     {
         Trial {
             machine,
@@ -73,8 +83,10 @@ impl Trial {
     /// Makes the steps that `moves` says, and then those that are left, which are added to `moves`: the reader's before
     /// the writer's. A call that makes too many steps is then made to its end, if it is not the one opened first.
     pub fn play(&mut self, moves: &mut Vec<Move>, first: Side) -> Result<Length, Stop>
-        ensures goes { IfOk result (λ length. GoesAsLong length first moves.new.items self.old self.new) }
-        ensures begins { OnOk result (take (vec_len moves.old) moves.new.items ≡ moves.old.items) }
+        ensures goes { IfOk result (λ length.
+            GoesAsLong length first moves.new.items self.old self.new) }
+        ensures begins { OnOk result
+            (take (vec_len moves.old) moves.new.items ≡ moves.old.items) }
     {
         for turn in 0..usize::MAX {
             let side = match moves.get(turn) {
@@ -101,11 +113,16 @@ impl Trial {
 
     // The step that comes next where no order says another one.
     fn choice(&self, first: Side) -> Option<Move>
-        ensures ended { IsNone result ↔ ((¬ IsOpen Side.Reader self.now) × (¬ IsOpen Side.Writer self.now)) }
+        ensures ended { IsNone result
+            ↔ ((¬ IsOpen Side.Reader self.now) × (¬ IsOpen Side.Writer self.now)) }
         ensures open { IfSome result (λ next. IsOpen next.side self.now) }
-        ensures too_long { IsOpen Side.Reader self.now → IsOpen Side.Writer self.now → IsLong (other_of first) self.now → result ≡ Some (alone (other_of first)) }
-        ensures both { IsOpen Side.Reader self.now → IsOpen Side.Writer self.now → (¬ IsLong (other_of first) self.now) → result ≡ Some (record { side = Side.Reader; has_other = true }) }
-        ensures one { IfSome result (λ next. (¬ IsOpen (other_of next.side) self.now) → next ≡ alone next.side) }
+        ensures too_long { IsOpen Side.Reader self.now → IsOpen Side.Writer self.now →
+            IsLong (other_of first) self.now → result ≡ Some (alone (other_of first)) }
+        ensures both { IsOpen Side.Reader self.now → IsOpen Side.Writer self.now →
+            (¬ IsLong (other_of first) self.now) →
+            result ≡ Some (record { side = Side.Reader; has_other = true }) }
+        ensures one { IfSome result (λ next.
+            (¬ IsOpen (other_of next.side) self.now) → next ≡ alone next.side) }
     {
         let is_reading = state(&self.machine, Side::Reader) == SideState::Busy;
         let is_writing = state(&self.machine, Side::Writer) == SideState::Busy;
@@ -122,9 +139,12 @@ impl Trial {
     }
 
     fn go(&mut self, side: Side) -> Result<(), Stop>
-        ensures made { OnOk result (Made self.old.pipe (Step.Go side) self.new.pipe self.old.events self.new.events) }
-        ensures counted { OnOk result (steps_by side self.new ≡ min (steps_by side self.old + 1) usize.MAX) }
-        ensures other { OnOk result (steps_by (other_of side) self.new ≡ steps_by (other_of side) self.old) }
+        ensures made { OnOk result (Made self.old.pipe (Step.Go side) self.new.pipe
+            self.old.events self.new.events) }
+        ensures steps { OnOk result
+            (steps_by side self.new ≡ min (steps_by side self.old + 1) usize.MAX) }
+        ensures other { OnOk result
+            (steps_by (other_of side) self.new ≡ steps_by (other_of side) self.old) }
     {
         self.machine.step(&Step::Go(side), &mut self.log)?;
         match side {
@@ -146,7 +166,9 @@ impl Trial {
 
     /// The line that tells what both calls answered, whom they woke, and what is left unread.
     pub fn outcome(&self, alloc: Global) -> Result<Reply, Stop>
-        ensures { let log = self.now.events in IfOk result (λ reply. reply ≡ outcome_line (answer_of Side.Reader log) (answer_of Side.Writer log) (names_of log) self.now.pipe.unread) }
+        ensures { let log = self.now.events in IfOk result (λ reply. reply
+            ≡ outcome_line (answer_of Side.Reader log) (answer_of Side.Writer log)
+            (names_of log) self.now.pipe.unread) }
     {
         let reader = self.answer_of(Side::Reader);
         let writer = self.answer_of(Side::Writer);
@@ -223,14 +245,14 @@ pub fn other(side: Side) -> Side
     }
 }
 
-// The place of the last step that the writer can make in place of the reader, if there is one.
+// The index of the last step that the writer can make in place of the reader, if there is one.
 fn last_with_other(moves: &[Move]) -> Option<usize>
-    ensures { MatchOption result (All HasNoOther moves.now) (λ place. IsLastOther place moves.now) }
+    ensures { MatchOption result (All HasNoOther moves.now) (λ index. IsLastOther index moves.now) }
 {
     for behind in 0..moves.len() {
-        let place = moves.len() - 1 - behind;
-        if moves[place].has_other {
-            return Some(place);
+        let index = moves.len() - 1 - behind;
+        if moves[index].has_other {
+            return Some(index);
         }
     }
     None
@@ -240,12 +262,13 @@ fn last_with_other(moves: &[Move]) -> Option<usize>
 /// make in place of the reader, the writer makes it.
 #[tactic(auto, using(std::proofs::lemmas::List::take_more_set))]
 pub fn turn_to_next(moves: &mut Vec<Move>) -> bool
-    ensures { MatchBool result (IsNext moves.old.items moves.new.items) (IsLast moves.old.items moves.new.items) }
+    ensures { MatchBool result (IsNext moves.old.items moves.new.items)
+        (IsLast moves.old.items moves.new.items) }
 {
-    let Some(place) = last_with_other(moves.as_slice()) else {
+    let Some(index) = last_with_other(moves.as_slice()) else {
         return false;
     };
-    moves[place] = alone(Side::Writer);
-    moves.truncate(place + 1);
+    moves[index] = alone(Side::Writer);
+    moves.truncate(index + 1);
     true
 }

@@ -2,7 +2,7 @@
 
 ghost use Rattle.std.specs.Prelude.{◌≡◌, ◌≤◌, ◌++◌, length, take, drop, IfOk, IfErr};
 ghost use Rattle.piper_machine.specs.Refusal.{IsIdle, state_of, refusal_of};
-ghost use Rattle.piper_player.specs.Makes.{Makes, room_for, counted, drained_by, IsSilent};
+ghost use Rattle.piper_player.specs.Makes.{Makes, room_for, slice_copied, drained_by, IsSilent};
 ghost use Rattle.piper_player.specs.Whole.{IsReady};
 
 use piper_machine::calls::{Call, Side, SideState, Step};
@@ -26,7 +26,8 @@ pub fn state(machine: &Machine, side: Side) -> SideState
 pub fn check(machine: &Machine, call: Call) -> Result<Call, StepRefusal>
     ensures same { IfOk result (λ checked. checked ≡ call) }
     ensures ready { IfOk result (λ checked. IsReady checked machine.now) }
-    ensures refused { IfErr result (λ refusal. refusal_of (Step.Begin call) machine.now ≡ Some refusal) }
+    ensures refused { IfErr result (λ refusal.
+        refusal_of (Step.Begin call) machine.now ≡ Some refusal) }
 {
     let begin = Step::Begin(call);
     match machine.refusal(&begin) {
@@ -50,8 +51,8 @@ pub fn room_for(call: &Call) -> usize
 }
 
 // A copy over a slice never fails.
-fn counted(polled: Polled<usize>) -> Polled<Result<usize, Failed>>
-    ensures { result ≡ counted polled }
+fn slice_copied(polled: Polled<usize>) -> Polled<Result<usize, Failed>>
+    ensures { result ≡ slice_copied polled }
 {
     match polled {
         Polled::Pending => Polled::Pending,
@@ -65,7 +66,8 @@ pub fn answer(machine: &mut Machine, call: &Call, dest: &mut [u8]) -> Answer
     requires ready { IsReady call.now machine.old }
     requires room { length dest.old ≡ room_for call.now }
     ensures made { Makes call.now machine.old result machine.new }
-    ensures bytes { let n = drained_by call.now result in dest.new ≡ take n machine.old.unread ++ drop n dest.old }
+    ensures bytes { let n = drained_by call.now result in
+        dest.new ≡ take n machine.old.unread ++ drop n dest.old }
 {
     match call {
         Call::Len(Side::Reader) => Answer::Count(machine.r_len()),
@@ -83,10 +85,10 @@ pub fn answer(machine: &mut Machine, call: &Call, dest: &mut [u8]) -> Answer
         Call::TryDrain(_) => Answer::Count(machine.r_try_drain(dest)),
         Call::PollFillBytes(waker, luck, bytes) => {
             let polled = machine.w_poll_fill_bytes(*waker, *luck, bytes.as_slice());
-            Answer::Copy(counted(polled))
+            Answer::Copy(slice_copied(polled))
         }
         Call::PollDrainBytes(waker, luck, _) => {
-            Answer::Copy(counted(machine.r_poll_drain_bytes(*waker, *luck, dest)))
+            Answer::Copy(slice_copied(machine.r_poll_drain_bytes(*waker, *luck, dest)))
         }
         Call::PollFill(waker, luck, acts) => {
             Answer::Copy(machine.w_poll_fill(*waker, *luck, acts.as_slice()))

@@ -1,10 +1,10 @@
 use Rattle.piper_player.proofs.Trials.{none_more, last_place}
 use Rattle.piper_player.proofs.trial.last_with_other.Goals as goal
 
-pub returns-then-moves-place : goal.returns-then-moves-place
-returns-then-moves-place c =
-    last_place c.args.moves.now c.loop-behind.behind _ c.loop-behind-test.true c.if-moves-place.true c.loop-behind.invariant
+pub returns-then-moves-index : goal.returns-then-moves-index
+returns-then-moves-index c =
+    last_place c.args.moves.now c.loop-behind.behind _ c.loop-behind-test.true c.if-moves-index.true c.loop-behind.invariant
 
 pub loop-behind-preserved : goal.loop-behind-preserved
 loop-behind-preserved c =
-    none_more c.args.moves.now c.loop-behind.behind _ c.loop-behind-test.true c.if-moves-place.false c.loop-behind.invariant
+    none_more c.args.moves.now c.loop-behind.behind _ c.loop-behind-test.true c.if-moves-index.false c.loop-behind.invariant

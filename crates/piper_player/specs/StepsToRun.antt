@@ -22,7 +22,8 @@ SaysSteps (Go side (Count n)) steps = steps ≡ replicate n (step.Go side)
 SaysSteps command steps = ⊥
 
 -- the capacity stays, and the steps of the command come behind those before
-pub record AddsSteps (command : Command) (capacity now : Option ℕ) (before after : List Step) : Type 0 where
+pub record AddsSteps (command : Command) (capacity now : Option ℕ)
+    (before after : List Step) : Type 0 where
   pub steps : List Step
   pub says : SaysSteps command steps
   pub added : after ≡ before ++ steps
@@ -34,7 +35,8 @@ AddsSaid None capacity now before after = (now ≡ capacity) × (after ≡ befor
 AddsSaid (Some (Pipe said)) capacity now before after = (now ≡ Some said) × (after ≡ before)
 AddsSaid (Some command) capacity now before after = AddsSteps command capacity now before after
 
-pub record AddsLine (line : List ℕ) (capacity now : Option ℕ) (before after : List Step) : Type 0 where
+pub record AddsLine (line : List ℕ) (capacity now : Option ℕ)
+    (before after : List Step) : Type 0 where
   pub said : Option Command
   pub says : Says line said
   pub adds : AddsSaid said capacity now before after
