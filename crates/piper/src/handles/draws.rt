@@ -30,12 +30,8 @@ impl<H: Wait + Clone + Drop> Reader<H> {
         if self.is_registered {
             return Err(call);
         }
-        // One branch each: so the compiler knows where a copy stands that goes on.
-        Ok(if draw(&mut self.rng) {
-            (call.took_own_and_drew(true), true)
-        } else {
-            (call.took_own_and_drew(false), false)
-        })
+        let is_drawn = draw(&mut self.rng);
+        Ok((call.took_own_and_drew(is_drawn), is_drawn))
     }
 
     /// Empties the reader's slot behind the true look of a polling copy, unless the slot is known to be empty; then draws, and tells whether the copy yields.
@@ -79,12 +75,8 @@ impl<H: Wait + Clone + Drop> Writer<H> {
         if self.is_registered {
             return Err(call);
         }
-        // One branch each: so the compiler knows where a copy stands that goes on.
-        Ok(if draw(&mut self.rng) {
-            (call.took_own_and_drew(true), true)
-        } else {
-            (call.took_own_and_drew(false), false)
-        })
+        let is_drawn = draw(&mut self.rng);
+        Ok((call.took_own_and_drew(is_drawn), is_drawn))
     }
 
     /// Empties the writer's slot behind the true look of a polling copy, unless the slot is known to be empty; then draws, and tells whether the copy yields.
