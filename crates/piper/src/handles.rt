@@ -1,7 +1,7 @@
 //! The two handles of a pipe. Each is an end of the ring, the slots of both sides, and what it waits and draws with.
 ghost use Rattle.std.specs.Prelude.{◌≡◌, ℕ, List, ◌+◌, ◌*◌, ◌^◌, ◌<◌, ◌≤◌, ◌++◌, length, max, IfOk, bit_xor, true};
 ghost use Rattle.std.specs.Borrow.{sem};
-ghost use Rattle.piper_ring.specs.WriteView.{MayLend, either};
+ghost use Rattle.piper_ring.specs.WriteView.{Lendable, either};
 ghost use Rattle.piper_ring.specs.Opened.{FreshReadEnd, FreshWriteEnd};
 ghost use Rattle.piper.specs.Ends.{ReaderRefreshed, ReaderHeeded, WriterRefreshed, WriterHeeded};
 ghost use Rattle.piper.specs.Generator.{generator};
@@ -155,7 +155,7 @@ impl<H: Wait + Clone + Drop> Writer<H> {
     /// Nothing is lent once the writer closed the pipe. Else all that is asked for and fits is lent, or at least 4,096 bytes of it: the memory is zeroed on the way.
     pub fn write_buf(&mut self, max: usize) -> &mut [u8]
         ensures* writes { sem 𝓛 (lends_room H.row self.entry result) }
-        ensures length { MayLend self.old.end max (length result.now) }
+        ensures length { Lendable self.old.end max (length result.now) }
         ensures some { MustLend self.old.end max → 0 < length result.now }
     {
         self.end.write_buf(max)

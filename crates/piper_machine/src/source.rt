@@ -5,14 +5,14 @@ ghost use Rattle.piper_machine.specs.Source.{IsSource, source_left, bytes_of, is
 
 use piper_sides::bytes::Bytes;
 use piper_sides::memory::OutOfMemory;
-use piper_sides::scripted::{Script, SourceAct};
+use piper_sides::scripted::{ActList, SourceAct};
 use std::alloc::Global;
 use std::marker::Model;
 
 /// A script of which the first acts are spent, and some bytes of the next one.
 #[derive(Drop)]
 pub struct Source {
-    script: Script<SourceAct>,
+    script: ActList<SourceAct>,
     spent: usize,
     given: usize,
 }
@@ -77,7 +77,7 @@ impl Source {
         ensures { result ≡ [] }
     {
         Source {
-            script: Script::new(alloc),
+            script: ActList::new(alloc),
             spent: 0,
             given: 0,
         }
@@ -87,7 +87,7 @@ impl Source {
     pub fn of_bytes(alloc: Global, bytes: &[u8]) -> Result<Self, OutOfMemory>
         ensures { IfOk result (λ source. source ≡ SourceAct.Bytes bytes.now ∷ []) }
     {
-        let mut script = Script::new(alloc);
+        let mut script = ActList::new(alloc);
         script.push(SourceAct::Bytes(Bytes::copy_of(alloc, bytes)?))?;
         Ok(Source {
             script,
@@ -100,7 +100,7 @@ impl Source {
     pub fn of_acts(alloc: Global, acts: &[SourceAct]) -> Result<Self, OutOfMemory>
         ensures { IfOk result (λ source. source ≡ acts.now) }
     {
-        let mut script = Script::new(alloc);
+        let mut script = ActList::new(alloc);
         for act in acts {
             let act = match act {
                 SourceAct::Bytes(bytes) => SourceAct::Bytes(Bytes::copy_of(

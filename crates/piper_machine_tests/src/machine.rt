@@ -11,7 +11,7 @@ use piper_sides::events::{Event, Log};
 use piper_sides::memory::OutOfMemory;
 use piper_sides::polling::{Luck, Polled};
 use piper_sides::refusals::{RunRefusal, StepRefusal};
-use piper_sides::scripted::{DestAct, Failed, Script, SourceAct};
+use piper_sides::scripted::{ActList, DestAct, Failed, SourceAct};
 use std::alloc::Global;
 use std::process::Abort;
 
@@ -47,8 +47,8 @@ const PUBLISHED_AND_CONSUMED: [Step; 10] = [
 ];
 
 /// A source that gives two bytes and then fails.
-fn failing_source(alloc: Global) -> Result<Script<SourceAct>, OutOfMemory> {
-    let mut script = Script::new(alloc);
+fn failing_source(alloc: Global) -> Result<ActList<SourceAct>, OutOfMemory> {
+    let mut script = ActList::new(alloc);
     script.push(SourceAct::Bytes(Bytes::copy_of(alloc, b"ab")?))?;
     script.push(SourceAct::Fail)?;
     Ok(script)

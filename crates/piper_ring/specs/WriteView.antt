@@ -63,8 +63,8 @@ room_in_one_piece w = min w.room (w.capacity - write_place w)
 
 -- a call for at most `max` bytes may lend n: none once the writer closed the pipe, and else all that
 -- is asked for and fits, or at least 4,096 of it
-abbrev pub MayLend : WriteView → ℕ → ℕ → Type 0
-MayLend w max n =
+abbrev pub Lendable : WriteView → ℕ → ℕ → Type 0
+Lendable w max n =
     (w.shut ≡ true → n ≡ 0) × (n ≤ min max (room_in_one_piece w))
     × (w.shut ≡ false → min 4096 (min max (room_in_one_piece w)) ≤ n)
 

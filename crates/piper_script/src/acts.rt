@@ -9,7 +9,7 @@ use crate::command::{MOST, Refusal};
 use crate::list::List;
 use crate::number::number;
 use crate::stop::Stop;
-use piper_sides::scripted::{DestAct, Script, SourceAct};
+use piper_sides::scripted::{ActList, DestAct, SourceAct};
 use std::alloc::Global;
 
 /// The acts of a source: their text, and how many bytes their lists stand for.
@@ -48,15 +48,15 @@ impl<'line> Sources<'line> {
     }
 
     /// The acts, with bytes of their own.
-    pub fn acts(self, alloc: Global) -> Result<Script<SourceAct>, Stop>
+    pub fn acts(self, alloc: Global) -> Result<ActList<SourceAct>, Stop>
         ensures { IfOk result (λ acts. StandsForActs self.entry.text.now acts) }
     {
-        let mut acts = Script::new(alloc);
+        let mut acts = ActList::new(alloc);
         self.add_to(alloc, &mut acts)?;
         Ok(acts)
     }
 
-    fn add_to(self, alloc: Global, acts: &mut Script<SourceAct>) -> Result<(), Stop>
+    fn add_to(self, alloc: Global, acts: &mut ActList<SourceAct>) -> Result<(), Stop>
         requires { acts.old ≡ [] }
         ensures { OnOk result (StandsForActs self.entry.text.now acts.new) }
     {
@@ -127,15 +127,15 @@ impl<'line> Dests<'line> {
     }
 
     /// The acts.
-    pub fn acts(self, alloc: Global) -> Result<Script<DestAct>, Stop>
+    pub fn acts(self, alloc: Global) -> Result<ActList<DestAct>, Stop>
         ensures { IfOk result (λ acts. self.entry.text.now ≡ dests_text acts) }
     {
-        let mut acts = Script::new(alloc);
+        let mut acts = ActList::new(alloc);
         self.add_to(&mut acts)?;
         Ok(acts)
     }
 
-    fn add_to(self, acts: &mut Script<DestAct>) -> Result<(), Stop>
+    fn add_to(self, acts: &mut ActList<DestAct>) -> Result<(), Stop>
         requires { acts.old ≡ [] }
         ensures { OnOk result (self.entry.text.now ≡ dests_text acts.new) }
     {

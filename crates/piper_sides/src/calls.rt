@@ -4,7 +4,7 @@ ghost use Rattle.piper_sides.specs.Call.{side_of, kind_of, context_of, waker_of,
 
 use crate::bytes::Bytes;
 use crate::polling::{Context, Luck};
-use crate::scripted::{DestAct, Script, SourceAct};
+use crate::scripted::{ActList, DestAct, SourceAct};
 
 /// A side of the pipe.
 #[derive(Clone, Copy, Debug, PartialEq, Eq)]
@@ -45,13 +45,13 @@ pub enum Call {
     TryDrain(usize),
     PollDrainBytes(u32, Luck, usize),
     /// Drains into a scripted destination.
-    PollDrain(u32, Luck, Script<DestAct>),
+    PollDrain(u32, Luck, ActList<DestAct>),
     /// Consumes the first bytes of the peeked slice.
     Consume(usize),
     TryFill(Bytes),
     PollFillBytes(u32, Luck, Bytes),
     /// Fills from a scripted source.
-    PollFill(u32, Luck, Script<SourceAct>),
+    PollFill(u32, Luck, ActList<SourceAct>),
     /// Lends at most so many free places.
     WriteBuf(usize),
     /// Publishes the first bytes of what is lent.

@@ -33,24 +33,24 @@ pub struct Failed;
 
 /// What a source or destination does, act by act.
 #[derive(Drop)]
-pub struct Script<A> {
+pub struct ActList<A> {
     acts: Vec<A>,
 }
 
-impl<A> Model for Script<A> {
+impl<A> Model for ActList<A> {
     ghost use Rattle.std.specs.Prelude.{List};
 
     ghost Value = { List A };
 
-    ghost view = { λ script. script.acts.items };
+    ghost view = { λ list. list.acts.items };
 }
 
-impl<A: Drop> Script<A> {
-    /// A script without an act.
+impl<A: Drop> ActList<A> {
+    /// A list without an act.
     pub fn new(alloc: Global) -> Self
         ensures { result ≡ [] }
     {
-        Script {
+        ActList {
             acts: Vec::new(alloc),
         }
     }

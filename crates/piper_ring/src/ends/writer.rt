@@ -41,7 +41,7 @@ impl Model for WriteEnd {
 }
 
 impl WriteEnd {
-    ghost use Rattle.piper_ring.specs.WriteView.{SameWriteEnd, HasMoreRoom, SameButTold, SameButSaw, MayBeUnread, MayLend};
+    ghost use Rattle.piper_ring.specs.WriteView.{SameWriteEnd, HasMoreRoom, SameButTold, SameButSaw, MayBeUnread, Lendable};
     ghost use Rattle.piper_ring.specs.LendsBuffer.{lends_buffer};
     ghost use Rattle.std.specs.Borrow.{sem};
     ghost use Rattle.piper_ring.specs.Shared.{flag};
@@ -177,7 +177,7 @@ impl WriteEnd {
     /// Lends at most `max` bytes of the room, in one piece, to be written: at least one where there is room, one is asked for and the pipe wasn't closed here. It replaces what was lent before; what stands in the bytes is not said.
     pub fn write_buf(&mut self, max: usize) -> &mut [u8]
         ensures* writes { sem 𝓛 (lends_buffer self.entry result) }
-        ensures length { MayLend self.old max (length result.now) }
+        ensures length { Lendable self.old max (length result.now) }
         ensures some { self.old.shut ≡ false → 0 < self.old.room → 0 < max → 0 < length result.now }
     {
         let (base, capacity) = (self.parts.base, self.parts.indices.capacity());
