@@ -9,7 +9,6 @@ use http_body_util::{BodyExt, Full};
 use hyper::body::Incoming;
 use hyper::service::Service;
 use hyper::{Request, Response, StatusCode, client, header, server};
-use piper::OutOfMemory;
 use piper_duplex::duplex;
 use piper_tokio::CompatEnd;
 use std::alloc::{AllocGlobal, Global};
