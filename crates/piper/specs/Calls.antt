@@ -6,8 +6,8 @@ use Rattle.piper_sides.specs.declared.events.Answer.{Answer}
 use Rattle.piper_sides.specs.declared.events.Answer.TheVariants as answer
 use Rattle.piper_sides.specs.declared.memory.OutOfMemory.{OutOfMemory}
 use Rattle.piper_sides.specs.declared.polling.Polled.TheVariants as told
-use Rattle.piper_sides.specs.declared.table.ReadPlace.{ReadPlace}
-use Rattle.piper_sides.specs.declared.table.WritePlace.{WritePlace}
+use Rattle.piper_sides.specs.declared.table.ReadPoint.{ReadPoint}
+use Rattle.piper_sides.specs.declared.table.WritePoint.{WritePoint}
 use Rattle.piper_sides.specs.Table.{Next, read_step, write_step, nothing}
 use Rattle.piper.specs.Slots.{found_in}
 use Rattle.piper.specs.declared.slot.Taken.{Taken}
@@ -24,10 +24,10 @@ own_found None = false
 own_found (Some taken) = found_in taken
 
 -- the waker that was taken, if there was one, is called
-abbrev pub read_woken : Bool → Next ReadPlace → Next ReadPlace
-read_woken true call = read_step call.place nothing
+abbrev pub read_woken : Bool → Next ReadPoint → Next ReadPoint
+read_woken true call = read_step call.point nothing
 read_woken false call = call
 
-abbrev pub write_woken : Bool → Next WritePlace → Next WritePlace
-write_woken true call = write_step call.place nothing
+abbrev pub write_woken : Bool → Next WritePoint → Next WritePoint
+write_woken true call = write_step call.point nothing
 write_woken false call = call

@@ -31,7 +31,7 @@ pub(crate) fn polled(answer: Answer) -> Poll<Result<bool, OutOfMemory>>
 /// Calls the waker that the reader took, if there was one.
 #[inline(always)]
 pub(crate) fn read_wake(call: ReadCall, taken: Taken) -> ReadCall
-    requires next { found_in taken ≡ true → read_action call.place ≡ Action.Wake }
+    requires next { found_in taken ≡ true → read_action call.point ≡ Action.Wake }
     ensures { result ≡ read_woken (found_in taken) call }
 {
     if taken.is_found() {
@@ -44,7 +44,7 @@ pub(crate) fn read_wake(call: ReadCall, taken: Taken) -> ReadCall
 /// Calls the waker that the writer took, if there was one.
 #[inline(always)]
 pub(crate) fn write_wake(call: WriteCall, taken: Taken) -> WriteCall
-    requires next { found_in taken ≡ true → write_action call.place ≡ Action.Wake }
+    requires next { found_in taken ≡ true → write_action call.point ≡ Action.Wake }
     ensures { result ≡ write_woken (found_in taken) call }
 {
     if taken.is_found() {

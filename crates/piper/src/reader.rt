@@ -15,7 +15,7 @@ use futures::task::{Context, Poll};
 use piper_ring::{OutOfMemory, ReadMark};
 use piper_sides::calls::Side;
 use piper_sides::read_call::ReadCall;
-use piper_sides::table::{Action, Purpose, ReadPlace};
+use piper_sides::table::{Action, Purpose, ReadPoint};
 use std::sync::Wait;
 
 impl<H: Wait + Clone + Drop> Reader<H> {
@@ -92,7 +92,7 @@ impl<H: Wait + Clone + Drop> Reader<H> {
     // The look of a poll has found a byte.
     #[inline(always)]
     fn found(&mut self, call: ReadCall) -> Poll<Result<bool, OutOfMemory>>
-        requires { call.place ≡ ReadPlace.LookTake Purpose.Poll }
+        requires { call.point ≡ ReadPoint.LookTake Purpose.Poll }
         ensures answer { result ≡ Poll.Ready (Ok true) }
         ensures end { self.new.end ≡ self.old.end }
         ensures rest { SameReader self.old self.new }
@@ -133,8 +133,8 @@ impl<H: Wait + Clone + Drop> Reader<H> {
     /// Empties the writer's slot, and calls the waker that stood in it.
     #[inline(always)]
     pub(crate) fn wake_writer(&self, call: ReadCall) -> ReadCall
-        requires next { read_action call.place ≡ Action.Take Side.Writer }
-        ensures { result ≡ read_step call.place (waker false) }
+        requires next { read_action call.point ≡ Action.Take Side.Writer }
+        ensures { result ≡ read_step call.point (waker false) }
     {
         match self.find_no_writer(call) {
             Ok((call, _none)) => call,

@@ -14,7 +14,7 @@ use crate::handles::write_steps::take_reader;
 use futures::task::{Context, Poll};
 use piper_ring::{OutOfMemory, WriteMark};
 use piper_sides::calls::Side;
-use piper_sides::table::{Action, Purpose, WritePlace};
+use piper_sides::table::{Action, Purpose, WritePoint};
 use piper_sides::write_call::WriteCall;
 use std::sync::Wait;
 
@@ -93,7 +93,7 @@ impl<H: Wait + Clone + Drop> Writer<H> {
     // The look of a poll has found room.
     #[inline(always)]
     fn found(&mut self, call: WriteCall) -> Poll<Result<bool, OutOfMemory>>
-        requires { call.place ≡ WritePlace.LookTake Purpose.Poll }
+        requires { call.point ≡ WritePoint.LookTake Purpose.Poll }
         ensures answer { result ≡ Poll.Ready (Ok true) }
         ensures end { self.new.end ≡ self.old.end }
         ensures rest { SameWriter self.old self.new }
@@ -126,8 +126,8 @@ impl<H: Wait + Clone + Drop> Writer<H> {
     /// Empties the reader's slot, and calls the waker that stood in it.
     #[inline(always)]
     pub(crate) fn wake_reader(&self, call: WriteCall) -> WriteCall
-        requires next { write_action call.place ≡ Action.Take Side.Reader }
-        ensures { result ≡ write_step call.place (waker false) }
+        requires next { write_action call.point ≡ Action.Take Side.Reader }
+        ensures { result ≡ write_step call.point (waker false) }
     {
         match self.find_no_reader(call) {
             Ok((call, _none)) => call,

@@ -33,7 +33,7 @@ use piper_machine::calls::Step;
 use piper_machine::events::Log;
 use piper_machine::machine::{Machine, run};
 use piper_machine::refusals::RunRefusal;
-use piper_sides::table::ReadPlace;
+use piper_sides::table::ReadPoint;
 use std::alloc::Global;
 
 /// The bytes go in, and come out as they went in.
@@ -81,7 +81,7 @@ pub fn made_by_the_laws(
 
 /// Counts the unread bytes; and whoever makes this call by steps, while the writer makes none, is told the same number last.
 pub fn counted_alone(machine: &mut Machine) -> usize
-    requires { machine.old.reader ≡ ReadPlace.Idle }
+    requires { machine.old.reader ≡ ReadPoint.Idle }
     ensures value { result ≡ unread_count machine.old }
     ensures after { machine.new ≡ begun machine.old }
     ensures by_steps { (k : ℕ) (q : Pipe) (before after : List Event) →

@@ -9,10 +9,10 @@ use Rattle.piper_sides.specs.declared.table.AfterRead.{AfterRead}
 use Rattle.piper_sides.specs.declared.table.AfterRead.TheVariants as afterward
 use Rattle.piper_sides.specs.declared.table.AfterWrite.{AfterWrite}
 use Rattle.piper_sides.specs.declared.table.AfterWrite.TheVariants as behind
-use Rattle.piper_sides.specs.declared.table.ReadPlace.{ReadPlace}
-use Rattle.piper_sides.specs.declared.table.ReadPlace.TheVariants as at
-use Rattle.piper_sides.specs.declared.table.WritePlace.{WritePlace}
-use Rattle.piper_sides.specs.declared.table.WritePlace.TheVariants as on
+use Rattle.piper_sides.specs.declared.table.ReadPoint.{ReadPoint}
+use Rattle.piper_sides.specs.declared.table.ReadPoint.TheVariants as at
+use Rattle.piper_sides.specs.declared.table.WritePoint.{WritePoint}
+use Rattle.piper_sides.specs.declared.table.WritePoint.TheVariants as on
 use Rattle.piper_sides.specs.Open.{is_granted}
 use Rattle.piper_machine.specs.Pipe.{Pipe}
 use Rattle.piper_machine.specs.Move.{with_waker}
@@ -28,15 +28,15 @@ abbrev pub reader_rest : Option Answer → Pipe → Ended
 reader_rest None p = reader_alone p.reader p
 reader_rest (Some answer) p = record { answer = answer; pipe = p }
 
--- the reader's step from a place
-abbrev pub read_step : ReadPlace → Pipe → Stepped
-read_step place p = let q = record p { reader = place } in went Reader (heard Reader (read_action place) q)
+-- the reader's step from a point
+abbrev pub read_step : ReadPoint → Pipe → Stepped
+read_step point p = let q = record p { reader = point } in went Reader (heard Reader (read_action point) q)
 
--- the reader comes to a place, or answers
-abbrev pub reader_settled : Next ReadPlace → Pipe → Pipe
-reader_settled next p = record p { reader = next.place; reader_call = call_after next.answer p.reader_call; destination = destination_after next.answer p.destination }
+-- the reader comes to a point, or answers
+abbrev pub reader_settled : Next ReadPoint → Pipe → Pipe
+reader_settled next p = record p { reader = next.point; reader_call = call_after next.answer p.reader_call; destination = destination_after next.answer p.destination }
 
-abbrev pub reader_rest_at : Next ReadPlace → Pipe → Ended
+abbrev pub reader_rest_at : Next ReadPoint → Pipe → Ended
 reader_rest_at next p = reader_rest next.answer (reader_settled next p)
 
 looks-rest : (none : Bool) (p : Pipe) → reader_looks_alone none purpose.Poll (record p { reader = at.Idle }) ≡ reader_rest_at (goes_on (reader_looked none purpose.Poll)) p
@@ -58,7 +58,7 @@ take-rest afterward.Answer (Some name) p plain = refl
 take-rest afterward.Drop (Some name) p plain = refl
 take-rest (afterward.Round form sum) name p plain = absurd (cc)
 
-pub reader-rest : (place : ReadPlace) (p : Pipe) → reader_state place ≡ Busy → is_draining place ≡ false → let s = read_step place p in reader_alone place p ≡ reader_rest s.answer s.pipe
+pub reader-rest : (point : ReadPoint) (p : Pipe) → reader_state point ≡ Busy → is_draining point ≡ false → let s = read_step point p in reader_alone point p ≡ reader_rest s.answer s.pipe
 reader-rest at.Idle p busy plain = absurd (cc)
 reader-rest at.Dropped p busy plain = absurd (cc)
 reader-rest (at.QueryHead query) p busy plain = refl
@@ -75,27 +75,27 @@ reader-rest (at.TakeWriter next) p busy plain = take-rest next p.writer_waker p 
 reader-rest (at.WakeWriter afterward.Answer) p busy plain = refl
 reader-rest (at.WakeWriter afterward.Drop) p busy plain = refl
 reader-rest at.StoreClosed p busy plain = refl
-reader-rest place p busy plain = absurd (cc)
+reader-rest point p busy plain = absurd (cc)
 
 -- the most steps that remain, if the other side makes none: a look finds what there is
-abbrev pub reads_left : ReadPlace → Pipe → ℕ
-reads_left place p = read_steps (length p.unread) p.known place
+abbrev pub reads_left : ReadPoint → Pipe → ℕ
+reads_left point p = read_steps (length p.unread) p.known point
 
 -- and the writer, where so many places are free, looks for them only where it knows of no room
-abbrev pub write_found : WritePlace → ℕ → ℕ → ℕ
+abbrev pub write_found : WritePoint → ℕ → ℕ → ℕ
 write_found (on.LookClosed l) room free = if room == 0 then free else room
-write_found place room free = free
+write_found point room free = free
 
-abbrev pub writes_left : WritePlace → Pipe → ℕ
-writes_left place p = write_steps (write_found place p.room (p.capacity - length p.unread)) p.room place
+abbrev pub writes_left : WritePoint → Pipe → ℕ
+writes_left point p = write_steps (write_found point p.room (p.capacity - length p.unread)) p.room point
 
 -- a step that gives no answer brings it nearer
 pub record Nearer (steps_before steps_after wakes_before wakes_after woken_before woken_after : ℕ) : Type 0 where
   pub steps : steps_after < steps_before
   pub wakes : woken_after + wakes_after ≤ woken_before + wakes_before
 
-abbrev pub IsNearer : ReadPlace → Pipe → Next ReadPlace → Pipe → Type 0
-IsNearer place p next q = next.answer ≡ None → (reader_state next.place ≡ Busy) × (is_draining next.place ≡ false) × Nearer (reads_left place p) (reads_left next.place q) (read_wakes place) (read_wakes next.place) (length p.woken) (length q.woken)
+abbrev pub IsNearer : ReadPoint → Pipe → Next ReadPoint → Pipe → Type 0
+IsNearer point p next q = next.answer ≡ None → (reader_state next.point ≡ Busy) × (is_draining next.point ≡ false) × Nearer (reads_left point p) (reads_left next.point q) (read_wakes point) (read_wakes next.point) (length p.woken) (length q.woken)
 
 near : (steps_before steps_after wakes_before wakes_after n : ℕ) → steps_after < steps_before → wakes_after ≤ wakes_before → Nearer steps_before steps_after wakes_before wakes_after n n
 near steps_before steps_after wakes_before wakes_after n fewer fewer_wakes = record { steps = fewer; wakes = omega arith }
@@ -119,7 +119,7 @@ take-near afterward.Answer true p q plain same goes = (refl, refl, rw same (near
 take-near afterward.Drop true p q plain same goes = (refl, refl, rw same (near 2 1 1 1 (length p.woken) (lit< tt) (lit≤ tt)))
 take-near (afterward.Round form sum) is_found p q plain same goes = absurd (cc)
 
-pub reader-nearer : (place : ReadPlace) (p : Pipe) → reader_state place ≡ Busy → is_draining place ≡ false → let s = read_step place p in s.answer ≡ None → (reader_state s.pipe.reader ≡ Busy) × (is_draining s.pipe.reader ≡ false) × Nearer (reads_left place p) (reads_left s.pipe.reader s.pipe) (read_wakes place) (read_wakes s.pipe.reader) (length p.woken) (length s.pipe.woken)
+pub reader-nearer : (point : ReadPoint) (p : Pipe) → reader_state point ≡ Busy → is_draining point ≡ false → let s = read_step point p in s.answer ≡ None → (reader_state s.pipe.reader ≡ Busy) × (is_draining s.pipe.reader ≡ false) × Nearer (reads_left point p) (reads_left s.pipe.reader s.pipe) (read_wakes point) (read_wakes s.pipe.reader) (length p.woken) (length s.pipe.woken)
 reader-nearer at.Idle p busy plain goes = absurd (cc)
 reader-nearer at.Dropped p busy plain goes = absurd (cc)
 reader-nearer (at.QueryHead query) p busy plain goes = (refl, refl, near 2 1 0 0 (length p.woken) (lit< tt) (lit≤ tt))
@@ -136,7 +136,7 @@ reader-nearer (at.TakeWriter next) p busy plain goes = take-near next (is_some p
 reader-nearer (at.WakeWriter afterward.Answer) p busy plain goes = absurd (cc)
 reader-nearer (at.WakeWriter afterward.Drop) p busy plain goes = absurd (cc)
 reader-nearer at.StoreClosed p busy plain goes = (refl, refl, near 3 2 1 1 (length p.woken) (lit< tt) (lit≤ tt))
-reader-nearer place p busy plain goes = absurd (cc)
+reader-nearer point p busy plain goes = absurd (cc)
 
 -- the writer
 
@@ -144,13 +144,13 @@ abbrev pub writer_rest : Option Answer → Pipe → Ended
 writer_rest None p = writer_alone p.writer p
 writer_rest (Some answer) p = record { answer = answer; pipe = p }
 
-abbrev pub write_step : WritePlace → Pipe → Stepped
-write_step place p = let q = record p { writer = place } in went Writer (heard Writer (write_action place) q)
+abbrev pub write_step : WritePoint → Pipe → Stepped
+write_step point p = let q = record p { writer = point } in went Writer (heard Writer (write_action point) q)
 
-abbrev pub writer_settled : Next WritePlace → Pipe → Pipe
-writer_settled next p = record p { writer = next.place; writer_call = call_after next.answer p.writer_call; source = source_after next.answer p.source }
+abbrev pub writer_settled : Next WritePoint → Pipe → Pipe
+writer_settled next p = record p { writer = next.point; writer_call = call_after next.answer p.writer_call; source = source_after next.answer p.source }
 
-abbrev pub writer_rest_at : Next WritePlace → Pipe → Ended
+abbrev pub writer_rest_at : Next WritePoint → Pipe → Ended
 writer_rest_at next p = writer_rest next.answer (writer_settled next p)
 
 open-rest : (is_closed none : Bool) (p : Pipe) → writer_open_alone is_closed none purpose.Poll (record p { writer = on.Idle }) ≡ writer_rest_at (writer_is_open is_closed none purpose.Poll) p
@@ -183,7 +183,7 @@ own_take-rest : (name : Option ℕ) (p : Pipe) → writer_ended on.Idle Done (re
 own_take-rest None p = refl
 own_take-rest (Some name) p = refl
 
-pub writer-rest : (place : WritePlace) (p : Pipe) → writer_state place ≡ Busy → is_filling place ≡ false → let s = write_step place p in writer_alone place p ≡ writer_rest s.answer s.pipe
+pub writer-rest : (point : WritePoint) (p : Pipe) → writer_state point ≡ Busy → is_filling point ≡ false → let s = write_step point p in writer_alone point p ≡ writer_rest s.answer s.pipe
 writer-rest on.Idle p busy plain = absurd (cc)
 writer-rest on.Dropped p busy plain = absurd (cc)
 writer-rest (on.QueryHead query) p busy plain = refl
@@ -207,10 +207,10 @@ writer-rest (on.StoreClosed behind.Drop) p busy plain = refl
 writer-rest (on.StoreClosed behind.WakeWriter) p busy plain = refl
 writer-rest on.TakeWriter p busy plain = own_take-rest p.writer_waker p
 writer-rest on.WakeWriter p busy plain = refl
-writer-rest place p busy plain = absurd (cc)
+writer-rest point p busy plain = absurd (cc)
 
 -- a call that copies nothing lends nothing as it goes
-pub plain-step : (place : WritePlace) (lent : List ℕ) (p : Pipe) → is_filling place ≡ false → stepped lent (Go Writer) (heard Writer (write_action place) (record p { writer = place })) ≡ write_step place p
+pub plain-step : (point : WritePoint) (lent : List ℕ) (p : Pipe) → is_filling point ≡ false → stepped lent (Go Writer) (heard Writer (write_action point) (record p { writer = point })) ≡ write_step point p
 plain-step (on.QueryHead query) lent p plain = refl
 plain-step (on.QueryTail query count) lent p plain = refl
 plain-step on.QueryClosed lent p plain = refl
@@ -236,7 +236,7 @@ plain-step on.TakeWriter lent p plain = refl
 plain-step on.WakeWriter lent p plain = refl
 plain-step on.Idle lent p plain = refl
 plain-step on.Dropped lent p plain = refl
-plain-step place lent p plain = absurd (cc)
+plain-step point lent p plain = absurd (cc)
 
 -- the waker that it calls is heard, and then it goes
 pub writer-went : (p h r : Pipe) (answer : Option Answer) → is_filling p.writer ≡ false → h ≡ heard Writer (write_action p.writer) p → answer ≡ (stepped r.lent (Go Writer) h).answer → r ≡ (stepped r.lent (Go Writer) h).pipe
@@ -247,8 +247,8 @@ writer-went p h r answer plain hears answers after =
       after ∙ ap (λ (v : Pipe). (stepped r.lent (Go Writer) v).pipe) hears ∙ ap (λ (s : Stepped). s.pipe) same,
     )
 
-abbrev pub IsWriterNearer : WritePlace → Pipe → Next WritePlace → Pipe → Type 0
-IsWriterNearer place p next q = next.answer ≡ None → (writer_state next.place ≡ Busy) × (is_filling next.place ≡ false) × Nearer (writes_left place p) (writes_left next.place q) (write_wakes place) (write_wakes next.place) (length p.woken) (length q.woken)
+abbrev pub IsWriterNearer : WritePoint → Pipe → Next WritePoint → Pipe → Type 0
+IsWriterNearer point p next q = next.answer ≡ None → (writer_state next.point ≡ Busy) × (is_filling next.point ≡ false) × Nearer (writes_left point p) (writes_left next.point q) (write_wakes point) (write_wakes next.point) (length p.woken) (length q.woken)
 
 open-near : (is_closed none : Bool) (p : Pipe) → IsWriterNearer (on.LookClosed purpose.Poll) p (writer_is_open is_closed none purpose.Poll) p
 open-near true none p goes = absurd (cc)
@@ -284,7 +284,7 @@ length-with_waker : (names : List ℕ) (name : Option ℕ) → length (with_wake
 length-with_waker names None = omega arith
 length-with_waker names (Some name) = simp length-append (omega arith)
 
-pub writer-nearer : (place : WritePlace) (p : Pipe) → writer_state place ≡ Busy → is_filling place ≡ false → let s = write_step place p in s.answer ≡ None → (writer_state s.pipe.writer ≡ Busy) × (is_filling s.pipe.writer ≡ false) × Nearer (writes_left place p) (writes_left s.pipe.writer s.pipe) (write_wakes place) (write_wakes s.pipe.writer) (length p.woken) (length s.pipe.woken)
+pub writer-nearer : (point : WritePoint) (p : Pipe) → writer_state point ≡ Busy → is_filling point ≡ false → let s = write_step point p in s.answer ≡ None → (writer_state s.pipe.writer ≡ Busy) × (is_filling s.pipe.writer ≡ false) × Nearer (writes_left point p) (writes_left s.pipe.writer s.pipe) (write_wakes point) (write_wakes s.pipe.writer) (length p.woken) (length s.pipe.woken)
 writer-nearer on.Idle p busy plain goes = absurd (cc)
 writer-nearer on.Dropped p busy plain goes = absurd (cc)
 writer-nearer (on.QueryHead query) p busy plain goes = (refl, refl, near 2 1 0 0 (length p.woken) (lit< tt) (lit≤ tt))
@@ -308,4 +308,4 @@ writer-nearer (on.StoreClosed behind.Drop) p busy plain goes = (refl, refl, near
 writer-nearer (on.StoreClosed behind.WakeWriter) p busy plain goes = (refl, refl, near 5 4 2 2 (length p.woken) (lit< tt) (lit≤ tt))
 writer-nearer on.TakeWriter p busy plain goes = own_take-near (is_some p.writer_waker) p goes
 writer-nearer on.WakeWriter p busy plain goes = absurd (cc)
-writer-nearer place p busy plain goes = absurd (cc)
+writer-nearer point p busy plain goes = absurd (cc)

@@ -13,10 +13,10 @@ use Rattle.piper_sides.specs.declared.scripted.SourceAct.TheVariants as source
 use Rattle.piper_sides.specs.declared.table.AfterWrite.TheVariants as behind
 use Rattle.piper_sides.specs.declared.table.Form.TheVariants.{Try, Polling}
 use Rattle.piper_sides.specs.declared.table.Purpose.TheVariants as purpose
-use Rattle.piper_sides.specs.declared.table.ReadPlace.{ReadPlace}
-use Rattle.piper_sides.specs.declared.table.ReadPlace.TheVariants as at
-use Rattle.piper_sides.specs.declared.table.WritePlace.{WritePlace}
-use Rattle.piper_sides.specs.declared.table.WritePlace.TheVariants as on
+use Rattle.piper_sides.specs.declared.table.ReadPoint.{ReadPoint}
+use Rattle.piper_sides.specs.declared.table.ReadPoint.TheVariants as at
+use Rattle.piper_sides.specs.declared.table.WritePoint.{WritePoint}
+use Rattle.piper_sides.specs.declared.table.WritePoint.TheVariants as on
 use Rattle.piper_sides.specs.Call.{kind_of, waker_of}
 use Rattle.piper_sides.specs.Log.{answer_event}
 use Rattle.piper_sides.specs.Table.{read_action, write_action}
@@ -34,8 +34,8 @@ use Rattle.piper_machine.specs.Answered.{IsNext, AreRightFrom, AreAnswered}
 use Rattle.piper_machine.proofs.Counting.{reader_never-tail, writer_never-head}
 use Rattle.piper_machine.proofs.Remembering.{writer-idle}
 use Rattle.piper_machine.proofs.Telling.{told-append, right-append, leaves-append, writer-logs, reader-logs, writer_answer-leaves, reader_answer-leaves, coming-kept, coming-answered}
-use Rattle.piper_machine.proofs.ReaderAnswers.{ReaderAt, opens-leads, reader-place}
-use Rattle.piper_machine.proofs.WriterAnswers.{WriterAt, writer-place}
+use Rattle.piper_machine.proofs.ReaderAnswers.{ReaderAt, opens-leads, reader-point}
+use Rattle.piper_machine.proofs.WriterAnswers.{WriterAt, writer-point}
 
 -- what is told of a side where it stands
 abbrev pub Stands : ℕ → Side → Pipe → Told → Type 0
@@ -142,16 +142,16 @@ begin-writer lent c p steps t may accepted h = ((tt, tt), record { coming = h.co
 
 -- a side's step leaves what the other side has in hand
 
-reader-leaves_fill : (place : ReadPlace) (p : Pipe) → let q = performed Reader (read_action place) p in (q.writer ≡ p.writer) × (q.source ≡ p.source) × (q.lent ≡ p.lent)
+reader-leaves_fill : (point : ReadPoint) (p : Pipe) → let q = performed Reader (read_action point) p in (q.writer ≡ p.writer) × (q.source ≡ p.source) × (q.lent ≡ p.lent)
 reader-leaves_fill at.Idle p = (refl, refl, refl)
-reader-leaves_fill place p = (refl, refl, refl)
+reader-leaves_fill point p = (refl, refl, refl)
 
-writer-leaves_drain : (place : WritePlace) (p : Pipe) → let q = performed Writer (write_action place) p in (q.reader ≡ p.reader) × (q.destination ≡ p.destination)
+writer-leaves_drain : (point : WritePoint) (p : Pipe) → let q = performed Writer (write_action point) p in (q.reader ≡ p.reader) × (q.destination ≡ p.destination)
 writer-leaves_drain (on.StoreClosed behind.Answer) p = (refl, refl)
 writer-leaves_drain (on.StoreClosed behind.Drop) p = (refl, refl)
 writer-leaves_drain (on.StoreClosed behind.WakeWriter) p = (refl, refl)
 writer-leaves_drain (on.StoreClosed (behind.Round form sum)) p = (refl, refl)
-writer-leaves_drain place p = (refl, refl)
+writer-leaves_drain point p = (refl, refl)
 
 step-told : (side : Side) (lent : List ℕ) (s : Step) (p : Pipe) (steps : List Step) (t : Told) → IsSound p → MayLend lent s p → refusal_of s p ≡ None → IsTold p.capacity side p (s ∷ steps) t → Keeps p.capacity side steps (stepped lent s p) t
 step-told Reader lent (Begin c) p steps t sound may accepted h = begin-reader lent c p steps t h
@@ -163,14 +163,14 @@ step-told Reader lent (Go Reader) p steps t sound may accepted h =
     let to = went Reader p in
     let stored = sound.head_store in
     let known = sound.known in
-    let made = reader-place p.reader p t sound.unread (omega arith) h.stands in
+    let made = reader-point p.reader p t sound.unread (omega arith) h.stands in
     let told = ap (λ (u : Told). u.coming) (told-append Reader t (logged_of Reader action p) (answer_event Reader to.answer)) ∙ coming-answered Reader _ to.answer in
     (made.0, record { coming = told ∙ coming-kept Reader action p t ∙ h.coming; stands = made.1 })
 step-told Writer lent (Go Writer) p steps t sound may accepted h =
     let action = write_action p.writer in
     let q = offering lent p in
     let to = went Writer q in
-    let made = writer-place p.writer lent p t sound.unread sound.tail_store h.stands in
+    let made = writer-point p.writer lent p t sound.unread sound.tail_store h.stands in
     let told = ap (λ (u : Told). u.coming) (told-append Writer t (logged_of Writer action q) (answer_event Writer to.answer)) ∙ coming-answered Writer _ to.answer in
     (made.0, record { coming = told ∙ coming-kept Writer action q t ∙ h.coming; stands = made.1 })
 step-told Reader lent (Go Writer) p steps t sound may accepted h =

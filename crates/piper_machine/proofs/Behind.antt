@@ -15,8 +15,8 @@ use Rattle.piper_sides.specs.declared.table.Purpose.{Purpose}
 use Rattle.piper_sides.specs.declared.table.Purpose.TheVariants as purpose
 use Rattle.piper_sides.specs.declared.table.AfterRead.{AfterRead}
 use Rattle.piper_sides.specs.declared.table.AfterRead.TheVariants as afterward
-use Rattle.piper_sides.specs.declared.table.ReadPlace.{ReadPlace}
-use Rattle.piper_sides.specs.declared.table.ReadPlace.TheVariants as at
+use Rattle.piper_sides.specs.declared.table.ReadPoint.{ReadPoint}
+use Rattle.piper_sides.specs.declared.table.ReadPoint.TheVariants as at
 use Rattle.piper_sides.specs.Open.{is_granted, is_yield_granted}
 use Rattle.piper_sides.specs.Table.{read_action, reader_looked, reader_looked_again, reader_registered, writer_taken, read_done, read_after, yield_answer, count_answer, reader_moved}
 use Rattle.piper_sides.specs.Log.{answer_event}
@@ -36,7 +36,7 @@ is_last (afterward.Round form sum) = false
 is_last next = true
 
 -- where the reader can stand once an end was found
-abbrev pub is_over : ReadPlace → Bool
+abbrev pub is_over : ReadPoint → Bool
 is_over (at.LookTailAgain l was_closed) = was_closed
 is_over (at.LookTake l) = false
 is_over at.Yield = false
@@ -44,7 +44,7 @@ is_over (at.CallDestination form sum) = false
 is_over (at.StoreHead n next) = is_last next
 is_over (at.TakeWriter next) = is_last next
 is_over (at.WakeWriter next) = is_last next
-is_over place = true
+is_over point = true
 
 pub record Over (p : Pipe) : Type 0 where
   pub closed : p.is_closed ≡ true
@@ -93,25 +93,25 @@ module _ (saw ended : Bool) where
 
 -- what the reader's step logs before its answer
 
--- what it has seen of the close is so, and stands in its place where it looks again
+-- what it has seen of the close is so, and stands in its point where it looks again
 abbrev pub IsLinked : Option Bool → Bool → Type 0
 IsLinked None saw = ⊤
 IsLinked (Some was_closed) saw = saw ≡ was_closed
 
-abbrev pub logged_at : ReadPlace → Pipe → List Event
-logged_at place p = logged_of Reader (read_action place) (record p { reader = place })
+abbrev pub logged_at : ReadPoint → Pipe → List Event
+logged_at point p = logged_of Reader (read_action point) (record p { reader = point })
 
 module _ (saw ended : Bool) (p : Pipe) (closed : saw ≡ true → p.is_closed ≡ true) where
-  abbrev Logs : ReadPlace → Type 0
-  Logs place = IsFinalFrom saw ended (logged_at place p) × (ended_from saw ended (logged_at place p) ≡ true → Over (record p { reader = place }))
+  abbrev Logs : ReadPoint → Type 0
+  Logs point = IsFinalFrom saw ended (logged_at point p) × (ended_from saw ended (logged_at point p) ≡ true → Over (record p { reader = point }))
 
-  quietly : (place : ReadPlace) → (ended ≡ true → Over (record p { reader = place })) → Quiet saw ended (logged_at place p) → Logs place
-  quietly place over quiet = (quiet.0, λ t. over (sym quiet.1 ∙ t))
+  quietly : (point : ReadPoint) → (ended ≡ true → Over (record p { reader = point })) → Quiet saw ended (logged_at point p) → Logs point
+  quietly point over quiet = (quiet.0, λ t. over (sym quiet.1 ∙ t))
 
   -- the close that was seen is the writer's, since the reader stands in its call
-  tail-logs : (place : ReadPlace) → read_leaves place ≡ false → (saw ≡ true → is_over place ≡ true) → (p.is_closed ≡ true → IsCaused (record p { reader = place })) → (ended ≡ true → Over (record p { reader = place }))
-      → (ended ≡ true → length p.unread ≡ 0) × (found_at_tail saw (length p.unread) ended ≡ true → Over (record p { reader = place }))
-  tail-logs place stays stands caused over = (
+  tail-logs : (point : ReadPoint) → read_leaves point ≡ false → (saw ≡ true → is_over point ≡ true) → (p.is_closed ≡ true → IsCaused (record p { reader = point })) → (ended ≡ true → Over (record p { reader = point }))
+      → (ended ≡ true → length p.unread ≡ 0) × (found_at_tail saw (length p.unread) ended ≡ true → Over (record p { reader = point }))
+  tail-logs point stays stands caused over = (
     λ t. no_length p.unread (over t).unread,
     λ t. elim (at-tail saw (length p.unread) ended t) [
       | inl before ↦ over before
@@ -124,7 +124,7 @@ module _ (saw ended : Bool) (p : Pipe) (closed : saw ≡ true → p.is_closed �
     ],
   )
 
-  pub reader-logs : (place : ReadPlace) → IsLinked (loaded place) saw → (p.is_closed ≡ true → IsCaused (record p { reader = place })) → (ended ≡ true → Over (record p { reader = place })) → Logs place
+  pub reader-logs : (point : ReadPoint) → IsLinked (loaded point) saw → (p.is_closed ≡ true → IsCaused (record p { reader = point })) → (ended ≡ true → Over (record p { reader = point })) → Logs point
   reader-logs at.Idle link caused over = (tt, over)
   reader-logs at.Dropped link caused over = (tt, over)
   reader-logs (at.QueryHead query) link caused over = ((λ t. no_length p.unread (over t).unread, tt), over)
@@ -151,7 +151,7 @@ unlinked (Some flag) saw unloaded = absurd (cc)
 abbrev pub Sees : Bool → Pipe → Type 0
 Sees saw p = (saw ≡ true → p.is_closed ≡ true) × IsLinked (loaded p.reader) saw
 
-pub reader-sees : (saw : Bool) (p : Pipe) (closed : saw ≡ true → p.is_closed ≡ true) (place : ReadPlace) → IsLinked (loaded place) saw → Sees (saw_closed_from Reader saw (logged_at place p)) (reader_after place p)
+pub reader-sees : (saw : Bool) (p : Pipe) (closed : saw ≡ true → p.is_closed ≡ true) (point : ReadPoint) → IsLinked (loaded point) saw → Sees (saw_closed_from Reader saw (logged_at point p)) (reader_after point p)
 reader-sees saw p closed at.Idle link = (closed, tt)
 reader-sees saw p closed at.Dropped link = (closed, tt)
 reader-sees saw p closed (at.QueryHead query) link = (closed, tt)
@@ -172,9 +172,9 @@ reader-sees saw p closed at.StoreClosed link = (λ seen. refl, tt)
 
 -- what the reader answers, and where it stands behind the answer
 
-abbrev pub Ends : Bool → Bool → ReadPlace → Pipe → Type 0
-Ends saw ended place p =
-    let to = went Reader (record p { reader = place }) in
+abbrev pub Ends : Bool → Bool → ReadPoint → Pipe → Type 0
+Ends saw ended point p =
+    let to = went Reader (record p { reader = point }) in
     IsFinalFrom saw ended (answer_event Reader to.answer) × (ended_from saw ended (answer_event Reader to.answer) ≡ true → Over to.pipe)
 
 module _ (saw ended : Bool) (p : Pipe) where
@@ -193,7 +193,7 @@ module _ (saw ended : Bool) (p : Pipe) where
   abbrev Answers : Option Answer → Type 0
   Answers answer = IsFinalFrom saw ended (answer_event Reader answer) × (ended_from saw ended (answer_event Reader answer) ≡ ended)
 
-  registers-final : (granted : Bool) (l : Purpose) → let next = reader_registered granted l in Answers next.answer × (is_over next.place ≡ true)
+  registers-final : (granted : Bool) (l : Purpose) → let next = reader_registered granted l in Answers next.answer × (is_over next.point ≡ true)
   registers-final true l = ((tt, refl), refl)
   registers-final false purpose.Poll = (((λ t. inr refl, tt), refl), refl)
   registers-final false (purpose.Copy Try) = (((λ t. refl, tt), refl), refl)
@@ -201,7 +201,7 @@ module _ (saw ended : Bool) (p : Pipe) where
 
   -- the answers that tell an end: nothing was found behind a close that was seen
   again-final : (none was_closed : Bool) (l : Purpose) → (ended ≡ true → (none ≡ true) × (was_closed ≡ true)) → let next = reader_looked_again none l was_closed in
-      IsFinalFrom saw ended (answer_event Reader next.answer) × (ended_from saw ended (answer_event Reader next.answer) ≡ true → (none ≡ true) × (was_closed ≡ true) × (is_over next.place ≡ true))
+      IsFinalFrom saw ended (answer_event Reader next.answer) × (ended_from saw ended (answer_event Reader next.answer) ≡ true → (none ≡ true) × (was_closed ≡ true) × (is_over next.point ≡ true))
   again-final true true purpose.Poll over = ((λ t. inl refl, tt), λ t. (refl, refl, refl))
   again-final true false purpose.Poll over = ((λ t. absurd (let seen = (over t).1 in cc), tt), λ t. absurd (let seen = (over t).1 in cc))
   again-final false was_closed purpose.Poll over = (tt, λ t. absurd (let empty = (over t).0 in cc))
@@ -227,16 +227,16 @@ module _ (saw ended : Bool) (p : Pipe) where
   round-final (Ok n) form sum none = moved-final (n == 0) n form sum none
   round-final (Err fails) form sum none = ((λ t. absurd (let no = none t in cc), tt), refl)
 
-  done-final : (next : AfterRead) → (ended ≡ true → is_last next ≡ true) → let to = read_done next in Answers to.answer × (ended ≡ true → is_over to.place ≡ true)
+  done-final : (next : AfterRead) → (ended ≡ true → is_last next ≡ true) → let to = read_done next in Answers to.answer × (ended ≡ true → is_over to.point ≡ true)
   done-final afterward.Answer last = (((λ t. tt, tt), refl), λ t. refl)
   done-final afterward.Drop last = (((λ t. tt, tt), refl), λ t. refl)
   done-final (afterward.Round form sum) last = ((tt, refl), last)
 
-  take-final : (next : AfterRead) (is_found : Bool) → (ended ≡ true → is_last next ≡ true) → let to = writer_taken next is_found in Answers to.answer × (ended ≡ true → is_over to.place ≡ true)
+  take-final : (next : AfterRead) (is_found : Bool) → (ended ≡ true → is_last next ≡ true) → let to = writer_taken next is_found in Answers to.answer × (ended ≡ true → is_over to.point ≡ true)
   take-final next false last = done-final next last
   take-final next true last = ((tt, refl), last)
 
-  pub reader-ends : (place : ReadPlace) → (saw_close place ≡ true → p.is_closed ≡ true) → (p.is_closed ≡ true → IsCaused (record p { reader = place })) → (ended ≡ true → Over (record p { reader = place })) → Ends saw ended place p
+  pub reader-ends : (point : ReadPoint) → (saw_close point ≡ true → p.is_closed ≡ true) → (p.is_closed ≡ true → IsCaused (record p { reader = point })) → (ended ≡ true → Over (record p { reader = point })) → Ends saw ended point p
   reader-ends (at.QueryTail query) seen caused over = query-ends query over
   reader-ends at.QueryClosed seen caused over = ((λ t. tt, tt), λ t. let o = over t in record { closed = o.closed; ended = o.ended; unread = o.unread; stands = refl })
   reader-ends (at.LookTail l) seen caused over =
@@ -265,4 +265,4 @@ module _ (saw ended : Bool) (p : Pipe) where
       let to = done-final next (λ t. (over t).stands) in
       (to.0.0, λ t. let o = over (sym to.0.1 ∙ t) in record { closed = o.closed; ended = o.ended; unread = o.unread; stands = to.1 (sym to.0.1 ∙ t) })
   reader-ends at.StoreClosed seen caused over = (tt, λ t. let o = over t in record { closed = refl; ended = o.ended; unread = o.unread; stands = refl })
-  reader-ends place seen caused over = (tt, λ t. let o = over t in record { closed = o.closed; ended = o.ended; unread = o.unread; stands = o.stands })
+  reader-ends point seen caused over = (tt, λ t. let o = over t in record { closed = o.closed; ended = o.ended; unread = o.unread; stands = o.stands })

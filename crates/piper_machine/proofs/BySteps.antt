@@ -1,4 +1,4 @@
--- Steps of one side alone, from any place up to the answer, give what remains of the call.
+-- Steps of one side alone, from any point up to the answer, give what remains of the call.
 use Rattle.std.proofs.Common.{◌≡◌, ℕ, zero, suc, ◌<◌, ◌≤◌, List, [], ◌∷◌, ◌++◌, Bool, true, false, Option, None, Some, replicate, refl, sym, ap, ◌∙◌, subst, append_assoc, append-nil, arith}
 use Rattle.piper_sides.specs.declared.calls.Side.{Side}
 use Rattle.piper_sides.specs.declared.calls.Side.TheVariants.{Reader, Writer}
@@ -11,10 +11,10 @@ use Rattle.piper_sides.specs.declared.events.Event.TheVariants.{Answered}
 use Rattle.piper_sides.specs.declared.polling.Context.{Context}
 use Rattle.piper_sides.specs.declared.scripted.SourceAct.{SourceAct}
 use Rattle.piper_sides.specs.declared.scripted.SourceAct.TheVariants as source
-use Rattle.piper_sides.specs.declared.table.ReadPlace.{ReadPlace}
-use Rattle.piper_sides.specs.declared.table.ReadPlace.TheVariants as at
-use Rattle.piper_sides.specs.declared.table.WritePlace.{WritePlace}
-use Rattle.piper_sides.specs.declared.table.WritePlace.TheVariants as on
+use Rattle.piper_sides.specs.declared.table.ReadPoint.{ReadPoint}
+use Rattle.piper_sides.specs.declared.table.ReadPoint.TheVariants as at
+use Rattle.piper_sides.specs.declared.table.WritePoint.{WritePoint}
+use Rattle.piper_sides.specs.declared.table.WritePoint.TheVariants as on
 use Rattle.piper_sides.specs.declared.table.AfterWrite.TheVariants as behind
 use Rattle.piper_sides.specs.Log.{answer_event}
 use Rattle.piper_sides.specs.Table.{read_action, write_action}
@@ -89,25 +89,25 @@ yield-names (Some cx) names = granted cx.luck.yield_granted
 
 -- the reader
 
-pub record ReadHears (place : ReadPlace) (p : Pipe) (names : List ℕ) : Type 0 where
-  pub pipe : (stepped [] (Go Reader) (record p { reader = place; woken = names })).pipe ≡ named names (read_step place p).pipe
-  pub answer : (stepped [] (Go Reader) (record p { reader = place; woken = names })).answer ≡ (read_step place p).answer
-  pub events : (stepped [] (Go Reader) (record p { reader = place; woken = names })).events ≡ logged_of Reader (read_action place) p ++ answer_event Reader (read_step place p).answer
-  pub woken : (read_step place p).pipe.woken ≡ p.woken ++ names_of (logged_of Reader (read_action place) p)
+pub record ReadHears (point : ReadPoint) (p : Pipe) (names : List ℕ) : Type 0 where
+  pub pipe : (stepped [] (Go Reader) (record p { reader = point; woken = names })).pipe ≡ named names (read_step point p).pipe
+  pub answer : (stepped [] (Go Reader) (record p { reader = point; woken = names })).answer ≡ (read_step point p).answer
+  pub events : (stepped [] (Go Reader) (record p { reader = point; woken = names })).events ≡ logged_of Reader (read_action point) p ++ answer_event Reader (read_step point p).answer
+  pub woken : (read_step point p).pipe.woken ≡ p.woken ++ names_of (logged_of Reader (read_action point) p)
 
-reader-hears : (place : ReadPlace) (p : Pipe) (names : List ℕ) → ReadHears place p names
+reader-hears : (point : ReadPoint) (p : Pipe) (names : List ℕ) → ReadHears point p names
 reader-hears (at.LookRegister l) p names = record { pipe = refl; answer = refl; events = refl; woken = register-names Reader p.reader_call.context p.woken }
 reader-hears (at.WakeWriter next) p names = record { pipe = refl; answer = refl; events = refl; woken = wake-names p.reader_call.taken p.woken }
 reader-hears at.Yield p names = record { pipe = refl; answer = refl; events = refl; woken = yield-names p.reader_call.context p.woken }
-reader-hears place p names = record { pipe = refl; answer = refl; events = refl; woken = quiet p.woken }
+reader-hears point p names = record { pipe = refl; answer = refl; events = refl; woken = quiet p.woken }
 
-read-rest : (place : ReadPlace) (p : Pipe) (drains : Bool) → is_draining place ≡ drains → reader_state place ≡ Busy → ReaderStands place p → let s = read_step place p in reader_alone place p ≡ reader_rest s.answer s.pipe
-read-rest place p true is busy stands = drain-rest place p is stands.start (omega (arith, stands.unread, stands.known))
-read-rest place p false is busy stands = reader-rest place p busy is
+read-rest : (point : ReadPoint) (p : Pipe) (drains : Bool) → is_draining point ≡ drains → reader_state point ≡ Busy → ReaderStands point p → let s = read_step point p in reader_alone point p ≡ reader_rest s.answer s.pipe
+read-rest point p true is busy stands = drain-rest point p is stands.start (omega (arith, stands.unread, stands.known))
+read-rest point p false is busy stands = reader-rest point p busy is
 
-read-falls : (place : ReadPlace) (p : Pipe) (drains : Bool) → is_draining place ≡ drains → reader_state place ≡ Busy → ReaderStands place p → let s = read_step place p in s.answer ≡ None → reads_left s.pipe.reader s.pipe < reads_left place p
-read-falls place p true is busy stands goes = drain-falls place p is stands goes
-read-falls place p false is busy stands goes = let nearer = reader-nearer place p busy is goes in nearer.2.steps
+read-falls : (point : ReadPoint) (p : Pipe) (drains : Bool) → is_draining point ≡ drains → reader_state point ≡ Busy → ReaderStands point p → let s = read_step point p in s.answer ≡ None → reads_left s.pipe.reader s.pipe < reads_left point p
+read-falls point p true is busy stands goes = drain-falls point p is stands goes
+read-falls point p false is busy stands goes = let nearer = reader-nearer point p busy is goes in nearer.2.steps
 
 reader-rest_of : (answer : Option Answer) (p : Pipe) → reader_rest answer p ≡ rest_of Reader answer p
 reader-rest_of None p = refl
@@ -133,13 +133,13 @@ reader_step p names busy stands =
 
 -- the writer
 
-pub record WriteHears (place : WritePlace) (lent : List ℕ) (p : Pipe) (names : List ℕ) : Type 0 where
-  pub pipe : (stepped lent (Go Writer) (record p { writer = place; woken = names })).pipe ≡ named names (fill_step place lent p).pipe
-  pub answer : (stepped lent (Go Writer) (record p { writer = place; woken = names })).answer ≡ (fill_step place lent p).answer
-  pub events : (stepped lent (Go Writer) (record p { writer = place; woken = names })).events ≡ logged_of Writer (write_action place) p ++ answer_event Writer (fill_step place lent p).answer
-  pub woken : (fill_step place lent p).pipe.woken ≡ p.woken ++ names_of (logged_of Writer (write_action place) p)
+pub record WriteHears (point : WritePoint) (lent : List ℕ) (p : Pipe) (names : List ℕ) : Type 0 where
+  pub pipe : (stepped lent (Go Writer) (record p { writer = point; woken = names })).pipe ≡ named names (fill_step point lent p).pipe
+  pub answer : (stepped lent (Go Writer) (record p { writer = point; woken = names })).answer ≡ (fill_step point lent p).answer
+  pub events : (stepped lent (Go Writer) (record p { writer = point; woken = names })).events ≡ logged_of Writer (write_action point) p ++ answer_event Writer (fill_step point lent p).answer
+  pub woken : (fill_step point lent p).pipe.woken ≡ p.woken ++ names_of (logged_of Writer (write_action point) p)
 
-writer-hears : (place : WritePlace) (lent : List ℕ) (p : Pipe) (names : List ℕ) → WriteHears place lent p names
+writer-hears : (point : WritePoint) (lent : List ℕ) (p : Pipe) (names : List ℕ) → WriteHears point lent p names
 writer-hears (on.LookRegister l) lent p names = record { pipe = refl; answer = refl; events = refl; woken = register-names Writer p.writer_call.context p.woken }
 writer-hears (on.WakeReader next) lent p names = record { pipe = refl; answer = refl; events = refl; woken = wake-names p.writer_call.taken p.woken }
 writer-hears on.WakeWriter lent p names = record { pipe = refl; answer = refl; events = refl; woken = wake-names p.writer_call.taken p.woken }
@@ -148,24 +148,24 @@ writer-hears (on.StoreClosed behind.Answer) lent p names = record { pipe = refl;
 writer-hears (on.StoreClosed behind.Drop) lent p names = record { pipe = refl; answer = refl; events = refl; woken = quiet p.woken }
 writer-hears (on.StoreClosed behind.WakeWriter) lent p names = record { pipe = refl; answer = refl; events = refl; woken = quiet p.woken }
 writer-hears (on.StoreClosed (behind.Round form sum)) lent p names = record { pipe = refl; answer = refl; events = refl; woken = quiet p.woken }
-writer-hears place lent p names = record { pipe = refl; answer = refl; events = refl; woken = quiet p.woken }
+writer-hears point lent p names = record { pipe = refl; answer = refl; events = refl; woken = quiet p.woken }
 
-write-rest : (place : WritePlace) (lent : List ℕ) (p : Pipe) (fills : Bool) → is_filling place ≡ fills → writer_state place ≡ Busy → WriterStands place p → MayOffer place p.source lent (record p { writer = place })
-    → let s = fill_step place lent p in writer_alone place p ≡ writer_rest s.answer s.pipe
-write-rest place lent p true is busy stands may = fill-rest place lent p is stands may
-write-rest place lent p false is busy stands may = writer-rest place p busy is ∙ ap (λ (s : Stepped). writer_rest s.answer s.pipe) (sym (plain-step place lent p is))
+write-rest : (point : WritePoint) (lent : List ℕ) (p : Pipe) (fills : Bool) → is_filling point ≡ fills → writer_state point ≡ Busy → WriterStands point p → MayOffer point p.source lent (record p { writer = point })
+    → let s = fill_step point lent p in writer_alone point p ≡ writer_rest s.answer s.pipe
+write-rest point lent p true is busy stands may = fill-rest point lent p is stands may
+write-rest point lent p false is busy stands may = writer-rest point p busy is ∙ ap (λ (s : Stepped). writer_rest s.answer s.pipe) (sym (plain-step point lent p is))
 
-write-falls : (place : WritePlace) (lent : List ℕ) (p : Pipe) (fills : Bool) → is_filling place ≡ fills → writer_state place ≡ Busy → WriterStands place p → MayOffer place p.source lent (record p { writer = place })
-    → let s = fill_step place lent p in s.answer ≡ None → writes_left s.pipe.writer s.pipe < writes_left place p
-write-falls place lent p true is busy stands may = fill-falls place lent p is stands may
-write-falls place lent p false is busy stands may =
-    subst (λ (s : Stepped). s.answer ≡ None → writes_left s.pipe.writer s.pipe < writes_left place p) (sym (plain-step place lent p is)) (λ goes. (writer-nearer place p busy is goes).2.steps)
+write-falls : (point : WritePoint) (lent : List ℕ) (p : Pipe) (fills : Bool) → is_filling point ≡ fills → writer_state point ≡ Busy → WriterStands point p → MayOffer point p.source lent (record p { writer = point })
+    → let s = fill_step point lent p in s.answer ≡ None → writes_left s.pipe.writer s.pipe < writes_left point p
+write-falls point lent p true is busy stands may = fill-falls point lent p is stands may
+write-falls point lent p false is busy stands may =
+    subst (λ (s : Stepped). s.answer ≡ None → writes_left s.pipe.writer s.pipe < writes_left point p) (sym (plain-step point lent p is)) (λ goes. (writer-nearer point p busy is goes).2.steps)
 
 writer-rest_of : (answer : Option Answer) (p : Pipe) → writer_rest answer p ≡ rest_of Writer answer p
 writer-rest_of None p = refl
 writer-rest_of (Some answer) p = refl
 
-may-unnamed : (place : WritePlace) (lent names : List ℕ) (p : Pipe) → MayOffer place p.source lent (record p { writer = place; woken = names }) → MayOffer place p.source lent (record p { writer = place })
+may-unnamed : (point : WritePoint) (lent names : List ℕ) (p : Pipe) → MayOffer point p.source lent (record p { writer = point; woken = names }) → MayOffer point p.source lent (record p { writer = point })
 may-unnamed (on.CallSource form sum) lent names p may = offers p.source may
   where
     offers : (acts : List SourceAct) → MayOffer (on.CallSource form sum) acts lent (record p { writer = on.CallSource form sum; woken = names }) → MayOffer (on.CallSource form sum) acts lent (record p { writer = on.CallSource form sum })
@@ -173,7 +173,7 @@ may-unnamed (on.CallSource form sum) lent names p may = offers p.source may
     offers (source.Fail ∷ acts) may = tt
     offers (source.Bytes [] ∷ acts) may = tt
     offers (source.Bytes (byte ∷ bytes) ∷ acts) may = record { at_most = may.at_most; at_least = may.at_least; some = may.some; shut = may.shut }
-may-unnamed place lent names p may = tt
+may-unnamed point lent names p may = tt
 
 writer_step : (lent : List ℕ) (p : Pipe) (names : List ℕ) → state_of Writer p ≡ Busy → Stands Writer p → MayOffer p.writer p.source lent (named names p) → let made = stepped lent (Go Writer) (named names p) in IsHeard Writer p names made made.answer
 writer_step lent p names busy stands may =

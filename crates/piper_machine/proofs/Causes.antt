@@ -10,27 +10,27 @@ use Rattle.piper_sides.specs.declared.table.AfterRead.{AfterRead}
 use Rattle.piper_sides.specs.declared.table.AfterRead.TheVariants as afterward
 use Rattle.piper_sides.specs.declared.table.AfterWrite.{AfterWrite}
 use Rattle.piper_sides.specs.declared.table.AfterWrite.TheVariants as behind
-use Rattle.piper_sides.specs.declared.table.ReadPlace.{ReadPlace}
-use Rattle.piper_sides.specs.declared.table.ReadPlace.TheVariants as at
-use Rattle.piper_sides.specs.declared.table.WritePlace.{WritePlace}
-use Rattle.piper_sides.specs.declared.table.WritePlace.TheVariants as on
+use Rattle.piper_sides.specs.declared.table.ReadPoint.{ReadPoint}
+use Rattle.piper_sides.specs.declared.table.ReadPoint.TheVariants as at
+use Rattle.piper_sides.specs.declared.table.WritePoint.{WritePoint}
+use Rattle.piper_sides.specs.declared.table.WritePoint.TheVariants as on
 use Rattle.piper_sides.specs.Open.{is_granted}
 use Rattle.piper_sides.specs.Table.{writer_taken, read_done, writer_is_open, writer_looked, writer_looked_again, writer_registered, reader_taken, own_taken, write_done, write_after, writer_moved, writer_rounds, writer_draws}
 use Rattle.piper_machine.specs.Pipe.{Pipe}
 use Rattle.piper_machine.specs.Step.{went, offering}
 use Rattle.piper_machine.specs.Round.{given, found_of}
 
-abbrev pub read_leaves : ReadPlace → Bool
+abbrev pub read_leaves : ReadPoint → Bool
 read_leaves at.Dropped = true
 read_leaves (at.TakeWriter afterward.Drop) = true
 read_leaves (at.WakeWriter afterward.Drop) = true
-read_leaves place = false
+read_leaves point = false
 
-abbrev pub write_leaves : WritePlace → Bool
+abbrev pub write_leaves : WritePoint → Bool
 write_leaves on.Dropped = true
 write_leaves (on.TakeReader behind.Drop) = true
 write_leaves (on.WakeReader behind.Drop) = true
-write_leaves place = false
+write_leaves point = false
 
 abbrev pub IsEnded : Pipe → Type 0
 IsEnded p = (write_leaves p.writer ≡ true) ⊎ (p.is_shut ≡ true)
@@ -39,28 +39,28 @@ abbrev pub IsCaused : Pipe → Type 0
 IsCaused p = (read_leaves p.reader ≡ true) ⊎ IsEnded p
 
 -- the writer stores closed only as it is dropped or closes
-abbrev pub is_known : WritePlace → Bool
+abbrev pub is_known : WritePoint → Bool
 is_known (on.StoreClosed behind.Answer) = false
 is_known (on.StoreClosed (behind.Round form sum)) = false
-is_known place = true
+is_known point = true
 
 -- the reader's own steps
 
-abbrev pub reader_after : ReadPlace → Pipe → Pipe
-reader_after place p = (went Reader (record p { reader = place })).pipe
+abbrev pub reader_after : ReadPoint → Pipe → Pipe
+reader_after point p = (went Reader (record p { reader = point })).pipe
 
-pub reader-caused : (place : ReadPlace) (p : Pipe) → (p.is_closed ≡ true → IsCaused (record p { reader = place })) → (reader_after place p).is_closed ≡ true → IsCaused (reader_after place p)
+pub reader-caused : (point : ReadPoint) (p : Pipe) → (p.is_closed ≡ true → IsCaused (record p { reader = point })) → (reader_after point p).is_closed ≡ true → IsCaused (reader_after point p)
 reader-caused at.Dropped p caused closed = inl refl
 reader-caused at.StoreClosed p caused closed = inl refl
 reader-caused (at.StoreHead n next) p caused closed = elim (caused closed) [ inl leaves ↦ absurd (cc) | inr ended ↦ inr ended ]
 reader-caused (at.TakeWriter next) p caused closed = take-caused next (is_some p.writer_waker) (caused closed)
   where
-    done-caused : (next : AfterRead) → (read_leaves (at.TakeWriter next) ≡ true) ⊎ IsEnded p → (read_leaves (read_done next).place ≡ true) ⊎ IsEnded p
+    done-caused : (next : AfterRead) → (read_leaves (at.TakeWriter next) ≡ true) ⊎ IsEnded p → (read_leaves (read_done next).point ≡ true) ⊎ IsEnded p
     done-caused afterward.Answer caused = elim caused [ inl leaves ↦ absurd (cc) | inr ended ↦ inr ended ]
     done-caused afterward.Drop caused = inl refl
     done-caused (afterward.Round form sum) caused = elim caused [ inl leaves ↦ absurd (cc) | inr ended ↦ inr ended ]
 
-    take-caused : (next : AfterRead) (is_found : Bool) → (read_leaves (at.TakeWriter next) ≡ true) ⊎ IsEnded p → (read_leaves (writer_taken next is_found).place ≡ true) ⊎ IsEnded p
+    take-caused : (next : AfterRead) (is_found : Bool) → (read_leaves (at.TakeWriter next) ≡ true) ⊎ IsEnded p → (read_leaves (writer_taken next is_found).point ≡ true) ⊎ IsEnded p
     take-caused next false caused = done-caused next caused
     take-caused afterward.Answer true caused = elim caused [ inl leaves ↦ absurd (cc) | inr ended ↦ inr ended ]
     take-caused afterward.Drop true caused = inl refl
@@ -68,30 +68,30 @@ reader-caused (at.TakeWriter next) p caused closed = take-caused next (is_some p
 reader-caused (at.WakeWriter afterward.Answer) p caused closed = elim (caused closed) [ inl leaves ↦ absurd (cc) | inr ended ↦ inr ended ]
 reader-caused (at.WakeWriter afterward.Drop) p caused closed = inl refl
 reader-caused (at.WakeWriter (afterward.Round form sum)) p caused closed = elim (caused closed) [ inl leaves ↦ absurd (cc) | inr ended ↦ inr ended ]
-reader-caused place p caused closed = elim (caused closed) [ inl leaves ↦ absurd (cc) | inr ended ↦ inr ended ]
+reader-caused point p caused closed = elim (caused closed) [ inl leaves ↦ absurd (cc) | inr ended ↦ inr ended ]
 
 -- the writer's own steps
 
 -- where a call of the source is lent these places first
-abbrev pub writer_after : List ℕ → WritePlace → Pipe → Pipe
-writer_after offered place p = (went Writer (offering offered (record p { writer = place }))).pipe
+abbrev pub writer_after : List ℕ → WritePoint → Pipe → Pipe
+writer_after offered point p = (went Writer (offering offered (record p { writer = point }))).pipe
 
 -- once the writer has closed it stays so
 module _ (p : Pipe) where
-  done-leaves : (next : AfterWrite) → (write_leaves (on.TakeReader next) ≡ true) ⊎ (p.is_shut ≡ true) → (write_leaves (write_done next).place ≡ true) ⊎ (p.is_shut ≡ true)
+  done-leaves : (next : AfterWrite) → (write_leaves (on.TakeReader next) ≡ true) ⊎ (p.is_shut ≡ true) → (write_leaves (write_done next).point ≡ true) ⊎ (p.is_shut ≡ true)
   done-leaves behind.Answer h = elim h [ inl leaves ↦ absurd (cc) | inr shut ↦ inr shut ]
   done-leaves behind.Drop h = inl refl
   done-leaves behind.WakeWriter h = elim h [ inl leaves ↦ absurd (cc) | inr shut ↦ inr shut ]
   done-leaves (behind.Round form sum) h = elim h [ inl leaves ↦ absurd (cc) | inr shut ↦ inr shut ]
 
-  take-leaves : (next : AfterWrite) (is_found : Bool) → (write_leaves (on.TakeReader next) ≡ true) ⊎ (p.is_shut ≡ true) → (write_leaves (reader_taken next is_found).place ≡ true) ⊎ (p.is_shut ≡ true)
+  take-leaves : (next : AfterWrite) (is_found : Bool) → (write_leaves (on.TakeReader next) ≡ true) ⊎ (p.is_shut ≡ true) → (write_leaves (reader_taken next is_found).point ≡ true) ⊎ (p.is_shut ≡ true)
   take-leaves next false h = done-leaves next h
   take-leaves behind.Answer true h = elim h [ inl leaves ↦ absurd (cc) | inr shut ↦ inr shut ]
   take-leaves behind.Drop true h = inl refl
   take-leaves behind.WakeWriter true h = elim h [ inl leaves ↦ absurd (cc) | inr shut ↦ inr shut ]
   take-leaves (behind.Round form sum) true h = elim h [ inl leaves ↦ absurd (cc) | inr shut ↦ inr shut ]
 
-pub writer-ended : (offered : List ℕ) (place : WritePlace) (p : Pipe) → IsEnded (record p { writer = place }) → IsEnded (writer_after offered place p)
+pub writer-ended : (offered : List ℕ) (point : WritePoint) (p : Pipe) → IsEnded (record p { writer = point }) → IsEnded (writer_after offered point p)
 writer-ended offered on.Dropped p h = inl refl
 writer-ended offered (on.TakeReader next) p h = take-leaves p next (is_some p.reader_waker) h
 writer-ended offered (on.WakeReader behind.Answer) p h = elim h [ inl leaves ↦ absurd (cc) | inr shut ↦ inr shut ]
@@ -102,15 +102,15 @@ writer-ended offered (on.StoreClosed (behind.Round form sum)) p h = elim h [ inl
 writer-ended offered (on.StoreClosed behind.Answer) p h = elim h [ inl leaves ↦ absurd (cc) | inr shut ↦ inr shut ]
 writer-ended offered (on.StoreClosed behind.Drop) p h = inl refl
 writer-ended offered (on.StoreClosed behind.WakeWriter) p h = inr refl
-writer-ended offered place p h = elim h [ inl leaves ↦ absurd (cc) | inr shut ↦ inr shut ]
+writer-ended offered point p h = elim h [ inl leaves ↦ absurd (cc) | inr shut ↦ inr shut ]
 
--- a step leads to a place that stores nothing, but for a round's
-abbrev pub is_ordinary : WritePlace → Bool
+-- a step leads to a point that stores nothing, but for a round's
+abbrev pub is_ordinary : WritePoint → Bool
 is_ordinary (on.StoreTail n next) = false
 is_ordinary (on.StoreClosed next) = false
-is_ordinary place = true
+is_ordinary point = true
 
-pub open-ordinary : (is_closed none : Bool) (l : Purpose) → is_ordinary (writer_is_open is_closed none l).place ≡ true
+pub open-ordinary : (is_closed none : Bool) (l : Purpose) → is_ordinary (writer_is_open is_closed none l).point ≡ true
 open-ordinary true none l = refl
 open-ordinary false true l = refl
 open-ordinary false false purpose.Poll = refl
@@ -125,7 +125,7 @@ looks-ordinary false (purpose.Copy Try) = refl
 looks-ordinary true (purpose.Copy (Polling is_drawn)) = refl
 looks-ordinary false (purpose.Copy (Polling is_drawn)) = refl
 
-pub registers-ordinary : (granted : Bool) (l : Purpose) → is_ordinary (writer_registered granted l).place ≡ true
+pub registers-ordinary : (granted : Bool) (l : Purpose) → is_ordinary (writer_registered granted l).point ≡ true
 registers-ordinary true l = refl
 registers-ordinary false l = refl
 
@@ -140,56 +140,56 @@ draws-ordinary Try = refl
 draws-ordinary (Polling true) = refl
 draws-ordinary (Polling false) = refl
 
-pub moved-ordinary : (none : Bool) (n : ℕ) (form : Form) (sum : ℕ) → is_ordinary (writer_moved none n form sum).place ≡ true
+pub moved-ordinary : (none : Bool) (n : ℕ) (form : Form) (sum : ℕ) → is_ordinary (writer_moved none n form sum).point ≡ true
 moved-ordinary true n form sum = refl
 moved-ordinary false n form sum = refl
 
-pub round-ordinary : (given : Result ℕ Failed) (capacity room : ℕ) (form : Form) (sum : ℕ) → is_ordinary (write_after capacity room (on.CallSource form sum) (found_of given)).place ≡ true
+pub round-ordinary : (given : Result ℕ Failed) (capacity room : ℕ) (form : Form) (sum : ℕ) → is_ordinary (write_after capacity room (on.CallSource form sum) (found_of given)).point ≡ true
 round-ordinary (Ok n) capacity room form sum = moved-ordinary (n == 0) n form sum
 round-ordinary (Err fails) capacity room form sum = refl
 
-pub done-ordinary : (next : AfterWrite) → is_ordinary (write_done next).place ≡ true
+pub done-ordinary : (next : AfterWrite) → is_ordinary (write_done next).point ≡ true
 done-ordinary behind.Answer = refl
 done-ordinary behind.Drop = refl
 done-ordinary behind.WakeWriter = refl
 done-ordinary (behind.Round form sum) = refl
 
-pub take-ordinary : (next : AfterWrite) (is_found : Bool) → is_ordinary (reader_taken next is_found).place ≡ true
+pub take-ordinary : (next : AfterWrite) (is_found : Bool) → is_ordinary (reader_taken next is_found).point ≡ true
 take-ordinary next false = done-ordinary next
 take-ordinary next true = refl
 
-pub own-ordinary : (is_found : Bool) → is_ordinary (own_taken is_found).place ≡ true
+pub own-ordinary : (is_found : Bool) → is_ordinary (own_taken is_found).point ≡ true
 own-ordinary false = refl
 own-ordinary true = refl
 
-ordinary-known : (place : WritePlace) → is_ordinary place ≡ true → is_known place ≡ true
+ordinary-known : (point : WritePoint) → is_ordinary point ≡ true → is_known point ≡ true
 ordinary-known (on.StoreClosed behind.Answer) ordinary = absurd (cc)
 ordinary-known (on.StoreClosed (behind.Round form sum)) ordinary = absurd (cc)
 ordinary-known (on.StoreClosed behind.Drop) ordinary = refl
 ordinary-known (on.StoreClosed behind.WakeWriter) ordinary = refl
-ordinary-known place ordinary = refl
+ordinary-known point ordinary = refl
 
-rounds-known : (is_closed : Bool) (n : ℕ) (form : Form) (sum : ℕ) → is_known (writer_rounds is_closed n form sum).place ≡ true
+rounds-known : (is_closed : Bool) (n : ℕ) (form : Form) (sum : ℕ) → is_known (writer_rounds is_closed n form sum).point ≡ true
 rounds-known true n form sum = refl
 rounds-known false n form sum = refl
 
-pub writer-known : (offered : List ℕ) (place : WritePlace) (p : Pipe) → is_known (writer_after offered place p).writer ≡ true
-writer-known offered (on.LookClosed l) p = ordinary-known (writer_is_open p.is_closed (p.room == 0) l).place (open-ordinary p.is_closed (p.room == 0) l)
+pub writer-known : (offered : List ℕ) (point : WritePoint) (p : Pipe) → is_known (writer_after offered point p).writer ≡ true
+writer-known offered (on.LookClosed l) p = ordinary-known (writer_is_open p.is_closed (p.room == 0) l).point (open-ordinary p.is_closed (p.room == 0) l)
 writer-known offered (on.LookHead l) p = ordinary-known (writer_looked (p.capacity - length p.unread == 0) l) (looks-ordinary (p.capacity - length p.unread == 0) l)
-writer-known offered (on.LookRegister l) p = ordinary-known (writer_registered (is_granted p.writer_call.context) l).place (registers-ordinary (is_granted p.writer_call.context) l)
+writer-known offered (on.LookRegister l) p = ordinary-known (writer_registered (is_granted p.writer_call.context) l).point (registers-ordinary (is_granted p.writer_call.context) l)
 writer-known offered (on.LookHeadAgain l) p = ordinary-known (writer_looked_again (p.capacity - length p.unread == 0) l) (again-ordinary (p.capacity - length p.unread == 0) l)
 writer-known offered (on.LookTake purpose.Poll) p = refl
 writer-known offered (on.LookTake (purpose.Copy form)) p = ordinary-known (writer_draws form) (draws-ordinary form)
-writer-known offered (on.CallSource form sum) p = ordinary-known (write_after p.capacity p.room (on.CallSource form sum) (found_of (given (length offered) p.source))).place (round-ordinary (given (length offered) p.source) p.capacity p.room form sum)
+writer-known offered (on.CallSource form sum) p = ordinary-known (write_after p.capacity p.room (on.CallSource form sum) (found_of (given (length offered) p.source))).point (round-ordinary (given (length offered) p.source) p.capacity p.room form sum)
 writer-known offered (on.RoundClosed n form sum) p = rounds-known p.is_closed n form sum
-writer-known offered (on.TakeReader next) p = ordinary-known (reader_taken next (is_some p.reader_waker)).place (take-ordinary next (is_some p.reader_waker))
-writer-known offered (on.WakeReader next) p = ordinary-known (write_done next).place (done-ordinary next)
-writer-known offered on.TakeWriter p = ordinary-known (own_taken (is_some p.writer_waker)).place (own-ordinary (is_some p.writer_waker))
-writer-known offered place p = refl
+writer-known offered (on.TakeReader next) p = ordinary-known (reader_taken next (is_some p.reader_waker)).point (take-ordinary next (is_some p.reader_waker))
+writer-known offered (on.WakeReader next) p = ordinary-known (write_done next).point (done-ordinary next)
+writer-known offered on.TakeWriter p = ordinary-known (own_taken (is_some p.writer_waker)).point (own-ordinary (is_some p.writer_waker))
+writer-known offered point p = refl
 
-pub writer-caused : (offered : List ℕ) (place : WritePlace) (p : Pipe) → is_known place ≡ true → (p.is_closed ≡ true → IsCaused (record p { writer = place })) → (writer_after offered place p).is_closed ≡ true → IsCaused (writer_after offered place p)
+pub writer-caused : (offered : List ℕ) (point : WritePoint) (p : Pipe) → is_known point ≡ true → (p.is_closed ≡ true → IsCaused (record p { writer = point })) → (writer_after offered point p).is_closed ≡ true → IsCaused (writer_after offered point p)
 writer-caused offered (on.StoreClosed behind.Answer) p known caused closed = absurd (cc)
 writer-caused offered (on.StoreClosed (behind.Round form sum)) p known caused closed = absurd (cc)
 writer-caused offered (on.StoreClosed behind.Drop) p known caused closed = inr (inl refl)
 writer-caused offered (on.StoreClosed behind.WakeWriter) p known caused closed = inr (inr refl)
-writer-caused offered place p known caused closed = elim (caused closed) [ inl leaves ↦ inl leaves | inr ended ↦ inr (writer-ended offered place p ended) ]
+writer-caused offered point p known caused closed = elim (caused closed) [ inl leaves ↦ inl leaves | inr ended ↦ inr (writer-ended offered point p ended) ]

@@ -16,8 +16,8 @@ use Rattle.piper_sides.specs.declared.events.Event.TheVariants.{Began}
 use Rattle.piper_sides.specs.declared.polling.Context.{Context}
 use Rattle.piper_sides.specs.declared.table.Action.{Action}
 use Rattle.piper_sides.specs.declared.table.Action.TheVariants as does
-use Rattle.piper_sides.specs.declared.table.ReadPlace.{ReadPlace}
-use Rattle.piper_sides.specs.declared.table.ReadPlace.TheVariants as at
+use Rattle.piper_sides.specs.declared.table.ReadPoint.{ReadPoint}
+use Rattle.piper_sides.specs.declared.table.ReadPoint.TheVariants as at
 use Rattle.piper_sides.specs.Index.{place_of}
 use Rattle.piper_sides.specs.Call.{side_of, kind_of, waker_of}
 use Rattle.piper_machine.specs.Pipe.{Pipe}
@@ -127,7 +127,7 @@ answer-rests : (side : Side) (answer : Option Answer) → (consumed_of (answer_e
 answer-rests side None = (refl, refl)
 answer-rests side (Some answer) = (refl, refl)
 
--- an answer moves nothing, and a place neither
+-- an answer moves nothing, and a point neither
 module _ (old q new : Pipe) (events : List Event) (side : Side) (answer : Option Answer) (m : Moves old q events) (capacity : new.capacity ≡ q.capacity) (unread : new.unread ≡ q.unread) (start : new.start ≡ q.start) where
   consumed_same : consumed_of (events ++ answer_event side answer) ≡ consumed_of events
   consumed_same = flat_map-append consumed_in events (answer_event side answer) ∙ ap (λ bytes. consumed_of events ++ bytes) (answer-rests side answer).0 ∙ append-nil (consumed_of events)
@@ -143,9 +143,9 @@ module _ (old q new : Pipe) (events : List Event) (side : Side) (answer : Option
     start = rw (consumed_same, start) m.start;
   }
 
-read_store : (place : ReadPlace) (n : ℕ) → read_action place ≡ does.StoreHead n → head_store place ≡ n
+read_store : (point : ReadPoint) (n : ℕ) → read_action point ≡ does.StoreHead n → head_store point ≡ n
 read_store (at.StoreHead m next) n e = cc
-read_store place n e = absurd (cc)
+read_store point n e = absurd (cc)
 
 pub step-moves : (lent : List ℕ) (s : Step) (p : Pipe) → IsSound p → let new = stepped lent s p in Moves p new.pipe new.events
 step-moves lent (Begin c) p sound =

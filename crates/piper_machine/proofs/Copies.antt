@@ -15,10 +15,10 @@ use Rattle.piper_sides.specs.declared.table.Form.TheVariants.{Try, Polling}
 use Rattle.piper_sides.specs.declared.table.Purpose.TheVariants as purpose
 use Rattle.piper_sides.specs.declared.table.AfterRead.TheVariants as afterward
 use Rattle.piper_sides.specs.declared.table.AfterWrite.TheVariants as behind
-use Rattle.piper_sides.specs.declared.table.ReadPlace.{ReadPlace}
-use Rattle.piper_sides.specs.declared.table.ReadPlace.TheVariants as at
-use Rattle.piper_sides.specs.declared.table.WritePlace.{WritePlace}
-use Rattle.piper_sides.specs.declared.table.WritePlace.TheVariants as on
+use Rattle.piper_sides.specs.declared.table.ReadPoint.{ReadPoint}
+use Rattle.piper_sides.specs.declared.table.ReadPoint.TheVariants as at
+use Rattle.piper_sides.specs.declared.table.WritePoint.{WritePoint}
+use Rattle.piper_sides.specs.declared.table.WritePoint.TheVariants as on
 use Rattle.piper_sides.specs.Index.{place_of}
 use Rattle.piper_sides.specs.Open.{is_granted}
 use Rattle.piper_sides.specs.Table.{Next, goes_on, count_answer, failed_answer, write_action, reader_looked, reader_looked_again, reader_registered, reader_is_true, reader_moved, writer_taken, read_after, writer_is_open, writer_looked, writer_looked_again, writer_registered, writer_is_true, writer_moved, writer_rounds, reader_taken}
@@ -144,7 +144,7 @@ calls-rest (Acts (dest.Fail ∷ acts)) Try sum p start known = refl
 calls-rest (Acts (dest.Fail ∷ acts)) (Polling drawn) sum p start known = refl
 calls-rest (Acts (dest.Take most ∷ acts)) form sum p start known = act form sum p start known most acts (min most (round_count p) == 0) refl
 
-pub drain-rest : (place : ReadPlace) (p : Pipe) → is_draining place ≡ true → p.start < p.capacity → p.known ≤ p.capacity → let s = read_step place p in reader_alone place p ≡ reader_rest s.answer s.pipe
+pub drain-rest : (point : ReadPoint) (p : Pipe) → is_draining point ≡ true → p.start < p.capacity → p.known ≤ p.capacity → let s = read_step point p in reader_alone point p ≡ reader_rest s.answer s.pipe
 drain-rest (at.LookTail (purpose.Copy form)) p drains start known = looks-rest (length p.unread == 0) form (refreshed_by Reader p)
 drain-rest (at.LookRegister (purpose.Copy form)) p drains start known = registers-rest (is_granted p.reader_call.context) form (record p { reader_waker = registered_in p.reader_call.context p.reader_waker })
 drain-rest (at.LookClosed (purpose.Copy form)) p drains start known = refl
@@ -155,12 +155,12 @@ drain-rest (at.CallDestination form sum) p drains start known = calls-rest p.des
 drain-rest (at.StoreHead n (afterward.Round form sum)) p drains start known = refl
 drain-rest (at.TakeWriter (afterward.Round form sum)) p drains start known = wakes-rest form sum p.writer_waker p
 drain-rest (at.WakeWriter (afterward.Round form sum)) p drains start known = refl
-drain-rest place p drains start known = absurd (cc)
+drain-rest point p drains start known = absurd (cc)
 
 -- the writer
 
 -- a fill that has answered leaves nothing lent
-abbrev pub fill_rest_at : Next WritePlace → Pipe → Ended
+abbrev pub fill_rest_at : Next WritePoint → Pipe → Ended
 fill_rest_at next p = writer_rest_at next (record p { lent = filled_out true next.answer p.lent })
 
 open-rest : (is_closed none : Bool) (form : Form) (p : Pipe) → writer_open_alone is_closed none (purpose.Copy form) (record p { writer = on.Idle }) ≡ fill_rest_at (writer_is_open is_closed none (purpose.Copy form)) p
@@ -241,17 +241,17 @@ module _ (form : Form) (sum : ℕ) (p : Pipe) (unclosed : p.is_closed ≡ false)
       ∙ rw unclosed refl
 
 -- what a fill that runs alone stands on: it has seen the pipe open, and nobody else closes it
-abbrev pub saw_open : WritePlace → Bool
+abbrev pub saw_open : WritePoint → Bool
 saw_open (on.LookClosed l) = false
-saw_open place = is_filling place
+saw_open point = is_filling point
 
-pub record WriterStands (place : WritePlace) (p : Pipe) : Type 0 where
+pub record WriterStands (point : WritePoint) (p : Pipe) : Type 0 where
   pub unread : length p.unread ≤ p.capacity
   pub start : p.start < p.capacity
   pub room : p.room ≤ p.capacity - length p.unread
-  pub store : tail_store place ≤ p.room
+  pub store : tail_store point ≤ p.room
   pub shut : p.is_shut ≡ true → p.is_closed ≡ true
-  pub unclosed : saw_open place ≡ true → p.is_closed ≡ false
+  pub unclosed : saw_open point ≡ true → p.is_closed ≡ false
 
 not_shut : (is_shut is_closed : Bool) → (is_shut ≡ true → is_closed ≡ true) → is_closed ≡ false → is_shut ≡ false
 not_shut false is_closed shut unclosed = refl
@@ -282,12 +282,12 @@ source-rest form sum (source.Bytes (byte ∷ bytes) ∷ acts) lent p stands may 
     gives form sum p (stands.unclosed refl) byte bytes acts lent (min (length lent) (length (byte ∷ bytes)) == 0) refl (omega arith)
     (lends_some (record p { writer = on.CallSource form sum; source = source.Bytes (byte ∷ bytes) ∷ acts }) (length lent) stands.unread stands.start (not_shut p.is_shut p.is_closed stands.shut (stands.unclosed refl)) may)
 
--- the writer's step from a place, with these bytes in what it lends
-abbrev pub fill_step : WritePlace → List ℕ → Pipe → Stepped
-fill_step place lent p = stepped lent (Go Writer) (heard Writer (write_action place) (record p { writer = place }))
+-- the writer's step from a point, with these bytes in what it lends
+abbrev pub fill_step : WritePoint → List ℕ → Pipe → Stepped
+fill_step point lent p = stepped lent (Go Writer) (heard Writer (write_action point) (record p { writer = point }))
 
-pub fill-rest : (place : WritePlace) (lent : List ℕ) (p : Pipe) → is_filling place ≡ true → WriterStands place p → MayOffer place p.source lent (record p { writer = place })
-    → let s = fill_step place lent p in writer_alone place p ≡ writer_rest s.answer s.pipe
+pub fill-rest : (point : WritePoint) (lent : List ℕ) (p : Pipe) → is_filling point ≡ true → WriterStands point p → MayOffer point p.source lent (record p { writer = point })
+    → let s = fill_step point lent p in writer_alone point p ≡ writer_rest s.answer s.pipe
 fill-rest (on.LookClosed (purpose.Copy form)) lent p fills stands may = open-rest p.is_closed (p.room == 0) form p
 fill-rest (on.LookHead (purpose.Copy form)) lent p fills stands may = loads-rest (p.capacity - length p.unread == 0) form (refreshed_by Writer p)
 fill-rest (on.LookRegister (purpose.Copy form)) lent p fills stands may = writer_registers-rest (is_granted p.writer_call.context) form (record p { writer_waker = registered_in p.writer_call.context p.writer_waker })
@@ -301,4 +301,4 @@ fill-rest (on.StoreTail n (behind.Round form sum)) lent p fills stands may = ref
 fill-rest (on.TakeReader (behind.Round form sum)) lent p fills stands may = reader_wakes-rest form sum p.reader_waker p
 fill-rest (on.WakeReader (behind.Round form sum)) lent p fills stands may = refl
 fill-rest (on.StoreClosed (behind.Round form sum)) lent p fills stands may = refl
-fill-rest place lent p fills stands may = absurd (cc)
+fill-rest point lent p fills stands may = absurd (cc)

@@ -12,10 +12,10 @@ use Rattle.piper_sides.specs.declared.table.Form.{Form}
 use Rattle.piper_sides.specs.declared.table.Form.TheVariants.{Try, Polling}
 use Rattle.piper_sides.specs.declared.table.Purpose.TheVariants as purpose
 use Rattle.piper_sides.specs.declared.table.AfterWrite.TheVariants as behind
-use Rattle.piper_sides.specs.declared.table.ReadPlace.{ReadPlace}
-use Rattle.piper_sides.specs.declared.table.ReadPlace.TheVariants as at
-use Rattle.piper_sides.specs.declared.table.WritePlace.{WritePlace}
-use Rattle.piper_sides.specs.declared.table.WritePlace.TheVariants as on
+use Rattle.piper_sides.specs.declared.table.ReadPoint.{ReadPoint}
+use Rattle.piper_sides.specs.declared.table.ReadPoint.TheVariants as at
+use Rattle.piper_sides.specs.declared.table.WritePoint.{WritePoint}
+use Rattle.piper_sides.specs.declared.table.WritePoint.TheVariants as on
 use Rattle.piper_sides.specs.declared.table.Action.{Action}
 use Rattle.piper_sides.specs.declared.table.Action.TheVariants as does
 use Rattle.piper_sides.specs.declared.refusals.StepRefusal.{StepRefusal}
@@ -38,34 +38,34 @@ pub record IsWithin (f steps_made calls_made steps_left calls_left : ℕ) (c : O
   pub steps : steps_made + steps_left ≤ most_of f c
   pub calls : calls_made + calls_left ≤ f + 1
 
-pub record ReaderCounts (place : ReadPlace) (known : ℕ) (k : Knowledge) (t : Tally) (calls : ℕ) : Type 0 where
-  pub sees : ReaderSees place known k
+pub record ReaderCounts (point : ReadPoint) (known : ℕ) (k : Knowledge) (t : Tally) (calls : ℕ) : Type 0 where
+  pub sees : ReaderSees point known k
   pub enough : known ≤ k.known
-  pub within : (f : ℕ) → read_least k.found place ≤ f → IsWithin f t.made calls (read_steps f known place) (read_calls f known place) t.call
+  pub within : (f : ℕ) → read_least k.found point ≤ f → IsWithin f t.made calls (read_steps f known point) (read_calls f known point) t.call
 
-pub record WriterCounts (place : WritePlace) (room : ℕ) (k : Knowledge) (t : Tally) (calls : ℕ) : Type 0 where
-  pub sees : WriterSees place room k
+pub record WriterCounts (point : WritePoint) (room : ℕ) (k : Knowledge) (t : Tally) (calls : ℕ) : Type 0 where
+  pub sees : WriterSees point room k
   pub enough : room ≤ k.known
-  pub within : (f : ℕ) → write_least k.found place ≤ f → IsWithin f t.made calls (write_steps f room place) (write_calls f room place) t.call
+  pub within : (f : ℕ) → write_least k.found point ≤ f → IsWithin f t.made calls (write_steps f room point) (write_calls f room point) t.call
 
 abbrev pub Counts : Side → Pipe → Knowledge → Tally → ℕ → Type 0
 Counts Reader p k t calls = ReaderCounts p.reader p.known k t calls
 Counts Writer p k t calls = WriterCounts p.writer p.room k t calls
 
-read_least-found : (found : ℕ) (place : ReadPlace) → read_least found place ≤ found
+read_least-found : (found : ℕ) (point : ReadPoint) → read_least found point ≤ found
 read_least-found found (at.LookTail l) = omega arith
 read_least-found found (at.LookRegister l) = omega arith
 read_least-found found (at.LookClosed l) = omega arith
 read_least-found found (at.LookTailAgain l was_closed) = omega arith
-read_least-found found place = omega arith
+read_least-found found point = omega arith
 
-write_least-found : (found : ℕ) (place : WritePlace) → write_least found place ≤ found
+write_least-found : (found : ℕ) (point : WritePoint) → write_least found point ≤ found
 write_least-found found (on.LookClosed l) = omega arith
 write_least-found found (on.LookHead l) = omega arith
 write_least-found found (on.LookRegister l) = omega arith
 write_least-found found (on.LookHeadAgain l) = omega arith
 write_least-found found (on.LookClosedAgain l) = omega arith
-write_least-found found place = omega arith
+write_least-found found point = omega arith
 
 pub counts-found : (side : Side) (p : Pipe) (k : Knowledge) (t : Tally) (calls : ℕ) → Counts side p k t calls → (t.made ≤ most_of k.found t.call) × (calls ≤ k.found + 1)
 counts-found Reader p k t calls held = let within = held.within k.found (read_least-found k.found p.reader) in (omega (arith, within.steps), omega (arith, within.calls))
@@ -88,16 +88,16 @@ writer_leaves-reader (does.Take Reader) p never = (refl, refl, refl)
 writer_leaves-reader (does.Take Writer) p never = (refl, refl, refl)
 writer_leaves-reader action p never = (refl, refl, refl)
 
-pub reader_never-tail : (place : ReadPlace) (n : ℕ) → read_action place ≡ does.StoreTail n → ⊥
+pub reader_never-tail : (point : ReadPoint) (n : ℕ) → read_action point ≡ does.StoreTail n → ⊥
 reader_never-tail at.Idle n e = absurd (cc)
-reader_never-tail place n e = absurd (cc)
+reader_never-tail point n e = absurd (cc)
 
-pub writer_never-head : (place : WritePlace) (n : ℕ) → write_action place ≡ does.StoreHead n → ⊥
+pub writer_never-head : (point : WritePoint) (n : ℕ) → write_action point ≡ does.StoreHead n → ⊥
 writer_never-head (on.StoreClosed behind.Answer) n e = absurd (cc)
 writer_never-head (on.StoreClosed behind.Drop) n e = absurd (cc)
 writer_never-head (on.StoreClosed behind.WakeWriter) n e = absurd (cc)
 writer_never-head (on.StoreClosed (behind.Round form sum)) n e = absurd (cc)
-writer_never-head place n e = absurd (cc)
+writer_never-head point n e = absurd (cc)
 
 -- how a call begins
 
@@ -123,13 +123,13 @@ fills-count : (room : ℕ) (k : Knowledge) (form : Form) (c : Call) → room ≤
     → WriterCounts (on.LookClosed (purpose.Copy form)) room (opened_with k false) (record { made = 0; call = Some c }) 0
 fills-count room k form c enough most = record { sees = (refl, enough); enough = enough; within = λ f least. let is = most f in record { steps = omega arith; calls = omega arith } }
 
-idle_writer : (place : WritePlace) (more : Option StepRefusal) → or_else (cannot_begin (writer_state place)) more ≡ None → place ≡ on.Idle
+idle_writer : (point : WritePoint) (more : Option StepRefusal) → or_else (cannot_begin (writer_state point)) more ≡ None → point ≡ on.Idle
 idle_writer on.Idle more accepted = refl
-idle_writer place more accepted = absurd (cc)
+idle_writer point more accepted = absurd (cc)
 
-lends-count : (place : WritePlace) (room most : ℕ) (k : Knowledge) → place ≡ on.Idle → room ≤ k.known → WriterCounts place room (opened_with k false) (record { made = 0; call = Some (call.WriteBuf most) }) 0
+lends-count : (point : WritePoint) (room most : ℕ) (k : Knowledge) → point ≡ on.Idle → room ≤ k.known → WriterCounts point room (opened_with k false) (record { made = 0; call = Some (call.WriteBuf most) }) 0
 lends-count on.Idle room most k idle enough = record { sees = tt; enough = enough; within = λ f least. record { steps = omega arith; calls = omega arith } }
-lends-count place room most k idle enough = absurd (cc)
+lends-count point room most k idle enough = absurd (cc)
 
 -- the call that is opened begins anew, and leaves the other side as it is
 begin-counts : (side : Side) (cap : ℕ) (lent : List ℕ) (c : Call) (p : Pipe) (k : Knowledge) (t : Tally) (calls : ℕ) → refusal_of (Begin c) p ≡ None → Counts side p k t calls
@@ -169,7 +169,7 @@ reader-counts p k t calls accepted held =
     let action = read_action p.reader in
     let goes = reader-goes p.reader p k held.sees accepted in
     let j = learned Reader action p k in
-    let next : ReaderCounts (reader_next p.reader p).place (performed Reader action p).known j (tallied Reader t (Go Reader)) (called Reader p (Go Reader) calls) = record {
+    let next : ReaderCounts (reader_next p.reader p).point (performed Reader action p).known j (tallied Reader t (Go Reader)) (called Reader p (Go Reader) calls) = record {
       sees = goes.sees;
       enough = learned-enough Reader action p k held.enough;
       within = λ f least.
@@ -187,7 +187,7 @@ writer-counts lent p k t calls may accepted held =
     let q = offering lent p in
     let goes = writer-goes p.writer lent p k held.sees may accepted in
     let j = learned Writer action q k in
-    let next : WriterCounts (writer_next p.writer q).place (performed Writer action q).room j (tallied Writer t (Go Writer)) (called Writer p (Go Writer) calls) = record {
+    let next : WriterCounts (writer_next p.writer q).point (performed Writer action q).room j (tallied Writer t (Go Writer)) (called Writer p (Go Writer) calls) = record {
       sees = goes.sees;
       enough = learned-enough Writer action q k held.enough;
       within = λ f least.

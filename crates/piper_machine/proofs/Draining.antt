@@ -13,8 +13,8 @@ use Rattle.piper_sides.specs.declared.table.Form.{Form}
 use Rattle.piper_sides.specs.declared.table.Form.TheVariants.{Try, Polling}
 use Rattle.piper_sides.specs.declared.table.Purpose.TheVariants as purpose
 use Rattle.piper_sides.specs.declared.table.AfterRead.TheVariants as afterward
-use Rattle.piper_sides.specs.declared.table.ReadPlace.{ReadPlace}
-use Rattle.piper_sides.specs.declared.table.ReadPlace.TheVariants as at
+use Rattle.piper_sides.specs.declared.table.ReadPoint.{ReadPoint}
+use Rattle.piper_sides.specs.declared.table.ReadPoint.TheVariants as at
 use Rattle.piper_sides.specs.Open.{is_granted}
 use Rattle.piper_sides.specs.Side.{head_store}
 use Rattle.piper_sides.specs.Table.{Found, Next, nothing, refreshed, granted, waker, moved, goes_on, read_action, read_after, reader_looks_for, reader_looked, reader_looked_again, reader_registered, reader_is_true, reader_moved, writer_taken}
@@ -45,26 +45,26 @@ abbrev pub placing : Destination → Pipe → Pipe
 placing destination p = record p { destination = destination }
 
 -- the waker that the call has taken, and calls next
-abbrev pub errand : ReadPlace → OpenCall → Option ℕ
+abbrev pub errand : ReadPoint → OpenCall → Option ℕ
 errand (at.WakeWriter next) c = c.taken
-errand place c = None
+errand point c = None
 
-abbrev pub WakesOne : ReadPlace → Pipe → Type 0
-WakesOne place p = HasOneWake (with_waker p.woken (errand place p.reader_call)) p.writer_waker
+abbrev pub WakesOne : ReadPoint → Pipe → Type 0
+WakesOne point p = HasOneWake (with_waker p.woken (errand point p.reader_call)) p.writer_waker
 
 longer : (names : List ℕ) (name : Option ℕ) → length names ≤ length (with_waker names name)
 longer names None = omega arith
 longer names (Some name) = let long = length-append names (name ∷ []) in omega arith
 
-pub wake-room : (place : ReadPlace) (p : Pipe) → WakesOne place p → length p.woken < 2
-wake-room place p wakes =
-    let few = one_wake-room (with_waker p.woken (errand place p.reader_call)) p.writer_waker wakes in
-    let names = longer p.woken (errand place p.reader_call) in
+pub wake-room : (point : ReadPoint) (p : Pipe) → WakesOne point p → length p.woken < 2
+wake-room point p wakes =
+    let few = one_wake-room (with_waker p.woken (errand point p.reader_call)) p.writer_waker wakes in
+    let names = longer p.woken (errand point p.reader_call) in
     omega arith
 
--- a step of a drain that gives no answer leads to a place of a drain, and a waker is called once
-abbrev IsKept : List ℕ → Option ℕ → Next ReadPlace → OpenCall → Type 0
-IsKept woken name next c = next.answer ≡ None → (is_draining next.place ≡ true) × HasOneWake (with_waker woken (errand next.place (call_after next.answer c))) name
+-- a step of a drain that gives no answer leads to a point of a drain, and a waker is called once
+abbrev IsKept : List ℕ → Option ℕ → Next ReadPoint → OpenCall → Type 0
+IsKept woken name next c = next.answer ≡ None → (is_draining next.point ≡ true) × HasOneWake (with_waker woken (errand next.point (call_after next.answer c))) name
 
 module _ (woken : List ℕ) (name : Option ℕ) (c : OpenCall) (one : HasOneWake woken name) where
   looks-kept : (none : Bool) (form : Form) → IsKept woken name (goes_on (reader_looked none (purpose.Copy form))) c
@@ -101,7 +101,7 @@ wakes-kept : (name : Option ℕ) (form : Form) (sum : ℕ) (woken : List ℕ) (c
 wakes-kept None form sum woken c one goes = (refl, one)
 wakes-kept (Some name) form sum woken c one goes = (refl, one)
 
-drain-kept : (place : ReadPlace) (p : Pipe) → is_draining place ≡ true → WakesOne place p → let s = read_step place p in s.answer ≡ None → (is_draining s.pipe.reader ≡ true) × WakesOne s.pipe.reader s.pipe
+drain-kept : (point : ReadPoint) (p : Pipe) → is_draining point ≡ true → WakesOne point p → let s = read_step point p in s.answer ≡ None → (is_draining s.pipe.reader ≡ true) × WakesOne s.pipe.reader s.pipe
 drain-kept (at.LookTail (purpose.Copy form)) p drains one goes = looks-kept p.woken p.writer_waker p.reader_call one (length p.unread == 0) form goes
 drain-kept (at.LookRegister (purpose.Copy form)) p drains one goes = registers-kept p.woken p.writer_waker p.reader_call one (is_granted p.reader_call.context) form goes
 drain-kept (at.LookClosed (purpose.Copy form)) p drains one goes = (refl, one)
@@ -112,7 +112,7 @@ drain-kept (at.CallDestination form sum) p drains one goes = calls-kept p.woken 
 drain-kept (at.StoreHead n (afterward.Round form sum)) p drains one goes = (refl, one)
 drain-kept (at.TakeWriter (afterward.Round form sum)) p drains one goes = wakes-kept p.writer_waker form sum p.woken p.reader_call one goes
 drain-kept (at.WakeWriter (afterward.Round form sum)) p drains one goes = (refl, one)
-drain-kept place p drains one goes = absurd (cc)
+drain-kept point p drains one goes = absurd (cc)
 
 -- a drain that was opened at p has come to u
 pub record Draining (p u : Pipe) : Type 0 where
@@ -150,14 +150,14 @@ drained-by p u (Some answer) draining is =
     draining.rest ∙ drain-rest u.reader u draining.drains stands.start (omega (arith, stands.unread, stands.known)) ∙ ap (λ (a : Option Answer). reader_rest a s.pipe) is
 
 -- a step that does not call the destination leaves it as it is
-pub record IsApart (place : ReadPlace) (destination : Destination) (p : Pipe) : Type 0 where
-  pub answer : (read_step place (placing destination p)).answer ≡ (read_step place p).answer
-  pub pipe : (read_step place (placing destination p)).pipe ≡ placing (destination_after (read_step place p).answer destination) (read_step place p).pipe
-  pub destination_is : (read_step place p).pipe.destination ≡ destination_after (read_step place p).answer p.destination
+pub record IsApart (point : ReadPoint) (destination : Destination) (p : Pipe) : Type 0 where
+  pub answer : (read_step point (placing destination p)).answer ≡ (read_step point p).answer
+  pub pipe : (read_step point (placing destination p)).pipe ≡ placing (destination_after (read_step point p).answer destination) (read_step point p).pipe
+  pub destination_is : (read_step point p).pipe.destination ≡ destination_after (read_step point p).answer p.destination
 
-apart : (place : ReadPlace) (destination : Destination) (p : Pipe) → (read_action place ≡ does.CallDestination → ⊥) → IsApart place destination p
+apart : (point : ReadPoint) (destination : Destination) (p : Pipe) → (read_action point ≡ does.CallDestination → ⊥) → IsApart point destination p
 apart (at.CallDestination form sum) destination p other = absurd (other refl)
-apart place destination p other = record { answer = refl; pipe = refl; destination_is = refl }
+apart point destination p other = record { answer = refl; pipe = refl; destination_is = refl }
 
 -- the same of a pipe whose call holds no destination
 abbrev pub IsGoneOn : Pipe → Destination → Pipe → Option Answer → Pipe → Type 0
@@ -203,13 +203,13 @@ goes-on p q h r destination answer draining other hears answers after =
     gone-on p q r destination answer (read_step q.reader u).pipe is (settled-destination answer r.destination q.destination kept) drained
 
 -- a call of the destination
-pub record IsCalled (place : ReadPlace) (p : Pipe) : Type 0 where
-  pub answer : (read_step place p).answer ≡ drain_answer (found_of (taken (round_count p) p.destination)) (record p { reader = place })
-  pub pipe : (read_step place p).pipe ≡ drain_left (found_of (taken (round_count p) p.destination)) (destination_called (record p { reader = place }))
+pub record IsCalled (point : ReadPoint) (p : Pipe) : Type 0 where
+  pub answer : (read_step point p).answer ≡ drain_answer (found_of (taken (round_count p) p.destination)) (record p { reader = point })
+  pub pipe : (read_step point p).pipe ≡ drain_left (found_of (taken (round_count p) p.destination)) (destination_called (record p { reader = point }))
 
-call-step : (place : ReadPlace) (p : Pipe) → read_action place ≡ does.CallDestination → IsCalled place p
+call-step : (point : ReadPoint) (p : Pipe) → read_action point ≡ does.CallDestination → IsCalled point p
 call-step (at.CallDestination form sum) p calls = record { answer = refl; pipe = refl }
-call-step place p calls = absurd (cc)
+call-step point p calls = absurd (cc)
 
 -- what a call of the destination finds leads to r
 pub record IsRound (found : Found) (q : Pipe) (answer : Option Answer) (r : Pipe) : Type 0 where
@@ -238,10 +238,10 @@ slice-took size n p q r answer calls draining count round =
     subst (λ (k : ℕ). IsGoneOn p (Slice (size - k)) q answer r) (sym count) (called (Slice size) (moved n) p q r answer calls draining (ap moved (sym count)) round)
 
 -- the unread bytes: a store that is next gives them up
-no-store : (capacity : ℕ) (place : ReadPlace) (found : Found) → reader_state place ≡ Busy → moved_of found ≡ 0 → head_store (read_after capacity place found).place ≡ 0
-no-store capacity place found busy none = let store = (reads-on capacity place found busy).store in omega arith
+no-store : (capacity : ℕ) (point : ReadPoint) (found : Found) → reader_state point ≡ Busy → moved_of found ≡ 0 → head_store (read_after capacity point found).point ≡ 0
+no-store capacity point found busy none = let store = (reads-on capacity point found busy).store in omega arith
 
-goes-unread : (place : ReadPlace) (p : Pipe) → is_draining place ≡ true → (read_action place ≡ does.CallDestination → ⊥) → let s = read_step place p in (s.pipe.unread ≡ drop (head_store place) p.unread) × (head_store s.pipe.reader ≡ 0)
+goes-unread : (point : ReadPoint) (p : Pipe) → is_draining point ≡ true → (read_action point ≡ does.CallDestination → ⊥) → let s = read_step point p in (s.pipe.unread ≡ drop (head_store point) p.unread) × (head_store s.pipe.reader ≡ 0)
 goes-unread (at.LookTail (purpose.Copy form)) p drains other = (refl, no-store p.capacity (at.LookTail (purpose.Copy form)) (refreshed (length p.unread == 0)) refl refl)
 goes-unread (at.LookRegister (purpose.Copy form)) p drains other = (refl, no-store p.capacity (at.LookRegister (purpose.Copy form)) (granted (is_granted p.reader_call.context)) refl refl)
 goes-unread (at.LookClosed (purpose.Copy form)) p drains other = (refl, refl)
@@ -252,7 +252,7 @@ goes-unread (at.CallDestination form sum) p drains other = absurd (other refl)
 goes-unread (at.StoreHead n (afterward.Round form sum)) p drains other = (refl, refl)
 goes-unread (at.TakeWriter (afterward.Round form sum)) p drains other = (refl, no-store p.capacity (at.TakeWriter (afterward.Round form sum)) (waker (is_some p.writer_waker)) refl refl)
 goes-unread (at.WakeWriter (afterward.Round form sum)) p drains other = (refl, refl)
-goes-unread place p drains other = absurd (cc)
+goes-unread point p drains other = absurd (cc)
 
 pub unread-kept : (q h r : Pipe) (bytes : List ℕ) → is_draining q.reader ≡ true → (read_action q.reader ≡ does.CallDestination → ⊥) → h ≡ heard Reader (read_action q.reader) q → r ≡ (went Reader h).pipe
     → drop (head_store q.reader) q.unread ≡ bytes → (r.unread ≡ bytes) × (drop (head_store r.reader) r.unread ≡ bytes)
@@ -264,25 +264,25 @@ unread-kept q h r bytes drains other hears after is =
     let store : head_store r.reader ≡ 0 = ap (λ (v : Pipe). head_store v.reader) pipe_is ∙ goes.1 in
     (unread, ap (λ (n : ℕ). drop n r.unread) store ∙ unread)
 
-pub calls-store : (place : ReadPlace) → read_action place ≡ does.CallDestination → head_store place ≡ 0
+pub calls-store : (point : ReadPoint) → read_action point ≡ does.CallDestination → head_store point ≡ 0
 calls-store (at.CallDestination form sum) calls = refl
-calls-store place calls = absurd (cc)
+calls-store point calls = absurd (cc)
 
-moves-store : (none : Bool) (n : ℕ) (form : Form) (sum : ℕ) → (n == 0) ≡ none → (reader_moved none n form sum).answer ≡ None → head_store (reader_moved none n form sum).place ≡ n
+moves-store : (none : Bool) (n : ℕ) (form : Form) (sum : ℕ) → (n == 0) ≡ none → (reader_moved none n form sum).answer ≡ None → head_store (reader_moved none n form sum).point ≡ n
 moves-store true n form sum test goes = absurd (cc)
 moves-store false n form sum test goes = refl
 
-pub round-store : (place : ReadPlace) (n capacity : ℕ) → read_action place ≡ does.CallDestination → (read_after capacity place (moved n)).answer ≡ None → head_store (read_after capacity place (moved n)).place ≡ n
+pub round-store : (point : ReadPoint) (n capacity : ℕ) → read_action point ≡ does.CallDestination → (read_after capacity point (moved n)).answer ≡ None → head_store (read_after capacity point (moved n)).point ≡ n
 round-store (at.CallDestination form sum) n capacity calls goes = moves-store (n == 0) n form sum refl goes
-round-store place n capacity calls goes = absurd (cc)
+round-store point n capacity calls goes = absurd (cc)
 
 moves-none : (none : Bool) (n : ℕ) (form : Form) (sum : ℕ) (answer : Answer) → (n == 0) ≡ none → (reader_moved none n form sum).answer ≡ Some answer → n ≡ 0
 moves-none true n form sum answer test ends = grind (arith, nat_tests)
 moves-none false n form sum answer test ends = absurd (cc)
 
-pub round-none : (place : ReadPlace) (n capacity : ℕ) (answer : Answer) → read_action place ≡ does.CallDestination → (read_after capacity place (moved n)).answer ≡ Some answer → n ≡ 0
+pub round-none : (point : ReadPoint) (n capacity : ℕ) (answer : Answer) → read_action point ≡ does.CallDestination → (read_after capacity point (moved n)).answer ≡ Some answer → n ≡ 0
 round-none (at.CallDestination form sum) n capacity answer calls ends = moves-none (n == 0) n form sum answer refl ends
-round-none place n capacity answer calls ends = absurd (cc)
+round-none point n capacity answer calls ends = absurd (cc)
 
 -- as many bytes stand in the slice as have left the pipe
 pub drained-bytes : (n : ℕ) (before after dest filled_so_far : List ℕ) → n ≤ length before → after ≡ drop n before → filled_so_far ≡ take n before ++ drop n dest

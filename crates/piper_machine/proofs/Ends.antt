@@ -1,4 +1,4 @@
--- An end that was found, kept along a log, and what that says of each place of the log.
+-- An end that was found, kept along a log, and what that says of each moment of the log.
 use Rattle.std.proofs.Common.{◌≡◌, ◌⊎◌, inl, inr, ℕ, zero, suc, List, [], ◌∷◌, ◌++◌, Bool, true, false, refl, ap, subst, ◌∙◌}
 use Rattle.std.specs.Bool.{⊤}
 use Rattle.std.specs.List.{All}
@@ -43,7 +43,7 @@ pub final-append : (saw ended : Bool) (es fs : List Event) → IsFinalFrom saw e
 final-append saw ended [] fs first then = then
 final-append saw ended (e ∷ es) fs first then = (first.0, final-append (saw_closed_after Reader saw e) (ended_after saw ended e) es fs first.1 then)
 
--- what that says of every place of a log
+-- what that says of every moment of a log
 
 still-at-tail : (saw : Bool) (unread : ℕ) → found_at_tail saw unread true ≡ true
 still-at-tail true zero = refl

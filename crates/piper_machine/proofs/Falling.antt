@@ -10,10 +10,10 @@ use Rattle.piper_sides.specs.declared.table.Form.TheVariants.{Try, Polling}
 use Rattle.piper_sides.specs.declared.table.Purpose.TheVariants as purpose
 use Rattle.piper_sides.specs.declared.table.AfterRead.TheVariants as afterward
 use Rattle.piper_sides.specs.declared.table.AfterWrite.TheVariants as behind
-use Rattle.piper_sides.specs.declared.table.ReadPlace.{ReadPlace}
-use Rattle.piper_sides.specs.declared.table.ReadPlace.TheVariants as at
-use Rattle.piper_sides.specs.declared.table.WritePlace.{WritePlace}
-use Rattle.piper_sides.specs.declared.table.WritePlace.TheVariants as on
+use Rattle.piper_sides.specs.declared.table.ReadPoint.{ReadPoint}
+use Rattle.piper_sides.specs.declared.table.ReadPoint.TheVariants as at
+use Rattle.piper_sides.specs.declared.table.WritePoint.{WritePoint}
+use Rattle.piper_sides.specs.declared.table.WritePoint.TheVariants as on
 use Rattle.piper_sides.specs.Open.{is_granted}
 use Rattle.piper_sides.specs.Table.{Next, goes_on, reader_looked, reader_looked_again, reader_registered, reader_is_true, reader_moved, writer_taken, read_after, write_after, writer_is_open, writer_looked, writer_looked_again, writer_registered, writer_is_true, writer_moved, writer_rounds, reader_taken}
 use Rattle.piper_machine.specs.declared.destination.Destination.{Destination}
@@ -29,8 +29,8 @@ use Rattle.piper_machine.proofs.Copies.{WriterStands, fill_step}
 use Rattle.piper_machine.proofs.Standing.{ReaderStands}
 
 -- where a step leads that gave no answer, fewer steps remain than before
-abbrev IsFalling : ℕ → ℕ → ℕ → Next ReadPlace → Type 0
-IsFalling before found known next = next.answer ≡ None → read_steps found known next.place < before
+abbrev IsFalling : ℕ → ℕ → ℕ → Next ReadPoint → Type 0
+IsFalling before found known next = next.answer ≡ None → read_steps found known next.point < before
 
 looks-fall : (none : Bool) (form : Form) (found known : ℕ) → known ≤ found → IsFalling (5 + drain_steps found) found known (goes_on (reader_looked none (purpose.Copy form)))
 looks-fall true Try found known within goes = omega arith
@@ -66,7 +66,7 @@ wakes-fall : (is_found : Bool) (form : Form) (sum found known : ℕ) → IsFalli
 wakes-fall true form sum found known goes = omega arith
 wakes-fall false form sum found known goes = omega arith
 
-pub drain-falls : (place : ReadPlace) (p : Pipe) → is_draining place ≡ true → ReaderStands place p → let s = read_step place p in s.answer ≡ None → reads_left s.pipe.reader s.pipe < reads_left place p
+pub drain-falls : (point : ReadPoint) (p : Pipe) → is_draining point ≡ true → ReaderStands point p → let s = read_step point p in s.answer ≡ None → reads_left s.pipe.reader s.pipe < reads_left point p
 drain-falls (at.LookTail (purpose.Copy form)) p drains stands goes = looks-fall (length p.unread == 0) form (length p.unread) (length p.unread) (omega arith) goes
 drain-falls (at.LookRegister (purpose.Copy form)) p drains stands goes = registers-fall (is_granted p.reader_call.context) form (length p.unread) p.known goes
 drain-falls (at.LookClosed (purpose.Copy form)) p drains stands goes = omega arith
@@ -77,9 +77,9 @@ drain-falls (at.CallDestination form sum) p drains stands goes = calls-fall p.de
 drain-falls (at.StoreHead n (afterward.Round form sum)) p drains stands goes = omega arith
 drain-falls (at.TakeWriter (afterward.Round form sum)) p drains stands goes = wakes-fall (is_some p.writer_waker) form sum (length p.unread) p.known goes
 drain-falls (at.WakeWriter (afterward.Round form sum)) p drains stands goes = omega arith
-drain-falls place p drains stands goes = absurd (cc)
+drain-falls point p drains stands goes = absurd (cc)
 
-pub reads-some : (place : ReadPlace) (p : Pipe) → reader_state place ≡ Busy → 1 ≤ reads_left place p
+pub reads-some : (point : ReadPoint) (p : Pipe) → reader_state point ≡ Busy → 1 ≤ reads_left point p
 reads-some at.Idle p busy = absurd (cc)
 reads-some at.Dropped p busy = absurd (cc)
 reads-some (at.LookTail purpose.Poll) p busy = omega arith
@@ -92,12 +92,12 @@ reads-some (at.LookTailAgain purpose.Poll was_closed) p busy = omega arith
 reads-some (at.LookTailAgain (purpose.Copy form) was_closed) p busy = omega arith
 reads-some (at.LookTake purpose.Poll) p busy = omega arith
 reads-some (at.LookTake (purpose.Copy form)) p busy = omega arith
-reads-some place p busy = omega arith
+reads-some point p busy = omega arith
 
 -- the writer
 
-abbrev IsWriterFalling : ℕ → ℕ → ℕ → Next WritePlace → Type 0
-IsWriterFalling before room free next = next.answer ≡ None → write_steps (write_found next.place room free) room next.place < before
+abbrev IsWriterFalling : ℕ → ℕ → ℕ → Next WritePoint → Type 0
+IsWriterFalling before room free next = next.answer ≡ None → write_steps (write_found next.point room free) room next.point < before
 
 -- what the look takes for known
 chosen : (room free : ℕ) (none : Bool) → (room == 0) ≡ none → (if room == 0 then free else room) ≡ (if none then free else room)
@@ -151,8 +151,8 @@ reader_wakes-fall : (is_found : Bool) (form : Form) (sum room free : ℕ) → Is
 reader_wakes-fall true form sum room free goes = omega arith
 reader_wakes-fall false form sum room free goes = omega arith
 
-pub fill-falls : (place : WritePlace) (lent : List ℕ) (p : Pipe) → is_filling place ≡ true → WriterStands place p → MayOffer place p.source lent (record p { writer = place })
-    → let s = fill_step place lent p in s.answer ≡ None → writes_left s.pipe.writer s.pipe < writes_left place p
+pub fill-falls : (point : WritePoint) (lent : List ℕ) (p : Pipe) → is_filling point ≡ true → WriterStands point p → MayOffer point p.source lent (record p { writer = point })
+    → let s = fill_step point lent p in s.answer ≡ None → writes_left s.pipe.writer s.pipe < writes_left point p
 fill-falls (on.LookClosed (purpose.Copy form)) lent p fills stands may goes = open-fall p.is_closed (p.room == 0) form p.room (p.capacity - length p.unread) refl goes
 fill-falls (on.LookHead (purpose.Copy form)) lent p fills stands may goes = loads-fall (p.capacity - length p.unread == 0) form (p.capacity - length p.unread) goes
 fill-falls (on.LookRegister (purpose.Copy form)) lent p fills stands may goes = writer_registers-fall (is_granted p.writer_call.context) form p.room (p.capacity - length p.unread) goes
@@ -166,9 +166,9 @@ fill-falls (on.StoreTail n (behind.Round form sum)) lent p fills stands may goes
 fill-falls (on.TakeReader (behind.Round form sum)) lent p fills stands may goes = reader_wakes-fall (is_some p.reader_waker) form sum p.room (p.capacity - length p.unread) goes
 fill-falls (on.WakeReader (behind.Round form sum)) lent p fills stands may goes = omega arith
 fill-falls (on.StoreClosed (behind.Round form sum)) lent p fills stands may goes = omega arith
-fill-falls place lent p fills stands may goes = absurd (cc)
+fill-falls point lent p fills stands may goes = absurd (cc)
 
-pub writes-some : (place : WritePlace) (p : Pipe) → writer_state place ≡ Busy → 1 ≤ writes_left place p
+pub writes-some : (point : WritePoint) (p : Pipe) → writer_state point ≡ Busy → 1 ≤ writes_left point p
 writes-some on.Idle p busy = absurd (cc)
 writes-some on.Dropped p busy = absurd (cc)
 writes-some (on.LookClosed purpose.Poll) p busy = omega arith
@@ -181,4 +181,4 @@ writes-some (on.LookHeadAgain purpose.Poll) p busy = omega arith
 writes-some (on.LookHeadAgain (purpose.Copy form)) p busy = omega arith
 writes-some (on.LookTake purpose.Poll) p busy = omega arith
 writes-some (on.LookTake (purpose.Copy form)) p busy = omega arith
-writes-some place p busy = omega arith
+writes-some point p busy = omega arith

@@ -15,8 +15,8 @@ use Rattle.piper_sides.specs.declared.table.Form.{Form}
 use Rattle.piper_sides.specs.declared.table.Form.TheVariants.{Try, Polling}
 use Rattle.piper_sides.specs.declared.table.Purpose.TheVariants as purpose
 use Rattle.piper_sides.specs.declared.table.AfterWrite.TheVariants as behind
-use Rattle.piper_sides.specs.declared.table.WritePlace.{WritePlace}
-use Rattle.piper_sides.specs.declared.table.WritePlace.TheVariants as on
+use Rattle.piper_sides.specs.declared.table.WritePoint.{WritePoint}
+use Rattle.piper_sides.specs.declared.table.WritePoint.TheVariants as on
 use Rattle.piper_sides.specs.Open.{is_granted}
 use Rattle.piper_sides.specs.Table.{Found, Next, moved, failed, goes_on, write_action, write_after, writer_is_open, writer_looked, writer_looked_again, writer_registered, writer_is_true, writer_moved, writer_rounds, reader_taken}
 use Rattle.piper_sides.specs.declared.polling.Context.{Context}
@@ -42,26 +42,26 @@ abbrev pub giving : List SourceAct → Pipe → Pipe
 giving acts p = record p { source = acts }
 
 -- the waker that the call has taken, and calls next
-abbrev pub errand : WritePlace → OpenCall → Option ℕ
+abbrev pub errand : WritePoint → OpenCall → Option ℕ
 errand (on.WakeReader next) c = c.taken
-errand place c = None
+errand point c = None
 
-abbrev pub WakesOne : WritePlace → Pipe → Type 0
-WakesOne place p = HasOneWake (with_waker p.woken (errand place p.writer_call)) p.reader_waker
+abbrev pub WakesOne : WritePoint → Pipe → Type 0
+WakesOne point p = HasOneWake (with_waker p.woken (errand point p.writer_call)) p.reader_waker
 
 longer : (names : List ℕ) (waker : Option ℕ) → length names ≤ length (with_waker names waker)
 longer names None = omega arith
 longer names (Some name) = let long = length-append names (name ∷ []) in omega arith
 
-pub wake-room : (place : WritePlace) (p : Pipe) → WakesOne place p → length p.woken < 2
-wake-room place p wakes =
-    let few = one_wake-room (with_waker p.woken (errand place p.writer_call)) p.reader_waker wakes in
-    let names = longer p.woken (errand place p.writer_call) in
+pub wake-room : (point : WritePoint) (p : Pipe) → WakesOne point p → length p.woken < 2
+wake-room point p wakes =
+    let few = one_wake-room (with_waker p.woken (errand point p.writer_call)) p.reader_waker wakes in
+    let names = longer p.woken (errand point p.writer_call) in
     omega arith
 
--- a step of a fill that gives no answer leads to a place of a fill, and a waker is called once
-abbrev IsKept : List ℕ → Option ℕ → Next WritePlace → OpenCall → Type 0
-IsKept woken waker next c = next.answer ≡ None → (is_filling next.place ≡ true) × HasOneWake (with_waker woken (errand next.place (call_after next.answer c))) waker
+-- a step of a fill that gives no answer leads to a point of a fill, and a waker is called once
+abbrev IsKept : List ℕ → Option ℕ → Next WritePoint → OpenCall → Type 0
+IsKept woken waker next c = next.answer ≡ None → (is_filling next.point ≡ true) × HasOneWake (with_waker woken (errand next.point (call_after next.answer c))) waker
 
 module _ (woken : List ℕ) (waker : Option ℕ) (c : OpenCall) (one : HasOneWake woken waker) where
   open-kept : (is_closed none : Bool) (form : Form) → IsKept woken waker (writer_is_open is_closed none (purpose.Copy form)) c
@@ -107,8 +107,8 @@ wakes-kept : (name : Option ℕ) (form : Form) (sum : ℕ) (woken : List ℕ) (c
 wakes-kept None form sum woken c one goes = (refl, one)
 wakes-kept (Some name) form sum woken c one goes = (refl, one)
 
-fill-kept : (place : WritePlace) (lent : List ℕ) (p : Pipe) → is_filling place ≡ true → closes_round place ≡ false → WakesOne place p
-    → let s = fill_step place lent p in s.answer ≡ None → (is_filling s.pipe.writer ≡ true) × WakesOne s.pipe.writer s.pipe
+fill-kept : (point : WritePoint) (lent : List ℕ) (p : Pipe) → is_filling point ≡ true → closes_round point ≡ false → WakesOne point p
+    → let s = fill_step point lent p in s.answer ≡ None → (is_filling s.pipe.writer ≡ true) × WakesOne s.pipe.writer s.pipe
 fill-kept (on.LookClosed (purpose.Copy form)) lent p fills plain one goes = open-kept p.woken p.reader_waker p.writer_call one p.is_closed (p.room == 0) form goes
 fill-kept (on.LookHead (purpose.Copy form)) lent p fills plain one goes = loads-kept p.woken p.reader_waker p.writer_call one (p.capacity - length p.unread == 0) form goes
 fill-kept (on.LookRegister (purpose.Copy form)) lent p fills plain one goes = registers-kept p.woken p.reader_waker p.writer_call one (is_granted p.writer_call.context) form goes
@@ -121,7 +121,7 @@ fill-kept (on.RoundClosed n form sum) lent p fills plain one goes = rounds-kept 
 fill-kept (on.StoreTail n (behind.Round form sum)) lent p fills plain one goes = (refl, one)
 fill-kept (on.TakeReader (behind.Round form sum)) lent p fills plain one goes = wakes-kept p.reader_waker form sum p.woken p.writer_call one goes
 fill-kept (on.WakeReader (behind.Round form sum)) lent p fills plain one goes = (refl, one)
-fill-kept place lent p fills plain one goes = absurd (cc)
+fill-kept point lent p fills plain one goes = absurd (cc)
 
 -- a fill that was opened at p has come to u
 pub record Filling (p u : Pipe) : Type 0 where
@@ -160,22 +160,22 @@ filled-by p u lent (Some answer) filling may is =
     filling.rest ∙ fill-rest u.writer lent u filling.fills filling.stands may ∙ ap (λ (a : Option Answer). writer_rest a s.pipe) is
 
 -- a step that does not call the source leaves it as it is
-may-go : (place : WritePlace) (acts : List SourceAct) (lent : List ℕ) (p : Pipe) → (write_action place ≡ does.CallSource → ⊥) → MayOffer place acts lent p
+may-go : (point : WritePoint) (acts : List SourceAct) (lent : List ℕ) (p : Pipe) → (write_action point ≡ does.CallSource → ⊥) → MayOffer point acts lent p
 may-go (on.CallSource form sum) acts lent p other = absurd (other refl)
-may-go place acts lent p other = tt
+may-go point acts lent p other = tt
 
-pub record IsApart (place : WritePlace) (lent : List ℕ) (acts : List SourceAct) (p : Pipe) : Type 0 where
-  pub answer : (fill_step place lent (giving acts p)).answer ≡ (fill_step place lent p).answer
-  pub pipe : (fill_step place lent (giving acts p)).pipe ≡ giving (source_after (fill_step place lent p).answer acts) (fill_step place lent p).pipe
-  pub source : (fill_step place lent p).pipe.source ≡ source_after (fill_step place lent p).answer p.source
+pub record IsApart (point : WritePoint) (lent : List ℕ) (acts : List SourceAct) (p : Pipe) : Type 0 where
+  pub answer : (fill_step point lent (giving acts p)).answer ≡ (fill_step point lent p).answer
+  pub pipe : (fill_step point lent (giving acts p)).pipe ≡ giving (source_after (fill_step point lent p).answer acts) (fill_step point lent p).pipe
+  pub source : (fill_step point lent p).pipe.source ≡ source_after (fill_step point lent p).answer p.source
 
-apart : (place : WritePlace) (lent : List ℕ) (acts : List SourceAct) (p : Pipe) → (write_action place ≡ does.CallSource → ⊥) → IsApart place lent acts p
+apart : (point : WritePoint) (lent : List ℕ) (acts : List SourceAct) (p : Pipe) → (write_action point ≡ does.CallSource → ⊥) → IsApart point lent acts p
 apart (on.CallSource form sum) lent acts p other = absurd (other refl)
 apart (on.StoreClosed behind.Answer) lent acts p other = record { answer = refl; pipe = refl; source = refl }
 apart (on.StoreClosed behind.Drop) lent acts p other = record { answer = refl; pipe = refl; source = refl }
 apart (on.StoreClosed behind.WakeWriter) lent acts p other = record { answer = refl; pipe = refl; source = refl }
 apart (on.StoreClosed (behind.Round form sum)) lent acts p other = record { answer = refl; pipe = refl; source = refl }
-apart place lent acts p other = record { answer = refl; pipe = refl; source = refl }
+apart point lent acts p other = record { answer = refl; pipe = refl; source = refl }
 
 -- the same of a pipe whose call holds no source
 abbrev pub IsGoneOn : Pipe → List SourceAct → Pipe → Option Answer → Pipe → Type 0
@@ -227,24 +227,24 @@ gives most [] n works is = let none : n ≡ 0 = omega arith in ap moved (sym non
 gives most (source.Fail ∷ acts) n works is = absurd (cc)
 gives most (source.Bytes bytes ∷ acts) n works is = ap moved (sym is)
 
-may-call : (place : WritePlace) (acts : List SourceAct) (lent : List ℕ) (p : Pipe) → Lendable MOST_A_ROUND p (length lent) → MayOffer place acts lent p
+may-call : (point : WritePoint) (acts : List SourceAct) (lent : List ℕ) (p : Pipe) → Lendable MOST_A_ROUND p (length lent) → MayOffer point acts lent p
 may-call (on.CallSource form sum) [] lent p lendable = tt
 may-call (on.CallSource form sum) (source.Fail ∷ acts) lent p lendable = tt
 may-call (on.CallSource form sum) (source.Bytes [] ∷ acts) lent p lendable = tt
 may-call (on.CallSource form sum) (source.Bytes (byte ∷ bytes) ∷ acts) lent p lendable = lendable
-may-call place acts lent p lendable = tt
+may-call point acts lent p lendable = tt
 
-pub record IsCalled (place : WritePlace) (lent : List ℕ) (p : Pipe) : Type 0 where
-  pub answer : (fill_step place lent p).answer ≡ round_answer (found_of (given (length lent) p.source)) (record p { writer = place })
-  pub pipe : (fill_step place lent p).pipe ≡ round_left (found_of (given (length lent) p.source)) (source_called (lending lent (record p { writer = place })))
+pub record IsCalled (point : WritePoint) (lent : List ℕ) (p : Pipe) : Type 0 where
+  pub answer : (fill_step point lent p).answer ≡ round_answer (found_of (given (length lent) p.source)) (record p { writer = point })
+  pub pipe : (fill_step point lent p).pipe ≡ round_left (found_of (given (length lent) p.source)) (source_called (lending lent (record p { writer = point })))
 
-call-step : (place : WritePlace) (lent : List ℕ) (p : Pipe) → write_action place ≡ does.CallSource → IsCalled place lent p
+call-step : (point : WritePoint) (lent : List ℕ) (p : Pipe) → write_action point ≡ does.CallSource → IsCalled point lent p
 call-step (on.CallSource form sum) lent p calls = record { answer = refl; pipe = refl }
 call-step (on.StoreClosed behind.Answer) lent p calls = absurd (cc)
 call-step (on.StoreClosed behind.Drop) lent p calls = absurd (cc)
 call-step (on.StoreClosed behind.WakeWriter) lent p calls = absurd (cc)
 call-step (on.StoreClosed (behind.Round form sum)) lent p calls = absurd (cc)
-call-step place lent p calls = absurd (cc)
+call-step point lent p calls = absurd (cc)
 
 -- what a call of the source finds in w, which was lent to it, leads to r
 pub record IsRound (found : Found) (w : Pipe) (answer : Option Answer) (r : Pipe) : Type 0 where
@@ -320,13 +320,13 @@ moves-some : (none : Bool) (n : ℕ) (form : Form) (sum : ℕ) → (n == 0) ≡ 
 moves-some true n form sum test goes = absurd (cc)
 moves-some false n form sum test goes = grind (arith, nat_tests)
 
-round-some : (place : WritePlace) (n capacity room : ℕ) → write_action place ≡ does.CallSource → (write_after capacity room place (moved n)).answer ≡ None → 1 ≤ n
+round-some : (point : WritePoint) (n capacity room : ℕ) → write_action point ≡ does.CallSource → (write_after capacity room point (moved n)).answer ≡ None → 1 ≤ n
 round-some (on.CallSource form sum) n capacity room calls goes = moves-some (n == 0) n form sum refl goes
 round-some (on.StoreClosed behind.Answer) n capacity room calls goes = absurd (cc)
 round-some (on.StoreClosed behind.Drop) n capacity room calls goes = absurd (cc)
 round-some (on.StoreClosed behind.WakeWriter) n capacity room calls goes = absurd (cc)
 round-some (on.StoreClosed (behind.Round form sum)) n capacity room calls goes = absurd (cc)
-round-some place n capacity room calls goes = absurd (cc)
+round-some point n capacity room calls goes = absurd (cc)
 
 regiven : (acts rest : List SourceAct) (p q r : Pipe) (answer : Option Answer) → (answer ≡ None → acts ≡ rest) → IsGoneOn p acts q answer r → IsGoneOn p rest q answer r
 regiven acts rest p q r None same gone = subst (λ (left : List SourceAct). Filling p (giving left r) × (left_of r < left_of q)) (same refl) gone
@@ -369,13 +369,13 @@ fails most [] failing = absurd (cc)
 fails most (source.Fail ∷ acts) failing = refl
 fails most (source.Bytes bytes ∷ acts) failing = absurd (cc)
 
-pub failed-ends : (place : WritePlace) (capacity room : ℕ) → write_action place ≡ does.CallSource → (write_after capacity room place failed).answer ≡ None → ⊥
+pub failed-ends : (point : WritePoint) (capacity room : ℕ) → write_action point ≡ does.CallSource → (write_after capacity room point failed).answer ≡ None → ⊥
 failed-ends (on.CallSource form sum) capacity room calls goes = absurd (cc)
 failed-ends (on.StoreClosed behind.Answer) capacity room calls goes = absurd (cc)
 failed-ends (on.StoreClosed behind.Drop) capacity room calls goes = absurd (cc)
 failed-ends (on.StoreClosed behind.WakeWriter) capacity room calls goes = absurd (cc)
 failed-ends (on.StoreClosed (behind.Round form sum)) capacity room calls goes = absurd (cc)
-failed-ends place capacity room calls goes = absurd (cc)
+failed-ends point capacity room calls goes = absurd (cc)
 
 pub gave-up : (acts : List SourceAct) (n : ℕ) (p q w r : Pipe) (answer : Option Answer) → is_failing acts ≡ true → write_action q.writer ≡ does.CallSource → Filling p (giving acts q)
     → Lendable MOST_A_ROUND q (length w.lent) → w ≡ lending w.lent q → n ≡ min (length w.lent) (length (bytes_of acts)) → take n w.lent ≡ take n (bytes_of acts) → IsRound failed w answer r → IsGoneOn p (left_of_source n acts) q answer r

@@ -20,10 +20,10 @@ use Rattle.piper_sides.specs.declared.table.Purpose.{Purpose}
 use Rattle.piper_sides.specs.declared.table.Purpose.TheVariants as purpose
 use Rattle.piper_sides.specs.declared.table.AfterRead.TheVariants as afterward
 use Rattle.piper_sides.specs.declared.table.AfterWrite.TheVariants as behind
-use Rattle.piper_sides.specs.declared.table.ReadPlace.{ReadPlace}
-use Rattle.piper_sides.specs.declared.table.ReadPlace.TheVariants as at
-use Rattle.piper_sides.specs.declared.table.WritePlace.{WritePlace}
-use Rattle.piper_sides.specs.declared.table.WritePlace.TheVariants as on
+use Rattle.piper_sides.specs.declared.table.ReadPoint.{ReadPoint}
+use Rattle.piper_sides.specs.declared.table.ReadPoint.TheVariants as at
+use Rattle.piper_sides.specs.declared.table.WritePoint.{WritePoint}
+use Rattle.piper_sides.specs.declared.table.WritePoint.TheVariants as on
 use Rattle.piper_sides.specs.Open.{called_with}
 use Rattle.piper_sides.specs.Table.{read_action, write_action, reader_looks_for}
 use Rattle.piper_sides.specs.Log.{answer_event}
@@ -60,7 +60,7 @@ none_lent p sound stays ended = elim ended [ inl leaves ↦ absurd (cc) | inr sh
 stored_none : (n : ℕ) (xs ys : List ℕ) → xs ≡ [] → ys ≡ [] → xs ++ take n ys ≡ []
 stored_none n xs ys h k = rw (h, take_none n ys k) refl
 
-writer-over : (offered : List ℕ) (place : WritePlace) (p : Pipe) → IsSound (record p { writer = place }) → Over (record p { writer = place }) → Over (writer_after offered place p)
+writer-over : (offered : List ℕ) (point : WritePoint) (p : Pipe) → IsSound (record p { writer = point }) → Over (record p { writer = point }) → Over (writer_after offered point p)
 writer-over offered (on.StoreTail n next) p sound o =
     let lent = none_lent (record p { writer = on.StoreTail n next }) sound refl o.ended in
     record { closed = o.closed; ended = writer-ended offered (on.StoreTail n next) p o.ended; unread = stored_none n p.unread p.lent o.unread lent; stands = o.stands }
@@ -68,7 +68,7 @@ writer-over offered (on.StoreClosed behind.Answer) p sound o = record { closed =
 writer-over offered (on.StoreClosed (behind.Round form sum)) p sound o = record { closed = refl; ended = writer-ended offered (on.StoreClosed (behind.Round form sum)) p o.ended; unread = o.unread; stands = o.stands }
 writer-over offered (on.StoreClosed behind.Drop) p sound o = record { closed = refl; ended = writer-ended offered (on.StoreClosed behind.Drop) p o.ended; unread = o.unread; stands = o.stands }
 writer-over offered (on.StoreClosed behind.WakeWriter) p sound o = record { closed = refl; ended = writer-ended offered (on.StoreClosed behind.WakeWriter) p o.ended; unread = o.unread; stands = o.stands }
-writer-over offered place p sound o = record { closed = o.closed; ended = writer-ended offered place p o.ended; unread = o.unread; stands = o.stands }
+writer-over offered point p sound o = record { closed = o.closed; ended = writer-ended offered point p o.ended; unread = o.unread; stands = o.stands }
 
 -- what the writer's step logs, and answers
 
@@ -93,23 +93,23 @@ writer-answers : (saw ended : Bool) (answer : Option Answer) → Quiet saw ended
 writer-answers saw ended None = (tt, refl, refl)
 writer-answers saw ended (Some answer) = ((λ t. tt, tt), refl, refl)
 
-writer-publishes : (place : WritePlace) (n : ℕ) → write_action place ≡ does.StoreTail n → write_leaves place ≡ false
+writer-publishes : (point : WritePoint) (n : ℕ) → write_action point ≡ does.StoreTail n → write_leaves point ≡ false
 writer-publishes (on.StoreTail m next) n e = refl
 writer-publishes (on.StoreClosed behind.Answer) n e = absurd (cc)
 writer-publishes (on.StoreClosed (behind.Round form sum)) n e = absurd (cc)
 writer-publishes (on.StoreClosed behind.Drop) n e = absurd (cc)
 writer-publishes (on.StoreClosed behind.WakeWriter) n e = absurd (cc)
-writer-publishes place n e = absurd (cc)
+writer-publishes point n e = absurd (cc)
 
 -- a store publishes what was lent before
-publishes-lent : (place : WritePlace) (n : ℕ) (offered lent : List ℕ) → write_action place ≡ does.StoreTail n → lent_at place offered lent ≡ lent
+publishes-lent : (point : WritePoint) (n : ℕ) (offered lent : List ℕ) → write_action point ≡ does.StoreTail n → lent_at point offered lent ≡ lent
 publishes-lent (on.StoreTail m next) n offered lent e = refl
 publishes-lent (on.StoreClosed behind.Answer) n offered lent e = refl
 publishes-lent (on.StoreClosed (behind.Round form sum)) n offered lent e = refl
 publishes-lent (on.StoreClosed behind.Drop) n offered lent e = refl
 publishes-lent (on.StoreClosed behind.WakeWriter) n offered lent e = refl
 publishes-lent (on.CallSource form sum) n offered lent e = absurd (cc)
-publishes-lent place n offered lent e = refl
+publishes-lent point n offered lent e = refl
 
 -- a call is opened outside any other call of its side
 
@@ -121,23 +121,23 @@ none_known : (p : Pipe) → IsSound p → p.unread ≡ [] → (p.known == 0) ≡
 none_known p sound empty = let zero : length p.unread ≡ 0 = ap (λ (xs : List ℕ). length xs) empty in let within = sound.known in grind (arith, nat_tests)
 
 module _ (p : Pipe) (saw ended : Bool) (h : Lasts p saw ended) where
-  reader-opens : (place : ReadPlace) (c : OpenCall) (destination : Destination) → p.reader ≡ at.Idle → (p.unread ≡ [] → is_over place ≡ true) → loaded place ≡ None
-      → Lasts (record p { reader = place; reader_call = c; destination = destination }) false ended
-  reader-opens place c destination idle stands unloaded = record {
+  reader-opens : (point : ReadPoint) (c : OpenCall) (destination : Destination) → p.reader ≡ at.Idle → (p.unread ≡ [] → is_over point ≡ true) → loaded point ≡ None
+      → Lasts (record p { reader = point; reader_call = c; destination = destination }) false ended
+  reader-opens point c destination idle stands unloaded = record {
     known = h.known;
     caused = λ closed. elim (h.caused closed) [ inl leaves ↦ absurd (let stays = ap read_leaves idle in cc) | inr is_ended ↦ inr is_ended ];
     over = λ t. let o = h.over t in record { closed = o.closed; ended = o.ended; unread = o.unread; stands = stands o.unread };
     sees = (λ seen. absurd (cc), unlinked _ _ unloaded);
   }
 
-  stays-ended : p.writer ≡ on.Idle → (place : WritePlace) → IsEnded p → IsEnded (record p { writer = place })
-  stays-ended idle place is_ended = elim is_ended [ inl leaves ↦ absurd (let stays = ap write_leaves idle in cc) | inr shut ↦ inr shut ]
+  stays-ended : p.writer ≡ on.Idle → (point : WritePoint) → IsEnded p → IsEnded (record p { writer = point })
+  stays-ended idle point is_ended = elim is_ended [ inl leaves ↦ absurd (let stays = ap write_leaves idle in cc) | inr shut ↦ inr shut ]
 
-  writer-opens : (place : WritePlace) (c : OpenCall) (source : List SourceAct) → p.writer ≡ on.Idle → is_known place ≡ true → Lasts (record p { writer = place; writer_call = c; source = source }) saw ended
-  writer-opens place c source idle known = record {
+  writer-opens : (point : WritePoint) (c : OpenCall) (source : List SourceAct) → p.writer ≡ on.Idle → is_known point ≡ true → Lasts (record p { writer = point; writer_call = c; source = source }) saw ended
+  writer-opens point c source idle known = record {
     known = known;
-    caused = λ closed. elim (h.caused closed) [ inl leaves ↦ inl leaves | inr is_ended ↦ inr (stays-ended idle place is_ended) ];
-    over = λ t. let o = h.over t in record { closed = o.closed; ended = stays-ended idle place o.ended; unread = o.unread; stands = o.stands };
+    caused = λ closed. elim (h.caused closed) [ inl leaves ↦ inl leaves | inr is_ended ↦ inr (stays-ended idle point is_ended) ];
+    over = λ t. let o = h.over t in record { closed = o.closed; ended = stays-ended idle point o.ended; unread = o.unread; stands = o.stands };
     sees = h.sees;
   }
 
@@ -213,7 +213,7 @@ step-lasts lent (Go Writer) p saw ended sound accepted seen h =
     let logs = writer-logs saw ended offered (λ t. (h.over t).unread) (λ t. (h.over t).closed) action unlent in
     let answers = writer-answers (saw_closed_from Reader saw es) (ended_from saw ended es) to.answer in
     let leaves = (writer_leaves-reader action offered (writer_never-head p.writer)).0 in
-    let sees : Sees saw to.pipe = (λ closed. writer-flag action offered (h.sees.0 closed), subst (λ (place : ReadPlace). IsLinked (loaded place) saw) (sym leaves) h.sees.1) in
+    let sees : Sees saw to.pipe = (λ closed. writer-flag action offered (h.sees.0 closed), subst (λ (point : ReadPoint). IsLinked (loaded point) saw) (sym leaves) h.sees.1) in
     adds saw ended es (answer_event Writer to.answer) to.pipe logs.0 answers.0 (record {
       known = writer-known lent p.writer p;
       caused = writer-caused lent p.writer p h.known h.caused;

@@ -14,10 +14,10 @@ use Rattle.piper_sides.specs.declared.polling.Context.{Context}
 use Rattle.piper_sides.specs.declared.table.Form.{Form}
 use Rattle.piper_sides.specs.declared.table.Purpose.TheVariants as purpose
 use Rattle.piper_sides.specs.declared.table.AfterWrite.TheVariants as behind
-use Rattle.piper_sides.specs.declared.table.ReadPlace.{ReadPlace}
-use Rattle.piper_sides.specs.declared.table.ReadPlace.TheVariants as at
-use Rattle.piper_sides.specs.declared.table.WritePlace.{WritePlace}
-use Rattle.piper_sides.specs.declared.table.WritePlace.TheVariants as on
+use Rattle.piper_sides.specs.declared.table.ReadPoint.{ReadPoint}
+use Rattle.piper_sides.specs.declared.table.ReadPoint.TheVariants as at
+use Rattle.piper_sides.specs.declared.table.WritePoint.{WritePoint}
+use Rattle.piper_sides.specs.declared.table.WritePoint.TheVariants as on
 use Rattle.piper_sides.specs.Open.{is_granted}
 use Rattle.piper_sides.specs.Table.{read_action, write_action, writer_is_open, writer_looked, writer_looked_again, writer_registered, writer_draws, writer_rounds, reader_taken, own_taken, write_done, write_after}
 use Rattle.piper_sides.specs.Log.{answer_event}
@@ -82,7 +82,7 @@ answer-quiet saw Reader (Some answer) = ((tt, tt), refl)
 answer-quiet saw Writer (Some answer) = ((tt, tt), refl)
 
 -- the reader publishes nothing, and its looks are its own
-reader-quiet : (saw : Bool) (p : Pipe) (place : ReadPlace) → Quiet saw (logged_of Reader (read_action place) p)
+reader-quiet : (saw : Bool) (p : Pipe) (point : ReadPoint) → Quiet saw (logged_of Reader (read_action point) p)
 reader-quiet saw p at.Idle = (tt, refl)
 reader-quiet saw p at.Dropped = (tt, refl)
 reader-quiet saw p (at.LookRegister l) = context-quiet saw Reader p.reader_call.context
@@ -91,54 +91,54 @@ reader-quiet saw p at.Yield = yield-quiet saw p.reader_call.context
 reader-quiet saw p (at.CallDestination form sum) = (tt, refl)
 reader-quiet saw p (at.TakeWriter next) = (tt, refl)
 reader-quiet saw p (at.WakeWriter next) = wake-quiet saw p.reader_call.taken
-reader-quiet saw p place = ((tt, tt), refl)
+reader-quiet saw p point = ((tt, tt), refl)
 
 -- where the writer stands before a publication
-abbrev is_storing : WritePlace → Bool
+abbrev is_storing : WritePoint → Bool
 is_storing (on.StoreTail n next) = true
-is_storing place = false
+is_storing point = false
 
-unstored : (place : WritePlace) (saw : Bool) → is_ordinary place ≡ true → is_storing place ≡ true → saw ≡ false
+unstored : (point : WritePoint) (saw : Bool) → is_ordinary point ≡ true → is_storing point ≡ true → saw ≡ false
 unstored (on.StoreTail n next) saw ordinary storing = absurd (cc)
-unstored place saw ordinary storing = absurd (cc)
+unstored point saw ordinary storing = absurd (cc)
 
 -- a round publishes only where its look at closed did not find it
-round-stores : (is_closed : Bool) (n : ℕ) (form : Form) (sum : ℕ) → is_storing (writer_rounds is_closed n form sum).place ≡ true → is_closed ≡ false
+round-stores : (is_closed : Bool) (n : ℕ) (form : Form) (sum : ℕ) → is_storing (writer_rounds is_closed n form sum).point ≡ true → is_closed ≡ false
 round-stores true n form sum storing = absurd (cc)
 round-stores false n form sum storing = refl
 
-abbrev logged : List ℕ → WritePlace → Pipe → List Event
-logged offered place p = logged_of Writer (write_action place) (offering offered (record p { writer = place }))
+abbrev logged : List ℕ → WritePoint → Pipe → List Event
+logged offered point p = logged_of Writer (write_action point) (offering offered (record p { writer = point }))
 
-abbrev Heedful : Bool → List ℕ → WritePlace → Pipe → Type 0
-Heedful saw offered place p =
-    HeedsFrom saw (logged offered place p) × (is_storing (writer_after offered place p).writer ≡ true → saw_closed_from Writer saw (logged offered place p) ≡ false)
+abbrev Heedful : Bool → List ℕ → WritePoint → Pipe → Type 0
+Heedful saw offered point p =
+    HeedsFrom saw (logged offered point p) × (is_storing (writer_after offered point p).writer ≡ true → saw_closed_from Writer saw (logged offered point p) ≡ false)
 
-writer-heeds : (saw : Bool) (offered : List ℕ) (p : Pipe) (place : WritePlace) → (is_storing place ≡ true → saw ≡ false) → Heedful saw offered place p
+writer-heeds : (saw : Bool) (offered : List ℕ) (p : Pipe) (point : WritePoint) → (is_storing point ≡ true → saw ≡ false) → Heedful saw offered point p
 writer-heeds saw offered p on.Idle stores = (tt, λ storing. absurd (cc))
 writer-heeds saw offered p on.Dropped stores = (tt, λ storing. absurd (cc))
-writer-heeds saw offered p (on.LookClosed l) stores = ((tt, tt), unstored (writer_is_open p.is_closed (p.room == 0) l).place p.is_closed (open-ordinary p.is_closed (p.room == 0) l))
+writer-heeds saw offered p (on.LookClosed l) stores = ((tt, tt), unstored (writer_is_open p.is_closed (p.room == 0) l).point p.is_closed (open-ordinary p.is_closed (p.room == 0) l))
 writer-heeds saw offered p (on.LookHead l) stores = ((tt, tt), unstored (writer_looked (p.capacity - length p.unread == 0) l) saw (looks-ordinary (p.capacity - length p.unread == 0) l))
 writer-heeds saw offered p (on.LookRegister l) stores =
-    ((context-quiet saw Writer p.writer_call.context).0, unstored (writer_registered (is_granted p.writer_call.context) l).place _ (registers-ordinary (is_granted p.writer_call.context) l))
+    ((context-quiet saw Writer p.writer_call.context).0, unstored (writer_registered (is_granted p.writer_call.context) l).point _ (registers-ordinary (is_granted p.writer_call.context) l))
 writer-heeds saw offered p (on.LookHeadAgain l) stores = ((tt, tt), unstored (writer_looked_again (p.capacity - length p.unread == 0) l) saw (again-ordinary (p.capacity - length p.unread == 0) l))
 writer-heeds saw offered p (on.LookTake purpose.Poll) stores = (tt, λ storing. absurd (cc))
 writer-heeds saw offered p (on.LookTake (purpose.Copy form)) stores = (tt, unstored (writer_draws form) saw (draws-ordinary form))
 writer-heeds saw offered p on.Yield stores = ((yield-quiet saw p.writer_call.context).0, λ storing. absurd (cc))
 writer-heeds saw offered p (on.CallSource form sum) stores =
     let found = found_of (given (length offered) p.source) in
-    (tt, unstored (write_after p.capacity p.room (on.CallSource form sum) found).place saw (round-ordinary (given (length offered) p.source) p.capacity p.room form sum))
+    (tt, unstored (write_after p.capacity p.room (on.CallSource form sum) found).point saw (round-ordinary (given (length offered) p.source) p.capacity p.room form sum))
 writer-heeds saw offered p (on.RoundClosed n form sum) stores = ((tt, tt), round-stores p.is_closed n form sum)
 writer-heeds saw offered p (on.StoreTail n next) stores = ((stores refl, tt), λ storing. absurd (cc))
-writer-heeds saw offered p (on.TakeReader next) stores = (tt, unstored (reader_taken next (is_some p.reader_waker)).place saw (take-ordinary next (is_some p.reader_waker)))
-writer-heeds saw offered p (on.WakeReader next) stores = ((wake-quiet saw p.writer_call.taken).0, unstored (write_done next).place _ (done-ordinary next))
+writer-heeds saw offered p (on.TakeReader next) stores = (tt, unstored (reader_taken next (is_some p.reader_waker)).point saw (take-ordinary next (is_some p.reader_waker)))
+writer-heeds saw offered p (on.WakeReader next) stores = ((wake-quiet saw p.writer_call.taken).0, unstored (write_done next).point _ (done-ordinary next))
 writer-heeds saw offered p (on.StoreClosed behind.Answer) stores = ((tt, tt), λ storing. absurd (cc))
 writer-heeds saw offered p (on.StoreClosed behind.Drop) stores = ((tt, tt), λ storing. absurd (cc))
 writer-heeds saw offered p (on.StoreClosed behind.WakeWriter) stores = ((tt, tt), λ storing. absurd (cc))
 writer-heeds saw offered p (on.StoreClosed (behind.Round form sum)) stores = ((tt, tt), λ storing. absurd (cc))
-writer-heeds saw offered p on.TakeWriter stores = (tt, unstored (own_taken (is_some p.writer_waker)).place saw (own-ordinary (is_some p.writer_waker)))
+writer-heeds saw offered p on.TakeWriter stores = (tt, unstored (own_taken (is_some p.writer_waker)).point saw (own-ordinary (is_some p.writer_waker)))
 writer-heeds saw offered p on.WakeWriter stores = ((wake-quiet saw p.writer_call.taken).0, λ storing. absurd (cc))
-writer-heeds saw offered p place stores = ((tt, tt), λ storing. absurd (cc))
+writer-heeds saw offered p point stores = ((tt, tt), λ storing. absurd (cc))
 
 -- a call of the writer forgets what the one before it saw; one of the reader leaves the writer as it is
 abbrev Adds : Bool → Stepped → Type 0

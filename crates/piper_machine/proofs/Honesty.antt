@@ -20,8 +20,8 @@ use Rattle.piper_sides.specs.declared.table.Action.TheVariants as does
 use Rattle.piper_sides.specs.declared.table.Purpose.TheVariants as purpose
 use Rattle.piper_sides.specs.declared.table.AfterRead.{AfterRead}
 use Rattle.piper_sides.specs.declared.table.AfterRead.TheVariants as afterward
-use Rattle.piper_sides.specs.declared.table.ReadPlace.{ReadPlace}
-use Rattle.piper_sides.specs.declared.table.ReadPlace.TheVariants as at
+use Rattle.piper_sides.specs.declared.table.ReadPoint.{ReadPoint}
+use Rattle.piper_sides.specs.declared.table.ReadPoint.TheVariants as at
 use Rattle.piper_sides.specs.declared.polling.Polled.{Polled}
 use Rattle.piper_sides.specs.declared.polling.Polled.TheVariants.{Memory}
 use Rattle.piper_sides.specs.declared.scripted.Failed.{Failed}
@@ -114,24 +114,24 @@ writer-answers h None = tt
 writer-answers h (Some answer) = (tt, tt)
 
 -- what the reader loaded of the flag, between this load and its last look
-abbrev pub loaded : ReadPlace → Option Bool
+abbrev pub loaded : ReadPoint → Option Bool
 loaded (at.LookTailAgain l was_closed) = Some was_closed
-loaded place = None
+loaded point = None
 
 -- it stands there, and the flag was set
 abbrev pub is_set : Option Bool → Bool
 is_set (Some is_closed) = is_closed
 is_set None = false
 
-abbrev pub saw_close : ReadPlace → Bool
-saw_close place = is_set (loaded place)
+abbrev pub saw_close : ReadPoint → Bool
+saw_close point = is_set (loaded point)
 
 -- what the reader answers where it stands, behind the events of its step
-abbrev told : History → ReadPlace → Pipe → History
-told h place p = history_from h (logged_of Reader (read_action place) p)
+abbrev told : History → ReadPoint → Pipe → History
+told h point p = history_from h (logged_of Reader (read_action point) p)
 
-abbrev HonestAt : History → ReadPlace → Pipe → Type 0
-HonestAt h place p = IsHonestFrom (told h place p) (answer_event Reader (went Reader (record p { reader = place })).answer)
+abbrev HonestAt : History → ReadPoint → Pipe → Type 0
+HonestAt h point p = IsHonestFrom (told h point p) (answer_event Reader (went Reader (record p { reader = point })).answer)
 
 module _ (h : History) (p : Pipe) where
   query-honest : (k : History) (query : Query) (count : ℕ) → IsHonestFrom k (answer_event Reader (Some (query_answer query p.capacity count)))
@@ -189,23 +189,23 @@ module _ (h : History) (p : Pipe) where
       let is_set : h.is_closed ≡ true = same ∙ seen refl in
       (rw (zero, is_set) refl, tt)
 
-  place-honest : (place : ReadPlace) → h.is_closed ≡ p.is_closed → (saw_close place ≡ true → p.is_closed ≡ true) → HonestAt h place p
-  place-honest at.Idle same seen = tt
-  place-honest at.Dropped same seen = tt
-  place-honest (at.QueryHead query) same seen = tt
-  place-honest (at.QueryTail query) same seen = query-honest (told h (at.QueryTail query) p) query (length p.unread)
-  place-honest at.QueryClosed same seen = (tt, tt)
-  place-honest (at.LookTail l) same seen = tt
-  place-honest (at.LookRegister l) same seen = registers-honest (told h (at.LookRegister l) p) l (is_granted p.reader_call.context)
-  place-honest (at.LookClosed l) same seen = tt
-  place-honest (at.LookTailAgain l was_closed) same seen = again-honest l (length p.unread) (length p.unread == 0) was_closed refl same seen
-  place-honest (at.LookTake l) same seen = true-honest (told h (at.LookTake l) p) l
-  place-honest at.Yield same seen = yields-honest (told h at.Yield p) (is_yield_granted p.reader_call.context)
-  place-honest (at.CallDestination form sum) same seen = moved-honest h (taken (round_count p) p.destination) form sum
-  place-honest (at.StoreHead n next) same seen = tt
-  place-honest (at.TakeWriter next) same seen = take-honest (told h (at.TakeWriter next) p) next (is_some p.writer_waker)
-  place-honest (at.WakeWriter next) same seen = done-honest (told h (at.WakeWriter next) p) next
-  place-honest at.StoreClosed same seen = tt
+  point-honest : (point : ReadPoint) → h.is_closed ≡ p.is_closed → (saw_close point ≡ true → p.is_closed ≡ true) → HonestAt h point p
+  point-honest at.Idle same seen = tt
+  point-honest at.Dropped same seen = tt
+  point-honest (at.QueryHead query) same seen = tt
+  point-honest (at.QueryTail query) same seen = query-honest (told h (at.QueryTail query) p) query (length p.unread)
+  point-honest at.QueryClosed same seen = (tt, tt)
+  point-honest (at.LookTail l) same seen = tt
+  point-honest (at.LookRegister l) same seen = registers-honest (told h (at.LookRegister l) p) l (is_granted p.reader_call.context)
+  point-honest (at.LookClosed l) same seen = tt
+  point-honest (at.LookTailAgain l was_closed) same seen = again-honest l (length p.unread) (length p.unread == 0) was_closed refl same seen
+  point-honest (at.LookTake l) same seen = true-honest (told h (at.LookTake l) p) l
+  point-honest at.Yield same seen = yields-honest (told h at.Yield p) (is_yield_granted p.reader_call.context)
+  point-honest (at.CallDestination form sum) same seen = moved-honest h (taken (round_count p) p.destination) form sum
+  point-honest (at.StoreHead n next) same seen = tt
+  point-honest (at.TakeWriter next) same seen = take-honest (told h (at.TakeWriter next) p) next (is_some p.writer_waker)
+  point-honest (at.WakeWriter next) same seen = done-honest (told h (at.WakeWriter next) p) next
+  point-honest at.StoreClosed same seen = tt
 
 -- where the reader comes to, it has loaded the flag only by the step that loads it
 
@@ -224,34 +224,34 @@ pub opens-unloaded : (none : Bool) (l : Purpose) → loaded (reader_looks_for no
 opens-unloaded true l = refl
 opens-unloaded false l = found-unloaded l
 
-pub registers-unloaded : (is_granted : Bool) (l : Purpose) → loaded (reader_registered is_granted l).place ≡ None
+pub registers-unloaded : (is_granted : Bool) (l : Purpose) → loaded (reader_registered is_granted l).point ≡ None
 registers-unloaded true l = refl
 registers-unloaded false l = refl
 
-pub again-unloaded : (none was_closed : Bool) (l : Purpose) → loaded (reader_looked_again none l was_closed).place ≡ None
+pub again-unloaded : (none was_closed : Bool) (l : Purpose) → loaded (reader_looked_again none l was_closed).point ≡ None
 again-unloaded true was_closed l = refl
 again-unloaded false was_closed l = found-unloaded l
 
-pub true-unloaded : (l : Purpose) → loaded (reader_is_true l).place ≡ None
+pub true-unloaded : (l : Purpose) → loaded (reader_is_true l).point ≡ None
 true-unloaded purpose.Poll = refl
 true-unloaded (purpose.Copy Try) = refl
 true-unloaded (purpose.Copy (Polling true)) = refl
 true-unloaded (purpose.Copy (Polling false)) = refl
 
-pub round-unloaded : (none : Bool) (n : ℕ) (form : Form) (sum : ℕ) → loaded (reader_moved none n form sum).place ≡ None
+pub round-unloaded : (none : Bool) (n : ℕ) (form : Form) (sum : ℕ) → loaded (reader_moved none n form sum).point ≡ None
 round-unloaded true n form sum = refl
 round-unloaded false n form sum = refl
 
-pub moved-unloaded : (capacity : ℕ) (moved : Result ℕ Failed) (form : Form) (sum : ℕ) → loaded (read_after capacity (at.CallDestination form sum) (found_of moved)).place ≡ None
+pub moved-unloaded : (capacity : ℕ) (moved : Result ℕ Failed) (form : Form) (sum : ℕ) → loaded (read_after capacity (at.CallDestination form sum) (found_of moved)).point ≡ None
 moved-unloaded capacity (Ok n) form sum = round-unloaded (n == 0) n form sum
 moved-unloaded capacity (Err fails) form sum = refl
 
-pub done-unloaded : (next : AfterRead) → loaded (read_done next).place ≡ None
+pub done-unloaded : (next : AfterRead) → loaded (read_done next).point ≡ None
 done-unloaded afterward.Answer = refl
 done-unloaded afterward.Drop = refl
 done-unloaded (afterward.Round form sum) = refl
 
-pub take-unloaded : (next : AfterRead) (is_found : Bool) → loaded (writer_taken next is_found).place ≡ None
+pub take-unloaded : (next : AfterRead) (is_found : Bool) → loaded (writer_taken next is_found).point ≡ None
 take-unloaded next false = done-unloaded next
 take-unloaded next true = refl
 
@@ -259,7 +259,7 @@ unseen : (load : Option Bool) (is_closed : Bool) → load ≡ None → is_set lo
 unseen None is_closed unloaded seen = absurd (cc)
 unseen (Some flag) is_closed unloaded seen = absurd (cc)
 
-reader-sees : (place : ReadPlace) (p : Pipe) → let q = (went Reader (record p { reader = place })).pipe in saw_close q.reader ≡ true → q.is_closed ≡ true
+reader-sees : (point : ReadPoint) (p : Pipe) → let q = (went Reader (record p { reader = point })).pipe in saw_close q.reader ≡ true → q.is_closed ≡ true
 reader-sees at.Idle p saw = absurd (cc)
 reader-sees at.Dropped p saw = absurd (cc)
 reader-sees (at.QueryHead query) p saw = absurd (cc)
@@ -339,7 +339,7 @@ step-honest lent (Begin c) p h aware =
     (tells.0, record { flag = tells.1 ∙ sym sees.0; saw = λ saw. sees.0 ∙ sees.1 saw })
 step-honest lent (Go Reader) p h aware =
     let action = read_action p.reader in
-    let tells = answered-tells h (logged_of Reader action p) Reader (went Reader p).answer _ (action-tells h Reader action p aware.flag) (place-honest h p p.reader aware.flag aware.saw) in
+    let tells = answered-tells h (logged_of Reader action p) Reader (went Reader p).answer _ (action-tells h Reader action p aware.flag) (point-honest h p p.reader aware.flag aware.saw) in
     (tells.0, record { flag = tells.1; saw = reader-sees p.reader p })
 step-honest lent (Go Writer) p h aware =
     let action = write_action p.writer in

@@ -12,10 +12,10 @@ use Rattle.piper_sides.specs.declared.events.Event.{Event}
 use Rattle.piper_sides.specs.declared.events.Event.TheVariants.{Began}
 use Rattle.piper_sides.specs.declared.polling.Context.{Context}
 use Rattle.piper_sides.specs.declared.table.AfterWrite.TheVariants as behind
-use Rattle.piper_sides.specs.declared.table.ReadPlace.{ReadPlace}
-use Rattle.piper_sides.specs.declared.table.ReadPlace.TheVariants as at
-use Rattle.piper_sides.specs.declared.table.WritePlace.{WritePlace}
-use Rattle.piper_sides.specs.declared.table.WritePlace.TheVariants as on
+use Rattle.piper_sides.specs.declared.table.ReadPoint.{ReadPoint}
+use Rattle.piper_sides.specs.declared.table.ReadPoint.TheVariants as at
+use Rattle.piper_sides.specs.declared.table.WritePoint.{WritePoint}
+use Rattle.piper_sides.specs.declared.table.WritePoint.TheVariants as on
 use Rattle.piper_sides.specs.declared.table.Action.{Action}
 use Rattle.piper_sides.specs.declared.table.Action.TheVariants as does
 use Rattle.piper_sides.specs.Call.{side_of, kind_of, waker_of}
@@ -198,17 +198,17 @@ ready-run c ss p events run side = (along c side ss p events run).ready
 
 -- what the log tells is what is known: a store stays within what there is
 
-reader-stores : (place : ReadPlace) (p : Pipe) → head_store place ≤ peeked_count p → p.known ≤ length p.unread → Stores Reader (read_action place) p
+reader-stores : (point : ReadPoint) (p : Pipe) → head_store point ≤ peeked_count p → p.known ≤ length p.unread → Stores Reader (read_action point) p
 reader-stores (at.StoreHead n next) p store known = omega arith
-reader-stores place p store known = tt
+reader-stores point p store known = tt
 
-writer-stores : (place : WritePlace) (lent : List ℕ) (p : Pipe) → tail_store place ≤ length p.lent → Stores Writer (write_action place) (offering lent (record p { writer = place }))
+writer-stores : (point : WritePoint) (lent : List ℕ) (p : Pipe) → tail_store point ≤ length p.lent → Stores Writer (write_action point) (offering lent (record p { writer = point }))
 writer-stores (on.StoreTail n next) lent p store = store
 writer-stores (on.StoreClosed behind.Answer) lent p store = tt
 writer-stores (on.StoreClosed behind.Drop) lent p store = tt
 writer-stores (on.StoreClosed behind.WakeWriter) lent p store = tt
 writer-stores (on.StoreClosed (behind.Round form sum)) lent p store = tt
-writer-stores place lent p store = tt
+writer-stores point lent p store = tt
 
 -- what the log tells of a side is what the pipe has, and what a look found is no more than the capacity
 record Known (c : ℕ) (side : Side) (p : Pipe) (k : Knowledge) : Type 0 where

@@ -7,8 +7,8 @@ use Rattle.std.proofs.lemmas.Bool.Decides.{nat_tests}
 use Rattle.piper_sides.specs.declared.calls.OpenCall.{OpenCall}
 use Rattle.piper_sides.specs.declared.scripted.SourceAct.{SourceAct}
 use Rattle.piper_machine.specs.declared.destination.Destination.{Destination}
-use Rattle.piper_sides.specs.declared.table.ReadPlace.{ReadPlace}
-use Rattle.piper_sides.specs.declared.table.WritePlace.{WritePlace}
+use Rattle.piper_sides.specs.declared.table.ReadPoint.{ReadPoint}
+use Rattle.piper_sides.specs.declared.table.WritePoint.{WritePoint}
 use Rattle.piper_sides.specs.Index.{distance, place_of, advanced}
 use Rattle.piper_machine.specs.Places.{places_left}
 use Rattle.piper_machine.specs.Lend.{Lendable, lend_limit}
@@ -25,29 +25,29 @@ use Rattle.std.proofs.Math.ListN.{set}
 use Rattle.piper_machine.proofs.Soundness.{sound, some_lent, tail_below, length-unread, end_place-of, place-same}
 
 -- the reader has seen where the tail stands
-module _ (m : Inside) (i : IsMachine m) (r : Reading) (place : ReadPlace) (call : OpenCall) (destination : Destination) (is : r ≡ record m.read { tail = m.write.tail; place = place }) where
-  pub tail_seen-view : let p = pipe_of m in pipe_of (record m { read = r; reader_call = call; destination = destination }) ≡ record p { known = length p.unread; reader = place; reader_call = call; destination = destination }
+module _ (m : Inside) (i : IsMachine m) (r : Reading) (point : ReadPoint) (call : OpenCall) (destination : Destination) (is : r ≡ record m.read { tail = m.write.tail; point = point }) where
+  pub tail_seen-view : let p = pipe_of m in pipe_of (record m { read = r; reader_call = call; destination = destination }) ≡ record p { known = length p.unread; reader = point; reader_call = call; destination = destination }
   tail_seen-view = rw is (let long = length-unread m i in cc)
 
 -- the writer has seen where the head stands
-module _ (m : Inside) (i : IsMachine m) (w : Writing) (place : WritePlace) (call : OpenCall) (acts : List SourceAct) (is : w ≡ record m.write { head = m.read.head; place = place }) where
-  pub head_seen-view : let p = pipe_of m in pipe_of (record m { write = w; writer_call = call; source = acts }) ≡ record p { room = p.capacity - length p.unread; writer = place; writer_call = call; source = acts }
+module _ (m : Inside) (i : IsMachine m) (w : Writing) (point : WritePoint) (call : OpenCall) (acts : List SourceAct) (is : w ≡ record m.write { head = m.read.head; point = point }) where
+  pub head_seen-view : let p = pipe_of m in pipe_of (record m { write = w; writer_call = call; source = acts }) ≡ record p { room = p.capacity - length p.unread; writer = point; writer_call = call; source = acts }
   head_seen-view = rw is (let long = length-unread m i in let same = i.capacity in cc)
 
 -- what the call table makes of it, in terms of the pipe
 pub refreshed-next : (m : Inside) (i : IsMachine m) → let p = pipe_of m in
-    write_after m.write.capacity (room_of m.write) m.write.place (refreshed (m.write.capacity - distance m.write.capacity m.read.head m.write.tail == 0))
+    write_after m.write.capacity (room_of m.write) m.write.point (refreshed (m.write.capacity - distance m.write.capacity m.read.head m.write.tail == 0))
     ≡ write_after p.capacity p.room p.writer (refreshed (p.capacity - length p.unread == 0))
 refreshed-next m i =
-    ap (λ capacity. write_after capacity (room_of m.write) m.write.place (refreshed (capacity - distance capacity m.read.head m.write.tail == 0))) i.capacity
-    ∙ ap (λ count. write_after m.read.capacity (room_of m.write) m.write.place (refreshed (m.read.capacity - count == 0))) (sym (length-unread m i))
+    ap (λ capacity. write_after capacity (room_of m.write) m.write.point (refreshed (capacity - distance capacity m.read.head m.write.tail == 0))) i.capacity
+    ∙ ap (λ count. write_after m.read.capacity (room_of m.write) m.write.point (refreshed (m.read.capacity - count == 0))) (sym (length-unread m i))
 
 -- bytes in one piece were passed by the reader
-module _ (m : Inside) (i : IsMachine m) (n : ℕ) (r : Reading) (place : ReadPlace) (call : OpenCall) (destination : Destination) (is : r ≡ record m.read { head = advanced m.read.capacity m.read.head n; place = place }) (within : n ≤ known_of m.read) (flat : place_of m.read.capacity m.read.head + n ≤ m.read.capacity) where
+module _ (m : Inside) (i : IsMachine m) (n : ℕ) (r : Reading) (point : ReadPoint) (call : OpenCall) (destination : Destination) (is : r ≡ record m.read { head = advanced m.read.capacity m.read.head n; point = point }) (within : n ≤ known_of m.read) (flat : place_of m.read.capacity m.read.head + n ≤ m.read.capacity) where
   known_left : distance m.read.capacity (advanced m.read.capacity m.read.head n) m.read.tail ≡ known_of m.read - n
   known_left = distance-advanced_from m.read.capacity m.read.head m.read.tail n i.reading.head i.reading.tail within i.reading.known flat i.reading.capacity.0
 
-  pub consumed-view : pipe_of (record m { read = r; reader_call = call; destination = destination }) ≡ record (consumed n (pipe_of m)) { reader = place; reader_call = call; destination = destination }
+  pub consumed-view : pipe_of (record m { read = r; reader_call = call; destination = destination }) ≡ record (consumed n (pipe_of m)) { reader = point; reader_call = call; destination = destination }
   consumed-view =
       let bytes = between-advanced_head m.read.capacity m.read.head m.write.tail m.bytes.items i.bytes i.reading.head (tail_below m i) i.unread n (omega (arith, i.known)) flat i.reading.capacity.0 in
       let place = place_of-advanced m.read.capacity m.read.head n i.reading.head flat i.reading.capacity.0 in
@@ -91,7 +91,7 @@ front_written k l xs ys fits within =
     ∙ ap (λ zs. ys ++ zs) (ap (take (l - length ys)) (sym (drop-drop (length ys) k xs)) ∙ sym (drop-take (length ys) (l - length ys) (drop k xs)) ∙ ap (λ j. drop (length ys) (take j (drop k xs))) (sym rest))
 
 -- the first n lent places were passed by the writer
-module _ (m : Inside) (i : IsMachine m) (n : ℕ) (w : Writing) (place : WritePlace) (call : OpenCall) (acts : List SourceAct) (is : w ≡ record m.write { tail = advanced m.write.capacity m.write.tail n; lent = m.write.lent - n; place = place }) (within : n ≤ m.write.lent) where
+module _ (m : Inside) (i : IsMachine m) (n : ℕ) (w : Writing) (point : WritePoint) (call : OpenCall) (acts : List SourceAct) (is : w ≡ record m.write { tail = advanced m.write.capacity m.write.tail n; lent = m.write.lent - n; point = point }) (within : n ≤ m.write.lent) where
   flat : place_of m.read.capacity m.write.tail + n ≤ m.read.capacity
   flat = omega (arith, i.writing.lent_place, place_below m.write.capacity m.write.tail i.writing.tail, place-same m i, i.capacity)
 
@@ -109,7 +109,7 @@ module _ (m : Inside) (i : IsMachine m) (n : ℕ) (w : Writing) (place : WritePl
   rest_of_lent : take (m.write.lent - n) (drop (place_of m.write.capacity (advanced m.write.capacity m.write.tail n)) m.bytes.items) ≡ drop n (take m.write.lent (drop (place_of m.write.capacity m.write.tail) m.bytes.items))
   rest_of_lent = rest_at m.write.capacity m.write.tail m.write.lent n m.bytes.items i.writing.tail i.writing.capacity.0 (omega (arith, i.writing.lent_place, place_below m.write.capacity m.write.tail i.writing.tail)) within
 
-  pub published-view : pipe_of (record m { write = w; writer_call = call; source = acts }) ≡ record (published n (pipe_of m)) { writer = place; writer_call = call; source = acts }
+  pub published-view : pipe_of (record m { write = w; writer_call = call; source = acts }) ≡ record (published n (pipe_of m)) { writer = point; writer_call = call; source = acts }
   published-view =
       let same = i.capacity in
       let unread = unread_longer in

@@ -9,8 +9,8 @@ use Rattle.piper_sides.specs.declared.scripted.SourceAct.TheVariants as source
 use Rattle.piper_sides.specs.declared.scripted.TheConstants.{MOST_A_ROUND}
 use Rattle.piper_sides.specs.declared.table.Action.TheVariants as does
 use Rattle.piper_sides.specs.declared.table.Form.{Form}
-use Rattle.piper_sides.specs.declared.table.WritePlace.{WritePlace}
-use Rattle.piper_sides.specs.declared.table.WritePlace.TheVariants as on
+use Rattle.piper_sides.specs.declared.table.WritePoint.{WritePoint}
+use Rattle.piper_sides.specs.declared.table.WritePoint.TheVariants as on
 use Rattle.piper_sides.specs.declared.table.AfterWrite.TheVariants as behind
 use Rattle.piper_sides.specs.Table.{write_action, writer_moved, moved}
 use Rattle.piper_machine.specs.Pipe.{Pipe}
@@ -43,7 +43,7 @@ module _ (form : Form) (sum : ℕ) (bytes : List ℕ) (acts : List SourceAct) (l
   abbrev left_by : Bool → ℕ → Pipe → Pipe
   left_by none n q =
       let next = writer_moved none n form sum in
-      record q { writer = next.place; writer_call = call_after next.answer q.writer_call; source = source_after next.answer q.source; lent = filled_out true next.answer q.lent }
+      record q { writer = next.point; writer_call = call_after next.answer q.writer_call; source = source_after next.answer q.source; lent = filled_out true next.answer q.lent }
 
   gives : (none : Bool) → (count == 0) ≡ none → Lendable MOST_A_ROUND asked (length lent) → called_on.lent ≡ lent → IsCalled asked (round_left (moved count) called_on) (round_answer (moved count) called_on)
   gives true test lendable whole =
@@ -72,8 +72,8 @@ module _ (form : Form) (sum : ℕ) (bytes : List ℕ) (acts : List SourceAct) (l
       may [] lendable = tt
       may (x ∷ xs) lendable = lendable
 
-called : (place : WritePlace) (acts : List SourceAct) (lent : List ℕ) (p : Pipe) → write_action place ≡ does.CallSource
-    → let old = record p { writer = place; source = acts } in Lendable MOST_A_ROUND old (length lent) →
+called : (point : WritePoint) (acts : List SourceAct) (lent : List ℕ) (p : Pipe) → write_action point ≡ does.CallSource
+    → let old = record p { writer = point; source = acts } in Lendable MOST_A_ROUND old (length lent) →
     let q = source_called (lending lent old) in q.lent ≡ lent → let found = found_of (given (length lent) acts) in IsCalled old (round_left found q) (round_answer found q)
 called (on.CallSource form sum) [] lent p next lendable whole = record { pipe = refl; answer_is = refl; lent = tt }
 called (on.CallSource form sum) (source.Fail ∷ acts) lent p next lendable whole = record { pipe = refl; answer_is = refl; lent = tt }
@@ -82,7 +82,7 @@ called (on.StoreClosed behind.Answer) acts lent p next lendable whole = absurd (
 called (on.StoreClosed behind.Drop) acts lent p next lendable whole = absurd (cc)
 called (on.StoreClosed behind.WakeWriter) acts lent p next lendable whole = absurd (cc)
 called (on.StoreClosed (behind.Round form sum)) acts lent p next lendable whole = absurd (cc)
-called place acts lent p next lendable whole = absurd (cc)
+called point acts lent p next lendable whole = absurd (cc)
 
 pub source-called-step : (p q : Pipe) → write_action p.writer ≡ does.CallSource → Lendable MOST_A_ROUND p (length q.lent) → q ≡ source_called (lending q.lent p)
     → let found = found_of (given (length q.lent) p.source) in IsCalled p (round_left found q) (round_answer found q)
@@ -92,12 +92,12 @@ source-called-step p q next lendable is =
     subst (λ (x : Pipe). IsCalled p (round_left found x) (round_answer found x)) (sym is) (called p.writer p.source q.lent p next lendable whole)
 
 -- what is logged of the writer's step does not depend on what a source is lent
-logged_at : (place : WritePlace) (lent : List ℕ) (p : Pipe) → let q = record p { writer = place } in logged_of Writer (write_action place) (offering lent q) ≡ logged_of Writer (write_action place) q
+logged_at : (point : WritePoint) (lent : List ℕ) (p : Pipe) → let q = record p { writer = point } in logged_of Writer (write_action point) (offering lent q) ≡ logged_of Writer (write_action point) q
 logged_at (on.StoreClosed behind.Answer) lent p = refl
 logged_at (on.StoreClosed behind.Drop) lent p = refl
 logged_at (on.StoreClosed behind.WakeWriter) lent p = refl
 logged_at (on.StoreClosed (behind.Round form sum)) lent p = refl
-logged_at place lent p = refl
+logged_at point lent p = refl
 
 pub logged_same : (p : Pipe) (lent : List ℕ) → logged_of Writer (write_action p.writer) (offering lent p) ≡ logged_of Writer (write_action p.writer) p
 logged_same p lent = logged_at p.writer lent p

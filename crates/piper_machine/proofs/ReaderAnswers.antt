@@ -20,8 +20,8 @@ use Rattle.piper_sides.specs.declared.table.Purpose.{Purpose}
 use Rattle.piper_sides.specs.declared.table.Purpose.TheVariants as purpose
 use Rattle.piper_sides.specs.declared.table.AfterRead.{AfterRead}
 use Rattle.piper_sides.specs.declared.table.AfterRead.TheVariants as afterward
-use Rattle.piper_sides.specs.declared.table.ReadPlace.{ReadPlace}
-use Rattle.piper_sides.specs.declared.table.ReadPlace.TheVariants as at
+use Rattle.piper_sides.specs.declared.table.ReadPoint.{ReadPoint}
+use Rattle.piper_sides.specs.declared.table.ReadPoint.TheVariants as at
 use Rattle.piper_sides.specs.Open.{is_granted, is_yield_granted}
 use Rattle.piper_sides.specs.Side.{head_store}
 use Rattle.piper_sides.specs.Table.{Next, granted, read_after, query_answer, copy_answer, count_answer, failed_answer, end_or_pending, yield_answer, reader_found, reader_looks_for, reader_looked, reader_looked_again, reader_registered, reader_is_true, reader_moved, writer_taken, read_done}
@@ -65,7 +65,7 @@ ReaderStores n afterward.Answer destination t = (t.call ≡ Some (call.Consume n
 ReaderStores n afterward.Drop destination t = ⊥
 ReaderStores n (afterward.Round form sum) destination t = Drains form destination n sum t
 
-abbrev pub ReaderAt : ReadPlace → Destination → Told → Type 0
+abbrev pub ReaderAt : ReadPoint → Destination → Told → Type 0
 ReaderAt at.Idle destination t = Unit {0}
 ReaderAt at.Dropped destination t = Unit {0}
 ReaderAt (at.QueryHead query) destination t = (t.call ≡ Some (query_call Reader query)) × (t.looks ≡ [])
@@ -84,21 +84,21 @@ ReaderAt (at.WakeWriter next) destination t = ReaderBehind next destination t
 ReaderAt at.StoreClosed destination t = t.call ≡ Some (call.Drop Reader)
 
 -- a step that leads there answers what is right, or goes on where this is told
-abbrev Leads : ℕ → Destination → Next ReadPlace → Told → Type 0
-Leads capacity destination next t = AreRightFrom capacity Reader t (answer_event Reader next.answer) × ReaderAt next.place (destination_after next.answer destination) (told_from Reader t (answer_event Reader next.answer))
+abbrev Leads : ℕ → Destination → Next ReadPoint → Told → Type 0
+Leads capacity destination next t = AreRightFrom capacity Reader t (answer_event Reader next.answer) × ReaderAt next.point (destination_after next.answer destination) (told_from Reader t (answer_event Reader next.answer))
 
 -- with what the step logs before its answer
-abbrev Steps : ℕ → Destination → Next ReadPlace → Told → List Event → Type 0
+abbrev Steps : ℕ → Destination → Next ReadPoint → Told → List Event → Type 0
 Steps capacity destination next t es =
     let events = es ++ answer_event Reader next.answer in
-    AreRightFrom capacity Reader t events × ReaderAt next.place (destination_after next.answer destination) (told_from Reader t events)
+    AreRightFrom capacity Reader t events × ReaderAt next.point (destination_after next.answer destination) (told_from Reader t events)
 
-steps : (capacity : ℕ) (destination : Destination) (next : Next ReadPlace) (t u : Told) (es : List Event) → AreRightFrom capacity Reader t es → told_from Reader t es ≡ u → Leads capacity destination next u → Steps capacity destination next t es
+steps : (capacity : ℕ) (destination : Destination) (next : Next ReadPoint) (t u : Told) (es : List Event) → AreRightFrom capacity Reader t es → told_from Reader t es ≡ u → Leads capacity destination next u → Steps capacity destination next t es
 steps capacity destination next t u es right told leads =
     let fs = answer_event Reader next.answer in
     let behind = told-append Reader t es fs ∙ ap (λ (v : Told). told_from Reader v fs) told in (
       right-append capacity Reader t es fs right (subst (λ (v : Told). AreRightFrom capacity Reader v fs) (sym told) leads.0),
-      subst (λ (v : Told). ReaderAt next.place (destination_after next.answer destination) v) (sym behind) leads.1,
+      subst (λ (v : Told). ReaderAt next.point (destination_after next.answer destination) v) (sym behind) leads.1,
     )
 
 module _ (capacity : ℕ) where
@@ -218,40 +218,40 @@ query-answers capacity Len number before looks moved within is = record { number
 query-answers capacity IsEmpty number before looks moved within is = record { number = number; is_found = rw is refl; within = within; answers = refl }
 query-answers capacity IsFull number before looks moved within is = record { number = number; is_found = rw is refl; within = within; answers = refl }
 
--- the step of each place
-pub reader-place : (place : ReadPlace) (p : Pipe) (t : Told) → length p.unread ≤ p.capacity → head_store place ≤ length p.unread → ReaderAt place p.destination t
-    → let new = went Reader (record p { reader = place }) in AreRightFrom p.capacity Reader t new.events × ReaderAt new.pipe.reader new.pipe.destination (told_from Reader t new.events)
-reader-place at.Idle p t fits within held = (tt, tt)
-reader-place at.Dropped p t fits within held = (tt, tt)
-reader-place (at.QueryHead query) p t fits within held = ((tt, tt), (length p.unread, held.0, ap (λ (looks : List Seen). seen.Head (length p.unread) ∷ looks) held.1))
-reader-place (at.QueryTail query) p t fits within held =
+-- the step of each point
+pub reader-point : (point : ReadPoint) (p : Pipe) (t : Told) → length p.unread ≤ p.capacity → head_store point ≤ length p.unread → ReaderAt point p.destination t
+    → let new = went Reader (record p { reader = point }) in AreRightFrom p.capacity Reader t new.events × ReaderAt new.pipe.reader new.pipe.destination (told_from Reader t new.events)
+reader-point at.Idle p t fits within held = (tt, tt)
+reader-point at.Dropped p t fits within held = (tt, tt)
+reader-point (at.QueryHead query) p t fits within held = ((tt, tt), (length p.unread, held.0, ap (λ (looks : List Seen). seen.Head (length p.unread) ∷ looks) held.1))
+reader-point (at.QueryTail query) p t fits within held =
     let looks = ap (λ (before : List Seen). seen.Tail (length p.unread) ∷ before) held.2 in
     let u = record t { looks = seen.Tail (length p.unread) ∷ t.looks } in
     ((tt, answers p.capacity u Reader (query_call Reader query) (query_answer query p.capacity (length p.unread)) held.1 (query-answers p.capacity query (length p.unread) held.0 u.looks t.moved fits looks)), tt)
-reader-place at.QueryClosed p t fits within held =
+reader-point at.QueryClosed p t fits within held =
     let u = record t { looks = seen.Closed p.is_closed ∷ t.looks } in
     ((tt, answers p.capacity u Reader (call.IsClosed Reader) _ held.0 (ap (λ (before : List Seen). seen.Closed p.is_closed ∷ before) held.1)), tt)
-reader-place (at.LookTail l) p t fits within held = ((tt, tt), looks-leads p.capacity _ p.destination (length p.unread == 0) l (looked p.capacity l p.destination t _ held))
-reader-place (at.LookRegister l) p t fits within held =
+reader-point (at.LookTail l) p t fits within held = ((tt, tt), looks-leads p.capacity _ p.destination (length p.unread == 0) l (looked p.capacity l p.destination t _ held))
+reader-point (at.LookRegister l) p t fits within held =
     let quiet = registers-leaves p.capacity t Reader Reader p.reader_call.context in
     steps p.capacity p.destination (reader_registered (is_granted p.reader_call.context) l) t t (registration_of Reader p.reader_call.context) quiet.0 quiet.1 (registers-leads p.capacity t p.destination (is_granted p.reader_call.context) l held)
-reader-place (at.LookClosed l) p t fits within held = ((tt, tt), looked p.capacity l p.destination t _ held)
-reader-place (at.LookTailAgain l was_closed) p t fits within held =
+reader-point (at.LookClosed l) p t fits within held = ((tt, tt), looked p.capacity l p.destination t _ held)
+reader-point (at.LookTailAgain l was_closed) p t fits within held =
     let u = record t { looks = seen.Tail (length p.unread) ∷ t.looks } in
     steps p.capacity p.destination (reader_looked_again (length p.unread == 0) l was_closed) t u (Looked Reader (seen.Tail (length p.unread)) ∷ []) (tt, tt) refl (again-leads p.capacity u p.destination (length p.unread == 0) was_closed l (looked p.capacity l p.destination t _ held))
-reader-place (at.LookTake l) p t fits within held = steps p.capacity p.destination (reader_is_true l) t t [] tt refl (true-leads p.capacity t p.destination l held)
-reader-place at.Yield p t fits within held =
+reader-point (at.LookTake l) p t fits within held = steps p.capacity p.destination (reader_is_true l) t t [] tt refl (true-leads p.capacity t p.destination l held)
+reader-point at.Yield p t fits within held =
     let quiet = yield-leaves p.capacity t Reader p.reader_call.context in
     steps p.capacity p.destination (read_after p.capacity at.Yield (granted (is_yield_granted p.reader_call.context))) t t (yield_of p.reader_call.context) quiet.0 quiet.1 (yields-leads p.capacity t p.destination (is_yield_granted p.reader_call.context) held, tt)
-reader-place (at.CallDestination form sum) p t fits within held =
+reader-point (at.CallDestination form sum) p t fits within held =
     let left = left_of_destination (round_count p) p.destination in
     steps p.capacity left (read_after p.capacity (at.CallDestination form sum) (found_of (taken (round_count p) p.destination))) t t [] tt refl
     (moved-leads p.capacity t p.destination (taken (round_count p) p.destination) form sum left held (takes p.capacity form held.drain (round_count p) p.destination sum t.looks t.moved held.drains))
-reader-place (at.StoreHead n next) p t fits within held =
+reader-point (at.StoreHead n next) p t fits within held =
     let stored = stores p.capacity n next p.destination t (take n p.unread) (length-take-le n p.unread within) held in
     ((stored.0, tt), stored.1)
-reader-place (at.TakeWriter next) p t fits within held = steps p.capacity p.destination (writer_taken next (is_some p.writer_waker)) t t [] tt refl (take-leads p.capacity t p.destination next (is_some p.writer_waker) held)
-reader-place (at.WakeWriter next) p t fits within held =
+reader-point (at.TakeWriter next) p t fits within held = steps p.capacity p.destination (writer_taken next (is_some p.writer_waker)) t t [] tt refl (take-leads p.capacity t p.destination next (is_some p.writer_waker) held)
+reader-point (at.WakeWriter next) p t fits within held =
     let quiet = wake-leaves p.capacity t Reader p.reader_call.taken in
     steps p.capacity p.destination (read_done next) t t (wake_of p.reader_call.taken) quiet.0 quiet.1 (done-leads p.capacity t p.destination next held)
-reader-place at.StoreClosed p t fits within held = ((tt, tt), held)
+reader-point at.StoreClosed p t fits within held = ((tt, tt), held)

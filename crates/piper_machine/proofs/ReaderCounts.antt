@@ -11,8 +11,8 @@ use Rattle.piper_sides.specs.declared.table.Purpose.{Purpose}
 use Rattle.piper_sides.specs.declared.table.Purpose.TheVariants as purpose
 use Rattle.piper_sides.specs.declared.table.AfterRead.{AfterRead}
 use Rattle.piper_sides.specs.declared.table.AfterRead.TheVariants as afterward
-use Rattle.piper_sides.specs.declared.table.ReadPlace.{ReadPlace}
-use Rattle.piper_sides.specs.declared.table.ReadPlace.TheVariants as at
+use Rattle.piper_sides.specs.declared.table.ReadPoint.{ReadPoint}
+use Rattle.piper_sides.specs.declared.table.ReadPoint.TheVariants as at
 use Rattle.piper_sides.specs.Open.{is_granted, is_yield_granted}
 use Rattle.piper_sides.specs.Table.{Next, goes_on, end_or_pending, read_action, read_after, read_done, reader_looked, reader_looked_again, reader_registered, reader_is_true, reader_moved, writer_taken}
 use Rattle.piper_machine.specs.declared.destination.Destination.{Destination}
@@ -36,7 +36,7 @@ abbrev calls_after : ℕ → AfterRead → ℕ
 calls_after known (afterward.Round form sum) = 1 + known
 calls_after known next = 0
 
-abbrev pub read_calls : ℕ → ℕ → ReadPlace → ℕ
+abbrev pub read_calls : ℕ → ℕ → ReadPoint → ℕ
 read_calls found known (at.LookTail l) = look_calls found l
 read_calls found known (at.LookRegister l) = look_calls found l
 read_calls found known (at.LookClosed l) = look_calls found l
@@ -46,18 +46,18 @@ read_calls found known (at.CallDestination form sum) = 1 + known
 read_calls found known (at.StoreHead n next) = calls_after (known - n) next
 read_calls found known (at.TakeWriter next) = calls_after known next
 read_calls found known (at.WakeWriter next) = calls_after known next
-read_calls found known place = 0
+read_calls found known point = 0
 
 -- before a look has found something it can still find anything
-abbrev pub read_least : ℕ → ReadPlace → ℕ
+abbrev pub read_least : ℕ → ReadPoint → ℕ
 read_least found (at.LookTail l) = 0
 read_least found (at.LookRegister l) = 0
 read_least found (at.LookClosed l) = 0
 read_least found (at.LookTailAgain l was_closed) = 0
-read_least found place = found
+read_least found point = found
 
--- what the reader's place tells of what it knows
-abbrev pub ReaderSees : ReadPlace → ℕ → Knowledge → Type 0
+-- what the reader's point tells of what it knows
+abbrev pub ReaderSees : ReadPoint → ℕ → Knowledge → Type 0
 ReaderSees (at.QueryHead query) known k = (k.is_query ≡ true)
 ReaderSees (at.QueryTail query) known k = (k.is_query ≡ true)
 ReaderSees (at.LookTail l) known k = (k.is_query ≡ false)
@@ -65,24 +65,24 @@ ReaderSees (at.LookRegister l) known k = (k.is_query ≡ false)
 ReaderSees (at.LookClosed l) known k = (k.is_query ≡ false)
 ReaderSees (at.LookTailAgain l was_closed) known k = (k.is_query ≡ false)
 ReaderSees (at.LookTake l) known k = (1 ≤ known)
-ReaderSees place known k = ⊤
+ReaderSees point known k = ⊤
 
-pub reader-fits : (place : ReadPlace) (known : ℕ) (k : Knowledge) → ReaderSees place known k → Fits Reader (read_action place) k
+pub reader-fits : (point : ReadPoint) (known : ℕ) (k : Knowledge) → ReaderSees point known k → Fits Reader (read_action point) k
 reader-fits (at.QueryTail query) known k sees = sees
 reader-fits (at.LookTail l) known k sees = sees
 reader-fits (at.LookTailAgain l was_closed) known k sees = sees
-reader-fits place known k sees = tt
+reader-fits point known k sees = tt
 
 -- where a look finds so much
-pub record ReadNearer (f : ℕ) (place : ReadPlace) (found known : ℕ) (next : ReadPlace) (known_next : ℕ) : Type 0 where
-  pub from : read_least found place ≤ f
-  pub steps : read_steps f known_next next < read_steps f known place
-  pub calls : calls_of (read_action place) + read_calls f known_next next ≤ read_calls f known place
+pub record ReadNearer (f : ℕ) (point : ReadPoint) (found known : ℕ) (next : ReadPoint) (known_next : ℕ) : Type 0 where
+  pub from : read_least found point ≤ f
+  pub steps : read_steps f known_next next < read_steps f known point
+  pub calls : calls_of (read_action point) + read_calls f known_next next ≤ read_calls f known point
 
-pub record ReaderGoes (place : ReadPlace) (known : ℕ) (k : Knowledge) (next : Next ReadPlace) (known_next : ℕ) (k_next : Knowledge) : Type 0 where
-  pub sees : ReaderSees next.place known_next k_next
+pub record ReaderGoes (point : ReadPoint) (known : ℕ) (k : Knowledge) (next : Next ReadPoint) (known_next : ℕ) (k_next : Knowledge) : Type 0 where
+  pub sees : ReaderSees next.point known_next k_next
   pub ready : known_next ≤ k_next.known → IsReadyNext Reader k_next next.answer
-  pub nearer : (f : ℕ) → read_least k_next.found next.place ≤ f → ReadNearer f place k.found known next.place known_next
+  pub nearer : (f : ℕ) → read_least k_next.found next.point ≤ f → ReadNearer f point k.found known next.point known_next
 
 pub some-known : (n : ℕ) → (n == 0) ≡ false → 1 ≤ n
 some-known n test = grind (arith, nat_tests)
@@ -150,11 +150,11 @@ taken-within most (Acts (dest.Fail ∷ acts)) n is = absurd (cc)
 taken-within most (Acts (dest.Take size ∷ acts)) n is = let count : min size most ≡ n = cc in omega arith
 
 -- the reader makes its step
-abbrev pub reader_next : ReadPlace → Pipe → Next ReadPlace
-reader_next place p = read_after p.capacity place (found_by Reader (read_action place) p)
+abbrev pub reader_next : ReadPoint → Pipe → Next ReadPoint
+reader_next point p = read_after p.capacity point (found_by Reader (read_action point) p)
 
-pub reader-goes : (place : ReadPlace) (p : Pipe) (k : Knowledge) → ReaderSees place p.known k → cannot_go (reader_state place) ≡ None
-    → ReaderGoes place p.known k (reader_next place p) (performed Reader (read_action place) p).known (learned Reader (read_action place) p k)
+pub reader-goes : (point : ReadPoint) (p : Pipe) (k : Knowledge) → ReaderSees point p.known k → cannot_go (reader_state point) ≡ None
+    → ReaderGoes point p.known k (reader_next point p) (performed Reader (read_action point) p).known (learned Reader (read_action point) p k)
 reader-goes at.Idle p k sees busy = absurd (cc)
 reader-goes at.Dropped p k sees busy = absurd (cc)
 reader-goes (at.QueryHead query) p k sees busy = record { sees = sees; ready = λ enough. tt; nearer = λ f most. record { from = most; steps = omega arith; calls = omega arith } }

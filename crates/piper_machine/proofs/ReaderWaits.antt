@@ -1,4 +1,4 @@
--- The reader as a waiter, from place to place of its own calls, and what each of its steps is to a waiting writer.
+-- The reader as a waiter, from point to point of its own calls, and what each of its steps is to a waiting writer.
 use Rattle.std.proofs.Common.{◌≡◌, ℕ, zero, suc, List, [], ◌∷◌, length, drop, Bool, true, false, Option, None, Some, ◌==◌, Result, Ok, Err, refl, sym, ap, subst, ◌∙◌, arith}
 use Rattle.std.specs.Bool.{⊤}
 use Rattle.std.proofs.lemmas.Bool.Decides.{nat_tests}
@@ -12,8 +12,8 @@ use Rattle.piper_sides.specs.declared.table.Purpose.{Purpose}
 use Rattle.piper_sides.specs.declared.table.Purpose.TheVariants as purpose
 use Rattle.piper_sides.specs.declared.table.AfterRead.{AfterRead}
 use Rattle.piper_sides.specs.declared.table.AfterRead.TheVariants as afterward
-use Rattle.piper_sides.specs.declared.table.ReadPlace.{ReadPlace}
-use Rattle.piper_sides.specs.declared.table.ReadPlace.TheVariants as at
+use Rattle.piper_sides.specs.declared.table.ReadPoint.{ReadPoint}
+use Rattle.piper_sides.specs.declared.table.ReadPoint.TheVariants as at
 use Rattle.piper_sides.specs.Table.{Next, read_action, reader_looks_for, reader_looked, reader_looked_again, reader_moved, read_after, yield_answer, read_done}
 use Rattle.piper_sides.specs.Log.{answer_event}
 use Rattle.piper_sides.specs.Open.{is_yield_granted}
@@ -27,21 +27,21 @@ use Rattle.piper_machine.specs.Wait.{Wait, wait_from}
 use Rattle.piper_machine.proofs.Watching.{Errand, read_errand, Watched, woken, calmly, Same, same, Touch, rests, stores, finds, misses, calls, hears-more, rewatch, touched, touched-pending, IsHanded, HasBegun, Awaits, handed-touched, begun-touched, awaits-touched, awaits-more, has_begun, awaits, refused-told, counted-told, yielded, yield-heard, hears-it, answered-passes, registration-passes, wake-heard, context_of, query-told}
 
 -- what holds of the pipe while the waker stands in the slot: nothing any more once the reader itself has closed
-abbrev pub read_calm : ReadPlace → Pipe → Type 0
+abbrev pub read_calm : ReadPoint → Pipe → Type 0
 read_calm at.Dropped p = ⊤
 read_calm (at.TakeWriter afterward.Drop) p = ⊤
 read_calm (at.WakeWriter afterward.Drop) p = ⊤
-read_calm place p = IsBlocked Reader p
+read_calm point p = IsBlocked Reader p
 
 -- inside a look: handed over, and behind the registration watched over
-abbrev pub ReadLook : ReadPlace → Pipe → Errand → Wait → Type 0
+abbrev pub ReadLook : ReadPoint → Pipe → Errand → Wait → Type 0
 ReadLook (at.LookTail l) p e w = HasBegun l p.reader_call.context w
 ReadLook (at.LookRegister l) p e w = IsHanded p.reader_call.context w
 ReadLook (at.LookClosed l) p e w = HasBegun l p.reader_call.context w × Awaits l w p.reader_waker ⊤ e
 ReadLook (at.LookTailAgain l was_closed) p e w = HasBegun l p.reader_call.context w × Awaits l w p.reader_waker (was_closed ≡ false → p.is_closed ≡ false) e
 ReadLook (at.LookTake l) p e w = IsHanded p.reader_call.context w
 ReadLook at.Yield p e w = IsHanded p.reader_call.context w
-ReadLook place p e w = ⊤
+ReadLook point p e w = ⊤
 
 pub record ReadWaits (p : Pipe) (e : Errand) (w : Wait) : Type 0 where
   pub waiting : w.is_pending ≡ true → Watched w p.reader_waker None (read_calm p.reader p) e
@@ -52,25 +52,25 @@ pub record ReadWaits (p : Pipe) (e : Errand) (w : Wait) : Type 0 where
 same-blocked : {p q : Pipe} → Same p q → IsBlocked Reader p → IsBlocked Reader q
 same-blocked same b = (same.unread ∙ b.0, same.closed ∙ b.1)
 
-read_calm-same : {p q : Pipe} (place : ReadPlace) → Same p q → read_calm place p → read_calm place q
+read_calm-same : {p q : Pipe} (point : ReadPoint) → Same p q → read_calm point p → read_calm point q
 read_calm-same at.Dropped same c = tt
 read_calm-same (at.TakeWriter afterward.Drop) same c = tt
 read_calm-same (at.WakeWriter afterward.Drop) same c = tt
-read_calm-same place same c = same-blocked same c
+read_calm-same point same c = same-blocked same c
 
-look-touched : (p q : Pipe) (e e_after : Errand) (w v : Wait) (place : ReadPlace) → q.reader_call ≡ p.reader_call → Touch p q p.reader_waker q.reader_waker e e_after w v → ReadLook place p e w → ReadLook place q e_after v
+look-touched : (p q : Pipe) (e e_after : Errand) (w v : Wait) (point : ReadPoint) → q.reader_call ≡ p.reader_call → Touch p q p.reader_waker q.reader_waker e e_after w v → ReadLook point p e w → ReadLook point q e_after v
 look-touched p q e e_after w v (at.LookTail l) same t h = rw same (begun-touched l p.reader_call.context t h)
 look-touched p q e e_after w v (at.LookRegister l) same t h = rw same (handed-touched p.reader_call.context t h)
 look-touched p q e e_after w v (at.LookClosed l) same t h = (rw same (begun-touched l p.reader_call.context t h.0), awaits-touched l _ _ (λ s c. c) t h.1)
 look-touched p q e e_after w v (at.LookTailAgain l was_closed) same t h = (rw same (begun-touched l p.reader_call.context t h.0), awaits-touched l _ _ (λ s c unseen. s.closed ∙ c unseen) t h.1)
 look-touched p q e e_after w v (at.LookTake l) same t h = rw same (handed-touched p.reader_call.context t h)
 look-touched p q e e_after w v at.Yield same t h = rw same (handed-touched p.reader_call.context t h)
-look-touched p q e e_after w v place same t h = tt
+look-touched p q e e_after w v point same t h = tt
 
 pub reader-touched : (p q : Pipe) (e e_after : Errand) (w v : Wait) → q.reader ≡ p.reader → q.reader_call ≡ p.reader_call → Touch p q p.reader_waker q.reader_waker e e_after w v → ReadWaits p e w → ReadWaits q e_after v
-reader-touched p q e e_after w v place call t h = record {
-  waiting = λ pending. touched _ _ (λ same c. subst (λ (at : ReadPlace). read_calm at q) (sym place) (read_calm-same p.reader same c)) t (h.waiting (sym (touched-pending t) ∙ pending));
-  look = subst (λ (at : ReadPlace). ReadLook at q e_after v) (sym place) (look-touched p q e e_after w v p.reader call t h.look);
+reader-touched p q e e_after w v point call t h = record {
+  waiting = λ pending. touched _ _ (λ same c. subst (λ (at : ReadPoint). read_calm at q) (sym point) (read_calm-same p.reader same c)) t (h.waiting (sym (touched-pending t) ∙ pending));
+  look = subst (λ (at : ReadPoint). ReadLook at q e_after v) (sym point) (look-touched p q e e_after w v p.reader call t h.look);
 }
 
 -- the reader's own steps
@@ -125,9 +125,9 @@ registers-if l None taken p e w h = rw (refused-told l w) (record { waiting = h.
 registers-if l (Some cx) taken p e w h = registers l cx.luck.register_granted cx.waker cx.luck.draw cx.luck.yield_granted taken p e w h
 
 -- a call that goes on, or has answered, with this left of its destination
-abbrev Stands : Next ReadPlace → Destination → Pipe → Errand → Wait → Type 0
+abbrev Stands : Next ReadPoint → Destination → Pipe → Errand → Wait → Type 0
 Stands next destination p e w =
-    ReadWaits (record p { reader = next.place; reader_call = call_after next.answer p.reader_call; destination = destination_after next.answer destination }) e (wait_from Reader w (answer_event Reader next.answer))
+    ReadWaits (record p { reader = next.point; reader_call = call_after next.answer p.reader_call; destination = destination_after next.answer destination }) e (wait_from Reader w (answer_event Reader next.answer))
 
 -- the last load of tail: without a byte behind an open pipe the reader waits from now on
 looks-again : (l : Purpose) (none was_closed : Bool) (p : Pipe) (e : Errand) (w : Wait) → (none ≡ true → p.unread ≡ []) → ReadWaits (record p { reader = at.LookTailAgain l was_closed }) e w
@@ -188,7 +188,7 @@ wakes-writer afterward.Drop context (Some waker) p e w h = record { waiting = λ
 wakes-writer (afterward.Round form sum) context None p e w h = record { waiting = h.waiting; look = tt }
 wakes-writer (afterward.Round form sum) context (Some waker) p e w h = record { waiting = λ pending. rewatch _ _ refl refl refl (hears-more (Some waker) w) (λ c. c) (h.waiting pending); look = tt }
 
-pub reader-goes : (place : ReadPlace) (p : Pipe) (e : Errand) (w : Wait) → Goes (record p { reader = place }) e w
+pub reader-goes : (point : ReadPoint) (p : Pipe) (e : Errand) (w : Wait) → Goes (record p { reader = point }) e w
 reader-goes at.Idle p e w h = record { waiting = h.waiting; look = tt }
 reader-goes at.Dropped p e w h = record { waiting = h.waiting; look = tt }
 reader-goes (at.QueryHead query) p e w h = record { waiting = h.waiting; look = tt }
@@ -217,7 +217,7 @@ takes-touch : (next : AfterRead) (slot : Option ℕ) (p : Pipe) (w : Wait) → T
 takes-touch next None p w = misses refl refl (answered-passes Writer Reader w w [] (read_done next).answer refl refl)
 takes-touch next (Some waker) p w = finds waker refl refl refl refl
 
-pub reader-touches : (place : ReadPlace) (p : Pipe) (w : Wait) → Touches (record p { reader = place }) w
+pub reader-touches : (point : ReadPoint) (p : Pipe) (w : Wait) → Touches (record p { reader = point }) w
 reader-touches at.Idle p w = rests None (same _ _ refl refl refl) refl refl refl
 reader-touches at.Dropped p w = rests None (same _ _ refl refl refl) refl refl refl
 reader-touches (at.QueryHead query) p w = rests None (same _ _ refl refl refl) refl refl refl

@@ -1,4 +1,4 @@
--- Each step keeps both sides remembered: its own side goes on from place to place, and the other is touched by it.
+-- Each step keeps both sides remembered: its own side goes on from point to point, and the other is touched by it.
 use Rattle.std.proofs.Common.{◌≡◌, inl, inr, ℕ, List, [], ◌∷◌, ◌++◌, Bool, true, false, Option, None, Some, ◌==◌, refl, sym, ap, subst, slice_set}
 use Rattle.piper_sides.specs.declared.calls.Side.TheVariants.{Reader, Writer}
 use Rattle.piper_sides.specs.declared.calls.OpenCall.{OpenCall}
@@ -19,10 +19,10 @@ use Rattle.piper_sides.specs.declared.table.Purpose.{Purpose}
 use Rattle.piper_sides.specs.declared.table.Purpose.TheVariants as purpose
 use Rattle.piper_sides.specs.declared.table.AfterRead.TheVariants as afterward
 use Rattle.piper_sides.specs.declared.table.AfterWrite.TheVariants as behind
-use Rattle.piper_sides.specs.declared.table.ReadPlace.{ReadPlace}
-use Rattle.piper_sides.specs.declared.table.ReadPlace.TheVariants as at
-use Rattle.piper_sides.specs.declared.table.WritePlace.{WritePlace}
-use Rattle.piper_sides.specs.declared.table.WritePlace.TheVariants as on
+use Rattle.piper_sides.specs.declared.table.ReadPoint.{ReadPoint}
+use Rattle.piper_sides.specs.declared.table.ReadPoint.TheVariants as at
+use Rattle.piper_sides.specs.declared.table.WritePoint.{WritePoint}
+use Rattle.piper_sides.specs.declared.table.WritePoint.TheVariants as on
 use Rattle.piper_sides.specs.Open.{called_with}
 use Rattle.piper_sides.specs.Table.{read_action, write_action, reader_looks_for}
 use Rattle.piper_machine.specs.Pipe.{Pipe, fresh}
@@ -65,13 +65,13 @@ writer_leaves action p = (refl, refl)
 
 -- a call is opened outside any other call of its side
 
-pub reader-idle : (place : ReadPlace) (more : Option StepRefusal) → or_else (cannot_begin (reader_state place)) more ≡ None → place ≡ at.Idle
+pub reader-idle : (point : ReadPoint) (more : Option StepRefusal) → or_else (cannot_begin (reader_state point)) more ≡ None → point ≡ at.Idle
 reader-idle at.Idle more accepted = refl
-reader-idle place more accepted = absurd (cc)
+reader-idle point more accepted = absurd (cc)
 
-pub writer-idle : (place : WritePlace) (more : Option StepRefusal) → or_else (cannot_begin (writer_state place)) more ≡ None → place ≡ on.Idle
+pub writer-idle : (point : WritePoint) (more : Option StepRefusal) → or_else (cannot_begin (writer_state point)) more ≡ None → point ≡ on.Idle
 writer-idle on.Idle more accepted = refl
-writer-idle place more accepted = absurd (cc)
+writer-idle point more accepted = absurd (cc)
 
 looks-away : (none : Bool) (l : Purpose) (c : OpenCall) → read_errand (reader_looks_for none l) c ≡ away
 looks-away true l c = refl
@@ -80,39 +80,39 @@ looks-away false (purpose.Copy Try) c = refl
 looks-away false (purpose.Copy (Polling is_drawn)) c = refl
 
 module _ (p : Pipe) (reads writes : Wait) (kept : Keeps p reads writes) where
-  -- the reader opens a call: it goes to a place away from the writer's slot, and the writer does not notice
-  reader-opens : (place : ReadPlace) (c : OpenCall) (destination : Destination) (now : Wait) → p.reader ≡ at.Idle → read_errand place c ≡ away
-      → (ReadWaits (record p { reader = at.Idle }) (write_errand p.writer p.writer_call) reads → ReadWaits (record p { reader = place; reader_call = c; destination = destination }) (write_errand p.writer p.writer_call) now)
-      → Keeps (record p { reader = place; reader_call = c; destination = destination }) now writes
-  reader-opens place c destination now idle errand own = record {
-    reader = own (subst (λ (place : ReadPlace). ReadWaits (record p { reader = place }) (write_errand p.writer p.writer_call) reads) idle kept.reader);
+  -- the reader opens a call: it goes to a point away from the writer's slot, and the writer does not notice
+  reader-opens : (point : ReadPoint) (c : OpenCall) (destination : Destination) (now : Wait) → p.reader ≡ at.Idle → read_errand point c ≡ away
+      → (ReadWaits (record p { reader = at.Idle }) (write_errand p.writer p.writer_call) reads → ReadWaits (record p { reader = point; reader_call = c; destination = destination }) (write_errand p.writer p.writer_call) now)
+      → Keeps (record p { reader = point; reader_call = c; destination = destination }) now writes
+  reader-opens point c destination now idle errand own = record {
+    reader = own (subst (λ (point : ReadPoint). ReadWaits (record p { reader = point }) (write_errand p.writer p.writer_call) reads) idle kept.reader);
     writer = writer-touched p _ _ _ writes writes refl refl
-        (rests None (record { unread = refl; capacity = refl; closed = refl }) refl (ap (λ (place : ReadPlace). read_errand place p.reader_call) idle) refl) kept.writer;
+        (rests None (record { unread = refl; capacity = refl; closed = refl }) refl (ap (λ (point : ReadPoint). read_errand point p.reader_call) idle) refl) kept.writer;
   }
 
   -- the writer opens a call, or a byte is put, with these bytes in what is lent
-  writer-opens : (place : WritePlace) (c : OpenCall) (source : List SourceAct) (lent : List ℕ) (now : Wait) → p.writer ≡ on.Idle → write_errand place c ≡ away
-      → (WriteWaits (record p { writer = on.Idle }) (read_errand p.reader p.reader_call) writes → WriteWaits (record p { writer = place; writer_call = c; source = source; lent = lent }) (read_errand p.reader p.reader_call) now)
-      → Keeps (record p { writer = place; writer_call = c; source = source; lent = lent }) reads now
-  writer-opens place c source lent now idle errand own = record {
-    writer = own (subst (λ (place : WritePlace). WriteWaits (record p { writer = place }) (read_errand p.reader p.reader_call) writes) idle kept.writer);
+  writer-opens : (point : WritePoint) (c : OpenCall) (source : List SourceAct) (lent : List ℕ) (now : Wait) → p.writer ≡ on.Idle → write_errand point c ≡ away
+      → (WriteWaits (record p { writer = on.Idle }) (read_errand p.reader p.reader_call) writes → WriteWaits (record p { writer = point; writer_call = c; source = source; lent = lent }) (read_errand p.reader p.reader_call) now)
+      → Keeps (record p { writer = point; writer_call = c; source = source; lent = lent }) reads now
+  writer-opens point c source lent now idle errand own = record {
+    writer = own (subst (λ (point : WritePoint). WriteWaits (record p { writer = point }) (read_errand p.reader p.reader_call) writes) idle kept.writer);
     reader = reader-touched p _ _ _ reads reads refl refl
-        (rests None (record { unread = refl; capacity = refl; closed = refl }) refl (ap (λ (place : WritePlace). write_errand place p.writer_call) idle) refl) kept.reader;
+        (rests None (record { unread = refl; capacity = refl; closed = refl }) refl (ap (λ (point : WritePoint). write_errand point p.writer_call) idle) refl) kept.reader;
   }
 
   lends : (lent : List ℕ) → p.writer ≡ on.Idle → Keeps (lending lent p) reads writes
-  lends lent idle = subst (λ (place : WritePlace). Keeps (record p { writer = place; lent = lent }) reads writes) (sym idle)
+  lends lent idle = subst (λ (point : WritePoint). Keeps (record p { writer = point; lent = lent }) reads writes) (sym idle)
       (writer-opens on.Idle p.writer_call p.source lent writes idle refl (λ h. record { waiting = h.waiting; look = tt }))
 
-  reads_on : (place : ReadPlace) → p.reader ≡ at.Idle → read_errand place p.reader_call ≡ away
-      → (ReadWaits (record p { reader = at.Idle }) (write_errand p.writer p.writer_call) reads → ReadWaits (record p { reader = place }) (write_errand p.writer p.writer_call) reads)
-      → Keeps (record p { reader = place }) reads writes
-  reads_on place = reader-opens place p.reader_call p.destination reads
+  reads_on : (point : ReadPoint) → p.reader ≡ at.Idle → read_errand point p.reader_call ≡ away
+      → (ReadWaits (record p { reader = at.Idle }) (write_errand p.writer p.writer_call) reads → ReadWaits (record p { reader = point }) (write_errand p.writer p.writer_call) reads)
+      → Keeps (record p { reader = point }) reads writes
+  reads_on point = reader-opens point p.reader_call p.destination reads
 
-  writes_on : (place : WritePlace) → p.writer ≡ on.Idle → write_errand place p.writer_call ≡ away
-      → (WriteWaits (record p { writer = on.Idle }) (read_errand p.reader p.reader_call) writes → WriteWaits (record p { writer = place }) (read_errand p.reader p.reader_call) writes)
-      → Keeps (record p { writer = place }) reads writes
-  writes_on place = writer-opens place p.writer_call p.source p.lent writes
+  writes_on : (point : WritePoint) → p.writer ≡ on.Idle → write_errand point p.writer_call ≡ away
+      → (WriteWaits (record p { writer = on.Idle }) (read_errand p.reader p.reader_call) writes → WriteWaits (record p { writer = point }) (read_errand p.reader p.reader_call) writes)
+      → Keeps (record p { writer = point }) reads writes
+  writes_on point = writer-opens point p.writer_call p.source p.lent writes
 
   -- a look with a waker; with none, the last polling call's wait goes on
   reader-polls : (cx : Context) (l : Purpose) (destination : Destination) → let now = handed_over (Some cx.waker) reads in HasBegun l (Some cx) now → p.reader ≡ at.Idle
@@ -162,10 +162,10 @@ begin-keeps lent (call.TryFill bytes) p reads writes accepted kept =
     writer-opens p reads writes kept (on.LookClosed (purpose.Copy Try)) (called_with None) (source.Bytes bytes ∷ []) p.lent writes (writer-idle p.writer _ accepted) refl (λ h. record { waiting = h.waiting; look = tt })
 
 write_errand-same : (p q : Pipe) → q.writer ≡ p.writer → q.writer_call ≡ p.writer_call → write_errand p.writer p.writer_call ≡ write_errand q.writer q.writer_call
-write_errand-same p q place call = rw (place, call) refl
+write_errand-same p q point call = rw (point, call) refl
 
 read_errand-same : (p q : Pipe) → q.reader ≡ p.reader → q.reader_call ≡ p.reader_call → read_errand p.reader p.reader_call ≡ read_errand q.reader q.reader_call
-read_errand-same p q place call = rw (place, call) refl
+read_errand-same p q point call = rw (point, call) refl
 
 step-keeps : (lent : List ℕ) (s : Step) (p : Pipe) (reads writes : Wait) → IsSound p → refusal_of s p ≡ None → Keeps p reads writes
     → let new = stepped lent s p in Keeps new.pipe (wait_from Reader reads new.events) (wait_from Writer writes new.events)
@@ -187,21 +187,21 @@ step-keeps lent (Put offset byte) p reads writes sound accepted kept = lends p r
 
 -- what that says of a side outside any call
 
-wakes-writer : (place : ReadPlace) (c : OpenCall) (taken : Option ℕ) → read_errand place c ≡ wakes taken → (is_waking_writer place ≡ true) × (c.taken ≡ taken)
+wakes-writer : (point : ReadPoint) (c : OpenCall) (taken : Option ℕ) → read_errand point c ≡ wakes taken → (is_waking_writer point ≡ true) × (c.taken ≡ taken)
 wakes-writer (at.WakeWriter next) c taken e = (refl, cc)
-wakes-writer place c taken e = absurd (cc)
+wakes-writer point c taken e = absurd (cc)
 
-takes-writers : (place : ReadPlace) (c : OpenCall) → read_errand place c ≡ takes → is_waking_writer place ≡ true
+takes-writers : (point : ReadPoint) (c : OpenCall) → read_errand point c ≡ takes → is_waking_writer point ≡ true
 takes-writers (at.TakeWriter next) c e = refl
-takes-writers place c e = absurd (cc)
+takes-writers point c e = absurd (cc)
 
-wakes-reader : (place : WritePlace) (c : OpenCall) (taken : Option ℕ) → write_errand place c ≡ wakes taken → (is_waking_reader place ≡ true) × (c.taken ≡ taken)
+wakes-reader : (point : WritePoint) (c : OpenCall) (taken : Option ℕ) → write_errand point c ≡ wakes taken → (is_waking_reader point ≡ true) × (c.taken ≡ taken)
 wakes-reader (on.WakeReader next) c taken e = (refl, cc)
-wakes-reader place c taken e = absurd (cc)
+wakes-reader point c taken e = absurd (cc)
 
-takes-readers : (place : WritePlace) (c : OpenCall) → write_errand place c ≡ takes → is_waking_reader place ≡ true
+takes-readers : (point : WritePoint) (c : OpenCall) → write_errand point c ≡ takes → is_waking_reader point ≡ true
 takes-readers (on.TakeReader next) c e = refl
-takes-readers place c e = absurd (cc)
+takes-readers point c e = absurd (cc)
 
 reader-remembered : (p : Pipe) (w : Wait) → Watched w p.reader_waker None (IsBlocked Reader p) (write_errand p.writer p.writer_call) → IsRemembered Reader p w
 reader-remembered p w (woken h) = inl h
@@ -219,9 +219,9 @@ writer-remembered p w (holding h) = absurd (cc)
 
 all_remembered : (p : Pipe) (events : List Event) → Keeps p (wait_of Reader events) (wait_of Writer events) → AreRemembered p events
 all_remembered p events kept Reader idle pending = reader-remembered p (wait_of Reader events)
-    (subst (λ (place : ReadPlace). Watched (wait_of Reader events) p.reader_waker None (read_calm place p) (write_errand p.writer p.writer_call)) idle (kept.reader.waiting pending))
+    (subst (λ (point : ReadPoint). Watched (wait_of Reader events) p.reader_waker None (read_calm point p) (write_errand p.writer p.writer_call)) idle (kept.reader.waiting pending))
 all_remembered p events kept Writer idle pending = writer-remembered p (wait_of Writer events)
-    (subst (λ (place : WritePlace). Watched (wait_of Writer events) p.writer_waker (write_held place p.writer_call.taken) (write_calm place p) (read_errand p.reader p.reader_call)) idle (kept.writer.waiting pending))
+    (subst (λ (point : WritePoint). Watched (wait_of Writer events) p.writer_waker (write_held point p.writer_call.taken) (write_calm point p) (read_errand p.reader p.reader_call)) idle (kept.writer.waiting pending))
 
 -- what every list of steps keeps
 pub record Remembers (p : Pipe) (events : List Event) : Type 0 where

@@ -13,10 +13,10 @@ use Rattle.piper_sides.specs.declared.table.Purpose.{Purpose}
 use Rattle.piper_sides.specs.declared.table.Purpose.TheVariants as purpose
 use Rattle.piper_sides.specs.declared.table.AfterRead.TheVariants as afterward
 use Rattle.piper_sides.specs.declared.table.AfterWrite.TheVariants as behind
-use Rattle.piper_sides.specs.declared.table.ReadPlace.{ReadPlace}
-use Rattle.piper_sides.specs.declared.table.ReadPlace.TheVariants as at
-use Rattle.piper_sides.specs.declared.table.WritePlace.{WritePlace}
-use Rattle.piper_sides.specs.declared.table.WritePlace.TheVariants as on
+use Rattle.piper_sides.specs.declared.table.ReadPoint.{ReadPoint}
+use Rattle.piper_sides.specs.declared.table.ReadPoint.TheVariants as at
+use Rattle.piper_sides.specs.declared.table.WritePoint.{WritePoint}
+use Rattle.piper_sides.specs.declared.table.WritePoint.TheVariants as on
 use Rattle.piper_sides.specs.Index.{place_of}
 use Rattle.piper_sides.specs.Side.{head_store, tail_store}
 use Rattle.piper_sides.specs.Table.{Found, unread, refreshed, flag, granted, waker, moved, failed, Next, read_action, read_after, write_after, write_action, reader_moved, writer_moved, writer_is_open}
@@ -42,15 +42,15 @@ abbrev pub moved_of : Found → ℕ
 moved_of (moved n) = n
 moved_of found = 0
 
-pub record IsNextRead (found : Found) (next : Next ReadPlace) : Type 0 where
-  pub settled : IsSettled next.answer (reader_state next.place)
-  pub store : head_store next.place ≤ moved_of found
+pub record IsNextRead (found : Found) (next : Next ReadPoint) : Type 0 where
+  pub settled : IsSettled next.answer (reader_state next.point)
+  pub store : head_store next.point ≤ moved_of found
 
 reader_moves-on : (none : Bool) (n : ℕ) (form : Form) (sum : ℕ) → IsNextRead (moved n) (reader_moved none n form sum)
 reader_moves-on true n form sum = record { settled = λ none. absurd (cc); store = omega arith }
 reader_moves-on false n form sum = record { settled = refl; store = omega arith }
 
-pub reads-on : (capacity : ℕ) (place : ReadPlace) (found : Found) → reader_state place ≡ Busy → IsNextRead found (read_after capacity place found)
+pub reads-on : (capacity : ℕ) (point : ReadPoint) (found : Found) → reader_state point ≡ Busy → IsNextRead found (read_after capacity point found)
 reads-on capacity at.Idle found busy = absurd (cc)
 reads-on capacity at.Dropped found busy = absurd (cc)
 reads-on capacity (at.QueryTail query) (unread count) busy = record { settled = λ none. absurd (cc); store = omega arith }
@@ -83,13 +83,13 @@ reads-on capacity (at.TakeWriter next) (waker true) busy = record { settled = re
 reads-on capacity (at.WakeWriter afterward.Answer) found busy = record { settled = λ none. absurd (cc); store = omega arith }
 reads-on capacity (at.WakeWriter afterward.Drop) found busy = record { settled = λ none. absurd (cc); store = omega arith }
 reads-on capacity (at.WakeWriter (afterward.Round form sum)) found busy = record { settled = refl; store = omega arith }
-reads-on capacity place found busy = record { settled = refl; store = omega arith }
+reads-on capacity point found busy = record { settled = refl; store = omega arith }
 
-pub record ReaderStands (place : ReadPlace) (p : Pipe) : Type 0 where
+pub record ReaderStands (point : ReadPoint) (p : Pipe) : Type 0 where
   pub unread : length p.unread ≤ p.capacity
   pub start : p.start < p.capacity
   pub known : p.known ≤ length p.unread
-  pub store : head_store place ≤ peeked_count p
+  pub store : head_store point ≤ peeked_count p
 
 taken-within : (destination : Destination) (most : ℕ) → moved_of (found_of (taken most destination)) ≤ most
 taken-within (Slice size) most = omega arith
@@ -97,19 +97,19 @@ taken-within (Acts []) most = omega arith
 taken-within (Acts (dest.Fail ∷ acts)) most = omega arith
 taken-within (Acts (dest.Take size ∷ acts)) most = omega arith
 
-pub reader-settled : (place : ReadPlace) (p : Pipe) → reader_state place ≡ Busy → let s = read_step place p in IsSettled s.answer (reader_state s.pipe.reader)
+pub reader-settled : (point : ReadPoint) (p : Pipe) → reader_state point ≡ Busy → let s = read_step point p in IsSettled s.answer (reader_state s.pipe.reader)
 reader-settled at.Idle p busy = absurd (cc)
-reader-settled place p busy = (reads-on p.capacity place (found_by Reader (read_action place) p) busy).settled
+reader-settled point p busy = (reads-on p.capacity point (found_by Reader (read_action point) p) busy).settled
 
 -- a step that finds no bytes moved leaves no store next
-module _ (place : ReadPlace) (p : Pipe) (busy : reader_state place ≡ Busy) (stands : ReaderStands place p) where
-  abbrev next : Found → ReadPlace
-  next found = (read_after p.capacity place found).place
+module _ (point : ReadPoint) (p : Pipe) (busy : reader_state point ≡ Busy) (stands : ReaderStands point p) where
+  abbrev next : Found → ReadPoint
+  next found = (read_after p.capacity point found).point
 
   within : (found : Found) (most : ℕ) → moved_of found ≤ most → head_store (next found) ≤ most
-  within found most few = let store = (reads-on p.capacity place found busy).store in omega arith
+  within found most few = let store = (reads-on p.capacity point found busy).store in omega arith
 
-pub reader-stands : (place : ReadPlace) (p : Pipe) → reader_state place ≡ Busy → ReaderStands place p → let s = read_step place p in ReaderStands s.pipe.reader s.pipe
+pub reader-stands : (point : ReadPoint) (p : Pipe) → reader_state point ≡ Busy → ReaderStands point p → let s = read_step point p in ReaderStands s.pipe.reader s.pipe
 reader-stands (at.LookTail l) p busy stands = record { unread = stands.unread; start = stands.start; known = omega arith; store = within (at.LookTail l) p busy stands (refreshed (length p.unread == 0)) _ (omega arith) }
 reader-stands (at.LookTailAgain l was_closed) p busy stands = record { unread = stands.unread; start = stands.start; known = omega arith; store = within (at.LookTailAgain l was_closed) p busy stands (refreshed (length p.unread == 0)) _ (omega arith) }
 reader-stands (at.CallDestination form sum) p busy stands =
@@ -123,56 +123,56 @@ reader-stands (at.StoreHead n next) p busy stands =
 reader-stands (at.QueryHead query) p busy stands = record { unread = stands.unread; start = stands.start; known = stands.known; store = omega arith }
 reader-stands (at.QueryTail query) p busy stands = record { unread = stands.unread; start = stands.start; known = stands.known; store = omega arith }
 reader-stands at.QueryClosed p busy stands = record { unread = stands.unread; start = stands.start; known = stands.known; store = omega arith }
-reader-stands place p busy stands = record { unread = stands.unread; start = stands.start; known = stands.known; store = within place p busy stands (found_by Reader (read_action place) p) (peeked_count p) (omega arith) }
+reader-stands point p busy stands = record { unread = stands.unread; start = stands.start; known = stands.known; store = within point p busy stands (found_by Reader (read_action point) p) (peeked_count p) (omega arith) }
 
 -- the writer
 
--- a place that no call comes to: a close of both sides inside the round of a copy
-abbrev pub closes_round : WritePlace → Bool
+-- a point that no call comes to: a close of both sides inside the round of a copy
+abbrev pub closes_round : WritePoint → Bool
 closes_round (on.StoreClosed (behind.Round form sum)) = true
-closes_round place = false
+closes_round point = false
 
-abbrev is_first : WritePlace → Bool
+abbrev is_first : WritePoint → Bool
 is_first (on.LookClosed l) = true
-is_first place = false
+is_first point = false
 
-pub record IsNextWrite (place : WritePlace) (found : Found) (next : Next WritePlace) : Type 0 where
-  pub settled : IsSettled next.answer (writer_state next.place)
-  pub store : tail_store next.place ≤ tail_store place + moved_of found
-  pub unclosed : saw_open next.place ≡ true → saw_open place ≡ true
-  pub plain : closes_round next.place ≡ false
+pub record IsNextWrite (point : WritePoint) (found : Found) (next : Next WritePoint) : Type 0 where
+  pub settled : IsSettled next.answer (writer_state next.point)
+  pub store : tail_store next.point ≤ tail_store point + moved_of found
+  pub unclosed : saw_open next.point ≡ true → saw_open point ≡ true
+  pub plain : closes_round next.point ≡ false
 
 writer_moves-on : (none : Bool) (n : ℕ) (form : Form) (sum : ℕ) → IsNextWrite (on.CallSource form sum) (moved n) (writer_moved none n form sum)
 writer_moves-on true n form sum = record { settled = λ none. absurd (cc); store = omega arith; unclosed = λ saw. refl; plain = refl }
 writer_moves-on false n form sum = record { settled = refl; store = omega arith; unclosed = λ saw. refl; plain = refl }
 
 -- of the first look of a fill: what it finds open is open
-opens-on : (is_closed none : Bool) (l : Purpose) → saw_open (writer_is_open is_closed none l).place ≡ true → is_closed ≡ false
+opens-on : (is_closed none : Bool) (l : Purpose) → saw_open (writer_is_open is_closed none l).point ≡ true → is_closed ≡ false
 opens-on true none l saw = absurd (cc)
 opens-on false none l saw = refl
 
-opens-settled : (is_closed none : Bool) (l : Purpose) → let next = writer_is_open is_closed none l in IsSettled next.answer (writer_state next.place)
+opens-settled : (is_closed none : Bool) (l : Purpose) → let next = writer_is_open is_closed none l in IsSettled next.answer (writer_state next.point)
 opens-settled true none l = λ none. absurd (cc)
 opens-settled false true l = refl
 opens-settled false false purpose.Poll = refl
 opens-settled false false (purpose.Copy Try) = refl
 opens-settled false false (purpose.Copy (Polling drawn)) = refl
 
-opens-store : (is_closed none : Bool) (l : Purpose) → tail_store (writer_is_open is_closed none l).place ≡ 0
+opens-store : (is_closed none : Bool) (l : Purpose) → tail_store (writer_is_open is_closed none l).point ≡ 0
 opens-store true none l = refl
 opens-store false true l = refl
 opens-store false false purpose.Poll = refl
 opens-store false false (purpose.Copy Try) = refl
 opens-store false false (purpose.Copy (Polling drawn)) = refl
 
-opens-plain : (is_closed none : Bool) (l : Purpose) → closes_round (writer_is_open is_closed none l).place ≡ false
+opens-plain : (is_closed none : Bool) (l : Purpose) → closes_round (writer_is_open is_closed none l).point ≡ false
 opens-plain true none l = refl
 opens-plain false true l = refl
 opens-plain false false purpose.Poll = refl
 opens-plain false false (purpose.Copy Try) = refl
 opens-plain false false (purpose.Copy (Polling drawn)) = refl
 
-writes-on : (capacity room : ℕ) (place : WritePlace) (found : Found) → writer_state place ≡ Busy → is_first place ≡ false → closes_round place ≡ false → IsNextWrite place found (write_after capacity room place found)
+writes-on : (capacity room : ℕ) (point : WritePoint) (found : Found) → writer_state point ≡ Busy → is_first point ≡ false → closes_round point ≡ false → IsNextWrite point found (write_after capacity room point found)
 writes-on capacity room (on.LookClosed l) found busy later plain = absurd (cc)
 writes-on capacity room on.Idle found busy later plain = absurd (cc)
 writes-on capacity room on.Dropped found busy later plain = absurd (cc)
@@ -228,7 +228,7 @@ writes-on capacity room (on.StoreClosed (behind.Round form sum)) found busy late
 writes-on capacity room on.TakeWriter (waker false) busy later plain = record { settled = λ none. absurd (cc); store = omega arith; unclosed = λ saw. absurd (cc); plain = refl }
 writes-on capacity room on.TakeWriter (waker true) busy later plain = record { settled = refl; store = omega arith; unclosed = λ saw. absurd (cc); plain = refl }
 writes-on capacity room on.WakeWriter found busy later plain = record { settled = λ none. absurd (cc); store = omega arith; unclosed = λ saw. absurd (cc); plain = refl }
-writes-on capacity room place found busy later plain = record { settled = refl; store = omega arith; unclosed = λ saw. saw; plain = refl }
+writes-on capacity room point found busy later plain = record { settled = refl; store = omega arith; unclosed = λ saw. saw; plain = refl }
 
 given-within : (acts : List SourceAct) (lent : List ℕ) (form : Form) (sum : ℕ) (p : Pipe) → MayOffer (on.CallSource form sum) acts lent p → moved_of (found_of (given (length lent) acts)) ≤ p.room
 given-within [] lent form sum p may = omega arith
@@ -236,17 +236,17 @@ given-within (source.Fail ∷ acts) lent form sum p may = omega arith
 given-within (source.Bytes [] ∷ acts) lent form sum p may = omega arith
 given-within (source.Bytes (byte ∷ bytes) ∷ acts) lent form sum p may = let most = may.at_most in omega arith
 
-pub writer-settled : (place : WritePlace) (lent : List ℕ) (p : Pipe) → writer_state place ≡ Busy → closes_round place ≡ false → let s = fill_step place lent p in IsSettled s.answer (writer_state s.pipe.writer)
+pub writer-settled : (point : WritePoint) (lent : List ℕ) (p : Pipe) → writer_state point ≡ Busy → closes_round point ≡ false → let s = fill_step point lent p in IsSettled s.answer (writer_state s.pipe.writer)
 writer-settled (on.LookClosed l) lent p busy plain = opens-settled p.is_closed (p.room == 0) l
 writer-settled (on.CallSource form sum) lent p busy plain = (writes-on p.capacity p.room (on.CallSource form sum) (found_of (given (length lent) p.source)) busy refl refl).settled
 writer-settled (on.StoreClosed behind.Answer) lent p busy plain = refl
 writer-settled (on.StoreClosed behind.Drop) lent p busy plain = refl
 writer-settled (on.StoreClosed behind.WakeWriter) lent p busy plain = refl
 writer-settled (on.StoreClosed (behind.Round form sum)) lent p busy plain = refl
-writer-settled place lent p busy plain = (writes-on p.capacity p.room place (found_by Writer (write_action place) p) busy refl refl).settled
+writer-settled point lent p busy plain = (writes-on p.capacity p.room point (found_by Writer (write_action point) p) busy refl refl).settled
 
-pub writer-stands : (place : WritePlace) (lent : List ℕ) (p : Pipe) → writer_state place ≡ Busy → closes_round place ≡ false → WriterStands place p → MayOffer place p.source lent (record p { writer = place })
-    → let s = fill_step place lent p in WriterStands s.pipe.writer s.pipe × (closes_round s.pipe.writer ≡ false)
+pub writer-stands : (point : WritePoint) (lent : List ℕ) (p : Pipe) → writer_state point ≡ Busy → closes_round point ≡ false → WriterStands point p → MayOffer point p.source lent (record p { writer = point })
+    → let s = fill_step point lent p in WriterStands s.pipe.writer s.pipe × (closes_round s.pipe.writer ≡ false)
 writer-stands (on.LookClosed l) lent p busy plain stands may =
     let none = opens-store p.is_closed (p.room == 0) l in
     (record { unread = stands.unread; start = stands.start; room = stands.room; store = omega arith; shut = stands.shut; unclosed = opens-on p.is_closed (p.room == 0) l }, opens-plain p.is_closed (p.room == 0) l)
@@ -274,8 +274,8 @@ writer-stands (on.StoreClosed behind.Answer) lent p busy plain stands may = (rec
 writer-stands (on.StoreClosed behind.Drop) lent p busy plain stands may = (record { unread = stands.unread; start = stands.start; room = stands.room; store = omega arith; shut = λ yes. refl; unclosed = λ saw. absurd (cc) }, refl)
 writer-stands (on.StoreClosed behind.WakeWriter) lent p busy plain stands may = (record { unread = stands.unread; start = stands.start; room = stands.room; store = omega arith; shut = λ yes. refl; unclosed = λ saw. absurd (cc) }, refl)
 writer-stands (on.StoreClosed (behind.Round form sum)) lent p busy plain stands may = absurd (cc)
-writer-stands place lent p busy plain stands may =
-    let goes = writes-on p.capacity p.room place (found_by Writer (write_action place) p) busy refl refl in
+writer-stands point lent p busy plain stands may =
+    let goes = writes-on p.capacity p.room point (found_by Writer (write_action point) p) busy refl refl in
     let store = goes.store in
     let held = stands.store in
     (record { unread = stands.unread; start = stands.start; room = stands.room; store = omega arith; shut = stands.shut; unclosed = λ saw. stands.unclosed (goes.unclosed saw) }, goes.plain)

@@ -15,10 +15,10 @@ use Rattle.piper_sides.specs.declared.table.Form.{Form}
 use Rattle.piper_sides.specs.declared.table.Form.TheVariants.{Try, Polling}
 use Rattle.piper_sides.specs.declared.table.Purpose.{Purpose}
 use Rattle.piper_sides.specs.declared.table.Purpose.TheVariants as purpose
-use Rattle.piper_sides.specs.declared.table.ReadPlace.{ReadPlace}
-use Rattle.piper_sides.specs.declared.table.ReadPlace.TheVariants as at
-use Rattle.piper_sides.specs.declared.table.WritePlace.{WritePlace}
-use Rattle.piper_sides.specs.declared.table.WritePlace.TheVariants as on
+use Rattle.piper_sides.specs.declared.table.ReadPoint.{ReadPoint}
+use Rattle.piper_sides.specs.declared.table.ReadPoint.TheVariants as at
+use Rattle.piper_sides.specs.declared.table.WritePoint.{WritePoint}
+use Rattle.piper_sides.specs.declared.table.WritePoint.TheVariants as on
 use Rattle.piper_sides.specs.Log.{answer_event}
 use Rattle.piper_sides.specs.Table.{query_answer, look_answer, count_answer}
 use Rattle.piper_machine.specs.Pipe.{Pipe}
@@ -33,16 +33,16 @@ pub data Errand : Type 0 where
   wakes : Option ℕ → Errand
 
 -- the reader's at the writer's slot
-abbrev pub read_errand : ReadPlace → OpenCall → Errand
+abbrev pub read_errand : ReadPoint → OpenCall → Errand
 read_errand (at.TakeWriter next) c = takes
 read_errand (at.WakeWriter next) c = wakes c.taken
-read_errand place c = away
+read_errand point c = away
 
 -- the writer's at the reader's slot
-abbrev pub write_errand : WritePlace → OpenCall → Errand
+abbrev pub write_errand : WritePoint → OpenCall → Errand
 write_errand (on.TakeReader next) c = takes
 write_errand (on.WakeReader next) c = wakes c.taken
-write_errand place c = away
+write_errand point c = away
 
 -- of a side with this wait and slot, that holds what it took from its own slot: its waker was called; or stands in the slot while
 -- all is calm; or stands there and the other side takes it next; or is in the other side's hand; or in its own

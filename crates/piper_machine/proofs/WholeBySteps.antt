@@ -18,10 +18,10 @@ use Rattle.piper_sides.specs.declared.table.Form.{Form}
 use Rattle.piper_machine.specs.Counts.{most_steps}
 use Rattle.piper_sides.specs.declared.table.Purpose.{Purpose}
 use Rattle.piper_sides.specs.declared.table.Purpose.TheVariants as purpose
-use Rattle.piper_sides.specs.declared.table.ReadPlace.{ReadPlace}
-use Rattle.piper_sides.specs.declared.table.ReadPlace.TheVariants as at
-use Rattle.piper_sides.specs.declared.table.WritePlace.{WritePlace}
-use Rattle.piper_sides.specs.declared.table.WritePlace.TheVariants as on
+use Rattle.piper_sides.specs.declared.table.ReadPoint.{ReadPoint}
+use Rattle.piper_sides.specs.declared.table.ReadPoint.TheVariants as at
+use Rattle.piper_sides.specs.declared.table.WritePoint.{WritePoint}
+use Rattle.piper_sides.specs.declared.table.WritePoint.TheVariants as on
 use Rattle.piper_sides.specs.Open.{no_call}
 use Rattle.piper_machine.specs.declared.destination.Destination.TheVariants.{Slice}
 use Rattle.piper_machine.specs.declared.machine.Machine.TheInside.{Inside}
@@ -48,13 +48,13 @@ abbrev pub HoldsNothing : Side → Pipe → Type 0
 HoldsNothing Reader p = p.reader ≡ at.Idle → (p.reader_call ≡ no_call) × (p.destination ≡ Slice 0)
 HoldsNothing Writer p = p.writer ≡ on.Idle → (p.writer_call ≡ no_call) × (p.source ≡ [])
 
-reader-idle : (place : ReadPlace) → cannot_begin (reader_state place) ≡ None → place ≡ at.Idle
+reader-idle : (point : ReadPoint) → cannot_begin (reader_state point) ≡ None → point ≡ at.Idle
 reader-idle at.Idle none = refl
-reader-idle place none = absurd (cc)
+reader-idle point none = absurd (cc)
 
-writer-idle : (place : WritePlace) → cannot_begin (writer_state place) ≡ None → place ≡ on.Idle
+writer-idle : (point : WritePoint) → cannot_begin (writer_state point) ≡ None → point ≡ on.Idle
 writer-idle on.Idle none = refl
-writer-idle place none = absurd (cc)
+writer-idle point none = absurd (cc)
 
 abbrev pub resting : Side → Pipe → Pipe
 resting Reader p = reader_resting p
@@ -62,17 +62,17 @@ resting Writer p = writer_resting p
 
 rests-is : (side : Side) (p : Pipe) → HoldsNothing side p → cannot_begin (state_of side p) ≡ None → p ≡ resting side p
 rests-is Reader p holds none =
-    let place = reader-idle p.reader none in
-    let held = holds place in
+    let point = reader-idle p.reader none in
+    let held = holds point in
     let of_call = held.0 in
     let destination = held.1 in
-    λ j. record p { reader = place j; reader_call = of_call j; destination = destination j }
+    λ j. record p { reader = point j; reader_call = of_call j; destination = destination j }
 rests-is Writer p holds none =
-    let place = writer-idle p.writer none in
-    let held = holds place in
+    let point = writer-idle p.writer none in
+    let held = holds point in
     let of_call = held.0 in
     let source = held.1 in
-    λ j. record p { writer = place j; writer_call = of_call j; source = source j }
+    λ j. record p { writer = point j; writer_call = of_call j; source = source j }
 
 -- a call that has a step is opened
 pub record IsOpened (c : Call) (lent others : List ℕ) (p : Pipe) : Type 0 where
@@ -202,7 +202,7 @@ lends most p = record {
       let made = run.2.made in
       let began = Began Writer (kind_of (call.WriteBuf most)) None in
       let idle = ap (λ (r : Pipe). r.writer) made.pipe ∙ writer-idle p.writer (begins-idle (call.WriteBuf most) p run.2.accepted) in
-      let over = no_more k Writer mid q run.1 after (subst (λ (place : WritePlace). cannot_go (writer_state place) ≡ None → ⊥) (sym idle) (λ none. absurd (cc))) run.3 in
+      let over = no_more k Writer mid q run.1 after (subst (λ (point : WritePoint). cannot_go (writer_state point) ≡ None → ⊥) (sym idle) (λ none. absurd (cc))) run.3 in
       let last = over.0 in (
         omega arith,
         record {

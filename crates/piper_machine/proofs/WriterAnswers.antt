@@ -25,8 +25,8 @@ use Rattle.piper_sides.specs.declared.table.Purpose.TheVariants as purpose
 use Rattle.piper_sides.specs.declared.table.Action.TheVariants as does
 use Rattle.piper_sides.specs.declared.table.AfterWrite.{AfterWrite}
 use Rattle.piper_sides.specs.declared.table.AfterWrite.TheVariants as behind
-use Rattle.piper_sides.specs.declared.table.WritePlace.{WritePlace}
-use Rattle.piper_sides.specs.declared.table.WritePlace.TheVariants as on
+use Rattle.piper_sides.specs.declared.table.WritePoint.{WritePoint}
+use Rattle.piper_sides.specs.declared.table.WritePoint.TheVariants as on
 use Rattle.piper_sides.specs.Open.{is_granted, is_yield_granted}
 use Rattle.piper_sides.specs.Side.{tail_store}
 use Rattle.piper_sides.specs.Table.{Next, nothing, granted, look_answer, write_after, query_answer, copy_answer, count_answer, failed_answer, end_or_pending, yield_answer, writer_found, writer_is_open, writer_looked, writer_looked_again, writer_registered, writer_is_true, writer_moved, writer_rounds, reader_taken, write_done, own_taken}
@@ -82,7 +82,7 @@ WriterCloses behind.Drop t = t.call ≡ Some (call.Drop Writer)
 WriterCloses behind.WakeWriter t = t.call ≡ Some call.Close
 WriterCloses next t = ⊥
 
-abbrev pub WriterAt : ℕ → WritePlace → List SourceAct → List ℕ → Told → Type 0
+abbrev pub WriterAt : ℕ → WritePoint → List SourceAct → List ℕ → Told → Type 0
 WriterAt capacity on.Idle held lent t = Unit {0}
 WriterAt capacity on.Dropped held lent t = Unit {0}
 WriterAt capacity (on.QueryHead query) held lent t = (t.call ≡ Some (query_call Writer query)) × (t.looks ≡ [])
@@ -105,21 +105,21 @@ WriterAt capacity on.TakeWriter held lent t = t.call ≡ Some call.Close
 WriterAt capacity on.WakeWriter held lent t = t.call ≡ Some call.Close
 
 -- a step that leads there answers what is right, or goes on where this is told
-abbrev Leads : ℕ → List SourceAct → (Option Answer → List ℕ) → Next WritePlace → Told → Type 0
-Leads capacity held lent_then next t = AreRightFrom capacity Writer t (answer_event Writer next.answer) × WriterAt capacity next.place (source_after next.answer held) (lent_then next.answer) (told_from Writer t (answer_event Writer next.answer))
+abbrev Leads : ℕ → List SourceAct → (Option Answer → List ℕ) → Next WritePoint → Told → Type 0
+Leads capacity held lent_then next t = AreRightFrom capacity Writer t (answer_event Writer next.answer) × WriterAt capacity next.point (source_after next.answer held) (lent_then next.answer) (told_from Writer t (answer_event Writer next.answer))
 
 -- with what the step logs before its answer
-abbrev Steps : ℕ → List SourceAct → (Option Answer → List ℕ) → Next WritePlace → Told → List Event → Type 0
+abbrev Steps : ℕ → List SourceAct → (Option Answer → List ℕ) → Next WritePoint → Told → List Event → Type 0
 Steps capacity held lent_then next t es =
     let events = es ++ answer_event Writer next.answer in
-    AreRightFrom capacity Writer t events × WriterAt capacity next.place (source_after next.answer held) (lent_then next.answer) (told_from Writer t events)
+    AreRightFrom capacity Writer t events × WriterAt capacity next.point (source_after next.answer held) (lent_then next.answer) (told_from Writer t events)
 
-steps : (capacity : ℕ) (held : List SourceAct) (lent_then : Option Answer → List ℕ) (next : Next WritePlace) (t u : Told) (es : List Event) → AreRightFrom capacity Writer t es → told_from Writer t es ≡ u → Leads capacity held lent_then next u → Steps capacity held lent_then next t es
+steps : (capacity : ℕ) (held : List SourceAct) (lent_then : Option Answer → List ℕ) (next : Next WritePoint) (t u : Told) (es : List Event) → AreRightFrom capacity Writer t es → told_from Writer t es ≡ u → Leads capacity held lent_then next u → Steps capacity held lent_then next t es
 steps capacity held lent_then next t u es right told leads =
     let fs = answer_event Writer next.answer in
     let behind = told-append Writer t es fs ∙ ap (λ (v : Told). told_from Writer v fs) told in (
       right-append capacity Writer t es fs right (subst (λ (v : Told). AreRightFrom capacity Writer v fs) (sym told) leads.0),
-      subst (λ (v : Told). WriterAt capacity next.place (source_after next.answer held) (lent_then next.answer) v) (sym behind) leads.1,
+      subst (λ (v : Told). WriterAt capacity next.point (source_after next.answer held) (lent_then next.answer) v) (sym behind) leads.1,
     )
 
 -- the count of a fill is all that its source gave, whether the last bytes are published or found the pipe closed
@@ -321,54 +321,54 @@ query-answers capacity Len number later looks moved within is = record { number 
 query-answers capacity IsEmpty number later looks moved within is = record { number = number; is_found = rw is refl; within = within; answers = refl }
 query-answers capacity IsFull number later looks moved within is = record { number = number; is_found = rw is refl; within = within; answers = refl }
 
--- the step of each place
-pub writer-place : (place : WritePlace) (offered : List ℕ) (p : Pipe) (t : Told) → length p.unread ≤ p.capacity → tail_store place ≤ length p.lent → WriterAt p.capacity place p.source p.lent t
-    → let new = went Writer (offering offered (record p { writer = place })) in AreRightFrom p.capacity Writer t new.events × WriterAt p.capacity new.pipe.writer new.pipe.source new.pipe.lent (told_from Writer t new.events)
-writer-place on.Idle offered p t fits within told = (tt, tt)
-writer-place on.Dropped offered p t fits within told = (tt, tt)
-writer-place (on.QueryHead query) offered p t fits within told = ((tt, tt), (fits, told.0, ap (λ (looks : List Seen). seen.Head (length p.unread) ∷ looks) told.1))
-writer-place (on.QueryTail query count) offered p t fits within told =
+-- the step of each point
+pub writer-point : (point : WritePoint) (offered : List ℕ) (p : Pipe) (t : Told) → length p.unread ≤ p.capacity → tail_store point ≤ length p.lent → WriterAt p.capacity point p.source p.lent t
+    → let new = went Writer (offering offered (record p { writer = point })) in AreRightFrom p.capacity Writer t new.events × WriterAt p.capacity new.pipe.writer new.pipe.source new.pipe.lent (told_from Writer t new.events)
+writer-point on.Idle offered p t fits within told = (tt, tt)
+writer-point on.Dropped offered p t fits within told = (tt, tt)
+writer-point (on.QueryHead query) offered p t fits within told = ((tt, tt), (fits, told.0, ap (λ (looks : List Seen). seen.Head (length p.unread) ∷ looks) told.1))
+writer-point (on.QueryTail query count) offered p t fits within told =
     let u = record t { looks = seen.Tail (length p.unread) ∷ t.looks } in
     let looks = ap (λ (before : List Seen). seen.Tail (length p.unread) ∷ before) told.2 in
     ((tt, answers p.capacity u Writer (query_call Writer query) (query_answer query p.capacity count) told.1 (query-answers p.capacity query count (length p.unread) u.looks t.moved told.0 looks)), tt)
-writer-place on.QueryClosed offered p t fits within told =
+writer-point on.QueryClosed offered p t fits within told =
     let u = record t { looks = seen.Closed p.is_closed ∷ t.looks } in
     ((tt, answers p.capacity u Writer (call.IsClosed Writer) _ told.0 (ap (λ (before : List Seen). seen.Closed p.is_closed ∷ before) told.1)), tt)
-writer-place (on.LookClosed l) offered p t fits within told =
+writer-point (on.LookClosed l) offered p t fits within told =
     let u = record t { looks = seen.Closed p.is_closed ∷ t.looks } in
     steps p.capacity p.source (λ answer. lent_after does.LoadClosed (on.LookClosed l) answer p.lent) (writer_is_open p.is_closed (p.room == 0) l) t u (Looked Writer (seen.Closed p.is_closed) ∷ []) (tt, tt) refl (open-leads p.capacity u p.source (λ answer. lent_after does.LoadClosed (on.LookClosed l) answer p.lent) p.is_closed (p.room == 0) l (first-looked p.capacity l p.source t (seen.Closed p.is_closed) told))
-writer-place (on.LookHead l) offered p t fits within told = ((tt, tt), looks-leads p.capacity _ p.source (λ answer. p.lent) (p.capacity - length p.unread == 0) l (looked p.capacity l p.source t _ told))
-writer-place (on.LookRegister l) offered p t fits within told =
+writer-point (on.LookHead l) offered p t fits within told = ((tt, tt), looks-leads p.capacity _ p.source (λ answer. p.lent) (p.capacity - length p.unread == 0) l (looked p.capacity l p.source t _ told))
+writer-point (on.LookRegister l) offered p t fits within told =
     let quiet = registers-leaves p.capacity t Writer Writer p.writer_call.context in
     steps p.capacity p.source (λ answer. lent_after does.Register (on.LookRegister l) answer p.lent) (writer_registered (is_granted p.writer_call.context) l) t t (registration_of Writer p.writer_call.context) quiet.0 quiet.1 (registers-leads p.capacity t p.source (λ answer. lent_after does.Register (on.LookRegister l) answer p.lent) (is_granted p.writer_call.context) l told)
-writer-place (on.LookHeadAgain l) offered p t fits within told = ((tt, tt), again-leads p.capacity _ p.source (λ answer. p.lent) (p.capacity - length p.unread == 0) l (looked p.capacity l p.source t _ told))
-writer-place (on.LookClosedAgain l) offered p t fits within told =
+writer-point (on.LookHeadAgain l) offered p t fits within told = ((tt, tt), again-leads p.capacity _ p.source (λ answer. p.lent) (p.capacity - length p.unread == 0) l (looked p.capacity l p.source t _ told))
+writer-point (on.LookClosedAgain l) offered p t fits within told =
     let u = record t { looks = seen.Closed p.is_closed ∷ t.looks } in
     ((tt, ends-leads p.capacity u p.source (λ answer. p.lent) p.is_closed l (looked p.capacity l p.source t _ told)), tt)
-writer-place (on.LookTake l) offered p t fits within told = steps p.capacity p.source (λ answer. p.lent) (writer_is_true l) t t [] tt refl (true-leads p.capacity t p.source (λ answer. p.lent) l told)
-writer-place on.Yield offered p t fits within told =
+writer-point (on.LookTake l) offered p t fits within told = steps p.capacity p.source (λ answer. p.lent) (writer_is_true l) t t [] tt refl (true-leads p.capacity t p.source (λ answer. p.lent) l told)
+writer-point on.Yield offered p t fits within told =
     let quiet = yield-leaves p.capacity t Writer p.writer_call.context in
     steps p.capacity p.source (λ answer. lent_after does.Yield on.Yield answer p.lent) (write_after p.capacity p.room on.Yield (granted (is_yield_granted p.writer_call.context))) t t (yield_of p.writer_call.context) quiet.0 quiet.1 (yields-leads p.capacity t p.source (λ answer. p.lent) (is_yield_granted p.writer_call.context) told, tt)
-writer-place (on.CallSource form sum) offered p t fits within told =
+writer-point (on.CallSource form sum) offered p t fits within told =
     let n = moved_by (given (length offered) p.source) in
     steps p.capacity (left_of_source n p.source) (λ answer. filled_out true answer (take n (bytes_of p.source) ++ drop n offered)) (write_after p.capacity p.room (on.CallSource form sum) (found_of (given (length offered) p.source))) t t [] tt refl
     (source-leads p.capacity p.source form sum offered t p.room told)
-writer-place (on.RoundClosed n form sum) offered p t fits within told =
+writer-point (on.RoundClosed n form sum) offered p t fits within told =
     let u = record t { looks = seen.Closed p.is_closed ∷ t.looks } in
     let given : Fills found_open form p.source (take n p.lent) sum u = record { fill = told.fill; is = told.is; fills = told.fills; count = told.count; found = first-stays t.looks (seen.Closed p.is_closed) (seen.Closed false) told.found } in
     steps p.capacity p.source (λ answer. filled_out true answer p.lent) (writer_rounds p.is_closed n form sum) t u (Looked Writer (seen.Closed p.is_closed) ∷ []) (tt, tt) refl (rounds-leads p.capacity u p.source (λ answer. filled_out true answer p.lent) p.is_closed n form sum t.looks refl given)
-writer-place (on.StoreTail n next) offered p t fits within told =
+writer-point (on.StoreTail n next) offered p t fits within told =
     let stored = stores p.capacity n next p.source p.lent t within told in
     ((stored.0, tt), stored.1)
-writer-place (on.TakeReader next) offered p t fits within told = steps p.capacity p.source (λ answer. p.lent) (reader_taken next (is_some p.reader_waker)) t t [] tt refl (take-leads p.capacity t p.source (λ answer. p.lent) next (is_some p.reader_waker) told)
-writer-place (on.WakeReader next) offered p t fits within told =
+writer-point (on.TakeReader next) offered p t fits within told = steps p.capacity p.source (λ answer. p.lent) (reader_taken next (is_some p.reader_waker)) t t [] tt refl (take-leads p.capacity t p.source (λ answer. p.lent) next (is_some p.reader_waker) told)
+writer-point (on.WakeReader next) offered p t fits within told =
     let quiet = wake-leaves p.capacity t Writer p.writer_call.taken in
     steps p.capacity p.source (λ answer. p.lent) (write_done next) t t (wake_of p.writer_call.taken) quiet.0 quiet.1 (done-leads p.capacity t p.source (λ answer. p.lent) next told)
-writer-place (on.StoreClosed behind.WakeWriter) offered p t fits within told = ((tt, tt), told)
-writer-place (on.StoreClosed behind.Drop) offered p t fits within told = ((tt, tt), told)
-writer-place (on.StoreClosed behind.Answer) offered p t fits within told = absurd told
-writer-place (on.StoreClosed (behind.Round form sum)) offered p t fits within told = absurd told
-writer-place on.TakeWriter offered p t fits within told = steps p.capacity p.source (λ answer. p.lent) (own_taken (is_some p.writer_waker)) t t [] tt refl (own-leads p.capacity t p.source (λ answer. p.lent) (is_some p.writer_waker) told)
-writer-place on.WakeWriter offered p t fits within told =
+writer-point (on.StoreClosed behind.WakeWriter) offered p t fits within told = ((tt, tt), told)
+writer-point (on.StoreClosed behind.Drop) offered p t fits within told = ((tt, tt), told)
+writer-point (on.StoreClosed behind.Answer) offered p t fits within told = absurd told
+writer-point (on.StoreClosed (behind.Round form sum)) offered p t fits within told = absurd told
+writer-point on.TakeWriter offered p t fits within told = steps p.capacity p.source (λ answer. p.lent) (own_taken (is_some p.writer_waker)) t t [] tt refl (own-leads p.capacity t p.source (λ answer. p.lent) (is_some p.writer_waker) told)
+writer-point on.WakeWriter offered p t fits within told =
     let quiet = wake-leaves p.capacity t Writer p.writer_call.taken in
     steps p.capacity p.source (λ answer. p.lent) (write_after p.capacity p.room on.WakeWriter nothing) t t (wake_of p.writer_call.taken) quiet.0 quiet.1 (answers p.capacity t Writer call.Close answer.Done told tt, tt)

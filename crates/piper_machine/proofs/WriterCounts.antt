@@ -12,8 +12,8 @@ use Rattle.piper_sides.specs.declared.table.Purpose.{Purpose}
 use Rattle.piper_sides.specs.declared.table.Purpose.TheVariants as purpose
 use Rattle.piper_sides.specs.declared.table.AfterWrite.{AfterWrite}
 use Rattle.piper_sides.specs.declared.table.AfterWrite.TheVariants as behind
-use Rattle.piper_sides.specs.declared.table.WritePlace.{WritePlace}
-use Rattle.piper_sides.specs.declared.table.WritePlace.TheVariants as on
+use Rattle.piper_sides.specs.declared.table.WritePoint.{WritePoint}
+use Rattle.piper_sides.specs.declared.table.WritePoint.TheVariants as on
 use Rattle.piper_sides.specs.Open.{is_granted, is_yield_granted}
 use Rattle.piper_sides.specs.Table.{Next, goes_on, ends, look_answer, end_or_pending, write_action, write_after, write_done, writer_is_open, writer_looked, writer_looked_again, writer_registered, writer_is_true, writer_moved, writer_rounds, reader_taken, own_taken}
 use Rattle.piper_machine.specs.Pipe.{Pipe}
@@ -36,7 +36,7 @@ abbrev calls_after : ℕ → AfterWrite → ℕ
 calls_after room (behind.Round form sum) = 1 + room
 calls_after room next = 0
 
-abbrev pub write_calls : ℕ → ℕ → WritePlace → ℕ
+abbrev pub write_calls : ℕ → ℕ → WritePoint → ℕ
 write_calls found room (on.LookClosed l) = look_calls found l
 write_calls found room (on.LookHead l) = look_calls found l
 write_calls found room (on.LookRegister l) = look_calls found l
@@ -48,28 +48,28 @@ write_calls found room (on.StoreTail n next) = calls_after (room - n) next
 write_calls found room (on.TakeReader next) = calls_after room next
 write_calls found room (on.WakeReader next) = calls_after room next
 write_calls found room (on.StoreClosed next) = calls_after room next
-write_calls found room place = 0
+write_calls found room point = 0
 
 -- before a look has found something it can still find anything
-abbrev pub write_least : ℕ → WritePlace → ℕ
+abbrev pub write_least : ℕ → WritePoint → ℕ
 write_least found (on.LookClosed l) = 0
 write_least found (on.LookHead l) = 0
 write_least found (on.LookRegister l) = 0
 write_least found (on.LookHeadAgain l) = 0
 write_least found (on.LookClosedAgain l) = 0
-write_least found place = found
+write_least found point = found
 
--- what the writer's place tells of what it knows
-abbrev pub WriterSees : WritePlace → ℕ → Knowledge → Type 0
+-- what the writer's point tells of what it knows
+abbrev pub WriterSees : WritePoint → ℕ → Knowledge → Type 0
 WriterSees (on.QueryHead query) room k = (k.is_query ≡ true)
 WriterSees (on.LookClosed l) room k = (k.is_query ≡ false) × (room ≤ k.found)
 WriterSees (on.LookHead l) room k = (k.is_query ≡ false)
 WriterSees (on.LookRegister l) room k = (k.is_query ≡ false)
 WriterSees (on.LookHeadAgain l) room k = (k.is_query ≡ false)
 WriterSees (on.LookTake l) room k = (1 ≤ room)
-WriterSees place room k = ⊤
+WriterSees point room k = ⊤
 
-pub writer-fits : (place : WritePlace) (room : ℕ) (k : Knowledge) → WriterSees place room k → Fits Writer (write_action place) k
+pub writer-fits : (point : WritePoint) (room : ℕ) (k : Knowledge) → WriterSees point room k → Fits Writer (write_action point) k
 writer-fits (on.QueryHead query) room k sees = sees
 writer-fits (on.LookHead l) room k sees = sees
 writer-fits (on.LookHeadAgain l) room k sees = sees
@@ -77,18 +77,18 @@ writer-fits (on.StoreClosed behind.Answer) room k sees = tt
 writer-fits (on.StoreClosed behind.Drop) room k sees = tt
 writer-fits (on.StoreClosed behind.WakeWriter) room k sees = tt
 writer-fits (on.StoreClosed (behind.Round form sum)) room k sees = tt
-writer-fits place room k sees = tt
+writer-fits point room k sees = tt
 
 -- where a look finds so much
-pub record WriteNearer (f : ℕ) (place : WritePlace) (found room : ℕ) (next : WritePlace) (room_next : ℕ) : Type 0 where
-  pub from : write_least found place ≤ f
-  pub steps : write_steps f room_next next < write_steps f room place
-  pub calls : calls_of (write_action place) + write_calls f room_next next ≤ write_calls f room place
+pub record WriteNearer (f : ℕ) (point : WritePoint) (found room : ℕ) (next : WritePoint) (room_next : ℕ) : Type 0 where
+  pub from : write_least found point ≤ f
+  pub steps : write_steps f room_next next < write_steps f room point
+  pub calls : calls_of (write_action point) + write_calls f room_next next ≤ write_calls f room point
 
-pub record WriterGoes (place : WritePlace) (room : ℕ) (k : Knowledge) (next : Next WritePlace) (room_next : ℕ) (k_next : Knowledge) : Type 0 where
-  pub sees : WriterSees next.place room_next k_next
+pub record WriterGoes (point : WritePoint) (room : ℕ) (k : Knowledge) (next : Next WritePoint) (room_next : ℕ) (k_next : Knowledge) : Type 0 where
+  pub sees : WriterSees next.point room_next k_next
   pub ready : room_next ≤ k_next.known → IsReadyNext Writer k_next next.answer
-  pub nearer : (f : ℕ) → write_least k_next.found next.place ≤ f → WriteNearer f place k.found room next.place room_next
+  pub nearer : (f : ℕ) → write_least k_next.found next.point ≤ f → WriteNearer f point k.found room next.point room_next
 
 module _ (room : ℕ) (k : Knowledge) where
   open-goes : (is_closed none : Bool) (l : Purpose) → (k.is_query ≡ false) × (room ≤ k.found) → (room == 0) ≡ none → WriterGoes (on.LookClosed l) room k (writer_is_open is_closed none l) room k
@@ -172,11 +172,11 @@ given-within (source.Bytes [] ∷ acts) lent p form sum n may is = let count : m
 given-within (source.Bytes (byte ∷ bytes) ∷ acts) lent p form sum n may is = let count : min (length lent) (length (byte ∷ bytes)) ≡ n = cc in omega (arith, may.at_most)
 
 -- the writer makes its step, with what is lent to a call of the source
-abbrev pub writer_next : WritePlace → Pipe → Next WritePlace
-writer_next place p = write_after p.capacity p.room place (found_by Writer (write_action place) p)
+abbrev pub writer_next : WritePoint → Pipe → Next WritePoint
+writer_next point p = write_after p.capacity p.room point (found_by Writer (write_action point) p)
 
-pub writer-goes : (place : WritePlace) (lent : List ℕ) (p : Pipe) (k : Knowledge) → WriterSees place p.room k → MayOffer place p.source lent p → cannot_go (writer_state place) ≡ None
-    → let q = offering lent (record p { writer = place }) in WriterGoes place p.room k (writer_next place q) (performed Writer (write_action place) q).room (learned Writer (write_action place) q k)
+pub writer-goes : (point : WritePoint) (lent : List ℕ) (p : Pipe) (k : Knowledge) → WriterSees point p.room k → MayOffer point p.source lent p → cannot_go (writer_state point) ≡ None
+    → let q = offering lent (record p { writer = point }) in WriterGoes point p.room k (writer_next point q) (performed Writer (write_action point) q).room (learned Writer (write_action point) q k)
 writer-goes on.Idle lent p k sees may busy = absurd (cc)
 writer-goes on.Dropped lent p k sees may busy = absurd (cc)
 writer-goes (on.QueryHead query) lent p k sees may busy = record { sees = tt; ready = λ enough. tt; nearer = λ f most. record { from = most; steps = omega arith; calls = omega arith } }

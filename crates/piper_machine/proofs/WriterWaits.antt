@@ -1,4 +1,4 @@
--- The writer as a waiter, from place to place of its own calls, and what each of its steps is to a waiting reader.
+-- The writer as a waiter, from point to point of its own calls, and what each of its steps is to a waiting reader.
 use Rattle.std.proofs.Common.{◌≡◌, ℕ, ◌-◌, ◌≤◌, List, [], ◌++◌, length, take, Bool, true, false, Option, None, Some, ◌==◌, Result, Ok, Err, refl, sym, ap, subst, ◌∙◌, arith, length-append, length-take-le}
 use Rattle.std.specs.Bool.{⊤}
 use Rattle.std.proofs.lemmas.Bool.Decides.{nat_tests}
@@ -14,8 +14,8 @@ use Rattle.piper_sides.specs.declared.table.Purpose.{Purpose}
 use Rattle.piper_sides.specs.declared.table.Purpose.TheVariants as purpose
 use Rattle.piper_sides.specs.declared.table.AfterWrite.{AfterWrite}
 use Rattle.piper_sides.specs.declared.table.AfterWrite.TheVariants as behind
-use Rattle.piper_sides.specs.declared.table.WritePlace.{WritePlace}
-use Rattle.piper_sides.specs.declared.table.WritePlace.TheVariants as on
+use Rattle.piper_sides.specs.declared.table.WritePoint.{WritePoint}
+use Rattle.piper_sides.specs.declared.table.WritePoint.TheVariants as on
 use Rattle.piper_sides.specs.Table.{Next, write_action, end_or_pending, look_answer, writer_is_open, writer_looked, writer_looked_again, writer_moved, writer_rounds, write_after, yield_answer, ends, write_done}
 use Rattle.piper_sides.specs.Log.{answer_event}
 use Rattle.piper_sides.specs.Open.{is_yield_granted}
@@ -30,7 +30,7 @@ use Rattle.piper_machine.proofs.Watching.{Errand, wakes, write_errand, Watched, 
 
 -- what holds of the pipe while the waker stands in the slot: nothing any more once the writer itself has closed; behind its own take
 -- it does not stand there, and a close that wakes the reader alone does not occur
-abbrev pub write_calm : WritePlace → Pipe → Type 0
+abbrev pub write_calm : WritePoint → Pipe → Type 0
 write_calm on.Dropped p = ⊤
 write_calm (on.TakeReader behind.Drop) p = ⊤
 write_calm (on.TakeReader behind.WakeWriter) p = ⊤
@@ -40,15 +40,15 @@ write_calm on.TakeWriter p = ⊤
 write_calm on.WakeWriter p = ⊥
 write_calm (on.StoreClosed behind.Answer) p = ⊥
 write_calm (on.StoreClosed (behind.Round form sum)) p = ⊥
-write_calm place p = IsBlocked Writer p
+write_calm point p = IsBlocked Writer p
 
 -- what the writer took from its own slot
-abbrev pub write_held : WritePlace → Option ℕ → Option ℕ
+abbrev pub write_held : WritePoint → Option ℕ → Option ℕ
 write_held on.WakeWriter taken = taken
-write_held place taken = None
+write_held point taken = None
 
 -- inside a look: handed over, and behind the registration watched over
-abbrev pub WriteLook : WritePlace → Pipe → Errand → Wait → Type 0
+abbrev pub WriteLook : WritePoint → Pipe → Errand → Wait → Type 0
 WriteLook (on.LookClosed l) p e w = HasBegun l p.writer_call.context w
 WriteLook (on.LookHead l) p e w = HasBegun l p.writer_call.context w
 WriteLook (on.LookRegister l) p e w = IsHanded p.writer_call.context w
@@ -56,7 +56,7 @@ WriteLook (on.LookHeadAgain l) p e w = HasBegun l p.writer_call.context w × Awa
 WriteLook (on.LookClosedAgain l) p e w = HasBegun l p.writer_call.context w × Awaits l w p.writer_waker (length p.unread ≡ p.capacity) e
 WriteLook (on.LookTake l) p e w = IsHanded p.writer_call.context w
 WriteLook on.Yield p e w = IsHanded p.writer_call.context w
-WriteLook place p e w = ⊤
+WriteLook point p e w = ⊤
 
 pub record WriteWaits (p : Pipe) (e : Errand) (w : Wait) : Type 0 where
   pub waiting : w.is_pending ≡ true → Watched w p.writer_waker (write_held p.writer p.writer_call.taken) (write_calm p.writer p) e
@@ -70,7 +70,7 @@ same-full same full = ap (λ (xs : List ℕ). length xs) same.unread ∙ full �
 same-blocked : {p q : Pipe} → Same p q → IsBlocked Writer p → IsBlocked Writer q
 same-blocked same b = (same-full same b.0, same.closed ∙ b.1)
 
-write_calm-same : {p q : Pipe} (place : WritePlace) → Same p q → write_calm place p → write_calm place q
+write_calm-same : {p q : Pipe} (point : WritePoint) → Same p q → write_calm point p → write_calm point q
 write_calm-same on.Dropped same c = tt
 write_calm-same (on.TakeReader behind.Drop) same c = tt
 write_calm-same (on.TakeReader behind.WakeWriter) same c = tt
@@ -80,9 +80,9 @@ write_calm-same on.TakeWriter same c = tt
 write_calm-same on.WakeWriter same c = c
 write_calm-same (on.StoreClosed behind.Answer) same c = c
 write_calm-same (on.StoreClosed (behind.Round form sum)) same c = c
-write_calm-same place same c = same-blocked same c
+write_calm-same point same c = same-blocked same c
 
-look-touched : (p q : Pipe) (e e_after : Errand) (w v : Wait) (place : WritePlace) → q.writer_call ≡ p.writer_call → Touch p q p.writer_waker q.writer_waker e e_after w v → WriteLook place p e w → WriteLook place q e_after v
+look-touched : (p q : Pipe) (e e_after : Errand) (w v : Wait) (point : WritePoint) → q.writer_call ≡ p.writer_call → Touch p q p.writer_waker q.writer_waker e e_after w v → WriteLook point p e w → WriteLook point q e_after v
 look-touched p q e e_after w v (on.LookClosed l) same t h = rw same (begun-touched l p.writer_call.context t h)
 look-touched p q e e_after w v (on.LookHead l) same t h = rw same (begun-touched l p.writer_call.context t h)
 look-touched p q e e_after w v (on.LookRegister l) same t h = rw same (handed-touched p.writer_call.context t h)
@@ -90,16 +90,16 @@ look-touched p q e e_after w v (on.LookHeadAgain l) same t h = (rw same (begun-t
 look-touched p q e e_after w v (on.LookClosedAgain l) same t h = (rw same (begun-touched l p.writer_call.context t h.0), awaits-touched l _ _ same-full t h.1)
 look-touched p q e e_after w v (on.LookTake l) same t h = rw same (handed-touched p.writer_call.context t h)
 look-touched p q e e_after w v on.Yield same t h = rw same (handed-touched p.writer_call.context t h)
-look-touched p q e e_after w v place same t h = tt
+look-touched p q e e_after w v point same t h = tt
 
 held-same : (p q : Pipe) → q.writer ≡ p.writer → q.writer_call ≡ p.writer_call → write_held q.writer q.writer_call.taken ≡ write_held p.writer p.writer_call.taken
-held-same p q place call = rw (place, call) refl
+held-same p q point call = rw (point, call) refl
 
 pub writer-touched : (p q : Pipe) (e e_after : Errand) (w v : Wait) → q.writer ≡ p.writer → q.writer_call ≡ p.writer_call → Touch p q p.writer_waker q.writer_waker e e_after w v → WriteWaits p e w → WriteWaits q e_after v
-writer-touched p q e e_after w v place call t h = record {
-  waiting = λ pending. rewatch _ _ refl (held-same p q place call) refl (λ a. a) (λ c. c)
-      (touched _ _ (λ same c. subst (λ (at : WritePlace). write_calm at q) (sym place) (write_calm-same p.writer same c)) t (h.waiting (sym (touched-pending t) ∙ pending)));
-  look = subst (λ (at : WritePlace). WriteLook at q e_after v) (sym place) (look-touched p q e e_after w v p.writer call t h.look);
+writer-touched p q e e_after w v point call t h = record {
+  waiting = λ pending. rewatch _ _ refl (held-same p q point call) refl (λ a. a) (λ c. c)
+      (touched _ _ (λ same c. subst (λ (at : WritePoint). write_calm at q) (sym point) (write_calm-same p.writer same c)) t (h.waiting (sym (touched-pending t) ∙ pending)));
+  look = subst (λ (at : WritePoint). WriteLook at q e_after v) (sym point) (look-touched p q e e_after w v p.writer call t h.look);
 }
 
 -- the writer's own steps
@@ -112,9 +112,9 @@ queried : (query : Query) (count : ℕ) (p : Pipe) (e : Errand) (w : Wait) → G
 queried query count p e w h = rw (query-told query p.capacity count w) (record { waiting = h.waiting; look = tt })
 
 -- a call that goes on, or has answered, with this left of its source and of what is lent
-abbrev Stands : Next WritePlace → List SourceAct → List ℕ → Pipe → Errand → Wait → Type 0
+abbrev Stands : Next WritePoint → List SourceAct → List ℕ → Pipe → Errand → Wait → Type 0
 Stands next source lent p e w =
-    WriteWaits (record p { writer = next.place; writer_call = call_after next.answer p.writer_call; source = source; lent = lent }) e (wait_from Writer w (answer_event Writer next.answer))
+    WriteWaits (record p { writer = next.point; writer_call = call_after next.answer p.writer_call; source = source; lent = lent }) e (wait_from Writer w (answer_event Writer next.answer))
 
 opens : (l : Purpose) (is_closed none : Bool) (source : List SourceAct) (lent : List ℕ) (p : Pipe) (e : Errand) (w : Wait) → WriteWaits (record p { writer = on.LookClosed l }) e w → Stands (writer_is_open is_closed none l) source lent p e w
 opens purpose.Poll true none source lent p e w h = record { waiting = h.waiting; look = tt }
@@ -269,7 +269,7 @@ full_from p sound none = let within = sound.unread in grind (arith, nat_tests)
 abbrev pub GoesOffered : List ℕ → Pipe → Errand → Wait → Type 0
 GoesOffered offered p e w = WriteWaits p e w → let to = went Writer (offering offered p) in WriteWaits to.pipe e (wait_from Writer w to.events)
 
-pub writer-goes : (offered : List ℕ) (place : WritePlace) (p : Pipe) (e : Errand) (w : Wait) → IsSound (record p { writer = place }) → GoesOffered offered (record p { writer = place }) e w
+pub writer-goes : (offered : List ℕ) (point : WritePoint) (p : Pipe) (e : Errand) (w : Wait) → IsSound (record p { writer = point }) → GoesOffered offered (record p { writer = point }) e w
 writer-goes offered on.Idle p e w sound h = record { waiting = h.waiting; look = tt }
 writer-goes offered on.Dropped p e w sound h = record { waiting = h.waiting; look = tt }
 writer-goes offered (on.QueryHead query) p e w sound h = record { waiting = h.waiting; look = tt }
@@ -314,7 +314,7 @@ TouchesOffered offered p w =
     let to = went Writer (offering offered p) in
     Touch p to.pipe p.reader_waker to.pipe.reader_waker (write_errand p.writer p.writer_call) (write_errand to.pipe.writer to.pipe.writer_call) w (wait_from Reader w to.events)
 
-pub writer-touches : (offered : List ℕ) (place : WritePlace) (p : Pipe) (w : Wait) → TouchesOffered offered (record p { writer = place }) w
+pub writer-touches : (offered : List ℕ) (point : WritePoint) (p : Pipe) (w : Wait) → TouchesOffered offered (record p { writer = point }) w
 writer-touches offered on.Idle p w = rests None (same _ _ refl refl refl) refl refl refl
 writer-touches offered on.Dropped p w = rests None (same _ _ refl refl refl) refl refl refl
 writer-touches offered (on.QueryHead query) p w = rests None (same _ _ refl refl refl) refl refl refl

@@ -1,4 +1,4 @@
--- What remains of a call from any place inside it, if the other side makes no step until it answers.
+-- What remains of a call from any point inside it, if the other side makes no step until it answers.
 use Rattle.std.specs.Prelude.{ℕ, ◌+◌, ◌-◌, ◌*◌, min, [], length, Bool, true, false, Option, None, Some, ◌==◌, Result, Ok}
 use Rattle.piper_sides.specs.declared.calls.Side.{Side}
 use Rattle.piper_sides.specs.declared.calls.Side.TheVariants.{Reader, Writer}
@@ -18,10 +18,10 @@ use Rattle.piper_sides.specs.declared.table.AfterRead.{AfterRead}
 use Rattle.piper_sides.specs.declared.table.AfterRead.TheVariants as afterward
 use Rattle.piper_sides.specs.declared.table.AfterWrite.{AfterWrite}
 use Rattle.piper_sides.specs.declared.table.AfterWrite.TheVariants as behind
-use Rattle.piper_sides.specs.declared.table.ReadPlace.{ReadPlace}
-use Rattle.piper_sides.specs.declared.table.ReadPlace.TheVariants as at
-use Rattle.piper_sides.specs.declared.table.WritePlace.{WritePlace}
-use Rattle.piper_sides.specs.declared.table.WritePlace.TheVariants as on
+use Rattle.piper_sides.specs.declared.table.ReadPoint.{ReadPoint}
+use Rattle.piper_sides.specs.declared.table.ReadPoint.TheVariants as at
+use Rattle.piper_sides.specs.declared.table.WritePoint.{WritePoint}
+use Rattle.piper_sides.specs.declared.table.WritePoint.TheVariants as on
 use Rattle.piper_sides.specs.Open.{no_call, is_granted, is_yield_granted}
 use Rattle.piper_machine.specs.Pipe.{Pipe}
 use Rattle.piper_sides.specs.Table.{end_or_pending}
@@ -61,11 +61,11 @@ moved_answer form copied = Copy copied
 -- the reader
 
 -- a call that has answered holds nothing
-abbrev pub reader_left : ReadPlace → Pipe → Pipe
-reader_left place p = record p { reader = place; reader_call = no_call; destination = Slice 0 }
+abbrev pub reader_left : ReadPoint → Pipe → Pipe
+reader_left point p = record p { reader = point; reader_call = no_call; destination = Slice 0 }
 
-abbrev pub reader_ended : ReadPlace → Answer → Pipe → Ended
-reader_ended place answer p = record { answer = answer; pipe = reader_left place p }
+abbrev pub reader_ended : ReadPoint → Answer → Pipe → Ended
+reader_ended point answer p = record { answer = answer; pipe = reader_left point p }
 
 -- the rounds of a drain, where so many bytes have moved before
 abbrev pub drain_moves_on : Destination → ℕ → Pipe → Copied (Result ℕ Failed)
@@ -137,7 +137,7 @@ reader_done_alone afterward.Answer p = reader_ended at.Idle Done p
 reader_done_alone afterward.Drop p = reader_ended at.Dropped Done p
 reader_done_alone (afterward.Round form sum) p = reader_moves_alone form sum p
 
-abbrev pub reader_remains : ReadPlace → Pipe → Ended
+abbrev pub reader_remains : ReadPoint → Pipe → Ended
 reader_remains at.Idle p = reader_ended at.Idle Done p
 reader_remains at.Dropped p = reader_ended at.Dropped Done p
 reader_remains (at.QueryHead query) p =
@@ -160,9 +160,9 @@ reader_remains (at.WakeWriter next) p =
 reader_remains at.StoreClosed p =
     reader_done_alone afterward.Drop (writer_woken (closed_by false p))
 
--- the place itself is of no more use
-abbrev pub reader_alone : ReadPlace → Pipe → Ended
-reader_alone place p = reader_remains place (record p { reader = at.Idle })
+-- the point itself is of no more use
+abbrev pub reader_alone : ReadPoint → Pipe → Ended
+reader_alone point p = reader_remains point (record p { reader = at.Idle })
 
 -- the most steps of the rounds that remain, where so many bytes are known: a round makes four, and a last one calls the destination
 abbrev pub drain_steps : ℕ → ℕ
@@ -177,7 +177,7 @@ read_steps_after known (afterward.Round form sum) = drain_steps known
 read_steps_after known next = 0
 
 -- the most steps that remain, where the look finds so many bytes and so many are known
-abbrev pub read_steps : ℕ → ℕ → ReadPlace → ℕ
+abbrev pub read_steps : ℕ → ℕ → ReadPoint → ℕ
 read_steps found known at.Idle = 0
 read_steps found known at.Dropped = 0
 read_steps found known (at.QueryHead query) = 2
@@ -200,7 +200,7 @@ abbrev pub is_drain_round : AfterRead → Bool
 is_drain_round (afterward.Round form sum) = true
 is_drain_round next = false
 
-abbrev pub is_draining : ReadPlace → Bool
+abbrev pub is_draining : ReadPoint → Bool
 is_draining (at.LookTail l) = is_copy l
 is_draining (at.LookRegister l) = is_copy l
 is_draining (at.LookClosed l) = is_copy l
@@ -211,22 +211,22 @@ is_draining (at.CallDestination form sum) = true
 is_draining (at.StoreHead n next) = is_drain_round next
 is_draining (at.TakeWriter next) = is_drain_round next
 is_draining (at.WakeWriter next) = is_drain_round next
-is_draining place = false
+is_draining point = false
 
 -- the most wakers that a call which copies nothing still calls
-abbrev pub read_wakes : ReadPlace → ℕ
+abbrev pub read_wakes : ReadPoint → ℕ
 read_wakes (at.StoreHead n next) = 1
 read_wakes (at.TakeWriter next) = 1
 read_wakes (at.WakeWriter next) = 1
 read_wakes at.StoreClosed = 1
-read_wakes place = 0
+read_wakes point = 0
 
 -- the writer
 
-abbrev pub writer_ended : WritePlace → Answer → Pipe → Ended
-writer_ended place answer p = record {
+abbrev pub writer_ended : WritePoint → Answer → Pipe → Ended
+writer_ended point answer p = record {
   answer = answer;
-  pipe = record p { writer = place; writer_call = no_call; source = [] };
+  pipe = record p { writer = point; writer_call = no_call; source = [] };
 }
 
 -- a fill leaves nothing lent
@@ -320,7 +320,7 @@ abbrev pub shuts : AfterWrite → Bool
 shuts behind.WakeWriter = true
 shuts next = false
 
-abbrev pub writer_remains : WritePlace → Pipe → Ended
+abbrev pub writer_remains : WritePoint → Pipe → Ended
 writer_remains on.Idle p = writer_ended on.Idle Done p
 writer_remains on.Dropped p = writer_ended on.Dropped Done p
 writer_remains (on.QueryHead query) p =
@@ -347,8 +347,8 @@ writer_remains on.TakeWriter p = writer_ended on.Idle Done (writer_woken p)
 writer_remains on.WakeWriter p =
     writer_ended on.Idle Done (record p { woken = with_waker p.woken p.writer_call.taken })
 
-abbrev pub writer_alone : WritePlace → Pipe → Ended
-writer_alone place p = writer_remains place (record p { writer = on.Idle })
+abbrev pub writer_alone : WritePoint → Pipe → Ended
+writer_alone point p = writer_remains point (record p { writer = on.Idle })
 
 -- the most steps of the rounds that remain, where so much room is known: a round makes five, and a last one calls the source
 abbrev pub fill_steps : ℕ → ℕ
@@ -369,7 +369,7 @@ wakes_after behind.WakeWriter = 1
 wakes_after next = 0
 
 -- the most steps that remain, where the look finds so much room and so much is known
-abbrev pub write_steps : ℕ → ℕ → WritePlace → ℕ
+abbrev pub write_steps : ℕ → ℕ → WritePoint → ℕ
 write_steps found room on.Idle = 0
 write_steps found room on.Dropped = 0
 write_steps found room (on.QueryHead query) = 2
@@ -396,7 +396,7 @@ abbrev pub is_fill_round : AfterWrite → Bool
 is_fill_round (behind.Round form sum) = true
 is_fill_round next = false
 
-abbrev pub is_filling : WritePlace → Bool
+abbrev pub is_filling : WritePoint → Bool
 is_filling (on.LookClosed l) = is_copy l
 is_filling (on.LookHead l) = is_copy l
 is_filling (on.LookRegister l) = is_copy l
@@ -410,13 +410,13 @@ is_filling (on.StoreTail n next) = is_fill_round next
 is_filling (on.TakeReader next) = is_fill_round next
 is_filling (on.WakeReader next) = is_fill_round next
 is_filling (on.StoreClosed next) = is_fill_round next
-is_filling place = false
+is_filling point = false
 
-abbrev pub write_wakes : WritePlace → ℕ
+abbrev pub write_wakes : WritePoint → ℕ
 write_wakes (on.StoreTail n next) = 1 + wakes_after next
 write_wakes (on.TakeReader next) = 1 + wakes_after next
 write_wakes (on.WakeReader next) = 1 + wakes_after next
 write_wakes (on.StoreClosed next) = 1 + wakes_after next
 write_wakes on.TakeWriter = 1
 write_wakes on.WakeWriter = 1
-write_wakes place = 0
+write_wakes point = 0

@@ -1,7 +1,7 @@
 -- How the fields of a machine stand for a pipe.
 use Rattle.std.specs.Prelude.{◌≡◌, ◌≤◌, [], length, take, drop, true}
-use Rattle.piper_sides.specs.declared.table.ReadPlace.TheVariants as at
-use Rattle.piper_sides.specs.declared.table.WritePlace.TheVariants as on
+use Rattle.piper_sides.specs.declared.table.ReadPoint.TheVariants as at
+use Rattle.piper_sides.specs.declared.table.WritePoint.TheVariants as on
 use Rattle.piper_sides.specs.Open.{no_call}
 use Rattle.piper_sides.specs.Index.{distance, place_of}
 use Rattle.piper_machine.specs.declared.destination.Destination.TheVariants.{Slice}
@@ -24,9 +24,9 @@ pipe_of m =
       reader_waker = m.reader_slot;
       writer_waker = m.writer_slot;
       woken = m.woken;
-      reader = m.read.place;
+      reader = m.read.point;
       reader_call = m.reader_call;
-      writer = m.write.place;
+      writer = m.write.point;
       writer_call = m.writer_call;
       destination = m.destination;
       source = m.source;
@@ -42,7 +42,7 @@ pub record IsMachine (m : Inside) : Type 0 where
   pub room : distance m.read.capacity m.read.head m.write.tail
       ≤ distance m.write.capacity m.write.head m.write.tail
   pub shut : m.write.is_shut ≡ true → m.is_closed ≡ true
-  pub reader_call : m.read.place ≡ at.Idle → m.reader_call ≡ no_call
-  pub writer_call : m.write.place ≡ on.Idle → m.writer_call ≡ no_call
-  pub destination : m.read.place ≡ at.Idle → m.destination ≡ Slice 0
-  pub source : m.write.place ≡ on.Idle → m.source ≡ []
+  pub reader_call : m.read.point ≡ at.Idle → m.reader_call ≡ no_call
+  pub writer_call : m.write.point ≡ on.Idle → m.writer_call ≡ no_call
+  pub destination : m.read.point ≡ at.Idle → m.destination ≡ Slice 0
+  pub source : m.write.point ≡ on.Idle → m.source ≡ []

@@ -5,10 +5,10 @@ use Rattle.piper_sides.specs.declared.scripted.SourceAct.{SourceAct}
 use Rattle.piper_machine.specs.declared.destination.Destination.{Destination}
 use Rattle.piper_machine.specs.declared.destination.Destination.TheVariants.{Slice}
 use Rattle.piper_sides.specs.Open.{no_call}
-use Rattle.piper_sides.specs.declared.table.ReadPlace.{ReadPlace}
-use Rattle.piper_sides.specs.declared.table.ReadPlace.TheVariants as at
-use Rattle.piper_sides.specs.declared.table.WritePlace.{WritePlace}
-use Rattle.piper_sides.specs.declared.table.WritePlace.TheVariants as on
+use Rattle.piper_sides.specs.declared.table.ReadPoint.{ReadPoint}
+use Rattle.piper_sides.specs.declared.table.ReadPoint.TheVariants as at
+use Rattle.piper_sides.specs.declared.table.WritePoint.{WritePoint}
+use Rattle.piper_sides.specs.declared.table.WritePoint.TheVariants as on
 
 pub record Pipe : Type 0 where
   pub capacity : ℕ
@@ -31,9 +31,9 @@ pub record Pipe : Type 0 where
   -- the wakers called by the last whole call, oldest first
   pub woken : List ℕ
   -- where each side stands inside its open call, and what that call holds
-  pub reader : ReadPlace
+  pub reader : ReadPoint
   pub reader_call : OpenCall
-  pub writer : WritePlace
+  pub writer : WritePoint
   pub writer_call : OpenCall
   -- what is left for an open drain to fill, and for an open fill to give
   pub destination : Destination

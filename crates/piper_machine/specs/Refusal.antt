@@ -10,23 +10,23 @@ use Rattle.piper_sides.specs.declared.calls.Step.{Step}
 use Rattle.piper_sides.specs.declared.calls.Step.TheVariants.{Begin, Go, Put}
 use Rattle.piper_sides.specs.declared.refusals.StepRefusal.{StepRefusal}
 use Rattle.piper_sides.specs.declared.refusals.StepRefusal.TheVariants.{Busy, Idle, Dropped, PastLent, PastPeek, BadDraw}
-use Rattle.piper_sides.specs.declared.table.ReadPlace.{ReadPlace}
-use Rattle.piper_sides.specs.declared.table.ReadPlace.TheVariants as at
-use Rattle.piper_sides.specs.declared.table.WritePlace.{WritePlace}
-use Rattle.piper_sides.specs.declared.table.WritePlace.TheVariants as on
+use Rattle.piper_sides.specs.declared.table.ReadPoint.{ReadPoint}
+use Rattle.piper_sides.specs.declared.table.ReadPoint.TheVariants as at
+use Rattle.piper_sides.specs.declared.table.WritePoint.{WritePoint}
+use Rattle.piper_sides.specs.declared.table.WritePoint.TheVariants as on
 use Rattle.piper_machine.specs.Pipe.{Pipe}
 use Rattle.piper_machine.specs.Places.{peeked_count}
 use Rattle.piper_sides.specs.Call.{side_of, has_good_draw}
 
-abbrev pub reader_state : ReadPlace → SideState
+abbrev pub reader_state : ReadPoint → SideState
 reader_state at.Idle = state.Idle
 reader_state at.Dropped = state.Dropped
-reader_state place = state.Busy
+reader_state point = state.Busy
 
-abbrev pub writer_state : WritePlace → SideState
+abbrev pub writer_state : WritePoint → SideState
 writer_state on.Idle = state.Idle
 writer_state on.Dropped = state.Dropped
-writer_state place = state.Busy
+writer_state point = state.Busy
 
 abbrev pub state_of : Side → Pipe → SideState
 state_of Reader p = reader_state p.reader

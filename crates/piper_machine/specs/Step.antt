@@ -26,9 +26,9 @@ use Rattle.piper_machine.specs.declared.destination.Destination.{Destination}
 use Rattle.piper_machine.specs.declared.destination.Destination.TheVariants.{Slice, Acts}
 use Rattle.piper_sides.specs.declared.table.AfterRead.TheVariants as afterward
 use Rattle.piper_sides.specs.declared.table.AfterWrite.TheVariants as behind
-use Rattle.piper_sides.specs.declared.table.ReadPlace.TheVariants as at
-use Rattle.piper_sides.specs.declared.table.WritePlace.{WritePlace}
-use Rattle.piper_sides.specs.declared.table.WritePlace.TheVariants as on
+use Rattle.piper_sides.specs.declared.table.ReadPoint.TheVariants as at
+use Rattle.piper_sides.specs.declared.table.WritePoint.{WritePoint}
+use Rattle.piper_sides.specs.declared.table.WritePoint.TheVariants as on
 use Rattle.piper_sides.specs.Open.{no_call, called_with}
 use Rattle.piper_sides.specs.Log.{answer_event}
 use Rattle.piper_machine.specs.Pipe.{Pipe}
@@ -67,12 +67,12 @@ abbrev pub lent_count_after : Bool → Option Answer → ℕ → ℕ
 lent_count_after true (Some answer) count = 0
 lent_count_after fills answer count = count
 
-abbrev pub lent_after : Action → WritePlace → Option Answer → List ℕ → List ℕ
-lent_after does.LoadClosed place answer lent = filled_out (ends_fill place) answer lent
-lent_after does.Register place answer lent = filled_out (ends_fill place) answer lent
-lent_after does.Yield place answer lent = filled_out (ends_fill place) answer lent
-lent_after does.CallSource place answer lent = filled_out (ends_fill place) answer lent
-lent_after action place answer lent = lent
+abbrev pub lent_after : Action → WritePoint → Option Answer → List ℕ → List ℕ
+lent_after does.LoadClosed point answer lent = filled_out (ends_fill point) answer lent
+lent_after does.Register point answer lent = filled_out (ends_fill point) answer lent
+lent_after does.Yield point answer lent = filled_out (ends_fill point) answer lent
+lent_after does.CallSource point answer lent = filled_out (ends_fill point) answer lent
+lent_after action point answer lent = lent
 
 -- the reader makes a step of this kind
 abbrev pub reader_stepped : Action → Pipe → Stepped
@@ -82,7 +82,7 @@ reader_stepped action p =
     record {
       pipe =
           record after {
-            reader = next.place;
+            reader = next.point;
             reader_call = call_after next.answer after.reader_call;
             destination = destination_after next.answer after.destination;
           };
@@ -98,7 +98,7 @@ writer_stepped action p =
     record {
       pipe =
           record after {
-            writer = next.place;
+            writer = next.point;
             writer_call = call_after next.answer after.writer_call;
             source = source_after next.answer after.source;
             lent = lent_after action p.writer next.answer after.lent;
@@ -115,7 +115,7 @@ abbrev pub round_left : Found → Pipe → Pipe
 round_left found p =
     let next = write_after p.capacity p.room p.writer found in
     record p {
-      writer = next.place;
+      writer = next.point;
       writer_call = call_after next.answer p.writer_call;
       source = source_after next.answer p.source;
       lent = filled_out (ends_fill p.writer) next.answer p.lent;
@@ -129,7 +129,7 @@ abbrev pub drain_left : Found → Pipe → Pipe
 drain_left found p =
     let next = read_after p.capacity p.reader found in
     record p {
-      reader = next.place;
+      reader = next.point;
       reader_call = call_after next.answer p.reader_call;
       destination = destination_after next.answer p.destination;
     }
@@ -221,9 +221,9 @@ began lent c p =
     }
 
 -- a call of the source is lent places first
-abbrev pub lent_at : WritePlace → List ℕ → List ℕ → List ℕ
+abbrev pub lent_at : WritePoint → List ℕ → List ℕ → List ℕ
 lent_at (on.CallSource form sum) lent before = lent
-lent_at place lent before = before
+lent_at point lent before = before
 
 abbrev pub offering : List ℕ → Pipe → Pipe
 offering lent p = record p { lent = lent_at p.writer lent p.lent }
@@ -236,10 +236,10 @@ stepped lent (Put offset byte) p =
     record { pipe = lending (slice_set p.lent offset byte) p; answer = None; events = [] }
 
 -- these bytes may be lent to the source: where it gives none, the fill ends and leaves nothing lent
-abbrev pub MayOffer : WritePlace → List SourceAct → List ℕ → Pipe → Type 0
+abbrev pub MayOffer : WritePoint → List SourceAct → List ℕ → Pipe → Type 0
 MayOffer (on.CallSource form sum) (source.Bytes (byte ∷ bytes) ∷ acts) lent p =
     Lendable MOST_A_ROUND p (length lent)
-MayOffer place acts lent p = ⊤
+MayOffer point acts lent p = ⊤
 
 -- these bytes may be lent by the step
 abbrev pub MayLend : List ℕ → Step → Pipe → Type 0

@@ -2,10 +2,10 @@
 use Rattle.std.specs.Prelude.{◌≡◌, [], length, Bool, true, false}
 use Rattle.piper_sides.specs.declared.calls.Side.{Side}
 use Rattle.piper_sides.specs.declared.calls.Side.TheVariants.{Reader, Writer}
-use Rattle.piper_sides.specs.declared.table.ReadPlace.{ReadPlace}
-use Rattle.piper_sides.specs.declared.table.ReadPlace.TheVariants as at
-use Rattle.piper_sides.specs.declared.table.WritePlace.{WritePlace}
-use Rattle.piper_sides.specs.declared.table.WritePlace.TheVariants as on
+use Rattle.piper_sides.specs.declared.table.ReadPoint.{ReadPoint}
+use Rattle.piper_sides.specs.declared.table.ReadPoint.TheVariants as at
+use Rattle.piper_sides.specs.declared.table.WritePoint.{WritePoint}
+use Rattle.piper_sides.specs.declared.table.WritePoint.TheVariants as on
 use Rattle.piper_machine.specs.Pipe.{Pipe}
 
 -- an open pipe with nothing to do for this side
@@ -13,15 +13,15 @@ abbrev pub IsBlocked : Side → Pipe → Type 0
 IsBlocked Reader p = (p.unread ≡ []) × (p.is_closed ≡ false)
 IsBlocked Writer p = (length p.unread ≡ p.capacity) × (p.is_closed ≡ false)
 
-abbrev pub is_waking_writer : ReadPlace → Bool
+abbrev pub is_waking_writer : ReadPoint → Bool
 is_waking_writer (at.TakeWriter next) = true
 is_waking_writer (at.WakeWriter next) = true
-is_waking_writer place = false
+is_waking_writer point = false
 
-abbrev pub is_waking_reader : WritePlace → Bool
+abbrev pub is_waking_reader : WritePoint → Bool
 is_waking_reader (on.TakeReader next) = true
 is_waking_reader (on.WakeReader next) = true
-is_waking_reader place = false
+is_waking_reader point = false
 
 -- for this side, the other stands between a store and the end of the wake that belongs to it
 abbrev pub stands_between : Side → Pipe → Bool

@@ -18,7 +18,7 @@ use piper_sides::memory::OutOfMemory;
 use piper_sides::read_side::ReadSide;
 use piper_sides::scripted::MOST_A_ROUND;
 use piper_sides::slot::SlotState;
-use piper_sides::table::{ReadPlace, WritePlace};
+use piper_sides::table::{ReadPoint, WritePoint};
 use piper_sides::woken::Woken;
 use piper_sides::write_side::WriteSide;
 use std::alloc::Global;

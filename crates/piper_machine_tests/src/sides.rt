@@ -11,7 +11,7 @@ use piper_sides::memory::OutOfMemory;
 use piper_sides::polling::{Luck, Polled};
 use piper_sides::read_side::{ReadSide, end_or_pending, look_answer};
 use piper_sides::slot::SlotState;
-use piper_sides::table::{Action, Purpose, ReadPlace, WritePlace};
+use piper_sides::table::{Action, Purpose, ReadPoint, WritePoint};
 use piper_sides::woken::Woken;
 use piper_sides::write_side::WriteSide;
 use std::process::Abort;
@@ -205,7 +205,7 @@ fn a_reader_is_dropped(rt: HostRuntime) {
     side.begin_drop();
     same(&rt, side.stored_closed(), None);
     same(&rt, side.took_writer(false), Some(Answer::Done));
-    assert!(rt; matches!(side.place(), ReadPlace::Dropped));
+    assert!(rt; matches!(side.point(), ReadPoint::Dropped));
     same(&rt, side.next(), Action::Rest);
 }
 
@@ -286,6 +286,6 @@ fn a_writer_is_dropped(rt: HostRuntime) {
     side.begin_drop();
     same(&rt, side.stored_closed(), None);
     same(&rt, side.took_reader(false), Some(Answer::Done));
-    assert!(rt; matches!(side.place(), WritePlace::Dropped));
+    assert!(rt; matches!(side.point(), WritePoint::Dropped));
     same(&rt, side.next(), Action::Rest);
 }

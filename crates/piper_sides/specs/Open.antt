@@ -1,4 +1,4 @@
--- What an open call holds besides its place.
+-- What an open call holds besides its point.
 use Rattle.std.specs.Prelude.{Option, None, Some, Bool, false}
 use Rattle.piper_sides.specs.declared.polling.Context.{Context}
 use Rattle.piper_sides.specs.declared.calls.OpenCall.{OpenCall}

@@ -1,9 +1,9 @@
--- What each side keeps: its own index, the other's as it last saw it, and its place inside the open call.
+-- What each side keeps: its own index, the other's as it last saw it, and its point inside the open call.
 use Rattle.std.specs.Prelude.{◌≡◌, ℕ, ◌+◌, ◌-◌, ◌*◌, ◌<◌, ◌≤◌, min, max, Bool, true, false, if◌then◌else◌}
-use Rattle.piper_sides.specs.declared.table.ReadPlace.{ReadPlace}
-use Rattle.piper_sides.specs.declared.table.ReadPlace.TheVariants as at
-use Rattle.piper_sides.specs.declared.table.WritePlace.{WritePlace}
-use Rattle.piper_sides.specs.declared.table.WritePlace.TheVariants as on
+use Rattle.piper_sides.specs.declared.table.ReadPoint.{ReadPoint}
+use Rattle.piper_sides.specs.declared.table.ReadPoint.TheVariants as at
+use Rattle.piper_sides.specs.declared.table.WritePoint.{WritePoint}
+use Rattle.piper_sides.specs.declared.table.WritePoint.TheVariants as on
 use Rattle.piper_sides.specs.declared.table.AfterRead.{AfterRead}
 use Rattle.piper_sides.specs.declared.table.AfterRead.TheVariants as afterward
 use Rattle.piper_sides.specs.declared.table.AfterWrite.{AfterWrite}
@@ -17,7 +17,7 @@ pub record Reading : Type 0 where
   pub head : ℕ
   -- the writer's index, as last seen
   pub tail : ℕ
-  pub place : ReadPlace
+  pub point : ReadPoint
 
 pub record Writing : Type 0 where
   pub capacity : ℕ
@@ -30,7 +30,7 @@ pub record Writing : Type 0 where
   -- how many places are lent, from the writer's own place on
   pub lent : ℕ
   pub is_shut : Bool
-  pub place : WritePlace
+  pub point : WritePoint
 
 -- the bytes that the reader knows of
 abbrev pub known_of : Reading → ℕ
@@ -59,7 +59,7 @@ lent_out count w =
 
 -- the sides of an empty pipe
 abbrev pub fresh_reading : ℕ → Reading
-fresh_reading capacity = record { capacity = capacity; head = 0; tail = 0; place = at.Idle }
+fresh_reading capacity = record { capacity = capacity; head = 0; tail = 0; point = at.Idle }
 
 abbrev pub fresh_writing : ℕ → Writing
 fresh_writing capacity = record {
@@ -69,53 +69,53 @@ fresh_writing capacity = record {
   zeroed = 0;
   lent = 0;
   is_shut = false;
-  place = on.Idle;
+  point = on.Idle;
 }
 
 -- how many bytes a store gives up that is next
-abbrev pub head_store : ReadPlace → ℕ
+abbrev pub head_store : ReadPoint → ℕ
 head_store (at.StoreHead n next) = n
-head_store place = 0
+head_store point = 0
 
 -- how many bytes a store publishes that is next
-abbrev pub tail_store : WritePlace → ℕ
+abbrev pub tail_store : WritePoint → ℕ
 tail_store (on.RoundClosed n form sum) = n
 tail_store (on.StoreTail n next) = n
-tail_store place = 0
+tail_store point = 0
 
 -- how many bytes the open copy has moved, with those of a store that is next
 abbrev pub read_round : AfterRead → ℕ
 read_round (afterward.Round form sum) = sum
 read_round next = 0
 
-abbrev pub read_sum : ReadPlace → ℕ
+abbrev pub read_sum : ReadPoint → ℕ
 read_sum (at.CallDestination form sum) = sum
 read_sum (at.StoreHead n next) = read_round next
 read_sum (at.TakeWriter next) = read_round next
 read_sum (at.WakeWriter next) = read_round next
-read_sum place = 0
+read_sum point = 0
 
 abbrev pub write_round : AfterWrite → ℕ
 write_round (behind.Round form sum) = sum
 write_round next = 0
 
-abbrev pub write_sum : WritePlace → ℕ
+abbrev pub write_sum : WritePoint → ℕ
 write_sum (on.CallSource form sum) = sum
 write_sum (on.RoundClosed n form sum) = sum
 write_sum (on.StoreTail n next) = write_round next
 write_sum (on.TakeReader next) = write_round next
 write_sum (on.WakeReader next) = write_round next
 write_sum (on.StoreClosed next) = write_round next
-write_sum place = 0
+write_sum point = 0
 
 pub record IsReading (r : Reading) : Type 0 where
   pub capacity : IsCapacity r.capacity
   pub head : r.head < 2 * r.capacity
   pub tail : r.tail < 2 * r.capacity
   pub known : known_of r ≤ r.capacity
-  pub store : head_store r.place ≤ peekable_of r
+  pub store : head_store r.point ≤ peekable_of r
   -- a copy moves no more than its look left known
-  pub sum : read_sum r.place + known_of r ≤ r.capacity + head_store r.place
+  pub sum : read_sum r.point + known_of r ≤ r.capacity + head_store r.point
 
 pub record IsWriting (w : Writing) : Type 0 where
   pub capacity : IsCapacity w.capacity
@@ -127,6 +127,6 @@ pub record IsWriting (w : Writing) : Type 0 where
   pub zeroed : w.zeroed ≤ w.capacity
   pub lent_zeroed : place_of w.capacity w.tail + w.lent ≤ w.zeroed
   pub shut : w.is_shut ≡ true → w.lent ≡ 0
-  pub store : tail_store w.place ≤ w.lent
+  pub store : tail_store w.point ≤ w.lent
   -- a copy moves no more than its look left room for
-  pub sum : write_sum w.place + room_of w ≤ w.capacity + tail_store w.place
+  pub sum : write_sum w.point + room_of w ≤ w.capacity + tail_store w.point

@@ -1,4 +1,4 @@
--- The call table: which step a side makes at each place of a call, and where what it found leads.
+-- The call table: which step a side makes at each point of a call, and where what it found leads.
 use Rattle.std.specs.Prelude.{◌≡◌, ℕ, ◌+◌, Bool, true, false, Option, None, Some, ◌==◌, Result, Ok, Err}
 use Rattle.piper_sides.specs.declared.calls.Side.TheVariants.{Reader, Writer}
 use Rattle.piper_sides.specs.declared.calls.Query.{Query}
@@ -18,10 +18,10 @@ use Rattle.piper_sides.specs.declared.table.AfterRead.{AfterRead}
 use Rattle.piper_sides.specs.declared.table.AfterRead.TheVariants as afterward
 use Rattle.piper_sides.specs.declared.table.AfterWrite.{AfterWrite}
 use Rattle.piper_sides.specs.declared.table.AfterWrite.TheVariants as behind
-use Rattle.piper_sides.specs.declared.table.ReadPlace.{ReadPlace}
-use Rattle.piper_sides.specs.declared.table.ReadPlace.TheVariants as at
-use Rattle.piper_sides.specs.declared.table.WritePlace.{WritePlace}
-use Rattle.piper_sides.specs.declared.table.WritePlace.TheVariants as on
+use Rattle.piper_sides.specs.declared.table.ReadPoint.{ReadPoint}
+use Rattle.piper_sides.specs.declared.table.ReadPoint.TheVariants as at
+use Rattle.piper_sides.specs.declared.table.WritePoint.{WritePoint}
+use Rattle.piper_sides.specs.declared.table.WritePoint.TheVariants as on
 
 -- what a step found
 pub data Found : Type 0 where
@@ -42,18 +42,18 @@ pub data Found : Type 0 where
 
 -- where a step leads, and what the call answers if that was its last step
 pub record Next (P : Type 0) : Type 0 where
-  pub place : P
+  pub point : P
   pub answer : Option Answer
 
 abbrev pub goes_on : {P : Type 0} → P → Next P
-goes_on place = record { place = place; answer = None }
+goes_on point = record { point = point; answer = None }
 
 abbrev pub ends : {P : Type 0} → P → Answer → Next P
-ends place answer = record { place = place; answer = Some answer }
+ends point answer = record { point = point; answer = Some answer }
 
--- a place, and the answer if there is one, are where a step leads
+-- a point, and the answer if there is one, are where a step leads
 pub record Leads {P : Type 0} (to : P × Option Answer) (next : Next P) : Type 0 where
-  pub place : to.0 ≡ next.place
+  pub point : to.0 ≡ next.point
   pub answer : to.1 ≡ next.answer
 
 abbrev pub query_answer : Query → ℕ → ℕ → Answer
@@ -96,7 +96,7 @@ look_answer (purpose.Copy form) answer = copy_answer form answer
 
 -- the reader
 
-abbrev pub read_action : ReadPlace → Action
+abbrev pub read_action : ReadPoint → Action
 read_action at.Idle = does.Rest
 read_action at.Dropped = does.Rest
 read_action (at.QueryHead query) = does.LoadHead
@@ -115,61 +115,61 @@ read_action (at.WakeWriter next) = does.Wake
 read_action at.StoreClosed = does.StoreClosed false
 
 -- a look finds a byte, or none: without a context neither slot nor waker is touched
-abbrev pub reader_found : Purpose → ReadPlace
+abbrev pub reader_found : Purpose → ReadPoint
 reader_found purpose.Poll = at.LookTake purpose.Poll
 reader_found (purpose.Copy Try) = at.CallDestination Try 0
 reader_found (purpose.Copy (Polling is_drawn)) = at.LookTake (purpose.Copy (Polling is_drawn))
 
-abbrev pub reader_found_none : Purpose → ReadPlace
+abbrev pub reader_found_none : Purpose → ReadPoint
 reader_found_none purpose.Poll = at.LookRegister purpose.Poll
 reader_found_none (purpose.Copy Try) = at.LookClosed (purpose.Copy Try)
 reader_found_none (purpose.Copy (Polling is_drawn)) =
     at.LookRegister (purpose.Copy (Polling is_drawn))
 
-abbrev pub reader_looked : Bool → Purpose → ReadPlace
+abbrev pub reader_looked : Bool → Purpose → ReadPoint
 reader_looked true l = reader_found_none l
 reader_looked false l = reader_found l
 
-abbrev pub reader_registered : Bool → Purpose → Next ReadPlace
+abbrev pub reader_registered : Bool → Purpose → Next ReadPoint
 reader_registered true l = goes_on (at.LookClosed l)
 reader_registered false l = ends at.Idle (look_answer l Memory)
 
-abbrev pub reader_looked_again : Bool → Purpose → Bool → Next ReadPlace
+abbrev pub reader_looked_again : Bool → Purpose → Bool → Next ReadPoint
 reader_looked_again true l was_closed = ends at.Idle (look_answer l (end_or_pending was_closed))
 reader_looked_again false l was_closed = goes_on (reader_found l)
 
 -- where a call that looks begins: a known byte needs no load
-abbrev pub reader_looks_for : Bool → Purpose → ReadPlace
+abbrev pub reader_looks_for : Bool → Purpose → ReadPoint
 reader_looks_for true l = at.LookTail l
 reader_looks_for false l = reader_found l
 
 -- a copy moves bytes, or yields
-abbrev pub reader_draws : Form → ReadPlace
+abbrev pub reader_draws : Form → ReadPoint
 reader_draws (Polling true) = at.Yield
 reader_draws form = at.CallDestination form 0
 
 -- the look is true
-abbrev pub reader_is_true : Purpose → Next ReadPlace
+abbrev pub reader_is_true : Purpose → Next ReadPoint
 reader_is_true purpose.Poll = ends at.Idle (Poll (Ready true))
 reader_is_true (purpose.Copy form) = goes_on (reader_draws form)
 
 -- a round: a destination that takes nothing ends the call
-abbrev pub reader_moved : Bool → ℕ → Form → ℕ → Next ReadPlace
+abbrev pub reader_moved : Bool → ℕ → Form → ℕ → Next ReadPoint
 reader_moved true n form sum = ends at.Idle (count_answer form sum)
 reader_moved false n form sum = goes_on (at.StoreHead n (afterward.Round form (sum + n)))
 
-abbrev pub read_done : AfterRead → Next ReadPlace
+abbrev pub read_done : AfterRead → Next ReadPoint
 read_done afterward.Answer = ends at.Idle Done
 read_done afterward.Drop = ends at.Dropped Done
 read_done (afterward.Round form sum) = goes_on (at.CallDestination form sum)
 
-abbrev pub writer_taken : AfterRead → Bool → Next ReadPlace
+abbrev pub writer_taken : AfterRead → Bool → Next ReadPoint
 writer_taken next false = read_done next
 writer_taken next true = goes_on (at.WakeWriter next)
 
--- where the reader comes to from a place, by what its step found, whatever the capacity; a query's last load, which
+-- where the reader comes to from a point, by what its step found, whatever the capacity; a query's last load, which
 -- compares with the capacity, stands in read_after
-abbrev pub read_step : ReadPlace → Found → Next ReadPlace
+abbrev pub read_step : ReadPoint → Found → Next ReadPoint
 read_step (at.QueryHead query) found = goes_on (at.QueryTail query)
 read_step at.QueryClosed (flag is_closed) = ends at.Idle (Flag is_closed)
 read_step (at.LookTail l) (refreshed none) = goes_on (reader_looked none l)
@@ -184,28 +184,28 @@ read_step (at.StoreHead n next) found = goes_on (at.TakeWriter next)
 read_step (at.TakeWriter next) (waker is_found) = writer_taken next is_found
 read_step (at.WakeWriter next) found = read_done next
 read_step at.StoreClosed found = goes_on (at.TakeWriter afterward.Drop)
-read_step place found = goes_on place
+read_step point found = goes_on point
 
 -- whether a copy draws behind the step that comes next
-abbrev pub reader_draws_behind : ReadPlace → Bool
+abbrev pub reader_draws_behind : ReadPoint → Bool
 reader_draws_behind (at.LookTake (purpose.Copy form)) = true
-reader_draws_behind place = false
+reader_draws_behind point = false
 
--- where the reader of a pipe of this capacity comes to from a place, by what its step found
-abbrev pub read_after : ℕ → ReadPlace → Found → Next ReadPlace
+-- where the reader of a pipe of this capacity comes to from a point, by what its step found
+abbrev pub read_after : ℕ → ReadPoint → Found → Next ReadPoint
 read_after capacity (at.QueryTail query) (unread count) =
     ends at.Idle (query_answer query capacity count)
-read_after capacity place found = read_step place found
+read_after capacity point found = read_step point found
 
 -- where a step of the reader leads, whatever the capacity
-pub record ReadLeads (to : ReadPlace × Option Answer) (place : ReadPlace)
+pub record ReadLeads (to : ReadPoint × Option Answer) (point : ReadPoint)
     (found : Found) : Type 0 where
-  pub step : Leads to (read_step place found)
-  pub after : (capacity : ℕ) → Leads to (read_after capacity place found)
+  pub step : Leads to (read_step point found)
+  pub after : (capacity : ℕ) → Leads to (read_after capacity point found)
 
 -- the writer
 
-abbrev pub write_action : WritePlace → Action
+abbrev pub write_action : WritePoint → Action
 write_action on.Idle = does.Rest
 write_action on.Dropped = does.Rest
 write_action (on.QueryHead query) = does.LoadHead
@@ -229,73 +229,73 @@ write_action on.TakeWriter = does.Take Writer
 write_action on.WakeWriter = does.Wake
 
 -- a look finds room, or none: without a context neither slot nor waker is touched
-abbrev pub writer_found : Purpose → WritePlace
+abbrev pub writer_found : Purpose → WritePoint
 writer_found purpose.Poll = on.LookTake purpose.Poll
 writer_found (purpose.Copy Try) = on.CallSource Try 0
 writer_found (purpose.Copy (Polling is_drawn)) = on.LookTake (purpose.Copy (Polling is_drawn))
 
-abbrev pub writer_found_none : Purpose → WritePlace
+abbrev pub writer_found_none : Purpose → WritePoint
 writer_found_none purpose.Poll = on.LookRegister purpose.Poll
 writer_found_none (purpose.Copy Try) = on.LookHeadAgain (purpose.Copy Try)
 writer_found_none (purpose.Copy (Polling is_drawn)) =
     on.LookRegister (purpose.Copy (Polling is_drawn))
 
 -- the first load of closed: the end, or the look goes on at the known room
-abbrev pub writer_is_open : Bool → Bool → Purpose → Next WritePlace
+abbrev pub writer_is_open : Bool → Bool → Purpose → Next WritePoint
 writer_is_open true none l = ends on.Idle (look_answer l (Ready false))
 writer_is_open false true l = goes_on (on.LookHead l)
 writer_is_open false false l = goes_on (writer_found l)
 
-abbrev pub writer_looked : Bool → Purpose → WritePlace
+abbrev pub writer_looked : Bool → Purpose → WritePoint
 writer_looked true l = writer_found_none l
 writer_looked false l = writer_found l
 
-abbrev pub writer_registered : Bool → Purpose → Next WritePlace
+abbrev pub writer_registered : Bool → Purpose → Next WritePoint
 writer_registered true l = goes_on (on.LookHeadAgain l)
 writer_registered false l = ends on.Idle (look_answer l Memory)
 
-abbrev pub writer_looked_again : Bool → Purpose → WritePlace
+abbrev pub writer_looked_again : Bool → Purpose → WritePoint
 writer_looked_again true l = on.LookClosedAgain l
 writer_looked_again false l = writer_found l
 
 -- a copy moves bytes, or yields
-abbrev pub writer_draws : Form → WritePlace
+abbrev pub writer_draws : Form → WritePoint
 writer_draws (Polling true) = on.Yield
 writer_draws form = on.CallSource form 0
 
 -- the look is true
-abbrev pub writer_is_true : Purpose → Next WritePlace
+abbrev pub writer_is_true : Purpose → Next WritePoint
 writer_is_true purpose.Poll = ends on.Idle (Poll (Ready true))
 writer_is_true (purpose.Copy form) = goes_on (writer_draws form)
 
 -- a round: a source that gives nothing ends the call
-abbrev pub writer_moved : Bool → ℕ → Form → ℕ → Next WritePlace
+abbrev pub writer_moved : Bool → ℕ → Form → ℕ → Next WritePoint
 writer_moved true n form sum = ends on.Idle (count_answer form sum)
 writer_moved false n form sum = goes_on (on.RoundClosed n form (sum + n))
 
 -- what was given to a closed pipe is counted and not published
-abbrev pub writer_rounds : Bool → ℕ → Form → ℕ → Next WritePlace
+abbrev pub writer_rounds : Bool → ℕ → Form → ℕ → Next WritePoint
 writer_rounds true n form sum = ends on.Idle (count_answer form sum)
 writer_rounds false n form sum = goes_on (on.StoreTail n (behind.Round form sum))
 
-abbrev pub write_done : AfterWrite → Next WritePlace
+abbrev pub write_done : AfterWrite → Next WritePoint
 write_done behind.Answer = ends on.Idle Done
 write_done behind.Drop = ends on.Dropped Done
 write_done behind.WakeWriter = goes_on on.TakeWriter
 write_done (behind.Round form sum) = goes_on (on.CallSource form sum)
 
-abbrev pub reader_taken : AfterWrite → Bool → Next WritePlace
+abbrev pub reader_taken : AfterWrite → Bool → Next WritePoint
 reader_taken next false = write_done next
 reader_taken next true = goes_on (on.WakeReader next)
 
-abbrev pub own_taken : Bool → Next WritePlace
+abbrev pub own_taken : Bool → Next WritePoint
 own_taken false = ends on.Idle Done
 own_taken true = goes_on on.WakeWriter
 
--- where the writer comes to from a place, by what its step found, whatever the capacity and the known room; a
+-- where the writer comes to from a point, by what its step found, whatever the capacity and the known room; a
 -- query's last load, which compares with the capacity, and the load of closed that a look begins with, which goes
 -- on by the known room, stand in write_after
-abbrev pub write_step : WritePlace → Found → Next WritePlace
+abbrev pub write_step : WritePoint → Found → Next WritePoint
 write_step (on.QueryHead query) (unread count) = goes_on (on.QueryTail query count)
 write_step on.QueryClosed (flag is_closed) = ends on.Idle (Flag is_closed)
 write_step (on.LookHead l) (refreshed none) = goes_on (writer_looked none l)
@@ -314,52 +314,52 @@ write_step (on.WakeReader next) found = write_done next
 write_step (on.StoreClosed next) found = goes_on (on.TakeReader next)
 write_step on.TakeWriter (waker is_found) = own_taken is_found
 write_step on.WakeWriter found = ends on.Idle Done
-write_step place found = goes_on place
+write_step point found = goes_on point
 
 -- whether a look begins with the step that comes next, so that known room decides where it leads
-abbrev pub begins_look : WritePlace → Bool
+abbrev pub begins_look : WritePoint → Bool
 begins_look (on.LookClosed l) = true
-begins_look place = false
+begins_look point = false
 
 -- where a look goes on behind the load of closed that it begins with: `none` is whether no room is known
-abbrev pub look_begun : Bool → WritePlace → Bool → Next WritePlace
+abbrev pub look_begun : Bool → WritePoint → Bool → Next WritePoint
 look_begun none (on.LookClosed l) is_closed = writer_is_open is_closed none l
-look_begun none place is_closed = goes_on place
+look_begun none point is_closed = goes_on point
 
 -- where a query's last load leads in a pipe of this capacity
-abbrev pub query_told : ℕ → WritePlace → Next WritePlace
+abbrev pub query_told : ℕ → WritePoint → Next WritePoint
 query_told capacity (on.QueryTail query count) = ends on.Idle (query_answer query capacity count)
-query_told capacity place = goes_on place
+query_told capacity point = goes_on point
 
 -- whether a copy draws behind the step that comes next
-abbrev pub writer_draws_behind : WritePlace → Bool
+abbrev pub writer_draws_behind : WritePoint → Bool
 writer_draws_behind (on.LookTake (purpose.Copy form)) = true
-writer_draws_behind place = false
+writer_draws_behind point = false
 
--- where the writer of a pipe of this capacity and known room comes to from a place, by what its step found
-abbrev pub write_after : ℕ → ℕ → WritePlace → Found → Next WritePlace
+-- where the writer of a pipe of this capacity and known room comes to from a point, by what its step found
+abbrev pub write_after : ℕ → ℕ → WritePoint → Found → Next WritePoint
 write_after capacity room (on.QueryTail query count) found =
     ends on.Idle (query_answer query capacity count)
 write_after capacity room (on.LookClosed l) (flag is_closed) =
     writer_is_open is_closed (room == 0) l
-write_after capacity room place found = write_step place found
+write_after capacity room point found = write_step point found
 
 -- where a step of the writer leads, whatever the capacity and the known room
-pub record WriteLeads (to : WritePlace × Option Answer) (place : WritePlace)
+pub record WriteLeads (to : WritePoint × Option Answer) (point : WritePoint)
     (found : Found) : Type 0 where
-  pub step : Leads to (write_step place found)
-  pub after : (capacity room : ℕ) → Leads to (write_after capacity room place found)
+  pub step : Leads to (write_step point found)
+  pub after : (capacity room : ℕ) → Leads to (write_after capacity room point found)
 
--- whether the answer of a step at this place would end a fill
+-- whether the answer of a step at this point would end a fill
 abbrev pub is_copy : Purpose → Bool
 is_copy purpose.Poll = false
 is_copy (purpose.Copy form) = true
 
-abbrev pub ends_fill : WritePlace → Bool
+abbrev pub ends_fill : WritePoint → Bool
 ends_fill (on.LookClosed l) = is_copy l
 ends_fill (on.LookRegister l) = is_copy l
 ends_fill (on.LookClosedAgain l) = is_copy l
 ends_fill on.Yield = true
 ends_fill (on.CallSource form sum) = true
 ends_fill (on.RoundClosed n form sum) = true
-ends_fill place = false
+ends_fill point = false

@@ -92,7 +92,7 @@ pub enum Step {
     Put(usize, u8),
 }
 
-/// What an open call of a side holds besides its place.
+/// What an open call of a side holds besides its point.
 #[derive(Clone, Copy)]
 pub struct OpenCall {
     /// The context of a polling call.

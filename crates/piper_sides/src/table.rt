@@ -76,7 +76,7 @@ pub enum AfterWrite {
 
 /// Where the reader stands: named after the step that comes next.
 #[derive(Clone, Copy)]
-pub enum ReadPlace {
+pub enum ReadPoint {
     Idle,
     Dropped,
     QueryHead(Query),
@@ -98,7 +98,7 @@ pub enum ReadPlace {
 
 /// Where the writer stands: named after the step that comes next.
 #[derive(Clone, Copy)]
-pub enum WritePlace {
+pub enum WritePoint {
     Idle,
     Dropped,
     QueryHead(Query),

@@ -1,11 +1,11 @@
-//! The writer's side: its own index, the reader's as it last saw it, what is lent, and its place inside the open call.
+//! The writer's side: its own index, the reader's as it last saw it, what is lent, and its point inside the open call.
 ghost use Rattle.std.specs.Prelude.{IsSome, ◌≡◌, ◌≢◌, ℕ, ◌+◌, ◌-◌, ◌*◌, ◌<◌, ◌≤◌, true, false, ◌==◌};
 ghost use Rattle.piper_sides.specs.Table.{write_action, ends_fill, nothing, unread, flag, granted, waker, moved, failed};
 ghost use Rattle.piper_sides.specs.Index.{IsCapacity, distance, place_of, advanced};
 
 use crate::calls::{Query, Side};
 use crate::events::Answer;
-use crate::table::{Action, AfterWrite, Purpose, WritePlace};
+use crate::table::{Action, AfterWrite, Purpose, WritePoint};
 use crate::write_indices::WriteIndices;
 use std::marker::Model;
 
@@ -16,7 +16,7 @@ use std::marker::Model;
 #[derive(Drop)]
 pub struct WriteSide {
     indices: WriteIndices,
-    place: WritePlace,
+    point: WritePoint,
 }
 
 impl Model for WriteSide {
@@ -25,9 +25,9 @@ impl Model for WriteSide {
 
     ghost Value = { Writing };
 
-    ghost view = { λ side. writing_of side.indices side.place };
+    ghost view = { λ side. writing_of side.indices side.point };
 
-    ghost invariant = { λ side. IsWriting (writing_of side.indices side.place) };
+    ghost invariant = { λ side. IsWriting (writing_of side.indices side.point) };
 }
 
 impl WriteSide {
@@ -42,7 +42,7 @@ impl WriteSide {
     {
         WriteSide {
             indices: WriteIndices::new(capacity),
-            place: WritePlace::Idle,
+            point: WritePoint::Idle,
         }
     }
 
@@ -77,21 +77,21 @@ impl WriteSide {
     }
 
     /// Where the writer stands inside its open call.
-    pub fn place(&self) -> WritePlace
-        ensures { result ≡ self.now.place }
+    pub fn point(&self) -> WritePoint
+        ensures { result ≡ self.now.point }
     {
-        self.place
+        self.point
     }
 
     /// Whether an answer of the step that comes next would end a fill.
     pub fn ends_fill(&self) -> bool
-        ensures { result ≡ ends_fill self.now.place }
+        ensures { result ≡ ends_fill self.now.point }
     {
-        match self.place {
-            WritePlace::LookClosed(Purpose::Copy(_))
-            | WritePlace::LookRegister(Purpose::Copy(_))
-            | WritePlace::LookClosedAgain(Purpose::Copy(_)) => true,
-            WritePlace::Yield | WritePlace::CallSource(_, _) | WritePlace::RoundClosed(_, _, _) =>
+        match self.point {
+            WritePoint::LookClosed(Purpose::Copy(_))
+            | WritePoint::LookRegister(Purpose::Copy(_))
+            | WritePoint::LookClosedAgain(Purpose::Copy(_)) => true,
+            WritePoint::Yield | WritePoint::CallSource(_, _) | WritePoint::RoundClosed(_, _, _) =>
                 true,
             _ => false,
         }
@@ -111,7 +111,7 @@ impl WriteSide {
     ///
     /// Places beyond those that were set already are to be set to zero before they are handed out.
     pub fn lend(&mut self, most: usize) -> usize
-        requires { tail_store self.old.place ≡ 0 }
+        requires { tail_store self.old.point ≡ 0 }
         ensures count { result ≡ lend_length most self.old }
         ensures after { self.new ≡ lent_out result self.old }
         ensures sound { IsWriting self.new }
@@ -121,7 +121,7 @@ impl WriteSide {
 
     /// Takes back what is lent.
     pub fn unlend(&mut self)
-        requires { tail_store self.old.place ≡ 0 }
+        requires { tail_store self.old.point ≡ 0 }
         ensures after { self.new ≡ record self.old { lent = 0 } }
         ensures sound { IsWriting self.new }
     {
@@ -130,119 +130,119 @@ impl WriteSide {
 
     /// Opens a query on the number of unread bytes.
     pub fn begin_query(&mut self, query: Query)
-        requires { self.old.place ≡ WritePlace.Idle }
-        ensures after { self.new ≡ record self.old { place = WritePlace.QueryHead query } }
+        requires { self.old.point ≡ WritePoint.Idle }
+        ensures after { self.new ≡ record self.old { point = WritePoint.QueryHead query } }
         ensures sound { IsWriting self.new }
     {
-        self.place = WritePlace::QueryHead(query);
+        self.point = WritePoint::QueryHead(query);
     }
 
     /// Opens the query whether the pipe is closed.
     pub fn begin_is_closed(&mut self)
-        requires { self.old.place ≡ WritePlace.Idle }
-        ensures after { self.new ≡ record self.old { place = WritePlace.QueryClosed } }
+        requires { self.old.point ≡ WritePoint.Idle }
+        ensures after { self.new ≡ record self.old { point = WritePoint.QueryClosed } }
         ensures sound { IsWriting self.new }
     {
-        self.place = WritePlace::QueryClosed;
+        self.point = WritePoint::QueryClosed;
     }
 
     /// Opens a call that begins with a look.
     pub fn begin_look(&mut self, purpose: Purpose)
-        requires { self.old.place ≡ WritePlace.Idle }
-        ensures after { self.new ≡ record self.old { place = WritePlace.LookClosed purpose } }
+        requires { self.old.point ≡ WritePoint.Idle }
+        ensures after { self.new ≡ record self.old { point = WritePoint.LookClosed purpose } }
         ensures sound { IsWriting self.new }
     {
-        self.place = WritePlace::LookClosed(purpose);
+        self.point = WritePoint::LookClosed(purpose);
     }
 
     /// Opens the call that publishes the first `n` bytes of what is lent.
     pub fn begin_produced(&mut self, n: usize)
-        requires idle { self.old.place ≡ WritePlace.Idle }
+        requires idle { self.old.point ≡ WritePoint.Idle }
         requires within { n ≤ self.old.lent }
         ensures after { self.new ≡ record self.old {
-          place = WritePlace.StoreTail n AfterWrite.Answer;
+          point = WritePoint.StoreTail n AfterWrite.Answer;
         } }
         ensures sound { IsWriting self.new }
     {
-        self.place = WritePlace::StoreTail(n, AfterWrite::Answer);
+        self.point = WritePoint::StoreTail(n, AfterWrite::Answer);
     }
 
     /// Opens the close.
     pub fn begin_close(&mut self)
-        requires { self.old.place ≡ WritePlace.Idle }
+        requires { self.old.point ≡ WritePoint.Idle }
         ensures after { self.new ≡ record self.old {
-          place = WritePlace.StoreClosed AfterWrite.WakeWriter;
+          point = WritePoint.StoreClosed AfterWrite.WakeWriter;
         } }
         ensures sound { IsWriting self.new }
     {
-        self.place = WritePlace::StoreClosed(AfterWrite::WakeWriter);
+        self.point = WritePoint::StoreClosed(AfterWrite::WakeWriter);
     }
 
     /// Opens the writer's drop.
     pub fn begin_drop(&mut self)
-        requires { self.old.place ≡ WritePlace.Idle }
+        requires { self.old.point ≡ WritePoint.Idle }
         ensures after { self.new ≡ record self.old {
-          place = WritePlace.StoreClosed AfterWrite.Drop;
+          point = WritePoint.StoreClosed AfterWrite.Drop;
         } }
         ensures sound { IsWriting self.new }
     {
-        self.place = WritePlace::StoreClosed(AfterWrite::Drop);
+        self.point = WritePoint::StoreClosed(AfterWrite::Drop);
     }
 
     /// The step that the call table puts next.
     pub fn next(&self) -> Action
-        ensures step { result ≡ write_action self.now.place }
+        ensures step { result ≡ write_action self.now.point }
         ensures within { (n : ℕ) → result ≡ Action.StoreTail n → n ≤ self.now.lent }
         ensures no_head { (n : ℕ) → result ≢ Action.StoreHead n }
     {
-        match self.place {
-            WritePlace::Idle | WritePlace::Dropped => Action::Rest,
-            WritePlace::QueryHead(_) => Action::LoadHead,
-            WritePlace::QueryTail(_, _) => Action::LoadTail,
-            WritePlace::QueryClosed
-            | WritePlace::LookClosed(_)
-            | WritePlace::LookClosedAgain(_)
-            | WritePlace::RoundClosed(_, _, _) => Action::LoadClosed,
-            WritePlace::LookHead(_) | WritePlace::LookHeadAgain(_) => Action::Refresh,
-            WritePlace::LookRegister(_) => Action::Register,
-            WritePlace::LookTake(_) | WritePlace::TakeWriter => Action::Take(Side::Writer),
-            WritePlace::Yield => Action::Yield,
-            WritePlace::CallSource(_, _) => Action::CallSource,
-            WritePlace::StoreTail(n, _) => Action::StoreTail(n),
-            WritePlace::TakeReader(_) => Action::Take(Side::Reader),
-            WritePlace::WakeReader(_) | WritePlace::WakeWriter => Action::Wake,
-            WritePlace::StoreClosed(AfterWrite::WakeWriter) => Action::StoreClosed {
+        match self.point {
+            WritePoint::Idle | WritePoint::Dropped => Action::Rest,
+            WritePoint::QueryHead(_) => Action::LoadHead,
+            WritePoint::QueryTail(_, _) => Action::LoadTail,
+            WritePoint::QueryClosed
+            | WritePoint::LookClosed(_)
+            | WritePoint::LookClosedAgain(_)
+            | WritePoint::RoundClosed(_, _, _) => Action::LoadClosed,
+            WritePoint::LookHead(_) | WritePoint::LookHeadAgain(_) => Action::Refresh,
+            WritePoint::LookRegister(_) => Action::Register,
+            WritePoint::LookTake(_) | WritePoint::TakeWriter => Action::Take(Side::Writer),
+            WritePoint::Yield => Action::Yield,
+            WritePoint::CallSource(_, _) => Action::CallSource,
+            WritePoint::StoreTail(n, _) => Action::StoreTail(n),
+            WritePoint::TakeReader(_) => Action::Take(Side::Reader),
+            WritePoint::WakeReader(_) | WritePoint::WakeWriter => Action::Wake,
+            WritePoint::StoreClosed(AfterWrite::WakeWriter) => Action::StoreClosed {
                 is_shut: true,
             },
-            WritePlace::StoreClosed(_) => Action::StoreClosed { is_shut: false },
+            WritePoint::StoreClosed(_) => Action::StoreClosed { is_shut: false },
         }
     }
 
     /// The head was loaded in a query, and so many bytes were unread.
     pub fn loaded_head(&mut self, count: usize) -> Option<Answer>
-        requires next { write_action self.old.place ≡ Action.LoadHead }
+        requires next { write_action self.old.point ≡ Action.LoadHead }
         ensures after { self.new ≡ writing_after (unread count) self.old }
         ensures answer { result ≡ writing_answer (unread count) self.old }
-        ensures open { self.new.place ≡ WritePlace.Idle → IsSome result }
+        ensures open { self.new.point ≡ WritePoint.Idle → IsSome result }
         ensures sound { IsWriting self.new }
     {
-        self.place.loaded_head(count)
+        self.point.loaded_head(count)
     }
 
     /// The tail was loaded in a query.
     pub fn loaded_tail(&mut self) -> Option<Answer>
-        requires next { write_action self.old.place ≡ Action.LoadTail }
+        requires next { write_action self.old.point ≡ Action.LoadTail }
         ensures after { self.new ≡ writing_after nothing self.old }
         ensures answer { result ≡ writing_answer nothing self.old }
-        ensures open { self.new.place ≡ WritePlace.Idle → IsSome result }
+        ensures open { self.new.point ≡ WritePoint.Idle → IsSome result }
         ensures sound { IsWriting self.new }
     {
-        self.place.loaded_tail(self.indices.capacity())
+        self.point.loaded_tail(self.indices.capacity())
     }
 
     /// The head was loaded in a look, and stood at this index.
     pub fn refreshed(&mut self, head: usize) -> Option<Answer>
-        requires next { write_action self.old.place ≡ Action.Refresh }
+        requires next { write_action self.old.point ≡ Action.Refresh }
         requires index { head < 2 * self.old.capacity }
         requires within { distance self.old.capacity head self.old.tail ≤ self.old.capacity }
         requires lent { self.old.lent
@@ -251,151 +251,151 @@ impl WriteSide {
           head = head;
         } }
         ensures answer { result ≡ writing_answer (head_found head self.old) self.old }
-        ensures open { self.new.place ≡ WritePlace.Idle → IsSome result }
+        ensures open { self.new.point ≡ WritePoint.Idle → IsSome result }
         ensures sound { IsWriting self.new }
     {
         self.indices.sees(head);
-        self.place.refreshed(self.indices.knows_none())
+        self.point.refreshed(self.indices.knows_none())
     }
 
     /// Closed was loaded, and the flag was this.
     pub fn loaded_closed(&mut self, is_closed: bool) -> Option<Answer>
-        requires next { write_action self.old.place ≡ Action.LoadClosed }
+        requires next { write_action self.old.point ≡ Action.LoadClosed }
         ensures after { self.new ≡ writing_after (flag is_closed) self.old }
         ensures answer { result ≡ writing_answer (flag is_closed) self.old }
-        ensures open { self.new.place ≡ WritePlace.Idle → IsSome result }
-        ensures idle { IsSome result → self.new.place ≡ WritePlace.Idle }
+        ensures open { self.new.point ≡ WritePoint.Idle → IsSome result }
+        ensures idle { IsSome result → self.new.point ≡ WritePoint.Idle }
         ensures sound { IsWriting self.new }
     {
-        match self.place {
-            WritePlace::LookClosed(_) => self
-                .place
+        match self.point {
+            WritePoint::LookClosed(_) => self
+                .point
                 .looked_closed(self.indices.knows_none(), is_closed),
-            _ => self.place.loaded_closed(is_closed),
+            _ => self.point.loaded_closed(is_closed),
         }
     }
 
     /// The call's waker was registered, or its clone was refused.
     pub fn registered(&mut self, is_granted: bool) -> Option<Answer>
-        requires next { write_action self.old.place ≡ Action.Register }
+        requires next { write_action self.old.point ≡ Action.Register }
         ensures after { self.new ≡ writing_after (granted is_granted) self.old }
         ensures answer { result ≡ writing_answer (granted is_granted) self.old }
-        ensures open { self.new.place ≡ WritePlace.Idle → IsSome result }
-        ensures idle { IsSome result → self.new.place ≡ WritePlace.Idle }
+        ensures open { self.new.point ≡ WritePoint.Idle → IsSome result }
+        ensures idle { IsSome result → self.new.point ≡ WritePoint.Idle }
         ensures sound { IsWriting self.new }
     {
-        self.place.registered(is_granted)
+        self.point.registered(is_granted)
     }
 
     /// The writer's own slot was emptied, and a waker stood in it or not.
     pub fn took_own(&mut self, is_found: bool) -> Option<Answer>
-        requires next { write_action self.old.place ≡ Action.Take Side.Writer }
+        requires next { write_action self.old.point ≡ Action.Take Side.Writer }
         ensures after { self.new ≡ writing_after (waker is_found) self.old }
         ensures answer { result ≡ writing_answer (waker is_found) self.old }
-        ensures open { self.new.place ≡ WritePlace.Idle → IsSome result }
+        ensures open { self.new.point ≡ WritePoint.Idle → IsSome result }
         ensures sound { IsWriting self.new }
     {
-        self.place.took_own(is_found)
+        self.point.took_own(is_found)
     }
 
     /// The caller's own waker was called in place of the rounds, or its clone was refused.
     pub fn yielded(&mut self, is_granted: bool) -> Option<Answer>
-        requires next { write_action self.old.place ≡ Action.Yield }
+        requires next { write_action self.old.point ≡ Action.Yield }
         ensures after { self.new ≡ writing_after (granted is_granted) self.old }
         ensures answer { result ≡ writing_answer (granted is_granted) self.old }
-        ensures open { self.new.place ≡ WritePlace.Idle → IsSome result }
-        ensures idle { IsSome result → self.new.place ≡ WritePlace.Idle }
+        ensures open { self.new.point ≡ WritePoint.Idle → IsSome result }
+        ensures idle { IsSome result → self.new.point ≡ WritePoint.Idle }
         ensures sound { IsWriting self.new }
     {
-        self.place.yielded(is_granted)
+        self.point.yielded(is_granted)
     }
 
     /// The source gave `n` bytes, which stand at the front of what is lent.
     pub fn source_gave(&mut self, n: usize) -> Option<Answer>
-        requires next { write_action self.old.place ≡ Action.CallSource }
+        requires next { write_action self.old.point ≡ Action.CallSource }
         requires within { n ≤ self.old.lent }
         ensures after { self.new ≡ writing_after (moved n) self.old }
         ensures answer { result ≡ writing_answer (moved n) self.old }
-        ensures open { self.new.place ≡ WritePlace.Idle → IsSome result }
-        ensures idle { IsSome result → self.new.place ≡ WritePlace.Idle }
+        ensures open { self.new.point ≡ WritePoint.Idle → IsSome result }
+        ensures idle { IsSome result → self.new.point ≡ WritePoint.Idle }
         ensures sound { IsWriting self.new }
     {
-        self.place.source_gave(n)
+        self.point.source_gave(n)
     }
 
     /// The source failed, and gave nothing.
     pub fn source_failed(&mut self) -> Option<Answer>
-        requires next { write_action self.old.place ≡ Action.CallSource }
+        requires next { write_action self.old.point ≡ Action.CallSource }
         ensures after { self.new ≡ writing_after failed self.old }
         ensures answer { result ≡ writing_answer failed self.old }
-        ensures open { self.new.place ≡ WritePlace.Idle → IsSome result }
-        ensures idle { IsSome result → self.new.place ≡ WritePlace.Idle }
+        ensures open { self.new.point ≡ WritePoint.Idle → IsSome result }
+        ensures idle { IsSome result → self.new.point ≡ WritePoint.Idle }
         ensures sound { IsWriting self.new }
     {
-        self.place.source_failed()
+        self.point.source_failed()
     }
 
     /// The reader's slot was emptied, and a waker stood in it or not.
     pub fn took_reader(&mut self, is_found: bool) -> Option<Answer>
-        requires next { write_action self.old.place ≡ Action.Take Side.Reader }
+        requires next { write_action self.old.point ≡ Action.Take Side.Reader }
         ensures after { self.new ≡ writing_after (waker is_found) self.old }
         ensures answer { result ≡ writing_answer (waker is_found) self.old }
-        ensures open { self.new.place ≡ WritePlace.Idle → IsSome result }
+        ensures open { self.new.point ≡ WritePoint.Idle → IsSome result }
         ensures sound { IsWriting self.new }
     {
-        self.place.took_reader(is_found)
+        self.point.took_reader(is_found)
     }
 
     /// The waker that was taken was called.
     pub fn woke(&mut self) -> Option<Answer>
-        requires next { write_action self.old.place ≡ Action.Wake }
+        requires next { write_action self.old.point ≡ Action.Wake }
         ensures after { self.new ≡ writing_after nothing self.old }
         ensures answer { result ≡ writing_answer nothing self.old }
-        ensures open { self.new.place ≡ WritePlace.Idle → IsSome result }
+        ensures open { self.new.point ≡ WritePoint.Idle → IsSome result }
         ensures sound { IsWriting self.new }
     {
-        self.place.woke()
+        self.point.woke()
     }
 
     /// The closed flag was set, by a drop.
     pub fn stored_closed(&mut self) -> Option<Answer>
-        requires next { write_action self.old.place ≡ Action.StoreClosed false }
+        requires next { write_action self.old.point ≡ Action.StoreClosed false }
         ensures after { self.new ≡ writing_after nothing self.old }
         ensures answer { result ≡ writing_answer nothing self.old }
-        ensures open { self.new.place ≡ WritePlace.Idle → IsSome result }
+        ensures open { self.new.point ≡ WritePoint.Idle → IsSome result }
         ensures sound { IsWriting self.new }
     {
-        self.place.stored_closed()
+        self.point.stored_closed()
     }
 
     /// The closed flag was set, by a close: nothing is lent from now on.
     pub fn shut(&mut self) -> Option<Answer>
-        requires next { write_action self.old.place ≡ Action.StoreClosed true }
+        requires next { write_action self.old.point ≡ Action.StoreClosed true }
         ensures after { self.new ≡ record (writing_after nothing self.old) {
           lent = 0;
           is_shut = true;
         } }
         ensures answer { result ≡ writing_answer nothing self.old }
-        ensures open { self.new.place ≡ WritePlace.Idle → IsSome result }
+        ensures open { self.new.point ≡ WritePoint.Idle → IsSome result }
         ensures sound { IsWriting self.new }
     {
         self.indices.shut();
-        self.place.shut()
+        self.point.shut()
     }
 
     /// The tail was stored, past the first `n` bytes of what is lent.
     pub fn stored_tail(&mut self, n: usize) -> Option<Answer>
-        requires next { write_action self.old.place ≡ Action.StoreTail n }
+        requires next { write_action self.old.point ≡ Action.StoreTail n }
         requires within { n ≤ self.old.lent }
         ensures after { self.new ≡ record (writing_after nothing self.old) {
           tail = advanced self.old.capacity self.old.tail n;
           lent = self.old.lent - n;
         } }
         ensures answer { result ≡ writing_answer nothing self.old }
-        ensures open { self.new.place ≡ WritePlace.Idle → IsSome result }
+        ensures open { self.new.point ≡ WritePoint.Idle → IsSome result }
         ensures sound { IsWriting self.new }
     {
         self.indices.publishes(n);
-        self.place.stored_tail(n)
+        self.point.stored_tail(n)
     }
 }

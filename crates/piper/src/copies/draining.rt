@@ -22,7 +22,7 @@ use futures::task::{Context, Poll};
 use piper_ring::OutOfMemory;
 use piper_sides::read_call::ReadCall;
 use piper_sides::scripted::MOST_A_ROUND;
-use piper_sides::table::{Form, Purpose, ReadPlace};
+use piper_sides::table::{Form, Purpose, ReadPoint};
 use std::io::Write;
 use std::sync::Wait;
 
@@ -173,7 +173,7 @@ impl<H: Wait + Clone + Drop> Reader<H> {
     // The draw behind the look, and whether the copy yields. A waker that may stand in the reader's slot is let go first.
     #[inline(always)]
     fn empty_own_and_draw(&mut self, call: ReadCall) -> (ReadCall, bool)
-        requires next { call.place ≡ ReadPlace.LookTake (Purpose.Copy (Form.Polling false)) }
+        requires next { call.point ≡ ReadPoint.LookTake (Purpose.Copy (Form.Polling false)) }
         ensures step { result.0 ≡ reader_is_true (Purpose.Copy (Form.Polling result.1)) }
         ensures draw { IsTrue result.1 ↔ DrawsYield self.old.rng }
         ensures rng { self.new.rng ≡ drawn_from self.old.rng }
@@ -216,7 +216,7 @@ impl<H: Wait + Clone + Drop> Reader<H> {
         cx: &mut Context<'_>,
     ) -> Result<ReadCall, Poll<Result<usize, Inner<E>>>>
         ensures found { IfOk result (λ call.
-            call.place ≡ ReadPlace.LookTake (Purpose.Copy (Form.Polling false))) }
+            call.point ≡ ReadPoint.LookTake (Purpose.Copy (Form.Polling false))) }
         ensures some { IfOk result (λ _. 0 < length self.new.end.known) }
         ensures none { IfErr result (λ told. FoundNoByte told self.new.end) }
         ensures refused { IfErr result (λ told. OnMemory told (cx.new.lacks_waker ≡ true)) }
@@ -250,7 +250,7 @@ impl<H: Wait + Clone + Drop> Reader<H> {
     #[inline(always)]
     fn look_at_once<E>(&mut self) -> Result<ReadCall, Poll<Result<usize, Inner<E>>>>
         ensures found { IfOk result (λ call.
-            call ≡ goes_on (ReadPlace.CallDestination Form.Try 0)) }
+            call ≡ goes_on (ReadPoint.CallDestination Form.Try 0)) }
         ensures some { IfOk result (λ _. 0 < length self.new.end.known) }
         ensures none { IfErr result (λ told. FoundNoByte told self.new.end) }
         ensures granted { IfErr result (λ told. OnMemory told ⊥) }
@@ -286,7 +286,7 @@ impl<H: Wait + Clone + Drop> Reader<H> {
         form: Form,
         dest: &mut W,
     ) -> Poll<Result<usize, Inner<W::Error>>>
-        requires { call ≡ goes_on (ReadPlace.CallDestination form 0) }
+        requires { call ≡ goes_on (ReadPoint.CallDestination form 0) }
         ensures drained { DrainRounds W.takes W.is_full W.fails result
             self.old.end self.new.end dest.old dest.new }
         ensures failures { CountsFailure result (W.failures dest.old) (W.failures dest.new) }

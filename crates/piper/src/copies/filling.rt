@@ -20,7 +20,7 @@ use crate::like::{ReadBytes, ReadLike, StdRead};
 use futures::task::{Context, Poll};
 use piper_ring::OutOfMemory;
 use piper_sides::scripted::MOST_A_ROUND;
-use piper_sides::table::{Form, Purpose, WritePlace};
+use piper_sides::table::{Form, Purpose, WritePoint};
 use piper_sides::write_call::WriteCall;
 use std::io::Read;
 use std::sync::Wait;
@@ -193,7 +193,7 @@ impl<H: Wait + Clone + Drop> Writer<H> {
     // The draw behind the look, and whether the copy yields. A waker that may stand in the writer's slot is let go first.
     #[inline(always)]
     fn empty_own_and_draw(&mut self, call: WriteCall) -> (WriteCall, bool)
-        requires next { call.place ≡ WritePlace.LookTake (Purpose.Copy (Form.Polling false)) }
+        requires next { call.point ≡ WritePoint.LookTake (Purpose.Copy (Form.Polling false)) }
         ensures step { result.0 ≡ writer_is_true (Purpose.Copy (Form.Polling result.1)) }
         ensures draw { IsTrue result.1 ↔ DrawsYield self.old.rng }
         ensures rng { self.new.rng ≡ drawn_from self.old.rng }
@@ -236,7 +236,7 @@ impl<H: Wait + Clone + Drop> Writer<H> {
         cx: &mut Context<'_>,
     ) -> Result<WriteCall, Poll<Result<usize, Inner<E>>>>
         ensures found { IfOk result (λ call.
-            call.place ≡ WritePlace.LookTake (Purpose.Copy (Form.Polling false))) }
+            call.point ≡ WritePoint.LookTake (Purpose.Copy (Form.Polling false))) }
         ensures some { OnOk result (0 < self.new.end.room) }
         ensures is_open { OnOk result (
             (self.new.end.shut ≡ false) × (self.new.end.saw ≡ false)) }
@@ -275,7 +275,7 @@ impl<H: Wait + Clone + Drop> Writer<H> {
     // The look of a fill that doesn't wait: its open call once there is room, or what it answers, pending where it would wait.
     #[inline(always)]
     fn look_at_once<E>(&mut self) -> Result<WriteCall, Poll<Result<usize, Inner<E>>>>
-        ensures found { IfOk result (λ call. call ≡ goes_on (WritePlace.CallSource Form.Try 0)) }
+        ensures found { IfOk result (λ call. call ≡ goes_on (WritePoint.CallSource Form.Try 0)) }
         ensures some { OnOk result (0 < self.new.end.room) }
         ensures is_open { OnOk result (
             (self.new.end.shut ≡ false) × (self.new.end.saw ≡ false)) }
@@ -316,7 +316,7 @@ impl<H: Wait + Clone + Drop> Writer<H> {
         form: Form,
         source: &mut R,
     ) -> Poll<Result<usize, Inner<R::Error>>>
-        requires place { call ≡ goes_on (WritePlace.CallSource form 0) }
+        requires point { call ≡ goes_on (WritePoint.CallSource form 0) }
         requires is_open { (self.old.end.shut ≡ false) × (self.old.end.saw ≡ false) }
         requires some { 0 < self.old.end.room }
         ensures filled { FillRounds R.gives R.is_dry R.fails result

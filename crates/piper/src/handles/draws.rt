@@ -8,7 +8,7 @@ ghost use Rattle.piper.specs.Draws.{DrawsYield, drawn_from};
 use super::{Reader, Writer};
 use crate::slot::Taken;
 use piper_sides::read_call::ReadCall;
-use piper_sides::table::{Form, Purpose, ReadPlace, WritePlace};
+use piper_sides::table::{Form, Purpose, ReadPoint, WritePoint};
 use piper_sides::write_call::WriteCall;
 use rand_core::utils::NextWord;
 use rand_pcg::Pcg32;
@@ -18,7 +18,7 @@ impl<H: Wait + Clone + Drop> Reader<H> {
     /// Behind the true look of a polling copy, where the reader's slot is known to be empty: draws, and tells whether the copy yields. Else the call stays where it is, and nothing was drawn.
     #[inline(always)]
     pub(crate) fn skip_own_and_draw(&mut self, call: ReadCall) -> Result<(ReadCall, bool), ReadCall>
-        requires next { call.place ≡ ReadPlace.LookTake (Purpose.Copy (Form.Polling false)) }
+        requires next { call.point ≡ ReadPoint.LookTake (Purpose.Copy (Form.Polling false)) }
         ensures step { IfOk result (λ drawn. (self.old.is_registered ≡ false)
             × (drawn.0 ≡ reader_is_true (Purpose.Copy (Form.Polling drawn.1)))) }
         ensures draw { IfOk result (λ drawn. (IsTrue drawn.1 ↔ DrawsYield self.old.rng)
@@ -36,7 +36,7 @@ impl<H: Wait + Clone + Drop> Reader<H> {
 
     /// Empties the reader's slot behind the true look of a polling copy, unless the slot is known to be empty; then draws, and tells whether the copy yields.
     pub(crate) fn take_own_and_draw(&mut self, call: ReadCall) -> (ReadCall, Option<Taken>, bool)
-        requires next { call.place ≡ ReadPlace.LookTake (Purpose.Copy (Form.Polling false)) }
+        requires next { call.point ≡ ReadPoint.LookTake (Purpose.Copy (Form.Polling false)) }
         ensures step { result.0 ≡ reader_is_true (Purpose.Copy (Form.Polling result.2)) }
         ensures emptied { IsEmptied (arc_value self.old.slots).reader
             self.old.is_registered result.1 }
@@ -63,7 +63,7 @@ impl<H: Wait + Clone + Drop> Writer<H> {
         &mut self,
         call: WriteCall,
     ) -> Result<(WriteCall, bool), WriteCall>
-        requires next { call.place ≡ WritePlace.LookTake (Purpose.Copy (Form.Polling false)) }
+        requires next { call.point ≡ WritePoint.LookTake (Purpose.Copy (Form.Polling false)) }
         ensures step { IfOk result (λ drawn. (self.old.is_registered ≡ false)
             × (drawn.0 ≡ writer_is_true (Purpose.Copy (Form.Polling drawn.1)))) }
         ensures draw { IfOk result (λ drawn. (IsTrue drawn.1 ↔ DrawsYield self.old.rng)
@@ -81,7 +81,7 @@ impl<H: Wait + Clone + Drop> Writer<H> {
 
     /// Empties the writer's slot behind the true look of a polling copy, unless the slot is known to be empty; then draws, and tells whether the copy yields.
     pub(crate) fn take_own_and_draw(&mut self, call: WriteCall) -> (WriteCall, Option<Taken>, bool)
-        requires next { call.place ≡ WritePlace.LookTake (Purpose.Copy (Form.Polling false)) }
+        requires next { call.point ≡ WritePoint.LookTake (Purpose.Copy (Form.Polling false)) }
         ensures step { result.0 ≡ writer_is_true (Purpose.Copy (Form.Polling result.2)) }
         ensures emptied { IsEmptied (arc_value self.old.slots).writer
             self.old.is_registered result.1 }

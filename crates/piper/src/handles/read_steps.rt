@@ -13,7 +13,7 @@ use crate::slot::{NoWaker, Taken};
 use futures::task::Context;
 use piper_sides::calls::Side;
 use piper_sides::read_call::ReadCall;
-use piper_sides::table::{Action, Purpose, ReadPlace};
+use piper_sides::table::{Action, Purpose, ReadPoint};
 use std::sync::{Arc, Wait};
 
 impl<H: Wait + Clone + Drop> Reader<H> {
@@ -32,9 +32,9 @@ impl<H: Wait + Clone + Drop> Reader<H> {
     /// Loads the tail where no byte is known, and tells whether none is known even now.
     #[inline(always)]
     pub(crate) fn load_tail(&mut self, call: ReadCall) -> (ReadCall, bool)
-        requires next { read_action call.place ≡ Action.Refresh }
+        requires next { read_action call.point ≡ Action.Refresh }
         requires none { length self.old.end.known ≡ 0 }
-        ensures step { result.0 ≡ read_step call.place (refreshed result.1) }
+        ensures step { result.0 ≡ read_step call.point (refreshed result.1) }
         ensures none { IsTrue result.1 ↔ (length self.new.end.known ≡ 0) }
         ensures fresh { ReaderIsUpToDate self.new.end }
         ensures end { ReaderRefreshed self.old.end self.new.end }
@@ -48,8 +48,8 @@ impl<H: Wait + Clone + Drop> Reader<H> {
     /// Loads closed, and tells what the flag was.
     #[inline(always)]
     pub(crate) fn load_closed(&mut self, call: ReadCall) -> (ReadCall, bool)
-        requires next { read_action call.place ≡ Action.LoadClosed }
-        ensures step { result.0 ≡ read_step call.place (loaded result.1) }
+        requires next { read_action call.point ≡ Action.LoadClosed }
+        ensures step { result.0 ≡ read_step call.point (loaded result.1) }
         ensures saw { result.1 ≡ self.new.end.saw }
         ensures told { flag self.old.end.told_shut ≤ flag self.new.end.saw }
         ensures end { ReaderSaw self.old.end self.new.end }
@@ -61,8 +61,8 @@ impl<H: Wait + Clone + Drop> Reader<H> {
 
     /// Registers in the reader's slot, and tells whether a waker was granted.
     pub(crate) fn register(&mut self, call: ReadCall, cx: &mut Context<'_>) -> (ReadCall, bool)
-        requires next { read_action call.place ≡ Action.Register }
-        ensures step { result.0 ≡ read_step call.place (granted result.1) }
+        requires next { read_action call.point ≡ Action.Register }
+        ensures step { result.0 ≡ read_step call.point (granted result.1) }
         ensures covered { Covers cx.new (λ s. s ≡ read_source self.old) }
         ensures refused { IsFalse result.1 → cx.new.lacks_waker ≡ true }
         ensures kept { Keeps cx.old cx.new }
@@ -76,9 +76,9 @@ impl<H: Wait + Clone + Drop> Reader<H> {
     /// Empties the reader's slot behind the look of a poll, unless the slot is known to be empty.
     #[inline(always)]
     pub(crate) fn take_own(&mut self, call: ReadCall) -> (ReadCall, Option<Taken>)
-        requires next { read_action call.place ≡ Action.Take Side.Reader }
-        requires poll { reader_draws_behind call.place ≡ false }
-        ensures step { result.0 ≡ read_step call.place nothing }
+        requires next { read_action call.point ≡ Action.Take Side.Reader }
+        requires poll { reader_draws_behind call.point ≡ false }
+        ensures step { result.0 ≡ read_step call.point nothing }
         ensures emptied { IsEmptied (arc_value self.old.slots).reader
             self.old.is_registered result.1 }
         ensures known { self.new.is_registered ≡ false }
@@ -96,9 +96,9 @@ impl<H: Wait + Clone + Drop> Reader<H> {
     /// Stores the head, `n` bytes further on.
     #[inline(always)]
     pub(crate) fn store_head(&mut self, call: ReadCall, n: usize) -> ReadCall
-        requires next { read_action call.place ≡ Action.StoreHead n }
+        requires next { read_action call.point ≡ Action.StoreHead n }
         requires there { n ≤ in_one_piece self.old.end }
-        ensures step { result ≡ read_step call.place nothing }
+        ensures step { result ≡ read_step call.point nothing }
         ensures taken { self.new.end.taken ≡ self.old.end.taken ++ take n self.old.end.known }
         ensures known { self.new.end.known ≡ drop n self.old.end.known }
         ensures end { ReaderConsumed self.old.end self.new.end }
@@ -111,10 +111,10 @@ impl<H: Wait + Clone + Drop> Reader<H> {
     /// Behind the look of a poll, where the reader's slot is known to be empty: the step is made, and no access. Else the call stays where it is.
     #[inline(always)]
     pub(crate) fn skip_own(&self, call: ReadCall) -> Result<ReadCall, ReadCall>
-        requires next { read_action call.place ≡ Action.Take Side.Reader }
-        requires poll { reader_draws_behind call.place ≡ false }
+        requires next { read_action call.point ≡ Action.Take Side.Reader }
+        requires poll { reader_draws_behind call.point ≡ false }
         ensures skipped { IfOk result (λ after. (self.now.is_registered ≡ false)
-            × (after ≡ read_step call.place nothing)) }
+            × (after ≡ read_step call.point nothing)) }
         ensures stays { IfErr result (λ same. same ≡ call) }
     {
         if self.is_registered {
@@ -126,8 +126,8 @@ impl<H: Wait + Clone + Drop> Reader<H> {
     /// Empties the writer's slot where no waker stands in it, which takes no lock. Where one stands there, the call stays where it is.
     #[inline(always)]
     pub(crate) fn find_no_writer(&self, call: ReadCall) -> Result<(ReadCall, NoWaker), ReadCall>
-        requires next { read_action call.place ≡ Action.Take Side.Writer }
-        ensures none { IfOk result (λ found. (found.0 ≡ read_step call.place (waker false))
+        requires next { read_action call.point ≡ Action.Take Side.Writer }
+        ensures none { IfOk result (λ found. (found.0 ≡ read_step call.point (waker false))
             × IsNoneOf (arc_value self.now.slots).writer found.1) }
         ensures stays { IfErr result (λ same. same ≡ call) }
     {
@@ -140,8 +140,8 @@ impl<H: Wait + Clone + Drop> Reader<H> {
     /// Empties the writer's slot.
     #[inline(always)]
     pub(crate) fn take_writer(&self, call: ReadCall) -> (ReadCall, Taken)
-        requires next { read_action call.place ≡ Action.Take Side.Writer }
-        ensures step { result.0 ≡ read_step call.place (waker (found_in result.1)) }
+        requires next { read_action call.point ≡ Action.Take Side.Writer }
+        ensures step { result.0 ≡ read_step call.point (waker (found_in result.1)) }
         ensures taken { IsFrom (arc_value self.now.slots).writer result.1 }
     {
         take_writer(&self.slots, &self.rt, call)
@@ -149,8 +149,8 @@ impl<H: Wait + Clone + Drop> Reader<H> {
 
     /// Stores closed as it lets the end go. The slots are left, and what their locks are waited for with.
     pub(crate) fn store_closed(self, call: ReadCall) -> (ReadCall, Arc<Slots>, H)
-        requires next { read_action call.place ≡ Action.StoreClosed false }
-        ensures step { result.0 ≡ read_step call.place nothing }
+        requires next { read_action call.point ≡ Action.StoreClosed false }
+        ensures step { result.0 ≡ read_step call.point nothing }
         ensures slots { result.1 ≡ self.slots }
     {
         let Reader {
@@ -168,8 +168,8 @@ impl<H: Wait + Clone + Drop> Reader<H> {
 /// Empties the writer's slot.
 #[inline(always)]
 pub(crate) fn take_writer(slots: &Slots, rt: &impl Wait, call: ReadCall) -> (ReadCall, Taken)
-    requires next { read_action call.place ≡ Action.Take Side.Writer }
-    ensures step { result.0 ≡ read_step call.place (waker (found_in result.1)) }
+    requires next { read_action call.point ≡ Action.Take Side.Writer }
+    ensures step { result.0 ≡ read_step call.point (waker (found_in result.1)) }
     ensures taken { IsFrom slots.now.writer result.1 }
 {
     let taken = slots.writer.take(rt);
@@ -179,9 +179,9 @@ pub(crate) fn take_writer(slots: &Slots, rt: &impl Wait, call: ReadCall) -> (Rea
 /// Calls the waker that was taken.
 #[inline(always)]
 pub(crate) fn wake(call: ReadCall, taken: Taken) -> ReadCall
-    requires next { read_action call.place ≡ Action.Wake }
+    requires next { read_action call.point ≡ Action.Wake }
     requires found { found_in taken ≡ true }
-    ensures step { result ≡ read_step call.place nothing }
+    ensures step { result ≡ read_step call.point nothing }
 {
     taken.wake();
     call.woke()

@@ -21,9 +21,9 @@ impl<H: Wait + Clone + Drop> Writer<H> {
     /// Loads closed where a look begins, and tells what the flag was, and whether no room is known. A pipe that the writer closed is closed.
     #[inline(always)]
     pub(crate) fn look_closed(&mut self, call: WriteCall) -> (WriteCall, bool, bool)
-        requires next { write_action call.place ≡ Action.LoadClosed }
-        requires begins { begins_look call.place ≡ true }
-        ensures step { result.0 ≡ look_begun result.2 call.place result.1 }
+        requires next { write_action call.point ≡ Action.LoadClosed }
+        requires begins { begins_look call.point ≡ true }
+        ensures step { result.0 ≡ look_begun result.2 call.point result.1 }
         ensures saw { result.1 ≡ self.new.end.saw }
         ensures none { IsTrue result.2 ↔ (self.new.end.room ≡ 0) }
         ensures shut { self.new.end.shut ≡ true → self.new.end.saw ≡ true }
@@ -39,9 +39,9 @@ impl<H: Wait + Clone + Drop> Writer<H> {
     /// Loads closed at the end of a look or in a round, and tells what the flag was. A pipe that the writer closed is closed.
     #[inline(always)]
     pub(crate) fn load_closed(&mut self, call: WriteCall) -> (WriteCall, bool)
-        requires next { write_action call.place ≡ Action.LoadClosed }
-        requires goes_on { begins_look call.place ≡ false }
-        ensures step { result.0 ≡ write_step call.place (loaded result.1) }
+        requires next { write_action call.point ≡ Action.LoadClosed }
+        requires goes_on { begins_look call.point ≡ false }
+        ensures step { result.0 ≡ write_step call.point (loaded result.1) }
         ensures saw { result.1 ≡ self.new.end.saw }
         ensures shut { self.new.end.shut ≡ true → self.new.end.saw ≡ true }
         ensures end { WriterSaw self.old.end self.new.end }
@@ -55,9 +55,9 @@ impl<H: Wait + Clone + Drop> Writer<H> {
     /// Loads the head where no room is known, and tells whether none is known even now.
     #[inline(always)]
     pub(crate) fn load_head(&mut self, call: WriteCall) -> (WriteCall, bool)
-        requires next { write_action call.place ≡ Action.Refresh }
+        requires next { write_action call.point ≡ Action.Refresh }
         requires none { self.old.end.room ≡ 0 }
-        ensures step { result.0 ≡ write_step call.place (refreshed result.1) }
+        ensures step { result.0 ≡ write_step call.point (refreshed result.1) }
         ensures none { IsTrue result.1 ↔ (self.new.end.room ≡ 0) }
         ensures fresh { WriterIsUpToDate self.new.end }
         ensures end { WriterRefreshed self.old.end self.new.end }
@@ -70,8 +70,8 @@ impl<H: Wait + Clone + Drop> Writer<H> {
 
     /// Registers in the writer's slot, and tells whether a waker was granted.
     pub(crate) fn register(&mut self, call: WriteCall, cx: &mut Context<'_>) -> (WriteCall, bool)
-        requires next { write_action call.place ≡ Action.Register }
-        ensures step { result.0 ≡ write_step call.place (granted result.1) }
+        requires next { write_action call.point ≡ Action.Register }
+        ensures step { result.0 ≡ write_step call.point (granted result.1) }
         ensures covered { Covers cx.new (λ s. s ≡ write_source self.old) }
         ensures refused { IsFalse result.1 → cx.new.lacks_waker ≡ true }
         ensures kept { Keeps cx.old cx.new }
@@ -85,9 +85,9 @@ impl<H: Wait + Clone + Drop> Writer<H> {
     /// Empties the writer's slot behind the look of a poll or in a close, unless the slot is known to be empty.
     #[inline(always)]
     pub(crate) fn take_own(&mut self, call: WriteCall) -> (WriteCall, Option<Taken>)
-        requires next { write_action call.place ≡ Action.Take Side.Writer }
-        requires no_copy { writer_draws_behind call.place ≡ false }
-        ensures step { result.0 ≡ write_step call.place (waker (own_found result.1)) }
+        requires next { write_action call.point ≡ Action.Take Side.Writer }
+        requires no_copy { writer_draws_behind call.point ≡ false }
+        ensures step { result.0 ≡ write_step call.point (waker (own_found result.1)) }
         ensures emptied { IsEmptied (arc_value self.old.slots).writer
             self.old.is_registered result.1 }
         ensures known { self.new.is_registered ≡ false }
@@ -114,9 +114,9 @@ impl<H: Wait + Clone + Drop> Writer<H> {
     /// Stores the tail, `n` bytes further on.
     #[inline(always)]
     pub(crate) fn store_tail(&mut self, call: WriteCall, n: usize) -> WriteCall
-        requires next { write_action call.place ≡ Action.StoreTail n }
+        requires next { write_action call.point ≡ Action.StoreTail n }
         requires there { n ≤ length self.old.end.lent }
-        ensures step { result ≡ write_step call.place nothing }
+        ensures step { result ≡ write_step call.point nothing }
         ensures sent { self.new.end.sent ≡ self.old.end.sent ++ take n self.old.end.lent }
         ensures lent { self.new.end.lent ≡ drop n self.old.end.lent }
         ensures room { self.new.end.room + n ≡ self.old.end.room }
@@ -129,8 +129,8 @@ impl<H: Wait + Clone + Drop> Writer<H> {
 
     /// Stores closed, for good: nothing is lent any more.
     pub(crate) fn shut(&mut self, call: WriteCall) -> WriteCall
-        requires next { write_action call.place ≡ Action.StoreClosed true }
-        ensures step { result ≡ write_step call.place nothing }
+        requires next { write_action call.point ≡ Action.StoreClosed true }
+        ensures step { result ≡ write_step call.point nothing }
         ensures end { WriterShut self.old.end self.new.end }
         ensures rest { SameWriter self.old self.new }
     {
@@ -141,10 +141,10 @@ impl<H: Wait + Clone + Drop> Writer<H> {
     /// Behind the look of a poll, where the writer's slot is known to be empty: the step is made, and no access. Else the call stays where it is.
     #[inline(always)]
     pub(crate) fn skip_own(&self, call: WriteCall) -> Result<WriteCall, WriteCall>
-        requires next { write_action call.place ≡ Action.Take Side.Writer }
-        requires poll { writer_draws_behind call.place ≡ false }
+        requires next { write_action call.point ≡ Action.Take Side.Writer }
+        requires poll { writer_draws_behind call.point ≡ false }
         ensures skipped { IfOk result (λ after. (self.now.is_registered ≡ false)
-            × (after ≡ write_step call.place (waker false))) }
+            × (after ≡ write_step call.point (waker false))) }
         ensures stays { IfErr result (λ same. same ≡ call) }
     {
         if self.is_registered {
@@ -156,8 +156,8 @@ impl<H: Wait + Clone + Drop> Writer<H> {
     /// Empties the reader's slot where no waker stands in it, which takes no lock. Where one stands there, the call stays where it is.
     #[inline(always)]
     pub(crate) fn find_no_reader(&self, call: WriteCall) -> Result<(WriteCall, NoWaker), WriteCall>
-        requires next { write_action call.place ≡ Action.Take Side.Reader }
-        ensures none { IfOk result (λ found. (found.0 ≡ write_step call.place (waker false))
+        requires next { write_action call.point ≡ Action.Take Side.Reader }
+        ensures none { IfOk result (λ found. (found.0 ≡ write_step call.point (waker false))
             × IsNoneOf (arc_value self.now.slots).reader found.1) }
         ensures stays { IfErr result (λ same. same ≡ call) }
     {
@@ -170,8 +170,8 @@ impl<H: Wait + Clone + Drop> Writer<H> {
     /// Empties the reader's slot.
     #[inline(always)]
     pub(crate) fn take_reader(&self, call: WriteCall) -> (WriteCall, Taken)
-        requires next { write_action call.place ≡ Action.Take Side.Reader }
-        ensures step { result.0 ≡ write_step call.place (waker (found_in result.1)) }
+        requires next { write_action call.point ≡ Action.Take Side.Reader }
+        ensures step { result.0 ≡ write_step call.point (waker (found_in result.1)) }
         ensures taken { IsFrom (arc_value self.now.slots).reader result.1 }
     {
         take_reader(&self.slots, &self.rt, call)
@@ -179,8 +179,8 @@ impl<H: Wait + Clone + Drop> Writer<H> {
 
     /// Stores closed as it lets the end go. The slots are left, and what their locks are waited for with.
     pub(crate) fn store_closed(self, call: WriteCall) -> (WriteCall, Arc<Slots>, H)
-        requires next { write_action call.place ≡ Action.StoreClosed false }
-        ensures step { result.0 ≡ write_step call.place nothing }
+        requires next { write_action call.point ≡ Action.StoreClosed false }
+        ensures step { result.0 ≡ write_step call.point nothing }
         ensures slots { result.1 ≡ self.slots }
     {
         let Writer {
@@ -198,8 +198,8 @@ impl<H: Wait + Clone + Drop> Writer<H> {
 /// Empties the reader's slot.
 #[inline(always)]
 pub(crate) fn take_reader(slots: &Slots, rt: &impl Wait, call: WriteCall) -> (WriteCall, Taken)
-    requires next { write_action call.place ≡ Action.Take Side.Reader }
-    ensures step { result.0 ≡ write_step call.place (waker (found_in result.1)) }
+    requires next { write_action call.point ≡ Action.Take Side.Reader }
+    ensures step { result.0 ≡ write_step call.point (waker (found_in result.1)) }
     ensures taken { IsFrom slots.now.reader result.1 }
 {
     let taken = slots.reader.take(rt);
@@ -209,9 +209,9 @@ pub(crate) fn take_reader(slots: &Slots, rt: &impl Wait, call: WriteCall) -> (Wr
 /// Calls the waker that was taken.
 #[inline(always)]
 pub(crate) fn wake(call: WriteCall, taken: Taken) -> WriteCall
-    requires next { write_action call.place ≡ Action.Wake }
+    requires next { write_action call.point ≡ Action.Wake }
     requires found { found_in taken ≡ true }
-    ensures step { result ≡ write_step call.place nothing }
+    ensures step { result ≡ write_step call.point nothing }
 {
     taken.wake();
     call.woke()

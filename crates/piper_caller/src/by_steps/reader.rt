@@ -8,7 +8,7 @@ use piper_sides::calls::Side;
 use piper_sides::polling::Polled;
 use piper_sides::read_call::ReadCall;
 use piper_sides::read_indices::ReadIndices;
-use piper_sides::table::{Action, Purpose, ReadPlace};
+use piper_sides::table::{Action, Purpose, ReadPoint};
 
 /// What a reader reaches of the pipe that it shares, by one access each.
 pub trait ReadWords {
@@ -84,8 +84,8 @@ impl<W: ReadWords> Reader<W> {
     }
 
     fn refresh(&mut self, call: ReadCall) -> (ReadCall, bool)
-        requires next { read_action call.place ≡ Action.Refresh }
-        ensures step { result.0 ≡ read_step call.place (refreshed result.1) }
+        requires next { read_action call.point ≡ Action.Refresh }
+        ensures step { result.0 ≡ read_step call.point (refreshed result.1) }
         ensures none { IsTrue result.1 ↔ (known_in self.new.indices ≡ 0) }
     {
         let tail = self.words.load_tail(&self.indices);
@@ -95,16 +95,16 @@ impl<W: ReadWords> Reader<W> {
     }
 
     fn look_closed(&mut self, call: ReadCall) -> ReadCall
-        requires next { read_action call.place ≡ Action.LoadClosed }
-        ensures step { (is_closed : Bool) × (result ≡ read_step call.place (flag is_closed)) }
+        requires next { read_action call.point ≡ Action.LoadClosed }
+        ensures step { (is_closed : Bool) × (result ≡ read_step call.point (flag is_closed)) }
         ensures kept { self.new.indices ≡ self.old.indices }
     {
         call.loaded_closed(self.words.load_closed())
     }
 
     fn register(&mut self, call: ReadCall) -> ReadCall
-        requires next { read_action call.place ≡ Action.Register }
-        ensures step { result ≡ read_step call.place (granted true) }
+        requires next { read_action call.point ≡ Action.Register }
+        ensures step { result ≡ read_step call.point (granted true) }
         ensures kept { self.new.indices ≡ self.old.indices }
     {
         self.words.put_own();
@@ -112,8 +112,8 @@ impl<W: ReadWords> Reader<W> {
     }
 
     fn clear_own(&mut self, call: ReadCall) -> ReadCall
-        requires next { call.place ≡ ReadPlace.LookTake Purpose.Poll }
-        ensures step { result ≡ read_step call.place nothing }
+        requires next { call.point ≡ ReadPoint.LookTake Purpose.Poll }
+        ensures step { result ≡ read_step call.point nothing }
         ensures kept { self.new.indices ≡ self.old.indices }
     {
         self.words.take_own();
@@ -121,9 +121,9 @@ impl<W: ReadWords> Reader<W> {
     }
 
     fn pass(&mut self, call: ReadCall, n: usize) -> ReadCall
-        requires next { read_action call.place ≡ Action.StoreHead n }
+        requires next { read_action call.point ≡ Action.StoreHead n }
         requires known { n ≤ known_in self.old.indices }
-        ensures step { result ≡ read_step call.place nothing }
+        ensures step { result ≡ read_step call.point nothing }
         ensures passed { self.new.indices ≡ head_passed n self.old.indices }
     {
         self.indices.gives(n);
@@ -132,8 +132,8 @@ impl<W: ReadWords> Reader<W> {
     }
 
     fn take_writer(&mut self, call: ReadCall) -> (ReadCall, bool)
-        requires next { read_action call.place ≡ Action.Take Side.Writer }
-        ensures step { result.0 ≡ read_step call.place (waker result.1) }
+        requires next { read_action call.point ≡ Action.Take Side.Writer }
+        ensures step { result.0 ≡ read_step call.point (waker result.1) }
         ensures kept { self.new.indices ≡ self.old.indices }
     {
         let is_found = self.words.take_writer();
@@ -141,8 +141,8 @@ impl<W: ReadWords> Reader<W> {
     }
 
     fn wake(&mut self, call: ReadCall) -> ReadCall
-        requires next { read_action call.place ≡ Action.Wake }
-        ensures step { result ≡ read_step call.place nothing }
+        requires next { read_action call.point ≡ Action.Wake }
+        ensures step { result ≡ read_step call.point nothing }
         ensures kept { self.new.indices ≡ self.old.indices }
     {
         self.words.wake_writer();

@@ -7,7 +7,7 @@ ghost use Rattle.piper_sides.specs.declared.polling.Polled.TheVariants.{Pending,
 
 use piper_sides::calls::Side;
 use piper_sides::polling::Polled;
-use piper_sides::table::{Action, Purpose, WritePlace};
+use piper_sides::table::{Action, Purpose, WritePoint};
 use piper_sides::write_call::WriteCall;
 use piper_sides::write_indices::WriteIndices;
 
@@ -92,8 +92,8 @@ impl<W: WriteWords> Writer<W> {
     }
 
     fn look_first(&mut self, call: WriteCall, none: bool) -> (WriteCall, bool)
-        requires next { call.place ≡ WritePlace.LookClosed Purpose.Poll }
-        ensures step { result.0 ≡ look_begun none call.place result.1 }
+        requires next { call.point ≡ WritePoint.LookClosed Purpose.Poll }
+        ensures step { result.0 ≡ look_begun none call.point result.1 }
         ensures kept { self.new.indices ≡ self.old.indices }
     {
         let is_closed = self.words.load_closed();
@@ -101,8 +101,8 @@ impl<W: WriteWords> Writer<W> {
     }
 
     fn refresh(&mut self, call: WriteCall) -> (WriteCall, bool)
-        requires next { write_action call.place ≡ Action.Refresh }
-        ensures step { result.0 ≡ write_step call.place (refreshed result.1) }
+        requires next { write_action call.point ≡ Action.Refresh }
+        ensures step { result.0 ≡ write_step call.point (refreshed result.1) }
         ensures none { IsTrue result.1 ↔ (room_in self.new.indices ≡ 0) }
         ensures lent { self.new.indices.lent ≡ self.old.indices.lent }
     {
@@ -113,16 +113,16 @@ impl<W: WriteWords> Writer<W> {
     }
 
     fn look_closed(&mut self, call: WriteCall) -> WriteCall
-        requires next { call.place ≡ WritePlace.LookClosedAgain Purpose.Poll }
-        ensures step { (is_closed : Bool) × (result ≡ write_step call.place (flag is_closed)) }
+        requires next { call.point ≡ WritePoint.LookClosedAgain Purpose.Poll }
+        ensures step { (is_closed : Bool) × (result ≡ write_step call.point (flag is_closed)) }
         ensures kept { self.new.indices ≡ self.old.indices }
     {
         call.loaded_closed(self.words.load_closed())
     }
 
     fn register(&mut self, call: WriteCall) -> WriteCall
-        requires next { write_action call.place ≡ Action.Register }
-        ensures step { result ≡ write_step call.place (granted true) }
+        requires next { write_action call.point ≡ Action.Register }
+        ensures step { result ≡ write_step call.point (granted true) }
         ensures kept { self.new.indices ≡ self.old.indices }
     {
         self.words.put_own();
@@ -130,17 +130,17 @@ impl<W: WriteWords> Writer<W> {
     }
 
     fn clear_own(&mut self, call: WriteCall) -> WriteCall
-        requires next { call.place ≡ WritePlace.LookTake Purpose.Poll }
-        ensures step { (is_found : Bool) × (result ≡ write_step call.place (waker is_found)) }
+        requires next { call.point ≡ WritePoint.LookTake Purpose.Poll }
+        ensures step { (is_found : Bool) × (result ≡ write_step call.point (waker is_found)) }
         ensures kept { self.new.indices ≡ self.old.indices }
     {
         call.took_own(self.words.take_own())
     }
 
     fn publish(&mut self, call: WriteCall, n: usize) -> WriteCall
-        requires next { write_action call.place ≡ Action.StoreTail n }
+        requires next { write_action call.point ≡ Action.StoreTail n }
         requires lent { n ≤ self.old.indices.lent }
-        ensures step { result ≡ write_step call.place nothing }
+        ensures step { result ≡ write_step call.point nothing }
         ensures passed { self.new.indices ≡ tail_passed n self.old.indices }
     {
         self.indices.publishes(n);
@@ -149,8 +149,8 @@ impl<W: WriteWords> Writer<W> {
     }
 
     fn take_reader(&mut self, call: WriteCall) -> (WriteCall, bool)
-        requires next { write_action call.place ≡ Action.Take Side.Reader }
-        ensures step { result.0 ≡ write_step call.place (waker result.1) }
+        requires next { write_action call.point ≡ Action.Take Side.Reader }
+        ensures step { result.0 ≡ write_step call.point (waker result.1) }
         ensures kept { self.new.indices ≡ self.old.indices }
     {
         let is_found = self.words.take_reader();
@@ -158,8 +158,8 @@ impl<W: WriteWords> Writer<W> {
     }
 
     fn wake(&mut self, call: WriteCall) -> WriteCall
-        requires next { write_action call.place ≡ Action.Wake }
-        ensures step { result ≡ write_step call.place nothing }
+        requires next { write_action call.point ≡ Action.Wake }
+        ensures step { result ≡ write_step call.point nothing }
         ensures kept { self.new.indices ≡ self.old.indices }
     {
         self.words.wake_reader();

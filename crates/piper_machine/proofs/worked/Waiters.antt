@@ -1,4 +1,4 @@
--- A side that was told to wait, from place to place of the other side's wake, and what no run may come to.
+-- A side that was told to wait, from point to point of the other side's wake, and what no run may come to.
 use Rattle.std.specs.Prelude.{◌≡◌, ℕ, List, [], ◌∷◌, take, true, false, None, Some, Ok, refl}
 use Rattle.std.proofs.Common.{inl, inr}
 use Rattle.piper_sides.specs.declared.calls.Side.TheVariants.{Reader, Writer}
@@ -10,7 +10,7 @@ use Rattle.piper_sides.specs.declared.events.Event.{Event}
 use Rattle.piper_sides.specs.declared.events.Event.TheVariants.{Began, Published, Registered, Woken, Answered}
 use Rattle.piper_sides.specs.declared.events.Answer.TheVariants as answer
 use Rattle.piper_sides.specs.declared.polling.Polled.TheVariants as polled
-use Rattle.piper_sides.specs.declared.table.WritePlace.TheVariants as on
+use Rattle.piper_sides.specs.declared.table.WritePoint.TheVariants as on
 use Rattle.piper_machine.specs.Pipe.{Pipe, fresh}
 use Rattle.piper_machine.specs.Wait.{Wait, wait_of}
 use Rattle.piper_machine.specs.Remembered.{IsRemembered}

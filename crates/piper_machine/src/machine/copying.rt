@@ -15,7 +15,7 @@ use piper_sides::calls::Call;
 use piper_sides::events::Answer;
 use piper_sides::polling::{Context, Luck, Polled};
 use piper_sides::scripted::{DestAct, Failed, MOST_A_ROUND, SourceAct};
-use piper_sides::table::{Action, ReadPlace, WritePlace};
+use piper_sides::table::{Action, ReadPoint, WritePoint};
 
 // A copy between the pipe and a slice cannot fail.
 fn counted(copied: Polled<Result<usize, Failed>>) -> Polled<usize>
@@ -32,7 +32,7 @@ fn counted(copied: Polled<Result<usize, Failed>>) -> Polled<usize>
 impl Machine {
     // A fill from the caller's slice, up to its answer: the slice stands in the place of the source that an open call holds.
     fn fill_slice(&mut self, context: Option<Context>, bytes: &[u8]) -> Answer
-        requires idle { self.old.writer ≡ WritePlace.Idle }
+        requires idle { self.old.writer ≡ WritePoint.Idle }
         requires woken { self.old.woken ≡ [] }
         ensures answer { let p = fill_opened context (SourceAct.Bytes bytes.now ∷ []) self.old in
             result ≡ (writer_alone p.writer p).answer }
@@ -74,7 +74,7 @@ impl Machine {
 
     // A drain to the caller's slice, up to its answer: the slice stands in the place of the destination that an open call holds.
     fn drain_slice(&mut self, context: Option<Context>, dest: &mut [u8]) -> Answer
-        requires idle { self.old.reader ≡ ReadPlace.Idle }
+        requires idle { self.old.reader ≡ ReadPoint.Idle }
         requires woken { self.old.woken ≡ [] }
         ensures answer { let p =
             drain_opened context (Destination.Slice (length dest.old)) self.old in
@@ -109,7 +109,7 @@ impl Machine {
 
     // A fill from the caller's script, up to its answer.
     fn fill_script(&mut self, context: Option<Context>, acts: &[SourceAct]) -> Answer
-        requires idle { self.old.writer ≡ WritePlace.Idle }
+        requires idle { self.old.writer ≡ WritePoint.Idle }
         requires woken { self.old.woken ≡ [] }
         ensures answer { let p = fill_opened context acts.now self.old in
             result ≡ (writer_alone p.writer p).answer }
@@ -148,7 +148,7 @@ impl Machine {
 
     // A drain to the caller's script, up to its answer.
     fn drain_script(&mut self, context: Option<Context>, acts: &[DestAct]) -> Answer
-        requires idle { self.old.reader ≡ ReadPlace.Idle }
+        requires idle { self.old.reader ≡ ReadPoint.Idle }
         requires woken { self.old.woken ≡ [] }
         ensures answer { let p = drain_opened context (Destination.Acts acts.now) self.old in
             result ≡ (reader_alone p.reader p).answer }
@@ -179,7 +179,7 @@ impl Machine {
 
     /// Publishes as many of the first bytes as there is known room, and answers how many.
     pub fn w_try_fill(&mut self, bytes: &[u8]) -> usize
-        requires { self.old.writer ≡ WritePlace.Idle }
+        requires { self.old.writer ≡ WritePoint.Idle }
         ensures count { result ≡ count_of (try_fill bytes.now self.old).answer }
         ensures after { self.new ≡ (try_fill bytes.now self.old).pipe }
         ensures by_steps { IsWholeBySteps (Call.TryFill bytes.now) self.old }
@@ -191,7 +191,7 @@ impl Machine {
 
     /// Moves as many of the known bytes as fit to the front of `dest`, and answers how many.
     pub fn r_try_drain(&mut self, dest: &mut [u8]) -> usize
-        requires { self.old.reader ≡ ReadPlace.Idle }
+        requires { self.old.reader ≡ ReadPoint.Idle }
         ensures count { result ≡ count_of (try_drain (length dest.old) self.old).answer }
         ensures within { result ≤ length dest.old }
         ensures bytes { dest.new ≡ take result self.old.unread ++ drop result dest.old }
@@ -210,7 +210,7 @@ impl Machine {
     /// called, the answer is pending, and no byte has moved. `Memory` is answered exactly where a registration or a
     /// yield is needed and not granted. Nothing stays lent, whatever is answered.
     pub fn w_poll_fill_bytes(&mut self, waker: u32, luck: Luck, bytes: &[u8]) -> Polled<usize>
-        requires idle { self.old.writer ≡ WritePlace.Idle }
+        requires idle { self.old.writer ≡ WritePoint.Idle }
         requires draw { luck.draw < 100 }
         ensures answer { result ≡ (fill (Some (context waker luck)) bytes.now self.old).answer }
         ensures after { self.new ≡ (fill (Some (context waker luck)) bytes.now self.old).pipe }
@@ -230,7 +230,7 @@ impl Machine {
     /// called, the answer is pending, and no byte has moved. `Memory` is answered exactly where a registration or a
     /// yield is needed and not granted.
     pub fn r_poll_drain_bytes(&mut self, waker: u32, luck: Luck, dest: &mut [u8]) -> Polled<usize>
-        requires idle { self.old.reader ≡ ReadPlace.Idle }
+        requires idle { self.old.reader ≡ ReadPoint.Idle }
         requires draw { luck.draw < 100 }
         ensures answer { result
             ≡ (drain (Some (context waker luck)) (length dest.old) self.old).answer }
@@ -260,7 +260,7 @@ impl Machine {
         luck: Luck,
         acts: &[SourceAct],
     ) -> Polled<Result<usize, Failed>>
-        requires idle { self.old.writer ≡ WritePlace.Idle }
+        requires idle { self.old.writer ≡ WritePoint.Idle }
         requires draw { luck.draw < 100 }
         ensures answer { result ≡ (fill_from (Some (context waker luck)) acts.now self.old).answer }
         ensures after { self.new ≡ (fill_from (Some (context waker luck)) acts.now self.old).pipe }
@@ -283,7 +283,7 @@ impl Machine {
         luck: Luck,
         acts: &[DestAct],
     ) -> Polled<Result<usize, Failed>>
-        requires idle { self.old.reader ≡ ReadPlace.Idle }
+        requires idle { self.old.reader ≡ ReadPoint.Idle }
         requires draw { luck.draw < 100 }
         ensures answer { result ≡ (drain_to (Some (context waker luck)) acts.now self.old).answer }
         ensures after { self.new ≡ (drain_to (Some (context waker luck)) acts.now self.old).pipe }

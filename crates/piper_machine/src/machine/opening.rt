@@ -15,7 +15,7 @@ use piper_sides::events::{Answer, Event, Log, answered};
 use piper_sides::memory::OutOfMemory;
 use piper_sides::polling::Context;
 use piper_sides::refusals::StepRefusal;
-use piper_sides::table::{Form, Purpose, ReadPlace, WritePlace};
+use piper_sides::table::{Form, Purpose, ReadPoint, WritePoint};
 use std::mem;
 
 // In which form a copying call is made.
@@ -100,7 +100,7 @@ impl Machine {
     }
 
     pub(super) fn open_drain(&mut self, context: Option<Context>, destination: Destination)
-        requires { self.old.reader ≡ ReadPlace.Idle }
+        requires { self.old.reader ≡ ReadPoint.Idle }
         ensures { self.new ≡ drain_opened context destination self.old }
     {
         self.read.begin_look(Purpose::Copy(form(context)));
@@ -112,7 +112,7 @@ impl Machine {
     }
 
     pub(super) fn open_fill(&mut self, context: Option<Context>, source: Source)
-        requires { self.old.writer ≡ WritePlace.Idle }
+        requires { self.old.writer ≡ WritePoint.Idle }
         ensures { self.new ≡ fill_opened context source self.old }
     {
         self.write.begin_look(Purpose::Copy(form(context)));

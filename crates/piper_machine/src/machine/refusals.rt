@@ -5,7 +5,7 @@ ghost use Rattle.piper_machine.specs.Refusal.{state_of, reader_state, writer_sta
 use super::Machine;
 use piper_sides::calls::{Call, Side, SideState, Step};
 use piper_sides::refusals::StepRefusal;
-use piper_sides::table::{ReadPlace, WritePlace};
+use piper_sides::table::{ReadPoint, WritePoint};
 
 // Why no call can be opened.
 fn cannot_begin(state: SideState) -> Option<StepRefusal>
@@ -50,11 +50,11 @@ impl Machine {
     /// What the reader is about.
     pub fn r_state(&self) -> SideState
         ensures state { result ≡ reader_state self.now.reader }
-        ensures idle { result ≡ SideState.Idle → self.now.reader ≡ ReadPlace.Idle }
+        ensures idle { result ≡ SideState.Idle → self.now.reader ≡ ReadPoint.Idle }
     {
-        match self.read.place() {
-            ReadPlace::Idle => SideState::Idle,
-            ReadPlace::Dropped => SideState::Dropped,
+        match self.read.point() {
+            ReadPoint::Idle => SideState::Idle,
+            ReadPoint::Dropped => SideState::Dropped,
             _ => SideState::Busy,
         }
     }
@@ -62,11 +62,11 @@ impl Machine {
     /// What the writer is about.
     pub fn w_state(&self) -> SideState
         ensures state { result ≡ writer_state self.now.writer }
-        ensures idle { result ≡ SideState.Idle → self.now.writer ≡ WritePlace.Idle }
+        ensures idle { result ≡ SideState.Idle → self.now.writer ≡ WritePoint.Idle }
     {
-        match self.write.place() {
-            WritePlace::Idle => SideState::Idle,
-            WritePlace::Dropped => SideState::Dropped,
+        match self.write.point() {
+            WritePoint::Idle => SideState::Idle,
+            WritePoint::Dropped => SideState::Dropped,
             _ => SideState::Busy,
         }
     }

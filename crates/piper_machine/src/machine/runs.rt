@@ -27,7 +27,7 @@ use super::Machine;
 use piper_sides::calls::{Side, Step};
 use piper_sides::events::{Event, Log, answered};
 use piper_sides::refusals::{RunRefusal, StepRefusal};
-use piper_sides::table::{Action, WritePlace};
+use piper_sides::table::{Action, WritePoint};
 use std::alloc::Global;
 
 impl Machine {
@@ -87,7 +87,7 @@ impl Machine {
 
     // Writes a byte into what is lent.
     fn put(&mut self, offset: usize, byte: u8)
-        requires idle { self.old.writer ≡ WritePlace.Idle }
+        requires idle { self.old.writer ≡ WritePoint.Idle }
         requires within { offset < length self.old.lent }
         ensures { self.new ≡ lending (slice_set self.old.lent offset byte) self.old }
     {

@@ -17,7 +17,7 @@ use piper_sides::events::Answer;
 use piper_sides::polling::Context;
 use piper_sides::scripted::{Failed, MOST_A_ROUND};
 use piper_sides::slot::SlotState;
-use piper_sides::table::{Action, WritePlace};
+use piper_sides::table::{Action, WritePoint};
 use piper_sides::write_side::WriteSide;
 use std::alloc::Global;
 use std::mem;
@@ -87,7 +87,7 @@ fn settle_writer(
 
 // Nothing stays lent where a fill has answered.
 fn settle_lent(write: &mut WriteSide, is_fill: bool, answer: Option<Answer>)
-    requires { IsSome answer → write.old.place ≡ WritePlace.Idle }
+    requires { IsSome answer → write.old.point ≡ WritePoint.Idle }
     ensures { write.new
         ≡ record write.old { lent = lent_count_after is_fill answer write.old.lent } }
 {

@@ -21,7 +21,7 @@ use crate::destination::Destination;
 use piper_sides::calls::{Call, Query, Side, SideState};
 use piper_sides::events::Answer;
 use piper_sides::polling::{Context, Luck, Polled};
-use piper_sides::table::{Action, ReadPlace, WritePlace};
+use piper_sides::table::{Action, ReadPoint, WritePoint};
 
 // The waker that a yield of this call calls.
 fn yield_waker(context: Option<Context>) -> Option<u32>
@@ -36,7 +36,7 @@ fn yield_waker(context: Option<Context>) -> Option<u32>
 impl Machine {
     // A whole call of the reader begins.
     pub(super) fn begin_reader(&mut self)
-        requires { self.old.reader ≡ ReadPlace.Idle }
+        requires { self.old.reader ≡ ReadPoint.Idle }
         ensures after { self.new ≡ begun self.old }
         ensures call { self.old.reader_call ≡ no_call }
         ensures destination { self.old.destination ≡ Destination.Slice 0 }
@@ -46,7 +46,7 @@ impl Machine {
 
     // A whole call of the writer begins.
     pub(super) fn begin_writer(&mut self)
-        requires { self.old.writer ≡ WritePlace.Idle }
+        requires { self.old.writer ≡ WritePoint.Idle }
         ensures after { self.new ≡ begun self.old }
         ensures call { self.old.writer_call ≡ no_call }
         ensures source { self.old.source ≡ [] }
@@ -129,7 +129,7 @@ impl Machine {
 
     /// How many bytes are unread, as the reader finds it.
     pub fn r_len(&mut self) -> usize
-        requires { self.old.reader ≡ ReadPlace.Idle }
+        requires { self.old.reader ≡ ReadPoint.Idle }
         ensures value { result ≡ unread_count self.old }
         ensures after { self.new ≡ begun self.old }
         ensures by_steps { IsWholeBySteps (Call.Len Side.Reader) self.old }
@@ -142,7 +142,7 @@ impl Machine {
 
     /// Whether no byte is unread.
     pub fn r_is_empty(&mut self) -> bool
-        requires { self.old.reader ≡ ReadPlace.Idle }
+        requires { self.old.reader ≡ ReadPoint.Idle }
         ensures value { result ≡ is_empty self.old }
         ensures after { self.new ≡ begun self.old }
         ensures by_steps { IsWholeBySteps (Call.IsEmpty Side.Reader) self.old }
@@ -155,7 +155,7 @@ impl Machine {
 
     /// Whether as many bytes are unread as the pipe can hold.
     pub fn r_is_full(&mut self) -> bool
-        requires { self.old.reader ≡ ReadPlace.Idle }
+        requires { self.old.reader ≡ ReadPoint.Idle }
         ensures value { result ≡ is_full self.old }
         ensures after { self.new ≡ begun self.old }
         ensures by_steps { IsWholeBySteps (Call.IsFull Side.Reader) self.old }
@@ -168,7 +168,7 @@ impl Machine {
 
     /// Whether the pipe is closed: by the writer, or by the drop of a side.
     pub fn r_is_closed(&mut self) -> bool
-        requires { self.old.reader ≡ ReadPlace.Idle }
+        requires { self.old.reader ≡ ReadPoint.Idle }
         ensures value { result ≡ is_closed self.old }
         ensures after { self.new ≡ begun self.old }
         ensures by_steps { IsWholeBySteps (Call.IsClosed Side.Reader) self.old }
@@ -181,7 +181,7 @@ impl Machine {
 
     /// How many bytes are unread, as the writer finds it.
     pub fn w_len(&mut self) -> usize
-        requires { self.old.writer ≡ WritePlace.Idle }
+        requires { self.old.writer ≡ WritePoint.Idle }
         ensures value { result ≡ unread_count self.old }
         ensures after { self.new ≡ begun self.old }
         ensures by_steps { IsWholeBySteps (Call.Len Side.Writer) self.old }
@@ -194,7 +194,7 @@ impl Machine {
 
     /// Whether no byte is unread.
     pub fn w_is_empty(&mut self) -> bool
-        requires { self.old.writer ≡ WritePlace.Idle }
+        requires { self.old.writer ≡ WritePoint.Idle }
         ensures value { result ≡ is_empty self.old }
         ensures after { self.new ≡ begun self.old }
         ensures by_steps { IsWholeBySteps (Call.IsEmpty Side.Writer) self.old }
@@ -207,7 +207,7 @@ impl Machine {
 
     /// Whether as many bytes are unread as the pipe can hold.
     pub fn w_is_full(&mut self) -> bool
-        requires { self.old.writer ≡ WritePlace.Idle }
+        requires { self.old.writer ≡ WritePoint.Idle }
         ensures value { result ≡ is_full self.old }
         ensures after { self.new ≡ begun self.old }
         ensures by_steps { IsWholeBySteps (Call.IsFull Side.Writer) self.old }
@@ -220,7 +220,7 @@ impl Machine {
 
     /// Whether the pipe is closed: by the writer, or by the drop of a side.
     pub fn w_is_closed(&mut self) -> bool
-        requires { self.old.writer ≡ WritePlace.Idle }
+        requires { self.old.writer ≡ WritePoint.Idle }
         ensures value { result ≡ is_closed self.old }
         ensures after { self.new ≡ begun self.old }
         ensures by_steps { IsWholeBySteps (Call.IsClosed Side.Writer) self.old }
@@ -236,7 +236,7 @@ impl Machine {
     /// Ready with true: a byte is known. Ready with false: the pipe is closed, and no byte is unread.
     /// `Memory` is answered exactly where a registration is needed and not granted.
     pub fn r_poll(&mut self, waker: u32, luck: Luck) -> Polled<bool>
-        requires idle { self.old.reader ≡ ReadPlace.Idle }
+        requires idle { self.old.reader ≡ ReadPoint.Idle }
         requires draw { luck.draw < 100 }
         ensures answer { result
             ≡ (reader_look (Some (context waker luck)) (begun self.old)).answer }
@@ -254,7 +254,7 @@ impl Machine {
     /// Ready with true: room is known. Ready with false: the pipe is closed.
     /// `Memory` is answered exactly where a registration is needed and not granted.
     pub fn w_poll(&mut self, waker: u32, luck: Luck) -> Polled<bool>
-        requires idle { self.old.writer ≡ WritePlace.Idle }
+        requires idle { self.old.writer ≡ WritePoint.Idle }
         requires draw { luck.draw < 100 }
         ensures answer { result
             ≡ (writer_look (Some (context waker luck)) (begun self.old)).answer }
@@ -269,7 +269,7 @@ impl Machine {
 
     /// Gives up the first `n` bytes of the peeked slice, and wakes the writer, also at 0.
     pub fn r_consume(&mut self, n: usize)
-        requires idle { self.old.reader ≡ ReadPlace.Idle }
+        requires idle { self.old.reader ≡ ReadPoint.Idle }
         requires within { n ≤ peeked_count self.old }
         ensures after { self.new ≡ consume n (begun self.old) }
         ensures by_steps { IsWholeBySteps (Call.Consume n) self.old }
@@ -285,7 +285,7 @@ impl Machine {
     /// Nothing is lent of a shut pipe; else at least the lesser of `max`, 4096, the known room and what is left up to
     /// the end of the buffer. What is lent is written by `w_write`, shown by `w_lent` and published by `w_produced`.
     pub fn w_write_buf(&mut self, max: usize) -> usize
-        requires { self.old.writer ≡ WritePlace.Idle }
+        requires { self.old.writer ≡ WritePoint.Idle }
         ensures bounds { Lendable max self.old result }
         ensures count { length self.new.lent ≡ result }
         ensures after { self.new ≡ lending self.new.lent (begun self.old) }
@@ -296,7 +296,7 @@ impl Machine {
         self.lend(max)
     }
 
-    /// Writes `bytes` into what is lent, from the place `offset` of it on.
+    /// Writes `bytes` into what is lent, from the point `offset` of it on.
     pub fn w_write(&mut self, offset: usize, bytes: &[u8])
         requires { offset + length bytes.now ≤ length self.old.lent }
         ensures { self.new ≡ lending (written self.old.lent offset bytes.now) self.old }
@@ -306,7 +306,7 @@ impl Machine {
 
     /// Publishes the first `n` bytes of what is lent, as they stand now, and wakes the reader, also at 0.
     pub fn w_produced(&mut self, n: usize)
-        requires idle { self.old.writer ≡ WritePlace.Idle }
+        requires idle { self.old.writer ≡ WritePoint.Idle }
         requires within { n ≤ length self.old.lent }
         ensures after { self.new ≡ produce n (begun self.old) }
         ensures by_steps { IsWholeBySteps (Call.Produced n) self.old }
@@ -319,7 +319,7 @@ impl Machine {
 
     /// Closes the pipe: nothing can be written any more, and both sides are woken. What is unread stays.
     pub fn w_close(&mut self)
-        requires { self.old.writer ≡ WritePlace.Idle }
+        requires { self.old.writer ≡ WritePoint.Idle }
         ensures after { self.new ≡ close (begun self.old) }
         ensures by_steps { IsWholeBySteps Call.Close self.old }
     {
@@ -331,7 +331,7 @@ impl Machine {
 
     /// Drops the reader: the pipe is closed, and the writer is woken.
     pub fn r_drop(&mut self)
-        requires { self.old.reader ≡ ReadPlace.Idle }
+        requires { self.old.reader ≡ ReadPoint.Idle }
         ensures after { self.new ≡ drop_reader (begun self.old) }
         ensures by_steps { IsWholeBySteps (Call.Drop Side.Reader) self.old }
     {
@@ -343,7 +343,7 @@ impl Machine {
 
     /// Drops the writer: the pipe is closed, and the reader is woken. What is unread stays.
     pub fn w_drop(&mut self)
-        requires { self.old.writer ≡ WritePlace.Idle }
+        requires { self.old.writer ≡ WritePoint.Idle }
         ensures after { self.new ≡ drop_writer (begun self.old) }
         ensures by_steps { IsWholeBySteps (Call.Drop Side.Writer) self.old }
     {

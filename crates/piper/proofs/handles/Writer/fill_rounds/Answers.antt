@@ -38,7 +38,7 @@ rounds-preserved g c =
     let stored = c.store_tail-round.ensures in
     let saw = c.load_closed-round.ensures.end in
     record {
-      at = fill_round c.before_round-call.result.place c.args.form c.rounds.sum c.in-Ok.n (search rules) c.source_gave-round.result c.source_gave-round.ensures c.if-n-eq0.false
+      at = fill_round c.before_round-call.result.point c.args.form c.rounds.sum c.in-Ok.n (search rules) c.source_gave-round.result c.source_gave-round.ensures c.if-n-eq0.false
           c.load_closed-round.result.0 c.load_closed-round.result.1 c.load_closed-round.ensures.step c.store_tail-round.result c.wake_reader-call.result
           c.if-is_closed.false stored.step c.wake_reader-call.ensures;
       filled = filled_more _ g.met.R.ReadLike.gives_in_order _ _ _ _ _ _ _ c.rounds.invariant.filled c.fill_round.ensures.end _ _ _ c.in-Ok.ensures.bound some saw stored.sent stored.room stored.end;

@@ -1,5 +1,5 @@
 use Rattle.std.proofs.Common.{◌-◌, ap, ◌∙◌, length}
-use Rattle.piper_sides.specs.declared.table.WritePlace.{WritePlace}
+use Rattle.piper_sides.specs.declared.table.WritePoint.{WritePoint}
 use Rattle.piper_sides.specs.Table.{Next}
 use Rattle.piper_machine.specs.Step.{call_after, source_after}
 use Rattle.piper_machine.specs.Machine.{pipe_of}
@@ -14,4 +14,4 @@ returns-clause-after c =
     let seen = head_seen-view m i c.refreshed-answer.new.self _ _ _ (rw c.head.ensures at c.refreshed-answer.ensures.after) in
     let answer = rw c.head.ensures at c.refreshed-answer.ensures.answer in
     rw (← c.self.view_is, c.settle_writer.ensures.call, c.settle_writer.ensures.source, answer)
-    (seen ∙ ap (λ (next : Next WritePlace). record p { room = p.capacity - length p.unread; writer = next.place; writer_call = call_after next.answer p.writer_call; source = source_after next.answer p.source }) (refreshed-next m i))
+    (seen ∙ ap (λ (next : Next WritePoint). record p { room = p.capacity - length p.unread; writer = next.point; writer_call = call_after next.answer p.writer_call; source = source_after next.answer p.source }) (refreshed-next m i))

@@ -1,5 +1,5 @@
 use Rattle.std.proofs.Common.{ap, ◌∙◌, arith, length}
-use Rattle.piper_sides.specs.declared.table.WritePlace.{WritePlace}
+use Rattle.piper_sides.specs.declared.table.WritePoint.{WritePoint}
 use Rattle.piper_machine.specs.Pipe.{Pipe}
 use Rattle.piper_machine.specs.Move.{published}
 use Rattle.piper_sides.specs.Side.{room_of}
@@ -19,4 +19,4 @@ returns-clause-after c =
     let long = length-lent m i in
     let moved = published-view m i c.args.n c.stored_tail-answer.new.self _ _ _ c.stored_tail-answer.ensures.after (omega arith) in
     rw (← c.self.view_is, c.settle_writer.ensures.call, c.settle_writer.ensures.source, c.stored_tail-answer.ensures.answer)
-    (moved ∙ ap (λ (next : Next WritePlace). record (published c.args.n p) { writer = next.place; writer_call = call_after next.answer p.writer_call; source = source_after next.answer p.source }) (ap (λ capacity. write_after capacity (room_of m.write) m.write.place nothing) i.capacity))
+    (moved ∙ ap (λ (next : Next WritePoint). record (published c.args.n p) { writer = next.point; writer_call = call_after next.answer p.writer_call; source = source_after next.answer p.source }) (ap (λ capacity. write_after capacity (room_of m.write) m.write.point nothing) i.capacity))

@@ -9,5 +9,5 @@ returns-clause-answer c =
     rw (← c.self.view_is)
     (c.settle_writer.ensures.answer
     ∙ c.took_own-answer.ensures.answer
-    ∙ ap (λ found. (write_after m.write.capacity (room_of m.write) m.write.place (waker found)).answer) (c.is_some.ensures ∙ ap (λ (name : Option ℕ). is_some name) c.take-taken.ensures.answer)
-    ∙ ap (λ capacity. (write_after capacity (room_of m.write) m.write.place (waker (is_some m.writer_slot))).answer) c.self.invariant.capacity)
+    ∙ ap (λ found. (write_after m.write.capacity (room_of m.write) m.write.point (waker found)).answer) (c.is_some.ensures ∙ ap (λ (name : Option ℕ). is_some name) c.take-taken.ensures.answer)
+    ∙ ap (λ capacity. (write_after capacity (room_of m.write) m.write.point (waker (is_some m.writer_slot))).answer) c.self.invariant.capacity)

@@ -1,6 +1,6 @@
-//! The rows of the reader's calls: one function a kind of step, allowed where it is next, which changes the place to the next one.
+//! The rows of the reader's calls: one function a kind of step, allowed where it is next, which changes the point to the next one.
 //!
-//! They are inlined, so that a call whose place is known keeps none at run time.
+//! They are inlined, so that a call whose point is known keeps none at run time.
 ghost use Rattle.std.specs.Prelude.{IsSome, ◌≡◌, ℕ, ◌+◌, ◌^◌, ◌<◌, ◌≤◌, true, false};
 ghost use Rattle.piper_sides.specs.Table.{Leads, ReadLeads, read_action, read_after, read_done, read_step, reader_draws, reader_found, reader_found_none, reader_looks_for, nothing, unread, refreshed, flag, granted, waker, moved, failed};
 ghost use Rattle.piper_sides.specs.Side.{head_store, read_sum, read_round};
@@ -10,75 +10,75 @@ use crate::events::Answer;
 use crate::polling::Polled;
 use crate::read_side::{end_or_pending, look_answer, yield_answer};
 use crate::scripted::Failed;
-use crate::table::{Action, AfterRead, Form, Purpose, ReadPlace};
+use crate::table::{Action, AfterRead, Form, Purpose, ReadPoint};
 
 // Where a look leads that finds a byte.
 #[inline(always)]
-fn found(purpose: Purpose) -> ReadPlace
+fn found(purpose: Purpose) -> ReadPoint
     ensures { result ≡ reader_found purpose }
 {
     match purpose {
-        Purpose::Copy(Form::Try) => ReadPlace::CallDestination(Form::Try, 0),
-        _ => ReadPlace::LookTake(purpose),
+        Purpose::Copy(Form::Try) => ReadPoint::CallDestination(Form::Try, 0),
+        _ => ReadPoint::LookTake(purpose),
     }
 }
 
 // Where a look leads that finds none.
 #[inline(always)]
-fn found_none(purpose: Purpose) -> ReadPlace
+fn found_none(purpose: Purpose) -> ReadPoint
     ensures { result ≡ reader_found_none purpose }
 {
     match purpose {
-        Purpose::Copy(Form::Try) => ReadPlace::LookClosed(purpose),
-        _ => ReadPlace::LookRegister(purpose),
+        Purpose::Copy(Form::Try) => ReadPoint::LookClosed(purpose),
+        _ => ReadPoint::LookRegister(purpose),
     }
 }
 
 // Where a copy goes on whose look is true.
 #[inline(always)]
-fn draws(form: Form) -> ReadPlace
+fn draws(form: Form) -> ReadPoint
     ensures { result ≡ reader_draws form }
 {
     match form {
-        Form::Polling { is_drawn: true } => ReadPlace::Yield,
-        _ => ReadPlace::CallDestination(form, 0),
+        Form::Polling { is_drawn: true } => ReadPoint::Yield,
+        _ => ReadPoint::CallDestination(form, 0),
     }
 }
 
 // Where a call goes on that has woken the writer, and what it answers if it ends there.
 #[inline(always)]
-fn done(place: &mut ReadPlace, next: AfterRead) -> Option<Answer>
-    ensures place { place.new ≡ (read_done next).place }
+fn done(point: &mut ReadPoint, next: AfterRead) -> Option<Answer>
+    ensures point { point.new ≡ (read_done next).point }
     ensures answer { result ≡ (read_done next).answer }
-    ensures no_store { head_store place.new ≡ 0 }
-    ensures sum { read_sum place.new ≤ read_round next }
+    ensures no_store { head_store point.new ≡ 0 }
+    ensures sum { read_sum point.new ≤ read_round next }
 {
     match next {
         AfterRead::Answer => {
-            *place = ReadPlace::Idle;
+            *point = ReadPoint::Idle;
             Some(Answer::Done)
         }
         AfterRead::Drop => {
-            *place = ReadPlace::Dropped;
+            *point = ReadPoint::Dropped;
             Some(Answer::Done)
         }
         AfterRead::Round(form, sum) => {
-            *place = ReadPlace::CallDestination(form, sum);
+            *point = ReadPoint::CallDestination(form, sum);
             None
         }
     }
 }
 
-impl ReadPlace {
+impl ReadPoint {
     /// Where a call begins that looks: a known byte needs no load.
     #[inline(always)]
-    pub(crate) fn look(none: bool, purpose: Purpose) -> ReadPlace
-        ensures place { result ≡ reader_looks_for none purpose }
+    pub(crate) fn look(none: bool, purpose: Purpose) -> ReadPoint
+        ensures point { result ≡ reader_looks_for none purpose }
         ensures no_store { head_store result ≡ 0 }
         ensures no_sum { read_sum result ≡ 0 }
     {
         if none {
-            ReadPlace::LookTail(purpose)
+            ReadPoint::LookTail(purpose)
         } else {
             found(purpose)
         }
@@ -89,13 +89,13 @@ impl ReadPlace {
     pub(crate) fn loaded_head(&mut self) -> Option<Answer>
         requires next { read_action self.old ≡ Action.LoadHead }
         ensures leads { ReadLeads (self.new, result) self.old nothing }
-        ensures open { self.new ≡ ReadPlace.Idle → IsSome result }
+        ensures open { self.new ≡ ReadPoint.Idle → IsSome result }
         ensures no_store { head_store self.new ≡ 0 }
         ensures no_sum { read_sum self.new ≡ 0 }
     {
         match *self {
-            ReadPlace::QueryHead(query) => {
-                *self = ReadPlace::QueryTail(query);
+            ReadPoint::QueryHead(query) => {
+                *self = ReadPoint::QueryTail(query);
                 None
             }
             _ => unreachable!(),
@@ -107,13 +107,13 @@ impl ReadPlace {
     pub(crate) fn loaded_tail(&mut self, capacity: usize, count: usize) -> Option<Answer>
         requires next { read_action self.old ≡ Action.LoadTail }
         ensures after { Leads (self.new, result) (read_after capacity self.old (unread count)) }
-        ensures open { self.new ≡ ReadPlace.Idle → IsSome result }
+        ensures open { self.new ≡ ReadPoint.Idle → IsSome result }
         ensures no_store { head_store self.new ≡ 0 }
         ensures no_sum { read_sum self.new ≡ 0 }
     {
         match *self {
-            ReadPlace::QueryTail(query) => {
-                *self = ReadPlace::Idle;
+            ReadPoint::QueryTail(query) => {
+                *self = ReadPoint::Idle;
                 Some(query.answer(capacity, count))
             }
             _ => unreachable!(),
@@ -125,20 +125,20 @@ impl ReadPlace {
     pub(crate) fn refreshed(&mut self, none: bool) -> Option<Answer>
         requires next { read_action self.old ≡ Action.Refresh }
         ensures leads { ReadLeads (self.new, result) self.old (refreshed none) }
-        ensures open { self.new ≡ ReadPlace.Idle → IsSome result }
+        ensures open { self.new ≡ ReadPoint.Idle → IsSome result }
         ensures no_store { head_store self.new ≡ 0 }
         ensures no_sum { read_sum self.new ≡ 0 }
     {
         match *self {
-            ReadPlace::LookTail(purpose) if none => {
+            ReadPoint::LookTail(purpose) if none => {
                 *self = found_none(purpose);
                 None
             }
-            ReadPlace::LookTailAgain(purpose, was_closed) if none => {
-                *self = ReadPlace::Idle;
+            ReadPoint::LookTailAgain(purpose, was_closed) if none => {
+                *self = ReadPoint::Idle;
                 Some(look_answer(purpose, end_or_pending(was_closed)))
             }
-            ReadPlace::LookTail(purpose) | ReadPlace::LookTailAgain(purpose, _) => {
+            ReadPoint::LookTail(purpose) | ReadPoint::LookTailAgain(purpose, _) => {
                 *self = found(purpose);
                 None
             }
@@ -151,17 +151,17 @@ impl ReadPlace {
     pub(crate) fn loaded_closed(&mut self, is_closed: bool) -> Option<Answer>
         requires next { read_action self.old ≡ Action.LoadClosed }
         ensures leads { ReadLeads (self.new, result) self.old (flag is_closed) }
-        ensures open { self.new ≡ ReadPlace.Idle → IsSome result }
+        ensures open { self.new ≡ ReadPoint.Idle → IsSome result }
         ensures no_store { head_store self.new ≡ 0 }
         ensures no_sum { read_sum self.new ≡ 0 }
     {
         match *self {
-            ReadPlace::QueryClosed => {
-                *self = ReadPlace::Idle;
+            ReadPoint::QueryClosed => {
+                *self = ReadPoint::Idle;
                 Some(Answer::Flag(is_closed))
             }
-            ReadPlace::LookClosed(purpose) => {
-                *self = ReadPlace::LookTailAgain(purpose, is_closed);
+            ReadPoint::LookClosed(purpose) => {
+                *self = ReadPoint::LookTailAgain(purpose, is_closed);
                 None
             }
             _ => unreachable!(),
@@ -173,17 +173,17 @@ impl ReadPlace {
     pub(crate) fn registered(&mut self, is_granted: bool) -> Option<Answer>
         requires next { read_action self.old ≡ Action.Register }
         ensures leads { ReadLeads (self.new, result) self.old (granted is_granted) }
-        ensures open { self.new ≡ ReadPlace.Idle → IsSome result }
+        ensures open { self.new ≡ ReadPoint.Idle → IsSome result }
         ensures no_store { head_store self.new ≡ 0 }
         ensures no_sum { read_sum self.new ≡ 0 }
     {
         match *self {
-            ReadPlace::LookRegister(purpose) if is_granted => {
-                *self = ReadPlace::LookClosed(purpose);
+            ReadPoint::LookRegister(purpose) if is_granted => {
+                *self = ReadPoint::LookClosed(purpose);
                 None
             }
-            ReadPlace::LookRegister(purpose) => {
-                *self = ReadPlace::Idle;
+            ReadPoint::LookRegister(purpose) => {
+                *self = ReadPoint::Idle;
                 Some(look_answer(purpose, Polled::Memory))
             }
             _ => unreachable!(),
@@ -195,16 +195,16 @@ impl ReadPlace {
     pub(crate) fn took_own(&mut self) -> Option<Answer>
         requires next { read_action self.old ≡ Action.Take Side.Reader }
         ensures leads { ReadLeads (self.new, result) self.old nothing }
-        ensures open { self.new ≡ ReadPlace.Idle → IsSome result }
+        ensures open { self.new ≡ ReadPoint.Idle → IsSome result }
         ensures no_store { head_store self.new ≡ 0 }
         ensures no_sum { read_sum self.new ≡ 0 }
     {
         match *self {
-            ReadPlace::LookTake(Purpose::Poll) => {
-                *self = ReadPlace::Idle;
+            ReadPoint::LookTake(Purpose::Poll) => {
+                *self = ReadPoint::Idle;
                 Some(Answer::Poll(Polled::Ready(true)))
             }
-            ReadPlace::LookTake(Purpose::Copy(form)) => {
+            ReadPoint::LookTake(Purpose::Copy(form)) => {
                 *self = draws(form);
                 None
             }
@@ -217,13 +217,13 @@ impl ReadPlace {
     pub(crate) fn yielded(&mut self, is_granted: bool) -> Option<Answer>
         requires next { read_action self.old ≡ Action.Yield }
         ensures leads { ReadLeads (self.new, result) self.old (granted is_granted) }
-        ensures open { self.new ≡ ReadPlace.Idle → IsSome result }
+        ensures open { self.new ≡ ReadPoint.Idle → IsSome result }
         ensures no_store { head_store self.new ≡ 0 }
         ensures no_sum { read_sum self.new ≡ 0 }
     {
         match *self {
-            ReadPlace::Yield => {
-                *self = ReadPlace::Idle;
+            ReadPoint::Yield => {
+                *self = ReadPoint::Idle;
                 Some(yield_answer(is_granted))
             }
             _ => unreachable!(),
@@ -236,17 +236,17 @@ impl ReadPlace {
         requires next { read_action self.old ≡ Action.CallDestination }
         requires fits { read_sum self.old + n < 2 ^ 64 }
         ensures leads { ReadLeads (self.new, result) self.old (moved n) }
-        ensures open { self.new ≡ ReadPlace.Idle → IsSome result }
+        ensures open { self.new ≡ ReadPoint.Idle → IsSome result }
         ensures stored { head_store self.new ≤ n }
         ensures sum { read_sum self.new ≤ read_sum self.old + head_store self.new }
     {
         match *self {
-            ReadPlace::CallDestination(form, sum) if n == 0 => {
-                *self = ReadPlace::Idle;
+            ReadPoint::CallDestination(form, sum) if n == 0 => {
+                *self = ReadPoint::Idle;
                 Some(form.count_answer(sum))
             }
-            ReadPlace::CallDestination(form, sum) => {
-                *self = ReadPlace::StoreHead(n, AfterRead::Round(form, sum + n));
+            ReadPoint::CallDestination(form, sum) => {
+                *self = ReadPoint::StoreHead(n, AfterRead::Round(form, sum + n));
                 None
             }
             _ => unreachable!(),
@@ -258,13 +258,13 @@ impl ReadPlace {
     pub(crate) fn destination_failed(&mut self) -> Option<Answer>
         requires next { read_action self.old ≡ Action.CallDestination }
         ensures leads { ReadLeads (self.new, result) self.old failed }
-        ensures open { self.new ≡ ReadPlace.Idle → IsSome result }
+        ensures open { self.new ≡ ReadPoint.Idle → IsSome result }
         ensures no_store { head_store self.new ≡ 0 }
         ensures no_sum { read_sum self.new ≡ 0 }
     {
         match *self {
-            ReadPlace::CallDestination(_, _) => {
-                *self = ReadPlace::Idle;
+            ReadPoint::CallDestination(_, _) => {
+                *self = ReadPoint::Idle;
                 Some(Answer::Copy(Polled::Ready(Err(Failed))))
             }
             _ => unreachable!(),
@@ -276,14 +276,14 @@ impl ReadPlace {
     pub(crate) fn stored_head(&mut self, n: usize) -> Option<Answer>
         requires next { read_action self.old ≡ Action.StoreHead n }
         ensures leads { ReadLeads (self.new, result) self.old nothing }
-        ensures open { self.new ≡ ReadPlace.Idle → IsSome result }
+        ensures open { self.new ≡ ReadPoint.Idle → IsSome result }
         ensures stored { head_store self.old ≡ n }
         ensures no_store { head_store self.new ≡ 0 }
         ensures sum { read_sum self.new ≡ read_sum self.old }
     {
         match *self {
-            ReadPlace::StoreHead(_, next) => {
-                *self = ReadPlace::TakeWriter(next);
+            ReadPoint::StoreHead(_, next) => {
+                *self = ReadPoint::TakeWriter(next);
                 None
             }
             _ => unreachable!(),
@@ -295,14 +295,14 @@ impl ReadPlace {
     pub(crate) fn took_writer(&mut self, is_found: bool) -> Option<Answer>
         requires next { read_action self.old ≡ Action.Take Side.Writer }
         ensures leads { ReadLeads (self.new, result) self.old (waker is_found) }
-        ensures open { self.new ≡ ReadPlace.Idle → IsSome result }
+        ensures open { self.new ≡ ReadPoint.Idle → IsSome result }
         ensures no_store { head_store self.new ≡ 0 }
         ensures sum { read_sum self.new ≤ read_sum self.old }
     {
         match *self {
-            ReadPlace::TakeWriter(next) if !is_found => done(self, next),
-            ReadPlace::TakeWriter(next) => {
-                *self = ReadPlace::WakeWriter(next);
+            ReadPoint::TakeWriter(next) if !is_found => done(self, next),
+            ReadPoint::TakeWriter(next) => {
+                *self = ReadPoint::WakeWriter(next);
                 None
             }
             _ => unreachable!(),
@@ -314,12 +314,12 @@ impl ReadPlace {
     pub(crate) fn woke(&mut self) -> Option<Answer>
         requires next { read_action self.old ≡ Action.Wake }
         ensures leads { ReadLeads (self.new, result) self.old nothing }
-        ensures open { self.new ≡ ReadPlace.Idle → IsSome result }
+        ensures open { self.new ≡ ReadPoint.Idle → IsSome result }
         ensures no_store { head_store self.new ≡ 0 }
         ensures sum { read_sum self.new ≤ read_sum self.old }
     {
         match *self {
-            ReadPlace::WakeWriter(next) => done(self, next),
+            ReadPoint::WakeWriter(next) => done(self, next),
             _ => unreachable!(),
         }
     }
@@ -329,13 +329,13 @@ impl ReadPlace {
     pub(crate) fn stored_closed(&mut self) -> Option<Answer>
         requires next { read_action self.old ≡ Action.StoreClosed false }
         ensures leads { ReadLeads (self.new, result) self.old nothing }
-        ensures open { self.new ≡ ReadPlace.Idle → IsSome result }
+        ensures open { self.new ≡ ReadPoint.Idle → IsSome result }
         ensures no_store { head_store self.new ≡ 0 }
         ensures no_sum { read_sum self.new ≡ 0 }
     {
         match *self {
-            ReadPlace::StoreClosed => {
-                *self = ReadPlace::TakeWriter(AfterRead::Drop);
+            ReadPoint::StoreClosed => {
+                *self = ReadPoint::TakeWriter(AfterRead::Drop);
                 None
             }
             _ => unreachable!(),
