@@ -21,6 +21,8 @@ use std::thread;
 use tokio::io::{AsyncRead, AsyncWrite};
 
 /// The service that is tried: two pages, and 404 for all other paths.
+///
+/// It knows nothing of the stream that its requests come by.
 #[derive(Clone, Copy)]
 struct Pages(Global);
 
@@ -44,6 +46,8 @@ impl<I: Drop> Service<Request<Incoming<I>>> for Pages {
 }
 
 /// Serves until the client is done.
+///
+/// It takes any reader and writer of `tokio`, so the same function serves a socket.
 fn serve<R, I>(rt: &R, io: I) -> anyhow::Result<()>
 where
     R: Wait + RandomSource + AllocGlobal,
@@ -54,6 +58,8 @@ where
 }
 
 /// Asks for one page: its status and its bytes.
+///
+/// The connection has to be polled beside the request, since it carries the bytes of both; so `join` waits for the two of them.
 fn fetch<R, I>(rt: &R, io: I, path: &str) -> anyhow::Result<(StatusCode, Bytes)>
 where
     R: Wait + RandomSource + AllocGlobal,
@@ -75,6 +81,7 @@ where
                 .collect(alloc)
                 .map_ok(move |body| (status, body))
         });
+    // With no sender left the connection ends behind this request, and `join` with it.
     drop(sender);
     let (status, body) = block_on(rt, join(page, connection))?.0?;
     Ok((status, body.to_bytes()?))
@@ -84,8 +91,11 @@ fn main(rt: HostRuntime) -> anyhow::Result<()> {
     for path in BufReader::new(rt.alloc(), rt.stdin())?.lines(rt.alloc()) {
         let path = path?;
         let theirs = rt.clone()?;
+        // Each path has a stream of its own, as it would have a connection of its own to a server.
         let (near, far) = duplex(&rt, rt.alloc(), 64, 64, 1)?;
         let (near, far) = (CompatEnd::new(near), CompatEnd::new(far));
+        // The service owns its end: where it returns, the end is let go, which closes both pipes and
+        // wakes a client that waits.
         let child = thread::spawn(&rt, move || serve(&theirs, far))?;
         let (status, page) = fetch(&rt, near, path.as_str())?;
         child.join(&rt)?;
