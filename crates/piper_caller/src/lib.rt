@@ -9,6 +9,7 @@ ghost use Rattle.piper_sides.specs.declared.events.Event.{Event};
 ghost use Rattle.piper_sides.specs.declared.refusals.StepRefusal.{StepRefusal};
 ghost use Rattle.piper_sides.specs.declared.calls.Side.TheVariants.{Reader};
 ghost use Rattle.piper_sides.specs.declared.calls.Call.TheVariants as call;
+ghost use Rattle.piper_sides.specs.declared.calls.Query.TheVariants.{Len};
 ghost use Rattle.piper_sides.specs.declared.calls.Step.TheVariants.{Begin, Go};
 ghost use Rattle.piper_sides.specs.declared.events.Answer.TheVariants.{Count};
 ghost use Rattle.piper_machine.specs.Pipe.{Pipe, fresh, begun};
@@ -85,7 +86,7 @@ pub fn counted_alone(machine: &mut Machine) -> usize
     ensures value { result ≡ unread_count machine.old }
     ensures after { machine.new ≡ begun machine.old }
     ensures by_steps { (k : ℕ) (q : Pipe) (before after : List Event) →
-        Runs machine.old before (Begin (call.Len Reader) ∷ replicate k (Go Reader)) q after →
+        Runs machine.old before (Begin (call.Query Reader Len) ∷ replicate k (Go Reader)) q after →
         IsOutside Reader q → IsToldLast (Count result) before after }
 {
     machine.r_len()

@@ -85,9 +85,7 @@ slice_fails (byte ∷ bytes) = refl
 -- a call is opened
 
 begin-reader : (lent : List ℕ) (c : Call) (p : Pipe) (steps : List Step) (t : Told) → IsTold p.capacity Reader p (Begin c ∷ steps) t → Keeps p.capacity Reader steps (stepped lent (Begin c) p) t
-begin-reader lent (call.Len Reader) p steps t h = reader-begins p.capacity (call.Len Reader) steps t (opened lent (call.Len Reader) p) h.coming (refl, refl)
-begin-reader lent (call.IsEmpty Reader) p steps t h = reader-begins p.capacity (call.IsEmpty Reader) steps t (opened lent (call.IsEmpty Reader) p) h.coming (refl, refl)
-begin-reader lent (call.IsFull Reader) p steps t h = reader-begins p.capacity (call.IsFull Reader) steps t (opened lent (call.IsFull Reader) p) h.coming (refl, refl)
+begin-reader lent (call.Query Reader query) p steps t h = reader-begins p.capacity (call.Query Reader query) steps t (opened lent (call.Query Reader query) p) h.coming (refl, refl)
 begin-reader lent (call.IsClosed Reader) p steps t h = reader-begins p.capacity (call.IsClosed Reader) steps t (opened lent (call.IsClosed Reader) p) h.coming (refl, refl)
 begin-reader lent (call.Poll Reader waker luck) p steps t h =
     let c = call.Poll Reader waker luck in
@@ -118,9 +116,7 @@ lends lent most p steps t idle may coming =
     )
 
 begin-writer : (lent : List ℕ) (c : Call) (p : Pipe) (steps : List Step) (t : Told) → MayLend lent (Begin c) p → refusal_of (Begin c) p ≡ None → IsTold p.capacity Writer p (Begin c ∷ steps) t → Keeps p.capacity Writer steps (stepped lent (Begin c) p) t
-begin-writer lent (call.Len Writer) p steps t may accepted h = writer-begins p.capacity (call.Len Writer) steps t (opened lent (call.Len Writer) p) h.coming (refl, refl)
-begin-writer lent (call.IsEmpty Writer) p steps t may accepted h = writer-begins p.capacity (call.IsEmpty Writer) steps t (opened lent (call.IsEmpty Writer) p) h.coming (refl, refl)
-begin-writer lent (call.IsFull Writer) p steps t may accepted h = writer-begins p.capacity (call.IsFull Writer) steps t (opened lent (call.IsFull Writer) p) h.coming (refl, refl)
+begin-writer lent (call.Query Writer query) p steps t may accepted h = writer-begins p.capacity (call.Query Writer query) steps t (opened lent (call.Query Writer query) p) h.coming (refl, refl)
 begin-writer lent (call.IsClosed Writer) p steps t may accepted h = writer-begins p.capacity (call.IsClosed Writer) steps t (opened lent (call.IsClosed Writer) p) h.coming (refl, refl)
 begin-writer lent (call.Poll Writer waker luck) p steps t may accepted h =
     let c = call.Poll Writer waker luck in

@@ -4,7 +4,6 @@ use Rattle.std.specs.Bool.{⊤}
 use Rattle.piper_sides.specs.declared.calls.Side.{Side}
 use Rattle.piper_sides.specs.declared.calls.Side.TheVariants.{Reader}
 use Rattle.piper_sides.specs.declared.calls.Query.{Query}
-use Rattle.piper_sides.specs.declared.calls.Query.TheVariants.{Len, IsEmpty, IsFull}
 use Rattle.piper_sides.specs.declared.events.Answer.{Answer}
 use Rattle.piper_sides.specs.declared.events.Event.{Event}
 use Rattle.piper_sides.specs.declared.polling.Context.{Context}
@@ -25,6 +24,7 @@ use Rattle.piper_machine.specs.Action.{logged_of, registration_of, registration,
 use Rattle.piper_machine.specs.Step.{went}
 use Rattle.piper_machine.specs.Round.{taken, found_of}
 use Rattle.piper_machine.specs.End.{saw_closed_from}
+use Rattle.piper_machine.proofs.Queries.{query-holds}
 use Rattle.piper_machine.proofs.Ends.{found_at_tail, ended_from, IsFinalFrom, at-tail}
 use Rattle.piper_machine.proofs.Causes.{read_leaves, IsEnded, IsCaused, reader_after}
 use Rattle.piper_machine.proofs.Honesty.{loaded, saw_close, looks-unloaded, registers-unloaded, again-unloaded, true-unloaded, moved-unloaded, done-unloaded, take-unloaded}
@@ -179,9 +179,11 @@ Ends saw ended point p =
 
 module _ (saw ended : Bool) (p : Pipe) where
   query-ends : (query : Query) → (ended ≡ true → Over (record p { reader = at.QueryTail query })) → Ends saw ended (at.QueryTail query) p
-  query-ends Len over = ((λ t. no_length p.unread (over t).unread, tt), λ t. let o = over t in record { closed = o.closed; ended = o.ended; unread = o.unread; stands = refl })
-  query-ends IsEmpty over = ((λ t. tt, tt), λ t. let o = over t in record { closed = o.closed; ended = o.ended; unread = o.unread; stands = refl })
-  query-ends IsFull over = ((λ t. tt, tt), λ t. let o = over t in record { closed = o.closed; ended = o.ended; unread = o.unread; stands = refl })
+  query-ends query over =
+      let after = (went Reader (record p { reader = at.QueryTail query })).pipe in
+      let stays : ended ≡ true → Over after = λ t. let o = over t in record { closed = o.closed; ended = o.ended; unread = o.unread; stands = refl } in
+      query-holds (λ (answer : Answer). IsFinalFrom saw ended (answer_event Reader (Some answer)) × (ended_from saw ended (answer_event Reader (Some answer)) ≡ true → Over after)) query p.capacity (length p.unread)
+      ((λ t. no_length p.unread (over t).unread, tt), stays) (λ is. ((λ t. tt, tt), stays))
 
   -- without an unread byte a look finds none
   looks-over : (none : Bool) (l : Purpose) → none ≡ true → is_over (reader_looked none l) ≡ true

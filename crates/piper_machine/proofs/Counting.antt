@@ -134,9 +134,7 @@ lends-count point room most k idle enough = absurd (cc)
 -- the call that is opened begins anew, and leaves the other side as it is
 begin-counts : (side : Side) (cap : ℕ) (lent : List ℕ) (c : Call) (p : Pipe) (k : Knowledge) (t : Tally) (calls : ℕ) → refusal_of (Begin c) p ≡ None → Counts side p k t calls
     → let new = stepped lent (Begin c) p in Counts side new.pipe (knowledge_from cap side k new.events) (tallied side t (Begin c)) (called side p (Begin c) calls)
-begin-counts Reader cap lent (call.Len Reader) p k t calls accepted held = record { sees = refl; enough = held.enough; within = λ f least. plain f 2 (call.Len Reader) (omega arith) }
-begin-counts Reader cap lent (call.IsEmpty Reader) p k t calls accepted held = record { sees = refl; enough = held.enough; within = λ f least. plain f 2 (call.IsEmpty Reader) (omega arith) }
-begin-counts Reader cap lent (call.IsFull Reader) p k t calls accepted held = record { sees = refl; enough = held.enough; within = λ f least. plain f 2 (call.IsFull Reader) (omega arith) }
+begin-counts Reader cap lent (call.Query Reader query) p k t calls accepted held = record { sees = refl; enough = held.enough; within = λ f least. plain f 2 (call.Query Reader query) (omega arith) }
 begin-counts Reader cap lent (call.IsClosed Reader) p k t calls accepted held = record { sees = tt; enough = held.enough; within = λ f least. plain f 1 (call.IsClosed Reader) (omega arith) }
 begin-counts Reader cap lent (call.Poll Reader waker luck) p k t calls accepted held = polls-count p.known k (p.known == 0) (call.Poll Reader waker luck) refl held.enough (λ f. refl)
 begin-counts Reader cap lent (call.TryDrain size) p k t calls accepted held = drains-count p.known k (p.known == 0) _ (call.TryDrain size) refl held.enough (λ f. refl)
@@ -145,9 +143,7 @@ begin-counts Reader cap lent (call.PollDrain waker luck acts) p k t calls accept
 begin-counts Reader cap lent (call.Consume n) p k t calls accepted held = record { sees = tt; enough = held.enough; within = λ f least. plain f 3 (call.Consume n) (omega arith) }
 begin-counts Reader cap lent (call.Drop Reader) p k t calls accepted held = record { sees = tt; enough = held.enough; within = λ f least. plain f 3 (call.Drop Reader) (omega arith) }
 begin-counts Reader cap lent c p k t calls accepted held = held
-begin-counts Writer cap lent (call.Len Writer) p k t calls accepted held = record { sees = refl; enough = held.enough; within = λ f least. plain f 2 (call.Len Writer) (omega arith) }
-begin-counts Writer cap lent (call.IsEmpty Writer) p k t calls accepted held = record { sees = refl; enough = held.enough; within = λ f least. plain f 2 (call.IsEmpty Writer) (omega arith) }
-begin-counts Writer cap lent (call.IsFull Writer) p k t calls accepted held = record { sees = refl; enough = held.enough; within = λ f least. plain f 2 (call.IsFull Writer) (omega arith) }
+begin-counts Writer cap lent (call.Query Writer query) p k t calls accepted held = record { sees = refl; enough = held.enough; within = λ f least. plain f 2 (call.Query Writer query) (omega arith) }
 begin-counts Writer cap lent (call.IsClosed Writer) p k t calls accepted held = record { sees = tt; enough = held.enough; within = λ f least. plain f 1 (call.IsClosed Writer) (omega arith) }
 begin-counts Writer cap lent (call.Poll Writer waker luck) p k t calls accepted held = record { sees = (refl, held.enough); enough = held.enough; within = λ f least. plain f 5 (call.Poll Writer waker luck) (omega arith) }
 begin-counts Writer cap lent (call.TryFill bytes) p k t calls accepted held = fills-count p.room k _ (call.TryFill bytes) held.enough (λ f. refl)

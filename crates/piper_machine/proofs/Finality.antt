@@ -5,7 +5,6 @@ use Rattle.piper_sides.specs.declared.calls.Side.TheVariants.{Reader, Writer}
 use Rattle.piper_sides.specs.declared.calls.OpenCall.{OpenCall}
 use Rattle.piper_sides.specs.declared.calls.Call.{Call}
 use Rattle.piper_sides.specs.declared.calls.Call.TheVariants as call
-use Rattle.piper_sides.specs.declared.calls.Query.TheVariants.{Len, IsEmpty, IsFull}
 use Rattle.piper_sides.specs.declared.calls.Step.{Step}
 use Rattle.piper_sides.specs.declared.calls.Step.TheVariants.{Begin, Go, Put}
 use Rattle.piper_sides.specs.declared.events.Answer.{Answer}
@@ -154,9 +153,7 @@ abbrev Adds : Bool → Bool → Stepped → Type 0
 Adds saw ended new = IsFinalFrom saw ended new.events × Lasts new.pipe (saw_closed_from Reader saw new.events) (ended_from saw ended new.events)
 
 begin-lasts : (lent : List ℕ) (c : Call) (p : Pipe) (saw ended : Bool) → IsSound p → refusal_of (Begin c) p ≡ None → Lasts p saw ended → Adds saw ended (stepped lent (Begin c) p)
-begin-lasts lent (call.Len Reader) p saw ended sound accepted h = ((λ t. tt, tt), reader-opens p saw ended h (at.QueryHead Len) p.reader_call p.destination (reader-idle p.reader _ accepted) (λ empty. refl) refl)
-begin-lasts lent (call.IsEmpty Reader) p saw ended sound accepted h = ((λ t. tt, tt), reader-opens p saw ended h (at.QueryHead IsEmpty) p.reader_call p.destination (reader-idle p.reader _ accepted) (λ empty. refl) refl)
-begin-lasts lent (call.IsFull Reader) p saw ended sound accepted h = ((λ t. tt, tt), reader-opens p saw ended h (at.QueryHead IsFull) p.reader_call p.destination (reader-idle p.reader _ accepted) (λ empty. refl) refl)
+begin-lasts lent (call.Query Reader query) p saw ended sound accepted h = ((λ t. tt, tt), reader-opens p saw ended h (at.QueryHead query) p.reader_call p.destination (reader-idle p.reader _ accepted) (λ empty. refl) refl)
 begin-lasts lent (call.IsClosed Reader) p saw ended sound accepted h = ((λ t. tt, tt), reader-opens p saw ended h at.QueryClosed p.reader_call p.destination (reader-idle p.reader _ accepted) (λ empty. refl) refl)
 begin-lasts lent (call.Poll Reader waker luck) p saw ended sound accepted h = ((λ t. tt, tt), looks p saw ended h purpose.Poll (Some (context waker luck)) p.destination sound (reader-idle p.reader _ accepted))
 begin-lasts lent (call.TryDrain size) p saw ended sound accepted h = ((λ t. tt, tt), looks p saw ended h (purpose.Copy Try) None (Slice size) sound (reader-idle p.reader _ accepted))
@@ -164,9 +161,7 @@ begin-lasts lent (call.PollDrainBytes waker luck size) p saw ended sound accepte
 begin-lasts lent (call.PollDrain waker luck acts) p saw ended sound accepted h = ((λ t. tt, tt), looks p saw ended h (purpose.Copy (Polling (luck.draw == 0))) (Some (context waker luck)) (Acts acts) sound (reader-idle p.reader _ accepted))
 begin-lasts lent (call.Consume n) p saw ended sound accepted h = ((λ t. tt, tt), reader-opens p saw ended h (at.StoreHead n afterward.Answer) p.reader_call p.destination (reader-idle p.reader _ accepted) (λ empty. refl) refl)
 begin-lasts lent (call.Drop Reader) p saw ended sound accepted h = ((λ t. tt, tt), reader-opens p saw ended h at.StoreClosed p.reader_call p.destination (reader-idle p.reader _ accepted) (λ empty. refl) refl)
-begin-lasts lent (call.Len Writer) p saw ended sound accepted h = ((λ t. tt, tt), writer-opens p saw ended h (on.QueryHead Len) p.writer_call p.source (writer-idle p.writer _ accepted) refl)
-begin-lasts lent (call.IsEmpty Writer) p saw ended sound accepted h = ((λ t. tt, tt), writer-opens p saw ended h (on.QueryHead IsEmpty) p.writer_call p.source (writer-idle p.writer _ accepted) refl)
-begin-lasts lent (call.IsFull Writer) p saw ended sound accepted h = ((λ t. tt, tt), writer-opens p saw ended h (on.QueryHead IsFull) p.writer_call p.source (writer-idle p.writer _ accepted) refl)
+begin-lasts lent (call.Query Writer query) p saw ended sound accepted h = ((λ t. tt, tt), writer-opens p saw ended h (on.QueryHead query) p.writer_call p.source (writer-idle p.writer _ accepted) refl)
 begin-lasts lent (call.IsClosed Writer) p saw ended sound accepted h = ((λ t. tt, tt), writer-opens p saw ended h on.QueryClosed p.writer_call p.source (writer-idle p.writer _ accepted) refl)
 begin-lasts lent (call.Poll Writer waker luck) p saw ended sound accepted h = ((λ t. tt, tt), fills p saw ended h purpose.Poll (Some (context waker luck)) p.source (writer-idle p.writer _ accepted))
 begin-lasts lent (call.TryFill bytes) p saw ended sound accepted h = ((λ t. tt, tt), fills p saw ended h (purpose.Copy Try) None (source.Bytes bytes ∷ []) (writer-idle p.writer _ accepted))

@@ -145,9 +145,7 @@ abbrev Adds : Bool → Stepped → Type 0
 Adds saw new = HeedsFrom saw new.events × (is_storing new.pipe.writer ≡ true → saw_closed_from Writer saw new.events ≡ false)
 
 begin-heeds : (lent : List ℕ) (c : Call) (p : Pipe) (saw : Bool) → (is_storing p.writer ≡ true → saw ≡ false) → Adds saw (stepped lent (Begin c) p)
-begin-heeds lent (call.Len Reader) p saw stores = ((tt, tt), stores)
-begin-heeds lent (call.IsEmpty Reader) p saw stores = ((tt, tt), stores)
-begin-heeds lent (call.IsFull Reader) p saw stores = ((tt, tt), stores)
+begin-heeds lent (call.Query Reader query) p saw stores = ((tt, tt), stores)
 begin-heeds lent (call.IsClosed Reader) p saw stores = ((tt, tt), stores)
 begin-heeds lent (call.Poll Reader waker luck) p saw stores = ((tt, tt), stores)
 begin-heeds lent (call.Drop Reader) p saw stores = ((tt, tt), stores)

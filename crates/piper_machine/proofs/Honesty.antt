@@ -7,7 +7,6 @@ use Rattle.piper_sides.specs.declared.calls.Call.{Call}
 use Rattle.piper_sides.specs.declared.calls.Call.TheVariants as call
 use Rattle.piper_sides.specs.declared.calls.Kind.{Kind}
 use Rattle.piper_sides.specs.declared.calls.Query.{Query}
-use Rattle.piper_sides.specs.declared.calls.Query.TheVariants.{Len, IsEmpty, IsFull}
 use Rattle.piper_sides.specs.declared.calls.Step.{Step}
 use Rattle.piper_sides.specs.declared.calls.Step.TheVariants.{Begin, Go, Put}
 use Rattle.piper_sides.specs.declared.events.Answer.{Answer}
@@ -39,6 +38,7 @@ use Rattle.piper_machine.specs.Step.{went, opened, stepped, offering}
 use Rattle.piper_machine.specs.Run.{Made}
 use Rattle.piper_machine.specs.History.{History, unwritten, history_after, history_from}
 use Rattle.piper_machine.specs.Honest.{IsHonestFrom, IsHonest}
+use Rattle.piper_machine.proofs.Queries.{query-holds}
 use Rattle.piper_machine.proofs.Counting.{writer_leaves-reader, writer_never-head}
 
 history-append : (h : History) (es fs : List Event) → history_from h (es ++ fs) ≡ history_from (history_from h es) fs
@@ -135,9 +135,7 @@ HonestAt h point p = IsHonestFrom (told h point p) (answer_event Reader (went Re
 
 module _ (h : History) (p : Pipe) where
   query-honest : (k : History) (query : Query) (count : ℕ) → IsHonestFrom k (answer_event Reader (Some (query_answer query p.capacity count)))
-  query-honest k Len count = (tt, tt)
-  query-honest k IsEmpty count = (tt, tt)
-  query-honest k IsFull count = (tt, tt)
+  query-honest k query count = query-holds (λ (answer : Answer). IsHonestFrom k (answer_event Reader (Some answer))) query p.capacity count (tt, tt) (λ is. (tt, tt))
 
   -- a copy never answers as a poll does
   copy-honest : (k : History) (form : Form) (answer : Polled Bool) → IsHonestFrom k (answer_event Reader (Some (copy_answer form answer)))
@@ -280,9 +278,7 @@ reader-sees at.StoreClosed p saw = absurd (cc)
 -- an opened call leaves the flag, and has not loaded it
 opened-sees : (lent : List ℕ) (c : Call) (p : Pipe) → (saw_close p.reader ≡ true → p.is_closed ≡ true)
     → let q = opened lent c p in (q.is_closed ≡ p.is_closed) × (saw_close q.reader ≡ true → p.is_closed ≡ true)
-opened-sees lent (call.Len Reader) p seen = (refl, λ saw. absurd (cc))
-opened-sees lent (call.IsEmpty Reader) p seen = (refl, λ saw. absurd (cc))
-opened-sees lent (call.IsFull Reader) p seen = (refl, λ saw. absurd (cc))
+opened-sees lent (call.Query Reader query) p seen = (refl, λ saw. absurd (cc))
 opened-sees lent (call.IsClosed Reader) p seen = (refl, λ saw. absurd (cc))
 opened-sees lent (call.Poll Reader waker luck) p seen = (refl, unseen _ _ (opens-unloaded (p.known == 0) purpose.Poll))
 opened-sees lent (call.TryDrain size) p seen = (refl, unseen _ _ (opens-unloaded (p.known == 0) _))

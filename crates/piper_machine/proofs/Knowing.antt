@@ -5,7 +5,6 @@ use Rattle.std.proofs.lemmas.List.{length-take, length-take-le}
 use Rattle.piper_sides.specs.declared.calls.Side.{Side}
 use Rattle.piper_sides.specs.declared.calls.Side.TheVariants.{Reader, Writer}
 use Rattle.piper_sides.specs.declared.calls.Query.{Query}
-use Rattle.piper_sides.specs.declared.calls.Query.TheVariants.{Len, IsEmpty, IsFull}
 use Rattle.piper_sides.specs.declared.events.Answer.{Answer}
 use Rattle.piper_sides.specs.declared.events.Answer.TheVariants.{Poll}
 use Rattle.piper_sides.specs.declared.events.Event.TheVariants.{Answered}
@@ -22,6 +21,7 @@ use Rattle.piper_sides.specs.Log.{answer_event}
 use Rattle.piper_machine.specs.Pipe.{Pipe}
 use Rattle.piper_machine.specs.Action.{performed, logged_of, registration_of, registration, wake_of, yield_of, woken_if}
 use Rattle.piper_machine.specs.Known.{Knowledge, taken_in, used_up, knowledge_after, knowledge_from}
+use Rattle.piper_machine.proofs.Queries.{query-holds}
 
 pub knowledge-append : (c : ℕ) (side : Side) (k : Knowledge) (es fs : List Event) → knowledge_from c side k (es ++ fs) ≡ knowledge_from c side (knowledge_from c side k es) fs
 knowledge-append c side k [] fs = refl
@@ -143,12 +143,8 @@ IsReadyNext side k None = ⊤
 IsReadyNext side k (Some answer) = IsReadyAnswer side k (Answered side answer)
 
 pub query-ready : (side : Side) (k : Knowledge) (query : Query) (capacity count : ℕ) → IsReadyNext side k (Some (query_answer query capacity count))
-query-ready Reader k Len capacity count = tt
-query-ready Reader k IsEmpty capacity count = tt
-query-ready Reader k IsFull capacity count = tt
-query-ready Writer k Len capacity count = tt
-query-ready Writer k IsEmpty capacity count = tt
-query-ready Writer k IsFull capacity count = tt
+query-ready Reader k query capacity count = query-holds (λ (answer : Answer). IsReadyNext Reader k (Some answer)) query capacity count tt (λ is. tt)
+query-ready Writer k query capacity count = query-holds (λ (answer : Answer). IsReadyNext Writer k (Some answer)) query capacity count tt (λ is. tt)
 
 pub copy-ready : (side : Side) (k : Knowledge) (form : Form) (answer : Polled Bool) → IsReadyNext side k (Some (copy_answer form answer))
 copy-ready Reader k Try answer = tt

@@ -8,6 +8,7 @@ pub mod Runs
 pub mod Sources
 pub mod Offering
 pub mod Opened
+pub mod Queries
 pub mod Knowing
 pub mod ReaderCounts
 pub mod WriterCounts

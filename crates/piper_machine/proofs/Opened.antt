@@ -16,9 +16,7 @@ pub record LeavesRest (p q : Pipe) : Type 0 where
   pub is_closed : q.is_closed ≡ p.is_closed
 
 pub opened-leaves : (lent : List ℕ) (c : Call) (p : Pipe) → LeavesRest p (opened lent c p)
-opened-leaves lent (call.Len Reader) p = record { capacity = refl; unread = refl; start = refl; known = refl; room = refl; is_closed = refl }
-opened-leaves lent (call.IsEmpty Reader) p = record { capacity = refl; unread = refl; start = refl; known = refl; room = refl; is_closed = refl }
-opened-leaves lent (call.IsFull Reader) p = record { capacity = refl; unread = refl; start = refl; known = refl; room = refl; is_closed = refl }
+opened-leaves lent (call.Query Reader query) p = record { capacity = refl; unread = refl; start = refl; known = refl; room = refl; is_closed = refl }
 opened-leaves lent (call.IsClosed Reader) p = record { capacity = refl; unread = refl; start = refl; known = refl; room = refl; is_closed = refl }
 opened-leaves lent (call.Poll Reader waker luck) p = record { capacity = refl; unread = refl; start = refl; known = refl; room = refl; is_closed = refl }
 opened-leaves lent (call.Drop Reader) p = record { capacity = refl; unread = refl; start = refl; known = refl; room = refl; is_closed = refl }

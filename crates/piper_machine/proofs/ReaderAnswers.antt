@@ -4,8 +4,6 @@ use Rattle.std.proofs.Common.{◌≡◌, ℕ, ◌+◌, ◌≤◌, List, [], ◌�
 use Rattle.piper_sides.specs.declared.calls.Side.TheVariants.{Reader}
 use Rattle.piper_sides.specs.declared.calls.Call.{Call}
 use Rattle.piper_sides.specs.declared.calls.Call.TheVariants as call
-use Rattle.piper_sides.specs.declared.calls.Query.{Query}
-use Rattle.piper_sides.specs.declared.calls.Query.TheVariants.{Len, IsEmpty, IsFull}
 use Rattle.piper_sides.specs.declared.events.Event.{Event}
 use Rattle.piper_sides.specs.declared.events.Event.TheVariants.{Looked}
 use Rattle.piper_sides.specs.declared.events.Seen.{Seen}
@@ -33,9 +31,9 @@ use Rattle.piper_machine.specs.Round.{taken, found_of, left_of_destination}
 use Rattle.piper_machine.specs.Action.{round_count, registration_of, wake_of, yield_of}
 use Rattle.piper_machine.specs.Step.{went, destination_after}
 use Rattle.piper_machine.specs.Told.{Told, told_from}
-use Rattle.piper_machine.specs.Outcome.{places_of, may_fail, IsAnswer, MayHaveMoved}
+use Rattle.piper_machine.specs.Outcome.{places_of, may_fail, IsAnswer, MayHaveMoved, number_found}
 use Rattle.piper_machine.specs.Answered.{AreRightFrom}
-use Rattle.piper_machine.proofs.Telling.{told-append, right-append, registers-leaves, wake-leaves, yield-leaves, answers, query_call, Polls, poll-answers, none_moved}
+use Rattle.piper_machine.proofs.Telling.{told-append, right-append, registers-leaves, wake-leaves, yield-leaves, answers, Polls, poll-answers, none_moved}
 
 -- a drain of this form, whose destination has so much left where so many bytes were taken
 abbrev pub IsDrain : Form → Call → Destination → ℕ → Type 0
@@ -68,8 +66,8 @@ ReaderStores n (afterward.Round form sum) destination t = Drains form destinatio
 abbrev pub ReaderAt : ReadPoint → Destination → Told → Type 0
 ReaderAt at.Idle destination t = Unit {0}
 ReaderAt at.Dropped destination t = Unit {0}
-ReaderAt (at.QueryHead query) destination t = (t.call ≡ Some (query_call Reader query)) × (t.looks ≡ [])
-ReaderAt (at.QueryTail query) destination t = (before : ℕ) × (t.call ≡ Some (query_call Reader query)) × (t.looks ≡ seen.Head before ∷ [])
+ReaderAt (at.QueryHead query) destination t = (t.call ≡ Some (call.Query Reader query)) × (t.looks ≡ [])
+ReaderAt (at.QueryTail query) destination t = (before : ℕ) × (t.call ≡ Some (call.Query Reader query)) × (t.looks ≡ seen.Head before ∷ [])
 ReaderAt at.QueryClosed destination t = (t.call ≡ Some (call.IsClosed Reader)) × (t.looks ≡ [])
 ReaderAt (at.LookTail l) destination t = ReaderLooks l destination t
 ReaderAt (at.LookRegister l) destination t = ReaderLooks l destination t
@@ -213,11 +211,6 @@ module _ (capacity : ℕ) where
       let count : length (t.moved ++ bytes) ≡ sum = omega arith in
       (rw held.is (drain-moves form held.drain destination sum (t.moved ++ bytes) held.drains count), record { drain = held.drain; is = held.is; drains = held.drains; count = omega arith })
 
-query-answers : (capacity : ℕ) (query : Query) (number before : ℕ) (looks : List Seen) (moved : List ℕ) → number ≤ capacity → looks ≡ seen.Tail number ∷ seen.Head before ∷ [] → IsAnswer capacity (query_call Reader query) looks moved (query_answer query capacity number)
-query-answers capacity Len number before looks moved within is = record { number = number; is_found = rw is refl; within = within; answers = refl }
-query-answers capacity IsEmpty number before looks moved within is = record { number = number; is_found = rw is refl; within = within; answers = refl }
-query-answers capacity IsFull number before looks moved within is = record { number = number; is_found = rw is refl; within = within; answers = refl }
-
 -- the step of each point
 pub reader-point : (point : ReadPoint) (p : Pipe) (t : Told) → length p.unread ≤ p.capacity → head_store point ≤ length p.unread → ReaderAt point p.destination t
     → let new = went Reader (record p { reader = point }) in AreRightFrom p.capacity Reader t new.events × ReaderAt new.pipe.reader new.pipe.destination (told_from Reader t new.events)
@@ -227,7 +220,7 @@ reader-point (at.QueryHead query) p t fits within held = ((tt, tt), (length p.un
 reader-point (at.QueryTail query) p t fits within held =
     let looks = ap (λ (before : List Seen). seen.Tail (length p.unread) ∷ before) held.2 in
     let u = record t { looks = seen.Tail (length p.unread) ∷ t.looks } in
-    ((tt, answers p.capacity u Reader (query_call Reader query) (query_answer query p.capacity (length p.unread)) held.1 (query-answers p.capacity query (length p.unread) held.0 u.looks t.moved fits looks)), tt)
+    ((tt, answers p.capacity u Reader (call.Query Reader query) (query_answer query p.capacity (length p.unread)) held.1 (record { number = length p.unread; is_found = ap (λ (all : List Seen). number_found Reader all) looks; within = fits; answers = refl })), tt)
 reader-point at.QueryClosed p t fits within held =
     let u = record t { looks = seen.Closed p.is_closed ∷ t.looks } in
     ((tt, answers p.capacity u Reader (call.IsClosed Reader) _ held.0 (ap (λ (before : List Seen). seen.Closed p.is_closed ∷ before) held.1)), tt)

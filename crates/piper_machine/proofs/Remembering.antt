@@ -4,7 +4,6 @@ use Rattle.piper_sides.specs.declared.calls.Side.TheVariants.{Reader, Writer}
 use Rattle.piper_sides.specs.declared.calls.OpenCall.{OpenCall}
 use Rattle.piper_sides.specs.declared.calls.Call.{Call}
 use Rattle.piper_sides.specs.declared.calls.Call.TheVariants as call
-use Rattle.piper_sides.specs.declared.calls.Query.TheVariants.{Len, IsEmpty, IsFull}
 use Rattle.piper_sides.specs.declared.calls.Step.{Step}
 use Rattle.piper_sides.specs.declared.calls.Step.TheVariants.{Begin, Go, Put}
 use Rattle.piper_sides.specs.declared.events.Event.{Event}
@@ -137,9 +136,7 @@ module _ (p : Pipe) (reads writes : Wait) (kept : Keeps p reads writes) where
 
 begin-keeps : (lent : List ℕ) (c : Call) (p : Pipe) (reads writes : Wait) → refusal_of (Begin c) p ≡ None → Keeps p reads writes
     → let new = stepped lent (Begin c) p in Keeps new.pipe (wait_from Reader reads new.events) (wait_from Writer writes new.events)
-begin-keeps lent (call.Len Reader) p reads writes accepted kept = reads_on p reads writes kept (at.QueryHead Len) (reader-idle p.reader _ accepted) refl (λ h. record { waiting = h.waiting; look = tt })
-begin-keeps lent (call.IsEmpty Reader) p reads writes accepted kept = reads_on p reads writes kept (at.QueryHead IsEmpty) (reader-idle p.reader _ accepted) refl (λ h. record { waiting = h.waiting; look = tt })
-begin-keeps lent (call.IsFull Reader) p reads writes accepted kept = reads_on p reads writes kept (at.QueryHead IsFull) (reader-idle p.reader _ accepted) refl (λ h. record { waiting = h.waiting; look = tt })
+begin-keeps lent (call.Query Reader query) p reads writes accepted kept = reads_on p reads writes kept (at.QueryHead query) (reader-idle p.reader _ accepted) refl (λ h. record { waiting = h.waiting; look = tt })
 begin-keeps lent (call.IsClosed Reader) p reads writes accepted kept = reads_on p reads writes kept at.QueryClosed (reader-idle p.reader _ accepted) refl (λ h. record { waiting = h.waiting; look = tt })
 begin-keeps lent (call.Consume n) p reads writes accepted kept = reads_on p reads writes kept (at.StoreHead n afterward.Answer) (reader-idle p.reader _ accepted) refl (λ h. record { waiting = h.waiting; look = tt })
 begin-keeps lent (call.Drop Reader) p reads writes accepted kept = reads_on p reads writes kept at.StoreClosed (reader-idle p.reader _ accepted) refl (λ h. record { waiting = h.waiting; look = tt })
@@ -147,9 +144,7 @@ begin-keeps lent (call.Poll Reader waker luck) p reads writes accepted kept = re
 begin-keeps lent (call.PollDrainBytes waker luck size) p reads writes accepted kept = reader-polls p reads writes kept (context waker luck) (purpose.Copy (Polling (luck.draw == 0))) (Slice size) (refl, refl) (reader-idle p.reader _ accepted)
 begin-keeps lent (call.PollDrain waker luck acts) p reads writes accepted kept = reader-polls p reads writes kept (context waker luck) (purpose.Copy (Polling (luck.draw == 0))) (Acts acts) (refl, refl) (reader-idle p.reader _ accepted)
 begin-keeps lent (call.TryDrain size) p reads writes accepted kept = reader-tries p reads writes kept (Slice size) (reader-idle p.reader _ accepted)
-begin-keeps lent (call.Len Writer) p reads writes accepted kept = writes_on p reads writes kept (on.QueryHead Len) (writer-idle p.writer _ accepted) refl (λ h. record { waiting = h.waiting; look = tt })
-begin-keeps lent (call.IsEmpty Writer) p reads writes accepted kept = writes_on p reads writes kept (on.QueryHead IsEmpty) (writer-idle p.writer _ accepted) refl (λ h. record { waiting = h.waiting; look = tt })
-begin-keeps lent (call.IsFull Writer) p reads writes accepted kept = writes_on p reads writes kept (on.QueryHead IsFull) (writer-idle p.writer _ accepted) refl (λ h. record { waiting = h.waiting; look = tt })
+begin-keeps lent (call.Query Writer query) p reads writes accepted kept = writes_on p reads writes kept (on.QueryHead query) (writer-idle p.writer _ accepted) refl (λ h. record { waiting = h.waiting; look = tt })
 begin-keeps lent (call.IsClosed Writer) p reads writes accepted kept = writes_on p reads writes kept on.QueryClosed (writer-idle p.writer _ accepted) refl (λ h. record { waiting = h.waiting; look = tt })
 begin-keeps lent (call.WriteBuf most) p reads writes accepted kept = lends p reads writes kept lent (writer-idle p.writer _ accepted)
 begin-keeps lent (call.Produced n) p reads writes accepted kept = writes_on p reads writes kept (on.StoreTail n behind.Answer) (writer-idle p.writer _ accepted) refl (λ h. record { waiting = h.waiting; look = tt })

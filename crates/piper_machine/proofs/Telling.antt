@@ -4,8 +4,6 @@ use Rattle.piper_sides.specs.declared.calls.Side.{Side}
 use Rattle.piper_sides.specs.declared.calls.Side.TheVariants.{Reader, Writer}
 use Rattle.piper_sides.specs.declared.calls.Call.{Call}
 use Rattle.piper_sides.specs.declared.calls.Call.TheVariants as call
-use Rattle.piper_sides.specs.declared.calls.Query.{Query}
-use Rattle.piper_sides.specs.declared.calls.Query.TheVariants.{Len, IsEmpty, IsFull}
 use Rattle.piper_sides.specs.declared.events.Answer.{Answer}
 use Rattle.piper_sides.specs.declared.events.Answer.TheVariants as answer
 use Rattle.piper_sides.specs.declared.events.Seen.{Seen}
@@ -119,12 +117,6 @@ coming-kept Reader does.Yield p t = coming-left 0 Reader t (yield_of p.reader_ca
 coming-kept Writer does.Yield p t = coming-left 0 Writer t (yield_of p.writer_call.context) (yield-leaves 0 t Writer p.writer_call.context)
 coming-kept Reader action p t = refl
 coming-kept Writer action p t = refl
-
--- the call of a query
-abbrev pub query_call : Side → Query → Call
-query_call side Len = call.Len side
-query_call side IsEmpty = call.IsEmpty side
-query_call side IsFull = call.IsFull side
 
 abbrev pub IsPoll : Call → Type 0
 IsPoll (call.Poll side waker luck) = Unit {0}

@@ -6,7 +6,6 @@ use Rattle.piper_sides.specs.declared.calls.Side.{Side}
 use Rattle.piper_sides.specs.declared.calls.Side.TheVariants.{Reader, Writer}
 use Rattle.piper_sides.specs.declared.calls.OpenCall.{OpenCall}
 use Rattle.piper_sides.specs.declared.calls.Query.{Query}
-use Rattle.piper_sides.specs.declared.calls.Query.TheVariants.{Len, IsEmpty, IsFull}
 use Rattle.piper_sides.specs.declared.events.Answer.{Answer}
 use Rattle.piper_sides.specs.declared.events.Event.{Event}
 use Rattle.piper_sides.specs.declared.polling.Context.{Context}
@@ -25,6 +24,7 @@ use Rattle.piper_machine.specs.Pipe.{Pipe}
 use Rattle.piper_machine.specs.Action.{registration, registration_of, wake_of, woken_if, yield_of}
 use Rattle.piper_machine.specs.Counts.{is_same}
 use Rattle.piper_machine.specs.Wait.{Wait, called, if_same, told, wait_after, wait_from}
+use Rattle.piper_machine.proofs.Queries.{query-holds}
 
 -- how far the other side is with the wake that follows its store: away from it, about to empty the slot, or with what it found there
 pub data Errand : Type 0 where
@@ -269,9 +269,7 @@ yield-heard side w (Some cx) = woken_if-heard side w cx.luck.yield_granted cx.wa
 
 -- a query is told a count or a flag, and no wait
 pub query-told : (query : Query) (capacity count : ℕ) (w : Wait) → told (query_answer query capacity count) w ≡ w
-query-told Len capacity count w = refl
-query-told IsEmpty capacity count w = refl
-query-told IsFull capacity count w = refl
+query-told query capacity count w = query-holds (λ (answer : Answer). told answer w ≡ w) query capacity count refl (λ is. refl)
 
 -- a context, part by part
 abbrev pub context_of : Bool → ℕ → ℕ → Bool → Context

@@ -119,9 +119,7 @@ is_lending c = false
 
 opens : (c : Call) (lent others : List ℕ) (r : Pipe) → is_lending c ≡ false → let p = resting (side_of c) r in IsSound p → past c p ≡ None → IsOpened c lent others p
 unfolding is_lending
-opens (call.Len Reader) lent others r stepped sound fits = record { commutes = refl; at_once = refl; busy = refl; stands = record { unread = sound.unread; start = sound.start; known = sound.known; store = omega arith }; rest = refl; unwoken = refl; few = omega arith }
-opens (call.IsEmpty Reader) lent others r stepped sound fits = record { commutes = refl; at_once = refl; busy = refl; stands = record { unread = sound.unread; start = sound.start; known = sound.known; store = omega arith }; rest = refl; unwoken = refl; few = omega arith }
-opens (call.IsFull Reader) lent others r stepped sound fits = record { commutes = refl; at_once = refl; busy = refl; stands = record { unread = sound.unread; start = sound.start; known = sound.known; store = omega arith }; rest = refl; unwoken = refl; few = omega arith }
+opens (call.Query Reader query) lent others r stepped sound fits = record { commutes = refl; at_once = refl; busy = refl; stands = record { unread = sound.unread; start = sound.start; known = sound.known; store = omega arith }; rest = refl; unwoken = refl; few = omega arith }
 opens (call.IsClosed Reader) lent others r stepped sound fits = record { commutes = refl; at_once = refl; busy = refl; stands = record { unread = sound.unread; start = sound.start; known = sound.known; store = omega arith }; rest = refl; unwoken = refl; few = omega arith }
 opens (call.Poll Reader waker luck) lent others r stepped sound fits =
     let none = looks-store (r.known == 0) purpose.Poll in

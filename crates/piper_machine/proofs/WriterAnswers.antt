@@ -6,8 +6,6 @@ use Rattle.std.proofs.lemmas.Bool.Decides.{nat_tests}
 use Rattle.piper_sides.specs.declared.calls.Side.TheVariants.{Writer}
 use Rattle.piper_sides.specs.declared.calls.Call.{Call}
 use Rattle.piper_sides.specs.declared.calls.Call.TheVariants as call
-use Rattle.piper_sides.specs.declared.calls.Query.{Query}
-use Rattle.piper_sides.specs.declared.calls.Query.TheVariants.{Len, IsEmpty, IsFull}
 use Rattle.piper_sides.specs.declared.events.Answer.{Answer}
 use Rattle.piper_sides.specs.declared.events.Answer.TheVariants as answer
 use Rattle.piper_sides.specs.declared.events.Event.{Event}
@@ -38,10 +36,10 @@ use Rattle.piper_machine.specs.Scripted.{bytes_given, ends_in_failure}
 use Rattle.piper_machine.specs.Action.{registration_of, wake_of, yield_of}
 use Rattle.piper_machine.specs.Step.{went, source_after, filled_out, lent_after, offering}
 use Rattle.piper_machine.specs.Told.{Told, told_from}
-use Rattle.piper_machine.specs.Outcome.{first_look, IsAnswer, IsFilled, MayHaveMoved, found_closed}
+use Rattle.piper_machine.specs.Outcome.{first_look, number_found, IsAnswer, IsFilled, MayHaveMoved, found_closed}
 use Rattle.piper_machine.specs.Answered.{AreRightFrom}
 use Rattle.piper_machine.proofs.Acts.{bytes_given-cons, ends_in_failure-cons, given-unspent, failure-unspent}
-use Rattle.piper_machine.proofs.Telling.{told-append, right-append, registers-leaves, wake-leaves, yield-leaves, answers, query_call, Polls, poll-answers, none_moved}
+use Rattle.piper_machine.proofs.Telling.{told-append, right-append, registers-leaves, wake-leaves, yield-leaves, answers, Polls, poll-answers, none_moved}
 
 -- a fill of this form that was handed these bytes, and whether its source fails behind them
 abbrev pub IsFill : Form → Call → List ℕ → Bool → Type 0
@@ -85,8 +83,8 @@ WriterCloses next t = ⊥
 abbrev pub WriterAt : ℕ → WritePoint → List SourceAct → List ℕ → Told → Type 0
 WriterAt capacity on.Idle held lent t = Unit {0}
 WriterAt capacity on.Dropped held lent t = Unit {0}
-WriterAt capacity (on.QueryHead query) held lent t = (t.call ≡ Some (query_call Writer query)) × (t.looks ≡ [])
-WriterAt capacity (on.QueryTail query count) held lent t = (count ≤ capacity) × (t.call ≡ Some (query_call Writer query)) × (t.looks ≡ seen.Head count ∷ [])
+WriterAt capacity (on.QueryHead query) held lent t = (t.call ≡ Some (call.Query Writer query)) × (t.looks ≡ [])
+WriterAt capacity (on.QueryTail query count) held lent t = (count ≤ capacity) × (t.call ≡ Some (call.Query Writer query)) × (t.looks ≡ seen.Head count ∷ [])
 WriterAt capacity on.QueryClosed held lent t = (t.call ≡ Some (call.IsClosed Writer)) × (t.looks ≡ [])
 WriterAt capacity (on.LookClosed l) held lent t = WriterLooks None l held t
 WriterAt capacity (on.LookHead l) held lent t = WriterLooks found_open l held t
@@ -316,11 +314,6 @@ module _ (capacity : ℕ) where
       let fills = subst (λ (xs : List ℕ). IsFill form told.fill xs (ends_in_failure held)) (sym (append_assoc t.moved (take n lent) (bytes_given held))) told.fills in
       (rw told.is (fill-moves form told.fill (t.moved ++ take n lent) (bytes_given held) (ends_in_failure held) fills), record { fill = told.fill; is = told.is; fills = fills; count = omega arith; found = told.found })
 
-query-answers : (capacity : ℕ) (query : Query) (number later : ℕ) (looks : List Seen) (moved : List ℕ) → number ≤ capacity → looks ≡ seen.Tail later ∷ seen.Head number ∷ [] → IsAnswer capacity (query_call Writer query) looks moved (query_answer query capacity number)
-query-answers capacity Len number later looks moved within is = record { number = number; is_found = rw is refl; within = within; answers = refl }
-query-answers capacity IsEmpty number later looks moved within is = record { number = number; is_found = rw is refl; within = within; answers = refl }
-query-answers capacity IsFull number later looks moved within is = record { number = number; is_found = rw is refl; within = within; answers = refl }
-
 -- the step of each point
 pub writer-point : (point : WritePoint) (offered : List ℕ) (p : Pipe) (t : Told) → length p.unread ≤ p.capacity → tail_store point ≤ length p.lent → WriterAt p.capacity point p.source p.lent t
     → let new = went Writer (offering offered (record p { writer = point })) in AreRightFrom p.capacity Writer t new.events × WriterAt p.capacity new.pipe.writer new.pipe.source new.pipe.lent (told_from Writer t new.events)
@@ -330,7 +323,7 @@ writer-point (on.QueryHead query) offered p t fits within told = ((tt, tt), (fit
 writer-point (on.QueryTail query count) offered p t fits within told =
     let u = record t { looks = seen.Tail (length p.unread) ∷ t.looks } in
     let looks = ap (λ (before : List Seen). seen.Tail (length p.unread) ∷ before) told.2 in
-    ((tt, answers p.capacity u Writer (query_call Writer query) (query_answer query p.capacity count) told.1 (query-answers p.capacity query count (length p.unread) u.looks t.moved told.0 looks)), tt)
+    ((tt, answers p.capacity u Writer (call.Query Writer query) (query_answer query p.capacity count) told.1 (record { number = count; is_found = ap (λ (all : List Seen). number_found Writer all) looks; within = told.0; answers = refl })), tt)
 writer-point on.QueryClosed offered p t fits within told =
     let u = record t { looks = seen.Closed p.is_closed ∷ t.looks } in
     ((tt, answers p.capacity u Writer (call.IsClosed Writer) _ told.0 (ap (λ (before : List Seen). seen.Closed p.is_closed ∷ before) told.1)), tt)

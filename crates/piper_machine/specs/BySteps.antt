@@ -15,8 +15,9 @@ use Rattle.piper_sides.specs.declared.polling.Polled.{Polled}
 use Rattle.piper_sides.specs.declared.polling.Polled.TheVariants.{Pending, Ready, Memory}
 use Rattle.piper_sides.specs.declared.scripted.Failed.{Failed}
 use Rattle.piper_sides.specs.Call.{side_of}
+use Rattle.piper_sides.specs.Table.{query_answer}
 use Rattle.piper_machine.specs.Pipe.{Pipe, begun}
-use Rattle.piper_machine.specs.Query.{unread_count, is_empty, is_full, is_closed}
+use Rattle.piper_machine.specs.Query.{unread_count, is_closed}
 use Rattle.piper_machine.specs.Refresh.{reader_refreshed, writer_refreshed}
 use Rattle.piper_machine.specs.Look.{Look, context, reader_look, writer_look}
 use Rattle.piper_machine.specs.Lend.{lending}
@@ -67,9 +68,8 @@ dropped_whole Writer p = answering Done (drop_writer (begun p))
 
 -- what a call answers and leaves that is run whole, with these bytes in what a call of write_buf lends
 abbrev pub whole : List ℕ → Call → Pipe → Ended
-whole lent (call.Len side) p = answering (Count (unread_count p)) (begun p)
-whole lent (call.IsEmpty side) p = answering (Flag (is_empty p)) (begun p)
-whole lent (call.IsFull side) p = answering (Flag (is_full p)) (begun p)
+whole lent (call.Query side query) p =
+    answering (query_answer query p.capacity (unread_count p)) (begun p)
 whole lent (call.IsClosed side) p = answering (Flag (is_closed p)) (begun p)
 whole lent (call.Poll side waker luck) p = polled_whole side (context waker luck) p
 whole lent (call.TryDrain size) p = counted_whole (try_drain size p)

@@ -13,9 +13,7 @@ use Rattle.piper_machine.specs.Known.{knowledge_of}
 -- the most steps from the opening of a call to its answer, where its look leaves so many bytes known, or so much room: a copy moves
 -- no more than that, and at least a byte a round
 abbrev pub most_steps : ℕ → Call → ℕ
-most_steps found (call.Len side) = 2
-most_steps found (call.IsEmpty side) = 2
-most_steps found (call.IsFull side) = 2
+most_steps found (call.Query side query) = 2
 most_steps found (call.IsClosed side) = 1
 most_steps found (call.Poll side waker luck) = 5
 most_steps found (call.TryDrain size) = 6 + 4 * found

@@ -18,9 +18,7 @@ pub record Knowledge : Type 0 where
   pub is_query : Bool
 
 abbrev pub is_query : Kind → Bool
-is_query kind.Len = true
-is_query kind.IsEmpty = true
-is_query kind.IsFull = true
+is_query (kind.Query query) = true
 is_query kind = false
 
 -- a call begins with what the side knows

@@ -1,7 +1,8 @@
 -- What a call of each kind may move, and what it may answer: a query by what it looked at, a copy by the bytes that it moved.
-use Rattle.std.specs.Prelude.{◌≡◌, ℕ, ◌+◌, ◌≤◌, List, [], ◌∷◌, ◌++◌, length, Bool, true, false, Option, None, Some, ◌==◌, Result, Ok, Err, ⊤}
+use Rattle.std.specs.Prelude.{◌≡◌, ℕ, ◌+◌, ◌≤◌, List, [], ◌∷◌, ◌++◌, length, Bool, true, false, Option, None, Some, Result, Ok, Err, ⊤}
 use Rattle.piper_sides.specs.declared.calls.Side.{Side}
 use Rattle.piper_sides.specs.declared.calls.Side.TheVariants.{Reader, Writer}
+use Rattle.piper_sides.specs.declared.calls.Query.{Query}
 use Rattle.piper_sides.specs.declared.calls.Call.{Call}
 use Rattle.piper_sides.specs.declared.calls.Call.TheVariants as call
 use Rattle.piper_sides.specs.declared.events.Answer.{Answer}
@@ -14,6 +15,7 @@ use Rattle.piper_sides.specs.declared.scripted.Failed.{Failed}
 use Rattle.piper_sides.specs.declared.scripted.DestAct.{DestAct}
 use Rattle.piper_sides.specs.declared.scripted.DestAct.TheVariants as dest
 use Rattle.piper_sides.specs.declared.scripted.SourceAct.{SourceAct}
+use Rattle.piper_sides.specs.Table.{query_answer}
 use Rattle.piper_machine.specs.Scripted.{bytes_given, ends_in_failure}
 
 -- the first bytes are a beginning of all bytes
@@ -50,12 +52,12 @@ number_found Writer (Tail later ∷ Head number ∷ []) = Some number
 number_found side looks = None
 
 -- the answer follows from the number of unread bytes that the query found
-pub record IsQueried (capacity : ℕ) (side : Side) (looks : List Seen)
-    (follows : ℕ → Answer) (answer : Answer) : Type 0 where
+pub record IsQueried (capacity : ℕ) (side : Side) (query : Query) (looks : List Seen)
+    (answer : Answer) : Type 0 where
   pub number : ℕ
   pub is_found : number_found side looks ≡ Some number
   pub within : number ≤ capacity
-  pub answers : answer ≡ follows number
+  pub answers : answer ≡ query_answer query capacity number
 
 -- a drain counts the bytes that it consumed, and has places for all of them
 pub record IsDrained (size : ℕ) (moved : List ℕ) (count : ℕ) : Type 0 where
@@ -97,12 +99,8 @@ IsCopied Counts Fails moved Memory = moved ≡ []
 
 -- the answer is right of a call that looked and moved so, on a pipe of this capacity
 abbrev pub IsAnswer : ℕ → Call → List Seen → List ℕ → Answer → Type 0
-IsAnswer capacity (call.Len side) looks moved answer =
-    IsQueried capacity side looks (λ number. Count number) answer
-IsAnswer capacity (call.IsEmpty side) looks moved answer =
-    IsQueried capacity side looks (λ number. Flag (number == 0)) answer
-IsAnswer capacity (call.IsFull side) looks moved answer =
-    IsQueried capacity side looks (λ number. Flag (number == capacity)) answer
+IsAnswer capacity (call.Query side query) looks moved answer =
+    IsQueried capacity side query looks answer
 IsAnswer capacity (call.IsClosed side) looks moved (Flag is_closed) = looks ≡ Closed is_closed ∷ []
 IsAnswer capacity (call.Poll side waker luck) looks moved (Poll polled) = ⊤
 IsAnswer capacity (call.TryDrain size) looks moved (Count count) = IsDrained size moved count

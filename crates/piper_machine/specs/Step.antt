@@ -7,7 +7,6 @@ use Rattle.piper_sides.specs.declared.calls.Call.{Call}
 use Rattle.piper_sides.specs.declared.calls.Call.TheVariants as call
 use Rattle.piper_sides.specs.declared.calls.Query.{Query}
 use Rattle.piper_sides.specs.declared.polling.Context.{Context}
-use Rattle.piper_sides.specs.declared.calls.Query.TheVariants.{Len, IsEmpty, IsFull}
 use Rattle.piper_sides.specs.declared.calls.Step.{Step}
 use Rattle.piper_sides.specs.declared.calls.Step.TheVariants.{Begin, Go, Put}
 use Rattle.piper_sides.specs.declared.events.Answer.{Answer}
@@ -185,9 +184,7 @@ fill_opened cx acts p = record p {
 
 -- the pipe as a call is opened, with these bytes in what a call of write_buf lends
 abbrev pub opened : List ℕ → Call → Pipe → Pipe
-opened lent (call.Len side) p = query_opened side Len p
-opened lent (call.IsEmpty side) p = query_opened side IsEmpty p
-opened lent (call.IsFull side) p = query_opened side IsFull p
+opened lent (call.Query side query) p = query_opened side query p
 opened lent (call.IsClosed side) p = is_closed_opened side p
 opened lent (call.Poll side waker luck) p = poll_opened side (context waker luck) p
 opened lent (call.TryDrain size) p = drain_opened None (Slice size) p

@@ -1,7 +1,7 @@
 //! What the contracts leave open: that there is memory, and that a list of steps is accepted.
 use crate::same;
 use piper_caller::{counted_alone, made_by_the_laws, through};
-use piper_machine::calls::{Call, Side, SideState, Step};
+use piper_machine::calls::{Call, Query, Side, SideState, Step};
 use std::test::Fail;
 
 #[test]
@@ -16,7 +16,7 @@ fn bytes_come_out_as_they_went_in(rt: HostRuntime) -> Result<(), Fail> {
 fn steps_of_both_sides_are_made(rt: HostRuntime) -> Result<(), Fail> {
     let steps = [
         Step::Begin(Call::WriteBuf(2)),
-        Step::Begin(Call::Len(Side::Reader)),
+        Step::Begin(Call::Query(Side::Reader, Query::Len)),
         Step::Begin(Call::Produced(2)),
         Step::Go(Side::Reader),
         Step::Go(Side::Writer),

@@ -8,8 +8,9 @@ use Rattle.piper_sides.specs.declared.events.Answer.TheVariants.{Count, Flag, Po
 use Rattle.piper_sides.specs.declared.polling.Polled.{Polled}
 use Rattle.piper_sides.specs.declared.polling.Polled.TheVariants.{Pending, Ready, Memory}
 use Rattle.piper_sides.specs.declared.scripted.Failed.{Failed}
+use Rattle.piper_sides.specs.Table.{query_answer}
 use Rattle.piper_machine.specs.Pipe.{Pipe, begun}
-use Rattle.piper_machine.specs.Query.{unread_count, is_empty, is_full, is_closed}
+use Rattle.piper_machine.specs.Query.{unread_count, is_closed}
 use Rattle.piper_machine.specs.Look.{Look, context, reader_look, writer_look}
 use Rattle.piper_machine.specs.Lend.{Lendable, lending}
 use Rattle.piper_machine.specs.Move.{produce, consume}
@@ -48,9 +49,8 @@ abbrev pub GivesCopied : Copied (Result ℕ Failed) → Answer → Pipe → Type
 GivesCopied copied answer new = Gives answer (Copy copied.answer) new copied.pipe
 
 abbrev pub Makes : Call → Pipe → Answer → Pipe → Type 0
-Makes (call.Len side) p answer new = Gives answer (Count (unread_count p)) new (begun p)
-Makes (call.IsEmpty side) p answer new = Gives answer (Flag (is_empty p)) new (begun p)
-Makes (call.IsFull side) p answer new = Gives answer (Flag (is_full p)) new (begun p)
+Makes (call.Query side query) p answer new =
+    Gives answer (query_answer query p.capacity (unread_count p)) new (begun p)
 Makes (call.IsClosed side) p answer new = Gives answer (Flag (is_closed p)) new (begun p)
 Makes (call.Poll Reader waker luck) p answer new =
     GivesLook (reader_look (Some (context waker luck)) (begun p)) answer new

@@ -5,7 +5,7 @@ ghost use Rattle.piper_machine.specs.Refusal.{IsIdle, state_of, refusal_of};
 ghost use Rattle.piper_player.specs.Makes.{Makes, room_for, slice_copied, drained_by, IsSilent};
 ghost use Rattle.piper_player.specs.Whole.{IsReady};
 
-use piper_machine::calls::{Call, Side, SideState, Step};
+use piper_machine::calls::{Call, Query, Side, SideState, Step};
 use piper_machine::events::Answer;
 use piper_machine::machine::Machine;
 use piper_machine::polling::Polled;
@@ -70,12 +70,12 @@ pub fn answer(machine: &mut Machine, call: &Call, dest: &mut [u8]) -> Answer
         dest.new ≡ take n machine.old.unread ++ drop n dest.old }
 {
     match call {
-        Call::Len(Side::Reader) => Answer::Count(machine.r_len()),
-        Call::Len(Side::Writer) => Answer::Count(machine.w_len()),
-        Call::IsEmpty(Side::Reader) => Answer::Flag(machine.r_is_empty()),
-        Call::IsEmpty(Side::Writer) => Answer::Flag(machine.w_is_empty()),
-        Call::IsFull(Side::Reader) => Answer::Flag(machine.r_is_full()),
-        Call::IsFull(Side::Writer) => Answer::Flag(machine.w_is_full()),
+        Call::Query(Side::Reader, Query::Len) => Answer::Count(machine.r_len()),
+        Call::Query(Side::Writer, Query::Len) => Answer::Count(machine.w_len()),
+        Call::Query(Side::Reader, Query::IsEmpty) => Answer::Flag(machine.r_is_empty()),
+        Call::Query(Side::Writer, Query::IsEmpty) => Answer::Flag(machine.w_is_empty()),
+        Call::Query(Side::Reader, Query::IsFull) => Answer::Flag(machine.r_is_full()),
+        Call::Query(Side::Writer, Query::IsFull) => Answer::Flag(machine.w_is_full()),
         Call::IsClosed(Side::Reader) => Answer::Flag(machine.r_is_closed()),
         Call::IsClosed(Side::Writer) => Answer::Flag(machine.w_is_closed()),
         Call::Poll(Side::Reader, waker, luck) => Answer::Poll(machine.r_poll(*waker, *luck)),

@@ -2,6 +2,7 @@
 use Rattle.std.specs.Prelude.{◌≡◌, ℕ, List, Bool, true, false, unwrap_or}
 use Rattle.piper_sides.specs.declared.calls.Call.{Call}
 use Rattle.piper_sides.specs.declared.calls.Call.TheVariants as machine
+use Rattle.piper_sides.specs.declared.calls.Query.TheVariants as query
 use Rattle.piper_sides.specs.declared.polling.Luck.{Luck}
 use Rattle.piper_script.specs.declared.command.SaidLuck.{SaidLuck}
 use Rattle.piper_script.specs.declared.command.SaidCall.{SaidCall}
@@ -31,9 +32,9 @@ pub record MadeWith (A : Type 0) (IsMeant : A → Type 0) (call : A → Call)
   pub same : made ≡ call with_this
 
 abbrev pub Means : SaidCall → Call → Type 0
-Means (Len side) call = call ≡ machine.Len side
-Means (IsEmpty side) call = call ≡ machine.IsEmpty side
-Means (IsFull side) call = call ≡ machine.IsFull side
+Means (Len side) call = call ≡ machine.Query side query.Len
+Means (IsEmpty side) call = call ≡ machine.Query side query.IsEmpty
+Means (IsFull side) call = call ≡ machine.Query side query.IsFull
 Means (IsClosed side) call = call ≡ machine.IsClosed side
 Means (Poll side waker luck) call = call ≡ machine.Poll side waker (luck_of luck)
 Means (Fill list) call = MadeWith (List ℕ) (StandsFor list.text.now) machine.TryFill call

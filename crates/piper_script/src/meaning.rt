@@ -5,7 +5,8 @@ ghost use Rattle.piper_script.specs.Meaning.{Means};
 
 use crate::command::{SaidCall, SaidLuck};
 use crate::stop::Stop;
-use piper_sides::{calls, polling};
+use piper_sides::calls::{self, Query};
+use piper_sides::polling;
 use std::alloc::Global;
 
 impl From<SaidLuck> for polling::Luck {
@@ -28,9 +29,9 @@ impl SaidCall<'_> {
         ensures { IfOk result (Means self.entry) }
     {
         Ok(match self {
-            SaidCall::Len(side) => calls::Call::Len(side),
-            SaidCall::IsEmpty(side) => calls::Call::IsEmpty(side),
-            SaidCall::IsFull(side) => calls::Call::IsFull(side),
+            SaidCall::Len(side) => calls::Call::Query(side, Query::Len),
+            SaidCall::IsEmpty(side) => calls::Call::Query(side, Query::IsEmpty),
+            SaidCall::IsFull(side) => calls::Call::Query(side, Query::IsFull),
             SaidCall::IsClosed(side) => calls::Call::IsClosed(side),
             SaidCall::Poll(side, waker, luck) => calls::Call::Poll(side, waker, luck.into()),
             SaidCall::Fill(list) => calls::Call::TryFill(list.bytes(alloc)?),

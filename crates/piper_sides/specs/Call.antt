@@ -9,9 +9,7 @@ use Rattle.piper_sides.specs.declared.calls.Kind.{Kind}
 use Rattle.piper_sides.specs.declared.calls.Kind.TheVariants as kind
 
 abbrev pub side_of : Call → Side
-side_of (call.Len side) = side
-side_of (call.IsEmpty side) = side
-side_of (call.IsFull side) = side
+side_of (call.Query side query) = side
 side_of (call.IsClosed side) = side
 side_of (call.Poll side waker luck) = side
 side_of (call.TryDrain size) = Reader
@@ -27,9 +25,7 @@ side_of call.Close = Writer
 side_of (call.Drop side) = side
 
 abbrev pub kind_of : Call → Kind
-kind_of (call.Len side) = kind.Len
-kind_of (call.IsEmpty side) = kind.IsEmpty
-kind_of (call.IsFull side) = kind.IsFull
+kind_of (call.Query side query) = kind.Query query
 kind_of (call.IsClosed side) = kind.IsClosed
 kind_of (call.Poll side waker luck) = kind.Poll
 kind_of (call.TryDrain size) = kind.TryDrain

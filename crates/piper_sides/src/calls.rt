@@ -35,9 +35,8 @@ pub enum Query {
 /// A call. Those that both sides have name their side.
 #[derive(Drop)]
 pub enum Call {
-    Len(Side),
-    IsEmpty(Side),
-    IsFull(Side),
+    /// Asks about the number of unread bytes.
+    Query(Side, Query),
     IsClosed(Side),
     /// Polls with a waker.
     Poll(Side, u32, Luck),
@@ -63,9 +62,7 @@ pub enum Call {
 /// Which call it is, without its arguments.
 #[derive(Clone, Copy, Debug, PartialEq, Eq)]
 pub enum Kind {
-    Len,
-    IsEmpty,
-    IsFull,
+    Query(Query),
     IsClosed,
     Poll,
     TryDrain,
@@ -121,8 +118,7 @@ impl Call {
         ensures { result ≡ side_of self.now }
     {
         match *self {
-            Call::Len(side) | Call::IsEmpty(side) | Call::IsFull(side) | Call::IsClosed(side) =>
-                side,
+            Call::Query(side, _) | Call::IsClosed(side) => side,
             Call::Poll(side, _, _) | Call::Drop(side) => side,
             Call::TryDrain(_) | Call::PollDrainBytes(..) | Call::PollDrain(..) | Call::Consume(_) =>
                 Side::Reader,
@@ -136,9 +132,7 @@ impl Call {
         ensures { result ≡ kind_of self.now }
     {
         match *self {
-            Call::Len(_) => Kind::Len,
-            Call::IsEmpty(_) => Kind::IsEmpty,
-            Call::IsFull(_) => Kind::IsFull,
+            Call::Query(_, query) => Kind::Query(query),
             Call::IsClosed(_) => Kind::IsClosed,
             Call::Poll(..) => Kind::Poll,
             Call::TryDrain(_) => Kind::TryDrain,

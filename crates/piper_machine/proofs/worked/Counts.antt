@@ -1,11 +1,12 @@
 -- As many bytes move as are asked for, unread and free: what `fill`, `drain` and the queries count.
 use Rattle.std.specs.Prelude.{◌≡◌, [], ◌∷◌, replicate, true, refl}
 use Rattle.piper_sides.specs.declared.calls.Side.TheVariants.{Reader, Writer}
+use Rattle.piper_sides.specs.declared.calls.Query.TheVariants.{Len, IsFull}
 use Rattle.piper_machine.specs.Pipe.{fresh}
-use Rattle.piper_machine.proofs.worked.Script.{◌to◌, Fill, Drain, Len, IsFull, Count, Bytes, Flag, answers}
+use Rattle.piper_machine.proofs.worked.Script.{◌to◌, Fill, Drain, Ask, Count, Bytes, Flag, answers}
 
 filled_and_drained :
-    answers (fresh 8) (Fill (1 to 8) ∷ Len Reader ∷ Drain 8 ∷ Len Reader ∷ [])
+    answers (fresh 8) (Fill (1 to 8) ∷ Ask Reader Len ∷ Drain 8 ∷ Ask Reader Len ∷ [])
     ≡ (Count 8 ∷ Count 8 ∷ Bytes 8 (1 to 8) ∷ Count 0 ∷ [])
 filled_and_drained = refl
 
@@ -23,14 +24,14 @@ one_place = refl
 
 -- a count of 0 is no end
 drain_into_nothing :
-    answers (fresh 4) (Fill (1 to 2) ∷ Drain 0 ∷ Len Reader ∷ [])
+    answers (fresh 4) (Fill (1 to 2) ∷ Drain 0 ∷ Ask Reader Len ∷ [])
     ≡ (Count 2 ∷ Bytes 0 [] ∷ Count 2 ∷ [])
 drain_into_nothing = refl
 
 lengths_on_the_way :
     answers (fresh 100)
-    (Len Reader ∷ Fill (replicate 10 0) ∷ Len Writer ∷ Fill (replicate 90 0) ∷ Len Reader ∷ IsFull Writer
-    ∷ Drain 15 ∷ Len Reader ∷ Fill (replicate 10 0) ∷ Len Writer ∷ [])
+    (Ask Reader Len ∷ Fill (replicate 10 0) ∷ Ask Writer Len ∷ Fill (replicate 90 0) ∷ Ask Reader Len ∷ Ask Writer IsFull
+    ∷ Drain 15 ∷ Ask Reader Len ∷ Fill (replicate 10 0) ∷ Ask Writer Len ∷ [])
     ≡ (Count 0 ∷ Count 10 ∷ Count 10 ∷ Count 90 ∷ Count 100 ∷ Flag true
     ∷ Bytes 15 (replicate 15 0) ∷ Count 85 ∷ Count 10 ∷ Count 95 ∷ [])
 lengths_on_the_way = refl

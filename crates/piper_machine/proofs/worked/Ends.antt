@@ -1,11 +1,12 @@
 -- An end that was told is final: what was lent is taken back by a close, and unread bytes are still read.
 use Rattle.std.specs.Prelude.{◌≡◌, List, [], ◌∷◌, true, false, refl}
 use Rattle.piper_sides.specs.declared.calls.Side.TheVariants.{Reader, Writer}
+use Rattle.piper_sides.specs.declared.calls.Query.TheVariants.{Len}
 use Rattle.piper_sides.specs.declared.calls.Call.TheVariants as call
 use Rattle.piper_sides.specs.declared.calls.Step.TheVariants as step
 use Rattle.piper_sides.specs.declared.refusals.StepRefusal.TheVariants.{PastLent}
 use Rattle.piper_machine.specs.Pipe.{fresh}
-use Rattle.piper_machine.proofs.worked.Script.{◌to◌, Call, Fill, Drain, Len, Poll, by, Lend, Put, Produced, Close, Drop, Done, Count, Bytes, Flag, Ready, answers, after, IsRefused}
+use Rattle.piper_machine.proofs.worked.Script.{◌to◌, Call, Fill, Drain, Ask, Poll, by, Lend, Put, Produced, Close, Drop, Done, Count, Bytes, Flag, Ready, answers, after, IsRefused}
 
 abbrev closed_then_lent : List Call
 closed_then_lent = Close ∷ Poll Reader (by 1) ∷ Lend 2 ∷ []
@@ -47,7 +48,7 @@ unread_bytes_before_the_end = refl
 
 -- the reader's drop is no end of what was lent, nor of lending
 lent_after_the_readers_drop :
-    answers (fresh 4) (Drop Reader ∷ Lend 2 ∷ Put 0 7 ∷ Produced 1 ∷ Len Writer ∷ Fill (8 ∷ []) ∷ [])
+    answers (fresh 4) (Drop Reader ∷ Lend 2 ∷ Put 0 7 ∷ Produced 1 ∷ Ask Writer Len ∷ Fill (8 ∷ []) ∷ [])
     ≡ (Done ∷ Count 2 ∷ Done ∷ Done ∷ Count 1 ∷ Count 0 ∷ [])
 lent_after_the_readers_drop = refl
 

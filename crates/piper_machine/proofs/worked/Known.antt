@@ -1,6 +1,7 @@
 -- What a log tells of what a side knows, and the counts by it.
 use Rattle.std.specs.Prelude.{◌≡◌, List, [], ◌∷◌, ◌++◌, take, Some, None, true, false, refl}
 use Rattle.piper_sides.specs.declared.calls.Side.TheVariants.{Reader, Writer}
+use Rattle.piper_sides.specs.declared.calls.Query.TheVariants.{Len}
 use Rattle.piper_sides.specs.declared.calls.Call.TheVariants as call
 use Rattle.piper_sides.specs.declared.calls.Kind.TheVariants as kind
 use Rattle.piper_sides.specs.declared.calls.Step.{Step}
@@ -33,7 +34,7 @@ unknown_to_the_reader : knowledge_of 4 Reader (log_of three_published) ≡ recor
 unknown_to_the_reader = refl
 
 -- a query loads both indices, and takes in neither
-after_a_query : knowledge_of 4 Reader (log_of (three_published ++ (Begin (call.Len Reader) ∷ Go Reader ∷ Go Reader ∷ []))) ≡ record { known = 0; found = 0; is_query = true }
+after_a_query : knowledge_of 4 Reader (log_of (three_published ++ (Begin (call.Query Reader Len) ∷ Go Reader ∷ Go Reader ∷ []))) ≡ record { known = 0; found = 0; is_query = true }
 after_a_query = refl
 
 -- a poll takes in what it finds

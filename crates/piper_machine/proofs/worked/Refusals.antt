@@ -1,6 +1,7 @@
 -- Lines that are refused, and by which name where several hold. Nothing comes after a refused line.
 use Rattle.std.specs.Prelude.{◌≡◌, [], ◌∷◌, Some, None, true, refl}
 use Rattle.piper_sides.specs.declared.calls.Side.TheVariants.{Reader, Writer}
+use Rattle.piper_sides.specs.declared.calls.Query.TheVariants.{Len}
 use Rattle.piper_sides.specs.declared.calls.Call.TheVariants as call
 use Rattle.piper_sides.specs.declared.calls.Kind.TheVariants as kind
 use Rattle.piper_sides.specs.declared.events.Event.TheVariants.{Began}
@@ -58,13 +59,13 @@ a_draw_of_100 = refl
 -- Where two reasons hold.
 
 busy_before_the_draw :
-    prints (fresh 4) (Begin (call.Len Reader) ∷ Begin (call.Poll Reader 1 drawing_100.luck) ∷ [])
-    ≡ (Logs (Began Reader kind.Len None ∷ []) ∷ Refused Busy ∷ [])
+    prints (fresh 4) (Begin (call.Query Reader Len) ∷ Begin (call.Poll Reader 1 drawing_100.luck) ∷ [])
+    ≡ (Logs (Began Reader (kind.Query Len) None ∷ []) ∷ Refused Busy ∷ [])
 busy_before_the_draw = refl
 
 busy_before_the_offset :
-    prints (fresh 4) (Begin (call.Len Writer) ∷ Whole (Put 0 5) ∷ [])
-    ≡ (Logs (Began Writer kind.Len None ∷ []) ∷ Refused Busy ∷ [])
+    prints (fresh 4) (Begin (call.Query Writer Len) ∷ Whole (Put 0 5) ∷ [])
+    ≡ (Logs (Began Writer (kind.Query Len) None ∷ []) ∷ Refused Busy ∷ [])
 busy_before_the_offset = refl
 
 dropped_before_the_count :

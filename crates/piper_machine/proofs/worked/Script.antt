@@ -4,6 +4,8 @@ use Rattle.std.specs.Prelude.{◌≡◌, ℕ, suc, zero, ◌+◌, ◌-◌, List,
 use Rattle.std.specs.declared.result.Result.TheVariants as result
 use Rattle.piper_sides.specs.declared.calls.Side.{Side}
 use Rattle.piper_sides.specs.declared.calls.Side.TheVariants.{Reader, Writer}
+use Rattle.piper_sides.specs.declared.calls.Query.{Query}
+use Rattle.piper_sides.specs.declared.calls.Query.TheVariants as ask
 use Rattle.piper_sides.specs.declared.polling.Polled.{Polled}
 use Rattle.piper_sides.specs.declared.polling.Polled.TheVariants as polled
 use Rattle.piper_sides.specs.declared.scripted.SourceAct.{SourceAct}
@@ -39,9 +41,7 @@ first to last = counted first (last + 1 - first)
 pub data Call : Type 0 where
   Fill : List ℕ → Call
   Drain : ℕ → Call
-  Len : Side → Call
-  IsEmpty : Side → Call
-  IsFull : Side → Call
+  Ask : Side → Query → Call
   IsClosed : Side → Call
   Poll : Side → Context → Call
   Peek : Call
@@ -120,12 +120,15 @@ bytes_of p count = Bytes count (take count p.unread)
 abbrev pub lent_count : ℕ → Pipe → ℕ
 lent_count most p = if p.is_shut then 0 else lend_limit most p
 
+abbrev pub asked : Query → Pipe → Answer
+asked ask.Len p = Count (unread_count p)
+asked ask.IsEmpty p = Flag (is_empty p)
+asked ask.IsFull p = Flag (is_full p)
+
 abbrev pub run : Call → Pipe → Ran
 run (Fill bytes) p = let out = try_fill bytes p in ran (Count (count_of out.answer)) out.pipe
 run (Drain size) p = let out = try_drain size p in ran (bytes_of p (count_of out.answer)) out.pipe
-run (Len side) p = ran (Count (unread_count p)) (begun p)
-run (IsEmpty side) p = ran (Flag (is_empty p)) (begun p)
-run (IsFull side) p = ran (Flag (is_full p)) (begun p)
+run (Ask side query) p = ran (asked query p) (begun p)
 run (IsClosed side) p = ran (Flag (is_closed p)) (begun p)
 run (Poll Reader cx) p = let out = reader_look (Some cx) (begun p) in ran (polled_answer Flag out.answer) out.pipe
 run (Poll Writer cx) p = let out = writer_look (Some cx) (begun p) in ran (polled_answer Flag out.answer) out.pipe

@@ -1,6 +1,7 @@
 -- Sources and destinations that end or fail: earlier rounds stay done, and the refused one moves nothing.
 use Rattle.std.specs.Prelude.{◌≡◌, ℕ, List, [], ◌∷◌, Ok, refl}
 use Rattle.piper_sides.specs.declared.calls.Side.TheVariants.{Reader, Writer}
+use Rattle.piper_sides.specs.declared.calls.Query.TheVariants.{Len}
 use Rattle.piper_sides.specs.declared.calls.Call.TheVariants as call
 use Rattle.piper_sides.specs.declared.calls.Step.TheVariants as step
 use Rattle.piper_sides.specs.declared.refusals.StepRefusal.TheVariants.{PastLent}
@@ -10,10 +11,10 @@ use Rattle.piper_sides.specs.declared.scripted.DestAct.TheVariants as dest
 use Rattle.piper_machine.specs.Pipe.{Pipe, fresh}
 use Rattle.piper_machine.specs.Copy.{drained}
 use Rattle.piper_machine.specs.Scripted.{taken_by, drain_moves_to}
-use Rattle.piper_machine.proofs.worked.Script.{◌to◌, Call, Fill, Drain, Len, Peek, FillFrom, DrainTo, by, Count, Bytes, Ready, Failed, answers, after, IsRefused}
+use Rattle.piper_machine.proofs.worked.Script.{◌to◌, Call, Fill, Drain, Ask, Peek, FillFrom, DrainTo, by, Count, Bytes, Ready, Failed, answers, after, IsRefused}
 
 abbrev failing_source : List Call
-failing_source = FillFrom (by 1) (source.Bytes (1 to 3) ∷ source.Fail ∷ []) ∷ Len Writer ∷ []
+failing_source = FillFrom (by 1) (source.Bytes (1 to 3) ∷ source.Fail ∷ []) ∷ Ask Writer Len ∷ []
 
 source_fails_after_its_bytes :
     answers (fresh 8) failing_source
@@ -25,7 +26,7 @@ failed_fill_leaves_nothing_lent : IsRefused (step.Begin (call.Produced 1)) PastL
 failed_fill_leaves_nothing_lent = refl
 
 destination_fails_after_its_bytes :
-    answers (fresh 8) (Fill (1 to 3) ∷ DrainTo (by 1) (dest.Take 2 ∷ dest.Fail ∷ []) ∷ Len Reader ∷ Peek ∷ [])
+    answers (fresh 8) (Fill (1 to 3) ∷ DrainTo (by 1) (dest.Take 2 ∷ dest.Fail ∷ []) ∷ Ask Reader Len ∷ Peek ∷ [])
     ≡ (Count 3 ∷ Failed ∷ Count 1 ∷ Bytes 1 (3 ∷ []) ∷ [])
 destination_fails_after_its_bytes = refl
 
@@ -33,12 +34,12 @@ destination_fails_after_its_bytes = refl
 failure_at_a_full_pipe :
     answers (fresh 2)
     (FillFrom (by 1) (source.Bytes (1 to 2) ∷ source.Fail ∷ []) ∷ Drain 2
-    ∷ FillFrom (by 1) (source.Bytes (1 to 3) ∷ source.Fail ∷ []) ∷ Len Writer ∷ [])
+    ∷ FillFrom (by 1) (source.Bytes (1 to 3) ∷ source.Fail ∷ []) ∷ Ask Writer Len ∷ [])
     ≡ (Failed ∷ Bytes 2 (1 to 2) ∷ Ready (Count 2) ∷ Count 2 ∷ [])
 failure_at_a_full_pipe = refl
 
 failure_at_an_empty_pipe :
-    answers (fresh 4) (Fill (1 to 2) ∷ DrainTo (by 1) (dest.Take 2 ∷ dest.Fail ∷ []) ∷ Len Reader ∷ [])
+    answers (fresh 4) (Fill (1 to 2) ∷ DrainTo (by 1) (dest.Take 2 ∷ dest.Fail ∷ []) ∷ Ask Reader Len ∷ [])
     ≡ (Count 2 ∷ Failed ∷ Count 0 ∷ [])
 failure_at_an_empty_pipe = refl
 
@@ -50,7 +51,7 @@ ends_of_every_kind :
     ∷ DrainTo (by 1) (dest.Take 1 ∷ dest.Take 0 ∷ dest.Take 4 ∷ [])
     ∷ DrainTo (by 1) []
     ∷ DrainTo (by 1) (dest.Fail ∷ [])
-    ∷ Len Reader ∷ [])
+    ∷ Ask Reader Len ∷ [])
     ≡ (Ready (Count 3) ∷ Ready (Count 1) ∷ Ready (Count 1) ∷ Ready (Count 0) ∷ Failed ∷ Count 3 ∷ [])
 ends_of_every_kind = refl
 

@@ -79,9 +79,7 @@ polled_copy_refusal side cx p = or_else (copy_refusal side p) (unless (nat_lt cx
 abbrev pub whole_refusal : script.Call → Pipe → Option StepRefusal
 whole_refusal (script.Fill bytes) p = copy_refusal Writer p
 whole_refusal (script.Drain size) p = copy_refusal Reader p
-whole_refusal (script.Len side) p = refusal_of (step.Begin (call.Len side)) p
-whole_refusal (script.IsEmpty side) p = refusal_of (step.Begin (call.IsEmpty side)) p
-whole_refusal (script.IsFull side) p = refusal_of (step.Begin (call.IsFull side)) p
+whole_refusal (script.Ask side query) p = refusal_of (step.Begin (call.Query side query)) p
 whole_refusal (script.IsClosed side) p = refusal_of (step.Begin (call.IsClosed side)) p
 whole_refusal (script.Poll side cx) p = refusal_of (step.Begin (call.Poll side cx.waker cx.luck)) p
 whole_refusal script.Peek p = None

@@ -2,6 +2,7 @@
 use Rattle.std.specs.Prelude.{◌≡◌, List, [], ◌∷◌, take, Some, None, true, refl}
 use Rattle.std.proofs.Common.{arith}
 use Rattle.piper_sides.specs.declared.calls.Side.TheVariants.{Reader, Writer}
+use Rattle.piper_sides.specs.declared.calls.Query.TheVariants.{Len}
 use Rattle.piper_sides.specs.declared.calls.Call.TheVariants as call
 use Rattle.piper_sides.specs.declared.calls.Kind.TheVariants as kind
 use Rattle.piper_sides.specs.declared.calls.Step.{Step}
@@ -67,17 +68,17 @@ steps_of_a_close = refl
 
 -- the reader's count is that of its second load, the writer's that of its first
 count_of_the_reader :
-    prints (fresh 4) (Begin (call.Len Reader) ∷ Go Reader 1 ∷ Whole (Fill (5 ∷ [])) ∷ Go Reader 1 ∷ [])
-    ≡ (Logs (Began Reader kind.Len None ∷ [])
+    prints (fresh 4) (Begin (call.Query Reader Len) ∷ Go Reader 1 ∷ Whole (Fill (5 ∷ [])) ∷ Go Reader 1 ∷ [])
+    ≡ (Logs (Began Reader (kind.Query Len) None ∷ [])
     ∷ Logs (Looked Reader (seen.Head 0) ∷ [])
     ∷ Says (Count 1)
     ∷ Logs (Looked Reader (seen.Tail 1) ∷ Answered Reader (answer.Count 1) ∷ []) ∷ [])
 count_of_the_reader = refl
 
 count_of_the_writer :
-    prints (fresh 4) (Whole (Fill (5 ∷ [])) ∷ Begin (call.Len Writer) ∷ Go Writer 1 ∷ Whole (Drain 4) ∷ Go Writer 1 ∷ [])
+    prints (fresh 4) (Whole (Fill (5 ∷ [])) ∷ Begin (call.Query Writer Len) ∷ Go Writer 1 ∷ Whole (Drain 4) ∷ Go Writer 1 ∷ [])
     ≡ (Says (Count 1)
-    ∷ Logs (Began Writer kind.Len None ∷ [])
+    ∷ Logs (Began Writer (kind.Query Len) None ∷ [])
     ∷ Logs (Looked Writer (seen.Head 1) ∷ [])
     ∷ Says (Bytes 1 (5 ∷ []))
     ∷ Logs (Looked Writer (seen.Tail 0) ∷ Answered Writer (answer.Count 1) ∷ []) ∷ [])

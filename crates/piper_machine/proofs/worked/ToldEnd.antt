@@ -2,6 +2,7 @@
 use Rattle.std.specs.Prelude.{◌≡◌, List, [], ◌∷◌, ◌++◌, true, false, None, Some, Ok, refl}
 use Rattle.std.proofs.Common.{inl, inr}
 use Rattle.piper_sides.specs.declared.calls.Side.TheVariants.{Reader, Writer}
+use Rattle.piper_sides.specs.declared.calls.Query.TheVariants.{Len}
 use Rattle.piper_sides.specs.declared.calls.Call.TheVariants as call
 use Rattle.piper_sides.specs.declared.calls.Kind.TheVariants as kind
 use Rattle.piper_sides.specs.declared.calls.Step.{Step}
@@ -42,7 +43,7 @@ abbrev drained_to_the_end : List Step
 drained_to_the_end =
     Begin call.Close ∷ Go Writer ∷ Go Writer ∷ Go Writer
     ∷ Begin (call.TryDrain 4) ∷ Go Reader ∷ Go Reader ∷ Go Reader
-    ∷ Begin (call.Len Writer) ∷ Go Writer ∷ []
+    ∷ Begin (call.Query Writer Len) ∷ Go Writer ∷ []
 
 abbrev before_it_is_found : List Event
 before_it_is_found =
@@ -50,7 +51,7 @@ before_it_is_found =
     ∷ Began Reader kind.TryDrain None ∷ Looked Reader (seen.Tail 0) ∷ Looked Reader (seen.Closed true) ∷ []
 
 abbrev behind_what_is_found : List Event
-behind_what_is_found = Answered Reader (answer.Count 0) ∷ Began Writer kind.Len None ∷ Looked Writer (seen.Head 0) ∷ []
+behind_what_is_found = Answered Reader (answer.Count 0) ∷ Began Writer (kind.Query Len) None ∷ Looked Writer (seen.Head 0) ∷ []
 
 found_by_a_drain :
     ((gone drained_to_the_end (fresh 4)).events ≡ before_it_is_found ++ found_none ∷ behind_what_is_found)
@@ -72,7 +73,7 @@ zero_is_no_end :
 zero_is_no_end = (refl, refl)
 
 -- what a call saw is forgotten with the next
-forgotten_by_the_next : saw_closed Reader (before_it_is_found ++ Began Reader kind.Len None ∷ []) ≡ false
+forgotten_by_the_next : saw_closed Reader (before_it_is_found ++ Began Reader (kind.Query Len) None ∷ []) ≡ false
 forgotten_by_the_next = refl
 
 -- The reader closes its own end in the middle of a publication: a drop of the reader does not shut, and the writer goes on. No end

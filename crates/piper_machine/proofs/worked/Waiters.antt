@@ -2,6 +2,7 @@
 use Rattle.std.specs.Prelude.{◌≡◌, ℕ, List, [], ◌∷◌, take, true, false, None, Some, Ok, refl}
 use Rattle.std.proofs.Common.{inl, inr}
 use Rattle.piper_sides.specs.declared.calls.Side.TheVariants.{Reader, Writer}
+use Rattle.piper_sides.specs.declared.calls.Query.TheVariants.{Len}
 use Rattle.piper_sides.specs.declared.calls.Call.TheVariants as call
 use Rattle.piper_sides.specs.declared.calls.Kind.TheVariants as kind
 use Rattle.piper_sides.specs.declared.calls.Step.{Step}
@@ -22,7 +23,7 @@ abbrev waits_then_woken : List Step
 waits_then_woken =
     Begin (call.Poll Reader 1 (by 1).luck) ∷ Go Reader ∷ Go Reader ∷ Go Reader ∷ Go Reader
     ∷ Begin (call.Produced 0) ∷ Go Writer ∷ Go Writer ∷ Go Writer
-    ∷ Begin (call.Len Reader) ∷ Go Reader ∷ Go Reader ∷ []
+    ∷ Begin (call.Query Reader Len) ∷ Go Reader ∷ Go Reader ∷ []
 
 abbrev pipe_after : ℕ → Pipe
 pipe_after n = (gone (take n waits_then_woken) (fresh 4)).pipe

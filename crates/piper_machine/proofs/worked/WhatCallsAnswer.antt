@@ -3,6 +3,7 @@ use Rattle.std.specs.Prelude.{◌≡◌, List, [], ◌∷◌, ◌++◌, drop, tr
 use Rattle.std.proofs.Common.{arith}
 use Rattle.piper_sides.specs.declared.calls.Side.{Side}
 use Rattle.piper_sides.specs.declared.calls.Side.TheVariants.{Reader, Writer}
+use Rattle.piper_sides.specs.declared.calls.Query.TheVariants.{Len}
 use Rattle.piper_sides.specs.declared.calls.Call.TheVariants as call
 use Rattle.piper_sides.specs.declared.calls.Kind.TheVariants as kind
 use Rattle.piper_sides.specs.declared.calls.Step.{Step}
@@ -117,14 +118,14 @@ told_of_the_failure = (refl, record { fails = refl; published = refl })
 abbrev drained_between_the_looks : List Step
 drained_between_the_looks =
     Begin (call.TryFill (7 ∷ 8 ∷ [])) ∷ Go Writer ∷ Go Writer ∷ Go Writer ∷ Go Writer ∷ Go Writer ∷ Go Writer
-    ∷ Begin (call.Len Writer) ∷ Go Writer
+    ∷ Begin (call.Query Writer Len) ∷ Go Writer
     ∷ Begin (call.TryDrain 3) ∷ Go Reader ∷ Go Reader ∷ Go Reader ∷ Go Reader ∷ Go Reader
     ∷ Go Writer ∷ []
 
 abbrev logged_of_the_drained : List Event
 logged_of_the_drained =
     Began Writer kind.TryFill None ∷ Looked Writer (seen.Closed false) ∷ Looked Writer (seen.Closed false) ∷ Published (7 ∷ 8 ∷ []) ∷ Answered Writer (answer.Count 2)
-    ∷ Began Writer kind.Len None ∷ Looked Writer (seen.Head 2)
+    ∷ Began Writer (kind.Query Len) None ∷ Looked Writer (seen.Head 2)
     ∷ Began Reader kind.TryDrain None ∷ Looked Reader (seen.Tail 2) ∷ Consumed (7 ∷ 8 ∷ []) ∷ []
 
 abbrev logged_of_the_length : List Event
@@ -140,7 +141,7 @@ told_of_the_drained :
     })
     × (told_by Writer drained_between_the_looks logged_of_the_length ≡ record {
       coming = [];
-      call = Some (call.Len Writer);
+      call = Some (call.Query Writer Len);
       looks = seen.Tail 0 ∷ seen.Head 2 ∷ [];
       moved = [];
     })

@@ -77,9 +77,7 @@ impl Machine {
         let alloc = self.alloc;
         let context = call.context();
         match *call {
-            Call::Len(side) => self.open_query(side, Query::Len),
-            Call::IsEmpty(side) => self.open_query(side, Query::IsEmpty),
-            Call::IsFull(side) => self.open_query(side, Query::IsFull),
+            Call::Query(side, query) => self.open_query(side, query),
             Call::IsClosed(side) => self.open_is_closed(side),
             Call::Poll(side, waker, luck) => self.open_poll(side, Context { waker, luck }),
             Call::TryDrain(_) | Call::PollDrainBytes(..) | Call::PollDrain(..) => self.open_drain(

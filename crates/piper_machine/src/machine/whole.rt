@@ -132,7 +132,7 @@ impl Machine {
         requires { self.old.reader ≡ ReadPoint.Idle }
         ensures value { result ≡ unread_count self.old }
         ensures after { self.new ≡ begun self.old }
-        ensures by_steps { IsWholeBySteps (Call.Len Side.Reader) self.old }
+        ensures by_steps { IsWholeBySteps (Call.Query Side.Reader Query.Len) self.old }
     {
         self.learn_steps();
         self.begin_reader();
@@ -145,7 +145,7 @@ impl Machine {
         requires { self.old.reader ≡ ReadPoint.Idle }
         ensures value { result ≡ is_empty self.old }
         ensures after { self.new ≡ begun self.old }
-        ensures by_steps { IsWholeBySteps (Call.IsEmpty Side.Reader) self.old }
+        ensures by_steps { IsWholeBySteps (Call.Query Side.Reader Query.IsEmpty) self.old }
     {
         self.learn_steps();
         self.begin_reader();
@@ -158,7 +158,7 @@ impl Machine {
         requires { self.old.reader ≡ ReadPoint.Idle }
         ensures value { result ≡ is_full self.old }
         ensures after { self.new ≡ begun self.old }
-        ensures by_steps { IsWholeBySteps (Call.IsFull Side.Reader) self.old }
+        ensures by_steps { IsWholeBySteps (Call.Query Side.Reader Query.IsFull) self.old }
     {
         self.learn_steps();
         self.begin_reader();
@@ -184,7 +184,7 @@ impl Machine {
         requires { self.old.writer ≡ WritePoint.Idle }
         ensures value { result ≡ unread_count self.old }
         ensures after { self.new ≡ begun self.old }
-        ensures by_steps { IsWholeBySteps (Call.Len Side.Writer) self.old }
+        ensures by_steps { IsWholeBySteps (Call.Query Side.Writer Query.Len) self.old }
     {
         self.learn_steps();
         self.begin_writer();
@@ -197,7 +197,7 @@ impl Machine {
         requires { self.old.writer ≡ WritePoint.Idle }
         ensures value { result ≡ is_empty self.old }
         ensures after { self.new ≡ begun self.old }
-        ensures by_steps { IsWholeBySteps (Call.IsEmpty Side.Writer) self.old }
+        ensures by_steps { IsWholeBySteps (Call.Query Side.Writer Query.IsEmpty) self.old }
     {
         self.learn_steps();
         self.begin_writer();
@@ -210,7 +210,7 @@ impl Machine {
         requires { self.old.writer ≡ WritePoint.Idle }
         ensures value { result ≡ is_full self.old }
         ensures after { self.new ≡ begun self.old }
-        ensures by_steps { IsWholeBySteps (Call.IsFull Side.Writer) self.old }
+        ensures by_steps { IsWholeBySteps (Call.Query Side.Writer Query.IsFull) self.old }
     {
         self.learn_steps();
         self.begin_writer();
