@@ -10,7 +10,8 @@ use Rattle.piper.specs.CopyAnswers.{OnMemory}
 use Rattle.piper.specs.declared.error.Inner.{Inner}
 
 -- P holds of the context as it was handed in and as it was left, where there was one
-abbrev pub IfGiven : Option (MutBor Context) → Unit {0} ⊎ ((MutBor Context × Unit {0}) ⊎ ⊥) → (Context → Context → Type 0) → Type 0
+abbrev pub IfGiven : Option (MutBor Context) → Unit {0} ⊎ ((MutBor Context × Unit {0}) ⊎ ⊥)
+    → (Context → Context → Type 0) → Type 0
 IfGiven None left P = ⊤
 IfGiven (Some cx) (inl none) P = ⊥
 IfGiven (Some cx) (inr (inl left)) P = P cx.now left.0.now

@@ -9,7 +9,8 @@ pub record ReaderCopied (a b : ReadView) : Type 0 where
   pub end : SameReadEnd a b
   pub saw : flag a.saw ≤ flag b.saw
 
--- the writer, but for the bytes that it published and its room: it may have seen closed now, and lends nothing
+-- the writer, but for the bytes that it published and its room:
+-- it may have seen closed now, and lends nothing
 pub record WriterCopied (a b : WriteView) : Type 0 where
   pub end : SameWriteEnd a b
   pub shut : b.shut ≡ a.shut

@@ -56,12 +56,14 @@ IsAtOnce (Ready (Err Memory)) = ⊥
 IsAtOnce (Ready (Err (Like e))) = ⊤
 IsAtOnce Pending = ⊥
 
--- xs passed between two states of a source or destination. A count is that of xs; pending and want of memory leave it as it
--- was; and a failure is one of its own, behind the bytes that passed
-abbrev pub Copies : {S E : Type 0} → Passes S → (S → E → S → Type 0) → Poll (Result ℕ (Inner E)) → S → S → List ℕ → Type 0
+-- xs passed between two states of a source or destination. A count is that of xs; pending and
+-- want of memory leave it as it was; and a failure is one of its own, behind the bytes that passed
+abbrev pub Copies : {S E : Type 0} → Passes S → (S → E → S → Type 0)
+    → Poll (Result ℕ (Inner E)) → S → S → List ℕ → Type 0
 Copies passes fails (Ready (Ok n)) s t xs = passes s xs t × (length xs ≡ n)
 Copies passes fails (Ready (Err Memory)) s t xs = (t ≡ s) × (xs ≡ [])
-Copies {S} passes fails (Ready (Err (Like e))) s t xs = passes s xs t × ((u : S) × passes s xs u × fails u e t)
+Copies {S} passes fails (Ready (Err (Like e))) s t xs =
+    passes s xs t × ((u : S) × passes s xs u × fails u e t)
 Copies passes fails Pending s t xs = (t ≡ s) × (xs ≡ [])
 
 -- the count of failures differs exactly where a failure is answered

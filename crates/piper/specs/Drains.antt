@@ -12,7 +12,8 @@ use Rattle.piper.specs.Polls.{OnReadyOk, IfReadyOk}
 use Rattle.piper.specs.declared.error.Inner.{Inner}
 use Rattle.piper.specs.declared.error.Inner.TheVariants.{Memory, Like}
 
--- how many bytes the reader knew of after its look: those that it took since, and those that it knows of now
+-- how many bytes the reader knew of after its look:
+-- those that it took since, and those that it knows of now
 abbrev pub found_len : ReadView → ReadView → ℕ
 found_len a b = length b.taken + length b.known - length a.taken
 
@@ -32,8 +33,11 @@ CountsWhatFits r space a b = IfReadyOk r (λ n. n ≡ min space (found_len a b))
 abbrev pub StaysKnown : ReadView → ReadView → Type 0
 StaysKnown a b = b.taken ++ b.known ≡ a.taken ++ a.known
 
--- rounds from a to b: the destination was given the front of what was known, which was taken; and all of it, or what it took
-pub record DrainRounds {S E : Type 0} (takes : Passes S) (is_full : S → Type 0) (fails : S → E → S → Type 0) (r : Poll (Result ℕ (Inner E))) (a b : ReadView) (s t : S) : Type 0 where
+-- rounds from a to b: the destination was given the front of what was known,
+-- which was taken; and all of it, or what it took
+pub record DrainRounds {S E : Type 0}
+    (takes : Passes S) (is_full : S → Type 0) (fails : S → E → S → Type 0)
+    (r : Poll (Result ℕ (Inner E))) (a b : ReadView) (s t : S) : Type 0 where
   pub moved : List ℕ
   pub taken : b.taken ≡ a.taken ++ moved
   pub known : a.known ≡ moved ++ b.known
@@ -42,7 +46,9 @@ pub record DrainRounds {S E : Type 0} (takes : Passes S) (is_full : S → Type 0
   pub end : ReaderConsumed a b
 
 -- a drain from a to b, which begins with a look: that finds more only where no byte was known
-pub record Drains {S E : Type 0} (takes : Passes S) (is_full : S → Type 0) (fails : S → E → S → Type 0) (r : Poll (Result ℕ (Inner E))) (a b : ReadView) (s t : S) : Type 0 where
+pub record Drains {S E : Type 0}
+    (takes : Passes S) (is_full : S → Type 0) (fails : S → E → S → Type 0)
+    (r : Poll (Result ℕ (Inner E))) (a b : ReadView) (s t : S) : Type 0 where
   pub moved : List ℕ
   pub taken : b.taken ≡ a.taken ++ moved
   pub known : 0 < length a.known → a.known ≡ moved ++ b.known
@@ -51,8 +57,10 @@ pub record Drains {S E : Type 0} (takes : Passes S) (is_full : S → Type 0) (fa
   pub most : OnReadyOk r ((b.known ≡ []) ⊎ is_full t)
   pub end : ReaderCopied a b
 
--- a drain into a writer of std: what that holds may be known, and neither whether it takes more nor its errors are
-abbrev pub DrainsInto : {S E : Type 0} → (S → Option (List ℕ)) → Poll (Result ℕ (Inner E)) → ReadView → ReadView → S → S → Type 0
+-- a drain into a writer of std: what that holds may be known,
+-- and neither whether it takes more nor its errors are
+abbrev pub DrainsInto : {S E : Type 0} → (S → Option (List ℕ)) → Poll (Result ℕ (Inner E))
+    → ReadView → ReadView → S → S → Type 0
 DrainsInto contents r a b s t = Drains (appends_to contents) (λ _. ⊤) (λ _ _ _. ⊤) r a b s t
 
 -- a look of a drain found no byte: the pipe was seen closed, or not, or no waker could be made

@@ -17,7 +17,8 @@ abbrev pub IsPending : {A : Type 0} → Poll A → Type 0
 IsPending (Ready x) = ⊥
 IsPending Pending = ⊤
 
--- a polling copy draws exactly where its look was true, and is then pending exactly where it draws a yield
+-- a polling copy draws exactly where its look was true,
+-- and is then pending exactly where it draws a yield
 pub record Draws {A : Type 0} (looked_true : Type 0) (r : Poll A) (old new : Lcg) : Type 0 where
   pub word : looked_true → new ≡ drawn_from old
   pub yields : looked_true → (IsPending r ↔ DrawsYield old)

@@ -13,7 +13,8 @@ use Rattle.piper.specs.Polls.{IfReadyOk}
 use Rattle.piper.specs.declared.error.Inner.{Inner}
 use Rattle.piper.specs.declared.error.Inner.TheVariants.{Memory, Like}
 
--- the writer, but for the bytes that it published, its room, and what it lends: it may have seen closed now
+-- the writer, but for the bytes that it published,
+-- its room, and what it lends: it may have seen closed now
 pub record WriterFilled (a b : WriteView) : Type 0 where
   pub end : SameWriteEnd a b
   pub shut : b.shut ≡ a.shut
@@ -27,8 +28,11 @@ pub record WriterRelent (a b : WriteView) : Type 0 where
   pub shut : b.shut ≡ a.shut
   pub saw : b.saw ≡ a.saw
 
--- rounds from a to b: what was published is a beginning of what the source gave, and all of it unless the pipe was seen closed
-pub record FillRounds {S E : Type 0} (gives : Passes S) (is_dry : S → Type 0) (fails : S → E → S → Type 0) (r : Poll (Result ℕ (Inner E))) (a b : WriteView) (s t : S) : Type 0 where
+-- rounds from a to b: what was published is a beginning of what the source gave,
+-- and all of it unless the pipe was seen closed
+pub record FillRounds {S E : Type 0}
+    (gives : Passes S) (is_dry : S → Type 0) (fails : S → E → S → Type 0)
+    (r : Poll (Result ℕ (Inner E))) (a b : WriteView) (s t : S) : Type 0 where
   pub published : List ℕ
   pub lost : List ℕ
   pub sent : b.sent ≡ a.sent ++ published
@@ -39,7 +43,9 @@ pub record FillRounds {S E : Type 0} (gives : Passes S) (is_dry : S → Type 0) 
   pub end : WriterFilled a b
 
 -- a fill from a to b, which begins with a look: that finds more room only where none was known
-pub record Fills {S E : Type 0} (gives : Passes S) (is_dry : S → Type 0) (fails : S → E → S → Type 0) (r : Poll (Result ℕ (Inner E))) (a b : WriteView) (s t : S) : Type 0 where
+pub record Fills {S E : Type 0}
+    (gives : Passes S) (is_dry : S → Type 0) (fails : S → E → S → Type 0)
+    (r : Poll (Result ℕ (Inner E))) (a b : WriteView) (s t : S) : Type 0 where
   pub published : List ℕ
   pub lost : List ℕ
   pub sent : b.sent ≡ a.sent ++ published
@@ -51,10 +57,13 @@ pub record Fills {S E : Type 0} (gives : Passes S) (is_dry : S → Type 0) (fail
   pub end : WriterFilled a b
 
 -- a fill from a reader of std: what that has left may be known, and its errors are not
-abbrev pub FillsFrom : {S E : Type 0} → (S → Option (List ℕ)) → Poll (Result ℕ (Inner E)) → WriteView → WriteView → S → S → Type 0
-FillsFrom remaining r a b s t = Fills (consumes_of remaining) (λ u. IsAtEnd (remaining u)) (λ _ _ _. ⊤) r a b s t
+abbrev pub FillsFrom : {S E : Type 0} → (S → Option (List ℕ)) → Poll (Result ℕ (Inner E))
+    → WriteView → WriteView → S → S → Type 0
+FillsFrom remaining r a b s t =
+    Fills (consumes_of remaining) (λ u. IsAtEnd (remaining u)) (λ _ _ _. ⊤) r a b s t
 
--- a look of a fill was not true: the pipe was seen closed, or there is no room, or no waker could be made
+-- a look of a fill was not true: the pipe was seen closed,
+-- or there is no room, or no waker could be made
 abbrev pub FoundNoRoom : {E : Type 0} → Poll (Result ℕ (Inner E)) → WriteView → Type 0
 FoundNoRoom (Ready (Ok n)) w = (n ≡ 0) × (w.saw ≡ true)
 FoundNoRoom (Ready (Err Memory)) w = (w.room ≡ 0) × (w.saw ≡ false)

@@ -31,7 +31,9 @@ pub record SameWriter {H : Type 0} (a b : Writer H) : Type 0 where
   pub slots : b.slots ≡ a.slots
   pub rng : b.rng ≡ a.rng
 
--- the handle that writes, once a `&mut` into the slice that it lent has ended: what is lent holds what was written there
+-- the handle that writes, once a `&mut` into the slice that
+-- it lent has ended: what is lent holds what was written there
 abbrev pub lends_room : (H : RattleType) → MutBor (Writer H.Denot) → MutBor (List ℕ) → Fml
 lends_room H writer room =
-    Lends (the_row H) (Array u8 0) writer room (λ bytes. record writer.now { end = with_lent writer.now.end room.now bytes })
+    Lends (the_row H) (Array u8 0) writer room
+    (λ bytes. record writer.now { end = with_lent writer.now.end room.now bytes })

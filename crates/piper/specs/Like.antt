@@ -12,7 +12,8 @@ PassesNothing {S} passes = (s : S) → passes s [] s
 
 -- what passes after one another passes together, in that order
 abbrev pub PassesInOrder : {S : Type 0} → Passes S → Type 0
-PassesInOrder {S} passes = (a : S) (xs : List ℕ) (b : S) (ys : List ℕ) (c : S) → passes a xs b → passes b ys c → passes a (xs ++ ys) c
+PassesInOrder {S} passes = (a : S) (xs : List ℕ) (b : S) (ys : List ℕ) (c : S)
+    → passes a xs b → passes b ys c → passes a (xs ++ ys) c
 
 -- what passed of a slice in a call with this answer: the first n bytes, or none where it failed
 abbrev pub passed : {E : Type 0} → Result ℕ E → List ℕ → List ℕ

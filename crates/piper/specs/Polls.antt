@@ -22,33 +22,37 @@ IfReadyErr (Ready (Ok x)) P = ⊤
 IfReadyErr (Ready (Err e)) P = P e
 IfReadyErr Pending P = ⊤
 
--- a slice that was lent: the first piece of the bytes that are known, and an empty one only at an end that was seen. Where
--- the poll is pending no byte is known
+-- a slice that was lent: the first piece of the bytes that are known,
+-- and an empty one only at an end that was seen. Where the poll is pending no byte is known
 abbrev pub Lends : {E : Type 0} → Poll (Result (Bor (List ℕ)) E) → List ℕ → ℕ → Bool → Type 0
 Lends (Ready (Ok s)) known piece saw =
-    (s.now ≡ take piece known) × (piece ≤ length known) × (length s.now ≡ 0 → (known ≡ []) × (saw ≡ true))
+    (s.now ≡ take piece known) × (piece ≤ length known)
+    × (length s.now ≡ 0 → (known ≡ []) × (saw ≡ true))
 Lends (Ready (Err e)) known piece saw = ⊤
 Lends Pending known piece saw = known ≡ []
 
--- a slice that was read into: n bytes were taken, which stand at its front, and the rest of it stays; none, where it had
--- room, only at an end that was seen. Else nothing was taken
-abbrev pub Reads : {E : Type 0} → Poll (Result ℕ E) → List ℕ → List ℕ → List ℕ → List ℕ → Bool → Type 0
+-- a slice that was read into: n bytes were taken, which stand at its front, and the rest of
+-- it stays; none, where it had room, only at an end that was seen. Else nothing was taken
+abbrev pub Reads : {E : Type 0} → Poll (Result ℕ E)
+    → List ℕ → List ℕ → List ℕ → List ℕ → Bool → Type 0
 Reads (Ready (Ok n)) old new before after saw =
-    (n ≤ length old) × (after ≡ before ++ take n new) × (drop n new ≡ drop n old) × (n ≡ 0 → 0 < length old → saw ≡ true)
+    (n ≤ length old) × (after ≡ before ++ take n new) × (drop n new ≡ drop n old)
+    × (n ≡ 0 → 0 < length old → saw ≡ true)
 Reads (Ready (Err e)) old new before after saw = (after ≡ before) × (new ≡ old)
 Reads Pending old new before after saw = (after ≡ before) × (new ≡ old)
 
--- a slice that was written: of its first n bytes, which are counted, the first m were published; and all n of them unless
--- the pipe was seen closed. Else nothing was published
+-- a slice that was written: of its first n bytes, which are counted, the first m were published;
+-- and all n of them unless the pipe was seen closed. Else nothing was published
 abbrev pub Writes : {E : Type 0} → Poll (Result ℕ E) → List ℕ → List ℕ → List ℕ → Bool → Type 0
 Writes (Ready (Ok n)) source before after saw =
-    (n ≤ length source) × ((m : ℕ) × (m ≤ n) × (after ≡ before ++ take m source) × (saw ≡ false → m ≡ n))
+    (n ≤ length source)
+    × ((m : ℕ) × (m ≤ n) × (after ≡ before ++ take m source) × (saw ≡ false → m ≡ n))
 Writes (Ready (Err e)) source before after saw = after ≡ before
 Writes Pending source before after saw = after ≡ before
 
--- bytes that were carried across: those that were taken begin with those that were published, and are no more unless the
--- writer saw its pipe closed
+-- bytes that were carried across: those that were taken begin with those
+-- that were published, and are no more unless the writer saw its pipe closed
 abbrev pub Carries : List ℕ → List ℕ → List ℕ → List ℕ → Bool → Type 0
 Carries taken_before taken_after sent_before sent_after saw =
-    (front : List ℕ) × (rest : List ℕ) × (taken_after ≡ taken_before ++ (front ++ rest)) × (sent_after ≡ sent_before ++ front)
-    × (saw ≡ false → rest ≡ [])
+    (front : List ℕ) × (rest : List ℕ) × (taken_after ≡ taken_before ++ (front ++ rest))
+    × (sent_after ≡ sent_before ++ front) × (saw ≡ false → rest ≡ [])

@@ -1,4 +1,5 @@
--- What an owner of places ends as, once a `&mut` into its bytes has ended: it holds what was written there.
+-- What an owner of places ends as, once a `&mut` into
+-- its bytes has ended: it holds what was written there.
 use Rattle.std.specs.Prelude.{ℕ, List, length}
 use Rattle.std.specs.Borrow.{Fml, MutBor, Array, Lends}
 use Rattle.std.specs.List.{refill}

@@ -1,4 +1,5 @@
--- What a writer ends as, once a `&mut` into the slice that it lent has ended: what is lent holds what was written there.
+-- What a writer ends as, once a `&mut` into the slice that it lent has ended:
+-- what is lent holds what was written there.
 use Rattle.std.specs.Prelude.{ℕ, List}
 use Rattle.std.specs.Borrow.{Fml, MutBor, Array, Lends}
 use denote.Builtin.{u8}

@@ -8,7 +8,8 @@ use Rattle.core.specs.Allocator.{HasLayout, owned_block, array_of}
 use Rattle.piper_ring.specs.Places.{fact}
 use Rattle.piper_ring.specs.Shared.{words_type, heap_token}
 
--- The heap hands memory out for a type. An alignment of 1 asks for bytes, and a wider one for the words that the ends share.
+-- The heap hands memory out for a type. An alignment of 1 asks for bytes,
+-- and a wider one for the words that the ends share.
 abbrev pub purpose : ℕ → ℕ → Ty
 purpose size zero = array_of u8 size
 purpose size (suc zero) = array_of u8 size

@@ -11,7 +11,8 @@ pub record FreshReadEnd (cap : ℕ) (r : ReadView) : Type 0 where
   pub told : (r.told ≡ 0) × (r.told_shut ≡ false)
   pub saw : r.saw ≡ false
 
--- nothing was published, all places are its room and nothing is lent, nothing was told and nothing was seen
+-- nothing was published, all places are its room and nothing is lent,
+-- nothing was told and nothing was seen
 pub record FreshWriteEnd (cap : ℕ) (w : WriteView) : Type 0 where
   pub capacity : w.capacity ≡ cap
   pub sent : w.sent ≡ []

@@ -13,7 +13,8 @@ pub record ReadView : Type 0 where
   pub taken : List ℕ
   -- the bytes that it knows of, the next one first
   pub known : List ℕ
-  -- how many published bytes it was told of, and whether it was told that the writer closed the pipe
+  -- how many published bytes it was told of,
+  -- and whether it was told that the writer closed the pipe
   pub told : ℕ
   pub told_shut : Bool
   -- whether a call of its own saw the pipe closed

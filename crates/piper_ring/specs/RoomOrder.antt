@@ -1,4 +1,5 @@
--- How a writer's room is kept: what is lent, then the places that are set, then those of the first turn that are not set yet, then those of the second turn.
+-- How a writer's room is kept: what is lent, then the places that are set,
+-- then those of the first turn that are not set yet, then those of the second turn.
 use Rattle.std.specs.Prelude.{◌≡◌, ℕ, ◌+◌, ◌-◌, ◌<◌, ◌≤◌, length}
 use Rattle.piper_ring.specs.declared.ring.places.Places.{Places}
 use Rattle.piper_ring.specs.declared.ends.room.Room.{Room}

@@ -1,5 +1,7 @@
--- What the two ends of a ring own, and what lies between them under an invariant. Bytes are counted from the first one sent.
--- The reader owns the places of the bytes that it knows of, the writer those of its known room; the invariant owns the words, all other places, and the rights to free the memory.
+-- What the two ends of a ring own, and what lies between them under an invariant.
+-- Bytes are counted from the first one sent. The reader owns the places
+-- of the bytes that it knows of, the writer those of its known room;
+-- the invariant owns the words, all other places, and the rights to free the memory.
 use Rattle.std.specs.Prelude.{◌≡◌, ℕ, zero, suc, ◌+◌, ◌-◌, ◌^◌, ◌<◌, ◌≤◌, Bool, true, false, List, length, drop, refl}
 use mir.Syntax.{Ty, w64, ty_int}
 use mir.Val.{vint}
@@ -158,7 +160,8 @@ abbrev pub raised : ℕ → Bool → Fml
 raised γ false = ftrue
 raised γ true = at_least numbers γ 1
 
--- what a writer's mark tells: the bytes published begin with xs, and where `shut`, the writer closed the ring
+-- what a writer's mark tells: the bytes published begin with xs,
+-- and where `shut`, the writer closed the ring
 abbrev pub announced : Names → List ℕ → Bool → Fml
 announced z xs shut = fsep (began z xs) (raised z.shut shut)
 
@@ -255,7 +258,8 @@ module _ (w p : Ptr) (z : Names) where
   abbrev pub writer_lends : List ℕ → ℕ → Bool → Lft → Fml
   writer_lends sent limit shut = beside (said common) (one (λ q. writer_knows q sent limit shut 0))
 
-  -- all of the ring's memory, as the heap gave it: the block of the words and the block of the bytes, each with the right to free it
+  -- all of the ring's memory, as the heap gave it: the block of the
+  -- words and the block of the bytes, each with the right to free it
   abbrev pub whole : Fml
   whole =
       fsep (fsep (froom words_type (block_of w) (count_of w)) (heap_token words_type w))

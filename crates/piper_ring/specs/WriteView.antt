@@ -61,14 +61,15 @@ write_place w = offset_of w.capacity (length w.sent)
 abbrev pub room_in_one_piece : WriteView → ℕ
 room_in_one_piece w = min w.room (w.capacity - write_place w)
 
--- a call for at most `max` bytes may lend n: none once the writer closed the pipe, and else all that
--- is asked for and fits, or at least 4,096 of it
+-- a call for at most `max` bytes may lend n: none once the writer closed the pipe,
+-- and else all that is asked for and fits, or at least 4,096 of it
 abbrev pub Lendable : WriteView → ℕ → ℕ → Type 0
 Lendable w max n =
     (w.shut ≡ true → n ≡ 0) × (n ≤ min max (room_in_one_piece w))
     × (w.shut ≡ false → min 4096 (min max (room_in_one_piece w)) ≤ n)
 
--- n bytes may be unread: the room that the end knows of is free, and the bytes that it was told of are consumed
+-- n bytes may be unread: the room that the end knows of is free,
+-- and the bytes that it was told of are consumed
 pub record MayBeUnread (w : WriteView) (n : ℕ) : Type 0 where
   pub room : n + w.room ≤ w.capacity
   pub told : n + w.told ≤ length w.sent

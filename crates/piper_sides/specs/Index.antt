@@ -1,4 +1,5 @@
--- Indices of a ring of `capacity` places: they lie in 0..2 * capacity, so that a full ring differs from an empty one.
+-- Indices of a ring of `capacity` places: they lie in 0..2 * capacity,
+-- so that a full ring differs from an empty one.
 use Rattle.std.specs.Prelude.{ℕ, ◌+◌, ◌-◌, ◌*◌, ◌%◌, ◌^◌, ◌<◌, ◌≤◌, if◌then◌else◌, nat_lt, nat_le}
 
 -- a capacity whose indices fit a machine word

@@ -1,4 +1,5 @@
--- What each side keeps: its own index, the other's as it last saw it, and its point inside the open call.
+-- What each side keeps: its own index,
+-- the other's as it last saw it, and its point inside the open call.
 use Rattle.std.specs.Prelude.{◌≡◌, ℕ, ◌+◌, ◌-◌, ◌*◌, ◌<◌, ◌≤◌, min, max, Bool, true, false, if◌then◌else◌}
 use Rattle.piper_sides.specs.declared.table.ReadPoint.{ReadPoint}
 use Rattle.piper_sides.specs.declared.table.ReadPoint.TheVariants as at

@@ -167,8 +167,8 @@ abbrev pub writer_taken : AfterRead → Bool → Next ReadPoint
 writer_taken next false = read_done next
 writer_taken next true = goes_on (at.WakeWriter next)
 
--- where the reader comes to from a point, by what its step found, whatever the capacity; a query's last load, which
--- compares with the capacity, stands in read_after
+-- where the reader comes to from a point, by what its step found, whatever the capacity;
+-- a query's last load, which compares with the capacity, stands in read_after
 abbrev pub read_step : ReadPoint → Found → Next ReadPoint
 read_step (at.QueryHead query) found = goes_on (at.QueryTail query)
 read_step at.QueryClosed (flag is_closed) = ends at.Idle (Flag is_closed)
@@ -292,9 +292,9 @@ abbrev pub own_taken : Bool → Next WritePoint
 own_taken false = ends on.Idle Done
 own_taken true = goes_on on.WakeWriter
 
--- where the writer comes to from a point, by what its step found, whatever the capacity and the known room; a
--- query's last load, which compares with the capacity, and the load of closed that a look begins with, which goes
--- on by the known room, stand in write_after
+-- where the writer comes to from a point, by what its step found, whatever the capacity
+-- and the known room; a query's last load, which compares with the capacity, and the load
+-- of closed that a look begins with, which goes on by the known room, stand in write_after
 abbrev pub write_step : WritePoint → Found → Next WritePoint
 write_step (on.QueryHead query) (unread count) = goes_on (on.QueryTail query count)
 write_step on.QueryClosed (flag is_closed) = ends on.Idle (Flag is_closed)
@@ -321,7 +321,8 @@ abbrev pub begins_look : WritePoint → Bool
 begins_look (on.LookClosed l) = true
 begins_look point = false
 
--- where a look goes on behind the load of closed that it begins with: `none` is whether no room is known
+-- where a look goes on behind the load of closed that it begins with:
+-- `none` is whether no room is known
 abbrev pub look_begun : Bool → WritePoint → Bool → Next WritePoint
 look_begun none (on.LookClosed l) is_closed = writer_is_open is_closed none l
 look_begun none point is_closed = goes_on point
@@ -336,7 +337,8 @@ abbrev pub writer_draws_behind : WritePoint → Bool
 writer_draws_behind (on.LookTake (purpose.Copy form)) = true
 writer_draws_behind point = false
 
--- where the writer of a pipe of this capacity and known room comes to from a point, by what its step found
+-- where the writer of a pipe of this capacity and known
+-- room comes to from a point, by what its step found
 abbrev pub write_after : ℕ → ℕ → WritePoint → Found → Next WritePoint
 write_after capacity room (on.QueryTail query count) found =
     ends on.Idle (query_answer query capacity count)

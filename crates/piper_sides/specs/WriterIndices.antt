@@ -1,4 +1,5 @@
--- The writer's indices: its own, and the reader's as it last saw it; with what is lent between them.
+-- The writer's indices: its own, and the reader's
+-- as it last saw it; with what is lent between them.
 use Rattle.std.specs.Prelude.{◌≡◌, ℕ, ◌+◌, ◌-◌, ◌*◌, ◌<◌, ◌≤◌, min, max, Bool, true, false, if◌then◌else◌}
 use Rattle.piper_sides.specs.Index.{IsCapacity, distance, place_of, advanced}
 use Rattle.piper_sides.specs.LendBound.{lend_bound}

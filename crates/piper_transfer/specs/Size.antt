@@ -4,7 +4,10 @@ use Rattle.std.specs.Str.Parse.{IsNumeral, digits_value}
 
 -- how many bytes a last letter stands for: K, M or G, and 1 for any other
 abbrev pub bytes_of_letter : ℕ → ℕ
-bytes_of_letter letter = cond (letter == 75) 1_024 (cond (letter == 77) 1_048_576 (cond (letter == 71) 1_073_741_824 1))
+bytes_of_letter letter =
+    cond (letter == 75) 1_024
+    (cond (letter == 77) 1_048_576
+    (cond (letter == 71) 1_073_741_824 1))
 
 -- the last letter of a text
 abbrev pub last_letter : List ℕ → ℕ

@@ -43,7 +43,9 @@ WritesAll (Ok _) = ⊤
 WritesAll (Err e) = IsOfInput e
 
 -- what the output was given is a front of what the input gave
-pub record Transfers (r : Result Unit TransferError) (input_old input_new output_old output_new : Option (List ℕ)) : Type 0 where
+pub record Transfers
+    (r : Result Unit TransferError)
+    (input_old input_new output_old output_new : Option (List ℕ)) : Type 0 where
   pub written : List ℕ
   pub left : List ℕ
   pub given : Consumes input_old input_new (written ++ left)
