@@ -20,7 +20,8 @@ use Rattle.piper.specs.declared.handles.Writer.{Writer}
 use Rattle.piper_duplex.specs.declared.end.End.{End}
 
 -- the handles of a new pipe of `cap` bytes, whose generators begin at `seed`
-pub record IsNewPipe {H : Type 0} (cap seed : ℕ) (reader : Reader H) (writer : Writer H) : Type 0 where
+pub record IsNewPipe {H : Type 0}
+    (cap seed : ℕ) (reader : Reader H) (writer : Writer H) : Type 0 where
   pub pair : ArePair reader writer
   pub read_end : FreshReadEnd cap reader.end
   pub write_end : FreshWriteEnd cap writer.end
@@ -39,17 +40,20 @@ pub record OnlyWrites {H : Type 0} (a b : End H) : Type 0 where
   pub end : SameWriteEnd a.writer.end b.writer.end
   pub slots : b.writer.slots ≡ a.writer.slots
 
--- the handles of one pipe, once they were in one hand: what was taken and what is known make up what was published, first in,
--- first out, room and known bytes make up the capacity, and nothing else has changed
-pub record HaveMet {H : Type 0} (reader0 reader1 : Reader H) (writer0 writer1 : Writer H) : Type 0 where
+-- the handles of one pipe, once they were in one hand:
+-- what was taken and what is known make up what was published, first in, first out,
+-- room and known bytes make up the capacity, and nothing else has changed
+pub record HaveMet {H : Type 0}
+    (reader0 reader1 : Reader H) (writer0 writer1 : Writer H) : Type 0 where
   pub fifo : reader1.end.taken ++ reader1.end.known ≡ writer1.end.sent
   pub room : writer1.end.room + length reader1.end.known ≡ reader1.end.capacity
   pub reader : ReaderRefreshed reader0.end reader1.end × SameReader reader0 reader1
   pub writer : WriterRefreshed writer0.end writer1.end × SameWriter writer0 writer1
 
--- a poll of the end a lent the first piece of the known bytes, and left the end as b: no byte was taken, and a pending poll
--- has armed its task; a poll that fails wants memory
-abbrev pub LendsPiece : {H : Type 0} → Poll (Result (Bor (List ℕ)) PipeError) → End H → End H → Context → Type 0
+-- a poll of the end a lent the first piece of the known bytes, and left the end as b:
+-- no byte was taken, and a pending poll has armed its task; a poll that fails wants memory
+abbrev pub LendsPiece : {H : Type 0} → Poll (Result (Bor (List ℕ)) PipeError)
+    → End H → End H → Context → Type 0
 LendsPiece r a b cx =
     Lends r b.reader.end.known (in_one_piece b.reader.end) b.reader.end.saw
     × StartsWith b.reader.end.known a.reader.end.known

@@ -13,11 +13,12 @@ left_of echo = drop echo.written echo.line.items
 abbrev pub held_of : {R : Type 0} → LineEcho → Lines R → List ℕ
 held_of echo lines = left_of echo ++ kept_of lines
 
--- none is lost, none is made up and none changes places: what was held before, joined with the bytes that were taken since,
--- is what was written, joined with what is held now
+-- none is lost, none is made up and none changes places: what was held before,
+-- joined with the bytes that were taken since, is what was written, joined with what is held now
 abbrev pub Echoes : List ℕ → List ℕ → List ℕ → List ℕ → List ℕ → List ℕ → Bool → Bool → Type 0
 Echoes taken_before taken_after held_before held_after sent_before sent_after saw_before saw_after =
-    (more : List ℕ) × (taken_after ≡ taken_before ++ more) × Sends (held_before ++ more) held_after sent_before sent_after saw_before saw_after
+    (more : List ℕ) × (taken_after ≡ taken_before ++ more)
+    × Sends (held_before ++ more) held_after sent_before sent_after saw_before saw_after
 
 -- a pending echo waits for the writer while a line is on its way back, and else for the reader
 abbrev pub WaitsFor : (ℕ → Type 0) → (ℕ → Type 0) → LineEcho → ℕ → Type 0

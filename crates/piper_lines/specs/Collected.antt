@@ -1,10 +1,10 @@
 -- What a poll for all lines, or for all frames, answers.
-use Rattle.std.specs.Prelude.{◌≡◌, ℕ, ◌<◌, ◌⊎◌, Bool, List, [], length, Result, Ok, Err, Vec, ⊤}
+use Rattle.std.specs.Prelude.{◌≡◌, ℕ, ◌<◌, ◌⊎◌, Bool, List, [], Result, Ok, Err, Vec, ⊤}
 use Rattle.std.specs.declared.alloc.Global.{Global}
 use Rattle.futures.specs.declared.task.Poll.{Poll}
 use Rattle.futures.specs.declared.task.Poll.TheVariants.{Ready, Pending}
 use Rattle.piper_lines.specs.AtEnd.{AtEnd}
-use Rattle.piper_lines.specs.Frame.{told_length}
+use Rattle.piper_lines.specs.Frame.{TellsLength, IsBetweenFrames, IsInsideFrame}
 use Rattle.piper_lines.specs.declared.collect.Collected.{Collected}
 use Rattle.piper_lines.specs.declared.collect.Collected.TheVariants.{ToTheEnd, Truncated, UntilTooLong}
 
@@ -14,12 +14,15 @@ rest_of (Ready (Ok rest)) = rest.items
 rest_of (Ready (Err e)) = []
 rest_of Pending = []
 
--- by the answer: what is kept of a frame, and has still to pass of a skipped one. Where a frame is too long, what was taken of
--- its body before is all that is kept of it
-abbrev pub EndsFrames : {E : Type 0} → Poll (Result Collected E) → ℕ → List ℕ → List ℕ → List ℕ → ℕ → List ℕ → Bool → Type 0
-EndsFrames (Ready (Ok ToTheEnd)) limit header before body skips known saw = (header ≡ []) × (body ≡ []) × (skips ≡ 0) × AtEnd known saw
-EndsFrames (Ready (Ok Truncated)) limit header before body skips known saw = ((0 < length header) ⊎ (0 < skips)) × AtEnd known saw
+-- by the answer: what is kept of a frame, and has still to pass of a skipped one.
+-- Where a frame is too long, what was taken of its body before is all that is kept of it
+abbrev pub EndsFrames : {E : Type 0} → Poll (Result Collected E)
+    → ℕ → List ℕ → List ℕ → List ℕ → ℕ → List ℕ → Bool → Type 0
+EndsFrames (Ready (Ok ToTheEnd)) limit header before body skips known saw =
+    IsBetweenFrames header body skips × AtEnd known saw
+EndsFrames (Ready (Ok Truncated)) limit header before body skips known saw =
+    IsInsideFrame header skips × AtEnd known saw
 EndsFrames (Ready (Ok (UntilTooLong n))) limit header before body skips known saw =
-    (limit < n) × (length header ≡ 4) × (told_length header ≡ n) × ((body ≡ before) ⊎ (body ≡ [])) × (skips ≡ 0)
+    (limit < n) × TellsLength header n × ((body ≡ before) ⊎ (body ≡ [])) × (skips ≡ 0)
 EndsFrames (Ready (Err e)) limit header before body skips known saw = ⊤
 EndsFrames Pending limit header before body skips known saw = ⊤

@@ -1,9 +1,9 @@
 -- What one poll for a frame hands out and keeps.
-use Rattle.std.specs.Prelude.{◌≡◌, ℕ, ◌<◌, ◌≤◌, ◌⊎◌, Bool, List, [], length, Result, Ok, Err}
+use Rattle.std.specs.Prelude.{◌≡◌, ℕ, ◌<◌, ◌≤◌, Bool, List, [], length, Result, Ok, Err}
 use Rattle.futures.specs.declared.task.Poll.{Poll}
 use Rattle.futures.specs.declared.task.Poll.TheVariants.{Ready, Pending}
 use Rattle.piper_lines.specs.AtEnd.{AtEnd}
-use Rattle.piper_lines.specs.Frame.{frame_bytes, told_length}
+use Rattle.piper_lines.specs.Frame.{frame_bytes, TellsLength, IsBetweenFrames, IsInsideFrame}
 use Rattle.piper_lines.specs.declared.frame_reader.FrameAnswer.{FrameAnswer}
 use Rattle.piper_lines.specs.declared.frame_reader.FrameAnswer.TheVariants.{Frame, TooLong, Truncated, End}
 
@@ -16,16 +16,17 @@ handed (Ready (Ok End)) frame = []
 handed (Ready (Err e)) frame = []
 handed Pending frame = []
 
--- by the answer: the frame that is handed out, and what is kept and has still to pass. What was taken of the body before stays
--- where the frame is too long, and is at most more elsewhere
-abbrev pub HandsFrame : {E : Type 0} → Poll (Result FrameAnswer E) → ℕ → List ℕ → List ℕ → List ℕ → List ℕ → ℕ → List ℕ → Bool → Type 0
+-- by the answer: the frame that is handed out, and what is kept and has still to pass. What
+-- was taken of the body before stays where the frame is too long, and is at most more elsewhere
+abbrev pub HandsFrame : {E : Type 0} → Poll (Result FrameAnswer E)
+    → ℕ → List ℕ → List ℕ → List ℕ → List ℕ → ℕ → List ℕ → Bool → Type 0
 HandsFrame (Ready (Ok Frame)) limit frame header before body skips known saw =
-    (length frame ≤ limit) × (header ≡ []) × (body ≡ []) × (skips ≡ 0)
+    (length frame ≤ limit) × IsBetweenFrames header body skips
 HandsFrame (Ready (Ok (TooLong n))) limit frame header before body skips known saw =
-    (frame ≡ []) × (limit < n) × (length header ≡ 4) × (told_length header ≡ n) × (body ≡ before) × (skips ≡ 0)
+    (frame ≡ []) × (limit < n) × TellsLength header n × (body ≡ before) × (skips ≡ 0)
 HandsFrame (Ready (Ok Truncated)) limit frame header before body skips known saw =
-    (frame ≡ []) × ((0 < length header) ⊎ (0 < skips)) × AtEnd known saw
+    (frame ≡ []) × IsInsideFrame header skips × AtEnd known saw
 HandsFrame (Ready (Ok End)) limit frame header before body skips known saw =
-    (frame ≡ []) × (header ≡ []) × (body ≡ []) × (skips ≡ 0) × AtEnd known saw
+    (frame ≡ []) × IsBetweenFrames header body skips × AtEnd known saw
 HandsFrame (Ready (Err e)) limit frame header before body skips known saw = frame ≡ []
 HandsFrame Pending limit frame header before body skips known saw = frame ≡ []

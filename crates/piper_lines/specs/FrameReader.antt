@@ -26,4 +26,5 @@ skips_of frames = frames.to_skip
 
 -- the frames, once a `&mut` to the reader has ended: they have the reader as it was left
 abbrev pub lends_reader : (R : RattleType) → MutBor (Frames R.Denot) → MutBor R.Denot → Fml
-lends_reader R frames reader = Lends (the_row R) R frames reader (λ (w : R.Denot). record frames.now { reader = w })
+lends_reader R frames reader =
+    Lends (the_row R) R frames reader (λ (w : R.Denot). record frames.now { reader = w })

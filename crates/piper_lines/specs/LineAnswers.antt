@@ -9,7 +9,8 @@ use Rattle.piper_lines.specs.Line.{LacksLf, IsLine}
 
 -- as many bytes as the limit without LF; or all that was kept before, where that is more
 abbrev pub IsTooLong : ℕ → List ℕ → List ℕ → Type 0
-IsTooLong limit before line = LacksLf line × ((length line ≡ limit) ⊎ ((line ≡ before) × (limit < length line)))
+IsTooLong limit before line =
+    LacksLf line × ((length line ≡ limit) ⊎ ((line ≡ before) × (limit < length line)))
 
 -- the reader ended
 abbrev pub at_end : LineAnswer → Bool
@@ -19,19 +20,28 @@ at_end Last = true
 at_end End = true
 
 -- by the answer: the bytes of a line, begun before, that are gathered now
-abbrev pub Gathers : {E : Type 0} → Poll (Result LineAnswer E) → ℕ → List ℕ → List ℕ → List ℕ → Bool → Type 0
+abbrev pub Gathers : {E : Type 0} → Poll (Result LineAnswer E)
+    → ℕ → List ℕ → List ℕ → List ℕ → Bool → Type 0
 Gathers (Ready (Ok Line)) limit before line known saw = IsLine line × (length line ≤ limit)
 Gathers (Ready (Ok TooLong)) limit before line known saw = IsTooLong limit before line
-Gathers (Ready (Ok Last)) limit before line known saw = LacksLf line × (0 < length line) × AtEnd known saw
+Gathers (Ready (Ok Last)) limit before line known saw =
+    LacksLf line × (0 < length line) × AtEnd known saw
 Gathers (Ready (Ok End)) limit before line known saw = (line ≡ []) × AtEnd known saw
 Gathers (Ready (Err e)) limit before line known saw = LacksLf line
 Gathers Pending limit before line known saw = LacksLf line × (length line < limit) × (known ≡ [])
 
--- by the answer: the bytes of a line, begun before, that are handed out now, and those that are kept
-abbrev pub Hands : {E : Type 0} → Poll (Result LineAnswer E) → ℕ → List ℕ → List ℕ → List ℕ → List ℕ → Bool → Type 0
-Hands (Ready (Ok Line)) limit before line kept known saw = IsLine line × (length line ≤ limit) × (kept ≡ [])
-Hands (Ready (Ok TooLong)) limit before line kept known saw = IsTooLong limit before line × (kept ≡ [])
-Hands (Ready (Ok Last)) limit before line kept known saw = LacksLf line × (0 < length line) × (kept ≡ []) × AtEnd known saw
-Hands (Ready (Ok End)) limit before line kept known saw = (line ≡ []) × (kept ≡ []) × AtEnd known saw
+-- by the answer: the bytes of a line, begun before,
+-- that are handed out now, and those that are kept
+abbrev pub Hands : {E : Type 0} → Poll (Result LineAnswer E)
+    → ℕ → List ℕ → List ℕ → List ℕ → List ℕ → Bool → Type 0
+Hands (Ready (Ok Line)) limit before line kept known saw =
+    IsLine line × (length line ≤ limit) × (kept ≡ [])
+Hands (Ready (Ok TooLong)) limit before line kept known saw =
+    IsTooLong limit before line × (kept ≡ [])
+Hands (Ready (Ok Last)) limit before line kept known saw =
+    LacksLf line × (0 < length line) × (kept ≡ []) × AtEnd known saw
+Hands (Ready (Ok End)) limit before line kept known saw =
+    (line ≡ []) × (kept ≡ []) × AtEnd known saw
 Hands (Ready (Err e)) limit before line kept known saw = (line ≡ []) × LacksLf kept
-Hands Pending limit before line kept known saw = (line ≡ []) × LacksLf kept × (length kept < limit) × (known ≡ [])
+Hands Pending limit before line kept known saw =
+    (line ≡ []) × LacksLf kept × (length kept < limit) × (known ≡ [])

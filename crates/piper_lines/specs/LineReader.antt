@@ -14,4 +14,5 @@ kept_of lines = lines.kept.items
 
 -- the lines, once a `&mut` to the reader has ended: they have the reader as it was left
 abbrev pub lends_reader : (R : RattleType) → MutBor (Lines R.Denot) → MutBor R.Denot → Fml
-lends_reader R lines reader = Lends (the_row R) R lines reader (λ (w : R.Denot). record lines.now { reader = w })
+lends_reader R lines reader =
+    Lends (the_row R) R lines reader (λ (w : R.Denot). record lines.now { reader = w })

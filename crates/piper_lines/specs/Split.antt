@@ -7,7 +7,8 @@ use Rattle.piper_lines.specs.Line.{LacksLf, IsLine}
 
 -- a whole line of at most `limit` bytes, or `limit` bytes of a longer one
 abbrev pub IsPiece : ℕ → List ℕ → Type 0
-IsPiece limit piece = (IsLine piece × (length piece ≤ limit)) ⊎ (LacksLf piece × (length piece ≡ limit))
+IsPiece limit piece =
+    (IsLine piece × (length piece ≤ limit)) ⊎ (LacksLf piece × (length piece ≡ limit))
 
 -- the text that these pieces make
 abbrev pub joined : List (Vec ℕ Global) → List ℕ
@@ -20,4 +21,5 @@ joined_frames bodies = flat_map (λ (body : Vec ℕ Global). frame_bytes body.it
 -- nothing was added but what fits
 abbrev pub Adds : (List ℕ → Type 0) → List (Vec ℕ Global) → List (Vec ℕ Global) → Type 0
 Adds Fits before after =
-    (added : List (Vec ℕ Global)) × (after ≡ before ++ added) × All (λ (piece : Vec ℕ Global). Fits piece.items) added
+    (added : List (Vec ℕ Global)) × (after ≡ before ++ added)
+    × All (λ (piece : Vec ℕ Global). Fits piece.items) added

@@ -6,7 +6,8 @@ use Rattle.piper.specs.Shared.{flag}
 use Rattle.piper.specs.declared.handles.Reader.{Reader}
 use Rattle.piper.specs.declared.handles.Writer.{Writer}
 
--- the reader a took the bytes xs, in this order, and is b now: an end of the same pipe, and what it saw of closed it keeps
+-- the reader a took the bytes xs, in this order, and is b now:
+-- an end of the same pipe, and what it saw of closed it keeps
 pub record Took {H : Type 0} (a : Reader H) (xs : List ℕ) (b : Reader H) : Type 0 where
   pub taken : b.end.taken ≡ a.end.taken ++ xs
   pub saw : flag a.end.saw ≤ flag b.end.saw
@@ -18,8 +19,9 @@ pub record AtEnd {H : Type 0} (reader : Reader H) : Type 0 where
   pub saw : reader.end.saw ≡ true
   pub known : reader.end.known ≡ []
 
--- the writer a was given the bytes xs, in this order, and is b now: an end of the same pipe. What it published of them is
--- their front, and all of them unless it saw the pipe closed; and none once it saw that
+-- the writer a was given the bytes xs, in this order, and is b now:
+-- an end of the same pipe. What it published of them is their front,
+-- and all of them unless it saw the pipe closed; and none once it saw that
 pub record Gave {H : Type 0} (a : Writer H) (xs : List ℕ) (b : Writer H) : Type 0 where
   pub published : List ℕ
   pub lost : List ℕ

@@ -21,10 +21,21 @@ unseen_before true true le e = absurd (true≢false e)
 unseen_before true false le e = absurd (not-suc-le-zero le)
 
 pub same_read_end : (a b c : ReadView) → SameReadEnd a b → SameReadEnd b c → SameReadEnd a c
-same_read_end a b c p q = record { ring = q.ring ∙ p.ring; capacity = q.capacity ∙ p.capacity; told = q.told ∙ p.told; told_shut = q.told_shut ∙ p.told_shut }
+same_read_end a b c p q =
+    record {
+      ring = q.ring ∙ p.ring;
+      capacity = q.capacity ∙ p.capacity;
+      told = q.told ∙ p.told;
+      told_shut = q.told_shut ∙ p.told_shut;
+    }
 
 pub same_write_end : (a b c : WriteView) → SameWriteEnd a b → SameWriteEnd b c → SameWriteEnd a c
-same_write_end a b c p q = record { ring = q.ring ∙ p.ring; capacity = q.capacity ∙ p.capacity; told = q.told ∙ p.told }
+same_write_end a b c p q =
+    record {
+      ring = q.ring ∙ p.ring;
+      capacity = q.capacity ∙ p.capacity;
+      told = q.told ∙ p.told;
+    }
 
 -- bytes joined on behind others
 pub joined_on : (us vs ws xs ys : List ℕ) → vs ≡ us ++ xs → ws ≡ vs ++ ys → ws ≡ us ++ (xs ++ ys)
@@ -39,7 +50,9 @@ took_nothing a =
       slots = refl;
     }
 
-pub took_in_order : {H : Type 0} (a : Reader H) (xs : List ℕ) (b : Reader H) (ys : List ℕ) (c : Reader H) → Took a xs b → Took b ys c → Took a (xs ++ ys) c
+pub took_in_order : {H : Type 0}
+    (a : Reader H) (xs : List ℕ) (b : Reader H) (ys : List ℕ) (c : Reader H)
+    → Took a xs b → Took b ys c → Took a (xs ++ ys) c
 took_in_order a xs b ys c p q =
     record {
       taken = joined_on a.end.taken b.end.taken c.end.taken xs ys p.taken q.taken;
@@ -63,26 +76,41 @@ gave_nothing a =
     }
 
 -- two pieces were given: of the first nothing was lost, or of the second nothing was published
-pub given_on : (saw : Bool) (xs ys us vs ws zs : List ℕ) → xs ≡ us ++ vs → ys ≡ ws ++ zs → (saw ≡ false → vs ≡ []) → (saw ≡ true → ws ≡ []) → xs ++ ys ≡ (us ++ ws) ++ (vs ++ zs)
+pub given_on : (saw : Bool) (xs ys us vs ws zs : List ℕ) → xs ≡ us ++ vs → ys ≡ ws ++ zs
+    → (saw ≡ false → vs ≡ []) → (saw ≡ true → ws ≡ [])
+    → xs ++ ys ≡ (us ++ ws) ++ (vs ++ zs)
 given_on false xs ys us vs ws zs p q all over =
     let none : vs ≡ [] = all refl in
-    ap₂ (λ ks ls. ks ++ ls) (p ∙ ap (λ ks. us ++ ks) none ∙ append-nil us) q ∙ sym (append_assoc us ws zs) ∙ ap (λ ks. (us ++ ws) ++ (ks ++ zs)) (sym none)
+    ap₂ (λ ks ls. ks ++ ls) (p ∙ ap (λ ks. us ++ ks) none ∙ append-nil us) q
+    ∙ sym (append_assoc us ws zs)
+    ∙ ap (λ ks. (us ++ ws) ++ (ks ++ zs)) (sym none)
 given_on true xs ys us vs ws zs p q all over =
     let none : ws ≡ [] = over refl in
-    ap₂ (λ ks ls. ks ++ ls) p (q ∙ ap (λ ks. ks ++ zs) none) ∙ append_assoc us vs zs ∙ ap (λ ks. ks ++ (vs ++ zs)) (sym (append-nil us)) ∙ ap (λ ks. (us ++ ks) ++ (vs ++ zs)) (sym none)
+    ap₂ (λ ks ls. ks ++ ls) p (q ∙ ap (λ ks. ks ++ zs) none)
+    ∙ append_assoc us vs zs
+    ∙ ap (λ ks. ks ++ (vs ++ zs)) (sym (append-nil us))
+    ∙ ap (λ ks. (us ++ ks) ++ (vs ++ zs)) (sym none)
 
 pub both_nil : (xs ys : List ℕ) → xs ≡ [] → ys ≡ [] → xs ++ ys ≡ []
 both_nil xs ys p q = ap₂ (λ ks ls. ks ++ ls) p q
 
-pub gave_in_order : {H : Type 0} (a : Writer H) (xs : List ℕ) (b : Writer H) (ys : List ℕ) (c : Writer H) → Gave a xs b → Gave b ys c → Gave a (xs ++ ys) c
+pub gave_in_order : {H : Type 0}
+    (a : Writer H) (xs : List ℕ) (b : Writer H) (ys : List ℕ) (c : Writer H)
+    → Gave a xs b → Gave b ys c → Gave a (xs ++ ys) c
 gave_in_order a xs b ys c p q =
     record {
       published = p.published ++ q.published;
       lost = p.lost ++ q.lost;
-      given = given_on b.end.saw xs ys p.published p.lost q.published q.lost p.given q.given p.all q.over;
+      given =
+          given_on b.end.saw xs ys p.published p.lost q.published q.lost
+          p.given q.given p.all q.over;
       sent = joined_on a.end.sent b.end.sent c.end.sent p.published q.published p.sent q.sent;
-      all = λ unseen. both_nil p.lost q.lost (p.all (unseen_before b.end.saw c.end.saw q.saw unseen)) (q.all unseen);
-      over = λ seen. both_nil p.published q.published (p.over seen) (q.over (seen_on a.end.saw b.end.saw p.saw seen));
+      all = λ unseen.
+          both_nil p.lost q.lost (p.all (unseen_before b.end.saw c.end.saw q.saw unseen))
+          (q.all unseen);
+      over = λ seen.
+          both_nil p.published q.published (p.over seen)
+          (q.over (seen_on a.end.saw b.end.saw p.saw seen));
       saw = le_trans p.saw q.saw;
       end = same_write_end a.end b.end c.end p.end q.end;
       slots = q.slots ∙ p.slots;
