@@ -233,7 +233,8 @@ pub fn get_all<O: Output + Drop>(
 /// How often an end that finds nothing to do lets the other thread go on before it looks again: the more often the shorter pieces are, as far as the ring has room. An end that came back at once would stand at the other's heels, and then both wait for the same cache line at each piece.
 pub fn yields(capacity: usize, chunk: usize) -> usize
     requires { 0 < chunk }
-    ensures { result ≡ min MOST_YIELDS (max 1 (min (AHEAD / chunk) (capacity / chunk / PIECES_A_YIELD))) }
+    ensures { result ≡ min MOST_YIELDS
+        (max 1 (min (AHEAD / chunk) (capacity / chunk / PIECES_A_YIELD))) }
 {
     let held = capacity / chunk;
     (AHEAD / chunk)

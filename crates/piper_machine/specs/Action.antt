@@ -1,4 +1,5 @@
--- The atomic steps of a side, by their kinds: what each changes, what it finds, and what is logged of it.
+-- The atomic steps of a side, by their kinds:
+-- what each changes, what it finds, and what is logged of it.
 use Rattle.std.specs.Prelude.{ℕ, ◌-◌, min, List, [], ◌∷◌, ◌++◌, take, drop, length, Bool, true, false, Option, None, Some, ◌==◌, is_some}
 use Rattle.piper_sides.specs.declared.calls.Side.{Side}
 use Rattle.piper_sides.specs.declared.calls.Side.TheVariants.{Reader, Writer}
@@ -92,7 +93,8 @@ performed side does.Yield p = p
 performed side does.CallDestination p = destination_called p
 performed side does.CallSource p = source_called p
 
--- what the step finds: the reader's count of unread bytes is that of its load of tail, the writer's that of its load of head
+-- what the step finds: the reader's count of unread bytes is
+-- that of its load of tail, the writer's that of its load of head
 abbrev pub found_by : Side → Action → Pipe → Found
 found_by Reader does.LoadTail p = unread (length p.unread)
 found_by Writer does.LoadHead p = unread (length p.unread)

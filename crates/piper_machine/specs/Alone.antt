@@ -1,4 +1,5 @@
--- What remains of a call from any point inside it, if the other side makes no step until it answers.
+-- What remains of a call from any point inside it,
+-- if the other side makes no step until it answers.
 use Rattle.std.specs.Prelude.{ℕ, ◌+◌, ◌-◌, ◌*◌, min, [], length, Bool, true, false, Option, None, Some, ◌==◌, Result, Ok}
 use Rattle.piper_sides.specs.declared.calls.Side.{Side}
 use Rattle.piper_sides.specs.declared.calls.Side.TheVariants.{Reader, Writer}
@@ -53,7 +54,8 @@ heard side does.Yield p =
     record p { woken = with_waker p.woken (yield_waker (call_of side p).context) }
 heard side action p = p
 
--- what the rounds of a copy answer: one without a context a count, and then neither end of it can fail
+-- what the rounds of a copy answer: one without a context a count,
+-- and then neither end of it can fail
 abbrev pub moved_answer : Form → Polled (Result ℕ Failed) → Answer
 moved_answer Try (Ready (Ok n)) = Count n
 moved_answer form copied = Copy copied
@@ -164,7 +166,8 @@ reader_remains at.StoreClosed p =
 abbrev pub reader_alone : ReadPoint → Pipe → Ended
 reader_alone point p = reader_remains point (record p { reader = at.Idle })
 
--- the most steps of the rounds that remain, where so many bytes are known: a round makes four, and a last one calls the destination
+-- the most steps of the rounds that remain, where so many bytes are known:
+-- a round makes four, and a last one calls the destination
 abbrev pub drain_steps : ℕ → ℕ
 drain_steps known = 1 + 4 * known
 
@@ -350,7 +353,8 @@ writer_remains on.WakeWriter p =
 abbrev pub writer_alone : WritePoint → Pipe → Ended
 writer_alone point p = writer_remains point (record p { writer = on.Idle })
 
--- the most steps of the rounds that remain, where so much room is known: a round makes five, and a last one calls the source
+-- the most steps of the rounds that remain, where so much room is known:
+-- a round makes five, and a last one calls the source
 abbrev pub fill_steps : ℕ → ℕ
 fill_steps room = 1 + 5 * room
 

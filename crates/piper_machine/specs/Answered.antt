@@ -1,4 +1,5 @@
--- What calls answer: over the log of a run, each side opens the calls of the list of steps, and what they move and answer is right.
+-- What calls answer: over the log of a run, each side opens the
+-- calls of the list of steps, and what they move and answer is right.
 use Rattle.std.specs.Prelude.{◌≡◌, ℕ, List, [], ◌∷◌, ◌++◌, Option, IsSomeAnd, ⊤}
 use Rattle.piper_sides.specs.declared.calls.Side.{Side}
 use Rattle.piper_sides.specs.declared.calls.Side.TheVariants.{Reader, Writer}

@@ -66,7 +66,8 @@ abbrev pub dropped_whole : Side → Pipe → Ended
 dropped_whole Reader p = answering Done (drop_reader (begun p))
 dropped_whole Writer p = answering Done (drop_writer (begun p))
 
--- what a call answers and leaves that is run whole, with these bytes in what a call of write_buf lends
+-- what a call answers and leaves that is run whole,
+-- with these bytes in what a call of write_buf lends
 abbrev pub whole : List ℕ → Call → Pipe → Ended
 whole lent (call.Query side query) p =
     answering (query_answer query p.capacity (unread_count p)) (begun p)
@@ -105,12 +106,14 @@ pub record IsMadeWhole (side : Side) (p : Pipe) (before : List Event) (q : Pipe)
   pub woken : names_of log ≡ run_whole.pipe.woken
   pub pipe : q ≡ record run_whole.pipe { woken = p.woken }
 
--- what a side knows behind the look of a call that is run alone: what it knew, or else all that there is
+-- what a side knows behind the look of a call that is run alone:
+-- what it knew, or else all that there is
 abbrev pub found_alone : Side → Pipe → ℕ
 found_alone Reader p = (reader_refreshed p).known
 found_alone Writer p = (writer_refreshed p).room
 
--- as soon as steps of its side alone leave that side without an open call, the call is made as if it were run whole, and in no more steps than it may make
+-- as soon as steps of its side alone leave that side without an open call,
+-- the call is made as if it were run whole, and in no more steps than it may make
 pub record IsWholeBySteps (c : Call) (p : Pipe) : Type 0 where
   pub made : (k : ℕ) (q : Pipe) (before after : List Event) →
       let side = side_of c in

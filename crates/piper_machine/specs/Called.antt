@@ -42,8 +42,8 @@ calls_from side n [] p before q after run = n
 calls_from side n (s ∷ ss) p before q after run =
     calls_from side (called side p s n) ss run.0 run.1 q after run.3
 
--- in whichever way these steps lead to this pipe and log: once for each byte that the look of the call found, or for each free place,
--- and once more
+-- in whichever way these steps lead to this pipe and log:
+-- once for each byte that the look of the call found, or for each free place, and once more
 abbrev pub AreCallsCounted : ℕ → List Step → Pipe → List Event → Type 0
 AreCallsCounted capacity steps p events =
     (side : Side) (run : Runs (fresh capacity) [] steps p events)

@@ -1,4 +1,5 @@
--- The end: a close by the writer, or a side that is dropped. The unread bytes stay, and a pipe once closed stays closed.
+-- The end: a close by the writer, or a side that is dropped.
+-- The unread bytes stay, and a pipe once closed stays closed.
 use Rattle.std.specs.Prelude.{true, []}
 use Rattle.piper_sides.specs.declared.table.ReadPoint.TheVariants as at
 use Rattle.piper_sides.specs.declared.table.WritePoint.TheVariants as on

@@ -10,8 +10,8 @@ use Rattle.piper_sides.specs.declared.events.Event.{Event}
 use Rattle.piper_sides.specs.Call.{side_of}
 use Rattle.piper_machine.specs.Known.{knowledge_of}
 
--- the most steps from the opening of a call to its answer, where its look leaves so many bytes known, or so much room: a copy moves
--- no more than that, and at least a byte a round
+-- the most steps from the opening of a call to its answer, where its look leaves so many
+-- bytes known, or so much room: a copy moves no more than that, and at least a byte a round
 abbrev pub most_steps : ℕ → Call → ℕ
 most_steps found (call.Query side query) = 2
 most_steps found (call.IsClosed side) = 1

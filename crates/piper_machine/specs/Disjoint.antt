@@ -1,4 +1,5 @@
--- Disjoint places: what the reader holds and what the writer holds share no place, and the writer leaves what the reader holds.
+-- Disjoint places: what the reader holds and what the writer holds
+-- share no place, and the writer leaves what the reader holds.
 use Rattle.std.specs.Prelude.{◌≡◌, ℕ, take}
 use Rattle.piper_sides.specs.declared.calls.Side.TheVariants.{Writer}
 use Rattle.piper_sides.specs.declared.calls.Step.{Step}

@@ -1,4 +1,5 @@
--- What a call saw of the close, and where a call of the reader finds the end: it looks at closed and finds it, and behind that it finds no byte.
+-- What a call saw of the close, and where a call of the reader finds the end:
+-- it looks at closed and finds it, and behind that it finds no byte.
 use Rattle.std.specs.Prelude.{List, [], ◌∷◌, Bool, false}
 use Rattle.piper_sides.specs.declared.calls.Side.{Side}
 use Rattle.piper_sides.specs.declared.calls.Side.TheVariants.{Reader, Writer}

@@ -21,7 +21,8 @@ IsEndAnswer (Copy answer) = (answer ≡ Ready (Ok 0)) ⊎ (answer ≡ Memory)
 IsEndAnswer (Count number) = (number ≡ 0)
 IsEndAnswer answer = ⊤
 
--- behind it no byte is published or consumed, and each look of either side finds a closed pipe and no byte
+-- behind it no byte is published or consumed,
+-- and each look of either side finds a closed pipe and no byte
 abbrev pub IsBehindEnd : Event → Type 0
 IsBehindEnd (Published bytes) = (bytes ≡ [])
 IsBehindEnd (Consumed bytes) = (bytes ≡ [])

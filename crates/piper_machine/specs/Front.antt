@@ -1,4 +1,5 @@
--- Every front of a run: at each moment, between any two steps, the laws hold of the pipe and log that the steps so far led to.
+-- Every front of a run: at each moment, between any two steps,
+-- the laws hold of the pipe and log that the steps so far led to.
 use Rattle.std.specs.Prelude.{ℕ, List, [], take, drop}
 use Rattle.piper_sides.specs.declared.calls.Step.{Step}
 use Rattle.piper_sides.specs.declared.events.Event.{Event}

@@ -7,7 +7,8 @@ use Rattle.piper_sides.specs.declared.events.Answer.TheVariants.{Poll}
 use Rattle.piper_sides.specs.declared.polling.Polled.TheVariants.{Ready}
 use Rattle.piper_machine.specs.History.{History, unwritten, history_after}
 
--- where an answer is false, the last look of the call found nothing, and the pipe was closed before it
+-- where an answer is false, the last look of the call found nothing,
+-- and the pipe was closed before it
 abbrev pub IsHonestAnswer : History → Event → Type 0
 IsHonestAnswer h (Answered Reader (Poll (Ready false))) =
     (h.last_look ≡ Some (record { count = 0; is_after_close = true }))

@@ -1,4 +1,5 @@
--- What a side knows of the other, as its own events tell: the reader how many bytes are unread, the writer how much room there is.
+-- What a side knows of the other, as its own events tell:
+-- the reader how many bytes are unread, the writer how much room there is.
 use Rattle.std.specs.Prelude.{◌≡◌, ℕ, ◌-◌, ◌≤◌, List, [], ◌∷◌, length, Bool, true, false}
 use Rattle.piper_sides.specs.declared.calls.Side.{Side}
 use Rattle.piper_sides.specs.declared.calls.Side.TheVariants.{Reader, Writer}

@@ -8,8 +8,8 @@ use Rattle.piper_machine.specs.Places.{places_left}
 abbrev pub lend_limit : ℕ → Pipe → ℕ
 lend_limit most p = min most (min p.room (places_left p))
 
--- of a pipe that is not shut at least the lesser of that and 4096 is lent, and so something where something is asked for and
--- room is known; of a shut one nothing
+-- of a pipe that is not shut at least the lesser of that and 4096 is lent,
+-- and so something where something is asked for and room is known; of a shut one nothing
 pub record Lendable (most : ℕ) (p : Pipe) (count : ℕ) : Type 0 where
   pub at_most : count ≤ lend_limit most p
   pub at_least : p.is_shut ≡ false → min 4096 (lend_limit most p) ≤ count

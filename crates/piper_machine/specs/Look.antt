@@ -1,4 +1,5 @@
--- The look that a polling or copying call begins with, run whole: is there something to read, or room to write?
+-- The look that a polling or copying call begins with,
+-- run whole: is there something to read, or room to write?
 use Rattle.std.specs.Prelude.{ℕ, Bool, true, false, Option, None, Some, ◌==◌}
 use Rattle.piper_sides.specs.declared.polling.Context.{Context}
 use Rattle.piper_sides.specs.declared.polling.Luck.{Luck}

@@ -1,4 +1,5 @@
--- What a call of each kind may move, and what it may answer: a query by what it looked at, a copy by the bytes that it moved.
+-- What a call of each kind may move, and what it may answer:
+-- a query by what it looked at, a copy by the bytes that it moved.
 use Rattle.std.specs.Prelude.{◌≡◌, ℕ, ◌+◌, ◌≤◌, List, [], ◌∷◌, ◌++◌, length, Bool, true, false, Option, None, Some, Result, Ok, Err, ⊤}
 use Rattle.piper_sides.specs.declared.calls.Side.{Side}
 use Rattle.piper_sides.specs.declared.calls.Side.TheVariants.{Reader, Writer}
@@ -45,7 +46,8 @@ MayHaveMoved (call.PollFill waker luck acts) moved = IsBeginning moved (bytes_gi
 MayHaveMoved (call.Produced n) moved = length moved ≡ n
 MayHaveMoved c moved = ⊥
 
--- A query looks at the head and then at the tail. The reader answers what it found last, the writer what it found first.
+-- A query looks at the head and then at the tail.
+-- The reader answers what it found last, the writer what it found first.
 abbrev pub number_found : Side → List Seen → Option ℕ
 number_found Reader (Tail number ∷ Head before ∷ []) = Some number
 number_found Writer (Tail later ∷ Head number ∷ []) = Some number
@@ -76,8 +78,8 @@ first_look [] = None
 first_look (look ∷ []) = Some look
 first_look (later ∷ look ∷ looks) = first_look (look ∷ looks)
 
--- A fill counts the bytes that it published. Where it found the pipe closed behind a round, it counts what its source gave in that round
--- too; where it found it closed at first, it counts none.
+-- A fill counts the bytes that it published. Where it found the pipe closed behind a round, it
+-- counts what its source gave in that round too; where it found it closed at first, it counts none.
 pub record IsFilled (handed : List ℕ) (looks : List Seen) (moved : List ℕ)
     (count : ℕ) : Type 0 where
   pub published : found_closed looks ≡ false → count ≡ length moved

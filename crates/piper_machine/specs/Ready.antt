@@ -1,4 +1,5 @@
--- A poll that answers true leaves its side something to do: a byte that the reader knows of, or room that the writer knows of.
+-- A poll that answers true leaves its side something to do:
+-- a byte that the reader knows of, or room that the writer knows of.
 use Rattle.std.specs.Prelude.{ℕ, ◌≤◌, List, [], ◌∷◌, true, ⊤}
 use Rattle.piper_sides.specs.declared.calls.Side.{Side}
 use Rattle.piper_sides.specs.declared.calls.Side.TheVariants.{Reader, Writer}

@@ -1,5 +1,5 @@
--- No forgotten waiter: a side that was told to wait was called since, or has nothing to do and its waker in its slot, or is about to
--- be called.
+-- No forgotten waiter: a side that was told to wait was called since,
+-- or has nothing to do and its waker in its slot, or is about to be called.
 use Rattle.std.specs.Prelude.{◌≡◌, ◌⊎◌, List, true, Some}
 use Rattle.piper_sides.specs.declared.calls.Side.{Side}
 use Rattle.piper_sides.specs.declared.calls.Side.TheVariants.{Reader, Writer}
@@ -21,7 +21,8 @@ WasCalled w = (w.is_woken ≡ true)
 abbrev pub StandsReady : Side → Pipe → Wait → Type 0
 StandsReady side p w = (waker_in side p ≡ Some w.handed) × IsBlocked side p
 
--- the other side stands between a store and its wake: the waker is in the slot that it empties, or in its hand
+-- the other side stands between a store and its wake:
+-- the waker is in the slot that it empties, or in its hand
 abbrev pub IsAboutToBeCalled : Side → Pipe → Wait → Type 0
 IsAboutToBeCalled side p w =
     (stands_between side p ≡ true)

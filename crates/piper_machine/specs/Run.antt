@@ -33,7 +33,8 @@ abbrev pub asks_for_memory : Step → Bool
 asks_for_memory (Put offset byte) = false
 asks_for_memory s = true
 
--- why a step is refused: by the pipe, or for want of the memory that it asks for where the pipe accepts it
+-- why a step is refused: by the pipe,
+-- or for want of the memory that it asks for where the pipe accepts it
 abbrev pub IsRefusal : Step → Pipe → StepRefusal → Type 0
 IsRefusal s p Memory = (refusal_of s p ≡ None) × (asks_for_memory s ≡ true)
 IsRefusal s p r = refusal_of s p ≡ Some r

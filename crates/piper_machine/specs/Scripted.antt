@@ -13,7 +13,8 @@ use Rattle.piper_sides.specs.declared.polling.Context.{Context}
 use Rattle.piper_machine.specs.Look.{reader_look, writer_look}
 use Rattle.piper_machine.specs.Copy.{Copied, answered, copied_after, filled, drained, unlent}
 
--- the bytes that a source gives before its end: a failure, an act of no bytes, or the end of its script
+-- the bytes that a source gives before its end:
+-- a failure, an act of no bytes, or the end of its script
 abbrev pub bytes_given : List SourceAct → List ℕ
 bytes_given [] = []
 bytes_given (source.Fail ∷ acts) = []

@@ -1,4 +1,5 @@
--- One step of a run: a call is opened, a side makes its next step, or a byte is put into what is lent.
+-- One step of a run: a call is opened,
+-- a side makes its next step, or a byte is put into what is lent.
 use Rattle.std.specs.Prelude.{ℕ, List, [], ◌∷◌, ◌++◌, length, slice_set, Bool, true, Option, None, Some, ◌==◌, ⊤}
 use Rattle.piper_sides.specs.declared.calls.Side.{Side}
 use Rattle.piper_sides.specs.declared.calls.Side.TheVariants.{Reader, Writer}

@@ -1,4 +1,5 @@
--- What the log tells of a side's open call: which call it is, what it looked at, and the bytes that it moved.
+-- What the log tells of a side's open call: which call it is,
+-- what it looked at, and the bytes that it moved.
 use Rattle.std.specs.Prelude.{ℕ, List, [], ◌∷◌, ◌++◌, Bool, true, false, Option, None, Some}
 use Rattle.piper_sides.specs.declared.calls.Side.{Side}
 use Rattle.piper_sides.specs.declared.calls.Side.TheVariants.{Reader, Writer}
@@ -12,7 +13,8 @@ use Rattle.piper_sides.specs.Call.{side_of}
 use Rattle.piper_machine.specs.Counts.{is_same}
 
 pub record Told : Type 0 where
-  -- the calls that the side has still to open, in order: the log tells kind and waker of a call, the list of steps its arguments
+  -- the calls that the side has still to open, in order:
+  -- the log tells kind and waker of a call, the list of steps its arguments
   pub coming : List Call
   -- the open call, if there is one
   pub call : Option Call

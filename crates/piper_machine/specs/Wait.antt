@@ -1,5 +1,5 @@
--- What a log tells of a side's last polling call: which waker it was handed, whether that was called since, and whether the side was
--- told to wait.
+-- What a log tells of a side's last polling call: which waker it was handed,
+-- whether that was called since, and whether the side was told to wait.
 use Rattle.std.specs.Prelude.{ℕ, List, [], ◌∷◌, Bool, true, false, Option, None, Some, if◌then◌else◌, ◌==◌}
 use Rattle.piper_sides.specs.declared.calls.Side.{Side}
 use Rattle.piper_sides.specs.declared.events.Answer.{Answer}
