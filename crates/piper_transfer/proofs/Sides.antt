@@ -4,6 +4,7 @@ use Rattle.std.proofs.KnownBytes.{Consumes-nil, Consumes-trans, Appends-nil, App
 use Rattle.std.specs.Io.KnownBytes.{Keeps}
 use Rattle.piper.specs.ReadView.{ReadView}
 use Rattle.piper.specs.WriteView.{WriteView}
+use Rattle.piper.specs.Looks.{ReaderLooked, WriterLooked}
 use Rattle.piper_transfer.specs.Transfer.{Fed, PouredAll}
 
 pub fed_none : (i : Option (List ℕ)) (a : WriteView) → Fed i i a a
@@ -21,6 +22,13 @@ fed_more i j k a b c p q = record {
 pub fed_same : (i j : Option (List ℕ)) (a b c : WriteView) → Fed i j a b → c.sent ≡ b.sent → c.ring ≡ b.ring → Fed i j a c
 fed_same i j a b c p sent ring = record { given = p.given; consumed = p.consumed; sent = sent ∙ p.sent; ring = ring ∙ p.ring }
 
+-- what was given before a look, and behind it
+pub fed_looked : (i j : Option (List ℕ)) (a b c : WriteView) → Fed i j a b → WriterLooked b c → Fed i j a c
+fed_looked i j a b c p look = fed_same i j a b c p look.sent look.end.ring
+
+pub fed_round : (i j k : Option (List ℕ)) (a b c d : WriteView) → Fed i j a b → WriterLooked b c → Fed j k c d → Fed i k a d
+fed_round i j k a b c d p look q = fed_more i j k a c d (fed_looked i j a b c p look) q
+
 pub poured_none : (i : Option (List ℕ)) (a : ReadView) → PouredAll i i a a
 poured_none i a = record { written = []; appended = Appends-nil i; taken = sym (append-nil a.taken); ring = refl }
 
@@ -34,6 +42,13 @@ poured_more i j k a b c p q = record {
 
 pub poured_same : (i j : Option (List ℕ)) (a b c : ReadView) → PouredAll i j a b → c.taken ≡ b.taken → c.ring ≡ b.ring → PouredAll i j a c
 poured_same i j a b c p taken ring = record { written = p.written; appended = p.appended; taken = taken ∙ p.taken; ring = ring ∙ p.ring }
+
+-- what was written before a look, and behind it
+pub poured_looked : (i j : Option (List ℕ)) (a b c : ReadView) → PouredAll i j a b → ReaderLooked b c → PouredAll i j a c
+poured_looked i j a b c p look = poured_same i j a b c p look.taken look.end.ring
+
+pub poured_round : (i j k : Option (List ℕ)) (a b c d : ReadView) → PouredAll i j a b → ReaderLooked b c → PouredAll j k c d → PouredAll i k a d
+poured_round i j k a b c d p look q = poured_more i j k a c d (poured_looked i j a b c p look) q
 
 -- an output that keeps what it has, as where it is flushed
 pub poured_kept : (i j k : Option (List ℕ)) (a b : ReadView) → PouredAll i j a b → Keeps j k → PouredAll i k a b

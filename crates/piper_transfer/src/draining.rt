@@ -52,7 +52,6 @@ fn give_up<H: Wait + Clone + Drop>(reader: &mut Reader<H>, meter: &Meter)
     reader.consume(known);
 }
 
-#[tactic(auto, using(crate::proofs::Sides::poured_none, crate::proofs::Sides::poured_more))]
 fn drain_in_turns<R, D, H>(
     rt: &R,
     turns: &Turns,
@@ -85,7 +84,6 @@ where
 }
 
 // Goes on until no byte is known, or the side has ended.
-#[tactic(auto, using(crate::proofs::Sides::poured_none, crate::proofs::Sides::poured_more, crate::proofs::Sides::poured_same))]
 fn drain_turn<R, D, H>(
     rt: &R,
     cx: &mut Context<'_>,
@@ -118,7 +116,6 @@ where
 }
 
 /// Writes the bytes that the reader knows of to the output, and flushes it.
-#[tactic(auto, using(crate::proofs::Sides::poured_none, crate::proofs::Sides::poured_more, crate::proofs::Sides::poured_kept))]
 pub(crate) fn drain_known<R, D, H>(
     rt: &R,
     reader: &mut Reader<H>,

@@ -36,7 +36,6 @@ where
     fill_in_turns(rt, &input.turns, source, &mut input.writer, chunk, meter)
 }
 
-#[tactic(auto, using(crate::proofs::Sides::fed_none, crate::proofs::Sides::fed_more))]
 fn fill_in_turns<R, S, H>(
     rt: &R,
     turns: &Turns,
@@ -71,7 +70,6 @@ where
 }
 
 // Goes on until there is no room, or the side has ended; then the pipe is closed.
-#[tactic(auto, using(crate::proofs::Sides::fed_none, crate::proofs::Sides::fed_more, crate::proofs::Sides::fed_same))]
 fn fill_turn<R, S, H>(
     rt: &R,
     cx: &mut Context<'_>,

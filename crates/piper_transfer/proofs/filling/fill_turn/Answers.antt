@@ -1,0 +1,45 @@
+-- What the input gave before a look, and what it gives behind it.
+use Rattle.std.proofs.Common.{◌∙◌}
+use Rattle.piper_transfer.proofs.Sides.{fed_none, fed_same, fed_looked, fed_round}
+use Rattle.piper_transfer.proofs.filling.fill_turn.Goals as goal
+
+pub loop-init : goal.loop-init
+loop-init g c = (tt, tt, fed_none _ _, c.requires.is_open)
+
+pub returns-then-is_output_over-clause-fed : goal.returns-then-is_output_over-clause-fed
+returns-then-is_output_over-clause-fed g c = fed_same _ _ _ _ _ c.loop.invariant.2 c.close.ensures.sent c.close.ensures.ring
+
+pub returns-in-Pending-clause-fed : goal.returns-in-Pending-clause-fed
+returns-in-Pending-clause-fed g c = fed_looked _ _ _ _ _ c.loop.invariant.2 c.poll.ensures.looked
+
+pub returns-in-Ready-Ok-false-clause-fed : goal.returns-in-Ready-Ok-false-clause-fed
+returns-in-Ready-Ok-false-clause-fed g c =
+    let looked = c.poll.ensures.looked in
+    let closed = c.close-in-Ready-Ok-false.ensures in
+    fed_same _ _ _ _ _ c.loop.invariant.2 (closed.sent ∙ looked.sent) (closed.ring ∙ looked.end.ring)
+
+pub returns-in-Ready-Err-clause-fed : goal.returns-in-Ready-Err-clause-fed
+returns-in-Ready-Err-clause-fed g c =
+    let looked = c.poll.ensures.looked in
+    let closed = c.close-in-Ready-Err.ensures in
+    fed_same _ _ _ _ _ c.loop.invariant.2 (closed.sent ∙ looked.sent) (closed.ring ∙ looked.end.ring)
+
+pub returns-in-Ok-eq0-clause-fed : goal.returns-in-Ok-eq0-clause-fed
+returns-in-Ok-eq0-clause-fed g c =
+    let read = fed_round _ _ _ _ _ _ _ c.loop.invariant.2 c.poll.ensures.looked c.read_chunk.ensures.fed in
+    let closed = c.close-in-Ok-eq0.ensures in
+    fed_same _ _ _ _ _ read closed.sent closed.ring
+
+pub returns-in-Err-2-clause-fed : goal.returns-in-Err-2-clause-fed
+returns-in-Err-2-clause-fed g c =
+    let read = fed_round _ _ _ _ _ _ _ c.loop.invariant.2 c.poll.ensures.looked c.read_chunk.ensures.fed in
+    let closed = c.close-in-Err-2.ensures in
+    fed_same _ _ _ _ _ read closed.sent closed.ring
+
+pub loop-preserved-in-Ok : goal.loop-preserved-in-Ok
+loop-preserved-in-Ok g c =
+    (tt, tt, fed_round _ _ _ _ _ _ _ c.loop.invariant.2 c.poll.ensures.looked c.read_chunk.ensures.fed, c.read_chunk.ensures.is_open)
+
+pub loop-preserved : goal.loop-preserved
+loop-preserved g c =
+    (tt, tt, fed_round _ _ _ _ _ _ _ c.loop.invariant.2 c.poll.ensures.looked c.read_chunk.ensures.fed, c.read_chunk.ensures.is_open)
