@@ -54,8 +54,10 @@ fn what_came_before_a_failed_read_goes_out(rt: HostRuntime) {
         let kind = ErrorKind::Other;
         let mut input = Input::new(TOTAL, Fault { call, kind });
         let mut output = Output::new(NEVER);
-        let moved = transfer(&rt, &mut input, &mut output, sizes(), &Meter::new());
+        let meter = Meter::new();
+        let moved = transfer(&rt, &mut input, &mut output, sizes(), &meter);
         assert!(rt; how_it_ended(moved) == Ended::InputFailed, "{call}");
+        assert!(rt; meter.input.bytes() == input.given, "{call}");
         assert!(rt; input.calls == call + 1, "{call}");
         assert!(rt; output.taken == input.given && output.is_right, "{call}");
     }
@@ -67,8 +69,10 @@ fn a_failed_write_ends_the_transfer(rt: HostRuntime) {
         let kind = ErrorKind::BrokenPipe;
         let mut input = Input::new(TOTAL, NEVER);
         let mut output = Output::new(Fault { call, kind });
-        let moved = transfer(&rt, &mut input, &mut output, sizes(), &Meter::new());
+        let meter = Meter::new();
+        let moved = transfer(&rt, &mut input, &mut output, sizes(), &meter);
         assert!(rt; how_it_ended(moved) == Ended::OutputFailed, "{call}");
+        assert!(rt; meter.output.bytes() == output.taken, "{call}");
         assert!(rt; output.calls == call + 1, "{call}");
         assert!(rt; output.taken <= input.given && output.is_right, "{call}");
         assert!(rt; input.given < TOTAL as u64, "{call}");
