@@ -1,5 +1,5 @@
 -- Each step keeps what is told of both sides' calls, and what they move and answer is right.
-use Rattle.std.proofs.Common.{◌≡◌, ℕ, ◌≤◌, List, [], ◌∷◌, ◌++◌, length, false, None, Some, ◌==◌, refl, sym, ap, subst, ◌∙◌, arith, append-nil}
+use Rattle.std.proofs.Common.{◌≡◌, ℕ, ◌≤◌, List, [], ◌∷◌, ◌++◌, length, None, Some, ◌==◌, refl, sym, ap, subst, ◌∙◌, arith}
 use Rattle.piper_sides.specs.declared.calls.Side.{Side}
 use Rattle.piper_sides.specs.declared.calls.Side.TheVariants.{Reader, Writer}
 use Rattle.piper_sides.specs.declared.calls.Call.{Call}
@@ -9,7 +9,6 @@ use Rattle.piper_sides.specs.declared.calls.Step.TheVariants.{Begin, Go, Put}
 use Rattle.piper_sides.specs.declared.events.Answer.TheVariants as answer
 use Rattle.piper_sides.specs.declared.events.Event.{Event}
 use Rattle.piper_sides.specs.declared.events.Event.TheVariants.{Began}
-use Rattle.piper_sides.specs.declared.scripted.SourceAct.TheVariants as source
 use Rattle.piper_sides.specs.declared.table.AfterWrite.TheVariants as behind
 use Rattle.piper_sides.specs.declared.table.Form.TheVariants.{Try, Polling}
 use Rattle.piper_sides.specs.declared.table.Purpose.TheVariants as purpose
@@ -23,7 +22,6 @@ use Rattle.piper_sides.specs.Table.{read_action, write_action}
 use Rattle.piper_machine.specs.declared.destination.Destination.TheVariants.{Slice, Acts}
 use Rattle.piper_machine.specs.Pipe.{Pipe, fresh}
 use Rattle.piper_machine.specs.Lend.{Lendable}
-use Rattle.piper_machine.specs.Scripted.{bytes_given, ends_in_failure}
 use Rattle.piper_machine.specs.Refusal.{refusal_of}
 use Rattle.piper_machine.specs.Sound.{IsSound}
 use Rattle.piper_machine.specs.Action.{performed, logged_of}
@@ -31,6 +29,7 @@ use Rattle.piper_machine.specs.Step.{Stepped, stepped, went, opened, offering, M
 use Rattle.piper_machine.specs.Run.{Made}
 use Rattle.piper_machine.specs.Told.{Told, untold, calls_of, told_next, told_from}
 use Rattle.piper_machine.specs.Answered.{IsNext, AreRightFrom, AreAnswered}
+use Rattle.piper_machine.proofs.Whole.{given-slice, failure-slice}
 use Rattle.piper_machine.proofs.Counting.{reader_never-tail, writer_never-head}
 use Rattle.piper_machine.proofs.Remembering.{writer-idle}
 use Rattle.piper_machine.proofs.Telling.{told-append, right-append, leaves-append, writer-logs, reader-logs, writer_answer-leaves, reader_answer-leaves, coming-kept, coming-answered}
@@ -73,15 +72,6 @@ module _ (capacity : ℕ) (c : Call) (steps : List Step) (t : Told) (p : Pipe) w
       let told = told_opening Writer c steps t coming in
       ((is_next c (calls_of Writer steps) t coming, tt), record { coming = ap (λ (u : Told). u.coming) told; stands = subst (λ (u : Told). WriterAt capacity p.writer p.source p.lent u) (sym told) stands })
 
--- a slice of bytes as a source
-given_slice : (bytes : List ℕ) → bytes_given (source.Bytes bytes ∷ []) ≡ bytes
-given_slice [] = refl
-given_slice (byte ∷ bytes) = append-nil (byte ∷ bytes)
-
-slice_fails : (bytes : List ℕ) → ends_in_failure (source.Bytes bytes ∷ []) ≡ false
-slice_fails [] = refl
-slice_fails (byte ∷ bytes) = refl
-
 -- a call is opened
 
 begin-reader : (lent : List ℕ) (c : Call) (p : Pipe) (steps : List Step) (t : Told) → IsTold p.capacity Reader p (Begin c ∷ steps) t → Keeps p.capacity Reader steps (stepped lent (Begin c) p) t
@@ -123,10 +113,10 @@ begin-writer lent (call.Poll Writer waker luck) p steps t may accepted h =
     writer-begins p.capacity c steps t (opened lent c p) h.coming (record { poll = c; is = refl; polls = tt })
 begin-writer lent (call.TryFill bytes) p steps t may accepted h =
     let c = call.TryFill bytes in
-    writer-begins p.capacity c steps t (opened lent c p) h.coming (record { fill = c; is = refl; fills = (given_slice bytes, slice_fails bytes); count = refl; found = refl })
+    writer-begins p.capacity c steps t (opened lent c p) h.coming (record { fill = c; is = refl; fills = (given-slice bytes, failure-slice bytes); count = refl; found = refl })
 begin-writer lent (call.PollFillBytes waker luck bytes) p steps t may accepted h =
     let c = call.PollFillBytes waker luck bytes in
-    writer-begins p.capacity c steps t (opened lent c p) h.coming (record { fill = c; is = refl; fills = (given_slice bytes, slice_fails bytes); count = refl; found = refl })
+    writer-begins p.capacity c steps t (opened lent c p) h.coming (record { fill = c; is = refl; fills = (given-slice bytes, failure-slice bytes); count = refl; found = refl })
 begin-writer lent (call.PollFill waker luck acts) p steps t may accepted h =
     let c = call.PollFill waker luck acts in
     writer-begins p.capacity c steps t (opened lent c p) h.coming (record { fill = c; is = refl; fills = (refl, refl); count = refl; found = refl })

@@ -1,13 +1,15 @@
 -- A drain run whole: its destination stays with the caller, and each step is that of a call which holds this destination.
-use Rattle.std.proofs.Common.{◌≡◌, ℕ, ◌+◌, ◌-◌, ◌<◌, ◌≤◌, min, List, [], ◌∷◌, ◌++◌, take, drop, length, Bool, true, false, Option, None, Some, ◌==◌, is_some, refl, sym, ap, subst, ◌∙◌, arith, length-append, length-drop}
+use Rattle.std.proofs.Common.{◌≡◌, ℕ, ◌+◌, ◌-◌, ◌<◌, ◌≤◌, min, List, [], ◌∷◌, ◌++◌, take, drop, length, Bool, true, false, Option, None, Some, ◌==◌, is_some, refl, sym, ap, subst, ◌∙◌, arith, length-append, length-drop, length-take}
 use Rattle.std.proofs.lemmas.Bool.Decides.{nat_tests}
 use Rattle.std.proofs.lemmas.List.{drop-drop}
+use borrow.Rule.Slice.PartMut.{put_mid}
 use Rattle.piper_sides.specs.declared.calls.Side.TheVariants.{Reader}
 use Rattle.piper_sides.specs.declared.calls.OpenCall.{OpenCall}
 use Rattle.piper_sides.specs.declared.calls.SideState.TheVariants.{Busy}
 use Rattle.piper_sides.specs.declared.events.Answer.{Answer}
 use Rattle.piper_sides.specs.declared.polling.Context.{Context}
 use Rattle.piper_sides.specs.declared.scripted.DestAct.TheVariants as dest
+use Rattle.piper_sides.specs.declared.table.Action.{Action}
 use Rattle.piper_sides.specs.declared.table.Action.TheVariants as does
 use Rattle.piper_sides.specs.declared.table.Form.{Form}
 use Rattle.piper_sides.specs.declared.table.Form.TheVariants.{Try, Polling}
@@ -17,7 +19,7 @@ use Rattle.piper_sides.specs.declared.table.ReadPoint.{ReadPoint}
 use Rattle.piper_sides.specs.declared.table.ReadPoint.TheVariants as at
 use Rattle.piper_sides.specs.Open.{is_granted}
 use Rattle.piper_sides.specs.Side.{head_store}
-use Rattle.piper_sides.specs.Table.{Found, Next, nothing, refreshed, granted, waker, moved, goes_on, read_action, read_after, reader_looks_for, reader_looked, reader_looked_again, reader_registered, reader_is_true, reader_moved, writer_taken}
+use Rattle.piper_sides.specs.Table.{Found, Next, nothing, refreshed, granted, waker, goes_on, read_action, read_after, reader_looks_for, reader_looked, reader_looked_again, reader_registered, reader_is_true, reader_moved, writer_taken}
 use Rattle.piper_machine.specs.declared.destination.Destination.{Destination}
 use Rattle.piper_machine.specs.declared.destination.Destination.TheVariants.{Slice, Acts}
 use Rattle.piper_machine.specs.Pipe.{Pipe, begun}
@@ -32,13 +34,13 @@ use Rattle.piper_sides.specs.declared.scripted.DestAct.{DestAct}
 use Rattle.piper_machine.specs.Round.{taken, found_of, left_of_acts, left_of_destination}
 use Rattle.piper_machine.specs.Refusal.{reader_state}
 use Rattle.piper_machine.specs.Action.{round_count, destination_called}
-use Rattle.piper_machine.specs.Step.{went, form_of, drain_opened, call_after, destination_after, drain_left, drain_answer}
+use Rattle.piper_machine.specs.Step.{Stepped, went, form_of, drain_opened, call_after, destination_after, drain_left, drain_answer}
 use Rattle.piper_machine.specs.Alone.{Ended, heard, is_draining, reader_alone}
 use Rattle.piper_machine.proofs.Alone.{reader_rest, reads_left, read_step}
 use Rattle.piper_machine.proofs.Copies.{drain-rest}
 use Rattle.piper_machine.proofs.Falling.{drain-falls}
 use Rattle.piper_machine.proofs.Standing.{IsSettled, ReaderStands, moved_of, reads-on, reader-settled, reader-stands}
-use Rattle.piper_machine.proofs.Rounds.{HasOneWake, one_wake-room, one_wake-none}
+use Rattle.piper_machine.proofs.Rounds.{next_part, HasOneWake, one_wake-room, one_wake-none}
 
 -- the pipe of a call that holds this destination
 abbrev pub placing : Destination → Pipe → Pipe
@@ -231,58 +233,114 @@ called destination found p q r answer calls draining found_is round =
     let kept : r.destination ≡ destination_after answer q.destination = ap (λ (v : Pipe). v.destination) round.after ∙ ap (λ (a : Option Answer). destination_after a q.destination) (sym round.answer_is) in
     gone-on p q r rest answer (read_step q.reader u).pipe pipe (settled-destination answer r.destination q.destination kept) (drained-by p u answer draining answer_is)
 
--- the next places of a slice
-pub slice-took : (size n : ℕ) (p q r : Pipe) (answer : Option Answer) → read_action q.reader ≡ does.CallDestination → Draining p (placing (Slice size) q) → n ≡ min size (round_count q)
-    → IsRound (moved n) q answer r → IsGoneOn p (Slice (size - n)) q answer r
-slice-took size n p q r answer calls draining count round =
-    subst (λ (k : ℕ). IsGoneOn p (Slice (size - k)) q answer r) (sym count) (called (Slice size) (moved n) p q r answer calls draining (ap moved (sym count)) round)
-
 -- the unread bytes: a store that is next gives them up
 no-store : (capacity : ℕ) (point : ReadPoint) (found : Found) → reader_state point ≡ Busy → moved_of found ≡ 0 → head_store (read_after capacity point found).point ≡ 0
 no-store capacity point found busy none = let store = (reads-on capacity point found busy).store in omega arith
-
-goes-unread : (point : ReadPoint) (p : Pipe) → is_draining point ≡ true → (read_action point ≡ does.CallDestination → ⊥) → let s = read_step point p in (s.pipe.unread ≡ drop (head_store point) p.unread) × (head_store s.pipe.reader ≡ 0)
-goes-unread (at.LookTail (purpose.Copy form)) p drains other = (refl, no-store p.capacity (at.LookTail (purpose.Copy form)) (refreshed (length p.unread == 0)) refl refl)
-goes-unread (at.LookRegister (purpose.Copy form)) p drains other = (refl, no-store p.capacity (at.LookRegister (purpose.Copy form)) (granted (is_granted p.reader_call.context)) refl refl)
-goes-unread (at.LookClosed (purpose.Copy form)) p drains other = (refl, refl)
-goes-unread (at.LookTailAgain (purpose.Copy form) was_closed) p drains other = (refl, no-store p.capacity (at.LookTailAgain (purpose.Copy form) was_closed) (refreshed (length p.unread == 0)) refl refl)
-goes-unread (at.LookTake (purpose.Copy form)) p drains other = (refl, no-store p.capacity (at.LookTake (purpose.Copy form)) nothing refl refl)
-goes-unread at.Yield p drains other = (refl, refl)
-goes-unread (at.CallDestination form sum) p drains other = absurd (other refl)
-goes-unread (at.StoreHead n (afterward.Round form sum)) p drains other = (refl, refl)
-goes-unread (at.TakeWriter (afterward.Round form sum)) p drains other = (refl, no-store p.capacity (at.TakeWriter (afterward.Round form sum)) (waker (is_some p.writer_waker)) refl refl)
-goes-unread (at.WakeWriter (afterward.Round form sum)) p drains other = (refl, refl)
-goes-unread point p drains other = absurd (cc)
-
-pub unread-kept : (q h r : Pipe) (bytes : List ℕ) → is_draining q.reader ≡ true → (read_action q.reader ≡ does.CallDestination → ⊥) → h ≡ heard Reader (read_action q.reader) q → r ≡ (went Reader h).pipe
-    → drop (head_store q.reader) q.unread ≡ bytes → (r.unread ≡ bytes) × (drop (head_store r.reader) r.unread ≡ bytes)
-unread-kept q h r bytes drains other hears after is =
-    let s = read_step q.reader q in
-    let pipe_is : r ≡ s.pipe = after ∙ ap (λ (v : Pipe). (went Reader v).pipe) hears in
-    let goes = goes-unread q.reader q drains other in
-    let unread : r.unread ≡ bytes = ap (λ (v : Pipe). v.unread) pipe_is ∙ goes.0 ∙ is in
-    let store : head_store r.reader ≡ 0 = ap (λ (v : Pipe). head_store v.reader) pipe_is ∙ goes.1 in
-    (unread, ap (λ (n : ℕ). drop n r.unread) store ∙ unread)
 
 pub calls-store : (point : ReadPoint) → read_action point ≡ does.CallDestination → head_store point ≡ 0
 calls-store (at.CallDestination form sum) calls = refl
 calls-store point calls = absurd (cc)
 
-moves-store : (none : Bool) (n : ℕ) (form : Form) (sum : ℕ) → (n == 0) ≡ none → (reader_moved none n form sum).answer ≡ None → head_store (reader_moved none n form sum).point ≡ n
-moves-store true n form sum test goes = absurd (cc)
-moves-store false n form sum test goes = refl
+-- how many bytes such a step takes in, where a slice has so many places left
+abbrev pub took : Action → ℕ → Pipe → ℕ
+took does.CallDestination size p = min size (round_count p)
+took action size p = 0
 
-pub round-store : (point : ReadPoint) (n capacity : ℕ) → read_action point ≡ does.CallDestination → (read_after capacity point (moved n)).answer ≡ None → head_store (read_after capacity point (moved n)).point ≡ n
-round-store (at.CallDestination form sum) n capacity calls goes = moves-store (n == 0) n form sum refl goes
-round-store point n capacity calls goes = absurd (cc)
+pub took-none : (action : Action) (size : ℕ) (p : Pipe) → (action ≡ does.CallDestination → ⊥) → took action size p ≡ 0
+took-none does.CallDestination size p other = absurd (other refl)
+took-none action size p other = refl
 
-moves-none : (none : Bool) (n : ℕ) (form : Form) (sum : ℕ) (answer : Answer) → (n == 0) ≡ none → (reader_moved none n form sum).answer ≡ Some answer → n ≡ 0
-moves-none true n form sum answer test ends = grind (arith, nat_tests)
-moves-none false n form sum answer test ends = absurd (cc)
+record Reads (store n size : ℕ) (unread : List ℕ) (s : Stepped) : Type 0 where
+  pub unread_is : drop (head_store s.pipe.reader) s.pipe.unread ≡ drop n (drop store unread)
+  pub ends : is_some s.answer ≡ true → head_store s.pipe.reader ≡ 0
+  pub destination : s.pipe.destination ≡ destination_after s.answer (Slice (size - n))
 
-pub round-none : (point : ReadPoint) (n capacity : ℕ) (answer : Answer) → read_action point ≡ does.CallDestination → (read_after capacity point (moved n)).answer ≡ Some answer → n ≡ 0
-round-none (at.CallDestination form sum) n capacity answer calls ends = moves-none (n == 0) n form sum answer refl ends
-round-none point n capacity answer calls ends = absurd (cc)
+reads-none : (store size : ℕ) (unread : List ℕ) (s : Stepped) → head_store s.pipe.reader ≡ 0 → s.pipe.unread ≡ drop store unread → s.pipe.destination ≡ destination_after s.answer (Slice size) → Reads store 0 size unread s
+reads-none store size unread s none is held =
+    let all : size - 0 ≡ size = omega arith in
+    record {
+      unread_is = ap (λ (k : ℕ). drop k s.pipe.unread) none ∙ is;
+      ends = λ ends. none;
+      destination = held ∙ ap (λ (k : ℕ). destination_after s.answer (Slice k)) (sym all);
+    }
+
+moves-read : (n : ℕ) (none : Bool) (form : Form) (sum : ℕ) (unread : List ℕ) → (n == 0) ≡ none → let next = reader_moved none n form sum in
+    (drop (head_store next.point) unread ≡ drop n unread) × (is_some next.answer ≡ true → head_store next.point ≡ 0)
+moves-read n true form sum unread test = let none : 0 ≡ n = grind (arith, nat_tests) in (ap (λ (k : ℕ). drop k unread) none, λ ends. refl)
+moves-read n false form sum unread test = (refl, λ ends. absurd (cc))
+
+reads : (point : ReadPoint) (size : ℕ) (p : Pipe) → is_draining point ≡ true → Reads (head_store point) (took (read_action point) size p) size p.unread (read_step point (placing (Slice size) p))
+reads (at.LookTail (purpose.Copy form)) size p drains = reads-none 0 size p.unread (read_step (at.LookTail (purpose.Copy form)) (placing (Slice size) p)) (no-store p.capacity (at.LookTail (purpose.Copy form)) (refreshed (length p.unread == 0)) refl refl) refl refl
+reads (at.LookRegister (purpose.Copy form)) size p drains = reads-none 0 size p.unread (read_step (at.LookRegister (purpose.Copy form)) (placing (Slice size) p)) (no-store p.capacity (at.LookRegister (purpose.Copy form)) (granted (is_granted p.reader_call.context)) refl refl) refl refl
+reads (at.LookClosed (purpose.Copy form)) size p drains = reads-none 0 size p.unread (read_step (at.LookClosed (purpose.Copy form)) (placing (Slice size) p)) refl refl refl
+reads (at.LookTailAgain (purpose.Copy form) was_closed) size p drains = reads-none 0 size p.unread (read_step (at.LookTailAgain (purpose.Copy form) was_closed) (placing (Slice size) p)) (no-store p.capacity (at.LookTailAgain (purpose.Copy form) was_closed) (refreshed (length p.unread == 0)) refl refl) refl refl
+reads (at.LookTake (purpose.Copy form)) size p drains = reads-none 0 size p.unread (read_step (at.LookTake (purpose.Copy form)) (placing (Slice size) p)) (no-store p.capacity (at.LookTake (purpose.Copy form)) nothing refl refl) refl refl
+reads at.Yield size p drains = reads-none 0 size p.unread (read_step at.Yield (placing (Slice size) p)) refl refl refl
+reads (at.CallDestination form sum) size p drains =
+    let n = min size (round_count p) in
+    let moved = moves-read n (n == 0) form sum p.unread refl in
+    record { unread_is = moved.0; ends = moved.1; destination = refl }
+reads (at.StoreHead n (afterward.Round form sum)) size p drains = reads-none n size p.unread (read_step (at.StoreHead n (afterward.Round form sum)) (placing (Slice size) p)) refl refl refl
+reads (at.TakeWriter (afterward.Round form sum)) size p drains = reads-none 0 size p.unread (read_step (at.TakeWriter (afterward.Round form sum)) (placing (Slice size) p)) (no-store p.capacity (at.TakeWriter (afterward.Round form sum)) (waker (is_some p.writer_waker)) refl refl) refl refl
+reads (at.WakeWriter (afterward.Round form sum)) size p drains = reads-none 0 size p.unread (read_step (at.WakeWriter (afterward.Round form sum)) (placing (Slice size) p)) refl refl refl
+reads point size p drains = absurd (cc)
+
+-- so many bytes have left the pipe, or leave it by the store that is next
+pub record IsRead (before : List ℕ) (size done : ℕ) (p : Pipe) : Type 0 where
+  pub unread : drop (head_store p.reader) p.unread ≡ drop done before
+  pub destination : p.destination ≡ Slice (size - done)
+
+pub record IsReadOn (before : List ℕ) (size done : ℕ) (answer : Option Answer) (r : Pipe) : Type 0 where
+  pub on : answer ≡ None → IsRead before size done r
+  pub ends : is_some answer ≡ true → r.unread ≡ drop done before
+
+is-read-on : (before : List ℕ) (size done : ℕ) (answer : Option Answer) (r : Pipe) → drop (head_store r.reader) r.unread ≡ drop done before → (is_some answer ≡ true → head_store r.reader ≡ 0) → r.destination ≡ destination_after answer (Slice (size - done)) → IsReadOn before size done answer r
+is-read-on before size done None r unread ends held = record { on = λ none. record { unread = unread; destination = held }; ends = λ some. absurd (cc) }
+is-read-on before size done (Some answer) r unread ends held = record { on = λ none. absurd (cc); ends = λ some. sym (ap (λ (k : ℕ). drop k r.unread) (ends refl)) ∙ unread }
+
+-- a step of the call takes in what is read
+pub takes-in : (before : List ℕ) (size done : ℕ) (q h r : Pipe) (answer : Option Answer) → is_draining q.reader ≡ true → IsRead before size done q → h ≡ heard Reader (read_action q.reader) q → answer ≡ (went Reader h).answer → r ≡ (went Reader h).pipe
+    → IsReadOn before size (done + took (read_action q.reader) (size - done) q) answer r
+takes-in before size done q h r answer drains is hears answers after =
+    let n = took (read_action q.reader) (size - done) q in
+    let held : placing (Slice (size - done)) q ≡ q = λ j. record q { destination = sym is.destination j } in
+    let read = subst (λ (v : Pipe). Reads (head_store q.reader) n (size - done) q.unread (read_step q.reader v)) held (reads q.reader (size - done) q drains) in
+    let s = read_step q.reader q in
+    let answer_is : answer ≡ s.answer = answers ∙ ap (λ (v : Pipe). (went Reader v).answer) hears in
+    let pipe_is : r ≡ s.pipe = after ∙ ap (λ (v : Pipe). (went Reader v).pipe) hears in
+    let sizes : size - done - n ≡ size - (done + n) = omega arith in
+    is-read-on before size (done + n) answer r
+    (ap (λ (v : Pipe). drop (head_store v.reader) v.unread) pipe_is ∙ read.unread_is ∙ ap (drop n) is.unread ∙ drop-drop n done before)
+    (λ some. ap (λ (v : Pipe). head_store v.reader) pipe_is ∙ read.ends (ap (λ (a : Option Answer). is_some a) (sym answer_is) ∙ some))
+    (ap (λ (v : Pipe). v.destination) pipe_is ∙ read.destination ∙ ap (λ (k : ℕ). destination_after s.answer (Slice k)) sizes ∙ ap (λ (a : Option Answer). destination_after a (Slice (size - (done + n)))) (sym answer_is))
+
+along : (p q r : Pipe) (answer : Option Answer) → IsDrained p q answer r → IsGoneOn p r.destination q answer r
+along p q r None drained = drained
+along p q r (Some answer) drained = drained
+
+pub goes-along : (p q h r : Pipe) (answer : Option Answer) → Draining p q → h ≡ heard Reader (read_action q.reader) q → answer ≡ (went Reader h).answer → r ≡ (went Reader h).pipe → IsGone p r.destination q answer r
+goes-along p q h r answer draining hears answers after =
+    let answer_is : answer ≡ (read_step q.reader q).answer = answers ∙ ap (λ (v : Pipe). (went Reader v).answer) hears in
+    let pipe_is : r ≡ (read_step q.reader q).pipe = after ∙ ap (λ (v : Pipe). (went Reader v).pipe) hears in
+    record { on = along p q r answer (subst (λ (v : Pipe). IsDrained p q answer v) (sym pipe_is) (drained-by p q answer draining (sym answer_is))) }
+
+-- what is copied to a slice just before a step that takes it in
+pub record IsCopied (before dest : List ℕ) (n done : ℕ) (filled_now : List ℕ) : Type 0 where
+  pub count : done ≡ n
+  pub within : done ≤ length filled_now
+  pub known : done ≤ length before
+  pub bytes : filled_now ≡ take done before ++ drop done dest
+
+pub copies : (before dest so_far part : List ℕ) (done n sum : ℕ) → done ≤ length before → so_far ≡ take done before ++ drop done dest → length so_far ≡ length dest → done + n ≤ length dest → done + n ≤ length before
+    → part ≡ take n (drop done before) ++ drop n (drop done so_far) → done + n ≡ sum → IsCopied before dest sum (done + n) (put_mid done (length so_far - done) so_far part)
+copies before dest so_far part done n sum known is long fits more part_is same =
+    let whole = ap (put_mid done (length so_far - done) so_far) part_is ∙ next_part done n before dest so_far known fits is long in
+    record {
+      count = same;
+      within = rw whole (omega (arith, more, fits, length-append (take (done + n) before) (drop (done + n) dest), length-take (done + n) before, length-drop (done + n) dest));
+      known = more;
+      bytes = whole;
+    }
 
 -- as many bytes stand in the slice as have left the pipe
 pub drained-bytes : (n : ℕ) (before after dest filled_so_far : List ℕ) → n ≤ length before → after ≡ drop n before → filled_so_far ≡ take n before ++ drop n dest
@@ -326,13 +384,18 @@ opened cx destination p q sound unwoken is =
       rest = refl;
     })
 
-pub opened-unread : (cx : Option Context) (p q : Pipe) → q ≡ drain_opened cx (Slice 0) p → drop (head_store q.reader) q.unread ≡ p.unread
-opened-unread cx p q is =
-    let store : head_store q.reader ≡ 0 = ap (λ (v : Pipe). head_store v.reader) is ∙ looks-store (p.known == 0) (form_of cx) in
-    ap (λ (n : ℕ). drop n q.unread) store ∙ ap (λ (v : Pipe). v.unread) is
+pub opened-slice : (cx : Option Context) (size : ℕ) (p q : Pipe) → IsSound p → p.woken ≡ [] → q ≡ drain_opened cx (Slice size) p → Draining (drain_opened cx (Slice size) p) q × IsRead p.unread size 0 q
+opened-slice cx size p q sound unwoken is =
+    let o = drain_opened cx (Slice size) p in
+    let store = looks-store (p.known == 0) (form_of cx) in
+    let all : size ≡ size - 0 = omega arith in
+    subst (λ (v : Pipe). Draining o v × IsRead p.unread size 0 v) (sym is) (
+      opened cx (Slice size) p (drain_opened cx (Slice 0) p) sound unwoken refl,
+      record { unread = ap (λ (n : ℕ). drop n p.unread) store; destination = ap (λ (n : ℕ). Slice n) all },
+    )
 
 -- the acts of a script are spent one after the other
-pub acts-left : (acts : List DestAct) → left_of_acts acts ≡ drop 1 acts
+acts-left : (acts : List DestAct) → left_of_acts acts ≡ drop 1 acts
 acts-left [] = refl
 acts-left (act ∷ acts) = refl
 

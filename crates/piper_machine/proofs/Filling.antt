@@ -1,12 +1,11 @@
 -- A fill run whole: its source stays with the caller, and each step is that of a call which holds this source.
-use Rattle.std.proofs.Common.{◌≡◌, ℕ, zero, suc, ◌+◌, ◌-◌, ◌<◌, ◌≤◌, min, List, [], ◌∷◌, take, drop, length, Bool, true, false, Option, None, Some, ◌==◌, is_some, refl, sym, ap, subst, ◌∙◌, arith, length-append}
-use Rattle.std.proofs.lemmas.Bool.Decides.{nat_tests}
-use Rattle.std.proofs.lemmas.List.{drop-drop}
+use Rattle.std.proofs.Common.{◌≡◌, ℕ, ◌-◌, ◌<◌, ◌≤◌, min, List, [], ◌∷◌, take, length, Bool, true, false, Option, None, Some, ◌==◌, is_some, refl, sym, ap, subst, ◌∙◌, arith, Result, Ok, Err, length-append}
 use Rattle.piper_sides.specs.declared.calls.OpenCall.{OpenCall}
 use Rattle.piper_sides.specs.declared.calls.Side.TheVariants.{Writer}
 use Rattle.piper_sides.specs.declared.calls.Step.TheVariants.{Go}
 use Rattle.piper_sides.specs.declared.calls.SideState.TheVariants.{Busy}
 use Rattle.piper_sides.specs.declared.events.Answer.{Answer}
+use Rattle.piper_sides.specs.declared.scripted.Failed.{Failed}
 use Rattle.piper_sides.specs.declared.scripted.SourceAct.{SourceAct}
 use Rattle.piper_sides.specs.declared.scripted.SourceAct.TheVariants as source
 use Rattle.piper_sides.specs.declared.scripted.TheConstants.{MOST_A_ROUND}
@@ -18,14 +17,14 @@ use Rattle.piper_sides.specs.declared.table.AfterWrite.TheVariants as behind
 use Rattle.piper_sides.specs.declared.table.WritePoint.{WritePoint}
 use Rattle.piper_sides.specs.declared.table.WritePoint.TheVariants as on
 use Rattle.piper_sides.specs.Open.{is_granted}
-use Rattle.piper_sides.specs.Table.{Found, Next, moved, failed, goes_on, write_action, write_after, writer_is_open, writer_looked, writer_looked_again, writer_registered, writer_is_true, writer_moved, writer_rounds, reader_taken}
+use Rattle.piper_sides.specs.Table.{Found, Next, goes_on, write_action, write_after, writer_is_open, writer_looked, writer_looked_again, writer_registered, writer_is_true, writer_moved, writer_rounds, reader_taken}
 use Rattle.piper_sides.specs.declared.polling.Context.{Context}
 use Rattle.piper_machine.specs.Pipe.{Pipe}
 use Rattle.piper_machine.specs.Sound.{IsSound}
 use Rattle.piper_machine.specs.Lend.{Lendable, lending}
 use Rattle.piper_machine.specs.Move.{with_waker}
-use Rattle.piper_machine.specs.Source.{bytes_of, is_failing, without, source_left}
-use Rattle.piper_machine.specs.Round.{given, found_of, unspent, left_of_source}
+use Rattle.piper_machine.specs.Source.{bytes_of, is_failing}
+use Rattle.piper_machine.specs.Round.{given, found_of, left_of_source}
 use Rattle.piper_machine.specs.Refusal.{writer_state}
 use Rattle.piper_machine.specs.Action.{source_called}
 use Rattle.piper_machine.specs.Step.{stepped, fill_opened, call_after, source_after, round_left, round_answer, MayOffer}
@@ -35,7 +34,7 @@ use Rattle.piper_machine.proofs.Copies.{WriterStands, fill_step, fill-rest}
 use Rattle.piper_machine.proofs.Falling.{fill-falls}
 use Rattle.piper_machine.proofs.Standing.{IsSettled, closes_round, writer-settled, writer-stands}
 use Rattle.piper_machine.proofs.Rounds.{HasOneWake, one_wake-room, one_wake-none}
-use Rattle.piper_machine.proofs.Sources.{source-called, without_none}
+use Rattle.piper_machine.proofs.Sources.{source-called}
 
 -- the pipe of a call that holds this source
 abbrev pub giving : List SourceAct → Pipe → Pipe
@@ -222,11 +221,6 @@ goes-on p q h r acts answer filling other hears answers after =
     gone-on p q r acts answer (fill_step q.writer lent u).pipe is (settled-source answer r.source q.source kept) filled
 
 -- a call of the source
-gives : (most : ℕ) (acts : List SourceAct) (n : ℕ) → is_failing acts ≡ false → n ≡ min most (length (bytes_of acts)) → found_of (given most acts) ≡ moved n
-gives most [] n works is = let none : n ≡ 0 = omega arith in ap moved (sym none)
-gives most (source.Fail ∷ acts) n works is = absurd (cc)
-gives most (source.Bytes bytes ∷ acts) n works is = ap moved (sym is)
-
 may-call : (point : WritePoint) (acts : List SourceAct) (lent : List ℕ) (p : Pipe) → Lendable MOST_A_ROUND p (length lent) → MayOffer point acts lent p
 may-call (on.CallSource form sum) [] lent p lendable = tt
 may-call (on.CallSource form sum) (source.Fail ∷ acts) lent p lendable = tt
@@ -267,80 +261,24 @@ called acts rest found p q w r answer calls filling lendable lent given_is found
     let kept : r.source ≡ source_after answer w.source = ap (λ (v : Pipe). v.source) round.after ∙ ap (λ (a : Option Answer). source_after a w.source) (sym round.answer_is) in
     gone-on p q r rest answer (fill_step q.writer w.lent u).pipe pipe (settled-source answer r.source w.source kept) (filled-by p u w.lent answer filling may answer_is)
 
--- a source that does not fail gives n bytes
-pub gave : (acts : List SourceAct) (n : ℕ) (p q w r : Pipe) (answer : Option Answer) → is_failing acts ≡ false → write_action q.writer ≡ does.CallSource → Filling p (giving acts q)
-    → Lendable MOST_A_ROUND q (length w.lent) → w ≡ lending w.lent q → n ≡ min (length w.lent) (length (bytes_of acts)) → take n w.lent ≡ take n (bytes_of acts) → IsRound (moved n) w answer r → IsGoneOn p (left_of_source n acts) q answer r
-gave acts n p q w r answer works calls filling lendable lent count front round =
-    called acts (left_of_source n acts) (moved n) p q w r answer calls filling lendable lent
-    (source-called (giving acts q) w n q.source (left_of_source n acts) lent count front refl)
-    (gives (length w.lent) acts n works count) round
+-- it gives n bytes, or fails
+pub gives : (most n : ℕ) (acts : List SourceAct) → is_failing acts ≡ false → n ≡ min most (length (bytes_of acts)) → Ok n ≡ given most acts
+gives most n [] works is = let none : n ≡ 0 = omega arith in ap Ok none
+gives most n (source.Fail ∷ acts) works is = absurd (cc)
+gives most n (source.Bytes bytes ∷ acts) works is = ap Ok is
 
--- what is left of a slice of which so many bytes were given
-abbrev pub slice_left : ℕ → List ℕ → List SourceAct
-slice_left zero bytes = source.Bytes bytes ∷ []
-slice_left (suc n) bytes = unspent (drop (suc n) bytes) []
+pub fails : (most : ℕ) (acts : List SourceAct) → is_failing acts ≡ true → Err (record {}) ≡ given most acts
+fails most [] failing = absurd (cc)
+fails most (source.Fail ∷ acts) failing = refl
+fails most (source.Bytes bytes ∷ acts) failing = absurd (cc)
 
-slice_left-some : (n : ℕ) (bytes : List ℕ) → 1 ≤ n → slice_left n bytes ≡ unspent (drop n bytes) []
-slice_left-some zero bytes some = absurd (omega arith)
-slice_left-some (suc n) bytes some = refl
-
-unspent-none : (n : ℕ) → unspent (drop n []) [] ≡ []
-unspent-none zero = refl
-unspent-none (suc n) = refl
-
-unspent-more : (n : ℕ) (bytes : List ℕ) → left_of_source n (unspent bytes []) ≡ unspent (drop n bytes) []
-unspent-more n [] = sym (unspent-none n)
-unspent-more n (byte ∷ bytes) = refl
-
-slice_left-more : (before n : ℕ) (bytes : List ℕ) → 1 ≤ n → left_of_source n (slice_left before bytes) ≡ slice_left (before + n) bytes
-slice_left-more zero n bytes some = let same : n ≡ 0 + n = omega arith in sym (slice_left-some n bytes some) ∙ ap (λ k. slice_left k bytes) same
-slice_left-more (suc k) n bytes some =
-    unspent-more n (drop (suc k) bytes)
-    ∙ ap (λ (xs : List ℕ). unspent xs []) (drop-drop n (suc k) bytes)
-    ∙ sym (slice_left-some (suc k + n) bytes (omega arith))
-
-unspent-front : (bytes : List ℕ) → bytes_of (unspent bytes []) ≡ bytes
-unspent-front [] = refl
-unspent-front (byte ∷ bytes) = refl
-
-slice-front : (before : ℕ) (bytes : List ℕ) → bytes_of (slice_left before bytes) ≡ drop before bytes
-slice-front zero bytes = refl
-slice-front (suc k) bytes = unspent-front (drop (suc k) bytes)
-
-unspent-works : (bytes : List ℕ) → is_failing (unspent bytes []) ≡ false
-unspent-works [] = refl
-unspent-works (byte ∷ bytes) = refl
-
-slice-works : (before : ℕ) (bytes : List ℕ) → is_failing (slice_left before bytes) ≡ false
-slice-works zero bytes = refl
-slice-works (suc k) bytes = unspent-works (drop (suc k) bytes)
-
--- a round that gives no answer has moved some bytes
-moves-some : (none : Bool) (n : ℕ) (form : Form) (sum : ℕ) → (n == 0) ≡ none → (writer_moved none n form sum).answer ≡ None → 1 ≤ n
-moves-some true n form sum test goes = absurd (cc)
-moves-some false n form sum test goes = grind (arith, nat_tests)
-
-round-some : (point : WritePoint) (n capacity room : ℕ) → write_action point ≡ does.CallSource → (write_after capacity room point (moved n)).answer ≡ None → 1 ≤ n
-round-some (on.CallSource form sum) n capacity room calls goes = moves-some (n == 0) n form sum refl goes
-round-some (on.StoreClosed behind.Answer) n capacity room calls goes = absurd (cc)
-round-some (on.StoreClosed behind.Drop) n capacity room calls goes = absurd (cc)
-round-some (on.StoreClosed behind.WakeWriter) n capacity room calls goes = absurd (cc)
-round-some (on.StoreClosed (behind.Round form sum)) n capacity room calls goes = absurd (cc)
-round-some point n capacity room calls goes = absurd (cc)
-
-regiven : (acts rest : List SourceAct) (p q r : Pipe) (answer : Option Answer) → (answer ≡ None → acts ≡ rest) → IsGoneOn p acts q answer r → IsGoneOn p rest q answer r
-regiven acts rest p q r None same gone = subst (λ (left : List SourceAct). Filling p (giving left r) × (left_of r < left_of q)) (same refl) gone
-regiven acts rest p q r (Some answer) same gone = gone
-
--- the next bytes of a slice
-pub slice-gave : (before n : ℕ) (bytes : List ℕ) (p q w r : Pipe) (answer : Option Answer) → write_action q.writer ≡ does.CallSource → Filling p (giving (slice_left before bytes) q)
-    → Lendable MOST_A_ROUND q (length w.lent) → w ≡ lending w.lent q → n ≡ min (length w.lent) (length (drop before bytes)) → take n w.lent ≡ take n (drop before bytes) → IsRound (moved n) w answer r → IsGoneOn p (slice_left (before + n) bytes) q answer r
-slice-gave before n bytes p q w r answer calls filling lendable lent count front round =
-    let same : drop before bytes ≡ bytes_of (slice_left before bytes) = sym (slice-front before bytes) in
-    let writer : w.writer ≡ q.writer = ap (λ (v : Pipe). v.writer) lent in
-    regiven (left_of_source n (slice_left before bytes)) (slice_left (before + n) bytes) p q r answer
-    (λ none. slice_left-more before n bytes (round-some w.writer n w.capacity w.room (ap write_action writer ∙ calls) (sym round.answer_is ∙ none)))
-    (gave (slice_left before bytes) n p q w r answer (slice-works before bytes) calls filling lendable lent (count ∙ ap (λ (xs : List ℕ). min (length w.lent) (length xs)) same) (front ∙ ap (take n) same) round)
+pub gave : (acts rest : List SourceAct) (n : ℕ) (given_now : Result ℕ Failed) (p q w r : Pipe) (answer : Option Answer) → write_action q.writer ≡ does.CallSource → Filling p (giving acts q)
+    → Lendable MOST_A_ROUND q (length w.lent) → w ≡ lending w.lent q → n ≡ min (length w.lent) (length (bytes_of acts)) → take n w.lent ≡ take n (bytes_of acts) → rest ≡ left_of_source n acts
+    → given_now ≡ given (length w.lent) acts → IsRound (found_of given_now) w answer r → IsGoneOn p rest q answer r
+gave acts rest n given_now p q w r answer calls filling lendable lent count front left is round =
+    called acts rest (found_of given_now) p q w r answer calls filling lendable lent
+    (source-called (giving acts q) w n q.source rest lent count front left)
+    (ap found_of (sym is)) round
 
 -- a fill is opened
 pub opened : (cx : Option Context) (acts : List SourceAct) (p q : Pipe) → IsSound p → p.woken ≡ [] → q ≡ fill_opened cx [] p → Filling (fill_opened cx acts p) (giving acts q)
@@ -353,33 +291,3 @@ opened cx acts p q sound unwoken is =
       wakes = subst (λ (names : List ℕ). HasOneWake names p.reader_waker) (sym unwoken) (one_wake-none p.reader_waker);
       rest = refl;
     })
-
--- a script of which some acts are spent
-pub without-failing : (before : ℕ) (acts : List SourceAct) → is_failing (without before acts) ≡ is_failing acts
-without-failing before [] = refl
-without-failing before (source.Fail ∷ acts) = refl
-without-failing before (source.Bytes bytes ∷ acts) = refl
-
-pub opened-script : (cx : Option Context) (acts : List SourceAct) (p q : Pipe) → IsSound p → p.woken ≡ [] → q ≡ fill_opened cx [] p → Filling (fill_opened cx acts p) (giving (source_left 0 0 acts) q)
-opened-script cx acts p q sound unwoken is = subst (λ (left : List SourceAct). Filling (fill_opened cx acts p) (giving left q)) (sym (without_none acts)) (opened cx acts p q sound unwoken is)
-
--- a source that fails
-fails : (most : ℕ) (acts : List SourceAct) → is_failing acts ≡ true → found_of (given most acts) ≡ failed
-fails most [] failing = absurd (cc)
-fails most (source.Fail ∷ acts) failing = refl
-fails most (source.Bytes bytes ∷ acts) failing = absurd (cc)
-
-pub failed-ends : (point : WritePoint) (capacity room : ℕ) → write_action point ≡ does.CallSource → (write_after capacity room point failed).answer ≡ None → ⊥
-failed-ends (on.CallSource form sum) capacity room calls goes = absurd (cc)
-failed-ends (on.StoreClosed behind.Answer) capacity room calls goes = absurd (cc)
-failed-ends (on.StoreClosed behind.Drop) capacity room calls goes = absurd (cc)
-failed-ends (on.StoreClosed behind.WakeWriter) capacity room calls goes = absurd (cc)
-failed-ends (on.StoreClosed (behind.Round form sum)) capacity room calls goes = absurd (cc)
-failed-ends point capacity room calls goes = absurd (cc)
-
-pub gave-up : (acts : List SourceAct) (n : ℕ) (p q w r : Pipe) (answer : Option Answer) → is_failing acts ≡ true → write_action q.writer ≡ does.CallSource → Filling p (giving acts q)
-    → Lendable MOST_A_ROUND q (length w.lent) → w ≡ lending w.lent q → n ≡ min (length w.lent) (length (bytes_of acts)) → take n w.lent ≡ take n (bytes_of acts) → IsRound failed w answer r → IsGoneOn p (left_of_source n acts) q answer r
-gave-up acts n p q w r answer failing calls filling lendable lent count front round =
-    called acts (left_of_source n acts) failed p q w r answer calls filling lendable lent
-    (source-called (giving acts q) w n q.source (left_of_source n acts) lent count front refl)
-    (fails (length w.lent) acts failing) round

@@ -1,12 +1,11 @@
 -- What remains of a call that a side between two calls has opened is the call run whole.
-use Rattle.std.proofs.Common.{◌≡◌, ℕ, List, [], ◌∷◌, None, Some, refl, sym, subst, ap, ◌∙◌}
+use Rattle.std.proofs.Common.{◌≡◌, ℕ, List, [], ◌∷◌, false, None, Some, refl, sym, subst, ap, ◌∙◌}
 use Rattle.piper_sides.specs.declared.calls.Side.TheVariants.{Reader, Writer}
 use Rattle.piper_sides.specs.declared.polling.Context.{Context}
 use Rattle.piper_sides.specs.declared.polling.Polled.{Polled}
 use Rattle.piper_sides.specs.declared.polling.Polled.TheVariants.{Ready, Pending, Memory}
 use Rattle.piper_sides.specs.declared.scripted.DestAct.{DestAct}
 use Rattle.piper_sides.specs.declared.scripted.SourceAct.{SourceAct}
-use Rattle.piper_sides.specs.declared.scripted.SourceAct.TheVariants as source
 use Rattle.piper_sides.specs.declared.table.ReadPoint.TheVariants as at
 use Rattle.piper_sides.specs.declared.table.WritePoint.TheVariants as on
 use Rattle.piper_sides.specs.Open.{no_call}
@@ -14,12 +13,13 @@ use Rattle.piper_machine.specs.declared.destination.Destination.TheVariants.{Sli
 use Rattle.piper_machine.specs.Pipe.{Pipe, begun}
 use Rattle.piper_machine.specs.Look.{reader_look, writer_look}
 use Rattle.piper_machine.specs.Copy.{try_drain, try_fill, drain, fill}
-use Rattle.piper_machine.specs.Scripted.{drain_to, fill_from}
+use Rattle.piper_machine.specs.Scripted.{drain_to, fill_from, bytes_given, ends_in_failure}
+use Rattle.piper_machine.specs.Round.{unspent}
 use Rattle.piper_machine.specs.Step.{poll_opened, drain_opened, fill_opened}
 use Rattle.piper_machine.specs.Alone.{Ended}
-use Rattle.piper_machine.specs.BySteps.{looked_whole, counted, unfailing, counted_whole, copied_slice, copied_acts}
+use Rattle.piper_machine.specs.BySteps.{looked_whole, without_failure, unfailing, counted_whole, copied_slice, copied_acts}
 use Rattle.piper_machine.proofs.BySteps.{alone_of}
-use Rattle.piper_machine.proofs.Whole.{reader_resting, writer_resting, reader-polls, writer-polls, try_drain-whole, drain-slice, drain-acts, try_fill-whole, fill-slice, fill-acts}
+use Rattle.piper_machine.proofs.Whole.{reader_resting, writer_resting, reader-polls, writer-polls, try_drain-whole, drain-slice, drain-acts, given-slice, try_fill-whole, fill-slice, fill-acts}
 
 -- a side between two calls
 pub record ReaderRests (p q : Pipe) : Type 0 where
@@ -64,16 +64,25 @@ drains cx size p q rests = from-reader (λ v. alone_of Reader (drain_opened (Som
 pub drains-to : (cx : Context) (acts : List DestAct) (p q : Pipe) → ReaderRests p q → alone_of Reader (drain_opened (Some cx) (Acts acts) q) ≡ copied_acts (drain_to (Some cx) acts p)
 drains-to cx acts p q rests = from-reader (λ v. alone_of Reader (drain_opened (Some cx) (Acts acts) v)) (λ v. copied_acts (drain_to (Some cx) acts v)) p q rests (drain-acts cx acts p)
 
-pub try_fills : (bytes : List ℕ) (p q : Pipe) → WriterRests p q → alone_of Writer (fill_opened None (source.Bytes bytes ∷ []) q) ≡ counted_whole (try_fill bytes p)
-try_fills bytes p q rests = from-writer (λ v. alone_of Writer (fill_opened None (source.Bytes bytes ∷ []) v)) (λ v. counted_whole (try_fill bytes v)) p q rests (try_fill-whole bytes p)
+-- bytes of the caller's stand in the place of an act of them
+given-bytes : (bytes : List ℕ) → bytes_given (unspent bytes []) ≡ bytes
+given-bytes [] = refl
+given-bytes (byte ∷ bytes) = given-slice (byte ∷ bytes)
 
-pub fills : (cx : Context) (bytes : List ℕ) (p q : Pipe) → WriterRests p q → alone_of Writer (fill_opened (Some cx) (source.Bytes bytes ∷ []) q) ≡ copied_slice (fill (Some cx) bytes p)
-fills cx bytes p q rests = from-writer (λ v. alone_of Writer (fill_opened (Some cx) (source.Bytes bytes ∷ []) v)) (λ v. copied_slice (fill (Some cx) bytes v)) p q rests (fill-slice cx bytes p)
+failure-bytes : (bytes : List ℕ) → ends_in_failure (unspent bytes []) ≡ false
+failure-bytes [] = refl
+failure-bytes (byte ∷ bytes) = refl
+
+pub try_fills : (bytes : List ℕ) (p q : Pipe) → WriterRests p q → alone_of Writer (fill_opened None (unspent bytes []) q) ≡ counted_whole (try_fill bytes p)
+try_fills bytes p q rests = from-writer (λ v. alone_of Writer (fill_opened None (unspent bytes []) v)) (λ v. counted_whole (try_fill bytes v)) p q rests (try_fill-whole (unspent bytes []) bytes (given-bytes bytes) (failure-bytes bytes) p)
+
+pub fills : (cx : Context) (bytes : List ℕ) (p q : Pipe) → WriterRests p q → alone_of Writer (fill_opened (Some cx) (unspent bytes []) q) ≡ copied_slice (fill (Some cx) bytes p)
+fills cx bytes p q rests = from-writer (λ v. alone_of Writer (fill_opened (Some cx) (unspent bytes []) v)) (λ v. copied_slice (fill (Some cx) bytes v)) p q rests (fill-slice (unspent bytes []) bytes (given-bytes bytes) (failure-bytes bytes) cx p)
 
 pub fills-from : (cx : Context) (acts : List SourceAct) (p q : Pipe) → WriterRests p q → alone_of Writer (fill_opened (Some cx) acts q) ≡ copied_acts (fill_from (Some cx) acts p)
 fills-from cx acts p q rests = from-writer (λ v. alone_of Writer (fill_opened (Some cx) acts v)) (λ v. copied_acts (fill_from (Some cx) acts v)) p q rests (fill-acts cx acts p)
 
-pub counted-unfailing : (answer : Polled ℕ) → counted (unfailing answer) ≡ answer
-counted-unfailing (Ready n) = refl
-counted-unfailing Pending = refl
-counted-unfailing Memory = refl
+pub without_failure-unfailing : (answer : Polled ℕ) → without_failure (unfailing answer) ≡ answer
+without_failure-unfailing (Ready n) = refl
+without_failure-unfailing Pending = refl
+without_failure-unfailing Memory = refl

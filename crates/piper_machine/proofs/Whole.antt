@@ -62,8 +62,8 @@ slice-acts cx moves acts same (Ready false) p = refl
 slice-acts cx moves acts same Pending p = refl
 slice-acts cx moves acts same Memory p = refl
 
-counted : (n : ℕ) (q : Pipe) → answering (Count (0 + n)) q ≡ answering (Count n) q
-counted n q = let same : 0 + n ≡ n = omega arith in ap (λ (m : ℕ). answering (Count m) q) same
+count-same : (n : ℕ) (q : Pipe) → answering (Count (0 + n)) q ≡ answering (Count n) q
+count-same n q = let same : 0 + n ≡ n = omega arith in ap (λ (m : ℕ). answering (Count m) q) same
 
 -- the drains
 
@@ -108,8 +108,8 @@ module _ (size : ℕ) (p : Pipe) where
   try_drains : (knows_none none is_closed : Bool) → (p.known == 0) ≡ knows_none → (length p.unread == 0) ≡ none → p.is_closed ≡ is_closed → IsTryDrained
   try_drains true true true k u c = rw (k, u, u, c) refl
   try_drains true true false k u c = rw (k, u, u, c) refl
-  try_drains true false is_closed k u c = rw (k, u) (counted (min size (length p.unread)) _)
-  try_drains false none is_closed k u c = rw (k, k) (counted (min size p.known) _)
+  try_drains true false is_closed k u c = rw (k, u) (count-same (min size (length p.unread)) _)
+  try_drains false none is_closed k u c = rw (k, k) (count-same (min size p.known) _)
 
   pub try_drain-whole : IsTryDrained
   try_drain-whole = try_drains (p.known == 0) (length p.unread == 0) p.is_closed refl refl refl
@@ -159,42 +159,43 @@ unfailing-source : (is_past : Bool) (n : ℕ) → source_answer is_past false n 
 unfailing-source true n = refl
 unfailing-source false n = refl
 
-given-slice : (bytes : List ℕ) → bytes_given (source.Bytes bytes ∷ []) ≡ bytes
+pub given-slice : (bytes : List ℕ) → bytes_given (source.Bytes bytes ∷ []) ≡ bytes
 given-slice [] = refl
 given-slice (byte ∷ bytes) = ap (λ (xs : List ℕ). byte ∷ xs) (append-nil bytes)
 
-failure-slice : (bytes : List ℕ) → ends_in_failure (source.Bytes bytes ∷ []) ≡ false
+pub failure-slice : (bytes : List ℕ) → ends_in_failure (source.Bytes bytes ∷ []) ≡ false
 failure-slice [] = refl
 failure-slice (byte ∷ bytes) = refl
 
-slice-moves : (bytes : List ℕ) (q : Pipe) → let n = min (length bytes) q.room in fill_moves_more 0 (source.Bytes bytes ∷ []) q ≡ answered (Ready (Ok n)) (filled (take n bytes) q)
-slice-moves bytes q =
-    let n = min (length bytes) q.room in
-    let same : 0 + n ≡ n = omega arith in
-    ap (λ (xs : List ℕ). answered (Ready (source_answer (nat_lt q.room (length xs)) (ends_in_failure (source.Bytes bytes ∷ [])) (0 + min (length xs) q.room))) (filled (take (min (length xs) q.room) xs) q)) (given-slice bytes)
-    ∙ ap (λ (fails : Bool). answered (Ready (source_answer (nat_lt q.room (length bytes)) fails (0 + n))) (filled (take n bytes) q)) (failure-slice bytes)
-    ∙ ap (λ (r : Result ℕ Failed). answered (Ready r) (filled (take n bytes) q)) (unfailing-source (nat_lt q.room (length bytes)) (0 + n))
-    ∙ ap (λ (m : ℕ). answered (Ready (Ok m)) (filled (take n bytes) q)) same
+-- acts that give the bytes of a slice, and do not fail
+module _ (acts : List SourceAct) (bytes : List ℕ) (gives : bytes_given acts ≡ bytes) (works : ends_in_failure acts ≡ false) where
+  slice-moves : (q : Pipe) → let n = min (length bytes) q.room in fill_moves_more 0 acts q ≡ answered (Ready (Ok n)) (filled (take n bytes) q)
+  slice-moves q =
+      let n = min (length bytes) q.room in
+      let same : 0 + n ≡ n = omega arith in
+      ap (λ (xs : List ℕ). answered (Ready (source_answer (nat_lt q.room (length xs)) (ends_in_failure acts) (0 + min (length xs) q.room))) (filled (take (min (length xs) q.room) xs) q)) gives
+      ∙ ap (λ (fails : Bool). answered (Ready (source_answer (nat_lt q.room (length bytes)) fails (0 + n))) (filled (take n bytes) q)) works
+      ∙ ap (λ (r : Result ℕ Failed). answered (Ready r) (filled (take n bytes) q)) (unfailing-source (nat_lt q.room (length bytes)) (0 + n))
+      ∙ ap (λ (m : ℕ). answered (Ready (Ok m)) (filled (take n bytes) q)) same
 
-pub fill-slice : (cx : Context) (bytes : List ℕ) (p : Pipe) → alone_of Writer (fill_opened (Some cx) (source.Bytes bytes ∷ []) (begun (writer_resting p))) ≡ copied_slice (fill (Some cx) bytes (writer_resting p))
-fill-slice cx bytes p =
-    let look = writer_look (Some cx) (unlent (begun (writer_resting p))) in
-    fill-acts cx (source.Bytes bytes ∷ []) p
-    ∙ sym (slice-acts cx (fill_moves bytes) (fill_moves_from (source.Bytes bytes ∷ [])) (λ q. ap (λ (m : Copied (Result ℕ Failed)). copied_acts m) (sym (slice-moves bytes q))) look.answer look.pipe)
+  pub fill-slice : (cx : Context) (p : Pipe) → alone_of Writer (fill_opened (Some cx) acts (begun (writer_resting p))) ≡ copied_slice (fill (Some cx) bytes (writer_resting p))
+  fill-slice cx p =
+      let look = writer_look (Some cx) (unlent (begun (writer_resting p))) in
+      fill-acts cx acts p
+      ∙ sym (slice-acts cx (fill_moves bytes) (fill_moves_from acts) (λ q. ap (λ (m : Copied (Result ℕ Failed)). copied_acts m) (sym (slice-moves q))) look.answer look.pipe)
 
-module _ (bytes : List ℕ) (p : Pipe) where
-  abbrev IsTryFilled : Type 0
-  IsTryFilled = alone_of Writer (fill_opened None (source.Bytes bytes ∷ []) (begun (writer_resting p))) ≡ counted_whole (try_fill bytes (writer_resting p))
+  abbrev IsTryFilled : Pipe → Type 0
+  IsTryFilled p = alone_of Writer (fill_opened None acts (begun (writer_resting p))) ≡ counted_whole (try_fill bytes (writer_resting p))
 
-  tried : (q : Pipe) → let moved = fill_moves_more 0 (source.Bytes bytes ∷ []) q in let n = min (length bytes) q.room in
+  tried : (q : Pipe) → let moved = fill_moves_more 0 acts q in let n = min (length bytes) q.room in
       writer_ended on.Idle (moved_answer Try moved.answer) moved.pipe ≡ writer_ended on.Idle (Count n) (filled (take n bytes) q)
-  tried q = ap (λ (m : Copied (Result ℕ Failed)). writer_ended on.Idle (moved_answer Try m.answer) m.pipe) (slice-moves bytes q)
+  tried q = ap (λ (m : Copied (Result ℕ Failed)). writer_ended on.Idle (moved_answer Try m.answer) m.pipe) (slice-moves q)
 
-  try_fills : (is_closed knows_none none : Bool) → p.is_closed ≡ is_closed → (p.room == 0) ≡ knows_none → (p.capacity - length p.unread == 0) ≡ none → IsTryFilled
-  try_fills true knows_none none c r u = rw c refl
-  try_fills false true true c r u = rw (c, r, u, u) refl
-  try_fills false true false c r u = rw (c, r, u) (tried (record (begun (writer_resting p)) { room = p.capacity - length p.unread; is_closed = false }))
-  try_fills false false none c r u = rw (c, r, r) (tried (record (begun (writer_resting p)) { is_closed = false }))
+  try_fills : (p : Pipe) (is_closed knows_none none : Bool) → p.is_closed ≡ is_closed → (p.room == 0) ≡ knows_none → (p.capacity - length p.unread == 0) ≡ none → IsTryFilled p
+  try_fills p true knows_none none c r u = rw c refl
+  try_fills p false true true c r u = rw (c, r, u, u) refl
+  try_fills p false true false c r u = rw (c, r, u) (tried (record (begun (writer_resting p)) { room = p.capacity - length p.unread; is_closed = false }))
+  try_fills p false false none c r u = rw (c, r, r) (tried (record (begun (writer_resting p)) { is_closed = false }))
 
-  pub try_fill-whole : IsTryFilled
-  try_fill-whole = try_fills p.is_closed (p.room == 0) (p.capacity - length p.unread == 0) refl refl refl
+  pub try_fill-whole : (p : Pipe) → IsTryFilled p
+  try_fill-whole p = try_fills p p.is_closed (p.room == 0) (p.capacity - length p.unread == 0) refl refl refl

@@ -15,6 +15,7 @@ use Rattle.piper_sides.specs.declared.refusals.StepRefusal.{StepRefusal}
 use Rattle.piper_sides.specs.declared.refusals.StepRefusal.TheVariants.{BadDraw}
 use Rattle.piper_sides.specs.declared.table.Form.TheVariants.{Try, Polling}
 use Rattle.piper_sides.specs.declared.table.Form.{Form}
+use Rattle.piper_sides.specs.declared.scripted.SourceAct.TheVariants as source
 use Rattle.piper_machine.specs.Counts.{most_steps}
 use Rattle.piper_sides.specs.declared.table.Purpose.{Purpose}
 use Rattle.piper_sides.specs.declared.table.Purpose.TheVariants as purpose
@@ -41,7 +42,7 @@ use Rattle.piper_machine.specs.Run.{Runs}
 use Rattle.piper_machine.specs.Alone.{Ended, read_steps}
 use Rattle.piper_machine.specs.BySteps.{names_of, whole, found_alone, IsWholeBySteps, AreWholeBySteps}
 use Rattle.piper_machine.proofs.BySteps.{named, alone_of, left_of, Stands, no_more, finish}
-use Rattle.piper_machine.proofs.Whole.{reader_resting, writer_resting, reader-polls, drain-slice, drain-acts, try_drain-whole, writer-polls, fill-slice, fill-acts, try_fill-whole}
+use Rattle.piper_machine.proofs.Whole.{reader_resting, writer_resting, reader-polls, drain-slice, drain-acts, try_drain-whole, writer-polls, given-slice, failure-slice, fill-slice, fill-acts, try_fill-whole}
 
 -- between two calls a side holds nothing of a call
 abbrev pub HoldsNothing : Side → Pipe → Type 0
@@ -143,8 +144,8 @@ opens (call.Produced n) lent others r stepped sound fits =
     let room = sound.lent_room in
     record { commutes = refl; at_once = refl; busy = refl; stands = (record { unread = sound.unread; start = sound.start; room = sound.room; store = omega arith; shut = sound.closed; unclosed = λ saw. absurd (cc) }, refl); rest = refl; unwoken = refl; few = omega arith }
 opens (call.Poll Writer waker luck) lent others r stepped sound fits = record { commutes = refl; at_once = refl; busy = refl; stands = (record { unread = sound.unread; start = sound.start; room = sound.room; store = omega arith; shut = sound.closed; unclosed = λ saw. absurd (cc) }, refl); rest = writer-polls (context waker luck) r; unwoken = refl; few = omega arith }
-opens (call.TryFill bytes) lent others r stepped sound fits = record { commutes = refl; at_once = refl; busy = refl; stands = (record { unread = sound.unread; start = sound.start; room = sound.room; store = omega arith; shut = sound.closed; unclosed = λ saw. absurd (cc) }, refl); rest = try_fill-whole bytes r; unwoken = refl; few = omega arith }
-opens (call.PollFillBytes waker luck bytes) lent others r stepped sound fits = record { commutes = refl; at_once = refl; busy = refl; stands = (record { unread = sound.unread; start = sound.start; room = sound.room; store = omega arith; shut = sound.closed; unclosed = λ saw. absurd (cc) }, refl); rest = fill-slice (context waker luck) bytes r; unwoken = refl; few = omega arith }
+opens (call.TryFill bytes) lent others r stepped sound fits = record { commutes = refl; at_once = refl; busy = refl; stands = (record { unread = sound.unread; start = sound.start; room = sound.room; store = omega arith; shut = sound.closed; unclosed = λ saw. absurd (cc) }, refl); rest = try_fill-whole (source.Bytes bytes ∷ []) bytes (given-slice bytes) (failure-slice bytes) r; unwoken = refl; few = omega arith }
+opens (call.PollFillBytes waker luck bytes) lent others r stepped sound fits = record { commutes = refl; at_once = refl; busy = refl; stands = (record { unread = sound.unread; start = sound.start; room = sound.room; store = omega arith; shut = sound.closed; unclosed = λ saw. absurd (cc) }, refl); rest = fill-slice (source.Bytes bytes ∷ []) bytes (given-slice bytes) (failure-slice bytes) (context waker luck) r; unwoken = refl; few = omega arith }
 opens (call.PollFill waker luck acts) lent others r stepped sound fits = record { commutes = refl; at_once = refl; busy = refl; stands = (record { unread = sound.unread; start = sound.start; room = sound.room; store = omega arith; shut = sound.closed; unclosed = λ saw. absurd (cc) }, refl); rest = fill-acts (context waker luck) acts r; unwoken = refl; few = omega arith }
 opens c lent others r stepped sound fits = record { commutes = refl; at_once = refl; busy = refl; stands = (record { unread = sound.unread; start = sound.start; room = sound.room; store = omega arith; shut = sound.closed; unclosed = λ saw. absurd (cc) }, refl); rest = refl; unwoken = refl; few = omega arith }
 

@@ -43,11 +43,11 @@ unfailing Pending = Pending
 unfailing Memory = Memory
 
 -- the count that such a copy answers
-abbrev pub counted : Polled (Result ℕ Failed) → Polled ℕ
-counted (Ready (Ok n)) = Ready n
-counted (Ready (Err fails)) = Ready 0
-counted Pending = Pending
-counted Memory = Memory
+abbrev pub without_failure : Polled (Result ℕ Failed) → Polled ℕ
+without_failure (Ready (Ok n)) = Ready n
+without_failure (Ready (Err fails)) = Ready 0
+without_failure Pending = Pending
+without_failure Memory = Memory
 
 abbrev pub counted_whole : Copied ℕ → Ended
 counted_whole copied = answering (Count (count_of copied.answer)) copied.pipe

@@ -1,5 +1,5 @@
 //! What is left of the destination of an open drain.
-ghost use Rattle.std.specs.Prelude.{◌≡◌, drop, IfOk};
+ghost use Rattle.std.specs.Prelude.{◌≡◌, IfOk};
 ghost use Rattle.piper_machine.specs.Round.{taken, taken_by_acts, left_of_acts, left_of_destination};
 
 use piper_sides::memory::OutOfMemory;
@@ -31,14 +31,15 @@ pub enum Destination {
     Acts(Acts),
 }
 
-/// What the act takes, or that it fails, which is next where `spent` acts are spent.
-pub fn taken(acts: &[DestAct], spent: usize, most: usize) -> Result<usize, Failed>
-    ensures { result ≡ taken_by_acts most (drop spent acts.now) }
+/// What the act in front takes, or that it fails, and the acts behind it.
+pub fn next<'a>(acts: &'a [DestAct], most: usize) -> (Result<usize, Failed>, &'a [DestAct])
+    ensures taken { result.0 ≡ taken_by_acts most acts.now }
+    ensures rest { result.1.now ≡ left_of_acts acts.now }
 {
-    match acts.get(spent) {
-        Some(DestAct::Take(size)) => Ok((*size).min(most)),
-        Some(DestAct::Fail) => Err(Failed),
-        None => Ok(0),
+    match acts.split_first() {
+        Some((DestAct::Take(size), rest)) => (Ok((*size).min(most)), rest),
+        Some((DestAct::Fail, rest)) => (Err(Failed), rest),
+        None => (Ok(0), &[]),
     }
 }
 
@@ -56,7 +57,11 @@ impl Acts {
         ensures answer { result ≡ taken_by_acts most self.old }
         ensures after { self.new ≡ left_of_acts self.old }
     {
-        let answer = taken(&self.script, self.spent, most);
+        let answer = match self.script.get(self.spent) {
+            Some(DestAct::Take(size)) => Ok((*size).min(most)),
+            Some(DestAct::Fail) => Err(Failed),
+            None => Ok(0),
+        };
         if self.spent < self.script.len() {
             self.spent += 1;
         }

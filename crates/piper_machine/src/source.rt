@@ -1,6 +1,6 @@
 //! What is left of the source of an open fill.
-ghost use Rattle.std.specs.Prelude.{◌≡◌, ◌≤◌, [], ◌∷◌, length, drop, IfOk};
-ghost use Rattle.piper_machine.specs.Round.{left_of_source};
+ghost use Rattle.std.specs.Prelude.{◌≡◌, ◌≤◌, ℕ, [], ◌∷◌, length, drop, IfOk};
+ghost use Rattle.piper_machine.specs.Round.{unspent, left_of_source};
 ghost use Rattle.piper_machine.specs.Source.{IsSource, source_left, bytes_of, is_failing};
 
 use piper_sides::bytes::Bytes;
@@ -29,29 +29,25 @@ impl Model for Source {
     ghost invariant = { λ source. IsSource source.given source.spent source.script };
 }
 
-/// Whether the act fails that is next where `spent` acts are spent.
-pub fn is_failing(acts: &[SourceAct], spent: usize) -> bool
-    ensures { result ≡ is_failing (drop spent acts.now) }
+/// What a source gives next that has these bytes left of an act, and these acts behind it: the bytes or those of the next act, the acts behind them, and whether it fails in their place.
+pub fn next<'a>(bytes: &'a [u8], acts: &'a [SourceAct]) -> (&'a [u8], &'a [SourceAct], bool)
+    ensures front { result.0.now ≡ bytes_of (unspent bytes.now acts.now) }
+    ensures rest { (n : ℕ) → unspent (drop n result.0.now) result.1.now
+        ≡ left_of_source n (unspent bytes.now acts.now) }
+    ensures fails { result.2 ≡ is_failing (unspent bytes.now acts.now) }
 {
-    match acts.get(spent) {
-        Some(SourceAct::Fail) => true,
-        _ => false,
+    if !bytes.is_empty() {
+        return (bytes, acts, false);
+    }
+    match acts.split_first() {
+        Some((SourceAct::Bytes(bytes), rest)) => (bytes.as_slice(), rest, false),
+        Some((SourceAct::Fail, rest)) => (&[], rest, true),
+        None => (&[], &[], false),
     }
 }
 
-/// What that act has left to give, which has given `given` bytes.
-pub fn front(acts: &[SourceAct], spent: usize, given: usize) -> &[u8]
-    requires { IsSource given spent acts.now }
-    ensures { result.now ≡ bytes_of (source_left given spent acts.now) }
-{
-    match acts.get(spent) {
-        Some(SourceAct::Bytes(bytes)) => &bytes.as_slice()[given..],
-        _ => &[],
-    }
-}
-
-/// How many acts are spent, and how many bytes the next one has given, when that act has given `n` bytes more.
-pub fn passed(acts: &[SourceAct], spent: usize, given: usize, n: usize) -> (usize, usize)
+// How many acts are spent, and how many bytes the next one has given, when that act has given `n` bytes more.
+fn passed(acts: &[SourceAct], spent: usize, given: usize, n: usize) -> (usize, usize)
     requires before { IsSource given spent acts.now }
     requires within { n ≤ length (bytes_of (source_left given spent acts.now)) }
     ensures left { source_left result.1 result.0 acts.now
@@ -122,14 +118,20 @@ impl Source {
     pub fn is_failing(&self) -> bool
         ensures { result ≡ is_failing self.now }
     {
-        is_failing(self.script.as_slice(), self.spent)
+        match self.script.as_slice().get(self.spent) {
+            Some(SourceAct::Fail) => true,
+            _ => false,
+        }
     }
 
     /// What it has to give next.
     pub fn front(&self) -> &[u8]
         ensures { result.now ≡ bytes_of self.now }
     {
-        front(self.script.as_slice(), self.spent, self.given)
+        match self.script.as_slice().get(self.spent) {
+            Some(SourceAct::Bytes(bytes)) => &bytes.as_slice()[self.given..],
+            _ => &[],
+        }
     }
 
     /// Gives the first `n` bytes of that. An act that has nothing left is spent.

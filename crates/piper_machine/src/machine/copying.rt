@@ -1,12 +1,13 @@
 //! Calls that copy bytes between the pipe and a slice or a script, run whole.
 ghost use Rattle.std.specs.Prelude.{◌≡◌, ◌<◌, ◌≤◌, ◌-◌, ◌∷◌, ◌++◌, [], length, take, drop, min, Some};
 ghost use Rattle.piper_machine.specs.Action.{round_count};
+ghost use Rattle.piper_machine.specs.Round.{unspent};
 ghost use Rattle.piper_machine.specs.Step.{fill_opened, drain_opened};
 ghost use Rattle.piper_machine.specs.Alone.{reader_alone, writer_alone};
 ghost use Rattle.piper_machine.specs.Look.{context};
 ghost use Rattle.piper_machine.specs.Copy.{count_of, try_fill, try_drain, fill, drain};
 ghost use Rattle.piper_machine.specs.Scripted.{fill_from, drain_to};
-ghost use Rattle.piper_machine.specs.BySteps.{IsWholeBySteps, counted};
+ghost use Rattle.piper_machine.specs.BySteps.{IsWholeBySteps, without_failure};
 
 use super::Machine;
 use crate::destination::{self, Destination};
@@ -18,8 +19,8 @@ use piper_sides::scripted::{DestAct, Failed, MOST_A_ROUND, SourceAct};
 use piper_sides::table::{Action, ReadPoint, WritePoint};
 
 // A copy between the pipe and a slice cannot fail.
-fn counted(copied: Polled<Result<usize, Failed>>) -> Polled<usize>
-    ensures { result ≡ counted copied }
+fn without_failure(copied: Polled<Result<usize, Failed>>) -> Polled<usize>
+    ensures { result ≡ without_failure copied }
 {
     match copied {
         Polled::Ready(Ok(count)) => Polled::Ready(count),
@@ -30,33 +31,37 @@ fn counted(copied: Polled<Result<usize, Failed>>) -> Polled<usize>
 }
 
 impl Machine {
-    // A fill from the caller's slice, up to its answer: the slice stands in the place of the source that an open call holds.
-    fn fill_slice(&mut self, context: Option<Context>, bytes: &[u8]) -> Answer
+    // A fill run whole, up to its answer: bytes of the caller's, and behind them the acts of its script, stand in the place of the source that an open call holds.
+    fn fill_whole<'a>(
+        &mut self,
+        context: Option<Context>,
+        mut bytes: &'a [u8],
+        mut acts: &'a [SourceAct],
+    ) -> Answer
         requires idle { self.old.writer ≡ WritePoint.Idle }
         requires woken { self.old.woken ≡ [] }
-        ensures answer { let p = fill_opened context (SourceAct.Bytes bytes.now ∷ []) self.old in
+        ensures answer { let p = fill_opened context (unspent bytes.now acts.now) self.old in
             result ≡ (writer_alone p.writer p).answer }
-        ensures after { let p = fill_opened context (SourceAct.Bytes bytes.now ∷ []) self.old in
+        ensures after { let p = fill_opened context (unspent bytes.now acts.now) self.old in
             self.new ≡ (writer_alone p.writer p).pipe }
     {
         self.learn();
         self.open_fill(context, Source::none(self.alloc));
-        let mut given = 0;
         'steps: loop {
             let action = self.writer_next();
-            if let Action::CallSource = action {
-                let count = self.write_round(&bytes[given..]);
-                given += count;
-                match self.source_gave(count) {
-                    Some(answer) => return answer,
-                    None => {}
-                }
+            let answer = if let Action::CallSource = action {
+                let (front, rest, is_failing) = source::next(bytes, acts);
+                let count = self.write_round(front);
+                bytes = &front[count..];
+                acts = rest;
+                self.source_called(if is_failing { Err(Failed) } else { Ok(count) })
             } else {
                 self.hear_writer(action);
-                match self.writer_goes(action) {
-                    Some(answer) => return answer,
-                    None => {}
-                }
+                self.writer_goes(action)
+            };
+            match answer {
+                Some(answer) => return answer,
+                None => {}
             }
         }
     }
@@ -72,7 +77,7 @@ impl Machine {
         count
     }
 
-    // A drain to the caller's slice, up to its answer: the slice stands in the place of the destination that an open call holds.
+    // A drain to the caller's slice, up to its answer: what a call of the destination takes is copied just before it.
     fn drain_slice(&mut self, context: Option<Context>, dest: &mut [u8]) -> Answer
         requires idle { self.old.reader ≡ ReadPoint.Idle }
         requires woken { self.old.woken ≡ [] }
@@ -86,68 +91,23 @@ impl Machine {
             dest.new ≡ take n self.old.unread ++ drop n dest.old }
     {
         self.learn();
-        self.open_drain(context, Destination::Slice(0));
+        self.open_drain(context, Destination::Slice(dest.len()));
         let mut done = 0;
         'steps: loop {
             let action = self.reader_next();
             if let Action::CallDestination = action {
-                let count = self.read_round(&mut dest[done..]);
-                done += count;
-                match self.destination_called(Ok(count)) {
-                    Some(answer) => return answer,
-                    None => {}
-                }
-            } else {
-                self.hear_reader(action);
-                match self.reader_goes(action) {
-                    Some(answer) => return answer,
-                    None => {}
-                }
+                done += self.read_round(&mut dest[done..]);
+            }
+            self.hear_reader(action);
+            match self.reader_goes(action) {
+                Some(answer) => return answer,
+                None => {}
             }
         }
     }
 
-    // A fill from the caller's script, up to its answer.
-    fn fill_script(&mut self, context: Option<Context>, acts: &[SourceAct]) -> Answer
-        requires idle { self.old.writer ≡ WritePoint.Idle }
-        requires woken { self.old.woken ≡ [] }
-        ensures answer { let p = fill_opened context acts.now self.old in
-            result ≡ (writer_alone p.writer p).answer }
-        ensures after { let p = fill_opened context acts.now self.old in
-            self.new ≡ (writer_alone p.writer p).pipe }
-    {
-        self.learn();
-        self.open_fill(context, Source::none(self.alloc));
-        let mut spent = 0;
-        let mut given = 0;
-        'steps: loop {
-            let action = self.writer_next();
-            if let Action::CallSource = action {
-                let count = self.write_round(source::front(acts, spent, given));
-                if source::is_failing(acts, spent) {
-                    match self.source_failed() {
-                        Some(answer) => return answer,
-                        None => {}
-                    }
-                } else {
-                    (spent, given) = source::passed(acts, spent, given, count);
-                    match self.source_gave(count) {
-                        Some(answer) => return answer,
-                        None => {}
-                    }
-                }
-            } else {
-                self.hear_writer(action);
-                match self.writer_goes(action) {
-                    Some(answer) => return answer,
-                    None => {}
-                }
-            }
-        }
-    }
-
-    // A drain to the caller's script, up to its answer.
-    fn drain_script(&mut self, context: Option<Context>, acts: &[DestAct]) -> Answer
+    // A drain to the caller's script, up to its answer: its acts stand in the place of the destination that an open call holds.
+    fn drain_script(&mut self, context: Option<Context>, mut acts: &[DestAct]) -> Answer
         requires idle { self.old.reader ≡ ReadPoint.Idle }
         requires woken { self.old.woken ≡ [] }
         ensures answer { let p = drain_opened context (Destination.Acts acts.now) self.old in
@@ -157,22 +117,20 @@ impl Machine {
     {
         self.learn();
         self.open_drain(context, Destination::Slice(0));
-        let mut spent = 0;
         'steps: loop {
             let action = self.reader_next();
-            if let Action::CallDestination = action {
+            let answer = if let Action::CallDestination = action {
                 let most = self.peekable().min(MOST_A_ROUND);
-                match self.destination_called(destination::taken(acts, spent, most)) {
-                    Some(answer) => return answer,
-                    None => {}
-                }
-                spent += 1;
+                let (taken, rest) = destination::next(acts, most);
+                acts = rest;
+                self.destination_called(taken)
             } else {
                 self.hear_reader(action);
-                match self.reader_goes(action) {
-                    Some(answer) => return answer,
-                    None => {}
-                }
+                self.reader_goes(action)
+            };
+            match answer {
+                Some(answer) => return answer,
+                None => {}
             }
         }
     }
@@ -186,7 +144,7 @@ impl Machine {
     {
         self.learn_steps();
         self.begin_writer();
-        self.fill_slice(None, bytes).count()
+        self.fill_whole(None, bytes, &[]).count()
     }
 
     /// Moves as many of the known bytes as fit to the front of `dest`, and answers how many.
@@ -218,8 +176,8 @@ impl Machine {
     {
         self.learn_steps();
         self.begin_writer();
-        counted(
-            self.fill_slice(Some(Context { waker, luck }), bytes)
+        without_failure(
+            self.fill_whole(Some(Context { waker, luck }), bytes, &[])
                 .copied(),
         )
     }
@@ -244,7 +202,7 @@ impl Machine {
         self.learn();
         self.learn_steps();
         self.begin_reader();
-        counted(
+        without_failure(
             self.drain_slice(Some(Context { waker, luck }), dest)
                 .copied(),
         )
@@ -268,7 +226,7 @@ impl Machine {
     {
         self.learn_steps();
         self.begin_writer();
-        self.fill_script(Some(Context { waker, luck }), acts)
+        self.fill_whole(Some(Context { waker, luck }), &[], acts)
             .copied()
     }
 

@@ -407,7 +407,7 @@ impl Machine {
         if is_failing { Err(Failed) } else { Ok(count) }
     }
 
-    pub(super) fn source_gave(&mut self, n: usize) -> Option<Answer>
+    fn source_gave(&mut self, n: usize) -> Option<Answer>
         requires next { write_action self.old.writer ≡ Action.CallSource }
         requires within { n ≤ length self.old.lent }
         ensures after { self.new ≡ round_left (moved n) self.old }
@@ -420,7 +420,7 @@ impl Machine {
     }
 
     // The source failed, which was lent places as one that gives bytes is.
-    pub(super) fn source_failed(&mut self) -> Option<Answer>
+    fn source_failed(&mut self) -> Option<Answer>
         requires next { write_action self.old.writer ≡ Action.CallSource }
         requires lent { Lendable MOST_A_ROUND self.old (length self.old.lent) }
         ensures after { self.new ≡ round_left failed self.old }
@@ -432,16 +432,28 @@ impl Machine {
         settle_writer(self.alloc, &mut self.writer_call, &mut self.source, answer)
     }
 
+    // The source gave so many bytes, or failed.
+    pub(super) fn source_called(&mut self, given: Result<usize, Failed>) -> Option<Answer>
+        requires next { write_action self.old.writer ≡ Action.CallSource }
+        requires lent { Lendable MOST_A_ROUND self.old (length self.old.lent) }
+        requires within { moved_by given ≤ length self.old.lent }
+        ensures after { self.new ≡ round_left (found_of given) self.old }
+        ensures answer { result ≡ round_answer (found_of given) self.old }
+    {
+        match given {
+            Ok(n) => self.source_gave(n),
+            Err(Failed) => self.source_failed(),
+        }
+    }
+
     fn writer_calls_source(&mut self) -> Option<Answer>
         requires { write_action self.old.writer ≡ Action.CallSource }
         ensures after { self.new ≡ (stepped self.new.lent (Step.Go Side.Writer) self.old).pipe }
         ensures answer { result ≡ (stepped self.new.lent (Step.Go Side.Writer) self.old).answer }
         ensures lent { MayLend self.new.lent (Step.Go Side.Writer) self.old }
     {
-        match self.offer_source() {
-            Ok(n) => self.source_gave(n),
-            Err(Failed) => self.source_failed(),
-        }
+        let given = self.offer_source();
+        self.source_called(given)
     }
 
     /// Makes the writer's next step, which is of this kind.

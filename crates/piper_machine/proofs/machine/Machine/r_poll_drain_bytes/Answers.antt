@@ -4,9 +4,9 @@ use Rattle.piper_sides.specs.declared.calls.Call.TheVariants as call
 use Rattle.piper_machine.specs.Look.{context}
 use Rattle.piper_machine.specs.Copy.{drain, count_of}
 use Rattle.piper_machine.specs.Alone.{Ended}
-use Rattle.piper_machine.specs.BySteps.{counted}
+use Rattle.piper_machine.specs.BySteps.{without_failure}
 use Rattle.piper_machine.proofs.Draining.{IsCounted, drain-counts, counted-bytes}
-use Rattle.piper_machine.proofs.Resting.{drains, counted-unfailing}
+use Rattle.piper_machine.proofs.Resting.{drains, without_failure-unfailing}
 use Rattle.piper_machine.proofs.machine.Machine.r_poll_drain_bytes.Goals as goal
 
 pub returns-clause-answer : goal.returns-clause-answer
@@ -15,9 +15,9 @@ returns-clause-answer c =
     let size = length c.args.dest.now in
     let begins = c.begin_reader.ensures in
     let ended = drains cx size c.args.self.now c.begin_reader.new.self (record { idle = c.requires.idle; of_call = begins.call; destination = begins.destination; begins = begins.after }) in
-    c.counted.ensures
-    ∙ ap counted (c.copied.ensures ∙ ap copied_in c.drain_slice.ensures.answer ∙ ap (λ (e : Ended). copied_in e.answer) ended)
-    ∙ counted-unfailing (drain (Some cx) size c.args.self.now).answer
+    c.without_failure.ensures
+    ∙ ap without_failure (c.copied.ensures ∙ ap copied_in c.drain_slice.ensures.answer ∙ ap (λ (e : Ended). copied_in e.answer) ended)
+    ∙ without_failure-unfailing (drain (Some cx) size c.args.self.now).answer
 
 pub returns-clause-bytes : goal.returns-clause-bytes
 returns-clause-bytes c =
@@ -26,12 +26,12 @@ returns-clause-bytes c =
     let begins = c.begin_reader.ensures in
     let cx = context c.args.waker c.args.luck in
     let ended = drains cx size p c.begin_reader.new.self (record { idle = c.requires.idle; of_call = begins.call; destination = begins.destination; begins = begins.after }) in
-    let count : count_of c.counted.result ≡ count_of (drain (Some cx) size p).answer = ap count_of (returns-clause-answer c) in
+    let count : count_of c.without_failure.result ≡ count_of (drain (Some cx) size p).answer = ap count_of (returns-clause-answer c) in
     let left = ap (λ (e : Ended). e.pipe.unread) ended in
     let counts = drain-counts (Some cx) size p c.learn.ensures.known in
     let unread : c.drain_slice.new.self.unread ≡ (drain (Some cx) size p).pipe.unread = ap (λ v. v.unread) c.drain_slice.ensures.after ∙ left in
     let is = subst (λ (n : ℕ). IsCounted p.unread n c.drain_slice.new.self.unread) (sym count) (subst (λ (bytes : List ℕ). IsCounted p.unread (count_of (drain (Some cx) size p).answer) bytes) (sym unread) counts) in
-    counted-bytes (count_of c.counted.result) p.unread c.drain_slice.new.self.unread c.args.dest.now c.drain_slice.new.dest is (rw begins.after at c.drain_slice.ensures.bytes)
+    counted-bytes (count_of c.without_failure.result) p.unread c.drain_slice.new.self.unread c.args.dest.now c.drain_slice.new.dest is (rw begins.after at c.drain_slice.ensures.bytes)
 
 pub returns-clause-after : goal.returns-clause-after
 returns-clause-after c =

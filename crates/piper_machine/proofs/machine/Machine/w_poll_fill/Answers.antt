@@ -10,13 +10,13 @@ pub returns-clause-answer : goal.returns-clause-answer
 returns-clause-answer c =
     let begins = c.begin_writer.ensures in
     let ended = fills-from (context c.args.waker c.args.luck) c.args.acts.now c.args.self.now c.begin_writer.new.self (record { idle = c.requires.idle; of_call = begins.call; source = begins.source; begins = begins.after }) in
-    c.copied.ensures ∙ ap copied_in c.fill_script.ensures.answer ∙ ap (λ (e : Ended). copied_in e.answer) ended
+    c.copied.ensures ∙ ap copied_in c.fill_whole.ensures.answer ∙ ap (λ (e : Ended). copied_in e.answer) ended
 
 pub returns-clause-after : goal.returns-clause-after
 returns-clause-after c =
     let begins = c.begin_writer.ensures in
     let ended = fills-from (context c.args.waker c.args.luck) c.args.acts.now c.args.self.now c.begin_writer.new.self (record { idle = c.requires.idle; of_call = begins.call; source = begins.source; begins = begins.after }) in
-    c.fill_script.ensures.after ∙ ap (λ (e : Ended). e.pipe) ended
+    c.fill_whole.ensures.after ∙ ap (λ (e : Ended). e.pipe) ended
 
 pub returns-clause-by_steps : goal.returns-clause-by_steps
 returns-clause-by_steps c = c.learn_steps.ensures (call.PollFill c.args.waker c.args.luck c.args.acts.now)

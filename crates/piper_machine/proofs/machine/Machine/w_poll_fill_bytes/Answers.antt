@@ -4,8 +4,8 @@ use Rattle.piper_sides.specs.declared.calls.Call.TheVariants as call
 use Rattle.piper_machine.specs.Look.{context}
 use Rattle.piper_machine.specs.Copy.{fill}
 use Rattle.piper_machine.specs.Alone.{Ended}
-use Rattle.piper_machine.specs.BySteps.{counted}
-use Rattle.piper_machine.proofs.Resting.{fills, counted-unfailing}
+use Rattle.piper_machine.specs.BySteps.{without_failure}
+use Rattle.piper_machine.proofs.Resting.{fills, without_failure-unfailing}
 use Rattle.piper_machine.proofs.machine.Machine.w_poll_fill_bytes.Goals as goal
 
 pub returns-clause-answer : goal.returns-clause-answer
@@ -13,15 +13,15 @@ returns-clause-answer c =
     let cx = context c.args.waker c.args.luck in
     let begins = c.begin_writer.ensures in
     let ended = fills cx c.args.bytes.now c.args.self.now c.begin_writer.new.self (record { idle = c.requires.idle; of_call = begins.call; source = begins.source; begins = begins.after }) in
-    c.counted.ensures
-    ∙ ap counted (c.copied.ensures ∙ ap copied_in c.fill_slice.ensures.answer ∙ ap (λ (e : Ended). copied_in e.answer) ended)
-    ∙ counted-unfailing (fill (Some cx) c.args.bytes.now c.args.self.now).answer
+    c.without_failure.ensures
+    ∙ ap without_failure (c.copied.ensures ∙ ap copied_in c.fill_whole.ensures.answer ∙ ap (λ (e : Ended). copied_in e.answer) ended)
+    ∙ without_failure-unfailing (fill (Some cx) c.args.bytes.now c.args.self.now).answer
 
 pub returns-clause-after : goal.returns-clause-after
 returns-clause-after c =
     let begins = c.begin_writer.ensures in
     let ended = fills (context c.args.waker c.args.luck) c.args.bytes.now c.args.self.now c.begin_writer.new.self (record { idle = c.requires.idle; of_call = begins.call; source = begins.source; begins = begins.after }) in
-    c.fill_slice.ensures.after ∙ ap (λ (e : Ended). e.pipe) ended
+    c.fill_whole.ensures.after ∙ ap (λ (e : Ended). e.pipe) ended
 
 pub returns-clause-by_steps : goal.returns-clause-by_steps
 returns-clause-by_steps c = c.learn_steps.ensures (call.PollFillBytes c.args.waker c.args.luck c.args.bytes.now)

@@ -9,13 +9,13 @@ pub returns-clause-count : goal.returns-clause-count
 returns-clause-count c =
     let begins = c.begin_writer.ensures in
     let ended = try_fills c.args.bytes.now c.args.self.now c.begin_writer.new.self (record { idle = c.requires; of_call = begins.call; source = begins.source; begins = begins.after }) in
-    c.count.ensures ∙ ap count_in (c.fill_slice.ensures.answer ∙ ap (λ (e : Ended). e.answer) ended)
+    c.count.ensures ∙ ap count_in (c.fill_whole.ensures.answer ∙ ap (λ (e : Ended). e.answer) ended)
 
 pub returns-clause-after : goal.returns-clause-after
 returns-clause-after c =
     let begins = c.begin_writer.ensures in
     let ended = try_fills c.args.bytes.now c.args.self.now c.begin_writer.new.self (record { idle = c.requires; of_call = begins.call; source = begins.source; begins = begins.after }) in
-    c.fill_slice.ensures.after ∙ ap (λ (e : Ended). e.pipe) ended
+    c.fill_whole.ensures.after ∙ ap (λ (e : Ended). e.pipe) ended
 
 pub returns-clause-by_steps : goal.returns-clause-by_steps
 returns-clause-by_steps c = c.learn_steps.ensures (call.TryFill c.args.bytes.now)
