@@ -1,7 +1,7 @@
 //! Lines move through a pipe in turn, on one thread: each goes in by the slices that the writer lends, and is taken out whole.
 
 use crate::pipes::{Fill, InPlace};
-use crate::rings::{ByLibrary, add_piece};
+use crate::rings::{BYTE, ByLibrary, add_piece};
 use futures::task::{Context, Poll};
 use futures::test::MockTask;
 use piper::{OwnedReader, OwnedWriter, PipeError, Writer};
@@ -10,9 +10,6 @@ use std::alloc::AllocGlobal;
 use std::io;
 use std::random::RandomSource;
 use std::sync::Wait;
-
-/// The byte that the lines are made of.
-const BYTE: u8 = 7;
 
 /// Puts `total` bytes of lines in and takes them out again, in turn. It answers the checksum.
 #[inline(never)]

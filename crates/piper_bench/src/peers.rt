@@ -1,8 +1,8 @@
 //! Bytes move from one thread to another by other means of the toolchain: a stream in memory, and a channel of pieces; and a pipe by the same loops beside them.
 
+use crate::movers::{MoveAll, Mover};
 use crate::rings::add_piece;
 use crossbeam_channel::{Receiver, Sender};
-use futures::Future;
 use futures::executor::block_on;
 use futures::task::{Context, Poll};
 use std::marker::Send;
@@ -14,59 +14,59 @@ use tokio::io::{AsyncRead, AsyncWrite};
 
 /// Writes what is left of so many bytes.
 #[derive(Drop)]
-struct WriteAll<'a, R, W> {
-    rt: &'a R,
+struct Writing<'a, W> {
     writer: W,
     source: &'a [u8],
     left: usize,
 }
 
-impl<R: Wait, W: AsyncWrite> Future for WriteAll<'_, R, W> {
-    type Output = io::Result<()>;
+impl<W: AsyncWrite> Mover for Writing<'_, W> {
+    type Error = io::Error;
 
-    ghost needs = { λ future. W.needs future.writer };
+    ghost needs = { λ mover. W.needs mover.writer };
 
-    fn poll(&mut self, cx: &mut Context<'_>) -> Poll<io::Result<()>> {
-        for _ in self.rt.forever() {
-            if self.left == 0 {
-                return Poll::Ready(Ok(()));
-            }
-            let piece = &self.source[..self.left.min(self.source.len())];
-            match self.writer.poll_write(cx, piece) {
-                Poll::Pending => return Poll::Pending,
-                Poll::Ready(Err(error)) => return Poll::Ready(Err(error)),
-                Poll::Ready(Ok(0)) => return Poll::Ready(Err(io::ErrorKind::WriteZero.into())),
-                Poll::Ready(Ok(n)) => self.left = self.left.saturating_sub(n),
-            }
+    #[inline(always)]
+    fn move_piece(&mut self, cx: &mut Context<'_>) -> Poll<io::Result<usize>> {
+        let piece = &self.source[..self.left.min(self.source.len())];
+        if piece.is_empty() {
+            return Poll::Ready(Ok(0));
         }
-        unreachable!()
+        let written = self.writer.poll_write(cx, piece);
+        if let Poll::Ready(Ok(n)) = &written {
+            self.left = self.left.saturating_sub(*n);
+        }
+        written
+    }
+
+    fn checksum(&self) -> u64 {
+        0
     }
 }
 
 /// Reads up to the end.
 #[derive(Drop)]
-struct ReadAll<'a, R, I> {
-    rt: &'a R,
+struct Reading<'a, I> {
     reader: I,
     place: &'a mut [u8],
     checksum: u64,
 }
 
-impl<R: Wait, I: AsyncRead> Future for ReadAll<'_, R, I> {
-    type Output = io::Result<u64>;
+impl<I: AsyncRead> Mover for Reading<'_, I> {
+    type Error = io::Error;
 
-    ghost needs = { λ future. I.needs future.reader };
+    ghost needs = { λ mover. I.needs mover.reader };
 
-    fn poll(&mut self, cx: &mut Context<'_>) -> Poll<io::Result<u64>> {
-        for _ in self.rt.forever() {
-            match self.reader.poll_read(cx, self.place) {
-                Poll::Pending => return Poll::Pending,
-                Poll::Ready(Err(error)) => return Poll::Ready(Err(error)),
-                Poll::Ready(Ok(0)) => return Poll::Ready(Ok(self.checksum)),
-                Poll::Ready(Ok(n)) => self.checksum = add_piece(self.checksum, self.place, n),
-            }
+    #[inline(always)]
+    fn move_piece(&mut self, cx: &mut Context<'_>) -> Poll<io::Result<usize>> {
+        let read = self.reader.poll_read(cx, self.place);
+        if let Poll::Ready(Ok(n)) = &read {
+            self.checksum = add_piece(self.checksum, self.place, *n);
         }
-        unreachable!()
+        read
+    }
+
+    fn checksum(&self) -> u64 {
+        self.checksum
     }
 }
 
@@ -83,28 +83,35 @@ where
     I: AsyncRead + Send,
     O: AsyncWrite + Send,
 {
-    let writing = WriteAll {
-        rt,
+    let writing = Writing {
         writer,
         source,
         left,
     };
-    let reading = ReadAll {
-        rt,
+    let reading = Reading {
         reader,
         place,
         checksum: 0,
     };
     let (written, read) = thread::join(
         rt,
-        move || block_on(rt, writing),
-        move || block_on(rt, reading),
+        move || block_on(rt, MoveAll { rt, mover: writing }),
+        move || block_on(rt, MoveAll { rt, mover: reading }),
     );
     written??;
     read?
 }
 
-// Sends `total` bytes, each piece in memory of its own.
+// Sends a piece in memory of its own.
+fn send_piece<R>(rt: &R, sender: &Sender<Vec<u8>>, piece: &[u8]) -> io::Result<()>
+where
+    R: Wait + AllocGlobal,
+{
+    sender.send(rt, piece.to_vec(rt.alloc())?)?;
+    Ok(())
+}
+
+// Sends `total` bytes, piece by piece.
 fn send_all<R>(rt: &R, sender: Sender<Vec<u8>>, source: &[u8], total: usize) -> io::Result<()>
 where
     R: Wait + AllocGlobal,
@@ -115,8 +122,8 @@ where
             return Ok(());
         }
         let piece = &source[..left.min(source.len())];
-        left -= piece.len();
-        sender.send(rt, piece.to_vec(rt.alloc())?)?;
+        send_piece(rt, &sender, piece)?;
+        left = left.saturating_sub(piece.len());
     }
     unreachable!()
 }

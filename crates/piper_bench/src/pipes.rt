@@ -4,8 +4,9 @@ ghost use Rattle.futures.specs.Poll.{OnPending};
 ghost use Rattle.futures.specs.Task.{Covers, Keeps};
 ghost use Rattle.piper.specs.Handles.{read_source, write_source};
 
+use crate::movers::{MoveAll, Mover};
 use crate::rings::{ByLibrary, ByLoop, Copying, add_piece};
-use futures::Future;
+use crate::work::Work;
 use futures::executor::block_on;
 use futures::task::{Context, Poll};
 use futures::test::MockTask;
@@ -203,61 +204,61 @@ fn in_turn<F: Fill + Drop, D: Drain + Drop, H: Wait + Clone + Drop>(
 
 /// Puts in what is left of so many bytes, or less where the pipe is closed.
 #[derive(Drop)]
-struct FillAll<'a, F: Drop, R, H: Wait + Clone + Drop> {
-    rt: &'a R,
+struct Filling<'a, F: Drop, H: Wait + Clone + Drop> {
     way: F,
     writer: &'a mut Writer<H>,
     source: &'a [u8],
     left: usize,
 }
 
-impl<F: Fill + Drop, R: Wait, H: Wait + Clone + Drop> Future for FillAll<'_, F, R, H> {
-    type Output = Result<(), OutOfMemory>;
+impl<F: Fill + Drop, H: Wait + Clone + Drop> Mover for Filling<'_, F, H> {
+    type Error = OutOfMemory;
 
-    ghost needs = { λ future s. s ≡ write_source future.writer.now };
+    ghost needs = { λ mover s. s ≡ write_source mover.writer.now };
 
-    fn poll(&mut self, cx: &mut Context<'_>) -> Poll<Result<(), OutOfMemory>> {
-        for _ in self.rt.forever() {
-            let piece = &self.source[..self.left.min(self.source.len())];
-            match self.way.fill::<ByLoop, H>(self.writer, cx, piece) {
-                Poll::Pending => return Poll::Pending,
-                Poll::Ready(Err(refused)) => return Poll::Ready(Err(refused)),
-                Poll::Ready(Ok(0)) => return Poll::Ready(Ok(())),
-                Poll::Ready(Ok(n)) => self.left = self.left.saturating_sub(n),
-            }
-            if self.left == 0 {
-                return Poll::Ready(Ok(()));
-            }
+    #[inline(always)]
+    fn move_piece(&mut self, cx: &mut Context<'_>) -> Poll<Result<usize, OutOfMemory>> {
+        let piece = &self.source[..self.left.min(self.source.len())];
+        if piece.is_empty() {
+            return Poll::Ready(Ok(0));
         }
-        unreachable!()
+        let filled = self.way.fill::<ByLoop, H>(self.writer, cx, piece);
+        if let Poll::Ready(Ok(n)) = &filled {
+            self.left = self.left.saturating_sub(*n);
+        }
+        filled
+    }
+
+    fn checksum(&self) -> u64 {
+        0
     }
 }
 
 /// Takes bytes out up to the end of the pipe.
 #[derive(Drop)]
-struct DrainAll<'a, D: Drop, R, H: Wait + Clone + Drop> {
-    rt: &'a R,
+struct Draining<'a, D: Drop, H: Wait + Clone + Drop> {
     way: D,
     reader: &'a mut Reader<H>,
     place: &'a mut [u8],
     checksum: u64,
 }
 
-impl<D: Drain + Drop, R: Wait, H: Wait + Clone + Drop> Future for DrainAll<'_, D, R, H> {
-    type Output = Result<u64, OutOfMemory>;
+impl<D: Drain + Drop, H: Wait + Clone + Drop> Mover for Draining<'_, D, H> {
+    type Error = OutOfMemory;
 
-    ghost needs = { λ future s. s ≡ read_source future.reader.now };
+    ghost needs = { λ mover s. s ≡ read_source mover.reader.now };
 
-    fn poll(&mut self, cx: &mut Context<'_>) -> Poll<Result<u64, OutOfMemory>> {
-        for _ in self.rt.forever() {
-            match self.way.drain::<ByLoop, H>(self.reader, cx, self.place) {
-                Poll::Pending => return Poll::Pending,
-                Poll::Ready(Err(refused)) => return Poll::Ready(Err(refused)),
-                Poll::Ready(Ok(0)) => return Poll::Ready(Ok(self.checksum)),
-                Poll::Ready(Ok(n)) => self.checksum = add_piece(self.checksum, self.place, n),
-            }
+    #[inline(always)]
+    fn move_piece(&mut self, cx: &mut Context<'_>) -> Poll<Result<usize, OutOfMemory>> {
+        let drained = self.way.drain::<ByLoop, H>(self.reader, cx, self.place);
+        if let Poll::Ready(Ok(n)) = &drained {
+            self.checksum = add_piece(self.checksum, self.place, *n);
         }
-        unreachable!()
+        drained
+    }
+
+    fn checksum(&self) -> u64 {
+        self.checksum
     }
 }
 
@@ -267,18 +268,15 @@ fn fill_all<F: Fill + Drop, R: Wait + RandomSource + AllocGlobal, H: Wait + Clon
     mut writer: OwnedWriter<H>,
     source: &[u8],
     left: usize,
-) -> io::Result<Result<(), OutOfMemory>> {
+) -> io::Result<Result<u64, OutOfMemory>> {
     let writer = writer.get_mut();
-    block_on(
-        rt,
-        FillAll {
-            rt,
-            way,
-            writer,
-            source,
-            left,
-        },
-    )
+    let mover = Filling {
+        way,
+        writer,
+        source,
+        left,
+    };
+    block_on(rt, MoveAll { rt, mover })
 }
 
 fn drain_all<D: Drain + Drop, R: Wait + RandomSource + AllocGlobal, H: Wait + Clone + Drop>(
@@ -288,16 +286,13 @@ fn drain_all<D: Drain + Drop, R: Wait + RandomSource + AllocGlobal, H: Wait + Cl
     place: &mut [u8],
 ) -> io::Result<Result<u64, OutOfMemory>> {
     let reader = reader.get_mut();
-    block_on(
-        rt,
-        DrainAll {
-            rt,
-            way,
-            reader,
-            place,
-            checksum: 0,
-        },
-    )
+    let mover = Draining {
+        way,
+        reader,
+        place,
+        checksum: 0,
+    };
+    block_on(rt, MoveAll { rt, mover })
 }
 
 /// Moves the bytes through a pipe, and answers the checksum: on one thread under this task, between two under a task each.
@@ -306,10 +301,9 @@ pub fn through_pipe<F, D, R>(
     task: &MockTask,
     ways: (F, D),
     handles: (OwnedReader<R>, OwnedWriter<R>),
-    is_shared: bool,
+    work: Work,
     source: &[u8],
     place: &mut [u8],
-    total: usize,
 ) -> io::Result<u64>
 where
     F: Fill + Drop + Send,
@@ -318,7 +312,8 @@ where
 {
     let (mut reader, mut writer) = handles;
     let (by_fill, by_drain) = ways;
-    let moved = if is_shared {
+    let total = work.total;
+    let moved = if work.is_shared_pipe() {
         let (filled, drained) = thread::join(
             rt,
             move || fill_all(rt, by_fill, writer, source, total),

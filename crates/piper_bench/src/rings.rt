@@ -6,6 +6,9 @@ use rtrb::{Consumer, Producer};
 use std::sync::Wait;
 use std::thread;
 
+/// The byte that all pieces are made of.
+pub const BYTE: u8 = 7;
+
 /// Up to so many bytes are copied without a call.
 const FEW: usize = 256;
 
@@ -233,8 +236,8 @@ pub fn get_all<O: Output + Drop>(
 /// How often an end that finds nothing to do lets the other thread go on before it looks again: the more often the shorter pieces are, as far as the ring has room. An end that came back at once would stand at the other's heels, and then both wait for the same cache line at each piece.
 pub fn yields(capacity: usize, chunk: usize) -> usize
     requires { 0 < chunk }
-    ensures { result ≡ min MOST_YIELDS
-        (max 1 (min (AHEAD / chunk) (capacity / chunk / PIECES_A_YIELD))) }
+    ensures { let by_length = AHEAD / chunk in let by_room = capacity / chunk / PIECES_A_YIELD in
+        result ≡ min MOST_YIELDS (max 1 (min by_length by_room)) }
 {
     let held = capacity / chunk;
     (AHEAD / chunk)
@@ -259,4 +262,9 @@ pub fn add_piece(checksum: u64, place: &[u8], n: usize) -> u64
         Some(first) => checksum.wrapping_add((n as u64).wrapping_mul(*first as u64)),
         None => checksum,
     }
+}
+
+/// What so many bytes come to, however they are cut.
+pub fn checksum_of(total: usize) -> u64 {
+    add_piece(0, &[BYTE], total)
 }

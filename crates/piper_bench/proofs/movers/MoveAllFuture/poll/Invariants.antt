@@ -1,6 +1,6 @@
 -- It is still a poll of the same task.
 use Rattle.futures.specs.Task.{Keeps}
-use Rattle.piper_bench.proofs.pipes.FillAllFuture.poll.Given as goal
+use Rattle.piper_bench.proofs.movers.MoveAllFuture.poll.Given as goal
 
 abbrev pub invariant-loop : goal.invariant-loop
 invariant-loop g l =

@@ -1,0 +1,117 @@
+//! The means that bytes go through, and the words for them.
+
+/// Each means by its word, in the order in which a run without arguments makes them.
+pub const WORDS: [(&str, What); 17] = [
+    ("ring", What::Ring { is_shared: false }),
+    ("ring2", What::Ring { is_shared: true }),
+    ("rtrb", What::Rtrb { is_shared: false }),
+    ("rtrb2", What::Rtrb { is_shared: true }),
+    ("machine", What::Machine),
+    ("copy", What::Copies),
+    (
+        "pipe",
+        What::Pipe {
+            way: Way::Try,
+            is_shared: false,
+        },
+    ),
+    (
+        "pipe2",
+        What::Pipe {
+            way: Way::Try,
+            is_shared: true,
+        },
+    ),
+    (
+        "inplace",
+        What::Pipe {
+            way: Way::InPlace,
+            is_shared: false,
+        },
+    ),
+    (
+        "inplace2",
+        What::Pipe {
+            way: Way::InPlace,
+            is_shared: true,
+        },
+    ),
+    (
+        "fill",
+        What::Pipe {
+            way: Way::Fill,
+            is_shared: false,
+        },
+    ),
+    (
+        "drain",
+        What::Pipe {
+            way: Way::Drain,
+            is_shared: false,
+        },
+    ),
+    (
+        "filldrain",
+        What::Pipe {
+            way: Way::FillDrain,
+            is_shared: false,
+        },
+    ),
+    ("lines", What::Lines),
+    ("tokio2", What::Peer(Peer::Pipe)),
+    ("stream2", What::Peer(Peer::Stream)),
+    ("channel2", What::Peer(Peer::Channel)),
+];
+
+/// What the bytes go through. The ends of a ring that is shared are each on a thread of their own.
+#[derive(Clone, Copy)]
+pub enum What {
+    Ring { is_shared: bool },
+    Rtrb { is_shared: bool },
+    Pipe { way: Way, is_shared: bool },
+    Lines,
+    Peer(Peer),
+    Machine,
+    Copies,
+}
+
+/// By which calls of the handles bytes go through a pipe.
+#[derive(Clone, Copy)]
+pub enum Way {
+    /// Both try forms.
+    Try,
+    /// Polls and lent slices on both sides.
+    InPlace,
+    /// In by the copy that waits.
+    Fill,
+    /// Out by the copy that waits.
+    Drain,
+    /// In and out by the copies that wait.
+    FillDrain,
+}
+
+/// What else moves bytes between two threads.
+#[derive(Clone, Copy)]
+pub enum Peer {
+    /// A pipe, by the traits of `tokio`.
+    Pipe,
+    /// The stream in memory of `tokio`.
+    Stream,
+    /// A bounded channel of pieces.
+    Channel,
+}
+
+impl What {
+    pub fn of(word: &str) -> Option<What> {
+        named(&WORDS, word)
+    }
+}
+
+fn named(words: &[(&str, What)], word: &str) -> Option<What> {
+    for (name, what) in words {
+        if *name == word {
+            return Some(*what);
+        }
+    }
+    None
+}

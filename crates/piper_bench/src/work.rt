@@ -1,0 +1,281 @@
+//! One run: the bytes go through one means, and the clock tells how long that took.
+ghost use Rattle.std.specs.Prelude.{◌<◌, ◌≤◌, ◌^◌};
+
+use crate::lines::through_lines;
+use crate::means::{Peer, Way, What};
+use crate::one_owner;
+use crate::peers::{through_channel, through_stream};
+use crate::pipes::{Copies, InPlace, TryForms, through_pipe};
+use crate::rings::{BYTE, Input, Output, get_all, in_turn, put_all, yields};
+use crossbeam_channel::{Receiver, Sender, bounded};
+use futures::test::MockTask;
+use piper::{OutOfMemory, OwnedReader, OwnedWriter, ReadEnd, WriteEnd, open_ring, pipe};
+use piper_machine::machine::Machine;
+use piper_tokio::{CompatReader, CompatWriter};
+use rtrb::RingBuffer;
+use std::alloc::AllocError;
+use std::marker::Send;
+use std::random::RandomSource;
+use std::rt::Clock;
+use std::sync::Wait;
+use std::thread::Threads;
+use std::time::{Duration, Instant};
+use std::{io, thread};
+use tokio::io::{AsyncRead, AsyncWrite};
+
+/// The longest piece.
+const LONGEST: usize = 16_777_216;
+
+/// So many bytes lie between what one thread writes and what the other reads, so that they share no cache line.
+const APART: usize = 128;
+
+/// What a run is to do.
+#[derive(Clone, Copy)]
+pub struct Work {
+    pub what: What,
+    pub capacity: usize,
+    pub chunk: usize,
+    pub total: usize,
+    ghost fits: { (0 < capacity) × (capacity < 2 ^ 63) × (0 < chunk) × (chunk ≤ 16_777_216) },
+}
+
+impl Work {
+    /// A run with these sizes, where they are within the limits.
+    pub fn new(what: What, capacity: usize, chunk: usize, total: usize) -> Option<Work> {
+        if capacity == 0 || capacity > usize::MAX / 2 || chunk == 0 || chunk > LONGEST {
+            return None;
+        }
+        Some(Work {
+            what,
+            capacity,
+            chunk,
+            total,
+        })
+    }
+
+    /// Whether it moves them through a pipe from one thread to another.
+    pub fn is_shared_pipe(&self) -> bool {
+        match self.what {
+            What::Pipe { way: _, is_shared } => is_shared,
+            _ => false,
+        }
+    }
+
+    /// In how many pieces it moves them, or one where there are no bytes.
+    pub fn pieces(&self) -> usize
+        ensures { 0 < result }
+    {
+        self.total.div_ceil(self.chunk).max(1)
+    }
+}
+
+/// Does the work, and answers how long it took and the checksum.
+pub fn run<R>(rt: &R, work: Work) -> io::Result<(Duration, u64)>
+where
+    R: Wait + Threads + Clock + Print + RandomSource + AllocGlobal + Clone + Drop + Send + Sync,
+{
+    let source = vec![in rt.alloc(); BYTE; work.chunk + APART]?;
+    let mut place = vec![in rt.alloc(); 0u8; APART + work.chunk + APART]?;
+    let place = &mut place[APART..APART + work.chunk];
+    through_means(rt, work, &source[..work.chunk], place)
+}
+
+fn through_means<R>(
+    rt: &R,
+    work: Work,
+    source: &[u8],
+    place: &mut [u8],
+) -> io::Result<(Duration, u64)>
+where
+    R: Wait + Threads + Clock + Print + RandomSource + AllocGlobal + Clone + Drop + Send + Sync,
+{
+    match work.what {
+        What::Ring { is_shared } => {
+            let (reader, writer) = ring_of(rt, work)?;
+            move_bytes(rt, is_shared, work, writer, reader, source, place)
+        }
+        What::Rtrb { is_shared } => {
+            let (producer, consumer) = RingBuffer::new(rt.alloc(), work.capacity)?;
+            move_bytes(rt, is_shared, work, producer, consumer, source, place)
+        }
+        What::Pipe { way, is_shared: _ } => through_way(rt, way, work, source, place),
+        What::Lines => lines_through_pipe(rt, work),
+        What::Peer(peer) => through_peer(rt, peer, work, source, place),
+        What::Machine => {
+            let machine = machine_of(rt, work)?;
+            let start = Instant::now(rt)?;
+            let checksum = one_owner::through_machine(rt, machine, source, place, work.total);
+            Ok((start.elapsed(rt)?, checksum))
+        }
+        What::Copies => {
+            let mut buffer = vec![in rt.alloc(); 0u8; work.capacity]?;
+            let start = Instant::now(rt)?;
+            let checksum = one_owner::through_buffer(rt, &mut buffer, source, place, work.total);
+            Ok((start.elapsed(rt)?, checksum))
+        }
+    }
+}
+
+/// Moves lines through the handles of a pipe, and answers how long it took and the checksum.
+fn lines_through_pipe<R>(rt: &R, work: Work) -> io::Result<(Duration, u64)>
+where
+    R: Wait + Clock + RandomSource + AllocGlobal + Clone + Drop,
+{
+    let handles = pipe_of(rt, work)?;
+    let start = Instant::now(rt)?;
+    let checksum = through_lines(rt, handles, work.chunk, work.total)?;
+    Ok((start.elapsed(rt)?, checksum))
+}
+
+/// Moves the bytes through the handles of a pipe, and answers how long it took and the checksum.
+fn through_way<R>(
+    rt: &R,
+    way: Way,
+    work: Work,
+    source: &[u8],
+    place: &mut [u8],
+) -> io::Result<(Duration, u64)>
+where
+    R: Wait + Threads + Clock + RandomSource + AllocGlobal + Clone + Drop + Send + Sync,
+{
+    let handles = pipe_of(rt, work)?;
+    let task = MockTask::new(rt)?;
+    let start = Instant::now(rt)?;
+    let checksum = match way {
+        Way::Try => through_pipe(
+            rt,
+            &task,
+            (TryForms, TryForms),
+            handles,
+            work,
+            source,
+            place,
+        )?,
+        Way::InPlace => through_pipe(rt, &task, (InPlace, InPlace), handles, work, source, place)?,
+        Way::Fill => through_pipe(rt, &task, (Copies, TryForms), handles, work, source, place)?,
+        Way::Drain => through_pipe(rt, &task, (TryForms, Copies), handles, work, source, place)?,
+        Way::FillDrain => through_pipe(rt, &task, (Copies, Copies), handles, work, source, place)?,
+    };
+    Ok((start.elapsed(rt)?, checksum))
+}
+
+/// Moves the bytes through a peer, and answers how long it took and the checksum.
+fn through_peer<R>(
+    rt: &R,
+    peer: Peer,
+    work: Work,
+    source: &[u8],
+    place: &mut [u8],
+) -> io::Result<(Duration, u64)>
+where
+    R: Wait + Threads + Clock + RandomSource + AllocGlobal + Clone + Drop + Send + Sync,
+{
+    match peer {
+        Peer::Pipe => timed_stream(rt, compat_of(rt, work)?, work, source, place),
+        Peer::Stream => {
+            let ends = tokio::io::duplex(rt.alloc(), work.capacity)?;
+            timed_stream(rt, ends, work, source, place)
+        }
+        Peer::Channel => {
+            let ends = bounded(rt.alloc(), work.capacity.div_ceil(work.chunk))?;
+            timed_channel(rt, ends, work, source, place)
+        }
+    }
+}
+
+fn timed_stream<R, I, O>(
+    rt: &R,
+    ends: (I, O),
+    work: Work,
+    source: &[u8],
+    place: &mut [u8],
+) -> io::Result<(Duration, u64)>
+where
+    R: Wait + Threads + Clock + RandomSource + AllocGlobal + Sync,
+    I: AsyncRead + Send,
+    O: AsyncWrite + Send,
+{
+    let start = Instant::now(rt)?;
+    let checksum = through_stream(rt, ends, source, place, work.total)?;
+    Ok((start.elapsed(rt)?, checksum))
+}
+
+fn timed_channel<R>(
+    rt: &R,
+    ends: (Sender<Vec<u8>>, Receiver<Vec<u8>>),
+    work: Work,
+    source: &[u8],
+    place: &mut [u8],
+) -> io::Result<(Duration, u64)>
+where
+    R: Wait + Threads + Clock + AllocGlobal + Sync,
+{
+    let start = Instant::now(rt)?;
+    let checksum = through_channel(rt, ends, source, place, work.total)?;
+    Ok((start.elapsed(rt)?, checksum))
+}
+
+fn compat_of<R>(rt: &R, work: Work) -> Result<(CompatReader<R>, CompatWriter<R>), AllocError>
+where
+    R: Wait + AllocGlobal + Clone + Drop,
+{
+    match pipe(rt, rt.alloc(), work.capacity, 1) {
+        Ok((reader, writer)) => Ok((CompatReader::new(reader), CompatWriter::new(writer))),
+        Err(OutOfMemory) => Err(AllocError),
+    }
+}
+
+fn machine_of(
+    rt: &(impl Wait + Threads + Clock + Print + AllocGlobal + Sync),
+    work: Work,
+) -> Result<Machine, AllocError> {
+    match Machine::new(rt.alloc(), work.capacity) {
+        Ok(machine) => Ok(machine),
+        Err(OutOfMemory) => Err(AllocError),
+    }
+}
+
+fn ring_of(
+    rt: &(impl Wait + Threads + Clock + Print + AllocGlobal + Sync),
+    work: Work,
+) -> Result<(ReadEnd, WriteEnd), AllocError> {
+    match open_ring(rt.alloc(), work.capacity) {
+        Ok(ends) => Ok(ends),
+        Err(OutOfMemory) => Err(AllocError),
+    }
+}
+
+fn pipe_of<R>(rt: &R, work: Work) -> Result<(OwnedReader<R>, OwnedWriter<R>), AllocError>
+where
+    R: Wait + AllocGlobal + Clone + Drop,
+{
+    match pipe(rt, rt.alloc(), work.capacity, 1) {
+        Ok((reader, writer)) => Ok((OwnedReader::new(reader), OwnedWriter::new(writer))),
+        Err(OutOfMemory) => Err(AllocError),
+    }
+}
+
+/// Moves the bytes through a ring, and answers how long it took and the checksum.
+fn move_bytes<I: Input + Drop + Send, O: Output + Drop + Send>(
+    rt: &(impl Wait + Threads + Clock + Print + AllocGlobal + Sync),
+    is_shared: bool,
+    work: Work,
+    input: I,
+    output: O,
+    source: &[u8],
+    place: &mut [u8],
+) -> io::Result<(Duration, u64)> {
+    let yields = yields(work.capacity, work.chunk);
+    let start = Instant::now(rt)?;
+    let checksum = if is_shared {
+        let (_, checksum) = thread::join(
+            rt,
+            move || put_all(rt, input, source, work.total, yields),
+            move || get_all(rt, output, place, work.total, yields),
+        );
+        checksum
+    } else {
+        in_turn(rt, input, output, source, place, work.total)
+    };
+    Ok((start.elapsed(rt)?, checksum))
+}
