@@ -1,2 +1,4 @@
 pub mod Going
+pub mod Lines
+pub mod SaidLines
 pub mod Trials

@@ -1,6 +1,7 @@
 pub mod Arguments
 pub mod Ended
 pub mod Makes
+pub mod Output
 pub mod Played
 pub mod Steps
 pub mod StepsToRun

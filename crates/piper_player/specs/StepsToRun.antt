@@ -1,5 +1,6 @@
--- What a line adds to a script of steps.
-use Rattle.std.specs.Prelude.{◌≡◌, ℕ, List, [], ◌∷◌, ◌++◌, replicate, Option, None, Some}
+-- What a line adds to a script of steps, and which line says a step.
+use Rattle.std.specs.Prelude.{◌≡◌, ℕ, ◌≤◌, ◌<◌, List, [], ◌∷◌, ◌++◌, length, replicate, Option, None, Some}
+use Rattle.std.specs.List.{HoldsAt, AllWithin}
 use Rattle.piper_sides.specs.declared.calls.Call.{Call}
 use Rattle.piper_sides.specs.declared.calls.Step.{Step}
 use Rattle.piper_sides.specs.declared.calls.Step.TheVariants as step
@@ -40,3 +41,15 @@ pub record AddsLine (line : List ℕ) (capacity now : Option ℕ)
   pub said : Option Command
   pub says : Says line said
   pub adds : AddsSaid said capacity now before after
+
+-- how many steps there are up to the end of these lines, of which each has its number and its end
+abbrev pub last_end : ℕ → List (ℕ × ℕ) → ℕ
+last_end before [] = before
+last_end before (line ∷ lines) = last_end line.1 lines
+
+-- the line of this number says the step of this index: it is the first one that ends behind it
+pub record SaysStep (index number : ℕ) (lines : List (ℕ × ℕ)) : Type 0 where
+  pub place : ℕ
+  pub within : place < length lines
+  pub ends_behind : HoldsAt (λ line. (line.0 ≡ number) × (index < line.1)) lines place
+  pub first : AllWithin (λ line. line.1 ≤ index) lines 0 place

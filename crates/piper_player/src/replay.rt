@@ -3,6 +3,7 @@
 ghost use Rattle.std.specs.Prelude.{◌↔◌, codes, IsNone, IsOk, IfSome, IfErr, OnOk};
 ghost use Rattle.piper_player.specs.Ended.{EndsWith, IsEndOf};
 ghost use Rattle.piper_player.specs.Arguments.{IsWrong, AsksFor};
+ghost use Rattle.piper_player.specs.Output.{AnswersLine, Tells};
 ghost use Rattle.piper_player.specs.Played.{PlaysLine};
 
 use crate::orders::run_all;
@@ -166,7 +167,12 @@ fn answer_line<O: Write>(
     line: &[u8],
     reply: &mut Reply,
     output: &mut O,
-) -> Result<(), Stop> {
+) -> Result<(), Stop>
+    ensures answers { OnOk result (AnswersLine line.now player.old player.new
+        (O.contents output.old) (O.contents output.new)) }
+    ensures told { IfErr result (λ stop.
+        Tells number stop (O.contents output.old) (O.contents output.new)) }
+{
     reply.clear();
     let played = play_line(player, line, reply);
     if let Err(Stop::Refused(refusal)) = played {

@@ -1,13 +1,15 @@
 //! The mode `run`: a script of steps is read whole, and then run on a new machine.
 
-ghost use Rattle.std.specs.Prelude.{◌≡◌, ◌≤◌, ◌<◌, ◌+◌, [], ◌∷◌, ◌++◌, replicate, vec_len, None, IfOk, IfErr, OnOk, OnErr};
+ghost use Rattle.std.specs.Prelude.{◌≡◌, ◌≤◌, ◌<◌, ◌+◌, [], ◌∷◌, ◌++◌, replicate, vec_len, vec_capacity, None, IfOk, IfErr, OnOk, OnErr};
 ghost use Rattle.std.specs.Option.{ForSome};
-ghost use Rattle.piper_player.specs.StepsToRun.{AddsLine, most_steps_of_a_script};
+ghost use Rattle.piper_player.specs.Output.{event_lines, run_text, unread_line};
+ghost use Rattle.piper_player.specs.StepsToRun.{AddsLine, SaysStep, last_end, most_steps_of_a_script};
 ghost use Rattle.piper_sides.specs.Index.{IsCapacity};
+ghost use Rattle.piper_sides.specs.Log.{events};
 
 use crate::stream::{Lines, stopped, write_reply};
 use piper_machine::calls::{Side, Step};
-use piper_machine::events::Log;
+use piper_machine::events::{Event, Log};
 use piper_machine::machine::{self, Machine};
 use piper_machine::refusals::RunRefusal;
 use piper_script::command::{Command, Refusal, Steps};
@@ -15,7 +17,7 @@ use piper_script::parser::{MOST_OF_A_LINE, is_silent, parse};
 use piper_script::reply::Reply;
 use piper_script::stop::Stop;
 use std::alloc::{AllocError, Global};
-use std::io::{BufWriter, Read, Write};
+use std::io::{Read, Write};
 
 /// The most steps of a script.
 const MOST_STEPS: usize = 1_048_576;
@@ -31,6 +33,7 @@ struct StepsToRun {
     /// The number of the line that was read last.
     line: u64,
     ghost capacity_in_limits: { ForSome capacity IsCapacity },
+    ghost all_said: { last_end 0 lines.items ≡ vec_len steps },
 }
 
 impl StepsToRun {
@@ -95,6 +98,7 @@ impl StepsToRun {
     }
 
     // Adds the step of the line read last.
+    #[tactic(auto, using(crate::proofs::SaidLines::last_end_more))]
     fn add(&mut self, step: Step) -> Result<(), Stop>
         ensures step { OnOk result (self.new.steps.items ≡ self.old.steps.items ++ step ∷ []) }
         ensures line { OnOk result (self.new.lines.items
@@ -102,12 +106,14 @@ impl StepsToRun {
         ensures capacity { self.new.capacity ≡ self.old.capacity }
     {
         let end = self.end_of(1)?;
+        self.lines.reserve(1)?;
         self.steps.push(step).map_err(|_| Stop::Memory)?;
-        self.lines.push((self.line, end)).map_err(|_| Stop::Memory)?;
+        push_line(&mut self.lines, self.line, end);
         Ok(())
     }
 
     // Adds the steps of the line read last: so many of one side's open call.
+    #[tactic(auto, using(crate::proofs::SaidLines::last_end_more))]
     fn add_steps(&mut self, side: Side, count: usize) -> Result<(), Stop>
         ensures steps { OnOk result (self.new.steps.items
             ≡ self.old.steps.items ++ replicate count (Step.Go side)) }
@@ -116,8 +122,9 @@ impl StepsToRun {
         ensures capacity { self.new.capacity ≡ self.old.capacity }
     {
         let end = self.end_of(count)?;
+        self.lines.reserve(1)?;
         push_steps(&mut self.steps, side, count)?;
-        self.lines.push((self.line, end)).map_err(|_| Stop::Memory)?;
+        push_line(&mut self.lines, self.line, end);
         Ok(())
     }
 
@@ -136,20 +143,38 @@ impl StepsToRun {
     }
 
     // The number of the line that says the step of this index.
-    fn line_of(&self, index: usize) -> u64 {
-        let line = self.lines.iter().find(|(_, end)| index < *end);
-        line.map_or(self.line, |(number, _)| *number)
+    fn line_of(&self, index: usize) -> u64
+        ensures { index < vec_len self.now.steps → SaysStep index result self.now.lines.items }
+    {
+        match self.lines.iter().find(|(_, end)| index < *end) {
+            Some((number, _)) => *number,
+            None => self.line,
+        }
     }
 }
 
-// Adds so many steps of one side's open call.
+// Adds so many steps of one side's open call, or none where memory is refused.
 fn push_steps(steps: &mut Vec<Step>, side: Side, count: usize) -> Result<(), AllocError>
-    ensures { OnOk result (steps.new.items ≡ steps.old.items ++ replicate count (Step.Go side)) }
+    ensures added { OnOk result
+        (steps.new.items ≡ steps.old.items ++ replicate count (Step.Go side)) }
+    ensures len { OnOk result (vec_len steps.new ≡ vec_len steps.old + count) }
+    ensures same { OnErr result (vec_len steps.new ≡ vec_len steps.old) }
 {
+    steps.reserve(count)?;
     for _ in 0..count {
         steps.push(Step::Go(side))?;
     }
     Ok(())
+}
+
+// Adds a line, for which room was made before.
+fn push_line(lines: &mut Vec<(u64, usize)>, number: u64, end: usize)
+    requires { vec_len lines.old < vec_capacity lines.old }
+    ensures { lines.new.items ≡ lines.old.items ++ (number, end) ∷ [] }
+{
+    if lines.push((number, end)).is_err() {
+        unreachable!()
+    }
 }
 
 /// Reads the script that `input` gives to its end, runs its steps on a new machine, and writes what
@@ -163,7 +188,11 @@ pub fn run<I: Read, O: Write>(alloc: Global, input: &mut I, output: &mut O) -> R
         return Ok(());
     };
     match machine::run(alloc, capacity, script.steps.as_slice()) {
-        Ok((machine, log)) => print(alloc, &machine, &log, output),
+        Ok((machine, log)) => {
+            let mut reply = Reply::new(alloc);
+            write_run(&machine, &log, &mut reply)?;
+            write_reply(&reply, output)
+        }
         Err(RunRefusal::NoMachine) => Err(Stop::Memory),
         Err(RunRefusal::At(index, refusal)) => {
             stopped(alloc, script.line_of(index), Stop::from(refusal), output)
@@ -171,33 +200,32 @@ pub fn run<I: Read, O: Write>(alloc: Global, input: &mut I, output: &mut O) -> R
     }
 }
 
-// Prints the events, each on a line of its own, and the bytes that are left unread.
-fn print<O: Write>(
-    alloc: Global,
-    machine: &Machine,
-    log: &Log,
-    output: &mut O,
-) -> Result<(), Stop> {
+// Writes the events, each on a line of its own, and the bytes that are left unread.
+fn write_run(machine: &Machine, log: &Log, reply: &mut Reply) -> Result<(), Stop>
+    ensures { OnOk result (reply.new ≡ reply.old ++ run_text (events log.now) machine.now.unread) }
+{
     let unread = machine.unread()?;
-    let mut output = BufWriter::new(alloc, output).map_err(|_| Stop::Memory)?;
-    print_run(log, unread.as_slice(), &mut Reply::new(alloc), &mut output)
+    write_event_lines(log.events(), reply)?;
+    write_unread_line(unread.as_slice(), reply)?;
+    Ok(())
 }
 
-// Prints these, each line in place of what `reply` holds.
-fn print_run<O: Write>(
-    log: &Log,
-    unread: &[u8],
-    reply: &mut Reply,
-    output: &mut O,
-) -> Result<(), Stop> {
-    for event in log.events() {
-        reply.clear();
+// Writes each event on a line of its own.
+#[tactic(auto, using(crate::proofs::Lines::lines_more))]
+fn write_event_lines(events: &[Event], reply: &mut Reply) -> Result<(), AllocError>
+    ensures { OnOk result (reply.new ≡ reply.old ++ event_lines events.now) }
+{
+    for event in events {
         reply.write_event_line(event)?;
-        output.write_all(reply.as_bytes()).map_err(|_| Stop::Write)?;
     }
-    reply.clear();
+    Ok(())
+}
+
+// Writes the line of the bytes that are left unread.
+fn write_unread_line(unread: &[u8], reply: &mut Reply) -> Result<(), AllocError>
+    ensures { OnOk result (reply.new ≡ reply.old ++ unread_line unread.now) }
+{
     reply.write("unread ")?;
     reply.write_list(unread)?;
-    reply.write("\n")?;
-    write_reply(reply, output)
+    reply.write("\n")
 }

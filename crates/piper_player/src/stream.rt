@@ -1,5 +1,10 @@
 //! The lines of a script in, and replies out.
 
+ghost use Rattle.std.specs.Prelude.{◌≡◌, IsErr, IfErr, OnOk};
+ghost use Rattle.std.specs.Io.KnownBytes.{Appends};
+ghost use Rattle.piper_player.specs.Output.{Tells};
+ghost use Rattle.piper_player.specs.Played.{IsRefused};
+
 use piper_script::parser::MOST_OF_A_LINE;
 use piper_script::reply::Reply;
 use piper_script::stop::Stop;
@@ -42,13 +47,22 @@ impl<'input, I: Read> Lines<'input, I> {
 }
 
 /// Writes and flushes the reply.
-pub fn write_reply<O: Write>(reply: &Reply, output: &mut O) -> Result<(), Stop> {
+pub fn write_reply<O: Write>(reply: &Reply, output: &mut O) -> Result<(), Stop>
+    ensures written { OnOk result
+        (Appends (O.contents output.old) (O.contents output.new) reply.now) }
+    ensures failed { IfErr result (λ stop. stop ≡ Stop.Write) }
+{
     output.write_all(reply.as_bytes()).map_err(|_| Stop::Write)?;
     output.flush().map_err(|_| Stop::Write)
 }
 
 /// Prints that the line was refused, if that is why the replay stops.
-pub fn stopped<O: Write>(alloc: Global, line: u64, stop: Stop, output: &mut O) -> Result<(), Stop> {
+pub fn stopped<O: Write>(alloc: Global, line: u64, stop: Stop, output: &mut O) -> Result<(), Stop>
+    ensures stops { IsErr result }
+    ensures same { IfErr result (λ told. IsRefused told → told ≡ stop) }
+    ensures told { IfErr result (λ told.
+        Tells line told (O.contents output.old) (O.contents output.new)) }
+{
     if let Stop::Refused(refusal) = stop {
         let mut reply = Reply::new(alloc);
         reply.write_refusal(line, refusal)?;

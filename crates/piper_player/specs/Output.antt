@@ -1,0 +1,35 @@
+-- What a replay writes to its output.
+use Rattle.std.specs.Prelude.{ℕ, List, [], ◌++◌, codes, Option, ⊤}
+use Rattle.std.specs.List.{flat_map}
+use Rattle.std.specs.Io.KnownBytes.{Appends}
+use Rattle.piper_sides.specs.declared.events.Event.{Event}
+use Rattle.piper_machine.specs.Pipe.{Pipe}
+use Rattle.piper_script.specs.declared.stop.Stop.{Stop}
+use Rattle.piper_script.specs.declared.stop.Stop.TheVariants.{Refused}
+use Rattle.piper_script.specs.Event.{event_line}
+use Rattle.piper_script.specs.Reply.{printed_list, printed_refusal}
+use Rattle.piper_player.specs.Played.{PlaysLine}
+
+-- what a run leaves unread
+abbrev pub unread_line : List ℕ → List ℕ
+unread_line unread = codes "unread " ++ printed_list unread ++ codes "\n"
+
+-- each event on a line of its own, in their order
+abbrev pub event_lines : List Event → List ℕ
+event_lines events = flat_map event_line events
+
+-- what happened in a run, and what it leaves unread
+abbrev pub run_text : List Event → List ℕ → List ℕ
+run_text events unread = event_lines events ++ unread_line unread
+
+-- where a replay stops at a line that is refused, that was written
+abbrev pub Tells : ℕ → Stop → Option (List ℕ) → Option (List ℕ) → Type 0
+Tells line (Refused refusal) old new = Appends old new (printed_refusal line refusal)
+Tells line stop old new = ⊤
+
+-- the line was played, and all that it prints was written
+pub record AnswersLine (line : List ℕ) (old new : Option Pipe)
+    (before after : Option (List ℕ)) : Type 0 where
+  pub text : List ℕ
+  pub plays : PlaysLine line old new [] text
+  pub written : Appends before after text
