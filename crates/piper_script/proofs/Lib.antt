@@ -3,6 +3,7 @@ pub mod Items
 pub mod Joined
 pub mod Lists
 pub mod Numbers
+pub mod Ranks
 pub mod Replies
 pub mod ScriptedActs
 pub mod Spaces

@@ -2,7 +2,7 @@
 ghost use Rattle.std.specs.Prelude.{◌≡◌, ℕ, ◌≤◌, ◌↔◌, decimal, IsTrue, IfOk, IfErr, IsErrOf};
 ghost use Rattle.piper_script.specs.Limits.{greatest_name};
 ghost use Rattle.piper_script.specs.Refusal.{IsTextRefusal};
-ghost use Rattle.piper_script.specs.Number.{IsNumber};
+ghost use Rattle.piper_script.specs.Number.{IsNumber, number_of};
 
 use crate::command::Refusal;
 
@@ -50,6 +50,9 @@ pub fn name(text: &str) -> Result<u32, Refusal>
 }
 
 /// Whether the first of two numbers, however great, is at most the second.
-pub fn is_at_most(first: &str, second: &str) -> bool {
+pub fn is_at_most(first: &str, second: &str) -> bool
+    ensures { IsNumber first.now → IsNumber second.now →
+        IsTrue result ↔ (number_of first.now ≤ number_of second.now) }
+{
     (first.len(), first) <= (second.len(), second)
 }
