@@ -1,3 +1,5 @@
+pub mod Begins
+pub mod Callers
 pub mod Commands
 pub mod Items
 pub mod Joined

@@ -1,7 +1,7 @@
 -- Where the words of a line are cut.
-use Rattle.std.proofs.Common.{◌≡◌, ℕ, ◌≤◌, ◌<◌, List, [], ◌∷◌, ◌++◌, codes, decimal, length, get_or, drop, Bool, true, false, Bor, Option, None, Some, Result, Ok, IfSome, ◌≢◌, ◌^◌, ◌⊎◌, inl, inr, refl, sym, ap, ◌∙◌, append-nil, append_assoc, All, arith, lit<}
+use Rattle.std.proofs.Common.{◌≡◌, ℕ, ◌≤◌, ◌<◌, List, [], ◌∷◌, ◌++◌, codes, decimal, length, get_or, drop, Bool, true, false, Bor, Option, None, Some, Result, Ok, IfSome, ◌≢◌, ◌^◌, inl, inr, refl, sym, ap, ◌∙◌, append-nil, append_assoc, All, arith, lit<}
 use Rattle.std.specs.Int.{IsInRange}
-use Rattle.std.specs.Option.{MatchOption}
+use Rattle.std.specs.Option.{MatchOption, unwrap_or}
 use Rattle.std.proofs.lemmas.List.Elements.{All-nil, All-same, All-weaker, All-append, All-cons, All-head, All-tail}
 use Rattle.std.proofs.lemmas.Str.Pattern.{IsSplitOnceResult, split_after, split_parts}
 use Rattle.piper_sides.specs.declared.calls.Side.{Side}
@@ -15,12 +15,8 @@ use Rattle.piper_script.specs.Joined.{joined_or}
 use Rattle.piper_script.specs.List.{list_text, IsItem, IsListText}
 use Rattle.piper_script.specs.Acts.{source_text, dest_text, dests_text, IsSource, IsDestInLimits, IsSourcesText, IsDestsText}
 use Rattle.piper_script.specs.Limits.{greatest_name}
-use Rattle.piper_script.specs.Command.{side_text, draw_text, denials_text, luck_text, HasNoSpace, IsLuck}
+use Rattle.piper_script.specs.Command.{side_text, draw_text, denials_text, luck_text, HasNoSpace, IsBehind, IsFirstWord, IsLuck}
 use Rattle.piper_script.proofs.Texts.{IsDigit, IsListByte, digits_in, list_text-bytes, number_lacks, byte_stands, word_lacks}
-
--- nothing, or more words behind a space
-abbrev pub IsBehind : List ℕ → Type 0
-IsBehind text = (text ≡ []) ⊎ ((words : List ℕ) × (text ≡ 32 ∷ words))
 
 -- a text is cut at its first space
 pub cut_at_space : (text front behind : List ℕ) (r : Option (Bor (List ℕ) × Bor (List ℕ))) → IsSplitOnceResult 32 text r → text ≡ front ++ behind → HasNoSpace front → IsBehind behind
@@ -34,6 +30,31 @@ cut_at_space text front behind None cut e lacks (inr more) =
 cut_at_space text front behind (Some x) cut e lacks (inr more) =
     let parts = split_after 32 text front more.0 (Some x) cut (lit< tt) (e ∙ ap (λ (b : List ℕ). front ++ b) more.1) (λ i inside. lacks i 0 inside) in
     (parts.0, ap (λ (b : List ℕ). 32 ∷ b) parts.1 ∙ sym more.1)
+
+-- the first word of a text, as it is cut off
+pub first_word_of_cut : (text : List ℕ) (whole empty : Bor (List ℕ)) (r : Option (Bor (List ℕ) × Bor (List ℕ))) → IsSplitOnceResult 32 text r → whole.now ≡ text → empty.now ≡ []
+    → IsFirstWord text (unwrap_or r (whole, empty)).0.now (unwrap_or r (whole, empty)).1.now
+first_word_of_cut text whole empty None cut same none = record {
+  behind = [];
+  written = sym same ∙ sym (append-nil whole.now);
+  ends = inl refl;
+  rest_is = none;
+}
+first_word_of_cut text whole empty (Some x) cut same none = record {
+  behind = 32 ∷ x.1.now;
+  written = (split_parts 32 text (Some x) cut (lit< tt)).0;
+  ends = inr (x.1.now, refl);
+  rest_is = refl;
+}
+
+pub first_word_is : (text front behind : List ℕ) (whole empty : Bor (List ℕ)) (r : Option (Bor (List ℕ) × Bor (List ℕ))) → IsSplitOnceResult 32 text r → whole.now ≡ text → empty.now ≡ [] → text ≡ front ++ behind → HasNoSpace front → IsBehind behind
+    → ((unwrap_or r (whole, empty)).0.now ≡ front) × ((unwrap_or r (whole, empty)).1.now ≡ drop 1 behind)
+first_word_is text front behind whole empty None cut same none e lacks ends =
+    let parts = cut_at_space text front behind None cut e lacks ends in
+    (same ∙ parts.0, none ∙ sym (ap (λ (b : List ℕ). drop 1 b) parts.1))
+first_word_is text front behind whole empty (Some x) cut same none e lacks ends =
+    let parts = cut_at_space text front behind (Some x) cut e lacks ends in
+    (parts.0, ap (λ (b : List ℕ). drop 1 b) parts.1)
 
 pub denials_behind : (no_register no_yield : Bool) → IsBehind (denials_text no_register no_yield)
 denials_behind true no_yield = inr (_, refl)

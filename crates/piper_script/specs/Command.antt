@@ -1,5 +1,6 @@
 -- How commands are written, and their limits.
-use Rattle.std.specs.Prelude.{ℕ, ◌≤◌, List, [], ◌∷◌, ◌++◌, codes, decimal, ◌≡◌, ◌≢◌, ◌⊎◌, All, Bool, true, false, Option, slice_get, Some, None, IfSome}
+use Rattle.std.specs.Prelude.{ℕ, ◌≤◌, List, [], ◌∷◌, ◌++◌, codes, decimal, ◌≡◌, ◌≢◌, ◌⊎◌, All, Bool, true, false, Option, slice_get, Some, None, IfSome, drop}
+use Rattle.std.specs.Str.{IsUtf8}
 use Rattle.piper_sides.specs.declared.calls.Side.{Side}
 use Rattle.piper_sides.specs.declared.calls.Side.TheVariants.{Reader, Writer}
 use Rattle.piper_script.specs.Limits.{greatest_byte, greatest_number, greatest_name}
@@ -161,6 +162,66 @@ Asks arguments said = (spaced arguments ≡ call_arguments said) × IsCallInLimi
 
 abbrev pub AsksCommand : List ℕ → Command → Type 0
 AsksCommand arguments said = (spaced arguments ≡ command_arguments said) × IsInLimits said
+
+-- nothing, or more words behind a space
+abbrev pub IsBehind : Text → Type 0
+IsBehind text = (text ≡ []) ⊎ ((words : Text) × (text ≡ spaced words))
+
+-- the text before its first space, and what stands behind that
+pub record IsFirstWord (text word rest : Text) : Type 0 where
+  pub behind : Text
+  pub written : text ≡ word ++ behind
+  pub ends : IsBehind behind
+  pub rest_is : rest ≡ drop 1 behind
+
+-- whose call it is
+abbrev pub call_side : SaidCall → Side
+call_side (Len side) = side
+call_side (IsEmpty side) = side
+call_side (IsFull side) = side
+call_side (IsClosed side) = side
+call_side (Poll side waker luck) = side
+call_side (Fill list) = Writer
+call_side (Drain most) = Reader
+call_side (PollFill waker list luck) = Writer
+call_side (PollDrain waker most luck) = Reader
+call_side (FillFrom waker sources luck) = Writer
+call_side (DrainTo waker dests luck) = Reader
+call_side (Consume n) = Reader
+call_side (Lend most) = Writer
+call_side (Produced n) = Writer
+call_side Close = Writer
+call_side (Drop side) = side
+
+-- the side in the text of a call that both sides have
+abbrev pub named_side : SaidCall → List ℕ
+named_side (Len side) = spaced (side_text side)
+named_side (IsEmpty side) = spaced (side_text side)
+named_side (IsFull side) = spaced (side_text side)
+named_side (IsClosed side) = spaced (side_text side)
+named_side (Poll side waker luck) = spaced (side_text side)
+named_side (Drop side) = spaced (side_text side)
+named_side said = []
+
+-- the text begins as that of a call of this side does, as far as it tells whose call it is
+pub record CallsFor (text : Text) (side : Side) : Type 0 where
+  pub said : SaidCall
+  pub behind : Text
+  pub written : text ≡ call_name said ++ named_side said ++ behind
+  pub ends : IsBehind behind
+  pub of_side : call_side said ≡ side
+
+-- a line that opens a call of this side, whatever the numbers and lists in it
+pub record BeginsFor (line : Text) (side : Side) : Type 0 where
+  pub call : Text
+  pub written : line ≡ codes "begin " ++ call
+  pub text : IsUtf8 line
+  pub calls : CallsFor call side
+
+-- the side whose call a command opens, if it opens one
+abbrev pub begun_side : Command → Option Side
+begun_side (Begin said) = Some (call_side said)
+begun_side command = None
 
 abbrev pub HasNoSpace : List ℕ → Type 0
 HasNoSpace text = All (λ b. b ≢ 32) text

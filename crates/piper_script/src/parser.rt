@@ -1,6 +1,6 @@
 //! From the bytes of a line to what they say.
 
-ghost use Rattle.std.specs.Prelude.{◌≡◌, ℕ, Bool, IsOk, IsOkAnd, ◌≤◌, ◌<◌, ◌++◌, ◌∷◌, length, codes, decimal, IsTrue, ◌↔◌, IfOk, IfErr, IfSome, IfNone};
+ghost use Rattle.std.specs.Prelude.{◌≡◌, ℕ, Bool, IsOk, IsOkAnd, ◌≤◌, ◌<◌, ◌++◌, ◌∷◌, length, codes, decimal, IsTrue, ◌↔◌, IfOk, IfErr, IfSome, IfNone, drop};
 ghost use Rattle.piper_sides.specs.declared.calls.Side.{Side};
 ghost use Rattle.piper_script.specs.declared.acts.Dests.{Dests};
 ghost use Rattle.piper_script.specs.declared.acts.Sources.{Sources};
@@ -11,7 +11,7 @@ ghost use Rattle.piper_script.specs.declared.command.Steps.{Steps};
 ghost use Rattle.piper_script.specs.declared.list.List.{List as ByteList};
 ghost use Rattle.piper_script.specs.Limits.{longest_line};
 ghost use Rattle.piper_script.specs.Refusal.{IsTextRefusal};
-ghost use Rattle.piper_script.specs.Command.{Text, side_text, spaced, denials_text, luck_text, call_name, call_text, command_name, command_text, IsLuck, IsCallInLimits, IsInLimits, Asks, AsksCommand, TakesNumber, TakesSide, HasNoSpace, IsSilent};
+ghost use Rattle.piper_script.specs.Command.{Text, side_text, spaced, denials_text, luck_text, call_name, call_text, command_name, command_text, IsLuck, IsCallInLimits, IsInLimits, Asks, AsksCommand, TakesNumber, TakesSide, HasNoSpace, IsSilent, IsBehind, CallsFor, BeginsFor, IsFirstWord, begun_side};
 
 use crate::acts::{Dests, Sources};
 use crate::command::{Command, MOST, Refusal, SaidCall, SaidLuck, Steps};
@@ -51,24 +51,37 @@ pub fn is_silent(line: &[u8]) -> bool
     line.is_empty() || line.first() == Some(&b'#')
 }
 
-/// The side whose call a line opens, if it is one that begins with `begin`, whatever the numbers in it.
-pub fn begins_for(line: &[u8]) -> Option<Side> {
+/// The side whose call a `begin` line opens, whatever the numbers and lists in it.
+pub fn begins_for(line: &[u8]) -> Option<Side>
+    ensures side { (side : Side) → (result ≡ Some side) ↔ BeginsFor line.now side }
+    ensures commands { (said : Command) → IsInLimits said →
+        line.now ≡ command_text said → result ≡ begun_side said }
+    ensures silent { IsSilent line.now → result ≡ None }
+{
     let text = str::from_utf8(line).ok()?;
-    let mut words = text.strip_prefix("begin ")?.split(' ');
-    let name = words.next()?;
-    match side_of_call(name) {
-        Some(side) => Some(side),
-        None => side(words.next()?).ok(),
-    }
+    side_of_call(text.strip_prefix("begin ")?)
 }
 
-// The side that alone has the call of this name.
-fn side_of_call(name: &str) -> Option<Side> {
+// The side whose call a text names.
+fn side_of_call(text: &str) -> Option<Side>
+    ensures { (side : Side) → (result ≡ Some side) ↔ CallsFor text.now side }
+{
+    let (name, arguments) = first_word(text);
     match name {
         "fill" | "pollfill" | "fillfrom" | "lend" | "produced" | "close" => Some(Side::Writer),
         "drain" | "polldrain" | "drainto" | "consume" => Some(Side::Reader),
+        "len" | "empty" | "full" | "closed" | "poll" | "drop" => side(first_word(arguments).0).ok(),
         _ => None,
     }
+}
+
+// The text before the first space, and what stands behind that.
+fn first_word(text: &str) -> (&str, &str)
+    ensures cut { (front behind : Text) → HasNoSpace front → IsBehind behind →
+        text.now ≡ front ++ behind → (result.0.now ≡ front) × (result.1.now ≡ drop 1 behind) }
+    ensures stands { IsFirstWord text.now result.0.now result.1.now }
+{
+    text.split_once(' ').unwrap_or((text, ""))
 }
 
 fn command(text: &str) -> Result<Command<'_>, Refusal>
