@@ -9,18 +9,20 @@ use Rattle.piper_transfer.specs.declared.error.TransferError.TheVariants.{Read, 
 use Rattle.piper_pump.specs.declared.ended.Ended.{Ended}
 use Rattle.piper_pump.specs.declared.ended.Ended.TheVariants as ended
 
--- a transfer with this answer ends the program so. A write that fails with a broken pipe says that the program which read
--- the output has ended
+-- a transfer with this answer ends the program so. A write that fails
+-- with a broken pipe says that the program which read the output has ended
 abbrev pub EndsAs : {A : Type 0} → Result A TransferError → Ended → Type 0
 EndsAs (Ok moved) e = e ≡ ended.Moved
 EndsAs (Err (Read failed)) e = e ≡ ended.Input (Read failed)
 EndsAs (Err (Write failed)) e =
-    (error_kind failed ≡ BrokenPipe → e ≡ ended.Closed) × (error_kind failed ≢ BrokenPipe → e ≡ ended.Output (Write failed))
+    (error_kind failed ≡ BrokenPipe → e ≡ ended.Closed)
+    × (error_kind failed ≢ BrokenPipe → e ≡ ended.Output (Write failed))
 EndsAs (Err Full) e = e ≡ ended.Output Full
 EndsAs (Err Memory) e = e ≡ ended.Memory
 EndsAs (Err (Turns failed)) e = e ≡ ended.Memory
 
--- the exit status that tells it: of words on the command line 0 where they ask for the help, and else 2
+-- the exit status that tells it: of words on the
+-- command line 0 where they ask for the help, and else 2
 abbrev pub HasStatus : Ended → ℕ → Type 0
 HasStatus ended.Moved n = n ≡ 0
 HasStatus (ended.Words error) n =
