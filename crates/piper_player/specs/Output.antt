@@ -2,8 +2,10 @@
 use Rattle.std.specs.Prelude.{ℕ, List, [], ◌++◌, codes, Option, ⊤}
 use Rattle.std.specs.List.{flat_map}
 use Rattle.std.specs.Io.KnownBytes.{Appends}
+use Rattle.piper_sides.specs.declared.calls.Step.{Step}
 use Rattle.piper_sides.specs.declared.events.Event.{Event}
-use Rattle.piper_machine.specs.Pipe.{Pipe}
+use Rattle.piper_machine.specs.Pipe.{Pipe, fresh}
+use Rattle.piper_machine.specs.Run.{Runs}
 use Rattle.piper_script.specs.declared.stop.Stop.{Stop}
 use Rattle.piper_script.specs.declared.stop.Stop.TheVariants.{Refused}
 use Rattle.piper_script.specs.Event.{event_line}
@@ -26,6 +28,15 @@ run_text events unread = event_lines events ++ unread_line unread
 abbrev pub Tells : ℕ → Stop → Option (List ℕ) → Option (List ℕ) → Type 0
 Tells line (Refused refusal) old new = Appends old new (printed_refusal line refusal)
 Tells line stop old new = ⊤
+
+-- what happened in some run was written
+pub record WritesRun (old new : Option (List ℕ)) : Type 0 where
+  pub capacity : ℕ
+  pub steps : List Step
+  pub pipe : Pipe
+  pub events : List Event
+  pub runs : Runs (fresh capacity) [] steps pipe events
+  pub written : Appends old new (run_text events pipe.unread)
 
 -- the line was played, and all that it prints was written
 pub record AnswersLine (line : List ℕ) (old new : Option Pipe)

@@ -1,8 +1,9 @@
 //! The mode `run`: a script of steps is read whole, and then run on a new machine.
 
-ghost use Rattle.std.specs.Prelude.{◌≡◌, ◌≤◌, ◌<◌, ◌+◌, [], ◌∷◌, ◌++◌, replicate, vec_len, vec_capacity, None, IfOk, IfErr, OnOk, OnErr};
+ghost use Rattle.std.specs.Prelude.{◌≡◌, ◌≤◌, ◌<◌, ◌+◌, [], ◌∷◌, ◌++◌, ◌⊎◌, ℕ, replicate, vec_len, vec_capacity, None, IfOk, IfErr, OnOk, OnErr};
 ghost use Rattle.std.specs.Option.{ForSome};
-ghost use Rattle.piper_player.specs.Output.{event_lines, run_text, unread_line};
+ghost use Rattle.std.specs.Io.KnownBytes.{Keeps};
+ghost use Rattle.piper_player.specs.Output.{Tells, WritesRun, event_lines, run_text, unread_line};
 ghost use Rattle.piper_player.specs.StepsToRun.{AddsLine, SaysStep, last_end, most_steps_of_a_script};
 ghost use Rattle.piper_sides.specs.Index.{IsCapacity};
 ghost use Rattle.piper_sides.specs.Log.{events};
@@ -179,7 +180,13 @@ fn push_line(lines: &mut Vec<(u64, usize)>, number: u64, end: usize)
 
 /// Reads the script that `input` gives to its end, runs its steps on a new machine, and writes what
 /// happened to `output`.
-pub fn run<I: Read, O: Write>(alloc: Global, input: &mut I, output: &mut O) -> Result<(), Stop> {
+#[tactic(auto, using(crate::proofs::Lines::run_is_written, crate::proofs::Lines::nothing_is_written))]
+pub fn run<I: Read, O: Write>(alloc: Global, input: &mut I, output: &mut O) -> Result<(), Stop>
+    ensures written { OnOk result (Keeps (O.contents output.old) (O.contents output.new)
+        ⊎ WritesRun (O.contents output.old) (O.contents output.new)) }
+    ensures told { IfErr result (λ stop. (line : ℕ)
+        × Tells line stop (O.contents output.old) (O.contents output.new)) }
+{
     let mut script = StepsToRun::new(alloc);
     if let Err(stop) = script.read(alloc, input) {
         return stopped(alloc, script.line, stop, output);
@@ -202,7 +209,9 @@ pub fn run<I: Read, O: Write>(alloc: Global, input: &mut I, output: &mut O) -> R
 
 // Writes the events, each on a line of its own, and the bytes that are left unread.
 fn write_run(machine: &Machine, log: &Log, reply: &mut Reply) -> Result<(), Stop>
-    ensures { OnOk result (reply.new ≡ reply.old ++ run_text (events log.now) machine.now.unread) }
+    ensures text { OnOk result
+        (reply.new ≡ reply.old ++ run_text (events log.now) machine.now.unread) }
+    ensures memory { IfErr result (λ stop. stop ≡ Stop.Memory) }
 {
     let unread = machine.unread()?;
     write_event_lines(log.events(), reply)?;
