@@ -1,7 +1,7 @@
 -- What a replay writes to its output.
-use Rattle.std.specs.Prelude.{ℕ, List, [], ◌++◌, codes, Option, ⊤}
+use Rattle.std.specs.Prelude.{ℕ, ◌⊎◌, List, [], ◌++◌, codes, Option, ⊤}
 use Rattle.std.specs.List.{flat_map}
-use Rattle.std.specs.Io.KnownBytes.{Appends}
+use Rattle.std.specs.Io.KnownBytes.{Appends, Keeps}
 use Rattle.piper_sides.specs.declared.calls.Step.{Step}
 use Rattle.piper_sides.specs.declared.events.Event.{Event}
 use Rattle.piper_machine.specs.Pipe.{Pipe, fresh}
@@ -29,14 +29,18 @@ abbrev pub Tells : ℕ → Stop → Option (List ℕ) → Option (List ℕ) → 
 Tells line (Refused refusal) old new = Appends old new (printed_refusal line refusal)
 Tells line stop old new = ⊤
 
--- what happened in some run was written
-pub record WritesRun (old new : Option (List ℕ)) : Type 0 where
-  pub capacity : ℕ
-  pub steps : List Step
+-- these steps were run, and what happened was written
+pub record WritesRun (capacity : ℕ) (steps : List Step)
+    (old new : Option (List ℕ)) : Type 0 where
   pub pipe : Pipe
   pub events : List Event
   pub runs : Runs (fresh capacity) [] steps pipe events
   pub written : Appends old new (run_text events pipe.unread)
+
+-- what happened in some run was written, or nothing
+abbrev pub WritesRunAtMost : Option (List ℕ) → Option (List ℕ) → Type 0
+WritesRunAtMost old new =
+    Keeps old new ⊎ ((capacity : ℕ) × (steps : List Step) × WritesRun capacity steps old new)
 
 -- the line was played, and all that it prints was written
 pub record AnswersLine (line : List ℕ) (old new : Option Pipe)

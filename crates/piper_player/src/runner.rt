@@ -1,9 +1,8 @@
 //! The mode `run`: a script of steps is read whole, and then run on a new machine.
 
-ghost use Rattle.std.specs.Prelude.{◌≡◌, ◌≤◌, ◌<◌, ◌+◌, [], ◌∷◌, ◌++◌, ◌⊎◌, ℕ, replicate, vec_len, vec_capacity, None, IfOk, IfErr, OnOk, OnErr};
+ghost use Rattle.std.specs.Prelude.{◌≡◌, ◌≤◌, ◌<◌, ◌+◌, [], ◌∷◌, ◌++◌, ℕ, replicate, vec_len, vec_capacity, None, IfOk, IfErr, OnOk, OnErr};
 ghost use Rattle.std.specs.Option.{ForSome};
-ghost use Rattle.std.specs.Io.KnownBytes.{Keeps};
-ghost use Rattle.piper_player.specs.Output.{Tells, WritesRun, event_lines, run_text, unread_line};
+ghost use Rattle.piper_player.specs.Output.{Tells, WritesRun, WritesRunAtMost, event_lines, run_text, unread_line};
 ghost use Rattle.piper_player.specs.StepsToRun.{AddsLine, SaysStep, last_end, most_steps_of_a_script};
 ghost use Rattle.piper_sides.specs.Index.{IsCapacity};
 ghost use Rattle.piper_sides.specs.Log.{events};
@@ -180,10 +179,10 @@ fn push_line(lines: &mut Vec<(u64, usize)>, number: u64, end: usize)
 
 /// Reads the script that `input` gives to its end, runs its steps on a new machine, and writes what
 /// happened to `output`.
-#[tactic(auto, using(crate::proofs::Lines::run_is_written, crate::proofs::Lines::nothing_is_written))]
+#[tactic(auto, using(crate::proofs::Lines::nothing_is_written, crate::proofs::Lines::some_run_is_written))]
 pub fn run<I: Read, O: Write>(alloc: Global, input: &mut I, output: &mut O) -> Result<(), Stop>
-    ensures written { OnOk result (Keeps (O.contents output.old) (O.contents output.new)
-        ⊎ WritesRun (O.contents output.old) (O.contents output.new)) }
+    ensures written { OnOk result
+        (WritesRunAtMost (O.contents output.old) (O.contents output.new)) }
     ensures told { IfErr result (λ stop. (line : ℕ)
         × Tells line stop (O.contents output.old) (O.contents output.new)) }
 {
@@ -194,6 +193,23 @@ pub fn run<I: Read, O: Write>(alloc: Global, input: &mut I, output: &mut O) -> R
     let Some(capacity) = script.capacity else {
         return Ok(());
     };
+    run_steps(alloc, capacity, &script, output)
+}
+
+// Runs the steps of a script on a new machine, and writes what happened, or the line that is refused.
+#[tactic(auto, using(crate::proofs::Lines::run_is_written))]
+fn run_steps<O: Write>(
+    alloc: Global,
+    capacity: usize,
+    script: &StepsToRun,
+    output: &mut O,
+) -> Result<(), Stop>
+    requires { IsCapacity capacity }
+    ensures written { OnOk result (WritesRun capacity script.now.steps.items
+        (O.contents output.old) (O.contents output.new)) }
+    ensures told { IfErr result (λ stop. (line : ℕ)
+        × Tells line stop (O.contents output.old) (O.contents output.new)) }
+{
     match machine::run(alloc, capacity, script.steps.as_slice()) {
         Ok((machine, log)) => {
             let mut reply = Reply::new(alloc);
