@@ -10,6 +10,8 @@ mod compare;
 #[cfg(test)]
 mod copies;
 #[cfg(test)]
+mod pattern;
+#[cfg(test)]
 mod pieces;
 #[cfg(test)]
 mod sockets;

@@ -1,21 +1,35 @@
 //! What a reader shows of its known bytes, poll by poll.
 
-use crate::compare::same;
+use crate::compare::{confirm, same};
 use futures::task::Poll;
 use futures::test::MockTask;
-use piper::pipe;
+use piper::{Writer, pipe};
 use piper_tokio::CompatReader;
-use std::io;
+use std::process::Abort;
+use std::sync::Wait;
 use tokio::io::AsyncBufRead;
 
-fn is_ready(polled: Poll<io::Result<()>>) -> bool {
-    matches!(polled, Poll::Ready(Ok(())))
+/// All of these bytes go in.
+fn fill<H: Wait + Clone + Drop>(rt: &impl Abort, writer: &mut Writer<H>, bytes: &[u8]) {
+    confirm(rt, writer.try_fill(bytes) == bytes.len());
 }
 
-// Takes so many bytes of those that are shown.
-fn take_shown<R: AsyncBufRead>(reader: &mut R, count: usize) {
+fn is_pending<I: AsyncBufRead>(task: &MockTask, reader: &mut I) -> bool {
+    matches!(task.enter(|cx| reader.poll_fill_buf(cx)), Poll::Pending)
+}
+
+/// A fill is ready, and these bytes are shown behind it.
+fn shows<I: AsyncBufRead>(rt: &impl Abort, task: &MockTask, reader: &mut I, wanted: &[u8]) {
+    let filled = task.enter(|cx| reader.poll_fill_buf(cx));
+    confirm(rt, matches!(filled, Poll::Ready(Ok(()))));
+    same(rt, reader.buffer(), wanted);
+}
+
+/// So many of the bytes that are shown are taken, and these are left.
+fn leaves<I: AsyncBufRead>(rt: &impl Abort, reader: &mut I, count: usize, wanted: &[u8]) {
     let count = count.min(reader.buffer().len());
     reader.consume(count);
+    same(rt, reader.buffer(), wanted);
 }
 
 #[test]
@@ -23,27 +37,20 @@ fn a_reader_shows_what_is_left_of_one_piece(rt: HostRuntime) {
     let (reader, mut writer) = pipe(&rt, rt.alloc(), 4, 1).expect(&rt, "memory");
     let mut reader = CompatReader::new(reader);
     let task = MockTask::new(&rt).expect(&rt, "memory");
-    assert!(&rt; matches!(task.enter(|cx| reader.poll_fill_buf(cx)), Poll::Pending));
-    assert!(&rt; !task.is_woken());
-    assert!(&rt; writer.try_fill(b"abc") == 3);
-    assert!(&rt; task.is_woken());
-    assert!(&rt; is_ready(task.enter(|cx| reader.poll_fill_buf(cx))));
-    same(&rt, reader.buffer(), b"abc");
-    take_shown(&mut reader, 2);
+    confirm(&rt, is_pending(&task, &mut reader));
+    confirm(&rt, !task.is_woken());
+    fill(&rt, &mut writer, b"abc");
+    confirm(&rt, task.is_woken());
+    shows(&rt, &task, &mut reader, b"abc");
+    leaves(&rt, &mut reader, 2, b"c");
+    fill(&rt, &mut writer, b"d");
+    fill(&rt, &mut writer, b"ef");
     same(&rt, reader.buffer(), b"c");
-    assert!(&rt; writer.try_fill(b"d") == 1);
-    assert!(&rt; writer.try_fill(b"ef") == 2);
-    same(&rt, reader.buffer(), b"c");
-    take_shown(&mut reader, 1);
-    assert!(&rt; reader.buffer().is_empty());
-    assert!(&rt; is_ready(task.enter(|cx| reader.poll_fill_buf(cx))));
-    same(&rt, reader.buffer(), b"d");
-    take_shown(&mut reader, 1);
-    assert!(&rt; reader.buffer().is_empty());
-    assert!(&rt; is_ready(task.enter(|cx| reader.poll_fill_buf(cx))));
-    same(&rt, reader.buffer(), b"ef");
-    take_shown(&mut reader, 2);
+    leaves(&rt, &mut reader, 1, b"");
+    shows(&rt, &task, &mut reader, b"d");
+    leaves(&rt, &mut reader, 1, b"");
+    shows(&rt, &task, &mut reader, b"ef");
+    leaves(&rt, &mut reader, 2, b"");
     writer.drop();
-    assert!(&rt; is_ready(task.enter(|cx| reader.poll_fill_buf(cx))));
-    assert!(&rt; reader.buffer().is_empty());
+    shows(&rt, &task, &mut reader, b"");
 }

@@ -3,15 +3,35 @@
 use crate::blocking::Blocking;
 use crate::compare::same;
 use piper_duplex::duplex;
+use std::alloc::Global;
+use std::io::{Read, Write};
+use std::random::RandomSource;
 use std::test::Fail;
 use std::thread;
 use tungstenite::handshake::client::request_of;
 use tungstenite::{Error, Message, Utf8Bytes, accept, client};
 
-fn text_of(message: Message) -> Option<Utf8Bytes> {
-    match message {
-        Message::Text(text) => Some(text),
-        _ => None,
+/// Sends back the message that comes.
+fn echo<S: Read + Write + Drop>(alloc: Global, stream: S) -> Result<(), Error> {
+    let Ok(mut socket) = accept(alloc, stream) else {
+        return Err(Error::ConnectionClosed);
+    };
+    let message = socket.read()?;
+    socket.send(message)
+}
+
+/// Sends a text. It answers the text that comes back.
+fn ask<R, S>(alloc: Global, random: R, stream: S, text: &str) -> Result<Utf8Bytes, Fail>
+where
+    R: RandomSource + Drop,
+    S: Read + Write + Drop,
+{
+    let request = request_of(alloc, "ws://localhost/echo")?;
+    let (mut socket, _answer) = client(alloc, random, request, stream)?;
+    socket.send(Message::text(alloc, text)?)?;
+    match socket.read()? {
+        Message::Text(text) => Ok(text),
+        _ => Err("no text".into()),
     }
 }
 
@@ -22,17 +42,8 @@ fn a_message_goes_each_way_after_the_handshake(rt: HostRuntime) -> Result<(), Fa
     let (near, far) = duplex(&rt, alloc, 16, 32, 1).expect(&rt, "memory");
     let near = Blocking::new(ours, near);
     let far = Blocking::new(theirs, far);
-    let child: thread::JoinHandle<Result<(), Error>> = thread::spawn(&rt, move || {
-        let Ok(mut socket) = accept(alloc, far) else {
-            return Err(Error::ConnectionClosed);
-        };
-        let message = socket.read()?;
-        socket.send(message)
-    })?;
-    let request = request_of(alloc, "ws://localhost/echo")?;
-    let (mut socket, _answer) = client(alloc, rt.clone()?, request, near)?;
-    socket.send(Message::text(alloc, "there and back again")?)?;
-    let text = text_of(socket.read()?).ok_or("no text")?;
+    let child = thread::spawn(&rt, move || echo(alloc, far))?;
+    let text = ask(alloc, rt.clone()?, near, "there and back again")?;
     same(&rt, text.as_bytes(), b"there and back again");
     child.join(&rt)?;
     Ok(())
