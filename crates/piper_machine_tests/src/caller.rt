@@ -1,6 +1,6 @@
 //! What the contracts leave open: that there is memory, and that a list of steps is accepted.
 use crate::same;
-use piper_caller::{counted_alone, made_by_the_laws, through};
+use piper_caller::{len_alone, made_by_the_laws, through};
 use piper_machine::calls::{Call, Query, Side, SideState, Step};
 use std::test::Fail;
 
@@ -28,6 +28,6 @@ fn steps_of_both_sides_are_made(rt: HostRuntime) -> Result<(), Fail> {
     };
     same(&rt, log.events().len(), 8);
     assert!(rt; machine.r_state() == SideState::Idle);
-    same(&rt, counted_alone(&mut machine), 2);
+    same(&rt, len_alone(&mut machine), 2);
     Ok(())
 }

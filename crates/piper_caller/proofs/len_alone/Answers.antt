@@ -2,7 +2,7 @@ use Rattle.std.proofs.Common.{[], ◌∷◌, ◌++◌, ap, sym, ◌∙◌}
 use Rattle.piper_sides.specs.declared.calls.Side.TheVariants.{Reader}
 use Rattle.piper_sides.specs.declared.events.Answer.TheVariants.{Count}
 use Rattle.piper_sides.specs.declared.events.Event.TheVariants.{Answered}
-use Rattle.piper_caller.proofs.counted_alone.Goals as goal
+use Rattle.piper_caller.proofs.len_alone.Goals as goal
 
 pub returns-clause-by_steps : goal.returns-clause-by_steps
 returns-clause-by_steps c k q before after runs outside =
