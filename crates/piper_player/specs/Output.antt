@@ -1,5 +1,5 @@
 -- What a replay writes to its output.
-use Rattle.std.specs.Prelude.{ℕ, ◌⊎◌, List, [], ◌++◌, codes, Option, ⊤}
+use Rattle.std.specs.Prelude.{◌≡◌, ℕ, ◌⊎◌, List, [], ◌++◌, codes, Option, ⊤}
 use Rattle.std.specs.List.{flat_map}
 use Rattle.std.specs.Io.KnownBytes.{Appends, Keeps}
 use Rattle.piper_sides.specs.declared.calls.Step.{Step}
@@ -7,7 +7,7 @@ use Rattle.piper_sides.specs.declared.events.Event.{Event}
 use Rattle.piper_machine.specs.Pipe.{Pipe, fresh}
 use Rattle.piper_machine.specs.Run.{Runs}
 use Rattle.piper_script.specs.declared.stop.Stop.{Stop}
-use Rattle.piper_script.specs.declared.stop.Stop.TheVariants.{Refused}
+use Rattle.piper_script.specs.declared.stop.Stop.TheVariants.{Refused, Memory, Write}
 use Rattle.piper_script.specs.Event.{event_line}
 use Rattle.piper_script.specs.Reply.{printed_list, printed_refusal}
 use Rattle.piper_player.specs.Played.{PlaysLine}
@@ -28,6 +28,10 @@ run_text events unread = event_lines events ++ unread_line unread
 abbrev pub Tells : ℕ → Stop → Option (List ℕ) → Option (List ℕ) → Type 0
 Tells line (Refused refusal) old new = Appends old new (printed_refusal line refusal)
 Tells line stop old new = ⊤
+
+-- why a replay ends that stops: for that reason, or since that could not be told
+abbrev pub EndsAs : Stop → Stop → Type 0
+EndsAs stop end = (end ≡ stop) ⊎ ((end ≡ Memory) ⊎ (end ≡ Write))
 
 -- these steps were run, and what happened was written
 pub record WritesRun (capacity : ℕ) (steps : List Step)

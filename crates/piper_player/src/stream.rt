@@ -2,8 +2,7 @@
 
 ghost use Rattle.std.specs.Prelude.{◌≡◌, IsErr, IfErr, OnOk};
 ghost use Rattle.std.specs.Io.KnownBytes.{Appends};
-ghost use Rattle.piper_player.specs.Output.{Tells};
-ghost use Rattle.piper_player.specs.Played.{IsRefused};
+ghost use Rattle.piper_player.specs.Output.{EndsAs, Tells};
 
 use piper_script::parser::MOST_OF_A_LINE;
 use piper_script::reply::Reply;
@@ -59,7 +58,7 @@ pub fn write_reply<O: Write>(reply: &Reply, output: &mut O) -> Result<(), Stop>
 /// Prints that the line was refused, if that is why the replay stops.
 pub fn stopped<O: Write>(alloc: Global, line: u64, stop: Stop, output: &mut O) -> Result<(), Stop>
     ensures stops { IsErr result }
-    ensures same { IfErr result (λ told. IsRefused told → told ≡ stop) }
+    ensures same { IfErr result (EndsAs stop) }
     ensures told { IfErr result (λ told.
         Tells line told (O.contents output.old) (O.contents output.new)) }
 {
