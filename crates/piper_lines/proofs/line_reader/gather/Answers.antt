@@ -26,3 +26,78 @@ loop-limit-preserved g c =
       within = inl (omega (arith, ap length grown, length-append c.loop-limit.line.items more, length-take c.through_lf-count.result.0 (take c.min.result c.in-Ready-Ok.lent.now), length-take c.min.result c.in-Ready-Ok.lent.now));
       kept = search rules;
     }
+
+pub returns-then-is_found-clause-covered : goal.returns-then-is_found-clause-covered
+returns-then-is_found-clause-covered g c = search rules
+
+pub returns-then-is_found-clause-kept : goal.returns-then-is_found-clause-kept
+returns-then-is_found-clause-kept g c = search rules
+
+pub returns-else-is_empty-2-clause-kept : goal.returns-else-is_empty-2-clause-kept
+returns-else-is_empty-2-clause-kept g c = search rules
+
+pub returns-else-is_empty-2-clause-grown : goal.returns-else-is_empty-2-clause-grown
+returns-else-is_empty-2-clause-grown g c = search rules
+
+pub returns-then-len-limit-clause-kept : goal.returns-then-len-limit-clause-kept
+returns-then-len-limit-clause-kept g c = search rules
+
+pub returns-then-len-limit-clause-grown : goal.returns-then-len-limit-clause-grown
+returns-then-len-limit-clause-grown g c = search rules
+
+pub returns-then-is_err-clause-kept : goal.returns-then-is_err-clause-kept
+returns-then-is_err-clause-kept g c = search rules
+
+pub returns-in-Pending-clause-gathers : goal.returns-in-Pending-clause-gathers
+returns-in-Pending-clause-gathers g c = search rules
+
+pub returns-in-Ready-Err-clause-gathers : goal.returns-in-Ready-Err-clause-gathers
+returns-in-Ready-Err-clause-gathers g c = search rules
+
+pub returns-then-is_empty-2-clause-grown : goal.returns-then-is_empty-2-clause-grown
+returns-then-is_empty-2-clause-grown g c = search rules
+
+pub returns-in-Ready-Err-clause-covered : goal.returns-in-Ready-Err-clause-covered
+returns-in-Ready-Err-clause-covered g c = search rules
+
+pub returns-then-is_err-clause-gathers : goal.returns-then-is_err-clause-gathers
+returns-then-is_err-clause-gathers g c = search rules
+
+pub returns-in-Pending-clause-covered : goal.returns-in-Pending-clause-covered
+returns-in-Pending-clause-covered g c = search rules
+
+pub returns-then-is_err-clause-covered : goal.returns-then-is_err-clause-covered
+returns-then-is_err-clause-covered g c = search rules
+
+pub returns-then-len-limit-clause-covered : goal.returns-then-len-limit-clause-covered
+returns-then-len-limit-clause-covered g c = search rules
+
+pub returns-else-is_empty-2-clause-gathers : goal.returns-else-is_empty-2-clause-gathers
+returns-else-is_empty-2-clause-gathers g c = search rules
+
+pub returns-in-Pending-clause-grown : goal.returns-in-Pending-clause-grown
+returns-in-Pending-clause-grown g c = search rules
+
+pub returns-then-is_empty-2-clause-kept : goal.returns-then-is_empty-2-clause-kept
+returns-then-is_empty-2-clause-kept g c = search rules
+
+pub returns-then-is_err-clause-grown : goal.returns-then-is_err-clause-grown
+returns-then-is_err-clause-grown g c = search rules
+
+pub returns-in-Ready-Err-clause-kept : goal.returns-in-Ready-Err-clause-kept
+returns-in-Ready-Err-clause-kept g c = search rules
+
+pub returns-then-is_empty-2-clause-covered : goal.returns-then-is_empty-2-clause-covered
+returns-then-is_empty-2-clause-covered g c = search rules
+
+pub returns-in-Pending-clause-kept : goal.returns-in-Pending-clause-kept
+returns-in-Pending-clause-kept g c = search rules
+
+pub returns-else-is_empty-2-clause-covered : goal.returns-else-is_empty-2-clause-covered
+returns-else-is_empty-2-clause-covered g c = search rules
+
+pub returns-then-len-limit-clause-gathers : goal.returns-then-len-limit-clause-gathers
+returns-then-len-limit-clause-gathers g c = search rules
+
+pub returns-in-Ready-Err-clause-grown : goal.returns-in-Ready-Err-clause-grown
+returns-in-Ready-Err-clause-grown g c = search rules

@@ -28,3 +28,87 @@ loop-written-preserved g c =
       stays = λ seen. c.poll_write.ensures.stays (c.loop-written.invariant.stays seen);
       kept = search rules;
     }
+
+pub returns-clause-kept : goal.returns-clause-kept
+returns-clause-kept g c = search rules
+
+pub returns-in-Ready-Err-clause-stays : goal.returns-in-Ready-Err-clause-stays
+returns-in-Ready-Err-clause-stays g c = search rules
+
+pub returns-in-Ready-Ok-eq0-clause-stays : goal.returns-in-Ready-Ok-eq0-clause-stays
+returns-in-Ready-Ok-eq0-clause-stays g c = search rules
+
+pub returns-clause-stays : goal.returns-clause-stays
+returns-clause-stays g c = search rules
+
+pub returns-in-Ready-Err-clause-sends : goal.returns-in-Ready-Err-clause-sends
+returns-in-Ready-Err-clause-sends g c = search rules
+
+pub returns-clause-closed : goal.returns-clause-closed
+returns-clause-closed g c = search rules
+
+pub returns-in-Ready-Err-clause-kept : goal.returns-in-Ready-Err-clause-kept
+returns-in-Ready-Err-clause-kept g c = search rules
+
+pub returns-in-Pending-clause-sends : goal.returns-in-Pending-clause-sends
+returns-in-Pending-clause-sends g c = search rules
+
+pub returns-in-Pending-clause-stays : goal.returns-in-Pending-clause-stays
+returns-in-Pending-clause-stays g c = search rules
+
+pub returns-in-Ready-Err-clause-whole : goal.returns-in-Ready-Err-clause-whole
+returns-in-Ready-Err-clause-whole g c = search rules
+
+pub returns-in-Ready-Ok-eq0-clause-whole : goal.returns-in-Ready-Ok-eq0-clause-whole
+returns-in-Ready-Ok-eq0-clause-whole g c = search rules
+
+pub returns-clause-covered : goal.returns-clause-covered
+returns-clause-covered g c = search rules
+
+pub returns-in-Ready-Ok-eq0-clause-within : goal.returns-in-Ready-Ok-eq0-clause-within
+returns-in-Ready-Ok-eq0-clause-within g c = search rules
+
+pub returns-clause-within : goal.returns-clause-within
+returns-clause-within g c = search rules
+
+pub returns-in-Pending-clause-closed : goal.returns-in-Pending-clause-closed
+returns-in-Pending-clause-closed g c = search rules
+
+pub returns-in-Pending-clause-kept : goal.returns-in-Pending-clause-kept
+returns-in-Pending-clause-kept g c = search rules
+
+pub returns-in-Ready-Ok-eq0-clause-kept : goal.returns-in-Ready-Ok-eq0-clause-kept
+returns-in-Ready-Ok-eq0-clause-kept g c = search rules
+
+pub returns-in-Ready-Ok-eq0-clause-covered : goal.returns-in-Ready-Ok-eq0-clause-covered
+returns-in-Ready-Ok-eq0-clause-covered g c = search rules
+
+pub returns-in-Ready-Err-clause-within : goal.returns-in-Ready-Err-clause-within
+returns-in-Ready-Err-clause-within g c = search rules
+
+pub returns-in-Ready-Ok-eq0-clause-sends : goal.returns-in-Ready-Ok-eq0-clause-sends
+returns-in-Ready-Ok-eq0-clause-sends g c = search rules
+
+pub returns-in-Pending-clause-covered : goal.returns-in-Pending-clause-covered
+returns-in-Pending-clause-covered g c = search rules
+
+pub returns-in-Pending-clause-whole : goal.returns-in-Pending-clause-whole
+returns-in-Pending-clause-whole g c = search rules
+
+pub returns-in-Ready-Err-clause-covered : goal.returns-in-Ready-Err-clause-covered
+returns-in-Ready-Err-clause-covered g c = search rules
+
+pub returns-in-Ready-Ok-eq0-clause-closed : goal.returns-in-Ready-Ok-eq0-clause-closed
+returns-in-Ready-Ok-eq0-clause-closed g c = search rules
+
+pub returns-clause-whole : goal.returns-clause-whole
+returns-clause-whole g c = search rules
+
+pub returns-clause-sends : goal.returns-clause-sends
+returns-clause-sends g c = search rules
+
+pub returns-in-Pending-clause-within : goal.returns-in-Pending-clause-within
+returns-in-Pending-clause-within g c = search rules
+
+pub returns-in-Ready-Err-clause-closed : goal.returns-in-Ready-Err-clause-closed
+returns-in-Ready-Err-clause-closed g c = search rules

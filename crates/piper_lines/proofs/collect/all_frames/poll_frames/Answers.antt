@@ -56,3 +56,93 @@ loop-preserved g c =
       body = inr hands.1.1;
       kept = search rules;
     }
+
+pub returns-in-Ready-Ok-End-clause-ended : goal.returns-in-Ready-Ok-End-clause-ended
+returns-in-Ready-Ok-End-clause-ended g c = search rules
+
+pub returns-in-Ready-Err-clause-within : goal.returns-in-Ready-Err-clause-within
+returns-in-Ready-Err-clause-within g c = search rules
+
+pub returns-in-Ready-Err-clause-kept : goal.returns-in-Ready-Err-clause-kept
+returns-in-Ready-Err-clause-kept g c = search rules
+
+pub returns-clause-kept : goal.returns-clause-kept
+returns-clause-kept g c = search rules
+
+pub returns-then-is_err-clause-moved : goal.returns-then-is_err-clause-moved
+returns-then-is_err-clause-moved g c = search rules
+
+pub returns-in-Ready-Ok-End-clause-within : goal.returns-in-Ready-Ok-End-clause-within
+returns-in-Ready-Ok-End-clause-within g c = search rules
+
+pub returns-then-is_err-clause-within : goal.returns-then-is_err-clause-within
+returns-then-is_err-clause-within g c = search rules
+
+pub returns-in-Ready-Ok-Truncated-clause-kept : goal.returns-in-Ready-Ok-Truncated-clause-kept
+returns-in-Ready-Ok-Truncated-clause-kept g c = search rules
+
+pub returns-in-Pending-clause-covered : goal.returns-in-Pending-clause-covered
+returns-in-Pending-clause-covered g c = search rules
+
+pub returns-then-is_err-clause-covered : goal.returns-then-is_err-clause-covered
+returns-then-is_err-clause-covered g c = search rules
+
+pub returns-clause-within : goal.returns-clause-within
+returns-clause-within g c = search rules
+
+pub returns-in-Pending-clause-kept : goal.returns-in-Pending-clause-kept
+returns-in-Pending-clause-kept g c = search rules
+
+pub returns-in-Ready-Ok-End-clause-covered : goal.returns-in-Ready-Ok-End-clause-covered
+returns-in-Ready-Ok-End-clause-covered g c = search rules
+
+pub returns-then-is_err-clause-kept : goal.returns-then-is_err-clause-kept
+returns-then-is_err-clause-kept g c = search rules
+
+pub returns-in-Ready-Ok-Truncated-clause-ended : goal.returns-in-Ready-Ok-Truncated-clause-ended
+returns-in-Ready-Ok-Truncated-clause-ended g c = search rules
+
+pub returns-clause-ended : goal.returns-clause-ended
+returns-clause-ended g c = search rules
+
+pub returns-in-Ready-Ok-Truncated-clause-within : goal.returns-in-Ready-Ok-Truncated-clause-within
+returns-in-Ready-Ok-Truncated-clause-within g c = search rules
+
+pub returns-in-Ready-Ok-TooLong-clause-covered : goal.returns-in-Ready-Ok-TooLong-clause-covered
+returns-in-Ready-Ok-TooLong-clause-covered g c = search rules
+
+pub returns-clause-covered : goal.returns-clause-covered
+returns-clause-covered g c = search rules
+
+pub returns-clause-moved : goal.returns-clause-moved
+returns-clause-moved g c = search rules
+
+pub returns-in-Ready-Ok-TooLong-clause-within : goal.returns-in-Ready-Ok-TooLong-clause-within
+returns-in-Ready-Ok-TooLong-clause-within g c = search rules
+
+pub returns-in-Ready-Ok-End-clause-kept : goal.returns-in-Ready-Ok-End-clause-kept
+returns-in-Ready-Ok-End-clause-kept g c = search rules
+
+pub returns-in-Ready-Ok-Truncated-clause-covered : goal.returns-in-Ready-Ok-Truncated-clause-covered
+returns-in-Ready-Ok-Truncated-clause-covered g c = search rules
+
+pub returns-in-Ready-Ok-TooLong-clause-ended : goal.returns-in-Ready-Ok-TooLong-clause-ended
+returns-in-Ready-Ok-TooLong-clause-ended g c = search rules
+
+pub returns-in-Ready-Ok-TooLong-clause-kept : goal.returns-in-Ready-Ok-TooLong-clause-kept
+returns-in-Ready-Ok-TooLong-clause-kept g c = search rules
+
+pub returns-in-Pending-clause-ended : goal.returns-in-Pending-clause-ended
+returns-in-Pending-clause-ended g c = search rules
+
+pub returns-then-is_err-clause-ended : goal.returns-then-is_err-clause-ended
+returns-then-is_err-clause-ended g c = search rules
+
+pub returns-in-Pending-clause-within : goal.returns-in-Pending-clause-within
+returns-in-Pending-clause-within g c = search rules
+
+pub returns-in-Ready-Err-clause-covered : goal.returns-in-Ready-Err-clause-covered
+returns-in-Ready-Err-clause-covered g c = search rules
+
+pub returns-in-Ready-Err-clause-ended : goal.returns-in-Ready-Err-clause-ended
+returns-in-Ready-Err-clause-ended g c = search rules

@@ -48,3 +48,66 @@ loop-preserved g c =
       short = λ short. omega (arith, ap length piece.0);
       kept = search rules;
     }
+
+pub returns-clause-covered : goal.returns-clause-covered
+returns-clause-covered g c = search rules
+
+pub returns-clause-moved : goal.returns-clause-moved
+returns-clause-moved g c = search rules
+
+pub returns-then-is_err-clause-kept : goal.returns-then-is_err-clause-kept
+returns-then-is_err-clause-kept g c = search rules
+
+pub returns-then-is_err-clause-ended : goal.returns-then-is_err-clause-ended
+returns-then-is_err-clause-ended g c = search rules
+
+pub returns-clause-ended : goal.returns-clause-ended
+returns-clause-ended g c = search rules
+
+pub returns-then-is_end-clause-kept : goal.returns-then-is_end-clause-kept
+returns-then-is_end-clause-kept g c = search rules
+
+pub returns-in-Ready-Err-clause-kept : goal.returns-in-Ready-Err-clause-kept
+returns-in-Ready-Err-clause-kept g c = search rules
+
+pub returns-in-Pending-clause-split : goal.returns-in-Pending-clause-split
+returns-in-Pending-clause-split g c = search rules
+
+pub returns-clause-kept : goal.returns-clause-kept
+returns-clause-kept g c = search rules
+
+pub returns-in-Pending-clause-covered : goal.returns-in-Pending-clause-covered
+returns-in-Pending-clause-covered g c = search rules
+
+pub returns-in-Pending-clause-kept : goal.returns-in-Pending-clause-kept
+returns-in-Pending-clause-kept g c = search rules
+
+pub returns-in-Ready-Err-clause-ended : goal.returns-in-Ready-Err-clause-ended
+returns-in-Ready-Err-clause-ended g c = search rules
+
+pub returns-then-is_end-clause-split : goal.returns-then-is_end-clause-split
+returns-then-is_end-clause-split g c = search rules
+
+pub returns-then-is_err-clause-covered : goal.returns-then-is_err-clause-covered
+returns-then-is_err-clause-covered g c = search rules
+
+pub returns-in-Ready-Err-clause-covered : goal.returns-in-Ready-Err-clause-covered
+returns-in-Ready-Err-clause-covered g c = search rules
+
+pub returns-then-is_err-clause-split : goal.returns-then-is_err-clause-split
+returns-then-is_err-clause-split g c = search rules
+
+pub returns-in-Pending-clause-ended : goal.returns-in-Pending-clause-ended
+returns-in-Pending-clause-ended g c = search rules
+
+pub returns-clause-split : goal.returns-clause-split
+returns-clause-split g c = search rules
+
+pub returns-in-Ready-Err-clause-split : goal.returns-in-Ready-Err-clause-split
+returns-in-Ready-Err-clause-split g c = search rules
+
+pub returns-then-is_end-clause-covered : goal.returns-then-is_end-clause-covered
+returns-then-is_end-clause-covered g c = search rules
+
+pub returns-then-is_err-clause-moved : goal.returns-then-is_err-clause-moved
+returns-then-is_err-clause-moved g c = search rules

@@ -63,3 +63,99 @@ returns-in-Ready-Ok-true-fill_up-2-clause-moved g c =
     ap length_bytes (c.fill_up-2.ensures.full is_full) ∙ c.number-size.ensures.spelled ∙ c.deref-2.ensures.value in
     keeping_frame _ _ c.fill_up.new.gathered.items c.fill_up-2.new.gathered.items c.swap.new.x.items c.clear-in-Ready-Ok-true-fill_up-2.new.self.items c.swap.new.y.items _ _ _ body spelled
     (search rules) c.clear-in-Ready-Ok-true-fill_up-2.ensures.items (search rules)
+
+pub returns-in-Ready-Err-fill_up-2-clause-hands : goal.returns-in-Ready-Err-fill_up-2-clause-hands
+returns-in-Ready-Err-fill_up-2-clause-hands g c = search rules
+
+pub returns-then-size-limit-clause-covered : goal.returns-then-size-limit-clause-covered
+returns-then-size-limit-clause-covered g c = search rules
+
+pub returns-in-Ready-Ok-false-clause-kept : goal.returns-in-Ready-Ok-false-clause-kept
+returns-in-Ready-Ok-false-clause-kept g c = search rules
+
+pub returns-in-Ready-Ok-true-fill_up-2-clause-hands : goal.returns-in-Ready-Ok-true-fill_up-2-clause-hands
+returns-in-Ready-Ok-true-fill_up-2-clause-hands g c = search rules
+
+pub returns-in-Pending-clause-kept : goal.returns-in-Pending-clause-kept
+returns-in-Pending-clause-kept g c = search rules
+
+pub returns-in-Ready-Err-clause-hands : goal.returns-in-Ready-Err-clause-hands
+returns-in-Ready-Err-clause-hands g c = search rules
+
+pub returns-in-Ready-Ok-false-fill_up-2-clause-kept : goal.returns-in-Ready-Ok-false-fill_up-2-clause-kept
+returns-in-Ready-Ok-false-fill_up-2-clause-kept g c = search rules
+
+pub returns-in-Pending-clause-hands : goal.returns-in-Pending-clause-hands
+returns-in-Pending-clause-hands g c = search rules
+
+pub returns-in-Ready-Err-fill_up-clause-kept : goal.returns-in-Ready-Err-fill_up-clause-kept
+returns-in-Ready-Err-fill_up-clause-kept g c = search rules
+
+pub returns-in-Pending-fill_up-2-clause-kept : goal.returns-in-Pending-fill_up-2-clause-kept
+returns-in-Pending-fill_up-2-clause-kept g c = search rules
+
+pub returns-in-Ready-Err-fill_up-clause-hands : goal.returns-in-Ready-Err-fill_up-clause-hands
+returns-in-Ready-Err-fill_up-clause-hands g c = search rules
+
+pub returns-in-Ready-Ok-false-fill_up-clause-kept : goal.returns-in-Ready-Ok-false-fill_up-clause-kept
+returns-in-Ready-Ok-false-fill_up-clause-kept g c = search rules
+
+pub returns-in-Pending-clause-covered : goal.returns-in-Pending-clause-covered
+returns-in-Pending-clause-covered g c = search rules
+
+pub returns-in-Pending-fill_up-2-clause-covered : goal.returns-in-Pending-fill_up-2-clause-covered
+returns-in-Pending-fill_up-2-clause-covered g c = search rules
+
+pub returns-in-Ready-Ok-false-clause-covered : goal.returns-in-Ready-Ok-false-clause-covered
+returns-in-Ready-Ok-false-clause-covered g c = search rules
+
+pub returns-in-Ready-Ok-false-clause-hands : goal.returns-in-Ready-Ok-false-clause-hands
+returns-in-Ready-Ok-false-clause-hands g c = search rules
+
+pub returns-in-Pending-fill_up-clause-hands : goal.returns-in-Pending-fill_up-clause-hands
+returns-in-Pending-fill_up-clause-hands g c = search rules
+
+pub returns-in-Ready-Err-fill_up-2-clause-covered : goal.returns-in-Ready-Err-fill_up-2-clause-covered
+returns-in-Ready-Err-fill_up-2-clause-covered g c = search rules
+
+pub returns-in-Ready-Err-clause-kept : goal.returns-in-Ready-Err-clause-kept
+returns-in-Ready-Err-clause-kept g c = search rules
+
+pub returns-in-Ready-Ok-false-fill_up-clause-covered : goal.returns-in-Ready-Ok-false-fill_up-clause-covered
+returns-in-Ready-Ok-false-fill_up-clause-covered g c = search rules
+
+pub returns-in-Ready-Err-clause-covered : goal.returns-in-Ready-Err-clause-covered
+returns-in-Ready-Err-clause-covered g c = search rules
+
+pub returns-in-Pending-fill_up-2-clause-hands : goal.returns-in-Pending-fill_up-2-clause-hands
+returns-in-Pending-fill_up-2-clause-hands g c = search rules
+
+pub returns-in-Ready-Ok-true-fill_up-2-clause-covered : goal.returns-in-Ready-Ok-true-fill_up-2-clause-covered
+returns-in-Ready-Ok-true-fill_up-2-clause-covered g c = search rules
+
+pub returns-in-Ready-Err-fill_up-2-clause-kept : goal.returns-in-Ready-Err-fill_up-2-clause-kept
+returns-in-Ready-Err-fill_up-2-clause-kept g c = search rules
+
+pub returns-then-size-limit-clause-kept : goal.returns-then-size-limit-clause-kept
+returns-then-size-limit-clause-kept g c = search rules
+
+pub returns-in-Ready-Ok-false-fill_up-2-clause-hands : goal.returns-in-Ready-Ok-false-fill_up-2-clause-hands
+returns-in-Ready-Ok-false-fill_up-2-clause-hands g c = search rules
+
+pub returns-then-size-limit-clause-hands : goal.returns-then-size-limit-clause-hands
+returns-then-size-limit-clause-hands g c = search rules
+
+pub returns-in-Ready-Ok-true-fill_up-2-clause-kept : goal.returns-in-Ready-Ok-true-fill_up-2-clause-kept
+returns-in-Ready-Ok-true-fill_up-2-clause-kept g c = search rules
+
+pub returns-in-Ready-Ok-false-fill_up-2-clause-covered : goal.returns-in-Ready-Ok-false-fill_up-2-clause-covered
+returns-in-Ready-Ok-false-fill_up-2-clause-covered g c = search rules
+
+pub returns-in-Ready-Err-fill_up-clause-covered : goal.returns-in-Ready-Err-fill_up-clause-covered
+returns-in-Ready-Err-fill_up-clause-covered g c = search rules
+
+pub returns-in-Pending-fill_up-clause-kept : goal.returns-in-Pending-fill_up-clause-kept
+returns-in-Pending-fill_up-clause-kept g c = search rules
+
+pub returns-in-Pending-fill_up-clause-covered : goal.returns-in-Pending-fill_up-clause-covered
+returns-in-Pending-fill_up-clause-covered g c = search rules
