@@ -1,6 +1,7 @@
 //! Lines on standard error that tell how far a transfer is.
-ghost use Rattle.std.specs.Prelude.{◌≡◌, ◌-◌, ◌*◌, ◌/◌, ◌^◌, min, max};
+ghost use Rattle.std.specs.Prelude.{◌≡◌, ◌-◌, ◌*◌, ◌/◌, ◌^◌, min, max, Some};
 ghost use Rattle.std.specs.Duration.{as_nanos};
+ghost use Rattle.piper_pump.specs.Progress.{amount_text, seconds_text};
 
 use piper_transfer::Meter;
 use std::fmt;
@@ -122,14 +123,17 @@ impl Display for Line {
 struct Amount(u64);
 
 impl Display for Amount {
+    ghost output = { λ amount. Some (amount_text amount.0) };
+
     fn fmt<W: fmt::Write>(&self, f: &mut Formatter<W>) -> fmt::Result {
-        let Amount(bytes) = self;
-        for (unit, name) in [(1_073_741_824, "GiB"), (1_048_576, "MiB"), (1_024, "KiB")] {
-            if unit <= *bytes {
-                return write!(f, "{}.{} {name}", bytes / unit, bytes % unit * 10 / unit);
-            }
-        }
-        write!(f, "{bytes} B")
+        let Amount(bytes) = *self;
+        let (unit, name) = match bytes {
+            1_073_741_824.. => (1_073_741_824, "GiB"),
+            1_048_576.. => (1_048_576, "MiB"),
+            1_024.. => (1_024, "KiB"),
+            _ => return write!(f, "{bytes} B"),
+        };
+        write!(f, "{}.{} {name}", bytes / unit, bytes % unit * 10 / unit)
     }
 }
 
@@ -138,6 +142,8 @@ impl Display for Amount {
 struct Seconds(Duration);
 
 impl Display for Seconds {
+    ghost output = { λ seconds. Some (seconds_text (as_nanos seconds.0)) };
+
     fn fmt<W: fmt::Write>(&self, f: &mut Formatter<W>) -> fmt::Result {
         let Seconds(time) = self;
         write!(f, "{}.{} s", time.as_secs(), time.subsec_millis() / 100)

@@ -1,0 +1,18 @@
+-- How a line of progress writes amounts and times.
+use Rattle.std.specs.Prelude.{ℕ, ◌*◌, ◌/◌, ◌%◌, List, ◌++◌, codes, decimal, nat_le, if◌then◌else◌}
+
+-- how many of this unit n is, in decimal digits with the tenths behind a point: `205.0`
+abbrev pub in_tenths : ℕ → ℕ → List ℕ
+in_tenths unit n = decimal (n / unit) ++ codes "." ++ decimal (n % unit * 10 / unit)
+
+-- n bytes in the greatest unit of which there is one, as `51.2 MiB`; below those whole, as `7 B`
+abbrev pub amount_text : ℕ → List ℕ
+amount_text n =
+    if nat_le 1_073_741_824 n then in_tenths 1_073_741_824 n ++ codes " GiB"
+    else if nat_le 1_048_576 n then in_tenths 1_048_576 n ++ codes " MiB"
+    else if nat_le 1_024 n then in_tenths 1_024 n ++ codes " KiB"
+    else decimal n ++ codes " B"
+
+-- nanoseconds in seconds, as `0.1 s`
+abbrev pub seconds_text : ℕ → List ℕ
+seconds_text nanoseconds = in_tenths 1_000_000_000 nanoseconds ++ codes " s"
