@@ -28,6 +28,7 @@ HasStatus ended.Moved n = n ≡ 0
 HasStatus (ended.Words error) n =
     ((kind_of error ≡ DisplayHelp) ⊎ (kind_of error ≡ DisplayVersion) → n ≡ 0)
     × (kind_of error ≢ DisplayHelp → kind_of error ≢ DisplayVersion → n ≡ 2)
+HasStatus ended.NotText n = n ≡ 2
 HasStatus (ended.Input failed) n = n ≡ 3
 HasStatus (ended.Output failed) n = n ≡ 4
 HasStatus ended.Closed n = n ≡ 5

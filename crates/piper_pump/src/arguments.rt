@@ -18,14 +18,16 @@ pub struct Arguments {
 
 /// Reads the words on the command line.
 pub fn read_arguments(rt: &HostRuntime) -> Result<Arguments, Ended> {
-    let Ok(words) = words(rt) else {
-        return Err(Ended::Memory);
-    };
+    let words = words(rt)?;
     read_words(rt.alloc(), words.as_slice()).map_err(Ended::Words)
 }
 
-fn words(rt: &HostRuntime) -> io::Result<Vec<String>> {
-    Ok(env::args(rt)?.collect(rt.alloc())?)
+fn words(rt: &HostRuntime) -> Result<Vec<String>, Ended> {
+    match env::args(rt) {
+        Ok(words) => words.collect(rt.alloc()).map_err(|_| Ended::Memory),
+        Err(error) if error.kind() == io::ErrorKind::InvalidData => Err(Ended::NotText),
+        Err(_) => Err(Ended::Memory),
+    }
 }
 
 fn read_words(alloc: Global, words: &[String]) -> Result<Arguments, Error> {

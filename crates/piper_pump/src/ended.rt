@@ -13,6 +13,8 @@ pub enum Ended {
     Moved,
     /// The words on the command line are none that it takes, or ask for its help.
     Words(clap::Error),
+    /// A word on the command line is no text.
+    NotText,
     /// The input failed. What came before was written.
     Input(TransferError),
     /// The output failed.
@@ -47,6 +49,7 @@ impl Ended {
         let (told, status) = match self {
             Ended::Moved => (Ok(()), 0),
             Ended::Words(error) => (error.print(rt), error.exit_code() as u8),
+            Ended::NotText => (eprintln!(rt; "piper_pump: an argument is not UTF-8"), 2),
             Ended::Input(error) => (eprintln!(rt; "piper_pump: {error}"), 3),
             Ended::Output(error) => (eprintln!(rt; "piper_pump: {error}"), 4),
             Ended::Closed => (eprintln!(rt; "piper_pump: the output was closed"), 5),
