@@ -1,9 +1,8 @@
 //! A copy from any reader that lends to any writer, over ends that fail at a chosen call.
 ghost use Rattle.std.specs.Prelude.{◌≡◌, ◌≤◌, length, take, drop, min, true, false};
 
-use crate::pair::{same, task_at_last};
+use crate::pair::{Moved, copied, same, task_at_last};
 use futures::task::{Context, Poll};
-use futures::test::MockTask;
 use piper::PipeError;
 use piper::io::{AsyncBufRead, AsyncWrite, Copied, poll_copy};
 use std::alloc::AllocGlobal;
@@ -125,95 +124,94 @@ impl AsyncWrite for Keeper {
     }
 }
 
-/// How a copy ended.
-#[derive(Clone, Copy, Debug, PartialEq, Eq)]
-enum Ended {
-    Pending,
-    Copied(Copied),
-    Failed(ErrorKind),
-    Refused,
+/// The bytes that are copied, or the first of them.
+const BYTES: &[u8] = b"abcdefghijklmnopqrstuvwxyzabcdefghijklmnopqrstuvwxyz\
+    abcdefghijklmnopqrstuvwxyzabcdefghijklmnopqrstuvwxyz";
+
+/// A copy of so many bytes, between ends of which each fails at a call, and what each poll of it must answer.
+#[derive(Clone, Copy)]
+struct Copying<'a> {
+    len: usize,
+    /// The call at which the reader fails, and the one at which the writer does. None has the number 0.
+    fails: (usize, usize),
+    is_closed: bool,
+    /// What each poll answers, and how many bytes were carried by then.
+    polls: &'a [(Moved<Copied>, usize)],
 }
 
-fn told(polled: Poll<Result<Copied, PipeError>>) -> Ended {
-    match polled {
-        Poll::Pending => Ended::Pending,
-        Poll::Ready(Ok(copied)) => Ended::Copied(copied),
-        Poll::Ready(Err(PipeError::Io(error))) => Ended::Failed(error.kind()),
-        Poll::Ready(Err(PipeError::Memory)) => Ended::Refused,
-    }
-}
-
-/// Polls a copy.
-fn poll(task: &MockTask, lender: &mut Lender<'_>, keeper: &mut Keeper) -> Ended {
-    told(task.enter(|cx| poll_copy(cx, lender, keeper)))
-}
-
-/// Copies eight bytes, while the one end fails at its call `read`, or the other at its call `write`: so many were carried, and none is lost.
-fn copies<R>(rt: &R, read: usize, write: usize, want: Ended, carried: usize)
+/// Makes the polls of a copy. What was carried stands in the writer, and none is lost; who is pending asked for another poll.
+fn carries<R>(rt: &R, copying: Copying<'_>)
 where
     R: Abort + RandomSource + AllocGlobal,
 {
+    let (read, write) = copying.fails;
     let task = task_at_last(rt);
-    let mut lender = Lender::new(b"abcdefgh", read);
+    let mut lender = Lender::new(&BYTES[..copying.len.min(BYTES.len())], read);
     let mut keeper = Keeper::new(rt, write);
-    let ended = poll(&task, &mut lender, &mut keeper);
-    let what = (read, write);
-    same(rt, &what, ended, want);
-    same(rt, &what, lender.taken, carried);
-    same(
-        rt,
-        &what,
-        keeper.bytes.as_slice(),
-        &b"abcdefgh"[..carried.min(8)],
-    );
+    keeper.is_closed = copying.is_closed;
+    for (want, carried) in copying.polls {
+        let ended = copied(task.enter(|cx| poll_copy(cx, &mut lender, &mut keeper)));
+        let what = (copying.fails, *carried);
+        same(rt, &what, ended, *want);
+        same(rt, &what, task.is_woken(), ended == Moved::Pending);
+        same(rt, &what, lender.taken, *carried);
+        let sent = &BYTES[..(*carried).min(BYTES.len())];
+        same(rt, &what, keeper.bytes.as_slice(), sent);
+    }
+}
+
+/// Copies eight bytes, while the one end fails at its call `read`, or the other at its call `write`.
+fn fails_at<R>(rt: &R, read: usize, write: usize, kind: ErrorKind, carried: usize)
+where
+    R: Abort + RandomSource + AllocGlobal,
+{
+    let copying = Copying {
+        len: 8,
+        fails: (read, write),
+        is_closed: false,
+        polls: &[(Moved::Failed(kind), carried)],
+    };
+    carries(rt, copying);
 }
 
 #[test]
 fn a_copy_ends_at_the_first_error(rt: HostRuntime) {
     for k in 1..9usize {
-        copies(&rt, k, k + 1, Ended::Failed(ErrorKind::TimedOut), k - 1);
-        copies(&rt, k, k, Ended::Failed(ErrorKind::TimedOut), k - 1);
-        copies(&rt, k + 1, k, Ended::Failed(ErrorKind::WriteZero), k - 1);
+        fails_at(&rt, k, k + 1, ErrorKind::TimedOut, k - 1);
+        fails_at(&rt, k, k, ErrorKind::TimedOut, k - 1);
+        fails_at(&rt, k + 1, k, ErrorKind::WriteZero, k - 1);
     }
-    copies(&rt, 10, 9, Ended::Copied(Copied::ToTheEnd), 8);
 }
 
-/// A copy of a hundred pieces takes two polls.
-fn takes_two_polls<R>(rt: &R)
-where
-    R: Abort + RandomSource + AllocGlobal,
-{
-    let task = task_at_last(rt);
-    let mut lender = Lender::new(&[7; 100], 0);
-    let mut keeper = Keeper::new(rt, 0);
-    let ended = poll(&task, &mut lender, &mut keeper);
-    same(rt, &"at first", ended, Ended::Pending);
-    same(rt, &"woken", (task.is_woken(), lender.taken), (true, 64));
-    let ended = poll(&task, &mut lender, &mut keeper);
-    same(rt, &"then", ended, Ended::Copied(Copied::ToTheEnd));
-    same(rt, &"all", keeper.bytes.as_slice(), [7; 100].as_slice());
+#[test]
+fn a_copy_ends_before_an_error_that_it_does_not_meet(rt: HostRuntime) {
+    let copying = Copying {
+        len: 8,
+        fails: (10, 9),
+        is_closed: false,
+        polls: &[(Moved::Done(Copied::ToTheEnd), 8)],
+    };
+    carries(&rt, copying);
 }
 
 #[test]
 fn a_long_copy_asks_for_another_poll_after_64_pieces(rt: HostRuntime) {
-    takes_two_polls(&rt);
-}
-
-/// A copy to a writer that was closed ends, and leaves the reader's bytes.
-fn takes_nothing<R>(rt: &R)
-where
-    R: Abort + RandomSource + AllocGlobal,
-{
-    let task = task_at_last(rt);
-    let mut lender = Lender::new(b"a", 0);
-    let mut keeper = Keeper::new(rt, 0);
-    keeper.is_closed = true;
-    let ended = poll(&task, &mut lender, &mut keeper);
-    same(rt, &"closed", ended, Ended::Copied(Copied::UntilClosed));
-    same(rt, &"taken", lender.taken, 0);
+    let copying = Copying {
+        len: 100,
+        fails: (0, 0),
+        is_closed: false,
+        polls: &[(Moved::Pending, 64), (Moved::Done(Copied::ToTheEnd), 100)],
+    };
+    carries(&rt, copying);
 }
 
 #[test]
 fn a_copy_to_a_closed_writer_takes_nothing(rt: HostRuntime) {
-    takes_nothing(&rt);
+    let copying = Copying {
+        len: 1,
+        fails: (0, 0),
+        is_closed: true,
+        polls: &[(Moved::Done(Copied::UntilClosed), 0)],
+    };
+    carries(&rt, copying);
 }

@@ -2,7 +2,7 @@
 ghost use Rattle.std.specs.Prelude.{◌<◌, ◌*◌, ◌^◌};
 
 use crate::ends::End;
-use crate::pair::{Act, Moved, Pair, Polled, plays, same};
+use crate::pair::{Act, Moved, Pair, Polled, Through, plays, same};
 use std::alloc::AllocGlobal;
 use std::io::ErrorKind;
 use std::process::Abort;
@@ -67,21 +67,34 @@ fn a_drain_of_a_pipe_that_was_closed_is_at_the_end(rt: HostRuntime) {
     plays(&rt, 1, acts);
 }
 
-/// Through which call a copy goes.
-#[derive(Clone, Copy, Debug)]
-enum Through {
-    /// Over a reader or writer of std.
-    Std,
-    /// Over a source or destination of the test's own.
-    Inner,
-}
-
 /// What a copy answers whose last call of the end fails with an error of this kind, or moves none.
-fn ended(moved: usize, error: Option<ErrorKind>) -> Moved {
+fn ended(moved: usize, error: Option<ErrorKind>) -> Moved<usize> {
     match error {
         Some(kind) => Moved::Failed(kind),
-        None => Moved::Bytes(moved),
+        None => Moved::Done(moved),
     }
+}
+
+/// The error of the `last` call of an end that fails, of another kind for each number.
+fn error_at(fails: bool, last: usize) -> Option<ErrorKind> {
+    if fails {
+        KINDS.get(last.wrapping_sub(1)).copied()
+    } else {
+        None
+    }
+}
+
+/// A copy over an end answers as is wanted, and so many bytes were moved, each in its turn.
+fn copies<H: Wait + Clone + Drop>(
+    rt: &impl Abort,
+    pair: &mut Pair<H>,
+    through: Through,
+    end: &mut End,
+    want: Moved<usize>,
+    moved: usize,
+) {
+    same(rt, &through, pair.copy(rt, through, end), want);
+    same(rt, &through, end.moved(), Some(moved));
 }
 
 /// A source gives a byte a call, and its call `last` fails or gives none. What it gave before stays published.
@@ -92,17 +105,11 @@ where
 {
     let given = (last - 1).min(capacity);
     let is_called = last - 1 <= capacity;
-    let want = ended(given, error.filter(|_| is_called));
+    let want = ended(given, if is_called { error } else { None });
     let mut source = End::new(1, last, error);
     let mut pair = Pair::new(rt, capacity);
     pair.play(rt, &[Act::PollReader(Polled::Pending)]);
-    let seen = match through {
-        Through::Std => pair.fill_from(rt, &mut source),
-        Through::Inner => pair.fill_inner(rt, &mut source),
-    };
-    let what = (through, capacity, last);
-    same(rt, &what, seen, want);
-    same(rt, &what, source.moved(), Some(given));
+    copies(rt, &mut pair, through, &mut source, want, given);
     let left = [
         Act::ReaderIsWoken(given > 0),
         Act::WriterIsWoken(false),
@@ -115,30 +122,28 @@ where
     pair.play(rt, &left);
 }
 
-/// Through either call, into a pipe that is full before that and into one that is not.
-fn fills_end_at<H>(rt: &H, last: usize, error: Option<ErrorKind>)
+/// Through either call, into a pipe that is full before the last call of the source and into one that is not.
+fn fills_end<H>(rt: &H, fails: bool)
 where
     H: Abort + Wait + RandomSource + AllocGlobal + Clone + Drop,
-    requires { 0 < last }
 {
-    fill_ends_at(rt, Through::Std, 3, last, error);
-    fill_ends_at(rt, Through::Inner, 3, last, error);
-    fill_ends_at(rt, Through::Std, 16, last, error);
-    fill_ends_at(rt, Through::Inner, 16, last, error);
+    for last in 1..9usize {
+        let error = error_at(fails, last);
+        fill_ends_at(rt, Through::Fill, 3, last, error);
+        fill_ends_at(rt, Through::FillInner, 3, last, error);
+        fill_ends_at(rt, Through::Fill, 16, last, error);
+        fill_ends_at(rt, Through::FillInner, 16, last, error);
+    }
 }
 
 #[test]
 fn a_source_that_fails_is_told_and_its_earlier_bytes_stay(rt: HostRuntime) {
-    for (i, kind) in KINDS.into_iter().enumerate() {
-        fills_end_at(&rt, i + 1, Some(kind));
-    }
+    fills_end(&rt, true);
 }
 
 #[test]
 fn a_source_that_gives_none_ends_a_fill(rt: HostRuntime) {
-    for last in 1..9 {
-        fills_end_at(&rt, last, None);
-    }
+    fills_end(&rt, false);
 }
 
 /// A destination takes a byte a call of the eight of a full pipe, and its call `last` fails or takes none. What it took before is gone from the pipe.
@@ -148,17 +153,18 @@ where
     requires { 0 < last }
 {
     let taken = (last - 1).min(8);
-    let all = [0, 1, 2, 3, 4, 5, 6, 7];
+    let all = &[0, 1, 2, 3, 4, 5, 6, 7];
     let mut dest = End::new(1, last, error);
     let mut pair = Pair::new(rt, 8);
-    pair.play(rt, &[Act::Fill(&all, 8), Act::PollWriter(Polled::Pending)]);
-    let seen = match through {
-        Through::Std => pair.drain_to(rt, &mut dest),
-        Through::Inner => pair.drain_inner(rt, &mut dest),
-    };
-    let what = (through, last);
-    same(rt, &what, seen, ended(taken, error));
-    same(rt, &what, dest.moved(), Some(taken));
+    pair.play(rt, &[Act::Fill(all, 8), Act::PollWriter(Polled::Pending)]);
+    copies(
+        rt,
+        &mut pair,
+        through,
+        &mut dest,
+        ended(taken, error),
+        taken,
+    );
     let left = [
         Act::WriterIsWoken(taken > 0),
         Act::ReaderIsWoken(false),
@@ -171,27 +177,25 @@ where
 }
 
 /// Through either call.
-fn drains_end_at<H>(rt: &H, last: usize, error: Option<ErrorKind>)
+fn drains_end<H>(rt: &H, fails: bool)
 where
     H: Abort + Wait + RandomSource + AllocGlobal + Clone + Drop,
-    requires { 0 < last }
 {
-    drain_ends_at(rt, Through::Std, last, error);
-    drain_ends_at(rt, Through::Inner, last, error);
+    for last in 1..10usize {
+        let error = error_at(fails, last);
+        drain_ends_at(rt, Through::Drain, last, error);
+        drain_ends_at(rt, Through::DrainInner, last, error);
+    }
 }
 
 #[test]
 fn a_destination_that_fails_is_told_and_what_it_took_is_gone(rt: HostRuntime) {
-    for (i, kind) in KINDS.into_iter().enumerate() {
-        drains_end_at(&rt, i + 1, Some(kind));
-    }
+    drains_end(&rt, true);
 }
 
 #[test]
 fn a_destination_that_takes_none_ends_a_drain(rt: HostRuntime) {
-    for last in 1..10 {
-        drains_end_at(&rt, last, None);
-    }
+    drains_end(&rt, false);
 }
 
 /// Both copies call the ends on slices as long as they can be.
@@ -200,28 +204,13 @@ where
     H: Abort + Wait + RandomSource + AllocGlobal + Clone + Drop,
 {
     let mut pair = Pair::new(rt, 200_000);
-    let mut source = End::willing();
-    let mut dest = End::willing();
-    same(
-        rt,
-        &"in",
-        pair.fill_from(rt, &mut source),
-        Moved::Bytes(200_000),
-    );
-    same(
-        rt,
-        &"in",
-        source.lens(),
-        [4_096, 12_288, 36_864, 110_592, 36_160, 0].as_slice(),
-    );
-    same(
-        rt,
-        &"out",
-        pair.drain_to(rt, &mut dest),
-        Moved::Bytes(200_000),
-    );
+    let (mut source, mut dest) = (End::willing(), End::willing());
+    let (want, moved) = (Moved::Done(200_000), 200_000);
+    copies(rt, &mut pair, Through::Fill, &mut source, want, moved);
+    let lens = [4_096, 12_288, 36_864, 110_592, 36_160, 0].as_slice();
+    same(rt, &"in", source.lens(), lens);
+    copies(rt, &mut pair, Through::Drain, &mut dest, want, moved);
     same(rt, &"out", dest.lens(), [131_072, 68_928, 0].as_slice());
-    same(rt, &"in order", dest.moved(), Some(200_000));
 }
 
 #[test]
@@ -229,101 +218,92 @@ fn a_copy_moves_whole_slices(rt: HostRuntime) {
     moves_whole_slices(&rt);
 }
 
-/// Between a pipe and slices, of which the one is longer than it and the other too.
-fn moves_all_that_fits<H>(rt: &H)
-where
-    H: Abort + Wait + RandomSource + AllocGlobal + Clone + Drop,
-{
-    let mut pair = Pair::new(rt, 8);
-    let mut source = b"hello world".as_slice();
-    let mut dest = [0; 16];
-    let mut places = dest.as_mut_slice();
-    same(rt, &"in", pair.fill_from(rt, &mut source), Moved::Bytes(8));
-    same(rt, &"left", source, b"rld".as_slice());
-    same(rt, &"out", pair.drain_to(rt, &mut places), Moved::Bytes(8));
-    same(rt, &"the bytes", &dest[..9], b"hello wo\0".as_slice());
-}
-
 #[test]
 fn a_copy_over_slices_moves_all_that_fits(rt: HostRuntime) {
-    moves_all_that_fits(&rt);
+    let acts = &[
+        Act::FillFromSlice(b"hello world", b"rld"),
+        Act::DrainToSlice(16, b"hello wo"),
+    ];
+    plays(&rt, 8, acts);
 }
 
-/// Holds a count of yields in so many polls against one in a hundred.
-fn one_in_a_hundred(rt: &impl Abort, yielded: u32, polls: u32) {
-    assert!(rt; yielded > 0 && yielded < polls / 33, "{yielded} of {polls}");
+/// A copy that may yield, and what the pipe must be then.
+#[derive(Clone, Copy)]
+struct Turn<'a> {
+    through: Through,
+    /// The most bytes that its end moves in a call.
+    most: usize,
+    before: &'a [Act<'a>],
+    behind_a_yield: &'a [Act<'a>],
+    behind_a_copy: &'a [Act<'a>],
 }
 
-/// Drains of a full pipe: those that yield leave it as it was.
-fn drains_yield<H>(rt: &H)
+/// Of the turns one in a hundred yields, and moves nothing.
+fn one_in_a_hundred_yields<H>(rt: &H, turns: u32, turn: &Turn<'_>)
 where
     H: Abort + Wait + RandomSource + AllocGlobal + Clone + Drop,
 {
     let mut pair = Pair::new(rt, 1);
     let mut yielded = 0u32;
-    for _ in 0..2_000 {
-        pair.play(rt, &[Act::Fill(b"a", 1)]);
-        if pair.drain_to(rt, &mut End::willing()) == Moved::Pending {
-            let left = [
-                Act::ReaderIsWoken(true),
-                Act::Unread(1),
-                Act::Drain(1, b"a"),
-            ];
-            pair.play(rt, &left);
-            yielded = yielded.saturating_add(1);
-        }
+    for _ in 0..turns {
+        pair.play(rt, turn.before);
+        let mut end = End::new(turn.most, usize::MAX, None);
+        let behind = match pair.copy(rt, turn.through, &mut end) {
+            Moved::Pending => {
+                yielded = yielded.saturating_add(1);
+                turn.behind_a_yield
+            }
+            moved => {
+                same(rt, &turn.through, moved, Moved::Done(turn.most.min(1)));
+                turn.behind_a_copy
+            }
+        };
+        pair.play(rt, behind);
     }
-    one_in_a_hundred(rt, yielded, 2_000);
+    same(rt, &yielded, yielded > 0 && yielded < turns / 33, true);
 }
 
 #[test]
 fn one_drain_in_a_hundred_yields_and_moves_nothing(rt: HostRuntime) {
-    drains_yield(&rt);
-}
-
-/// Fills of an empty pipe: those that yield leave it as it was.
-fn fills_yield<H>(rt: &H)
-where
-    H: Abort + Wait + RandomSource + AllocGlobal + Clone + Drop,
-{
-    let mut pair = Pair::new(rt, 1);
-    let mut yielded = 0u32;
-    for _ in 0..2_000 {
-        if pair.fill_from(rt, &mut End::willing()) == Moved::Pending {
-            let left = [Act::WriterIsWoken(true), Act::Unread(0), Act::Fill(&[0], 1)];
-            pair.play(rt, &left);
-            yielded = yielded.saturating_add(1);
-        }
-        pair.play(rt, &[Act::Drain(1, &[0])]);
-    }
-    one_in_a_hundred(rt, yielded, 2_000);
+    let turn = Turn {
+        through: Through::Drain,
+        most: 1,
+        before: &[Act::Fill(b"a", 1)],
+        behind_a_yield: &[
+            Act::ReaderIsWoken(true),
+            Act::Unread(1),
+            Act::Drain(1, b"a"),
+        ],
+        behind_a_copy: &[Act::Unread(0)],
+    };
+    one_in_a_hundred_yields(&rt, 2_000, &turn);
 }
 
 #[test]
 fn one_fill_in_a_hundred_yields_and_moves_nothing(rt: HostRuntime) {
-    fills_yield(&rt);
-}
-
-/// Drains into no place move nothing, and some yield.
-fn drains_into_nothing<H>(rt: &H)
-where
-    H: Abort + Wait + RandomSource + AllocGlobal + Clone + Drop,
-{
-    let mut pair = Pair::new(rt, 1);
-    pair.play(rt, &[Act::Fill(b"a", 1)]);
-    let mut yielded = 0u32;
-    for _ in 0..1_000 {
-        let mut nothing: &mut [u8] = &mut [];
-        if pair.drain_to(rt, &mut nothing) != Moved::Bytes(0) {
-            pair.play(rt, &[Act::ReaderIsWoken(true)]);
-            yielded = yielded.saturating_add(1);
-        }
-    }
-    one_in_a_hundred(rt, yielded, 1_000);
-    pair.play(rt, &[Act::Drain(1, b"a")]);
+    let turn = Turn {
+        through: Through::Fill,
+        most: 1,
+        before: &[],
+        behind_a_yield: &[
+            Act::WriterIsWoken(true),
+            Act::Unread(0),
+            Act::Fill(&[0], 1),
+            Act::Drain(1, &[0]),
+        ],
+        behind_a_copy: &[Act::Drain(1, &[0])],
+    };
+    one_in_a_hundred_yields(&rt, 2_000, &turn);
 }
 
 #[test]
 fn a_drain_into_nothing_is_no_end(rt: HostRuntime) {
-    drains_into_nothing(&rt);
+    let turn = Turn {
+        through: Through::Drain,
+        most: 0,
+        before: &[Act::Fill(b"a", 1)],
+        behind_a_yield: &[Act::ReaderIsWoken(true), Act::Drain(1, b"a")],
+        behind_a_copy: &[Act::Drain(1, b"a")],
+    };
+    one_in_a_hundred_yields(&rt, 1_000, &turn);
 }

@@ -1,7 +1,9 @@
 //! Bytes that cross from one thread to another, each of which sleeps until its waker is called: by fills and drains, by reads and writes of the traits, and by a copy from one pipe to another.
+ghost use Rattle.std.specs.Prelude.{◌<◌, ◌*◌, ◌^◌};
+
 use crate::ends::byte_at;
 use crate::pair::same;
-use crate::tasks::{Close, CopyAll, DrainAll, FillAll, ReadExact, WriteAll, ends, owned_pipe};
+use crate::tasks::{CopyAll, DrainAll, FillAll, ReadExact, ReadLine, WriteAll, ends, owned_pipe};
 use piper::io::Copied;
 use piper::{OwnedReader, OwnedWriter};
 use std::alloc::AllocGlobal;
@@ -15,17 +17,93 @@ use std::thread::Threads;
 /// How many bytes cross.
 const TOTAL: usize = 10_000;
 
+/// What the writer gives, through which call.
+#[derive(Clone, Copy)]
+pub(crate) enum Give<'a> {
+    Fill(&'a [u8]),
+    /// By writes of the trait.
+    Write(&'a [u8]),
+    /// The same, behind which the pipe is closed.
+    WriteAndClose(&'a [u8]),
+}
+
+/// What the reader takes, and what it must be.
+#[derive(Clone, Copy)]
+pub(crate) enum Take<'a> {
+    /// So many bytes as these are.
+    Bytes(&'a [u8]),
+    /// The same, behind which no byte comes.
+    Last(&'a [u8]),
+    Line(&'a [u8]),
+    /// All up to the pipe's end, by drains.
+    Drained(&'a [u8]),
+}
+
 /// The bytes that cross.
-fn bytes_to_cross(rt: &(impl Abort + AllocGlobal)) -> Vec<u8> {
-    let mut bytes = Vec::new(rt.alloc());
-    for i in 0..TOTAL {
-        bytes.push(byte_at(i)).expect(rt, "a byte");
+fn bytes_to_cross() -> [u8; TOTAL] {
+    let mut bytes = [0; TOTAL];
+    for (i, place) in bytes.iter_mut().enumerate() {
+        *place = byte_at(i);
     }
     bytes
 }
 
+/// Writes through the trait, and closes the pipe where that is asked for.
+fn writes<H>(rt: &H, owned: &mut OwnedWriter<H>, rest: &[u8], closes: bool)
+where
+    H: Abort + Wait + RandomSource + AllocGlobal + Clone + Drop,
+{
+    let writer = owned.get_mut();
+    ends(
+        rt,
+        WriteAll {
+            writer,
+            rest,
+            closes,
+        },
+    );
+}
+
+fn fills<H>(rt: &H, owned: &mut OwnedWriter<H>, rest: &[u8])
+where
+    H: Abort + Wait + RandomSource + AllocGlobal + Clone + Drop,
+{
+    let writer = owned.get_mut();
+    ends(rt, FillAll { writer, rest });
+}
+
+/// Reads so many bytes as are wanted, and asks for so many more, which must not come.
+fn reads<H>(rt: &H, owned: &mut OwnedReader<H>, want: &[u8], more: usize)
+where
+    H: Abort + Wait + RandomSource + AllocGlobal + Clone + Drop,
+{
+    let mut dest = [0; TOTAL + 1];
+    let most = want.len().saturating_add(more).min(TOTAL + 1);
+    let future = ReadExact {
+        reader: owned.get_mut(),
+        dest: &mut dest[..most],
+        came: 0,
+    };
+    let came = ends(rt, future);
+    same(rt, &"read", &dest[..came.min(TOTAL + 1)] == want, true);
+}
+
+/// Reads a line, or what is left of one at the end, and holds it against the one that is wanted.
+fn reads_line<H>(rt: &H, owned: &mut OwnedReader<H>, want: &[u8])
+where
+    H: Abort + Wait + RandomSource + AllocGlobal + Clone + Drop,
+{
+    let mut text = Vec::new(rt.alloc());
+    let future = ReadLine {
+        reader: owned.get_mut(),
+        line: &mut text,
+    };
+    ends(rt, future);
+    same(rt, &"a line", text.as_slice(), want);
+}
+
 /// Drains to the end, and holds the bytes against those that are wanted.
-pub(crate) fn drains_all<H>(rt: &H, owned: &mut OwnedReader<H>, want: &[u8])
+fn drains_all<H>(rt: &H, owned: &mut OwnedReader<H>, want: &[u8])
 where
     H: Abort + Wait + RandomSource + AllocGlobal + Clone + Drop,
 {
@@ -38,87 +116,72 @@ where
     same(rt, &"all", came.as_slice() == want, true);
 }
 
-/// Fills with all of these bytes, and drops the writer.
-fn fills_all<H>(rt: &H, mut owned: OwnedWriter<H>, bytes: &[u8])
+/// Gives all of this, one after another, and drops the writer.
+fn gives<H>(rt: &H, mut owned: OwnedWriter<H>, given: &[Give<'_>])
 where
     H: Abort + Wait + RandomSource + AllocGlobal + Clone + Drop,
 {
-    let future = FillAll {
-        writer: owned.get_mut(),
-        rest: bytes,
-    };
-    ends(rt, future);
+    for give in given {
+        match *give {
+            Give::Fill(bytes) => fills(rt, &mut owned, bytes),
+            Give::Write(bytes) => writes(rt, &mut owned, bytes, false),
+            Give::WriteAndClose(bytes) => writes(rt, &mut owned, bytes, true),
+        }
+    }
 }
 
-/// Writes all of these bytes through the trait, and closes the pipe.
-fn writes_all<H>(rt: &H, owned: &mut OwnedWriter<H>, bytes: &[u8])
+fn takes<H>(rt: &H, owned: &mut OwnedReader<H>, wanted: &[Take<'_>])
 where
     H: Abort + Wait + RandomSource + AllocGlobal + Clone + Drop,
 {
-    let future = WriteAll {
-        writer: owned.get_mut(),
-        rest: bytes,
-    };
-    ends(rt, future);
-    let writer = owned.get_mut();
-    ends(rt, Close { writer });
+    for take in wanted {
+        match *take {
+            Take::Bytes(want) => reads(rt, owned, want, 0),
+            Take::Last(want) => reads(rt, owned, want, 1),
+            Take::Line(want) => reads_line(rt, owned, want),
+            Take::Drained(want) => drains_all(rt, owned, want),
+        }
+    }
 }
 
-/// Reads up to the end through the trait, and holds the bytes against those that are wanted.
-fn reads_all<H>(rt: &H, owned: &mut OwnedReader<H>, want: &[u8])
-where
-    H: Abort + Wait + RandomSource + AllocGlobal + Clone + Drop,
-{
-    let mut dest = [0; TOTAL + 1];
-    let future = ReadExact {
-        reader: owned.get_mut(),
-        dest: &mut dest,
-        came: 0,
-    };
-    let came = ends(rt, future);
-    same(rt, &"all", &dest[..came.min(TOTAL)] == want, true);
-}
-
-/// Through pipes of one place, of twenty and of a hundred.
-fn cross_by_fills_and_drains<H>(rt: &H)
+/// One thread gives bytes and drops the writer, while another takes them.
+pub(crate) fn crosses<H>(rt: &H, capacity: usize, given: &[Give<'_>], wanted: &[Take<'_>])
 where
     H: Abort + Threads + Wait + RandomSource + AllocGlobal + Clone + Drop + Send + Sync,
+    requires { (0 < capacity) × (2 * capacity < 2 ^ 64) }
 {
-    let bytes = bytes_to_cross(rt);
-    for capacity in [1, 20, 100] {
-        let (mut reader, writer) = owned_pipe(rt, capacity);
-        thread::join(
-            rt,
-            || drains_all(rt, &mut reader, &bytes),
-            || fills_all(rt, writer, &bytes),
-        );
-    }
+    let (mut reader, writer) = owned_pipe(rt, capacity);
+    thread::join(
+        rt,
+        || takes(rt, &mut reader, wanted),
+        || gives(rt, writer, given),
+    );
 }
 
 #[test]
 fn bytes_cross_by_fills_and_drains(rt: HostRuntime) {
-    cross_by_fills_and_drains(&rt);
-}
-
-/// Through pipes of one place, of twenty and of a hundred.
-fn cross_by_reads_and_writes<H>(rt: &H)
-where
-    H: Abort + Threads + Wait + RandomSource + AllocGlobal + Clone + Drop + Send + Sync,
-{
-    let bytes = bytes_to_cross(rt);
+    let bytes = bytes_to_cross();
     for capacity in [1, 20, 100] {
-        let (mut reader, mut writer) = owned_pipe(rt, capacity);
-        thread::join(
-            rt,
-            || reads_all(rt, &mut reader, &bytes),
-            || writes_all(rt, &mut writer, &bytes),
+        crosses(
+            &rt,
+            capacity,
+            &[Give::Fill(&bytes)],
+            &[Take::Drained(&bytes)],
         );
     }
 }
 
 #[test]
 fn bytes_cross_by_reads_and_writes(rt: HostRuntime) {
-    cross_by_reads_and_writes(&rt);
+    let bytes = bytes_to_cross();
+    for capacity in [1, 20, 100] {
+        crosses(
+            &rt,
+            capacity,
+            &[Give::WriteAndClose(&bytes)],
+            &[Take::Last(&bytes)],
+        );
+    }
 }
 
 /// Copies from the one pipe to the other, and drops both handles. The answer is why the copy ended.
@@ -133,42 +196,34 @@ where
     ends(rt, future)
 }
 
-/// Copies from the one pipe to the other, on a thread beside the one that drains the other.
-fn copies_and_drains<H>(
-    rt: &H,
-    from: OwnedReader<H>,
-    to: OwnedWriter<H>,
-    last: &mut OwnedReader<H>,
-    want: &[u8],
-) -> Copied
+/// Gives all bytes to the first pipe, on a thread beside the one that drains the second.
+fn gives_and_drains<H>(rt: &H, first: OwnedWriter<H>, last: &mut OwnedReader<H>, bytes: &[u8])
 where
     H: Abort + Threads + Wait + RandomSource + AllocGlobal + Clone + Drop + Send + Sync,
 {
-    let (copied, _) = thread::join(
+    thread::join(
         rt,
-        || copies_all(rt, from, to),
-        || drains_all(rt, last, want),
+        || gives(rt, first, &[Give::Fill(bytes)]),
+        || drains_all(rt, last, bytes),
     );
-    copied
 }
 
 /// One thread fills the first pipe, one copies to the second, and one drains that.
-fn cross_two_pipes<H>(rt: &H)
+fn cross_two_pipes<H>(rt: &H, bytes: &[u8])
 where
     H: Abort + Threads + Wait + RandomSource + AllocGlobal + Clone + Drop + Send + Sync,
 {
-    let bytes = bytes_to_cross(rt);
-    let (from, writer) = owned_pipe(rt, 20);
+    let (from, first) = owned_pipe(rt, 20);
     let (mut last, to) = owned_pipe(rt, 7);
-    let (_, copied) = thread::join(
+    let (copied, _) = thread::join(
         rt,
-        || fills_all(rt, writer, &bytes),
-        || copies_and_drains(rt, from, to, &mut last, &bytes),
+        || copies_all(rt, from, to),
+        || gives_and_drains(rt, first, &mut last, bytes),
     );
     same(rt, &"copied", copied, Copied::ToTheEnd);
 }
 
 #[test]
 fn bytes_cross_two_pipes_by_a_copy(rt: HostRuntime) {
-    cross_two_pipes(&rt);
+    cross_two_pipes(&rt, &bytes_to_cross());
 }

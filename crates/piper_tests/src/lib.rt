@@ -1,4 +1,4 @@
-//! Tests of the pipe over its public calls. They stand apart from it, so that the pipe is proved once.
+//! Tests of the pipe and of the ring below it, over their public calls. They stand apart from both, so that these are proved once.
 #![tactic(auto)]
 
 #[cfg(test)]
@@ -15,6 +15,8 @@ mod first_calls;
 mod meeting;
 #[cfg(test)]
 mod pair;
+#[cfg(test)]
+mod ring;
 #[cfg(test)]
 mod tasks;
 #[cfg(test)]

@@ -2,9 +2,9 @@
 ghost use Rattle.std.specs.Prelude.{◌<◌, ◌*◌, ◌^◌};
 ghost use Rattle.piper.specs.Handles.{ArePair};
 
+use crate::ends::End;
 use futures::task::Poll;
 use futures::test::MockTask;
-use piper::like::{ReadLike, WriteLike};
 use piper::{Inner, OutOfMemory, OwnedReader, OwnedWriter, PipeError, Reader, Writer, pipe};
 use std::alloc::AllocGlobal;
 use std::fmt::Debug;
@@ -37,6 +37,10 @@ pub(crate) enum Act<'a> {
     PollFill(&'a [u8], Option<usize>),
     /// `poll_drain_bytes` into so many places, of 16, gives these bytes, or is pending.
     PollDrain(usize, Option<&'a [u8]>),
+    /// `poll_fill` of these bytes takes all but those that are left.
+    FillFromSlice(&'a [u8], &'a [u8]),
+    /// `poll_drain` into so many places, of 16, gives these bytes.
+    DrainToSlice(usize, &'a [u8]),
     /// `poll_close`, as the writer's task.
     Close,
     DropReader,
@@ -58,15 +62,28 @@ pub(crate) enum Polled {
     End,
 }
 
-/// What a copy over a reader or a writer answers.
+/// What a copy answers.
 #[derive(Clone, Copy, Debug, PartialEq, Eq)]
-pub(crate) enum Moved {
+pub(crate) enum Moved<T> {
     Pending,
-    Bytes(usize),
+    Done(T),
     /// The reader or the writer failed, with an error of this kind.
     Failed(ErrorKind),
-    /// No waker could be made.
+    /// Memory was refused, or no waker could be made.
     Refused,
+}
+
+/// Through which call a copy goes.
+#[derive(Clone, Copy, Debug)]
+pub(crate) enum Through {
+    /// `poll_fill`, from a reader of std.
+    Fill,
+    /// `fill_inner`, from a source of the test's own.
+    FillInner,
+    /// `poll_drain`, into a writer of std.
+    Drain,
+    /// `drain_inner`, into a destination of the test's own.
+    DrainInner,
 }
 
 /// A pipe with a task for each of its sides.
@@ -127,20 +144,20 @@ fn told(rt: &impl Abort, polled: Poll<Result<bool, OutOfMemory>>) -> Polled {
 }
 
 /// What a copy over a source or a destination of the test's own answers.
-fn copied_inner(polled: Poll<Result<usize, Inner<ErrorKind>>>) -> Moved {
+fn copied_inner(polled: Poll<Result<usize, Inner<ErrorKind>>>) -> Moved<usize> {
     match polled {
         Poll::Pending => Moved::Pending,
-        Poll::Ready(Ok(count)) => Moved::Bytes(count),
+        Poll::Ready(Ok(count)) => Moved::Done(count),
         Poll::Ready(Err(Inner::Like(kind))) => Moved::Failed(kind),
         Poll::Ready(Err(Inner::Memory)) => Moved::Refused,
     }
 }
 
 /// What a copy over a reader or a writer answers.
-fn copied(polled: Poll<Result<usize, PipeError>>) -> Moved {
+pub(crate) fn copied<T: Drop>(polled: Poll<Result<T, PipeError>>) -> Moved<T> {
     match polled {
         Poll::Pending => Moved::Pending,
-        Poll::Ready(Ok(count)) => Moved::Bytes(count),
+        Poll::Ready(Ok(answer)) => Moved::Done(answer),
         Poll::Ready(Err(PipeError::Io(error))) => Moved::Failed(error.kind()),
         Poll::Ready(Err(PipeError::Memory)) => Moved::Refused,
     }
@@ -245,34 +262,59 @@ impl<H: Wait + Clone + Drop> Pair<H> {
         thread::join(rt, || self.play(rt, acts), || ());
     }
 
+    /// A copy from the end or to it.
+    pub(crate) fn copy(
+        &mut self,
+        rt: &impl Abort,
+        through: Through,
+        end: &mut End,
+    ) -> Moved<usize> {
+        match through {
+            Through::Fill => self.fill_from(rt, end),
+            Through::FillInner => self.fill_inner(rt, end),
+            Through::Drain => self.drain_to(rt, end),
+            Through::DrainInner => self.drain_inner(rt, end),
+        }
+    }
+
     /// `poll_fill` from the reader.
-    pub(crate) fn fill_from<R: Read>(&mut self, rt: &impl Abort, source: &mut R) -> Moved {
+    fn fill_from<R: Read>(&mut self, rt: &impl Abort, source: &mut R) -> Moved<usize> {
         let writer = writer_of(rt, &mut self.writer);
         copied(self.writing.enter(|cx| writer.poll_fill(cx, source)))
     }
 
     /// `poll_drain` into the writer.
-    pub(crate) fn drain_to<W: Write>(&mut self, rt: &impl Abort, dest: &mut W) -> Moved {
+    pub(crate) fn drain_to<W: Write>(&mut self, rt: &impl Abort, dest: &mut W) -> Moved<usize> {
         let reader = reader_of(rt, &mut self.reader);
         copied(self.reading.enter(|cx| reader.poll_drain(cx, dest)))
     }
 
-    /// `fill_inner` from the source.
-    pub(crate) fn fill_inner<S>(&mut self, rt: &impl Abort, source: &mut S) -> Moved
-    where
-        S: ReadLike<Error = ErrorKind>,
-    {
+    fn fill_inner(&mut self, rt: &impl Abort, source: &mut End) -> Moved<usize> {
         let writer = writer_of(rt, &mut self.writer);
         copied_inner(self.writing.enter(|cx| writer.fill_inner(Some(cx), source)))
     }
 
-    /// `drain_inner` into the destination.
-    pub(crate) fn drain_inner<D>(&mut self, rt: &impl Abort, dest: &mut D) -> Moved
-    where
-        D: WriteLike<Error = ErrorKind>,
-    {
+    fn drain_inner(&mut self, rt: &impl Abort, dest: &mut End) -> Moved<usize> {
         let reader = reader_of(rt, &mut self.reader);
         copied_inner(self.reading.enter(|cx| reader.drain_inner(Some(cx), dest)))
+    }
+
+    /// Fills from a slice: all that fits goes in, and this is left.
+    fn fill_from_slice(&mut self, rt: &impl Abort, index: usize, bytes: &[u8], left: &[u8]) {
+        let mut source = bytes;
+        let seen = self.fill_from(rt, &mut source);
+        let went_in = bytes.len().saturating_sub(left.len());
+        same(rt, &index, seen, Moved::Done(went_in));
+        same(rt, &index, source, left);
+    }
+
+    /// Drains to a slice of so many places, of 16: these bytes come.
+    fn drain_to_slice(&mut self, rt: &impl Abort, index: usize, most: usize, want: &[u8]) {
+        let mut dest = [0; 16];
+        let mut places = &mut dest[..most.min(16)];
+        let seen = self.drain_to(rt, &mut places);
+        same(rt, &index, seen, Moved::Done(want.len()));
+        same(rt, &index, &dest[..want.len().min(16)], want);
     }
 
     fn make(&mut self, rt: &impl Abort, index: usize, act: &Act<'_>) {
@@ -298,6 +340,8 @@ impl<H: Wait + Clone + Drop> Pair<H> {
             Act::PollWriter(want) => same(rt, &index, self.poll_writer(rt), want),
             Act::PollFill(bytes, want) => same(rt, &index, self.poll_fill(rt, bytes), want),
             Act::PollDrain(most, want) => self.poll_drain(rt, index, most, want),
+            Act::FillFromSlice(bytes, left) => self.fill_from_slice(rt, index, bytes, left),
+            Act::DrainToSlice(most, want) => self.drain_to_slice(rt, index, most, want),
             Act::Close => self.close(rt),
             Act::DropReader => self.reader = None,
             Act::DropWriter => self.writer = None,

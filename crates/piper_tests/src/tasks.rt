@@ -78,11 +78,12 @@ impl<H: Wait + Clone + Drop> Future for DrainAll<'_, '_, H> {
     }
 }
 
-/// Writes all bytes, or until the writer's pipe is closed.
+/// Writes all bytes, or until the writer's pipe is closed, and then closes it where that is asked for.
 #[derive(Drop)]
 pub(crate) struct WriteAll<'a, 'b, W: AsyncWrite> {
     pub(crate) writer: &'a mut W,
     pub(crate) rest: &'b [u8],
+    pub(crate) closes: bool,
 }
 
 impl<W: AsyncWrite> Future for WriteAll<'_, '_, W> {
@@ -95,29 +96,18 @@ impl<W: AsyncWrite> Future for WriteAll<'_, '_, W> {
             Poll::Pending => Poll::Pending,
             Poll::Ready(Err(error)) => Poll::Ready(Err(error)),
             Poll::Ready(Ok(count)) if count == 0 || count == self.rest.len() => {
-                self.writer.poll_flush(cx)
+                self.rest = &[];
+                if self.closes {
+                    self.writer.poll_close(cx)
+                } else {
+                    self.writer.poll_flush(cx)
+                }
             }
             Poll::Ready(Ok(count)) => {
                 self.rest = &self.rest[count..];
                 cx.yield_now()
             }
         }
-    }
-}
-
-/// Closes the writer's pipe.
-#[derive(Drop)]
-pub(crate) struct Close<'a, W: AsyncWrite> {
-    pub(crate) writer: &'a mut W,
-}
-
-impl<W: AsyncWrite> Future for Close<'_, W> {
-    type Output = Result<(), PipeError>;
-
-    ghost needs = { λ future s. W.needs future.writer.now s };
-
-    fn poll(&mut self, cx: &mut Context<'_>) -> Poll<Result<(), PipeError>> {
-        self.writer.poll_close(cx)
     }
 }
 

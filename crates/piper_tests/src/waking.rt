@@ -35,69 +35,91 @@ fn lent_slices_carry_bytes_through(rt: HostRuntime) {
     plays(&rt, 1024, acts);
 }
 
-/// A reader waits for a byte, is woken by the acts of another thread, and is not woken again by its own next poll.
-fn reader_is_woken_by<H>(rt: &H, acts: &[Act<'_>], then: Polled)
-where
-    H: Abort + Threads + Wait + RandomSource + AllocGlobal + Clone + Drop + Send + Sync,
-{
-    let mut pair = Pair::new(rt, 4);
-    let waits = &[Act::PollReader(Polled::Pending), Act::ReaderIsWoken(false)];
-    pair.play(rt, waits);
-    pair.play(rt, waits);
-    pair.play_elsewhere(rt, acts);
-    let goes_on = [
-        Act::ReaderIsWoken(true),
-        Act::PollReader(then),
-        Act::ReaderIsWoken(false),
-    ];
-    pair.play(rt, &goes_on);
-}
+/// Two polls of the reader that wait. Neither wakes its task.
+const READER_WAITS: &[Act<'static>] = &[
+    Act::PollReader(Polled::Pending),
+    Act::ReaderIsWoken(false),
+    Act::PollReader(Polled::Pending),
+    Act::ReaderIsWoken(false),
+];
 
-/// A writer waits for room, is woken by the acts of another thread, and is not woken again by its own next poll.
-fn writer_is_woken_by<H>(rt: &H, acts: &[Act<'_>], then: Polled)
+/// The reader was woken, and is not woken again by its own next poll.
+const READER_FINDS: &[Act<'static>] = &[
+    Act::ReaderIsWoken(true),
+    Act::PollReader(Polled::Found),
+    Act::ReaderIsWoken(false),
+];
+
+const READER_ENDS: &[Act<'static>] = &[
+    Act::ReaderIsWoken(true),
+    Act::PollReader(Polled::End),
+    Act::ReaderIsWoken(false),
+];
+
+/// A full pipe, and two polls of the writer that wait. Neither wakes its task.
+const WRITER_WAITS: &[Act<'static>] = &[
+    Act::Fill(b"a", 1),
+    Act::PollWriter(Polled::Pending),
+    Act::WriterIsWoken(false),
+    Act::PollWriter(Polled::Pending),
+    Act::WriterIsWoken(false),
+];
+
+/// The writer was woken, and is not woken again by its own next poll.
+const WRITER_FINDS: &[Act<'static>] = &[
+    Act::WriterIsWoken(true),
+    Act::PollWriter(Polled::Found),
+    Act::WriterIsWoken(false),
+];
+
+const WRITER_ENDS: &[Act<'static>] = &[
+    Act::WriterIsWoken(true),
+    Act::PollWriter(Polled::End),
+    Act::WriterIsWoken(false),
+];
+
+/// A side waits, is woken by the acts of another thread, and goes on.
+fn is_woken_by<H>(rt: &H, waits: &[Act<'_>], acts: &[Act<'_>], goes_on: &[Act<'_>])
 where
     H: Abort + Threads + Wait + RandomSource + AllocGlobal + Clone + Drop + Send + Sync,
 {
     let mut pair = Pair::new(rt, 1);
-    let waits = &[Act::PollWriter(Polled::Pending), Act::WriterIsWoken(false)];
-    pair.play(rt, &[Act::Fill(b"a", 1)]);
-    pair.play(rt, waits);
     pair.play(rt, waits);
     pair.play_elsewhere(rt, acts);
-    let goes_on = [
-        Act::WriterIsWoken(true),
-        Act::PollWriter(then),
-        Act::WriterIsWoken(false),
-    ];
-    pair.play(rt, &goes_on);
+    pair.play(rt, goes_on);
 }
 
 #[test]
 fn a_reader_is_woken(rt: HostRuntime) {
-    reader_is_woken_by(&rt, &[Act::Fill(b"a", 1)], Polled::Found);
-    reader_is_woken_by(&rt, &[Act::PollFill(b"a", Some(1))], Polled::Found);
-    reader_is_woken_by(&rt, &[Act::Produce(b"a")], Polled::Found);
-    reader_is_woken_by(&rt, &[Act::Close], Polled::End);
-    reader_is_woken_by(&rt, &[Act::DropWriter], Polled::End);
-    reader_is_woken_by(
+    let looks_first = &[Act::Drain(4, b""), Act::Fill(b"a", 1)];
+    is_woken_by(&rt, READER_WAITS, &[Act::Fill(b"a", 1)], READER_FINDS);
+    is_woken_by(
         &rt,
-        &[Act::Drain(4, b""), Act::Fill(b"a", 1)],
-        Polled::Found,
+        READER_WAITS,
+        &[Act::PollFill(b"a", Some(1))],
+        READER_FINDS,
     );
+    is_woken_by(&rt, READER_WAITS, &[Act::Produce(b"a")], READER_FINDS);
+    is_woken_by(&rt, READER_WAITS, &[Act::Close], READER_ENDS);
+    is_woken_by(&rt, READER_WAITS, &[Act::DropWriter], READER_ENDS);
+    is_woken_by(&rt, READER_WAITS, looks_first, READER_FINDS);
 }
 
 #[test]
 fn a_writer_is_woken(rt: HostRuntime) {
-    writer_is_woken_by(&rt, &[Act::Drain(4, b"a")], Polled::Found);
-    writer_is_woken_by(&rt, &[Act::PollDrain(4, Some(b"a"))], Polled::Found);
-    writer_is_woken_by(
+    let consumes = &[Act::PollReader(Polled::Found), Act::Consume(1)];
+    let looks_first = &[Act::Fill(b"b", 0), Act::DropReader];
+    is_woken_by(&rt, WRITER_WAITS, &[Act::Drain(4, b"a")], WRITER_FINDS);
+    is_woken_by(
         &rt,
-        &[Act::PollReader(Polled::Found), Act::Consume(1)],
-        Polled::Found,
+        WRITER_WAITS,
+        &[Act::PollDrain(4, Some(b"a"))],
+        WRITER_FINDS,
     );
-    writer_is_woken_by(&rt, &[Act::Close], Polled::End);
-    writer_is_woken_by(&rt, &[Act::DropReader], Polled::End);
-    writer_is_woken_by(&rt, &[Act::Fill(b"b", 0), Act::DropReader], Polled::End);
+    is_woken_by(&rt, WRITER_WAITS, consumes, WRITER_FINDS);
+    is_woken_by(&rt, WRITER_WAITS, &[Act::Close], WRITER_ENDS);
+    is_woken_by(&rt, WRITER_WAITS, &[Act::DropReader], WRITER_ENDS);
+    is_woken_by(&rt, WRITER_WAITS, looks_first, WRITER_ENDS);
 }
 
 /// Whether a waker stood in the slot when it was emptied.

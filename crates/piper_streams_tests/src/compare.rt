@@ -17,7 +17,7 @@ pub(crate) enum Polled<A> {
     Failed,
 }
 
-fn told<A: Drop>(polled: Poll<Result<A, PipeError>>) -> Polled<A> {
+pub(crate) fn told<A: Drop>(polled: Poll<Result<A, PipeError>>) -> Polled<A> {
     match polled {
         Poll::Pending => Polled::Pending,
         Poll::Ready(Ok(answer)) => Polled::Told(answer),

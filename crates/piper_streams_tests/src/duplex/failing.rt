@@ -1,9 +1,14 @@
 //! Echoes whose input or output fails.
-
+use crate::compare::same;
 use piper_duplex::{Ended, echo};
+use std::alloc::AllocGlobal;
 use std::io;
 use std::io::{Read, Write};
+use std::marker::Send;
 use std::process::Abort;
+use std::random::RandomSource;
+use std::sync::Wait;
+use std::thread::Threads;
 
 /// A reader that fails once `good` bytes went through it.
 #[derive(Drop)]
@@ -60,30 +65,41 @@ fn whole_before(count: usize) -> &'static [u8] {
     }
 }
 
-fn expect(rt: &impl Abort, ended: Ended, wanted: Ended, printed: &[u8], text: &[u8]) {
-    assert_eq!(rt; ended, wanted);
-    assert_eq!(rt; printed, text);
+/// An echo whose input fails once so many bytes went through it: the whole lines before that come back.
+fn input_fails_at<R>(rt: &R, good: usize)
+where
+    R: Abort + Wait + Threads + RandomSource + AllocGlobal + Clone + Drop + Send + 'static,
+{
+    let mut input = Broken { rest: TEXT, good };
+    let mut output = Vec::new(rt.alloc());
+    let ended = echo(rt, rt.alloc(), &[], &mut input, &mut output);
+    same(rt, ended, Ended::READ_FAILED);
+    same(rt, output.as_slice(), whole_before(good));
 }
 
 #[test]
 fn a_failing_input_ends_the_echo_behind_its_whole_lines(rt: HostRuntime) {
     for good in 0..TEXT.len() {
-        let mut input = Broken { rest: TEXT, good };
-        let mut output = Vec::new(rt.alloc());
-        let ended = echo(&rt, rt.alloc(), &[], &mut input, &mut output);
-        let whole = whole_before(good);
-        expect(&rt, ended, Ended::READ_FAILED, &output, whole);
+        input_fails_at(&rt, good);
     }
+}
+
+/// An echo whose output fails once so many bytes were written: these are the first of the text.
+fn output_fails_at<R>(rt: &R, good: usize)
+where
+    R: Abort + Wait + Threads + RandomSource + AllocGlobal + Clone + Drop + Send + 'static,
+{
+    let mut input = TEXT;
+    let written = Vec::new(rt.alloc());
+    let mut output = Full { written, good };
+    let ended = echo(rt, rt.alloc(), &[], &mut input, &mut output);
+    same(rt, ended, Ended::WRITE_FAILED);
+    same(rt, output.written.as_slice(), &TEXT[..good.min(TEXT.len())]);
 }
 
 #[test]
 fn a_failing_output_ends_the_echo(rt: HostRuntime) {
     for good in 0..TEXT.len() {
-        let mut input = TEXT;
-        let written = Vec::new(rt.alloc());
-        let mut output = Full { written, good };
-        let ended = echo(&rt, rt.alloc(), &[], &mut input, &mut output);
-        let written = &output.written;
-        expect(&rt, ended, Ended::WRITE_FAILED, written, &TEXT[..good]);
+        output_fails_at(&rt, good);
     }
 }

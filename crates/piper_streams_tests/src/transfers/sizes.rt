@@ -1,4 +1,5 @@
 //! Sizes as they are written.
+use crate::compare::same;
 use piper_transfer::parse_size;
 
 #[test]
@@ -14,7 +15,7 @@ fn a_size_is_digits_and_perhaps_a_unit(rt: HostRuntime) {
         ("9223372036854775807", 9_223_372_036_854_775_807),
     ];
     for (text, size) in sizes {
-        assert!(rt; parse_size(text) == Ok(size), "{text}");
+        same(&rt, (text, parse_size(text).ok()), (text, Some(size)));
     }
 }
 
@@ -39,6 +40,6 @@ fn anything_else_is_no_size(rt: HostRuntime) {
         "99999999999999999999G",
     ];
     for text in texts {
-        assert!(rt; parse_size(text).is_err(), "{text}");
+        same(&rt, (text, parse_size(text).ok()), (text, None));
     }
 }

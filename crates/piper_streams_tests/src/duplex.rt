@@ -1,0 +1,4 @@
+//! The duplex stream, and the echo over it.
+mod ends;
+mod failing;
+mod texts;

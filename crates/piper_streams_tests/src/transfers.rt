@@ -1,0 +1,4 @@
+//! Transfers, and sizes as they are written.
+mod faults;
+mod faulty;
+mod sizes;
