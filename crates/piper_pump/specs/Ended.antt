@@ -1,5 +1,5 @@
 -- How the pump ends after a transfer, and the exit status that tells it.
-use Rattle.std.specs.Prelude.{◌≡◌, ◌≢◌, ◌⊎◌, ℕ, Result, Ok, Err}
+use Rattle.std.specs.Prelude.{◌≡◌, ◌≢◌, ◌⊎◌, ℕ, Result, Ok, Err, ⊤}
 use Rattle.std.specs.IoError.{error_kind}
 use Rattle.std.specs.declared.io.ErrorKind.TheVariants.{BrokenPipe}
 use Rattle.clap.specs.Words.{kind_of}
@@ -20,6 +20,13 @@ EndsAs (Err (Write failed)) e =
 EndsAs (Err Full) e = e ≡ ended.Output Full
 EndsAs (Err Memory) e = e ≡ ended.Memory
 EndsAs (Err (Turns failed)) e = e ≡ ended.Memory
+
+-- the program ends before it moves a byte: for its words, or for want of memory
+abbrev pub IsOfWords : Ended → Type 0
+IsOfWords (ended.Words error) = ⊤
+IsOfWords ended.NotText = ⊤
+IsOfWords ended.Memory = ⊤
+IsOfWords other = ⊥
 
 -- the exit status that tells it: of words on the
 -- command line 0 where they ask for the help, and else 2

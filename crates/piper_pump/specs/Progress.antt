@@ -1,5 +1,7 @@
--- How a line of progress writes amounts and times.
+-- What a line of progress says.
 use Rattle.std.specs.Prelude.{ℕ, ◌*◌, ◌/◌, ◌%◌, List, ◌++◌, codes, decimal, nat_le, if◌then◌else◌}
+use Rattle.std.specs.Duration.{as_nanos}
+use Rattle.piper_pump.specs.declared.progress.Line.{Line}
 
 -- how many of this unit n is, in decimal digits with the tenths behind a point: `205.0`
 abbrev pub in_tenths : ℕ → ℕ → List ℕ
@@ -16,3 +18,12 @@ amount_text n =
 -- nanoseconds in seconds, as `0.1 s`
 abbrev pub seconds_text : ℕ → List ℕ
 seconds_text nanoseconds = in_tenths 1_000_000_000 nanoseconds ++ codes " s"
+
+-- how much was moved, how fast, how full the pipe is, and how long each side waited
+abbrev pub line_text : Line → List ℕ
+line_text line =
+    amount_text line.bytes ++ codes ", "
+    ++ amount_text line.rate ++ codes "/s, "
+    ++ decimal line.percent ++ codes "% full, waited: input "
+    ++ seconds_text (as_nanos line.input_waited) ++ codes ", output "
+    ++ seconds_text (as_nanos line.output_waited)

@@ -1,6 +1,9 @@
 //! The words on the command line.
-ghost use Rattle.std.specs.Prelude.{◌≡◌, ◌<◌, ◌≤◌, IfOk};
-ghost use Rattle.piper_transfer.specs.Size.{greatest};
+ghost use Rattle.std.specs.Prelude.{◌≡◌, ℕ, List, IfOk, IfErr, map, string_bytes};
+ghost use Rattle.clap.specs.Words.{app_of, kind_of};
+ghost use Rattle.piper_pump.specs.Arguments.{AddsRule, progress_rule, pump_command, size_rule};
+ghost use Rattle.piper_pump.specs.Arguments.{AskFor, AreTaken, IsSize, IsSizeOf, text_or};
+ghost use Rattle.piper_pump.specs.Ended.{IsOfWords};
 
 use crate::ended::Ended;
 use clap::error::ErrorKind;
@@ -17,12 +20,20 @@ pub struct Arguments {
 }
 
 /// Reads the words on the command line.
-pub fn read_arguments(rt: &HostRuntime) -> Result<Arguments, Ended> {
+pub fn read_arguments(rt: &HostRuntime) -> Result<Arguments, Ended>
+    ensures asked { IfOk result (λ asked. (words : List (List ℕ)) × AskFor words asked) }
+    ensures ended { IfErr result IsOfWords }
+{
     let words = words(rt)?;
-    read_words(rt.alloc(), words.as_slice()).map_err(Ended::Words)
+    match read_words(rt.alloc(), words.as_slice()) {
+        Ok(arguments) => Ok(arguments),
+        Err(error) => Err(Ended::Words(error)),
+    }
 }
 
-fn words(rt: &HostRuntime) -> Result<Vec<String>, Ended> {
+fn words(rt: &HostRuntime) -> Result<Vec<String>, Ended>
+    ensures ended { IfErr result IsOfWords }
+{
     match env::args(rt) {
         Ok(words) => words.collect(rt.alloc()).map_err(|_| Ended::Memory),
         Err(error) if error.kind() == io::ErrorKind::InvalidData => Err(Ended::NotText),
@@ -30,7 +41,12 @@ fn words(rt: &HostRuntime) -> Result<Vec<String>, Ended> {
     }
 }
 
-fn read_words(alloc: Global, words: &[String]) -> Result<Arguments, Error> {
+// What the words ask for. Those that ask for something are refused only for want of memory.
+fn read_words(alloc: Global, words: &[String]) -> Result<Arguments, Error>
+    ensures asked { IfOk result (AskFor (map string_bytes words.now)) }
+    ensures taken { AreTaken (map string_bytes words.now)
+        → IfErr result (λ error. kind_of error ≡ ErrorKind.OutOfMemory) }
+{
     let mut command = command(alloc)?;
     let matches = command.try_get_matches_from_mut(words)?;
     let capacity = size(alloc, &mut command, &matches, "capacity", "1M")?;
@@ -41,27 +57,38 @@ fn read_words(alloc: Global, words: &[String]) -> Result<Arguments, Error> {
     })
 }
 
-fn command<'a>(alloc: Global) -> Result<Command<'a>, Error> {
-    let progress = Arg::new(alloc, "progress")
-        .long("progress")
-        .help("Tells on standard error how far it is, four times a second")
-        .action(ArgAction::SetTrue);
-    let capacity = Arg::new(alloc, "capacity")
-        .long("capacity")
-        .value_name("N")
-        .help("How many bytes it holds, as 4096, 64K, 16M or 2G; 1M if left out")
-        .action(ArgAction::Set);
-    let chunk = Arg::new(alloc, "chunk")
-        .long("chunk")
-        .value_name("N")
-        .help("How many bytes it reads and writes at a time at most; 64K if left out")
-        .action(ArgAction::Set);
+// What the program takes.
+fn command<'a>(alloc: Global) -> Result<Command<'a>, Error>
+    ensures taken { IfOk result (λ command. app_of command ≡ pump_command) }
+    ensures refused { IfErr result (λ error. kind_of error ≡ ErrorKind.OutOfMemory) }
+{
+    let capacity = "How many bytes it holds, as 4096, 64K, 16M or 2G; 1M if left out";
+    let chunk = "How many bytes it reads and writes at a time at most; 64K if left out";
     let command = Command::new(alloc, "piper_pump")
         .about("A buffer between two programs: copies standard input to standard output")
-        .arg(progress)?
-        .arg(capacity)?
-        .arg(chunk)?;
+        .arg(progress_flag(alloc))?
+        .arg(size_option(alloc, "capacity", capacity))?
+        .arg(size_option(alloc, "chunk", chunk))?;
     Ok(command)
+}
+
+fn progress_flag<'a>(alloc: Global) -> Arg<'a>
+    ensures { AddsRule progress_rule result }
+{
+    Arg::new(alloc, "progress")
+        .long("progress")
+        .help("Tells on standard error how far it is, four times a second")
+        .action(ArgAction::SetTrue)
+}
+
+fn size_option<'a>(alloc: Global, name: &'a str, help: &'a str) -> Arg<'a>
+    ensures { AddsRule (size_rule name.entry.now) result }
+{
+    Arg::new(alloc, name)
+        .long(name)
+        .value_name("N")
+        .help(help)
+        .action(ArgAction::Set)
 }
 
 // The size that this argument has, or else the one that stands for it.
@@ -72,7 +99,8 @@ fn size<'a>(
     name: &'a str,
     left_out: &'a str,
 ) -> Result<usize, Error>
-    ensures { IfOk result (λ n. (0 < n) × (n ≤ greatest)) }
+    ensures size { IfOk result (IsSizeOf (text_or matches.now name.now left_out.now)) }
+    ensures refused { IfErr result (λ _. ¬ IsSize (text_or matches.now name.now left_out.now)) }
 {
     let text = matches.get_str(name).unwrap_or(left_out);
     match parse_size(text) {

@@ -1,7 +1,7 @@
 //! Lines on standard error that tell how far a transfer is.
 ghost use Rattle.std.specs.Prelude.{◌≡◌, ◌-◌, ◌*◌, ◌/◌, ◌^◌, min, max, Some};
 ghost use Rattle.std.specs.Duration.{as_nanos};
-ghost use Rattle.piper_pump.specs.Progress.{amount_text, seconds_text};
+ghost use Rattle.piper_pump.specs.Progress.{amount_text, line_text, seconds_text};
 
 use piper_transfer::Meter;
 use std::fmt;
@@ -105,6 +105,8 @@ struct Line {
 }
 
 impl Display for Line {
+    ghost output = { λ line. Some (line_text line) };
+
     fn fmt<W: fmt::Write>(&self, f: &mut Formatter<W>) -> fmt::Result {
         write!(
             f,

@@ -1,0 +1,79 @@
+-- What the words on the command line ask for. `clap` says what each argument then has.
+use Rattle.std.specs.Prelude.{◌≡◌, ◌<◌, ◌≤◌, ℕ, true, false, List, Some, codes, unwrap_or}
+use Rattle.clap.specs.Words.{AddsArg, App, Row, Rule, Text, app_of, first_of, one_of, matches_of, takes}
+use Rattle.clap.specs.Words.{first_value, found_of, new_app, new_rule, with_rule}
+use Rattle.clap.specs.declared.builder.action.ArgAction.TheVariants.{Set, SetTrue}
+use Rattle.clap.specs.declared.builder.arg.Arg.{Arg}
+use Rattle.clap.specs.declared.builder.command.Command.{Command}
+use Rattle.clap.specs.declared.parser.matches.ArgMatches.{ArgMatches}
+use Rattle.piper_transfer.specs.Size.{WritesSize, greatest}
+use Rattle.piper_pump.specs.declared.arguments.Arguments.{Arguments}
+
+-- the flag `--progress`
+abbrev pub progress_rule : Rule
+progress_rule = record (new_rule (codes "progress")) {
+  long = Some (codes "progress");
+  action = Some SetTrue;
+}
+
+-- an option of this name, with a size behind it, as `--chunk 4K`
+abbrev pub size_rule : Text → Rule
+size_rule name = record (new_rule name) {
+  long = Some name;
+  action = Some Set;
+  value_names = 1;
+}
+
+-- a command that this argument is added to takes it by this rule, beside what it took
+abbrev pub AddsRule : Rule → Arg → Type 0
+AddsRule rule arg =
+    (old new : Command) → AddsArg old arg new → app_of new ≡ with_rule (app_of old) rule
+
+-- the arguments that the program takes
+abbrev pub pump_command : App
+pump_command =
+    with_rule
+    (with_rule (with_rule (new_app (codes "piper_pump")) progress_rule)
+    (size_rule (codes "capacity")))
+    (size_rule (codes "chunk"))
+
+-- what the words, of which the first is the program's name, say of each argument
+abbrev pub said_by : List Text → List Row
+said_by words = matches_of pump_command words
+
+-- the text of a size: what the words have behind this option, or what stands for it if left out
+abbrev pub size_text : List Text → Text → Text → Text
+size_text words option left_out = unwrap_or (first_of option (said_by words)) left_out
+
+abbrev pub capacity_text : List Text → Text
+capacity_text words = size_text words (codes "capacity") (codes "1M")
+
+abbrev pub chunk_text : List Text → Text
+chunk_text words = size_text words (codes "chunk") (codes "64K")
+
+-- the same, of what `clap` found
+abbrev pub text_or : ArgMatches → Text → Text → Text
+text_or matches option left_out = unwrap_or (first_value (found_of matches) option) left_out
+
+-- the text writes the size n, which a pipe can have
+abbrev pub IsSizeOf : Text → ℕ → Type 0
+IsSizeOf text n = WritesSize text n × (0 < n) × (n ≤ greatest)
+
+-- the text writes a size
+abbrev pub IsSize : Text → Type 0
+IsSize text = (n : ℕ) × IsSizeOf text n
+
+-- what these words ask for
+pub record AskFor (words : List Text) (arguments : Arguments) : Type 0 where
+  pub capacity : IsSizeOf (capacity_text words) arguments.sizes.capacity
+  pub chunk : IsSizeOf (chunk_text words) arguments.sizes.chunk
+  pub progress : one_of (codes "progress") (said_by words) ≡ Some (codes "true")
+      → arguments.shows_progress ≡ true
+  pub silence : one_of (codes "progress") (said_by words) ≡ Some (codes "false")
+      → arguments.shows_progress ≡ false
+
+-- these words ask for something: `clap` takes them, and what stands for a size writes one
+pub record AreTaken (words : List Text) : Type 0 where
+  pub taken : takes pump_command words ≡ true
+  pub capacity : IsSize (capacity_text words)
+  pub chunk : IsSize (chunk_text words)
