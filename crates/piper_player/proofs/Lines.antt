@@ -3,12 +3,18 @@ use Rattle.std.proofs.Common.{◌≡◌, ℕ, ◌+◌, ◌<◌, List, [], ◌∷
 use Rattle.std.specs.Io.KnownBytes.{Appends}
 use Rattle.std.proofs.KnownBytes.{Keeps-refl}
 use Rattle.std.proofs.lemmas.List.{take_more, flat_map_more}
+use Rattle.std.proofs.lemmas.Option.{slice_get_within}
 use Rattle.piper_sides.specs.declared.calls.Step.{Step}
 use Rattle.piper_sides.specs.declared.events.Event.{Event}
+use Rattle.piper_sides.specs.declared.refusals.StepRefusal.{StepRefusal}
 use Rattle.piper_machine.specs.Pipe.{Pipe, fresh}
-use Rattle.piper_machine.specs.Run.{Runs}
+use Rattle.piper_machine.specs.Run.{Runs, RefusedAt}
+use Rattle.piper_script.specs.declared.stop.Stop.{Stop}
+use Rattle.piper_script.specs.declared.stop.Stop.TheVariants.{Refused, Memory, Read, Write}
 use Rattle.piper_script.specs.Event.{event_line}
-use Rattle.piper_player.specs.Output.{WritesRun, WritesRunAtMost, event_lines, run_text}
+use Rattle.piper_script.specs.Stop.{stop_of}
+use Rattle.piper_player.specs.Output.{Tells, TellsOfRun, EndsAs, WritesRun, WritesRunAtMost, event_lines, run_text}
+use Rattle.piper_player.specs.StepsToRun.{SaysStep}
 
 pub lines_more : (before : List ℕ) (es : List Event) (i : ℕ) (e : Event) → i < length es → e ≡ get_or es i e → (before ++ event_lines (take i es)) ++ event_line e ≡ before ++ event_lines (take (i + 1) es)
 lines_more before es i e within is =
@@ -23,3 +29,25 @@ some_run_is_written capacity steps old new written = inr (capacity, steps, writt
 
 pub run_is_written : (capacity : ℕ) (steps : List Step) (pipe : Pipe) (events : List Event) (old new : Option (List ℕ)) → Runs (fresh capacity) [] steps pipe events → Appends old new (run_text events pipe.unread) → WritesRun capacity steps old new
 run_is_written capacity steps pipe events old new runs written = record { pipe = pipe; events = events; runs = runs; written = written }
+
+pub some_line_is_told : (stop : Stop) (capacity : ℕ) (steps : List Step) (lines : List (ℕ × ℕ)) (old new : Option (List ℕ)) → TellsOfRun stop capacity steps lines old new → (line : ℕ) × Tells line stop old new
+some_line_is_told (Refused refusal) capacity steps lines old new told = (told.line, told.written)
+some_line_is_told Memory capacity steps lines old new told = (0, told)
+some_line_is_told Read capacity steps lines old new told = (0, told)
+some_line_is_told Write capacity steps lines old new told = (0, told)
+
+pub refused_step_is_told : (capacity index line : ℕ) (steps : List Step) (lines : List (ℕ × ℕ)) (reason : StepRefusal) (stop : Stop) (old new : Option (List ℕ)) → RefusedAt capacity steps index reason → (index < length steps → SaysStep index line lines) → EndsAs (stop_of reason) stop → Tells line stop old new → TellsOfRun stop capacity steps lines old new
+refused_step_is_told capacity index line steps lines reason (Refused refusal) old new refused says (inl same) told = record {
+  index = index;
+  line = line;
+  reason = reason;
+  refused = refused;
+  says = says (slice_get_within steps index refused.step refused.next);
+  same = same;
+  written = told;
+}
+refused_step_is_told capacity index line steps lines reason (Refused refusal) old new refused says (inr (inl memory)) told = cc
+refused_step_is_told capacity index line steps lines reason (Refused refusal) old new refused says (inr (inr write)) told = cc
+refused_step_is_told capacity index line steps lines reason Memory old new refused says same told = told
+refused_step_is_told capacity index line steps lines reason Read old new refused says same told = told
+refused_step_is_told capacity index line steps lines reason Write old new refused says same told = told

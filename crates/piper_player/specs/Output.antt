@@ -4,13 +4,17 @@ use Rattle.std.specs.List.{flat_map}
 use Rattle.std.specs.Io.KnownBytes.{Appends, Keeps}
 use Rattle.piper_sides.specs.declared.calls.Step.{Step}
 use Rattle.piper_sides.specs.declared.events.Event.{Event}
+use Rattle.piper_sides.specs.declared.refusals.StepRefusal.{StepRefusal}
 use Rattle.piper_machine.specs.Pipe.{Pipe, fresh}
-use Rattle.piper_machine.specs.Run.{Runs}
+use Rattle.piper_machine.specs.Run.{Runs, RefusedAt}
+use Rattle.piper_script.specs.declared.command.Refusal.{Refusal}
 use Rattle.piper_script.specs.declared.stop.Stop.{Stop}
 use Rattle.piper_script.specs.declared.stop.Stop.TheVariants.{Refused, Memory, Write}
 use Rattle.piper_script.specs.Event.{event_line}
 use Rattle.piper_script.specs.Reply.{printed_list, printed_refusal}
+use Rattle.piper_script.specs.Stop.{stop_of}
 use Rattle.piper_player.specs.Played.{PlaysLine}
+use Rattle.piper_player.specs.StepsToRun.{SaysStep}
 
 -- what a run leaves unread
 abbrev pub unread_line : List ℕ → List ℕ
@@ -28,6 +32,24 @@ run_text events unread = event_lines events ++ unread_line unread
 abbrev pub Tells : ℕ → Stop → Option (List ℕ) → Option (List ℕ) → Type 0
 Tells line (Refused refusal) old new = Appends old new (printed_refusal line refusal)
 Tells line stop old new = ⊤
+
+-- a step was refused, and the line that says it was written with its refusal
+pub record TellsOfStep (capacity : ℕ) (steps : List Step) (lines : List (ℕ × ℕ))
+    (refusal : Refusal) (old new : Option (List ℕ)) : Type 0 where
+  pub index : ℕ
+  pub line : ℕ
+  pub reason : StepRefusal
+  pub refused : RefusedAt capacity steps index reason
+  pub says : SaysStep index line lines
+  pub same : Refused refusal ≡ stop_of reason
+  pub written : Appends old new (printed_refusal line refusal)
+
+-- where a run stops at a line that is refused, that is the line of the refused step
+abbrev pub TellsOfRun : Stop → ℕ → List Step → List (ℕ × ℕ) →
+    Option (List ℕ) → Option (List ℕ) → Type 0
+TellsOfRun (Refused refusal) capacity steps lines old new =
+    TellsOfStep capacity steps lines refusal old new
+TellsOfRun stop capacity steps lines old new = ⊤
 
 -- why a replay ends that stops: for that reason, or since that could not be told
 abbrev pub EndsAs : Stop → Stop → Type 0

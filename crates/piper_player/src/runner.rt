@@ -2,7 +2,7 @@
 
 ghost use Rattle.std.specs.Prelude.{◌≡◌, ◌≤◌, ◌<◌, ◌+◌, [], ◌∷◌, ◌++◌, ℕ, replicate, vec_len, vec_capacity, None, IfOk, IfErr, OnOk, OnErr};
 ghost use Rattle.std.specs.Option.{ForSome};
-ghost use Rattle.piper_player.specs.Output.{Tells, WritesRun, WritesRunAtMost, event_lines, run_text, unread_line};
+ghost use Rattle.piper_player.specs.Output.{Tells, TellsOfRun, WritesRun, WritesRunAtMost, event_lines, run_text, unread_line};
 ghost use Rattle.piper_player.specs.StepsToRun.{AddsLine, SaysStep, last_end, most_steps_of_a_script};
 ghost use Rattle.piper_sides.specs.Index.{IsCapacity};
 ghost use Rattle.piper_sides.specs.Log.{events};
@@ -179,7 +179,7 @@ fn push_line(lines: &mut Vec<(u64, usize)>, number: u64, end: usize)
 
 /// Reads the script that `input` gives to its end, runs its steps on a new machine, and writes what
 /// happened to `output`.
-#[tactic(auto, using(crate::proofs::Lines::nothing_is_written, crate::proofs::Lines::some_run_is_written))]
+#[tactic(auto, using(crate::proofs::Lines::nothing_is_written, crate::proofs::Lines::some_run_is_written, crate::proofs::Lines::some_line_is_told))]
 pub fn run<I: Read, O: Write>(alloc: Global, input: &mut I, output: &mut O) -> Result<(), Stop>
     ensures written { OnOk result
         (WritesRunAtMost (O.contents output.old) (O.contents output.new)) }
@@ -197,7 +197,7 @@ pub fn run<I: Read, O: Write>(alloc: Global, input: &mut I, output: &mut O) -> R
 }
 
 // Runs the steps of a script on a new machine, and writes what happened, or the line that is refused.
-#[tactic(auto, using(crate::proofs::Lines::run_is_written))]
+#[tactic(auto, using(crate::proofs::Lines::run_is_written, crate::proofs::Lines::refused_step_is_told))]
 fn run_steps<O: Write>(
     alloc: Global,
     capacity: usize,
@@ -207,8 +207,9 @@ fn run_steps<O: Write>(
     requires { IsCapacity capacity }
     ensures written { OnOk result (WritesRun capacity script.now.steps.items
         (O.contents output.old) (O.contents output.new)) }
-    ensures told { IfErr result (λ stop. (line : ℕ)
-        × Tells line stop (O.contents output.old) (O.contents output.new)) }
+    ensures told { IfErr result (λ stop.
+        TellsOfRun stop capacity script.now.steps.items script.now.lines.items
+        (O.contents output.old) (O.contents output.new)) }
 {
     match machine::run(alloc, capacity, script.steps.as_slice()) {
         Ok((machine, log)) => {
