@@ -2,7 +2,7 @@
 use Rattle.std.proofs.Common.{◌≡◌, ℕ, suc, ◌+◌, ◌-◌, ◌<◌, ◌≤◌, Option, None, Some, true, false, List, [], ◌∷◌, ◌++◌, length, get_or, take, drop, All, map, min, refl, ap, ◌∙◌, sym, subst, append_assoc, drop-cons, arith}
 use Rattle.std.specs.Option.{unwrap_or}
 use Rattle.std.specs.List.{filter_map, cons_option, last_or}
-use Rattle.std.proofs.lemmas.List.{take_more, append-nil, get_or_default, map-append, length-append, length-take, take_all, take-append-le}
+use Rattle.std.proofs.lemmas.List.{take_more, append-nil, get_or_default, map-append, length-take, take-take}
 use Rattle.std.proofs.lemmas.List.Elements.{filter_map-append, All-cons}
 use Rattle.piper_sides.specs.declared.calls.Side.{Side}
 use Rattle.piper_sides.specs.declared.events.Answer.TheVariants.{Done}
@@ -54,39 +54,17 @@ last_place moves behind d within has_other none =
       last = subst (λ (k : ℕ). All HasNoOther (drop k moves)) after none;
     }
 
--- one move more
-pub goes_further : (old mid new : Tried) (moves more : List Move) (next : Move) → GoesMoves moves old mid → Made mid.pipe (Go next.side) new.pipe mid.events new.events → more ≡ moves ++ next ∷ [] → GoesMoves more old new
-goes_further old mid new moves more next goes made added =
+-- one move more, of moves that may have got it at their end
+pub goes_further : (old mid new : Tried) (turn : ℕ) (moves more : List Move) (next : Move) → GoesMoves (take turn moves) old mid → turn ≤ length moves → take (length moves) more ≡ moves → turn < length more → next ≡ get_or more turn next → Made mid.pipe (Go next.side) new.pipe mid.events new.events → GoesMoves (take (turn + 1) more) old new
+goes_further old mid new turn moves more next goes so_far kept within is made =
     let step_of : Move → Step = λ m. Go m.side in
-    let run : Runs old.pipe old.events (map step_of moves ++ Go next.side ∷ []) new.pipe new.events = runs_more old.pipe mid.pipe new.pipe (map step_of moves) (Go next.side) old.events mid.events new.events goes made in
-    let same : map step_of more ≡ map step_of moves ++ Go next.side ∷ [] = ap (λ (ms : List Move). map step_of ms) added ∙ map-append step_of moves (next ∷ []) in
-    subst (λ (ss : List Step). Runs old.pipe old.events ss new.pipe new.events) (sym same) run
+    let front : take turn more ≡ take turn moves = sym (take-take turn (length moves) more so_far) ∙ ap (λ (ms : List Move). take turn ms) kept in
+    let one : take (turn + 1) more ≡ take turn moves ++ next ∷ [] = take_more more turn next within ∙ ap (λ (m : Move). take turn more ++ m ∷ []) (sym is) ∙ ap (λ (ms : List Move). ms ++ next ∷ []) front in
+    let same : map step_of (take (turn + 1) more) ≡ map step_of (take turn moves) ++ Go next.side ∷ [] = ap (λ (ms : List Move). map step_of ms) one ∙ map-append step_of (take turn moves) (next ∷ []) in
+    subst (λ (ss : List Step). Runs old.pipe old.events ss new.pipe new.events) (sym same) (runs_more old.pipe mid.pipe new.pipe (map step_of (take turn moves)) (Go next.side) old.events mid.events new.events goes made)
 
--- the move at this place of an order, which says it or gets it at its end
-pub record Comes (turn : ℕ) (side : Side) (begun before after : List Move) : Type 0 where
-  pub next : Move
-  pub is_side : side ≡ next.side
-  pub within : turn + 1 ≤ length after
-  pub extends : take (turn + 1) after ≡ take turn before ++ next ∷ []
-  pub begins : take (length begun) after ≡ begun
-
-pub comes_here : (turn : ℕ) (begun moves : List Move) (next d : Move) → turn < length moves → next ≡ get_or moves turn d → take (length begun) moves ≡ begun → Comes turn next.side begun moves moves
-comes_here turn begun moves next d within is begins = record {
-  next = next;
-  is_side = refl;
-  within = omega arith;
-  extends = take_more moves turn d within ∙ ap (λ (m : Move). take turn moves ++ m ∷ []) (sym is);
-  begins = begins;
-}
-
-pub comes_last : (turn : ℕ) (begun moves more : List Move) (next : Move) → turn ≡ length moves → more ≡ moves ++ next ∷ [] → take (length begun) moves ≡ begun → Comes turn next.side begun moves more
-comes_last turn begun moves more next at added begins =
-    let one : length more ≡ turn + 1 = ap (λ (ms : List Move). length ms) added ∙ length-append moves (next ∷ []) ∙ ap (λ (n : ℕ). n + 1) (sym at) in
-    let short : min (length begun) (length moves) ≡ length begun = sym (length-take (length begun) moves) ∙ ap (λ (ms : List Move). length ms) begins in
-    record {
-      next = next;
-      is_side = refl;
-      within = omega arith;
-      extends = take_all (turn + 1) more (omega arith) ∙ added ∙ ap (λ (ms : List Move). ms ++ next ∷ []) (sym (take_all turn moves (omega arith)));
-      begins = ap (λ (ms : List Move). take (length begun) ms) added ∙ take-append-le (length begun) moves (next ∷ []) (omega arith) ∙ begins;
-    }
+-- what the moves began with, they begin with still
+pub begins_further : (begun moves more : List Move) → take (length begun) moves ≡ begun → take (length moves) more ≡ moves → take (length begun) more ≡ begun
+begins_further begun moves more begins kept =
+    let short : min (length begun) (length moves) ≡ length begun = sym (length-take (length begun) moves) ∙ ap length begins in
+    sym (take-take (length begun) (length moves) more (omega arith)) ∙ ap (λ (ms : List Move). take (length begun) ms) kept ∙ begins

@@ -1,13 +1,13 @@
 //! One order of the steps of two open calls.
 
-ghost use Rattle.std.specs.Prelude.{◌≡◌, ◌≢◌, ◌+◌, ◌↔◌, [], IsTrue, IsNone, IfOk, IfSome, OnOk, All, min, true, take, vec_len};
+ghost use Rattle.std.specs.Prelude.{◌≡◌, ◌≢◌, ◌<◌, ◌≤◌, ◌+◌, ◌↔◌, [], IsTrue, IsNone, IfOk, IfSome, OnOk, All, min, true, take, vec_len};
 ghost use Rattle.std.specs.Bool.{MatchBool};
 ghost use Rattle.std.specs.Option.{MatchOption, option_to_list};
 ghost use Rattle.piper_sides.specs.Log.{events};
 ghost use Rattle.piper_machine.specs.BySteps.{named_by, names_of};
 ghost use Rattle.piper_machine.specs.Run.{Made};
 ghost use Rattle.piper_script.specs.Event.{outcome_line};
-ghost use Rattle.piper_player.specs.Trial.{Tried, steps_by, IsLong, IsOpen, other_of, alone, answer_in, answer_of, HasNoOther, IsLastOther, IsNext, IsLast, GoesAsLong};
+ghost use Rattle.piper_player.specs.Trial.{Tried, steps_by, IsLong, IsOpen, other_of, alone, answer_in, answer_of, HasNoOther, IsLastOther, IsNext, IsLast, HasEnded, GoesAsLong};
 
 use crate::whole::state;
 use piper_machine::calls::{Side, SideState, Step};
@@ -89,17 +89,10 @@ impl Trial {
             (take (vec_len moves.old) moves.new.items ≡ moves.old.items) }
     {
         for turn in 0..usize::MAX {
-            let side = match moves.get(turn) {
-                Some(next) => next.side,
-                None => match self.choice(first) {
-                    Some(next) => {
-                        moves.push(next).map_err(|_| Stop::Memory)?;
-                        next.side
-                    }
-                    None => break,
-                },
-            };
-            self.go(side)?;
+            if !self.reach(turn, moves, first)? {
+                break;
+            }
+            self.go(moves[turn].side)?;
             if self.is_long(first) {
                 return Ok(Length::FirstIsLong);
             }
@@ -109,6 +102,25 @@ impl Trial {
         } else {
             Length::Within
         })
+    }
+
+    // Whether there is a move at this turn. Where the moves end, the step that comes next is added to them.
+    fn reach(&self, turn: usize, moves: &mut Vec<Move>, first: Side) -> Result<bool, Stop>
+        requires { turn ≤ vec_len moves.old }
+        ensures begins { OnOk result
+            (take (vec_len moves.old) moves.new.items ≡ moves.old.items) }
+        ensures reached { IfOk result (λ is_reached. MatchBool is_reached
+            (turn < vec_len moves.new)
+            ((vec_len moves.new ≤ turn) × HasEnded self.now)) }
+    {
+        if turn < moves.len() {
+            return Ok(true);
+        }
+        let Some(next) = self.choice(first) else {
+            return Ok(false);
+        };
+        moves.push(next).map_err(|_| Stop::Memory)?;
+        Ok(true)
     }
 
     // The step that comes next where no order says another one.
