@@ -37,15 +37,7 @@ some_line_is_told Read capacity steps lines old new told = (0, told)
 some_line_is_told Write capacity steps lines old new told = (0, told)
 
 pub refused_step_is_told : (capacity index line : ℕ) (steps : List Step) (lines : List (ℕ × ℕ)) (reason : StepRefusal) (stop : Stop) (old new : Option (List ℕ)) → RefusedAt capacity steps index reason → (index < length steps → SaysStep index line lines) → EndsAs (stop_of reason) stop → Tells line stop old new → TellsOfRun stop capacity steps lines old new
-refused_step_is_told capacity index line steps lines reason (Refused refusal) old new refused says (inl same) told = record {
-  index = index;
-  line = line;
-  reason = reason;
-  refused = refused;
-  says = says (slice_get_within steps index refused.step refused.next);
-  same = same;
-  written = told;
-}
+refused_step_is_told capacity index line steps lines reason (Refused refusal) old new refused says (inl same) told = record { index = index; line = line; reason = reason; refused = refused; says = says (slice_get_within steps index refused.step refused.next); same = same; written = told }
 refused_step_is_told capacity index line steps lines reason (Refused refusal) old new refused says (inr (inl memory)) told = cc
 refused_step_is_told capacity index line steps lines reason (Refused refusal) old new refused says (inr (inr write)) told = cc
 refused_step_is_told capacity index line steps lines reason Memory old new refused says same told = told

@@ -48,11 +48,7 @@ last_place moves behind d within has_other none =
     let place = length moves - 1 - behind in
     let after : length moves - behind ≡ place + 1 = omega arith in
     let inside : place < length moves = omega arith in
-    record {
-      within = inside;
-      has_other = λ e. subst (λ (m : Move). m.has_other ≡ true) (get_or_default moves place d e inside) has_other;
-      last = subst (λ (k : ℕ). All HasNoOther (drop k moves)) after none;
-    }
+    record { within = inside; has_other = λ e. subst (λ (m : Move). m.has_other ≡ true) (get_or_default moves place d e inside) has_other; last = subst (λ (k : ℕ). All HasNoOther (drop k moves)) after none }
 
 -- one move more, of moves that may have got it at their end
 pub goes_further : (old mid new : Tried) (turn : ℕ) (moves more : List Move) (next : Move) → GoesMoves (take turn moves) old mid → turn ≤ length moves → take (length moves) more ≡ moves → turn < length more → next ≡ get_or more turn next → Made mid.pipe (Go next.side) new.pipe mid.events new.events → GoesMoves (take (turn + 1) more) old new

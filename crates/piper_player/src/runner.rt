@@ -154,6 +154,7 @@ impl StepsToRun {
 }
 
 // Adds so many steps of one side's open call, or none where memory is refused.
+#[tactic(auto, using(crate::proofs::Going::steps_more))]
 fn push_steps(steps: &mut Vec<Step>, side: Side, count: usize) -> Result<(), AllocError>
     ensures added { OnOk result
         (steps.new.items ≡ steps.old.items ++ replicate count (Step.Go side)) }

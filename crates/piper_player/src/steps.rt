@@ -29,6 +29,7 @@ pub fn make(
     }
 }
 
+#[tactic(auto, using(crate::proofs::Going::goes_more))]
 fn make_some(
     machine: &mut Machine,
     side: Side,
@@ -53,6 +54,7 @@ fn go(machine: &mut Machine, side: Side, log: &mut Log) -> Result<(), StepRefusa
 }
 
 // Makes steps of the side until its open call answers.
+#[tactic(auto, using(crate::proofs::Going::goes_more))]
 fn make_to_answer(machine: &mut Machine, side: Side, log: &mut Log) -> Result<(), StepRefusal>
     ensures { OnOk result
         (GoesAs Steps.ToAnswer side machine.old (events log.old) machine.new (events log.new)) }

@@ -258,6 +258,7 @@ pub fn other(side: Side) -> Side
 }
 
 // The index of the last step that the writer can make in place of the reader, if there is one.
+#[tactic(auto, using(crate::proofs::Trials::none_more, crate::proofs::Trials::last_place))]
 fn last_with_other(moves: &[Move]) -> Option<usize>
     ensures { MatchOption result (All HasNoOther moves.now) (λ index. IsLastOther index moves.now) }
 {

@@ -7,12 +7,7 @@ pub returns-in-Some : goal.returns-in-Some
 returns-in-Some c =
     let index = c.args.index in
     let found = first_from_find c.find.new.self _ (Some c.in-Some.field-0) (λ line. index < line.1) (λ line. line.1 ≤ index) c.in-Some.ensures.ran (YieldsList-from_slice c.args.self.now.lines.items cc) (λ x q k. search (rules, tests)) (λ x q k. search (rules, tests)) in
-    λ within. record {
-      place = found.1;
-      within = found.2;
-      ends_behind = λ d. subst (λ (line : ℕ × ℕ). (line.0 ≡ c.in-Some.field-0.now.0) × (index < line.1)) (sym (found.3 d)) (refl, found.0);
-      first = found.4;
-    }
+    λ within. record { place = found.1; within = found.2; ends_behind = λ d. subst (λ (line : ℕ × ℕ). (line.0 ≡ c.in-Some.field-0.now.0) × (index < line.1)) (sym (found.3 d)) (refl, found.0); first = found.4 }
 
 pub returns-in-None : goal.returns-in-None
 returns-in-None c =

@@ -16,8 +16,4 @@ loop-turn-preserved c =
     let kept : take (length c.loop-turn.moves.items) more ≡ c.loop-turn.moves.items = search rules in
     let within : c.loop-turn.turn < length more = search rules in
     let is : c.index.result.now ≡ get_or more c.loop-turn.turn c.index.result.now = search rules in
-    record {
-      within = omega arith;
-      begins = begins_further c.args.moves.now.items c.loop-turn.moves.items more c.loop-turn.invariant.begins kept;
-      goes = goes_further c.args.self.now c.loop-turn.self c.go.new.self c.loop-turn.turn c.loop-turn.moves.items more c.index.result.now c.loop-turn.invariant.goes c.loop-turn.invariant.within kept within is c.in_ok-go.ensures.made;
-    }
+    record { within = omega arith; begins = begins_further c.args.moves.now.items c.loop-turn.moves.items more c.loop-turn.invariant.begins kept; goes = goes_further c.args.self.now c.loop-turn.self c.go.new.self c.loop-turn.turn c.loop-turn.moves.items more c.index.result.now c.loop-turn.invariant.goes c.loop-turn.invariant.within kept within is c.in_ok-go.ensures.made }
