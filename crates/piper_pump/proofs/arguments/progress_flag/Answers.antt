@@ -1,6 +1,6 @@
 use Rattle.std.proofs.Common.{rules, ap, codes, false, ◌≡◌, ◌∙◌}
 use Rattle.clap.specs.Words.{Rule, app_of, rule_of, with_rule}
-use Rattle.piper_pump.specs.Arguments.{progress_rule, size_rule}
+use Rattle.piper_pump.specs.Arguments.{progress_rule}
 use Rattle.piper_pump.proofs.arguments.progress_flag.Goals as goal
 
 pub returns : goal.returns
