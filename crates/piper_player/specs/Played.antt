@@ -1,4 +1,5 @@
--- What a command does to the pipe that is played on, and what it prints behind what was printed before.
+-- What a command does to the pipe that is played on,
+-- and what it prints behind what was printed before.
 use Rattle.std.specs.Prelude.{◌≡◌, ℕ, List, [], ◌++◌, codes, take, Option, None, Some, Ok}
 use Rattle.piper_sides.specs.declared.calls.Side.{Side}
 use Rattle.piper_sides.specs.declared.calls.Call.{Call}
@@ -19,7 +20,7 @@ use Rattle.piper_script.specs.declared.stop.Stop.{Stop}
 use Rattle.piper_script.specs.declared.stop.Stop.TheVariants.{Refused}
 use Rattle.piper_script.specs.Command.{command_text, IsSilent}
 use Rattle.piper_script.specs.Meaning.{Means}
-use Rattle.piper_script.specs.Reply.{answer_text, woken_text, counted_list, printed_list}
+use Rattle.piper_script.specs.Reply.{answer_text, woken_text, list_with_length, printed_list}
 use Rattle.piper_script.specs.Event.{printed_events}
 use Rattle.piper_player.specs.Makes.{Makes}
 use Rattle.piper_player.specs.Steps.{GoesAs}
@@ -57,7 +58,7 @@ pub record MakesWhole (said : SaidCall) (old new : Pipe) (before after : List �
 -- nothing changes, and the bytes that stand in one piece are shown
 pub record ShowsPeek (old new : Pipe) (before after : List ℕ) : Type 0 where
   pub same : new ≡ old
-  pub printed : after ≡ before ++ counted_list (peeked old)
+  pub printed : after ≡ before ++ list_with_length (peeked old)
 
 -- the byte was written into what is lent
 pub record Puts (offset byte : ℕ) (old new : Pipe) (before after : List ℕ) : Type 0 where

@@ -79,7 +79,7 @@ impl Player {
         ensures no_pipe { self.now ≡ None → result ≡ Err (Stop.Refused Refusal.NoPipe) }
     {
         let machine = self.machine.as_ref().ok_or(Refusal::NoPipe)?;
-        reply.write_counted_list(machine.r_peek())?;
+        reply.write_list_with_length(machine.r_peek())?;
         Ok(())
     }
 

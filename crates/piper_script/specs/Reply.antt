@@ -14,8 +14,8 @@ abbrev pub printed_list : List ℕ → List ℕ
 printed_list numbers = joined_or_dash 44 decimal numbers
 
 -- how many bytes, and which
-abbrev pub counted_list : List ℕ → List ℕ
-counted_list bytes = decimal (length bytes) ++ codes " " ++ printed_list bytes
+abbrev pub list_with_length : List ℕ → List ℕ
+list_with_length bytes = decimal (length bytes) ++ codes " " ++ printed_list bytes
 
 -- whom a call woke, if anybody
 abbrev pub woken_text : List ℕ → List ℕ

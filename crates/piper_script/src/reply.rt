@@ -2,7 +2,7 @@
 
 ghost use Rattle.std.specs.Prelude.{◌≡◌, [], ◌++◌, codes, decimal, OnOk};
 ghost use Rattle.piper_script.specs.Joined.{joined_or_dash};
-ghost use Rattle.piper_script.specs.Reply.{counted_list, woken_text, flag_text, answer_text, copied_text, printed_refusal};
+ghost use Rattle.piper_script.specs.Reply.{list_with_length, woken_text, flag_text, answer_text, copied_text, printed_refusal};
 
 use crate::command::Refusal;
 use itoa::{Buffer, Integer};
@@ -124,8 +124,8 @@ impl Reply {
     }
 
     /// Writes how many bytes there are, and which.
-    pub fn write_counted_list(&mut self, bytes: &[u8]) -> Result<(), AllocError>
-        ensures { OnOk result (self.new ≡ self.old ++ counted_list bytes.now) }
+    pub fn write_list_with_length(&mut self, bytes: &[u8]) -> Result<(), AllocError>
+        ensures { OnOk result (self.new ≡ self.old ++ list_with_length bytes.now) }
     {
         self.write_count(bytes.len())?;
         self.write(" ")?;
