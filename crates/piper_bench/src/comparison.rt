@@ -1,5 +1,5 @@
 //! The same bytes through each means that goes between two threads, in one table.
-ghost use Rattle.std.specs.Prelude.{◌≡◌, ◌<◌, ◌≤◌, IfOk};
+ghost use Rattle.std.specs.Prelude.{◌≡◌, ◌<◌, ◌≤◌, ◌*◌, max};
 
 use crate::means::{Peer, Way, What};
 use crate::rings::checksum_of;
@@ -37,8 +37,10 @@ const COMPARED: [(&str, What); MEANS] = [
     ("channel2", What::Peer(Peer::Channel)),
 ];
 
-/// What each means holds: several of the longest pieces, so that both threads can go on at once.
-const CAPACITY: usize = 1_048_576;
+/// Each means holds as many bytes at least, and more where these are fewer than so many pieces: with one alone, both threads would work in turn.
+const LEAST_CAPACITY: usize = 65_536;
+
+const LEAST_PIECES: usize = 16;
 
 /// How many bytes go through each means in a run, where no other number is given.
 pub const TOTAL: usize = 67_108_864;
@@ -83,6 +85,7 @@ impl fmt::Display for Differs {
 struct Rounds {
     chunk: usize,
     spent: [[Duration; MEANS]; ROUNDS],
+    ghost is_length: { (0 < chunk) × (chunk ≤ 65_536) },
 }
 
 /// What the table tells of one means with pieces of one length.
@@ -98,6 +101,14 @@ impl fmt::Display for Cell {
     }
 }
 
+// What each means holds with pieces of this length.
+fn capacity_for(chunk: usize) -> usize
+    requires { chunk ≤ 65_536 }
+    ensures { result ≡ max LEAST_CAPACITY (LEAST_PIECES * chunk) }
+{
+    LEAST_CAPACITY.max(LEAST_PIECES * chunk)
+}
+
 /// One run of each means, in turn. It answers how long each took.
 fn one_round<R>(rt: &R, chunk: usize, total: usize) -> Result<[Duration; MEANS], Failed>
 where
@@ -109,7 +120,7 @@ where
     for (spent, (word, what)) in round.iter_mut().zip(COMPARED) {
         let work = Work {
             what,
-            capacity: CAPACITY,
+            capacity: capacity_for(chunk),
             chunk,
             total,
         };
@@ -131,7 +142,6 @@ fn all_rounds<R>(rt: &R, chunk: usize, total: usize) -> Result<Rounds, Failed>
 where
     R: Wait + Threads + Clock + Print + RandomSource + AllocGlobal + Clone + Drop + Send + Sync,
     requires { (0 < chunk) × (chunk ≤ 65_536) }
-    ensures { IfOk result (λ rounds. rounds.chunk ≡ chunk) }
 {
     let mut spent = [[Duration::ZERO; MEANS]; ROUNDS];
     for round in 0..ROUNDS {
@@ -153,7 +163,7 @@ impl Rounds {
     }
 
     fn cell(&self, means: usize, total: usize) -> Cell
-        requires { (means < 6) × (0 < self.now.chunk) }
+        requires { means < 6 }
     {
         let median = self.median(means);
         let pieces = total.div_ceil(self.chunk).max(1);
@@ -182,17 +192,22 @@ fn print_table(
     middle: &Rounds,
     long: &Rounds,
     total: usize,
-) -> io::Result<()>
-    requires { (0 < short.now.chunk) × (0 < middle.now.chunk) × (0 < long.now.chunk) }
-{
+) -> io::Result<()> {
     println!(rt;
-        "bytes={total} capacity={CAPACITY} rounds={ROUNDS} checksum={}",
+        "bytes={total} rounds={ROUNDS} checksum={}",
         checksum_of(total)
     )?;
     println!(rt; "nanoseconds a piece, and beside them the ratio to rtrb2; medians")?;
     println!(rt;
         "{:<10}{:>10}{:>18}{:>18}",
         "pieces of", short.chunk, middle.chunk, long.chunk
+    )?;
+    println!(rt;
+        "{:<10}{:>10}{:>18}{:>18}",
+        "through",
+        capacity_for(short.chunk),
+        capacity_for(middle.chunk),
+        capacity_for(long.chunk)
     )?;
     for means in 0..MEANS {
         let (word, _) = COMPARED[means];

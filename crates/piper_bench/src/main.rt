@@ -32,7 +32,7 @@ WHAT is ring (one thread, in and out in turn), ring2 (two threads), rtrb or rtrb
 Or it is through the handles of a pipe: pipe (by try forms) and inplace (by polls and lent slices) on one thread, pipe2 and inplace2 between two threads that sleep until they are woken, and on one thread fill and drain (one way by the copy that waits, the other by the try form) and filldrain (both ways by the copies that wait); and lines takes lines of CHUNK bytes out of one, the LF with them.
 Or it is one of its peers, between two threads that sleep until they are woken: tokio2 (a pipe by the traits of tokio), stream2 (the stream in memory of tokio, by the same) and channel2 (a bounded channel of pieces, each in memory of its own).
 CAP is at least 1 and at most half of the greatest usize, CHUNK is 1 to 16777216.
-The second moves TOTAL bytes (67108864, where it is left out) through each of rtrb2, inplace2, pipe2, stream2, tokio2 and channel2 in pieces of 64, 4096 and 65536 bytes, with a CAP of 1048576, and prints one table: nanoseconds a piece and their ratio to rtrb2, each the median of 9 runs that are made in turn. A run whose checksum is not what its bytes come to ends it with status 2.
+The second moves TOTAL bytes (67108864, where it is left out) through each of rtrb2, inplace2, pipe2, stream2, tokio2 and channel2 in pieces of 64, 4096 and 65536 bytes, with a CAP of 65536, or of 16 pieces where these are more, and prints one table: nanoseconds a piece and their ratio to rtrb2, each the median of 9 runs that are made in turn. A run whose checksum is not what its bytes come to ends it with status 2.
 Without arguments it makes a short run of each, and a short round of the second.";
 
 /// How many bytes a short run moves.
