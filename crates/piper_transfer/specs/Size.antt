@@ -1,5 +1,5 @@
 -- How a number of bytes is written: in decimal digits, behind which may stand K, M or G.
-use Rattle.std.specs.Prelude.{◌≡◌, ℕ, ◌+◌, ◌-◌, ◌*◌, ◌<◌, ◌≤◌, ◌==◌, Bool, cond, List, length, take, slice_index}
+use Rattle.std.specs.Prelude.{◌≡◌, ℕ, ◌-◌, ◌*◌, ◌==◌, cond, List, length, take, slice_index}
 use Rattle.std.specs.Str.Parse.{IsNumeral, digits_value}
 
 -- how many bytes a last letter stands for: K, M or G, and 1 for any other

@@ -1,6 +1,6 @@
-use Rattle.std.proofs.Common.{rules, ◌≡◌, ◌++◌, List, ℕ, [], OnOk, ◌∙◌, append-nil, sym, ap}
+use Rattle.std.proofs.Common.{rules, ◌≡◌, [], OnOk, ◌∙◌}
 use Rattle.std.specs.Io.KnownBytes.{IsAtEnd}
-use Rattle.piper_transfer.specs.Transfer.{Poured, PouredAll, Transfers, WritesAll}
+use Rattle.piper_transfer.specs.Transfer.{PouredAll, WritesAll}
 use Rattle.piper_transfer.proofs.Sides.{poured_more, poured_same}
 use Rattle.piper_transfer.proofs.Whole.{nothing_moved, output_failed, nothing_lost}
 use Rattle.piper_transfer.proofs.both_sides.transfer.Goals.{in-Ok, in-Err}
