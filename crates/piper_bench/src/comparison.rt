@@ -37,9 +37,10 @@ const COMPARED: [(&str, What); MEANS] = [
     ("channel2", What::Peer(Peer::Channel)),
 ];
 
-/// Each means holds as many bytes at least, and more where these are fewer than so many pieces: with one alone, both threads would work in turn.
+/// Each means holds at least so many bytes.
 const LEAST_CAPACITY: usize = 65_536;
 
+/// Each means holds at least so many pieces: with one alone, both threads would work in turn.
 const LEAST_PIECES: usize = 16;
 
 /// How many bytes go through each means in a run, where no other number is given.
