@@ -1,11 +1,18 @@
-//! What a thread does at its end of a pipe or a stream: it moves one piece after another, and sleeps where it has to wait.
+//! What a thread does at its end of a pipe or a stream: it moves one piece after another, and where it has to wait it looks again a few times, as at the end of a ring, and then sleeps.
 ghost use Rattle.std.specs.Prelude.{ℕ};
 ghost use Rattle.futures.specs.Poll.{OnPending};
 ghost use Rattle.futures.specs.Task.{Covers, Keeps};
 
+use crate::rings::let_ahead;
 use futures::Future;
+use futures::executor::block_on;
 use futures::task::{Context, Poll};
+use std::io;
+use std::random::RandomSource;
 use std::sync::Wait;
+
+/// So often an end that has to wait looks again before it sleeps. To fall asleep and to be woken takes as long as many short pieces.
+const LOOKS: usize = 8;
 
 /// One end, and what it moves.
 pub trait Mover: Drop {
@@ -24,11 +31,21 @@ pub trait Mover: Drop {
     fn checksum(&self) -> u64;
 }
 
-/// Moves all pieces. It answers the checksum.
+/// Moves all pieces, on this thread. Before it looks again it lets the other thread go on so many times. It answers the checksum.
+pub fn move_all<R, M>(rt: &R, mover: M, yields: usize) -> io::Result<Result<u64, M::Error>>
+where
+    R: Wait + RandomSource + AllocGlobal,
+    M: Mover,
+{
+    block_on(rt, MoveAll { rt, mover, yields })
+}
+
+/// As `move_all`, as a future.
 #[derive(Drop)]
-pub struct MoveAll<'a, R, M: Drop> {
-    pub rt: &'a R,
-    pub mover: M,
+struct MoveAll<'a, R, M: Drop> {
+    rt: &'a R,
+    mover: M,
+    yields: usize,
 }
 
 impl<R: Wait, M: Mover> Future for MoveAll<'_, R, M> {
@@ -37,12 +54,19 @@ impl<R: Wait, M: Mover> Future for MoveAll<'_, R, M> {
     ghost needs = { λ all. M.needs all.mover };
 
     fn poll(&mut self, cx: &mut Context<'_>) -> Poll<Result<u64, M::Error>> {
+        let mut looks = 0;
         for _ in self.rt.forever() {
             match self.mover.move_piece(cx) {
-                Poll::Pending => return Poll::Pending,
+                Poll::Pending => {
+                    if looks == LOOKS {
+                        return Poll::Pending;
+                    }
+                    looks += 1;
+                    let_ahead(self.yields);
+                }
                 Poll::Ready(Err(error)) => return Poll::Ready(Err(error)),
                 Poll::Ready(Ok(0)) => return Poll::Ready(Ok(self.mover.checksum())),
-                Poll::Ready(Ok(_)) => {}
+                Poll::Ready(Ok(_)) => looks = 0,
             }
         }
         unreachable!()

@@ -1,9 +1,9 @@
 //! Bytes move from one thread to another by other means of the toolchain: a stream in memory, and a channel of pieces; and a pipe by the same loops beside them.
 
-use crate::movers::{MoveAll, Mover};
+use crate::movers::{Mover, move_all};
 use crate::rings::add_piece;
+use crate::work::Work;
 use crossbeam_channel::{Receiver, Sender};
-use futures::executor::block_on;
 use futures::task::{Context, Poll};
 use std::marker::Send;
 use std::random::RandomSource;
@@ -76,7 +76,7 @@ pub fn through_stream<R, I, O>(
     (reader, writer): (I, O),
     source: &[u8],
     place: &mut [u8],
-    left: usize,
+    work: Work,
 ) -> io::Result<u64>
 where
     R: Wait + Threads + RandomSource + AllocGlobal + Sync,
@@ -86,17 +86,18 @@ where
     let writing = Writing {
         writer,
         source,
-        left,
+        left: work.total,
     };
     let reading = Reading {
         reader,
         place,
         checksum: 0,
     };
+    let yields = work.yields();
     let (written, read) = thread::join(
         rt,
-        move || block_on(rt, MoveAll { rt, mover: writing }),
-        move || block_on(rt, MoveAll { rt, mover: reading }),
+        move || move_all(rt, writing, yields),
+        move || move_all(rt, reading, yields),
     );
     written??;
     read?

@@ -1,13 +1,12 @@
-//! Bytes move through a pipe by its handles: on one thread in turn, or between two, each of which runs a future and sleeps until its waker is called.
+//! Bytes move through a pipe by its handles: on one thread in turn, or between two, each of which runs a future.
 ghost use Rattle.std.specs.Prelude.{◌≡◌};
 ghost use Rattle.futures.specs.Poll.{OnPending};
 ghost use Rattle.futures.specs.Task.{Covers, Keeps};
 ghost use Rattle.piper.specs.Handles.{read_source, write_source};
 
-use crate::movers::{MoveAll, Mover};
+use crate::movers::{Mover, move_all};
 use crate::rings::{ByLibrary, ByLoop, Copying, add_piece};
 use crate::work::Work;
-use futures::executor::block_on;
 use futures::task::{Context, Poll};
 use futures::test::MockTask;
 use piper::{OutOfMemory, OwnedReader, OwnedWriter, Reader, Writer};
@@ -267,16 +266,16 @@ fn fill_all<F: Fill + Drop, R: Wait + RandomSource + AllocGlobal, H: Wait + Clon
     way: F,
     mut writer: OwnedWriter<H>,
     source: &[u8],
-    left: usize,
+    work: Work,
 ) -> io::Result<Result<u64, OutOfMemory>> {
     let writer = writer.get_mut();
     let mover = Filling {
         way,
         writer,
         source,
-        left,
+        left: work.total,
     };
-    block_on(rt, MoveAll { rt, mover })
+    move_all(rt, mover, work.yields())
 }
 
 fn drain_all<D: Drain + Drop, R: Wait + RandomSource + AllocGlobal, H: Wait + Clone + Drop>(
@@ -284,6 +283,7 @@ fn drain_all<D: Drain + Drop, R: Wait + RandomSource + AllocGlobal, H: Wait + Cl
     way: D,
     mut reader: OwnedReader<H>,
     place: &mut [u8],
+    work: Work,
 ) -> io::Result<Result<u64, OutOfMemory>> {
     let reader = reader.get_mut();
     let mover = Draining {
@@ -292,7 +292,7 @@ fn drain_all<D: Drain + Drop, R: Wait + RandomSource + AllocGlobal, H: Wait + Cl
         place,
         checksum: 0,
     };
-    block_on(rt, MoveAll { rt, mover })
+    move_all(rt, mover, work.yields())
 }
 
 /// Moves the bytes through a pipe, and answers the checksum: on one thread under this task, between two under a task each.
@@ -312,12 +312,11 @@ where
 {
     let (mut reader, mut writer) = handles;
     let (by_fill, by_drain) = ways;
-    let total = work.total;
     let moved = if work.is_shared_pipe() {
         let (filled, drained) = thread::join(
             rt,
-            move || fill_all(rt, by_fill, writer, source, total),
-            move || drain_all(rt, by_drain, reader, place),
+            move || fill_all(rt, by_fill, writer, source, work),
+            move || drain_all(rt, by_drain, reader, place, work),
         );
         filled?.and(drained?)
     } else {
@@ -330,7 +329,7 @@ where
             writer,
             source,
             place,
-            total,
+            work.total,
         ))
     };
     moved.map_err(|_| io::Error::other("out of memory"))

@@ -248,7 +248,7 @@ pub fn yields(capacity: usize, chunk: usize) -> usize
 /// Lets the other thread go on so many times.
 #[cold]
 #[inline(never)]
-fn let_ahead(yields: usize) {
+pub fn let_ahead(yields: usize) {
     for _ in 0..yields {
         thread::yield_now();
     }
@@ -265,6 +265,8 @@ pub fn add_piece(checksum: u64, place: &[u8], n: usize) -> u64
 }
 
 /// What so many bytes come to, however they are cut.
-pub fn checksum_of(total: usize) -> u64 {
+pub fn checksum_of(total: usize) -> u64
+    ensures { result ≡ total * BYTE % 2 ^ 64 }
+{
     add_piece(0, &[BYTE], total)
 }

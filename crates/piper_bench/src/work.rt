@@ -1,5 +1,5 @@
 //! One run: the bytes go through one means, and the clock tells how long that took.
-ghost use Rattle.std.specs.Prelude.{◌<◌, ◌≤◌, ◌^◌};
+ghost use Rattle.std.specs.Prelude.{IfSome, IsSome, ◌≡◌, ◌<◌, ◌≤◌, ◌^◌};
 
 use crate::lines::through_lines;
 use crate::means::{Peer, Way, What};
@@ -41,7 +41,13 @@ pub struct Work {
 
 impl Work {
     /// A run with these sizes, where they are within the limits.
-    pub fn new(what: What, capacity: usize, chunk: usize, total: usize) -> Option<Work> {
+    pub fn new(what: What, capacity: usize, chunk: usize, total: usize) -> Option<Work>
+        ensures sizes { IfSome result (λ work.
+            (work.capacity ≡ capacity) × (work.chunk ≡ chunk) × (work.total ≡ total)) }
+        ensures means { IfSome result (λ work. work.what ≡ what) }
+        ensures within { 0 < capacity → capacity < 2 ^ 63 → 0 < chunk → chunk ≤ LONGEST →
+            IsSome result }
+    {
         if capacity == 0 || capacity > usize::MAX / 2 || chunk == 0 || chunk > LONGEST {
             return None;
         }
@@ -59,6 +65,11 @@ impl Work {
             What::Pipe { way: _, is_shared } => is_shared,
             _ => false,
         }
+    }
+
+    /// How often an end that finds nothing to do lets the other thread go on before it looks again.
+    pub fn yields(&self) -> usize {
+        yields(self.capacity, self.chunk)
     }
 
     /// In how many pieces it moves them, or one where there are no bytes.
@@ -196,7 +207,7 @@ where
     O: AsyncWrite + Send,
 {
     let start = Instant::now(rt)?;
-    let checksum = through_stream(rt, ends, source, place, work.total)?;
+    let checksum = through_stream(rt, ends, source, place, work)?;
     Ok((start.elapsed(rt)?, checksum))
 }
 
@@ -265,7 +276,7 @@ fn move_bytes<I: Input + Drop + Send, O: Output + Drop + Send>(
     source: &[u8],
     place: &mut [u8],
 ) -> io::Result<(Duration, u64)> {
-    let yields = yields(work.capacity, work.chunk);
+    let yields = work.yields();
     let start = Instant::now(rt)?;
     let checksum = if is_shared {
         let (_, checksum) = thread::join(
