@@ -1,6 +1,8 @@
-//! Tests of what carries streams over the pipe: lines and frames, the duplex stream with its echo, and transfers. They stand apart, so that these crates are proved once.
+//! Tests of what carries streams over the pipe: lines and frames, the duplex stream with its echo, and transfers; and of the replayer, which reads and writes streams, too. They stand apart, so that these crates are proved once.
 #![tactic(auto)]
 
+#[cfg(test)]
+mod broken;
 #[cfg(test)]
 mod compare;
 #[cfg(test)]
@@ -13,5 +15,7 @@ mod going_on;
 mod halting;
 #[cfg(test)]
 mod lines;
+#[cfg(test)]
+mod replays;
 #[cfg(test)]
 mod transfers;

@@ -1,56 +1,13 @@
 //! Echoes whose input or output fails.
+use crate::broken::{Broken, Full};
 use crate::compare::same;
 use piper_duplex::{Ended, echo};
 use std::alloc::AllocGlobal;
-use std::io;
-use std::io::{Read, Write};
 use std::marker::Send;
 use std::process::Abort;
 use std::random::RandomSource;
 use std::sync::Wait;
 use std::thread::Threads;
-
-/// A reader that fails once `good` bytes went through it.
-#[derive(Drop)]
-struct Broken<'a> {
-    rest: &'a [u8],
-    good: usize,
-}
-
-impl Read for Broken<'_> {
-    fn read(&mut self, buf: &mut [u8]) -> io::Result<usize> {
-        if self.good == 0 {
-            return Err(io::Error::from(io::ErrorKind::Other));
-        }
-        let most = self.good.min(buf.len());
-        let count = self.rest.read(&mut buf[..most])?;
-        self.good -= count;
-        Ok(count)
-    }
-}
-
-/// A writer that fails once `good` bytes were written.
-#[derive(Drop)]
-struct Full {
-    written: Vec<u8>,
-    good: usize,
-}
-
-impl Write for Full {
-    fn write(&mut self, buf: &[u8]) -> io::Result<usize> {
-        if self.good == 0 {
-            return Err(io::Error::from(io::ErrorKind::Other));
-        }
-        let count = self.good.min(buf.len());
-        self.written.extend_from_slice(&buf[..count])?;
-        self.good -= count;
-        Ok(count)
-    }
-
-    fn flush(&mut self) -> io::Result<()> {
-        Ok(())
-    }
-}
 
 const TEXT: &[u8] = b"one\ntwo\nthree";
 

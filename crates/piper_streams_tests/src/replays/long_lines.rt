@@ -1,6 +1,6 @@
 //! Lines of many bytes, and bytes that are no text.
 
-use crate::expected::expect_script;
+use crate::replays::expected::expect_script;
 use std::alloc::Global;
 use std::test::Fail;
 

@@ -1,6 +1,7 @@
 //! What is written and flushed before a script is read on.
 
-use crate::expected::{LINES, expect_end};
+use crate::compare::same;
+use crate::replays::expected::{LINES, expect_end};
 use piper_player::replay::replay;
 use std::cell::Cell;
 use std::io;
@@ -59,7 +60,7 @@ fn a_line_is_flushed_before_the_next_is_read(rt: HostRuntime) -> Result<(), Fail
         flushed: &flushed,
     };
     let ended = replay(rt.alloc(), &[], &mut input, &mut output);
-    assert_eq!(rt; input.noted.as_slice(), [0, 3, 5, 5, 11, 13].as_slice());
+    same(&rt, input.noted.as_slice(), &[0, 3, 5, 5, 11, 13]);
     expect_end(&rt, ended, 0, "");
     Ok(())
 }

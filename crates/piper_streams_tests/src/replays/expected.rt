@@ -1,5 +1,6 @@
 //! What a replay is expected to print, and how it is expected to end.
 
+use crate::compare::{same, same_bytes};
 use piper_player::replay::{Ended, replay};
 use std::alloc::Global;
 use std::process::Abort;
@@ -36,12 +37,7 @@ pub fn words(alloc: Global, line: &str) -> Result<Vec<String>, Fail> {
 
 /// Compares how a replay ended.
 pub fn expect_end(rt: &impl Abort, ended: Ended, status: u8, text: &'static str) {
-    assert_eq!(rt; ended, Ended { status, text });
-}
-
-/// Compares what a replay wrote.
-pub fn expect_output(rt: &impl Abort, output: &[u8], printed: &[u8]) {
-    assert_eq!(rt; output, printed);
+    same(rt, ended, Ended { status, text });
 }
 
 /// Runs the script in the mode that the arguments say, and compares what it prints and how it ends.
@@ -56,7 +52,7 @@ pub fn expect_script(
     let mut output = Vec::new(rt.alloc());
     let mut input = script;
     let ended = replay(rt.alloc(), &words, &mut input, &mut output);
-    expect_output(rt, &output, printed);
+    same_bytes(rt, &output, printed);
     expect_end(rt, ended, status, "");
     Ok(())
 }

@@ -1,54 +1,12 @@
 //! Replays whose input or output fails, and wrong arguments.
 
-use crate::expected::{LINES, expect_end, expect_output, joined, words};
+use crate::broken::{Broken, Full};
+use crate::compare::same_bytes;
+use crate::replays::expected::{LINES, expect_end, joined, words};
 use piper_player::replay::replay;
 use std::alloc::Global;
-use std::io;
-use std::io::{Read, Write};
 use std::process::Abort;
 use std::test::Fail;
-
-/// A reader that fails once `good` bytes went through it.
-#[derive(Drop)]
-struct Broken<'a> {
-    rest: &'a [u8],
-    good: usize,
-}
-
-impl Read for Broken<'_> {
-    fn read(&mut self, buf: &mut [u8]) -> io::Result<usize> {
-        if self.good == 0 {
-            return Err(io::Error::from(io::ErrorKind::Other));
-        }
-        let most = self.good.min(buf.len());
-        let count = self.rest.read(&mut buf[..most])?;
-        self.good -= count;
-        Ok(count)
-    }
-}
-
-/// A writer that fails once `good` bytes were written.
-#[derive(Drop)]
-struct Full {
-    written: Vec<u8>,
-    good: usize,
-}
-
-impl Write for Full {
-    fn write(&mut self, buf: &[u8]) -> io::Result<usize> {
-        if self.good == 0 {
-            return Err(io::Error::from(io::ErrorKind::Other));
-        }
-        let count = self.good.min(buf.len());
-        self.written.extend_from_slice(&buf[..count])?;
-        self.good -= count;
-        Ok(count)
-    }
-
-    fn flush(&mut self) -> io::Result<()> {
-        Ok(())
-    }
-}
 
 /// What the lines print that lie whole in the first `count` bytes of the script.
 fn printed_before(alloc: Global, count: usize) -> Result<Vec<u8>, Fail> {
@@ -82,7 +40,7 @@ fn expect_broken(
     let mut input = Broken { rest: script, good };
     let mut output = Vec::new(rt.alloc());
     let ended = replay(rt.alloc(), &words, &mut input, &mut output);
-    expect_output(rt, &output, printed);
+    same_bytes(rt, &output, printed);
     expect_end(rt, ended, 2, "read failed");
     Ok(())
 }
@@ -101,7 +59,7 @@ fn expect_full(
         good: printed.len(),
     };
     let ended = replay(rt.alloc(), &words, &mut input, &mut output);
-    expect_output(rt, &output.written, printed);
+    same_bytes(rt, &output.written, printed);
     expect_end(rt, ended, 2, "write failed");
     Ok(())
 }
@@ -111,7 +69,7 @@ fn expect_usage(rt: &(impl Abort + Alloc<A = Global>), words: &[String]) {
     let mut input = Broken { rest: b"", good: 0 };
     let mut output = Vec::new(rt.alloc());
     let ended = replay(rt.alloc(), words, &mut input, &mut output);
-    expect_output(rt, &output, b"");
+    same_bytes(rt, &output, b"");
     expect_end(rt, ended, 1, "usage: piper_replay [run|all]");
 }
 
