@@ -54,19 +54,19 @@ impl<R: Wait, M: Mover> Future for MoveAll<'_, R, M> {
     ghost needs = { λ all. M.needs all.mover };
 
     fn poll(&mut self, cx: &mut Context<'_>) -> Poll<Result<u64, M::Error>> {
-        let mut looks = 0;
+        let mut looks = LOOKS;
         for _ in self.rt.forever() {
             match self.mover.move_piece(cx) {
                 Poll::Pending => {
-                    if looks == LOOKS {
+                    if looks == 0 {
                         return Poll::Pending;
                     }
-                    looks += 1;
+                    looks -= 1;
                     let_ahead(self.yields);
                 }
                 Poll::Ready(Err(error)) => return Poll::Ready(Err(error)),
                 Poll::Ready(Ok(0)) => return Poll::Ready(Ok(self.mover.checksum())),
-                Poll::Ready(Ok(_)) => looks = 0,
+                Poll::Ready(Ok(_)) => looks = LOOKS,
             }
         }
         unreachable!()
