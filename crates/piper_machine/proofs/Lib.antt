@@ -3,6 +3,7 @@ pub mod Ring
 pub mod Between
 pub mod Soundness
 pub mod Moves
+pub mod Machines
 pub mod Rounds
 pub mod Runs
 pub mod Sources

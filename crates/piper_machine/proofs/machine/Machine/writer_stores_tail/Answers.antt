@@ -8,6 +8,7 @@ use Rattle.piper_machine.specs.Step.{call_after, source_after}
 use Rattle.piper_machine.specs.Machine.{pipe_of}
 use Rattle.piper_machine.proofs.Soundness.{length-lent}
 use Rattle.piper_machine.proofs.Moves.{published-view}
+use Rattle.piper_machine.proofs.Machines.{writer-passed}
 use Rattle.piper_machine.proofs.machine.Machine.writer_stores_tail.Goals as goal
 
 pub returns-clause-after : goal.returns-clause-after
@@ -20,3 +21,13 @@ returns-clause-after c =
     let moved = published-view m i c.args.n c.stored_tail-answer.new.self _ _ _ c.stored_tail-answer.ensures.after (omega arith) in
     rw (← c.self.view_is, c.settle_writer.ensures.call, c.settle_writer.ensures.source, c.stored_tail-answer.ensures.answer)
     (moved ∙ ap (λ (next : Next WritePoint). record (published c.args.n p) { writer = next.point; writer_call = call_after next.answer p.writer_call; source = source_after next.answer p.source }) (ap (λ capacity. write_after capacity (room_of m.write) m.write.point nothing) i.capacity))
+
+pub invariant_of-self : goal.invariant_of-self
+invariant_of-self c =
+    let m = c.self.inside in
+    let i = c.self.invariant in
+    let same = ap (λ (q : Pipe). length q.lent) c.self.view_is in
+    let long = length-lent m i in
+    let made = c.stored_tail-answer.ensures in
+    let settled = c.settle_writer.ensures in
+    writer-passed m i c.args.n c.stored_tail-answer.new.self _ _ _ made.after made.sound (omega arith) (λ idle. settled.holds_nothing (made.open idle)) (λ idle. settled.gives_nothing (made.open idle))
