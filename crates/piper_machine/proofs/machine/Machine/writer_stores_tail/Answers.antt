@@ -2,13 +2,12 @@ use Rattle.std.proofs.Common.{ap, ◌∙◌, arith, length}
 use Rattle.piper_sides.specs.declared.table.WritePoint.{WritePoint}
 use Rattle.piper_machine.specs.Pipe.{Pipe}
 use Rattle.piper_machine.specs.Move.{published}
-use Rattle.piper_sides.specs.Side.{room_of}
-use Rattle.piper_sides.specs.Table.{Next, write_after, nothing}
+use Rattle.piper_sides.specs.Table.{Next, nothing}
 use Rattle.piper_machine.specs.Step.{call_after, source_after}
 use Rattle.piper_machine.specs.Machine.{pipe_of}
 use Rattle.piper_machine.proofs.Soundness.{length-lent}
 use Rattle.piper_machine.proofs.Moves.{published-view}
-use Rattle.piper_machine.proofs.Machines.{writer-passed}
+use Rattle.piper_machine.proofs.Machines.{writer-passed, next-of}
 use Rattle.piper_machine.proofs.machine.Machine.writer_stores_tail.Goals as goal
 
 pub returns-clause-after : goal.returns-clause-after
@@ -20,7 +19,7 @@ returns-clause-after c =
     let long = length-lent m i in
     let moved = published-view m i c.args.n c.stored_tail-answer.new.self _ _ _ c.stored_tail-answer.ensures.after (omega arith) in
     rw (← c.self.view_is, c.settle_writer.ensures.call, c.settle_writer.ensures.source, c.stored_tail-answer.ensures.answer)
-    (moved ∙ ap (λ (next : Next WritePoint). record (published c.args.n p) { writer = next.point; writer_call = call_after next.answer p.writer_call; source = source_after next.answer p.source }) (ap (λ capacity. write_after capacity (room_of m.write) m.write.point nothing) i.capacity))
+    (moved ∙ ap (λ (next : Next WritePoint). record (published c.args.n p) { writer = next.point; writer_call = call_after next.answer p.writer_call; source = source_after next.answer p.source }) (next-of m i nothing))
 
 pub invariant_of-self : goal.invariant_of-self
 invariant_of-self c =
