@@ -3,6 +3,7 @@ use Rattle.std.proofs.lemmas.List.{take_rest}
 use Rattle.piper_sides.specs.declared.scripted.SourceAct.{SourceAct}
 use Rattle.piper_machine.specs.Round.{given, unspent}
 use Rattle.piper_machine.specs.Step.{fill_opened}
+use Rattle.piper_machine.proofs.Sources.{lent-anew}
 use Rattle.piper_machine.proofs.Filling.{IsGone, opened, goes-on, goes, ends, gave, gives, fails, wake-room}
 use Rattle.piper_machine.proofs.machine.Machine.fill_whole.Goals as goal
 use Rattle.piper_machine.proofs.machine.Machine.fill_whole.Goals.{Joined-action, in-CallSource, then-is_failing, else-is_failing, in_default}
@@ -41,6 +42,9 @@ steps-init c =
     let p = c.args.self.now in
     let acts = unspent c.args.bytes.now c.args.acts.now in
     record { filling = opened c.args.context acts p c.open_fill-2.new.self c.learn.ensures c.requires.woken (c.open_fill-2.ensures ∙ ap (λ (held : List SourceAct). fill_opened c.args.context held p) c.none.ensures) }
+
+pub source_called-answer-requires-clause-lent : goal.source_called-answer-requires-clause-lent
+source_called-answer-requires-clause-lent c = lent-anew c.steps.self c.write_round-count.new.self c.write_round-count.ensures.lent c.write_round-count.ensures.after
 
 pub hear_writer-requires : goal.hear_writer-requires
 hear_writer-requires c =

@@ -15,3 +15,6 @@ returns-clause-after c =
     let answer = rw c.head.ensures at c.refreshed-answer.ensures.answer in
     rw (← c.self.view_is, c.settle_writer.ensures.call, c.settle_writer.ensures.source, answer)
     (seen ∙ ap (λ (next : Next WritePoint). record p { room = p.capacity - length p.unread; writer = next.point; writer_call = call_after next.answer p.writer_call; source = source_after next.answer p.source }) (refreshed-next m i))
+
+pub returns-clause-answer : goal.returns-clause-answer
+returns-clause-answer c = rw (← c.self.view_is) (c.settle_writer.ensures.answer ∙ rw c.head.ensures at c.refreshed-answer.ensures.answer ∙ ap (λ (next : Next WritePoint). next.answer) (refreshed-next c.self.inside c.self.invariant))
