@@ -1,49 +1,162 @@
--- A round adds to the rounds before it, or ends them.
-use Rattle.std.proofs.Common.{rules, ◌≡◌, ◌+◌, [], Ok, true, take, refl, inr, arith}
+-- A round adds to the rounds before it, or ends them; `here` is where the call stands before it.
+use Rattle.std.proofs.Common.{◌≡◌, ◌+◌, ◌%◌, ◌^◌, ◌∙◌, ℕ, [], Ok, take, refl, sym, ap, subst, inl, inr, arith}
 use Rattle.futures.specs.declared.task.Poll.TheVariants.{Ready}
-use Rattle.piper.proofs.Rounds.{fill_round}
+use Rattle.piper_ring.specs.WriteView.{WriteView}
+use Rattle.piper_sides.specs.Table.{Next, write_step, failed}
+use Rattle.piper_sides.specs.declared.table.WritePoint.{WritePoint}
+use Rattle.piper.proofs.Rounds.{counts, told_count, gave_none, gives, gave_closed, stores, takes, fill_round}
 use Rattle.piper.proofs.RoundsIn.{fill_ended, fill_failed, fill_closed, filled_more}
 use Rattle.piper.proofs.handles.Writer.fill_rounds.Goals as goal
 
-pub returns-in-Err-clause-filled : goal.returns-in-Err-clause-filled
-returns-in-Err-clause-filled g c =
-    let none : g.R.ReadLike.gives c.rounds.source [] c.fill_round.new.source = search rules in
-    fill_failed _ g.met.R.ReadLike.gives_in_order _ _ _ _ _ _ _ c.rounds.invariant.filled c.fill_round.ensures.end _ _ c.in-Err.error none c.in-Err.ensures.error
+pub returns-in-Err : goal.returns-in-Err
+returns-in-Err g c =
+    let before = c.rounds.invariant in
+    let round = c.fill_round.ensures in record {
+      filled = fill_failed _ g.met.R.ReadLike.gives_in_order _ _ _ _ _ _ _ before.filled round.end _ _ c.in-Err.error c.in-Err.ensures.bytes c.in-Err.ensures.error;
+      failures = c.in-Err.ensures.failures ∙ ap (λ (m : ℕ). (m + 1) % 2 ^ 64) before.failures;
+      «open» = round.end.saw ∙ before.open_yet;
+      found = tt;
+      ready = tt;
+      rest = record { slots = round.rest.slots ∙ before.rest.slots; rng = round.rest.rng ∙ before.rest.rng };
+    }
 
-pub returns-then-n-eq0-clause-filled : goal.returns-then-n-eq0-clause-filled
-returns-then-n-eq0-clause-filled g c =
-    let told : c.copied-then-n-eq0.result ≡ Ready (Ok c.rounds.sum) = search rules in
-    let none : g.R.ReadLike.gives c.rounds.source [] c.fill_round.new.source = search rules in
-    let dry : c.fill_round.result ≡ Ok 0 = search rules in
-    rw told (fill_ended _ g.met.R.ReadLike.gives_in_order _ _ _ _ _ _ _ c.rounds.invariant.filled c.fill_round.ensures.end _ _ none (c.fill_round.ensures.dry dry)
-    (λ full. omega (arith, c.rounds.invariant.total, c.requires.some, c.fill_round.ensures.end.room, full)))
+pub returns-then-n-eq0 : goal.returns-then-n-eq0
+returns-then-n-eq0 g c =
+    let here = c.before_round-call.ensures ∙ c.rounds.invariant.at in
+    let before = c.rounds.invariant in
+    let round = c.fill_round.ensures in
+    let told : c.copied-then-n-eq0.result ≡ Ready (Ok c.rounds.sum) =
+    told_count _ _ _ (gave_none _ _ _ _ here _ c.source_gave-round.ensures c.if-n-eq0.true)
+    _ c.end-then-n-eq0.ensures _ c.copied-then-n-eq0.ensures in
+    let none : g.R.ReadLike.gives c.rounds.source [] c.fill_round.new.source =
+    subst (λ (m : ℕ). g.R.ReadLike.gives c.rounds.source (take m c.fill_round.new.self.end.lent) c.fill_round.new.source) c.if-n-eq0.true c.in-Ok.ensures.bytes in
+    let dry : c.fill_round.result ≡ Ok 0 = c.in-Ok.is ∙ ap (λ (m : ℕ). Ok m) c.if-n-eq0.true in
+    rw told (record {
+      filled = fill_ended _ g.met.R.ReadLike.gives_in_order _ _ _ _ _ _ _ before.filled round.end _ _ none (round.dry dry)
+          (λ full. omega (arith, before.total, c.requires.some, round.end.room, full));
+      failures = c.in-Ok.ensures.failures ∙ before.failures;
+      «open» = tt;
+      found = inr (round.end.saw ∙ before.open_yet);
+      ready = tt;
+      rest = record { slots = round.rest.slots ∙ before.rest.slots; rng = round.rest.rng ∙ before.rest.rng };
+    })
 
-pub returns-then-asks-eq0-clause-filled : goal.returns-then-asks-eq0-clause-filled
-returns-then-asks-eq0-clause-filled g c =
-    let told : c.copied.result ≡ Ready (Ok c.rounds.sum) = search rules in
-    rw told (fill_ended _ g.met.R.ReadLike.gives_in_order _ _ _ _ _ _ _ c.rounds.invariant.filled (record { end = record { ring = refl; capacity = refl; told = refl }; sent = refl; room = refl; shut = refl; saw = refl }) _ _
-    (g.met.R.ReadLike.gives_nothing c.rounds.source) (inr (c.asks-asks.ensures c.if-asks-eq0.true))
-    (λ full. omega (arith, c.rounds.invariant.total, c.requires.some, full)))
+pub returns-then-asks-eq0 : goal.returns-then-asks-eq0
+returns-then-asks-eq0 g c =
+    let here = c.before_round-call.ensures ∙ c.rounds.invariant.at in
+    let before = c.rounds.invariant in
+    let told : c.copied.result ≡ Ready (Ok c.rounds.sum) =
+    told_count _ _ _ (gave_none _ _ _ 0 here _ c.source_gave.ensures refl) _ c.end-then-asks-eq0.ensures _ c.copied.ensures in
+    rw told (record {
+      filled = fill_ended _ g.met.R.ReadLike.gives_in_order _ _ _ _ _ _ _ before.filled
+          (record { end = record { ring = refl; capacity = refl; told = refl }; sent = refl; room = refl; shut = refl; saw = refl }) _ _
+          (g.met.R.ReadLike.gives_nothing c.rounds.source) (inr (c.asks-asks.ensures c.if-asks-eq0.true))
+          (λ full. omega (arith, before.total, c.requires.some, full));
+      failures = before.failures;
+      «open» = tt;
+      found = inr before.open_yet;
+      ready = tt;
+      rest = before.rest;
+    })
 
-pub returns-then-is_closed-clause-filled : goal.returns-then-is_closed-clause-filled
-returns-then-is_closed-clause-filled g c =
-    let told : c.copied-then-is_closed.result ≡ Ready (Ok (c.rounds.sum + c.in-Ok.n)) = search rules in
-    let some : g.R.ReadLike.gives c.rounds.source (take c.in-Ok.n c.fill_round.new.self.end.lent) c.fill_round.new.source = search rules in
-    let closed : c.load_closed-round.new.self.end.saw ≡ true = search rules in
-    rw told (fill_closed _ g.met.R.ReadLike.gives_in_order _ _ _ _ _ _ _ c.rounds.invariant.filled c.fill_round.ensures.end _ _ _ _ c.in-Ok.ensures.bound some c.load_closed-round.ensures.end closed)
+pub returns-then-is_closed : goal.returns-then-is_closed
+returns-then-is_closed g c =
+    let here = c.before_round-call.ensures ∙ c.rounds.invariant.at in
+    let before = c.rounds.invariant in
+    let round = c.fill_round.ensures in
+    let saw = c.load_closed-round.ensures in
+    let told : c.copied-then-is_closed.result ≡ Ready (Ok (c.rounds.sum + c.in-Ok.n)) =
+    told_count _ _ _ (gave_closed _ _ _ _ here _ c.source_gave-round.ensures c.if-n-eq0.false _ _ saw.step c.if-is_closed.true)
+    _ c.end-then-is_closed.ensures _ c.copied-then-is_closed.ensures in
+    rw told (record {
+      filled = fill_closed _ g.met.R.ReadLike.gives_in_order _ _ _ _ _ _ _ before.filled round.end _ _ _ _
+          c.in-Ok.ensures.bound c.in-Ok.ensures.bytes saw.end (sym saw.saw ∙ c.if-is_closed.true);
+      failures = c.in-Ok.ensures.failures ∙ before.failures;
+      «open» = tt;
+      found = inl (omega (arith, c.if-n-eq0.false));
+      ready = tt;
+      rest = record { slots = saw.rest.slots ∙ round.rest.slots ∙ before.rest.slots; rng = saw.rest.rng ∙ round.rest.rng ∙ before.rest.rng };
+    })
 
 pub rounds-preserved : goal.rounds-preserved
 rounds-preserved g c =
-    let some : g.R.ReadLike.gives c.rounds.source (take c.in-Ok.n c.fill_round.new.self.end.lent) c.fill_round.new.source = search rules in
+    let here = c.before_round-call.ensures ∙ c.rounds.invariant.at in
+    let before = c.rounds.invariant in
+    let round = c.fill_round.ensures in
     let stored = c.store_tail-round.ensures in
-    let saw = c.load_closed-round.ensures.end in
+    let saw = c.load_closed-round.ensures in
     record {
-      at = fill_round c.before_round-call.result.point c.args.form c.rounds.sum c.in-Ok.n (search rules) c.source_gave-round.result c.source_gave-round.ensures c.if-n-eq0.false
-          c.load_closed-round.result.0 c.load_closed-round.result.1 c.load_closed-round.ensures.step c.store_tail-round.result c.wake_reader-call.result
-          c.if-is_closed.false stored.step c.wake_reader-call.ensures;
-      filled = filled_more _ g.met.R.ReadLike.gives_in_order _ _ _ _ _ _ _ c.rounds.invariant.filled c.fill_round.ensures.end _ _ _ c.in-Ok.ensures.bound some saw stored.sent stored.room stored.end;
-      total = omega (arith, c.rounds.invariant.total, stored.room, saw.room, c.fill_round.ensures.end.room);
-      open_yet = search rules;
-      failures = search rules;
-      rest = search rules;
+      at = fill_round _ _ _ _ here _ c.source_gave-round.ensures c.if-n-eq0.false _ _ saw.step c.if-is_closed.false
+          _ stored.step _ c.wake_reader-call.ensures;
+      filled = filled_more _ g.met.R.ReadLike.gives_in_order _ _ _ _ _ _ _ before.filled round.end _ _ _
+          c.in-Ok.ensures.bound c.in-Ok.ensures.bytes saw.end stored.sent stored.room stored.end;
+      total = omega (arith, before.total, stored.room, saw.end.room, round.end.room);
+      open_yet = stored.end.saw ∙ sym saw.saw ∙ c.if-is_closed.false;
+      failures = c.in-Ok.ensures.failures ∙ before.failures;
+      rest = record {
+        slots = stored.rest.slots ∙ saw.rest.slots ∙ round.rest.slots ∙ before.rest.slots;
+        rng = stored.rest.rng ∙ saw.rest.rng ∙ round.rest.rng ∙ before.rest.rng;
+      };
     }
+
+pub source_gave-requires : goal.source_gave-requires
+source_gave-requires g c =
+    let here = c.before_round-call.ensures ∙ c.rounds.invariant.at in
+    rw here (record { next = refl; fits = omega arith })
+
+pub end-requires-then-asks-eq0 : goal.end-requires-then-asks-eq0
+end-requires-then-asks-eq0 g c =
+    let here = c.before_round-call.ensures ∙ c.rounds.invariant.at in
+    rw (gave_none _ _ _ 0 here _ c.source_gave.ensures refl) refl
+
+pub copied-requires : goal.copied-requires
+copied-requires g c =
+    let here = c.before_round-call.ensures ∙ c.rounds.invariant.at in
+    counts _ _ _ (gave_none _ _ _ 0 here _ c.source_gave.ensures refl) _ c.end-then-asks-eq0.ensures
+
+pub end-requires-in-Err : goal.end-requires-in-Err
+end-requires-in-Err g c =
+    let here = c.before_round-call.ensures ∙ c.rounds.invariant.at in
+    rw (c.source_failed.ensures ∙ ap (λ (n : Next WritePoint). write_step n.point failed) here) refl
+
+pub source_gave-round-requires : goal.source_gave-round-requires
+source_gave-round-requires g c =
+    let here = c.before_round-call.ensures ∙ c.rounds.invariant.at in
+    rw here (record { next = refl; fits = omega (arith, c.in-Ok.ensures.most, c.learn.ensures.room, ap (λ (w : WriteView). w.room) c.end.ensures) })
+
+pub end-requires-then-n-eq0 : goal.end-requires-then-n-eq0
+end-requires-then-n-eq0 g c =
+    let here = c.before_round-call.ensures ∙ c.rounds.invariant.at in
+    rw (gave_none _ _ _ _ here _ c.source_gave-round.ensures c.if-n-eq0.true) refl
+
+pub copied-requires-then-n-eq0 : goal.copied-requires-then-n-eq0
+copied-requires-then-n-eq0 g c =
+    let here = c.before_round-call.ensures ∙ c.rounds.invariant.at in
+    counts _ _ _ (gave_none _ _ _ _ here _ c.source_gave-round.ensures c.if-n-eq0.true) _ c.end-then-n-eq0.ensures
+
+pub load_closed-round-requires : goal.load_closed-round-requires
+load_closed-round-requires g c =
+    let here = c.before_round-call.ensures ∙ c.rounds.invariant.at in
+    rw (gives _ _ _ _ here _ c.source_gave-round.ensures c.if-n-eq0.false) (record { next = refl; goes_on = refl })
+
+pub end-requires-then-is_closed : goal.end-requires-then-is_closed
+end-requires-then-is_closed g c =
+    let here = c.before_round-call.ensures ∙ c.rounds.invariant.at in
+    rw (gave_closed _ _ _ _ here _ c.source_gave-round.ensures c.if-n-eq0.false _ _ c.load_closed-round.ensures.step c.if-is_closed.true) refl
+
+pub copied-requires-then-is_closed : goal.copied-requires-then-is_closed
+copied-requires-then-is_closed g c =
+    let here = c.before_round-call.ensures ∙ c.rounds.invariant.at in
+    counts _ _ _ (gave_closed _ _ _ _ here _ c.source_gave-round.ensures c.if-n-eq0.false _ _ c.load_closed-round.ensures.step c.if-is_closed.true)
+    _ c.end-then-is_closed.ensures
+
+pub store_tail-round-requires-clause-next : goal.store_tail-round-requires-clause-next
+store_tail-round-requires-clause-next g c =
+    let here = c.before_round-call.ensures ∙ c.rounds.invariant.at in
+    rw (stores _ _ _ _ here _ c.source_gave-round.ensures c.if-n-eq0.false _ _ c.load_closed-round.ensures.step c.if-is_closed.false) refl
+
+pub wake_reader-call-requires : goal.wake_reader-call-requires
+wake_reader-call-requires g c =
+    let here = c.before_round-call.ensures ∙ c.rounds.invariant.at in
+    rw (takes _ _ _ _ here _ c.source_gave-round.ensures c.if-n-eq0.false _ _ c.load_closed-round.ensures.step c.if-is_closed.false
+    _ c.store_tail-round.ensures.step) (record { next = refl })
