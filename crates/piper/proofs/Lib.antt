@@ -1,5 +1,7 @@
 pub mod Carrying
 mod Rounds
+mod Drawn
+mod Front
 mod LookingOut
 mod LookingIn
 mod RoundsIn

@@ -1,13 +1,16 @@
--- A drain's look, behind which nothing was moved.
-use Rattle.std.proofs.Common.{◌≡◌, ℕ, ◌⊎◌, [], Result, sym, ap, ◌∙◌, append-nil}
+-- A drain's look, behind which nothing was moved, or rounds moved what it found.
+use Rattle.std.proofs.Common.{◌≡◌, ℕ, ◌<◌, ◌⊎◌, [], ◌++◌, length, Result, Ok, Err, refl, sym, ap, ◌∙◌, subst, append-nil, length-append, inl, arith}
 use Rattle.futures.specs.declared.task.Poll.{Poll}
+use Rattle.futures.specs.declared.task.Poll.TheVariants.{Ready, Pending}
+use Rattle.piper_ring.specs.Shared.{flag}
 use Rattle.piper_ring.specs.ReadView.{ReadView}
 use Rattle.piper.specs.CopyAnswers.{Copies}
-use Rattle.piper.specs.Drains.{Drains}
-use Rattle.piper.specs.Like.{Passes}
+use Rattle.piper.specs.Drains.{Drains, DrainRounds, EndIsSeen, FoundNoByte, found_len}
+use Rattle.piper.specs.Like.{Passes, PassesNothing}
 use Rattle.piper.specs.Looks.{ReaderLooked}
 use Rattle.piper.specs.Polls.{OnReadyOk}
 use Rattle.piper.specs.declared.error.Inner.{Inner}
+use Rattle.piper.specs.declared.error.Inner.TheVariants.{Memory, Like}
 
 module _ {S E : Type 0} (takes : Passes S) (is_full : S → Type 0) (fails : S → E → S → Type 0) where
   -- nothing was moved behind the look
@@ -22,3 +25,45 @@ module _ {S E : Type 0} (takes : Passes S) (is_full : S → Type 0) (fails : S �
     most = most;
     end = record { end = looked.end; saw = looked.saw };
   }
+
+  -- the look was not true
+  pub drains_unfound : (r : Poll (Result ℕ (Inner E))) (a w : ReadView) (s : S) → PassesNothing takes → ReaderLooked a w → FoundNoByte r w → Drains takes is_full fails r a w s s
+  drains_unfound (Ready (Ok n)) a w s nothing looked found = drains_none (Ready (Ok n)) a w s looked (nothing s, sym found.0) (inl found.1)
+  drains_unfound (Ready (Err Memory)) a w s nothing looked found = drains_none (Ready (Err Memory)) a w s looked (refl, refl) tt
+  drains_unfound (Ready (Err (Like e))) a w s nothing looked found = absurd found
+  drains_unfound Pending a w s nothing looked found = drains_none Pending a w s looked (refl, refl) tt
+
+  -- rounds moved bytes behind the look
+  module _ (r : Poll (Result ℕ (Inner E))) (a w m b : ReadView) (s t : S) (looked : ReaderLooked a w) (same : m ≡ w) (rounds : DrainRounds takes is_full fails r m b s t) where
+    d : DrainRounds takes is_full fails r w b s t
+    d = subst (λ v. DrainRounds takes is_full fails r v b s t) same rounds
+
+    pub drains_rounds : Drains takes is_full fails r a b s t
+    drains_rounds = record {
+      moved = d.moved;
+      taken = d.taken ∙ ap (λ l. l ++ d.moved) looked.taken;
+      known = λ some. ap (λ (v : ReadView). v.known) (sym (looked.known some)) ∙ d.known;
+      fresh = λ none.
+          omega (arith, looked.fresh none, d.end.end.told, ap length d.taken, ap length d.known, length-append w.taken w.known, length-append b.taken b.known, length-append w.taken d.moved, length-append d.moved b.known);
+      copied = d.copied;
+      most = d.most;
+      end = record {
+        end = record {
+          ring = d.end.end.ring ∙ looked.end.ring;
+          capacity = d.end.end.capacity ∙ looked.end.capacity;
+          told = d.end.end.told ∙ looked.end.told;
+          told_shut = d.end.end.told_shut ∙ looked.end.told_shut;
+        };
+        saw = omega (arith, looked.saw, ap flag d.end.saw);
+      };
+    }
+
+    -- which found some
+    pub found_some : 0 < length w.known → 0 < found_len a b
+    found_some some = omega (arith, some, ap length looked.taken, ap length d.taken, ap length d.known, length-append w.taken d.moved, length-append d.moved b.known)
+
+-- a drain that found a byte may not have seen the end
+pub ended_unseen : {E : Type 0} (r : Poll (Result ℕ E)) (a b : ReadView) → 0 < found_len a b → EndIsSeen r a b
+ended_unseen (Ready (Ok n)) a b some = λ zero. absurd (omega (arith, some, zero))
+ended_unseen (Ready (Err e)) a b some = tt
+ended_unseen Pending a b some = tt

@@ -1,8 +1,17 @@
 -- Rounds of a drain, one after the other.
-use Rattle.std.proofs.Common.{◌≡◌, ℕ, List, ◌++◌, length}
-use Rattle.piper_ring.specs.ReadView.{ReadView}
+use Rattle.std.proofs.Common.{◌≡◌, ◌==◌, ℕ, ◌+◌, ◌*◌, ◌^◌, ◌<◌, ◌≤◌, ◌⊎◌, Bool, false, List, [], ◌++◌, take, drop, length, Ok, Err, refl, sym, ap, ◌∙◌, subst, append_assoc, append-nil, take-append-drop, length-append, length-take-le, arith}
+use Rattle.std.proofs.lemmas.Bool.Decides.{nat_tests}
+use Rattle.futures.specs.declared.task.Poll.TheVariants.{Ready}
+use Rattle.piper_sides.specs.Table.{Next, goes_on, read_step, reader_moved, nothing, moved, waker}
+use Rattle.piper_sides.specs.declared.table.Form.{Form}
+use Rattle.piper_sides.specs.declared.table.AfterRead.TheVariants as afterward
+use Rattle.piper_sides.specs.declared.table.ReadPoint.{ReadPoint}
+use Rattle.piper_sides.specs.declared.table.ReadPoint.TheVariants as at
+use Rattle.piper_ring.specs.ReadView.{ReadView, in_one_piece}
+use Rattle.piper.specs.Drains.{DrainRounds}
 use Rattle.piper.specs.Ends.{ReaderConsumed}
-use Rattle.piper.specs.Like.{Passes}
+use Rattle.piper.specs.Like.{Passes, PassesInOrder}
+use Rattle.piper.specs.declared.error.Inner.TheVariants.{Like}
 
 -- the rounds so far gave the destination `sum` bytes, which were the front of what was known
 pub record Drained {S : Type 0} (takes : Passes S) (a b : ReadView) (s t : S) (sum : ℕ) : Type 0 where
@@ -12,3 +21,72 @@ pub record Drained {S : Type 0} (takes : Passes S) (a b : ReadView) (s t : S) (s
   pub passed : takes s moved t
   pub count : length moved ≡ sum
   pub end : ReaderConsumed a b
+
+-- a round by the call table, in which the destination takes some, from one call of it to the next
+module _ (form : Form) (s n : ℕ) (called took : Next ReadPoint) (here : called ≡ goes_on (at.CallDestination form s)) (some : n ≡ 0 → ⊥) (took_is : took ≡ read_step called.point (moved n)) where
+  stores : took.point ≡ at.StoreHead n (afterward.Round form (s + n))
+  stores =
+      let not_zero : (n == 0) ≡ false = grind (arith, nat_tests, some) in
+      ap (λ (c : Next ReadPoint). c.point) (took_is ∙ ap (λ (c : Next ReadPoint). read_step c.point (moved n)) here ∙ ap (λ (b : Bool). reader_moved b n form s) not_zero)
+
+  pub takes_writer : (stored : Next ReadPoint) → stored ≡ read_step took.point nothing → stored.point ≡ at.TakeWriter (afterward.Round form (s + n))
+  takes_writer stored stored_is = ap (λ (c : Next ReadPoint). c.point) (stored_is ∙ ap (λ (p : ReadPoint). read_step p nothing) stores)
+
+  pub drain_round : (stored woken : Next ReadPoint) → stored ≡ read_step took.point nothing → woken ≡ read_step stored.point (waker false) → woken ≡ goes_on (at.CallDestination form (s + n))
+  drain_round stored woken stored_is woken_is = woken_is ∙ ap (λ (p : ReadPoint). read_step p (waker false)) (takes_writer stored stored_is)
+
+-- the sum of the bytes fits, since the ring's capacity does
+pub sum_fits : {S : Type 0} (takes : Passes S) (a b whole : ReadView) (s t : S) (sum n : ℕ) → Drained takes a b s t sum → whole ≡ a → length whole.known ≤ whole.capacity → 2 * whole.capacity < 2 ^ 64
+    → n ≤ in_one_piece b → sum + n < 2 ^ 64
+sum_fits takes a b whole s t sum n d is_whole known capacity within =
+    omega (arith, ap (λ (r : ReadView). length r.known) is_whole, ap length d.known, length-append d.moved b.known, d.count)
+
+module _ {S : Type 0} (takes : Passes S) (in_order : PassesInOrder takes) (a b : ReadView) (s t u : S) (sum : ℕ) (d : Drained takes a b s t sum) where
+  none_more : takes t [] u → takes s d.moved u
+  none_more none = subst (λ (l : List ℕ). takes s l u) (append-nil d.moved) (in_order s d.moved t [] u d.passed none)
+
+  -- the destination took none
+  pub drain_ended : {E : Type 0} (is_full : S → Type 0) (fails : S → E → S → Type 0) → takes t [] u → (b.known ≡ []) ⊎ is_full u
+      → DrainRounds takes is_full fails (Ready (Ok sum)) a b s u
+  drain_ended is_full fails none most =
+      record { moved = d.moved; taken = d.taken; known = d.known; copied = (none_more none, d.count); most = most; end = d.end }
+
+  -- the destination failed
+  pub drain_failed : {E : Type 0} (is_full : S → Type 0) (fails : S → E → S → Type 0) (e : E) → takes t [] u → fails t e u
+      → DrainRounds takes is_full fails (Ready (Err (Like e))) a b s u
+  drain_failed is_full fails e none failed =
+      record { moved = d.moved; taken = d.taken; known = d.known; copied = (none_more none, (t, d.passed, failed)); most = tt; end = d.end }
+
+  -- the destination took n bytes, which were consumed
+  pub drained_more : (w : ReadView) (n : ℕ) → n ≤ in_one_piece b → takes t (take n b.known) u → w.taken ≡ b.taken ++ take n b.known → w.known ≡ drop n b.known → ReaderConsumed b w
+      → Drained takes a w s u (sum + n)
+  drained_more w n within some stored left consumed =
+      let front : List ℕ = take n b.known in
+      record {
+        moved = d.moved ++ front;
+        taken = stored ∙ ap (λ l. l ++ front) d.taken ∙ append_assoc a.taken d.moved front;
+        known = d.known ∙ ap (λ l. d.moved ++ l) (sym (take-append-drop n b.known)) ∙ sym (append_assoc d.moved front (drop n b.known)) ∙ ap (λ l. (d.moved ++ front) ++ l) (sym left);
+        passed = in_order s d.moved t front u d.passed some;
+        count = length-append d.moved front ∙ omega (arith, d.count, length-take-le n b.known (omega (arith, within)));
+        end = record {
+          end = record {
+            ring = consumed.end.ring ∙ d.end.end.ring;
+            capacity = consumed.end.capacity ∙ d.end.end.capacity;
+            told = consumed.end.told ∙ d.end.end.told;
+            told_shut = consumed.end.told_shut ∙ d.end.end.told_shut;
+          };
+          saw = consumed.saw ∙ d.end.saw;
+        };
+      }
+
+-- before the rounds
+pub drained_none : {S : Type 0} (takes : Passes S) (a : ReadView) (s : S) → takes s [] s → Drained takes a a s s 0
+drained_none takes a s none =
+    record {
+      moved = [];
+      taken = sym (append-nil a.taken);
+      known = refl;
+      passed = none;
+      count = refl;
+      end = record { end = record { ring = refl; capacity = refl; told = refl; told_shut = refl }; saw = refl };
+    }

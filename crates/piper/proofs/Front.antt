@@ -1,0 +1,29 @@
+-- Bytes that a drain wrote to the front of a slice.
+use Rattle.std.proofs.Common.{◌≡◌, ℕ, ◌+◌, ◌<◌, ◌≤◌, ◌⊎◌, List, [], ◌++◌, take, drop, length, min, ap, ◌∙◌, take_at, drop_at, length-append, length-drop, inl, inr, arith}
+use Rattle.piper_ring.specs.ReadView.{ReadView}
+use Rattle.piper.specs.Drains.{found_len}
+use Rattle.piper.specs.Written.{written}
+
+module _ (old before now new moved : List ℕ) (place n : ℕ) (same : before ≡ old) (first : place ≡ 0) (count : length moved ≡ n) (is : now ≡ written before place moved) (back : new ≡ now) where
+  whole : new ≡ moved ++ drop n old
+  whole =
+      let behind : 0 + length moved ≡ n = omega (arith, count) in
+      back ∙ is ∙ ap (λ k. written before k moved) first ∙ ap (λ xs. written xs 0 moved) same ∙ ap (λ k. moved ++ drop k old) behind
+
+  pub front_is : take n new ≡ moved
+  front_is = ap (λ xs. take n xs) whole ∙ take_at moved (drop n old) n count
+
+  pub rest_is : drop n new ≡ drop n old
+  rest_is = ap (λ xs. drop n xs) whole ∙ drop_at moved (drop n old) n count
+
+  -- which is full where they end
+  pub full_is : n ≤ length old → (end : ℕ) → end ≡ place + length moved → length new ≡ end → length old ≡ n
+  full_is within end ends full = omega (arith, within, ends, full, first, count, ap length whole, length-append moved (drop n old), length-drop n old)
+
+-- as many as fit
+pub counts : (a b : ReadView) (moved : List ℕ) (n space : ℕ) → b.taken ≡ a.taken ++ moved → length moved ≡ n → n ≤ space → (b.known ≡ []) ⊎ (space ≡ n) → n ≡ min space (found_len a b)
+counts a b moved n space taken count within (inl none) = omega (arith, ap length taken, length-append a.taken moved, count, within, ap length none)
+counts a b moved n space taken count within (inr full) = omega (arith, ap length taken, length-append a.taken moved, count, full)
+
+pub none_found : (n space found : ℕ) → n ≡ min space found → n ≡ 0 → 0 < space → found ≡ 0
+none_found n space found counted zero some = omega (arith, counted, zero, some)

@@ -1,0 +1,62 @@
+-- A round adds to the rounds before it, or ends them.
+use Rattle.std.proofs.Common.{rules, ◌≡◌, ◌∙◌, Ok, ap, refl, length, length-drop, inr, arith}
+use Rattle.piper_sides.specs.Table.{read_action}
+use Rattle.futures.specs.declared.task.Poll.TheVariants.{Ready}
+use Rattle.piper.proofs.RoundsOut.{drain_round, takes_writer, sum_fits, drain_ended, drain_failed, drained_more, drained_none}
+use Rattle.piper.proofs.handles.Reader.drain_rounds.Goals as goal
+
+pub rounds-init : goal.rounds-init
+rounds-init g c =
+    record {
+      at = c.requires;
+      drained = drained_none _ _ _ (g.met.W.WriteLike.takes_nothing c.args.dest.now);
+      failures = refl;
+      rest = record { slots = refl; rng = refl };
+    }
+
+pub destination_took-round-requires-clause-fits : goal.destination_took-round-requires-clause-fits
+destination_took-round-requires-clause-fits g c =
+    rw (c.before_round-call.ensures, c.rounds.invariant.at)
+    (sum_fits _ _ _ _ _ _ _ _ c.rounds.invariant.drained c.end.ensures c.learn.ensures.known c.learn.ensures.capacity.1 c.in-Ok.ensures.bound)
+
+pub wake_writer-call-requires : goal.wake_writer-call-requires
+wake_writer-call-requires g c =
+    record {
+      next = ap read_action (takes_writer c.args.form c.rounds.sum c.in-Ok.n _ _ (c.before_round-call.ensures ∙ c.rounds.invariant.at) c.if-n-eq0.false c.destination_took-round.ensures _ c.store_head-round.ensures.step);
+    }
+
+pub overflow_add-sum : goal.overflow_add-sum
+overflow_add-sum g c =
+    omega (arith, sum_fits _ _ _ _ _ _ _ _ c.rounds.invariant.drained c.end.ensures c.learn.ensures.known c.learn.ensures.capacity.1 c.in-Ok.ensures.bound)
+
+pub rounds-smaller : goal.rounds-smaller
+rounds-smaller g c = omega (arith, ap length c.store_head-round.ensures.known, length-drop c.in-Ok.n c.rounds.self.end.known, c.in-Ok.ensures.bound)
+
+pub returns-in-Err-clause-drained : goal.returns-in-Err-clause-drained
+returns-in-Err-clause-drained g c =
+    let none = rw c.in-Err.is at c.drain_round.ensures.bytes in
+    drain_failed _ g.met.W.WriteLike.takes_in_order _ _ _ _ _ _ c.rounds.invariant.drained _ _ c.in-Err.error none c.in-Err.ensures.error
+
+pub returns-then-n-eq0-clause-drained : goal.returns-then-n-eq0-clause-drained
+returns-then-n-eq0-clause-drained g c =
+    let told : c.copied-then-n-eq0.result ≡ Ready (Ok c.rounds.sum) = search rules in
+    let zero : c.drain_round.result ≡ Ok 0 = search rules in
+    let none = rw zero at c.drain_round.ensures.bytes in
+    rw told (drain_ended _ g.met.W.WriteLike.takes_in_order _ _ _ _ _ _ c.rounds.invariant.drained _ _ none (c.drain_round.ensures.full zero))
+
+pub returns-then-asks-eq0-clause-drained : goal.returns-then-asks-eq0-clause-drained
+returns-then-asks-eq0-clause-drained g c =
+    let told : c.copied.result ≡ Ready (Ok c.rounds.sum) = search rules in
+    rw told (drain_ended _ g.met.W.WriteLike.takes_in_order _ _ _ _ _ _ c.rounds.invariant.drained _ _
+    (g.met.W.WriteLike.takes_nothing c.rounds.dest) (inr (c.asks.ensures c.if-asks-eq0.true)))
+
+pub rounds-preserved : goal.rounds-preserved
+rounds-preserved g c =
+    let some = rw c.in-Ok.is at c.drain_round.ensures.bytes in
+    let stored = c.store_head-round.ensures in
+    record {
+      at = drain_round c.args.form c.rounds.sum c.in-Ok.n _ _ (c.before_round-call.ensures ∙ c.rounds.invariant.at) c.if-n-eq0.false c.destination_took-round.ensures _ _ stored.step c.wake_writer-call.ensures;
+      drained = drained_more _ g.met.W.WriteLike.takes_in_order _ _ _ _ _ _ c.rounds.invariant.drained _ c.in-Ok.n c.in-Ok.ensures.bound some stored.taken stored.known stored.end;
+      failures = c.in-Ok.ensures.failures ∙ c.rounds.invariant.failures;
+      rest = record { slots = stored.rest.slots ∙ c.rounds.invariant.rest.slots; rng = stored.rest.rng ∙ c.rounds.invariant.rest.rng };
+    }
