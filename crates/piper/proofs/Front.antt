@@ -1,5 +1,6 @@
 -- Bytes that a drain wrote to the front of a slice.
 use Rattle.std.proofs.Common.{◌≡◌, ℕ, ◌+◌, ◌<◌, ◌≤◌, ◌⊎◌, List, [], ◌++◌, take, drop, length, min, ap, ◌∙◌, take_at, drop_at, length-append, length-drop, inl, inr, arith}
+use Rattle.std.proofs.lemmas.List.{nil_from_length}
 use Rattle.piper_ring.specs.ReadView.{ReadView}
 use Rattle.piper.specs.Drains.{found_len}
 use Rattle.piper.specs.Written.{written}
@@ -27,3 +28,6 @@ counts a b moved n space taken count within (inr full) = omega (arith, ap length
 
 pub none_found : (n space found : ℕ) → n ≡ min space found → n ≡ 0 → 0 < space → found ≡ 0
 none_found n space found counted zero some = omega (arith, counted, zero, some)
+
+pub none_known : (a b : ReadView) (moved : List ℕ) → b.taken ≡ a.taken ++ moved → ¬ (0 < found_len a b) → b.known ≡ []
+none_known a b moved taken none = nil_from_length b.known (omega (arith, ap length taken, length-append a.taken moved, none))

@@ -25,6 +25,6 @@ returns-clause-ended g c =
 
 pub returns-clause-draws : goal.returns-clause-draws
 returns-clause-draws g c =
+    let some = found_some _ _ _ _ _ _ _ _ _ _ c.look_to_drain.ensures.looked c.empty_own_and_draw-call.ensures.end c.drain_rounds.ensures.drained c.in-Ok.ensures.some in
     let drew = c.empty_own_and_draw-call.ensures in
-    draws_at_once _ c.drain_rounds.result _ _ _ _ _ (found_some _ _ _ _ _ _ _ _ _ _ c.look_to_drain.ensures.looked c.empty_own_and_draw-call.ensures.end c.drain_rounds.ensures.drained c.in-Ok.ensures.some) c.drain_rounds.ensures.ready c.if-yields.false drew.draw drew.rng
-    c.look_to_drain.ensures.rest.rng c.drain_rounds.ensures.rest.rng
+    draws_at_once _ c.drain_rounds.result _ _ _ _ _ some c.drain_rounds.ensures.ready c.if-yields.false drew.draw drew.rng c.look_to_drain.ensures.rest.rng c.drain_rounds.ensures.rest.rng
