@@ -1,10 +1,13 @@
 -- A drain's look, behind which nothing was moved, or rounds moved what it found.
-use Rattle.std.proofs.Common.{◌≡◌, ℕ, ◌<◌, ◌⊎◌, [], ◌++◌, length, Result, Ok, Err, refl, sym, ap, ◌∙◌, subst, append-nil, length-append, inl, arith}
+use Rattle.std.proofs.Common.{◌≡◌, Bool, true, false, ℕ, ◌<◌, ◌⊎◌, [], ◌++◌, length, Result, Ok, Err, refl, sym, ap, ◌∙◌, subst, append-nil, length-append, inl, arith}
 use Rattle.futures.specs.declared.task.Poll.{Poll}
 use Rattle.futures.specs.declared.task.Poll.TheVariants.{Ready, Pending}
+use Rattle.piper_sides.specs.Table.{look_answer, end_or_pending}
+use Rattle.piper_sides.specs.declared.table.Form.TheVariants.{Polling}
+use Rattle.piper_sides.specs.declared.table.Purpose.TheVariants as purpose
 use Rattle.piper_ring.specs.Shared.{flag}
 use Rattle.piper_ring.specs.ReadView.{ReadView}
-use Rattle.piper.specs.CopyAnswers.{Copies}
+use Rattle.piper.specs.CopyAnswers.{Copies, copied_of}
 use Rattle.piper.specs.Drains.{Drains, DrainRounds, EndIsSeen, FoundNoByte, found_len}
 use Rattle.piper.specs.Like.{Passes, PassesNothing}
 use Rattle.piper.specs.Looks.{ReaderLooked}
@@ -67,3 +70,9 @@ pub ended_unseen : {E : Type 0} (r : Poll (Result ℕ E)) (a b : ReadView) → 0
 ended_unseen (Ready (Ok n)) a b some = λ zero. absurd (omega (arith, some, zero))
 ended_unseen (Ready (Err e)) a b some = tt
 ended_unseen Pending a b some = tt
+
+-- the table ended a look, which found no byte
+pub looked_in_vain : {E : Type 0} (is_closed : Bool) (r : Poll (Result ℕ (Inner E))) (w : ReadView) → r ≡ copied_of (look_answer (purpose.Copy (Polling false)) (end_or_pending is_closed))
+    → w.known ≡ [] → w.saw ≡ is_closed → FoundNoByte r w
+looked_in_vain true r w told none saw = rw told (refl, none, saw)
+looked_in_vain false r w told none saw = rw told (none, saw)
