@@ -1,6 +1,6 @@
 -- Frames are taken by their length, and then by their bytes.
 use Rattle.std.proofs.Common.{◌≡◌, ℕ, ◌<◌, ◌≤◌, List, [], ◌∷◌, ◌++◌, length, ap, ◌∙◌, sym, subst, append_assoc, append-nil, length-append, refl, arith}
-use Rattle.piper_lines.specs.Frame.{length_bytes, frame_bytes}
+use Rattle.piper_lines.specs.Frame.{length_bytes, told_length, frame_bytes}
 use Rattle.piper_lines.specs.Moves.{Grows, Passes, PassesMoves}
 use Rattle.piper_lines.proofs.Moving.{moves_none, moves_then}
 
@@ -10,6 +10,21 @@ no_body header [] body first within = append-nil body
 no_body header (x ∷ more) body first within =
     let none : body ≡ [] = first (omega (arith, length-append header (x ∷ more))) in
     subst (λ ws. ws ++ (x ∷ more) ≡ (x ∷ more) ++ ws) (sym none) (sym (append-nil (x ∷ more)))
+
+still_fits : (header more body : List ℕ) → (length header < 4 → body ≡ []) → length (header ++ more) ≤ 4 → length body ≤ told_length header
+    → length body ≤ told_length (header ++ more)
+still_fits header [] body first within fits = subst (λ ws. length body ≤ told_length ws) (sym (append-nil header)) fits
+still_fits header (x ∷ more) body first within fits =
+    let none : body ≡ [] = first (omega (arith, length-append header (x ∷ more))) in
+    subst (λ ws. length ws ≤ told_length (header ++ x ∷ more)) (sym none) (omega arith)
+
+-- while its length grows, what is kept of a frame stays one
+pub header_grows : (t0 t1 h0 h1 body : List ℕ) → Grows t0 t1 h0 h1 → (length h0 < 4 → body ≡ []) → length h1 ≤ 4 → length body ≤ told_length h0
+    → (length h1 < 4 → body ≡ []) × (length body ≤ told_length h1)
+header_grows t0 t1 h0 h1 body grows first within fits = (
+  λ short. first (omega (arith, ap length grows.2, length-append h0 grows.0)),
+  subst (λ ws. length body ≤ told_length ws) (sym grows.2) (still_fits h0 grows.0 body first (subst (λ ws. length ws ≤ 4) grows.2 within) fits),
+)
 
 -- bytes have passed, and none of a frame was taken
 pub keeping_none : (t0 t1 kept : List ℕ) (skips0 skips1 : ℕ) → Passes t0 t1 skips0 skips1 → PassesMoves t0 t1 skips0 skips1 kept [] kept

@@ -1,8 +1,8 @@
-use Rattle.std.proofs.Common.{rules, ◌≡◌, length, true, Ok, ap, ◌∙◌}
+use Rattle.std.proofs.Common.{rules, ◌≡◌, [], length, true, Ok, ap, ◌∙◌, arith}
 use Rattle.futures.specs.declared.task.Poll.TheVariants.{Ready}
-use Rattle.piper_lines.specs.Frame.{length_bytes}
+use Rattle.piper_lines.specs.Frame.{length_bytes, told_length}
 use Rattle.piper_lines.specs.FrameReader.{kept_of}
-use Rattle.piper_lines.proofs.Framing.{keeping_none, keeping_header, keeping_body, keeping_frame}
+use Rattle.piper_lines.proofs.Framing.{header_grows, keeping_none, keeping_header, keeping_body, keeping_frame}
 use Rattle.piper_lines.proofs.frame_reader.Frames.poll_frame.Goals as goal
 
 pub returns-in-Pending-clause-moved : goal.returns-in-Pending-clause-moved
@@ -63,3 +63,58 @@ returns-in-Ready-Ok-true-fill_up-2-clause-moved g c =
     ap length_bytes (c.fill_up-2.ensures.full is_full) ∙ c.number-size.ensures.spelled ∙ c.deref-2.ensures.value in
     keeping_frame _ _ c.fill_up.new.gathered.items c.fill_up-2.new.gathered.items c.swap.new.x.items c.clear-in-Ready-Ok-true-fill_up-2.new.self.items c.swap.new.y.items _ _ _ body spelled
     (search rules) c.clear-in-Ready-Ok-true-fill_up-2.ensures.items (search rules)
+
+pub invariant_of-self : goal.invariant_of-self
+invariant_of-self g c =
+    let frames = c.args.self.now in
+    record { header_first = frames.header_first; fits = frames.fits; short = frames.short; skips_first = λ some. frames.skips_first (omega (arith, c.pass_over.ensures.passed.2)) }
+
+pub invariant_of-self-in-Ready-Ok-false : goal.invariant_of-self-in-Ready-Ok-false
+invariant_of-self-in-Ready-Ok-false g c =
+    let frames = c.args.self.now in
+    record { header_first = frames.header_first; fits = frames.fits; short = frames.short; skips_first = λ some. frames.skips_first (omega (arith, c.pass_over.ensures.passed.2)) }
+
+pub invariant_of-self-in-Pending-fill_up : goal.invariant_of-self-in-Pending-fill_up
+invariant_of-self-in-Pending-fill_up g c =
+    let passed : c.pass_over.result ≡ Ready (Ok true) = cc in
+    let frames = c.args.self.now in
+    let header = header_grows _ _ frames.header.items c.fill_up.new.gathered.items frames.body.items c.fill_up.ensures.grown frames.header_first c.fill_up.ensures.within frames.fits in
+    record { header_first = header.0; fits = header.1; short = c.fill_up.ensures.within; skips_first = λ some. absurd (omega (arith, c.pass_over.ensures.done passed)) }
+
+pub invariant_of-self-in-Ready-Ok-false-fill_up : goal.invariant_of-self-in-Ready-Ok-false-fill_up
+invariant_of-self-in-Ready-Ok-false-fill_up g c =
+    let passed : c.pass_over.result ≡ Ready (Ok true) = cc in
+    let frames = c.args.self.now in
+    let header = header_grows _ _ frames.header.items c.fill_up.new.gathered.items frames.body.items c.fill_up.ensures.grown frames.header_first c.fill_up.ensures.within frames.fits in
+    record { header_first = header.0; fits = header.1; short = c.fill_up.ensures.within; skips_first = λ some. absurd (omega (arith, c.pass_over.ensures.done passed)) }
+
+pub invariant_of-self-then-size-limit : goal.invariant_of-self-then-size-limit
+invariant_of-self-then-size-limit g c =
+    let passed : c.pass_over.result ≡ Ready (Ok true) = cc in
+    let frames = c.args.self.now in
+    let header = header_grows _ _ frames.header.items c.fill_up.new.gathered.items frames.body.items c.fill_up.ensures.grown frames.header_first c.fill_up.ensures.within frames.fits in
+    record { header_first = header.0; fits = header.1; short = c.fill_up.ensures.within; skips_first = λ some. absurd (omega (arith, c.pass_over.ensures.done passed)) }
+
+pub invariant_of-self-in-Pending-fill_up-2 : goal.invariant_of-self-in-Pending-fill_up-2
+invariant_of-self-in-Pending-fill_up-2 g c =
+    let passed : c.pass_over.result ≡ Ready (Ok true) = cc in
+    let is_whole : c.fill_up.result ≡ Ready (Ok true) = cc in
+    let size : c.number-size.result ≡ told_length c.fill_up.new.gathered.items = c.number-size.ensures.told ∙ ap told_length c.deref-2.ensures.value in
+    record {
+      header_first = λ short. absurd (omega (arith, c.fill_up.ensures.full is_whole));
+      fits = omega (arith, c.fill_up-2.ensures.within, size);
+      short = c.fill_up.ensures.within;
+      skips_first = λ some. absurd (omega (arith, c.pass_over.ensures.done passed));
+    }
+
+pub invariant_of-self-in-Ready-Ok-false-fill_up-2 : goal.invariant_of-self-in-Ready-Ok-false-fill_up-2
+invariant_of-self-in-Ready-Ok-false-fill_up-2 g c =
+    let passed : c.pass_over.result ≡ Ready (Ok true) = cc in
+    let is_whole : c.fill_up.result ≡ Ready (Ok true) = cc in
+    let size : c.number-size.result ≡ told_length c.fill_up.new.gathered.items = c.number-size.ensures.told ∙ ap told_length c.deref-2.ensures.value in
+    record {
+      header_first = λ short. absurd (omega (arith, c.fill_up.ensures.full is_whole));
+      fits = omega (arith, c.fill_up-2.ensures.within, size);
+      short = c.fill_up.ensures.within;
+      skips_first = λ some. absurd (omega (arith, c.pass_over.ensures.done passed));
+    }
