@@ -1,7 +1,7 @@
-use Rattle.std.proofs.Common.{rules, ◌≡◌, ◌++◌, List, ℕ, take, length, ap, inl, arith, length-append, length-take}
+use Rattle.std.proofs.Common.{rules, ◌≡◌, ◌<◌, ◌++◌, List, ℕ, take, length, ap, inl, inr, refl, arith, length-append, length-take}
 use Rattle.std.proofs.lemmas.Grind.{common_steps}
 use Rattle.piper_lines.specs.Line.{LacksLf, IsLine}
-use Rattle.piper_lines.proofs.Growing.{grows_more}
+use Rattle.piper_lines.proofs.Growing.{grows_none, grows_more}
 use Rattle.piper_lines.proofs.LineEnds.{IsLine-append, LacksLf-append}
 use Rattle.piper_lines.proofs.line_reader.gather.Goals as goal
 
@@ -13,6 +13,17 @@ returns-then-is_found-clause-gathers g c =
       rw grown (IsLine-append c.loop-limit.line.items more c.loop-limit.invariant.unfinished is_line),
       omega (arith, ap length grown, length-append c.loop-limit.line.items more, length-take c.through_lf-count.result.0 (take c.min.result c.in-Ready-Ok.lent.now), length-take c.min.result c.in-Ready-Ok.lent.now),
     )
+
+pub loop-limit-init : goal.loop-limit-init
+loop-limit-init g c = record { grown = grows_none _ _; unfinished = c.requires.unfinished; within = inr refl; kept = λ fact held. held }
+
+pub loop-limit-smaller : goal.loop-limit-smaller
+loop-limit-smaller g c =
+    let more : List ℕ = take c.through_lf-count.result.0 (take c.min.result c.in-Ready-Ok.lent.now) in
+    let grown : c.extend_from_slice.new.self.items ≡ c.loop-limit.line.items ++ more = search rules in
+    let lent : 0 < length c.in-Ready-Ok.lent.now = search rules in
+    let some : 0 < length (take c.min.result c.in-Ready-Ok.lent.now) = omega (arith, lent, length-take c.min.result c.in-Ready-Ok.lent.now) in
+    omega (arith, ap length grown, length-append c.loop-limit.line.items more, length-take c.through_lf-count.result.0 (take c.min.result c.in-Ready-Ok.lent.now), c.through_lf-count.ensures.some some)
 
 pub loop-limit-preserved : goal.loop-limit-preserved
 loop-limit-preserved g c =
