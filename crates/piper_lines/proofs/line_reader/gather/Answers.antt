@@ -35,5 +35,5 @@ loop-limit-preserved g c =
       grown = grows_more _ _ _ _ _ _ more c.loop-limit.invariant.grown taken grown;
       unfinished = rw grown (LacksLf-append c.loop-limit.line.items more c.loop-limit.invariant.unfinished lacks);
       within = inl (omega (arith, ap length grown, length-append c.loop-limit.line.items more, length-take c.through_lf-count.result.0 (take c.min.result c.in-Ready-Ok.lent.now), length-take c.min.result c.in-Ready-Ok.lent.now));
-      kept = search rules;
+      kept = λ fact held. c.poll_fill_buf.ensures.kept fact (c.loop-limit.invariant.kept fact held);
     }

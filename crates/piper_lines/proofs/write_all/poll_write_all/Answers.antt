@@ -26,5 +26,5 @@ loop-written-preserved g c =
       within = omega (arith, written.0, length-drop c.loop-written.written c.args.bytes.now);
       sends = subst (λ ws. Sends (drop c.args.written.now c.args.bytes.now) ws (g.W.AsyncWrite.sent c.args.writer.now) (g.W.AsyncWrite.sent c.poll_write.new.self) (g.W.AsyncWrite.saw c.args.writer.now) (g.W.AsyncWrite.saw c.poll_write.new.self)) (drop-drop n c.loop-written.written c.args.bytes.now) sends;
       stays = λ seen. c.poll_write.ensures.stays (c.loop-written.invariant.stays seen);
-      kept = search rules;
+      kept = λ fact held. c.poll_write.ensures.kept fact (c.loop-written.invariant.kept fact held);
     }

@@ -54,5 +54,5 @@ loop-preserved g c =
       moved = passes_frame _ _ _ _ _ _ _ _ _ c.loop.out.items c.push.new.out.items body c.loop.invariant.moved moved pushed;
       within = adds_piece (λ body. length body ≤ c.args.limit) c.args.out.now.items c.loop.out.items c.push.new.out.items body c.loop.invariant.within pushed hands.0;
       body = inr hands.1.1;
-      kept = search rules;
+      kept = λ fact held. c.poll_frame.ensures.kept fact (c.loop.invariant.kept fact held);
     }

@@ -46,5 +46,5 @@ loop-preserved g c =
       moved = subst (λ ws. Moves (g.R.AsyncBufRead.taken (reader_of c.args.lines.now)) (g.R.AsyncBufRead.taken (reader_of c.poll_line.new.self)) (joined c.args.out.now.items ++ kept_of c.args.lines.now) ws (kept_of c.poll_line.new.self)) together moved;
       split = adds_piece (λ piece. length (kept_of c.args.lines.now) < c.args.limit → IsPiece c.args.limit piece) c.args.out.now.items c.loop.out.items c.push.new.out.items line c.loop.invariant.split pushed (λ short. piece.1 (c.loop.invariant.short short));
       short = λ short. omega (arith, ap length piece.0);
-      kept = search rules;
+      kept = λ fact held. c.poll_line.ensures.kept fact (c.loop.invariant.kept fact held);
     }
