@@ -56,3 +56,9 @@ loop-preserved g c =
       body = inr hands.1.1;
       kept = λ fact held. c.poll_frame.ensures.kept fact (c.loop.invariant.kept fact held);
     }
+
+pub returns-in-Ready-Ok-TooLong-clause-ended : goal.returns-in-Ready-Ok-TooLong-clause-ended
+returns-in-Ready-Ok-TooLong-clause-ended g c =
+    let is_told : c.poll_frame.result ≡ Ready (Ok (TooLong c.in-Ready-Ok-TooLong.size)) = cc in
+    let hands = rw is_told at c.poll_frame.ensures.hands in
+    (hands.1, hands.2, rw hands.3 c.loop.invariant.body, hands.4)
