@@ -101,7 +101,7 @@ invariant_of-self-in-Pending-fill_up-2 g c =
     let is_whole : c.fill_up.result ≡ Ready (Ok true) = cc in
     let size : c.number-size.result ≡ told_length c.fill_up.new.gathered.items = c.number-size.ensures.told ∙ ap told_length c.deref-2.ensures.value in
     record {
-      header_first = λ short. absurd (omega (arith, c.fill_up.ensures.full is_whole));
+      header_first = λ short. absurd {A = c.fill_up-2.new.gathered.items ≡ []} (omega (arith, c.fill_up.ensures.full is_whole));
       fits = omega (arith, c.fill_up-2.ensures.within, size);
       short = c.fill_up.ensures.within;
       skips_first = λ some. absurd (omega (arith, c.pass_over.ensures.done passed));
@@ -113,7 +113,7 @@ invariant_of-self-in-Ready-Ok-false-fill_up-2 g c =
     let is_whole : c.fill_up.result ≡ Ready (Ok true) = cc in
     let size : c.number-size.result ≡ told_length c.fill_up.new.gathered.items = c.number-size.ensures.told ∙ ap told_length c.deref-2.ensures.value in
     record {
-      header_first = λ short. absurd (omega (arith, c.fill_up.ensures.full is_whole));
+      header_first = λ short. absurd {A = c.fill_up-2.new.gathered.items ≡ []} (omega (arith, c.fill_up.ensures.full is_whole));
       fits = omega (arith, c.fill_up-2.ensures.within, size);
       short = c.fill_up.ensures.within;
       skips_first = λ some. absurd (omega (arith, c.pass_over.ensures.done passed));
