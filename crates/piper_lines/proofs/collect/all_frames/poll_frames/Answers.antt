@@ -1,4 +1,4 @@
-use Rattle.std.proofs.Common.{rules, ◌≡◌, ◌≤◌, ◌++◌, ◌∷◌, [], inl, inr, List, ℕ, Vec, length, Ok, ap, ◌∙◌, refl}
+use Rattle.std.proofs.Common.{◌≡◌, ◌≤◌, ◌++◌, ◌∷◌, [], inl, inr, List, ℕ, Vec, length, Ok, ap, ◌∙◌, refl}
 use Rattle.std.specs.declared.alloc.Global.{Global}
 use Rattle.futures.specs.declared.task.Poll.TheVariants.{Ready}
 use Rattle.piper_lines.specs.declared.frame_reader.FrameAnswer.TheVariants.{Frame, TooLong, Truncated, End}

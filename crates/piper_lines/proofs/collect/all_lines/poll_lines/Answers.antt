@@ -1,4 +1,4 @@
-use Rattle.std.proofs.Common.{rules, ◌≡◌, ◌<◌, ◌++◌, ◌∷◌, [], List, ℕ, Vec, length, ap, ◌∙◌, sym, subst, refl, arith}
+use Rattle.std.proofs.Common.{◌≡◌, ◌<◌, ◌++◌, ◌∷◌, [], List, ℕ, Vec, length, ap, ◌∙◌, sym, subst, refl, arith}
 use Rattle.std.specs.declared.alloc.Global.{Global}
 use Rattle.piper.specs.declared.error.PipeError.{PipeError}
 use Rattle.piper_lines.specs.Moves.{Moves}
