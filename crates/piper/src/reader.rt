@@ -119,6 +119,7 @@ impl<H: Wait + Clone + Drop> Reader<H> {
     }
 
     /// Takes the first `amt` bytes of what `peek_buf` lends, gives their places back, and wakes the writer.
+    #[inline(always)]
     pub fn consume(&mut self, amt: usize)
         requires { amt ≤ in_one_piece self.old.end }
         ensures taken { self.new.end.taken ≡ self.old.end.taken ++ take amt self.old.end.known }

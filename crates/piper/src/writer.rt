@@ -111,6 +111,7 @@ impl<H: Wait + Clone + Drop> Writer<H> {
     }
 
     /// Publishes the first `n` bytes of what is left of the slice last lent, as they stand, and wakes the reader.
+    #[inline(always)]
     pub fn produced(&mut self, n: usize)
         requires { n ≤ length self.old.end.lent }
         ensures sent { self.new.end.sent ≡ self.old.end.sent ++ take n self.old.end.lent }

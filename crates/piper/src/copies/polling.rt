@@ -57,6 +57,8 @@ impl<H: Wait + Clone + Drop> AsyncBufRead for Reader<H> {
         }
     }
 
+    // A reader of lines consumes in several places, and is shorter where each of them is a call.
+    #[inline(never)]
     fn consume(&mut self, amt: usize) {
         Reader::consume(self, amt);
     }
