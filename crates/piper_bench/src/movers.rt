@@ -22,6 +22,12 @@ pub trait Mover: Drop {
     /// Holds of each source that a pending move waits for.
     ghost needs: { Self → ℕ → Type 0 };
 
+    /// Moves a piece where this end need not wait, and answers of how many bytes. Where an end can do nothing without a task the answer is 0.
+    fn move_at_once(&mut self) -> usize;
+
+    /// Whether the other end has to move first, as far as a look tells that leaves no waker. Where an end can't be looked at so the answer is `false`.
+    fn is_held_up(&self) -> bool;
+
     /// Moves a piece, and answers of how many bytes: of none where all are moved.
     fn move_piece(&mut self, cx: &mut Context<'_>) -> Poll<Result<usize, Self::Error>>
         ensures covered { OnPending result (Covers cx.new (needs self.new)) }
@@ -56,6 +62,12 @@ impl<R: Wait, M: Mover> Future for MoveAll<'_, R, M> {
     fn poll(&mut self, cx: &mut Context<'_>) -> Poll<Result<u64, M::Error>> {
         let mut looks = LOOKS;
         for _ in self.rt.forever() {
+            if self.mover.move_at_once() > 0 {
+                continue;
+            }
+            if self.mover.is_held_up() {
+                looks = look_again(&self.mover, looks, self.yields);
+            }
             match self.mover.move_piece(cx) {
                 Poll::Pending => {
                     if looks == 0 {
@@ -71,4 +83,17 @@ impl<R: Wait, M: Mover> Future for MoveAll<'_, R, M> {
         }
         unreachable!()
     }
+}
+
+/// Looks so many times, or until the other end has moved, and lets the other thread go on before each. It answers how many looks are left.
+#[cold]
+#[inline(never)]
+fn look_again(mover: &impl Mover, looks: usize, yields: usize) -> usize {
+    for left in (0..looks).rev() {
+        let_ahead(yields);
+        if !mover.is_held_up() {
+            return left;
+        }
+    }
+    0
 }

@@ -5,7 +5,7 @@ ghost use Rattle.futures.specs.Task.{Covers, Keeps};
 ghost use Rattle.piper.specs.Handles.{read_source, write_source};
 
 use crate::movers::{Mover, move_all};
-use crate::rings::{ByLibrary, ByLoop, Copying, add_piece};
+use crate::rings::{ByLibrary, ByLoop, Copying, add_piece, copy_cut};
 use crate::work::Work;
 use futures::task::{Context, Poll};
 use futures::test::MockTask;
@@ -19,6 +19,14 @@ use std::{io, thread};
 
 /// How pieces go into a pipe.
 pub trait Fill {
+    /// Puts bytes from the front of the piece in where the writer need not wait, and answers how many.
+    fn fill_at_once<C: Copying, H: Wait + Clone + Drop>(
+        &self,
+        writer: &mut Writer<H>,
+        bytes: &[u8],
+    ) -> usize
+        ensures slots { writer.new.slots ≡ writer.old.slots };
+
     /// Puts bytes from the front of the piece in, and answers how many. Of a piece that isn't empty it puts none only where the pipe is closed, and it is pending where there is no room.
     fn fill<C: Copying, H: Wait + Clone + Drop>(
         &self,
@@ -33,6 +41,14 @@ pub trait Fill {
 
 /// How pieces come out of a pipe.
 pub trait Drain {
+    /// Copies bytes out to the front of the place where the reader need not wait, and answers how many.
+    fn drain_at_once<C: Copying, H: Wait + Clone + Drop>(
+        &self,
+        reader: &mut Reader<H>,
+        place: &mut [u8],
+    ) -> usize
+        ensures slots { reader.new.slots ≡ reader.old.slots };
+
     /// Copies bytes out to the front of the place, and answers how many. Into a place that has room it copies none only at the end of the pipe, and it is pending where none is there.
     fn drain<C: Copying, H: Wait + Clone + Drop>(
         &self,
@@ -49,7 +65,7 @@ pub trait Drain {
 #[derive(Clone, Copy)]
 pub struct TryForms;
 
-/// By a poll, and then by the slices that the handles lend.
+/// By the slices that the handles lend, and by a poll only where these would be empty.
 #[derive(Clone, Copy)]
 pub struct InPlace;
 
@@ -58,6 +74,15 @@ pub struct InPlace;
 pub struct Copies;
 
 impl Fill for TryForms {
+    #[inline(always)]
+    fn fill_at_once<C: Copying, H: Wait + Clone + Drop>(
+        &self,
+        writer: &mut Writer<H>,
+        bytes: &[u8],
+    ) -> usize {
+        writer.try_fill(bytes)
+    }
+
     #[inline(always)]
     fn fill<C: Copying, H: Wait + Clone + Drop>(
         &self,
@@ -79,6 +104,15 @@ impl Fill for TryForms {
 
 impl Drain for TryForms {
     #[inline(always)]
+    fn drain_at_once<C: Copying, H: Wait + Clone + Drop>(
+        &self,
+        reader: &mut Reader<H>,
+        place: &mut [u8],
+    ) -> usize {
+        reader.try_drain(place)
+    }
+
+    #[inline(always)]
     fn drain<C: Copying, H: Wait + Clone + Drop>(
         &self,
         reader: &mut Reader<H>,
@@ -99,27 +133,64 @@ impl Drain for TryForms {
 
 impl Fill for InPlace {
     #[inline(always)]
+    fn fill_at_once<C: Copying, H: Wait + Clone + Drop>(
+        &self,
+        writer: &mut Writer<H>,
+        bytes: &[u8],
+    ) -> usize {
+        let buf = writer.write_buf(bytes.len());
+        let n = buf.len();
+        // As in `put` of a ring.
+        if n == bytes.len() {
+            C::copy_in(buf, bytes);
+            writer.produced(bytes.len());
+        } else if n != 0 {
+            copy_cut(buf, &bytes[..n]);
+            writer.produced(n);
+        }
+        n
+    }
+
+    #[inline(always)]
     fn fill<C: Copying, H: Wait + Clone + Drop>(
         &self,
         writer: &mut Writer<H>,
         cx: &mut Context<'_>,
         bytes: &[u8],
     ) -> Poll<Result<usize, OutOfMemory>> {
-        match writer.poll(cx) {
-            Poll::Pending => return Poll::Pending,
-            Poll::Ready(Err(refused)) => return Poll::Ready(Err(refused)),
-            Poll::Ready(Ok(false)) => return Poll::Ready(Ok(0)),
-            Poll::Ready(Ok(true)) => {}
+        if writer.end().knows_none() {
+            match writer.poll(cx) {
+                Poll::Pending => return Poll::Pending,
+                Poll::Ready(Err(refused)) => return Poll::Ready(Err(refused)),
+                Poll::Ready(Ok(_)) => {}
+            }
         }
-        let buf = writer.write_buf(bytes.len());
-        let n = buf.len();
-        C::copy_in(buf, &bytes[..n]);
-        writer.produced(n);
-        Poll::Ready(Ok(n))
+        Poll::Ready(Ok(self.fill_at_once::<C, H>(writer, bytes)))
     }
 }
 
 impl Drain for InPlace {
+    #[inline(always)]
+    fn drain_at_once<C: Copying, H: Wait + Clone + Drop>(
+        &self,
+        reader: &mut Reader<H>,
+        place: &mut [u8],
+    ) -> usize {
+        let piece = reader.peek_buf();
+        let n = piece.len();
+        // As in `get` of a ring.
+        if place.len() <= n {
+            C::copy_out(place, &piece[..place.len()]);
+            reader.consume(place.len());
+            return place.len();
+        }
+        if n != 0 {
+            copy_cut(&mut place[..n], piece);
+            reader.consume(n);
+        }
+        n
+    }
+
     #[inline(always)]
     fn drain<C: Copying, H: Wait + Clone + Drop>(
         &self,
@@ -127,21 +198,27 @@ impl Drain for InPlace {
         cx: &mut Context<'_>,
         place: &mut [u8],
     ) -> Poll<Result<usize, OutOfMemory>> {
-        match reader.poll(cx) {
-            Poll::Pending => return Poll::Pending,
-            Poll::Ready(Err(refused)) => return Poll::Ready(Err(refused)),
-            Poll::Ready(Ok(false)) => return Poll::Ready(Ok(0)),
-            Poll::Ready(Ok(true)) => {}
+        if reader.end().knows_none() {
+            match reader.poll(cx) {
+                Poll::Pending => return Poll::Pending,
+                Poll::Ready(Err(refused)) => return Poll::Ready(Err(refused)),
+                Poll::Ready(Ok(_)) => {}
+            }
         }
-        let piece = reader.peek_buf();
-        let n = piece.len().min(place.len());
-        C::copy_out(&mut place[..n], &piece[..n]);
-        reader.consume(n);
-        Poll::Ready(Ok(n))
+        Poll::Ready(Ok(self.drain_at_once::<C, H>(reader, place)))
     }
 }
 
 impl Fill for Copies {
+    #[inline(always)]
+    fn fill_at_once<C: Copying, H: Wait + Clone + Drop>(
+        &self,
+        _: &mut Writer<H>,
+        _: &[u8],
+    ) -> usize {
+        0
+    }
+
     #[inline(always)]
     fn fill<C: Copying, H: Wait + Clone + Drop>(
         &self,
@@ -154,6 +231,15 @@ impl Fill for Copies {
 }
 
 impl Drain for Copies {
+    #[inline(always)]
+    fn drain_at_once<C: Copying, H: Wait + Clone + Drop>(
+        &self,
+        _: &mut Reader<H>,
+        _: &mut [u8],
+    ) -> usize {
+        0
+    }
+
     #[inline(always)]
     fn drain<C: Copying, H: Wait + Clone + Drop>(
         &self,
@@ -216,6 +302,19 @@ impl<F: Fill + Drop, H: Wait + Clone + Drop> Mover for Filling<'_, F, H> {
     ghost needs = { λ mover s. s ≡ write_source mover.writer.now };
 
     #[inline(always)]
+    fn move_at_once(&mut self) -> usize {
+        let piece = &self.source[..self.left.min(self.source.len())];
+        let n = self.way.fill_at_once::<ByLoop, H>(self.writer, piece);
+        self.left = self.left.saturating_sub(n);
+        n
+    }
+
+    fn is_held_up(&self) -> bool {
+        self.left > 0 && self.writer.is_full()
+    }
+
+    #[cold]
+    #[inline(never)]
     fn move_piece(&mut self, cx: &mut Context<'_>) -> Poll<Result<usize, OutOfMemory>> {
         let piece = &self.source[..self.left.min(self.source.len())];
         if piece.is_empty() {
@@ -248,6 +347,18 @@ impl<D: Drain + Drop, H: Wait + Clone + Drop> Mover for Draining<'_, D, H> {
     ghost needs = { λ mover s. s ≡ read_source mover.reader.now };
 
     #[inline(always)]
+    fn move_at_once(&mut self) -> usize {
+        let n = self.way.drain_at_once::<ByLoop, H>(self.reader, self.place);
+        self.checksum = add_piece(self.checksum, self.place, n);
+        n
+    }
+
+    fn is_held_up(&self) -> bool {
+        self.reader.is_empty()
+    }
+
+    #[cold]
+    #[inline(never)]
     fn move_piece(&mut self, cx: &mut Context<'_>) -> Poll<Result<usize, OutOfMemory>> {
         let drained = self.way.drain::<ByLoop, H>(self.reader, cx, self.place);
         if let Poll::Ready(Ok(n)) = &drained {

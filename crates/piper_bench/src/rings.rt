@@ -82,7 +82,7 @@ fn copy_each(to: &mut [u8], from: &[u8])
 
 /// The same, out of the way of whole pieces: for a piece that was cut short.
 #[inline(never)]
-fn copy_cut(to: &mut [u8], from: &[u8])
+pub fn copy_cut(to: &mut [u8], from: &[u8])
     requires { length from.now ≡ length to.old }
     ensures { to.new ≡ from.now }
 {
