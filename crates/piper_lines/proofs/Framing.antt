@@ -26,6 +26,24 @@ header_grows t0 t1 h0 h1 body grows first within fits = (
   subst (λ ws. length body ≤ told_length ws) (sym grows.2) (still_fits h0 grows.0 body first (subst (λ ws. length ws ≤ 4) grows.2 within) fits),
 )
 
+-- so what holds of every reader of frames holds then
+pub holding_header : (t0 t1 h0 h1 body : List ℕ) (skips : ℕ) → Grows t0 t1 h0 h1 → (length h0 < 4 → body ≡ []) → length h1 ≤ 4
+    → length body ≤ told_length h0 → skips ≡ 0
+    → record { header_first : length h1 < 4 → body ≡ []; fits : length body ≤ told_length h1; short : length h1 ≤ 4; skips_first : 0 < skips → h1 ≡ [] }
+holding_header t0 t1 h0 h1 body skips grows first within fits none =
+    let header = header_grows t0 t1 h0 h1 body grows first within fits in
+    record { header_first = header.0; fits = header.1; short = within; skips_first = λ some. absurd (omega arith) }
+
+-- and so it does where the length is whole, whatever was taken behind it
+pub holding_body : (header body : List ℕ) (size skips : ℕ) → length header ≡ 4 → size ≡ told_length header → length body ≤ size → skips ≡ 0
+    → record { header_first : length header < 4 → body ≡ []; fits : length body ≤ told_length header; short : length header ≤ 4; skips_first : 0 < skips → header ≡ [] }
+holding_body header body size skips whole told within none = record {
+  header_first = λ short. absurd (omega arith);
+  fits = omega (arith, told, within);
+  short = omega (arith, whole);
+  skips_first = λ some. absurd (omega arith);
+}
+
 -- bytes have passed, and none of a frame was taken
 pub keeping_none : (t0 t1 kept : List ℕ) (skips0 skips1 : ℕ) → Passes t0 t1 skips0 skips1 → PassesMoves t0 t1 skips0 skips1 kept [] kept
 keeping_none t0 t1 kept skips0 skips1 passes = (t1, passes, moves_none t1 kept [], λ some. refl)

@@ -1,8 +1,8 @@
-use Rattle.std.proofs.Common.{rules, ◌≡◌, [], length, true, Ok, ap, ◌∙◌, arith}
+use Rattle.std.proofs.Common.{rules, ◌≡◌, length, true, Ok, ap, ◌∙◌, arith}
 use Rattle.futures.specs.declared.task.Poll.TheVariants.{Ready}
 use Rattle.piper_lines.specs.Frame.{length_bytes, told_length}
 use Rattle.piper_lines.specs.FrameReader.{kept_of}
-use Rattle.piper_lines.proofs.Framing.{header_grows, keeping_none, keeping_header, keeping_body, keeping_frame}
+use Rattle.piper_lines.proofs.Framing.{holding_header, holding_body, keeping_none, keeping_header, keeping_body, keeping_frame}
 use Rattle.piper_lines.proofs.frame_reader.Frames.poll_frame.Goals as goal
 
 pub returns-in-Pending-clause-moved : goal.returns-in-Pending-clause-moved
@@ -78,43 +78,30 @@ pub invariant_of-self-in-Pending-fill_up : goal.invariant_of-self-in-Pending-fil
 invariant_of-self-in-Pending-fill_up g c =
     let passed : c.pass_over.result ≡ Ready (Ok true) = cc in
     let frames = c.args.self.now in
-    let header = header_grows _ _ frames.header.items c.fill_up.new.gathered.items frames.body.items c.fill_up.ensures.grown frames.header_first c.fill_up.ensures.within frames.fits in
-    record { header_first = header.0; fits = header.1; short = c.fill_up.ensures.within; skips_first = λ some. absurd (omega (arith, c.pass_over.ensures.done passed)) }
+    holding_header _ _ frames.header.items c.fill_up.new.gathered.items frames.body.items _ c.fill_up.ensures.grown frames.header_first c.fill_up.ensures.within frames.fits (c.pass_over.ensures.done passed)
 
 pub invariant_of-self-in-Ready-Ok-false-fill_up : goal.invariant_of-self-in-Ready-Ok-false-fill_up
 invariant_of-self-in-Ready-Ok-false-fill_up g c =
     let passed : c.pass_over.result ≡ Ready (Ok true) = cc in
     let frames = c.args.self.now in
-    let header = header_grows _ _ frames.header.items c.fill_up.new.gathered.items frames.body.items c.fill_up.ensures.grown frames.header_first c.fill_up.ensures.within frames.fits in
-    record { header_first = header.0; fits = header.1; short = c.fill_up.ensures.within; skips_first = λ some. absurd (omega (arith, c.pass_over.ensures.done passed)) }
+    holding_header _ _ frames.header.items c.fill_up.new.gathered.items frames.body.items _ c.fill_up.ensures.grown frames.header_first c.fill_up.ensures.within frames.fits (c.pass_over.ensures.done passed)
 
 pub invariant_of-self-then-size-limit : goal.invariant_of-self-then-size-limit
 invariant_of-self-then-size-limit g c =
     let passed : c.pass_over.result ≡ Ready (Ok true) = cc in
     let frames = c.args.self.now in
-    let header = header_grows _ _ frames.header.items c.fill_up.new.gathered.items frames.body.items c.fill_up.ensures.grown frames.header_first c.fill_up.ensures.within frames.fits in
-    record { header_first = header.0; fits = header.1; short = c.fill_up.ensures.within; skips_first = λ some. absurd (omega (arith, c.pass_over.ensures.done passed)) }
+    holding_header _ _ frames.header.items c.fill_up.new.gathered.items frames.body.items _ c.fill_up.ensures.grown frames.header_first c.fill_up.ensures.within frames.fits (c.pass_over.ensures.done passed)
 
 pub invariant_of-self-in-Pending-fill_up-2 : goal.invariant_of-self-in-Pending-fill_up-2
 invariant_of-self-in-Pending-fill_up-2 g c =
     let passed : c.pass_over.result ≡ Ready (Ok true) = cc in
     let is_whole : c.fill_up.result ≡ Ready (Ok true) = cc in
-    let size : c.number-size.result ≡ told_length c.fill_up.new.gathered.items = c.number-size.ensures.told ∙ ap told_length c.deref-2.ensures.value in
-    record {
-      header_first = λ short. absurd {A = c.fill_up-2.new.gathered.items ≡ []} (omega (arith, c.fill_up.ensures.full is_whole));
-      fits = omega (arith, c.fill_up-2.ensures.within, size);
-      short = c.fill_up.ensures.within;
-      skips_first = λ some. absurd (omega (arith, c.pass_over.ensures.done passed));
-    }
+    holding_body c.fill_up.new.gathered.items c.fill_up-2.new.gathered.items _ _ (c.fill_up.ensures.full is_whole)
+    (c.number-size.ensures.told ∙ ap told_length c.deref-2.ensures.value) c.fill_up-2.ensures.within (c.pass_over.ensures.done passed)
 
 pub invariant_of-self-in-Ready-Ok-false-fill_up-2 : goal.invariant_of-self-in-Ready-Ok-false-fill_up-2
 invariant_of-self-in-Ready-Ok-false-fill_up-2 g c =
     let passed : c.pass_over.result ≡ Ready (Ok true) = cc in
     let is_whole : c.fill_up.result ≡ Ready (Ok true) = cc in
-    let size : c.number-size.result ≡ told_length c.fill_up.new.gathered.items = c.number-size.ensures.told ∙ ap told_length c.deref-2.ensures.value in
-    record {
-      header_first = λ short. absurd {A = c.fill_up-2.new.gathered.items ≡ []} (omega (arith, c.fill_up.ensures.full is_whole));
-      fits = omega (arith, c.fill_up-2.ensures.within, size);
-      short = c.fill_up.ensures.within;
-      skips_first = λ some. absurd (omega (arith, c.pass_over.ensures.done passed));
-    }
+    holding_body c.fill_up.new.gathered.items c.fill_up-2.new.gathered.items _ _ (c.fill_up.ensures.full is_whole)
+    (c.number-size.ensures.told ∙ ap told_length c.deref-2.ensures.value) c.fill_up-2.ensures.within (c.pass_over.ensures.done passed)
