@@ -130,6 +130,13 @@ impl WriteIndices {
         self.zeroed
     }
 
+    /// Whether every place was set.
+    pub fn is_set(&self) -> bool
+        ensures { IsTrue result ↔ (self.now.zeroed ≡ self.now.capacity) }
+    {
+        self.zeroed == self.capacity
+    }
+
     /// Whether nothing is lent any more.
     pub fn is_shut(&self) -> bool
         ensures { result ≡ self.now.is_shut }
@@ -148,9 +155,13 @@ impl WriteIndices {
         if self.is_shut {
             return 0;
         }
-        let bound = (2 * self.zeroed).saturating_add(LEAST_LEND);
-        let free = self.room().min(self.capacity - self.front());
-        most.min(bound).min(free)
+        let free = most.min(self.room()).min(self.capacity - self.front());
+        // Where all places are set the bound is past the room.
+        if self.is_set() {
+            free
+        } else {
+            free.min((2 * self.zeroed).saturating_add(LEAST_LEND))
+        }
     }
 
     /// Lends up to `most` free places in one piece, in place of what was lent before, and answers how many.
@@ -162,8 +173,9 @@ impl WriteIndices {
         ensures sound { AreWriterIndices self.new }
     {
         let count = self.lendable(most);
-        let end = self.front() + count;
-        self.zeroed = self.zeroed.max(end);
+        if !self.is_set() {
+            self.zeroed = self.zeroed.max(self.front() + count);
+        }
         self.lent = count;
         count
     }

@@ -70,7 +70,7 @@ impl Room {
         let mut front = self.lent.take();
         front.join(self.ready.take());
         let end = from + len;
-        if zeroed < end {
+        if zeroed != capacity && zeroed < end {
             zero(&mut front, &mut self.blank, base, zeroed, end);
         }
         if zeroed.max(end) == capacity {

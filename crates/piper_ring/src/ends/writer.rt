@@ -180,6 +180,32 @@ impl WriteEnd {
         ensures length { Lendable self.old max (length result.now) }
         ensures some { self.old.shut ≡ false → 0 < self.old.room → 0 < max → 0 < length result.now }
     {
+        // Once all places are set nothing is left to be zeroed, and the compiler leaves out the looks for that.
+        if self.parts.indices.is_set() {
+            self.lend(max)
+        } else {
+            self.lend_unset(max)
+        }
+    }
+
+    /// `write_buf`, out of the way of rings whose places are all set.
+    #[cold]
+    #[inline(never)]
+    fn lend_unset(&mut self, max: usize) -> &mut [u8]
+        ensures* writes { sem 𝓛 (lends_buffer self.entry result) }
+        ensures length { Lendable self.old max (length result.now) }
+        ensures some { self.old.shut ≡ false → 0 < self.old.room → 0 < max → 0 < length result.now }
+    {
+        self.lend(max)
+    }
+
+    /// `write_buf`, whether or not all places are set.
+    #[inline(always)]
+    fn lend(&mut self, max: usize) -> &mut [u8]
+        ensures* writes { sem 𝓛 (lends_buffer self.entry result) }
+        ensures length { Lendable self.old max (length result.now) }
+        ensures some { self.old.shut ≡ false → 0 < self.old.room → 0 < max → 0 < length result.now }
+    {
         let (base, capacity) = (self.parts.base, self.parts.indices.capacity());
         let (from, zeroed) = (self.parts.indices.front(), self.parts.indices.zeroed());
         let len = self.parts.indices.lend(max);

@@ -9,7 +9,7 @@ use Rattle.piper_ring.specs.LendsBuffer.{with_lent}
 use Rattle.piper_ring.specs.WriteView.{WriteView, Lendable, either, write_view, write_view_of}
 use Rattle.piper_ring.proofs.Indices.{offset_at}
 use Rattle.piper_ring.proofs.WriterFacts.{sent_below, room_apart, lends_within, lends_none, lends_all}
-use Rattle.piper_ring.proofs.ends.writer.WriteEnd.write_buf.Goals as goal
+use Rattle.piper_ring.proofs.ends.writer.WriteEnd.lend.Goals as goal
 
 pub lend-requires : goal.lend-requires
 lend-requires c = let e = c.self.inside.parts in let i = c.self.invariant in let cap : ℕ = e.indices.capacity in let s : ℕ = length e.seat.sent in let from : ℕ = c.front-from.result in let len : ℕ = c.lend-len.result in
