@@ -22,11 +22,17 @@ pub trait Mover: Drop {
     /// Holds of each source that a pending move waits for.
     ghost needs: { Self → ℕ → Type 0 };
 
-    /// Moves a piece where this end need not wait, and answers of how many bytes. Where an end can do nothing without a task the answer is 0.
-    fn move_at_once(&mut self) -> usize;
+    /// Moves a piece where this end need not wait, and answers of how many bytes. An end that can do nothing without a task moves none.
+    #[inline(always)]
+    fn move_at_once(&mut self) -> usize {
+        0
+    }
 
-    /// Whether the other end has to move first, as far as a look tells that leaves no waker. Where an end can't be looked at so the answer is `false`.
-    fn is_held_up(&self) -> bool;
+    /// Whether the other end has to move first, as far as a look tells that leaves no waker. An end that can't be looked at so says no.
+    #[inline(always)]
+    fn is_held_up(&self) -> bool {
+        false
+    }
 
     /// Moves a piece, and answers of how many bytes: of none where all are moved.
     fn move_piece(&mut self, cx: &mut Context<'_>) -> Poll<Result<usize, Self::Error>>

@@ -26,16 +26,6 @@ impl<W: AsyncWrite> Mover for Writing<'_, W> {
     ghost needs = { λ mover. W.needs mover.writer };
 
     #[inline(always)]
-    fn move_at_once(&mut self) -> usize {
-        0
-    }
-
-    #[inline(always)]
-    fn is_held_up(&self) -> bool {
-        false
-    }
-
-    #[inline(always)]
     fn move_piece(&mut self, cx: &mut Context<'_>) -> Poll<io::Result<usize>> {
         let piece = &self.source[..self.left.min(self.source.len())];
         if piece.is_empty() {
@@ -65,16 +55,6 @@ impl<I: AsyncRead> Mover for Reading<'_, I> {
     type Error = io::Error;
 
     ghost needs = { λ mover. I.needs mover.reader };
-
-    #[inline(always)]
-    fn move_at_once(&mut self) -> usize {
-        0
-    }
-
-    #[inline(always)]
-    fn is_held_up(&self) -> bool {
-        false
-    }
 
     #[inline(always)]
     fn move_piece(&mut self, cx: &mut Context<'_>) -> Poll<io::Result<usize>> {

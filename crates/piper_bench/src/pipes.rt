@@ -19,13 +19,17 @@ use std::{io, thread};
 
 /// How pieces go into a pipe.
 pub trait Fill {
-    /// Puts bytes from the front of the piece in where the writer need not wait, and answers how many.
+    /// Puts bytes from the front of the piece in where the writer need not wait, and answers how many. A way that can do nothing without a task puts none in.
+    #[inline(always)]
     fn fill_at_once<C: Copying, H: Wait + Clone + Drop>(
         &self,
         writer: &mut Writer<H>,
         bytes: &[u8],
     ) -> usize
-        ensures slots { writer.new.slots ≡ writer.old.slots };
+        ensures slots { writer.new.slots ≡ writer.old.slots }
+    {
+        0
+    }
 
     /// Puts bytes from the front of the piece in, and answers how many. Of a piece that isn't empty it puts none only where the pipe is closed, and it is pending where there is no room.
     fn fill<C: Copying, H: Wait + Clone + Drop>(
@@ -41,13 +45,17 @@ pub trait Fill {
 
 /// How pieces come out of a pipe.
 pub trait Drain {
-    /// Copies bytes out to the front of the place where the reader need not wait, and answers how many.
+    /// Copies bytes out to the front of the place where the reader need not wait, and answers how many. A way that can do nothing without a task copies none out.
+    #[inline(always)]
     fn drain_at_once<C: Copying, H: Wait + Clone + Drop>(
         &self,
         reader: &mut Reader<H>,
         place: &mut [u8],
     ) -> usize
-        ensures slots { reader.new.slots ≡ reader.old.slots };
+        ensures slots { reader.new.slots ≡ reader.old.slots }
+    {
+        0
+    }
 
     /// Copies bytes out to the front of the place, and answers how many. Into a place that has room it copies none only at the end of the pipe, and it is pending where none is there.
     fn drain<C: Copying, H: Wait + Clone + Drop>(
@@ -211,15 +219,6 @@ impl Drain for InPlace {
 
 impl Fill for Copies {
     #[inline(always)]
-    fn fill_at_once<C: Copying, H: Wait + Clone + Drop>(
-        &self,
-        _: &mut Writer<H>,
-        _: &[u8],
-    ) -> usize {
-        0
-    }
-
-    #[inline(always)]
     fn fill<C: Copying, H: Wait + Clone + Drop>(
         &self,
         writer: &mut Writer<H>,
@@ -231,15 +230,6 @@ impl Fill for Copies {
 }
 
 impl Drain for Copies {
-    #[inline(always)]
-    fn drain_at_once<C: Copying, H: Wait + Clone + Drop>(
-        &self,
-        _: &mut Reader<H>,
-        _: &mut [u8],
-    ) -> usize {
-        0
-    }
-
     #[inline(always)]
     fn drain<C: Copying, H: Wait + Clone + Drop>(
         &self,
