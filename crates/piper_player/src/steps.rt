@@ -1,9 +1,9 @@
 //! Steps of a side's open call.
 
-ghost use Rattle.std.specs.Prelude.{◌≡◌, OnOk};
+ghost use Rattle.std.specs.Prelude.{◌≡◌, OnOk, OnErr, IfErr};
 ghost use Rattle.piper_sides.specs.Log.{events};
-ghost use Rattle.piper_machine.specs.Run.{Made};
-ghost use Rattle.piper_player.specs.Steps.{Goes, GoesAs};
+ghost use Rattle.piper_machine.specs.Run.{Made, IsRefusal};
+ghost use Rattle.piper_player.specs.Steps.{Goes, GoesAs, GoesFewer, GoesBefore};
 
 use crate::whole::state;
 use piper_machine::calls::{Side, SideState, Step};
@@ -19,8 +19,11 @@ pub fn make(
     steps: Steps,
     log: &mut Log,
 ) -> Result<(), StepRefusal>
-    ensures { OnOk result
+    ensures goes { OnOk result
         (GoesAs steps side machine.old (events log.old) machine.new (events log.new)) }
+    ensures refused { IfErr result (λ refusal. IsRefusal (Step.Go side) machine.new refusal) }
+    ensures before { OnErr result
+        (GoesBefore steps side machine.old (events log.old) machine.new (events log.new)) }
 {
     match steps {
         Steps::One => make_some(machine, side, 1, log),
@@ -36,8 +39,11 @@ fn make_some(
     count: usize,
     log: &mut Log,
 ) -> Result<(), StepRefusal>
-    ensures { OnOk result
+    ensures goes { OnOk result
         (Goes count side machine.old (events log.old) machine.new (events log.new)) }
+    ensures refused { IfErr result (λ refusal. IsRefusal (Step.Go side) machine.new refusal) }
+    ensures before { OnErr result
+        (GoesFewer count side machine.old (events log.old) machine.new (events log.new)) }
 {
     for _ in 0..count {
         go(machine, side, log)?;
@@ -47,8 +53,11 @@ fn make_some(
 
 // Makes one step of the side's open call.
 fn go(machine: &mut Machine, side: Side, log: &mut Log) -> Result<(), StepRefusal>
-    ensures { OnOk result
+    ensures made { OnOk result
         (Made machine.old (Step.Go side) machine.new (events log.old) (events log.new)) }
+    ensures refused { IfErr result (λ refusal. IsRefusal (Step.Go side) machine.old refusal) }
+    ensures same { OnErr result (machine.new ≡ machine.old) }
+    ensures same_log { OnErr result (events log.new ≡ events log.old) }
 {
     machine.step(&Step::Go(side), log)
 }
@@ -56,16 +65,18 @@ fn go(machine: &mut Machine, side: Side, log: &mut Log) -> Result<(), StepRefusa
 // Makes steps of the side until its open call answers.
 #[tactic(auto, using(crate::proofs::Going::goes_more))]
 fn make_to_answer(machine: &mut Machine, side: Side, log: &mut Log) -> Result<(), StepRefusal>
-    ensures { OnOk result
+    ensures goes { OnOk result
         (GoesAs Steps.ToAnswer side machine.old (events log.old) machine.new (events log.new)) }
+    ensures refused { IfErr result (λ refusal. IsRefusal (Step.Go side) machine.new refusal) }
+    ensures before { OnErr result
+        (GoesBefore Steps.ToAnswer side machine.old (events log.old) machine.new (events log.new)) }
 {
-    go(machine, side, log)?;
     for _ in 0..u64::MAX {
+        go(machine, side, log)?;
         if state(machine, side) != SideState::Busy {
             return Ok(());
         }
-        go(machine, side, log)?;
     }
-    // No call makes as many steps.
-    Err(StepRefusal::Busy)
+    // No call makes as many steps, and no memory has room for their log.
+    Err(StepRefusal::Memory)
 }
