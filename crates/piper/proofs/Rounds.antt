@@ -44,6 +44,10 @@ module _ (call : Next WritePoint) (form : Form) (s n : ℕ) (here : call ≡ goe
   pub gave_none : n ≡ 0 → gave ≡ ends on.Idle (count_answer form s)
   gave_none none = gave_here ∙ ap (λ (m : ℕ). writer_moved (m == 0) m form s) none
 
+  -- and the copy answers what it gave before
+  pub told_none : {E : Type 0} → n ≡ 0 → (answer : Answer) → gave.answer ≡ Some answer → (r : Poll (Result ℕ (Inner E))) → r ≡ copied_of answer → r ≡ Ready (Ok s)
+  told_none none answer is_told r told = told_count gave form s (gave_none none) answer is_told r told
+
   -- it gave some
   module _ (some : n ≡ 0 → ⊥) where
     pub gives : gave.point ≡ on.RoundClosed n form (s + n)

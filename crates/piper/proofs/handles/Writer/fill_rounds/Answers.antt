@@ -4,7 +4,7 @@ use Rattle.futures.specs.declared.task.Poll.TheVariants.{Ready}
 use Rattle.piper_ring.specs.WriteView.{WriteView}
 use Rattle.piper_sides.specs.Table.{Next, write_step, failed}
 use Rattle.piper_sides.specs.declared.table.WritePoint.{WritePoint}
-use Rattle.piper.proofs.Rounds.{counts, told_count, gave_none, gives, gave_closed, stores, takes, fill_round}
+use Rattle.piper.proofs.Rounds.{counts, told_count, gave_none, told_none, gives, gave_closed, stores, takes, fill_round}
 use Rattle.piper.proofs.RoundsIn.{fill_ended, fill_failed, fill_closed, filled_more}
 use Rattle.piper.proofs.handles.Writer.fill_rounds.Goals as goal
 
@@ -25,9 +25,7 @@ returns-then-n-eq0 g c =
     let here = c.before_round-call.ensures ∙ c.rounds.invariant.at in
     let before = c.rounds.invariant in
     let round = c.fill_round.ensures in
-    let told : c.copied-then-n-eq0.result ≡ Ready (Ok c.rounds.sum) =
-    told_count _ _ _ (gave_none _ _ _ _ here _ c.source_gave-round.ensures c.if-n-eq0.true)
-    _ c.end-then-n-eq0.ensures _ c.copied-then-n-eq0.ensures in
+    let told = told_none _ _ _ _ here _ c.source_gave-round.ensures c.if-n-eq0.true _ c.end-then-n-eq0.ensures _ c.copied-then-n-eq0.ensures in
     let none : g.R.ReadLike.gives c.rounds.source [] c.fill_round.new.source =
     subst (λ (m : ℕ). g.R.ReadLike.gives c.rounds.source (take m c.fill_round.new.self.end.lent) c.fill_round.new.source) c.if-n-eq0.true c.in-Ok.ensures.bytes in
     let dry : c.fill_round.result ≡ Ok 0 = c.in-Ok.is ∙ ap (λ (m : ℕ). Ok m) c.if-n-eq0.true in
@@ -45,8 +43,7 @@ pub returns-then-asks-eq0 : goal.returns-then-asks-eq0
 returns-then-asks-eq0 g c =
     let here = c.before_round-call.ensures ∙ c.rounds.invariant.at in
     let before = c.rounds.invariant in
-    let told : c.copied.result ≡ Ready (Ok c.rounds.sum) =
-    told_count _ _ _ (gave_none _ _ _ 0 here _ c.source_gave.ensures refl) _ c.end-then-asks-eq0.ensures _ c.copied.ensures in
+    let told = told_none _ _ _ 0 here _ c.source_gave.ensures refl _ c.end-then-asks-eq0.ensures _ c.copied.ensures in
     rw told (record {
       filled = fill_ended _ g.met.R.ReadLike.gives_in_order _ _ _ _ _ _ _ before.filled
           (record { end = record { ring = refl; capacity = refl; told = refl }; sent = refl; room = refl; shut = refl; saw = refl }) _ _
