@@ -2,6 +2,7 @@ pub mod Carrying
 mod Rounds
 mod Drawn
 mod Front
+mod Copied
 mod LookingOut
 mod LookingIn
 mod RoundsIn

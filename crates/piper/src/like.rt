@@ -3,6 +3,7 @@ ghost use Rattle.std.specs.Prelude.{◌≡◌, ◌<◌, ◌≤◌, ℕ, List, le
 ghost use Rattle.piper.specs.Like.{PassesNothing, PassesInOrder, Counts, passed};
 
 mod bytes;
+mod slices;
 mod streams;
 
 pub use bytes::{ReadBytes, WriteBytes};

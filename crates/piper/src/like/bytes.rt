@@ -3,6 +3,7 @@ ghost use Rattle.std.specs.Prelude.{◌≡◌, ◌+◌, ◌≤◌, ◌++◌, len
 ghost use Rattle.std.proofs.Common.{◌∙◌};
 ghost use Rattle.piper.specs.Written.{written, written_nothing, written_on, place_on, place_same, front_on};
 
+use super::slices::copy;
 use super::{ReadLike, WriteLike};
 use std::convert::Infallible;
 
@@ -49,7 +50,7 @@ impl ReadLike for ReadBytes<'_> {
     fn read(&mut self, dest: &mut [u8]) -> Result<usize, Infallible> {
         let n = self.rest.len().min(dest.len());
         let (given, rest) = self.rest.split_at(n);
-        dest[..n].copy_from_slice(given);
+        copy(&mut dest[..n], given);
         self.rest = rest;
         Ok(n)
     }
@@ -96,7 +97,7 @@ impl WriteLike for WriteBytes<'_> {
     #[inline(always)]
     fn write(&mut self, source: &[u8]) -> Result<usize, Infallible> {
         let n = source.len().min(self.bytes.len() - self.place);
-        self.bytes[self.place..self.place + n].copy_from_slice(&source[..n]);
+        copy(&mut self.bytes[self.place..self.place + n], &source[..n]);
         self.place += n;
         Ok(n)
     }
