@@ -111,12 +111,12 @@ module _ {A : Type 0} (none : List ℕ) (separator : ℕ) (text : A → List ℕ
   abbrev pub Counts : List ℕ → ℕ → ℕ → Type 0
   Counts line n len = (said : List A) → line ≡ joined_or none separator text said → All Is said → length (flat_map bytes said) ≤ greatest_number → len ≡ length (flat_map bytes (take n said))
 
-  -- a part that is the text of no thing stands nowhere
-  pub refused_part : (line : List ℕ) (said : List A) (n : ℕ) (part : List ℕ) → line ≡ joined_or none separator text said → line ≢ none → All Is said → length (flat_map bytes said) ≤ greatest_number → (n < length (parts_at separator line)) × (part ≡ get_or (parts_at separator line) n part)
-      → ((x : A) → Is x → part ≡ text x → length (bytes x) ≤ greatest_number → ⊥) → ⊥
-  refused_part line said n part written some valid within turn refuses =
+  -- what follows from the text of a thing follows from each part
+  pub from_part : {P : Type 0} (line : List ℕ) (said : List A) (n : ℕ) (part : List ℕ) → line ≡ joined_or none separator text said → line ≢ none → All Is said → length (flat_map bytes said) ≤ greatest_number → (n < length (parts_at separator line)) × (part ≡ get_or (parts_at separator line) n part)
+      → ((x : A) → Is x → part ≡ text x → length (bytes x) ≤ greatest_number → P) → P
+  from_part line said n part written some valid within turn follows =
       let x = next_said line said n part written some valid turn.0 turn.1 in
-      refuses x.next x.valid x.written (omega (arith, sized_more bytes (take n said) (take (n + 1) said) x.next x.more, sized_first bytes (n + 1) said, within))
+      follows x.next x.valid x.written (omega (arith, sized_more bytes (take n said) (take (n + 1) said) x.next x.more, sized_first bytes (n + 1) said, within))
 
   -- with one part more the count grows by the bytes of its thing
   pub counts_more : (line : List ℕ) (n m len size new : ℕ) (part : List ℕ) → line ≢ none → Counts line n len → m ≡ n + 1 → (n < length (parts_at separator line)) × (part ≡ get_or (parts_at separator line) n part)

@@ -5,7 +5,7 @@ use Rattle.std.specs.List.{flat_map}
 use Rattle.std.proofs.lemmas.List.Concat.{flat_map-append}
 use Rattle.std.proofs.lemmas.List.Elements.{All-nil, All-push, All-head}
 use Rattle.piper_script.specs.Limits.{greatest_number}
-use Rattle.piper_script.proofs.Joined.{texts_of, texts_of-append, parts_at, joined_parts, Counts, refused_part, counts_all}
+use Rattle.piper_script.proofs.Joined.{texts_of, texts_of-append, parts_at, joined_parts, Counts, from_part, counts_all}
 use Rattle.piper_script.proofs.Texts.{item_lacks, some_item, dash_is_no_item, dash_is_no_list}
 use Rattle.piper_script.specs.declared.list.Item.{Item}
 use Rattle.piper_script.specs.declared.list.Item.TheVariants.{Range}
@@ -88,10 +88,10 @@ dash_is_empty text len dash list = empty list.items list.written list.valid list
     empty (x ∷ y ∷ rest) written valid sized =
         absurd (dash_is_no_list (item_text x) (list_text (y ∷ rest)) (some_item x (All-head IsItem x (y ∷ rest) valid)) (sym written ∙ dash))
 
--- a part that is no item stands in no list
-pub refused_item : (text part : List ℕ) (n len : ℕ) → text ≢ codes "-" → (n < length (parts_at 44 text)) × (part ≡ get_or (parts_at 44 text) n part) → ((item : Item) → IsItem item → part ≡ item_text item → ⊥) → IsListText text len → ⊥
-refused_item text part n len some turn refuses list =
-    refused_part (codes "-") 44 item_text IsItem item_bytes item_lacks text list.items n part list.written some list.valid (omega (arith, list.sized, list.within)) turn (λ item valid here small. refuses item valid here)
+-- what follows from the text of an item follows from each part of a list
+pub from_item : {P : Type 0} (text part : List ℕ) (n len : ℕ) → text ≢ codes "-" → (n < length (parts_at 44 text)) × (part ≡ get_or (parts_at 44 text) n part) → ((item : Item) → IsItem item → part ≡ item_text item → P) → IsListText text len → P
+from_item text part n len some turn follows list =
+    from_part (codes "-") 44 item_text IsItem item_bytes item_lacks text list.items n part list.written some list.valid (omega (arith, list.sized, list.within)) turn (λ item valid here small. follows item valid here)
 
 -- the count of all parts is that of the list
 pub counted_list : (text : List ℕ) (n counted len : ℕ) → text ≢ codes "-" → CountsItems text n counted → n ≡ length (parts_at 44 text) → IsListText text len → counted ≡ len

@@ -15,7 +15,7 @@ use Rattle.piper_script.specs.declared.list.List.{List as ByteList}
 use Rattle.piper_script.specs.List.{StandsFor, list_text, IsListText}
 use Rattle.piper_script.specs.Acts.{source_text, source_act, source_bytes, WritesSource, StandsForActs, IsSource, IsSourceText, IsSourcesText, dest_text, IsDestInLimits, IsDestsText}
 use Rattle.std.proofs.lemmas.Fmt.{decimal_nonempty}
-use Rattle.piper_script.proofs.Joined.{texts_of, texts_of-append, joined_parts, parts_at, Lacks, next_said, Counts, counts_more, counts_all, refused_part, sized_more}
+use Rattle.piper_script.proofs.Joined.{texts_of, texts_of-append, joined_parts, parts_at, Lacks, next_said, Counts, counts_more, counts_all, from_part, sized_more}
 use Rattle.piper_script.proofs.Texts.{IsListByte, list_text-bytes, some_list, number_lacks, word_lacks, digits_in}
 
 -- an act that gives the bytes of a list
@@ -95,11 +95,11 @@ one_source_more parts part len size new so_far here sum = record {
 source_at : (text : List ℕ) (said : Option (List Item)) → IsSource said → text ≡ source_text said → length (source_bytes said) ≤ greatest_number → IsSourceText text (length (source_bytes said))
 source_at text said valid written within = record { said = said; written = written; valid = valid; sized = refl; within = within }
 
--- a part that is no act stands in no list of acts
-pub refused_source : (text part : List ℕ) (n : ℕ) → text ≢ codes "none" → (n < length (parts_at 47 text)) × (part ≡ get_or (parts_at 47 text) n part) → ((size : ℕ) → IsSourceText part size → ⊥) → (said : List (Option (List Item))) → text ≡ joined_or (codes "none") 47 source_text said → All IsSource said → length (flat_map source_bytes said) ≤ greatest_number → ⊥
-refused_source text part n some turn refuses said written valid within =
-    refused_part (codes "none") 47 source_text IsSource source_bytes source_lacks text said n part written some valid within turn
-    (λ act is here small. refuses (length (source_bytes act)) (source_at part act is here small))
+-- what follows from the text of an act follows from each part
+pub from_source : {P : Type 0} (text part : List ℕ) (n : ℕ) → text ≢ codes "none" → (n < length (parts_at 47 text)) × (part ≡ get_or (parts_at 47 text) n part) → ((size : ℕ) → IsSourceText part size → P) → (said : List (Option (List Item))) → text ≡ joined_or (codes "none") 47 source_text said → All IsSource said → length (flat_map source_bytes said) ≤ greatest_number → P
+from_source text part n some turn follows said written valid within =
+    from_part (codes "none") 47 source_text IsSource source_bytes source_lacks text said n part written some valid within turn
+    (λ act is here small. follows (length (source_bytes act)) (source_at part act is here small))
 
 pub more_sources : (text part : List ℕ) (n m len size new : ℕ) → text ≢ codes "none" → CountsSources text n len → m ≡ n + 1 → (n < length (parts_at 47 text)) × (part ≡ get_or (parts_at 47 text) n part)
     → ((count : ℕ) → IsSourceText part count → size ≡ count) → (len + size ≤ greatest_number → new ≡ len + size) → CountsSources text m new
@@ -151,11 +151,11 @@ dest_lacks : (act : DestAct) → IsDestInLimits act → Lacks 47 (dest_text act)
 dest_lacks (dest.Take most) limits = number_lacks 47 most (omega (arith, limits)) (lit< tt)
 dest_lacks dest.Fail limits = fail_lacks
 
--- a part that is no act stands in no list of acts
-pub refused_dest : (text part : List ℕ) (n : ℕ) → text ≢ codes "none" → (n < length (parts_at 47 text)) × (part ≡ get_or (parts_at 47 text) n part) → ((act : DestAct) → IsDestInLimits act → part ≡ dest_text act → ⊥) → IsDestsText text → ⊥
-refused_dest text part n some turn refuses dests =
+-- what follows from the text of an act follows from each part
+pub from_dest : {P : Type 0} (text part : List ℕ) (n : ℕ) → text ≢ codes "none" → (n < length (parts_at 47 text)) × (part ≡ get_or (parts_at 47 text) n part) → ((act : DestAct) → IsDestInLimits act → part ≡ dest_text act → P) → IsDestsText text → P
+from_dest text part n some turn follows dests =
     let next = next_said (codes "none") 47 dest_text IsDestInLimits (λ (act : DestAct). []) dest_lacks text dests.acts n part dests.written some dests.within turn.0 turn.1 in
-    refuses next.next next.valid next.written
+    follows next.next next.valid next.written
 
 -- no number is this word
 pub fail_is_fail : (text : List ℕ) → text ≡ codes "fail" → (act : DestAct) → IsDestInLimits act → text ≡ dest_text act → dest.Fail ≡ act

@@ -47,9 +47,11 @@ impl<'line> Sources<'line> {
         Ok(Sources { text, len })
     }
 
-    /// The acts, with bytes of their own.
+    /// The acts, with bytes of their own. Acts whose text was accepted are refused for want of memory alone.
     pub fn acts(self, alloc: Global) -> Result<ActList<SourceAct>, Stop>
-        ensures { IfOk result (λ acts. StandsForActs self.entry.text.now acts) }
+        ensures acts { IfOk result (λ acts. StandsForActs self.entry.text.now acts) }
+        ensures memory { IsSourcesText self.entry.text.now self.entry.len →
+            IfErr result (λ stop. stop ≡ Stop.Memory) }
     {
         let mut acts = ActList::new(alloc);
         self.add_to(alloc, &mut acts)?;
@@ -58,7 +60,9 @@ impl<'line> Sources<'line> {
 
     fn add_to(self, alloc: Global, acts: &mut ActList<SourceAct>) -> Result<(), Stop>
         requires { acts.old ≡ [] }
-        ensures { OnOk result (StandsForActs self.entry.text.now acts.new) }
+        ensures acts { OnOk result (StandsForActs self.entry.text.now acts.new) }
+        ensures memory { IsSourcesText self.entry.text.now self.entry.len →
+            IfErr result (λ stop. stop ≡ Stop.Memory) }
     {
         if self.text == "none" {
             return Ok(());
@@ -84,7 +88,9 @@ fn source_len(text: &str) -> Result<usize, Refusal>
 
 // The act of a source that the text writes.
 fn source(alloc: Global, text: &str) -> Result<SourceAct, Stop>
-    ensures { IfOk result (WritesSource text.now) }
+    ensures act { IfOk result (WritesSource text.now) }
+    ensures memory { (len : ℕ) → IsSourceText text.now len →
+        IfErr result (λ stop. stop ≡ Stop.Memory) }
 {
     if text == "fail" {
         return Ok(SourceAct::Fail);
@@ -126,9 +132,11 @@ impl<'line> Dests<'line> {
         Ok(Dests { text })
     }
 
-    /// The acts.
+    /// The acts. Those whose text was accepted are refused for want of memory alone.
     pub fn acts(self, alloc: Global) -> Result<ActList<DestAct>, Stop>
-        ensures { IfOk result (λ acts. self.entry.text.now ≡ dests_text acts) }
+        ensures acts { IfOk result (λ acts. self.entry.text.now ≡ dests_text acts) }
+        ensures memory { IsDestsText self.entry.text.now →
+            IfErr result (λ stop. stop ≡ Stop.Memory) }
     {
         let mut acts = ActList::new(alloc);
         self.add_to(&mut acts)?;
@@ -137,7 +145,9 @@ impl<'line> Dests<'line> {
 
     fn add_to(self, acts: &mut ActList<DestAct>) -> Result<(), Stop>
         requires { acts.old ≡ [] }
-        ensures { OnOk result (self.entry.text.now ≡ dests_text acts.new) }
+        ensures acts { OnOk result (self.entry.text.now ≡ dests_text acts.new) }
+        ensures memory { IsDestsText self.entry.text.now →
+            IfErr result (λ stop. stop ≡ Stop.Memory) }
     {
         if self.text == "none" {
             return Ok(());

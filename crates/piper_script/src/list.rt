@@ -131,9 +131,11 @@ impl<'line> List<'line> {
         Ok(List { text, len })
     }
 
-    /// The list's bytes.
+    /// The list's bytes. A list whose text was accepted is refused for want of memory alone.
     pub fn bytes(self, alloc: Global) -> Result<Bytes, Stop>
-        ensures { IfOk result (StandsFor self.entry.text.now) }
+        ensures bytes { IfOk result (StandsFor self.entry.text.now) }
+        ensures memory { IsListText self.entry.text.now self.entry.len →
+            IfErr result (λ stop. stop ≡ Stop.Memory) }
     {
         let mut bytes = Vec::with_capacity(alloc, self.len)?;
         self.write_to(&mut bytes)?;
@@ -142,7 +144,9 @@ impl<'line> List<'line> {
 
     // Puts the list's bytes in place of what `bytes` holds.
     fn write_to(self, bytes: &mut Vec<u8>) -> Result<(), Stop>
-        ensures { OnOk result (StandsFor self.entry.text.now bytes.new.items) }
+        ensures bytes { OnOk result (StandsFor self.entry.text.now bytes.new.items) }
+        ensures memory { IsListText self.entry.text.now self.entry.len →
+            IfErr result (λ stop. stop ≡ Stop.Memory) }
     {
         bytes.clear();
         if self.text == "-" {

@@ -1,6 +1,7 @@
 //! What the calls of a script ask of the machine.
 
-ghost use Rattle.std.specs.Prelude.{◌≡◌, IfOk};
+ghost use Rattle.std.specs.Prelude.{◌≡◌, IfOk, IfErr};
+ghost use Rattle.piper_script.specs.Command.{IsCallInLimits};
 ghost use Rattle.piper_script.specs.Meaning.{Means};
 
 use crate::command::{SaidCall, SaidLuck};
@@ -24,9 +25,11 @@ impl From<SaidLuck> for polling::Luck {
 }
 
 impl SaidCall<'_> {
-    /// The call of the machine that the script asks for, with bytes and acts of its own.
+    /// The call of the machine that the script asks for, with bytes and acts of its own. One within the limits is
+    /// refused for want of memory alone.
     pub fn to_machine(self, alloc: Global) -> Result<calls::Call, Stop>
-        ensures { IfOk result (Means self.entry) }
+        ensures call { IfOk result (Means self.entry) }
+        ensures memory { IsCallInLimits self.entry → IfErr result (λ stop. stop ≡ Stop.Memory) }
     {
         Ok(match self {
             SaidCall::Len(side) => calls::Call::Query(side, Query::Len),

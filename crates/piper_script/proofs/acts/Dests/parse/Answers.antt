@@ -6,7 +6,7 @@ use Rattle.std.proofs.lemmas.List.Elements.{All-append}
 use Rattle.piper_script.specs.Acts.{dest_text, IsDestInLimits}
 use Rattle.piper_script.proofs.Joined.{texts_of-append}
 use Rattle.piper_script.proofs.Texts.{is_not}
-use Rattle.piper_script.proofs.ScriptedActs.{All-single, refused_dest}
+use Rattle.piper_script.proofs.ScriptedActs.{All-single, from_dest}
 use Rattle.piper_script.proofs.acts.Dests.parse.Goals as goal
 
 pub loop-act-preserved-in-Ok : goal.loop-act-preserved-in-Ok
@@ -25,7 +25,7 @@ loop-act-preserved c =
     let turn = YieldsList-turn parts c.loop-act.yielded _ c.loop-act.yielded_by _ _ c.in-Some.act c.in-Some.is c.next.ensures.steps in
     record {
       reads = λ within. absurd (false≢true within);
-      accepts = λ dests. absurd (refused_dest c.args.text.now c.in-Some.act.now (length c.loop-act.yielded) (is_not c.args.text.now (codes "none") c.if-eq.ensures refl) turn
+      accepts = λ dests. absurd (from_dest c.args.text.now c.in-Some.act.now (length c.loop-act.yielded) (is_not c.args.text.now (codes "none") c.if-eq.ensures refl) turn
           (λ act limits here. let said = c.dest.ensures.accepts act limits here in cc) dests);
     }
 
@@ -37,6 +37,6 @@ returns-in-Err c =
       text = tt;
       acts = tt;
       refused = search rules;
-      accepts = λ dests. absurd (refused_dest c.args.text.now c.in-Some.act.now (length c.loop-act.yielded) (is_not c.args.text.now (codes "none") c.if-eq.ensures refl) turn
+      accepts = λ dests. absurd (from_dest c.args.text.now c.in-Some.act.now (length c.loop-act.yielded) (is_not c.args.text.now (codes "none") c.if-eq.ensures refl) turn
           (λ act limits here. let said = c.in-Err.ensures.accepts act limits here in cc) dests);
     }

@@ -3,7 +3,7 @@ use Rattle.std.proofs.lemmas.Iterator.Splits.{YieldsList-from_str_split}
 use Rattle.std.proofs.lemmas.Iterator.Consumers.{YieldsList-turn, YieldsList-end}
 use Rattle.std.proofs.lemmas.List.{length_push}
 use Rattle.piper_script.proofs.Texts.{is_not}
-use Rattle.piper_script.proofs.ScriptedActs.{one_source_more, refused_source, more_sources, counted_sources}
+use Rattle.piper_script.proofs.ScriptedActs.{one_source_more, from_source, more_sources, counted_sources}
 use Rattle.piper_script.proofs.acts.Sources.parse.Goals as goal
 
 pub returns-in-Err : goal.returns-in-Err
@@ -14,7 +14,7 @@ returns-in-Err c =
       text = tt;
       acts = tt;
       refused = search rules;
-      accepts = λ len sources. absurd (refused_source c.args.text.now c.in-Some.act.now (length c.loop-act.yielded) (is_not c.args.text.now (codes "none") c.if-eq.ensures refl) turn
+      accepts = λ len sources. absurd (from_source c.args.text.now c.in-Some.act.now (length c.loop-act.yielded) (is_not c.args.text.now (codes "none") c.if-eq.ensures refl) turn
           (λ size source. let said = c.in-Err.ensures.accepts size source in cc) sources.said sources.written sources.valid (omega (arith, sources.sized, sources.within)));
     }
 
@@ -36,7 +36,7 @@ loop-act-preserved c =
     let turn = YieldsList-turn parts c.loop-act.yielded _ c.loop-act.yielded_by _ _ c.in-Some.act c.in-Some.is c.next.ensures.steps in
     record {
       reads = λ small. absurd (omega (arith, small));
-      counts = λ said written valid within. absurd (refused_source c.args.text.now c.in-Some.act.now (length c.loop-act.yielded) (is_not c.args.text.now (codes "none") c.if-eq.ensures refl) turn
+      counts = λ said written valid within. absurd (from_source c.args.text.now c.in-Some.act.now (length c.loop-act.yielded) (is_not c.args.text.now (codes "none") c.if-eq.ensures refl) turn
           (λ size source. let said = c.source_len.ensures.accepts size source in cc) said written valid within);
     }
 

@@ -3,9 +3,9 @@ use Rattle.std.proofs.lemmas.Iterator.Splits.{YieldsList-from_str_split}
 use Rattle.std.proofs.lemmas.Iterator.Consumers.{YieldsList-turn, YieldsList-end}
 use Rattle.std.proofs.lemmas.List.{length_push}
 use Rattle.piper_script.specs.List.{item_text, item_bytes, IsItem}
-use Rattle.piper_script.proofs.Joined.{counts_more, refused_part}
+use Rattle.piper_script.proofs.Joined.{counts_more, from_part}
 use Rattle.piper_script.proofs.Texts.{item_lacks, is_not}
-use Rattle.piper_script.proofs.Lists.{one_part_more, dash_is_empty, refused_item, counted_list}
+use Rattle.piper_script.proofs.Lists.{one_part_more, dash_is_empty, from_item, counted_list}
 use Rattle.piper_script.proofs.list.List.parse.Goals as goal
 
 pub returns-then-eq-clause-accepts : goal.returns-then-eq-clause-accepts
@@ -19,7 +19,7 @@ returns-in-Err c =
       text = tt;
       list = tt;
       refused = search rules;
-      accepts = λ len list. refused_item c.args.text.now c.in-Some.item.now (length c.loop-item.yielded) len (is_not c.args.text.now (codes "-") c.if-eq.ensures refl) turn (λ item valid here. let said = c.in-Err.ensures.accepts item valid here in cc) list;
+      accepts = λ len list. from_item c.args.text.now c.in-Some.item.now (length c.loop-item.yielded) len (is_not c.args.text.now (codes "-") c.if-eq.ensures refl) turn (λ item valid here. let said = c.in-Err.ensures.accepts item valid here in cc) list;
     }
 
 pub loop-item-preserved-in-Ok : goal.loop-item-preserved-in-Ok
@@ -43,7 +43,7 @@ loop-item-preserved c =
     let turn = YieldsList-turn parts c.loop-item.yielded _ c.loop-item.yielded_by _ _ c.in-Some.item c.in-Some.is c.next.ensures.steps in
     record {
       reads = λ small. absurd (omega (arith, small));
-      counts = λ said written valid within. absurd (refused_part (codes "-") 44 item_text IsItem item_bytes item_lacks c.args.text.now said (length c.loop-item.yielded) c.in-Some.item.now written
+      counts = λ said written valid within. absurd (from_part (codes "-") 44 item_text IsItem item_bytes item_lacks c.args.text.now said (length c.loop-item.yielded) c.in-Some.item.now written
           (is_not c.args.text.now (codes "-") c.if-eq.ensures refl) valid within turn (λ item valid here small. let said = c.parse.ensures.accepts item valid here in cc));
     }
 
