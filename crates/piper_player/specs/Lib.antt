@@ -3,6 +3,7 @@ pub mod Ended
 pub mod Makes
 pub mod Output
 pub mod Played
+pub mod Refused
 pub mod Steps
 pub mod StepsToRun
 pub mod Trial

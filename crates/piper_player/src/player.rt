@@ -2,8 +2,9 @@
 
 ghost use Rattle.std.specs.Prelude.{◌≡◌, ◌++◌, length, IfOk, IfErr, OnOk, OnErr};
 ghost use Rattle.piper_sides.specs.Log.{events};
-ghost use Rattle.piper_script.specs.Command.{IsInLimits};
+ghost use Rattle.piper_script.specs.Command.{IsCallInLimits, IsInLimits};
 ghost use Rattle.piper_player.specs.Played.{Plays, NeedsPipe, IsOneMove, IsRefused, OnPipe, ShowsPeek, ShowsWhole, MakesWhole, Puts, Opens, ShowsSteps, shown, shown_text};
+ghost use Rattle.piper_player.specs.Refused.{RefusesLine};
 ghost use Rattle.piper_player.specs.Whole.{IsReady};
 
 use crate::steps::make;
@@ -46,12 +47,15 @@ impl Player {
         }
     }
 
-    /// Runs the command and writes what it prints.
+    /// Runs the command and writes what it prints. Where the pipe refuses a step of it, it is refused for the same
+    /// reason.
     pub fn play(&mut self, command: Command, reply: &mut Reply) -> Result<(), Stop>
         requires { IsInLimits command }
         ensures plays { OnOk result (Plays command.entry self.old self.new reply.old reply.new) }
         ensures no_pipe { NeedsPipe command.entry → self.old ≡ None →
             result ≡ Err (Stop.Refused Refusal.NoPipe) }
+        ensures refused { IfErr result (λ stop.
+            IsRefused stop → RefusesLine command.entry self.old self.new stop) }
         ensures same { IfErr result (λ stop.
             IsRefused stop → IsOneMove command.entry → self.new ≡ self.old) }
     {
@@ -77,6 +81,8 @@ impl Player {
         ensures shows { OnOk result
             (OnPipe (λ p q. ShowsPeek p q reply.old reply.new) self.now self.now) }
         ensures no_pipe { self.now ≡ None → result ≡ Err (Stop.Refused Refusal.NoPipe) }
+        ensures refused { IfErr result (λ stop.
+            IsRefused stop → RefusesLine Command.Peek self.now self.now stop) }
     {
         let machine = self.machine.as_ref().ok_or(Refusal::NoPipe)?;
         reply.write_list_with_length(machine.r_peek())?;
@@ -87,6 +93,8 @@ impl Player {
         ensures makes { OnOk result
             (OnPipe (λ p q. MakesWhole said.entry p q reply.old reply.new) self.old self.new) }
         ensures no_pipe { self.old ≡ None → result ≡ Err (Stop.Refused Refusal.NoPipe) }
+        ensures refused { IsCallInLimits said.entry → IfErr result (λ stop.
+            IsRefused stop → RefusesLine (Command.Whole said.entry) self.old self.new stop) }
         ensures same { IfErr result (λ stop. IsRefused stop → self.new ≡ self.old) }
     {
         let machine = self.machine.as_mut().ok_or(Refusal::NoPipe)?;
@@ -99,6 +107,8 @@ impl Player {
         ensures puts { OnOk result
             (OnPipe (λ p q. Puts offset byte p q reply.old reply.new) self.old self.new) }
         ensures no_pipe { self.old ≡ None → result ≡ Err (Stop.Refused Refusal.NoPipe) }
+        ensures refused { IfErr result (λ stop.
+            IsRefused stop → RefusesLine (Command.Put offset byte) self.old self.new stop) }
         ensures same { IfErr result (λ stop. IsRefused stop → self.new ≡ self.old) }
     {
         let machine = self.machine.as_mut().ok_or(Refusal::NoPipe)?;
@@ -112,6 +122,8 @@ impl Player {
         ensures opens { OnOk result (OnPipe
             (λ p q. Opens call.entry p q (events log.old) (events log.new)) self.old self.new) }
         ensures no_pipe { self.old ≡ None → result ≡ Err (Stop.Refused Refusal.NoPipe) }
+        ensures refused { IsCallInLimits call.entry → IfErr result (λ stop.
+            IsRefused stop → RefusesLine (Command.Begin call.entry) self.old self.new stop) }
         ensures same { OnErr result (self.new ≡ self.old) }
     {
         let machine = self.machine.as_mut().ok_or(Refusal::NoPipe)?;
@@ -130,6 +142,8 @@ impl Player {
         ensures shows { OnOk result (OnPipe
             (λ p q. ShowsSteps steps side p q reply.old reply.new) self.old self.new) }
         ensures no_pipe { self.old ≡ None → result ≡ Err (Stop.Refused Refusal.NoPipe) }
+        ensures refused { IfErr result (λ stop.
+            IsRefused stop → RefusesLine (Command.Go side steps) self.old self.new stop) }
     {
         let machine = self.machine.as_mut().ok_or(Refusal::NoPipe)?;
         let mut log = Log::new(self.alloc);
