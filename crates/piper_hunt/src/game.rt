@@ -1,0 +1,88 @@
+//! One game: two threads on one pipe, and a third that watches them.
+
+use crate::plan::Plan;
+use crate::reading::Reading;
+use crate::sleeping::play_side;
+use crate::watch::{Fault, Watch};
+use crate::writing::Writing;
+use piper::{OwnedReader, OwnedWriter, pipe};
+use std::alloc::{AllocGlobal, Global};
+use std::marker::Send;
+use std::random::RandomSource;
+use std::rt::Clock;
+use std::sync::{Arc, Wait};
+use std::thread::Threads;
+use std::time::{Duration, Instant};
+use std::{io, thread};
+
+/// For so many seconds neither side begins a call before a game counts as stalled.
+const STALLED: u64 = 20;
+
+/// So many microseconds lie between two looks of the thread that watches.
+const BETWEEN_LOOKS: u64 = 300;
+
+/// Plays the game of a plan, and answers how many bytes the reader took.
+pub fn play<R>(rt: &R, plan: Plan) -> io::Result<Result<u64, Fault>>
+where
+    R: Wait + Threads + Clock + RandomSource + AllocGlobal + Clone + Drop + Send + Sync + 'static,
+{
+    let watch = Arc::new(rt.alloc(), Watch::new())?;
+    let (readers_watch, writers_watch) = (Arc::try_clone(&watch)?, Arc::try_clone(&watch)?);
+    let (readers_rt, writers_rt) = (rt.clone()?, rt.clone()?);
+    let Ok((reader, writer)) = pipe(rt, rt.alloc(), plan.capacity, plan.seed) else {
+        return Err(io::ErrorKind::OutOfMemory.into());
+    };
+    let (mut reader, mut writer) = (OwnedReader::new(reader), OwnedWriter::new(writer));
+    let reading = thread::spawn(rt, move || {
+        let took = read(&readers_rt, reader, &readers_watch, plan);
+        readers_watch.end_side();
+        took
+    })?;
+    let writing = thread::spawn(rt, move || {
+        let gave = write(&writers_rt, writer, &writers_watch, plan);
+        writers_watch.end_side();
+        gave
+    })?;
+    if !ends(rt, &watch)? {
+        return Ok(Err(Fault::Stalled));
+    }
+    let (took, gave) = (reading.join(rt), writing.join(rt));
+    Ok(gave.and(took))
+}
+
+fn read<R>(rt: &R, mut reader: OwnedReader<R>, watch: &Watch, plan: Plan) -> Result<u64, Fault>
+where
+    R: Wait + RandomSource + AllocGlobal + Clone + Drop,
+{
+    play_side(
+        rt,
+        &mut Reading::new(reader.get_mut(), rt.alloc(), watch, plan),
+    )
+}
+
+fn write<R>(rt: &R, mut writer: OwnedWriter<R>, watch: &Watch, plan: Plan) -> Result<u64, Fault>
+where
+    R: Wait + RandomSource + AllocGlobal + Clone + Drop,
+{
+    play_side(rt, &mut Writing::new(writer.get_mut(), watch, plan))
+}
+
+// Waits until both sides have ended. The answer is `false` where they stall.
+fn ends<R: Wait + Clock>(rt: &R, watch: &Watch) -> io::Result<bool> {
+    let mut calls = 0;
+    let mut since = Instant::now(rt)?;
+    for _ in rt.forever() {
+        if watch.is_over() {
+            return Ok(true);
+        }
+        let now = watch.calls();
+        if now != calls {
+            calls = now;
+            since = Instant::now(rt)?;
+        } else if since.elapsed(rt)? > Duration::from_secs(STALLED) {
+            return Ok(false);
+        }
+        thread::sleep(rt, Duration::from_micros(BETWEEN_LOOKS));
+    }
+    unreachable!()
+}

@@ -1,0 +1,234 @@
+//! The side that reads.
+ghost use Rattle.std.specs.Prelude.{◌≡◌, ◌<◌, ◌≤◌, length};
+ghost use Rattle.futures.specs.Task.{IsArmed, Keeps};
+ghost use Rattle.futures.specs.Poll.{OnPending};
+
+use crate::plan::{Ending, MOST_OF_A_CALL, Plan, byte_at};
+use crate::sleeping::Side;
+use crate::watch::{Fault, Watch};
+use futures::task::{Context, Poll};
+use piper::Reader;
+use piper::io::{AsyncBufRead, AsyncRead};
+use rand_core::{Rng, SeedableRng};
+use rand_pcg::Pcg32;
+use std::alloc::Global;
+use std::sync::Wait;
+
+/// What a call of the reader gave.
+enum Taken {
+    Bytes(usize),
+    End,
+}
+
+/// The side that reads: it takes bytes by all calls of the reader, and holds each against what the writer gives there.
+#[derive(Drop)]
+pub struct Reading<'a, H: Wait + Clone + Drop> {
+    reader: &'a mut Reader<H>,
+    alloc: Global,
+    watch: &'a Watch,
+    rng: Pcg32,
+    ending: Ending,
+    taken: u64,
+}
+
+impl<'a, H: Wait + Clone + Drop> Reading<'a, H> {
+    pub fn new(
+        reader: &'a mut Reader<H>,
+        alloc: Global,
+        watch: &'a Watch,
+        plan: Plan,
+    ) -> Reading<'a, H> {
+        Reading {
+            reader,
+            alloc,
+            watch,
+            rng: Pcg32::seed_from_u64(plan.seed ^ 0xa5a5_a5a5),
+            ending: plan.ending,
+            taken: 0,
+        }
+    }
+
+    // A number from 1 to `most`.
+    fn draw(&mut self, most: usize) -> usize
+        requires { 0 < most }
+        ensures { (0 < result) × (result ≤ most) }
+    {
+        1 + (self.rng.next_u32() as usize) % most
+    }
+
+    // One call of the reader, as the generator draws it.
+    fn call(&mut self, cx: &mut Context<'_>) -> Poll<Result<Taken, Fault>>
+        ensures armed { OnPending result (IsArmed cx.new) }
+    {
+        match self.rng.next_u32() % 8 {
+            0 => self.by_lent_piece(cx),
+            1 => self.by_trait_piece(cx),
+            2 => self.by_drain_of_bytes(cx),
+            3 => self.by_drain(cx),
+            4 => self.by_read(cx),
+            5 => Poll::Ready(self.ask()),
+            _ => Poll::Ready(self.by_try_form()),
+        }
+    }
+
+    fn by_lent_piece(&mut self, cx: &mut Context<'_>) -> Poll<Result<Taken, Fault>>
+        ensures armed { OnPending result (IsArmed cx.new) }
+    {
+        match self.reader.poll(cx) {
+            Poll::Pending => Poll::Pending,
+            Poll::Ready(Err(_)) => Poll::Ready(Err(Fault::Refused)),
+            Poll::Ready(Ok(false)) => Poll::Ready(Ok(Taken::End)),
+            Poll::Ready(Ok(true)) => {
+                let most = self.draw(MOST_OF_A_CALL);
+                let piece = self.reader.peek_buf();
+                let count = most.min(piece.len());
+                let is_right = is_given(&piece[..count], self.taken);
+                self.reader.consume(count);
+                Poll::Ready(judged(count, is_right))
+            }
+        }
+    }
+
+    fn by_trait_piece(&mut self, cx: &mut Context<'_>) -> Poll<Result<Taken, Fault>>
+        ensures armed { OnPending result (IsArmed cx.new) }
+    {
+        let most = self.draw(MOST_OF_A_CALL);
+        let (count, is_right) = match self.reader.poll_fill_buf(cx) {
+            Poll::Pending => return Poll::Pending,
+            Poll::Ready(Err(_)) => return Poll::Ready(Err(Fault::Refused)),
+            Poll::Ready(Ok(piece)) => {
+                let count = most.min(piece.len());
+                (count, is_given(&piece[..count], self.taken))
+            }
+        };
+        if count == 0 {
+            return Poll::Ready(Ok(Taken::End));
+        }
+        AsyncBufRead::consume(self.reader, count);
+        Poll::Ready(judged(count, is_right))
+    }
+
+    fn by_drain_of_bytes(&mut self, cx: &mut Context<'_>) -> Poll<Result<Taken, Fault>>
+        ensures armed { OnPending result (IsArmed cx.new) }
+    {
+        let mut dest = [0; MOST_OF_A_CALL];
+        let len = self.draw(MOST_OF_A_CALL);
+        match self.reader.poll_drain_bytes(cx, &mut dest[..len]) {
+            Poll::Pending => Poll::Pending,
+            Poll::Ready(Err(_)) => Poll::Ready(Err(Fault::Refused)),
+            Poll::Ready(Ok(0)) => Poll::Ready(Ok(Taken::End)),
+            Poll::Ready(Ok(count)) => {
+                Poll::Ready(judged(count, is_given(&dest[..count], self.taken)))
+            }
+        }
+    }
+
+    fn by_drain(&mut self, cx: &mut Context<'_>) -> Poll<Result<Taken, Fault>>
+        ensures armed { OnPending result (IsArmed cx.new) }
+    {
+        let mut dest = Vec::new(self.alloc);
+        match self.reader.poll_drain(cx, &mut dest) {
+            Poll::Pending => Poll::Pending,
+            Poll::Ready(Err(_)) => Poll::Ready(Err(Fault::Refused)),
+            Poll::Ready(Ok(0)) => Poll::Ready(Ok(Taken::End)),
+            Poll::Ready(Ok(count)) => {
+                let is_right = count == dest.len() && is_given(&dest, self.taken);
+                Poll::Ready(judged(count, is_right))
+            }
+        }
+    }
+
+    fn by_read(&mut self, cx: &mut Context<'_>) -> Poll<Result<Taken, Fault>>
+        ensures armed { OnPending result (IsArmed cx.new) }
+    {
+        let mut dest = [0; MOST_OF_A_CALL];
+        let len = self.draw(MOST_OF_A_CALL);
+        match self.reader.poll_read(cx, &mut dest[..len]) {
+            Poll::Pending => Poll::Pending,
+            Poll::Ready(Err(_)) => Poll::Ready(Err(Fault::Refused)),
+            Poll::Ready(Ok(0)) => Poll::Ready(Ok(Taken::End)),
+            Poll::Ready(Ok(count)) => {
+                Poll::Ready(judged(count, is_given(&dest[..count], self.taken)))
+            }
+        }
+    }
+
+    fn by_try_form(&mut self) -> Result<Taken, Fault> {
+        let mut dest = [0; MOST_OF_A_CALL];
+        let len = self.draw(MOST_OF_A_CALL);
+        let count = self.reader.try_drain(&mut dest[..len]);
+        judged(count, is_given(&dest[..count], self.taken))
+    }
+
+    // Asks what changes nothing, and holds the answers against each other.
+    fn ask(&mut self) -> Result<Taken, Fault> {
+        let _mark = self.reader.mark();
+        let known = self.reader.peek_buf().len();
+        let unread = self.reader.len();
+        if unread < known || unread > self.reader.capacity() {
+            return Err(Fault::WrongCount);
+        }
+        if known > 0 && self.reader.is_empty() {
+            return Err(Fault::WrongCount);
+        }
+        Ok(Taken::Bytes(0))
+    }
+
+    // The end was told: all bytes must have been taken, and the end must stay.
+    fn end(&mut self, cx: &mut Context<'_>) -> Result<u64, Fault> {
+        let given = self.watch.given();
+        if self.taken < given {
+            return Err(Fault::FalseEnd);
+        }
+        if self.taken > given {
+            return Err(Fault::TooMany);
+        }
+        match self.reader.poll(cx) {
+            Poll::Ready(Ok(false)) if self.reader.is_closed() => Ok(self.taken),
+            _ => Err(Fault::NoEnd),
+        }
+    }
+
+    fn has_enough(&self) -> bool {
+        match self.ending {
+            Ending::ReaderIsDropped(count) => self.taken >= count,
+            Ending::WriterIsDropped | Ending::WriterCloses => false,
+        }
+    }
+}
+
+impl<H: Wait + Clone + Drop> Side for Reading<'_, H> {
+    fn turn<R: Wait>(&mut self, rt: &R, cx: &mut Context<'_>) -> Poll<Result<u64, Fault>> {
+        for _ in rt.forever() {
+            if self.has_enough() {
+                return Poll::Ready(Ok(self.taken));
+            }
+            self.watch.begin_call();
+            match self.call(cx) {
+                Poll::Pending => return Poll::Pending,
+                Poll::Ready(Err(fault)) => return Poll::Ready(Err(fault)),
+                Poll::Ready(Ok(Taken::End)) => return Poll::Ready(self.end(cx)),
+                Poll::Ready(Ok(Taken::Bytes(count))) => {
+                    self.taken = self.taken.wrapping_add(count as u64);
+                }
+            }
+        }
+        unreachable!()
+    }
+}
+
+// Whether these are the bytes that the writer gives from this place on.
+fn is_given(bytes: &[u8], from: u64) -> bool {
+    bytes
+        .iter()
+        .enumerate()
+        .all(|(i, byte)| *byte == byte_at(from.wrapping_add(i as u64)))
+}
+
+fn judged(count: usize, is_right: bool) -> Result<Taken, Fault> {
+    if is_right {
+        Ok(Taken::Bytes(count))
+    } else {
+        Err(Fault::WrongByte)
+    }
+}
