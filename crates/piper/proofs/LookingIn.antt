@@ -21,6 +21,7 @@ module _ {S E : Type 0} (gives : Passes S) (is_dry : S → Type 0) (fails : S �
     lost = [];
     sent = looked.sent ∙ sym (append-nil a.sent);
     all = λ _. refl;
+    last = omega arith;
     room = λ some. omega (arith, ap length looked.sent, looked.known some);
     fresh = looked.fresh;
     copied = copied;

@@ -5,7 +5,7 @@ use Rattle.piper_ring.specs.Shared.{flag}
 use Rattle.piper_ring.specs.WriteView.{WriteView}
 use Rattle.piper.specs.Copies.{IsReplaced}
 use Rattle.piper.specs.Ends.{WriterSaw, WriterPublished}
-use Rattle.piper.specs.Fills.{FillRounds, WriterFilled, WriterRelent}
+use Rattle.piper.specs.Fills.{FillRounds, WriterFilled, WriterRelent, most_of_round}
 use Rattle.piper.specs.Like.{Passes, PassesInOrder}
 use Rattle.piper.specs.declared.error.Inner.TheVariants.{Like}
 
@@ -25,6 +25,10 @@ filled_relent a b c p q = record {
   shut = q.shut ∙ p.shut;
   saw = omega (arith, p.saw, ap flag q.saw);
 }
+
+-- a round has as many bytes at most
+same_round : (c w : WriteView) → WriterSaw c w → most_of_round w ≡ most_of_round c
+same_round c w saw = λ j. most_of_round (record c { capacity = saw.end.capacity j; sent = saw.sent j; room = saw.room j })
 
 -- and w may have seen closed since
 filled_saw : (a c w : WriteView) → WriterFilled a c → WriterSaw c w → WriterFilled a w
@@ -49,6 +53,7 @@ module _ {S : Type 0} (gives : Passes S) (in_order : PassesInOrder gives) (a b c
     lost = [];
     sent = relent.sent ∙ d.sent;
     all = λ _. refl;
+    last = omega arith;
     room = replaced;
     copied = (in_order s d.given t [] u d.passed none, ap length (append-nil d.given) ∙ d.count);
     most = inl (elim most [ inl full ↦ inl (some full, full) | inr dry ↦ inr dry ]);
@@ -63,6 +68,7 @@ module _ {S : Type 0} (gives : Passes S) (in_order : PassesInOrder gives) (a b c
     lost = [];
     sent = relent.sent ∙ d.sent;
     all = λ _. refl;
+    last = omega arith;
     room = replaced;
     copied = (in_order s d.given t [] u d.passed none, (t, subst (λ (l : List ℕ). gives s l t) (sym (append-nil d.given)) d.passed, failed));
     most = tt;
@@ -70,13 +76,14 @@ module _ {S : Type 0} (gives : Passes S) (in_order : PassesInOrder gives) (a b c
   }
 
   -- the source gave n bytes to a pipe that was then seen closed
-  pub fill_closed : {E : Type 0} (is_dry : S → Type 0) (fails : S → E → S → Type 0) (w : WriteView) (n : ℕ) → n ≤ length c.lent → gives t (take n c.lent) u → WriterSaw c w → w.saw ≡ true
+  pub fill_closed : {E : Type 0} (is_dry : S → Type 0) (fails : S → E → S → Type 0) (w : WriteView) (n : ℕ) → n ≤ length c.lent → n ≤ most_of_round c → gives t (take n c.lent) u → WriterSaw c w → w.saw ≡ true
       → FillRounds gives is_dry fails (Ready (Ok (sum + n))) a w s u
-  fill_closed is_dry fails w n within some saw closed = record {
+  fill_closed is_dry fails w n within within_round some saw closed = record {
     published = d.given;
     lost = take n c.lent;
     sent = saw.sent ∙ relent.sent ∙ d.sent;
     all = λ unseen. let never = closed in absurd (cc);
+    last = omega (arith, length-take-le n c.lent within, within_round, same_round c w saw);
     room = omega (arith, replaced, ap length saw.sent, saw.room);
     copied = (in_order s d.given t (take n c.lent) u d.passed some, more w n within);
     most = inr closed;

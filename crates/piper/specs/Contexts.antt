@@ -8,6 +8,8 @@ use Rattle.futures.specs.declared.task.context.Context.{Context}
 use Rattle.futures.specs.declared.task.Poll.{Poll}
 use Rattle.piper.specs.CopyAnswers.{OnMemory}
 use Rattle.piper.specs.declared.error.Inner.{Inner}
+use Rattle.piper.specs.declared.error.PipeError.{PipeError}
+use Rattle.piper.specs.declared.error.PipeError.TheVariants.{Memory}
 
 -- P holds of the context as it was handed in and as it was left, where there was one
 abbrev pub IfGiven : Option (MutBor Context) → Unit {0} ⊎ ((MutBor Context × Unit {0}) ⊎ ⊥)
@@ -17,9 +19,17 @@ IfGiven (Some cx) (inl none) P = ⊥
 IfGiven (Some cx) (inr (inl left)) P = P cx.now left.0.now
 IfGiven (Some cx) (inr (inr never)) P = ⊥
 
+-- the poll asked for another one itself: it hears of every source
+abbrev pub AsksAgain : Context → Type 0
+AsksAgain cx = Covers cx (λ _. ⊤)
+
 -- a copy that is pending has armed its task at the source
 abbrev pub Arms : {A : Type 0} → Poll A → ℕ → Context → Context → Type 0
 Arms r source old left = OnPending r (Covers left (λ s. s ≡ source))
+
+-- want of memory, since no waker could be made
+abbrev pub WantsWaker : Context → PipeError → Type 0
+WantsWaker cx e = (e ≡ Memory) × (cx.lacks_waker ≡ true)
 
 -- a copy wants memory only where no waker could be made
 abbrev pub LacksWaker : {E : Type 0} → Poll (Result ℕ (Inner E)) → Context → Context → Type 0

@@ -1,11 +1,13 @@
 -- Drains of the reader into any destination.
 use Rattle.std.specs.Prelude.{◌≡◌, ℕ, ◌+◌, ◌-◌, ◌<◌, ◌⊎◌, true, false, List, [], ◌++◌, length, min, Option, Result, Ok, Err, ⊤}
+use Rattle.futures.specs.declared.task.context.Context.{Context}
 use Rattle.futures.specs.declared.task.Poll.{Poll}
 use Rattle.futures.specs.declared.task.Poll.TheVariants.{Ready, Pending}
 use Rattle.futures.specs.Poll.{OnPending}
 use Rattle.piper_ring.specs.ReadView.{ReadView}
 use Rattle.piper.specs.Copies.{ReaderCopied}
 use Rattle.piper.specs.CopyAnswers.{Copies}
+use Rattle.piper.specs.Contexts.{AsksAgain}
 use Rattle.piper.specs.Ends.{ReaderConsumed, ReaderIsUpToDate}
 use Rattle.piper.specs.Like.{Passes, appends_to}
 use Rattle.piper.specs.Polls.{OnReadyOk, IfReadyOk}
@@ -21,9 +23,15 @@ found_len a b = length b.taken + length b.known - length a.taken
 abbrev pub EndIsSeen : {E : Type 0} → Poll (Result ℕ E) → ReadView → ReadView → Type 0
 EndIsSeen r a b = OnReadyOk r (found_len a b ≡ 0 → b.saw ≡ true)
 
--- a drain that is pending found a byte, or didn't see the pipe closed
+-- a drain that is pending found a byte, or neither saw the pipe closed nor was told so
 abbrev pub EndIsUnseen : {E : Type 0} → Poll (Result ℕ E) → ReadView → ReadView → Type 0
-EndIsUnseen r a b = OnPending r (found_len a b ≡ 0 → b.saw ≡ false)
+EndIsUnseen r a b =
+    OnPending r (found_len a b ≡ 0 → (b.saw ≡ false) × (b.told_shut ≡ false))
+
+-- a drain that is pending though it found a byte yields: it asked for another poll itself
+abbrev pub DrainYields : {E : Type 0}
+    → Poll (Result ℕ E) → ReadView → ReadView → Context → Type 0
+DrainYields r a b cx = OnPending r (0 < found_len a b → AsksAgain cx)
 
 -- a drain into a slice of this length answers how many of the bytes that it found fit
 abbrev pub CountsWhatFits : {E : Type 0} → Poll (Result ℕ E) → ℕ → ReadView → ReadView → Type 0
@@ -68,4 +76,4 @@ abbrev pub FoundNoByte : {E : Type 0} → Poll (Result ℕ (Inner E)) → ReadVi
 FoundNoByte (Ready (Ok n)) r = (n ≡ 0) × (r.known ≡ []) × (r.saw ≡ true)
 FoundNoByte (Ready (Err Memory)) r = r.known ≡ []
 FoundNoByte (Ready (Err (Like e))) r = ⊥
-FoundNoByte Pending r = (r.known ≡ []) × (r.saw ≡ false)
+FoundNoByte Pending r = (r.known ≡ []) × (r.saw ≡ false) × (r.told_shut ≡ false)

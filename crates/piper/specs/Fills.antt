@@ -1,12 +1,16 @@
 -- Fills of the writer from any source.
-use Rattle.std.specs.Prelude.{◌≡◌, ℕ, ◌<◌, ◌≤◌, ◌⊎◌, true, false, List, [], ◌++◌, Option, Result, Ok, Err, ⊤}
+use Rattle.std.specs.Prelude.{◌≡◌, ℕ, ◌<◌, ◌≤◌, ◌+◌, ◌⊎◌, true, false, List, [], ◌++◌, length, min, Option, Result, Ok, Err, ⊤}
+use Rattle.futures.specs.declared.task.context.Context.{Context}
 use Rattle.futures.specs.declared.task.Poll.{Poll}
 use Rattle.futures.specs.declared.task.Poll.TheVariants.{Ready, Pending}
+use Rattle.futures.specs.Poll.{OnPending}
 use Rattle.std.specs.Io.KnownBytes.{IsAtEnd}
 use Rattle.piper_ring.specs.Shared.{flag}
-use Rattle.piper_ring.specs.WriteView.{WriteView, SameWriteEnd}
+use Rattle.piper_ring.specs.WriteView.{WriteView, SameWriteEnd, room_in_one_piece}
+use Rattle.piper_sides.specs.declared.scripted.TheConstants.{MOST_A_ROUND}
 use Rattle.piper.specs.Copies.{IsReplaced}
 use Rattle.piper.specs.CopyAnswers.{Copies}
+use Rattle.piper.specs.Contexts.{AsksAgain}
 use Rattle.piper.specs.Ends.{WriterIsUpToDate}
 use Rattle.piper.specs.Like.{Passes, consumes_of}
 use Rattle.piper.specs.Polls.{IfReadyOk}
@@ -28,8 +32,20 @@ pub record WriterRelent (a b : WriteView) : Type 0 where
   pub shut : b.shut ≡ a.shut
   pub saw : b.saw ≡ a.saw
 
+-- the most bytes of a round: what is lent at once, and at most 131,072 of it
+abbrev pub most_of_round : WriteView → ℕ
+most_of_round w = min MOST_A_ROUND (room_in_one_piece w)
+
+-- of n bytes that were counted no more were lost than a round has
+abbrev pub LosesOneRound : ℕ → WriteView → WriteView → Type 0
+LosesOneRound n a b = length a.sent + n ≤ length b.sent + most_of_round b
+
+-- a fill that is pending though there is room yields: it asked for another poll itself
+abbrev pub FillYields : {E : Type 0} → Poll (Result ℕ E) → WriteView → Context → Type 0
+FillYields r b cx = OnPending r (0 < b.room → AsksAgain cx)
+
 -- rounds from a to b: what was published is a beginning of what the source gave,
--- and all of it unless the pipe was seen closed
+-- and all of it unless the pipe was seen closed: then what the last round gave is lost
 pub record FillRounds {S E : Type 0}
     (gives : Passes S) (is_dry : S → Type 0) (fails : S → E → S → Type 0)
     (r : Poll (Result ℕ (Inner E))) (a b : WriteView) (s t : S) : Type 0 where
@@ -37,6 +53,7 @@ pub record FillRounds {S E : Type 0}
   pub lost : List ℕ
   pub sent : b.sent ≡ a.sent ++ published
   pub all : b.saw ≡ false → lost ≡ []
+  pub last : length lost ≤ most_of_round b
   pub room : IsReplaced a b
   pub copied : Copies gives fails r s t (published ++ lost)
   pub most : IfReadyOk r (λ n. (((0 < n) × (b.room ≡ 0)) ⊎ is_dry t) ⊎ (b.saw ≡ true))
@@ -50,6 +67,7 @@ pub record Fills {S E : Type 0}
   pub lost : List ℕ
   pub sent : b.sent ≡ a.sent ++ published
   pub all : b.saw ≡ false → lost ≡ []
+  pub last : length lost ≤ most_of_round b
   pub room : 0 < a.room → IsReplaced a b
   pub fresh : a.room ≡ 0 → b.saw ≡ false → WriterIsUpToDate b
   pub copied : Copies gives fails r s t (published ++ lost)

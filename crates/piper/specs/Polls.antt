@@ -1,8 +1,9 @@
 -- What a poll of a reader or a writer leaves.
-use Rattle.std.specs.Prelude.{◌≡◌, ℕ, ◌<◌, ◌≤◌, Bool, true, false, List, [], ◌++◌, take, drop, length, Result, Ok, Err, ⊤}
+use Rattle.std.specs.Prelude.{◌≡◌, ℕ, ◌+◌, ◌<◌, ◌≤◌, Bool, true, false, List, [], ◌++◌, take, drop, length, Result, Ok, Err, ⊤}
 use Rattle.futures.specs.declared.task.Poll.{Poll}
 use Rattle.futures.specs.declared.task.Poll.TheVariants.{Ready, Pending}
 use denote.Ref.{Bor}
+use Rattle.piper_sides.specs.declared.scripted.TheConstants.{MOST_A_ROUND}
 
 -- P holds where the poll was ready and nothing failed
 abbrev pub OnReadyOk : {A E : Type 0} → Poll (Result A E) → Type 0 → Type 0
@@ -42,11 +43,13 @@ Reads (Ready (Err e)) old new before after saw = (after ≡ before) × (new ≡ 
 Reads Pending old new before after saw = (after ≡ before) × (new ≡ old)
 
 -- a slice that was written: of its first n bytes, which are counted, the first m were published;
--- and all n of them unless the pipe was seen closed. Else nothing was published
+-- and all n of them unless the pipe was seen closed, or else all but those of one round.
+-- Else nothing was published
 abbrev pub Writes : {E : Type 0} → Poll (Result ℕ E) → List ℕ → List ℕ → List ℕ → Bool → Type 0
 Writes (Ready (Ok n)) source before after saw =
     (n ≤ length source)
-    × ((m : ℕ) × (m ≤ n) × (after ≡ before ++ take m source) × (saw ≡ false → m ≡ n))
+    × ((m : ℕ) × (m ≤ n) × (after ≡ before ++ take m source) × (saw ≡ false → m ≡ n)
+    × (n ≤ m + MOST_A_ROUND))
 Writes (Ready (Err e)) source before after saw = after ≡ before
 Writes Pending source before after saw = after ≡ before
 

@@ -1,10 +1,11 @@
 //! Reads and writes that may be pending, and a copy over them.
-ghost use Rattle.std.specs.Prelude.{◌≡◌, ◌<◌, ◌≤◌, ◌++◌, ℕ, List, length, take, drop, Bool, true, Ok, ⊤};
+ghost use Rattle.std.specs.Prelude.{◌≡◌, ◌<◌, ◌≤◌, ◌++◌, ℕ, List, length, take, drop, Bool, true, false, Ok, ⊤};
 ghost use Rattle.std.specs.Borrow.{sem};
 ghost use Rattle.std.specs.Io.{StartsWith};
 ghost use Rattle.std.specs.Io.BufRead.{Rests};
 ghost use Rattle.futures.specs.Task.{Covers, Keeps};
 ghost use Rattle.futures.specs.Poll.{OnPending};
+ghost use Rattle.piper.specs.Contexts.{AsksAgain};
 ghost use Rattle.piper.specs.Polls.{Lends, Reads, Writes, OnReadyOk, IfReadyErr};
 
 mod copy;
@@ -15,6 +16,7 @@ use futures::task::{Context, Poll};
 
 /// A reader that copies what it takes.
 pub trait AsyncRead {
+    ghost use Rattle.futures.specs.declared.task.context.Context.{Context};
     ghost use Rattle.piper.specs.declared.error.PipeError.{PipeError};
 
     // all bytes that were taken
@@ -23,17 +25,22 @@ pub trait AsyncRead {
     // whether a call of its own saw the end
     ghost saw: { Self → Bool };
 
+    // whether it was told of the end
+    ghost told: { Self → Bool } = { λ _. false };
+
     // holds of each source that a pending read waits for
     ghost needs: { Self → ℕ → Type 0 };
 
-    // it has failed with this error, and is left so
-    ghost fails: { Self → PipeError → Type 0 } = { λ _ _. ⊤ };
+    // a call with this context has failed with this error, and left it so
+    ghost fails: { Self → Context → PipeError → Type 0 } = { λ _ _ _. ⊤ };
 
-    /// Takes bytes, puts them at the front of `dest`, and answers how many; 0 where `dest` has room is the end.
+    /// Takes bytes, puts them at the front of `dest`, and answers how many; 0 where `dest` has room is the end. A reader that was told of the end is pending only where it asked for another poll itself.
     fn poll_read(&mut self, cx: &mut Context<'_>, dest: &mut [u8]) -> Poll<Result<usize, PipeError>>
         ensures read { Reads result dest.old dest.new
             (taken self.old) (taken self.new) (saw self.new) }
-        ensures error { IfReadyErr result (fails self.new) }
+        ensures told { told self.new ≡ told self.old }
+        ensures heeded { OnPending result (told self.old ≡ true → AsksAgain cx.new) }
+        ensures error { IfReadyErr result (fails self.new cx.new) }
         ensures stays { saw self.old ≡ true → saw self.new ≡ true }
         ensures covered { OnPending result (Covers cx.new (needs self.new)) }
         ensures kept { Keeps cx.old cx.new };
@@ -41,6 +48,7 @@ pub trait AsyncRead {
 
 /// A reader that lends the bytes that it knows.
 pub trait AsyncBufRead {
+    ghost use Rattle.futures.specs.declared.task.context.Context.{Context};
     ghost use Rattle.piper.specs.declared.error.PipeError.{PipeError};
 
     // the bytes that it knows, the next one first
@@ -55,13 +63,16 @@ pub trait AsyncBufRead {
     // whether a call of its own saw the end
     ghost saw: { Self → Bool };
 
+    // whether it was told of the end
+    ghost told: { Self → Bool } = { λ _. false };
+
     // holds of each source that a pending call waits for
     ghost needs: { Self → ℕ → Type 0 };
 
-    // it has failed with this error, and is left so
-    ghost fails: { Self → PipeError → Type 0 } = { λ _ _. ⊤ };
+    // a call with this context has failed with this error, and left it so
+    ghost fails: { Self → Context → PipeError → Type 0 } = { λ _ _ _. ⊤ };
 
-    /// Lends the first piece of the bytes that it knows; an empty slice is the end. Bytes that were known stay known, and none is taken.
+    /// Lends the first piece of the bytes that it knows; an empty slice is the end. Bytes that were known stay known, and none is taken. A reader that was told of the end is not pending.
     fn poll_fill_buf(&mut self, cx: &mut Context<'_>) -> Poll<Result<&[u8], PipeError>>
         // said of the reader as it is once the slice is given back
         ensures* lent { sem 𝓛 (Rests Self.row self.entry (λ new.
@@ -69,7 +80,9 @@ pub trait AsyncBufRead {
             × StartsWith (known new) (known self.old)
             × (taken new ≡ taken self.old)
             × (saw self.old ≡ true → saw new ≡ true)
-            × IfReadyErr result (fails new)
+            × IfReadyErr result (fails new cx.new)
+            × (told new ≡ told self.old)
+            × OnPending result (told new ≡ false)
             × OnPending result (Covers cx.new (needs new)))) }
         ensures kept { Keeps cx.old cx.new };
 
@@ -78,11 +91,13 @@ pub trait AsyncBufRead {
         requires { amt ≤ piece self.old }
         ensures known { known self.new ≡ drop amt (known self.old) }
         ensures taken { taken self.new ≡ taken self.old ++ take amt (known self.old) }
-        ensures saw { saw self.new ≡ saw self.old };
+        ensures saw { saw self.new ≡ saw self.old }
+        ensures told { told self.new ≡ told self.old };
 }
 
 /// A writer.
 pub trait AsyncWrite {
+    ghost use Rattle.futures.specs.declared.task.context.Context.{Context};
     ghost use Rattle.piper.specs.declared.error.PipeError.{PipeError};
 
     // all bytes that were published
@@ -94,15 +109,15 @@ pub trait AsyncWrite {
     // holds of each source that a pending call waits for
     ghost needs: { Self → ℕ → Type 0 };
 
-    // it has failed with this error, and is left so
-    ghost fails: { Self → PipeError → Type 0 } = { λ _ _. ⊤ };
+    // a call with this context has failed with this error, and left it so
+    ghost fails: { Self → Context → PipeError → Type 0 } = { λ _ _ _. ⊤ };
 
     /// Publishes bytes from the front of `source`, and answers how many; 0 where there are some says that the pipe is closed, and so does each later answer. Bytes that were counted in the call that sees the pipe closed may be lost.
     fn poll_write(&mut self, cx: &mut Context<'_>, source: &[u8]) -> Poll<Result<usize, PipeError>>
         ensures written { Writes result source.now (sent self.old) (sent self.new) (saw self.new) }
         ensures full { result ≡ Poll.Ready (Ok 0) →
             0 < length source.now → saw self.new ≡ true }
-        ensures error { IfReadyErr result (fails self.new) }
+        ensures error { IfReadyErr result (fails self.new cx.new) }
         ensures over { saw self.old ≡ true → result ≡ Poll.Ready (Ok 0) }
         ensures stays { saw self.old ≡ true → saw self.new ≡ true }
         ensures covered { OnPending result (Covers cx.new (needs self.new)) }
@@ -110,7 +125,7 @@ pub trait AsyncWrite {
 
     /// Waits until what was written is on its way.
     fn poll_flush(&mut self, cx: &mut Context<'_>) -> Poll<Result<(), PipeError>>
-        ensures error { IfReadyErr result (fails self.new) }
+        ensures error { IfReadyErr result (fails self.new cx.new) }
         ensures sent { sent self.new ≡ sent self.old }
         ensures stays { saw self.old ≡ true → saw self.new ≡ true }
         ensures covered { OnPending result (Covers cx.new (needs self.new)) }
@@ -119,7 +134,7 @@ pub trait AsyncWrite {
     /// Closes the pipe for good.
     fn poll_close(&mut self, cx: &mut Context<'_>) -> Poll<Result<(), PipeError>>
         ensures closed { OnReadyOk result (saw self.new ≡ true) }
-        ensures error { IfReadyErr result (fails self.new) }
+        ensures error { IfReadyErr result (fails self.new cx.new) }
         ensures sent { sent self.new ≡ sent self.old }
         ensures stays { saw self.old ≡ true → saw self.new ≡ true }
         ensures covered { OnPending result (Covers cx.new (needs self.new)) }

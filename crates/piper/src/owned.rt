@@ -1,7 +1,9 @@
 //! Handles that are let go by themselves, for a thread or a task that takes one with it.
-ghost use Rattle.std.specs.Prelude.{◌≡◌};
+ghost use Rattle.std.specs.Prelude.{◌≡◌, Ok};
 ghost use Rattle.std.specs.Borrow.{sem};
-ghost use Rattle.piper.specs.declared.error.PipeError.TheVariants.{Memory};
+ghost use Rattle.futures.specs.Task.{Keeps};
+ghost use Rattle.piper.specs.Contexts.{WantsWaker};
+ghost use Rattle.piper.specs.Ends.{WriterShut};
 
 use crate::error::PipeError;
 use crate::handles::{Reader, Writer};
@@ -76,9 +78,11 @@ impl<H: Wait + Clone + Drop> AsyncRead for OwnedReader<H> {
 
     ghost saw = { λ owned. owned.reader.end.saw };
 
+    ghost told = { λ owned. owned.reader.end.told_shut };
+
     ghost needs = { λ owned s. s ≡ read_source owned.reader };
 
-    ghost fails = { λ _ e. e ≡ Memory };
+    ghost fails = { λ _ cx e. WantsWaker cx e };
 
     fn poll_read(
         &mut self,
@@ -101,9 +105,11 @@ impl<H: Wait + Clone + Drop> AsyncBufRead for OwnedReader<H> {
 
     ghost saw = { λ owned. owned.reader.end.saw };
 
+    ghost told = { λ owned. owned.reader.end.told_shut };
+
     ghost needs = { λ owned s. s ≡ read_source owned.reader };
 
-    ghost fails = { λ _ e. e ≡ Memory };
+    ghost fails = { λ _ cx e. WantsWaker cx e };
 
     fn poll_fill_buf(&mut self, cx: &mut Context<'_>) -> Poll<Result<&[u8], PipeError>> {
         self.reader.poll_fill_buf(cx)
@@ -115,7 +121,7 @@ impl<H: Wait + Clone + Drop> AsyncBufRead for OwnedReader<H> {
 }
 
 impl<H: Wait + Clone + Drop> AsyncWrite for OwnedWriter<H> {
-    ghost use Rattle.piper.specs.Handles.{write_source};
+    ghost use Rattle.piper.specs.Handles.{SameWriter, write_source};
 
     ghost sent = { λ owned. owned.writer.end.sent };
 
@@ -123,7 +129,7 @@ impl<H: Wait + Clone + Drop> AsyncWrite for OwnedWriter<H> {
 
     ghost needs = { λ owned s. s ≡ write_source owned.writer };
 
-    ghost fails = { λ _ e. e ≡ Memory };
+    ghost fails = { λ _ cx e. WantsWaker cx e };
 
     fn poll_write(
         &mut self,
@@ -133,11 +139,20 @@ impl<H: Wait + Clone + Drop> AsyncWrite for OwnedWriter<H> {
         self.writer.poll_write(cx, source)
     }
 
-    fn poll_flush(&mut self, cx: &mut Context<'_>) -> Poll<Result<(), PipeError>> {
+    fn poll_flush(&mut self, cx: &mut Context<'_>) -> Poll<Result<(), PipeError>>
+        ensures answer { result ≡ Poll.Ready (Ok (record {})) }
+        ensures handle { self.new ≡ self.old }
+        ensures kept { Keeps cx.old cx.new }
+    {
         self.writer.poll_flush(cx)
     }
 
-    fn poll_close(&mut self, cx: &mut Context<'_>) -> Poll<Result<(), PipeError>> {
+    fn poll_close(&mut self, cx: &mut Context<'_>) -> Poll<Result<(), PipeError>>
+        ensures answer { result ≡ Poll.Ready (Ok (record {})) }
+        ensures shut { WriterShut self.old.writer.end self.new.writer.end }
+        ensures handle { SameWriter self.old.writer self.new.writer }
+        ensures kept { Keeps cx.old cx.new }
+    {
         AsyncWrite::poll_close(&mut self.writer, cx)
     }
 }

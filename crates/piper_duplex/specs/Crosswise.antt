@@ -1,5 +1,5 @@
 -- Two pipes between the same two ends, one for each way.
-use Rattle.std.specs.Prelude.{◌≡◌, ℕ, ◌+◌, true, List, ◌++◌, length, Result, bit_xor}
+use Rattle.std.specs.Prelude.{◌≡◌, ℕ, ◌+◌, true, false, List, ◌++◌, length, Result, bit_xor}
 use Rattle.std.specs.Io.{StartsWith}
 use denote.Ref.{Bor}
 use Rattle.futures.specs.Task.{Covers}
@@ -9,12 +9,12 @@ use Rattle.futures.specs.declared.task.context.Context.{Context}
 use Rattle.piper.specs.ReadView.{SameReadEnd, in_one_piece}
 use Rattle.piper.specs.WriteView.{SameWriteEnd}
 use Rattle.piper.specs.Opened.{FreshReadEnd, FreshWriteEnd}
+use Rattle.piper.specs.Contexts.{WantsWaker}
 use Rattle.piper.specs.Generator.{generator}
 use Rattle.piper.specs.Ends.{ReaderRefreshed, WriterRefreshed}
 use Rattle.piper.specs.Handles.{ArePair, SameReader, SameWriter, read_source}
 use Rattle.piper.specs.Polls.{Lends, IfReadyErr}
 use Rattle.piper.specs.declared.error.PipeError.{PipeError}
-use Rattle.piper.specs.declared.error.PipeError.TheVariants.{Memory}
 use Rattle.piper.specs.declared.handles.Reader.{Reader}
 use Rattle.piper.specs.declared.handles.Writer.{Writer}
 use Rattle.piper_duplex.specs.declared.end.End.{End}
@@ -51,7 +51,8 @@ pub record HaveMet {H : Type 0}
   pub writer : WriterRefreshed writer0.end writer1.end × SameWriter writer0 writer1
 
 -- a poll of the end a lent the first piece of the known bytes, and left the end as b:
--- no byte was taken, and a pending poll has armed its task; a poll that fails wants memory
+-- no byte was taken, and a pending poll has armed its task and was not told of the end;
+-- a poll that fails wants memory
 abbrev pub LendsPiece : {H : Type 0} → Poll (Result (Bor (List ℕ)) PipeError)
     → End H → End H → Context → Type 0
 LendsPiece r a b cx =
@@ -59,5 +60,7 @@ LendsPiece r a b cx =
     × StartsWith b.reader.end.known a.reader.end.known
     × (b.reader.end.taken ≡ a.reader.end.taken)
     × (a.reader.end.saw ≡ true → b.reader.end.saw ≡ true)
-    × IfReadyErr r (λ e. e ≡ Memory)
+    × IfReadyErr r (WantsWaker cx)
+    × (b.reader.end.told_shut ≡ a.reader.end.told_shut)
+    × OnPending r (b.reader.end.told_shut ≡ false)
     × OnPending r (Covers cx (λ s. s ≡ read_source b.reader))

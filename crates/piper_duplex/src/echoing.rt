@@ -1,10 +1,12 @@
 //! An echo of lines: each is read whole and written back.
-ghost use Rattle.std.specs.Prelude.{◌≡◌, ◌<◌, ◌≤◌, [], length, true, false, Ok};
+ghost use Rattle.std.specs.Prelude.{◌≡◌, ◌<◌, ◌≤◌, ◌⊎◌, [], length, true, false, Ok};
 ghost use Rattle.futures.specs.Task.{Covers, Keeps};
 ghost use Rattle.futures.specs.Poll.{OnPending};
 ghost use Rattle.piper_lines.specs.LineReader.{reader_of, kept_of};
+ghost use Rattle.piper.specs.Polls.{IfReadyErr};
 ghost use Rattle.piper_lines.specs.AtEnd.{AtEnd};
 ghost use Rattle.piper_lines.specs.Moves.{Moves};
+ghost use Rattle.piper_lines.specs.Refusals.{IsTold, LacksRoom};
 ghost use Rattle.piper_lines.specs.Sends.{Sends};
 
 use futures::task::{Context, Poll};
@@ -68,6 +70,9 @@ impl LineEcho {
         ensures ended { result ≡ Poll.Ready (Ok Echoed.ToTheEnd) → (held_of self.new lines.new ≡ [])
             × AtEnd (R.known (reader_of lines.new)) (R.saw (reader_of lines.new)) }
         ensures closed { result ≡ Poll.Ready (Ok Echoed.UntilClosed) → W.saw writer.new ≡ true }
+        ensures error { IfReadyErr result (λ e. W.fails writer.new cx.new e
+            ⊎ IsTold e (R.fails (reader_of lines.new) cx.new)
+            (LacksRoom limit 0 (kept_of lines.new) (R.known (reader_of lines.new)))) }
         ensures stays { W.saw writer.old ≡ true → W.saw writer.new ≡ true }
         ensures covered { OnPending result (Covers cx.new
             (WaitsFor (R.needs (reader_of lines.new)) (W.needs writer.new) self.new)) }
@@ -101,6 +106,7 @@ impl LineEcho {
         ensures whole { result ≡ Poll.Ready (Ok Written.Whole) → self.new.is_written ≡ true }
         ensures closed { result ≡ Poll.Ready (Ok Written.Closed) → W.saw writer.new ≡ true }
         ensures stays { W.saw writer.old ≡ true → W.saw writer.new ≡ true }
+        ensures error { IfReadyErr result (W.fails writer.new cx.new) }
         ensures waits { OnPending result (self.new.is_written ≡ false) }
         ensures covered { OnPending result (Covers cx.new (W.needs writer.new)) }
         ensures kept { Keeps cx.old cx.new }
@@ -128,6 +134,8 @@ impl LineEcho {
             (kept_of lines.old) (left_of self.new) (kept_of lines.new) }
         ensures ended { result ≡ Poll.Ready (Ok LineAnswer.End) → (held_of self.new lines.new ≡ [])
             × AtEnd (R.known (reader_of lines.new)) (R.saw (reader_of lines.new)) }
+        ensures error { IfReadyErr result (λ e. IsTold e (R.fails (reader_of lines.new) cx.new)
+            (LacksRoom limit 0 (kept_of lines.new) (R.known (reader_of lines.new)))) }
         ensures waits { OnPending result (self.new.is_written ≡ true) }
         ensures covered { OnPending result (Covers cx.new (R.needs (reader_of lines.new))) }
         ensures kept { Keeps cx.old cx.new }

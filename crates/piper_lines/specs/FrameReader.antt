@@ -1,5 +1,5 @@
 -- What a reader of frames has.
-use Rattle.std.specs.Prelude.{ℕ, List, ◌++◌}
+use Rattle.std.specs.Prelude.{ℕ, List, ◌++◌, vec_capacity}
 use Rattle.std.specs.Borrow.{Fml, RattleType, MutBor, Lends}
 use Rattle.piper_lines.specs.declared.frame_reader.Frames.{Frames}
 use Rattle.piper_lines.specs.contracts.frame_reader.Frames.{the_row}
@@ -19,6 +19,13 @@ body_of frames = frames.body.items
 -- what was taken of a frame that has not come to its end
 abbrev pub kept_of : {R : Type 0} → Frames R → List ℕ
 kept_of frames = header_of frames ++ body_of frames
+
+-- how many bytes the memory holds that is there for a length, and for a body
+abbrev pub header_room_of : {R : Type 0} → Frames R → ℕ
+header_room_of frames = vec_capacity frames.header
+
+abbrev pub body_room_of : {R : Type 0} → Frames R → ℕ
+body_room_of frames = vec_capacity frames.body
 
 -- how many bytes of a skipped frame have still to pass
 abbrev pub skips_of : {R : Type 0} → Frames R → ℕ

@@ -9,5 +9,6 @@ pub mod LineAnswers
 pub mod LineReader
 pub mod LineWriter
 pub mod Moves
+pub mod Refusals
 pub mod Sends
 pub mod Split

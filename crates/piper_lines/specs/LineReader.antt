@@ -1,5 +1,5 @@
 -- What a reader of lines has.
-use Rattle.std.specs.Prelude.{ℕ, List}
+use Rattle.std.specs.Prelude.{ℕ, List, vec_capacity}
 use Rattle.std.specs.Borrow.{Fml, RattleType, MutBor, Lends}
 use Rattle.piper_lines.specs.declared.line_reader.Lines.{Lines}
 use Rattle.piper_lines.specs.contracts.line_reader.Lines.{the_row}
@@ -11,6 +11,10 @@ reader_of lines = lines.reader
 -- what was taken of a line that has not come to its end
 abbrev pub kept_of : {R : Type 0} → Lines R → List ℕ
 kept_of lines = lines.kept.items
+
+-- how many bytes the memory holds that is there for them
+abbrev pub room_of : {R : Type 0} → Lines R → ℕ
+room_of lines = vec_capacity lines.kept
 
 -- the lines, once a `&mut` to the reader has ended: they have the reader as it was left
 abbrev pub lends_reader : (R : RattleType) → MutBor (Lines R.Denot) → MutBor R.Denot → Fml

@@ -1,5 +1,5 @@
 //! All lines of a reader, or all frames.
-ghost use Rattle.std.specs.Prelude.{◌≡◌, ◌<◌, ◌++◌, [], ◌∷◌, vec_len, vec_capacity};
+ghost use Rattle.std.specs.Prelude.{◌≡◌, ◌<◌, ◌≤◌, ◌++◌, [], ◌∷◌, vec_len, vec_capacity};
 
 mod all_frames;
 mod all_lines;
@@ -24,7 +24,8 @@ pub enum Collected {
 // Appends where there is room already.
 fn push(out: &mut Vec<Vec<u8>>, piece: Vec<u8>)
     requires { vec_len out.old < vec_capacity out.old }
-    ensures { out.new.items ≡ out.old.items ++ piece ∷ [] }
+    ensures items { out.new.items ≡ out.old.items ++ piece ∷ [] }
+    ensures capacity { vec_capacity out.old ≤ vec_capacity out.new }
 {
     match out.push(piece) {
         Ok(()) => {}

@@ -1,8 +1,10 @@
 //! Frames, taken whole from a reader that gives bytes as they come.
-ghost use Rattle.std.specs.Prelude.{◌≡◌, ◌+◌, ◌<◌, ◌≤◌, [], length};
+ghost use Rattle.std.specs.Prelude.{◌≡◌, ◌+◌, ◌<◌, ◌≤◌, [], length, true};
 ghost use Rattle.std.specs.Borrow.{sem};
 ghost use Rattle.futures.specs.Task.{Covers, Keeps};
 ghost use Rattle.futures.specs.Poll.{OnPending};
+ghost use Rattle.piper.specs.Contexts.{AsksAgain};
+ghost use Rattle.piper.specs.Polls.{IfReadyErr};
 ghost use Rattle.piper_lines.specs.Frame.{length_bytes, told_length};
 
 use crate::gather::{fill_up, pass_over};
@@ -44,7 +46,8 @@ pub struct Frames<R> {
 }
 
 impl<R: AsyncBufRead> Frames<R> {
-    ghost use Rattle.piper_lines.specs.FrameReader.{reader_of, kept_of, header_of, body_of, skips_of, lends_reader};
+    ghost use Rattle.piper_lines.specs.FrameReader.{reader_of, kept_of, header_of, body_of, skips_of, header_room_of, body_room_of, lends_reader};
+    ghost use Rattle.piper_lines.specs.Refusals.{IsTold, LacksFrameRoom};
     ghost use Rattle.piper_lines.specs.FrameAnswers.{HandsFrame, handed};
     ghost use Rattle.piper_lines.specs.Moves.{PassesMoves};
 
@@ -113,6 +116,12 @@ impl<R: AsyncBufRead> Frames<R> {
         ensures hands { HandsFrame result limit frame.new.items (header_of self.new)
             (body_of self.old) (body_of self.new) (skips_of self.new)
             (R.known (reader_of self.new)) (R.saw (reader_of self.new)) }
+        ensures error { IfReadyErr result (λ e. IsTold e (R.fails (reader_of self.new) cx.new)
+            (LacksFrameRoom limit (header_room_of self.old) (body_room_of self.old)
+            (header_of self.new) (body_of self.new) (R.known (reader_of self.new)))) }
+        ensures told { R.told (reader_of self.new) ≡ R.told (reader_of self.old) }
+        ensures heeded { OnPending result
+            (R.told (reader_of self.new) ≡ true → AsksAgain cx.new) }
         ensures covered { OnPending result (Covers cx.new (R.needs (reader_of self.new))) }
         ensures kept { Keeps cx.old cx.new }
     {

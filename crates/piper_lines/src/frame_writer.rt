@@ -3,6 +3,7 @@ ghost use Rattle.std.specs.Prelude.{◌≡◌, ◌^◌, ◌<◌, ◌≤◌, [], 
 ghost use Rattle.futures.specs.Task.{Covers, Keeps};
 ghost use Rattle.futures.specs.Poll.{OnPending};
 ghost use Rattle.piper_lines.specs.Frame.{frame_bytes};
+ghost use Rattle.piper.specs.Polls.{IfReadyErr};
 ghost use Rattle.piper_lines.specs.Sends.{Sends};
 
 use crate::write_all::{Written, poll_write_both};
@@ -52,6 +53,7 @@ impl<'a> WriteFrame<'a> {
         ensures whole { result ≡ Poll.Ready (Ok Written.Whole) → left_of self.new ≡ [] }
         ensures closed { result ≡ Poll.Ready (Ok Written.Closed) → W.saw writer.new ≡ true }
         ensures stays { W.saw writer.old ≡ true → W.saw writer.new ≡ true }
+        ensures error { IfReadyErr result (W.fails writer.new cx.new) }
         ensures covered { OnPending result (Covers cx.new (W.needs writer.new)) }
         ensures kept { Keeps cx.old cx.new }
     {

@@ -1,9 +1,12 @@
 //! Bytes, gathered from a reader up to a number of them, and bytes that are passed over.
-ghost use Rattle.std.specs.Prelude.{◌≡◌, ◌<◌, ◌≤◌, [], length, true, false, Ok};
+ghost use Rattle.std.specs.Prelude.{◌≡◌, ◌<◌, ◌≤◌, [], length, true, false, Ok, vec_capacity};
 ghost use Rattle.futures.specs.Task.{Covers, Keeps};
 ghost use Rattle.futures.specs.Poll.{OnPending};
 ghost use Rattle.piper_lines.specs.AtEnd.{AtEnd};
 ghost use Rattle.piper_lines.specs.Moves.{Grows, Passes};
+ghost use Rattle.piper_lines.specs.Refusals.{IsTold, LacksRoom};
+ghost use Rattle.piper.specs.Contexts.{AsksAgain};
+ghost use Rattle.piper.specs.Polls.{IfReadyErr};
 
 use futures::task::{Context, Poll};
 use piper::PipeError;
@@ -26,6 +29,10 @@ pub(crate) fn fill_up<R: AsyncBufRead>(
     ensures full { result ≡ Poll.Ready (Ok true) → length gathered.new.items ≡ size }
     ensures ended { result ≡ Poll.Ready (Ok false) →
         (length gathered.new.items < size) × AtEnd (R.known reader.new) (R.saw reader.new) }
+    ensures error { IfReadyErr result (λ e. IsTold e (R.fails reader.new cx.new)
+        (LacksRoom size (vec_capacity gathered.old) gathered.new.items (R.known reader.new))) }
+    ensures told { R.told reader.new ≡ R.told reader.old }
+    ensures heeded { OnPending result (R.told reader.new ≡ false) }
     ensures covered { OnPending result (Covers cx.new (R.needs reader.new)) }
     ensures kept { Keeps cx.old cx.new }
 {
@@ -57,6 +64,9 @@ pub(crate) fn pass_over<R: AsyncBufRead>(
     ensures done { result ≡ Poll.Ready (Ok true) → left.new ≡ 0 }
     ensures ended { result ≡ Poll.Ready (Ok false) →
         (0 < left.new) × AtEnd (R.known reader.new) (R.saw reader.new) }
+    ensures error { IfReadyErr result (R.fails reader.new cx.new) }
+    ensures told { R.told reader.new ≡ R.told reader.old }
+    ensures heeded { OnPending result (R.told reader.new ≡ true → AsksAgain cx.new) }
     ensures covered { OnPending result (Covers cx.new (R.needs reader.new)) }
     ensures kept { Keeps cx.old cx.new }
 {

@@ -1,11 +1,13 @@
 //! Lines, taken whole from a reader that gives bytes as they come.
-ghost use Rattle.std.specs.Prelude.{◌≡◌, ◌<◌, ◌≤◌, ◌++◌, [], length, take, MatchBool};
+ghost use Rattle.std.specs.Prelude.{◌≡◌, ◌<◌, ◌≤◌, ◌++◌, [], length, take, false, MatchBool, vec_capacity};
 ghost use Rattle.std.specs.Borrow.{sem};
 ghost use Rattle.futures.specs.Task.{Covers, Keeps};
 ghost use Rattle.futures.specs.Poll.{OnPending};
 ghost use Rattle.piper_lines.specs.Line.{LacksLf, IsLine};
 ghost use Rattle.piper_lines.specs.Moves.{Moves, Grows};
 ghost use Rattle.piper_lines.specs.LineAnswers.{Gathers, Hands};
+ghost use Rattle.piper_lines.specs.Refusals.{IsTold, LacksRoom};
+ghost use Rattle.piper.specs.Polls.{IfReadyErr};
 
 use futures::task::{Context, Poll};
 use memchr::memchr;
@@ -52,7 +54,7 @@ pub struct Lines<R> {
 }
 
 impl<R: AsyncBufRead> Lines<R> {
-    ghost use Rattle.piper_lines.specs.LineReader.{reader_of, kept_of, lends_reader};
+    ghost use Rattle.piper_lines.specs.LineReader.{reader_of, kept_of, room_of, lends_reader};
 
     /// Nothing is kept yet, and no memory is asked for.
     pub fn new(alloc: Global, reader: R) -> Lines<R>
@@ -93,6 +95,10 @@ impl<R: AsyncBufRead> Lines<R> {
             (kept_of self.old) line.new.items (kept_of self.new) }
         ensures hands { Hands result limit (kept_of self.old) line.new.items (kept_of self.new)
             (R.known (reader_of self.new)) (R.saw (reader_of self.new)) }
+        ensures error { IfReadyErr result (λ e. IsTold e (R.fails (reader_of self.new) cx.new)
+            (LacksRoom limit (room_of self.old) (kept_of self.new) (R.known (reader_of self.new)))) }
+        ensures told { R.told (reader_of self.new) ≡ R.told (reader_of self.old) }
+        ensures heeded { OnPending result (R.told (reader_of self.new) ≡ false) }
         ensures covered { OnPending result (Covers cx.new (R.needs (reader_of self.new))) }
         ensures kept { Keeps cx.old cx.new }
     {
@@ -118,6 +124,10 @@ fn gather<R: AsyncBufRead>(
     ensures grown { Grows (R.taken reader.old) (R.taken reader.new) line.old.items line.new.items }
     ensures gathers { Gathers result limit line.old.items line.new.items
         (R.known reader.new) (R.saw reader.new) }
+    ensures error { IfReadyErr result (λ e. IsTold e (R.fails reader.new cx.new)
+        (LacksRoom limit (vec_capacity line.old) line.new.items (R.known reader.new))) }
+    ensures told { R.told reader.new ≡ R.told reader.old }
+    ensures heeded { OnPending result (R.told reader.new ≡ false) }
     ensures covered { OnPending result (Covers cx.new (R.needs reader.new)) }
     ensures kept { Keeps cx.old cx.new }
 {

@@ -2,6 +2,7 @@
 ghost use Rattle.std.specs.Prelude.{◌≡◌, ◌≤◌, ◌++◌, drop, length, true, Ok};
 ghost use Rattle.futures.specs.Task.{Covers, Keeps};
 ghost use Rattle.futures.specs.Poll.{OnPending};
+ghost use Rattle.piper.specs.Polls.{IfReadyErr};
 ghost use Rattle.piper_lines.specs.Sends.{Sends};
 
 use futures::task::{Context, Poll};
@@ -33,6 +34,7 @@ pub fn poll_write_all<W: AsyncWrite>(
     ensures whole { result ≡ Poll.Ready (Ok Written.Whole) → written.new ≡ length bytes.now }
     ensures closed { result ≡ Poll.Ready (Ok Written.Closed) → W.saw writer.new ≡ true }
     ensures stays { W.saw writer.old ≡ true → W.saw writer.new ≡ true }
+    ensures error { IfReadyErr result (W.fails writer.new cx.new) }
     ensures covered { OnPending result (Covers cx.new (W.needs writer.new)) }
     ensures kept { Keeps cx.old cx.new }
 {
@@ -67,6 +69,7 @@ pub(crate) fn poll_write_both<W: AsyncWrite>(
         (front_written.new ≡ length front.now) × (back_written.new ≡ length back.now) }
     ensures closed { result ≡ Poll.Ready (Ok Written.Closed) → W.saw writer.new ≡ true }
     ensures stays { W.saw writer.old ≡ true → W.saw writer.new ≡ true }
+    ensures error { IfReadyErr result (W.fails writer.new cx.new) }
     ensures covered { OnPending result (Covers cx.new (W.needs writer.new)) }
     ensures kept { Keeps cx.old cx.new }
 {

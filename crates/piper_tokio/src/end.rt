@@ -1,9 +1,17 @@
 //! An end of a duplex stream, for `tokio`.
-ghost use Rattle.std.specs.Prelude.{◌≡◌, true, [], refl};
+ghost use Rattle.std.specs.Prelude.{◌≡◌, ◌<◌, ◌≤◌, true, false, [], length, take, refl, Ok};
 ghost use Rattle.std.proofs.Common.{◌∙◌};
 ghost use Rattle.std.specs.IoError.{error_kind};
 ghost use Rattle.std.specs.declared.io.ErrorKind.TheVariants.{OutOfMemory as OutOfMemoryKind};
+ghost use Rattle.futures.specs.Poll.{OnPending};
+ghost use Rattle.futures.specs.Task.{Covers, Keeps};
+ghost use Rattle.tokio.specs.Io.Moved.{bytes_moved, count_moved, OnReadyOk, IfReadyErr};
+ghost use Rattle.piper.specs.Drains.{CountsWhatFits, EndIsUnseen};
+ghost use Rattle.piper.specs.Ends.{WriterShut};
+ghost use Rattle.piper.specs.Fills.{LosesOneRound, OnNoCount};
 ghost use Rattle.piper.specs.Handles.{read_source, write_source};
+ghost use Rattle.piper.specs.Polls.{IfReadyOk};
+ghost use Rattle.piper.specs.ReadView.{in_one_piece};
 ghost use Rattle.piper_tokio.specs.Passing.{Took, AtEnd, Gave};
 ghost use Rattle.piper_tokio.specs.Shown.{shown_by};
 ghost use Rattle.piper_tokio.specs.PassingLaws.{took_nothing, took_in_order, gave_nothing, gave_in_order};
@@ -62,7 +70,22 @@ impl<H: Wait + Clone + Drop> AsyncRead for CompatEnd<H> {
     ghost reads_in_order = { λ a xs b ys c p q.
         (took_in_order a.reader.reader xs b.reader.reader ys c.reader.reader p.0 q.0, q.1 ∙ p.1) };
 
-    fn poll_read(&mut self, cx: &mut Context<'_>, buf: &mut [u8]) -> Poll<io::Result<usize>> {
+    fn poll_read(&mut self, cx: &mut Context<'_>, buf: &mut [u8]) -> Poll<io::Result<usize>>
+        ensures bound { count_moved result ≤ length buf.new }
+        ensures bytes { Took self.old.reader.reader (bytes_moved result buf.new)
+            self.new.reader.reader × (self.new.writer ≡ self.old.writer) }
+        ensures count { CountsWhatFits result (length buf.old)
+            self.old.reader.reader.end self.new.reader.reader.end }
+        ensures end { result ≡ Poll.Ready (Ok 0) → 0 < length buf.old →
+            AtEnd self.new.reader.reader }
+        ensures waits { EndIsUnseen result
+            self.old.reader.reader.end self.new.reader.reader.end }
+        ensures failed { IfReadyErr result (λ e. error_kind e ≡ OutOfMemoryKind) }
+        ensures refused { IfReadyErr result (λ _. cx.new.lacks_waker ≡ true) }
+        ensures registered { OnPending result
+            (Covers cx.new (λ s. s ≡ read_source self.new.reader.reader)) }
+        ensures kept { Keeps cx.old cx.new }
+    {
         self.reader.poll_read(cx, buf)
     }
 }
@@ -70,7 +93,24 @@ impl<H: Wait + Clone + Drop> AsyncRead for CompatEnd<H> {
 impl<H: Wait + Clone + Drop> AsyncBufRead for CompatEnd<H> {
     ghost buffered = { λ compat. shown_by compat.reader };
 
-    fn poll_fill_buf(&mut self, cx: &mut Context<'_>) -> Poll<io::Result<()>> {
+    fn poll_fill_buf(&mut self, cx: &mut Context<'_>) -> Poll<io::Result<()>>
+        ensures bytes { Took self.old.reader.reader [] self.new.reader.reader
+            × (self.new.writer ≡ self.old.writer) }
+        ensures known { 0 < length self.old.reader.reader.end.known →
+            self.new.reader.reader.end ≡ self.old.reader.reader.end }
+        ensures shown { OnReadyOk result (shown_by self.new.reader
+            ≡ take (in_one_piece self.new.reader.reader.end) self.new.reader.reader.end.known) }
+        ensures end { OnReadyOk result
+            (length (shown_by self.new.reader) ≡ 0 → AtEnd self.new.reader.reader) }
+        ensures waits { OnPending result ((self.new.reader.reader.end.known ≡ [])
+            × (self.new.reader.reader.end.saw ≡ false)) }
+        ensures told { OnPending result (self.old.reader.reader.end.told_shut ≡ false) }
+        ensures failed { IfReadyErr result (λ e. error_kind e ≡ OutOfMemoryKind) }
+        ensures refused { IfReadyErr result (λ _. cx.new.lacks_waker ≡ true) }
+        ensures registered { OnPending result
+            (Covers cx.new (λ s. s ≡ read_source self.new.reader.reader)) }
+        ensures kept { Keeps cx.old cx.new }
+    {
         self.reader.poll_fill_buf(cx)
     }
 
@@ -99,15 +139,44 @@ impl<H: Wait + Clone + Drop> AsyncWrite for CompatEnd<H> {
     ghost writes_in_order = { λ a xs b ys c p q.
         (gave_in_order a.writer.writer xs b.writer.writer ys c.writer.writer p.0 q.0, q.1 ∙ p.1) };
 
-    fn poll_write(&mut self, cx: &mut Context<'_>, buf: &[u8]) -> Poll<io::Result<usize>> {
+    fn poll_write(&mut self, cx: &mut Context<'_>, buf: &[u8]) -> Poll<io::Result<usize>>
+        ensures bound { count_moved result ≤ length buf.now }
+        ensures bytes { Gave self.old.writer.writer (bytes_moved result buf.now)
+            self.new.writer.writer × (self.new.reader ≡ self.old.reader) }
+        ensures last { IfReadyOk result (λ n.
+            LosesOneRound n self.old.writer.writer.end self.new.writer.writer.end) }
+        ensures most { IfReadyOk result (λ n. n < length buf.now →
+            self.new.writer.writer.end.saw ≡ false → self.new.writer.writer.end.room ≡ 0) }
+        ensures full { result ≡ Poll.Ready (Ok 0) →
+            0 < length buf.now → self.new.writer.writer.end.saw ≡ true }
+        ensures over { self.old.writer.writer.end.saw ≡ true → result ≡ Poll.Ready (Ok 0) }
+        ensures open { OnNoCount result (self.new.writer.writer.end.saw ≡ false) }
+        ensures failed { IfReadyErr result (λ e. error_kind e ≡ OutOfMemoryKind) }
+        ensures refused { IfReadyErr result (λ _. cx.new.lacks_waker ≡ true) }
+        ensures registered { OnPending result
+            (Covers cx.new (λ s. s ≡ write_source self.new.writer.writer)) }
+        ensures kept { Keeps cx.old cx.new }
+    {
         self.writer.poll_write(cx, buf)
     }
 
-    fn poll_flush(&mut self, cx: &mut Context<'_>) -> Poll<io::Result<()>> {
+    fn poll_flush(&mut self, cx: &mut Context<'_>) -> Poll<io::Result<()>>
+        ensures answer { result ≡ Poll.Ready (Ok (record {})) }
+        ensures handles { self.new ≡ self.old }
+        ensures bytes { Gave self.old.writer.writer [] self.new.writer.writer
+            × (self.new.reader ≡ self.old.reader) }
+        ensures kept { Keeps cx.old cx.new }
+    {
         self.writer.poll_flush(cx)
     }
 
-    fn poll_shutdown(&mut self, cx: &mut Context<'_>) -> Poll<io::Result<()>> {
+    fn poll_shutdown(&mut self, cx: &mut Context<'_>) -> Poll<io::Result<()>>
+        ensures answer { result ≡ Poll.Ready (Ok (record {})) }
+        ensures shut { WriterShut self.old.writer.writer.end self.new.writer.writer.end }
+        ensures bytes { Gave self.old.writer.writer [] self.new.writer.writer
+            × (self.new.reader ≡ self.old.reader) }
+        ensures kept { Keeps cx.old cx.new }
+    {
         self.writer.poll_shutdown(cx)
     }
 }

@@ -6,7 +6,7 @@ ghost use Rattle.futures.specs.Poll.{OnPending};
 ghost use Rattle.futures.specs.Task.{Covers, Keeps};
 ghost use Rattle.tokio.specs.Io.Moved.{bytes_moved, count_moved, IfReadyErr};
 ghost use Rattle.piper.specs.Ends.{WriterShut};
-ghost use Rattle.piper.specs.Fills.{OnNoCount};
+ghost use Rattle.piper.specs.Fills.{FillYields, LosesOneRound, OnNoCount};
 ghost use Rattle.piper.specs.Handles.{SameWriter, write_source};
 ghost use Rattle.piper.specs.Polls.{IfReadyOk};
 ghost use Rattle.piper_tokio.specs.Passing.{Gave};
@@ -73,12 +73,15 @@ impl<H: Wait + Clone + Drop> tokio::io::AsyncWrite for CompatWriter<H> {
     fn poll_write(&mut self, cx: &mut Context<'_>, buf: &[u8]) -> Poll<io::Result<usize>>
         ensures bound { count_moved result ≤ length buf.now }
         ensures bytes { Gave self.old.writer (bytes_moved result buf.now) self.new.writer }
+        ensures last { IfReadyOk result (λ n.
+            LosesOneRound n self.old.writer.end self.new.writer.end) }
         ensures most { IfReadyOk result (λ n. n < length buf.now →
             self.new.writer.end.saw ≡ false → self.new.writer.end.room ≡ 0) }
         ensures full { result ≡ Poll.Ready (Ok 0) →
             0 < length buf.now → self.new.writer.end.saw ≡ true }
         ensures over { self.old.writer.end.saw ≡ true → result ≡ Poll.Ready (Ok 0) }
         ensures open { OnNoCount result (self.new.writer.end.saw ≡ false) }
+        ensures yields { FillYields result self.new.writer.end cx.new }
         ensures failed { IfReadyErr result (λ e. error_kind e ≡ OutOfMemoryKind) }
         ensures refused { IfReadyErr result (λ _. cx.new.lacks_waker ≡ true) }
         ensures registered { OnPending result

@@ -8,7 +8,7 @@ ghost use Rattle.piper.specs.Contexts.{IfGiven, Arms, LacksWaker};
 ghost use Rattle.piper.specs.Copies.{ReaderCopied};
 ghost use Rattle.piper.specs.CopyAnswers.{OnMemory, CountsFailure, IsAtOnce, inner_of};
 ghost use Rattle.piper.specs.Draws.{Draws, DrawsYield, Undrawn, drawn_from};
-ghost use Rattle.piper.specs.Drains.{Drains, DrainsInto, DrainRounds, EndIsSeen, EndIsUnseen, CountsWhatFits, FoundNoByte, StaysKnown, found_len};
+ghost use Rattle.piper.specs.Drains.{Drains, DrainsInto, DrainRounds, DrainYields, EndIsSeen, EndIsUnseen, CountsWhatFits, FoundNoByte, StaysKnown, found_len};
 ghost use Rattle.piper.specs.Ends.{ReaderIsUpToDate};
 ghost use Rattle.piper.specs.Like.{Counts, passed};
 ghost use Rattle.piper.specs.Looks.{ReaderLooked, OnRefused};
@@ -43,6 +43,7 @@ impl<H: Wait + Clone + Drop> Reader<H> {
         ensures waits { EndIsUnseen result self.old.end self.new.end }
         ensures draws { Draws (0 < found_len self.old.end self.new.end) result
             self.old.rng self.new.rng }
+        ensures yields { DrainYields result self.old.end self.new.end cx.new }
         ensures refused { OnMemory (inner_of result) (cx.new.lacks_waker ≡ true) }
         ensures slots { self.new.slots ≡ self.old.slots }
         ensures covered { OnPending result (Covers cx.new (λ s. s ≡ read_source self.old)) }
@@ -59,7 +60,7 @@ impl<H: Wait + Clone + Drop> Reader<H> {
 
     /// Moves known bytes into the front of `dest`, and answers how many: as many as its look left known and as fit.
     ///
-    /// It looks, draws and waits as `poll_drain` does: 0, where there is room, is the end of a closed pipe.
+    /// It looks, draws and waits as `poll_drain` does: 0 is the end of a closed pipe, or `dest` has no room and a byte is known.
     pub fn poll_drain_bytes(
         &mut self,
         cx: &mut Context<'_>,
@@ -70,9 +71,11 @@ impl<H: Wait + Clone + Drop> Reader<H> {
         ensures count { CountsWhatFits result (length dest.old) self.old.end self.new.end }
         ensures known { 0 < length self.old.end.known → StaysKnown self.old.end self.new.end }
         ensures fresh { self.old.end.known ≡ [] → ReaderIsUpToDate self.new.end }
+        ensures ended { EndIsSeen result self.old.end self.new.end }
         ensures waits { EndIsUnseen result self.old.end self.new.end }
         ensures draws { Draws (0 < found_len self.old.end self.new.end) result
             self.old.rng self.new.rng }
+        ensures yields { DrainYields result self.old.end self.new.end cx.new }
         ensures refused { OnRefused result (cx.new.lacks_waker ≡ true) }
         ensures end { ReaderCopied self.old.end self.new.end }
         ensures slots { self.new.slots ≡ self.old.slots }
@@ -129,6 +132,8 @@ impl<H: Wait + Clone + Drop> Reader<H> {
             Undrawn (0 < found_len self.old.end self.new.end) result self.old.rng self.new.rng }
         ensures granted { cx.entry ≡ None → OnMemory result ⊥ }
         ensures slots { self.new.slots ≡ self.old.slots }
+        ensures yields { IfGiven cx.entry cx.exit (λ _ left.
+            DrainYields result self.old.end self.new.end left) }
         ensures refused { IfGiven cx.entry cx.exit (LacksWaker result) }
         ensures covered { IfGiven cx.entry cx.exit (Arms result (read_source self.old)) }
         ensures kept { IfGiven cx.entry cx.exit Keeps }
@@ -153,6 +158,7 @@ impl<H: Wait + Clone + Drop> Reader<H> {
         ensures waits { EndIsUnseen result self.old.end self.new.end }
         ensures draws { Draws (0 < found_len self.old.end self.new.end) result
             self.old.rng self.new.rng }
+        ensures yields { DrainYields result self.old.end self.new.end cx.new }
         ensures refused { OnMemory result (cx.new.lacks_waker ≡ true) }
         ensures slots { self.new.slots ≡ self.old.slots }
         ensures covered { OnPending result (Covers cx.new (λ s. s ≡ read_source self.old)) }
@@ -199,7 +205,8 @@ impl<H: Wait + Clone + Drop> Reader<H> {
         ensures failures { CountsFailure result (W.failures dest.old) (W.failures dest.new) }
         ensures ended { EndIsSeen result self.old.end self.new.end }
         ensures waits { OnPending result (found_len self.old.end self.new.end ≡ 0) }
-        ensures open { OnPending result (self.new.end.saw ≡ false) }
+        ensures open { OnPending result (
+            (self.new.end.saw ≡ false) × (self.new.end.told_shut ≡ false)) }
         ensures granted { OnMemory result ⊥ }
         ensures rest { SameReader self.old self.new }
     {

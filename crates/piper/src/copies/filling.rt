@@ -8,7 +8,7 @@ ghost use Rattle.piper.specs.Copies.{IsReplaced, WriterCopied};
 ghost use Rattle.piper.specs.CopyAnswers.{OnMemory, CountsFailure, IsAtOnce, inner_of, inner_of_bytes};
 ghost use Rattle.piper.specs.Draws.{Draws, DrawsYield, Undrawn, drawn_from};
 ghost use Rattle.piper.specs.Ends.{WriterIsUpToDate};
-ghost use Rattle.piper.specs.Fills.{Fills, FillsFrom, FillRounds, FoundNoRoom, FoundRoom, OnNoCount, WriterFilled, WriterRelent};
+ghost use Rattle.piper.specs.Fills.{Fills, FillsFrom, FillRounds, FillYields, FoundNoRoom, FoundRoom, LosesOneRound, OnNoCount, WriterFilled, WriterRelent, most_of_round};
 ghost use Rattle.piper.specs.Like.{Counts, passed};
 ghost use Rattle.piper.specs.Looks.{WriterLooked, OnRefused};
 ghost use Rattle.piper.specs.Polls.{IfReadyOk, Writes};
@@ -42,6 +42,7 @@ impl<H: Wait + Clone + Drop> Writer<H> {
         ensures open { OnNoCount (inner_of result) (self.new.end.saw ≡ false) }
         ensures draws { Draws (FoundRoom (inner_of result) self.new.end) result
             self.old.rng self.new.rng }
+        ensures yields { FillYields result self.new.end cx.new }
         ensures lent { self.new.end.lent ≡ [] }
         ensures refused { OnMemory (inner_of result) (cx.new.lacks_waker ≡ true) }
         ensures slots { self.new.slots ≡ self.old.slots }
@@ -69,6 +70,7 @@ impl<H: Wait + Clone + Drop> Writer<H> {
             self.old.end.sent self.new.end.sent self.new.end.saw }
         ensures full { result ≡ Poll.Ready (Ok 0) →
             0 < length bytes.now → self.new.end.saw ≡ true }
+        ensures last { IfReadyOk result (λ n. LosesOneRound n self.old.end self.new.end) }
         ensures most { IfReadyOk result (λ n.
             n < length bytes.now → self.new.end.saw ≡ false → self.new.end.room ≡ 0) }
         ensures room { 0 < self.old.end.room → IsReplaced self.old.end self.new.end }
@@ -78,6 +80,7 @@ impl<H: Wait + Clone + Drop> Writer<H> {
         ensures open { OnNoCount result (self.new.end.saw ≡ false) }
         ensures draws { Draws (FoundRoom (inner_of_bytes result) self.new.end) result
             self.old.rng self.new.rng }
+        ensures yields { FillYields result self.new.end cx.new }
         ensures lent { self.new.end.lent ≡ [] }
         ensures refused { OnRefused result (cx.new.lacks_waker ≡ true) }
         ensures end { WriterFilled self.old.end self.new.end }
@@ -103,6 +106,7 @@ impl<H: Wait + Clone + Drop> Writer<H> {
             self.new.end.sent ≡ self.old.end.sent ++ take result bytes.now }
         ensures front { (m : ℕ) × (m ≤ result)
             × (self.new.end.sent ≡ self.old.end.sent ++ take m bytes.now) }
+        ensures last { LosesOneRound result self.old.end self.new.end }
         ensures room { 0 < self.old.end.room → IsReplaced self.old.end self.new.end }
         ensures most { result < length bytes.now →
             self.new.end.saw ≡ false → self.new.end.room ≡ 0 }
@@ -142,6 +146,7 @@ impl<H: Wait + Clone + Drop> Writer<H> {
         ensures granted { cx.entry ≡ None → OnMemory result ⊥ }
         ensures lent { self.new.end.lent ≡ [] }
         ensures slots { self.new.slots ≡ self.old.slots }
+        ensures yields { IfGiven cx.entry cx.exit (λ _ left. FillYields result self.new.end left) }
         ensures refused { IfGiven cx.entry cx.exit (LacksWaker result) }
         ensures covered { IfGiven cx.entry cx.exit (Arms result (write_source self.old)) }
         ensures kept { IfGiven cx.entry cx.exit Keeps }
@@ -173,6 +178,7 @@ impl<H: Wait + Clone + Drop> Writer<H> {
         ensures over { self.old.end.saw ≡ true → result ≡ Poll.Ready (Ok 0) }
         ensures open { OnNoCount result (self.new.end.saw ≡ false) }
         ensures draws { Draws (FoundRoom result self.new.end) result self.old.rng self.new.rng }
+        ensures yields { FillYields result self.new.end cx.new }
         ensures refused { OnMemory result (cx.new.lacks_waker ≡ true) }
         ensures slots { self.new.slots ≡ self.old.slots }
         ensures covered { OnPending result (Covers cx.new (λ s. s ≡ write_source self.old)) }
@@ -363,7 +369,7 @@ impl<H: Wait + Clone + Drop> Writer<H> {
         requires is_open { self.old.end.shut ≡ false }
         requires some { 0 < asks }
         ensures bound { IfOk result (λ n. n ≤ length self.new.end.lent) }
-        ensures most { IfOk result (λ n. n ≤ MOST_A_ROUND) }
+        ensures most { IfOk result (λ n. n ≤ most_of_round self.new.end) }
         ensures bytes { R.gives source.old (passed result self.new.end.lent) source.new }
         ensures dry { result ≡ Ok 0 → (self.new.end.room ≡ 0) ⊎ R.is_dry source.new }
         ensures error { IfErr result (λ e. R.fails source.old e source.new) }

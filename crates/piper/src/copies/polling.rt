@@ -1,6 +1,8 @@
 //! The traits of readers and writers, for the handles.
-ghost use Rattle.std.specs.Prelude.{◌≡◌};
-ghost use Rattle.piper.specs.declared.error.PipeError.TheVariants.{Memory};
+ghost use Rattle.std.specs.Prelude.{◌≡◌, Ok};
+ghost use Rattle.futures.specs.Task.{Keeps};
+ghost use Rattle.piper.specs.Contexts.{WantsWaker};
+ghost use Rattle.piper.specs.Ends.{WriterShut};
 
 use crate::error::PipeError;
 use crate::handles::{Reader, Writer};
@@ -16,9 +18,11 @@ impl<H: Wait + Clone + Drop> AsyncRead for Reader<H> {
 
     ghost saw = { λ r. r.end.saw };
 
+    ghost told = { λ r. r.end.told_shut };
+
     ghost needs = { λ r s. s ≡ read_source r };
 
-    ghost fails = { λ _ e. e ≡ Memory };
+    ghost fails = { λ _ cx e. WantsWaker cx e };
 
     fn poll_read(
         &mut self,
@@ -45,9 +49,11 @@ impl<H: Wait + Clone + Drop> AsyncBufRead for Reader<H> {
 
     ghost saw = { λ r. r.end.saw };
 
+    ghost told = { λ r. r.end.told_shut };
+
     ghost needs = { λ r s. s ≡ read_source r };
 
-    ghost fails = { λ _ e. e ≡ Memory };
+    ghost fails = { λ _ cx e. WantsWaker cx e };
 
     fn poll_fill_buf(&mut self, cx: &mut Context<'_>) -> Poll<Result<&[u8], PipeError>> {
         match self.poll(cx) {
@@ -65,7 +71,7 @@ impl<H: Wait + Clone + Drop> AsyncBufRead for Reader<H> {
 }
 
 impl<H: Wait + Clone + Drop> AsyncWrite for Writer<H> {
-    ghost use Rattle.piper.specs.Handles.{write_source};
+    ghost use Rattle.piper.specs.Handles.{SameWriter, write_source};
 
     ghost sent = { λ w. w.end.sent };
 
@@ -73,7 +79,7 @@ impl<H: Wait + Clone + Drop> AsyncWrite for Writer<H> {
 
     ghost needs = { λ w s. s ≡ write_source w };
 
-    ghost fails = { λ _ e. e ≡ Memory };
+    ghost fails = { λ _ cx e. WantsWaker cx e };
 
     fn poll_write(
         &mut self,
@@ -87,12 +93,22 @@ impl<H: Wait + Clone + Drop> AsyncWrite for Writer<H> {
         }
     }
 
-    fn poll_flush(&mut self, cx: &mut Context<'_>) -> Poll<Result<(), PipeError>> {
+    fn poll_flush(&mut self, cx: &mut Context<'_>) -> Poll<Result<(), PipeError>>
+        ensures answer { result ≡ Poll.Ready (Ok (record {})) }
+        ensures handle { self.new ≡ self.old }
+        ensures kept { Keeps cx.old cx.new }
+    {
+        // What was written is published already.
         let _unused = cx;
         Poll::Ready(Ok(()))
     }
 
-    fn poll_close(&mut self, cx: &mut Context<'_>) -> Poll<Result<(), PipeError>> {
+    fn poll_close(&mut self, cx: &mut Context<'_>) -> Poll<Result<(), PipeError>>
+        ensures answer { result ≡ Poll.Ready (Ok (record {})) }
+        ensures shut { WriterShut self.old.end self.new.end }
+        ensures handle { SameWriter self.old self.new }
+        ensures kept { Keeps cx.old cx.new }
+    {
         match Writer::poll_close(self, cx) {
             Poll::Pending => Poll::Pending,
             Poll::Ready(Ok(())) => Poll::Ready(Ok(())),

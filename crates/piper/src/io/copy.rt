@@ -33,7 +33,8 @@ pub fn poll_copy<R: AsyncBufRead, W: AsyncWrite>(
     ensures ended { result ≡ Poll.Ready (Ok Copied.ToTheEnd) →
         (R.known reader.new ≡ []) × (R.saw reader.new ≡ true) }
     ensures closed { result ≡ Poll.Ready (Ok Copied.UntilClosed) → W.saw writer.new ≡ true }
-    ensures error { IfReadyErr result (λ e. R.fails reader.new e ⊎ W.fails writer.new e) }
+    ensures error { IfReadyErr result (λ e.
+        R.fails reader.new cx.new e ⊎ W.fails writer.new cx.new e) }
     ensures covered { OnPending result (
         Covers cx.new (R.needs reader.new) ⊎ Covers cx.new (W.needs writer.new)) }
     ensures kept { Keeps cx.old cx.new }

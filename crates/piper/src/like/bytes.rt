@@ -56,7 +56,10 @@ impl ReadLike for ReadBytes<'_> {
     }
 
     #[inline(always)]
-    fn asks(&self) -> usize {
+    fn asks(&self) -> usize
+        ensures dry { result ≡ 0 → length self.now.rest.now ≡ 0 }
+        ensures all { result ≡ length self.now.rest.now }
+    {
         self.rest.len()
     }
 }
@@ -103,7 +106,10 @@ impl WriteLike for WriteBytes<'_> {
     }
 
     #[inline(always)]
-    fn asks(&self) -> usize {
+    fn asks(&self) -> usize
+        ensures full { result ≡ 0 → length self.now.bytes.now ≡ self.now.place }
+        ensures all { result + self.now.place ≡ length self.now.bytes.now }
+    {
         self.bytes.len() - self.place
     }
 }

@@ -1,13 +1,17 @@
 //! The traits of readers and writers, for an end. Each call is that call of one of its handles, and leaves the other as it is.
-ghost use Rattle.std.specs.Prelude.{◌≡◌, ◌<◌, ◌≤◌, ◌++◌, length, take, drop, true, Ok};
+ghost use Rattle.std.specs.Prelude.{◌≡◌, ◌<◌, ◌≤◌, ◌++◌, [], length, take, drop, true, false, Ok};
 ghost use Rattle.std.specs.Borrow.{sem};
 ghost use Rattle.std.specs.Io.BufRead.{Rests};
 ghost use Rattle.futures.specs.Task.{Covers, Keeps};
 ghost use Rattle.futures.specs.Poll.{OnPending};
-ghost use Rattle.piper.specs.Ends.{WriterShut};
+ghost use Rattle.piper.specs.Contexts.{AsksAgain, WantsWaker};
+ghost use Rattle.piper.specs.Copies.{IsReplaced};
+ghost use Rattle.piper.specs.Drains.{CountsWhatFits, DrainYields, EndIsSeen, EndIsUnseen, StaysKnown};
+ghost use Rattle.piper.specs.Ends.{ReaderIsUpToDate, WriterIsUpToDate, WriterShut};
+ghost use Rattle.piper.specs.Fills.{FillYields, LosesOneRound, OnNoCount, WriterFilled};
 ghost use Rattle.piper.specs.Handles.{read_source, write_source};
-ghost use Rattle.piper.specs.Polls.{Reads, Writes, OnReadyOk, IfReadyErr};
-ghost use Rattle.piper.specs.declared.error.PipeError.TheVariants.{Memory};
+ghost use Rattle.piper.specs.Looks.{ReaderLooked};
+ghost use Rattle.piper.specs.Polls.{Reads, Writes, IfReadyOk, IfReadyErr};
 ghost use Rattle.piper.specs.ReadView.{in_one_piece};
 ghost use Rattle.piper_duplex.specs.Crosswise.{OnlyReads, OnlyWrites, LendsPiece};
 
@@ -22,14 +26,27 @@ impl<H: Wait + Clone + Drop> AsyncRead for End<H> {
 
     ghost saw = { λ e. e.reader.end.saw };
 
+    ghost told = { λ e. e.reader.end.told_shut };
+
     ghost needs = { λ e s. s ≡ read_source e.reader };
 
-    ghost fails = { λ _ e. e ≡ Memory };
+    ghost fails = { λ _ cx e. WantsWaker cx e };
 
     fn poll_read(&mut self, cx: &mut Context<'_>, dest: &mut [u8]) -> Poll<Result<usize, PipeError>>
         ensures read { Reads result dest.old dest.new
             self.old.reader.end.taken self.new.reader.end.taken self.new.reader.end.saw }
-        ensures error { IfReadyErr result (λ e. e ≡ Memory) }
+        ensures count { CountsWhatFits result (length dest.old)
+            self.old.reader.end self.new.reader.end }
+        ensures known { 0 < length self.old.reader.end.known →
+            StaysKnown self.old.reader.end self.new.reader.end }
+        ensures fresh { self.old.reader.end.known ≡ [] → ReaderIsUpToDate self.new.reader.end }
+        ensures ended { EndIsSeen result self.old.reader.end self.new.reader.end }
+        ensures waits { EndIsUnseen result self.old.reader.end self.new.reader.end }
+        ensures yields { DrainYields result self.old.reader.end self.new.reader.end cx.new }
+        ensures told { self.new.reader.end.told_shut ≡ self.old.reader.end.told_shut }
+        ensures heeded { OnPending result
+            (self.old.reader.end.told_shut ≡ true → AsksAgain cx.new) }
+        ensures error { IfReadyErr result (WantsWaker cx.new) }
         ensures stays { self.old.reader.end.saw ≡ true → self.new.reader.end.saw ≡ true }
         ensures covered { OnPending result (Covers cx.new (λ s. s ≡ read_source self.new.reader)) }
         ensures kept { Keeps cx.old cx.new }
@@ -54,14 +71,17 @@ impl<H: Wait + Clone + Drop> AsyncBufRead for End<H> {
 
     ghost saw = { λ e. e.reader.end.saw };
 
+    ghost told = { λ e. e.reader.end.told_shut };
+
     ghost needs = { λ e s. s ≡ read_source e.reader };
 
-    ghost fails = { λ _ e. e ≡ Memory };
+    ghost fails = { λ _ cx e. WantsWaker cx e };
 
     fn poll_fill_buf(&mut self, cx: &mut Context<'_>) -> Poll<Result<&[u8], PipeError>>
         // said of the end as it is once the slice is given back
         ensures* lent { sem 𝓛 (Rests (the_row H.row) self.entry
-            (λ new. OnlyReads self.old new × LendsPiece result self.old new cx.new)) }
+            (λ new. OnlyReads self.old new × ReaderLooked self.old.reader.end new.reader.end
+            × LendsPiece result self.old new cx.new)) }
         ensures kept { Keeps cx.old cx.new }
     {
         match self.reader.poll(cx) {
@@ -77,6 +97,7 @@ impl<H: Wait + Clone + Drop> AsyncBufRead for End<H> {
         ensures taken { self.new.reader.end.taken
             ≡ self.old.reader.end.taken ++ take amt self.old.reader.end.known }
         ensures saw { self.new.reader.end.saw ≡ self.old.reader.end.saw }
+        ensures told { self.new.reader.end.told_shut ≡ self.old.reader.end.told_shut }
         ensures rest { OnlyReads self.old self.new }
     {
         self.reader.consume(amt);
@@ -90,14 +111,26 @@ impl<H: Wait + Clone + Drop> AsyncWrite for End<H> {
 
     ghost needs = { λ e s. s ≡ write_source e.writer };
 
-    ghost fails = { λ _ e. e ≡ Memory };
+    ghost fails = { λ _ cx e. WantsWaker cx e };
 
     fn poll_write(&mut self, cx: &mut Context<'_>, source: &[u8]) -> Poll<Result<usize, PipeError>>
         ensures written { Writes result source.now
             self.old.writer.end.sent self.new.writer.end.sent self.new.writer.end.saw }
+        ensures last { IfReadyOk result (λ n.
+            LosesOneRound n self.old.writer.end self.new.writer.end) }
+        ensures most { IfReadyOk result (λ n. n < length source.now →
+            self.new.writer.end.saw ≡ false → self.new.writer.end.room ≡ 0) }
+        ensures room { 0 < self.old.writer.end.room →
+            IsReplaced self.old.writer.end self.new.writer.end }
+        ensures fresh { self.old.writer.end.room ≡ 0 →
+            self.new.writer.end.saw ≡ false → WriterIsUpToDate self.new.writer.end }
+        ensures open { OnNoCount result (self.new.writer.end.saw ≡ false) }
+        ensures yields { FillYields result self.new.writer.end cx.new }
+        ensures lent { self.new.writer.end.lent ≡ [] }
+        ensures filled { WriterFilled self.old.writer.end self.new.writer.end }
         ensures full { result ≡ Poll.Ready (Ok 0) →
             0 < length source.now → self.new.writer.end.saw ≡ true }
-        ensures error { IfReadyErr result (λ e. e ≡ Memory) }
+        ensures error { IfReadyErr result (WantsWaker cx.new) }
         ensures over { self.old.writer.end.saw ≡ true → result ≡ Poll.Ready (Ok 0) }
         ensures stays { self.old.writer.end.saw ≡ true → self.new.writer.end.saw ≡ true }
         ensures covered { OnPending result (Covers cx.new (λ s. s ≡ write_source self.new.writer)) }

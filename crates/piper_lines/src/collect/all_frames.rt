@@ -1,11 +1,13 @@
 //! All frames of a reader.
-ghost use Rattle.std.specs.Prelude.{◌≤◌, ◌++◌, length};
+ghost use Rattle.std.specs.Prelude.{◌≤◌, ◌++◌, ◌⊎◌, length, vec_capacity, vec_len};
 ghost use Rattle.futures.specs.Task.{Covers, Keeps};
 ghost use Rattle.futures.specs.Poll.{OnPending};
 ghost use Rattle.piper_lines.specs.Split.{joined_frames, Adds};
 ghost use Rattle.piper_lines.specs.FrameReader.{reader_of, kept_of, header_of, body_of, skips_of};
 ghost use Rattle.piper_lines.specs.Moves.{PassesMoves};
 ghost use Rattle.piper_lines.specs.Collected.{EndsFrames};
+ghost use Rattle.piper_lines.specs.Refusals.{IsTold, LacksFrameRoom};
+ghost use Rattle.piper.specs.Polls.{IfReadyErr};
 
 use super::{Collected, MOST_PIECES, push};
 use crate::frame_reader::{FrameAnswer, Frames};
@@ -30,6 +32,9 @@ pub fn poll_frames<R: AsyncBufRead>(
     ensures ended { EndsFrames result limit (header_of frames.new)
         (body_of frames.old) (body_of frames.new) (skips_of frames.new)
         (R.known (reader_of frames.new)) (R.saw (reader_of frames.new)) }
+    ensures error { IfReadyErr result (λ e. IsTold e (R.fails (reader_of frames.new) cx.new)
+        (LacksFrameRoom limit 0 0 (header_of frames.new) (body_of frames.new)
+        (R.known (reader_of frames.new)) ⊎ (vec_capacity out.old ≤ vec_len out.new))) }
     ensures covered { OnPending result (Covers cx.new (R.needs (reader_of frames.new))) }
     ensures kept { Keeps cx.old cx.new }
 {

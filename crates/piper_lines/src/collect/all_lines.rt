@@ -1,12 +1,13 @@
 //! All lines of a reader.
-ghost use Rattle.std.specs.Prelude.{◌≡◌, ◌<◌, ◌++◌, [], length};
+ghost use Rattle.std.specs.Prelude.{◌≡◌, ◌<◌, ◌≤◌, ◌++◌, ◌⊎◌, [], length, vec_capacity, vec_len};
 ghost use Rattle.futures.specs.Task.{Covers, Keeps};
 ghost use Rattle.futures.specs.Poll.{OnPending};
-ghost use Rattle.piper.specs.Polls.{IfReadyOk};
+ghost use Rattle.piper.specs.Polls.{IfReadyOk, IfReadyErr};
 ghost use Rattle.piper_lines.specs.AtEnd.{AtEnd};
 ghost use Rattle.piper_lines.specs.Split.{joined, Adds, IsPiece};
 ghost use Rattle.piper_lines.specs.LineReader.{reader_of, kept_of};
 ghost use Rattle.piper_lines.specs.Moves.{Moves};
+ghost use Rattle.piper_lines.specs.Refusals.{IsTold, LacksRoom};
 ghost use Rattle.piper_lines.specs.Collected.{rest_of};
 
 use super::{MOST_PIECES, push};
@@ -32,6 +33,9 @@ pub fn poll_lines<R: AsyncBufRead>(
         out.old.items out.new.items }
     ensures ended { IfReadyOk result (λ _. (kept_of lines.new ≡ [])
         × AtEnd (R.known (reader_of lines.new)) (R.saw (reader_of lines.new))) }
+    ensures error { IfReadyErr result (λ e. IsTold e (R.fails (reader_of lines.new) cx.new)
+        (LacksRoom limit 0 (kept_of lines.new) (R.known (reader_of lines.new))
+        ⊎ (vec_capacity out.old ≤ vec_len out.new))) }
     ensures covered { OnPending result (Covers cx.new (R.needs (reader_of lines.new))) }
     ensures kept { Keeps cx.old cx.new }
 {

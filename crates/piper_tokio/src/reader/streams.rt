@@ -5,7 +5,8 @@ ghost use Rattle.std.specs.declared.io.ErrorKind.TheVariants.{OutOfMemory as Out
 ghost use Rattle.futures.specs.Poll.{OnPending};
 ghost use Rattle.futures.specs.Task.{Covers, Keeps};
 ghost use Rattle.tokio.specs.Io.Moved.{bytes_moved, count_moved, OnReadyOk, IfReadyErr};
-ghost use Rattle.piper.specs.Drains.{CountsWhatFits, EndIsUnseen};
+ghost use Rattle.piper.specs.Drains.{CountsWhatFits, DrainYields, EndIsSeen, EndIsUnseen};
+ghost use Rattle.piper.specs.Ends.{ReaderIsUpToDate};
 ghost use Rattle.piper.specs.Handles.{read_source};
 ghost use Rattle.piper.specs.ReadView.{in_one_piece};
 ghost use Rattle.piper_tokio.specs.Passing.{Took, AtEnd};
@@ -62,7 +63,10 @@ impl<H: Wait + Clone + Drop> tokio::io::AsyncRead for CompatReader<H> {
         ensures count { CountsWhatFits result (length buf.old)
             self.old.reader.end self.new.reader.end }
         ensures end { result ≡ Poll.Ready (Ok 0) → 0 < length buf.old → AtEnd self.new.reader }
+        ensures ended { EndIsSeen result self.old.reader.end self.new.reader.end }
         ensures waits { EndIsUnseen result self.old.reader.end self.new.reader.end }
+        ensures yields { DrainYields result self.old.reader.end self.new.reader.end cx.new }
+        ensures fresh { self.old.reader.end.known ≡ [] → ReaderIsUpToDate self.new.reader.end }
         ensures failed { IfReadyErr result (λ e. error_kind e ≡ OutOfMemoryKind) }
         ensures refused { IfReadyErr result (λ _. cx.new.lacks_waker ≡ true) }
         ensures shown { shown_by self.new ≡ [] }
@@ -92,6 +96,8 @@ impl<H: Wait + Clone + Drop> tokio::io::AsyncBufRead for CompatReader<H> {
             (length (shown_by self.new) ≡ 0 → AtEnd self.new.reader) }
         ensures waits { OnPending result
             ((self.new.reader.end.known ≡ []) × (self.new.reader.end.saw ≡ false)) }
+        ensures told { OnPending result (self.old.reader.end.told_shut ≡ false) }
+        ensures fresh { self.old.reader.end.known ≡ [] → ReaderIsUpToDate self.new.reader.end }
         ensures failed { IfReadyErr result (λ e. error_kind e ≡ OutOfMemoryKind) }
         ensures refused { IfReadyErr result (λ _. cx.new.lacks_waker ≡ true) }
         ensures registered { OnPending result

@@ -1,5 +1,5 @@
 -- What was taken so far stands at the end of what is gathered.
-use Rattle.std.proofs.Common.{◌≤◌, ◌-◌, length}
+use Rattle.std.proofs.Common.{◌≡◌, ◌≤◌, ◌-◌, length, vec_capacity}
 use Rattle.futures.specs.Task.{Keeps}
 use Rattle.piper_lines.specs.Moves.{Grows}
 use Rattle.piper_lines.proofs.gather.fill_up.Given as goal
@@ -8,6 +8,8 @@ abbrev pub invariant-loop-reader : goal.invariant-loop-reader
 invariant-loop-reader g l = record {
   grown : Grows (g.R.AsyncBufRead.taken l.fn.reader) (g.R.AsyncBufRead.taken l.reader) l.fn.gathered.items l.gathered.items;
   within : length l.gathered.items ≤ l.size;
+  room : vec_capacity l.fn.gathered ≤ vec_capacity l.gathered;
+  told : g.R.AsyncBufRead.told l.reader ≡ g.R.AsyncBufRead.told l.fn.reader;
   kept : Keeps l.fn.cx l.cx;
 }
 

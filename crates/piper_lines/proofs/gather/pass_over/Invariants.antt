@@ -1,4 +1,5 @@
 -- As many bytes were taken so far as there are fewer to pass.
+use Rattle.std.proofs.Common.{◌≡◌}
 use Rattle.futures.specs.Task.{Keeps}
 use Rattle.piper_lines.specs.Moves.{Passes}
 use Rattle.piper_lines.proofs.gather.pass_over.Given as goal
@@ -6,5 +7,6 @@ use Rattle.piper_lines.proofs.gather.pass_over.Given as goal
 abbrev pub invariant-loop : goal.invariant-loop
 invariant-loop g l = record {
   passed : Passes (g.R.AsyncBufRead.taken l.initial.reader) (g.R.AsyncBufRead.taken l.reader) l.initial.left l.left;
+  told : g.R.AsyncBufRead.told l.reader ≡ g.R.AsyncBufRead.told l.initial.reader;
   kept : Keeps l.initial.cx l.cx;
 }

@@ -15,7 +15,7 @@ returns-then-is_found-clause-gathers g c =
     )
 
 pub loop-limit-init : goal.loop-limit-init
-loop-limit-init g c = record { grown = grows_none _ _; unfinished = c.requires.unfinished; within = inr refl; kept = λ fact held. held }
+loop-limit-init g c = record { grown = grows_none _ _; unfinished = c.requires.unfinished; within = inr refl; room = omega arith; told = refl; kept = λ fact held. held }
 
 pub loop-limit-smaller : goal.loop-limit-smaller
 loop-limit-smaller g c =
@@ -35,5 +35,7 @@ loop-limit-preserved g c =
       grown = grows_more _ _ _ _ _ _ more c.loop-limit.invariant.grown taken grown;
       unfinished = rw grown (LacksLf-append c.loop-limit.line.items more c.loop-limit.invariant.unfinished lacks);
       within = inl (omega (arith, ap length grown, length-append c.loop-limit.line.items more, length-take c.through_lf-count.result.0 (take c.min.result c.in-Ready-Ok.lent.now), length-take c.min.result c.in-Ready-Ok.lent.now));
+      room = omega (arith, c.loop-limit.invariant.room, c.extend_from_slice.ensures.capacity);
+      told = search rules;
       kept = λ fact held. c.poll_fill_buf.ensures.kept fact (c.loop-limit.invariant.kept fact held);
     }

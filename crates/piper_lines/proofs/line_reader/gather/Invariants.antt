@@ -1,5 +1,5 @@
 -- What was taken so far stands at the end of the line, which has no LF yet.
-use Rattle.std.proofs.Common.{◌≡◌, ◌≤◌, ◌⊎◌, ◌-◌, length}
+use Rattle.std.proofs.Common.{◌≡◌, ◌≤◌, ◌⊎◌, ◌-◌, length, vec_capacity}
 use Rattle.futures.specs.Task.{Keeps}
 use Rattle.piper_lines.specs.Line.{LacksLf}
 use Rattle.piper_lines.specs.Moves.{Grows}
@@ -10,6 +10,8 @@ invariant-loop-limit g l = record {
   grown : Grows (g.R.AsyncBufRead.taken l.fn.reader) (g.R.AsyncBufRead.taken l.reader) l.fn.line.items l.line.items;
   unfinished : LacksLf l.line.items;
   within : (length l.line.items ≤ l.limit) ⊎ (l.line.items ≡ l.fn.line.items);
+  room : vec_capacity l.fn.line ≤ vec_capacity l.line;
+  told : g.R.AsyncBufRead.told l.reader ≡ g.R.AsyncBufRead.told l.fn.reader;
   kept : Keeps l.fn.cx l.cx;
 }
 

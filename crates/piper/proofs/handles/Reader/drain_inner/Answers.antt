@@ -9,3 +9,6 @@ returns-in-Some-clause-covered g c = rw c.in-Some.is c.drain_waiting.ensures.cov
 
 pub returns-in-Some-clause-kept : goal.returns-in-Some-clause-kept
 returns-in-Some-clause-kept g c = rw c.in-Some.is c.drain_waiting.ensures.kept
+
+pub returns-in-Some-clause-yields : goal.returns-in-Some-clause-yields
+returns-in-Some-clause-yields g c = rw c.in-Some.is c.drain_waiting.ensures.yields

@@ -9,3 +9,6 @@ returns-in-Some-clause-covered g c = rw c.in-Some.is c.fill_waiting-told.ensures
 
 pub returns-in-Some-clause-kept : goal.returns-in-Some-clause-kept
 returns-in-Some-clause-kept g c = rw c.in-Some.is c.fill_waiting-told.ensures.kept
+
+pub returns-in-Some-clause-yields : goal.returns-in-Some-clause-yields
+returns-in-Some-clause-yields g c = rw (c.in-Some.is, c.unlend.ensures.end.room) c.fill_waiting-told.ensures.yields

@@ -67,7 +67,7 @@ returns-then-is_closed g c =
     _ c.end-then-is_closed.ensures _ c.copied-then-is_closed.ensures in
     rw told (record {
       filled = fill_closed _ g.met.R.ReadLike.gives_in_order _ _ _ _ _ _ _ before.filled round.end _ _ _ _
-          c.in-Ok.ensures.bound c.in-Ok.ensures.bytes saw.end (sym saw.saw ∙ c.if-is_closed.true);
+          c.in-Ok.ensures.bound c.in-Ok.ensures.most c.in-Ok.ensures.bytes saw.end (sym saw.saw ∙ c.if-is_closed.true);
       failures = c.in-Ok.ensures.failures ∙ before.failures;
       «open» = tt;
       found = inl (omega (arith, c.if-n-eq0.false));

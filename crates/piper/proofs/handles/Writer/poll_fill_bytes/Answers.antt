@@ -1,12 +1,12 @@
 -- What is published of a slice is its front.
 use Rattle.std.proofs.Common.{◌≡◌, ◌++◌, ◌∙◌, sym, ap, inl, inr, arith, length, length-append}
-use Rattle.piper.proofs.Wrote.{wrote}
+use Rattle.piper.proofs.Wrote.{wrote, lost_one}
 use Rattle.piper.proofs.handles.Writer.poll_fill_bytes.Goals as goal
 
 pub returns-in-Ready-Ok-clause-written : goal.returns-in-Ready-Ok-clause-written
 returns-in-Ready-Ok-clause-written g c =
     let filled = rw c.in-Ready-Ok.field-0-is at c.in-Ready-Ok.ensures.filled in
-    wrote c.args.bytes.now filled.published filled.lost _ _ _ _ _ (sym c.new-source.ensures ∙ filled.copied.0) filled.copied.1 filled.sent filled.all
+    wrote c.args.bytes.now filled.published filled.lost _ _ _ _ _ _ (sym c.new-source.ensures ∙ filled.copied.0) filled.copied.1 filled.sent filled.all filled.last
 
 pub returns-in-Ready-Ok-clause-full : goal.returns-in-Ready-Ok-clause-full
 returns-in-Ready-Ok-clause-full g c = λ zero some.
@@ -17,3 +17,8 @@ returns-in-Ready-Ok-clause-full g c = λ zero some.
       | inl (inr dry) ↦ absurd (omega (arith, none, some, dry, filled.copied.1, ap length (sym c.new-source.ensures ∙ filled.copied.0), length-append (filled.published ++ filled.lost) c.fill_inner.new.source.rest.now))
       | inr saw ↦ saw
     ]
+
+pub returns-in-Ready-Ok-clause-last : goal.returns-in-Ready-Ok-clause-last
+returns-in-Ready-Ok-clause-last g c =
+    let filled = rw c.in-Ready-Ok.field-0-is at c.in-Ready-Ok.ensures.filled in
+    lost_one _ _ filled.published filled.lost _ _ filled.sent filled.copied.1 filled.last

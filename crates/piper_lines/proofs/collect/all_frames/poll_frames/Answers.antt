@@ -1,4 +1,4 @@
-use Rattle.std.proofs.Common.{◌≡◌, ◌≤◌, ◌++◌, ◌∷◌, [], inl, inr, List, ℕ, Vec, length, Ok, ap, ◌∙◌, refl}
+use Rattle.std.proofs.Common.{◌≡◌, ◌≤◌, ◌++◌, ◌∷◌, [], inl, inr, List, ℕ, Vec, length, Ok, ap, ◌∙◌, refl, arith}
 use Rattle.std.specs.declared.alloc.Global.{Global}
 use Rattle.futures.specs.declared.task.Poll.TheVariants.{Ready}
 use Rattle.piper_lines.specs.declared.frame_reader.FrameAnswer.TheVariants.{Frame, TooLong, Truncated, End}
@@ -13,6 +13,7 @@ loop-init g c = record {
   moved = passes_none (g.R.AsyncBufRead.taken (reader_of c.args.frames.now)) (kept_of c.args.frames.now) (joined_frames c.args.out.now.items) (skips_of c.args.frames.now);
   within = adds_none (λ body. length body ≤ c.args.limit) c.args.out.now.items;
   body = inl refl;
+  room = omega arith;
   kept = λ fact held. held;
 }
 
@@ -49,11 +50,12 @@ loop-preserved g c =
     let is_told : c.poll_frame.result ≡ Ready (Ok Frame) = cc in
     let moved = rw is_told at c.poll_frame.ensures.moved in
     let hands = rw is_told at c.poll_frame.ensures.hands in
-    let pushed : c.push.new.out.items ≡ c.loop.out.items ++ body ∷ [] = c.push.ensures ∙ ap (λ (out : List (Vec ℕ Global)). out ++ body ∷ []) c.reserve.ensures.items in
+    let pushed : c.push.new.out.items ≡ c.loop.out.items ++ body ∷ [] = c.push.ensures.items ∙ ap (λ (out : List (Vec ℕ Global)). out ++ body ∷ []) c.reserve.ensures.items in
     record {
       moved = passes_frame _ _ _ _ _ _ _ _ _ c.loop.out.items c.push.new.out.items body c.loop.invariant.moved moved pushed;
       within = adds_piece (λ body. length body ≤ c.args.limit) c.args.out.now.items c.loop.out.items c.push.new.out.items body c.loop.invariant.within pushed hands.0;
       body = inr hands.1.1;
+      room = omega (arith, c.loop.invariant.room, c.reserve.ensures.capacity, c.push.ensures.capacity);
       kept = λ fact held. c.poll_frame.ensures.kept fact (c.loop.invariant.kept fact held);
     }
 

@@ -1,5 +1,5 @@
 -- The bytes that were taken so far are those that passed, those of the frames, and those that are kept.
-use Rattle.std.proofs.Common.{◌≡◌, ◌≤◌, ◌⊎◌, ◌++◌, [], length}
+use Rattle.std.proofs.Common.{◌≡◌, ◌≤◌, ◌⊎◌, ◌++◌, [], length, vec_capacity}
 use Rattle.futures.specs.Task.{Keeps}
 use Rattle.piper_lines.specs.FrameReader.{reader_of, kept_of, body_of, skips_of}
 use Rattle.piper_lines.specs.Moves.{PassesMoves}
@@ -13,5 +13,6 @@ invariant-loop g l = record {
       (joined_frames l.initial.out.items ++ kept_of l.initial.frames) (joined_frames l.out.items) (kept_of l.frames);
   within : Adds (λ body. length body ≤ l.limit) l.initial.out.items l.out.items;
   body : (body_of l.frames ≡ body_of l.initial.frames) ⊎ (body_of l.frames ≡ []);
+  room : vec_capacity l.initial.out ≤ vec_capacity l.out;
   kept : Keeps l.initial.cx l.cx;
 }

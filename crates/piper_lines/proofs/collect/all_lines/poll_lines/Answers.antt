@@ -13,6 +13,7 @@ loop-init g c = record {
   moved = moves_none (g.R.AsyncBufRead.taken (reader_of c.args.lines.now)) (kept_of c.args.lines.now) (joined c.args.out.now.items);
   split = adds_none (λ piece. length (kept_of c.args.lines.now) < c.args.limit → IsPiece c.args.limit piece) c.args.out.now.items;
   short = λ short. short;
+  room = omega arith;
   kept = λ fact held. held;
 }
 
@@ -40,11 +41,12 @@ loop-preserved g c =
     let piece = hands_piece PipeError c.in-Ready-Ok.answer _ _ _ _ _ _ (sym c.is_end.ensures ∙ c.if-is_end.false) hands in
     let line : Vec ℕ Global = c.poll_line.new.line in
     let moved = moves_then _ _ _ _ _ _ (joined c.loop.out.items) line.items c.loop.invariant.moved c.poll_line.ensures.moved in
-    let pushed : c.push.new.out.items ≡ c.loop.out.items ++ line ∷ [] = c.push.ensures ∙ ap (λ (out : List (Vec ℕ Global)). out ++ line ∷ []) c.reserve.ensures.items in
+    let pushed : c.push.new.out.items ≡ c.loop.out.items ++ line ∷ [] = c.push.ensures.items ∙ ap (λ (out : List (Vec ℕ Global)). out ++ line ∷ []) c.reserve.ensures.items in
     let together : joined c.loop.out.items ++ line.items ≡ joined c.push.new.out.items = sym (ap joined pushed ∙ flat_map-push (λ (v : Vec ℕ Global). v.items) c.loop.out.items line) in
     record {
       moved = subst (λ ws. Moves (g.R.AsyncBufRead.taken (reader_of c.args.lines.now)) (g.R.AsyncBufRead.taken (reader_of c.poll_line.new.self)) (joined c.args.out.now.items ++ kept_of c.args.lines.now) ws (kept_of c.poll_line.new.self)) together moved;
       split = adds_piece (λ piece. length (kept_of c.args.lines.now) < c.args.limit → IsPiece c.args.limit piece) c.args.out.now.items c.loop.out.items c.push.new.out.items line c.loop.invariant.split pushed (λ short. piece.1 (c.loop.invariant.short short));
       short = λ short. omega (arith, ap length piece.0);
+      room = omega (arith, c.loop.invariant.room, c.reserve.ensures.capacity, c.push.ensures.capacity);
       kept = λ fact held. c.poll_line.ensures.kept fact (c.loop.invariant.kept fact held);
     }
