@@ -73,6 +73,7 @@ impl<H: Wait + Clone + Drop> Writer<H> {
         requires next { write_action call.point ≡ Action.Register }
         ensures step { result.0 ≡ write_step call.point (granted result.1) }
         ensures covered { Covers cx.new (λ s. s ≡ write_source self.old) }
+        ensures known { self.new.is_registered ≡ result.1 }
         ensures refused { IsFalse result.1 → cx.new.lacks_waker ≡ true }
         ensures kept { Keeps cx.old cx.new }
         ensures end { self.new.end ≡ self.old.end }

@@ -1,5 +1,5 @@
 //! All frames of a reader.
-ghost use Rattle.std.specs.Prelude.{◌≤◌, ◌++◌, ◌⊎◌, length, vec_capacity, vec_len};
+ghost use Rattle.std.specs.Prelude.{◌≤◌, ◌++◌, ◌≡◌, ◌⊎◌, length, true, vec_capacity, vec_len};
 ghost use Rattle.futures.specs.Task.{Covers, Keeps};
 ghost use Rattle.futures.specs.Poll.{OnPending};
 ghost use Rattle.piper_lines.specs.Split.{joined_frames, Adds};
@@ -7,6 +7,7 @@ ghost use Rattle.piper_lines.specs.FrameReader.{reader_of, kept_of, header_of, b
 ghost use Rattle.piper_lines.specs.Moves.{PassesMoves};
 ghost use Rattle.piper_lines.specs.Collected.{EndsFrames};
 ghost use Rattle.piper_lines.specs.Refusals.{IsTold, LacksFrameRoom};
+ghost use Rattle.piper.specs.Contexts.{AsksAgain};
 ghost use Rattle.piper.specs.Polls.{IfReadyErr};
 
 use super::{Collected, MOST_PIECES, push};
@@ -35,6 +36,8 @@ pub fn poll_frames<R: AsyncBufRead>(
     ensures error { IfReadyErr result (λ e. IsTold e (R.fails (reader_of frames.new) cx.new)
         (LacksFrameRoom limit 0 0 (header_of frames.new) (body_of frames.new)
         (R.known (reader_of frames.new)) ⊎ (vec_capacity out.old ≤ vec_len out.new))) }
+    ensures told { R.told (reader_of frames.new) ≡ R.told (reader_of frames.old) }
+    ensures heeded { OnPending result (R.told (reader_of frames.new) ≡ true → AsksAgain cx.new) }
     ensures covered { OnPending result (Covers cx.new (R.needs (reader_of frames.new))) }
     ensures kept { Keeps cx.old cx.new }
 {

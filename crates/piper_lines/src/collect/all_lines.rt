@@ -1,7 +1,8 @@
 //! All lines of a reader.
-ghost use Rattle.std.specs.Prelude.{◌≡◌, ◌<◌, ◌≤◌, ◌++◌, ◌⊎◌, [], length, vec_capacity, vec_len};
+ghost use Rattle.std.specs.Prelude.{◌≡◌, ◌<◌, ◌≤◌, ◌++◌, ◌⊎◌, [], length, true, vec_capacity, vec_len};
 ghost use Rattle.futures.specs.Task.{Covers, Keeps};
 ghost use Rattle.futures.specs.Poll.{OnPending};
+ghost use Rattle.piper.specs.Contexts.{AsksAgain};
 ghost use Rattle.piper.specs.Polls.{IfReadyOk, IfReadyErr};
 ghost use Rattle.piper_lines.specs.AtEnd.{AtEnd};
 ghost use Rattle.piper_lines.specs.Split.{joined, Adds, IsPiece};
@@ -36,6 +37,8 @@ pub fn poll_lines<R: AsyncBufRead>(
     ensures error { IfReadyErr result (λ e. IsTold e (R.fails (reader_of lines.new) cx.new)
         (LacksRoom limit 0 (kept_of lines.new) (R.known (reader_of lines.new))
         ⊎ (vec_capacity out.old ≤ vec_len out.new))) }
+    ensures told { R.told (reader_of lines.new) ≡ R.told (reader_of lines.old) }
+    ensures heeded { OnPending result (R.told (reader_of lines.new) ≡ true → AsksAgain cx.new) }
     ensures covered { OnPending result (Covers cx.new (R.needs (reader_of lines.new))) }
     ensures kept { Keeps cx.old cx.new }
 {

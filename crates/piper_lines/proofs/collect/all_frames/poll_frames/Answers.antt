@@ -14,6 +14,7 @@ loop-init g c = record {
   within = adds_none (λ body. length body ≤ c.args.limit) c.args.out.now.items;
   body = inl refl;
   room = omega arith;
+  told = refl;
   kept = λ fact held. held;
 }
 
@@ -56,6 +57,7 @@ loop-preserved g c =
       within = adds_piece (λ body. length body ≤ c.args.limit) c.args.out.now.items c.loop.out.items c.push.new.out.items body c.loop.invariant.within pushed hands.0;
       body = inr hands.1.1;
       room = omega (arith, c.loop.invariant.room, c.reserve.ensures.capacity, c.push.ensures.capacity);
+      told = c.poll_frame.ensures.told ∙ c.loop.invariant.told;
       kept = λ fact held. c.poll_frame.ensures.kept fact (c.loop.invariant.kept fact held);
     }
 

@@ -14,5 +14,6 @@ invariant-loop g l = record {
   within : Adds (λ body. length body ≤ l.limit) l.initial.out.items l.out.items;
   body : (body_of l.frames ≡ body_of l.initial.frames) ⊎ (body_of l.frames ≡ []);
   room : vec_capacity l.initial.out ≤ vec_capacity l.out;
+  told : g.R.AsyncBufRead.told (reader_of l.frames) ≡ g.R.AsyncBufRead.told (reader_of l.initial.frames);
   kept : Keeps l.initial.cx l.cx;
 }

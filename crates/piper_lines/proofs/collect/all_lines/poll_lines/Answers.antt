@@ -14,6 +14,7 @@ loop-init g c = record {
   split = adds_none (λ piece. length (kept_of c.args.lines.now) < c.args.limit → IsPiece c.args.limit piece) c.args.out.now.items;
   short = λ short. short;
   room = omega arith;
+  told = refl;
   kept = λ fact held. held;
 }
 
@@ -48,5 +49,6 @@ loop-preserved g c =
       split = adds_piece (λ piece. length (kept_of c.args.lines.now) < c.args.limit → IsPiece c.args.limit piece) c.args.out.now.items c.loop.out.items c.push.new.out.items line c.loop.invariant.split pushed (λ short. piece.1 (c.loop.invariant.short short));
       short = λ short. omega (arith, ap length piece.0);
       room = omega (arith, c.loop.invariant.room, c.reserve.ensures.capacity, c.push.ensures.capacity);
+      told = c.poll_line.ensures.told ∙ c.loop.invariant.told;
       kept = λ fact held. c.poll_line.ensures.kept fact (c.loop.invariant.kept fact held);
     }

@@ -1,5 +1,5 @@
 -- The bytes that were taken so far are those of the lines, and those that are kept.
-use Rattle.std.proofs.Common.{◌<◌, ◌≤◌, ◌++◌, length, vec_capacity}
+use Rattle.std.proofs.Common.{◌≡◌, ◌<◌, ◌≤◌, ◌++◌, length, vec_capacity}
 use Rattle.futures.specs.Task.{Keeps}
 use Rattle.piper_lines.specs.LineReader.{reader_of, kept_of}
 use Rattle.piper_lines.specs.Moves.{Moves}
@@ -13,5 +13,6 @@ invariant-loop g l = record {
   split : Adds (λ piece. length (kept_of l.initial.lines) < l.limit → IsPiece l.limit piece) l.initial.out.items l.out.items;
   short : length (kept_of l.initial.lines) < l.limit → length (kept_of l.lines) < l.limit;
   room : vec_capacity l.initial.out ≤ vec_capacity l.out;
+  told : g.R.AsyncBufRead.told (reader_of l.lines) ≡ g.R.AsyncBufRead.told (reader_of l.initial.lines);
   kept : Keeps l.initial.cx l.cx;
 }
