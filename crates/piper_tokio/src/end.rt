@@ -6,9 +6,9 @@ ghost use Rattle.std.specs.declared.io.ErrorKind.TheVariants.{OutOfMemory as Out
 ghost use Rattle.futures.specs.Poll.{OnPending};
 ghost use Rattle.futures.specs.Task.{Covers, Keeps};
 ghost use Rattle.tokio.specs.Io.Moved.{bytes_moved, count_moved, OnReadyOk, IfReadyErr};
-ghost use Rattle.piper.specs.Drains.{CountsWhatFits, EndIsUnseen};
-ghost use Rattle.piper.specs.Ends.{WriterShut};
-ghost use Rattle.piper.specs.Fills.{LosesOneRound, OnNoCount};
+ghost use Rattle.piper.specs.Drains.{CountsWhatFits, DrainYields, EndIsSeen, EndIsUnseen};
+ghost use Rattle.piper.specs.Ends.{ReaderIsUpToDate, WriterShut};
+ghost use Rattle.piper.specs.Fills.{FillYields, LosesOneRound, OnNoCount};
 ghost use Rattle.piper.specs.Handles.{read_source, write_source};
 ghost use Rattle.piper.specs.Polls.{IfReadyOk};
 ghost use Rattle.piper.specs.ReadView.{in_one_piece};
@@ -78,8 +78,14 @@ impl<H: Wait + Clone + Drop> AsyncRead for CompatEnd<H> {
             self.old.reader.reader.end self.new.reader.reader.end }
         ensures end { result ≡ Poll.Ready (Ok 0) → 0 < length buf.old →
             AtEnd self.new.reader.reader }
+        ensures ended { EndIsSeen result self.old.reader.reader.end self.new.reader.reader.end }
         ensures waits { EndIsUnseen result
             self.old.reader.reader.end self.new.reader.reader.end }
+        ensures yields { DrainYields result
+            self.old.reader.reader.end self.new.reader.reader.end cx.new }
+        ensures fresh { self.old.reader.reader.end.known ≡ [] →
+            ReaderIsUpToDate self.new.reader.reader.end }
+        ensures shown { shown_by self.new.reader ≡ [] }
         ensures failed { IfReadyErr result (λ e. error_kind e ≡ OutOfMemoryKind) }
         ensures refused { IfReadyErr result (λ _. cx.new.lacks_waker ≡ true) }
         ensures registered { OnPending result
@@ -105,6 +111,8 @@ impl<H: Wait + Clone + Drop> AsyncBufRead for CompatEnd<H> {
         ensures waits { OnPending result ((self.new.reader.reader.end.known ≡ [])
             × (self.new.reader.reader.end.saw ≡ false)) }
         ensures told { OnPending result (self.old.reader.reader.end.told_shut ≡ false) }
+        ensures fresh { self.old.reader.reader.end.known ≡ [] →
+            ReaderIsUpToDate self.new.reader.reader.end }
         ensures failed { IfReadyErr result (λ e. error_kind e ≡ OutOfMemoryKind) }
         ensures refused { IfReadyErr result (λ _. cx.new.lacks_waker ≡ true) }
         ensures registered { OnPending result
@@ -151,6 +159,7 @@ impl<H: Wait + Clone + Drop> AsyncWrite for CompatEnd<H> {
             0 < length buf.now → self.new.writer.writer.end.saw ≡ true }
         ensures over { self.old.writer.writer.end.saw ≡ true → result ≡ Poll.Ready (Ok 0) }
         ensures open { OnNoCount result (self.new.writer.writer.end.saw ≡ false) }
+        ensures yields { FillYields result self.new.writer.writer.end cx.new }
         ensures failed { IfReadyErr result (λ e. error_kind e ≡ OutOfMemoryKind) }
         ensures refused { IfReadyErr result (λ _. cx.new.lacks_waker ≡ true) }
         ensures registered { OnPending result
