@@ -12,12 +12,41 @@ use std::test::Fail;
 /// The most polls that a text takes.
 const MOST_POLLS: u32 = 8;
 
+/// How often a reader was told to be pending, and how often to have failed.
+#[derive(Clone, Copy, Debug, PartialEq, Eq)]
+struct Halts {
+    pending: u32,
+    failed: u32,
+}
+
+impl Halts {
+    const NONE: Halts = Halts {
+        pending: 0,
+        failed: 0,
+    };
+
+    /// One halt of this kind.
+    fn once(how: Halt) -> Halts {
+        match how {
+            Halt::Pending => Halts {
+                pending: 1,
+                failed: 0,
+            },
+            Halt::Fails => Halts {
+                pending: 0,
+                failed: 1,
+            },
+        }
+    }
+}
+
 /// What a poll answered, if it did, and else one more halt. Where memory was refused it is none: the poll is made again.
-fn told<A: Drop>(polled: Poll<Result<A, PipeError>>, halts: &mut u32) -> Option<A> {
+fn told<A: Drop>(polled: Poll<Result<A, PipeError>>, halts: &mut Halts) -> Option<A> {
     match polled {
         Poll::Ready(Ok(answer)) => return Some(answer),
         Poll::Ready(Err(PipeError::Memory)) => {}
-        Poll::Pending | Poll::Ready(Err(PipeError::Io(_))) => *halts = halts.saturating_add(1),
+        Poll::Pending => halts.pending = halts.pending.saturating_add(1),
+        Poll::Ready(Err(PipeError::Io(_))) => halts.failed = halts.failed.saturating_add(1),
     }
     None
 }
@@ -27,7 +56,7 @@ fn lines_of(
     task: &MockTask,
     alloc: Global,
     reader: Halting<'_>,
-    halts: &mut u32,
+    halts: &mut Halts,
 ) -> Result<Vec<Vec<u8>>, AllocError> {
     let mut lines = Lines::new(alloc, reader);
     let mut found = Vec::new(alloc);
@@ -46,7 +75,7 @@ fn frames_of(
     task: &MockTask,
     frames: &mut Frames<Halting<'_>>,
     found: &mut Vec<Vec<u8>>,
-    halts: &mut u32,
+    halts: &mut Halts,
 ) -> Option<Collected> {
     for _ in 0..MOST_POLLS {
         let polled = task.enter(|cx| poll_frames(frames, cx, found, 2));
@@ -72,10 +101,10 @@ fn a_line_goes_on_behind_each_look(rt: HostRuntime) -> Result<(), Fail> {
         // Ten bytes one by one, and then the end.
         for last in 1..12 {
             let reader = Halting::new(b"ab\ncd\n\nefg", 1, how, last);
-            let mut halts = 0;
+            let mut halts = Halts::NONE;
             let found = lines_of(&task, rt.alloc(), reader, &mut halts)?;
             same_pieces(&rt, &found, &[b"ab\n", b"cd\n", b"\n", b"efg"]);
-            same(&rt, halts, 1);
+            same(&rt, halts, Halts::once(how));
         }
     }
     Ok(())
@@ -85,16 +114,16 @@ fn a_line_goes_on_behind_each_look(rt: HostRuntime) -> Result<(), Fail> {
 fn a_frame_goes_on_behind_each_look(rt: HostRuntime) -> Result<(), Fail> {
     let task = MockTask::new(&rt)?;
     for how in [Halt::Pending, Halt::Fails] {
-        // Fifteen bytes, three at once, and then the end.
-        for last in 1..7 {
+        // Fifteen bytes one by one, so that each look inside a body is one of them, and then the end.
+        for last in 1..17 {
             let bytes = [0, 0, 0, 1, 7, 0, 0, 0, 0, 0, 0, 0, 2, 8, 9];
-            let mut frames = Frames::new(rt.alloc(), Halting::new(&bytes, 3, how, last));
+            let mut frames = Frames::new(rt.alloc(), Halting::new(&bytes, 1, how, last));
             let mut found = Vec::new(rt.alloc());
-            let mut halts = 0;
+            let mut halts = Halts::NONE;
             let ended = frames_of(&task, &mut frames, &mut found, &mut halts);
             same(&rt, ended, Some(Collected::ToTheEnd));
             same_pieces(&rt, &found, &[&[7], &[], &[8, 9]]);
-            same(&rt, halts, 1);
+            same(&rt, halts, Halts::once(how));
         }
     }
     Ok(())
@@ -125,7 +154,7 @@ fn frames_go_on_behind_a_long_one_and_end_where_they_are_cut_off(
     ];
     let mut frames = Frames::new(rt.alloc(), Halting::new(&bytes, 3, Halt::Pending, 0));
     let mut found = Vec::new(rt.alloc());
-    let mut halts = 0;
+    let mut halts = Halts::NONE;
     let ended = frames_of(&task, &mut frames, &mut found, &mut halts);
     same(&rt, ended, Some(Collected::UntilTooLong(3)));
     same_pieces(&rt, &found, &[&[7]]);

@@ -9,8 +9,8 @@ use std::process::Abort;
 use std::random::RandomSource;
 use std::sync::Wait;
 
-/// Kinds of errors, among them those that a copy might take for something else.
-const KINDS: [ErrorKind; 8] = [
+/// Kinds of errors, first those that a copy might most easily take for something else.
+const KINDS: [ErrorKind; 41] = [
     ErrorKind::BrokenPipe,
     ErrorKind::Interrupted,
     ErrorKind::OutOfMemory,
@@ -19,6 +19,39 @@ const KINDS: [ErrorKind; 8] = [
     ErrorKind::WriteZero,
     ErrorKind::TimedOut,
     ErrorKind::Other,
+    ErrorKind::ConnectionReset,
+    ErrorKind::NotFound,
+    ErrorKind::PermissionDenied,
+    ErrorKind::ConnectionRefused,
+    ErrorKind::HostUnreachable,
+    ErrorKind::NetworkUnreachable,
+    ErrorKind::ConnectionAborted,
+    ErrorKind::NotConnected,
+    ErrorKind::AddrInUse,
+    ErrorKind::AddrNotAvailable,
+    ErrorKind::NetworkDown,
+    ErrorKind::AlreadyExists,
+    ErrorKind::NotADirectory,
+    ErrorKind::IsADirectory,
+    ErrorKind::DirectoryNotEmpty,
+    ErrorKind::ReadOnlyFilesystem,
+    ErrorKind::FilesystemLoop,
+    ErrorKind::StaleNetworkFileHandle,
+    ErrorKind::InvalidInput,
+    ErrorKind::InvalidData,
+    ErrorKind::StorageFull,
+    ErrorKind::NotSeekable,
+    ErrorKind::QuotaExceeded,
+    ErrorKind::FileTooLarge,
+    ErrorKind::ResourceBusy,
+    ErrorKind::ExecutableFileBusy,
+    ErrorKind::Deadlock,
+    ErrorKind::CrossesDevices,
+    ErrorKind::TooManyLinks,
+    ErrorKind::InvalidFilename,
+    ErrorKind::ArgumentListTooLong,
+    ErrorKind::Unsupported,
+    ErrorKind::InProgress,
 ];
 
 #[test]
@@ -196,6 +229,29 @@ fn a_destination_that_fails_is_told_and_what_it_took_is_gone(rt: HostRuntime) {
 #[test]
 fn a_destination_that_takes_none_ends_a_drain(rt: HostRuntime) {
     drains_end(&rt, false);
+}
+
+/// The second call of an end fails with an error of this kind, which comes out as it is; and a call behind it goes on.
+fn tells_error<H>(rt: &H, through: Through, kind: ErrorKind)
+where
+    H: Abort + Wait + RandomSource + AllocGlobal + Clone + Drop,
+{
+    let mut end = End::new(1, 2, Some(kind));
+    let mut pair = Pair::new(rt, 4);
+    let fills = matches!(through, Through::Fill | Through::FillInner);
+    if !fills {
+        pair.play(rt, &[Act::Fill(&[0, 1, 2], 3)]);
+    }
+    copies(rt, &mut pair, through, &mut end, Moved::Failed(kind), 1);
+    pair.play(rt, &[Act::Unread(if fills { 1 } else { 2 })]);
+}
+
+#[test]
+fn an_error_of_each_kind_is_told_as_it_is(rt: HostRuntime) {
+    for kind in KINDS {
+        tells_error(&rt, Through::Fill, kind);
+        tells_error(&rt, Through::Drain, kind);
+    }
 }
 
 /// Both copies call the ends on slices as long as they can be.

@@ -11,7 +11,7 @@ pub(crate) fn byte_at(index: usize) -> u8 {
     (index % 251) as u8
 }
 
-/// An end of a copy. It moves at most `most` bytes a call, up to the call `last`, which fails or moves none, as do all behind it.
+/// An end of a copy. It moves at most `most` bytes a call, but for the call `last`, which fails or moves none: one that is called again moves more.
 #[derive(Drop)]
 pub(crate) struct End {
     most: usize,
@@ -67,7 +67,7 @@ impl End {
             self.lens[self.calls] = len;
         }
         self.calls = self.calls.saturating_add(1);
-        if self.calls < self.last {
+        if self.calls != self.last {
             return Ok(self.most.min(len));
         }
         let Some(kind) = self.error else {

@@ -5,6 +5,7 @@ ghost use Rattle.piper.specs.Handles.{ArePair};
 use crate::ends::End;
 use futures::task::Poll;
 use futures::test::MockTask;
+use piper::io::AsyncWrite;
 use piper::{Inner, OutOfMemory, OwnedReader, OwnedWriter, PipeError, Reader, Writer, pipe};
 use std::alloc::AllocGlobal;
 use std::fmt::Debug;
@@ -43,6 +44,8 @@ pub(crate) enum Act<'a> {
     DrainToSlice(usize, &'a [u8]),
     /// `poll_close`, as the writer's task.
     Close,
+    /// `poll_close`, by the trait, as the reader's task.
+    CloseElsewhere,
     DropReader,
     DropWriter,
     /// Whether the reader's task was woken since its last poll began.
@@ -343,6 +346,7 @@ impl<H: Wait + Clone + Drop> Pair<H> {
             Act::FillFromSlice(bytes, left) => self.fill_from_slice(rt, index, bytes, left),
             Act::DrainToSlice(most, want) => self.drain_to_slice(rt, index, most, want),
             Act::Close => self.close(rt),
+            Act::CloseElsewhere => self.close_elsewhere(rt),
             Act::DropReader => self.reader = None,
             Act::DropWriter => self.writer = None,
             Act::ReaderIsWoken(want) => same(rt, &index, self.reading.is_woken(), want),
@@ -384,6 +388,12 @@ impl<H: Wait + Clone + Drop> Pair<H> {
     fn close(&mut self, rt: &impl Abort) {
         let writer = writer_of(rt, &mut self.writer);
         granted(rt, self.writing.enter(|cx| writer.poll_close(cx))).expect(rt, "an answer");
+    }
+
+    fn close_elsewhere(&mut self, rt: &impl Abort) {
+        let writer = writer_of(rt, &mut self.writer);
+        let closed = self.reading.enter(|cx| AsyncWrite::poll_close(writer, cx));
+        same(rt, &"closed", copied(closed), Moved::Done(()));
     }
 
     /// The handles that are there answer alike.

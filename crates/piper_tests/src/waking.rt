@@ -122,6 +122,12 @@ fn a_writer_is_woken(rt: HostRuntime) {
     is_woken_by(&rt, WRITER_WAITS, looks_first, WRITER_ENDS);
 }
 
+#[test]
+fn a_writer_that_closes_wakes_its_own_task(rt: HostRuntime) {
+    let acts = &[Act::CloseElsewhere, Act::WriterIsWoken(true)];
+    is_woken_by(&rt, WRITER_WAITS, acts, WRITER_ENDS);
+}
+
 /// Whether a waker stood in the slot when it was emptied.
 fn takes(rt: &impl Wait, slot: &Slot) -> bool {
     let taken = slot.take(rt);
