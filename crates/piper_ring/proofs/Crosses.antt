@@ -14,7 +14,7 @@ use Rattle.piper_ring.proofs.PlacesLaws.{run-Keyless, span-Keyless}
 module _ (w p : Ptr) (z : Names) where
   writer-Keyless : (q : Share) (l : List ℕ) (n : ℕ) (b : Bool) (i : ℕ) → Keyless (writer_knows w p z q l n b i)
   unfolding latest
-  writer-Keyless q l n b i = (tt, (tt, (tt, tt)))
+  writer-Keyless q l n b i = (tt, (tt, tt))
 
   reader-Keyless : (q : Share) (h k i : ℕ) → Keyless (reader_knows w p z q h k i)
   unfolding latest

@@ -1,32 +1,18 @@
 -- What a mark tells can be had twice, and two marks give one that tells what either told. Assumes `Logic`.
-use Rattle.std.proofs.Common.{◌≡◌, ℕ, ◌<◌, ◌≤◌, ◌⊎◌, inl, inr, Bool, true, false, List, [], ◌∷◌, length, max, leb, refl, arith}
+use Rattle.std.proofs.Common.{◌≡◌, ℕ, ◌<◌, ◌≤◌, ◌⊎◌, inl, inr, Bool, true, false, List, [], ◌∷◌, max, leb, arith}
 use Rattle.std.proofs.lemmas.Bool.Decides.{leb_tells}
 use seplogic.Ra.Ura.{Ura}
-use base.Stored.{coded_ℕ}
-use base.Growing.{numbers, prefixes, latest, at_least}
+use base.Growing.{Least, numbers, at_least}
 use base.Shift.{Keyless}
 use base.Logic.{SProp, ent, sep, ex, guard, emp, emp∗}
-use base.Fml.{Share}
+use base.Fml.{Fml}
 use types.Logic.{Logic, sem}
-use types.Growing.{at_least_dup, latest_shows}
-use types.Kit.{‵, ◌⊛◌, some, given, ◌$◌, ◌∵◌, !, qed, move, split, fsplit, fjoin, pick, learn, check, show, use1, use2, done}
-use denote.Steps.{nothing}
+use types.Growing.{at_least_dup, at_least_join}
+use types.Kit.{‵, ◌⊛◌, some, given, ◌$◌, ◌∵◌, !, qed, by, move, split, pick, learn, check, show, use1, use2, done}
 use types.Kit.{drop as forget}
-use Rattle.piper_ring.specs.Shared.{Names, began, took, raised, announced, flag}
-
-module _ {M : Type 1} {𝓤 : Ura M} (𝓛 : Logic 𝓤) (z : Names) where
-  pub began_twice : (xs : List ℕ) → ent 𝓤 (sem 𝓛 (began z xs)) (sep 𝓤 (sem 𝓛 (began z xs)) (sem 𝓛 (began z xs)))
-  began_twice xs = at_least_dup (prefixes coded_ℕ) 𝓛 z.sent xs
-
-  abbrev pub Longer : List ℕ → List ℕ → List ℕ → SProp 𝓤
-  Longer xs ys l = guard 𝓤 (length l ≡ max (length xs) (length ys)) (sem 𝓛 (began z l))
-
-  either_way : (xs ys : List ℕ) → ((leb (length xs) (length ys) ≡ true) × (length xs ≤ length ys)) ⊎ ((leb (length xs) (length ys) ≡ false) × (length ys < length xs)) → ent 𝓤 (sep 𝓤 (sem 𝓛 (began z xs)) (sem 𝓛 (began z ys))) (ex 𝓤 (Longer xs ys))
-  either_way xs ys (inl e) = let le : length xs ≤ length ys = e.1 in qed 𝓛 (‵ (began z xs) ∷ ‵ (began z ys) ∷ []) ∵ forget ! $ show ! (Longer xs ys) ys $ check ! (omega arith) $ done !
-  either_way xs ys (inr e) = let lt : length ys < length xs = e.1 in qed 𝓛 (‵ (began z xs) ∷ ‵ (began z ys) ∷ []) ∵ move ! (1 ∷ []) $ forget ! $ show ! (Longer xs ys) xs $ check ! (omega arith) $ done !
-
-  pub longer : (xs ys : List ℕ) → ent 𝓤 (sep 𝓤 (sem 𝓛 (began z xs)) (sem 𝓛 (began z ys))) (ex 𝓤 (Longer xs ys))
-  longer xs ys = either_way xs ys (leb_tells (length xs) (length ys))
+use Rattle.piper_ring.specs.Shared.{Names, took, raised, announced}
+use Rattle.piper_ring.specs.Streams.{Stream, Reaches, streams, reaches_same}
+use Rattle.piper_ring.proofs.Reaching.{in_line, prefix_length, flag_reaches, Joined}
 
 module _ {M : Type 1} {𝓤 : Ura M} (𝓛 : Logic 𝓤) (z : Names) where
   pub took_twice : (n : ℕ) → ent 𝓤 (sem 𝓛 (took z n)) (sep 𝓤 (sem 𝓛 (took z n)) (sem 𝓛 (took z n)))
@@ -42,52 +28,29 @@ module _ {M : Type 1} {𝓤 : Ura M} (𝓛 : Logic 𝓤) (z : Names) where
   pub greater : (m n : ℕ) → ent 𝓤 (sep 𝓤 (sem 𝓛 (took z m)) (sem 𝓛 (took z n))) (ex 𝓤 (Greater m n))
   greater m n = one_or_other m n (leb_tells m n)
 
--- the longer list, and the flag where one was raised
-abbrev pub Joined : List ℕ → Bool → List ℕ → Bool → List ℕ × Bool → Type 0
-Joined xs a ys b r = (length r.0 ≡ max (length xs) (length ys)) × (flag r.1 ≡ max (flag a) (flag b))
-
-above : (b : Bool) → 1 ≡ max 1 (flag b)
-above false = refl
-above true = refl
-
-same : (b : Bool) → flag b ≡ max 0 (flag b)
-same false = refl
-same true = refl
-
 module _ {M : Type 1} {𝓤 : Ura M} (𝓛 : Logic 𝓤) where
   pub raised_twice : (γ : ℕ) (b : Bool) → ent 𝓤 (sem 𝓛 (raised γ b)) (sep 𝓤 (sem 𝓛 (raised γ b)) (sem 𝓛 (raised γ b)))
   raised_twice γ false = emp∗ 𝓤 (emp 𝓤)
   raised_twice γ true = at_least_dup numbers 𝓛 γ 1
 
-  abbrev pub Either : ℕ → Bool → Bool → Bool → SProp 𝓤
-  Either γ a b c = guard 𝓤 (flag c ≡ max (flag a) (flag b)) (sem 𝓛 (raised γ c))
-
-  pub either : (γ : ℕ) (a b : Bool) → ent 𝓤 (sep 𝓤 (sem 𝓛 (raised γ a)) (sem 𝓛 (raised γ b))) (ex 𝓤 (Either γ a b))
-  either γ true b = qed 𝓛 (‵ (raised γ true) ∷ ‵ (raised γ b) ∷ []) ∵ move ! (1 ∷ []) $ forget ! $ show ! (Either γ true b) true $ check ! (above b) $ done !
-  either γ false b = qed 𝓛 (‵ (raised γ false) ∷ ‵ (raised γ b) ∷ []) ∵ forget ! $ show ! (Either γ false b) b $ check ! (same b) $ done !
-
-  -- who has a part of a raised flag knows for good that it was raised
-  pub shows_raised : (q : Share) (γ : ℕ) (b : Bool) → ent 𝓤 (sem 𝓛 (latest numbers q γ (flag b))) (sep 𝓤 (sem 𝓛 (latest numbers q γ (flag b))) (sem 𝓛 (raised γ b)))
-  shows_raised q γ false = qed 𝓛 (‵ (latest numbers q γ 0) ∷ []) ∵ nothing ! $ move ! (1 ∷ 0 ∷ []) $ done !
-  shows_raised q γ true = latest_shows numbers 𝓛 q γ 1 1 (omega arith)
-
 module _ {M : Type 1} {𝓤 : Ura M} (𝓛 : Logic 𝓤) (z : Names) where
+  abbrev E : Stream → Fml
+  E a = announced z a.0 a.1
+
   pub announced_twice : (xs : List ℕ) (b : Bool) → ent 𝓤 (sem 𝓛 (announced z xs b)) (sep 𝓤 (sem 𝓛 (announced z xs b)) (sem 𝓛 (announced z xs b)))
-  announced_twice xs b = qed 𝓛 (‵ (began z xs) ∷ ‵ (raised z.shut b) ∷ []) ∵ use1 𝓛 (‵ (began z xs) ⊛ ‵ (began z xs)) (began_twice 𝓛 z xs) $ split ! $ move ! (2 ∷ []) $
-      use1 𝓛 (‵ (raised z.shut b) ⊛ ‵ (raised z.shut b)) (raised_twice 𝓛 z.shut b) $ split ! $ move ! (2 ∷ 0 ∷ []) $ fjoin ! $ move ! (2 ∷ 1 ∷ []) $ fjoin ! $ done !
+  announced_twice xs b = at_least_dup streams 𝓛 z.sent (xs, b)
 
-  abbrev Both : List ℕ → Bool → List ℕ → Bool → List ℕ × Bool → SProp 𝓤
-  Both xs a ys b r = guard 𝓤 (Joined xs a ys b r) (sem 𝓛 (announced z r.0 r.1))
+  abbrev pub Both : Stream → Stream → Stream → SProp 𝓤
+  Both a b r = guard 𝓤 (Joined a b r) (sem 𝓛 (E r))
 
-  pub both : (xs : List ℕ) (a : Bool) (ys : List ℕ) (b : Bool) → ent 𝓤 (sep 𝓤 (sem 𝓛 (announced z xs a)) (sem 𝓛 (announced z ys b))) (ex 𝓤 (Both xs a ys b))
-  both xs a ys b = qed 𝓛 (‵ (announced z xs a) ∷ ‵ (announced z ys b) ∷ []) ∵ fsplit ! $ move ! (2 ∷ []) $ fsplit ! $ move ! (2 ∷ 0 ∷ []) $
-      use2 𝓛 (some (λ (l : List ℕ). given (length l ≡ max (length xs) (length ys)) (‵ (began z l)))) (longer 𝓛 z xs ys) $ pick ! (λ l. learn ! (λ most. move ! (2 ∷ 1 ∷ []) $
-      use2 𝓛 (some (λ (c : Bool). given (flag c ≡ max (flag a) (flag b)) (‵ (raised z.shut c)))) (either 𝓛 z.shut a b) $ pick ! (λ c. learn ! (λ top. move ! (1 ∷ 0 ∷ []) $ fjoin ! $
-      show ! (Both xs a ys b) (l, c) $ check ! (most, top) $ done !))))
+  chosen : (a b : Stream) → Reaches a b ⊎ Reaches b a → ent 𝓤 (sep 𝓤 (sem 𝓛 (E a)) (sem 𝓛 (E b))) (ex 𝓤 (Both a b))
+  chosen a b (inl h) = let longer = prefix_length a.0 b.0 h.0 in let higher = flag_reaches a b h in qed 𝓛 (‵ (E a) ∷ ‵ (E b) ∷ []) ∵ forget ! $ show ! (Both a b) b $ check ! (omega arith, omega arith, h, reaches_same b, λ all ha hb. hb) $ done !
+  chosen a b (inr h) = let longer = prefix_length b.0 a.0 h.0 in let higher = flag_reaches b a h in qed 𝓛 (‵ (E a) ∷ ‵ (E b) ∷ []) ∵ move ! (1 ∷ []) $ forget ! $ show ! (Both a b) a $ check ! (omega arith, omega arith, reaches_same a, h, λ all ha hb. ha) $ done !
 
-pub began-Keyless : (z : Names) (xs : List ℕ) → Keyless (began z xs)
-unfolding at_least
-began-Keyless z xs = tt
+  pub both : (a b : Stream) → ent 𝓤 (sep 𝓤 (sem 𝓛 (E a)) (sem 𝓛 (E b))) (ex 𝓤 (Both a b))
+  both a b = qed 𝓛 (‵ (E a) ∷ ‵ (E b) ∷ []) ∵ use1 𝓛 (‵ (E a) ⊛ ‵ (E a)) (announced_twice a.0 a.1) $ split ! $ move ! (2 ∷ []) $ use1 𝓛 (‵ (E b) ⊛ ‵ (E b)) (announced_twice b.0 b.1) $ split ! $ move ! (2 ∷ 0 ∷ []) $
+      use2 𝓛 (some (λ (c : Stream). given (Least Reaches a b c) (‵ (at_least streams z.sent c)))) (at_least_join streams 𝓛 z.sent a b) $ pick ! (λ c. learn ! (λ least. forget ! $ move ! (1 ∷ 0 ∷ []) $
+      by ! (chosen a b (in_line a.0 a.1 b.0 b.1 c least.0 least.1))))
 
 pub took-Keyless : (z : Names) (n : ℕ) → Keyless (took z n)
 unfolding at_least
@@ -99,4 +62,5 @@ raised-Keyless γ false = tt
 raised-Keyless γ true = tt
 
 pub announced-Keyless : (z : Names) (xs : List ℕ) (b : Bool) → Keyless (announced z xs b)
-announced-Keyless z xs b = (began-Keyless z xs, raised-Keyless z.shut b)
+unfolding at_least
+announced-Keyless z xs b = tt

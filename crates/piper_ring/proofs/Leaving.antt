@@ -187,10 +187,10 @@ module _ {M : Type 1} {𝓤 : Ura M} (𝓛 : Logic 𝓤) (w p : Ptr) (z : Names)
       use2 𝓛 (some (λ (s : State). given (WriterSees 𝓛 w p z sent limit shut i s) (‵ (WK half sent limit shut i) ⊛ ‵ (WK other s.sent s.limit s.shut s.writer_stage) ⊛ ‵ (RK other s.head s.seen s.reader_stage) ⊛ ‵ (Rest 𝓛 w p z s)))) (writer_opens 𝓛 w p z half sent limit shut i le) $ pick ! (λ s. learn ! (λ so. split3 ! $
       let el = so.2 in let ei = so.4 in let last = so.0.stages.0 in let closing = so.0.closing in let n : ℕ = flag (gone s.reader_stage) in
       let so' : Holds cap (no_writer s) = record { known = so.0.known; arrived = so.0.arrived; written = so.0.written; freed = so.0.freed; closing = omega arith; shutting = so.0.shutting; stages = (last, omega arith) } in
-      move ! (2 ∷ []) $ split ! $ move ! (2 ∷ []) $ fsplit3 ! $ move ! (2 ∷ []) $ fsplit ! $ move ! (6 ∷ []) $ fsplit3 ! $ move ! (2 ∷ []) $ fsplit ! $ move ! (5 ∷ 1 ∷ []) $
+      move ! (2 ∷ []) $ split ! $ move ! (2 ∷ []) $ fsplit3 ! $ move ! (5 ∷ []) $ fsplit3 ! $ move ! (5 ∷ 2 ∷ []) $
       use2 𝓛 (raw (upd 𝓤 (⟦ latest numbers half z.writer_stage 2 ⟧ ∗ ⟦ latest numbers other z.writer_stage 2 ⟧))) (raise 𝓛 w p z numbers z.writer_stage i s.writer_stage 2 2 ei refl (omega arith)) $
       settle 𝓛 Z (‵ (latest numbers half z.writer_stage 2) ⊛ ‵ (latest numbers other z.writer_stage 2)) $ suffices ! _ (upd_i 𝓤 Z) $ split ! $ forget ! $
-      move ! (1 ∷ 0 ∷ []) $ fjoin ! $ move ! (1 ∷ 2 ∷ 0 ∷ []) $ fjoin3 ! $ keep ! (0 ∷ 4 ∷ 5 ∷ 6 ∷ []) $ move ! (2 ∷ []) $ fsplit ! $ move ! (1 ∷ []) $ fsplit ! $ fsplit3 ! $ move ! (2 ∷ []) $ fsplit ! $ move ! (1 ∷ []) $
+      move ! (1 ∷ 2 ∷ 0 ∷ []) $ fjoin3 ! $ keep ! (0 ∷ 3 ∷ 4 ∷ 5 ∷ []) $ move ! (2 ∷ []) $ fsplit ! $ move ! (1 ∷ []) $ fsplit ! $ fsplit3 ! $ move ! (2 ∷ []) $ fsplit ! $ move ! (1 ∷ []) $
       rewrite ! 0 (λ (m : ℕ). ‵ (word w 0 m)) {x = n} {y = one_gone (gone s.reader_stage) (gone s.writer_stage)} (ap (one_gone (gone s.reader_stage)) (here s.writer_stage (omega arith)) ∙ one_false (gone s.reader_stage)) refl $
       show ! (Holding 0 one Left) n $ frame ! $ assume ! (‵ (word w 0 1)) $ suffices ! _ (upd_i 𝓤 (⟦ I ⟧ ∗ ⟦ Left n ⟧)) $
       rewrite ! 0 (λ (m : ℕ). ‵ (word w 0 m)) {x = one_gone (gone s.reader_stage) true} {y = 1} (sym (one_true (gone s.reader_stage))) refl $

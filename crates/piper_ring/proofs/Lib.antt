@@ -4,6 +4,7 @@ pub mod PlacesParts
 pub mod Heap
 pub mod Indices
 pub mod Rights
+pub mod Reaching
 pub mod Evidence
 pub mod Crosses
 pub mod Steps

@@ -1,9 +1,7 @@
 -- Both ends in one hand open the invariant with no step of the program: the reader gets all that was published, the writer all that is free, and a ring that was seen closed is shut. Assumes `Logic`.
-use Rattle.std.proofs.Common.{◌≡◌, ℕ, ◌+◌, ◌-◌, ◌≤◌, Bool, false, List, [], ◌∷◌, ◌++◌, length, drop, sym, refl, ap, ◌∙◌, arith}
+use Rattle.std.proofs.Common.{◌≡◌, ℕ, ◌+◌, ◌-◌, ◌≤◌, Bool, false, List, [], ◌∷◌, ◌++◌, length, drop, sym, refl, ap, subst, ◌∙◌, arith}
 use Rattle.std.proofs.Math.Seq.{drop-length}
-use mathlib.Core.List.{IsPrefix}
-use base.Stored.{coded_ℕ}
-use base.Growing.{Order, numbers, prefixes, latest, at_least, prefix_refl}
+use base.Growing.{Order, numbers, latest, prefix_refl}
 use types.Growing.{latest_bounds, latest_shows}
 use Rattle.rtrb.specs.Shared.{run}
 use Rattle.piper_ring.specs.Places.{byte}
@@ -16,11 +14,12 @@ use types.Kit.{keep, ‵, raw, ◌⊛◌, some, given, ◌$◌, ◌∵◌, !, qe
 use denote.Steps.{nothing}
 use types.Kit.{drop as forget}
 use denote.RawPtr.{Ptr}
-use Rattle.piper_ring.specs.Shared.{Names, State, Holds, half, other, idle, flag, gone, where_gone, blanks, deeds, raised, writer_knows, reader_knows, ends, Inner, common}
+use Rattle.piper_ring.specs.Shared.{Names, State, Holds, half, other, idle, flag, gone, where_gone, blanks, deeds, raised, announced, began, writer_knows, reader_knows, ends, Inner, common}
+use Rattle.piper_ring.specs.Streams.{Stream, Reaches, streams, open_reaches}
 use Rattle.piper_ring.proofs.Closing.{ends_tell}
 use Rattle.piper_ring.proofs.Steps.{flag_small, not_gone, Rest, OneStays, WriterSees, writer_opens, reader_agrees, closes, raise}
 
-module _ {M : Type 1} {𝓤 : Ura M} (𝓛 : Logic 𝓤) (w p : Ptr) (z : Names) (head seen : ℕ) (sent : List ℕ) (limit : ℕ) (shut there : Bool) (have : List ℕ) (saw other_saw : Bool) where
+module _ {M : Type 1} {𝓤 : Ura M} (𝓛 : Logic 𝓤) (w p : Ptr) (z : Names) (head seen : ℕ) (sent : List ℕ) (limit : ℕ) (shut there : Bool) (have : List ℕ) (heard : Stream) (other_saw : Bool) where
   open 𝓛 use {H}
 
   abbrev ⟦◌⟧ : Fml → SProp 𝓤
@@ -33,14 +32,17 @@ module _ {M : Type 1} {𝓤 : Ura M} (𝓛 : Logic 𝓤) (w p : Ptr) (z : Names)
   abbrev cap : ℕ
   cap = z.capacity
 
-  abbrev O : Order (List ℕ)
-  O = prefixes coded_ℕ
+  abbrev O : Order Stream
+  O = streams
 
   abbrev B : ℕ → ℕ → Fml
   B = byte p cap
 
   abbrev Hv : List ℕ → Fml
-  Hv = at_least O z.sent
+  Hv = began z
+
+  abbrev T : Fml
+  T = announced z heard.0 heard.1
 
   abbrev S : Bool → Fml
   S = raised z.closed
@@ -53,27 +55,27 @@ module _ {M : Type 1} {𝓤 : Ura M} (𝓛 : Logic 𝓤) (w p : Ptr) (z : Names)
 
   -- the bytes that the reader did not know of, and those that stand in the places that the writer did not know of
   abbrev pub Apart : List ℕ × List ℕ → Type 0
-  Apart r = (have ++ r.0 ≡ sent) × (limit + length r.1 ≡ head + cap) × (flag saw ≤ flag shut) × (flag other_saw ≤ flag shut)
+  Apart r = (have ++ r.0 ≡ sent) × (limit + length r.1 ≡ head + cap) × Reaches heard (sent, shut) × (flag other_saw ≤ flag shut)
 
   abbrev pub Joined : List ℕ × List ℕ → SProp 𝓤
   Joined r = guard 𝓤 (Apart r) (⟦ run B seen r.0 ⟧ ∗ ⟦ run B limit r.1 ⟧ ∗ ⟦ reader_knows w p z half head (length sent) (flag there) ⟧ ∗ ⟦ writer_knows w p z half sent (head + cap) shut 0 ⟧ ∗ ⟦ Hv sent ⟧)
 
-  pub joins : length have ≡ seen → there ≡ false → ent 𝓤 (⟦ common w p z ⟧ ∗ ⟦ RK ⟧ ∗ ⟦ Hv have ⟧ ∗ ⟦ WK ⟧ ∗ ⟦ S saw ⟧ ∗ ⟦ S other_saw ⟧) (H.⇛ (ex 𝓤 Joined))
+  pub joins : length have ≡ seen → there ≡ false → ent 𝓤 (⟦ common w p z ⟧ ∗ ⟦ RK ⟧ ∗ ⟦ Hv have ⟧ ∗ ⟦ WK ⟧ ∗ ⟦ T ⟧ ∗ ⟦ S other_saw ⟧) (H.⇛ (ex 𝓤 Joined))
   joins lh is_there = let I : Fml = Inner w p z in let Q : SProp 𝓤 = ex 𝓤 Joined in let Z : SProp 𝓤 = ⟦ I ⟧ ∗ Q in
-      qed 𝓛 (‵ (common w p z) ∷ ‵ RK ∷ ‵ (Hv have) ∷ ‵ WK ∷ ‵ (S saw) ∷ ‵ (S other_saw) ∷ []) ∵ fsplit ! $ forget ! $ suffices ! _ (𝓛.invs.inv_acc I Q) $ frame ! $ assume ! (‵ I) $ move ! (0 ∷ 3 ∷ []) $
+      qed 𝓛 (‵ (common w p z) ∷ ‵ RK ∷ ‵ (Hv have) ∷ ‵ WK ∷ ‵ T ∷ ‵ (S other_saw) ∷ []) ∵ fsplit ! $ forget ! $ suffices ! _ (𝓛.invs.inv_acc I Q) $ frame ! $ assume ! (‵ I) $ move ! (0 ∷ 3 ∷ []) $
       use2 𝓛 (some (λ (s : State). given (WriterSees 𝓛 w p z sent limit shut 0 s) (‵ WK ⊛ ‵ (writer_knows w p z other s.sent s.limit s.shut s.writer_stage) ⊛ ‵ (reader_knows w p z other s.head s.seen s.reader_stage) ⊛ ‵ (Rest 𝓛 w p z s)))) (writer_opens 𝓛 w p z half sent limit shut 0 (flag_small false)) $ pick ! (λ s. learn ! (λ so. split3 ! $
       move ! (2 ∷ []) $ split ! $ move ! (4 ∷ 0 ∷ []) $
       use2 𝓛 (given ((head ≡ s.head) × (seen ≡ s.seen) × (flag there ≡ s.reader_stage)) (‵ RK ⊛ ‵ (reader_knows w p z other s.head s.seen s.reader_stage))) (reader_agrees 𝓛 w p z half head seen (flag there) s.head s.seen s.reader_stage) $ learn ! (λ e. split ! $
-      move ! (2 ∷ []) $ fsplit ! $ move ! (0 ∷ 7 ∷ []) $
-      use2 𝓛 (given (flag saw ≤ flag s.closed) (‵ (ends w p z s.closed) ⊛ ‵ (S s.closed))) (ends_tell 𝓛 w p z saw s.closed) $ learn ! (λ l1. split ! $ move ! (0 ∷ 8 ∷ []) $
+      move ! (2 ∷ []) $ fsplit ! $ move ! (0 ∷ 8 ∷ []) $
       use2 𝓛 (given (flag other_saw ≤ flag s.closed) (‵ (ends w p z s.closed) ⊛ ‵ (S s.closed))) (ends_tell 𝓛 w p z other_saw s.closed) $ learn ! (λ l2. split ! $
-      keep ! (0 ∷ 3 ∷ 4 ∷ 5 ∷ 6 ∷ 7 ∷ 8 ∷ []) $ fjoin ! $ move ! (1 ∷ 2 ∷ 0 ∷ []) $
-      let known = so.0.known in let arrived = so.0.arrived in let written = so.0.written in let freed = so.0.freed in let esent : length sent ≡ length s.sent = ap length so.1 in let el = so.2 in let eshut = so.3 in let ewriter = so.4 in let eh = e.0 in let es = e.1 in let ereader = e.2 in
+      keep ! (0 ∷ 2 ∷ 3 ∷ 4 ∷ 5 ∷ 6 ∷ 7 ∷ 8 ∷ []) $ fjoin ! $ move ! (1 ∷ 2 ∷ 0 ∷ []) $
+      let known = so.0.known in let arrived = so.0.arrived in let written = so.0.written in let freed = so.0.freed in let esent : length sent ≡ length s.sent = ap length so.1 in let el = so.2 in let eshut : flag shut ≡ flag s.shut = ap flag so.3 in let ewriter = so.4 in let eh = e.0 in let es = e.1 in let ereader = e.2 in
       let closing = so.0.closing in let no_there : flag there ≡ 0 = ap flag is_there in
-      move ! (4 ∷ []) $ fsplit3 ! $ move ! (0 ∷ 7 ∷ []) $
-      use2 𝓛 (given (IsPrefix have s.sent) (‵ (latest O other z.sent s.sent) ⊛ ‵ (Hv have))) (latest_bounds O 𝓛 other z.sent s.sent have) $ learn ! (λ pre. split ! $ move ! (1 ∷ []) $ forget ! $
-      use1 𝓛 (‵ (latest O other z.sent s.sent) ⊛ ‵ (Hv s.sent)) (latest_shows O 𝓛 other z.sent s.sent s.sent (prefix_refl s.sent)) $ split ! $ rewrite ! 1 (λ (l : List ℕ). ‵ (Hv l)) (sym so.1) refl $
-      let xs : List ℕ = pre.0 in let whole : have ++ xs ≡ s.sent = pre.1 in let top : ℕ = length s.sent in let full : ℕ = s.head + cap in
+      let now : Stream = (s.sent, s.shut) in move ! (4 ∷ []) $ fsplit3 ! $ move ! (0 ∷ 8 ∷ []) $
+      use2 𝓛 (given (Reaches heard now) (‵ (latest O other z.sent now) ⊛ ‵ T)) (latest_bounds O 𝓛 other z.sent now heard) $ learn ! (λ ht. split ! $ move ! (1 ∷ []) $ forget ! $ move ! (0 ∷ 7 ∷ []) $
+      use2 𝓛 (given (Reaches (have, false) now) (‵ (latest O other z.sent now) ⊛ ‵ (Hv have))) (latest_bounds O 𝓛 other z.sent now (have, false)) $ learn ! (λ pre. split ! $ move ! (1 ∷ []) $ forget ! $
+      use1 𝓛 (‵ (latest O other z.sent now) ⊛ ‵ (Hv s.sent)) (latest_shows O 𝓛 other z.sent now (s.sent, false) (open_reaches s.sent now (prefix_refl s.sent))) $ split ! $ rewrite ! 1 (λ (l : List ℕ). ‵ (Hv l)) (sym so.1) refl $
+      let xs : List ℕ = pre.0.0 in let whole : have ++ xs ≡ s.sent = pre.0.1 in let top : ℕ = length s.sent in let full : ℕ = s.head + cap in
       let s' : State = record s { seen = top; limit = full } in let near : OneStays 𝓛 w p z s' = omega arith in
       let so' : Holds cap s' = record { known = omega arith; arrived = omega arith; written = omega arith; freed = omega arith; closing = so.0.closing; shutting = so.0.shutting; stages = so.0.stages } in
       move ! (7 ∷ []) $ fsplit3 ! $ move ! (1 ∷ 5 ∷ []) $
@@ -91,4 +93,4 @@ module _ {M : Type 1} {𝓤 : Ura M} (𝓛 : Logic 𝓤) (w p : Ptr) (z : Names)
       nothing ! $ rewrite ! 0 (λ (l : List ℕ). ‵ (run B top l)) {x = drop top s.sent} {y = []} (sym (drop-length s.sent)) refl $
       nothing ! $ nothing ! $ fpack ! (length {A = ℕ} [] ≡ full - full) (λ _. ftrue) (omega arith) $ fjoin ! $ fpack ! (List ℕ) (idle w p z full (full - full)) [] $
       move ! (0 ∷ 3 ∷ 4 ∷ []) $ fjoin3 ! $ move ! (1 ∷ 0 ∷ []) $ fjoin ! $ move ! (3 ∷ 0 ∷ []) $ fjoin ! $ move ! (3 ∷ 0 ∷ []) $ fjoin ! $ move ! (5 ∷ 3 ∷ 0 ∷ []) $ use3 𝓛 (‵ I) (closes 𝓛 w p z s' so' near) $ frame ! $
-      show ! Joined (xs, ys) $ check ! (whole ∙ sym so.1, omega arith, omega arith, omega arith) $ move ! (1 ∷ 0 ∷ []) $ done !))))))))
+      show ! Joined (xs, ys) $ check ! (whole ∙ sym so.1, omega arith, subst (λ (a : Stream). Reaches heard a) (λ j. (sym so.1 j, sym so.3 j)) ht, omega arith) $ move ! (1 ∷ 0 ∷ []) $ done !))))))))

@@ -2,8 +2,7 @@
 use Rattle.std.proofs.Common.{◌≡◌, ℕ, zero, suc, ◌+◌, ◌-◌, ◌*◌, ◌<◌, ◌^◌, false, List, [], ◌∷◌, length, sym, refl, ap, ◌∙◌, subst, arith}
 use seplogic.Ra.Ura.{Ura}
 use base.Fraction.{full_share}
-use base.Stored.{coded_ℕ}
-use base.Growing.{Order, numbers, prefixes, latest, at_least, prefix_refl}
+use base.Growing.{Order, numbers, latest, at_least}
 use base.Logic.{SProp, ent, sep, emp, ex, via, id⊢}
 use base.Fml.{Fml, ftrue, fsep, finv}
 use types.Logic.{Logic, sem}
@@ -25,6 +24,7 @@ use Rattle.rtrb.specs.Fifo.{slot_of as offset_of}
 use Rattle.rtrb.proofs.Spans.{span_map, ring_out}
 use Rattle.rtrb.proofs.Positions.{position_zero}
 use Rattle.piper_ring.specs.Places.{unset}
+use Rattle.piper_ring.specs.Streams.{Stream, streams, reaches_same}
 use Rattle.piper_ring.specs.Shared.{Names, names_of, State, Holds, half, other, word, word_room, words_type, four_rooms, idle, deeds, Inner, Placed, common, reader_owns, writer_owns}
 use Rattle.piper_ring.proofs.Rights.{common_twice, cut}
 use Rattle.piper_ring.proofs.Steps.{closes}
@@ -102,8 +102,11 @@ module _ {M : Type 1} {𝓤 : Ura M} (𝓛 : Logic 𝓤) (w p : Ptr) (cap : ℕ)
   abbrev pub Made : Names → SProp 𝓤
   Made z = base.Logic.guard 𝓤 (z.capacity ≡ cap) (sep 𝓤 (sem 𝓛 (reader_owns w p z 0 0 [] false)) (sem 𝓛 (writer_owns w p z [] cap false)))
 
-  abbrev O : Order (List ℕ)
-  O = prefixes coded_ℕ
+  abbrev O : Order Stream
+  O = streams
+
+  abbrev none : Stream
+  none = ([], false)
 
   abbrev Begun : ℕ → ℕ → SProp 𝓤
   Begun n γ = sep 𝓤 (sem 𝓛 (latest numbers half γ n)) (sem 𝓛 (latest numbers other γ n))
@@ -117,29 +120,28 @@ module _ {M : Type 1} {𝓤 : Ura M} (𝓛 : Logic 𝓤) (w p : Ptr) (cap : ℕ)
   zero_words = fsep (word w 128 0) (fsep (word w 256 0) (fsep (word w 384 0) (word w 0 0)))
 
   abbrev pub Deeds : Fml
-  Deeds = deeds w p (names_of cap 0 0 0 0 0 0 0 0)
+  Deeds = deeds w p (names_of cap 0 0 0 0 0 0 0)
 
   -- the words are 0 and the rights to free are there: an empty ring, all of whose places are the writer's room
   pub begins : InBlock w × InBlock p × (cap < 2 ^ 63) → ⟦ zero_words ⟧ ∗ ⟦ Deeds ⟧ ⊢ H.⇛ (ex 𝓤 Made)
   begins at = let fresh : State = record { sent = []; limit = cap; head = 0; seen = 0; closed = false; shut = false; reader_stage = 0; writer_stage = 0 } in
       let new : (n : ℕ) → ent 𝓤 (emp 𝓤) (H.⇛ (ex 𝓤 (Begun n))) = starts in
       qed 𝓛 (‵ zero_words ∷ ‵ Deeds ∷ []) {P = H.⇛ (ex 𝓤 Made)} (updating ! $
-      use0 𝓛 (later (some (λ (γ : ℕ). ‵ (latest O full_share γ [])))) (via 𝓤 _ (latest_new O 𝓛 []) (basic 𝓛 _)) $ await ! tt $ pick ! (λ s. use1 𝓛 (‵ (latest O half s []) ⊛ ‵ (latest O other s [])) (cut 𝓛 O s [] full_share) $ split ! $
+      use0 𝓛 (later (some (λ (γ : ℕ). ‵ (latest O full_share γ none)))) (via 𝓤 _ (latest_new O 𝓛 none) (basic 𝓛 _)) $ await ! tt $ pick ! (λ s. use1 𝓛 (‵ (latest O half s none) ⊛ ‵ (latest O other s none)) (cut 𝓛 O s none full_share) $ split ! $
       use0 𝓛 (later (some (λ (γ : ℕ). ‵ (latest numbers half γ cap) ⊛ ‵ (latest numbers other γ cap)))) (starts cap) $ await ! tt $ pick ! (λ l. split ! $
-      use0 𝓛 (later (some (λ (γ : ℕ). ‵ (latest numbers half γ 0) ⊛ ‵ (latest numbers other γ 0)))) (starts 0) $ await ! tt $ pick ! (λ v. split ! $
       use0 𝓛 (later (some (λ (γ : ℕ). ‵ (latest numbers half γ 0) ⊛ ‵ (latest numbers other γ 0)))) (starts 0) $ await ! tt $ pick ! (λ i. split ! $
-      move ! (2 ∷ 0 ∷ []) $ fjoin ! $ move ! (2 ∷ 1 ∷ []) $ fjoin ! $ move ! (4 ∷ 2 ∷ 1 ∷ []) $ fjoin3 ! $ move ! (3 ∷ 2 ∷ 1 ∷ []) $ fjoin3 ! $
+      move ! (4 ∷ 2 ∷ 0 ∷ []) $ fjoin3 ! $ move ! (3 ∷ 2 ∷ 1 ∷ []) $ fjoin3 ! $
       use0 𝓛 (later (some (λ (γ : ℕ). ‵ (latest numbers half γ 0) ⊛ ‵ (latest numbers other γ 0)))) (starts 0) $ await ! tt $ pick ! (λ h. split ! $
       use0 𝓛 (later (some (λ (γ : ℕ). ‵ (latest numbers half γ 0) ⊛ ‵ (latest numbers other γ 0)))) (starts 0) $ await ! tt $ pick ! (λ j. split ! $
       move ! (2 ∷ 0 ∷ []) $ fjoin ! $ move ! (2 ∷ 1 ∷ []) $ fjoin ! $
       use0 𝓛 (later (some (λ (γ : ℕ). ‵ (latest numbers half γ 0) ⊛ ‵ (latest numbers other γ 0)))) (starts 0) $ await ! tt $ pick ! (λ k. split ! $
       move ! (3 ∷ 0 ∷ []) $ fjoin ! $ move ! (2 ∷ 1 ∷ []) $ fjoin ! $
       use0 𝓛 (later (some (λ (γ : ℕ). ‵ (latest numbers full_share γ 0)))) (via 𝓤 _ (latest_new numbers 𝓛 0) (basic 𝓛 _)) $ await ! tt $ pick ! (λ x.
-      let z : Names = names_of cap s l h k x v j i in let so : Holds cap fresh = record { known = omega arith; arrived = omega arith; written = omega arith; freed = omega arith; closing = omega arith; shutting = omega arith; stages = (omega arith, omega arith) } in
+      let z : Names = names_of cap s l h k x j i in let so : Holds cap fresh = record { known = omega arith; arrived = omega arith; written = omega arith; freed = omega arith; closing = omega arith; shutting = omega arith; stages = (omega arith, omega arith) } in
       let I : Fml = Inner w p z in let C : Fml = common w p z in
       move ! (6 ∷ []) $ nothing ! $ fjoin ! $ nothing ! $ fjoin ! $ nothing ! $ nothing ! $ fpack ! (length {A = ℕ} [] ≡ 0 + cap - cap) (λ _. ftrue) (omega arith) $ fjoin ! $ fpack ! (List ℕ) (idle w p z cap (0 + cap - cap)) [] $ fjoin ! $ nothing ! $ fjoin ! $
       move ! (6 ∷ []) $ fsplit3 ! $
       rewrite ! 0 (λ (n : ℕ). ‵ (word w 128 n)) (sym (position_zero cap)) refl $ rewrite ! 1 (λ (n : ℕ). ‵ (word w 256 n)) (sym (position_zero cap)) refl $ fjoin3 ! $ fjoin ! $ move ! (1 ∷ 0 ∷ []) $ fjoin ! $
       move ! (3 ∷ 1 ∷ 0 ∷ []) $ use3 𝓛 (‵ I) (closes 𝓛 w p z fresh so (omega arith)) $ use1 𝓛 (later (‵ (finv I))) (𝓛.invs.inv_new I) $ await ! tt $
-      nothing ! $ fpack ! (Placed w p z) (λ _. ftrue) at $ fjoin ! $ use1 𝓛 (‵ C ⊛ ‵ C) (common_twice 𝓛 w p z) $ split ! $ move ! (3 ∷ []) $ fsplit3 ! $ use1 𝓛 (‵ (latest O half s []) ⊛ ‵ (at_least O s [])) (latest_shows O 𝓛 half s [] [] (prefix_refl [])) $ split ! $ move ! (0 ∷ 2 ∷ 3 ∷ []) $ fjoin3 ! $ move ! (2 ∷ 0 ∷ []) $ fjoin ! $ move ! (1 ∷ []) $ nothing ! $ fpack ! (length {A = ℕ} [] ≡ 0) (λ _. ftrue) refl $ fjoin ! $ move ! (3 ∷ 0 ∷ []) $ fjoin ! $ move ! (2 ∷ 0 ∷ []) $ fjoin ! $
-      now ! $ show ! Made z $ check ! refl $ done !)))))))))
+      nothing ! $ fpack ! (Placed w p z) (λ _. ftrue) at $ fjoin ! $ use1 𝓛 (‵ C ⊛ ‵ C) (common_twice 𝓛 w p z) $ split ! $ move ! (3 ∷ []) $ fsplit3 ! $ use1 𝓛 (‵ (latest O half s none) ⊛ ‵ (at_least O s none)) (latest_shows O 𝓛 half s none none (reaches_same none)) $ split ! $ move ! (0 ∷ 2 ∷ 3 ∷ []) $ fjoin3 ! $ move ! (2 ∷ 0 ∷ []) $ fjoin ! $ move ! (1 ∷ []) $ nothing ! $ fpack ! (length {A = ℕ} [] ≡ 0) (λ _. ftrue) refl $ fjoin ! $ move ! (3 ∷ 0 ∷ []) $ fjoin ! $ move ! (2 ∷ 0 ∷ []) $ fjoin ! $
+      now ! $ show ! Made z $ check ! refl $ done !))))))))

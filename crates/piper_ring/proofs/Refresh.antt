@@ -1,33 +1,27 @@
 -- The places of the bytes that the reader saw published come to it, with no step of the program. Assumes `Logic`.
-use Rattle.std.proofs.Common.{◌≡◌, ℕ, ◌+◌, ◌-◌, ◌≤◌, Bool, List, [], ◌∷◌, ◌++◌, length, take, drop, sym, refl, ap, ◌∙◌, length-append, append_assoc, arith}
+use Rattle.std.proofs.Common.{◌≡◌, ℕ, ◌+◌, ◌-◌, ◌≤◌, Bool, false, List, [], ◌∷◌, ◌++◌, length, take, drop, sym, refl, ap, ◌∙◌, length-append, append_assoc, arith}
 use Rattle.std.proofs.Math.Seq.{drop-append_seam, take-append_seam}
-use Rattle.std.proofs.lemmas.List.{take-append-le, take-append-drop}
-use mathlib.Core.List.{IsPrefix}
 use seplogic.Ra.Ura.{Ura}
-use base.Stored.{coded_ℕ}
-use base.Growing.{Order, numbers, prefixes, latest, at_least}
+use base.Growing.{Order, numbers, latest}
 use base.Logic.{SProp, ent, sep, ex, guard, upd, upd_i}
 use base.Fml.{Share, Fml}
 use types.Logic.{Logic, sem}
-use types.Growing.{latest_bounds}
+use types.Growing.{latest_bounds, latest_shows}
 use types.Kit.{‵, raw, ◌⊛◌, some, given, ◌$◌, ◌∵◌, !, qed, move, keep, split, split3, fsplit, fsplit3, fjoin, fjoin3, pick, learn, check, show, frame, assume, settle, suffices, rewrite, use1, use2, use3, done}
 use types.Kit.{drop as forget}
 use denote.RawPtr.{Ptr}
 use Rattle.rtrb.specs.Shared.{run}
 use Rattle.piper_ring.specs.Places.{byte}
-use Rattle.piper_ring.specs.Shared.{Names, State, Holds, half, other, flag, gone, where_gone, blanks, writer_knows, reader_knows, Inner, common}
+use Rattle.piper_ring.specs.Shared.{Names, State, Holds, half, other, flag, gone, where_gone, blanks, announced, began, writer_knows, reader_knows, Inner, common}
+use Rattle.piper_ring.specs.Streams.{Stream, Reaches, streams, open_reaches}
+use Rattle.piper_ring.proofs.Reaching.{begins}
 use Rattle.piper_ring.proofs.PlacesParts.{run_cut}
 use Rattle.piper_ring.proofs.Steps.{flag_small, not_gone, Rest, OneStays, ReaderSees, reader_opens, closes, raise}
 
 pub pending_is : (have xs sent : List ℕ) (seen k : ℕ) → length have ≡ seen → seen ≡ k → have ++ xs ≡ sent → drop k sent ≡ xs
 pending_is have xs sent seen k lh e pre = (λ i. drop (sym (lh ∙ e) i) (sym pre i)) ∙ drop-append_seam have xs
 
--- of two beginnings of one list, the longer begins with the shorter
-begins : (a b l xs ys : List ℕ) → a ++ xs ≡ l → b ++ ys ≡ l → length a ≤ length b → a ++ drop (length a) b ≡ b
-begins a b l xs ys ea eb le = let front : a ≡ take (length a) b = sym (take-append_seam a xs) ∙ ap (take (length a)) (ea ∙ sym eb) ∙ take-append-le (length a) b ys le in
-    ap (λ (c : List ℕ). c ++ drop (length a) b) front ∙ take-append-drop (length a) b
-
-module _ {M : Type 1} {𝓤 : Ura M} (𝓛 : Logic 𝓤) (w p : Ptr) (z : Names) (head seen : ℕ) (have published : List ℕ) (left : Bool) where
+module _ {M : Type 1} {𝓤 : Ura M} (𝓛 : Logic 𝓤) (w p : Ptr) (z : Names) (head seen : ℕ) (have published : List ℕ) (left ended : Bool) where
   open 𝓛 use {H}
 
   abbrev ⟦◌⟧ : Fml → SProp 𝓤
@@ -40,14 +34,17 @@ module _ {M : Type 1} {𝓤 : Ura M} (𝓛 : Logic 𝓤) (w p : Ptr) (z : Names)
   abbrev cap : ℕ
   cap = z.capacity
 
-  abbrev O : Order (List ℕ)
-  O = prefixes coded_ℕ
+  abbrev O : Order Stream
+  O = streams
 
   abbrev B : ℕ → ℕ → Fml
   B = byte p cap
 
   abbrev Hv : List ℕ → Fml
-  Hv = at_least O z.sent
+  Hv = began z
+
+  abbrev P : Fml
+  P = announced z published ended
 
   abbrev RK : Share → ℕ → ℕ → ℕ → Fml
   RK = reader_knows w p z
@@ -58,17 +55,18 @@ module _ {M : Type 1} {𝓤 : Ura M} (𝓛 : Logic 𝓤) (w p : Ptr) (z : Names)
   abbrev pub Accepted : List ℕ → SProp 𝓤
   Accepted xs = guard 𝓤 (Gained xs) (⟦ run B seen xs ⟧ ∗ ⟦ RK half head (length published) (flag left) ⟧ ∗ ⟦ Hv published ⟧)
 
-  pub accepts : length have ≡ seen → seen ≤ length published → ent 𝓤 (⟦ common w p z ⟧ ∗ ⟦ RK half head seen (flag left) ⟧ ∗ ⟦ Hv have ⟧ ∗ ⟦ Hv published ⟧) (H.⇛ (ex 𝓤 Accepted))
+  pub accepts : length have ≡ seen → seen ≤ length published → ent 𝓤 (⟦ common w p z ⟧ ∗ ⟦ RK half head seen (flag left) ⟧ ∗ ⟦ Hv have ⟧ ∗ ⟦ P ⟧) (H.⇛ (ex 𝓤 Accepted))
   accepts lh long = let I : Fml = Inner w p z in let Q : SProp 𝓤 = ex 𝓤 Accepted in let Z : SProp 𝓤 = ⟦ I ⟧ ∗ Q in let RH : Fml = RK half head seen (flag left) in
-      qed 𝓛 (‵ (common w p z) ∷ ‵ RH ∷ ‵ (Hv have) ∷ ‵ (Hv published) ∷ []) ∵ fsplit ! $ forget ! $ suffices ! _ (𝓛.invs.inv_acc I Q) $ frame ! $ assume ! (‵ I) $
+      qed 𝓛 (‵ (common w p z) ∷ ‵ RH ∷ ‵ (Hv have) ∷ ‵ P ∷ []) ∵ fsplit ! $ forget ! $ suffices ! _ (𝓛.invs.inv_acc I Q) $ frame ! $ assume ! (‵ I) $
       use2 𝓛 (some (λ (s : State). given (ReaderSees 𝓛 w p z head seen (flag left) s) (‵ RH ⊛ ‵ (RK other s.head s.seen s.reader_stage) ⊛ ‵ (writer_knows w p z other s.sent s.limit s.shut s.writer_stage) ⊛ ‵ (Rest 𝓛 w p z s)))) (reader_opens 𝓛 w p z half head seen (flag left) (flag_small left)) $ pick ! (λ s. learn ! (λ so. split3 ! $
       move ! (2 ∷ []) $ split ! $ fsplit3 ! $ move ! (0 ∷ 6 ∷ []) $
-      use2 𝓛 (given (IsPrefix have s.sent) (‵ (latest O other z.sent s.sent) ⊛ ‵ (Hv have))) (latest_bounds O 𝓛 other z.sent s.sent have) $ learn ! (λ pre. split ! $ move ! (0 ∷ 7 ∷ []) $
-      use2 𝓛 (given (IsPrefix published s.sent) (‵ (latest O other z.sent s.sent) ⊛ ‵ (Hv published))) (latest_bounds O 𝓛 other z.sent s.sent published) $ learn ! (λ pt. split ! $ move ! (0 ∷ 3 ∷ 4 ∷ []) $ fjoin3 ! $
+      use2 𝓛 (given (Reaches (have, false) (s.sent, s.shut)) (‵ (latest O other z.sent (s.sent, s.shut)) ⊛ ‵ (Hv have))) (latest_bounds O 𝓛 other z.sent (s.sent, s.shut) (have, false)) $ learn ! (λ pre. split ! $ move ! (0 ∷ 7 ∷ []) $
+      use2 𝓛 (given (Reaches (published, ended) (s.sent, s.shut)) (‵ (latest O other z.sent (s.sent, s.shut)) ⊛ ‵ P)) (latest_bounds O 𝓛 other z.sent (s.sent, s.shut) (published, ended)) $ learn ! (λ pt. split ! $ move ! (1 ∷ []) $ forget ! $
+      use1 𝓛 (‵ (latest O other z.sent (s.sent, s.shut)) ⊛ ‵ (Hv published)) (latest_shows O 𝓛 other z.sent (s.sent, s.shut) (published, false) (open_reaches published (s.sent, s.shut) pt.0)) $ split ! $ move ! (0 ∷ 3 ∷ 4 ∷ []) $ fjoin3 ! $
       let known = so.0.known in let arrived = so.0.arrived in let written = so.0.written in let freed = so.0.freed in let eh = so.1 in let es = so.2 in let ei = so.3 in let top2 = so.0.stages.1 in let small = flag_small left in
-      let xs : List ℕ = drop (length have) published in let whole : have ++ xs ≡ published = begins have published s.sent pre.0 pt.0 pre.1 pt.1 (omega arith) in let rest : List ℕ = pt.0 in let top : ℕ = length published in
-      let l1 : length (have ++ xs) ≡ length have + length xs = length-append have xs in let l2 : length (have ++ xs) ≡ top = ap length whole in let l3 : length (published ++ rest) ≡ top + length rest = length-append published rest in let l4 : length (published ++ rest) ≡ length s.sent = ap length pt.1 in
-      let l5 : length (xs ++ rest) ≡ length xs + length rest = length-append xs rest in let all : have ++ (xs ++ rest) ≡ s.sent = sym (append_assoc have xs rest) ∙ ap (λ (l : List ℕ). l ++ rest) whole ∙ pt.1 in
+      let xs : List ℕ = drop (length have) published in let whole : have ++ xs ≡ published = begins have published s.sent pre.0.0 pt.0.0 pre.0.1 pt.0.1 (omega arith) in let rest : List ℕ = pt.0.0 in let top : ℕ = length published in
+      let l1 : length (have ++ xs) ≡ length have + length xs = length-append have xs in let l2 : length (have ++ xs) ≡ top = ap length whole in let l3 : length (published ++ rest) ≡ top + length rest = length-append published rest in let l4 : length (published ++ rest) ≡ length s.sent = ap length pt.0.1 in
+      let l5 : length (xs ++ rest) ≡ length xs + length rest = length-append xs rest in let all : have ++ (xs ++ rest) ≡ s.sent = sym (append_assoc have xs rest) ∙ ap (λ (l : List ℕ). l ++ rest) whole ∙ pt.0.1 in
       let s' : State = record s { seen = top } in let near : OneStays 𝓛 w p z s' = omega arith in
       let so' : Holds cap s' = record { known = omega arith; arrived = omega arith; written = written; freed = freed; closing = so.0.closing; shutting = so.0.shutting; stages = so.0.stages } in
       move ! (4 ∷ []) $ fsplit ! $ move ! (6 ∷ []) $ fsplit ! $ move ! (3 ∷ 1 ∷ []) $
@@ -79,6 +77,6 @@ module _ {M : Type 1} {𝓤 : Ura M} (𝓛 : Logic 𝓤) (w p : Ptr) (z : Names)
       rewrite ! 0 (λ (r : ℕ × List ℕ). ‵ (run B r.0 r.1)) {x = (seen, xs ++ rest)} {y = (s.seen, drop s.seen s.sent)} (λ i. (sym es i, pending_is have (xs ++ rest) s.sent seen s.seen lh es all i)) refl $
       use1 𝓛 (‵ (run B seen (take (length xs) (xs ++ rest))) ⊛ ‵ (run B top (drop (length xs) (xs ++ rest)))) (run_cut 𝓛 B (length xs) seen top (xs ++ rest) (omega arith) (omega arith)) $ split ! $
       rewrite ! 0 (λ (l : List ℕ). ‵ (run B seen l)) (take-append_seam xs rest) refl $
-      rewrite ! 1 (λ (l : List ℕ). ‵ (run B top l)) (drop-append_seam xs rest ∙ sym (pending_is published rest s.sent top top refl refl pt.1)) refl $
+      rewrite ! 1 (λ (l : List ℕ). ‵ (run B top l)) (drop-append_seam xs rest ∙ sym (pending_is published rest s.sent top top refl refl pt.0.1)) refl $
       move ! (1 ∷ 2 ∷ []) $ fjoin ! $ move ! (2 ∷ 0 ∷ []) $ fjoin ! $ move ! (2 ∷ 0 ∷ []) $ fjoin ! $ move ! (4 ∷ 2 ∷ 0 ∷ []) $ use3 𝓛 (‵ I) (closes 𝓛 w p z s' so' near) $ frame ! $
       show ! Accepted xs $ check ! (whole, omega arith) $ keep ! (0 ∷ 1 ∷ 2 ∷ []) $ done !))))

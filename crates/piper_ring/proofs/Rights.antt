@@ -2,8 +2,7 @@
 use Rattle.std.proofs.Common.{ℕ, Bool, List, [], ◌∷◌}
 use seplogic.Ra.Ura.{Ura}
 use base.Share.{left, right, halves}
-use base.Stored.{coded_ℕ}
-use base.Growing.{Order, numbers, prefixes, latest}
+use base.Growing.{Order, numbers, latest}
 use base.Logic.{SProp, ent, sep, snd∗}
 use base.Fml.{Lft, Share, Fml, GName, ftrue, fsep, finv, fbor, fshr_bor}
 use base.Before.{before}
@@ -18,6 +17,7 @@ use denote.SharingLaws.{beside_shr_laws, one_shr_laws}
 use denote.Steps.{nothing}
 use denote.Struct.Lending.{Lends, Lends-both, Lends-first}
 use Rattle.logbook.proofs.Fields.{lends_twice}
+use Rattle.piper_ring.specs.Streams.{streams}
 use Rattle.piper_ring.specs.Shared.{Names, half, flag, writer_knows, reader_knows, arrived_first, Inner, Placed, common, reader_owns, reader_lends, writer_owns, writer_lends}
 
 module _ {M : Type 1} {𝓤 : Ura M} (𝓛 : Logic 𝓤) where
@@ -58,9 +58,8 @@ module _ {M : Type 1} {𝓤 : Ura M} (𝓛 : Logic 𝓤) where
 
   module _ (w p : Ptr) (z : Names) where
     pub writer_halves : (sent : List ℕ) (limit : ℕ) (shut : Bool) (stage : ℕ) → Halves 𝓤 H A (λ q. writer_knows w p z q sent limit shut stage)
-    writer_halves sent limit shut stage = both_halve (λ q. latest (prefixes coded_ℕ) q z.sent sent) (λ q. fsep (latest numbers q z.limit limit) (fsep (latest numbers q z.shut (flag shut)) (latest numbers q z.writer_stage stage))) (right_halves (prefixes coded_ℕ) z.sent sent)
-        (both_halve (λ q. latest numbers q z.limit limit) (λ q. fsep (latest numbers q z.shut (flag shut)) (latest numbers q z.writer_stage stage)) (right_halves numbers z.limit limit)
-        (both_halve (λ q. latest numbers q z.shut (flag shut)) (λ q. latest numbers q z.writer_stage stage) (right_halves numbers z.shut (flag shut)) (right_halves numbers z.writer_stage stage)))
+    writer_halves sent limit shut stage = both_halve (λ q. latest streams q z.sent (sent, shut)) (λ q. fsep (latest numbers q z.limit limit) (latest numbers q z.writer_stage stage)) (right_halves streams z.sent (sent, shut))
+        (both_halve (λ q. latest numbers q z.limit limit) (λ q. latest numbers q z.writer_stage stage) (right_halves numbers z.limit limit) (right_halves numbers z.writer_stage stage))
 
     abbrev C : Fml
     C = common w p z

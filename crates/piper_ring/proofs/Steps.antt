@@ -1,10 +1,8 @@
 -- The invariant is taken apart by what one end knows and put together again; and the steps on the tail, and the look at the head. Assumes `Logic`.
-use Rattle.std.proofs.Common.{◌≡◌, ℕ, zero, suc, ◌+◌, ◌-◌, ◌≤◌, Bool, true, false, List, [], ◌∷◌, ◌++◌, length, drop, sym, refl, ap, ◌∙◌, length-append, arith}
+use Rattle.std.proofs.Common.{◌≡◌, ℕ, zero, suc, ◌+◌, ◌-◌, ◌≤◌, Bool, true, false, List, [], ◌∷◌, ◌++◌, length, drop, sym, refl, ap, ◌∙◌, length-append, append-nil, arith}
 use seplogic.Ra.Ura.{Ura}
 use base.Fraction.{full_share}
-use base.Stored.{coded_ℕ}
-use base.Growing.{Order, numbers, prefixes, latest, prefix_refl}
-use mathlib.Core.List.{IsPrefix}
+use base.Growing.{Order, numbers, latest, prefix_refl}
 use base.Logic.{SProp, ent, sep, upd, guard, ex, upd_i}
 use base.Fml.{Share, Fml, GName, ftrue, fsep, fex}
 use types.Logic.{Logic, sem}
@@ -20,7 +18,8 @@ use Rattle.rtrb.proofs.Asks.{Lies, shared}
 use Rattle.std.proofs.lemmas.List.{drop-append-le, length-drop}
 use Rattle.rtrb.proofs.Spans.{run_join}
 use Rattle.piper_ring.specs.Places.{fact, byte}
-use Rattle.piper_ring.specs.Shared.{Names, State, Holds, half, other, flag, gone, until_both, where_gone, word, blanks, deeds, memory, began, took, writer_knows, reader_knows, ends, standing, Inner, common}
+use Rattle.piper_ring.specs.Streams.{Stream, Reaches, streams, open_reaches}
+use Rattle.piper_ring.specs.Shared.{Names, State, Holds, half, other, flag, gone, until_both, where_gone, word, blanks, deeds, memory, announced, began, took, writer_knows, reader_knows, ends, standing, Inner, common}
 use Rattle.piper_ring.proofs.Rights.{cut, glue}
 
 pub flag_small : (b : Bool) → flag b ≤ 1
@@ -82,7 +81,7 @@ module _ {M : Type 1} {𝓤 : Ura M} (𝓛 : Logic 𝓤) (w p : Ptr) (z : Names)
   ReaderSees head seen i s = Holds cap s × (head ≡ s.head) × (seen ≡ s.seen) × (i ≡ s.reader_stage)
 
   abbrev pub WriterSees : List ℕ → ℕ → Bool → ℕ → State → Type 0
-  WriterSees sent limit shut i s = Holds cap s × (sent ≡ s.sent) × (limit ≡ s.limit) × (flag shut ≡ flag s.shut) × (i ≡ s.writer_stage)
+  WriterSees sent limit shut i s = Holds cap s × (sent ≡ s.sent) × (limit ≡ s.limit) × (shut ≡ s.shut) × (i ≡ s.writer_stage)
 
   pub stays : (a b : ℕ) (F : Fml) → a + b ≤ 3 → until_both (gone a) (gone b) F ≡ F
   stays zero b F le = refl
@@ -119,29 +118,29 @@ module _ {M : Type 1} {𝓤 : Ura M} (𝓛 : Logic 𝓤) (w p : Ptr) (z : Names)
       nothing ! $ fpack ! (Holds cap s) (λ _. ftrue) so $ fjoin3 ! $ fpack ! State (standing w p z) s $ done !
 
   -- xs was published, and n is where its end stands
-  abbrev pub SawTail : ℕ → ℕ → List ℕ → ℕ → List ℕ → Type 0
-  SawTail head seen told n xs = (n ≡ position_of cap (length xs)) × (seen ≤ length xs) × (length xs ≤ head + cap) × (length told ≤ length xs)
+  abbrev pub SawTail : ℕ → ℕ → Stream → ℕ → List ℕ → Type 0
+  SawTail head seen told n xs = (n ≡ position_of cap (length xs)) × (seen ≤ length xs) × (length xs ≤ head + cap) × (length told.0 ≤ length xs) × (told.1 ≡ true → xs ≡ told.0)
 
-  abbrev pub TailSeen : Share → ℕ → ℕ → ℕ → List ℕ → ℕ → List ℕ → Fml
+  abbrev pub TailSeen : Share → ℕ → ℕ → ℕ → Stream → ℕ → List ℕ → Fml
   TailSeen q head seen i told n xs = fsep (fact (SawTail head seen told n xs)) (fsep (began z xs) (RK q head seen i))
 
-  abbrev pub AfterLook : Share → ℕ → ℕ → ℕ → List ℕ → ℕ → Fml
+  abbrev pub AfterLook : Share → ℕ → ℕ → ℕ → Stream → ℕ → Fml
   AfterLook q head seen i told n = fex (List ℕ) (TailSeen q head seen i told n)
 
   -- a load of the tail by anyone who has a share of what the reader knows
-  pub looks_tail : (q : Share) (head seen i : ℕ) (told : List ℕ) → i ≤ 1 → ⟦ C ⟧ ∗ ⟦ RK q head seen i ⟧ ∗ ⟦ began z told ⟧ ⊢ access 256 (λ n. n) (AfterLook q head seen i told)
-  looks_tail q head seen i told le = let then : ℕ → Fml = AfterLook q head seen i told in let Z : Pr = ex 𝓤 (Holding 256 (λ n. n) then) in let O : Order (List ℕ) = prefixes coded_ℕ in
-      inside 256 (λ n. n) then (⟦ RK q head seen i ⟧ ∗ ⟦ began z told ⟧) (qed 𝓛 (‵ I ∷ ‵ (RK q head seen i) ∷ ‵ (began z told) ∷ []) ∵
+  pub looks_tail : (q : Share) (head seen i : ℕ) (told : Stream) → i ≤ 1 → ⟦ C ⟧ ∗ ⟦ RK q head seen i ⟧ ∗ ⟦ announced z told.0 told.1 ⟧ ⊢ access 256 (λ n. n) (AfterLook q head seen i told)
+  looks_tail q head seen i told le = let then : ℕ → Fml = AfterLook q head seen i told in let Z : Pr = ex 𝓤 (Holding 256 (λ n. n) then) in let O : Order Stream = streams in let T : Fml = announced z told.0 told.1 in
+      inside 256 (λ n. n) then (⟦ RK q head seen i ⟧ ∗ ⟦ T ⟧) (qed 𝓛 (‵ I ∷ ‵ (RK q head seen i) ∷ ‵ T ∷ []) ∵
       use2 𝓛 (some (λ (s : State). given (ReaderSees head seen i s) (‵ (RK q head seen i) ⊛ ‵ (RK other s.head s.seen s.reader_stage) ⊛ ‵ (WK other s.sent s.limit s.shut s.writer_stage) ⊛ ‵ (Rest s)))) (reader_opens q head seen i le) $ pick ! (λ s. learn ! (λ so. split3 ! $
       move ! (2 ∷ []) $ split ! $ fsplit3 ! $ move ! (0 ∷ 6 ∷ []) $
-      use2 𝓛 (given (IsPrefix told s.sent) (‵ (latest O other z.sent s.sent) ⊛ ‵ (began z told))) (latest_bounds O 𝓛 other z.sent s.sent told) $ learn ! (λ pt. split ! $
-      use1 𝓛 (‵ (latest O other z.sent s.sent) ⊛ ‵ (began z s.sent)) (latest_shows O 𝓛 other z.sent s.sent s.sent (prefix_refl s.sent)) $ split ! $ move ! (0 ∷ 3 ∷ 4 ∷ []) $ fjoin3 ! $
+      use2 𝓛 (given (Reaches told (s.sent, s.shut)) (‵ (latest O other z.sent (s.sent, s.shut)) ⊛ ‵ T)) (latest_bounds O 𝓛 other z.sent (s.sent, s.shut) told) $ learn ! (λ pt. split ! $
+      use1 𝓛 (‵ (latest O other z.sent (s.sent, s.shut)) ⊛ ‵ (began z s.sent)) (latest_shows O 𝓛 other z.sent (s.sent, s.shut) (s.sent, false) (open_reaches s.sent (s.sent, s.shut) (prefix_refl s.sent))) $ split ! $ move ! (0 ∷ 3 ∷ 4 ∷ []) $ fjoin3 ! $
       move ! (3 ∷ []) $ fsplit ! $ move ! (1 ∷ []) $ fsplit ! $ fsplit3 ! $ move ! (1 ∷ []) $
       let n : ℕ = position_of cap (length s.sent) in let known = so.0.known in let arrived = so.0.arrived in let written = so.0.written in let freed = so.0.freed in let eh = so.1 in let es = so.2 in let ei = so.3 in let top = so.0.stages.1 in let near : OneStays s = omega arith in
-      let long : length (told ++ pt.0) ≡ length told + length pt.0 = length-append told pt.0 in let all : length (told ++ pt.0) ≡ length s.sent = ap length pt.1 in
+      let long : length (told.0 ++ pt.0.0) ≡ length told.0 + length pt.0.0 = length-append told.0 pt.0.0 in let all : length (told.0 ++ pt.0.0) ≡ length s.sent = ap length pt.0.1 in
       suffices ! _ (upd_i 𝓤 Z) $ show ! (Holding 256 (λ n. n) then) n $ frame ! $ assume ! (‵ (word w 256 n)) $ suffices ! _ (upd_i 𝓤 (⟦ I ⟧ ∗ ⟦ then n ⟧)) $
       move ! (1 ∷ 0 ∷ []) $ fjoin3 ! $ fjoin ! $ move ! (1 ∷ 0 ∷ []) $ fjoin ! $ move ! (1 ∷ 5 ∷ 0 ∷ []) $ use3 𝓛 (‵ I) (closes s so.0 near) $ frame ! $
-      move ! (1 ∷ []) $ forget ! $ fjoin ! $ nothing ! $ fpack ! (SawTail head seen told n s.sent) (λ _. ftrue) (refl, omega arith, omega arith, omega arith) $ fjoin ! $ fpack ! (List ℕ) (TailSeen q head seen i told n) s.sent $ done !))))
+      move ! (1 ∷ []) $ forget ! $ fjoin ! $ nothing ! $ fpack ! (SawTail head seen told n s.sent) (λ _. ftrue) (refl, omega arith, omega arith, omega arith, λ e. ap (λ (x : Stream). x.0) (pt.1 e)) $ fjoin ! $ fpack ! (List ℕ) (TailSeen q head seen i told n) s.sent $ done !))))
 
   module _ {X : Type 0} (O : Order X) (γ : GName) where
     -- the two halves of a right agree, and move up together
@@ -158,17 +157,16 @@ module _ {M : Type 1} {𝓤 : Ura M} (𝓛 : Logic 𝓤) (w p : Ptr) (z : Names)
   ForWriter q sent limit shut i s = guard 𝓤 (WriterSees sent limit shut i s) (⟦ WK q sent limit shut i ⟧ ∗ ⟦ WK other s.sent s.limit s.shut s.writer_stage ⟧ ∗ ⟦ RK other s.head s.seen s.reader_stage ⟧ ∗ ⟦ Rest s ⟧)
 
   pub writer_agrees : (q : Share) (sent : List ℕ) (limit : ℕ) (shut : Bool) (i : ℕ) (l : List ℕ) (m : ℕ) (b : Bool) (j : ℕ)
-      → ⟦ WK q sent limit shut i ⟧ ∗ ⟦ WK other l m b j ⟧ ⊢ guard 𝓤 ((sent ≡ l) × (limit ≡ m) × (flag shut ≡ flag b) × (i ≡ j)) (⟦ WK q sent limit shut i ⟧ ∗ ⟦ WK other l m b j ⟧)
-  writer_agrees q sent limit shut i l m b j = let O : Order (List ℕ) = prefixes coded_ℕ in qed 𝓛 (‵ (WK q sent limit shut i) ∷ ‵ (WK other l m b j) ∷ []) ∵ fsplit3 ! $ move ! (2 ∷ []) $ fsplit ! $ move ! (4 ∷ []) $ fsplit3 ! $ move ! (2 ∷ []) $ fsplit ! $
-      move ! (6 ∷ 2 ∷ []) $ use2 𝓛 (given (sent ≡ l) (‵ (latest O q z.sent sent) ⊛ ‵ (latest O other z.sent l))) (latest_agrees O 𝓛 q other z.sent sent l) $ learn ! (λ e. split ! $ move ! (7 ∷ 4 ∷ []) $
-      use2 𝓛 (given (limit ≡ m) (‵ (latest numbers q z.limit limit) ⊛ ‵ (latest numbers other z.limit m))) (latest_agrees numbers 𝓛 q other z.limit limit m) $ learn ! (λ f. split ! $ move ! (6 ∷ 4 ∷ []) $
-      use2 𝓛 (given (flag shut ≡ flag b) (‵ (latest numbers q z.shut (flag shut)) ⊛ ‵ (latest numbers other z.shut (flag b)))) (latest_agrees numbers 𝓛 q other z.shut (flag shut) (flag b)) $ learn ! (λ g. split ! $ move ! (7 ∷ 6 ∷ []) $
+      → ⟦ WK q sent limit shut i ⟧ ∗ ⟦ WK other l m b j ⟧ ⊢ guard 𝓤 ((sent ≡ l) × (limit ≡ m) × (shut ≡ b) × (i ≡ j)) (⟦ WK q sent limit shut i ⟧ ∗ ⟦ WK other l m b j ⟧)
+  writer_agrees q sent limit shut i l m b j = let O : Order Stream = streams in qed 𝓛 (‵ (WK q sent limit shut i) ∷ ‵ (WK other l m b j) ∷ []) ∵ fsplit3 ! $ move ! (3 ∷ []) $ fsplit3 ! $
+      move ! (3 ∷ 0 ∷ []) $ use2 𝓛 (given ((sent, shut) ≡ (l, b)) (‵ (latest O q z.sent (sent, shut)) ⊛ ‵ (latest O other z.sent (l, b)))) (latest_agrees O 𝓛 q other z.sent (sent, shut) (l, b)) $ learn ! (λ e. split ! $ move ! (4 ∷ 2 ∷ []) $
+      use2 𝓛 (given (limit ≡ m) (‵ (latest numbers q z.limit limit) ⊛ ‵ (latest numbers other z.limit m))) (latest_agrees numbers 𝓛 q other z.limit limit m) $ learn ! (λ f. split ! $ move ! (5 ∷ 4 ∷ []) $
       use2 𝓛 (given (i ≡ j) (‵ (latest numbers q z.writer_stage i) ⊛ ‵ (latest numbers other z.writer_stage j))) (latest_agrees numbers 𝓛 q other z.writer_stage i j) $ learn ! (λ k. split ! $
-      check ! (e, f, g, k) $ move ! (2 ∷ 0 ∷ []) $ fjoin ! $ move ! (2 ∷ 1 ∷ []) $ fjoin ! $ move ! (4 ∷ 2 ∷ 1 ∷ []) $ fjoin3 ! $ move ! (3 ∷ 2 ∷ 1 ∷ []) $ fjoin3 ! $ move ! (1 ∷ 0 ∷ []) $ done !))))
+      check ! (ap (λ (x : Stream). x.0) e, f, ap (λ (x : Stream). x.1) e, k) $ move ! (4 ∷ 2 ∷ 0 ∷ []) $ fjoin3 ! $ move ! (3 ∷ 2 ∷ 1 ∷ []) $ fjoin3 ! $ move ! (1 ∷ 0 ∷ []) $ done !)))
 
   pub writer_opens : (q : Share) (sent : List ℕ) (limit : ℕ) (shut : Bool) (i : ℕ) → i ≤ 1 → ⟦ I ⟧ ∗ ⟦ WK q sent limit shut i ⟧ ⊢ ex 𝓤 (ForWriter q sent limit shut i)
   writer_opens q sent limit shut i le = qed 𝓛 (‵ I ∷ ‵ (WK q sent limit shut i) ∷ []) ∵ fpick ! (λ s. fsplit3 ! $ fpick ! (λ so. forget ! $ fsplit3 ! $ move ! (4 ∷ 0 ∷ []) $
-      use2 𝓛 (given ((sent ≡ s.sent) × (limit ≡ s.limit) × (flag shut ≡ flag s.shut) × (i ≡ s.writer_stage)) (‵ (WK q sent limit shut i) ⊛ ‵ (WK other s.sent s.limit s.shut s.writer_stage))) (writer_agrees q sent limit shut i s.sent s.limit s.shut s.writer_stage) $ learn ! (λ e. split ! $
+      use2 𝓛 (given ((sent ≡ s.sent) × (limit ≡ s.limit) × (shut ≡ s.shut) × (i ≡ s.writer_stage)) (‵ (WK q sent limit shut i) ⊛ ‵ (WK other s.sent s.limit s.shut s.writer_stage))) (writer_agrees q sent limit shut i s.sent s.limit s.shut s.writer_stage) $ learn ! (λ e. split ! $
       let ei = e.3 in let top = so.stages.0 in move ! (4 ∷ []) $ rewrite ! 0 (λ (F : Fml). ‵ F) {x = memory w p z s} {y = until_both (gone s.reader_stage) (gone s.writer_stage) (memory w p z s)} (stays s.reader_stage s.writer_stage (memory w p z s) (omega arith)) refl $
       move ! (4 ∷ 0 ∷ []) $ fjoin ! $ show ! (ForWriter q sent limit shut i) s $ check ! (so, e.0, e.1, e.2, e.3) $ move ! (1 ∷ 2 ∷ 3 ∷ []) $ done !)))
 
@@ -196,7 +194,7 @@ module _ {M : Type 1} {𝓤 : Ura M} (𝓛 : Logic 𝓤) (w p : Ptr) (z : Names)
       fjoin ! $ fjoin ! $ move ! (1 ∷ 0 ∷ []) $ fjoin ! $ move ! (5 ∷ 1 ∷ 0 ∷ []) $ use3 𝓛 (‵ I) (closes s so.0 near) $ frame ! $
       move ! (1 ∷ []) $ forget ! $ fjoin ! $ nothing ! $ fpack ! (SawHead sent limit told n s.head) (λ _. ftrue) (refl, omega arith, omega arith, least) $ fjoin ! $ fpack ! ℕ (HeadSeen q sent limit shut i told n) s.head $ done !))))
 
-  module _ (sent : List ℕ) (limit : ℕ) (shut : Bool) (i : ℕ) (le : i ≤ 1) (xs : List ℕ) (new : ℕ) (is : new ≡ position_of cap (length sent + length xs)) (room : length sent + length xs ≤ limit) where
+  module _ (sent : List ℕ) (limit : ℕ) (shut : Bool) (i : ℕ) (le : i ≤ 1) (xs : List ℕ) (new : ℕ) (is : new ≡ position_of cap (length sent + length xs)) (room : length sent + length xs ≤ limit) (open_still : shut ≡ true → xs ≡ []) where
     abbrev Then : Fml
     Then = WK half (sent ++ xs) limit shut i
 
@@ -205,15 +203,16 @@ module _ {M : Type 1} {𝓤 : Ura M} (𝓛 : Logic 𝓤) (w p : Ptr) (z : Names)
 
     -- a store of the tail hands the places of xs over
     pub publishes : ⟦ C ⟧ ∗ ⟦ WK half sent limit shut i ⟧ ∗ ⟦ Gift ⟧ ⊢ access 256 (λ _. new) (λ _. Then)
-    publishes = let Z : Pr = ex 𝓤 (Holding 256 (λ _. new) (λ _. Then)) in let O : Order (List ℕ) = prefixes coded_ℕ in
+    publishes = let Z : Pr = ex 𝓤 (Holding 256 (λ _. new) (λ _. Then)) in let O : Order Stream = streams in
         inside 256 (λ _. new) (λ _. Then) (⟦ WK half sent limit shut i ⟧ ∗ ⟦ Gift ⟧) (qed 𝓛 (‵ I ∷ ‵ (WK half sent limit shut i) ∷ ‵ Gift ∷ []) ∵
         use2 𝓛 (some (λ (s : State). given (WriterSees sent limit shut i s) (‵ (WK half sent limit shut i) ⊛ ‵ (WK other s.sent s.limit s.shut s.writer_stage) ⊛ ‵ (RK other s.head s.seen s.reader_stage) ⊛ ‵ (Rest s)))) (writer_opens half sent limit shut i le) $ pick ! (λ s. learn ! (λ so. split3 ! $
         let known = so.0.known in let arrived = so.0.arrived in let written = so.0.written in let freed = so.0.freed in let es : length sent ≡ length s.sent = ap length so.1 in let el = so.2 in
         let all : List ℕ = s.sent ++ xs in let long : length all ≡ length s.sent + length xs = length-append s.sent xs in let s' : State = record s { sent = all } in
         let so' : Holds cap s' = record { known = known; arrived = omega arith; written = omega arith; freed = freed; closing = so.0.closing; shutting = so.0.shutting; stages = so.0.stages } in let ei = so.4 in let top = so.0.stages.0 in let near : OneStays s' = omega arith in
+        let more : Reaches (sent, shut) (sent ++ xs, shut) = ((xs, refl), λ e. ap (λ (l : List ℕ). (l, shut)) (ap (λ (l : List ℕ). sent ++ l) (open_still e) ∙ append-nil sent)) in
         fsplit3 ! $ move ! (3 ∷ []) $ fsplit3 ! $ move ! (3 ∷ 0 ∷ []) $
-        use2 𝓛 (raw (upd 𝓤 (⟦ latest O half z.sent (sent ++ xs) ⟧ ∗ ⟦ latest O other z.sent all ⟧))) (raise O z.sent sent s.sent (sent ++ xs) all so.1 (ap (λ (l : List ℕ). l ++ xs) so.1) (xs, refl)) $
-        settle 𝓛 Z (‵ (latest O half z.sent (sent ++ xs)) ⊛ ‵ (latest O other z.sent all)) $ suffices ! _ (upd_i 𝓤 Z) $ split ! $
+        use2 𝓛 (raw (upd 𝓤 (⟦ latest O half z.sent (sent ++ xs, shut) ⟧ ∗ ⟦ latest O other z.sent (all, s.shut) ⟧))) (raise O z.sent (sent, shut) (s.sent, s.shut) (sent ++ xs, shut) (all, s.shut) (λ j. (so.1 j, so.3 j)) (λ j. (so.1 j ++ xs, so.3 j)) more) $
+        settle 𝓛 Z (‵ (latest O half z.sent (sent ++ xs, shut)) ⊛ ‵ (latest O other z.sent (all, s.shut))) $ suffices ! _ (upd_i 𝓤 Z) $ split ! $
         move ! (0 ∷ 4 ∷ 5 ∷ []) $ fjoin3 ! $ move ! (1 ∷ 2 ∷ 3 ∷ []) $ fjoin3 ! $ move ! (2 ∷ []) $ split ! $ move ! (1 ∷ []) $ fsplit ! $ move ! (1 ∷ []) $ fsplit ! $ fsplit3 ! $ move ! (1 ∷ []) $
         show ! (Holding 256 (λ _. new) (λ _. Then)) (position_of cap (length s.sent)) $ frame ! $ assume ! (‵ (word w 256 new)) $ suffices ! _ (upd_i 𝓤 (⟦ I ⟧ ∗ ⟦ Then ⟧)) $
         rewrite ! 0 (λ (m : ℕ). ‵ (word w 256 m)) (is ∙ ap (position_of cap) (ap (λ (m : ℕ). m + length xs) es ∙ sym long)) refl $

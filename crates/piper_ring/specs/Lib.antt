@@ -1,4 +1,5 @@
 pub mod Places
+pub mod Streams
 pub mod Shared
 pub mod Memory
 pub mod Lends

@@ -1,8 +1,10 @@
 -- What a contract sees of a `ReadEnd`, and how the end keeps it.
-use Rattle.std.specs.Prelude.{◌≡◌, ℕ, ◌+◌, ◌-◌, ◌^◌, ◌<◌, ◌≤◌, ◌++◌, Bool, false, List, length, take, min, refl}
+use Rattle.std.specs.Prelude.{◌≡◌, ℕ, ◌+◌, ◌-◌, ◌^◌, ◌<◌, ◌≤◌, ◌++◌, Bool, true, false, List, length, take, min, refl}
 use Rattle.std.specs.Coded.{Coded, code_by, coded×, coded_list, coded_ℕ, coded_bool}
 use Rattle.rtrb.specs.Fifo.{position_of, slot_of as offset_of}
+use mathlib.Core.List.{IsPrefix}
 use Rattle.piper_ring.specs.Shared.{Ring, ring_code}
+use Rattle.piper_ring.specs.Streams.{Reaches, either}
 use Rattle.piper_ring.specs.declared.ends.reader.ReadParts.{ReadParts}
 
 pub record ReadView : Type 0 where
@@ -19,9 +21,11 @@ pub record ReadView : Type 0 where
   pub told_shut : Bool
   -- whether a call of its own saw the pipe closed
   pub saw : Bool
+  -- all bytes that were ever published, once one of the two told it that the pipe is closed
+  pub all : List ℕ
 
-abbrev pub read_view : Ring → ℕ → List ℕ → List ℕ → ℕ → Bool → Bool → ReadView
-read_view i c t k n u s = record {
+abbrev pub read_view : Ring → ℕ → List ℕ → List ℕ → ℕ → Bool → Bool → List ℕ → ReadView
+read_view i c t k n u s a = record {
   ring = i;
   capacity = c;
   taken = t;
@@ -29,22 +33,23 @@ read_view i c t k n u s = record {
   told = n;
   told_shut = u;
   saw = s;
+  all = a;
 }
 
 abbrev pub read_view_code : Coded ReadView
 read_view_code =
-    code_by ((Ring × ℕ) × ((List ℕ × List ℕ) × (ℕ × (Bool × Bool))))
+    code_by ((Ring × ℕ) × ((List ℕ × List ℕ) × ((ℕ × List ℕ) × (Bool × Bool))))
     (coded× (coded× ring_code coded_ℕ)
     (coded× (coded× (coded_list coded_ℕ) (coded_list coded_ℕ))
-    (coded× coded_ℕ (coded× coded_bool coded_bool))))
-    (λ r. ((r.ring, r.capacity), ((r.taken, r.known), (r.told, (r.told_shut, r.saw)))))
-    (λ p. read_view p.0.0 p.0.1 p.1.0.0 p.1.0.1 p.1.1.0 p.1.1.1.0 p.1.1.1.1) (λ _. refl)
+    (coded× (coded× coded_ℕ (coded_list coded_ℕ)) (coded× coded_bool coded_bool))))
+    (λ r. ((r.ring, r.capacity), ((r.taken, r.known), ((r.told, r.all), (r.told_shut, r.saw)))))
+    (λ p. read_view p.0.0 p.0.1 p.1.0.0 p.1.0.1 p.1.1.0.0 p.1.1.1.0 p.1.1.1.1 p.1.1.0.1) (λ _. refl)
 
 abbrev pub read_view_of : ReadParts → ReadView
 read_view_of e =
     read_view (e.seat.words, (e.seat.at, e.seat.names)) e.indices.capacity
     (take e.seat.head e.seat.have) e.known.bytes
-    (length e.told.bytes) e.told.shut e.saw.seen
+    (length e.told.bytes) e.told.shut e.saw.shut e.heard.bytes
 
 -- the place of the first known byte
 abbrev pub read_place : ReadView → ℕ
@@ -54,11 +59,25 @@ read_place r = offset_of r.capacity (length r.taken)
 abbrev pub in_one_piece : ReadView → ℕ
 in_one_piece r = min (length r.known) (r.capacity - read_place r)
 
--- n bytes may be unread: all that the end knows of, all that it was told of, and no more than fit
+-- the end was told that the pipe is closed, or saw it
+abbrev pub KnowsEnd : ReadView → Type 0
+KnowsEnd r = either r.told_shut r.saw ≡ true
+
+-- what the end took and knows of, and then some bytes that it doesn't know of, are all
+abbrev pub HasTheRest : ReadView → Type 0
+HasTheRest r = (rest : List ℕ) × ((r.taken ++ r.known) ++ rest ≡ r.all)
+
+-- xs and ys are beginnings of one stream: they agree as far as both go
+abbrev pub Agree : List ℕ → List ℕ → Type 0
+Agree xs ys = (all : List ℕ) × IsPrefix xs all × IsPrefix ys all
+
+-- n bytes may be unread: all that the end knows of, all that it was told of, and no more than fit;
+-- and just those up to the end where that is known
 pub record MayBeUnread (r : ReadView) (n : ℕ) : Type 0 where
   pub known : length r.known ≤ n
   pub told : r.told ≤ length r.taken + n
   pub fits : n ≤ r.capacity
+  pub end : KnowsEnd r → length r.taken + n ≡ length r.all
 
 -- b is the same end as a, and nothing was told to it since
 pub record SameReadEnd (a b : ReadView) : Type 0 where
@@ -73,6 +92,7 @@ pub record KnowsMore (a b : ReadView) : Type 0 where
   pub taken : b.taken ≡ a.taken
   pub known : (xs : List ℕ) × (b.known ≡ a.known ++ xs)
   pub saw : b.saw ≡ a.saw
+  pub all : KnowsEnd a → b.all ≡ a.all
 
 -- b is a, but for what was told to it since
 pub record SameButTold (a b : ReadView) : Type 0 where
@@ -81,12 +101,14 @@ pub record SameButTold (a b : ReadView) : Type 0 where
   pub taken : b.taken ≡ a.taken
   pub known : b.known ≡ a.known
   pub saw : b.saw ≡ a.saw
+  pub all : KnowsEnd a → b.all ≡ a.all
 
 -- b is a, but for what it saw of the pipe's end since
 pub record SameButSaw (a b : ReadView) : Type 0 where
   pub end : SameReadEnd a b
   pub taken : b.taken ≡ a.taken
   pub known : b.known ≡ a.known
+  pub all : KnowsEnd a → b.all ≡ a.all
 
 -- how the end keeps its view
 pub record IsReadEnd (e : ReadParts) : Type 0 where
@@ -102,7 +124,13 @@ pub record IsReadEnd (e : ReadParts) : Type 0 where
   pub cached :
       (e.indices.head ≡ position_of e.indices.capacity e.seat.head)
       × (e.indices.tail ≡ position_of e.indices.capacity e.seat.seen)
-  pub heard : (e.told.names ≡ e.seat.names) × (e.saw.names ≡ e.seat.names)
+  pub heard :
+      (e.told.names ≡ e.seat.names) × (e.saw.names ≡ e.seat.names)
+      × (e.heard.names ≡ e.seat.names)
+  pub stream :
+      IsPrefix e.seat.have e.heard.bytes
+      × Reaches (e.told.bytes, e.told.shut) (e.heard.bytes, e.heard.shut)
+      × Reaches (e.saw.bytes, e.saw.shut) (e.heard.bytes, e.heard.shut)
   pub whole :
       (e.seat.head ≤ length e.seat.have)
       × (e.seat.have ≡ take e.seat.head e.seat.have ++ e.known.bytes)

@@ -8,7 +8,7 @@ use mir.Val.{vint}
 use base.Fraction.{full_share}
 use base.Share.{left, right}
 use base.Stored.{coded_ℕ}
-use base.Growing.{numbers, prefixes, latest, at_least}
+use base.Growing.{numbers, latest, at_least}
 use base.Fml.{Lft, Share, Fml, ftrue, fsep, fwand, fex, fat, froom, finv}
 use denote.Builtin.{u8, u64}
 use denote.RawPtr.{Ptr, coded_ptr, block_of, count_of, InBlock}
@@ -19,11 +19,12 @@ use Rattle.std_heap.specs.contracts.GlobalAllocator.TheImpl.{ghosts}
 use Rattle.rtrb.specs.Fifo.{position_of}
 use Rattle.rtrb.specs.Shared.{run, span}
 use Rattle.piper_ring.specs.Places.{fact, byte, unset}
+use Rattle.piper_ring.specs.Streams.{streams}
 
 -- The capacity, and the ghost names under which the ring's history is kept.
 pub record Names : Type 0 where
   pub capacity : ℕ
-  -- all bytes sent
+  -- all bytes sent, and whether the writer closed the ring: then no more are
   pub sent : ℕ
   -- the place up to which the writer may write
   pub limit : ℕ
@@ -31,22 +32,20 @@ pub record Names : Type 0 where
   pub head : ℕ
   -- how many the reader has seen
   pub seen : ℕ
-  -- whether the ring is closed, and whether the writer closed it
+  -- whether the ring is closed
   pub closed : ℕ
-  pub shut : ℕ
   -- how far each end has gone in leaving
   pub reader_stage : ℕ
   pub writer_stage : ℕ
 
-abbrev pub names_of : (c s l h e o u i j : ℕ) → Names
-names_of c s l h e o u i j = record {
+abbrev pub names_of : (c s l h e o i j : ℕ) → Names
+names_of c s l h e o i j = record {
   capacity = c;
   sent = s;
   limit = l;
   head = h;
   seen = e;
   closed = o;
-  shut = u;
   reader_stage = i;
   writer_stage = j;
 }
@@ -57,15 +56,16 @@ Three = ℕ × (ℕ × ℕ)
 abbrev pub coded_three : Coded Three
 coded_three = coded× coded_ℕ (coded× coded_ℕ coded_ℕ)
 
-abbrev pub of_threes : Three → Three → Three → Names
-of_threes a b c = names_of a.0 a.1.0 a.1.1 b.0 b.1.0 b.1.1 c.0 c.1.0 c.1.1
+abbrev pub of_threes : Three → Three → ℕ × ℕ → Names
+of_threes a b c = names_of a.0 a.1.0 a.1.1 b.0 b.1.0 b.1.1 c.0 c.1
 
 abbrev pub names_code : Coded Names
 names_code =
-    code_by (Three × (Three × Three)) (coded× coded_three (coded× coded_three coded_three))
+    code_by (Three × (Three × (ℕ × ℕ)))
+    (coded× coded_three (coded× coded_three (coded× coded_ℕ coded_ℕ)))
     (λ z. (
       (z.capacity, (z.sent, z.limit)),
-      ((z.head, (z.seen, z.closed)), (z.shut, (z.reader_stage, z.writer_stage))),
+      ((z.head, (z.seen, z.closed)), (z.reader_stage, z.writer_stage)),
     ))
     (λ p. of_threes p.0 p.1.0 p.1.1) (λ _. refl)
 
@@ -147,9 +147,13 @@ four_rooms w =
 abbrev pub heap_token : Ty → Ptr → Fml
 heap_token = ghosts.dealloc_token (record { memory = record { seal = tt } })
 
+-- the bytes sent begin with xs, and where `shut`, the writer closed the ring behind them
+abbrev pub announced : Names → List ℕ → Bool → Fml
+announced z xs shut = at_least streams z.sent (xs, shut)
+
 -- all bytes sent begin with xs
 abbrev pub began : Names → List ℕ → Fml
-began z xs = at_least (prefixes coded_ℕ) z.sent xs
+began z xs = announced z xs false
 
 -- at least n bytes were consumed
 abbrev pub took : Names → ℕ → Fml
@@ -159,11 +163,6 @@ took z n = at_least numbers z.head n
 abbrev pub raised : ℕ → Bool → Fml
 raised γ false = ftrue
 raised γ true = at_least numbers γ 1
-
--- what a writer's mark tells: the bytes published begin with xs,
--- and where `shut`, the writer closed the ring
-abbrev pub announced : Names → List ℕ → Bool → Fml
-announced z xs shut = fsep (began z xs) (raised z.shut shut)
 
 module _ (w p : Ptr) (z : Names) where
   abbrev pub words : State → Fml
@@ -207,9 +206,8 @@ module _ (w p : Ptr) (z : Names) where
 
   abbrev pub writer_knows : Share → List ℕ → ℕ → Bool → ℕ → Fml
   writer_knows q sent limit shut stage =
-      fsep (latest (prefixes coded_ℕ) q z.sent sent)
-      (fsep (latest numbers q z.limit limit)
-      (fsep (latest numbers q z.shut (flag shut)) (latest numbers q z.writer_stage stage)))
+      fsep (latest streams q z.sent (sent, shut))
+      (fsep (latest numbers q z.limit limit) (latest numbers q z.writer_stage stage))
 
   abbrev pub reader_knows : Share → ℕ → ℕ → ℕ → Fml
   reader_knows q head seen stage =

@@ -57,6 +57,7 @@ pub record ReadGains (old new : ReadSeat) (known more : Places) (published : Lis
   pub places : more ≡ record known { bytes = known.bytes ++ bytes }
   pub seat : new ≡ record old { seen = length published; have = old.have ++ bytes }
   pub seen : length published ≡ old.seen + length bytes
+  pub whole : old.have ++ bytes ≡ published
 
 -- so many places became the writer's room, up to this limit
 pub record WriteGains (old new : WriteSeat) (room more : Places) (limit : ℕ) : Type 0 where

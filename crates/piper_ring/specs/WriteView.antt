@@ -4,6 +4,7 @@ use Rattle.std.specs.Coded.{Coded, code_by, coded×, coded_list, coded_ℕ, code
 use Rattle.rtrb.specs.Fifo.{position_of, slot_of as offset_of}
 use Rattle.piper_ring.specs.Shared.{Ring, ring_code}
 use Rattle.piper_ring.specs.RoomOrder.{IsRoom, end_of}
+pub use Rattle.piper_ring.specs.Streams.{either}
 use Rattle.piper_ring.specs.declared.ends.writer.WriteParts.{WriteParts}
 
 pub record WriteView : Type 0 where
@@ -42,10 +43,6 @@ write_view_code =
     (coded× (coded× (coded_list coded_ℕ) coded_bool) (coded× coded_ℕ coded_bool)))
     (λ w. (((w.ring, w.capacity), (w.sent, w.room)), ((w.lent, w.shut), (w.told, w.saw))))
     (λ p. write_view p.0.0.0 p.0.0.1 p.0.1.0 p.0.1.1 p.1.0.0 p.1.0.1 p.1.1.0 p.1.1.1) (λ _. refl)
-
-abbrev pub either : Bool → Bool → Bool
-either false b = b
-either true b = true
 
 abbrev pub write_view_of : WriteParts → WriteView
 write_view_of e =

@@ -23,13 +23,15 @@ pub fn open_ring(alloc: Global, capacity: usize) -> Result<(ReadEnd, WriteEnd), 
     let (read_seat, write_seat, mut blank, base) = open(words, bytes);
     let told_reader = write_seat.mark();
     let told_writer = read_seat.mark();
-    let read_saw = read_seat.unseen();
-    let write_saw = read_saw.again();
+    let read_saw = told_reader.again();
+    let heard = told_reader.again();
+    let write_saw = read_seat.unseen();
     let reader = ReadParts {
         seat: read_seat,
         known: blank.none(0),
         told: told_reader,
         saw: read_saw,
+        heard,
         base,
         alloc,
         indices: ReadIndices::new(capacity),

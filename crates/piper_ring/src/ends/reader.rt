@@ -3,7 +3,7 @@ ghost use Rattle.std.specs.Prelude.{◌≡◌, ℕ, ◌+◌, ◌-◌, ◌*◌, �
 
 use crate::ends::leaving::LeavingReader;
 use crate::ends::writer::WriteEnd;
-use crate::ring::marks::{ReadMark, Saw, WriteMark};
+use crate::ring::marks::{ReadMark, WriteMark};
 use crate::ring::places::{Base, Places};
 use crate::ring::seats::ReadSeat;
 use piper_sides::read_indices::ReadIndices;
@@ -17,7 +17,10 @@ pub(crate) struct ReadParts {
     pub(crate) known: Places,
     /// What the marks tell that it heeded.
     pub(crate) told: WriteMark,
-    pub(crate) saw: Saw,
+    /// What it saw of the pipe's end.
+    pub(crate) saw: WriteMark,
+    /// All that it knows of what was published: what it loaded, was told and saw.
+    pub(crate) heard: WriteMark,
     pub(crate) base: Base,
     pub(crate) alloc: Global,
     /// A copy of the head, which only this end stores, and the tail as this end last saw it.
@@ -42,7 +45,7 @@ impl Model for ReadEnd {
 }
 
 impl ReadEnd {
-    ghost use Rattle.piper_ring.specs.ReadView.{SameReadEnd, KnowsMore, SameButTold, SameButSaw, MayBeUnread, in_one_piece};
+    ghost use Rattle.piper_ring.specs.ReadView.{SameReadEnd, KnowsMore, SameButTold, SameButSaw, MayBeUnread, KnowsEnd, HasTheRest, Agree, in_one_piece};
     ghost use Rattle.piper_ring.specs.WriteView.{HasMoreRoom};
     ghost use Rattle.piper_ring.specs.Shared.{flag};
 
@@ -57,6 +60,7 @@ impl ReadEnd {
     pub fn learn(&self)
         ensures capacity { (0 < self.now.capacity) × (2 * self.now.capacity < 2 ^ 64) }
         ensures known { length self.now.known ≤ self.now.capacity }
+        ensures end { KnowsEnd self.now → HasTheRest self.now }
     {
         let _ = &self.parts;
     }
@@ -75,11 +79,11 @@ impl ReadEnd {
         self.parts.indices.knows_none()
     }
 
-    /// How many bytes are unread now. The writer may publish more at any time.
+    /// How many bytes are unread now. The writer may publish more at any time, until it is known where the pipe ends: then these are all that come.
     pub fn len(&self) -> usize
         ensures { MayBeUnread self.now result }
     {
-        let (tail, _) = self.parts.seat.look_tail(&self.parts.told);
+        let (tail, _) = self.parts.seat.look_tail(&self.parts.heard);
         self.parts.indices.unread_to(tail as usize)
     }
 
@@ -125,26 +129,31 @@ impl ReadEnd {
         self.parts.seat.mark()
     }
 
-    /// From now on it knows what the mark tells: a reload finds at least the bytes that were published before it, and a ring that the writer closed before it is seen closed.
+    /// From now on it knows what the mark tells: a reload finds at least the bytes that were published before it, and a ring that the writer closed before it is seen closed. Its bytes and those that this end took and knows of are beginnings of one stream, and those of a mark that tells of the end are all.
     pub fn heed(&mut self, mark: &WriteMark)
         requires { mark.now.names ≡ self.old.ring.1.1 }
         ensures told { self.new.told ≡ max self.old.told (length mark.now.bytes) }
         ensures shut { flag self.new.told_shut
             ≡ max (flag self.old.told_shut) (flag mark.now.shut) }
+        ensures agree { Agree (self.new.taken ++ self.new.known) mark.now.bytes }
+        ensures end { mark.now.shut ≡ true → self.new.all ≡ mark.now.bytes }
         ensures kept { SameButTold self.old self.new }
     {
         self.parts.told.heed(mark);
+        self.parts.heard.heed(mark);
     }
 
-    /// Looks for bytes that were published. It is for an end that knows of none: one that does has something to do, and need not touch the other's word.
+    /// Looks for bytes that were published: for all there are, once it is known where the pipe ends. It is for an end that knows of none: one that does has something to do, and need not touch the other's word.
     pub fn reload(&mut self)
         requires { length self.old.known ≡ 0 }
         ensures fresh { self.old.told ≤ length (self.new.taken ++ self.new.known) }
+        ensures end { KnowsEnd self.old → self.new.taken ++ self.new.known ≡ self.new.all }
         ensures kept { KnowsMore self.old self.new }
     {
         let parts = &mut self.parts;
-        let (tail, published) = parts.seat.look_tail(&parts.told);
+        let (tail, published) = parts.seat.look_tail(&parts.heard);
         parts.seat.accept(&mut parts.known, &published);
+        parts.heard.heed(&published);
         parts.indices.sees(tail as usize);
     }
 
@@ -152,6 +161,8 @@ impl ReadEnd {
     pub fn refresh(&mut self)
         ensures fresh { self.old.known ≡ [] →
             self.old.told ≤ length (self.new.taken ++ self.new.known) }
+        ensures end { self.old.known ≡ [] → KnowsEnd self.old →
+            self.new.taken ++ self.new.known ≡ self.new.all }
         ensures known { 0 < length self.old.known → self.new ≡ self.old }
         ensures kept { KnowsMore self.old self.new }
     {
@@ -160,26 +171,31 @@ impl ReadEnd {
         }
     }
 
-    /// Both ends in one hand: then this end knows of all that was published, and the other of all the free room, and where either saw the pipe closed the writer closed it.
+    /// Both ends in one hand: then this end knows of all that was published, and the other of all the free room, and where either saw the pipe closed the writer closed it: what the reader took for the end is all that was published.
     pub fn meet(&mut self, other: &mut WriteEnd)
         requires { other.old.ring ≡ self.old.ring }
         ensures fifo { self.new.taken ++ self.new.known ≡ other.new.sent }
         ensures room { other.new.room + length self.new.known ≡ self.new.capacity }
         ensures shut { flag self.new.saw ≤ flag other.new.shut }
+        ensures told { flag self.new.told_shut ≤ flag other.new.shut }
+        ensures end { KnowsEnd self.new → self.new.all ≡ other.new.sent }
         ensures other_shut { flag other.new.saw ≤ flag other.new.shut }
         ensures reader { KnowsMore self.old self.new }
         ensures writer { HasMoreRoom other.old other.new }
     {
         let reader = &mut self.parts;
         let writer = &mut other.parts;
-        let (arrived, freed) = reader.seat.meet(&mut writer.seat, &reader.saw, &writer.saw);
+        let (arrived, freed) = reader
+            .seat
+            .meet(&mut writer.seat, &reader.heard, &writer.saw);
+        reader.heard.heed(&writer.seat.mark());
         reader.known.join(arrived);
         writer.room.later.join(freed);
         reader.indices.sees(writer.indices.tail());
         writer.indices.sees(reader.indices.head());
     }
 
-    /// Looks whether the pipe is closed, and keeps what it saw.
+    /// Looks whether the pipe is closed, and keeps what it saw. Where it is, it is known from then on where the pipe ends.
     pub fn look_closed(&mut self) -> bool
         ensures saw { result ≡ self.new.saw }
         ensures stays { flag self.old.saw ≤ flag self.new.saw }
@@ -187,7 +203,9 @@ impl ReadEnd {
         ensures kept { SameButSaw self.old self.new }
     {
         let parts = &mut self.parts;
-        parts.seat.load_closed(&mut parts.saw, &parts.told) != 0
+        let is_closed = parts.seat.load_closed(&mut parts.saw, &parts.told) != 0;
+        parts.heard.heed(&parts.saw);
+        is_closed
     }
 
     /// Takes the first `n` known bytes off, which stand in one piece, and gives their places back to the writer. It wakes nobody.
@@ -196,6 +214,7 @@ impl ReadEnd {
         ensures taken { self.new.taken ≡ self.old.taken ++ take n self.old.known }
         ensures known { self.new.known ≡ drop n self.old.known }
         ensures kept { SameReadEnd self.old self.new × (self.new.saw ≡ self.old.saw) }
+        ensures all { self.new.all ≡ self.old.all }
     {
         let parts = &mut self.parts;
         let back = parts.known.split(n);
@@ -213,6 +232,7 @@ impl ReadEnd {
             known,
             told: _,
             saw: _,
+            heard: _,
             base,
             alloc,
             indices,

@@ -2,10 +2,11 @@
 ghost use Rattle.std.specs.Prelude.{◌≡◌, ℕ, ◌≤◌, Bool, List, length, max};
 ghost use denote.Sharing.{said};
 ghost use Rattle.piper_ring.specs.Shared.{Names, names_code, announced, took, raised, flag};
+ghost use Rattle.piper_ring.specs.Streams.{Stream, Reaches};
 
 use std::marker::{Model, PhantomData, Send, Sync};
 
-/// The bytes published begin with `bytes`, and where `shut` is `true` the writer closed the pipe.
+/// The bytes published begin with `bytes`, and where `shut` is `true` they are all: the writer closed the pipe behind them.
 pub struct WriteMark {
     pub(crate) mark: PhantomData<*mut u8>,
     pub ghost names: { Names } by { names_code },
@@ -44,6 +45,11 @@ impl WriteMark {
         ensures bytes { length self.new.bytes
             ≡ max (length self.old.bytes) (length other.now.bytes) }
         ensures shut { flag self.new.shut ≡ max (flag self.old.shut) (flag other.now.shut) }
+        ensures kept { Reaches (self.old.bytes, self.old.shut) (self.new.bytes, self.new.shut) }
+        ensures heeded { Reaches (other.now.bytes, other.now.shut) (self.new.bytes, self.new.shut) }
+        ensures no_more { (all : Stream) → Reaches (self.old.bytes, self.old.shut) all
+            → Reaches (other.now.bytes, other.now.shut) all
+            → Reaches (self.new.bytes, self.new.shut) all }
     {}
 }
 

@@ -132,6 +132,7 @@ pub(crate) fn open(words: Memory, bytes: Memory) -> (ReadSeat, WriteSeat, Blank,
 
 impl ReadSeat {
     ghost use Rattle.piper_ring.specs.Stretches.{BeginsAt, IsBlankFrom, ReadGains, AreOfOneRing};
+    ghost use Rattle.piper_ring.specs.Streams.{Reaches};
 
     /// Evidence of what was consumed.
     pub(crate) fn mark(&self) -> ReadMark
@@ -147,7 +148,7 @@ impl ReadSeat {
         Saw { mark: PhantomData }
     }
 
-    /// Where the tail stands: no less than the reader has seen or was told of. With it comes evidence of the bytes that were published.
+    /// Where the tail stands: no less than the reader has seen or was told of, and right at the end where it was told of that. With it comes evidence of the bytes that were published.
     pub(crate) fn look_tail(&self, told: &WriteMark) -> (u64, WriteMark)
         requires { told.now.names ≡ self.now.names }
         ensures ring { result.1.names ≡ self.now.names }
@@ -155,6 +156,7 @@ impl ReadSeat {
         ensures seen { self.now.seen ≤ length result.1.bytes }
         ensures within { length result.1.bytes ≤ self.now.head + self.now.names.capacity }
         ensures told { length told.now.bytes ≤ length result.1.bytes }
+        ensures end { told.now.shut ≡ true → result.1.bytes ≡ told.now.bytes }
     {
         let tail = unsafe { raw::load::<Brand>(self.words.add(TAIL_WORD), SeqCst) };
         (tail, WriteMark { mark: PhantomData })
@@ -169,12 +171,13 @@ impl ReadSeat {
         ensures { ReadGains self.old self.new known.old known.new published.now.bytes }
     {}
 
-    /// 1 if the ring is closed, else 0. Once it was seen closed, or the reader was told that the writer closed it, the answer is 1.
-    pub(crate) fn load_closed(&self, saw: &mut Saw, told: &WriteMark) -> u64
-        requires { (saw.old.names ≡ self.now.names) × (told.now.names ≡ self.now.names) }
+    /// 1 if the ring is closed, else 0. Once it was seen closed, or the reader was told that the writer closed it, the answer is 1. While the reader is there only the writer closes the ring: so with a 1 comes evidence of all that was published.
+    pub(crate) fn load_closed(&self, saw: &mut WriteMark, told: &WriteMark) -> u64
+        requires { (saw.old.names ≡ self.now.names) × (told.now.names ≡ self.now.names)
+            × (self.now.leaving ≡ false) }
         ensures ring { saw.new.names ≡ saw.old.names }
-        ensures answer { result ≡ flag saw.new.seen }
-        ensures stays { flag saw.old.seen ≤ result }
+        ensures answer { result ≡ flag saw.new.shut }
+        ensures stays { Reaches (saw.old.bytes, saw.old.shut) (saw.new.bytes, saw.new.shut) }
         ensures told { flag told.now.shut ≤ result }
     {
         unsafe { raw::load::<Brand>(self.words.add(CLOSED_WORD), SeqCst) }
@@ -212,14 +215,14 @@ impl ReadSeat {
         (found, Remains { words })
     }
 
-    /// Both ends in one hand: the reader gets the places of all bytes that were published, and the writer those of all that were consumed. Where either saw the ring closed, the writer closed it.
+    /// Both ends in one hand: the reader gets the places of all bytes that were published, and the writer those of all that were consumed. What the reader heard of the end is so, and where the writer saw the ring closed it closed it itself.
     pub(crate) fn meet(
         &mut self,
         other: &mut WriteSeat,
-        saw: &Saw,
+        heard: &WriteMark,
         other_saw: &Saw,
     ) -> (Places, Places)
-        requires { AreOfOneRing self.old other.old × (saw.now.names ≡ self.old.names)
+        requires { AreOfOneRing self.old other.old × (heard.now.names ≡ self.old.names)
             × (other_saw.now.names ≡ self.old.names) × (self.old.leaving ≡ false) }
         ensures reader { self.new ≡ record self.old {
           seen = length other.old.sent;
@@ -233,7 +236,8 @@ impl ReadSeat {
         ensures freed { BeginsAt self.old.at self.old.names.capacity other.old.limit result.1 }
         ensures room { other.old.limit + length result.1.bytes
             ≡ self.old.head + self.old.names.capacity }
-        ensures shut { flag saw.now.seen ≤ flag other.old.shut }
+        ensures heard { Reaches (heard.now.bytes, heard.now.shut)
+            (other.old.sent, other.old.shut) }
         ensures other_shut { flag other_saw.now.seen ≤ flag other.old.shut }
     {
         (Places { mark: PhantomData }, Places { mark: PhantomData })
@@ -285,11 +289,11 @@ impl WriteSeat {
         unsafe { raw::load::<Brand>(self.words.add(CLOSED_WORD), SeqCst) }
     }
 
-    /// Publishes the bytes that stand in the places handed over.
+    /// Publishes the bytes that stand in the places handed over. Once the writer closed the ring there are none.
     pub(crate) fn store_tail(&mut self, bytes: Places, tail: u64)
         requires { BeginsAt self.old.at self.old.names.capacity (length self.old.sent) bytes
             × (length self.old.sent + length bytes.bytes ≤ self.old.limit)
-            × (tail ≡ position_of self.old.names.capacity
+            × (self.old.shut ≡ true → bytes.bytes ≡ []) × (tail ≡ position_of self.old.names.capacity
             (length self.old.sent + length bytes.bytes)) }
         ensures { self.new ≡ record self.old { sent = self.old.sent ++ bytes.bytes } }
     {

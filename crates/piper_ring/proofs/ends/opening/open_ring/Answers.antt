@@ -1,24 +1,31 @@
 -- The two ends of a new ring keep their views.
-use Rattle.std.proofs.Common.{◌≡◌, ℕ, ◌+◌, ◌-◌, ◌*◌, ◌^◌, ◌<◌, ◌++◌, length, take, arith, ap, ◌∙◌, sym}
+use Rattle.std.proofs.Common.{◌≡◌, ℕ, ◌+◌, ◌-◌, ◌*◌, ◌^◌, ◌<◌, ◌++◌, List, length, take, arith, refl, ap, subst, ◌∙◌, sym}
 use Rattle.rtrb.proofs.Positions.{position_none}
 use Rattle.piper_ring.specs.Shared.{Names}
-use Rattle.piper_ring.specs.declared.ring.marks.Saw.{Saw}
+use mathlib.Core.List.{IsPrefix}
+use Rattle.piper_ring.specs.declared.ring.marks.WriteMark.{WriteMark}
+use Rattle.piper_ring.specs.Streams.{Reaches, reaches_same}
 use Rattle.piper_ring.specs.declared.ring.places.Blank.{Blank}
 use Rattle.piper_sides.specs.ReaderIndices.{ReaderIndices}
 use Rattle.piper_sides.specs.WriterIndices.{WriterIndices}
 use Rattle.piper_ring.proofs.ends.opening.open_ring.Goals as goal
 
+-- a copy of a mark tells what it tells
+same_as : (m n : WriteMark) → m ≡ n → Reaches (m.bytes, m.shut) (n.bytes, n.shut)
+same_as m n e = subst (λ (k : WriteMark). Reaches (m.bytes, m.shut) (k.bytes, k.shut)) e (reaches_same (m.bytes, m.shut))
+
 pub invariant_of-result : goal.invariant_of-result
 invariant_of-result c = let o = c.open-read_seat.ensures in let seat = c.open-read_seat.result.0 in let n = c.none.ensures in let size : c.in_ok-words.bytes.size ≡ c.args.capacity = c.in_ok-words.ensures.bytes.0 in let cap : ℕ = c.args.capacity in
     let most : 2 * cap < 2 ^ 64 = c.requires.1 in let first : c.none.result.first ≡ c.open-read_seat.result.2.first + 0 = (λ j. (n.none j).first) in let start : c.open-read_seat.result.2.first ≡ 0 = o.room.2 in let none : length c.none.result.bytes ≡ 0 = ap length (λ j. (n.none j).bytes) in
     let head : seat.head ≡ 0 = o.reader.0 in let seen : seat.seen ≡ 0 = o.reader.1 in let pos : 0 < cap = c.requires.0 in
-    let fresh = c.new.ensures.fresh in let same : c.new.result.capacity ≡ cap = ap (λ (r : ReaderIndices). r.capacity) fresh in let low : c.new.result.head ≡ 0 = ap (λ (r : ReaderIndices). r.head) fresh in let high : c.new.result.tail ≡ 0 = ap (λ (r : ReaderIndices). r.tail) fresh in
+    let named = c.mark-told_reader.ensures.0 ∙ o.pair.2 in let fresh = c.new.ensures.fresh in let same : c.new.result.capacity ≡ cap = ap (λ (r : ReaderIndices). r.capacity) fresh in let low : c.new.result.head ≡ 0 = ap (λ (r : ReaderIndices). r.head) fresh in let high : c.new.result.tail ≡ 0 = ap (λ (r : ReaderIndices). r.tail) fresh in
     record {
       fits = (same ∙ sym (o.ring.2 ∙ size), omega arith, omega arith);
       placed = (o.base ∙ sym o.ring.1, (λ j. (n.none j).at) ∙ o.room.0 ∙ sym o.ring.1, (λ j. (n.none j).capacity) ∙ o.room.1 ∙ sym o.ring.2, omega arith);
       counts = (omega arith, omega arith);
       cached = (low ∙ position_none c.new.result.capacity seat.head head, high ∙ position_none c.new.result.capacity seat.seen seen);
-      heard = (c.mark-told_reader.ensures.0 ∙ o.pair.2, c.unseen-read_saw.ensures.0);
+      heard = (named, ap (λ (m : WriteMark). m.names) c.again-read_saw.ensures ∙ named, ap (λ (m : WriteMark). m.names) c.again-heard.ensures ∙ named);
+      stream = (subst (λ (l : List ℕ). IsPrefix l c.again-heard.result.bytes) (sym o.reader.2) (c.again-heard.result.bytes, refl), same_as c.mark-told_reader.result c.again-heard.result (sym c.again-heard.ensures), same_as c.again-read_saw.result c.again-heard.result (c.again-read_saw.ensures ∙ sym c.again-heard.ensures));
       whole = (omega arith, o.reader.2 ∙ sym (λ j. take (o.reader.0 j) (o.reader.2 j) ++ (n.none j).bytes));
       here = o.reader.3;
     }
@@ -38,7 +45,7 @@ invariant_of-result-2 c = let o = c.open-read_seat.ensures in let seat = c.open-
       freed = (omega arith, omega arith);
       cached = (own ∙ position_none _ (length seat.sent) sent, other ∙ position_none _ (seat.limit - c.new-3.result.capacity) none);
       lending = ap (λ (w : WriterIndices). w.lent) fresh ∙ sym (ap length room.lent);
-      heard = (c.mark-told_writer.ensures.0 ∙ sym o.pair.2, ap (λ (s : Saw). s.names) c.again-write_saw.ensures ∙ c.unseen-read_saw.ensures.0 ∙ sym o.pair.2);
+      heard = (c.mark-told_writer.ensures.0 ∙ sym o.pair.2, c.unseen-write_saw.ensures.0 ∙ sym o.pair.2);
       closed = ap (λ (w : WriterIndices). w.is_shut) fresh ∙ sym o.writer.2;
       lends_none = λ _. room.lent;
     }

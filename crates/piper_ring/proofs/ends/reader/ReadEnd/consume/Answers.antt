@@ -1,6 +1,7 @@
 -- The end keeps its view as the front of the known bytes goes over to what was taken.
 use Rattle.std.proofs.Common.{◌≡◌, ℕ, ◌+◌, ◌-◌, ◌≤◌, ◌<◌, ◌^◌, ◌++◌, List, length, take, arith, ap, ◌∙◌, sym, subst}
 use Rattle.std.proofs.lemmas.List.{length-take-le, length-drop}
+use mathlib.Core.List.{IsPrefix}
 use Rattle.rtrb.specs.Fifo.{position_of}
 use Rattle.piper_sides.specs.ReaderIndices.{ReaderIndices}
 use Rattle.piper_ring.specs.Shared.{Names}
@@ -35,7 +36,8 @@ invariant_of-self c = let e = c.self.inside.parts in let i = c.self.invariant in
       placed = (i.placed.0 ∙ sym (λ j. (s j).at), (λ j. (d.rest j).at) ∙ i.placed.1 ∙ sym (λ j. (s j).at), (λ j. (d.rest j).capacity) ∙ i.placed.2 ∙ ap (λ (z : Names). z.capacity) (sym (λ j. (s j).names)), omega arith);
       counts = (omega arith, omega arith);
       cached = (there, tail ∙ i.cached.1 ∙ sym (λ j. position_of (cap j) ((s j).seen)));
-      heard = (i.heard.0 ∙ sym (λ j. (s j).names), i.heard.1 ∙ sym (λ j. (s j).names));
+      heard = (i.heard.0 ∙ sym (λ j. (s j).names), i.heard.1 ∙ sym (λ j. (s j).names), i.heard.2 ∙ sym (λ j. (s j).names));
+      stream = (subst (λ (l : List ℕ). IsPrefix l e.heard.bytes) (sym (λ j. (s j).have)) i.stream.0, i.stream.1, i.stream.2);
       whole = (omega arith, (λ j. (s j).have) ∙ whole_still e.seat.have K head n i.whole.0 i.whole.1 ∙ sym (λ j. take (top j) ((s j).have) ++ (d.rest j).bytes));
       here = (λ j. (s j).leaving) ∙ i.here;
     }

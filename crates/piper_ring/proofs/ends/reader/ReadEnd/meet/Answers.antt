@@ -1,13 +1,19 @@
 -- All that was published lies at most a turn past the head, and what is lent lies in the room that is left.
-use Rattle.std.proofs.Common.{◌≡◌, ℕ, ◌+◌, ◌-◌, ◌≤◌, length, arith, sym, subst, ap, ◌∙◌, length-append}
+-- Both ends keep their views as the one comes to know of all bytes, and the other of all room.
+use Rattle.std.proofs.Common.{◌≡◌, ℕ, ◌+◌, ◌-◌, ◌^◌, ◌<◌, ◌≤◌, ◌++◌, List, length, take, arith, refl, sym, subst, ap, ◌∙◌, length-append}
+use mathlib.Core.List.{IsPrefix}
 use Rattle.rtrb.specs.Fifo.{position_of}
 use Rattle.piper_sides.specs.Index.{distance}
 use Rattle.piper_sides.specs.ReaderIndices.{ReaderIndices}
+use Rattle.piper_sides.specs.WriterIndices.{WriterIndices}
 use Rattle.piper_ring.specs.Shared.{Names, Ring}
-use Rattle.piper_ring.specs.ReadView.{ReadView}
+use Rattle.piper_ring.specs.Streams.{Stream, reaches_trans}
+use Rattle.piper_ring.specs.ReadView.{ReadView, read_view, KnowsMore}
 use Rattle.piper_ring.specs.WriteView.{WriteView}
 use Rattle.piper_ring.proofs.Indices.{apart}
 use Rattle.piper_ring.proofs.WriterFacts.{sent_below}
+use Rattle.piper_ring.proofs.ReaderFacts.{all_stays}
+use Rattle.piper_ring.proofs.Taking.{all_counted, taken_stays, whole_with_more}
 use Rattle.piper_ring.proofs.ends.reader.ReadEnd.meet.Goals as goal
 
 pub sees-requires-clause-within : goal.sees-requires-clause-within
@@ -30,3 +36,67 @@ sees-requires-2-clause-lent c = let e = c.self.inside.parts in let i = c.self.in
     let far : distance cap c.head.result w.indices.tail ≡ s - e.seat.head = apart cap _ _ e.seat.head s (omega arith) (omega arith) at o.cached.0 in
     let first : w.room.lent.first ≡ s = o.placed.3 in let ready : w.room.ready.first ≡ w.room.lent.first + length w.room.lent.bytes = o.room.0.chain.0 in let rest : w.room.ready.first + length w.room.ready.bytes + w.room.blank.count ≡ w.room.later.first = o.room.0.chain.1 in
     let last : w.room.later.first + length w.room.later.bytes ≡ w.seat.limit = o.placed.4 in let many : w.indices.lent ≡ length w.room.lent.bytes = o.lending in omega arith
+
+pub invariant_of-self : goal.invariant_of-self
+invariant_of-self c = let e = c.self.inside.parts in let i = c.self.invariant in let w = c.other.inside.parts in let o = c.other.invariant in let m = c.meet-arrived.ensures in let s = m.reader in let k = c.join.ensures in let h = c.heed.ensures in let after = c.sees.ensures.after in
+    let more : List ℕ = c.meet-arrived.result.0.bytes in let sent : List ℕ = w.seat.sent in let head : ℕ = e.seat.head in
+    let names : w.seat.names ≡ e.seat.names = ap (λ (r : WriteView). r.ring.1.1) c.other.view_is ∙ ap (λ (r : Ring). r.1.1) c.requires ∙ sym (ap (λ (r : ReadView). r.ring.1.1) c.self.view_is) in
+    let cap : c.sees.new.self.capacity ≡ e.indices.capacity = ap (λ (r : ReaderIndices). r.capacity) after in let theirs : w.indices.capacity ≡ e.indices.capacity = o.fits.0 ∙ ap (λ (z : Names). z.capacity) names ∙ sym i.fits.0 in
+    let all : length e.seat.have + length more ≡ length sent = sym (length-append e.seat.have more) ∙ ap length m.published in let counted : length e.seat.have ≡ head + length e.known.bytes = all_counted e.seat.have e.known.bytes head 0 i.whole.0 i.whole.1 in
+    let grown : length c.join.new.self.bytes ≡ length e.known.bytes + length more = ap length (λ j. (k j).bytes) ∙ length-append e.known.bytes more in
+    let seen : c.meet-arrived.new.self.seen ≡ length sent = (λ j. (s j).seen) in let top : c.meet-arrived.new.self.head ≡ head = (λ j. (s j).head) in let have : c.meet-arrived.new.self.have ≡ sent = (λ j. (s j).have) in
+    let own : e.indices.capacity ≡ e.seat.names.capacity = i.fits.0 in let below : length sent ≤ w.seat.limit = sent_below w o in let turn : w.seat.limit + length c.meet-arrived.result.1.bytes ≡ head + e.seat.names.capacity = m.room in
+    let pos : 0 < e.indices.capacity = i.fits.1 in let small : e.indices.capacity < 2 ^ 63 = i.fits.2 in let low : head ≤ length e.seat.have = i.whole.0 in
+    let told : Stream = (e.told.bytes, e.told.shut) in let saw : Stream = (e.saw.bytes, e.saw.shut) in let heard : Stream = (e.heard.bytes, e.heard.shut) in let now : Stream = (c.heed.new.self.bytes, c.heed.new.self.shut) in
+    let mark : c.mark.result.bytes ≡ c.meet-arrived.new.self.have = c.mark.ensures.1 ∙ (λ j. (m.writer j).sent) ∙ sym have in let long : length c.meet-arrived.new.self.have ≡ length sent = ap length have in
+    record {
+      fits = (cap ∙ i.fits.0 ∙ ap (λ (z : Names). z.capacity) (sym (λ j. (s j).names)), omega arith, omega arith);
+      placed = (i.placed.0 ∙ sym (λ j. (s j).at), (λ j. (k j).at) ∙ i.placed.1 ∙ sym (λ j. (s j).at), (λ j. (k j).capacity) ∙ i.placed.2 ∙ ap (λ (z : Names). z.capacity) (sym (λ j. (s j).names)), (λ j. (k j).first) ∙ i.placed.3 ∙ sym top);
+      counts = (omega arith, omega arith);
+      cached = (ap (λ (r : ReaderIndices). r.head) after ∙ i.cached.0 ∙ sym (λ j. position_of (cap j) (top j)), ap (λ (r : ReaderIndices). r.tail) after ∙ c.tail.ensures.value ∙ o.cached.0 ∙ (λ j. position_of ((theirs ∙ sym cap) j) (sym seen j)));
+      heard = (i.heard.0 ∙ sym (λ j. (s j).names), i.heard.1 ∙ sym (λ j. (s j).names), h.ring ∙ i.heard.2 ∙ sym (λ j. (s j).names));
+      stream = (subst (λ (l : List ℕ). IsPrefix l c.heed.new.self.bytes) mark h.heeded.0, reaches_trans told heard now i.stream.1 h.kept, reaches_trans saw heard now i.stream.2 h.kept);
+      whole = (omega arith, have ∙ sym m.published ∙ whole_with_more e.seat.have e.known.bytes more head i.whole.0 i.whole.1 ∙ (λ j. take (sym top j) ((m.published ∙ sym have) j) ++ (sym k j).bytes));
+      here = (λ j. (s j).leaving) ∙ i.here;
+    }
+
+pub invariant_of-other : goal.invariant_of-other
+invariant_of-other c = let e = c.self.inside.parts in let i = c.self.invariant in let w = c.other.inside.parts in let o = c.other.invariant in let r = w.room in let m = c.meet-arrived.ensures in let s = m.writer in let k = c.join-2.ensures in let after = c.sees-2.ensures.after in
+    let names : w.seat.names ≡ e.seat.names = ap (λ (r : WriteView). r.ring.1.1) c.other.view_is ∙ ap (λ (r : Ring). r.1.1) c.requires ∙ sym (ap (λ (r : ReadView). r.ring.1.1) c.self.view_is) in
+    let cap : c.sees-2.new.self.capacity ≡ w.indices.capacity = ap (λ (x : WriterIndices). x.capacity) after in let theirs : e.indices.capacity ≡ w.indices.capacity = i.fits.0 ∙ ap (λ (z : Names). z.capacity) (sym names) ∙ sym o.fits.0 in let own : e.indices.capacity ≡ e.seat.names.capacity = i.fits.0 in
+    let more : List ℕ = c.meet-arrived.result.1.bytes in let head : ℕ = e.seat.head in let sl : ℕ = length w.seat.sent in
+    let limit : c.meet-arrived.new.other.limit ≡ head + e.seat.names.capacity = (λ j. (s j).limit) in let turn : w.seat.limit + length more ≡ head + e.seat.names.capacity = m.room in let sent : length c.meet-arrived.new.other.sent ≡ sl = ap length (λ j. (s j).sent) in
+    let grown : length c.join-2.new.self.bytes ≡ length r.later.bytes + length more = ap length (λ j. (k j).bytes) ∙ length-append r.later.bytes more in let last : r.later.first + length r.later.bytes ≡ w.seat.limit = o.placed.4 in let first : c.join-2.new.self.first ≡ r.later.first = (λ j. (k j).first) in
+    let all : length e.seat.have + length c.meet-arrived.result.0.bytes ≡ sl = sym (length-append e.seat.have c.meet-arrived.result.0.bytes) ∙ ap length m.published in let low : head ≤ length e.seat.have = i.whole.0 in let pos : 0 < w.indices.capacity = o.fits.1 in let small : w.indices.capacity < 2 ^ 63 = o.fits.2 in
+    let at : c.head.result ≡ position_of w.indices.capacity head = c.head.ensures.value ∙ ap (λ (x : ReaderIndices). x.head) c.sees.ensures.after ∙ i.cached.0 ∙ ap (λ (n : ℕ). position_of n head) theirs in let back : head ≡ c.meet-arrived.new.other.limit - c.sees-2.new.self.capacity = omega arith in
+    record {
+      fits = (cap ∙ o.fits.0 ∙ ap (λ (z : Names). z.capacity) (sym (λ j. (s j).names)), omega arith, omega arith);
+      room = (
+        record {
+          memory = (o.room.0.memory.0, o.room.0.memory.1, (λ j. (k j).at) ∙ o.room.0.memory.2);
+          capacity = (o.room.0.capacity.0, o.room.0.capacity.1, (λ j. (k j).capacity) ∙ o.room.0.capacity.2);
+          chain = (o.room.0.chain.0, o.room.0.chain.1 ∙ sym first);
+          zeroing = o.room.0.zeroing;
+          first_turn = o.room.0.first_turn;
+        },
+        ap (λ (x : WriterIndices). x.zeroed) after ∙ o.room.1,
+      );
+      placed = (o.placed.0 ∙ sym (λ j. (s j).at), o.placed.1 ∙ sym (λ j. (s j).at), o.placed.2 ∙ ap (λ (z : Names). z.capacity) (sym (λ j. (s j).names)), o.placed.3 ∙ sym sent, omega arith);
+      freed = (omega arith, omega arith);
+      cached = (ap (λ (x : WriterIndices). x.tail) after ∙ o.cached.0 ∙ sym (λ j. position_of (cap j) (sent j)), ap (λ (x : WriterIndices). x.head) after ∙ at ∙ (λ j. position_of (sym cap j) (back j)));
+      lending = ap (λ (x : WriterIndices). x.lent) after ∙ o.lending;
+      heard = (o.heard.0 ∙ sym (λ j. (s j).names), o.heard.1 ∙ sym (λ j. (s j).names));
+      closed = ap (λ (x : WriterIndices). x.is_shut) after ∙ o.closed ∙ sym (λ j. (s j).shut);
+      lends_none = λ shut. o.lends_none (sym (λ j. (s j).shut) ∙ shut);
+    }
+
+pub returns-clause-reader : goal.returns-clause-reader
+returns-clause-reader c = let e = c.self.inside.parts in let i = c.self.invariant in let m = c.meet-arrived.ensures in let s = m.reader in let k = c.join.ensures in let head : ℕ = e.seat.head in let more : List ℕ = c.meet-arrived.result.0.bytes in let now : Stream = (c.heed.new.self.bytes, c.heed.new.self.shut) in
+    let cap : c.sees.new.self.capacity ≡ e.indices.capacity = ap (λ (r : ReaderIndices). r.capacity) c.sees.ensures.after in let next : ReadView = read_view (c.meet-arrived.new.self.words, (c.meet-arrived.new.self.at, c.meet-arrived.new.self.names)) c.sees.new.self.capacity (take c.meet-arrived.new.self.head c.meet-arrived.new.self.have) c.join.new.self.bytes (length e.told.bytes) e.told.shut e.saw.shut c.heed.new.self.bytes in
+    subst (λ (r : ReadView). KnowsMore r next) c.self.view_is (record {
+      end = record { ring = (λ j. ((s j).words, ((s j).at, (s j).names))); capacity = cap; told = refl; told_shut = refl };
+      taken = (λ j. take ((s j).head) ((s j).have)) ∙ ap (take head) (sym m.published) ∙ taken_stays e.seat.have e.known.bytes more head i.whole.0 i.whole.1;
+      known = (more, λ j. (k j).bytes);
+      saw = refl;
+      all = λ known. all_stays e i known now c.heed.ensures.kept;
+    })

@@ -1,7 +1,7 @@
 -- The end keeps its view as the front of what is lent goes over to what was sent.
-use Rattle.std.proofs.Common.{◌≡◌, ℕ, ◌+◌, ◌-◌, ◌^◌, ◌<◌, ◌≤◌, List, length, drop, arith, ap, ◌∙◌, sym, subst, length-append}
+use Rattle.std.proofs.Common.{◌≡◌, ℕ, ◌+◌, ◌-◌, ◌^◌, ◌<◌, ◌≤◌, List, length, take, drop, arith, ap, ◌∙◌, sym, subst, length-append}
 use Rattle.std.proofs.lemmas.List.{length-take-le, length-drop}
-use Rattle.std.proofs.Math.Seq.{drop-nil}
+use Rattle.std.proofs.Math.Seq.{take-nil, drop-nil}
 use Rattle.rtrb.specs.Fifo.{position_of}
 use Rattle.piper_sides.specs.WriterIndices.{WriterIndices}
 use Rattle.piper_ring.specs.Shared.{Names}
@@ -15,7 +15,7 @@ store_tail-requires c = let e = c.self.inside.parts in let i = c.self.invariant 
     let first : e.room.lent.first ≡ s = i.placed.3 in let ready : e.room.ready.first ≡ e.room.lent.first + length L = i.room.0.chain.0 in let rest : e.room.ready.first + length e.room.ready.bytes + e.room.blank.count ≡ e.room.later.first = i.room.0.chain.1 in let last : e.room.later.first + length e.room.later.bytes ≡ e.seat.limit = i.placed.4 in
     let more : s + length c.split-gift.result.bytes ≤ e.seat.limit = omega arith in
     let cap = i.fits.0 in let there = c.tail.ensures.value ∙ further e.indices.capacity _ s n _ c.publishes.ensures.remainder i.cached.0 in
-    (((λ j. (d.front j).at) ∙ i.placed.1, (λ j. (d.front j).capacity) ∙ i.placed.2, (λ j. (d.front j).first) ∙ i.placed.3), more, there ∙ sym (λ j. position_of (sym cap j) (s + gift j)))
+    (((λ j. (d.front j).at) ∙ i.placed.1, (λ j. (d.front j).capacity) ∙ i.placed.2, (λ j. (d.front j).first) ∙ i.placed.3), more, (λ shut. (λ j. (d.front j).bytes) ∙ ap (take n) (i.lends_none shut) ∙ take-nil n), there ∙ sym (λ j. position_of (sym cap j) (s + gift j)))
 
 pub invariant_of-self : goal.invariant_of-self
 invariant_of-self c = let e = c.self.inside.parts in let i = c.self.invariant in let d = c.split-gift.ensures in let t = c.store_tail.ensures in let n : ℕ = c.args.n in let L : List ℕ = e.room.lent.bytes in let s : ℕ = length e.seat.sent in let r = e.room in

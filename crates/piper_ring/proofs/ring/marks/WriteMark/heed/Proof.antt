@@ -1,5 +1,5 @@
 -- `heed` joins what two marks tell. Assumes `Logic`.
-use Rattle.std.proofs.Common.{◌≡◌, ℕ, Bool, List, [], ◌∷◌, length, max, refl}
+use Rattle.std.proofs.Common.{◌≡◌, ℕ, List, [], ◌∷◌, length, max, refl}
 use mir.Syntax.{named}
 use mir.Val.{Val, vptr}
 use base.Logic.{SProp, emp}
@@ -29,7 +29,9 @@ use Rattle.rtrb.proofs.Walks.{proved, leaves}
 use Rattle.core.specs.contracts.marker.PhantomData as marker
 use Rattle.piper_ring.specs.Shared.{Names, announced, flag}
 use Rattle.piper_ring.proofs.Fields.{SentData}
-use Rattle.piper_ring.proofs.Evidence.{Joined, both}
+use Rattle.piper_ring.specs.Streams.{Stream, Reaches}
+use Rattle.piper_ring.proofs.Reaching.{Joined}
+use Rattle.piper_ring.proofs.Evidence.{both}
 use Rattle.piper_ring.specs.contracts.ring.marks.WriteMark as Mark
 use Rattle.piper_ring.specs.contracts.ring.marks.WriteMark.heed.{ended, clauses}
 use Rattle.piper_ring.specs.contracts.ring.marks.WriteMark.heed.Key.{name as #self}
@@ -43,7 +45,7 @@ heed_spec 𝓤 𝓛 𝓜 𝓡 wired =
     let hs : Stays En.signature.params En.kept = (stay_ref (0 ∷ []) tt self, (stay_dropped ref yes, tt)) in
     proved 𝓛 En hs c 𝓜 𝓡 (Goes-ref 𝓛 2 0 tt self, (Goes-dropped 𝓛 2 ref yes (λ κs x f. refl), tt)) #self fn (code.unfolded 𝓤 H 𝓜 𝓡 wired)
     (λ κs. (mut_vals, (shr_vals, tt))) (λ κs. (mut_Tells (named 0) κs.0 Row, (shr_Tells (named 1) κs.1.0 Row, tt))) (λ κs qs bounds a gh are.
-    let b : ℕ = a.0.ref_ptr.0 in let o : ℕ = a.0.ref_ptr.1 in let h = a.0.now in let b' : ℕ = a.1.0.ref_ptr.0 in let o' : ℕ = a.1.0.ref_ptr.1 in let g = a.1.0.now in let z : Names = h.names in
+    let b : ℕ = a.0.ref_ptr.0 in let o : ℕ = a.0.ref_ptr.1 in let h = a.0.now in let b' : ℕ = a.1.0.ref_ptr.0 in let o' : ℕ = a.1.0.ref_ptr.1 in let g = a.1.0.now in let z : Names = h.names in let old : Stream = (h.bytes, h.shut) in let got : Stream = (g.bytes, g.shut) in
     let y : (walk_of 𝓛 En hs c).Ghost = ((κs, qs, bounds, a, (vptr b o ∷ [], (vptr b' o' ∷ [], tt))), gh) in let Post : Val → SProp 𝓤 = (walk_of 𝓛 En hs c).post y in
     qed 𝓛 (((‵ (flft κs.0 qs.0) ⊛ ‵ (flft κs.1.0 qs.1.0) ⊛ ‵ ftrue) ⊛ ‵ (owns (types_at En.signature.params κs) a y.0.4)) ∷ given (g.names ≡ z) (‵ ftrue) ∷ []) ∵
     keep ! (1 ∷ 0 ∷ []) $ learn ! (λ asked. drop ! $ split ! $ split3 ! $ move ! (3 ∷ []) $ fsplit3 ! $ fsplit3 ! $ move ! (3 ∷ []) $ fsplit ! $ drop ! $
@@ -51,10 +53,12 @@ heed_spec 𝓤 𝓛 𝓜 𝓡 wired =
     split ! $ drop ! $ unhide ! $ rewrite ! 0 (λ (n : Names). ‵ (announced n g.bytes g.shut)) asked refl $ keep ! (2 ∷ 3 ∷ 5 ∷ 0 ∷ 6 ∷ []) $
     enter ! 𝓣.C 𝓣.Λ fn (vptr b o ∷ vptr b' o' ∷ []) Post $ alloc_all ! (λ l. pass_all ! refl ((tt, tt), ((tt, tt), tt)) $ let Ev = env fn.locals l in
     opens ! tt Row b o (λ vs. move ! (1 ∷ []) $ fsplit ! $ move ! (1 ∷ 6 ∷ []) $
-    use2 𝓛 (some (λ (r : List ℕ × Bool). given (Joined h.bytes h.shut g.bytes g.shut r) (‵ (announced z r.0 r.1)))) (both 𝓛 z h.bytes h.shut g.bytes g.shut) $ pick ! (λ r. learn ! (λ most. let l : List ℕ = r.0 in let h' : Row.Denot = record h { bytes = l; shut = r.1 } in
+    use2 𝓛 (some (λ (r : Stream). given (Joined old got r) (‵ (announced z r.0 r.1)))) (both 𝓛 z old got) $ pick ! (λ r. learn ! (λ most. let l : List ℕ = r.0 in let h' : Row.Denot = record h { bytes = l; shut = r.1 } in
     move ! (1 ∷ 0 ∷ []) $ fjoin ! $ move ! (1 ∷ 0 ∷ []) $ closes ! tt Row h' vs b o $ feq_i ! (List Val) (vptr b o ∷ []) (vptr b o ∷ []) refl $ fjoin3 ! $ sets ! (of_opd ! (unit_lit !)) refl (tt, tt) $
     nothing ! $ nothing ! $ fjoin ! $ move ! (1 ∷ 0 ∷ []) $ fjoin ! $ move ! (2 ∷ []) $ nothing ! $ move ! (1 ∷ 0 ∷ []) $ join ! $ move ! (2 ∷ 0 ∷ []) $ join ! $
-    use0 𝓛 (raw (fact 𝓤 (flag r.1 ≡ max (flag h.shut) (flag g.shut)))) (fact_i 𝓤 (flag r.1 ≡ max (flag h.shut) (flag g.shut)) (emp 𝓤) most.1) $
+    let Least : Type 0 = (all : Stream) → Reaches old all → Reaches got all → Reaches r all in use0 𝓛 (raw (fact 𝓤 Least)) (fact_i 𝓤 Least (emp 𝓤) most.4) $
+    use0 𝓛 (raw (fact 𝓤 (Reaches got r))) (fact_i 𝓤 (Reaches got r) (emp 𝓤) most.3) $ join ! $ use0 𝓛 (raw (fact 𝓤 (Reaches old r))) (fact_i 𝓤 (Reaches old r) (emp 𝓤) most.2) $ join ! $
+    use0 𝓛 (raw (fact 𝓤 (flag r.1 ≡ max (flag h.shut) (flag g.shut)))) (fact_i 𝓤 (flag r.1 ≡ max (flag h.shut) (flag g.shut)) (emp 𝓤) most.1) $ join ! $
     use0 𝓛 (raw (fact 𝓤 (length l ≡ max (length h.bytes) (length g.bytes)))) (fact_i 𝓤 (length l ≡ max (length h.bytes) (length g.bytes)) (emp 𝓤) most.0) $ join ! $
     use0 𝓛 (raw (fact 𝓤 (z ≡ z))) (fact_i 𝓤 (z ≡ z) (emp 𝓤) refl) $ join ! $ feq_i ! (List Val) (vunit ∷ []) (vunit ∷ []) refl $
     returns ! (look_at ! 0 refl) $ free_all ! refl $ keep ! (2 ∷ 3 ∷ 0 ∷ 1 ∷ []) $ by ! (leaves 𝓛 En hs c y vunit tt (h', (tt, tt)) (tt, (tt, tt)))))))))

@@ -23,9 +23,7 @@ use Rattle.rtrb.proofs.Walks.{proved, leaves}
 use Rattle.rtrb.proofs.Spans.{run_join}
 use Rattle.piper_ring.specs.Places.{byte}
 use Rattle.piper_ring.specs.Places as P
-use base.Stored.{coded_ℕ}
 use Rattle.piper_ring.specs.Stretches.{ReadGains}
-use base.Growing.{prefixes, at_least}
 use Rattle.piper_ring.proofs.Rights.{common_twice}
 use Rattle.piper_ring.specs.Shared.{Names, half, flag, common, reader_knows}
 use Rattle.piper_ring.proofs.Fields.{seat_val, ReadData, read_told, read_made}
@@ -41,7 +39,7 @@ use denote.Triple.Walked.{stay_dropped, Goes-dropped}
 use denote.Exit.{yes}
 use Rattle.core.specs.contracts.marker.PhantomData as marker
 use Rattle.piper_ring.specs.contracts.ring.marks.WriteMark as Mark
-use Rattle.piper_ring.specs.Shared.{announced}
+use Rattle.piper_ring.specs.Shared.{announced, began}
 use Rattle.piper_ring.proofs.Fields.{SentData}
 use Rattle.piper_ring.specs.contracts.ring.seats.ReadSeat.{the_row}
 use Rattle.piper_ring.specs.contracts.ring.seats.ReadSeat.accept.{ended, clauses}
@@ -57,19 +55,19 @@ accept_spec 𝓤 𝓛 𝓜 𝓡 wired =
     proved 𝓛 En hs c 𝓜 𝓡 (Goes-ref 𝓛 3 0 tt self, (Goes-ref 𝓛 3 1 tt known, (Goes-dropped 𝓛 3 told yes (λ κs x f. refl), tt))) #self fn (code.unfolded 𝓤 H 𝓜 𝓡 wired)
     (λ κs. (mut_vals, (mut_vals, (shr_vals, tt)))) (λ κs. (mut_Tells (named 0) κs.0 Row, (mut_Tells (named 1) κs.1.0 KRow, (shr_Tells (named 2) κs.1.1.0 Mark.the_row, tt)))) (λ κs qs bounds a gh are.
     let b : ℕ = a.0.ref_ptr.0 in let o : ℕ = a.0.ref_ptr.1 in let h = a.0.now in let b' : ℕ = a.1.0.ref_ptr.0 in let o' : ℕ = a.1.0.ref_ptr.1 in let k = a.1.0.now in let t = a.1.1.0.now in let b2 : ℕ = a.1.1.0.ref_ptr.0 in let o2 : ℕ = a.1.1.0.ref_ptr.1 in let w : Ptr = h.words in let p : Ptr = h.at in let z : Names = h.names in
-    let us : List Val = seat_val w ∷ [] in let Data : Fml = ReadData.own_val (w, tt) us in let C : Fml = common w p z in let RK' : Fml = reader_knows w p z half h.head (length t.bytes) (flag h.leaving) in let Hv : List ℕ → Fml = at_least (prefixes coded_ℕ) z.sent in let B = byte p z.capacity in
+    let us : List Val = seat_val w ∷ [] in let Data : Fml = ReadData.own_val (w, tt) us in let C : Fml = common w p z in let RK' : Fml = reader_knows w p z half h.head (length t.bytes) (flag h.leaving) in let Hv : List ℕ → Fml = began z in let B = byte p z.capacity in
     let y : (walk_of 𝓛 En hs c).Ghost = ((κs, qs, bounds, a, (vptr b o ∷ [], (vptr b' o' ∷ [], (vptr b2 o2 ∷ [], tt)))), gh) in let Post : Val → SProp 𝓤 = (walk_of 𝓛 En hs c).post y in
     let Asked : Type 0 = (k.at ≡ p) × (k.capacity ≡ z.capacity) × (k.first + length k.bytes ≡ h.seen) × (t.names ≡ z) × (h.seen ≤ length t.bytes) in
     qed 𝓛 (((‵ (flft κs.0 qs.0) ⊛ ‵ (flft κs.1.0 qs.1.0) ⊛ ‵ (flft κs.1.1.0 qs.1.1.0) ⊛ ‵ ftrue) ⊛ ‵ (owns (types_at En.signature.params κs) a y.0.4)) ∷ given Asked (‵ ftrue) ∷ []) ∵
     keep ! (1 ∷ 0 ∷ []) $ learn ! (λ asked. drop ! $ split ! $ split3 ! $ move ! (2 ∷ []) $ split ! $ move ! (4 ∷ []) $ fsplit3 ! $ move ! (2 ∷ []) $ fsplit ! $ fsplit ! $ drop ! $
     use1 𝓛 (‵ (hidden_shr SentData κs.1.1.0 (record {}, tt) b2 o2) ⊛ ‵ (fhide (announced t.names t.bytes t.shut))) (lent_out 𝓛 Mark.struct (Mark.the_codes (marker.the_row RawPtr).coded) Mark.the_heap Mark.the_lent κs.1.1.0 t b2 o2) $
-    split ! $ drop ! $ unhide ! $ rewrite ! 0 (λ (n : Names). ‵ (announced n t.bytes t.shut)) asked.3 refl $ fsplit ! $ move ! (1 ∷ []) $ drop ! $ move ! (2 ∷ []) $ fsplit3 ! $ move ! (5 ∷ []) $ fsplit3 ! $ keep ! (1 ∷ 2 ∷ 11 ∷ 4 ∷ 5 ∷ 10 ∷ 6 ∷ 8 ∷ []) $
+    split ! $ drop ! $ unhide ! $ rewrite ! 0 (λ (n : Names). ‵ (announced n t.bytes t.shut)) asked.3 refl $ move ! (2 ∷ []) $ fsplit3 ! $ move ! (5 ∷ []) $ fsplit3 ! $ keep ! (1 ∷ 2 ∷ 11 ∷ 4 ∷ 5 ∷ 10 ∷ 6 ∷ 8 ∷ []) $
     enter ! 𝓣.C 𝓣.Λ fn (vptr b o ∷ vptr b' o' ∷ vptr b2 o2 ∷ []) Post $ alloc_all ! (λ l. pass_all ! refl ((tt, tt), ((tt, tt), ((tt, tt), tt))) $ let Ev = env fn.locals l in
     opens ! tt KRow b' o' (λ vs'. move ! (1 ∷ []) $ fsplit ! $ move ! (6 ∷ 7 ∷ 8 ∷ []) $
     opens ! tt Row b o (λ vs. move ! (1 ∷ []) $ fsplit ! $ peeks ! ReadData (Is ReadData) (shows 𝓛 ReadData) (w, tt) vs (λ is-so. let ev : vs ≡ us = read_told w vs is-so in
     drop ! $ rewrite ! 1 (λ (ws : List Val). ‵ (cell_at full_share Row.mir ws b o)) ev refl $ fsplit3 ! $ use1 𝓛 (‵ C ⊛ ‵ C) (common_twice 𝓛 w p z) $ split ! $ move ! (3 ∷ []) $ fsplit ! $ fpick ! (λ lh. drop ! $ move ! (0 ∷ 14 ∷ []) $ join ! $ move ! (3 ∷ 0 ∷ []) $ join ! $ move ! (1 ∷ 0 ∷ []) $
-    use2 𝓛 (later (some (λ (xs : List ℕ). given (Gained 𝓛 w p z h.head h.seen h.have t.bytes h.leaving xs) (‵ (run B h.seen xs) ⊛ ‵ RK' ⊛ ‵ (Hv t.bytes)))))
-    (accepts 𝓛 w p z h.head h.seen h.have t.bytes h.leaving lh asked.4) $ await ! tt $ pick ! (λ xs. learn ! (λ saw. split3 ! $
+    use2 𝓛 (later (some (λ (xs : List ℕ). given (Gained 𝓛 w p z h.head h.seen h.have t.bytes h.leaving t.shut xs) (‵ (run B h.seen xs) ⊛ ‵ RK' ⊛ ‵ (Hv t.bytes)))))
+    (accepts 𝓛 w p z h.head h.seen h.have t.bytes h.leaving t.shut lh asked.4) $ await ! tt $ pick ! (λ xs. learn ! (λ saw. split3 ! $
     nothing ! $ fpack ! (length t.bytes ≡ length t.bytes) (λ _. ftrue) refl $ move ! (0 ∷ 3 ∷ []) $ fjoin ! $ move ! (3 ∷ 2 ∷ 0 ∷ []) $ fjoin3 ! $ move ! (1 ∷ []) $
     move ! (7 ∷ []) $ fsplit ! $ fpick ! (λ fine. drop ! $
     let h' : Row.Denot = record h { seen = length t.bytes; have = t.bytes } in let k' : KRow.Denot = record k { bytes = k.bytes ++ xs } in
@@ -78,5 +76,5 @@ accept_spec 𝓤 𝓛 𝓜 𝓡 wired =
     nothing ! $ fpack ! (P.Placed k.at k.capacity) (λ _. ftrue) fine $ fjoin ! $ move ! (6 ∷ 0 ∷ []) $ fjoin ! $ move ! (6 ∷ 0 ∷ 7 ∷ 8 ∷ 9 ∷ []) $ closes ! tt KRow k' vs' b' o' $ feq_i ! (List Val) (vptr b' o' ∷ []) (vptr b' o' ∷ []) refl $ fjoin3 ! $
     nothing ! $ nothing ! $ fjoin ! $ move ! (1 ∷ 0 ∷ []) $ fjoin ! $ move ! (2 ∷ 3 ∷ 4 ∷ 5 ∷ 6 ∷ []) $ use0 𝓛 (‵ Data) (read_made 𝓛 w) $ fjoin ! $ move ! (1 ∷ 0 ∷ []) $ closes ! tt Row h' us b o $ feq_i ! (List Val) (vptr b o ∷ []) (vptr b o ∷ []) refl $ fjoin3 ! $ sets ! (of_opd ! (unit_lit !)) refl (tt, tt) $
     move ! (0 ∷ 2 ∷ []) $ fjoin ! $ nothing ! $ move ! (4 ∷ 0 ∷ []) $ join ! $ move ! (3 ∷ 0 ∷ []) $ join ! $ move ! (2 ∷ 0 ∷ []) $ join ! $
-    use0 𝓛 (raw (fact 𝓤 (ReadGains h h' k k' t.bytes))) (fact_i 𝓤 (ReadGains h h' k k' t.bytes) (emp 𝓤) (record { bytes = xs; places = refl; seat = (λ j. record h { seen = length t.bytes; have = sym saw.0 j }); seen = saw.1 })) $ feq_i ! (List Val) (vunit ∷ []) (vunit ∷ []) refl $
+    use0 𝓛 (raw (fact 𝓤 (ReadGains h h' k k' t.bytes))) (fact_i 𝓤 (ReadGains h h' k k' t.bytes) (emp 𝓤) (record { bytes = xs; places = refl; seat = (λ j. record h { seen = length t.bytes; have = sym saw.0 j }); seen = saw.1; whole = saw.0 })) $ feq_i ! (List Val) (vunit ∷ []) (vunit ∷ []) refl $
     returns ! (look_at ! 0 refl) $ free_all ! refl $ keep ! (2 ∷ 3 ∷ 0 ∷ 1 ∷ []) $ by ! (leaves 𝓛 En hs c y vunit tt (h', (k', (tt, tt))) (tt, (tt, (tt, tt))))))))))))))

@@ -1,5 +1,5 @@
 -- `load_closed` is one load, beside a share of what the reader knows. Assumes `Logic`.
-use Rattle.std.proofs.Common.{arith, lit<, ◌≡◌, ℕ, ◌+◌, ◌^◌, ◌≤◌, List, [], ◌∷◌, sym, refl, w64, arith}
+use Rattle.std.proofs.Common.{arith, lit<, ◌≡◌, ℕ, ◌+◌, ◌^◌, ◌≤◌, List, [], ◌∷◌, false, sym, refl, ap, w64}
 use mir.Syntax.{named}
 use mir.Val.{Val, vint, vptr}
 use base.Logic.{SProp, emp, via}
@@ -31,12 +31,11 @@ use Rattle.rtrb.proofs.Calls.{seq_cst, fm, found, finds, loads}
 use Rattle.core.specs.contracts.marker.PhantomData as marker
 use denote.RawPtr.{RawPtr}
 use Rattle.piper_ring.specs.contracts.ring.marks.WriteMark as Mark
-use Rattle.piper_ring.specs.Shared.{announced, Names, raised, flag, Placed, common, reader_knows, reader_lends}
+use Rattle.piper_ring.specs.Shared.{announced, Names, flag, Placed, common, reader_knows, reader_lends}
 use Rattle.piper_ring.proofs.Rights.{reader_halves}
-use Rattle.piper_ring.proofs.Steps.{flag_small}
-use Rattle.piper_ring.proofs.Closing.{AfterClosed, reader_looks}
-use Rattle.piper_ring.proofs.Fields.{SentData, ghost_val, SawData}
-use Rattle.piper_ring.specs.contracts.ring.marks.Saw as Saw
+use Rattle.piper_ring.specs.Streams.{Stream, Reaches}
+use Rattle.piper_ring.proofs.Closing.{AfterEnd, reader_looks}
+use Rattle.piper_ring.proofs.Fields.{SentData}
 use Rattle.piper_ring.specs.contracts.ring.seats.ReadSeat as Seat
 use Rattle.piper_ring.specs.contracts.ring.seats.ReadSeat.load_closed.{ended, clauses}
 use Rattle.piper_ring.specs.contracts.ring.seats.ReadSeat.load_closed.Key.{name as #self}
@@ -49,18 +48,18 @@ Data = Struct (shape Seat.the_type)
 pub load_closed_spec : {M : Type 1} → statement M
 load_closed_spec 𝓤 𝓛 𝓜 𝓡 wired =
     let H = 𝓛.H in let 𝓣 = tables 𝓤 H 𝓜 𝓡 𝓡.env in let En = ended in let fn = code.function in let c = clauses 𝓛 𝓜.mem 𝓡.returns in
-    let self = RefOf (0 ∷ []) tt (plain (λ _. Seat.the_row)) (λ _. tt) in let SRow : RattleType = Saw.the_row in let other_ref = plain (λ _. SRow) in let told_ref = RefOf (2 ∷ []) tt (plain (λ _. Mark.the_row)) (λ _. tt) in
+    let self = RefOf (0 ∷ []) tt (plain (λ _. Seat.the_row)) (λ _. tt) in let SRow : RattleType = Mark.the_row in let other_ref = plain (λ _. SRow) in let told_ref = RefOf (2 ∷ []) tt (plain (λ _. Mark.the_row)) (λ _. tt) in
     let hs : Stays En.signature.params En.kept = (stay_dropped self yes, (stay_ref (1 ∷ []) tt other_ref, (stay_dropped told_ref yes, tt))) in
     proved 𝓛 En hs c 𝓜 𝓡 (Goes-dropped 𝓛 3 self yes (λ κs x f. refl), (Goes-ref 𝓛 3 1 tt other_ref, (Goes-dropped 𝓛 3 told_ref yes (λ κs x f. refl), tt))) #self fn (code.unfolded 𝓤 H 𝓜 𝓡 wired)
     (λ κs. (shr_vals, (mut_vals, (shr_vals, tt)))) (λ κs. (shr_Tells (named 0) κs.0 Seat.the_row, (mut_Tells (named 1) κs.1.0 SRow, (shr_Tells (named 2) κs.1.1.0 Mark.the_row, tt)))) (λ κs qs bounds a gh are.
     let b : ℕ = a.0.ref_ptr.0 in let o : ℕ = a.0.ref_ptr.1 in let h = a.0.now in let w : Ptr = h.words in let p : Ptr = h.at in let z : Names = h.names in let κ = κs.0 in let q : Share = qs.0 in
-    let b' : ℕ = a.1.0.ref_ptr.0 in let o' : ℕ = a.1.0.ref_ptr.1 in let k = a.1.0.now in let t = a.1.1.0.now in let b2 : ℕ = a.1.1.0.ref_ptr.0 in let o2 : ℕ = a.1.1.0.ref_ptr.1 in let SData : Fml = SawData.own_val (record {}, tt) (ghost_val ∷ []) in
+    let b' : ℕ = a.1.0.ref_ptr.0 in let o' : ℕ = a.1.0.ref_ptr.1 in let k = a.1.0.now in let t = a.1.1.0.now in let b2 : ℕ = a.1.1.0.ref_ptr.0 in let o2 : ℕ = a.1.1.0.ref_ptr.1 in let old : Stream = (k.bytes, k.shut) in let got : Stream = (t.bytes, t.shut) in
     let C : Fml = common w p z in let Φ : Share → Fml = λ s. reader_knows w p z s h.head h.seen (flag h.leaving) in
     let y : (walk_of 𝓛 En hs c).Ghost = ((κs, qs, bounds, a, (vptr b o ∷ [], (vptr b' o' ∷ [], (vptr b2 o2 ∷ [], tt)))), gh) in let Post : Val → SProp 𝓤 = (walk_of 𝓛 En hs c).post y in
-    qed 𝓛 (((‵ (flft κ q) ⊛ ‵ (flft κs.1.0 qs.1.0) ⊛ ‵ (flft κs.1.1.0 qs.1.1.0) ⊛ ‵ ftrue) ⊛ ‵ (owns (types_at En.signature.params κs) a y.0.4)) ∷ given ((k.names ≡ z) × (t.names ≡ z)) (‵ ftrue) ∷ []) ∵
+    qed 𝓛 (((‵ (flft κ q) ⊛ ‵ (flft κs.1.0 qs.1.0) ⊛ ‵ (flft κs.1.1.0 qs.1.1.0) ⊛ ‵ ftrue) ⊛ ‵ (owns (types_at En.signature.params κs) a y.0.4)) ∷ given ((k.names ≡ z) × (t.names ≡ z) × (h.leaving ≡ false)) (‵ ftrue) ∷ []) ∵
     keep ! (1 ∷ 0 ∷ []) $ learn ! (λ asked. drop ! $ split ! $ split3 ! $ move ! (2 ∷ []) $ split ! $ move ! (4 ∷ []) $ fsplit3 ! $ move ! (2 ∷ []) $ fsplit ! $ fsplit ! $ drop ! $
     use1 𝓛 (‵ (hidden_shr SentData κs.1.1.0 (record {}, tt) b2 o2) ⊛ ‵ (fhide (announced t.names t.bytes t.shut))) (lent_out 𝓛 Mark.struct (Mark.the_codes (marker.the_row RawPtr).coded) Mark.the_heap Mark.the_lent κs.1.1.0 t b2 o2) $
-    split ! $ drop ! $ unhide ! $ rewrite ! 0 (λ (n : Names). ‵ (announced n t.bytes t.shut)) asked.1 refl $ fsplit ! $ drop ! $
+    split ! $ drop ! $ unhide ! $ rewrite ! 0 (λ (n : Names). ‵ (announced n t.bytes t.shut)) asked.1 refl $
     move ! (3 ∷ []) $ fsplit3 ! $ keep ! (5 ∷ 8 ∷ 1 ∷ 2 ∷ 9 ∷ 6 ∷ 3 ∷ []) $ fsplit ! $ drop ! $
     use1 𝓛 (‵ (hidden_shr Data κ (w, tt) b o) ⊛ ‵ (fhide (reader_lends w p z h.head h.seen h.leaving κ))) (lent_out 𝓛 Seat.struct Seat.the_codes Seat.the_heap Seat.the_lent κ h b o) $
     split ! $ unhide ! $ fsplit ! $ fsplit ! $ keep ! (0 ∷ 3 ∷ 4 ∷ 5 ∷ 6 ∷ 7 ∷ 8 ∷ 9 ∷ []) $ hide ! $ move ! (1 ∷ []) $ unhide ! $ fsplit ! $ fsplit ! $ fpick ! (λ at. drop ! $ nothing ! $ fpack ! (Placed w p z) (λ _. ftrue) at $ fjoin ! $
@@ -70,17 +69,17 @@ load_closed_spec 𝓤 𝓛 𝓜 𝓡 wired =
     pointer_in ! tt w bw ow isw b (o + 0) (λ r.
     sets ! (of_opd ! (load ! (through ! refl (fld ! refl (stop !))) (look ! 0 refl))) refl (tt, tt) $ pointer_out ! tt w bw ow isw b (o + 0) $
     sets ! (bin ! (get ! refl) (lit ! tt) tt) refl (tt, tt) $ move ! (2 ∷ 0 ∷ []) $ shr_bor-open ! tt (reader_halves 𝓛 w p z h.head h.seen (flag h.leaving)) (λ s. move ! (4 ∷ []) $
-    rewrite ! 0 (λ (m : Names). ‵ (raised m.closed k.seen)) {x = z} {y = k.names} asked.0 refl $ move ! (0 ∷ 10 ∷ []) $ join ! $ move ! (3 ∷ 2 ∷ 0 ∷ []) $
-    let out : ℕ → Fml = AfterClosed 𝓛 w p z (Φ s) k.seen t.shut in
+    rewrite ! 0 (λ (m : Names). ‵ (announced m k.bytes k.shut)) {x = z} {y = k.names} asked.0 refl $ move ! (0 ∷ 10 ∷ []) $ join ! $ move ! (3 ∷ 2 ∷ 0 ∷ []) $
+    let out : ℕ → Fml = AfterEnd 𝓛 w p z (Φ s) old got in
     use3 𝓛 (raw (𝓣.C _ (vptr bw e ∷ seq_cst ∷ []) (λ u. mean 𝓛 (found out u))))
-    (via 𝓤 _ (reader_looks 𝓛 w p z s h.head h.seen (flag h.leaving) (flag_small h.leaving) k.seen t.shut) (loads 𝓛 𝓜 𝓡 (code.calls-core::raw_atomic::load 𝓡.env wired) (block_ptr bw e) out)) $
+    (via 𝓤 _ (reader_looks 𝓛 w p z s h.head h.seen (flag h.leaving) (ap flag asked.2) old got) (loads 𝓛 𝓜 𝓡 (code.calls-core::raw_atomic::load 𝓡.env wired) (block_ptr bw e) out)) $
     sets ! (agg ! (and_then ! (lit ! tt) (no_more !))) refl (tt, (record { fits = lit< tt }, tt)) $
     Calls-last ! (fm 𝓛 𝓜 𝓡) (found out) (and_then ! (get ! refl) (and_then ! (get ! refl) (no_more !))) (λ u. finds ! out (λ n fits.
     lands_last ! refl (tt, record { fits = fits }) $ exec ! 𝓣.C 𝓣.Λ Ev (tail fn.body) (at_ret Ev Post) $ sets ! (of_opd ! (get ! refl)) refl (tt, record { fits = fits }) $
     fsplit ! $ fpick ! (λ over. fsplit ! $ fpick ! (λ told. drop ! $ move ! (2 ∷ 1 ∷ []) $ obor_close ! tt $ drop ! $
-    let k' : SRow.Denot = record k { seen = over } in
-    rewrite ! 1 (λ (m : Names). ‵ (raised m.closed over)) {x = k.names} {y = z} (sym asked.0) refl $ move ! (2 ∷ 1 ∷ []) $ fjoin ! $ move ! (2 ∷ 0 ∷ 3 ∷ 4 ∷ 5 ∷ []) $ closes ! tt SRow k' vs' b' o' $
+    let k' : SRow.Denot = record k { bytes = over.0; shut = over.1 } in
+    rewrite ! 1 (λ (m : Names). ‵ (announced m over.0 over.1)) {x = k.names} {y = z} (sym asked.0) refl $ move ! (2 ∷ 1 ∷ []) $ fjoin ! $ move ! (2 ∷ 0 ∷ 3 ∷ 4 ∷ 5 ∷ []) $ closes ! tt SRow k' vs' b' o' $
     feq_i ! (List Val) (vptr b' o' ∷ []) (vptr b' o' ∷ []) refl $ fjoin3 ! $ nothing ! $ nothing ! $ fjoin ! $ move ! (1 ∷ 0 ∷ []) $ fjoin ! $ nothing ! $ fjoin ! $ nothing ! $ move ! (4 ∷ 0 ∷ []) $ join ! $ move ! (2 ∷ 0 ∷ []) $ join ! $ move ! (2 ∷ 0 ∷ []) $ join ! $
-    let answer : n ≡ flag over = told.0 in let least : flag k.seen ≤ flag over = told.1 in let heard : flag t.shut ≤ flag over = told.2 in use0 𝓛 (raw (fact 𝓤 (flag t.shut ≤ n))) (fact_i 𝓤 (flag t.shut ≤ n) (emp 𝓤) (omega arith)) $ use0 𝓛 (raw (fact 𝓤 (flag k.seen ≤ n))) (fact_i 𝓤 (flag k.seen ≤ n) (emp 𝓤) (omega arith)) $ join ! $
-    use0 𝓛 (raw (fact 𝓤 (n ≡ flag over))) (fact_i 𝓤 (n ≡ flag over) (emp 𝓤) answer) $ join ! $ use0 𝓛 (raw (fact 𝓤 (k.names ≡ k.names))) (fact_i 𝓤 (k.names ≡ k.names) (emp 𝓤) refl) $ join ! $ flt_i ! n (2 ^ 64) fits $ feq_i ! (List Val) (vint w64 n ∷ []) (vint w64 n ∷ []) refl $ fjoin ! $
+    let answer : n ≡ flag over.1 = told.0 in let heard : flag t.shut ≤ flag over.1 = told.2 in use0 𝓛 (raw (fact 𝓤 (flag t.shut ≤ n))) (fact_i 𝓤 (flag t.shut ≤ n) (emp 𝓤) (omega arith)) $ use0 𝓛 (raw (fact 𝓤 (Reaches old over))) (fact_i 𝓤 (Reaches old over) (emp 𝓤) told.1) $ join ! $
+    use0 𝓛 (raw (fact 𝓤 (n ≡ flag over.1))) (fact_i 𝓤 (n ≡ flag over.1) (emp 𝓤) answer) $ join ! $ use0 𝓛 (raw (fact 𝓤 (k.names ≡ k.names))) (fact_i 𝓤 (k.names ≡ k.names) (emp 𝓤) refl) $ join ! $ flt_i ! n (2 ^ 64) fits $ feq_i ! (List Val) (vint w64 n ∷ []) (vint w64 n ∷ []) refl $ fjoin ! $
     returns ! (look_at ! 0 refl) $ free_all ! refl $ keep ! (2 ∷ 3 ∷ 0 ∷ 1 ∷ []) $ by ! (leaves 𝓛 En hs c y (vint w64 n) n (tt, (k', (tt, tt))) (tt, (tt, (tt, tt)))))))))))))))

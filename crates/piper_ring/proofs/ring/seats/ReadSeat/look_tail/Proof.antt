@@ -1,5 +1,5 @@
 -- `look_tail` is one load of the tail, beside a share of what the reader knows. Assumes `Logic`.
-use Rattle.std.proofs.Common.{lit<, ◌≡◌, ℕ, ◌+◌, ◌≤◌, ◌^◌, List, [], ◌∷◌, false, length, refl, w64}
+use Rattle.std.proofs.Common.{lit<, ◌≡◌, ℕ, ◌+◌, ◌≤◌, ◌^◌, List, [], ◌∷◌, true, false, length, refl, w64}
 use mir.Syntax.{named}
 use mir.Val.{Val, vint, vptr}
 use base.Logic.{SProp, emp, via}
@@ -58,7 +58,7 @@ look_tail_spec 𝓤 𝓛 𝓜 𝓡 wired =
     qed 𝓛 (((‵ (flft κ qs.0) ⊛ ‵ (flft κs.1.0 qs.1.0) ⊛ ‵ ftrue) ⊛ ‵ (owns (types_at En.signature.params κs) a y.0.4)) ∷ given (t.names ≡ z) (‵ ftrue) ∷ []) ∵
     keep ! (1 ∷ 0 ∷ []) $ learn ! (λ asked. drop ! $ split ! $ split3 ! $ move ! (3 ∷ []) $ fsplit ! $ move ! (1 ∷ []) $ fsplit ! $ fsplit ! $ drop ! $
     use1 𝓛 (‵ (hidden_shr SentData κs.1.0 (record {}, tt) b2 o2) ⊛ ‵ (fhide (announced t.names t.bytes t.shut))) (lent_out 𝓛 Mark.struct (Mark.the_codes (marker.the_row RawPtr).coded) Mark.the_heap Mark.the_lent κs.1.0 t b2 o2) $
-    split ! $ drop ! $ unhide ! $ rewrite ! 0 (λ (n : Names). ‵ (announced n t.bytes t.shut)) asked refl $ fsplit ! $ move ! (1 ∷ []) $ drop ! $ keep ! (2 ∷ 0 ∷ 3 ∷ 4 ∷ []) $ fsplit ! $ drop ! $
+    split ! $ drop ! $ unhide ! $ rewrite ! 0 (λ (n : Names). ‵ (announced n t.bytes t.shut)) asked refl $ keep ! (2 ∷ 0 ∷ 3 ∷ 4 ∷ []) $ fsplit ! $ drop ! $
     use1 𝓛 (‵ (hidden_shr Data κ (w, tt) b o) ⊛ ‵ (fhide (reader_lends w p z h.head h.seen h.leaving κ))) (lent_out 𝓛 Seat.struct Seat.the_codes Seat.the_heap Seat.the_lent κ h b o) $
     split ! $ unhide ! $ fsplit ! $ fsplit ! $ keep ! (0 ∷ 3 ∷ 5 ∷ 4 ∷ 6 ∷ []) $ hide ! $ move ! (1 ∷ []) $ unhide ! $ fsplit ! $ fsplit ! $ fpick ! (λ at. drop ! $ nothing ! $ fpack ! (Placed w p z) (λ _. ftrue) at $ fjoin ! $
     let bw : ℕ = block_of w in let ow : ℕ = count_of w in let e : ℕ = 256 + ow in let isw : w ≡ block_ptr bw ow = at_block w at.0 in
@@ -66,19 +66,20 @@ look_tail_spec 𝓤 𝓛 𝓜 𝓡 wired =
     pointer_in ! tt w bw ow isw b (o + 0) (λ r.
     sets ! (of_opd ! (load ! (through ! refl (fld ! refl (stop !))) (look ! 0 refl))) refl (tt, tt) $ pointer_out ! tt w bw ow isw b (o + 0) $
     sets ! (bin ! (get ! refl) (lit ! tt) tt) refl (tt, tt) $ move ! (2 ∷ 0 ∷ []) $ shr_bor-open ! tt (reader_halves 𝓛 w p z h.head h.seen (flag h.leaving)) (λ s. move ! (2 ∷ 1 ∷ 3 ∷ []) $
-    let out : ℕ → Fml = AfterLook 𝓛 w p z s h.head h.seen (flag h.leaving) t.bytes in
+    let out : ℕ → Fml = AfterLook 𝓛 w p z s h.head h.seen (flag h.leaving) (t.bytes, t.shut) in
     use3 𝓛 (raw (𝓣.C _ (vptr bw e ∷ seq_cst ∷ []) (λ u. mean 𝓛 (found out u))))
-    (via 𝓤 _ (looks_tail 𝓛 w p z s h.head h.seen (flag h.leaving) t.bytes (flag_small h.leaving)) (loads 𝓛 𝓜 𝓡 (code.calls-core::raw_atomic::load 𝓡.env wired) (block_ptr bw e) out)) $
+    (via 𝓤 _ (looks_tail 𝓛 w p z s h.head h.seen (flag h.leaving) (t.bytes, t.shut) (flag_small h.leaving)) (loads 𝓛 𝓜 𝓡 (code.calls-core::raw_atomic::load 𝓡.env wired) (block_ptr bw e) out)) $
     sets ! (agg ! (and_then ! (lit ! tt) (no_more !))) refl (tt, (record { fits = lit< tt }, tt)) $
     Calls-last ! (fm 𝓛 𝓜 𝓡) (found out) (and_then ! (get ! refl) (and_then ! (get ! refl) (no_more !))) (λ u. finds ! out (λ n fits.
     lands_last ! refl (tt, record { fits = fits }) $ exec ! 𝓣.C 𝓣.Λ Ev (tail fn.body) (at_ret Ev Post) $ sets ! (of_opd ! (get ! refl)) refl (tt, record { fits = fits }) $
     sets ! (agg ! (no_more !)) refl (tt, tt) $ sets ! (agg ! (and_then ! (get ! refl) (no_more !))) refl (tt, (tt, tt)) $ sets ! (agg ! (and_then ! (get ! refl) (and_then ! (get ! refl) (no_more !)))) refl (tt, (record { fits = fits }, ((tt, tt), tt))) $
     fpick ! (λ xs. fsplit ! $ fpick ! (λ saw. drop ! $ fsplit ! $ move ! (2 ∷ 1 ∷ []) $ obor_close ! tt $ drop ! $ nothing ! $ move ! (3 ∷ 0 ∷ []) $ join ! $ move ! (1 ∷ 0 ∷ []) $ join ! $ move ! (1 ∷ []) $
     let mark : Mark.the_row.Denot = record { mark = record {}; names = z; bytes = xs; shut = false } in
-    nothing ! $ move ! (1 ∷ 0 ∷ []) $ fjoin ! $ use0 𝓛 (‵ (SentData.own_val (record {}, tt) (ghost_val ∷ []))) (sent_made 𝓛) $ fjoin ! $
+    use0 𝓛 (‵ (SentData.own_val (record {}, tt) (ghost_val ∷ []))) (sent_made 𝓛) $ fjoin ! $
     flt_i ! n (2 ^ 64) fits $ feq_i ! (List Val) (vint w64 n ∷ []) (vint w64 n ∷ []) refl $ fjoin ! $
     use2 𝓛 (‵ ((denote.Struct.Tuple.Tuple (u64 ∷ Mark.the_row ∷ [])).own_val (n, mark) (pair_val (vint w64 n) ghost_val ∷ []))) (pair_of 𝓛 u64 Mark.the_row n mark (vint w64 n) ghost_val) $
-    use0 𝓛 (raw (fact 𝓤 (length t.bytes ≤ length xs))) (fact_i 𝓤 (length t.bytes ≤ length xs) (emp 𝓤) saw.3) $
+    use0 𝓛 (raw (fact 𝓤 (t.shut ≡ true → xs ≡ t.bytes))) (fact_i 𝓤 (t.shut ≡ true → xs ≡ t.bytes) (emp 𝓤) saw.4) $
+    use0 𝓛 (raw (fact 𝓤 (length t.bytes ≤ length xs))) (fact_i 𝓤 (length t.bytes ≤ length xs) (emp 𝓤) saw.3) $ join ! $
     use0 𝓛 (raw (fact 𝓤 (length xs ≤ h.head + z.capacity))) (fact_i 𝓤 (length xs ≤ h.head + z.capacity) (emp 𝓤) saw.2) $ join ! $
     use0 𝓛 (raw (fact 𝓤 (h.seen ≤ length xs))) (fact_i 𝓤 (h.seen ≤ length xs) (emp 𝓤) saw.1) $ join ! $
     use0 𝓛 (raw (fact 𝓤 (n ≡ position_of z.capacity (length xs)))) (fact_i 𝓤 (n ≡ position_of z.capacity (length xs)) (emp 𝓤) saw.0) $ join ! $

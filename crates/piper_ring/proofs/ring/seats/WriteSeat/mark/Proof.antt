@@ -1,5 +1,5 @@
 -- `mark` copies evidence out of a share of what the writer knows. Assumes `Logic`.
-use Rattle.std.proofs.Common.{◌≡◌, ℕ, List, [], ◌∷◌, refl}
+use Rattle.std.proofs.Common.{◌≡◌, ℕ, [], ◌∷◌, refl}
 use mir.Syntax.{named}
 use mir.Val.{Val, vptr}
 use base.Logic.{SProp, emp}
@@ -25,11 +25,10 @@ use denote.Struct.Owning.{shape}
 use denote.Struct.Lending.{lent_out}
 use denote.Triple.Walked.{Stays, stay_dropped, walk_of, Goes-dropped}
 use Rattle.rtrb.proofs.Walks.{proved, leaves}
-use Rattle.piper_ring.specs.Shared.{flag, raised, Names, began, writer_lends}
+use Rattle.piper_ring.specs.Shared.{Names, announced, writer_lends}
+use Rattle.piper_ring.specs.Streams.{Stream, streams, reaches_same}
 use Rattle.piper_ring.proofs.Fields.{ghost_val, SentData, sent_made}
-use base.Stored.{coded_ℕ}
-use Rattle.piper_ring.proofs.Evidence.{shows_raised}
-use base.Growing.{numbers, Order, prefixes, latest, prefix_refl}
+use base.Growing.{latest}
 use types.Growing.{latest_shows}
 use Rattle.piper_ring.proofs.Rights.{writer_halves}
 use Rattle.piper_ring.specs.contracts.ring.seats.WriteSeat as Seat
@@ -49,15 +48,14 @@ mark_spec 𝓤 𝓛 𝓜 𝓡 wired =
     proved 𝓛 En hs c 𝓜 𝓡 (Goes-dropped 𝓛 1 self yes (λ κs x f. refl), tt) #self fn (code.unfolded 𝓤 H 𝓜 𝓡 wired)
     (λ κs. (shr_vals, tt)) (λ κs. (shr_Tells (named 0) κs.0 Seat.the_row, tt)) (λ κs qs bounds a gh are.
     let b : ℕ = a.0.ref_ptr.0 in let o : ℕ = a.0.ref_ptr.1 in let h = a.0.now in let w : Ptr = h.words in let p : Ptr = h.at in let z : Names = h.names in let κ = κs.0 in let q : Share = qs.0 in
-    let y : (walk_of 𝓛 En hs c).Ghost = ((κs, qs, bounds, a, (vptr b o ∷ [], tt)), gh) in let Post : Val → SProp 𝓤 = (walk_of 𝓛 En hs c).post y in let O : Order (List ℕ) = prefixes coded_ℕ in
+    let y : (walk_of 𝓛 En hs c).Ghost = ((κs, qs, bounds, a, (vptr b o ∷ [], tt)), gh) in let Post : Val → SProp 𝓤 = (walk_of 𝓛 En hs c).post y in let all : Stream = (h.sent, h.shut) in
     qed 𝓛 (((‵ (flft κ q) ⊛ ‵ ftrue) ⊛ ‵ (owns (types_at En.signature.params κs) a y.0.4)) ∷ ‵ ftrue ∷ []) ∵
     split ! $ split ! $ move ! (2 ∷ []) $ fsplit ! $ fsplit ! $ drop ! $
     use1 𝓛 (‵ (hidden_shr Data κ (w, tt) b o) ⊛ ‵ (fhide (writer_lends w p z h.sent h.limit h.shut κ))) (lent_out 𝓛 Seat.struct Seat.the_codes Seat.the_heap Seat.the_lent κ h b o) $
     split ! $ drop ! $ unhide ! $ fsplit ! $ drop ! $ keep ! (0 ∷ 2 ∷ []) $
     enter ! 𝓣.C 𝓣.Λ fn (vptr b o ∷ []) Post $ alloc_all ! (λ l. pass_all ! refl ((tt, tt), tt) $ let Ev = env fn.locals l in
-    shr_bor-open ! tt (writer_halves 𝓛 w p z h.sent h.limit h.shut 0) (λ s. move ! (1 ∷ []) $ fsplit3 ! $ use1 𝓛 (‵ (latest O s z.sent h.sent) ⊛ ‵ (began z h.sent)) (latest_shows O 𝓛 s z.sent h.sent h.sent (prefix_refl h.sent)) $ split ! $
-    move ! (3 ∷ []) $ fsplit ! $ use1 𝓛 (‵ (latest numbers s z.shut (flag h.shut)) ⊛ ‵ (raised z.shut h.shut)) (shows_raised 𝓛 s z.shut h.shut) $ split ! $ move ! (0 ∷ 2 ∷ []) $ fjoin ! $
-    move ! (2 ∷ 4 ∷ 0 ∷ []) $ fjoin3 ! $ move ! (2 ∷ 1 ∷ []) $ fjoin ! $ move ! (1 ∷ []) $ move ! (2 ∷ 0 ∷ []) $ obor_close ! tt $ drop ! $ nothing ! $ move ! (1 ∷ 0 ∷ []) $ join ! $ move ! (1 ∷ []) $
+    shr_bor-open ! tt (writer_halves 𝓛 w p z h.sent h.limit h.shut 0) (λ s. move ! (1 ∷ []) $ fsplit3 ! $ use1 𝓛 (‵ (latest streams s z.sent all) ⊛ ‵ (announced z h.sent h.shut)) (latest_shows streams 𝓛 s z.sent all all (reaches_same all)) $ split ! $
+    move ! (0 ∷ 2 ∷ 3 ∷ []) $ fjoin3 ! $ move ! (2 ∷ 0 ∷ []) $ obor_close ! tt $ drop ! $ nothing ! $ move ! (1 ∷ 0 ∷ []) $ join ! $ move ! (1 ∷ []) $
     sets ! (agg ! (no_more !)) refl (tt, tt) $ sets ! (agg ! (and_then ! (get ! refl) (no_more !))) refl (tt, (tt, tt)) $
     use0 𝓛 (‵ (SentData.own_val (record {}, tt) (ghost_val ∷ []))) (sent_made 𝓛) $ fjoin ! $
     let Told : Type 0 = (z ≡ z) × (h.sent ≡ h.sent) × (h.shut ≡ h.shut) in use0 𝓛 (raw (fact 𝓤 Told)) (fact_i 𝓤 Told (emp 𝓤) (refl, refl, refl)) $ nothing ! $ nothing ! $ fjoin ! $

@@ -1,5 +1,5 @@
 -- `store_tail` is one store, which hands places over. Assumes `Logic`.
-use Rattle.std.proofs.Common.{false, lit<, ◌≡◌, ℕ, ◌+◌, ◌≤◌, List, [], ◌∷◌, ◌++◌, length, refl, ap, w64}
+use Rattle.std.proofs.Common.{true, false, lit<, ◌≡◌, ℕ, ◌+◌, ◌≤◌, List, [], ◌∷◌, ◌++◌, length, refl, ap, w64}
 use mir.Syntax.{named}
 use mir.Val.{Val, vint, vptr, vunit}
 use base.Logic.{SProp, emp}
@@ -52,7 +52,7 @@ store_tail_spec 𝓤 𝓛 𝓜 𝓡 wired =
     let Then : Fml = writer_knows w p z half (h.sent ++ xs) h.limit h.shut 0 in let Step : SProp 𝓤 = asks 𝓛 (block_ptr bw e) (λ _. new) always (λ _. Then) in let h' : Row.Denot = record h { sent = h.sent ++ xs } in
     let Data : Fml = WriteData.own_val (w, tt) us in
     let y : (walk_of 𝓛 En hs c).Ghost = ((κs, qs, bounds, a, (vptr b o ∷ [], (ghost_val ∷ [], (vint w64 new ∷ [], tt)))), gh) in let Post : Val → SProp 𝓤 = (walk_of 𝓛 En hs c).post y in
-    let Asked : Type 0 = ((g.at ≡ p) × (g.capacity ≡ z.capacity) × (g.first ≡ length h.sent)) × (length h.sent + length xs ≤ h.limit) × (new ≡ position_of z.capacity (length h.sent + length xs)) in
+    let Asked : Type 0 = ((g.at ≡ p) × (g.capacity ≡ z.capacity) × (g.first ≡ length h.sent)) × (length h.sent + length xs ≤ h.limit) × (h.shut ≡ true → xs ≡ []) × (new ≡ position_of z.capacity (length h.sent + length xs)) in
     qed 𝓛 (((‵ (flft κ qs.0) ⊛ ‵ ftrue) ⊛ ‵ (owns (types_at En.signature.params κs) a y.0.4)) ∷ given Asked (‵ ftrue) ∷ []) ∵
     keep ! (1 ∷ 0 ∷ []) $ learn ! (λ asked. drop ! $ split ! $ split ! $ move ! (2 ∷ []) $ fsplit ! $ fsplit3 ! $ keep ! (3 ∷ 1 ∷ 2 ∷ 4 ∷ []) $ fsplit ! $ fsplit ! $ drop ! $ fsplit ! $ drop ! $
     rewrite ! 0 (λ (r : Ptr × ℕ × ℕ). ‵ (run (byte r.0 r.1) r.2 xs)) {x = (p, z.capacity, length h.sent)} {y = (g.at, g.capacity, g.first)} (λ i. (asked.0.0 i, asked.0.1 i, asked.0.2 i)) refl $ keep ! (2 ∷ 3 ∷ 4 ∷ 0 ∷ []) $
@@ -60,7 +60,7 @@ store_tail_spec 𝓤 𝓛 𝓜 𝓡 wired =
     opens ! tt Row b o (λ vs. move ! (1 ∷ []) $ fsplit ! $ peeks ! WriteData (Is WriteData) (shows 𝓛 WriteData) (w, tt) vs (λ is-so. let ev : vs ≡ us = write_told w vs is-so in
     drop ! $ rewrite ! 1 (λ (ws : List Val). ‵ (cell_at full_share Row.mir ws b o)) ev refl $ fsplit ! $ fsplit ! $ fpick ! (λ at. drop ! $ nothing ! $ fpack ! (Placed w p z) (λ _. ftrue) at $ fjoin ! $
     use1 𝓛 (‵ C ⊛ ‵ C) (common_twice 𝓛 w p z) $ split ! $ let isw : w ≡ block_ptr bw (count_of w) = at_block w at.0 in
-    move ! (0 ∷ 2 ∷ 7 ∷ []) $ use3 𝓛 (raw Step) (publishes 𝓛 w p z h.sent h.limit h.shut 0 (flag_small false) xs new asked.2 asked.1) $ first ! $ blocks ! $
+    move ! (0 ∷ 2 ∷ 7 ∷ []) $ use3 𝓛 (raw Step) (publishes 𝓛 w p z h.sent h.limit h.shut 0 (flag_small false) xs new asked.3 asked.1 asked.2) $ first ! $ blocks ! $
     sets ! (is ! (of_opd ! (load ! (through ! refl (fld ! refl (stop !))) (look_in ! 2 (sub ! 0 refl (whole !))))) (ap ptr_val isw)) refl (tt, tt) $
     sets ! (bin ! (get ! refl) (lit ! tt) tt) refl (tt, tt) $
     use1 𝓛 (raw (𝓣.C _ (vptr bw e ∷ vint w64 new ∷ seq_cst ∷ []) (λ u. mean 𝓛 (stored Then u))))

@@ -1,0 +1,19 @@
+-- What the end has heard of goes on as far as what it was told of.
+use Rattle.std.proofs.Common.{◌∙◌}
+use base.Growing.{prefix_trans}
+use Rattle.piper_ring.specs.Streams.{Stream, reaches_trans}
+use Rattle.piper_ring.proofs.ends.reader.ReadEnd.heed.Goals as goal
+
+pub invariant_of-self : goal.invariant_of-self
+invariant_of-self c = let e = c.self.inside.parts in let i = c.self.invariant in let t = c.heed.ensures in let h = c.heed-2.ensures in let g = c.heed.new.self in let k = c.heed-2.new.self in
+    let told : Stream = (e.told.bytes, e.told.shut) in let saw : Stream = (e.saw.bytes, e.saw.shut) in let heard : Stream = (e.heard.bytes, e.heard.shut) in let now : Stream = (k.bytes, k.shut) in
+    record {
+      fits = i.fits;
+      placed = i.placed;
+      counts = i.counts;
+      cached = i.cached;
+      heard = (t.ring ∙ i.heard.0, i.heard.1, h.ring ∙ i.heard.2);
+      stream = (prefix_trans e.seat.have e.heard.bytes k.bytes i.stream.0 h.kept.0, t.no_more now (reaches_trans told heard now i.stream.1 h.kept) h.heeded, reaches_trans saw heard now i.stream.2 h.kept);
+      whole = i.whole;
+      here = i.here;
+    }
