@@ -30,6 +30,11 @@ pub record ReaderHeeded (a b : ReadView) : Type 0 where
   pub known : b.known ≡ a.known
   pub saw : b.saw ≡ a.saw
 
+-- behind the pipe's end, b knows of all that was ever published, which is what it was for a
+pub record HasAll (a b : ReadView) : Type 0 where
+  pub now : b.taken ++ b.known ≡ b.all
+  pub same : b.all ≡ a.all
+
 -- the writer, but for the room that it knows of
 pub record WriterRefreshed (a b : WriteView) : Type 0 where
   pub end : SameWriteEnd a b

@@ -3,10 +3,10 @@ ghost use Rattle.std.specs.Prelude.{◌≡◌, ◌≤◌, ◌++◌, ◌↔◌, l
 ghost use Rattle.std.specs.Arc.{arc_value};
 ghost use Rattle.futures.specs.Task.{Covers, Keeps};
 ghost use Rattle.piper_sides.specs.Table.{goes_on, read_action, read_step, reader_draws_behind, reader_looks_for, nothing, refreshed, flag as loaded, granted, waker};
-ghost use Rattle.piper_ring.specs.ReadView.{in_one_piece};
+ghost use Rattle.piper_ring.specs.ReadView.{KnowsEnd, in_one_piece};
 ghost use Rattle.piper_ring.specs.Shared.{flag};
 ghost use Rattle.piper.specs.Slots.{IsFrom, IsNoneOf, IsEmptied, found_in};
-ghost use Rattle.piper.specs.Ends.{ReaderIsUpToDate, ReaderRefreshed, ReaderSaw, ReaderConsumed};
+ghost use Rattle.piper.specs.Ends.{HasAll, ReaderIsUpToDate, ReaderRefreshed, ReaderSaw, ReaderConsumed};
 
 use super::{Reader, Slots};
 use crate::slot::{NoWaker, Taken};
@@ -37,6 +37,7 @@ impl<H: Wait + Clone + Drop> Reader<H> {
         ensures step { result.0 ≡ read_step call.point (refreshed result.1) }
         ensures none { IsTrue result.1 ↔ (length self.new.end.known ≡ 0) }
         ensures fresh { ReaderIsUpToDate self.new.end }
+        ensures all { KnowsEnd self.old.end → HasAll self.old.end self.new.end }
         ensures end { ReaderRefreshed self.old.end self.new.end }
         ensures rest { SameReader self.old self.new }
     {
@@ -52,6 +53,7 @@ impl<H: Wait + Clone + Drop> Reader<H> {
         ensures step { result.0 ≡ read_step call.point (loaded result.1) }
         ensures saw { result.1 ≡ self.new.end.saw }
         ensures told { flag self.old.end.told_shut ≤ flag self.new.end.saw }
+        ensures all { KnowsEnd self.old.end → self.new.end.all ≡ self.old.end.all }
         ensures end { ReaderSaw self.old.end self.new.end }
         ensures rest { SameReader self.old self.new }
     {
