@@ -1,6 +1,7 @@
 //! The two handles of a pipe. Each is an end of the ring, the slots of both sides, and what it waits and draws with.
 ghost use Rattle.std.specs.Prelude.{◌≡◌, ℕ, List, ◌+◌, ◌*◌, ◌^◌, ◌<◌, ◌≤◌, ◌++◌, length, max, IfOk, bit_xor, true};
 ghost use Rattle.std.specs.Borrow.{sem};
+ghost use Rattle.piper_ring.specs.ReadView.{KnowsEnd, Agree};
 ghost use Rattle.piper_ring.specs.WriteView.{Lendable, either};
 ghost use Rattle.piper_ring.specs.Opened.{FreshReadEnd, FreshWriteEnd};
 ghost use Rattle.piper.specs.Ends.{ReaderRefreshed, ReaderHeeded, WriterRefreshed, WriterHeeded};
@@ -101,18 +102,21 @@ impl<H: Wait + Clone + Drop> Reader<H> {
         &self.end
     }
 
-    /// From now on it knows what the mark tells: a look finds at least the bytes that were published before it, and a pipe that the writer closed before it is seen closed.
+    /// From now on it knows what the mark tells: a look finds at least the bytes that were published before it, and a pipe that the writer closed before it is seen closed. Its bytes and those that the reader took and knows of are beginnings of one stream, and those of a mark that tells of the end are all bytes that were ever published.
     pub fn heed(&mut self, mark: &WriteMark)
         requires { mark.now.names ≡ self.old.end.ring.1.1 }
         ensures told { self.new.end.told ≡ max self.old.end.told (length mark.now.bytes) }
         ensures shut { self.new.end.told_shut ≡ either self.old.end.told_shut mark.now.shut }
+        ensures agree { Agree (self.new.end.taken ++ self.new.end.known) mark.now.bytes }
+        ensures last { mark.now.shut ≡ true → self.new.end.all ≡ mark.now.bytes }
+        ensures all { KnowsEnd self.old.end → self.new.end.all ≡ self.old.end.all }
         ensures end { ReaderHeeded self.old.end self.new.end }
         ensures rest { SameReader self.old self.new }
     {
         self.end.heed(mark);
     }
 
-    /// Both handles in one hand: then the reader knows of all that was published, and the writer of all the free room, and where either saw the pipe closed the writer closed it. It takes no lock and no memory.
+    /// Both handles in one hand: then the reader knows of all that was published, and the writer of all the free room, and where either saw the pipe closed the writer closed it: what the reader took for all bytes is what the writer published. It takes no lock and no memory.
     pub fn meet(&mut self, other: &mut Writer<H>)
         requires { other.old.end.ring ≡ self.old.end.ring }
         ensures fifo { self.new.end.taken ++ self.new.end.known ≡ other.new.end.sent }
@@ -121,6 +125,7 @@ impl<H: Wait + Clone + Drop> Reader<H> {
         ensures more_room { other.old.end.room ≤ other.new.end.room }
         ensures reader_saw { self.new.end.saw ≡ true → other.new.end.shut ≡ true }
         ensures writer_saw { other.new.end.saw ≡ true → other.new.end.shut ≡ true }
+        ensures all { KnowsEnd self.new.end → self.new.end.all ≡ other.new.end.sent }
         ensures reader { ReaderRefreshed self.old.end self.new.end }
         ensures writer { WriterRefreshed other.old.end other.new.end }
         ensures rest { SameReader self.old self.new × SameWriter other.old other.new }

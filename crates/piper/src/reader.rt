@@ -126,6 +126,7 @@ impl<H: Wait + Clone + Drop> Reader<H> {
         requires { amt ≤ in_one_piece self.old.end }
         ensures taken { self.new.end.taken ≡ self.old.end.taken ++ take amt self.old.end.known }
         ensures known { self.new.end.known ≡ drop amt self.old.end.known }
+        ensures all { self.new.end.all ≡ self.old.end.all }
         ensures end { ReaderConsumed self.old.end self.new.end }
         ensures rest { SameReader self.old self.new }
     {

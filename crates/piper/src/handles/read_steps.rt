@@ -104,6 +104,7 @@ impl<H: Wait + Clone + Drop> Reader<H> {
         ensures step { result ≡ read_step call.point nothing }
         ensures taken { self.new.end.taken ≡ self.old.end.taken ++ take n self.old.end.known }
         ensures known { self.new.end.known ≡ drop n self.old.end.known }
+        ensures all { self.new.end.all ≡ self.old.end.all }
         ensures end { ReaderConsumed self.old.end self.new.end }
         ensures rest { SameReader self.old self.new }
     {
