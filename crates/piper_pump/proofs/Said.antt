@@ -2,16 +2,23 @@
 use Rattle.std.proofs.Common.{◌≡◌, ◌∙◌, ◌<◌, ◌≤◌, ap, refl, sym, subst, true, ℕ, List, Option, Some, None, Result, Ok, Err, IfErr}
 use Rattle.std.specs.Prelude.{option_map, unwrap_or}
 use Rattle.std.specs.Borrow.{Bor}
-use Rattle.clap.specs.Words.{App, HasMatchesOf, Text, first_of, first_value, found_of, is_simple, one_of, one_text, rows_of}
+use Rattle.clap.specs.Words.{AddsArg, App, HasMatchesOf, Rule, app_of, with_rule, Text, first_of, first_value, found_of, is_simple, one_of, one_text, rows_of}
+use Rattle.clap.specs.declared.builder.arg.Arg.{Arg}
+use Rattle.clap.specs.declared.builder.command.Command.{Command}
 use Rattle.clap.specs.declared.parser.matches.ArgMatches.{ArgMatches}
 use Rattle.clap.proofs.WalkLemmas.{first_value-rows, one_text-rows}
 use Rattle.piper_transfer.specs.Size.{WritesSize, greatest}
 use Rattle.piper_transfer.specs.declared.size.NotASize.{NotASize}
-use Rattle.piper_pump.specs.Arguments.{IsSize, pump_command, said_by, size_text, text_or}
+use Rattle.piper_pump.specs.Arguments.{AddsRule, IsSize, pump_command, said_by, size_text, text_or}
 
 -- its rules ask for nothing but what `clap` gives as a function of the words
 command_is_simple : is_simple pump_command ≡ true
 command_is_simple = refl
+
+-- a command that was taken by some rules, and to which an argument is added
+pub added : (rule : Rule) (old new : Command) (arg : Arg) (a : App) → AddsRule rule arg → AddsArg old arg new
+    → app_of old ≡ a → app_of new ≡ with_rule a rule
+added rule old new arg a adds is old_is = adds old new is ∙ ap (λ (b : App). with_rule b rule) old_is
 
 pub found_said : (a : App) (words : List Text) (m : ArgMatches) → a ≡ pump_command → HasMatchesOf a words m
     → rows_of (found_of m) ≡ said_by words

@@ -1,18 +1,19 @@
 -- What the words on the command line ask for. `clap` says what each argument then has.
-use Rattle.std.specs.Prelude.{◌≡◌, ◌<◌, ◌≤◌, ℕ, true, false, List, Some, codes, unwrap_or}
+use Rattle.std.specs.Prelude.{◌≡◌, ◌<◌, ◌≤◌, ℕ, true, false, List, [], ◌∷◌, Some, codes, unwrap_or}
 use Rattle.clap.specs.Words.{AddsArg, App, Row, Rule, Text, app_of, first_of, one_of, matches_of, takes}
-use Rattle.clap.specs.Words.{first_value, found_of, new_app, new_rule, with_rule}
-use Rattle.clap.specs.declared.builder.action.ArgAction.TheVariants.{Set, SetTrue}
+use Rattle.clap.specs.Simple.{on_top, with_rule}
+use Rattle.clap.specs.Words.{first_value, found_of, new_app, new_rule}
+use Rattle.clap.specs.declared.builder.action.ArgAction.TheVariants.{Append, Set, SetTrue}
 use Rattle.clap.specs.declared.builder.arg.Arg.{Arg}
 use Rattle.clap.specs.declared.builder.command.Command.{Command}
 use Rattle.clap.specs.declared.parser.matches.ArgMatches.{ArgMatches}
 use Rattle.piper_transfer.specs.Size.{WritesSize, greatest}
 use Rattle.piper_pump.specs.declared.arguments.Arguments.{Arguments}
 
--- the flag `--progress`
-abbrev pub progress_rule : Rule
-progress_rule = record (new_rule (codes "progress")) {
-  long = Some (codes "progress");
+-- a flag of this name, as `--progress`
+abbrev pub flag_rule : Text → Rule
+flag_rule name = record (new_rule name) {
+  long = Some name;
   action = Some SetTrue;
 }
 
@@ -24,18 +25,43 @@ size_rule name = record (new_rule name) {
   value_names = 1;
 }
 
+-- an option of this name and this letter, with a file behind it, as `-i FILE`
+abbrev pub file_rule : Text → ℕ → Rule
+file_rule name letter = record (new_rule name) {
+  long = Some name;
+  short = Some letter;
+  action = Some Set;
+  value_names = 1;
+}
+
+-- the option `--tee`, which may be given more than once
+abbrev pub tee_rule : Rule
+tee_rule = record (new_rule (codes "tee")) {
+  long = Some (codes "tee");
+  action = Some Append;
+  value_names = 1;
+}
+
 -- a command that this argument is added to takes it by this rule, beside what it took
 abbrev pub AddsRule : Rule → Arg → Type 0
 AddsRule rule arg =
     (old new : Command) → AddsArg old arg new → app_of new ≡ with_rule (app_of old) rule
 
+-- a command that has a version
+abbrev pub versioned : App → App
+versioned = on_top (λ s. record s { has_version = true })
+
 -- the arguments that the program takes
+abbrev pub pump_rules : List Rule
+pump_rules =
+    flag_rule (codes "progress") ∷ flag_rule (codes "quiet") ∷ flag_rule (codes "sha256")
+    ∷ size_rule (codes "capacity") ∷ size_rule (codes "chunk")
+    ∷ size_rule (codes "rate") ∷ size_rule (codes "size") ∷ size_rule (codes "start-at")
+    ∷ file_rule (codes "input") 105 ∷ file_rule (codes "output") 111
+    ∷ tee_rule ∷ []
+
 abbrev pub pump_command : App
-pump_command =
-    with_rule
-    (with_rule (with_rule (new_app (codes "piper_pump")) progress_rule)
-    (size_rule (codes "capacity")))
-    (size_rule (codes "chunk"))
+pump_command = on_top (λ s. record s { rules = pump_rules }) (versioned (new_app (codes "piper_pump")))
 
 -- what the words, of which the first is the program's name, say of each argument
 abbrev pub said_by : List Text → List Row
@@ -71,6 +97,14 @@ pub record AskFor (words : List Text) (arguments : Arguments) : Type 0 where
       → arguments.shows_progress ≡ true
   pub silence : one_of (codes "progress") (said_by words) ≡ Some (codes "false")
       → arguments.shows_progress ≡ false
+  pub quiet : one_of (codes "quiet") (said_by words) ≡ Some (codes "true")
+      → arguments.is_quiet ≡ true
+  pub loud : one_of (codes "quiet") (said_by words) ≡ Some (codes "false")
+      → arguments.is_quiet ≡ false
+  pub sum : one_of (codes "sha256") (said_by words) ≡ Some (codes "true")
+      → arguments.shows_sum ≡ true
+  pub no_sum : one_of (codes "sha256") (said_by words) ≡ Some (codes "false")
+      → arguments.shows_sum ≡ false
 
 -- these words ask for something: `clap` takes them, and what stands for a size writes one
 pub record AreTaken (words : List Text) : Type 0 where

@@ -4,6 +4,7 @@ use Rattle.std.specs.IoError.{error_kind}
 use Rattle.std.specs.declared.io.ErrorKind.TheVariants.{BrokenPipe}
 use Rattle.clap.specs.Words.{kind_of}
 use Rattle.clap.specs.declared.error.kind.ErrorKind.TheVariants.{DisplayHelp, DisplayVersion}
+use Rattle.clap.specs.declared.error.Error.{Error}
 use Rattle.piper_transfer.specs.declared.error.TransferError.{TransferError}
 use Rattle.piper_transfer.specs.declared.error.TransferError.TheVariants.{Read, Write, Full, Memory, Turns}
 use Rattle.piper_pump.specs.declared.ended.Ended.{Ended}
@@ -28,14 +29,20 @@ IsOfWords ended.NotText = ⊤
 IsOfWords ended.Memory = ⊤
 IsOfWords other = ⊥
 
--- the exit status that tells it: of words on the
--- command line 0 where they ask for the help, and else 2
+-- the words on the command line ask for the help or the version
+abbrev pub IsShown : Error → Type 0
+IsShown error = (kind_of error ≡ DisplayHelp) ⊎ (kind_of error ≡ DisplayVersion)
+
+-- the exit status that tells it: of words on the command line 0
+-- where they ask for the help or the version, or 4 where that could not be printed; and else 2
 abbrev pub HasStatus : Ended → ℕ → Type 0
 HasStatus ended.Moved n = n ≡ 0
 HasStatus (ended.Words error) n =
-    ((kind_of error ≡ DisplayHelp) ⊎ (kind_of error ≡ DisplayVersion) → n ≡ 0)
-    × (kind_of error ≢ DisplayHelp → kind_of error ≢ DisplayVersion → n ≡ 2)
+    (IsShown error → (n ≡ 0) ⊎ (n ≡ 4)) × (¬ IsShown error → n ≡ 2)
 HasStatus ended.NotText n = n ≡ 2
+HasStatus (ended.Value option) n = n ≡ 2
+HasStatus (ended.NoInput file) n = n ≡ 3
+HasStatus (ended.NoOutput file) n = n ≡ 4
 HasStatus (ended.Input failed) n = n ≡ 3
 HasStatus (ended.Output failed) n = n ≡ 4
 HasStatus ended.Closed n = n ≡ 5

@@ -1,6 +1,7 @@
 -- What a line of progress says.
 use Rattle.std.specs.Prelude.{ℕ, ◌*◌, ◌/◌, ◌%◌, List, ◌++◌, codes, decimal, nat_le, if◌then◌else◌}
 use Rattle.std.specs.Duration.{as_nanos}
+use Rattle.piper_pump.specs.declared.progress.Done.{Done}
 use Rattle.piper_pump.specs.declared.progress.Line.{Line}
 
 -- how many of this unit n is, in decimal digits with the tenths behind a point: `205.0`
@@ -19,11 +20,16 @@ amount_text n =
 abbrev pub seconds_text : ℕ → List ℕ
 seconds_text nanoseconds = in_tenths 1_000_000_000 nanoseconds ++ codes " s"
 
--- how much was moved, how fast, how full the pipe is, and how long each side waited
+-- how much was moved, how fast, how full the pipe is, and how long it was full and empty
 abbrev pub line_text : Line → List ℕ
 line_text line =
     amount_text line.bytes ++ codes ", "
     ++ amount_text line.rate ++ codes "/s, "
-    ++ decimal line.percent ++ codes "% full, waited: input "
-    ++ seconds_text (as_nanos line.input_waited) ++ codes ", output "
-    ++ seconds_text (as_nanos line.output_waited)
+    ++ decimal line.percent ++ codes "% full; full for "
+    ++ seconds_text (as_nanos line.full) ++ codes ", empty for "
+    ++ seconds_text (as_nanos line.empty)
+
+-- how much of all that comes has passed, and how long the rest takes
+abbrev pub done_text : Done → List ℕ
+done_text done =
+    decimal done.percent ++ codes "% done, " ++ seconds_text (as_nanos done.left) ++ codes " left"

@@ -1,7 +1,7 @@
 //! Lines on standard error that tell how far a transfer is.
 ghost use Rattle.std.specs.Prelude.{◌≡◌, ◌-◌, ◌*◌, ◌/◌, ◌^◌, min, max, Some};
 ghost use Rattle.std.specs.Duration.{as_nanos};
-ghost use Rattle.piper_pump.specs.Progress.{amount_text, line_text, seconds_text};
+ghost use Rattle.piper_pump.specs.Progress.{amount_text, done_text, line_text, seconds_text};
 
 use piper_transfer::Meter;
 use std::fmt;
@@ -43,39 +43,75 @@ impl Over {
     }
 }
 
+/// What is told of a transfer, and how.
+#[derive(Clone, Copy)]
+pub struct Watched {
+    /// How many bytes the pipe can hold.
+    pub capacity: usize,
+    /// How many bytes come, if that is known.
+    pub total: Option<u64>,
+    /// Whether each line takes the place of the one before, as on a terminal.
+    pub redraws: bool,
+}
+
 /// Prints a line four times a second until the transfer is over, and then one of the whole.
-pub fn watch(rt: &(impl Wait + Clock + Eprint), meter: &Meter, capacity: usize, over: &Over) {
+pub fn watch<R>(rt: &R, meter: &Meter, watched: Watched, over: &Over)
+where
+    R: Wait + Clock + Eprint,
+{
     let start = Instant::now(rt).ok();
     let pause = Duration::from_millis(PAUSE);
     let mut last = 0;
     for _ in rt.forever() {
         let is_over = over.wait(rt, pause);
         let bytes = meter.output.bytes();
-        let spent = match start {
-            Some(start) if is_over => start.elapsed(rt).unwrap_or(pause),
-            _ => pause,
+        let (moved, spent) = match start {
+            Some(start) if is_over => (bytes, start.elapsed(rt).unwrap_or(pause)),
+            _ => (bytes.saturating_sub(last), pause),
         };
+        let rate = rate(moved, spent);
         let line = Line {
             bytes,
-            rate: rate(
-                if is_over {
-                    bytes
-                } else {
-                    bytes.saturating_sub(last)
-                },
-                spent,
-            ),
-            percent: percent(meter.input.bytes().saturating_sub(bytes), capacity),
-            input_waited: meter.input.waited(),
-            output_waited: meter.output.waited(),
+            rate,
+            percent: percent(meter.input.bytes().saturating_sub(bytes), watched.capacity),
+            full: meter.input.waited(rt),
+            empty: meter.output.waited(rt),
         };
-        // Where standard error is closed, the bytes still go on.
-        let _ = eprintln!(rt; "{line}");
+        print(
+            rt,
+            &line,
+            done_of(bytes, rate, watched.total),
+            watched.redraws,
+            is_over,
+        );
         if is_over {
             return;
         }
         last = bytes;
     }
+}
+
+// Prints a line, or draws it over the one before. Where standard error is closed, the bytes still go on.
+fn print(rt: &impl Eprint, line: &Line, done: Option<Done>, redraws: bool, is_last: bool) {
+    let (before, behind) = match (redraws, is_last) {
+        (false, _) => ("", "\n"),
+        (true, false) => ("\r", "\u{1b}[K"),
+        (true, true) => ("\r", "\u{1b}[K\n"),
+    };
+    let _ = match done {
+        None => eprint!(rt; "{before}{line}{behind}"),
+        Some(done) => eprint!(rt; "{before}{line}; {done}{behind}"),
+    };
+}
+
+// How much of all that comes has passed, and how long the rest takes at this rate.
+fn done_of(bytes: u64, rate: u64, total: Option<u64>) -> Option<Done> {
+    let total = total?;
+    let left = total.saturating_sub(bytes) / rate.max(1);
+    Some(Done {
+        percent: percent(bytes, total as usize),
+        left: Duration::from_secs(left),
+    })
 }
 
 // Bytes a second.
@@ -100,8 +136,9 @@ struct Line {
     bytes: u64,
     rate: u64,
     percent: u64,
-    input_waited: Duration,
-    output_waited: Duration,
+    /// How long the input had to wait since the pipe was full, and the output since it was empty.
+    full: Duration,
+    empty: Duration,
 }
 
 impl Display for Line {
@@ -110,13 +147,28 @@ impl Display for Line {
     fn fmt<W: fmt::Write>(&self, f: &mut Formatter<W>) -> fmt::Result {
         write!(
             f,
-            "{}, {}/s, {}% full, waited: input {}, output {}",
+            "{}, {}/s, {}% full; full for {}, empty for {}",
             Amount(self.bytes),
             Amount(self.rate),
             self.percent,
-            Seconds(self.input_waited),
-            Seconds(self.output_waited)
+            Seconds(self.full),
+            Seconds(self.empty)
         )
+    }
+}
+
+/// How much of all that comes has passed, in percent, and how long the rest takes.
+#[derive(Clone, Copy)]
+struct Done {
+    percent: u64,
+    left: Duration,
+}
+
+impl Display for Done {
+    ghost output = { λ done. Some (done_text done) };
+
+    fn fmt<W: fmt::Write>(&self, f: &mut Formatter<W>) -> fmt::Result {
+        write!(f, "{}% done, {} left", self.percent, Seconds(self.left))
     }
 }
 

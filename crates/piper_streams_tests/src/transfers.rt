@@ -2,3 +2,4 @@
 mod faults;
 mod faulty;
 mod sizes;
+mod waits;

@@ -1,15 +1,19 @@
 //! A transfer: both sides, each on a thread.
-ghost use Rattle.std.specs.Prelude.{◌≡◌, ◌<◌, ◌*◌, ◌^◌, [], IfOk, IfErr, OnOk};
+ghost use Rattle.std.specs.Prelude.{◌≡◌, ◌<◌, ◌≤◌, ◌*◌, ◌^◌, [], IfOk, IfErr, OnOk, IfSome, IfNone};
 ghost use Rattle.std.specs.Io.KnownBytes.{IsAtEnd};
+ghost use Rattle.piper.specs.Drains.{StaysKnown};
 ghost use Rattle.piper.specs.Opened.{FreshReadEnd, FreshWriteEnd};
 ghost use Rattle.piper_transfer.specs.Transfer.{Fed, IsOfInput, IsOpen, Poured, PouredAll, Transfers};
 
-use crate::draining::{drain, drain_known};
+use crate::draining::{drain_from, drain_known};
 use crate::error::TransferError;
-use crate::filling::fill;
+use crate::filling::fill_from;
 use crate::meter::Meter;
+use crate::one_thread::take_turns;
+use crate::patience::flush_patiently;
+use crate::start::Start;
 use crate::turns::{Input, Output, Turns};
-use piper::pipe;
+use piper::{Reader, pipe};
 use std::alloc::AllocGlobal;
 use std::io::{Read, Write};
 use std::marker::Send;
@@ -25,12 +29,15 @@ pub struct Sizes {
     pub capacity: usize,
     /// How many bytes one read or write is asked for at most.
     pub chunk: usize,
-    ghost fits: { (0 < capacity) × (2 * capacity < 2 ^ 64) × (0 < chunk) },
+    /// How many bytes are to stand in the pipe before the first is written, and again once it ran dry; at most what it can hold.
+    pub level: usize,
+    ghost fits: { (0 < capacity) × (2 * capacity < 2 ^ 64) × (0 < chunk)
+        × (level ≤ capacity) },
 }
 
 /// Moves all bytes from the reader to the writer, through a pipe: one thread reads while the other writes.
 ///
-/// It ends at the input's end, once all of it is written, or at the first failure of either side. A read that fails ends it once all that came before is written. Where a write fails or takes nothing, what is still in the pipe is let go, and the input is read no further once a read that is under way has ended. An interrupted read or write is tried again. `meter` is kept up to date meanwhile.
+/// It ends at the input's end, once all of it is written, or at the first failure of either side. A read that fails ends it once all that came before is written. Where a write fails or takes nothing, what is still in the pipe is let go, and the input is read no further once a read that is under way has ended. A read or a write that is interrupted is made again, and one that would block is made again after a sleep of at most 10 milliseconds. Where a second thread is refused, both sides take turns on this one, and each read is written at once. `meter` is kept up to date meanwhile.
 pub fn transfer<R, S, D>(
     rt: &R,
     source: &mut S,
@@ -45,9 +52,9 @@ where
     ensures { Transfers result (S.remaining source.old) (S.remaining source.new)
         (D.contents dest.old) (D.contents dest.new) }
 {
-    let (mut input, mut output) = open(rt, sizes.capacity)?;
-    let chunk = sizes.chunk;
-    let (filled, drained) = on_two_threads(rt, source, &mut input, &mut output, dest, chunk, meter);
+    let (mut input, mut output) = open(rt, sizes.capacity, sizes.level)?;
+    let chunk = sizes.chunk.min(sizes.capacity);
+    let (filled, drained) = run_sides(rt, source, &mut input, &mut output, dest, chunk, meter);
     let Input {
         turns: _,
         mut writer,
@@ -55,11 +62,12 @@ where
     let Output {
         turns: _,
         mut reader,
+        level: _,
     } = output;
     // Now that both handles are in one hand, the reader knows of all that was published.
     reader.meet(&mut writer);
     let ended = match drained {
-        Ok(()) => drain_known(rt, &mut reader, dest, chunk, meter).and(filled),
+        Ok(()) => finish(rt, &mut reader, dest, chunk, meter).and(filled),
         Err(error) => Err(error),
     };
     reader.drop();
@@ -68,7 +76,7 @@ where
 }
 
 // A pipe, and turns for each of its ends.
-fn open<R>(rt: &R, capacity: usize) -> Result<(Input<R>, Output<R>), TransferError>
+fn open<R>(rt: &R, capacity: usize, level: usize) -> Result<(Input<R>, Output<R>), TransferError>
 where
     R: Wait + RandomSource + AllocGlobal + Clone + Drop,
     requires { (0 < capacity) × (2 * capacity < 2 ^ 64) }
@@ -88,12 +96,34 @@ where
     let output = Output {
         turns: output_turns,
         reader,
+        level,
     };
     Ok((input, output))
 }
 
-// Runs both sides to their end.
-fn on_two_threads<R, S, D>(
+// Writes what is left in the pipe, and flushes the output.
+fn finish<R, D>(
+    rt: &R,
+    reader: &mut Reader<R>,
+    dest: &mut D,
+    chunk: usize,
+    meter: &Meter,
+) -> Result<(), TransferError>
+where
+    R: Wait + Clock + Clone + Drop,
+    D: Write,
+    ensures poured { PouredAll (D.contents dest.old) (D.contents dest.new)
+        reader.old.end reader.new.end }
+    ensures known { StaysKnown reader.old.end reader.new.end }
+    ensures all { OnOk result (reader.new.end.known ≡ []) }
+    ensures kind { IfErr result (λ e. ¬ IsOfInput e) }
+{
+    drain_known(rt, reader, dest, chunk, meter)?;
+    flush_patiently(rt, dest).map_err(TransferError::Write)
+}
+
+// Runs both sides to their end: on a thread each, or in turn where a second one is refused.
+fn run_sides<R, S, D>(
     rt: &R,
     source: &mut S,
     input: &mut Input<R>,
@@ -108,6 +138,8 @@ where
     D: Write,
     requires chunk { 0 < chunk }
     requires is_open { IsOpen input.old.writer.end }
+    requires pair { input.old.writer.end.ring ≡ output.old.reader.end.ring }
+    requires some { 0 < output.old.reader.end.capacity }
     ensures fed { Fed (S.remaining source.old) (S.remaining source.new)
         input.old.writer.end input.new.writer.end }
     ensures input_ended { OnOk result.0 (IsAtEnd (S.remaining source.new)) }
@@ -117,9 +149,53 @@ where
         output.old.reader.end output.new.reader.end) }
     ensures kind { IfErr result.1 (λ e. ¬ IsOfInput e) }
 {
+    match on_two_threads(rt, source, input, output, dest, chunk, meter) {
+        (Some(filled), Some(drained)) => (filled, drained),
+        (Some(filled), None) => (filled, Ok(())),
+        (None, Some(drained)) => (Err(TransferError::Full), drained),
+        (None, None) => {
+            let (writer, reader) = (&mut input.writer, &mut output.reader);
+            take_turns(rt, source, writer, reader, dest, chunk, meter)
+        }
+    }
+}
+
+// Runs both sides to their end, if the second thread begins. A side that was given up answers `None`.
+fn on_two_threads<R, S, D>(
+    rt: &R,
+    source: &mut S,
+    input: &mut Input<R>,
+    output: &mut Output<R>,
+    dest: &mut D,
+    chunk: usize,
+    meter: &Meter,
+) -> (
+    Option<Result<(), TransferError>>,
+    Option<Result<(), TransferError>>,
+)
+where
+    R: Wait + Threads + Clock + Clone + Drop + Send + Sync,
+    S: Read + Send,
+    D: Write,
+    requires chunk { 0 < chunk }
+    requires is_open { IsOpen input.old.writer.end }
+    ensures fed { Fed (S.remaining source.old) (S.remaining source.new)
+        input.old.writer.end input.new.writer.end }
+    ensures input_ended { IfSome result.0 (λ r. OnOk r (IsAtEnd (S.remaining source.new))) }
+    ensures fill_given_up { IfNone result.0 (IsOpen input.new.writer.end) }
+    ensures poured { Poured (D.contents dest.old) (D.contents dest.new)
+        output.old.reader.end output.new.reader.end }
+    ensures all { IfSome result.1 (λ r. OnOk r (PouredAll (D.contents dest.old)
+        (D.contents dest.new) output.old.reader.end output.new.reader.end)) }
+    ensures kind { IfSome result.1 (λ r. IfErr r (λ e. ¬ IsOfInput e)) }
+    ensures drain_given_up { IfNone result.1
+        ((output.new ≡ output.old) × (dest.new ≡ dest.old)) }
+{
+    let start = Start::new();
+    let begun = &start;
     join_mut(
         rt,
-        &mut || fill(rt, input, source, chunk, meter),
-        &mut || drain(rt, output, dest, chunk, meter),
+        &mut || fill_from(rt, begun, input, source, chunk, meter),
+        &mut || drain_from(rt, begun, output, dest, chunk, meter),
     )
 }

@@ -1,5 +1,5 @@
 //! The side that writes the pipe's bytes to the output.
-ghost use Rattle.std.specs.Prelude.{◌≡◌, ◌++◌, ℕ, List, [], OnOk, IfErr};
+ghost use Rattle.std.specs.Prelude.{◌≡◌, ◌++◌, ℕ, List, [], OnOk, IfErr, IfSome, IfNone};
 ghost use Rattle.futures.specs.Task.{IsArmed};
 ghost use Rattle.futures.specs.Poll.{IfReady, OnPending};
 ghost use Rattle.piper.specs.Drains.{StaysKnown};
@@ -7,18 +7,50 @@ ghost use Rattle.piper_transfer.specs.Transfer.{IsOfInput, Poured, PouredAll};
 
 use crate::error::TransferError;
 use crate::meter::Meter;
+use crate::patience::write_patiently;
+use crate::start::Start;
 use crate::turns::{Output, Turns};
 use futures::task::{Context, Poll};
 use piper::Reader;
-use std::io;
-use std::io::{ErrorKind, Write};
+use std::io::Write;
 use std::sync::Wait;
-use std::time::{Clock, Instant};
+use std::time::{Clock, Duration};
+use std::{io, thread};
 
-/// Writes the pipe's bytes to the output, at most `chunk` at a time, up to the pipe's end.
-///
-/// Where that fails, the other side is told to end: bytes that it publishes until then stay in the pipe or are let go.
-pub(crate) fn drain<R, D, H>(
+/// How many milliseconds it is from one look at how full the pipe is to the next.
+const LEVEL_PAUSE: u64 = 2;
+
+/// Empties the pipe as `drain` does, once the other side has begun. Where that one has not, it is given up; then the answer is `None` and nothing was done.
+pub(crate) fn drain_from<R, D, H>(
+    rt: &R,
+    start: &Start,
+    output: &mut Output<H>,
+    dest: &mut D,
+    chunk: usize,
+    meter: &Meter,
+) -> Option<Result<(), TransferError>>
+where
+    R: Wait + Clock,
+    D: Write,
+    H: Wait + Clone + Drop,
+    ensures poured { Poured (D.contents dest.old) (D.contents dest.new)
+        output.old.reader.end output.new.reader.end }
+    ensures all { IfSome result (λ r. OnOk r (PouredAll (D.contents dest.old) (D.contents dest.new)
+        output.old.reader.end output.new.reader.end)) }
+    ensures kind { IfSome result (λ r. IfErr r (λ e. ¬ IsOfInput e)) }
+    ensures given_up { IfNone result
+        ((output.new ≡ output.old) × (dest.new ≡ dest.old)) }
+{
+    if !start.wait(rt) {
+        return None;
+    }
+    Some(drain(rt, output, dest, chunk, meter))
+}
+
+// Writes the pipe's bytes to the output, at most `chunk` at a time, up to the pipe's end.
+//
+// Where that fails, the other side is told to end: bytes that it publishes until then stay in the pipe or are let go.
+fn drain<R, D, H>(
     rt: &R,
     output: &mut Output<H>,
     dest: &mut D,
@@ -35,7 +67,15 @@ where
         output.old.reader.end output.new.reader.end) }
     ensures kind { IfErr result (λ e. ¬ IsOfInput e) }
 {
-    let ended = drain_in_turns(rt, &output.turns, &mut output.reader, dest, chunk, meter);
+    let ended = drain_in_turns(
+        rt,
+        &output.turns,
+        output.level,
+        &mut output.reader,
+        dest,
+        chunk,
+        meter,
+    );
     if ended.is_err() {
         give_up(&mut output.reader, meter);
     }
@@ -55,6 +95,7 @@ fn give_up<H: Wait + Clone + Drop>(reader: &mut Reader<H>, meter: &Meter)
 fn drain_in_turns<R, D, H>(
     rt: &R,
     turns: &Turns,
+    level: usize,
     reader: &mut Reader<H>,
     dest: &mut D,
     chunk: usize,
@@ -69,16 +110,32 @@ where
     ensures kind { IfErr result (λ e. ¬ IsOfInput e) }
 {
     for _ in rt.forever() {
-        let since = Instant::now(rt).ok();
+        meter.output.begin_wait(rt);
         let Some(mut cx) = turns.next(rt) else {
             return Err(TransferError::Memory);
         };
-        meter.output.add_wait(rt, since);
+        await_level(rt, reader, level);
+        meter.output.end_wait(rt);
         let turn = drain_turn(rt, &mut cx, reader, dest, chunk, meter);
         cx.end(&turn);
         if let Poll::Ready(ended) = turn {
             return ended;
         }
+    }
+    unreachable!()
+}
+
+// Waits until the pipe holds so many bytes, or is closed.
+fn await_level<R, H>(rt: &R, reader: &Reader<H>, level: usize)
+where
+    R: Wait + Clock,
+    H: Wait + Clone + Drop,
+{
+    for _ in rt.forever() {
+        if level <= reader.len() || reader.is_closed() {
+            return;
+        }
+        thread::sleep(rt, Duration::from_millis(LEVEL_PAUSE));
     }
     unreachable!()
 }
@@ -93,7 +150,7 @@ fn drain_turn<R, D, H>(
     meter: &Meter,
 ) -> Poll<Result<(), TransferError>>
 where
-    R: Wait,
+    R: Wait + Clock,
     D: Write,
     H: Wait + Clone + Drop,
     ensures poured { PouredAll (D.contents dest.old) (D.contents dest.new)
@@ -108,14 +165,14 @@ where
             Poll::Ready(Ok(false)) => return Poll::Ready(Ok(())),
             Poll::Ready(Err(_)) => return Poll::Ready(Err(TransferError::Memory)),
         }
-        if let Err(error) = write_some(reader, dest, chunk, meter) {
+        if let Err(error) = write_some(rt, reader, dest, chunk, meter) {
             return Poll::Ready(Err(error));
         }
     }
     unreachable!()
 }
 
-/// Writes the bytes that the reader knows of to the output, and flushes it.
+/// Writes the bytes that the reader knows of to the output.
 pub(crate) fn drain_known<R, D, H>(
     rt: &R,
     reader: &mut Reader<H>,
@@ -124,61 +181,71 @@ pub(crate) fn drain_known<R, D, H>(
     meter: &Meter,
 ) -> Result<(), TransferError>
 where
-    R: Wait,
+    R: Wait + Clock,
     D: Write,
     H: Wait + Clone + Drop,
     ensures poured { PouredAll (D.contents dest.old) (D.contents dest.new)
         reader.old.end reader.new.end }
     ensures known { StaysKnown reader.old.end reader.new.end }
+    ensures capacity { reader.new.end.capacity ≡ reader.old.end.capacity }
     ensures all { OnOk result (reader.new.end.known ≡ []) }
     ensures kind { IfErr result (λ e. ¬ IsOfInput e) }
 {
     for _ in rt.forever() {
         if reader.peek_buf().is_empty() {
-            return dest.flush().map_err(TransferError::Write);
+            return Ok(());
         }
-        write_some(reader, dest, chunk, meter)?;
+        write_some(rt, reader, dest, chunk, meter)?;
     }
     unreachable!()
 }
 
-// Takes as many bytes out of the pipe as one write takes. Where it was interrupted, it took none.
-fn write_some<D, H>(
+// Takes as many bytes out of the pipe as one write takes.
+fn write_some<R, D, H>(
+    rt: &R,
     reader: &mut Reader<H>,
     dest: &mut D,
     chunk: usize,
     meter: &Meter,
 ) -> Result<(), TransferError>
 where
+    R: Wait + Clock,
     D: Write,
     H: Wait + Clone + Drop,
     ensures poured { PouredAll (D.contents dest.old) (D.contents dest.new)
         reader.old.end reader.new.end }
     ensures known { StaysKnown reader.old.end reader.new.end }
+    ensures capacity { reader.new.end.capacity ≡ reader.old.end.capacity }
     ensures kind { IfErr result (λ e. ¬ IsOfInput e) }
 {
-    match write_chunk(reader, dest, chunk) {
+    match write_chunk(rt, reader, dest, chunk) {
         Ok(0) => Err(TransferError::Full),
         Ok(count) => {
             meter.output.add_bytes(count);
             Ok(())
         }
-        Err(error) if error.kind() == ErrorKind::Interrupted => Ok(()),
         Err(error) => Err(TransferError::Write(error)),
     }
 }
 
 // Takes as many bytes out of the pipe as one write takes, and answers how many.
-fn write_chunk<D, H>(reader: &mut Reader<H>, dest: &mut D, chunk: usize) -> io::Result<usize>
+fn write_chunk<R, D, H>(
+    rt: &R,
+    reader: &mut Reader<H>,
+    dest: &mut D,
+    chunk: usize,
+) -> io::Result<usize>
 where
+    R: Wait + Clock,
     D: Write,
     H: Wait + Clone + Drop,
     ensures poured { PouredAll (D.contents dest.old) (D.contents dest.new)
         reader.old.end reader.new.end }
     ensures known { StaysKnown reader.old.end reader.new.end }
+    ensures capacity { reader.new.end.capacity ≡ reader.old.end.capacity }
 {
     let piece = reader.peek_buf();
-    let count = dest.write(&piece[..piece.len().min(chunk)])?;
+    let count = write_patiently(rt, dest, &piece[..piece.len().min(chunk)])?;
     reader.consume(count);
     Ok(count)
 }

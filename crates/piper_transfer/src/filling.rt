@@ -1,5 +1,5 @@
 //! The side that reads the input into the pipe.
-ghost use Rattle.std.specs.Prelude.{◌≡◌, ◌<◌, Ok, OnOk};
+ghost use Rattle.std.specs.Prelude.{◌≡◌, ◌<◌, Ok, OnOk, IfSome, IfNone};
 ghost use Rattle.std.specs.Io.KnownBytes.{IsAtEnd};
 ghost use Rattle.futures.specs.Task.{IsArmed};
 ghost use Rattle.futures.specs.Poll.{IfReady, OnPending};
@@ -7,16 +7,45 @@ ghost use Rattle.piper_transfer.specs.Transfer.{Fed, IsOpen};
 
 use crate::error::TransferError;
 use crate::meter::Meter;
+use crate::patience::read_patiently;
+use crate::piece::Piece;
+use crate::start::Start;
 use crate::turns::{Input, Turns};
 use futures::task::{Context, Poll};
 use piper::Writer;
 use std::io;
-use std::io::{ErrorKind, Read};
+use std::io::Read;
 use std::sync::Wait;
-use std::time::{Clock, Instant};
+use std::time::Clock;
 
-/// Reads the input into the pipe, at most `chunk` bytes at a time, up to its end, and closes the pipe.
-pub(crate) fn fill<R, S, H>(
+/// Fills the pipe as `fill` does, once it has told the other side that it begins. Where that one has given it up, it answers `None` and has done nothing.
+pub(crate) fn fill_from<R, S, H>(
+    rt: &R,
+    start: &Start,
+    input: &mut Input<H>,
+    source: &mut S,
+    chunk: usize,
+    meter: &Meter,
+) -> Option<Result<(), TransferError>>
+where
+    R: Wait + Clock,
+    S: Read,
+    H: Wait + Clone + Drop,
+    requires chunk { 0 < chunk }
+    requires is_open { IsOpen input.old.writer.end }
+    ensures fed { Fed (S.remaining source.old) (S.remaining source.new)
+        input.old.writer.end input.new.writer.end }
+    ensures ended { IfSome result (λ r. OnOk r (IsAtEnd (S.remaining source.new))) }
+    ensures given_up { IfNone result (IsOpen input.new.writer.end) }
+{
+    if !start.begin(rt) {
+        return None;
+    }
+    Some(fill(rt, input, source, chunk, meter))
+}
+
+// Reads the input into the pipe, at most `chunk` bytes at a time, up to its end, and closes the pipe.
+fn fill<R, S, H>(
     rt: &R,
     input: &mut Input<H>,
     source: &mut S,
@@ -55,11 +84,11 @@ where
     ensures ended { OnOk result (IsAtEnd (S.remaining source.new)) }
 {
     for _ in rt.forever() {
-        let since = Instant::now(rt).ok();
+        meter.input.begin_wait(rt);
         let Some(mut cx) = turns.next(rt) else {
             return Err(TransferError::Memory);
         };
-        meter.input.add_wait(rt, since);
+        meter.input.end_wait(rt);
         let turn = fill_turn(rt, &mut cx, source, writer, chunk, meter);
         cx.end(&turn);
         if let Poll::Ready(ended) = turn {
@@ -79,7 +108,7 @@ fn fill_turn<R, S, H>(
     meter: &Meter,
 ) -> Poll<Result<(), TransferError>>
 where
-    R: Wait,
+    R: Wait + Clock,
     S: Read,
     H: Wait + Clone + Drop,
     requires chunk { 0 < chunk }
@@ -90,6 +119,7 @@ where
     ensures is_open { OnPending result (IsOpen writer.new.end) }
     ensures armed { OnPending result (IsArmed cx.new) }
 {
+    let mut piece = Piece::first(chunk);
     for _ in rt.forever() {
         if meter.is_output_over() {
             return close(cx, writer, Err(TransferError::Full));
@@ -100,22 +130,28 @@ where
             Poll::Ready(Ok(false)) => return close(cx, writer, Err(TransferError::Full)),
             Poll::Ready(Err(_)) => return close(cx, writer, Err(TransferError::Memory)),
         }
-        match read_chunk(source, writer, chunk) {
+        match read_chunk(rt, source, writer, piece.len(), meter) {
             Ok(0) => return close(cx, writer, Ok(())),
-            Ok(count) => meter.input.add_bytes(count),
-            Err(error) if error.kind() == ErrorKind::Interrupted => {}
+            Ok(count) => piece = piece.behind(count),
             Err(error) => return close(cx, writer, Err(TransferError::Read(error))),
         }
     }
     unreachable!()
 }
 
-// Publishes what one read gives, and answers how many bytes; 0 is the input's end.
-fn read_chunk<S, H>(source: &mut S, writer: &mut Writer<H>, chunk: usize) -> io::Result<usize>
+/// Publishes what one read gives, of at most so many bytes, and answers how many they are; 0 is the input's end.
+pub(crate) fn read_chunk<R, S, H>(
+    rt: &R,
+    source: &mut S,
+    writer: &mut Writer<H>,
+    most: usize,
+    meter: &Meter,
+) -> io::Result<usize>
 where
+    R: Wait + Clock,
     S: Read,
     H: Wait + Clone + Drop,
-    requires chunk { 0 < chunk }
+    requires most { 0 < most }
     requires room { 0 < writer.old.end.room }
     requires is_open { IsOpen writer.old.end }
     ensures fed { Fed (S.remaining source.old) (S.remaining source.new)
@@ -123,8 +159,9 @@ where
     ensures ended { result ≡ Ok 0 → IsAtEnd (S.remaining source.new) }
     ensures is_open { IsOpen writer.new.end }
 {
-    let count = source.read(writer.write_buf(chunk))?;
+    let count = read_patiently(rt, source, writer.write_buf(most), meter)?;
     writer.produced(count);
+    meter.input.add_bytes(count);
     Ok(count)
 }
 

@@ -6,7 +6,11 @@ mod draining;
 mod error;
 mod filling;
 mod meter;
+mod one_thread;
+mod patience;
+mod piece;
 mod size;
+mod start;
 mod turns;
 
 pub use both_sides::{Sizes, transfer};

@@ -1,15 +1,16 @@
 //! What a transfer has done so far, for a thread that watches it.
-ghost use Rattle.std.specs.Prelude.{◌≡◌};
-
-use std::rt::Clock;
 use std::sync::atomic::{AtomicBool, AtomicU64, Ordering};
-use std::time::{Duration, Instant};
+use std::sync::{Mutex, Wait};
+use std::time::{Clock, Duration, Instant};
 
 /// What a side of a transfer has done so far.
 #[derive(Drop)]
 pub struct Side {
     bytes: AtomicU64,
+    // The waits that have ended, in nanoseconds.
     waited: AtomicU64,
+    // When the wait began that is under way.
+    since: Mutex<Option<Instant>>,
 }
 
 /// What both sides of a transfer have done so far. Other threads may read it at any time.
@@ -27,6 +28,7 @@ impl Side {
         Side {
             bytes: AtomicU64::new(0),
             waited: AtomicU64::new(0),
+            since: Mutex::new(None),
         }
     }
 
@@ -35,25 +37,40 @@ impl Side {
         self.bytes.load(Ordering::SeqCst)
     }
 
-    /// How long it has waited for the other side: the waits that have ended.
-    pub fn waited(&self) -> Duration {
-        Duration::from_nanos(self.waited.load(Ordering::SeqCst))
+    /// How long it has waited for the other side, with the wait that is under way. A clock that can't be read counts none.
+    pub fn waited<R: Wait + Clock>(&self, rt: &R) -> Duration {
+        let since = *self.since.lock(rt);
+        let under_way = nanoseconds_since(rt, since);
+        let ended = self.waited.load(Ordering::SeqCst);
+        Duration::from_nanos(ended.saturating_add(under_way))
     }
 
     pub(crate) fn add_bytes(&self, count: usize) {
         self.bytes.fetch_add(count as u64, Ordering::SeqCst);
     }
 
-    // A wait that has ended began then. A clock that can't be read counts none.
-    pub(crate) fn add_wait(&self, clock: &impl Clock, since: Option<Instant>) {
-        let Some(since) = since else {
-            return;
-        };
-        if let Ok(waited) = since.elapsed(clock) {
-            let nanoseconds = waited.as_nanos().min(u64::MAX as u128) as u64;
-            self.waited.fetch_add(nanoseconds, Ordering::SeqCst);
-        }
+    /// It begins to wait.
+    pub(crate) fn begin_wait<R: Wait + Clock>(&self, rt: &R) {
+        *self.since.lock(rt) = Instant::now(rt).ok();
     }
+
+    /// Its wait has ended.
+    pub(crate) fn end_wait<R: Wait + Clock>(&self, rt: &R) {
+        let mut since = self.since.lock(rt);
+        let waited = nanoseconds_since(rt, *since);
+        *since = None;
+        self.waited.fetch_add(waited, Ordering::SeqCst);
+    }
+}
+
+fn nanoseconds_since(clock: &impl Clock, since: Option<Instant>) -> u64 {
+    let Some(since) = since else {
+        return 0;
+    };
+    let Ok(time) = since.elapsed(clock) else {
+        return 0;
+    };
+    time.as_nanos().min(u64::MAX as u128) as u64
 }
 
 impl Meter {

@@ -1,7 +1,7 @@
-//! Sizes on a command line: `4096`, `64K`, `16M`, `2G`.
+//! Sizes on a command line: `4096`, `64K`, `16m`, `2GiB`.
 ghost use Rattle.std.specs.Prelude.{◌≡◌, ℕ, ◌<◌, ◌≤◌, ◌*◌, ◌^◌, Ok, IfOk, IfSome, IfNone};
 ghost use Rattle.std.specs.Str.Parse.{IsNumeral, digits_value};
-ghost use Rattle.piper_transfer.specs.Size.{WritesSize, digits_of, unit_of, greatest};
+ghost use Rattle.piper_transfer.specs.Size.{WritesSize, bytes_of_letter, digits_of, greatest, short_of, unit_of};
 
 use thiserror::Error;
 
@@ -10,10 +10,10 @@ const GREATEST: usize = 9_223_372_036_854_775_807;
 
 /// The text is no size.
 #[derive(Clone, Copy, Debug, PartialEq, Eq, Error)]
-#[error("a size is a number of bytes from 1 to 9223372036854775807, as 4096, 64K, 16M or 2G")]
+#[error("a size is a number of bytes from 1 to 9223372036854775807, as 4096, 64K, 16m or 2GiB")]
 pub struct NotASize;
 
-/// The number of bytes that the text writes in decimal digits, behind which may stand `K` (1,024 bytes), `M` (1,024 `K`) or `G` (1,024 `M`). It is at least 1, and at most half of the greatest `usize`; nothing else is a size.
+/// The number of bytes that the text writes in decimal digits, behind which may stand `K` (1,024 bytes), `M` (1,024 `K`), `G` (1,024 `M`) or `T` (1,024 `G`), also in lower case, and `iB` behind that. It is at least 1, and at most half of the greatest `usize`; nothing else is a size.
 pub fn parse_size(text: &str) -> Result<usize, NotASize>
     ensures written { IfOk result (λ n. WritesSize text.now n) }
     ensures bounds { IfOk result (λ n. (0 < n) × (n ≤ greatest)) }
@@ -35,11 +35,36 @@ fn split(text: &[u8]) -> (&[u8], usize)
     ensures unit { result.1 ≡ unit_of text.now }
     ensures some { 0 < result.1 }
 {
+    match short(text) {
+        [digits @ .., letter] => match bytes_of(*letter) {
+            1 => (text, 1),
+            unit => (digits, unit),
+        },
+        [] => (text, 1),
+    }
+}
+
+// The text, without an `iB` behind a letter that stands for a number.
+fn short(text: &[u8]) -> &[u8]
+    ensures { result.now ≡ short_of text.now }
+{
     match text {
-        [digits @ .., b'K'] => (digits, 1_024),
-        [digits @ .., b'M'] => (digits, 1_048_576),
-        [digits @ .., b'G'] => (digits, 1_073_741_824),
-        _ => (text, 1),
+        [.., letter, b'i', b'B'] if bytes_of(*letter) != 1 => &text[..text.len() - 2],
+        _ => text,
+    }
+}
+
+// How many bytes a last letter stands for.
+fn bytes_of(letter: u8) -> usize
+    ensures bytes { result ≡ bytes_of_letter letter }
+    ensures some { 0 < result }
+{
+    match letter {
+        b'K' | b'k' => 1_024,
+        b'M' | b'm' => 1_048_576,
+        b'G' | b'g' => 1_073_741_824,
+        b'T' | b't' => 1_099_511_627_776,
+        _ => 1,
     }
 }
 

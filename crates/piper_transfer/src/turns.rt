@@ -35,4 +35,6 @@ pub(crate) struct Input<H: Wait + Clone + Drop> {
 pub(crate) struct Output<H: Wait + Clone + Drop> {
     pub(crate) turns: Turns,
     pub(crate) reader: Reader<H>,
+    /// How many bytes the pipe is to hold before one is written, and again once it ran dry.
+    pub(crate) level: usize,
 }

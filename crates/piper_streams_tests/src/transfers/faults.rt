@@ -26,6 +26,7 @@ enum Ended {
     Moved,
     InputFailed,
     OutputFailed,
+    OutputFull,
     Other,
 }
 
@@ -38,6 +39,7 @@ struct Seen {
     reads: u32,
     writes: u32,
     metered: (u64, u64),
+    is_flushed: bool,
 }
 
 fn how_it_ended(moved: Result<(), TransferError>) -> Ended {
@@ -45,6 +47,7 @@ fn how_it_ended(moved: Result<(), TransferError>) -> Ended {
         Ok(()) => Ended::Moved,
         Err(TransferError::Read(_)) => Ended::InputFailed,
         Err(TransferError::Write(_)) => Ended::OutputFailed,
+        Err(TransferError::Full) => Ended::OutputFull,
         Err(_) => Ended::Other,
     }
 }
@@ -54,12 +57,20 @@ fn transfers<R>(rt: &R, read: Fault, write: Fault) -> Seen
 where
     R: Abort + Wait + Threads + Clock + RandomSource + AllocGlobal + Clone + Drop + Send + Sync,
 {
+    transfers_to(rt, read, Output::new(write))
+}
+
+/// The same, to this output.
+fn transfers_to<R>(rt: &R, read: Fault, mut output: Output) -> Seen
+where
+    R: Abort + Wait + Threads + Clock + RandomSource + AllocGlobal + Clone + Drop + Send + Sync,
+{
     let sizes = Sizes {
         capacity: 256,
         chunk: 64,
+        level: 0,
     };
     let mut input = Input::new(TOTAL, read);
-    let mut output = Output::new(write);
     let meter = Meter::new();
     let ended = how_it_ended(transfer(rt, &mut input, &mut output, sizes, &meter));
     same(rt, output.is_right, true);
@@ -70,6 +81,7 @@ where
         reads: input.calls,
         writes: output.calls,
         metered: (meter.input.bytes(), meter.output.bytes()),
+        is_flushed: output.is_flushed,
     }
 }
 
@@ -108,12 +120,52 @@ fn a_failed_write_ends_the_transfer(rt: HostRuntime) {
 }
 
 #[test]
-fn an_interrupted_call_is_made_again(rt: HostRuntime) {
-    for call in [0, 1, 2, 7, 50] {
-        let kind = ErrorKind::Interrupted;
-        let fault = Fault { call, kind };
-        let seen = transfers(&rt, fault, fault);
-        same(&rt, (call, seen.ended), (call, Ended::Moved));
-        same(&rt, seen.taken, TOTAL as u64);
+fn a_call_that_is_interrupted_or_would_block_is_made_again(rt: HostRuntime) {
+    for kind in [ErrorKind::Interrupted, ErrorKind::WouldBlock] {
+        for call in [0, 1, 2, 7, 50] {
+            let fault = Fault { call, kind };
+            let seen = transfers(&rt, fault, fault);
+            same(&rt, (call, seen.ended), (call, Ended::Moved));
+            same(&rt, seen.taken, TOTAL as u64);
+        }
     }
+}
+
+#[test]
+fn an_output_that_takes_none_ends_the_transfer(rt: HostRuntime) {
+    for call in [0, 1, 2, 7, 50] {
+        let mut output = Output::new(NEVER);
+        output.takes_none = call;
+        let seen = transfers_to(&rt, NEVER, output);
+        same(&rt, (call, seen.ended), (call, Ended::OutputFull));
+        same(&rt, seen.writes, call + 1);
+    }
+}
+
+#[test]
+fn the_output_is_flushed_at_the_end(rt: HostRuntime) {
+    let seen = transfers(&rt, NEVER, NEVER);
+    same(&rt, (seen.ended, seen.is_flushed), (Ended::Moved, true));
+    let fault = Fault {
+        call: 7,
+        kind: ErrorKind::Other,
+    };
+    let seen = transfers(&rt, fault, NEVER);
+    same(
+        &rt,
+        (seen.ended, seen.is_flushed),
+        (Ended::InputFailed, true),
+    );
+}
+
+#[test]
+fn a_failed_flush_is_told(rt: HostRuntime) {
+    let mut output = Output::new(NEVER);
+    output.flush_fails = Some(ErrorKind::Other);
+    let seen = transfers_to(&rt, NEVER, output);
+    same(
+        &rt,
+        (seen.ended, seen.taken),
+        (Ended::OutputFailed, TOTAL as u64),
+    );
 }

@@ -39,4 +39,8 @@ returns-clause-asked c =
           (text_said words c.in_ok-matches.matches (codes "chunk") (codes "64K") said) c.in_ok-chunk.ensures.size;
       progress = λ told. c.get_flag.ensures.value (flag_said words c.in_ok-matches.matches (codes "progress") said ∙ told);
       silence = λ told. c.get_flag.ensures.other (flag_said words c.in_ok-matches.matches (codes "progress") said ∙ told);
+      quiet = λ told. c.get_flag-2.ensures.value (flag_said words c.in_ok-matches.matches (codes "quiet") said ∙ told);
+      loud = λ told. c.get_flag-2.ensures.other (flag_said words c.in_ok-matches.matches (codes "quiet") said ∙ told);
+      sum = λ told. c.get_flag-3.ensures.value (flag_said words c.in_ok-matches.matches (codes "sha256") said ∙ told);
+      no_sum = λ told. c.get_flag-3.ensures.other (flag_said words c.in_ok-matches.matches (codes "sha256") said ∙ told);
     }

@@ -13,7 +13,7 @@ pub returns : goal.returns
 returns g c =
     let remaining = g.S.Read.remaining in
     let contents = g.D.Write.contents in
-    let both = c.on_two_threads-filled in
+    let both = c.run_sides-filled in
     let w0 = c.in_ok-input.input.writer.end in
     let w1 = both.new.input.writer.end in
     let r0 = c.in_ok-input.output.reader.end in
@@ -28,13 +28,13 @@ returns g c =
     let fifo = c.meet.ensures.fifo ∙ c.meet.ensures.writer.sent in
     elim c.match-drained.branch [
       | in-Ok w ↦
-          let q = contents w.drain_known.new.dest in
-          let r3 = w.drain_known.new.reader.end in
+          let q = contents w.finish.new.dest in
+          let r3 = w.finish.new.reader.end in
           let drained : PouredAll o p r0 r1 = search rules in
-          let poured : PouredAll o q r0 r3 = poured_more o p q r0 r2 r3 (poured_same o p r0 r1 r2 drained c.meet.ensures.reader.taken c.meet.ensures.reader.end.ring) w.drain_known.ensures.poured in
+          let poured : PouredAll o q r0 r3 = poured_more o p q r0 r2 r3 (poured_same o p r0 r1 r2 drained c.meet.ensures.reader.taken c.meet.ensures.reader.end.ring) w.finish.ensures.poured in
           let all : WritesAll c.match-drained.ended → r3.known ≡ [] = search rules in
           let ended : OnOk c.match-drained.ended (IsAtEnd j) = search rules in
-          rw w.dest-is (nothing_lost c.match-drained.ended i j o q w0 w1 r0 r3 new_writer new_reader both.ensures.fed poured (w.drain_known.ensures.known ∙ fifo) all ended)
+          rw w.dest-is (nothing_lost c.match-drained.ended i j o q w0 w1 r0 r3 new_writer new_reader both.ensures.fed poured (w.finish.ensures.known ∙ fifo) all ended)
       | in-Err w ↦
           let failed : ¬ WritesAll c.match-drained.ended = search rules in
           let ended : OnOk c.match-drained.ended (IsAtEnd j) = rw w.ended-is tt in

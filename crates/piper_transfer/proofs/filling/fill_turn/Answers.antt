@@ -30,15 +30,11 @@ returns-in-Ok-eq0-clause-fed g c =
     let closed = c.close-in-Ok-eq0.ensures in
     fed_same _ _ _ _ _ read closed.sent closed.ring
 
-pub returns-in-Err-2-clause-fed : goal.returns-in-Err-2-clause-fed
-returns-in-Err-2-clause-fed g c =
+pub returns-in-Err-clause-fed : goal.returns-in-Err-clause-fed
+returns-in-Err-clause-fed g c =
     let read = fed_round _ _ _ _ _ _ _ c.loop.invariant.2 c.poll.ensures.looked c.read_chunk.ensures.fed in
-    let closed = c.close-in-Err-2.ensures in
+    let closed = c.close-in-Err.ensures in
     fed_same _ _ _ _ _ read closed.sent closed.ring
-
-pub loop-preserved-in-Ok : goal.loop-preserved-in-Ok
-loop-preserved-in-Ok g c =
-    (tt, tt, fed_round _ _ _ _ _ _ _ c.loop.invariant.2 c.poll.ensures.looked c.read_chunk.ensures.fed, c.read_chunk.ensures.is_open)
 
 pub loop-preserved : goal.loop-preserved
 loop-preserved g c =

@@ -1,0 +1,54 @@
+//! A rate that is kept: so many bytes a second at most.
+ghost use Rattle.std.specs.Prelude.{◌≤◌};
+
+use std::thread;
+use std::time::{Clock, Duration, Instant};
+
+/// How many bytes a second may pass, and how far ahead of that rate those are that did.
+#[derive(Clone, Copy)]
+pub struct Pace {
+    rate: usize,
+    since: Option<Instant>,
+    owed: Duration,
+}
+
+impl Pace {
+    pub fn new(rate: usize) -> Pace {
+        Pace {
+            rate,
+            since: None,
+            owed: Duration::ZERO,
+        }
+    }
+
+    /// How many of so many bytes are written at once: a tenth of a second's.
+    pub fn most(&self, count: usize) -> usize
+        ensures { result ≤ count }
+    {
+        count.min((self.rate / 10).max(1))
+    }
+
+    /// So many bytes are about to pass: the time begins to count if none did lately.
+    pub fn begin(&mut self, clock: &impl Clock) {
+        if self.since.is_none() {
+            self.since = Instant::now(clock).ok();
+            self.owed = Duration::ZERO;
+        }
+    }
+
+    /// So many bytes have passed: sleeps until their time is over. Time in which none came is not made up for.
+    pub fn keep(&mut self, clock: &impl Clock, count: usize) {
+        let Some(since) = self.since else {
+            return;
+        };
+        let owed = count as u128 * 1_000_000_000 / (self.rate as u128).max(1);
+        let owed = Duration::from_nanos(owed.min(u64::MAX as u128) as u64);
+        self.owed = self.owed.saturating_add(owed);
+        let spent = since.elapsed(clock).unwrap_or(self.owed);
+        if spent < self.owed {
+            thread::sleep(clock, self.owed - spent);
+        } else {
+            self.since = None;
+        }
+    }
+}

@@ -1,0 +1,12 @@
+-- What the input gave so far is published, what was taken out of the pipe was written, and both are ends of one pipe.
+use Rattle.std.specs.Prelude.{◌≡◌, ◌<◌}
+use Rattle.piper_transfer.specs.Transfer.{Fed, IsOpen, PouredAll}
+use Rattle.piper_transfer.proofs.one_thread.take_turns.Given as goal
+
+abbrev pub invariant-loop : goal.invariant-loop
+invariant-loop g l =
+    (goal.iterator-loop g).can_next l.iterator' × (goal.iterator-loop g).is_finite l.iterator'
+    × Fed (g.S.Read.remaining l.initial.source) (g.S.Read.remaining l.source) l.initial.writer.end l.writer.end
+    × IsOpen l.writer.end
+    × PouredAll (g.D.Write.contents l.initial.dest) (g.D.Write.contents l.dest) l.initial.reader.end l.reader.end
+    × (l.writer.end.ring ≡ l.reader.end.ring) × (0 < l.reader.end.capacity)

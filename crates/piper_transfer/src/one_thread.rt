@@ -1,0 +1,83 @@
+//! Both sides in turn on one thread, for where a second one is refused.
+ghost use Rattle.std.specs.Prelude.{◌≡◌, ◌<◌, OnOk, IfErr};
+ghost use Rattle.std.specs.Io.KnownBytes.{IsAtEnd};
+ghost use Rattle.piper.specs.Ends.{WriterRefreshed};
+ghost use Rattle.piper_transfer.specs.Transfer.{Fed, IsOfInput, IsOpen, PouredAll};
+
+use crate::draining::drain_known;
+use crate::error::TransferError;
+use crate::filling::read_chunk;
+use crate::meter::Meter;
+use crate::piece::Piece;
+use piper::{Reader, Writer};
+use std::io::{Read, Write};
+use std::sync::Wait;
+use std::time::Clock;
+
+/// Reads the input to its end, and writes what each read gave before the next one is made.
+pub(crate) fn take_turns<R, S, D, H>(
+    rt: &R,
+    source: &mut S,
+    writer: &mut Writer<H>,
+    reader: &mut Reader<H>,
+    dest: &mut D,
+    chunk: usize,
+    meter: &Meter,
+) -> (Result<(), TransferError>, Result<(), TransferError>)
+where
+    R: Wait + Clock,
+    S: Read,
+    D: Write,
+    H: Wait + Clone + Drop,
+    requires chunk { 0 < chunk }
+    requires is_open { IsOpen writer.old.end }
+    requires pair { writer.old.end.ring ≡ reader.old.end.ring }
+    requires some { 0 < reader.old.end.capacity }
+    ensures fed { Fed (S.remaining source.old) (S.remaining source.new)
+        writer.old.end writer.new.end }
+    ensures input_ended { OnOk result.0 (IsAtEnd (S.remaining source.new)) }
+    ensures poured { PouredAll (D.contents dest.old) (D.contents dest.new)
+        reader.old.end reader.new.end }
+    ensures kind { IfErr result.1 (λ e. ¬ IsOfInput e) }
+{
+    let mut piece = Piece::first(chunk);
+    for _ in rt.forever() {
+        if let Err(error) = pass_on(rt, writer, reader, dest, chunk, meter) {
+            return (Err(TransferError::Full), Err(error));
+        }
+        match read_chunk(rt, source, writer, piece.len(), meter) {
+            Ok(0) => return (Ok(()), Ok(())),
+            Ok(count) => piece = piece.behind(count),
+            Err(error) => return (Err(TransferError::Read(error)), Ok(())),
+        }
+    }
+    unreachable!()
+}
+
+// Writes all that was published; then the whole pipe is room.
+fn pass_on<R, D, H>(
+    rt: &R,
+    writer: &mut Writer<H>,
+    reader: &mut Reader<H>,
+    dest: &mut D,
+    chunk: usize,
+    meter: &Meter,
+) -> Result<(), TransferError>
+where
+    R: Wait + Clock,
+    D: Write,
+    H: Wait + Clone + Drop,
+    requires pair { writer.old.end.ring ≡ reader.old.end.ring }
+    requires some { 0 < reader.old.end.capacity }
+    ensures writer { WriterRefreshed writer.old.end writer.new.end }
+    ensures poured { PouredAll (D.contents dest.old) (D.contents dest.new)
+        reader.old.end reader.new.end }
+    ensures capacity { reader.new.end.capacity ≡ reader.old.end.capacity }
+    ensures room { OnOk result (0 < writer.new.end.room) }
+    ensures kind { IfErr result (λ e. ¬ IsOfInput e) }
+{
+    reader.meet(writer);
+    drain_known(rt, reader, dest, chunk, meter)?;
+    reader.meet(writer);
+    Ok(())
+}

@@ -1,0 +1,100 @@
+//! Calls of an input or an output that are made again: at once where they were interrupted, and after a short sleep where they would block.
+ghost use Rattle.std.specs.Io.{ReadsAtMost, WritesAtMost};
+ghost use Rattle.std.specs.Io.KnownBytes.{Keeps, ReadConsumes, WriteAppends};
+
+use crate::meter::Meter;
+use std::io::{ErrorKind, Read, Write};
+use std::sync::Wait;
+use std::time::{Clock, Duration};
+use std::{io, thread};
+
+/// How many milliseconds the first sleep takes. Each later one takes twice as long as the one before.
+const SHORTEST: u64 = 1;
+
+/// How many milliseconds a sleep takes at most.
+const LONGEST: u64 = 10;
+
+/// How long the next sleep takes.
+#[derive(Clone, Copy)]
+struct Patience {
+    milliseconds: u64,
+}
+
+impl Patience {
+    fn new() -> Patience {
+        Patience {
+            milliseconds: SHORTEST,
+        }
+    }
+
+    // Whether a call that failed so is to be made again. Where it would block, that is told after a sleep.
+    fn outlasts(&mut self, clock: &impl Clock, error: &io::Error) -> bool {
+        match error.kind() {
+            ErrorKind::Interrupted => true,
+            ErrorKind::WouldBlock => {
+                thread::sleep(clock, Duration::from_millis(self.milliseconds));
+                self.milliseconds = self.milliseconds.saturating_mul(2).min(LONGEST);
+                true
+            }
+            _ => false,
+        }
+    }
+}
+
+/// Reads once. A read that gave nothing for now is made again, unless the output has ended meanwhile.
+pub(crate) fn read_patiently<R, S>(
+    rt: &R,
+    source: &mut S,
+    buf: &mut [u8],
+    meter: &Meter,
+) -> io::Result<usize>
+where
+    R: Wait + Clock,
+    S: Read,
+    ensures bound { ReadsAtMost result buf.new }
+    ensures bytes { ReadConsumes (S.remaining source.old) (S.remaining source.new) result buf.new }
+{
+    let mut patience = Patience::new();
+    for _ in rt.forever() {
+        match source.read(buf) {
+            Err(error) if !meter.is_output_over() && patience.outlasts(rt, &error) => {}
+            read => return read,
+        }
+    }
+    unreachable!()
+}
+
+/// Writes once. A write that took nothing for now is made again.
+pub(crate) fn write_patiently<R, D>(rt: &R, dest: &mut D, buf: &[u8]) -> io::Result<usize>
+where
+    R: Wait + Clock,
+    D: Write,
+    ensures bound { WritesAtMost result buf.now }
+    ensures bytes { WriteAppends (D.contents dest.old) (D.contents dest.new) result buf.now }
+{
+    let mut patience = Patience::new();
+    for _ in rt.forever() {
+        match dest.write(buf) {
+            Err(error) if patience.outlasts(rt, &error) => {}
+            written => return written,
+        }
+    }
+    unreachable!()
+}
+
+/// Flushes. Where that could not be done for now, it is tried again.
+pub(crate) fn flush_patiently<R, D>(rt: &R, dest: &mut D) -> io::Result<()>
+where
+    R: Wait + Clock,
+    D: Write,
+    ensures { Keeps (D.contents dest.old) (D.contents dest.new) }
+{
+    let mut patience = Patience::new();
+    for _ in rt.forever() {
+        match dest.flush() {
+            Err(error) if patience.outlasts(rt, &error) => {}
+            flushed => return flushed,
+        }
+    }
+    unreachable!()
+}

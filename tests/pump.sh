@@ -1,0 +1,207 @@
+#!/usr/bin/env bash
+# Tries the built pump where it is hard: limits, failing ends, signals, sizes, and what it tells.
+#
+#     tests/pump.sh [PROGRAM]
+#
+# PROGRAM is crates/piper_pump/out/piper_pump if it is left out, which `rt run < stdin` builds in crates/piper_pump. It needs
+# bash, python3, the coreutils and util-linux's prlimit (and setpriv where root runs it). BYTES is how many bytes go through
+# the greater capacities, 4 GiB if it is not set. Each case runs under a time limit. The last line is `N passed, M failed`.
+set -u
+here=$(cd "$(dirname "$0")" && pwd)
+room=$(mktemp -d)
+trap 'rm -rf "$room"' EXIT
+cp "${1:-$here/../crates/piper_pump/out/piper_pump}" "$room/piper_pump" || exit 2
+chmod 755 "$room" "$room/piper_pump"
+cd "$room" || exit 2
+pump=./piper_pump
+bytes=${BYTES:-4294967296}
+passed=0
+failed=0
+
+# Notes whether a case went as it is to.
+note() { # NAME, and a command that tells
+    local name=$1
+    shift
+    if "$@"; then
+        passed=$((passed + 1))
+        echo "passed: $name"
+    else
+        failed=$((failed + 1))
+        echo "FAILED: $name"
+    fi
+}
+
+# Runs a command line of the shell, and compares its exit status and what it tells on standard error.
+try() { # NAME SECONDS STATUS PATTERN COMMAND
+    timeout "$2" bash -c "$5" 2> told > out
+    local status=$?
+    if [ "$status" -eq "$3" ] && { [ -z "$4" ] || grep -q -- "$4" told; }; then
+        note "$1" true
+    else
+        note "$1: status $status and '$(head -c 200 told)', not $3 and '$4'" false
+    fi
+}
+
+# The same, where nothing is told.
+try_silent() { # NAME SECONDS STATUS COMMAND
+    try "$1" "$2" "$3" '' "$4"
+    note "$1, silently" test ! -s told
+}
+
+lines() { # so many bytes, in lines of 23
+    yes '22 letters and an end..' | head -c "$1"
+}
+export -f lines
+export pump
+
+alone=''
+if [ "$(id -u)" -eq 0 ]; then
+    alone='setpriv --reuid=65533 --regid=65533 --clear-groups'
+fi
+export alone
+lines 5000000 > file
+
+# One thread.
+try_silent 'where the memory for a thread is refused' 20 0 'prlimit --as=8192000 $pump < file | cmp - file && exit ${PIPESTATUS[0]}'
+try_silent 'where a second thread is refused' 20 0 '$alone prlimit --nproc=1 $pump < file | cmp - file && exit ${PIPESTATUS[0]}'
+try 'a full output on one thread' 20 4 'writing the output failed' '$alone prlimit --nproc=1 $pump < file > /dev/full'
+try 'a failing input on one thread' 20 3 'reading the input failed' '$alone prlimit --nproc=1 $pump < /'
+try 'a closed output on one thread' 20 5 'the output was closed' '$alone prlimit --nproc=1 $pump < file | head -c 10 > /dev/null; exit ${PIPESTATUS[0]}'
+try 'progress on one thread' 20 0 'MiB' '$alone prlimit --nproc=1 $pump --progress < file > /dev/null'
+try 'too little memory' 20 6 'out of memory' 'prlimit --as=8192000 $pump --capacity 64M < file'
+
+# Ends that fail.
+try 'a folder as the input' 10 3 'reading the input failed' '$pump < /'
+try 'a full output' 10 4 'writing the output failed' '$pump < file > /dev/full'
+try 'a full output, with progress' 10 4 'writing the output failed' '$pump --progress < file > /dev/full'
+try 'a failing input, with progress' 10 3 'reading the input failed' '$pump --progress < /'
+try 'a reader that ends early' 10 5 'the output was closed' '$pump < file | head -c 10 > /dev/null; exit ${PIPESTATUS[0]}'
+try 'what came before a failing input goes out' 10 3 'reading the input failed' 'python3 -c "
+import pty, os, subprocess, sys
+near, far = pty.openpty()
+child = subprocess.Popen([os.environ[\"pump\"]], stdin=far, stdout=subprocess.PIPE)
+os.close(far)
+os.write(near, b\"a line\\n\")
+import time
+time.sleep(0.3)
+os.close(near)
+assert child.stdout.read() == b\"a line\\n\"
+sys.exit(child.wait())"'
+
+# Words.
+try 'an option that there is not' 10 2 'speed' '$pump --speed'
+try 'a size that is none' 10 2 'invalid value' '$pump --capacity 0'
+try 'a rate that is none' 10 2 '--rate' '$pump --rate x'
+try 'a level that is none' 10 2 '--start-at' '$pump --start-at 101'
+try 'a word that is no text' 10 2 'UTF-8' '$pump $'"'\\xff'"
+try_silent 'the help' 10 0 '$pump --help'
+note 'the help tells each status' test "$(grep -c '^  [023456]  ' out)" -eq 6
+try_silent 'the version' 10 0 '$pump --version'
+note 'the version is told' grep -q '^piper_pump [0-9]' out
+try 'a help that can not be printed' 10 4 'writing the output failed' '$pump --help > /dev/full'
+try 'a file that is not there' 10 3 'no/such/file' '$pump -i no/such/file'
+try 'a file that can not be made' 10 4 'no/such/file' '$pump -o no/such/file < file'
+
+# Files and what is done with the bytes.
+try_silent 'from a file to a file' 10 0 '$pump -i file -o copy && cmp file copy'
+try_silent 'two files more' 10 0 '$pump --tee one --tee two < file | cmp - file && cmp file one && cmp file two'
+try 'the sum of what passed' 10 0 "SHA-256: $(sha256sum < file | cut -c1-64)" '$pump --sha256 < file > /dev/null'
+try 'a full file more' 10 4 'writing the output failed' '$pump --tee /dev/full < file > /dev/null'
+try_silent 'units' 10 0 'for size in 4096 64k 1m 64KiB 1MiB 64K 1M; do $pump --capacity $size < file | cmp - file || exit 1; done'
+begun=$(date +%s%N)
+try_silent 'a rate' 20 0 'lines 100000 | $pump --rate 100k > /dev/null'
+took=$((($(date +%s%N) - begun) / 1000000))
+note "100,000 bytes at 100 KiB a second took $took ms" test "$took" -ge 900 -a "$took" -le 5000
+
+# What is told.
+try_silent 'nothing is told unasked' 10 0 '(lines 1000; sleep 1; lines 1000) | $pump > /dev/null'
+try_silent 'nothing is told quietly' 10 0 '(lines 1000; sleep 1; lines 1000) | $pump --progress --quiet > /dev/null'
+try 'four lines a second' 20 0 '^1.9 KiB' '(lines 1000; sleep 2; lines 1000) | $pump --progress > /dev/null'
+count=$(wc -l < told)
+note "in two seconds $count lines" test "$count" -ge 6 -a "$count" -le 12
+try 'an output that is slow' 20 0 '100% full; full for [1-9]' 'lines 300000 | $pump --progress --capacity 64K | (sleep 2; cat > /dev/null)'
+try 'its input waits, though the wait is under way' 20 0 'empty for 0\.[0-9] s' 'lines 300000 | $pump --progress --capacity 64K | (sleep 2; cat > /dev/null)'
+try 'an input that is slow' 20 0 '0% full; full for 0.0 s, empty for [1-9]' '(sleep 2; lines 1000) | $pump --progress > /dev/null'
+try 'how much is done' 20 0 '[1-9][0-9]% done' '$pump --progress -i file --rate 3m > /dev/null'
+try 'how much is done of a size' 20 0 '[45][0-9]% done' '(lines 1000; sleep 1) | $pump --progress --size 2000 > /dev/null'
+
+# Ends that would block, a line that passes at once, and a level.
+cat > ends.py <<'PYTHON'
+import os, subprocess, sys, threading, time
+
+def run(words, feed, first_pause, pause):
+    """What comes out, the status, and when the first byte came, where neither end of the pump blocks."""
+    inner, mine = os.pipe()
+    theirs, outer = os.pipe()
+    os.set_blocking(inner, False)
+    os.set_blocking(outer, False)
+    child = subprocess.Popen([os.environ["pump"]] + words, stdin=inner, stdout=outer)
+    os.close(inner)
+    os.close(outer)
+    begun = time.monotonic()
+    def give():
+        for wait, piece in feed:
+            time.sleep(wait)
+            while piece:
+                piece = piece[os.write(mine, piece):]
+        os.close(mine)
+    giver = threading.Thread(target=give)
+    giver.start()
+    time.sleep(first_pause)
+    got, first = [], None
+    while True:
+        piece = os.read(theirs, 65536)
+        if first is None:
+            first = time.monotonic() - begun
+        if not piece:
+            break
+        got.append(piece)
+        time.sleep(pause)
+    giver.join()
+    return b"".join(got), child.wait(), first
+
+data = os.urandom(1_000_000)
+what = sys.argv[1]
+if what == "slow-input":
+    got, status, _ = run([], [(0.05, data[at:at + 50_000]) for at in range(0, len(data), 50_000)], 0, 0)
+    assert got == data and status == 0, (len(got), status)
+elif what == "slow-output":
+    got, status, _ = run(["--capacity", "64K"], [(0, data)], 0.5, 0.02)
+    assert got == data and status == 0, (len(got), status)
+elif what == "line":
+    got, status, first = run([], [(0.5, b"a line\n"), (1, b"")], 0, 0)
+    assert got == b"a line\n" and status == 0 and first - 0.5 < 0.1, (got, status, first)
+elif what == "level":
+    got, status, first = run(["--capacity", "1000", "--start-at", "50"], [(0, data[:400]), (1, data[400:900])], 0, 0)
+    assert got == data[:900] and status == 0 and first > 0.9, (len(got), status, first)
+PYTHON
+for what in slow-input slow-output line level; do
+    try_silent "ends that would block: $what" 30 0 "python3 ends.py $what"
+done
+
+# Memory.
+cat > held.py <<'PYTHON'
+import os, resource, subprocess, sys
+most = int(sys.argv[1])
+status = subprocess.call([os.environ["pump"]] + sys.argv[2:], stdout=subprocess.DEVNULL)
+held = resource.getrusage(resource.RUSAGE_CHILDREN).ru_maxrss
+if status or held > most:
+    sys.exit(f"status {status}, {held} KiB held, not {most}")
+PYTHON
+try_silent 'a capacity of 16M holds 20 MiB' 60 0 'lines 200000000 | python3 held.py 20480 --capacity 16M --chunk 16M'
+try_silent 'a capacity of 2G holds what passes' 60 0 'lines 67108864 | python3 held.py 139264 --capacity 2G --chunk 2G'
+
+# Signals.
+try 'SIGTERM' 10 143 '' 'sleep 5 | (exec $pump) & sleep 0.5; kill -TERM $(pgrep -P $$ -x piper_pump); wait $!'
+try_silent 'SIGSTOP and SIGCONT' 30 0 'mkfifo fifo; (lines 3000000; sleep 1; lines 2000000) > fifo & $pump < fifo > copy & child=$!; sleep 0.3; kill -STOP $child; sleep 1.5; kill -CONT $child; wait $child || exit 1; cmp copy <(lines 3000000; lines 2000000)'
+
+# Many bytes. Each byte that passes alone costs two calls of the system and mostly two changes of thread, so the
+# least capacities get fewer.
+for case in "1 300000" "64 20000000" "4K $((bytes / 16))" "64K $bytes" "1M $bytes" "16M $bytes"; do
+    read -r capacity count <<< "$case"
+    export capacity count
+    try_silent "$count bytes through $capacity" 300 0 'lines $count | $pump --capacity $capacity | cmp - <(lines $count) && exit ${PIPESTATUS[1]}'
+done
+
+echo "$passed passed, $failed failed"
+[ "$failed" -eq 0 ]
