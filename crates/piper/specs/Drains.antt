@@ -23,6 +23,10 @@ found_len a b = length b.taken + length b.known - length a.taken
 abbrev pub EndIsSeen : {E : Type 0} → Poll (Result ℕ E) → ReadView → ReadView → Type 0
 EndIsSeen r a b = OnReadyOk r (found_len a b ≡ 0 → b.saw ≡ true)
 
+-- a drain that answers a count found a byte, or all that was ever published has been taken
+abbrev pub EndIsTrue : {E : Type 0} → Poll (Result ℕ E) → ReadView → ReadView → Type 0
+EndIsTrue r a b = OnReadyOk r (found_len a b ≡ 0 → b.taken ≡ b.all)
+
 -- a drain that is pending found a byte, or neither saw the pipe closed nor was told so
 abbrev pub EndIsUnseen : {E : Type 0} → Poll (Result ℕ E) → ReadView → ReadView → Type 0
 EndIsUnseen r a b =

@@ -2,17 +2,17 @@
 ghost use Rattle.std.specs.Prelude.{◌≡◌, ◌<◌, ◌≤◌, ◌++◌, ◌⊎◌, [], length, take, drop, IfOk, IfErr, IsSome, IsTrue, ◌↔◌, None, Ok, true, false};
 ghost use Rattle.futures.specs.Task.{Covers, Keeps};
 ghost use Rattle.futures.specs.Poll.{OnPending};
-ghost use Rattle.piper_ring.specs.ReadView.{in_one_piece};
+ghost use Rattle.piper_ring.specs.ReadView.{KnowsEnd, in_one_piece};
 ghost use Rattle.piper_sides.specs.Table.{goes_on, reader_is_true};
 ghost use Rattle.piper.specs.Contexts.{IfGiven, Arms, LacksWaker};
 ghost use Rattle.piper.specs.Copies.{ReaderCopied};
 ghost use Rattle.piper.specs.CopyAnswers.{OnMemory, CountsFailure, IsAtOnce, inner_of};
 ghost use Rattle.piper.specs.Draws.{Draws, DrawsYield, Undrawn, drawn_from};
-ghost use Rattle.piper.specs.Drains.{Drains, DrainsInto, DrainRounds, DrainYields, EndIsSeen, EndIsUnseen, CountsWhatFits, FoundNoByte, StaysKnown, found_len};
+ghost use Rattle.piper.specs.Drains.{Drains, DrainsInto, DrainRounds, DrainYields, EndIsSeen, EndIsTrue, EndIsUnseen, CountsWhatFits, FoundNoByte, StaysKnown, found_len};
 ghost use Rattle.piper.specs.Ends.{ReaderIsUpToDate};
 ghost use Rattle.piper.specs.Like.{Counts, passed};
 ghost use Rattle.piper.specs.Looks.{ReaderLooked, OnRefused};
-ghost use Rattle.piper.specs.Polls.{Reads};
+ghost use Rattle.piper.specs.Polls.{OnReadyOk, Reads};
 
 use super::copied;
 use crate::error::{Inner, PipeError};
@@ -40,6 +40,8 @@ impl<H: Wait + Clone + Drop> Reader<H> {
         ensures drained { DrainsInto W.contents (inner_of result)
             self.old.end self.new.end dest.old dest.new }
         ensures ended { EndIsSeen result self.old.end self.new.end }
+        ensures all { EndIsTrue result self.old.end self.new.end }
+        ensures same { KnowsEnd self.old.end → self.new.end.all ≡ self.old.end.all }
         ensures waits { EndIsUnseen result self.old.end self.new.end }
         ensures draws { Draws (0 < found_len self.old.end self.new.end) result
             self.old.rng self.new.rng }
@@ -72,6 +74,8 @@ impl<H: Wait + Clone + Drop> Reader<H> {
         ensures known { 0 < length self.old.end.known → StaysKnown self.old.end self.new.end }
         ensures fresh { self.old.end.known ≡ [] → ReaderIsUpToDate self.new.end }
         ensures ended { EndIsSeen result self.old.end self.new.end }
+        ensures all { EndIsTrue result self.old.end self.new.end }
+        ensures same { KnowsEnd self.old.end → self.new.end.all ≡ self.old.end.all }
         ensures waits { EndIsUnseen result self.old.end self.new.end }
         ensures draws { Draws (0 < found_len self.old.end self.new.end) result
             self.old.rng self.new.rng }
@@ -100,6 +104,7 @@ impl<H: Wait + Clone + Drop> Reader<H> {
             take result dest.new ++ self.new.end.known ≡ self.old.end.known }
         ensures most { result < length dest.old → self.new.end.known ≡ [] }
         ensures fresh { self.old.end.known ≡ [] → ReaderIsUpToDate self.new.end }
+        ensures same { KnowsEnd self.old.end → self.new.end.all ≡ self.old.end.all }
         ensures end { ReaderCopied self.old.end self.new.end }
         ensures handle { SameReader self.old self.new }
     {
@@ -125,6 +130,8 @@ impl<H: Wait + Clone + Drop> Reader<H> {
             self.old.end self.new.end dest.old dest.new }
         ensures failures { CountsFailure result (W.failures dest.old) (W.failures dest.new) }
         ensures ended { EndIsSeen result self.old.end self.new.end }
+        ensures all { EndIsTrue result self.old.end self.new.end }
+        ensures same { KnowsEnd self.old.end → self.new.end.all ≡ self.old.end.all }
         ensures waits { EndIsUnseen result self.old.end self.new.end }
         ensures draws { IsSome cx.entry →
             Draws (0 < found_len self.old.end self.new.end) result self.old.rng self.new.rng }
@@ -155,6 +162,8 @@ impl<H: Wait + Clone + Drop> Reader<H> {
             self.old.end self.new.end dest.old dest.new }
         ensures failures { CountsFailure result (W.failures dest.old) (W.failures dest.new) }
         ensures ended { EndIsSeen result self.old.end self.new.end }
+        ensures all { EndIsTrue result self.old.end self.new.end }
+        ensures same { KnowsEnd self.old.end → self.new.end.all ≡ self.old.end.all }
         ensures waits { EndIsUnseen result self.old.end self.new.end }
         ensures draws { Draws (0 < found_len self.old.end self.new.end) result
             self.old.rng self.new.rng }
@@ -204,6 +213,8 @@ impl<H: Wait + Clone + Drop> Reader<H> {
             self.old.end self.new.end dest.old dest.new }
         ensures failures { CountsFailure result (W.failures dest.old) (W.failures dest.new) }
         ensures ended { EndIsSeen result self.old.end self.new.end }
+        ensures all { EndIsTrue result self.old.end self.new.end }
+        ensures same { KnowsEnd self.old.end → self.new.end.all ≡ self.old.end.all }
         ensures waits { OnPending result (found_len self.old.end self.new.end ≡ 0) }
         ensures open { OnPending result (
             (self.new.end.saw ≡ false) × (self.new.end.told_shut ≡ false)) }
@@ -226,6 +237,9 @@ impl<H: Wait + Clone + Drop> Reader<H> {
             call.point ≡ ReadPoint.LookTake (Purpose.Copy (Form.Polling false))) }
         ensures some { IfOk result (λ _. 0 < length self.new.end.known) }
         ensures none { IfErr result (λ told. FoundNoByte told self.new.end) }
+        ensures all { IfErr result (λ told.
+            OnReadyOk told (self.new.end.taken ≡ self.new.end.all)) }
+        ensures same { KnowsEnd self.old.end → self.new.end.all ≡ self.old.end.all }
         ensures refused { IfErr result (λ told. OnMemory told (cx.new.lacks_waker ≡ true)) }
         ensures covered { IfErr result (λ told.
             OnPending told (Covers cx.new (λ s. s ≡ read_source self.old))) }
@@ -260,6 +274,9 @@ impl<H: Wait + Clone + Drop> Reader<H> {
             call ≡ goes_on (ReadPoint.CallDestination Form.Try 0)) }
         ensures some { IfOk result (λ _. 0 < length self.new.end.known) }
         ensures none { IfErr result (λ told. FoundNoByte told self.new.end) }
+        ensures all { IfErr result (λ told.
+            OnReadyOk told (self.new.end.taken ≡ self.new.end.all)) }
+        ensures same { KnowsEnd self.old.end → self.new.end.all ≡ self.old.end.all }
         ensures granted { IfErr result (λ told. OnMemory told ⊥) }
         ensures looked { ReaderLooked self.old.end self.new.end }
         ensures rest { SameReader self.old self.new }
@@ -298,6 +315,7 @@ impl<H: Wait + Clone + Drop> Reader<H> {
             self.old.end self.new.end dest.old dest.new }
         ensures failures { CountsFailure result (W.failures dest.old) (W.failures dest.new) }
         ensures ready { IsAtOnce result }
+        ensures all { self.new.end.all ≡ self.old.end.all }
         ensures rest { SameReader self.old self.new }
     {
         self.end().learn();

@@ -11,6 +11,7 @@ rounds-init g c =
       at = c.requires;
       drained = drained_none _ _ _ (g.met.W.WriteLike.takes_nothing c.args.dest.now);
       failures = refl;
+      all = refl;
       rest = record { slots = refl; rng = refl };
     }
 
@@ -58,5 +59,6 @@ rounds-preserved g c =
       at = drain_round c.args.form c.rounds.sum c.in-Ok.n _ _ (c.before_round-call.ensures ∙ c.rounds.invariant.at) c.if-n-eq0.false c.destination_took-round.ensures _ _ stored.step c.wake_writer-call.ensures;
       drained = drained_more _ g.met.W.WriteLike.takes_in_order _ _ _ _ _ _ c.rounds.invariant.drained _ c.in-Ok.n c.in-Ok.ensures.bound some stored.taken stored.known stored.end;
       failures = c.in-Ok.ensures.failures ∙ c.rounds.invariant.failures;
+      all = stored.all ∙ c.rounds.invariant.all;
       rest = record { slots = stored.rest.slots ∙ c.rounds.invariant.rest.slots; rng = stored.rest.rng ∙ c.rounds.invariant.rest.rng };
     }

@@ -11,6 +11,7 @@ invariant-rounds g l = record {
   at : l.call ≡ goes_on (CallDestination l.form l.sum);
   drained : Drained g.W.WriteLike.takes l.initial.self.end l.self.end l.initial.dest l.dest l.sum;
   failures : g.W.WriteLike.failures l.dest ≡ g.W.WriteLike.failures l.initial.dest;
+  all : l.self.end.all ≡ l.initial.self.end.all;
   rest : SameReader l.initial.self l.self;
 }
 
