@@ -2,10 +2,11 @@
 #![tactic(auto)]
 
 mod orders;
-mod player;
+pub mod player;
 pub mod replay;
 mod runner;
+pub mod showing;
 mod steps;
-mod stream;
+pub mod stream;
 mod trial;
-mod whole;
+pub mod whole;

@@ -7,6 +7,7 @@ ghost use Rattle.piper_player.specs.Played.{Plays, NeedsPipe, IsOneMove, IsRefus
 ghost use Rattle.piper_player.specs.Refused.{RefusesLine};
 ghost use Rattle.piper_player.specs.Whole.{IsReady};
 
+use crate::showing::{room_of, write_made};
 use crate::steps::make;
 use crate::whole::{answer, check, room_for};
 use piper_machine::calls::{Call, Side, Step};
@@ -165,39 +166,5 @@ fn make_whole(
 {
     let dest = room_of(room_for(call), room)?;
     let answer = answer(machine, call, dest);
-    reply.write_answer(answer)?;
-    write_first(shown(call, answer), dest, reply)?;
-    reply.write_woken(machine.woken())
-}
-
-// So many places, after making the room longer where it is too short.
-fn room_of(most: usize, room: &mut Vec<u8>) -> Result<&mut [u8], AllocError>
-    ensures { IfOk result (λ places. length places.now ≡ most) }
-{
-    if room.len() < most {
-        room.resize(most, 0)?;
-    }
-    Ok(&mut room[..most])
-}
-
-// How many bytes are shown behind the answer of a call that moved bytes out of the pipe.
-fn shown(call: &Call, answer: Answer) -> Option<usize>
-    ensures { result ≡ shown call.now answer }
-{
-    match (call, answer) {
-        (Call::TryDrain(_), Answer::Count(count)) => Some(count),
-        (Call::PollDrainBytes(..), Answer::Copy(Polled::Ready(Ok(count)))) => Some(count),
-        _ => None,
-    }
-}
-
-// Writes the first of the bytes, if any are shown.
-fn write_first(shown: Option<usize>, bytes: &[u8], reply: &mut Reply) -> Result<(), AllocError>
-    ensures { OnOk result (reply.new ≡ reply.old ++ shown_text shown bytes.now) }
-{
-    let Some(count) = shown else {
-        return Ok(());
-    };
-    reply.write(" ")?;
-    reply.write_list(&bytes[..count.min(bytes.len())])
+    write_made(call, answer, dest, machine.woken(), reply)
 }

@@ -124,8 +124,8 @@ pub fn replay<I: Read, O: Write>(
     end_of(played)
 }
 
-// How a replay ended that was made, or stopped.
-fn end_of(played: Result<(), Stop>) -> Ended
+/// How a replay ended that was made, or stopped.
+pub fn end_of(played: Result<(), Stop>) -> Ended
     ensures done { IsOk played → EndsWith result 0 (codes "") }
     ensures stopped { IfErr played (λ stop. IsEndOf stop result) }
 {

@@ -1,7 +1,8 @@
 //! Replays a script of pipe calls on the pure machine.
 #![tactic(auto)]
 
-use piper_player::replay::{Ended, replay};
+use piper_player::replay::Ended;
+use piper_twin::modes::replay;
 use std::env;
 use std::io::ErrorKind;
 use std::process::ExitCode;
@@ -19,20 +20,11 @@ fn words(rt: &HostRuntime) -> Result<Vec<String>, Ended> {
     }
 }
 
-fn run(rt: &HostRuntime) -> Ended {
-    match words(rt) {
-        Ok(words) => replay(
-            rt.alloc(),
-            words.as_slice(),
-            &mut rt.stdin(),
-            &mut rt.stdout(),
-        ),
-        Err(ended) => ended,
-    }
-}
-
 fn main(rt: HostRuntime) -> ExitCode {
-    let ended = run(&rt);
+    let ended = match words(&rt) {
+        Ok(words) => replay(&rt, words.as_slice(), &mut rt.stdin(), &mut rt.stdout()),
+        Err(ended) => ended,
+    };
     if !ended.text.is_empty() {
         let _ = eprintln!(rt; "{}", ended.text);
     }

@@ -1,18 +1,21 @@
-//! Replays scripts to which the answers are known, and tells how many are answered alike.
+//! Replays scripts to which the answers are known, on the machine and on the handles, and tells how many are answered alike.
 #![tactic(auto)]
 
 use anyhow::Context;
-use piper_player::replay::{Ended, replay};
+use piper_player::replay::Ended;
+use piper_twin::modes::replay;
 use serde_json::Value;
-use std::alloc::Global;
+use std::alloc::{AllocGlobal, Global};
 use std::process::ExitCode;
+use std::random::RandomSource;
+use std::sync::Wait;
 use std::{fs, io, str};
 
 /// The scripts that the Rust crate answered. Each file lies where the program runs, and has one script a line.
 const OF_THE_CRATE: [&str; 1] = ["upstream-play.jsonl"];
 
 /// The scripts that the page of the language answers, in a file for each subject.
-const OF_THE_LANGUAGE: [&str; 9] = [
+const OF_THE_LANGUAGE: [&str; 10] = [
     "whole-calls.jsonl",
     "copies.jsonl",
     "steps.jsonl",
@@ -22,6 +25,7 @@ const OF_THE_LANGUAGE: [&str; 9] = [
     "limits.jsonl",
     "mode-run.jsonl",
     "mode-all.jsonl",
+    "mode-handles.jsonl",
 ];
 
 /// A script, what it prints, and the status with which its replay ends.
@@ -75,6 +79,21 @@ struct Place<'name> {
 struct Tally {
     alike: usize,
     all: usize,
+    /// Those that the handles answered as the machine does, to their end.
+    on_handles: usize,
+    /// Those that they answered so up to a line that only the machine plays.
+    begun_on_handles: usize,
+}
+
+/// How far the handles played a script, and answered as the machine does.
+#[derive(Clone, Copy)]
+enum Played {
+    ToItsEnd,
+    /// Up to a line that only the machine plays.
+    Begun,
+    /// The script is for another mode.
+    Not,
+    Otherwise,
 }
 
 /// Where a replay gives something else than it should.
@@ -135,19 +154,91 @@ fn tell_difference(rt: &HostRuntime, difference: &Difference<'_>) -> io::Result<
     )
 }
 
-/// Replays the script of a line of a file, and tells where its answer differs.
-fn replay_line(rt: &HostRuntime, place: &Place<'_>, line: &str) -> Result<bool, anyhow::Error> {
+/// Replays the script of a line of a file on both, and tells where an answer differs.
+fn replay_line<H>(
+    rt: &HostRuntime,
+    hands: &H,
+    place: &Place<'_>,
+    line: &str,
+    tally: &mut Tally,
+) -> Result<(), anyhow::Error>
+where
+    H: Wait + RandomSource + AllocGlobal + Clone + Drop,
+{
     let line = Value::from_str(rt.alloc(), line)?;
     let vector = Vector::of(&line).context("a member is missing")?;
     let arguments = arguments_of(rt.alloc(), &line)?;
-    let mut output = Vec::new(rt.alloc());
-    let mut input = vector.script.as_bytes();
-    let ended = replay(rt.alloc(), &arguments, &mut input, &mut output);
-    let is_alike = is_alike(rt, &vector, ended, &output)?;
-    if !is_alike {
+    tally.all = tally.all.saturating_add(1);
+    let is_alike = answers(rt, hands, &vector, &arguments)?;
+    if is_alike {
+        tally.alike = tally.alike.saturating_add(1);
+    }
+    let played = if arguments.is_empty() {
+        play_on_handles(rt, hands, &vector)?
+    } else {
+        Played::Not
+    };
+    match played {
+        Played::ToItsEnd => tally.on_handles = tally.on_handles.saturating_add(1),
+        Played::Begun => tally.begun_on_handles = tally.begun_on_handles.saturating_add(1),
+        Played::Not | Played::Otherwise => {}
+    }
+    if !is_alike || matches!(played, Played::Otherwise) {
         tell_place(rt, place, vector.what.unwrap_or("drawn at random"))?;
     }
-    Ok(is_alike)
+    Ok(())
+}
+
+/// Whether a script is answered as it should be.
+fn answers<H>(
+    rt: &HostRuntime,
+    hands: &H,
+    vector: &Vector<'_>,
+    arguments: &[String],
+) -> Result<bool, anyhow::Error>
+where
+    H: Wait + RandomSource + AllocGlobal + Clone + Drop,
+{
+    let mut output = Vec::new(rt.alloc());
+    let mut input = vector.script.as_bytes();
+    let ended = replay(hands, arguments, &mut input, &mut output);
+    Ok(is_alike(rt, vector, ended, &output)?)
+}
+
+/// Replays a script on the handles, and tells where they do not answer as the machine.
+fn play_on_handles<H>(
+    rt: &HostRuntime,
+    hands: &H,
+    vector: &Vector<'_>,
+) -> Result<Played, anyhow::Error>
+where
+    H: Wait + RandomSource + AllocGlobal + Clone + Drop,
+{
+    let mut arguments = Vec::new(rt.alloc());
+    arguments.push(String::from_str(rt.alloc(), "handles")?)?;
+    let mut output = Vec::new(rt.alloc());
+    let mut input = vector.script.as_bytes();
+    let ended = replay(hands, &arguments, &mut input, &mut output);
+    let given = str::from_utf8(&output).unwrap_or("no text");
+    let Some(rest) = given.strip_suffix(": OnlyMachine\n") else {
+        return Ok(if is_alike(rt, vector, ended, given.as_bytes())? {
+            Played::ToItsEnd
+        } else {
+            Played::Otherwise
+        });
+    };
+    // The last line is the refusal.
+    let front = rest.rsplit_once('\n').map_or("", |(front, _)| front);
+    let begun = Vector {
+        output: vector.output.get(..front.len()).unwrap_or(vector.output),
+        status: 1,
+        ..*vector
+    };
+    Ok(if is_alike(rt, &begun, ended, front.as_bytes())? {
+        Played::Begun
+    } else {
+        Played::Otherwise
+    })
 }
 
 /// Tells which script differs.
@@ -156,40 +247,57 @@ fn tell_place(rt: &HostRuntime, place: &Place<'_>, what: &str) -> io::Result<()>
 }
 
 /// Replays the scripts of a file, and tells which of them are answered otherwise.
-fn replay_file(rt: &HostRuntime, file: &str, tally: &mut Tally) -> Result<(), anyhow::Error> {
+fn replay_file<H>(
+    rt: &HostRuntime,
+    hands: &H,
+    file: &str,
+    tally: &mut Tally,
+) -> Result<(), anyhow::Error>
+where
+    H: Wait + RandomSource + AllocGlobal + Clone + Drop,
+{
     let text = fs::read_to_string(rt, file)?;
-    replay_lines(rt, file, text.as_str(), tally)
+    replay_lines(rt, hands, file, text.as_str(), tally)
 }
 
 /// Replays the scripts that the lines of a file hold.
-fn replay_lines(
+fn replay_lines<H>(
     rt: &HostRuntime,
+    hands: &H,
     file: &str,
     text: &str,
     tally: &mut Tally,
-) -> Result<(), anyhow::Error> {
+) -> Result<(), anyhow::Error>
+where
+    H: Wait + RandomSource + AllocGlobal + Clone + Drop,
+{
     for (before, script) in text.lines().enumerate() {
         let line = before.saturating_add(1);
-        tally.all = tally.all.saturating_add(1);
-        if replay_line(rt, &Place { file, line }, script)? {
-            tally.alike = tally.alike.saturating_add(1);
-        }
+        replay_line(rt, hands, &Place { file, line }, script, tally)?;
     }
     Ok(())
 }
 
 /// Replays the scripts of all these files.
-fn replay_files(rt: &HostRuntime, files: &[&str]) -> Result<Tally, anyhow::Error> {
-    let mut tally = Tally { alike: 0, all: 0 };
+fn replay_files<H>(rt: &HostRuntime, hands: &H, files: &[&str]) -> Result<Tally, anyhow::Error>
+where
+    H: Wait + RandomSource + AllocGlobal + Clone + Drop,
+{
+    let mut tally = Tally {
+        alike: 0,
+        all: 0,
+        on_handles: 0,
+        begun_on_handles: 0,
+    };
     for file in files {
-        replay_file(rt, file, &mut tally)?;
+        replay_file(rt, hands, file, &mut tally)?;
     }
     Ok(tally)
 }
 
 fn main(rt: HostRuntime) -> Result<ExitCode, anyhow::Error> {
-    let by_the_crate = replay_files(&rt, &OF_THE_CRATE)?;
-    let by_the_page = replay_files(&rt, &OF_THE_LANGUAGE)?;
+    let by_the_crate = replay_files(&rt, &rt, &OF_THE_CRATE)?;
+    let by_the_page = replay_files(&rt, &rt, &OF_THE_LANGUAGE)?;
     println!(rt;
         "{} of {} scripts are answered as by the crate",
         by_the_crate.alike, by_the_crate.all
@@ -197,6 +305,15 @@ fn main(rt: HostRuntime) -> Result<ExitCode, anyhow::Error> {
     println!(rt;
         "{} of {} scripts are answered as the page of the language says",
         by_the_page.alike, by_the_page.all
+    )?;
+    let to_the_end = by_the_crate
+        .on_handles
+        .saturating_add(by_the_page.on_handles);
+    let begun = by_the_crate
+        .begun_on_handles
+        .saturating_add(by_the_page.begun_on_handles);
+    println!(rt;
+        "the handles answer {to_the_end} alike to their end, and {begun} up to a line that only the machine plays"
     )?;
     let is_alike = by_the_crate.alike == by_the_crate.all && by_the_page.alike == by_the_page.all;
     Ok(if is_alike {
