@@ -7,7 +7,9 @@ ghost use Rattle.piper.specs.Handles.{read_source, write_source};
 use futures::Future;
 use futures::executor::block_on;
 use futures::task::{Context, Poll};
-use piper::{OutOfMemory, OwnedWriter, Reader, Writer, pipe};
+use piper::{OutOfMemory, OwnedReader, OwnedWriter, Reader, Writer, pipe};
+use std::alloc::AllocGlobal;
+use std::fs::Files;
 use std::io::{self, Read};
 use std::sync::Wait;
 use std::{fs, thread};
@@ -70,29 +72,41 @@ impl<H: Wait + Clone + Drop> Future for CountLines<'_, H> {
     }
 }
 
+// Opens a file. Where that fails, the error names it.
+fn open<R: Files + AllocGlobal>(rt: &R, path: &str) -> io::Result<R::File> {
+    match fs::open(rt, path) {
+        Ok(file) => Ok(file),
+        Err(error) => {
+            let words = format!(in rt.alloc(); "{path}: {error}")?;
+            Err(io::Error::new(error.kind(), words.as_str()))
+        }
+    }
+}
+
 fn main(rt: HostRuntime) -> io::Result<()> {
-    let file = fs::open(&rt, "poem.txt")?;
+    let file = open(&rt, "poem.txt")?;
     let theirs = rt.clone()?;
-    let (mut reader, writer) = pipe(&rt, rt.alloc(), 64, 1).map_err(
-        |_| io::ErrorKind::OutOfMemory,
-    )?;
-    let mut writer = OwnedWriter::new(writer);
-    let child = thread::spawn(&rt, move || {
+    let (reader, writer) = pipe(&rt, rt.alloc(), 64, 1).map_err(|_| io::ErrorKind::OutOfMemory)?;
+    let (mut reader, mut writer) = (OwnedReader::new(reader), OwnedWriter::new(writer));
+    let spawned = thread::spawn(&rt, move || {
         let fill = Fill {
             writer: writer.get_mut(),
             file,
         };
         block_on(&theirs, fill)?
     });
+    // A refused thread gives its closure back, and with it the writer. Nobody would fill the pipe, so
+    // nobody may wait for it.
+    let child = spawned.map_err(|_| io::Error::other("a second thread is refused"))?;
     let lines = block_on(
         &rt,
         CountLines {
-            reader: &mut reader,
+            reader: reader.get_mut(),
             count: 0,
         },
     );
-    reader.drop();
-    child?.join(&rt)?;
+    drop(reader);
+    child.join(&rt)?;
     match lines? {
         Ok(count) => println!(&rt; "{count} lines"),
         Err(OutOfMemory) => Err(io::ErrorKind::OutOfMemory.into()),

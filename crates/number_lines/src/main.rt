@@ -85,20 +85,23 @@ fn main(rt: HostRuntime) -> io::Result<()> {
     let theirs = rt.clone()?;
     let (reader, writer) = pipe(&rt, rt.alloc(), 64, 1).map_err(|_| io::ErrorKind::OutOfMemory)?;
     let mut writer = OwnedWriter::new(writer);
-    let child = thread::spawn(&rt, move || {
-        let pump = Pump {
-            writer: writer.get_mut(),
-            input: theirs.stdin(),
-        };
-        block_on(&theirs, pump)?
-    });
     let number = Number {
         lines: Lines::new(rt.alloc(), OwnedReader::new(reader)),
         line: Vec::new(rt.alloc()),
         count: 0,
         output: io::writer(&rt),
     };
+    let spawned = thread::spawn(&rt, move || {
+        let pump = Pump {
+            writer: writer.get_mut(),
+            input: theirs.stdin(),
+        };
+        block_on(&theirs, pump)?
+    });
+    // A refused thread gives its closure back, and with it the writer. Nobody would fill the pipe, so
+    // nobody may wait for it.
+    let child = spawned.map_err(|_| io::Error::other("a second thread is refused"))?;
     let printed = block_on(&rt, number);
-    child?.join(&rt)?;
+    child.join(&rt)?;
     printed?
 }
