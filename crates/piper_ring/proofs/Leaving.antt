@@ -5,7 +5,7 @@ use base.Growing.{numbers, latest}
 use base.Logic.{SProp, ent, sep, upd, ex, via, upd_i}
 use base.Fml.{Share, Fml, ftrue, fsep}
 use types.Logic.{Logic, sem}
-use types.Growing.{latest_grows}
+use types.Growing.{latest_grows, latest_shows}
 use types.Kit.{‵, raw, ◌⊛◌, some, given, ◌$◌, ◌∵◌, !, qed, by, move, keep, split, split3, fsplit, fsplit3, fjoin, fjoin3, fpick, fpack, pick, learn, show, frame, assume, settle, suffices, rewrite, use1, use2, use3, done}
 use types.Kit.{drop as forget}
 use denote.RawPtr.{Ptr, block_ptr, block_of, count_of}
@@ -23,10 +23,11 @@ use denote.Memory.{lone}
 use base.Logic.{apply∗, id⊢}
 use base.Fml.{froom, fex}
 use Rattle.piper_ring.specs.Places.{fact, unset}
+use base.Fraction.{full_share}
 use Rattle.piper_ring.proofs.Steps.{flag_small, Rest, OneStays, ReaderSees, WriterSees, reader_opens, writer_opens, closes, inside, raise}
 use denote.Builtin.{u8}
 use Rattle.rtrb.specs.Fifo.{slot_of as offset_of}
-use Rattle.piper_ring.specs.Shared.{one_gone, Names, State, Holds, half, other, flag, gone, until_both, where_gone, word, word_room, words_type, four_rooms, blanks, memory, whole, writer_knows, reader_knows, ends, standing, Inner, common}
+use Rattle.piper_ring.specs.Shared.{one_gone, Names, State, Holds, half, other, flag, gone, until_both, where_gone, word, word_room, words_type, four_rooms, blanks, memory, whole, writer_knows, reader_knows, ends, raised, standing, Inner, common}
 
 pub here : (i : ℕ) → i ≤ 1 → gone i ≡ false
 here zero le = refl
@@ -151,9 +152,13 @@ module _ {M : Type 1} {𝓤 : Ura M} (𝓛 : Logic 𝓤) (w p : Ptr) (z : Names)
       rewrite ! 0 (λ (r : ℕ × ℕ). ‵ (blanks w p z r.0 (r.1 - r.0))) {x = (s.head, s.seen)} {y = (head, seen)} (λ j. (eh j, es j)) refl $
       move ! (0 ∷ 3 ∷ []) $ fjoin ! $ move ! (1 ∷ 0 ∷ []) $ fjoin ! $ move ! (2 ∷ 0 ∷ []) $ fjoin ! $ move ! (2 ∷ 0 ∷ []) $ fjoin ! $ keep ! (3 ∷ 4 ∷ 2 ∷ 0 ∷ []) $ by ! (seals s so' (gone s.writer_stage) refl))))
 
+  -- the ring is closed, and the reader is about to leave
+  abbrev pub IsClosing : ℕ → ℕ → Fml
+  IsClosing head seen = fsep (raised z.closed true) (RK half head seen 1)
+
   -- the reader closes the ring, as it is about to leave
-  pub reader_closes : (head seen i : ℕ) → i ≤ 1 → ⟦ C ⟧ ∗ ⟦ RK half head seen i ⟧ ⊢ access 384 one (λ _. RK half head seen 1)
-  reader_closes head seen i le = let Then : Fml = RK half head seen 1 in let Z : Pr = ex 𝓤 (Holding 384 one (λ _. Then)) in
+  pub reader_closes : (head seen i : ℕ) → i ≤ 1 → ⟦ C ⟧ ∗ ⟦ RK half head seen i ⟧ ⊢ access 384 one (λ _. IsClosing head seen)
+  reader_closes head seen i le = let Then : Fml = IsClosing head seen in let Z : Pr = ex 𝓤 (Holding 384 one (λ _. Then)) in
       inside 𝓛 w p z 384 one (λ _. Then) ⟦ RK half head seen i ⟧ (qed 𝓛 (‵ I ∷ ‵ (RK half head seen i) ∷ []) ∵
       use2 𝓛 (some (λ (s : State). given (ReaderSees 𝓛 w p z head seen i s) (‵ (RK half head seen i) ⊛ ‵ (RK other s.head s.seen s.reader_stage) ⊛ ‵ (WK other s.sent s.limit s.shut s.writer_stage) ⊛ ‵ (Rest 𝓛 w p z s)))) (reader_opens 𝓛 w p z half head seen i le) $ pick ! (λ s. learn ! (λ so. split3 ! $
       let ei = so.3 in let last = so.0.stages.1 in let small = flag_small s.closed in let s' : State = record s { closed = true; reader_stage = 1 } in let near : OneStays 𝓛 w p z s' = omega arith in
@@ -167,7 +172,7 @@ module _ {M : Type 1} {𝓤 : Ura M} (𝓛 : Logic 𝓤) (w p : Ptr) (z : Names)
       show ! (Holding 384 one (λ _. Then)) (flag s.closed) $ frame ! $ assume ! (‵ (word w 384 1)) $ suffices ! _ (upd_i 𝓤 (⟦ I ⟧ ∗ ⟦ Then ⟧)) $
       fjoin ! $ move ! (1 ∷ 2 ∷ 0 ∷ []) $ fjoin3 ! $ move ! (1 ∷ []) $ fsplit ! $ move ! (1 ∷ []) $ fsplit3 ! $ move ! (1 ∷ []) $
       rewrite ! 0 (λ (c : Bool). ‵ (where_gone c (blanks w p z s.head (s.seen - s.head)))) {x = false} {y = gone s.reader_stage} (here s.reader_stage (omega arith)) refl $
-      move ! (1 ∷ 0 ∷ 2 ∷ []) $ fjoin3 ! $ move ! (1 ∷ 0 ∷ []) $ fjoin ! $ move ! (1 ∷ 0 ∷ []) $ fjoin ! $ move ! (3 ∷ 0 ∷ []) $ fjoin ! $ move ! (3 ∷ 1 ∷ 0 ∷ []) $ use3 𝓛 (‵ I) (closes 𝓛 w p z s' so' near) $ frame ! $ done !)))
+      move ! (1 ∷ 0 ∷ 2 ∷ []) $ fjoin3 ! $ move ! (1 ∷ 0 ∷ []) $ fjoin ! $ move ! (1 ∷ 0 ∷ []) $ fjoin ! $ move ! (3 ∷ []) $ use1 𝓛 (‵ (ends w p z true) ⊛ ‵ (raised z.closed true)) (latest_shows numbers 𝓛 full_share z.closed 1 1 (omega arith)) $ split ! $ move ! (0 ∷ 2 ∷ []) $ fjoin ! $ move ! (4 ∷ 2 ∷ 0 ∷ []) $ use3 𝓛 (‵ I) (closes 𝓛 w p z s' so' near) $ frame ! $ fjoin ! $ done !)))
 
   abbrev no_writer : State → State
   no_writer t = record t { writer_stage = 2 }

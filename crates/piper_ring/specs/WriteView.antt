@@ -104,6 +104,15 @@ pub record SameButSaw (a b : WriteView) : Type 0 where
   pub lent : b.lent ≡ a.lent
   pub shut : b.shut ≡ a.shut
 
+-- b is a, but for what was told to it since: that the reader left, among others
+pub record SameButHeard (a b : WriteView) : Type 0 where
+  pub ring : b.ring ≡ a.ring
+  pub capacity : b.capacity ≡ a.capacity
+  pub sent : b.sent ≡ a.sent
+  pub room : b.room ≡ a.room
+  pub lent : b.lent ≡ a.lent
+  pub shut : b.shut ≡ a.shut
+
 -- how the end keeps its view
 pub record IsWriteEnd (e : WriteParts) : Type 0 where
   pub fits :

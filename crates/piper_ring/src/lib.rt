@@ -8,4 +8,4 @@ pub use ends::opening::open_ring;
 pub use ends::reader::ReadEnd;
 pub use ends::writer::WriteEnd;
 pub use piper_sides::memory::OutOfMemory;
-pub use ring::marks::{ReadMark, WriteMark};
+pub use ring::marks::{LastReadMark, ReadMark, WriteMark};

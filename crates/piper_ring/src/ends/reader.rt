@@ -3,7 +3,7 @@ ghost use Rattle.std.specs.Prelude.{◌≡◌, ℕ, ◌+◌, ◌-◌, ◌*◌, �
 
 use crate::ends::leaving::LeavingReader;
 use crate::ends::writer::WriteEnd;
-use crate::ring::marks::{ReadMark, WriteMark};
+use crate::ring::marks::{LastReadMark, ReadMark, Saw, WriteMark};
 use crate::ring::places::{Base, Places};
 use crate::ring::seats::ReadSeat;
 use piper_sides::read_indices::ReadIndices;
@@ -222,9 +222,24 @@ impl ReadEnd {
         parts.seat.store_head(back, parts.indices.head() as u64);
     }
 
+    /// Closes the pipe and lets this end go. The memory is freed if the writer's end is gone. It wakes nobody.
+    ///
+    /// The answer is evidence, for the writer's end, that the pipe is closed, and of all that was ever consumed.
+    pub fn finish(self) -> LastReadMark
+        ensures ring { result.consumed.names ≡ self.ring.1.1 }
+        ensures count { result.consumed.count ≡ length self.taken }
+    {
+        let consumed = self.mark();
+        let (leaving, closed) = self.close();
+        leaving.leave();
+        LastReadMark { consumed, closed }
+    }
+
     /// Closes the pipe, since this end is about to leave.
-    pub(crate) fn close(self) -> LeavingReader
-        ensures { (result.seat.words, (result.seat.at, result.seat.names)) ≡ self.ring }
+    pub(crate) fn close(self) -> (LeavingReader, Saw)
+        ensures ring { (result.0.seat.words, (result.0.seat.at, result.0.seat.names))
+            ≡ self.ring }
+        ensures closed { (result.1.names ≡ self.ring.1.1) × (result.1.seen ≡ true) }
     {
         let ReadEnd { parts } = self;
         let ReadParts {
@@ -237,19 +252,20 @@ impl ReadEnd {
             alloc,
             indices,
         } = parts;
-        seat.store_closed();
-        LeavingReader {
+        let closed = seat.store_closed();
+        let leaving = LeavingReader {
             seat,
             known: known.forget(),
             base,
             alloc,
             capacity: indices.capacity(),
-        }
+        };
+        (leaving, closed)
     }
 }
 
 impl Drop for ReadEnd {
     fn drop(self) {
-        self.close().leave();
+        self.finish();
     }
 }

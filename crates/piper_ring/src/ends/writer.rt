@@ -3,7 +3,7 @@ ghost use Rattle.std.specs.Prelude.{◌≡◌, ℕ, ◌+◌, ◌-◌, ◌*◌, �
 
 use crate::ends::leaving::LeavingWriter;
 use crate::ends::room::Room;
-use crate::ring::marks::{ReadMark, Saw, WriteMark};
+use crate::ring::marks::{LastReadMark, ReadMark, Saw, WriteMark};
 use crate::ring::places::Base;
 use crate::ring::seats::WriteSeat;
 use piper_sides::write_indices::WriteIndices;
@@ -41,7 +41,7 @@ impl Model for WriteEnd {
 }
 
 impl WriteEnd {
-    ghost use Rattle.piper_ring.specs.WriteView.{SameWriteEnd, HasMoreRoom, SameButTold, SameButSaw, MayBeUnread, Lendable};
+    ghost use Rattle.piper_ring.specs.WriteView.{SameWriteEnd, HasMoreRoom, SameButTold, SameButSaw, SameButHeard, MayBeUnread, Lendable};
     ghost use Rattle.piper_ring.specs.LendsBuffer.{lends_buffer};
     ghost use Rattle.std.specs.Borrow.{sem};
     ghost use Rattle.piper_ring.specs.Shared.{flag};
@@ -123,6 +123,17 @@ impl WriteEnd {
         ensures kept { SameButTold self.old self.new }
     {
         self.parts.told.heed(mark);
+    }
+
+    /// From now on it knows that the reader's end left: the pipe counts as seen closed. And it knows of all that was consumed.
+    pub fn heed_last(&mut self, mark: &LastReadMark)
+        requires { mark.now.consumed.names ≡ self.old.ring.1.1 }
+        ensures saw { self.new.saw ≡ true }
+        ensures told { self.new.told ≡ max self.old.told mark.now.consumed.count }
+        ensures kept { SameButHeard self.old self.new }
+    {
+        self.parts.told.heed(&mark.consumed);
+        self.parts.saw = mark.closed.again();
     }
 
     /// Looks for room that was given back. It is for an end that knows of none, as the reader's `reload`.
@@ -227,9 +238,24 @@ impl WriteEnd {
         parts.seat.store_shut();
     }
 
+    /// Closes the pipe for good and lets this end go. The memory is freed if the reader's end is gone. It wakes nobody.
+    ///
+    /// The answer is evidence, for the reader's end, of all that was ever published, and that the pipe is closed behind it.
+    pub fn finish(self) -> WriteMark
+        ensures ring { result.names ≡ self.ring.1.1 }
+        ensures bytes { result.bytes ≡ self.sent }
+        ensures shut { result.shut ≡ true }
+    {
+        let leaving = self.close();
+        let mark = leaving.seat.mark();
+        leaving.leave();
+        mark
+    }
+
     /// Closes the pipe, since this end is about to leave.
     pub(crate) fn close(self) -> LeavingWriter
-        ensures { (result.seat.words, (result.seat.at, result.seat.names)) ≡ self.ring }
+        ensures ring { (result.seat.words, (result.seat.at, result.seat.names)) ≡ self.ring }
+        ensures sent { result.seat.sent ≡ self.sent }
     {
         let WriteEnd { parts } = self;
         let WriteParts {
@@ -255,6 +281,6 @@ impl WriteEnd {
 
 impl Drop for WriteEnd {
     fn drop(self) {
-        self.close().leave();
+        self.finish();
     }
 }

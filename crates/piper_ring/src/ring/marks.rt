@@ -1,5 +1,5 @@
 //! Evidence of what the other end did. It takes no space, threads may hand it on, and it stays true for good.
-ghost use Rattle.std.specs.Prelude.{◌≡◌, ℕ, ◌≤◌, Bool, List, length, max};
+ghost use Rattle.std.specs.Prelude.{◌≡◌, ℕ, ◌≤◌, Bool, true, List, length, max};
 ghost use denote.Sharing.{said};
 ghost use Rattle.piper_ring.specs.Shared.{Names, names_code, announced, took, raised, flag};
 ghost use Rattle.piper_ring.specs.Streams.{Stream, Reaches};
@@ -90,6 +90,24 @@ impl ReadMark {
         ensures ring { self.new.names ≡ self.old.names }
         ensures count { self.new.count ≡ max self.old.count other.now.count }
     {}
+}
+
+/// What a reader that left had consumed, and that it closed the ring.
+pub struct LastReadMark {
+    /// All that was ever consumed.
+    pub consumed: ReadMark,
+    pub(crate) closed: Saw,
+    ghost of_one_ring: { closed.names ≡ consumed.names },
+    ghost is_closed: { closed.seen ≡ true },
+}
+
+impl Drop for LastReadMark {
+    fn drop(self) {
+        let Self {
+            consumed: _,
+            closed: _,
+        } = self;
+    }
 }
 
 /// Where `seen` is `true`, the ring was seen closed.

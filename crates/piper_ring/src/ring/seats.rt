@@ -194,11 +194,13 @@ impl ReadSeat {
         unsafe { raw::store::<Brand>(self.words.add(HEAD_WORD), head, SeqCst) }
     }
 
-    /// Closes the ring, since the reader is about to leave.
-    pub(crate) fn store_closed(&mut self)
-        ensures { self.new ≡ record self.old { leaving = true } }
+    /// Closes the ring, since the reader is about to leave. With it comes evidence that the ring is closed.
+    pub(crate) fn store_closed(&mut self) -> Saw
+        ensures leaving { self.new ≡ record self.old { leaving = true } }
+        ensures closed { (result.names ≡ self.old.names) × (result.seen ≡ true) }
     {
-        unsafe { raw::store::<Brand>(self.words.add(CLOSED_WORD), 1, SeqCst) }
+        unsafe { raw::store::<Brand>(self.words.add(CLOSED_WORD), 1, SeqCst) };
+        Saw { mark: PhantomData }
     }
 
     /// The reader leaves, and gives up the places of the bytes that it knows of. The answer is 1 if the writer had left before.

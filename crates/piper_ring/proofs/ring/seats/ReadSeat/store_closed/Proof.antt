@@ -24,10 +24,10 @@ use Rattle.core.specs.Sync.RawAtomic.{asks, always}
 use Rattle.rtrb.proofs.Walks.{proved, leaves}
 use Rattle.rtrb.proofs.Calls.{seq_cst, fm, stored, has_stored, stores}
 use Rattle.piper_ring.specs.Shared.{Names, flag, Placed, common, half, reader_knows}
-use Rattle.piper_ring.proofs.Fields.{seat_val, ReadData, read_told, read_made}
+use Rattle.piper_ring.proofs.Fields.{seat_val, ghost_val, ReadData, SawData, read_told, read_made, saw_made}
 use Rattle.piper_ring.proofs.Rights.{common_twice}
 use Rattle.piper_ring.proofs.Steps.{flag_small}
-use Rattle.piper_ring.proofs.Leaving.{reader_closes}
+use Rattle.piper_ring.proofs.Leaving.{IsClosing, reader_closes}
 use Rattle.piper_ring.specs.contracts.ring.seats.ReadSeat.{the_row}
 use Rattle.piper_ring.specs.contracts.ring.seats.ReadSeat.store_closed.{ended, clauses}
 use Rattle.piper_ring.specs.contracts.ring.seats.ReadSeat.store_closed.Key.{name as #self}
@@ -43,7 +43,7 @@ store_closed_spec 𝓤 𝓛 𝓜 𝓡 wired =
     (λ κs. (mut_vals, tt)) (λ κs. (mut_Tells (named 0) κs.0 Row, tt)) (λ κs qs bounds a gh are.
     let b : ℕ = a.0.ref_ptr.0 in let o : ℕ = a.0.ref_ptr.1 in let h = a.0.now in let w : Ptr = h.words in let p : Ptr = h.at in let z : Names = h.names in let κ = κs.0 in
     let bw : ℕ = block_of w in let e : ℕ = 384 + count_of w in let us : List Val = seat_val w ∷ [] in let C : Fml = common w p z in
-    let Then : Fml = reader_knows w p z half h.head h.seen 1 in let Step : SProp 𝓤 = asks 𝓛 (block_ptr bw e) (λ _. 1) always (λ _. Then) in let h' : Row.Denot = record h { leaving = true } in
+    let Then : Fml = IsClosing 𝓛 w p z h.head h.seen in let Step : SProp 𝓤 = asks 𝓛 (block_ptr bw e) (λ _. 1) always (λ _. Then) in let h' : Row.Denot = record h { leaving = true } in
     let Data : Fml = ReadData.own_val (w, tt) us in
     let y : (walk_of 𝓛 En hs c).Ghost = ((κs, qs, bounds, a, (vptr b o ∷ [], tt)), gh) in let Post : Val → SProp 𝓤 = (walk_of 𝓛 En hs c).post y in
     qed 𝓛 (((‵ (flft κ qs.0) ⊛ ‵ ftrue) ⊛ ‵ (owns (types_at En.signature.params κs) a y.0.4)) ∷ ‵ ftrue ∷ []) ∵
@@ -59,8 +59,10 @@ store_closed_spec 𝓤 𝓛 𝓜 𝓡 wired =
     (stores 𝓛 𝓜 𝓡 (code.calls-core::raw_atomic::store 𝓡.env wired) (block_ptr bw e) 1 (lit< tt) Then) $
     sets ! (agg ! (and_then ! (lit ! tt) (no_more !))) refl (tt, (record { fits = lit< tt }, tt)) $
     Calls-last ! (fm 𝓛 𝓜 𝓡) (stored Then) (and_then ! (get ! refl) (and_then ! (lit ! tt) (and_then ! (get ! refl) (no_more !)))) (λ u. has_stored ! Then (
-    lands_last ! refl (tt, tt) $ exec ! 𝓣.C 𝓣.Λ Ev (tail fn.body) (at_ret Ev Post) $ sets ! (of_opd ! (unit_lit !)) refl (tt, tt) $
-    move ! (0 ∷ 2 ∷ []) $ fjoin ! $ move ! (1 ∷ 0 ∷ []) $ fjoin ! $ use0 𝓛 (‵ Data) (read_made 𝓛 w) $ fjoin ! $ move ! (1 ∷ 0 ∷ []) $ closes ! tt Row h' us b o $ feq_i ! (List Val) (vptr b o ∷ []) (vptr b o ∷ []) refl $ fjoin3 ! $
+    lands_last ! refl (tt, tt) $ exec ! 𝓣.C 𝓣.Λ Ev (tail fn.body) (at_ret Ev Post) $
+    sets ! (agg ! (no_more !)) refl (tt, tt) $ sets ! (agg ! (and_then ! (get ! refl) (no_more !))) refl (tt, (tt, tt)) $
+    fsplit ! $ move ! (1 ∷ 3 ∷ []) $ fjoin ! $ move ! (2 ∷ 0 ∷ []) $ fjoin ! $ use0 𝓛 (‵ Data) (read_made 𝓛 w) $ fjoin ! $ move ! (2 ∷ 0 ∷ 3 ∷ 4 ∷ 5 ∷ []) $ closes ! tt Row h' us b o $ feq_i ! (List Val) (vptr b o ∷ []) (vptr b o ∷ []) refl $ fjoin3 ! $
     nothing ! $ move ! (1 ∷ 0 ∷ []) $ fjoin ! $ nothing ! $ move ! (2 ∷ 0 ∷ []) $ join ! $
-    use0 𝓛 (raw (fact 𝓤 (h' ≡ h'))) (fact_i 𝓤 (h' ≡ h') (emp 𝓤) refl) $ feq_i ! (List Val) (vunit ∷ []) (vunit ∷ []) refl $
-    returns ! (look_at ! 0 refl) $ free_all ! refl $ keep ! (2 ∷ 3 ∷ 0 ∷ 1 ∷ []) $ by ! (leaves 𝓛 En hs c y vunit tt (h', tt) (tt, tt)))))))))
+    let Told : Type 0 = (z ≡ z) × (true ≡ true) in use0 𝓛 (raw (fact 𝓤 Told)) (fact_i 𝓤 Told (emp 𝓤) (refl, refl)) $ use0 𝓛 (raw (fact 𝓤 (h' ≡ h'))) (fact_i 𝓤 (h' ≡ h') (emp 𝓤) refl) $ join ! $
+    use0 𝓛 (‵ (SawData.own_val (record {}, tt) (ghost_val ∷ []))) (saw_made 𝓛) $ move ! (0 ∷ 4 ∷ []) $ fjoin ! $
+    returns ! (look_at ! 0 refl) $ free_all ! refl $ keep ! (2 ∷ 3 ∷ 0 ∷ 1 ∷ []) $ by ! (leaves 𝓛 En hs c y ghost_val (record { mark = record {}; names = z; seen = true }) (h', tt) (tt, tt)))))))))
