@@ -2,7 +2,7 @@
 ghost use Rattle.std.specs.Prelude.{◌≡◌, ℕ, List, ◌+◌, ◌*◌, ◌^◌, ◌<◌, ◌≤◌, ◌++◌, length, max, IfOk, bit_xor, true};
 ghost use Rattle.std.specs.Borrow.{sem};
 ghost use Rattle.piper_ring.specs.ReadView.{KnowsEnd, Agree};
-ghost use Rattle.piper_ring.specs.WriteView.{Lendable, either};
+ghost use Rattle.piper_ring.specs.WriteView.{Lendable, SameButHeard, either};
 ghost use Rattle.piper_ring.specs.Opened.{FreshReadEnd, FreshWriteEnd};
 ghost use Rattle.piper.specs.Ends.{ReaderRefreshed, ReaderHeeded, WriterRefreshed, WriterHeeded};
 ghost use Rattle.piper.specs.Generator.{generator};
@@ -13,7 +13,7 @@ pub(crate) mod read_steps;
 pub(crate) mod write_steps;
 
 use crate::slot::Slot;
-use piper_ring::{OutOfMemory, ReadEnd, ReadMark, WriteEnd, WriteMark, open_ring};
+use piper_ring::{LastReadMark, OutOfMemory, ReadEnd, ReadMark, WriteEnd, WriteMark, open_ring};
 use rand_core::SeedableRng;
 use rand_pcg::Pcg32;
 use std::alloc::Global;
@@ -153,6 +153,17 @@ impl<H: Wait + Clone + Drop> Writer<H> {
         ensures rest { SameWriter self.old self.new }
     {
         self.end.heed(mark);
+    }
+
+    /// From now on it knows that the reader was dropped: the pipe counts as seen closed, so polls answer `false` and fills 0. And it knows of all that was ever consumed.
+    pub fn heed_last(&mut self, mark: &LastReadMark)
+        requires { mark.now.consumed.names ≡ self.old.end.ring.1.1 }
+        ensures saw { self.new.end.saw ≡ true }
+        ensures told { self.new.end.told ≡ max self.old.end.told mark.now.consumed.count }
+        ensures end { SameButHeard self.old.end self.new.end }
+        ensures rest { SameWriter self.old self.new }
+    {
+        self.end.heed_last(mark);
     }
 
     /// Lends at most `max` bytes of the known room, in one piece, to be written: at least one where there is room, one is asked for and the writer didn't close the pipe. It replaces what was lent before; what stands in the bytes is not said.

@@ -15,5 +15,7 @@ mod writer;
 pub use error::{Inner, PipeError};
 pub use handles::{Reader, Writer, pipe};
 pub use owned::{OwnedReader, OwnedWriter};
-pub use piper_ring::{OutOfMemory, ReadEnd, ReadMark, WriteEnd, WriteMark, open_ring};
+pub use piper_ring::{
+    LastReadMark, OutOfMemory, ReadEnd, ReadMark, WriteEnd, WriteMark, open_ring,
+};
 pub use slot::{NoWaker, Slot, Taken};

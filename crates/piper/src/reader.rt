@@ -12,7 +12,7 @@ use crate::answers::{polled, read_wake};
 use crate::handles::Reader;
 use crate::handles::read_steps::take_writer;
 use futures::task::{Context, Poll};
-use piper_ring::{OutOfMemory, ReadMark};
+use piper_ring::{LastReadMark, OutOfMemory, ReadMark};
 use piper_sides::calls::Side;
 use piper_sides::read_call::ReadCall;
 use piper_sides::table::{Action, Purpose, ReadPoint};
@@ -158,9 +158,15 @@ impl<H: Wait + Clone + Drop> Reader<H> {
     }
 
     /// Closes the pipe and wakes the writer. The memory is freed if the writer is gone.
-    pub fn drop(self) {
-        let (call, slots, rt) = self.store_closed(ReadCall::drop());
+    ///
+    /// The answer is evidence, for the writer to heed, that the pipe is closed, and of all that was ever consumed. It is made by the store that closes, behind which the writer's waker is taken.
+    pub fn drop(self) -> LastReadMark
+        ensures ring { result.consumed.names ≡ self.end.ring.1.1 }
+        ensures count { result.consumed.count ≡ length self.end.taken }
+    {
+        let (call, last, slots, rt) = self.store_closed(ReadCall::drop());
         let (call, taken) = take_writer(&slots, &rt, call);
         read_wake(call, taken).done();
+        last
     }
 }

@@ -168,9 +168,16 @@ impl<H: Wait + Clone + Drop> Writer<H> {
     }
 
     /// Closes the pipe and wakes the reader, who can still read what is unread. The memory is freed if the reader is gone.
-    pub fn drop(self) {
-        let (call, slots, rt) = self.store_closed(WriteCall::drop());
+    ///
+    /// The answer is evidence, for the reader to heed, that the pipe is closed, and of all that was ever published. It is made by the store that closes, behind which the reader's waker is taken.
+    pub fn drop(self) -> WriteMark
+        ensures ring { result.names ≡ self.end.ring.1.1 }
+        ensures bytes { result.bytes ≡ self.end.sent }
+        ensures shut { result.shut ≡ true }
+    {
+        let (call, last, slots, rt) = self.store_closed(WriteCall::drop());
         let (call, taken) = take_reader(&slots, &rt, call);
         write_wake(call, taken).done();
+        last
     }
 }

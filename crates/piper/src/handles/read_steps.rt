@@ -11,6 +11,7 @@ ghost use Rattle.piper.specs.Ends.{HasAll, ReaderIsUpToDate, ReaderRefreshed, Re
 use super::{Reader, Slots};
 use crate::slot::{NoWaker, Taken};
 use futures::task::Context;
+use piper_ring::LastReadMark;
 use piper_sides::calls::Side;
 use piper_sides::read_call::ReadCall;
 use piper_sides::table::{Action, Purpose, ReadPoint};
@@ -151,11 +152,13 @@ impl<H: Wait + Clone + Drop> Reader<H> {
         take_writer(&self.slots, &self.rt, call)
     }
 
-    /// Stores closed as it lets the end go. The slots are left, and what their locks are waited for with.
-    pub(crate) fn store_closed(self, call: ReadCall) -> (ReadCall, Arc<Slots>, H)
+    /// Stores closed as it lets the end go, and gives the evidence of that: its last mark. The slots are left, and what their locks are waited for with.
+    pub(crate) fn store_closed(self, call: ReadCall) -> (ReadCall, LastReadMark, Arc<Slots>, H)
         requires next { read_action call.point ≡ Action.StoreClosed false }
         ensures step { result.0 ≡ read_step call.point nothing }
-        ensures slots { result.1 ≡ self.slots }
+        ensures ring { result.1.consumed.names ≡ self.end.ring.1.1 }
+        ensures count { result.1.consumed.count ≡ length self.end.taken }
+        ensures slots { result.2 ≡ self.slots }
     {
         let Reader {
             end,
@@ -164,8 +167,8 @@ impl<H: Wait + Clone + Drop> Reader<H> {
             rng: _,
             is_registered: _,
         } = self;
-        drop(end);
-        (call.stored_closed(), slots, rt)
+        let last = end.finish();
+        (call.stored_closed(), last, slots, rt)
     }
 }
 

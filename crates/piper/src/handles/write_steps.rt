@@ -10,6 +10,7 @@ ghost use Rattle.piper.specs.Ends.{WriterIsUpToDate, WriterRefreshed, WriterSaw,
 use super::{Slots, Writer};
 use crate::slot::{NoWaker, Taken};
 use futures::task::Context;
+use piper_ring::WriteMark;
 use piper_sides::calls::Side;
 use piper_sides::table::Action;
 use piper_sides::write_call::WriteCall;
@@ -178,11 +179,14 @@ impl<H: Wait + Clone + Drop> Writer<H> {
         take_reader(&self.slots, &self.rt, call)
     }
 
-    /// Stores closed as it lets the end go. The slots are left, and what their locks are waited for with.
-    pub(crate) fn store_closed(self, call: WriteCall) -> (WriteCall, Arc<Slots>, H)
+    /// Stores closed as it lets the end go, and gives the evidence of that: its last mark. The slots are left, and what their locks are waited for with.
+    pub(crate) fn store_closed(self, call: WriteCall) -> (WriteCall, WriteMark, Arc<Slots>, H)
         requires next { write_action call.point ≡ Action.StoreClosed false }
         ensures step { result.0 ≡ write_step call.point nothing }
-        ensures slots { result.1 ≡ self.slots }
+        ensures ring { result.1.names ≡ self.end.ring.1.1 }
+        ensures bytes { result.1.bytes ≡ self.end.sent }
+        ensures shut { result.1.shut ≡ true }
+        ensures slots { result.2 ≡ self.slots }
     {
         let Writer {
             end,
@@ -191,8 +195,8 @@ impl<H: Wait + Clone + Drop> Writer<H> {
             rng: _,
             is_registered: _,
         } = self;
-        drop(end);
-        (call.stored_closed(), slots, rt)
+        let last = end.finish();
+        (call.stored_closed(), last, slots, rt)
     }
 }
 
