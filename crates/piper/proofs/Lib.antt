@@ -3,6 +3,7 @@ mod Rounds
 mod Drawn
 mod Front
 mod Copied
+pub mod Ended
 mod LookingOut
 mod LookingIn
 mod RoundsIn

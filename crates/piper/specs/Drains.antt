@@ -8,7 +8,7 @@ use Rattle.piper_ring.specs.ReadView.{ReadView}
 use Rattle.piper.specs.Copies.{ReaderCopied}
 use Rattle.piper.specs.CopyAnswers.{Copies}
 use Rattle.piper.specs.Contexts.{AsksAgain}
-use Rattle.piper.specs.Ends.{ReaderConsumed, ReaderIsUpToDate}
+use Rattle.piper.specs.Ends.{IsEnded, ReaderConsumed, ReaderIsUpToDate}
 use Rattle.piper.specs.Like.{Passes, appends_to}
 use Rattle.piper.specs.Polls.{OnReadyOk, IfReadyOk}
 use Rattle.piper.specs.declared.error.Inner.{Inner}
@@ -23,9 +23,9 @@ found_len a b = length b.taken + length b.known - length a.taken
 abbrev pub EndIsSeen : {E : Type 0} → Poll (Result ℕ E) → ReadView → ReadView → Type 0
 EndIsSeen r a b = OnReadyOk r (found_len a b ≡ 0 → b.saw ≡ true)
 
--- a drain that answers a count found a byte, or all that was ever published has been taken
+-- a drain that answers a count found a byte, or the end: all that was ever published has been taken
 abbrev pub EndIsTrue : {E : Type 0} → Poll (Result ℕ E) → ReadView → ReadView → Type 0
-EndIsTrue r a b = OnReadyOk r (found_len a b ≡ 0 → b.taken ≡ b.all)
+EndIsTrue r a b = OnReadyOk r (found_len a b ≡ 0 → IsEnded b)
 
 -- a drain that is pending found a byte, or neither saw the pipe closed nor was told so
 abbrev pub EndIsUnseen : {E : Type 0} → Poll (Result ℕ E) → ReadView → ReadView → Type 0

@@ -30,6 +30,12 @@ pub record ReaderHeeded (a b : ReadView) : Type 0 where
   pub known : b.known ≡ a.known
   pub saw : b.saw ≡ a.saw
 
+-- the reader found the end: it saw the pipe closed, and all that was ever published has been taken
+pub record IsEnded (r : ReadView) : Type 0 where
+  pub known : r.known ≡ []
+  pub saw : r.saw ≡ true
+  pub all : r.taken ≡ r.all
+
 -- behind the pipe's end, b knows of all that was ever published, which is what it was for a
 pub record HasAll (a b : ReadView) : Type 0 where
   pub now : b.taken ++ b.known ≡ b.all

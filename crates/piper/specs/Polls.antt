@@ -1,5 +1,6 @@
 -- What a poll of a reader or a writer leaves.
 use Rattle.std.specs.Prelude.{◌≡◌, ℕ, ◌+◌, ◌<◌, ◌≤◌, Bool, true, false, List, [], ◌++◌, take, drop, length, Result, Ok, Err, ⊤}
+use Rattle.futures.specs.Poll.{OnPending}
 use Rattle.futures.specs.declared.task.Poll.{Poll}
 use Rattle.futures.specs.declared.task.Poll.TheVariants.{Ready, Pending}
 use denote.Ref.{Bor}
@@ -22,6 +23,15 @@ abbrev pub IfReadyErr : {A E : Type 0} → Poll (Result A E) → (E → Type 0) 
 IfReadyErr (Ready (Ok x)) P = ⊤
 IfReadyErr (Ready (Err e)) P = P e
 IfReadyErr Pending P = ⊤
+
+-- what holds behind a told end: it is the end still, no byte becomes known, and no call waits
+abbrev pub Behind : {A E : Type 0} → Poll (Result A E) → Type 0 → List ℕ → Type 0
+Behind r ended known = ended × (known ≡ []) × OnPending r ⊥
+
+-- and of a reader that doesn't tell what it knows: it takes no byte
+abbrev pub TakesNone : {A E : Type 0}
+    → Poll (Result A E) → Type 0 → List ℕ → List ℕ → Type 0
+TakesNone r ended before after = ended × (after ≡ before) × OnPending r ⊥
 
 -- a slice that was lent: the first piece of the bytes that are known,
 -- and an empty one only at an end that was seen. Where the poll is pending no byte is known

@@ -126,6 +126,7 @@ impl<H: Wait + Clone + Drop> Reader<H> {
         ensures reader_saw { self.new.end.saw ≡ true → other.new.end.shut ≡ true }
         ensures writer_saw { other.new.end.saw ≡ true → other.new.end.shut ≡ true }
         ensures all { KnowsEnd self.new.end → self.new.end.all ≡ other.new.end.sent }
+        ensures same { KnowsEnd self.old.end → self.new.end.all ≡ self.old.end.all }
         ensures reader { ReaderRefreshed self.old.end self.new.end }
         ensures writer { WriterRefreshed other.old.end other.new.end }
         ensures rest { SameReader self.old self.new × SameWriter other.old other.new }

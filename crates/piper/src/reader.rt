@@ -5,8 +5,9 @@ ghost use Rattle.futures.specs.Poll.{OnPending};
 ghost use Rattle.piper_sides.specs.Table.{read_action, read_step, waker};
 ghost use Rattle.piper_ring.specs.ReadView.{MayBeUnread, KnowsEnd, in_one_piece};
 ghost use Rattle.piper.specs.Counts.{ReaderCompares};
-ghost use Rattle.piper.specs.Ends.{ReaderConsumed};
+ghost use Rattle.piper.specs.Ends.{IsEnded, ReaderConsumed};
 ghost use Rattle.piper.specs.Looks.{ReaderFound, ReaderLooked, OnRefused};
+ghost use Rattle.piper.specs.Polls.{Behind};
 
 use crate::answers::{polled, read_wake};
 use crate::handles::Reader;
@@ -59,12 +60,14 @@ impl<H: Wait + Clone + Drop> Reader<H> {
 
     /// Waits for a byte, or for the end.
     ///
-    /// The answer is `true` once a byte is known, which `peek_buf` then lends; and `false` once the pipe is closed and all that was ever published has been taken. Until then the call is pending, and the task is woken when bytes are published or the pipe is closed. It looks for more bytes only where none is known. Where no waker can be made the answer is want of memory.
+    /// The answer is `true` once a byte is known, which `peek_buf` then lends; and `false` once the pipe is closed and all that was ever published has been taken: this is final. Until then the call is pending, and the task is woken when bytes are published or the pipe is closed. It looks for more bytes only where none is known. Where no waker can be made the answer is want of memory.
     pub fn poll(&mut self, cx: &mut Context<'_>) -> Poll<Result<bool, OutOfMemory>>
         ensures answer { ReaderFound result self.new.end }
         ensures looked { ReaderLooked self.old.end self.new.end }
         ensures told { OnPending result (self.old.end.told_shut ≡ false) }
-        ensures end { result ≡ Poll.Ready (Ok false) → self.new.end.taken ≡ self.new.end.all }
+        ensures end { result ≡ Poll.Ready (Ok false) → IsEnded self.new.end }
+        ensures behind { IsEnded self.old.end →
+            Behind result (IsEnded self.new.end) self.new.end.known }
         ensures all { KnowsEnd self.old.end → self.new.end.all ≡ self.old.end.all }
         ensures refused { OnRefused result (cx.new.lacks_waker ≡ true) }
         ensures rest { SameReader self.old self.new }
@@ -127,6 +130,7 @@ impl<H: Wait + Clone + Drop> Reader<H> {
         ensures taken { self.new.end.taken ≡ self.old.end.taken ++ take amt self.old.end.known }
         ensures known { self.new.end.known ≡ drop amt self.old.end.known }
         ensures all { self.new.end.all ≡ self.old.end.all }
+        ensures stays { IsEnded self.old.end → IsEnded self.new.end }
         ensures end { ReaderConsumed self.old.end self.new.end }
         ensures rest { SameReader self.old self.new }
     {

@@ -9,10 +9,10 @@ ghost use Rattle.piper.specs.Copies.{ReaderCopied};
 ghost use Rattle.piper.specs.CopyAnswers.{OnMemory, CountsFailure, IsAtOnce, inner_of};
 ghost use Rattle.piper.specs.Draws.{Draws, DrawsYield, Undrawn, drawn_from};
 ghost use Rattle.piper.specs.Drains.{Drains, DrainsInto, DrainRounds, DrainYields, EndIsSeen, EndIsTrue, EndIsUnseen, CountsWhatFits, FoundNoByte, StaysKnown, found_len};
-ghost use Rattle.piper.specs.Ends.{ReaderIsUpToDate};
+ghost use Rattle.piper.specs.Ends.{IsEnded, ReaderIsUpToDate};
 ghost use Rattle.piper.specs.Like.{Counts, passed};
 ghost use Rattle.piper.specs.Looks.{ReaderLooked, OnRefused};
-ghost use Rattle.piper.specs.Polls.{OnReadyOk, Reads};
+ghost use Rattle.piper.specs.Polls.{OnReadyOk, Reads, TakesNone};
 
 use super::copied;
 use crate::error::{Inner, PipeError};
@@ -42,6 +42,8 @@ impl<H: Wait + Clone + Drop> Reader<H> {
         ensures ended { EndIsSeen result self.old.end self.new.end }
         ensures all { EndIsTrue result self.old.end self.new.end }
         ensures same { KnowsEnd self.old.end → self.new.end.all ≡ self.old.end.all }
+        ensures behind { IsEnded self.old.end →
+            TakesNone result (IsEnded self.new.end) self.old.end.taken self.new.end.taken }
         ensures waits { EndIsUnseen result self.old.end self.new.end }
         ensures draws { Draws (0 < found_len self.old.end self.new.end) result
             self.old.rng self.new.rng }
@@ -70,12 +72,15 @@ impl<H: Wait + Clone + Drop> Reader<H> {
     ) -> Poll<Result<usize, OutOfMemory>>
         ensures read { Reads result dest.old dest.new
             self.old.end.taken self.new.end.taken self.new.end.saw }
+        ensures told { result ≡ Poll.Ready (Ok 0) → 0 < length dest.old → IsEnded self.new.end }
         ensures count { CountsWhatFits result (length dest.old) self.old.end self.new.end }
         ensures known { 0 < length self.old.end.known → StaysKnown self.old.end self.new.end }
         ensures fresh { self.old.end.known ≡ [] → ReaderIsUpToDate self.new.end }
         ensures ended { EndIsSeen result self.old.end self.new.end }
         ensures all { EndIsTrue result self.old.end self.new.end }
         ensures same { KnowsEnd self.old.end → self.new.end.all ≡ self.old.end.all }
+        ensures behind { IsEnded self.old.end →
+            TakesNone result (IsEnded self.new.end) self.old.end.taken self.new.end.taken }
         ensures waits { EndIsUnseen result self.old.end self.new.end }
         ensures draws { Draws (0 < found_len self.old.end self.new.end) result
             self.old.rng self.new.rng }
@@ -105,6 +110,7 @@ impl<H: Wait + Clone + Drop> Reader<H> {
         ensures most { result < length dest.old → self.new.end.known ≡ [] }
         ensures fresh { self.old.end.known ≡ [] → ReaderIsUpToDate self.new.end }
         ensures same { KnowsEnd self.old.end → self.new.end.all ≡ self.old.end.all }
+        ensures stays { IsEnded self.old.end → IsEnded self.new.end }
         ensures end { ReaderCopied self.old.end self.new.end }
         ensures handle { SameReader self.old self.new }
     {
@@ -132,6 +138,8 @@ impl<H: Wait + Clone + Drop> Reader<H> {
         ensures ended { EndIsSeen result self.old.end self.new.end }
         ensures all { EndIsTrue result self.old.end self.new.end }
         ensures same { KnowsEnd self.old.end → self.new.end.all ≡ self.old.end.all }
+        ensures behind { IsEnded self.old.end →
+            TakesNone result (IsEnded self.new.end) self.old.end.taken self.new.end.taken }
         ensures waits { EndIsUnseen result self.old.end self.new.end }
         ensures draws { IsSome cx.entry →
             Draws (0 < found_len self.old.end self.new.end) result self.old.rng self.new.rng }
@@ -164,6 +172,7 @@ impl<H: Wait + Clone + Drop> Reader<H> {
         ensures ended { EndIsSeen result self.old.end self.new.end }
         ensures all { EndIsTrue result self.old.end self.new.end }
         ensures same { KnowsEnd self.old.end → self.new.end.all ≡ self.old.end.all }
+        ensures stays { IsEnded self.old.end → IsEnded self.new.end }
         ensures waits { EndIsUnseen result self.old.end self.new.end }
         ensures draws { Draws (0 < found_len self.old.end self.new.end) result
             self.old.rng self.new.rng }
@@ -215,6 +224,7 @@ impl<H: Wait + Clone + Drop> Reader<H> {
         ensures ended { EndIsSeen result self.old.end self.new.end }
         ensures all { EndIsTrue result self.old.end self.new.end }
         ensures same { KnowsEnd self.old.end → self.new.end.all ≡ self.old.end.all }
+        ensures stays { IsEnded self.old.end → IsEnded self.new.end }
         ensures waits { OnPending result (found_len self.old.end self.new.end ≡ 0) }
         ensures open { OnPending result (
             (self.new.end.saw ≡ false) × (self.new.end.told_shut ≡ false)) }
@@ -237,9 +247,9 @@ impl<H: Wait + Clone + Drop> Reader<H> {
             call.point ≡ ReadPoint.LookTake (Purpose.Copy (Form.Polling false))) }
         ensures some { IfOk result (λ _. 0 < length self.new.end.known) }
         ensures none { IfErr result (λ told. FoundNoByte told self.new.end) }
-        ensures all { IfErr result (λ told.
-            OnReadyOk told (self.new.end.taken ≡ self.new.end.all)) }
+        ensures all { IfErr result (λ told. OnReadyOk told (IsEnded self.new.end)) }
         ensures same { KnowsEnd self.old.end → self.new.end.all ≡ self.old.end.all }
+        ensures stays { IsEnded self.old.end → IsEnded self.new.end }
         ensures refused { IfErr result (λ told. OnMemory told (cx.new.lacks_waker ≡ true)) }
         ensures covered { IfErr result (λ told.
             OnPending told (Covers cx.new (λ s. s ≡ read_source self.old))) }
@@ -274,9 +284,9 @@ impl<H: Wait + Clone + Drop> Reader<H> {
             call ≡ goes_on (ReadPoint.CallDestination Form.Try 0)) }
         ensures some { IfOk result (λ _. 0 < length self.new.end.known) }
         ensures none { IfErr result (λ told. FoundNoByte told self.new.end) }
-        ensures all { IfErr result (λ told.
-            OnReadyOk told (self.new.end.taken ≡ self.new.end.all)) }
+        ensures all { IfErr result (λ told. OnReadyOk told (IsEnded self.new.end)) }
         ensures same { KnowsEnd self.old.end → self.new.end.all ≡ self.old.end.all }
+        ensures stays { IsEnded self.old.end → IsEnded self.new.end }
         ensures granted { IfErr result (λ told. OnMemory told ⊥) }
         ensures looked { ReaderLooked self.old.end self.new.end }
         ensures rest { SameReader self.old self.new }

@@ -6,7 +6,7 @@ ghost use Rattle.piper_sides.specs.Table.{goes_on, read_action, read_step, reade
 ghost use Rattle.piper_ring.specs.ReadView.{KnowsEnd, in_one_piece};
 ghost use Rattle.piper_ring.specs.Shared.{flag};
 ghost use Rattle.piper.specs.Slots.{IsFrom, IsNoneOf, IsEmptied, found_in};
-ghost use Rattle.piper.specs.Ends.{HasAll, ReaderIsUpToDate, ReaderRefreshed, ReaderSaw, ReaderConsumed};
+ghost use Rattle.piper.specs.Ends.{HasAll, IsEnded, ReaderIsUpToDate, ReaderRefreshed, ReaderSaw, ReaderConsumed};
 
 use super::{Reader, Slots};
 use crate::slot::{NoWaker, Taken};
@@ -39,6 +39,7 @@ impl<H: Wait + Clone + Drop> Reader<H> {
         ensures none { IsTrue result.1 ↔ (length self.new.end.known ≡ 0) }
         ensures fresh { ReaderIsUpToDate self.new.end }
         ensures all { KnowsEnd self.old.end → HasAll self.old.end self.new.end }
+        ensures stays { IsEnded self.old.end → IsEnded self.new.end }
         ensures end { ReaderRefreshed self.old.end self.new.end }
         ensures rest { SameReader self.old self.new }
     {
@@ -55,6 +56,7 @@ impl<H: Wait + Clone + Drop> Reader<H> {
         ensures saw { result.1 ≡ self.new.end.saw }
         ensures told { flag self.old.end.told_shut ≤ flag self.new.end.saw }
         ensures all { KnowsEnd self.old.end → self.new.end.all ≡ self.old.end.all }
+        ensures stays { IsEnded self.old.end → IsEnded self.new.end }
         ensures end { ReaderSaw self.old.end self.new.end }
         ensures rest { SameReader self.old self.new }
     {

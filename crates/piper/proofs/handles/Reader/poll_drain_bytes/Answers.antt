@@ -1,5 +1,5 @@
 -- What is taken stands at the front of the slice.
-use Rattle.std.proofs.Common.{rules, ◌≤◌, ◌++◌, length, refl, sym, ap, ◌∙◌, append_assoc, inl, inr}
+use Rattle.std.proofs.Common.{rules, ◌≡◌, ◌≤◌, ◌++◌, length, refl, sym, ap, ◌∙◌, append_assoc, inl, inr}
 use Rattle.piper.proofs.Front.{front_is, rest_is, full_is, counts, none_found}
 use Rattle.piper.proofs.handles.Reader.poll_drain_bytes.Goals as goal
 
@@ -25,3 +25,8 @@ pub returns-in-Ready-Ok-clause-known : goal.returns-in-Ready-Ok-clause-known
 returns-in-Ready-Ok-clause-known g c = λ some.
     let drained = rw c.in-Ready-Ok.field-0-is at c.in-Ready-Ok.ensures.drained in
     ap (λ xs. xs ++ c.drain_inner.new.self.end.known) drained.taken ∙ append_assoc c.args.self.now.end.taken drained.moved c.drain_inner.new.self.end.known ∙ ap (λ xs. c.args.self.now.end.taken ++ xs) (sym (drained.known some))
+
+pub returns-in-Ready-Ok-clause-told : goal.returns-in-Ready-Ok-clause-told
+returns-in-Ready-Ok-clause-told g c = λ told some.
+    let zero : c.in-Ready-Ok.count ≡ 0 = cc in
+    (rw c.in-Ready-Ok.field-0-is at c.in-Ready-Ok.ensures.all) (none_found _ _ _ (returns-in-Ready-Ok-clause-count g c) zero some)

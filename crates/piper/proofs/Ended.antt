@@ -1,0 +1,72 @@
+-- What stays behind a told end.
+use Rattle.std.proofs.Common.{◌≡◌, ℕ, ◌≤◌, ◌++◌, Bool, true, false, [], take, drop, refl, sym, ap, ◌∙◌, append-nil, Result, Ok, Err, length, true≢false, arith}
+use Rattle.std.proofs.lemmas.List.{append_cancel_left}
+use Rattle.std.proofs.Math.Seq.{take-nil, drop-nil}
+use Rattle.piper_ring.specs.Shared.{flag}
+use Rattle.piper_ring.specs.Streams.{either}
+use Rattle.piper_ring.specs.ReadView.{ReadView, KnowsEnd, KnowsMore, SameButSaw}
+use Rattle.futures.specs.declared.task.Poll.{Poll}
+use Rattle.futures.specs.declared.task.Poll.TheVariants.{Ready, Pending}
+use Rattle.piper.specs.Drains.{EndIsUnseen}
+use Rattle.piper.specs.Ends.{IsEnded}
+use Rattle.piper.specs.Looks.{ReaderFound}
+use Rattle.piper.specs.Polls.{Behind, TakesNone}
+
+-- who saw the end knows where it is
+knows : (told saw : Bool) → saw ≡ true → either told saw ≡ true
+knows false saw seen = seen
+knows true saw seen = refl
+
+pub ended_knows : (r : ReadView) → IsEnded r → KnowsEnd r
+ended_knows r ended = knows r.told_shut r.saw ended.saw
+
+stays : (a b : Bool) → flag a ≤ flag b → a ≡ true → b ≡ true
+stays a true le seen = refl
+stays a false le seen = absurd (omega (arith, le, ap flag seen))
+
+-- a load of the tail finds nothing more
+pub ended_more : (a b : ReadView) → (KnowsEnd a → b.taken ++ b.known ≡ b.all) → KnowsMore a b → IsEnded a → IsEnded b
+ended_more a b whole more ended =
+    let knows = ended_knows a ended in
+    let all : b.all ≡ a.all = more.all knows in
+    let taken : b.taken ≡ b.all = more.taken ∙ ended.all ∙ sym all in
+    record {
+      known = append_cancel_left b.taken b.known [] (whole knows ∙ sym taken ∙ sym (append-nil b.taken));
+      saw = more.saw ∙ ended.saw;
+      all = taken;
+    }
+
+-- a load of closed
+pub ended_seen : (a b : ReadView) → SameButSaw a b → flag a.saw ≤ flag b.saw → IsEnded a → IsEnded b
+ended_seen a b same seen ended = record {
+  known = same.known ∙ ended.known;
+  saw = stays a.saw b.saw seen ended.saw;
+  all = same.taken ∙ ended.all ∙ sym (same.all (ended_knows a ended));
+}
+
+-- and nothing is left to be consumed
+pub ended_consumed : (n : ℕ) (a b : ReadView) → b.taken ≡ a.taken ++ take n a.known → b.known ≡ drop n a.known → b.all ≡ a.all → b.saw ≡ a.saw → IsEnded a → IsEnded b
+ended_consumed n a b taken known all saw ended = record {
+  known = known ∙ ap (λ l. drop n l) ended.known ∙ drop-nil n;
+  saw = saw ∙ ended.saw;
+  all = taken ∙ ap (λ l. a.taken ++ take n l) ended.known ∙ ap (λ l. a.taken ++ l) (take-nil n) ∙ append-nil a.taken ∙ ended.all ∙ sym all;
+}
+
+-- what was taken stays the same
+ended_takes : (a b : ReadView) → (KnowsEnd a → b.all ≡ a.all) → IsEnded a → IsEnded b → b.taken ≡ a.taken
+ended_takes a b same before now = now.all ∙ same (ended_knows a before) ∙ sym before.all
+
+-- a drain behind the end takes none, and doesn't wait
+pub ended_behind : {E : Type 0} (r : Poll (Result ℕ E)) (a b : ReadView) → (KnowsEnd a → b.all ≡ a.all) → (IsEnded a → IsEnded b) → EndIsUnseen r a b → IsEnded a → TakesNone r (IsEnded b) a.taken b.taken
+ended_behind (Ready (Ok n)) a b same stays unseen ended = (stays ended, ended_takes a b same ended (stays ended), tt)
+ended_behind (Ready (Err e)) a b same stays unseen ended = (stays ended, ended_takes a b same ended (stays ended), tt)
+ended_behind Pending a b same stays unseen ended =
+    let now = stays ended in
+    let taken : b.taken ≡ a.taken = ended_takes a b same ended now in
+    (now, taken, absurd (true≢false (sym now.saw ∙ (unseen (omega (arith, ap length taken, ap length now.known))).0)))
+
+-- and so does a poll
+pub ended_poll : {E : Type 0} (r : Poll (Result Bool E)) (b : ReadView) → ReaderFound r b → IsEnded b → Behind r (IsEnded b) b.known
+ended_poll (Ready (Ok found)) b answer ended = (ended, ended.known, tt)
+ended_poll (Ready (Err e)) b answer ended = (ended, ended.known, tt)
+ended_poll Pending b answer ended = (ended, ended.known, absurd (true≢false (sym ended.saw ∙ answer.1)))

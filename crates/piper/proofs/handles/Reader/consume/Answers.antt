@@ -1,0 +1,8 @@
+-- Behind the end there is nothing to consume.
+use Rattle.piper.proofs.Ended.{ended_consumed}
+use Rattle.piper.proofs.handles.Reader.consume.Goals as goal
+
+pub returns-clause-stays : goal.returns-clause-stays
+returns-clause-stays g c =
+    let stored = c.store_head-call.ensures in
+    ended_consumed c.args.amt _ _ stored.taken stored.known stored.all stored.end.saw
