@@ -6,7 +6,7 @@ ghost use Rattle.std.specs.Io.BufRead.{Rests};
 ghost use Rattle.futures.specs.Task.{Covers, Keeps};
 ghost use Rattle.futures.specs.Poll.{OnPending};
 ghost use Rattle.piper.specs.Contexts.{AsksAgain};
-ghost use Rattle.piper.specs.Polls.{Lends, Reads, Writes, OnReadyOk, IfReadyErr};
+ghost use Rattle.piper.specs.Polls.{Behind, Lends, Reads, TakesNone, Writes, OnReadyOk, IfReadyOk, IfReadyErr};
 
 mod copy;
 
@@ -28,16 +28,22 @@ pub trait AsyncRead {
     // whether it was told of the end
     ghost told: { Self → Bool } = { λ _. false };
 
+    // a call of its own has told the end: it took all that ever comes
+    ghost ended: { Self → Type 0 };
+
     // holds of each source that a pending read waits for
     ghost needs: { Self → ℕ → Type 0 };
 
     // a call with this context has failed with this error, and left it so
     ghost fails: { Self → Context → PipeError → Type 0 } = { λ _ _ _. ⊤ };
 
-    /// Takes bytes, puts them at the front of `dest`, and answers how many; 0 where `dest` has room is the end. A reader that was told of the end is pending only where it asked for another poll itself.
+    /// Takes bytes, puts them at the front of `dest`, and answers how many; 0 where `dest` has room is the end, behind which no byte comes and no call waits. A reader that was told of the end is pending only where it asked for another poll itself.
     fn poll_read(&mut self, cx: &mut Context<'_>, dest: &mut [u8]) -> Poll<Result<usize, PipeError>>
         ensures read { Reads result dest.old dest.new
             (taken self.old) (taken self.new) (saw self.new) }
+        ensures end { result ≡ Poll.Ready (Ok 0) → 0 < length dest.old → ended self.new }
+        ensures behind { ended self.old →
+            TakesNone result (ended self.new) (taken self.old) (taken self.new) }
         ensures told { told self.new ≡ told self.old }
         ensures heeded { OnPending result (told self.old ≡ true → AsksAgain cx.new) }
         ensures error { IfReadyErr result (fails self.new cx.new) }
@@ -66,17 +72,22 @@ pub trait AsyncBufRead {
     // whether it was told of the end
     ghost told: { Self → Bool } = { λ _. false };
 
+    // a call of its own has told the end: it took all that ever comes
+    ghost ended: { Self → Type 0 };
+
     // holds of each source that a pending call waits for
     ghost needs: { Self → ℕ → Type 0 };
 
     // a call with this context has failed with this error, and left it so
     ghost fails: { Self → Context → PipeError → Type 0 } = { λ _ _ _. ⊤ };
 
-    /// Lends the first piece of the bytes that it knows; an empty slice is the end. Bytes that were known stay known, and none is taken. A reader that was told of the end is not pending.
+    /// Lends the first piece of the bytes that it knows; an empty slice is the end, behind which no byte comes and no call waits. Bytes that were known stay known, and none is taken. A reader that was told of the end is not pending.
     fn poll_fill_buf(&mut self, cx: &mut Context<'_>) -> Poll<Result<&[u8], PipeError>>
         // said of the reader as it is once the slice is given back
         ensures* lent { sem 𝓛 (Rests Self.row self.entry (λ new.
             Lends result (known new) (piece new) (saw new)
+            × IfReadyOk result (λ lent. length lent.now ≡ 0 → ended new)
+            × (ended self.old → Behind result (ended new) (known new))
             × StartsWith (known new) (known self.old)
             × (taken new ≡ taken self.old)
             × (saw self.old ≡ true → saw new ≡ true)
@@ -92,7 +103,8 @@ pub trait AsyncBufRead {
         ensures known { known self.new ≡ drop amt (known self.old) }
         ensures taken { taken self.new ≡ taken self.old ++ take amt (known self.old) }
         ensures saw { saw self.new ≡ saw self.old }
-        ensures told { told self.new ≡ told self.old };
+        ensures told { told self.new ≡ told self.old }
+        ensures end { ended self.old → ended self.new };
 }
 
 /// A writer.

@@ -3,7 +3,7 @@ ghost use Rattle.std.specs.Prelude.{◌≡◌, Ok};
 ghost use Rattle.std.specs.Borrow.{sem};
 ghost use Rattle.futures.specs.Task.{Keeps};
 ghost use Rattle.piper.specs.Contexts.{WantsWaker};
-ghost use Rattle.piper.specs.Ends.{WriterShut};
+ghost use Rattle.piper.specs.Ends.{IsEnded, WriterShut};
 
 use crate::error::PipeError;
 use crate::handles::{Reader, Writer};
@@ -80,6 +80,8 @@ impl<H: Wait + Clone + Drop> AsyncRead for OwnedReader<H> {
 
     ghost told = { λ owned. owned.reader.end.told_shut };
 
+    ghost ended = { λ owned. IsEnded owned.reader.end };
+
     ghost needs = { λ owned s. s ≡ read_source owned.reader };
 
     ghost fails = { λ _ cx e. WantsWaker cx e };
@@ -106,6 +108,8 @@ impl<H: Wait + Clone + Drop> AsyncBufRead for OwnedReader<H> {
     ghost saw = { λ owned. owned.reader.end.saw };
 
     ghost told = { λ owned. owned.reader.end.told_shut };
+
+    ghost ended = { λ owned. IsEnded owned.reader.end };
 
     ghost needs = { λ owned s. s ≡ read_source owned.reader };
 

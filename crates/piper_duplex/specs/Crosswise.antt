@@ -11,9 +11,9 @@ use Rattle.piper.specs.WriteView.{SameWriteEnd}
 use Rattle.piper.specs.Opened.{FreshReadEnd, FreshWriteEnd}
 use Rattle.piper.specs.Contexts.{WantsWaker}
 use Rattle.piper.specs.Generator.{generator}
-use Rattle.piper.specs.Ends.{ReaderRefreshed, WriterRefreshed}
+use Rattle.piper.specs.Ends.{IsEnded, ReaderRefreshed, WriterRefreshed}
 use Rattle.piper.specs.Handles.{ArePair, SameReader, SameWriter, read_source}
-use Rattle.piper.specs.Polls.{Lends, IfReadyErr}
+use Rattle.piper.specs.Polls.{Behind, Lends, IfReadyOk, IfReadyErr}
 use Rattle.piper.specs.declared.error.PipeError.{PipeError}
 use Rattle.piper.specs.declared.handles.Reader.{Reader}
 use Rattle.piper.specs.declared.handles.Writer.{Writer}
@@ -51,12 +51,14 @@ pub record HaveMet {H : Type 0}
   pub writer : WriterRefreshed writer0.end writer1.end × SameWriter writer0 writer1
 
 -- a poll of the end a lent the first piece of the known bytes, and left the end as b:
--- no byte was taken, and a pending poll has armed its task and was not told of the end;
--- a poll that fails wants memory
+-- no byte was taken, an empty piece is the end, which is final, and a pending poll has armed
+-- its task and was not told of the end; a poll that fails wants memory
 abbrev pub LendsPiece : {H : Type 0} → Poll (Result (Bor (List ℕ)) PipeError)
     → End H → End H → Context → Type 0
 LendsPiece r a b cx =
     Lends r b.reader.end.known (in_one_piece b.reader.end) b.reader.end.saw
+    × IfReadyOk r (λ lent. length lent.now ≡ 0 → IsEnded b.reader.end)
+    × (IsEnded a.reader.end → Behind r (IsEnded b.reader.end) b.reader.end.known)
     × StartsWith b.reader.end.known a.reader.end.known
     × (b.reader.end.taken ≡ a.reader.end.taken)
     × (a.reader.end.saw ≡ true → b.reader.end.saw ≡ true)

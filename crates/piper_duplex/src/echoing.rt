@@ -2,7 +2,7 @@
 ghost use Rattle.std.specs.Prelude.{◌≡◌, ◌<◌, ◌≤◌, ◌⊎◌, [], length, true, false, Ok};
 ghost use Rattle.futures.specs.Task.{Covers, Keeps};
 ghost use Rattle.futures.specs.Poll.{OnPending};
-ghost use Rattle.piper_lines.specs.LineReader.{reader_of, kept_of};
+ghost use Rattle.piper_lines.specs.LineReader.{IsSpent, reader_of, kept_of};
 ghost use Rattle.piper.specs.Polls.{IfReadyErr};
 ghost use Rattle.piper_lines.specs.AtEnd.{AtEnd};
 ghost use Rattle.piper_lines.specs.Moves.{Moves};
@@ -69,6 +69,7 @@ impl LineEcho {
             (W.sent writer.old) (W.sent writer.new) (W.saw writer.old) (W.saw writer.new) }
         ensures ended { result ≡ Poll.Ready (Ok Echoed.ToTheEnd) → (held_of self.new lines.new ≡ [])
             × AtEnd (R.known (reader_of lines.new)) (R.saw (reader_of lines.new)) }
+        ensures spent { result ≡ Poll.Ready (Ok Echoed.ToTheEnd) → IsSpent R.ended lines.new }
         ensures closed { result ≡ Poll.Ready (Ok Echoed.UntilClosed) → W.saw writer.new ≡ true }
         ensures error { IfReadyErr result (λ e. W.fails writer.new cx.new e
             ⊎ IsTold e (R.fails (reader_of lines.new) cx.new)
@@ -134,6 +135,7 @@ impl LineEcho {
             (kept_of lines.old) (left_of self.new) (kept_of lines.new) }
         ensures ended { result ≡ Poll.Ready (Ok LineAnswer.End) → (held_of self.new lines.new ≡ [])
             × AtEnd (R.known (reader_of lines.new)) (R.saw (reader_of lines.new)) }
+        ensures spent { result ≡ Poll.Ready (Ok LineAnswer.End) → IsSpent R.ended lines.new }
         ensures error { IfReadyErr result (λ e. IsTold e (R.fails (reader_of lines.new) cx.new)
             (LacksRoom limit 0 (kept_of lines.new) (R.known (reader_of lines.new)))) }
         ensures waits { OnPending result (self.new.is_written ≡ true) }

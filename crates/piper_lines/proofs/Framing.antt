@@ -1,5 +1,11 @@
 -- Frames are taken by their length, and then by their bytes.
 use Rattle.std.proofs.Common.{◌≡◌, ℕ, ◌<◌, ◌≤◌, List, [], ◌∷◌, ◌++◌, length, ap, ◌∙◌, sym, subst, append_assoc, append-nil, length-append, refl, arith}
+use Rattle.std.specs.Prelude.{Ok}
+use Rattle.futures.specs.declared.task.Poll.TheVariants.{Ready}
+use Rattle.piper.specs.declared.error.PipeError.{PipeError}
+use Rattle.piper_lines.specs.FrameAnswers.{OnEnd}
+use Rattle.piper_lines.specs.declared.frame_reader.FrameAnswer.{FrameAnswer}
+use Rattle.piper_lines.specs.declared.frame_reader.FrameAnswer.TheVariants.{Frame, TooLong, Truncated, End}
 use Rattle.piper_lines.specs.Frame.{length_bytes, told_length, frame_bytes}
 use Rattle.piper_lines.specs.Moves.{Grows, Passes, PassesMoves}
 use Rattle.piper_lines.proofs.Moving.{moves_none, moves_then}
@@ -89,3 +95,10 @@ keeping_frame t0 t1 header body frame header' body' kept0 skips0 skips1 keeping 
       (moves.0, moves.1, moves.2 ∙ whole ∙ sym (append-nil (frame_bytes frame)) ∙ ap (λ ws. frame_bytes frame ++ ws) (sym nothing)),
       keeping.3,
     )
+
+-- whatever is answered, the reader ended
+pub on_end : (answer : FrameAnswer) (P : Type 0) → P → OnEnd {E = PipeError} (Ready (Ok answer)) P
+on_end Frame P ended = tt
+on_end (TooLong n) P ended = tt
+on_end Truncated P ended = ended
+on_end End P ended = ended

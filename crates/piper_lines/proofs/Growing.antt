@@ -1,5 +1,6 @@
 -- Bytes that were taken stand behind those that were gathered before.
-use Rattle.std.proofs.Common.{◌≡◌, ℕ, List, [], ◌++◌, append_assoc, append-nil, ap, ◌∙◌, sym}
+use Rattle.std.proofs.Common.{◌≡◌, ℕ, ◌<◌, List, [], ◌++◌, length, take, arith, append_assoc, append-nil, ap, ◌∙◌, sym}
+use Rattle.std.proofs.Math.Seq.{take-nil}
 use Rattle.piper_lines.specs.Moves.{Grows}
 
 pub grows_none : (taken gathered : List ℕ) → Grows taken taken gathered gathered
@@ -12,3 +13,7 @@ grows_more t0 t1 t2 g0 g1 g2 more grown taken gathered = (
   taken ∙ ap (λ ws. ws ++ more) grown.1 ∙ append_assoc t0 grown.0 more,
   gathered ∙ ap (λ ws. ws ++ more) grown.2 ∙ append_assoc g0 grown.0 more,
 )
+
+-- a slice that was lent is empty where nothing is known
+pub lends_some : (known lent : List ℕ) (piece : ℕ) → lent ≡ take piece known → 0 < length lent → known ≡ [] → ⊥
+lends_some known lent piece is some none = omega (arith, some, ap length (is ∙ ap (λ l. take piece l) none ∙ take-nil piece))

@@ -1,5 +1,5 @@
 -- What one poll for a frame hands out and keeps.
-use Rattle.std.specs.Prelude.{◌≡◌, ℕ, ◌<◌, ◌≤◌, Bool, List, [], length, Result, Ok, Err}
+use Rattle.std.specs.Prelude.{◌≡◌, ℕ, ◌<◌, ◌≤◌, Bool, List, [], length, Result, Ok, Err, ⊤}
 use Rattle.futures.specs.declared.task.Poll.{Poll}
 use Rattle.futures.specs.declared.task.Poll.TheVariants.{Ready, Pending}
 use Rattle.piper_lines.specs.AtEnd.{AtEnd}
@@ -15,6 +15,15 @@ handed (Ready (Ok Truncated)) frame = []
 handed (Ready (Ok End)) frame = []
 handed (Ready (Err e)) frame = []
 handed Pending frame = []
+
+-- P holds where the answer tells that the reader ended
+abbrev pub OnEnd : {E : Type 0} → Poll (Result FrameAnswer E) → Type 0 → Type 0
+OnEnd (Ready (Ok Frame)) P = ⊤
+OnEnd (Ready (Ok (TooLong n))) P = ⊤
+OnEnd (Ready (Ok Truncated)) P = P
+OnEnd (Ready (Ok End)) P = P
+OnEnd (Ready (Err e)) P = ⊤
+OnEnd Pending P = ⊤
 
 -- by the answer: the frame that is handed out, and what is kept and has still to pass. What
 -- was taken of the body before stays where the frame is too long, and is at most more elsewhere

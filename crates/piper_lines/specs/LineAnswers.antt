@@ -1,5 +1,5 @@
 -- What one poll for a line hands out and keeps.
-use Rattle.std.specs.Prelude.{◌≡◌, ℕ, ◌<◌, ◌≤◌, ◌⊎◌, Bool, true, false, List, [], length, Result, Ok, Err}
+use Rattle.std.specs.Prelude.{◌≡◌, ℕ, ◌<◌, ◌≤◌, ◌⊎◌, Bool, true, false, List, [], length, Result, Ok, Err, ⊤}
 use Rattle.futures.specs.declared.task.Poll.{Poll}
 use Rattle.futures.specs.declared.task.Poll.TheVariants.{Ready, Pending}
 use Rattle.piper_lines.specs.declared.line_reader.LineAnswer.{LineAnswer}
@@ -18,6 +18,18 @@ at_end Line = false
 at_end TooLong = false
 at_end Last = true
 at_end End = true
+
+-- P holds where the answer tells that the reader ended
+abbrev pub OnEnd : {E : Type 0} → Poll (Result LineAnswer E) → Type 0 → Type 0
+OnEnd (Ready (Ok answer)) P = at_end answer ≡ true → P
+OnEnd (Ready (Err e)) P = ⊤
+OnEnd Pending P = ⊤
+
+-- the poll tells the end, or fails: it hands out no line, and doesn't wait
+abbrev pub EndsAgain : {E : Type 0} → Poll (Result LineAnswer E) → Type 0
+EndsAgain (Ready (Ok answer)) = answer ≡ End
+EndsAgain (Ready (Err e)) = ⊤
+EndsAgain Pending = ⊥
 
 -- by the answer: the bytes of a line, begun before, that are gathered now
 abbrev pub Gathers : {E : Type 0} → Poll (Result LineAnswer E)

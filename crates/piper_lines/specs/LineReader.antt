@@ -1,5 +1,5 @@
 -- What a reader of lines has.
-use Rattle.std.specs.Prelude.{ℕ, List, vec_capacity}
+use Rattle.std.specs.Prelude.{◌≡◌, ℕ, List, [], vec_capacity}
 use Rattle.std.specs.Borrow.{Fml, RattleType, MutBor, Lends}
 use Rattle.piper_lines.specs.declared.line_reader.Lines.{Lines}
 use Rattle.piper_lines.specs.contracts.line_reader.Lines.{the_row}
@@ -15,6 +15,10 @@ kept_of lines = lines.kept.items
 -- how many bytes the memory holds that is there for them
 abbrev pub room_of : {R : Type 0} → Lines R → ℕ
 room_of lines = vec_capacity lines.kept
+
+-- nothing more comes: the reader below has told its end, and no byte is kept
+abbrev pub IsSpent : {R : Type 0} → (R → Type 0) → Lines R → Type 0
+IsSpent ended lines = ended (reader_of lines) × (kept_of lines ≡ [])
 
 -- the lines, once a `&mut` to the reader has ended: they have the reader as it was left
 abbrev pub lends_reader : (R : RattleType) → MutBor (Lines R.Denot) → MutBor R.Denot → Fml

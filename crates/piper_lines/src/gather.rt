@@ -29,6 +29,7 @@ pub(crate) fn fill_up<R: AsyncBufRead>(
     ensures full { result ≡ Poll.Ready (Ok true) → length gathered.new.items ≡ size }
     ensures ended { result ≡ Poll.Ready (Ok false) →
         (length gathered.new.items < size) × AtEnd (R.known reader.new) (R.saw reader.new) }
+    ensures ends { result ≡ Poll.Ready (Ok false) → R.ended reader.new }
     ensures error { IfReadyErr result (λ e. IsTold e (R.fails reader.new cx.new)
         (LacksRoom size (vec_capacity gathered.old) gathered.new.items (R.known reader.new))) }
     ensures told { R.told reader.new ≡ R.told reader.old }
@@ -64,6 +65,7 @@ pub(crate) fn pass_over<R: AsyncBufRead>(
     ensures done { result ≡ Poll.Ready (Ok true) → left.new ≡ 0 }
     ensures ended { result ≡ Poll.Ready (Ok false) →
         (0 < left.new) × AtEnd (R.known reader.new) (R.saw reader.new) }
+    ensures ends { result ≡ Poll.Ready (Ok false) → R.ended reader.new }
     ensures error { IfReadyErr result (R.fails reader.new cx.new) }
     ensures told { R.told reader.new ≡ R.told reader.old }
     ensures heeded { OnPending result (R.told reader.new ≡ true → AsksAgain cx.new) }

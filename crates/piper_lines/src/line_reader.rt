@@ -5,7 +5,7 @@ ghost use Rattle.futures.specs.Task.{Covers, Keeps};
 ghost use Rattle.futures.specs.Poll.{OnPending};
 ghost use Rattle.piper_lines.specs.Line.{LacksLf, IsLine};
 ghost use Rattle.piper_lines.specs.Moves.{Moves, Grows};
-ghost use Rattle.piper_lines.specs.LineAnswers.{Gathers, Hands};
+ghost use Rattle.piper_lines.specs.LineAnswers.{EndsAgain, Gathers, Hands, OnEnd};
 ghost use Rattle.piper_lines.specs.Refusals.{IsTold, LacksRoom};
 ghost use Rattle.piper.specs.Polls.{IfReadyErr};
 
@@ -25,7 +25,7 @@ pub enum LineAnswer {
     TooLong,
     /// What stands behind the last LF, at the end of the reader.
     Last,
-    /// The end of the reader, with nothing left of a line.
+    /// The end of the reader, with nothing left of a line. Behind it, and behind `Last`, each poll answers it again.
     End,
 }
 
@@ -54,7 +54,7 @@ pub struct Lines<R> {
 }
 
 impl<R: AsyncBufRead> Lines<R> {
-    ghost use Rattle.piper_lines.specs.LineReader.{reader_of, kept_of, room_of, lends_reader};
+    ghost use Rattle.piper_lines.specs.LineReader.{IsSpent, reader_of, kept_of, room_of, lends_reader};
 
     /// Nothing is kept yet, and no memory is asked for.
     pub fn new(alloc: Global, reader: R) -> Lines<R>
@@ -95,6 +95,8 @@ impl<R: AsyncBufRead> Lines<R> {
             (kept_of self.old) line.new.items (kept_of self.new) }
         ensures hands { Hands result limit (kept_of self.old) line.new.items (kept_of self.new)
             (R.known (reader_of self.new)) (R.saw (reader_of self.new)) }
+        ensures ended { OnEnd result (IsSpent R.ended self.new) }
+        ensures behind { IsSpent R.ended self.old → IsSpent R.ended self.new × EndsAgain result }
         ensures error { IfReadyErr result (λ e. IsTold e (R.fails (reader_of self.new) cx.new)
             (LacksRoom limit (room_of self.old) (kept_of self.new) (R.known (reader_of self.new)))) }
         ensures told { R.told (reader_of self.new) ≡ R.told (reader_of self.old) }
@@ -124,6 +126,9 @@ fn gather<R: AsyncBufRead>(
     ensures grown { Grows (R.taken reader.old) (R.taken reader.new) line.old.items line.new.items }
     ensures gathers { Gathers result limit line.old.items line.new.items
         (R.known reader.new) (R.saw reader.new) }
+    ensures ended { OnEnd result (R.ended reader.new) }
+    ensures behind { 0 < limit → R.ended reader.old → line.old.items ≡ [] →
+        R.ended reader.new × (line.new.items ≡ []) × EndsAgain result }
     ensures error { IfReadyErr result (λ e. IsTold e (R.fails reader.new cx.new)
         (LacksRoom limit (vec_capacity line.old) line.new.items (R.known reader.new))) }
     ensures told { R.told reader.new ≡ R.told reader.old }

@@ -1,5 +1,5 @@
 //! A reader of a slice that gives few bytes at once, and that is pending or fails at a chosen call.
-ghost use Rattle.std.specs.Prelude.{◌≡◌, ◌+◌, ◌≤◌, length, take, drop, true};
+ghost use Rattle.std.specs.Prelude.{◌≡◌, ◌+◌, ◌<◌, ◌≤◌, length, take, drop, true};
 
 use futures::task::{Context, Poll};
 use piper::PipeError;
@@ -26,7 +26,10 @@ pub(crate) struct Halting<'a> {
     looks: usize,
     last: usize,
     how: Halt,
+    is_over: bool,
     ghost within: { taken + known ≤ length bytes.now },
+    ghost some: { 0 < most },
+    ghost over: { is_over ≡ true → taken ≡ length bytes.now },
 }
 
 impl AsyncBufRead for Halting<'_> {
@@ -38,10 +41,12 @@ impl AsyncBufRead for Halting<'_> {
 
     ghost saw = { λ _. true };
 
+    ghost ended = { λ reader. reader.is_over ≡ true };
+
     ghost needs = { λ _ _. ⊥ };
 
     fn poll_fill_buf(&mut self, cx: &mut Context<'_>) -> Poll<Result<&[u8], PipeError>> {
-        if self.known == 0 {
+        if self.known == 0 && !self.is_over {
             self.looks = self.looks.saturating_add(1);
             if self.looks == self.last {
                 return match self.how {
@@ -52,6 +57,7 @@ impl AsyncBufRead for Halting<'_> {
                 };
             }
             self.known = self.most.min(self.bytes.len() - self.taken);
+            self.is_over = self.known == 0;
         }
         Poll::Ready(Ok(self.front()))
     }
@@ -63,7 +69,9 @@ impl AsyncBufRead for Halting<'_> {
 }
 
 impl<'a> Halting<'a> {
-    pub(crate) fn new(bytes: &'a [u8], most: usize, how: Halt, last: usize) -> Halting<'a> {
+    pub(crate) fn new(bytes: &'a [u8], most: usize, how: Halt, last: usize) -> Halting<'a>
+        requires { 0 < most }
+    {
         Halting {
             bytes,
             taken: 0,
@@ -72,6 +80,7 @@ impl<'a> Halting<'a> {
             looks: 0,
             last,
             how,
+            is_over: false,
         }
     }
 

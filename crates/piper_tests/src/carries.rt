@@ -30,6 +30,8 @@ impl AsyncBufRead for Lender<'_> {
 
     ghost saw = { λ _. true };
 
+    ghost ended = { λ lender. length lender.bytes.now ≤ lender.taken };
+
     ghost needs = { λ _ _. ⊥ };
 
     fn poll_fill_buf(&mut self, cx: &mut Context<'_>) -> Poll<Result<&[u8], PipeError>> {

@@ -2,6 +2,7 @@
 use Rattle.std.specs.Prelude.{◌≡◌, ◌≤◌, ◌++◌, true, false, List, [], ℕ}
 use Rattle.piper.specs.ReadView.{SameReadEnd}
 use Rattle.piper.specs.WriteView.{SameWriteEnd}
+use Rattle.piper.specs.Ends.{IsEnded}
 use Rattle.piper.specs.Shared.{flag}
 use Rattle.piper.specs.declared.handles.Reader.{Reader}
 use Rattle.piper.specs.declared.handles.Writer.{Writer}
@@ -14,10 +15,9 @@ pub record Took {H : Type 0} (a : Reader H) (xs : List ℕ) (b : Reader H) : Typ
   pub end : SameReadEnd a.end b.end
   pub slots : b.slots ≡ a.slots
 
--- the reader saw the pipe closed, and knows of no byte
-pub record AtEnd {H : Type 0} (reader : Reader H) : Type 0 where
-  pub saw : reader.end.saw ≡ true
-  pub known : reader.end.known ≡ []
+-- the reader saw the pipe closed, and took all that was ever published
+abbrev pub AtEnd : {H : Type 0} → Reader H → Type 0
+AtEnd reader = IsEnded reader.end
 
 -- the writer a was given the bytes xs, in this order, and is b now:
 -- an end of the same pipe. What it published of them is their front,

@@ -10,7 +10,7 @@ ghost use Rattle.piper.specs.Drains.{CountsWhatFits, DrainYields, EndIsSeen, End
 ghost use Rattle.piper.specs.Ends.{ReaderIsUpToDate, WriterShut};
 ghost use Rattle.piper.specs.Fills.{FillYields, LosesOneRound, OnNoCount};
 ghost use Rattle.piper.specs.Handles.{read_source, write_source};
-ghost use Rattle.piper.specs.Polls.{IfReadyOk};
+ghost use Rattle.piper.specs.Polls.{Behind, IfReadyOk, TakesNone};
 ghost use Rattle.piper.specs.ReadView.{in_one_piece};
 ghost use Rattle.piper_tokio.specs.Passing.{Took, AtEnd, Gave};
 ghost use Rattle.piper_tokio.specs.Shown.{shown_by};
@@ -78,6 +78,9 @@ impl<H: Wait + Clone + Drop> AsyncRead for CompatEnd<H> {
             self.old.reader.reader.end self.new.reader.reader.end }
         ensures end { result ≡ Poll.Ready (Ok 0) → 0 < length buf.old →
             AtEnd self.new.reader.reader }
+        ensures behind { AtEnd self.old.reader.reader → TakesNone result
+            (AtEnd self.new.reader.reader)
+            self.old.reader.reader.end.taken self.new.reader.reader.end.taken }
         ensures ended { EndIsSeen result self.old.reader.reader.end self.new.reader.reader.end }
         ensures waits { EndIsUnseen result
             self.old.reader.reader.end self.new.reader.reader.end }
@@ -108,6 +111,8 @@ impl<H: Wait + Clone + Drop> AsyncBufRead for CompatEnd<H> {
             ≡ take (in_one_piece self.new.reader.reader.end) self.new.reader.reader.end.known) }
         ensures end { OnReadyOk result
             (length (shown_by self.new.reader) ≡ 0 → AtEnd self.new.reader.reader) }
+        ensures behind { AtEnd self.old.reader.reader →
+            Behind result (AtEnd self.new.reader.reader) self.new.reader.reader.end.known }
         ensures waits { OnPending result ((self.new.reader.reader.end.known ≡ [])
             × (self.new.reader.reader.end.saw ≡ false)) }
         ensures told { OnPending result (self.old.reader.reader.end.told_shut ≡ false) }

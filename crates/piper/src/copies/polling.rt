@@ -2,7 +2,7 @@
 ghost use Rattle.std.specs.Prelude.{◌≡◌, Ok};
 ghost use Rattle.futures.specs.Task.{Keeps};
 ghost use Rattle.piper.specs.Contexts.{WantsWaker};
-ghost use Rattle.piper.specs.Ends.{WriterShut};
+ghost use Rattle.piper.specs.Ends.{IsEnded, WriterShut};
 
 use crate::error::PipeError;
 use crate::handles::{Reader, Writer};
@@ -19,6 +19,8 @@ impl<H: Wait + Clone + Drop> AsyncRead for Reader<H> {
     ghost saw = { λ r. r.end.saw };
 
     ghost told = { λ r. r.end.told_shut };
+
+    ghost ended = { λ r. IsEnded r.end };
 
     ghost needs = { λ r s. s ≡ read_source r };
 
@@ -50,6 +52,8 @@ impl<H: Wait + Clone + Drop> AsyncBufRead for Reader<H> {
     ghost saw = { λ r. r.end.saw };
 
     ghost told = { λ r. r.end.told_shut };
+
+    ghost ended = { λ r. IsEnded r.end };
 
     ghost needs = { λ r s. s ≡ read_source r };
 

@@ -6,13 +6,13 @@ ghost use Rattle.futures.specs.Task.{Covers, Keeps};
 ghost use Rattle.futures.specs.Poll.{OnPending};
 ghost use Rattle.piper.specs.Contexts.{AsksAgain, WantsWaker};
 ghost use Rattle.piper.specs.Copies.{IsReplaced};
-ghost use Rattle.piper.specs.Drains.{CountsWhatFits, DrainYields, EndIsSeen, EndIsUnseen, StaysKnown};
-ghost use Rattle.piper.specs.Ends.{ReaderIsUpToDate, WriterIsUpToDate, WriterShut};
+ghost use Rattle.piper.specs.Drains.{CountsWhatFits, DrainYields, EndIsSeen, EndIsTrue, EndIsUnseen, StaysKnown};
+ghost use Rattle.piper.specs.Ends.{IsEnded, ReaderIsUpToDate, WriterIsUpToDate, WriterShut};
 ghost use Rattle.piper.specs.Fills.{FillYields, LosesOneRound, OnNoCount, WriterFilled};
 ghost use Rattle.piper.specs.Handles.{read_source, write_source};
 ghost use Rattle.piper.specs.Looks.{ReaderLooked};
-ghost use Rattle.piper.specs.Polls.{Reads, Writes, IfReadyOk, IfReadyErr};
-ghost use Rattle.piper.specs.ReadView.{in_one_piece};
+ghost use Rattle.piper.specs.Polls.{Reads, TakesNone, Writes, IfReadyOk, IfReadyErr};
+ghost use Rattle.piper.specs.ReadView.{KnowsEnd, in_one_piece};
 ghost use Rattle.piper_duplex.specs.Crosswise.{OnlyReads, OnlyWrites, LendsPiece};
 
 use super::End;
@@ -28,6 +28,8 @@ impl<H: Wait + Clone + Drop> AsyncRead for End<H> {
 
     ghost told = { λ e. e.reader.end.told_shut };
 
+    ghost ended = { λ e. IsEnded e.reader.end };
+
     ghost needs = { λ e s. s ≡ read_source e.reader };
 
     ghost fails = { λ _ cx e. WantsWaker cx e };
@@ -35,6 +37,13 @@ impl<H: Wait + Clone + Drop> AsyncRead for End<H> {
     fn poll_read(&mut self, cx: &mut Context<'_>, dest: &mut [u8]) -> Poll<Result<usize, PipeError>>
         ensures read { Reads result dest.old dest.new
             self.old.reader.end.taken self.new.reader.end.taken self.new.reader.end.saw }
+        ensures end { result ≡ Poll.Ready (Ok 0) → 0 < length dest.old →
+            IsEnded self.new.reader.end }
+        ensures behind { IsEnded self.old.reader.end → TakesNone result
+            (IsEnded self.new.reader.end) self.old.reader.end.taken self.new.reader.end.taken }
+        ensures all { EndIsTrue result self.old.reader.end self.new.reader.end }
+        ensures same { KnowsEnd self.old.reader.end →
+            self.new.reader.end.all ≡ self.old.reader.end.all }
         ensures count { CountsWhatFits result (length dest.old)
             self.old.reader.end self.new.reader.end }
         ensures known { 0 < length self.old.reader.end.known →
@@ -73,6 +82,8 @@ impl<H: Wait + Clone + Drop> AsyncBufRead for End<H> {
 
     ghost told = { λ e. e.reader.end.told_shut };
 
+    ghost ended = { λ e. IsEnded e.reader.end };
+
     ghost needs = { λ e s. s ≡ read_source e.reader };
 
     ghost fails = { λ _ cx e. WantsWaker cx e };
@@ -98,6 +109,8 @@ impl<H: Wait + Clone + Drop> AsyncBufRead for End<H> {
             ≡ self.old.reader.end.taken ++ take amt self.old.reader.end.known }
         ensures saw { self.new.reader.end.saw ≡ self.old.reader.end.saw }
         ensures told { self.new.reader.end.told_shut ≡ self.old.reader.end.told_shut }
+        ensures end { IsEnded self.old.reader.end → IsEnded self.new.reader.end }
+        ensures all { self.new.reader.end.all ≡ self.old.reader.end.all }
         ensures rest { OnlyReads self.old self.new }
     {
         self.reader.consume(amt);

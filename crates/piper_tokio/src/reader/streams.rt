@@ -8,6 +8,7 @@ ghost use Rattle.tokio.specs.Io.Moved.{bytes_moved, count_moved, OnReadyOk, IfRe
 ghost use Rattle.piper.specs.Drains.{CountsWhatFits, DrainYields, EndIsSeen, EndIsUnseen};
 ghost use Rattle.piper.specs.Ends.{ReaderIsUpToDate};
 ghost use Rattle.piper.specs.Handles.{read_source};
+ghost use Rattle.piper.specs.Polls.{Behind, TakesNone};
 ghost use Rattle.piper.specs.ReadView.{in_one_piece};
 ghost use Rattle.piper_tokio.specs.Passing.{Took, AtEnd};
 ghost use Rattle.piper_tokio.specs.Shown.{shown_by};
@@ -63,6 +64,8 @@ impl<H: Wait + Clone + Drop> tokio::io::AsyncRead for CompatReader<H> {
         ensures count { CountsWhatFits result (length buf.old)
             self.old.reader.end self.new.reader.end }
         ensures end { result ≡ Poll.Ready (Ok 0) → 0 < length buf.old → AtEnd self.new.reader }
+        ensures behind { AtEnd self.old.reader → TakesNone result
+            (AtEnd self.new.reader) self.old.reader.end.taken self.new.reader.end.taken }
         ensures ended { EndIsSeen result self.old.reader.end self.new.reader.end }
         ensures waits { EndIsUnseen result self.old.reader.end self.new.reader.end }
         ensures yields { DrainYields result self.old.reader.end self.new.reader.end cx.new }
@@ -94,6 +97,8 @@ impl<H: Wait + Clone + Drop> tokio::io::AsyncBufRead for CompatReader<H> {
             ≡ take (in_one_piece self.new.reader.end) self.new.reader.end.known) }
         ensures end { OnReadyOk result
             (length (shown_by self.new) ≡ 0 → AtEnd self.new.reader) }
+        ensures behind { AtEnd self.old.reader →
+            Behind result (AtEnd self.new.reader) self.new.reader.end.known }
         ensures waits { OnPending result
             ((self.new.reader.end.known ≡ []) × (self.new.reader.end.saw ≡ false)) }
         ensures told { OnPending result (self.old.reader.end.told_shut ≡ false) }

@@ -1,7 +1,7 @@
-use Rattle.std.proofs.Common.{rules, ◌≡◌, ◌<◌, ◌++◌, List, ℕ, take, length, ap, inl, inr, refl, arith, length-append, length-take}
+use Rattle.std.proofs.Common.{rules, ◌≡◌, ◌<◌, ◌++◌, List, [], ℕ, take, length, ap, inl, inr, refl, arith, length-append, length-take}
 use Rattle.std.proofs.lemmas.Grind.{common_steps}
 use Rattle.piper_lines.specs.Line.{LacksLf, IsLine}
-use Rattle.piper_lines.proofs.Growing.{grows_none, grows_more}
+use Rattle.piper_lines.proofs.Growing.{grows_none, grows_more, lends_some}
 use Rattle.piper_lines.proofs.LineEnds.{IsLine-append, LacksLf-append}
 use Rattle.piper_lines.proofs.line_reader.gather.Goals as goal
 
@@ -15,7 +15,7 @@ returns-then-is_found-clause-gathers g c =
     )
 
 pub loop-limit-init : goal.loop-limit-init
-loop-limit-init g c = record { grown = grows_none _ _; unfinished = c.requires.unfinished; within = inr refl; room = omega arith; told = refl; kept = λ fact held. held }
+loop-limit-init g c = record { grown = grows_none _ _; unfinished = c.requires.unfinished; within = inr refl; room = omega arith; ended = λ before. (before, refl); told = refl; kept = λ fact held. held }
 
 pub loop-limit-smaller : goal.loop-limit-smaller
 loop-limit-smaller g c =
@@ -36,6 +36,13 @@ loop-limit-preserved g c =
       unfinished = rw grown (LacksLf-append c.loop-limit.line.items more c.loop-limit.invariant.unfinished lacks);
       within = inl (omega (arith, ap length grown, length-append c.loop-limit.line.items more, length-take c.through_lf-count.result.0 (take c.min.result c.in-Ready-Ok.lent.now), length-take c.min.result c.in-Ready-Ok.lent.now));
       room = omega (arith, c.loop-limit.invariant.room, c.extend_from_slice.ensures.capacity);
+      ended = λ before.
+          let reader : g.row.R.Denot = c.poll_fill_buf.follows.lender-at-none in
+          let now : g.R.AsyncBufRead.ended c.loop-limit.reader = (c.loop-limit.invariant.ended before).0 in
+          let none : g.R.AsyncBufRead.known reader ≡ [] = (c.poll_fill_buf.follows.holds-at-none.2 now).1 in
+          let piece : c.in-Ready-Ok.lent.now ≡ take (g.R.AsyncBufRead.piece reader) (g.R.AsyncBufRead.known reader) = search rules in
+          let some : 0 < length c.in-Ready-Ok.lent.now = search rules in
+          absurd (lends_some (g.R.AsyncBufRead.known reader) c.in-Ready-Ok.lent.now (g.R.AsyncBufRead.piece reader) piece some none);
       told = search rules;
       kept = λ fact held. c.poll_fill_buf.ensures.kept fact (c.loop-limit.invariant.kept fact held);
     }

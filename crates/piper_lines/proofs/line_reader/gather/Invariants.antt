@@ -11,6 +11,7 @@ invariant-loop-limit g l = record {
   unfinished : LacksLf l.line.items;
   within : (length l.line.items ≤ l.limit) ⊎ (l.line.items ≡ l.fn.line.items);
   room : vec_capacity l.fn.line ≤ vec_capacity l.line;
+  ended : g.R.AsyncBufRead.ended l.fn.reader → g.R.AsyncBufRead.ended l.reader × (l.line.items ≡ l.fn.line.items);
   told : g.R.AsyncBufRead.told l.reader ≡ g.R.AsyncBufRead.told l.fn.reader;
   kept : Keeps l.fn.cx l.cx;
 }

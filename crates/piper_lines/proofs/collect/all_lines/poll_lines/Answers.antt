@@ -36,6 +36,10 @@ returns-then-is_end-clause-ended g c =
     let hands = rw c.in-Ready-Ok.field-0-is at c.in-Ready-Ok.ensures.hands in
     hands_end PipeError c.in-Ready-Ok.answer _ _ _ _ _ _ (sym c.is_end.ensures ∙ c.if-is_end.true) hands
 
+pub returns-then-is_end-clause-spent : goal.returns-then-is_end-clause-spent
+returns-then-is_end-clause-spent g c =
+    (rw c.in-Ready-Ok.field-0-is at c.in-Ready-Ok.ensures.ended) (sym c.is_end.ensures ∙ c.if-is_end.true)
+
 pub loop-preserved : goal.loop-preserved
 loop-preserved g c =
     let hands = rw c.in-Ready-Ok.field-0-is at c.in-Ready-Ok.ensures.hands in

@@ -1,8 +1,8 @@
-use Rattle.std.proofs.Common.{rules, ◌≡◌, length, true, Ok, ap, ◌∙◌, arith}
+use Rattle.std.proofs.Common.{rules, ◌≡◌, length, true, false, Ok, ap, ◌∙◌, arith}
 use Rattle.futures.specs.declared.task.Poll.TheVariants.{Ready}
 use Rattle.piper_lines.specs.Frame.{length_bytes, told_length}
 use Rattle.piper_lines.specs.FrameReader.{kept_of}
-use Rattle.piper_lines.proofs.Framing.{holding_header, holding_body, keeping_none, keeping_header, keeping_body, keeping_frame}
+use Rattle.piper_lines.proofs.Framing.{on_end, holding_header, holding_body, keeping_none, keeping_header, keeping_body, keeping_frame}
 use Rattle.piper_lines.proofs.frame_reader.Frames.poll_frame.Goals as goal
 
 pub returns-in-Pending-clause-moved : goal.returns-in-Pending-clause-moved
@@ -105,3 +105,8 @@ invariant_of-self-in-Ready-Ok-false-fill_up-2 g c =
     let is_whole : c.fill_up.result ≡ Ready (Ok true) = cc in
     holding_body c.fill_up.new.gathered.items c.fill_up-2.new.gathered.items _ _ (c.fill_up.ensures.full is_whole)
     (c.number-size.ensures.told ∙ ap told_length c.deref-2.ensures.value) c.fill_up-2.ensures.within (c.pass_over.ensures.done passed)
+
+pub returns-in-Ready-Ok-false-fill_up-clause-ended : goal.returns-in-Ready-Ok-false-fill_up-clause-ended
+returns-in-Ready-Ok-false-fill_up-clause-ended g c =
+    let ended : c.fill_up.result ≡ Ready (Ok false) = cc in
+    on_end _ _ (c.fill_up.ensures.ends ended)
