@@ -12,6 +12,8 @@ mod ends;
 #[cfg(test)]
 mod first_calls;
 #[cfg(test)]
+mod marks;
+#[cfg(test)]
 mod meeting;
 #[cfg(test)]
 mod pair;
