@@ -1,4 +1,4 @@
-//! What no contract says: that each call can succeed, and that want of memory changes nothing.
+//! What no contract says: that memory is granted, and that want of memory changes nothing.
 ghost use Rattle.std.specs.Prelude.{◌≡◌};
 ghost use Rattle.piper_sides.specs.Index.{IsCapacity};
 ghost use Rattle.piper_machine.specs.Pipe.{fresh};
@@ -6,12 +6,12 @@ ghost use Rattle.piper_machine.specs.Pipe.{fresh};
 use crate::same;
 use piper_machine::machine::{Machine, run};
 use piper_sides::bytes::Bytes;
-use piper_sides::calls::{Call, Side, SideState, Step};
+use piper_sides::calls::{Call, Side, Step};
 use piper_sides::events::{Event, Log};
 use piper_sides::memory::OutOfMemory;
-use piper_sides::polling::{Luck, Polled};
+use piper_sides::polling::Luck;
 use piper_sides::refusals::{RunRefusal, StepRefusal};
-use piper_sides::scripted::{ActList, DestAct, Failed, SourceAct};
+use piper_sides::scripted::{ActList, SourceAct};
 use std::alloc::Global;
 use std::process::Abort;
 
@@ -21,16 +21,6 @@ const GRANTED: Luck = Luck {
     register_granted: true,
     yield_granted: true,
 };
-
-/// What the log tells of a poll that registers its waker, and then finds the pipe closed and a byte in it.
-const POLL_TOLD: &str = "[Began(Reader, Poll, Some(1)), Looked(Reader, Tail(0)), \
-    Registered(Reader, 1), Looked(Reader, Closed(true)), Looked(Reader, Tail(1)), \
-    Answered(Reader, Poll(Ready(true)))]";
-
-/// What the log tells of a fill whose source gives two bytes and fails.
-const FILL_TOLD: &str = "[Began(Writer, PollFill, Some(6)), Looked(Writer, Closed(false)), \
-    Looked(Writer, Closed(false)), Published(Bytes { items: [97, 98] }), \
-    Answered(Writer, Copy(Ready(Err(Failed))))]";
 
 /// Two bytes are lent and published, 7 and what stood there before, and the first is consumed.
 const PUBLISHED_AND_CONSUMED: [Step; 10] = [
@@ -118,13 +108,6 @@ impl Run {
         assert!(rt; self.pipe.step(step, &mut self.log).is_ok());
     }
 
-    /// Makes so many steps of a side.
-    fn goes(&mut self, rt: &impl Abort, side: Side, count: usize) {
-        for _ in 0..count {
-            self.made(rt, &Step::Go(side));
-        }
-    }
-
     /// Makes the step. Where it is refused for want of memory, nothing has changed, and it is made again.
     fn made_at_last(&mut self, rt: &impl Abort, step: &Step) {
         let logged = self.log.events().len();
@@ -142,163 +125,6 @@ impl Run {
             self.made(rt, step);
         }
     }
-
-    /// Holds the events against a text.
-    fn tells(&self, rt: &impl Abort, alloc: Global, wanted: &str) {
-        let text = format!(in alloc; "{:?}", self.log.events()).expect(rt, "a text");
-        same(rt, text.as_str(), wanted);
-    }
-}
-
-#[test]
-fn a_stale_snapshot_takes_fewer_bytes_than_are_free(rt: HostRuntime) {
-    let mut pipe = pipe_of(&rt, rt.alloc(), 10);
-    same(&rt, pipe.capacity(), 10);
-    same(&rt, pipe.w_try_fill(b"abcdefgh"), 8);
-    let mut drained = [0; 8];
-    same(&rt, pipe.r_try_drain(&mut drained), 8);
-    same(&rt, drained.as_slice(), b"abcdefgh".as_slice());
-    same(&rt, pipe.w_try_fill(b"klmnopqrst"), 2);
-    same(&rt, pipe.w_try_fill(b"mnopqrst"), 8);
-    same(&rt, (pipe.r_len(), pipe.w_len()), (10, 10));
-    holds(&rt, &pipe, b"klmnopqrst");
-}
-
-#[test]
-fn each_side_asks(rt: HostRuntime) {
-    let mut pipe = pipe_of(&rt, rt.alloc(), 1);
-    same(&rt, (pipe.r_is_empty(), pipe.w_is_empty()), (true, true));
-    same(&rt, pipe.w_try_fill(b"a"), 1);
-    same(&rt, (pipe.r_is_full(), pipe.w_is_full()), (true, true));
-    same(
-        &rt,
-        (pipe.r_is_closed(), pipe.w_is_closed()),
-        (false, false),
-    );
-    pipe.w_close();
-    same(&rt, (pipe.r_is_closed(), pipe.w_is_closed()), (true, true));
-}
-
-#[test]
-fn lent_bytes_are_written_and_published(rt: HostRuntime) {
-    let mut pipe = pipe_of(&rt, rt.alloc(), 4);
-    same(&rt, pipe.r_poll(5, GRANTED), Polled::Pending);
-    same(&rt, pipe.w_poll(6, GRANTED), Polled::Ready(true));
-    same(&rt, pipe.w_write_buf(3), 3);
-    pipe.w_write(1, b"bc");
-    pipe.w_write(0, b"a");
-    same(&rt, pipe.w_lent(), b"abc".as_slice());
-    pipe.w_produced(2);
-    same(&rt, pipe.woken(), [5].as_slice());
-    holds(&rt, &pipe, b"ab");
-}
-
-#[test]
-fn peeked_bytes_are_consumed(rt: HostRuntime) {
-    let mut pipe = pipe_of(&rt, rt.alloc(), 4);
-    same(&rt, pipe.w_try_fill(b"ab"), 2);
-    same(&rt, pipe.r_poll(5, GRANTED), Polled::Ready(true));
-    same(&rt, pipe.r_peek(), b"ab".as_slice());
-    pipe.r_consume(1);
-    same(&rt, pipe.r_peek(), b"b".as_slice());
-}
-
-#[test]
-fn polls_copy_to_and_from_slices(rt: HostRuntime) {
-    let mut pipe = pipe_of(&rt, rt.alloc(), 4);
-    let mut drained = [0; 4];
-    same(
-        &rt,
-        pipe.r_poll_drain_bytes(5, GRANTED, &mut drained),
-        Polled::Pending,
-    );
-    same(
-        &rt,
-        pipe.w_poll_fill_bytes(6, GRANTED, b"abcdef"),
-        Polled::Ready(4),
-    );
-    same(&rt, pipe.woken(), [5].as_slice());
-    let yielding = Luck { draw: 0, ..GRANTED };
-    same(
-        &rt,
-        pipe.r_poll_drain_bytes(7, yielding, &mut drained),
-        Polled::Pending,
-    );
-    same(&rt, pipe.woken(), [7].as_slice());
-    same(
-        &rt,
-        pipe.r_poll_drain_bytes(7, GRANTED, &mut drained),
-        Polled::Ready(4),
-    );
-    same(&rt, drained.as_slice(), b"abcd".as_slice());
-}
-
-#[test]
-fn a_failed_source_keeps_what_moved_before(rt: HostRuntime) {
-    let source = failing_source(rt.alloc()).expect(&rt, "a source");
-    let mut pipe = pipe_of(&rt, rt.alloc(), 4);
-    same(
-        &rt,
-        pipe.w_poll_fill(6, GRANTED, source.as_slice()),
-        Polled::Ready(Err(Failed)),
-    );
-    holds(&rt, &pipe, b"ab");
-}
-
-#[test]
-fn a_destination_takes_act_by_act(rt: HostRuntime) {
-    let mut pipe = pipe_of(&rt, rt.alloc(), 4);
-    same(&rt, pipe.w_try_fill(b"ab"), 2);
-    let taken = [DestAct::Take(1), DestAct::Take(5)];
-    same(
-        &rt,
-        pipe.r_poll_drain(5, GRANTED, &taken),
-        Polled::Ready(Ok(2)),
-    );
-    same(&rt, pipe.r_len(), 0);
-}
-
-#[test]
-fn a_dropped_side_is_told(rt: HostRuntime) {
-    let mut pipe = pipe_of(&rt, rt.alloc(), 4);
-    same(
-        &rt,
-        (pipe.r_state(), pipe.w_state()),
-        (SideState::Idle, SideState::Idle),
-    );
-    pipe.r_drop();
-    pipe.w_drop();
-    same(
-        &rt,
-        (pipe.r_state(), pipe.w_state()),
-        (SideState::Dropped, SideState::Dropped),
-    );
-}
-
-#[test]
-fn a_poll_finds_a_byte_filled_in_the_midst_of_it(rt: HostRuntime) {
-    let mut run = Run::new(&rt, rt.alloc());
-    run.made(&rt, &Step::Begin(Call::Poll(Side::Reader, 1, GRANTED)));
-    run.goes(&rt, Side::Reader, 2);
-    assert!(rt; run.pipe.w_state() == SideState::Idle);
-    same(&rt, run.pipe.w_try_fill(&[9]), 1);
-    same(&rt, run.pipe.woken(), [1].as_slice());
-    assert!(rt; run.pipe.w_state() == SideState::Idle);
-    run.pipe.w_drop();
-    same(&rt, run.pipe.r_state(), SideState::Busy);
-    run.goes(&rt, Side::Reader, 3);
-    same(&rt, run.pipe.r_state(), SideState::Idle);
-    run.tells(&rt, rt.alloc(), POLL_TOLD);
-}
-
-#[test]
-fn a_fill_by_steps_keeps_what_moved_before_it_failed(rt: HostRuntime) {
-    let fill = failing_fill(&rt, rt.alloc());
-    let mut run = Run::new(&rt, rt.alloc());
-    run.made(&rt, &fill);
-    run.goes(&rt, Side::Writer, 7);
-    holds(&rt, &run.pipe, b"ab");
-    run.tells(&rt, rt.alloc(), FILL_TOLD);
 }
 
 #[test]
@@ -332,27 +158,6 @@ fn run_at_last(rt: &impl Abort, alloc: Global) -> Run {
 #[test]
 fn a_run_refused_for_want_of_memory_can_be_made_again(rt: HostRuntime) {
     run_at_last(&rt, rt.alloc()).has_consumed(&rt);
-}
-
-#[test]
-fn a_run_publishes_the_first_of_what_is_lent(rt: HostRuntime) {
-    let steps = [
-        Step::Begin(Call::WriteBuf(2)),
-        Step::Put(0, 7),
-        Step::Begin(Call::Produced(1)),
-        Step::Go(Side::Writer),
-        Step::Go(Side::Writer),
-    ];
-    let (pipe, log) = run(rt.alloc(), 4, &steps).expect(&rt, "a run");
-    holds(&rt, &pipe, &[7]);
-    same(&rt, log.events().len(), 5);
-}
-
-#[test]
-fn a_run_names_the_step_that_is_refused(rt: HostRuntime) {
-    let steps = [Step::Begin(Call::Close), Step::Go(Side::Reader)];
-    let refused = run(rt.alloc(), 4, &steps).err();
-    same(&rt, refused, Some(RunRefusal::At(1, StepRefusal::Idle)));
 }
 
 #[test]

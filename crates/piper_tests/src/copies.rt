@@ -54,52 +54,6 @@ const KINDS: [ErrorKind; 41] = [
     ErrorKind::InProgress,
 ];
 
-#[test]
-fn a_copy_waits_until_the_other_side_moves(rt: HostRuntime) {
-    let acts = &[
-        Act::PollDrain(8, None),
-        Act::ReaderIsWoken(false),
-        Act::PollDrain(8, None),
-        Act::ReaderIsWoken(false),
-        Act::PollFill(b"abcdef", Some(4)),
-        Act::ReaderIsWoken(true),
-        Act::PollFill(b"ef", None),
-        Act::WriterIsWoken(false),
-        Act::PollFill(b"ef", None),
-        Act::WriterIsWoken(false),
-        Act::PollDrain(8, Some(b"abcd")),
-        Act::WriterIsWoken(true),
-        Act::DropWriter,
-        Act::PollDrain(8, Some(b"")),
-    ];
-    plays(&rt, 4, acts);
-}
-
-#[test]
-fn a_fill_of_a_pipe_that_was_closed_takes_nothing(rt: HostRuntime) {
-    let acts = &[
-        Act::Fill(b"a", 1),
-        Act::PollFill(b"b", None),
-        Act::DropReader,
-        Act::WriterIsWoken(true),
-        Act::PollFill(b"b", Some(0)),
-        Act::Closed(true),
-    ];
-    plays(&rt, 1, acts);
-}
-
-#[test]
-fn a_drain_of_a_pipe_that_was_closed_is_at_the_end(rt: HostRuntime) {
-    let acts = &[
-        Act::PollDrain(1, None),
-        Act::DropWriter,
-        Act::ReaderIsWoken(true),
-        Act::PollDrain(1, Some(b"")),
-        Act::Closed(true),
-    ];
-    plays(&rt, 1, acts);
-}
-
 /// What a copy answers whose last call of the end fails with an error of this kind, or moves none.
 fn ended(moved: usize, error: Option<ErrorKind>) -> Moved<usize> {
     match error {

@@ -10,10 +10,6 @@ mod crossing;
 #[cfg(test)]
 mod ends;
 #[cfg(test)]
-mod first_calls;
-#[cfg(test)]
-mod marks;
-#[cfg(test)]
 mod meeting;
 #[cfg(test)]
 mod pair;

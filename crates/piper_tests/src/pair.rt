@@ -26,10 +26,6 @@ pub(crate) enum Act<'a> {
     Drain(usize, &'a [u8]),
     /// These bytes are written into lent slices and published, all of them.
     Produce(&'a [u8]),
-    /// At most so many places are asked for, and so many are lent.
-    Lent(usize, usize),
-    /// `peek_buf` lends these bytes.
-    Peek(&'a [u8]),
     /// So many of the peeked bytes are consumed.
     Consume(usize),
     PollReader(Polled),
@@ -331,13 +327,6 @@ impl<H: Wait + Clone + Drop> Pair<H> {
                 produce(writer_of(rt, writer), bytes),
                 bytes.len(),
             ),
-            Act::Lent(most, want) => same(
-                rt,
-                &index,
-                writer_of(rt, writer).write_buf(most).len(),
-                want,
-            ),
-            Act::Peek(want) => same(rt, &index, reader_of(rt, reader).peek_buf(), want),
             Act::Consume(amount) => same(rt, &index, consume(reader_of(rt, reader), amount), true),
             Act::PollReader(want) => same(rt, &index, self.poll_reader(rt), want),
             Act::PollWriter(want) => same(rt, &index, self.poll_writer(rt), want),

@@ -9,32 +9,6 @@ use std::sync::Wait;
 use std::thread;
 use std::thread::Threads;
 
-#[test]
-fn a_poll_brings_what_was_published_before(rt: HostRuntime) {
-    let acts = &[
-        Act::Fill(b"abcdef", 6),
-        Act::Drain(6, b"abcdef"),
-        Act::Fill(b"gh", 2),
-        Act::Fill(b"ijkl", 4),
-        Act::PollReader(Polled::Found),
-        Act::Peek(b"gh"),
-        Act::Unread(6),
-    ];
-    plays(&rt, 8, acts);
-}
-
-#[test]
-fn lent_slices_carry_bytes_through(rt: HostRuntime) {
-    let acts = &[
-        Act::Produce(b"hello world"),
-        Act::PollReader(Polled::Found),
-        Act::Peek(b"hello world"),
-        Act::Consume(1),
-        Act::Peek(b"ello world"),
-    ];
-    plays(&rt, 1024, acts);
-}
-
 /// Two polls of the reader that wait. Neither wakes its task.
 const READER_WAITS: &[Act<'static>] = &[
     Act::PollReader(Polled::Pending),

@@ -2,7 +2,7 @@
 ghost use Rattle.std.specs.Prelude.{◌<◌, ◌≤◌};
 
 use crate::pair::same;
-use crate::ring::acts::{Act, both_tell, plays, receive_due, ring_of, send, send_due};
+use crate::ring::acts::{receive_due, ring_of, send, send_due};
 use std::alloc::AllocGlobal;
 use std::process::Abort;
 
@@ -21,7 +21,7 @@ fn goes_round(rt: &(impl Abort + AllocGlobal), capacity: usize, len: usize)
         received = received.wrapping_add(came.unwrap_or(0));
     }
     same(rt, &what, received, sent);
-    both_tell(rt, 0, &reader, &writer, 0);
+    same(rt, &what, (reader.len(), writer.len()), (0, 0));
 }
 
 #[test]
@@ -34,43 +34,14 @@ fn bytes_go_round_the_ring(rt: HostRuntime) {
 }
 
 #[test]
-fn both_ends_tell_what_is_unread(rt: HostRuntime) {
-    let acts = &[
-        Act::Unread(0),
-        Act::Send(&[7], 1),
-        Act::Unread(1),
-        Act::Send(&[7], 1),
-        Act::Unread(2),
-        Act::Send(&[7], 1),
-        Act::Unread(3),
-        Act::Send(&[7], 0),
-        Act::Refresh,
-        Act::Consume(1),
-        Act::Unread(2),
-        Act::Closed(false),
-        Act::Shut,
-        Act::Closed(true),
-        Act::Unread(2),
-    ];
-    plays(&rt, 3, acts);
-}
-
-#[test]
 fn lends_grow_with_the_places_that_are_set(rt: HostRuntime) {
-    let acts = &[
-        Act::Lent(200_000, 4_096),
-        Act::Produce(4_096),
-        Act::Lent(200_000, 12_288),
-        Act::Produce(12_288),
-        Act::Lent(200_000, 36_864),
-        Act::Produce(36_864),
-        Act::Lent(200_000, 110_592),
-        Act::Produce(110_592),
-        Act::Lent(200_000, 36_160),
-        Act::Produce(36_160),
-        Act::Lent(200_000, 0),
-    ];
-    plays(&rt, 200_000, acts);
+    let (_reader, mut writer) = ring_of(&rt, 200_000);
+    for lent in [4_096, 12_288, 36_864, 110_592, 36_160, 0] {
+        let buf = writer.write_buf(200_000);
+        same(&rt, &"lent", buf.len(), lent);
+        let n = buf.len();
+        writer.produce(n);
+    }
 }
 
 /// The ends leave one after the other, with so many bytes unread. The one that is left sees the ring closed.
@@ -95,23 +66,4 @@ fn the_second_end_frees_the_memory(rt: HostRuntime) {
         leave_in_turn(&rt, left, true);
         leave_in_turn(&rt, left, false);
     }
-}
-
-#[test]
-fn the_ends_meet(rt: HostRuntime) {
-    let acts = &[
-        Act::Send(&[1, 2, 3], 3),
-        Act::Heed,
-        Act::Refresh,
-        Act::Consume(2),
-        Act::Send(&[4], 1),
-        Act::Meet,
-        Act::Peek(&[3, 4]),
-        Act::Lent(9, 2),
-        Act::Shut,
-        Act::Lent(9, 0),
-        Act::LookClosed(true),
-        Act::Meet,
-    ];
-    plays(&rt, 4, acts);
 }

@@ -1,4 +1,4 @@
-//! With each end on a thread of its own. A lock held over a call would show where one end has a slice in hand.
+//! With each end on a thread of its own.
 ghost use Rattle.std.specs.Prelude.{◌<◌, ◌^◌};
 
 use crate::pair::same;
@@ -6,31 +6,6 @@ use crate::ring::acts::{receive_due, ring_of, send, send_due};
 use piper::{ReadEnd, WriteEnd};
 use std::sync::Wait;
 use std::thread;
-
-#[test]
-fn a_peeked_slice_stays_while_the_writer_publishes(rt: HostRuntime) {
-    let (mut reader, mut writer) = ring_of(&rt, 4);
-    send(&mut writer, &[1, 2]);
-    reader.refresh();
-    let piece = reader.peek_buf();
-    let (sent, _) = thread::join(&rt, || send(&mut writer, &[3, 4]), || ());
-    same(&rt, &"sent meanwhile", sent, 2);
-    same(&rt, &"the slice stayed", piece, [1, 2].as_slice());
-}
-
-#[test]
-fn a_lent_slice_is_written_while_the_reader_drains(rt: HostRuntime) {
-    let (mut reader, mut writer) = ring_of(&rt, 4);
-    send_due(&mut writer, 0, 2);
-    let buf = writer.write_buf(2);
-    let (drained, _) = thread::join(&rt, || receive_due(&mut reader, 0, 4), || ());
-    same(&rt, &"drained meanwhile", drained, Some(2));
-    let n = buf.len();
-    buf.copy_from_slice(&[3u8, 4][..n]);
-    writer.produce(n);
-    reader.refresh();
-    same(&rt, &"what came", reader.peek_buf(), [3, 4].as_slice());
-}
 
 /// Publishes `total` bytes in pieces of changing length, and leaves.
 fn publish_all(rt: &impl Wait, mut writer: WriteEnd, total: usize, most: usize)
