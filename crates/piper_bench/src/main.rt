@@ -1,4 +1,4 @@
-//! Moves bytes through a ring, a pipe or the machine and tells how long it took, beside the same work on `rtrb`, by plain copies, or by other means of the toolchain.
+//! Moves bytes through a ring or a pipe and tells how long it took, beside the same work on `rtrb` or by other means of the toolchain.
 #![tactic(auto)]
 
 use comparison::{Failed, print_comparison, short_rounds};
@@ -17,7 +17,6 @@ mod comparison;
 mod lines;
 mod means;
 mod movers;
-mod one_owner;
 mod peers;
 mod pipes;
 mod request;
@@ -28,8 +27,8 @@ const USAGE: &str = "usage: piper_bench WHAT CAP CHUNK TOTAL
        piper_bench peers [TOTAL]
        piper_bench
 The first moves TOTAL bytes in pieces of CHUNK through a ring of CAP bytes, and prints bytes, nanoseconds, nanoseconds a piece and a checksum.
-WHAT is ring (one thread, in and out in turn), ring2 (two threads), rtrb or rtrb2 (the same work on rtrb), machine (one thread, through the pure machine) or copy (plain copies into a buffer of CAP bytes and out of it).
-Or it is through the handles of a pipe: pipe (by try forms) and inplace (by lent slices, and by polls where these would be empty) on one thread, pipe2 and inplace2 between two threads, which look a few times and then sleep until they are woken, and on one thread fill and drain (one way by the copy that waits, the other by the try form) and filldrain (both ways by the copies that wait); and lines takes lines of CHUNK bytes out of one, the LF with them.
+WHAT is ring (one thread, in and out in turn), ring2 (two threads), or rtrb or rtrb2 (the same work on rtrb).
+Or it is through the handles of a pipe: pipe (by try forms) and inplace (by lent slices, and by polls where these would be empty) on one thread, pipe2 and inplace2 between two threads, which look a few times and then sleep until they are woken, and on one thread filldrain (both ways by the copies that wait); and lines takes lines of CHUNK bytes out of one, the LF with them.
 Or it is one of its peers, between two threads that wait as those of a pipe do: tokio2 (a pipe by the traits of tokio), stream2 (the stream in memory of tokio, by the same) and channel2 (a bounded channel of pieces, each in memory of its own, whose ends wait as it will).
 CAP is at least 1 and at most half of the greatest usize, CHUNK is 1 to 16777216.
 The second moves TOTAL bytes (67108864, where it is left out) through each of rtrb2, inplace2, pipe2, stream2, tokio2 and channel2 in pieces of 64, 4096 and 65536 bytes, with a CAP of 65536, or of 4 pieces where these are more, and prints one table: nanoseconds a piece and their ratio to rtrb2, each the median of 25 runs that are made in turn. A run whose checksum is not what its bytes come to ends it with status 2.

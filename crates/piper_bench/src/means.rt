@@ -1,13 +1,11 @@
 //! The means that bytes go through, and the words for them.
 
 /// Each means by its word, in the order in which a run without arguments makes them.
-pub const WORDS: [(&str, What); 17] = [
+pub const WORDS: [(&str, What); 13] = [
     ("ring", What::Ring { is_shared: false }),
     ("ring2", What::Ring { is_shared: true }),
     ("rtrb", What::Rtrb { is_shared: false }),
     ("rtrb2", What::Rtrb { is_shared: true }),
-    ("machine", What::Machine),
-    ("copy", What::Copies),
     (
         "pipe",
         What::Pipe {
@@ -37,20 +35,6 @@ pub const WORDS: [(&str, What); 17] = [
         },
     ),
     (
-        "fill",
-        What::Pipe {
-            way: Way::Fill,
-            is_shared: false,
-        },
-    ),
-    (
-        "drain",
-        What::Pipe {
-            way: Way::Drain,
-            is_shared: false,
-        },
-    ),
-    (
         "filldrain",
         What::Pipe {
             way: Way::FillDrain,
@@ -71,8 +55,6 @@ pub enum What {
     Pipe { way: Way, is_shared: bool },
     Lines,
     Peer(Peer),
-    Machine,
-    Copies,
 }
 
 /// By which calls of the handles bytes go through a pipe.
@@ -82,10 +64,6 @@ pub enum Way {
     Try,
     /// Polls and lent slices on both sides.
     InPlace,
-    /// In by the copy that waits.
-    Fill,
-    /// Out by the copy that waits.
-    Drain,
     /// In and out by the copies that wait.
     FillDrain,
 }

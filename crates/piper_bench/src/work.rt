@@ -3,14 +3,12 @@ ghost use Rattle.std.specs.Prelude.{IfSome, IsSome, ◌≡◌, ◌<◌, ◌≤�
 
 use crate::lines::through_lines;
 use crate::means::{Peer, Way, What};
-use crate::one_owner;
 use crate::peers::{through_channel, through_stream};
 use crate::pipes::{Copies, InPlace, TryForms, through_pipe};
 use crate::rings::{BYTE, Input, Output, get_all, in_turn, put_all, yields};
 use crossbeam_channel::{Receiver, Sender, bounded};
 use futures::test::MockTask;
 use piper::{OutOfMemory, OwnedReader, OwnedWriter, ReadEnd, WriteEnd, open_ring, pipe};
-use piper_machine::machine::Machine;
 use piper_tokio::{CompatReader, CompatWriter};
 use rtrb::RingBuffer;
 use std::alloc::AllocError;
@@ -112,18 +110,6 @@ where
         What::Pipe { way, is_shared: _ } => through_way(rt, way, work, source, place),
         What::Lines => lines_through_pipe(rt, work),
         What::Peer(peer) => through_peer(rt, peer, work, source, place),
-        What::Machine => {
-            let machine = machine_of(rt, work)?;
-            let start = Instant::now(rt)?;
-            let checksum = one_owner::through_machine(rt, machine, source, place, work.total);
-            Ok((start.elapsed(rt)?, checksum))
-        }
-        What::Copies => {
-            let mut buffer = vec![in rt.alloc(); 0u8; work.capacity]?;
-            let start = Instant::now(rt)?;
-            let checksum = one_owner::through_buffer(rt, &mut buffer, source, place, work.total);
-            Ok((start.elapsed(rt)?, checksum))
-        }
     }
 }
 
@@ -163,8 +149,6 @@ where
             place,
         )?,
         Way::InPlace => through_pipe(rt, &task, (InPlace, InPlace), handles, work, source, place)?,
-        Way::Fill => through_pipe(rt, &task, (Copies, TryForms), handles, work, source, place)?,
-        Way::Drain => through_pipe(rt, &task, (TryForms, Copies), handles, work, source, place)?,
         Way::FillDrain => through_pipe(rt, &task, (Copies, Copies), handles, work, source, place)?,
     };
     Ok((start.elapsed(rt)?, checksum))
@@ -232,16 +216,6 @@ where
 {
     match pipe(rt, rt.alloc(), work.capacity, 1) {
         Ok((reader, writer)) => Ok((CompatReader::new(reader), CompatWriter::new(writer))),
-        Err(OutOfMemory) => Err(AllocError),
-    }
-}
-
-fn machine_of(
-    rt: &(impl Wait + Threads + Clock + Print + AllocGlobal + Sync),
-    work: Work,
-) -> Result<Machine, AllocError> {
-    match Machine::new(rt.alloc(), work.capacity) {
-        Ok(machine) => Ok(machine),
         Err(OutOfMemory) => Err(AllocError),
     }
 }
