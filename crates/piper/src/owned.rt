@@ -1,24 +1,55 @@
 //! Handles that are let go by themselves, for a thread or a task that takes one with it.
-ghost use Rattle.std.specs.Prelude.{◌≡◌, Ok};
+ghost use Rattle.std.specs.Prelude.{◌≡◌, ◌*◌, ◌^◌, ◌<◌, IfOk, Ok, bit_xor};
 ghost use Rattle.std.specs.Borrow.{sem};
 ghost use Rattle.futures.specs.Task.{Keeps};
+ghost use Rattle.piper_ring.specs.Opened.{FreshReadEnd, FreshWriteEnd};
 ghost use Rattle.piper.specs.Contexts.{WantsWaker};
-ghost use Rattle.piper.specs.Ends.{IsEnded, WriterShut};
+ghost use Rattle.piper.specs.Ends.{WriterShut};
+ghost use Rattle.piper.specs.Generator.{generator};
+ghost use Rattle.piper.specs.Handles.{ArePair};
 
 use crate::error::PipeError;
-use crate::handles::{Reader, Writer};
+use crate::handles::{Reader, Writer, pipe};
 use crate::io::{AsyncBufRead, AsyncRead, AsyncWrite};
 use futures::task::{Context, Poll};
+use piper_ring::OutOfMemory;
+use std::alloc::AllocGlobal;
+use std::ops::{Deref, DerefMut};
 use std::sync::Wait;
 
+/// Where the generators of a pipe begin for which no seed is chosen.
+pub const DEFAULT_SEED: u64 = 0;
+
 /// A reader that is dropped where it is let go: it closes the pipe and wakes the writer.
+///
+/// Each call of [`Reader`] can be made on it, with the same contract.
 pub struct OwnedReader<H: Wait + Clone + Drop> {
     reader: Reader<H>,
 }
 
 /// A writer that is dropped where it is let go: it closes the pipe and wakes the reader.
+///
+/// Each call of [`Writer`] can be made on it, with the same contract.
 pub struct OwnedWriter<H: Wait + Clone + Drop> {
     writer: Writer<H>,
+}
+
+/// Creates a pipe of `cap` bytes whose handles are let go by themselves.
+///
+/// It is `pipe` over the global allocator, from the seed `DEFAULT_SEED`. Where memory is refused, all that was got is given back.
+pub fn owned_pipe<H: Wait + Clone + AllocGlobal + Drop>(
+    rt: &H,
+    cap: usize,
+) -> Result<(OwnedReader<H>, OwnedWriter<H>), OutOfMemory>
+    requires { (0 < cap) × (2 * cap < 2 ^ 64) }
+    ensures pair { IfOk result (λ (owned, other). ArePair owned.reader other.writer) }
+    ensures reader { IfOk result (λ (owned, _). FreshReadEnd cap owned.reader.end) }
+    ensures writer { IfOk result (λ (_, owned). FreshWriteEnd cap owned.writer.end) }
+    ensures reader_rng { IfOk result (λ (owned, _). owned.reader.rng ≡ generator 0) }
+    ensures writer_rng { IfOk result (λ (_, owned). owned.writer.rng ≡ generator (bit_xor 0 1)) }
+{
+    let (reader, writer) = pipe(rt, rt.alloc(), cap, DEFAULT_SEED)?;
+    Ok((OwnedReader { reader }, OwnedWriter { writer }))
 }
 
 impl<H: Wait + Clone + Drop> OwnedReader<H> {
@@ -37,6 +68,21 @@ impl<H: Wait + Clone + Drop> OwnedReader<H> {
     {
         &mut self.reader
     }
+
+    /// The reader, to be looked at.
+    pub fn get_ref(&self) -> &Reader<H>
+        ensures { result.now ≡ self.now.reader }
+    {
+        &self.reader
+    }
+
+    /// The reader itself, which has to be spent by its call `drop`. The pipe is as it was: it is not closed.
+    pub fn into_inner(self) -> Reader<H>
+        ensures { result ≡ self.reader }
+    {
+        let OwnedReader { reader } = self;
+        reader
+    }
 }
 
 impl<H: Wait + Clone + Drop> OwnedWriter<H> {
@@ -52,6 +98,69 @@ impl<H: Wait + Clone + Drop> OwnedWriter<H> {
     pub fn get_mut(&mut self) -> &mut Writer<H>
         ensures* lends { sem 𝓛 (lends_writer H.row self.entry result) }
         ensures value { result.now ≡ self.old.writer }
+    {
+        &mut self.writer
+    }
+
+    /// The writer, to be looked at.
+    pub fn get_ref(&self) -> &Writer<H>
+        ensures { result.now ≡ self.now.writer }
+    {
+        &self.writer
+    }
+
+    /// The writer itself, which has to be spent by its call `drop`. The pipe is as it was: it is not closed.
+    pub fn into_inner(self) -> Writer<H>
+        ensures { result ≡ self.writer }
+    {
+        let OwnedWriter { writer } = self;
+        writer
+    }
+}
+
+/// So that each call of the reader can be made on its owner.
+impl<H: Wait + Clone + Drop> Deref for OwnedReader<H> {
+    type Target = Reader<H>;
+
+    ghost deref_gives = { λ owned reader. reader ≡ owned.reader };
+
+    fn deref(&self) -> &Reader<H> {
+        &self.reader
+    }
+}
+
+impl<H: Wait + Clone + Drop> DerefMut for OwnedReader<H> {
+    ghost use Rattle.piper.specs.Owned.{lends_reader};
+
+    ghost deref_mut_gives = { λ owned reader. reader ≡ owned.reader };
+
+    fn deref_mut(&mut self) -> &mut Reader<H>
+        ensures* lends { sem 𝓛 (lends_reader H.row self.entry result) }
+        ensures shows { result.now ≡ self.old.reader }
+    {
+        &mut self.reader
+    }
+}
+
+/// So that each call of the writer can be made on its owner.
+impl<H: Wait + Clone + Drop> Deref for OwnedWriter<H> {
+    type Target = Writer<H>;
+
+    ghost deref_gives = { λ owned writer. writer ≡ owned.writer };
+
+    fn deref(&self) -> &Writer<H> {
+        &self.writer
+    }
+}
+
+impl<H: Wait + Clone + Drop> DerefMut for OwnedWriter<H> {
+    ghost use Rattle.piper.specs.Owned.{lends_writer};
+
+    ghost deref_mut_gives = { λ owned writer. writer ≡ owned.writer };
+
+    fn deref_mut(&mut self) -> &mut Writer<H>
+        ensures* lends { sem 𝓛 (lends_writer H.row self.entry result) }
+        ensures shows { result.now ≡ self.old.writer }
     {
         &mut self.writer
     }
