@@ -3,6 +3,7 @@
 
 mod answers;
 mod copies;
+mod debug;
 mod error;
 mod handles;
 pub mod io;

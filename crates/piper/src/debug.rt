@@ -1,0 +1,37 @@
+//! What `{:?}` prints of handles and owners: how they stand, and no byte.
+use crate::handles::{Reader, Writer};
+use crate::owned::{OwnedReader, OwnedWriter};
+use std::fmt::{self, Debug, Formatter};
+use std::sync::Wait;
+
+impl<H: Wait + Clone + Drop> Debug for Reader<H> {
+    fn fmt<W: fmt::Write>(&self, f: &mut Formatter<W>) -> fmt::Result {
+        f.debug_struct("Reader")
+            .field("capacity", &self.capacity())
+            .field("known", &self.end().known_len())
+            .field("closed", &self.is_closed())
+            .finish()
+    }
+}
+
+impl<H: Wait + Clone + Drop> Debug for Writer<H> {
+    fn fmt<W: fmt::Write>(&self, f: &mut Formatter<W>) -> fmt::Result {
+        f.debug_struct("Writer")
+            .field("capacity", &self.capacity())
+            .field("room", &self.end().room())
+            .field("closed", &self.is_closed())
+            .finish()
+    }
+}
+
+impl<H: Wait + Clone + Drop> Debug for OwnedReader<H> {
+    fn fmt<W: fmt::Write>(&self, f: &mut Formatter<W>) -> fmt::Result {
+        f.debug_tuple("OwnedReader").field(self.get_ref()).finish()
+    }
+}
+
+impl<H: Wait + Clone + Drop> Debug for OwnedWriter<H> {
+    fn fmt<W: fmt::Write>(&self, f: &mut Formatter<W>) -> fmt::Result {
+        f.debug_tuple("OwnedWriter").field(self.get_ref()).finish()
+    }
+}
