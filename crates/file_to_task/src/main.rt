@@ -7,7 +7,7 @@ ghost use Rattle.piper.specs.Handles.{read_source, write_source};
 use futures::Future;
 use futures::executor::block_on;
 use futures::task::{Context, Poll};
-use piper::{OutOfMemory, OwnedReader, OwnedWriter, Reader, Writer, pipe};
+use piper::{OutOfMemory, Reader, Writer, owned_pipe};
 use std::alloc::AllocGlobal;
 use std::fs::Files;
 use std::io::{self, Read};
@@ -86,8 +86,7 @@ fn open<R: Files + AllocGlobal>(rt: &R, path: &str) -> io::Result<R::File> {
 fn main(rt: HostRuntime) -> io::Result<()> {
     let file = open(&rt, "poem.txt")?;
     let theirs = rt.clone()?;
-    let (reader, writer) = pipe(&rt, rt.alloc(), 64, 1).map_err(|_| io::ErrorKind::OutOfMemory)?;
-    let (mut reader, mut writer) = (OwnedReader::new(reader), OwnedWriter::new(writer));
+    let (mut reader, mut writer) = owned_pipe(&rt, 64).map_err(|_| io::ErrorKind::OutOfMemory)?;
     let spawned = thread::spawn(&rt, move || {
         let fill = Fill {
             writer: writer.get_mut(),
