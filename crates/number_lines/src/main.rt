@@ -9,7 +9,7 @@ use futures::Future;
 use futures::executor::block_on;
 use futures::task::{Context, Poll};
 use piper::io::AsyncBufRead;
-use piper::{OwnedReader, OwnedWriter, Writer, pipe};
+use piper::{Writer, owned_pipe};
 use piper_lines::{LineAnswer, Lines};
 use std::io::{self, Read, Write};
 use std::sync::Wait;
@@ -83,10 +83,9 @@ impl<R: AsyncBufRead + Drop, W: Write + Drop> Future for Number<R, W> {
 
 fn main(rt: HostRuntime) -> io::Result<()> {
     let theirs = rt.clone()?;
-    let (reader, writer) = pipe(&rt, rt.alloc(), 64, 1).map_err(|_| io::ErrorKind::OutOfMemory)?;
-    let mut writer = OwnedWriter::new(writer);
+    let (reader, mut writer) = owned_pipe(&rt, 64).map_err(|_| io::ErrorKind::OutOfMemory)?;
     let number = Number {
-        lines: Lines::new(rt.alloc(), OwnedReader::new(reader)),
+        lines: Lines::new(rt.alloc(), reader),
         line: Vec::new(rt.alloc()),
         count: 0,
         output: io::writer(&rt),

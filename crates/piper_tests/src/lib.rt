@@ -12,6 +12,8 @@ mod ends;
 #[cfg(test)]
 mod meeting;
 #[cfg(test)]
+mod owners;
+#[cfg(test)]
 mod pair;
 #[cfg(test)]
 mod ring;
