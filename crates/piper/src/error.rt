@@ -12,7 +12,7 @@ pub enum PipeError {
     #[error("out of memory")]
     Memory,
     /// The source or the destination failed, with this error.
-    #[error("io failed")]
+    #[error("io failed: {0}")]
     Io(io::Error),
 }
 

@@ -8,6 +8,7 @@ ghost use Rattle.futures.specs.Poll.{OnPending};
 ghost use Rattle.piper.specs.Contexts.{AsksAgain};
 ghost use Rattle.piper.specs.Polls.{Behind, Lends, Reads, TakesNone, Writes, OnReadyOk, IfReadyOk, IfReadyErr};
 
+mod by_ref;
 mod copy;
 
 use crate::error::PipeError;

@@ -30,6 +30,9 @@ pub fn poll_copy<R: AsyncBufRead, W: AsyncWrite>(
 ) -> Poll<Result<Copied, PipeError>>
     ensures carried { Carries (R.taken reader.old) (R.taken reader.new)
         (W.sent writer.old) (W.sent writer.new) (W.saw writer.new) }
+    ensures over { W.saw writer.old ≡ true →
+        (R.taken reader.new ≡ R.taken reader.old) × (W.sent writer.new ≡ W.sent writer.old) }
+    ensures stays { W.saw writer.old ≡ true → W.saw writer.new ≡ true }
     ensures ended { result ≡ Poll.Ready (Ok Copied.ToTheEnd) →
         (R.known reader.new ≡ []) × (R.saw reader.new ≡ true) }
     ensures closed { result ≡ Poll.Ready (Ok Copied.UntilClosed) → W.saw writer.new ≡ true }

@@ -1,4 +1,4 @@
-use Rattle.std.proofs.Common.{rules, ◌≡◌, ◌++◌, List, ℕ, take, true, arith}
+use Rattle.std.proofs.Common.{rules, ◌≡◌, ◌++◌, List, ℕ, take, true, refl, arith}
 use Rattle.std.proofs.lemmas.Grind.{common_steps}
 use Rattle.piper.proofs.Carrying.{carries_none, carries_more}
 use Rattle.piper.proofs.io.copy.poll_copy.Goals as goal
@@ -6,6 +6,8 @@ use Rattle.piper.proofs.io.copy.poll_copy.Goals as goal
 pub loop-init : goal.loop-init
 loop-init g c = record {
   carried = carries_none (g.R.AsyncBufRead.taken c.args.reader.now) (g.W.AsyncWrite.sent c.args.writer.now) (g.W.AsyncWrite.saw c.args.writer.now);
+  over = λ _. (refl, refl);
+  stays = λ seen. seen;
   kept = λ fact held. held;
 }
 
@@ -20,5 +22,7 @@ loop-preserved g c =
     let taken : g.R.AsyncBufRead.taken c.consume.new.self ≡ g.R.AsyncBufRead.taken c.loop.reader ++ take n piece = grind (arith, common_steps) in
     record {
       carried = carries_more _ _ _ _ _ _ piece written.1.0 n _ _ c.loop.invariant.carried unseen taken written.1.1 written.1.2 written.1.3;
+      over = λ seen. absurd (unseen (c.loop.invariant.stays seen));
+      stays = λ seen. absurd (unseen (c.loop.invariant.stays seen));
       kept = search rules;
     }

@@ -1,4 +1,5 @@
 -- What was taken so far was published.
+use Rattle.std.proofs.Common.{◌≡◌, true}
 use Rattle.futures.specs.Task.{Keeps}
 use Rattle.piper.specs.Polls.{Carries}
 use Rattle.piper.proofs.io.copy.poll_copy.Given as goal
@@ -6,5 +7,7 @@ use Rattle.piper.proofs.io.copy.poll_copy.Given as goal
 abbrev pub invariant-loop : goal.invariant-loop
 invariant-loop g l = record {
   carried : Carries (g.R.AsyncBufRead.taken l.initial.reader) (g.R.AsyncBufRead.taken l.reader) (g.W.AsyncWrite.sent l.initial.writer) (g.W.AsyncWrite.sent l.writer) (g.W.AsyncWrite.saw l.writer);
+  over : g.W.AsyncWrite.saw l.initial.writer ≡ true → (g.R.AsyncBufRead.taken l.reader ≡ g.R.AsyncBufRead.taken l.initial.reader) × (g.W.AsyncWrite.sent l.writer ≡ g.W.AsyncWrite.sent l.initial.writer);
+  stays : g.W.AsyncWrite.saw l.initial.writer ≡ true → g.W.AsyncWrite.saw l.writer ≡ true;
   kept : Keeps l.initial.cx l.cx;
 }

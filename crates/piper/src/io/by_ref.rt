@@ -1,0 +1,74 @@
+//! A `&mut` to a reader or a writer is one itself, so that what takes one can be lent it.
+use super::{AsyncBufRead, AsyncRead, AsyncWrite};
+use crate::error::PipeError;
+use futures::task::{Context, Poll};
+
+impl<R: AsyncRead> AsyncRead for &mut R {
+    ghost taken = { λ r. R.taken r.now };
+
+    ghost saw = { λ r. R.saw r.now };
+
+    ghost told = { λ r. R.told r.now };
+
+    ghost needs = { λ r. R.needs r.now };
+
+    ghost fails = { λ r. R.fails r.now };
+
+    fn poll_read(
+        &mut self,
+        cx: &mut Context<'_>,
+        dest: &mut [u8],
+    ) -> Poll<Result<usize, PipeError>> {
+        (**self).poll_read(cx, dest)
+    }
+}
+
+impl<R: AsyncBufRead> AsyncBufRead for &mut R {
+    ghost known = { λ r. R.known r.now };
+
+    ghost piece = { λ r. R.piece r.now };
+
+    ghost taken = { λ r. R.taken r.now };
+
+    ghost saw = { λ r. R.saw r.now };
+
+    ghost told = { λ r. R.told r.now };
+
+    ghost needs = { λ r. R.needs r.now };
+
+    ghost fails = { λ r. R.fails r.now };
+
+    fn poll_fill_buf(&mut self, cx: &mut Context<'_>) -> Poll<Result<&[u8], PipeError>> {
+        (**self).poll_fill_buf(cx)
+    }
+
+    fn consume(&mut self, amt: usize) {
+        (**self).consume(amt);
+    }
+}
+
+impl<W: AsyncWrite> AsyncWrite for &mut W {
+    ghost sent = { λ w. W.sent w.now };
+
+    ghost saw = { λ w. W.saw w.now };
+
+    ghost needs = { λ w. W.needs w.now };
+
+    ghost fails = { λ w. W.fails w.now };
+
+    fn poll_write(
+        &mut self,
+        cx: &mut Context<'_>,
+        source: &[u8],
+    ) -> Poll<Result<usize, PipeError>> {
+        (**self).poll_write(cx, source)
+    }
+
+    fn poll_flush(&mut self, cx: &mut Context<'_>) -> Poll<Result<(), PipeError>> {
+        (**self).poll_flush(cx)
+    }
+
+    fn poll_close(&mut self, cx: &mut Context<'_>) -> Poll<Result<(), PipeError>> {
+        (**self).poll_close(cx)
+    }
+}
