@@ -39,7 +39,7 @@ Gathers (Ready (Ok TooLong)) limit before line known saw = IsTooLong limit befor
 Gathers (Ready (Ok Last)) limit before line known saw =
     LacksLf line × (0 < length line) × AtEnd known saw
 Gathers (Ready (Ok End)) limit before line known saw = (line ≡ []) × AtEnd known saw
-Gathers (Ready (Err e)) limit before line known saw = LacksLf line
+Gathers (Ready (Err e)) limit before line known saw = LacksLf line × (length line < limit)
 Gathers Pending limit before line known saw = LacksLf line × (length line < limit) × (known ≡ [])
 
 -- by the answer: the bytes of a line, begun before,
@@ -54,6 +54,7 @@ Hands (Ready (Ok Last)) limit before line kept known saw =
     LacksLf line × (0 < length line) × (kept ≡ []) × AtEnd known saw
 Hands (Ready (Ok End)) limit before line kept known saw =
     (line ≡ []) × (kept ≡ []) × AtEnd known saw
-Hands (Ready (Err e)) limit before line kept known saw = (line ≡ []) × LacksLf kept
+Hands (Ready (Err e)) limit before line kept known saw =
+    (line ≡ []) × LacksLf kept × (length kept < limit)
 Hands Pending limit before line kept known saw =
     (line ≡ []) × LacksLf kept × (length kept < limit) × (known ≡ [])

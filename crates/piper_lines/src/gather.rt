@@ -15,8 +15,10 @@ use piper::io::AsyncBufRead;
 /// How many pieces a poll passes over at most, so that other tasks get their turn.
 const MOST_PIECES: u32 = 64;
 
-// Takes bytes from the reader to the end of `gathered`, until it has `size` of them; false at the end of the reader.
-pub(crate) fn fill_up<R: AsyncBufRead>(
+/// Takes bytes from the reader to the end of `gathered`, until it has `size` of them; false at the end of the reader.
+///
+/// Memory is asked for before bytes are taken: after an error, as where it is pending, the next poll goes on from there.
+pub fn fill_up<R: AsyncBufRead>(
     reader: &mut R,
     cx: &mut Context<'_>,
     gathered: &mut Vec<u8>,

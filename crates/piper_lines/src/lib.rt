@@ -12,6 +12,7 @@ mod write_all;
 pub use collect::{Collected, poll_frames, poll_lines};
 pub use frame_reader::{FrameAnswer, Frames};
 pub use frame_writer::WriteFrame;
+pub use gather::fill_up;
 pub use line_reader::{LineAnswer, Lines};
 pub use line_writer::{WriteLine, is_one_line};
 pub use write_all::{Written, poll_write_all};
