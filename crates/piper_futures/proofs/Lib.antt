@@ -1,0 +1,3 @@
+pub mod CarryingOn
+pub mod ReadingOn
+pub mod WritingOn

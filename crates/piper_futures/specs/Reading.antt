@@ -1,0 +1,62 @@
+-- What a future that reads gives.
+use Rattle.std.specs.Prelude.{◌≡◌, ℕ, ◌<◌, ◌≤◌, Bool, List, length, Some, Result, Ok, Err, Vec}
+use Rattle.std.specs.declared.alloc.Global.{Global}
+use Rattle.futures.specs.declared.task.context.Context.{Context}
+use Rattle.piper.specs.declared.error.PipeError.{PipeError}
+use Rattle.futures.specs.declared.task.Poll.TheVariants.{Ready}
+use Rattle.piper.specs.Polls.{Reads}
+use Rattle.piper_lines.specs.AtEnd.{AtEnd}
+use Rattle.piper_lines.specs.Moves.{Grows}
+use Rattle.piper_lines.specs.Refusals.{IsTold}
+use Rattle.piper_futures.specs.Writing.{FailsOnce}
+use Rattle.piper_futures.specs.declared.failed.Failed.{Failed}
+use Rattle.piper_futures.specs.declared.read_all.ReadToEnd.{ReadToEnd}
+use Rattle.piper_futures.specs.declared.read_some.ReadOnce.{ReadOnce}
+use Rattle.piper_futures.specs.declared.read_up_to.ReadExact.{ReadExact}
+
+-- it is about to read from the reader to these places
+abbrev pub StartsReading : {R : Type 0} → ReadOnce R → R → Vec ℕ Global → Type 0
+StartsReading future reader places = future.state ≡ Some (reader, places)
+
+-- it is about to read from the reader to the end of these bytes, until there are `size` of them
+abbrev pub StartsReadingUpTo : {R : Type 0} → ReadExact R → R → Vec ℕ Global → ℕ → Type 0
+StartsReadingUpTo future reader bytes size =
+    (future.state ≡ Some (reader, bytes)) × (future.size ≡ size)
+
+-- it is about to read from the reader to the end of these bytes, up to the reader's end
+abbrev pub StartsReadingAll : {R : Type 0} → ReadToEnd R → R → Vec ℕ Global → Type 0
+StartsReadingAll future reader bytes = future.state ≡ Some (reader, bytes)
+
+module _ {R : Type 0} (taken known : R → List ℕ) (saw : R → Bool) where
+  -- what the reader gave between two of its states stands at the end of the bytes
+  abbrev pub ReadsOn : R → List ℕ → R → List ℕ → Type 0
+  ReadsOn r0 b0 r1 b1 = Grows (taken r0) (taken r1) b0 b1
+
+  -- all came, up to the end; or the reader failed, or memory was refused where more was known
+  abbrev pub ReadAll : (R → Context → PipeError → Type 0) → R → Vec ℕ Global
+      → Result (R × Vec ℕ Global) (Failed (R × Vec ℕ Global)) → Type 0
+  ReadAll fails r bytes (Ok done) =
+      ReadsOn r bytes.items done.0 done.1.items × AtEnd (known done.0) (saw done.0)
+  ReadAll fails r bytes (Err failed) =
+      ReadsOn r bytes.items failed.left.0 failed.left.1.items
+      × IsTold failed.error (FailsOnce fails failed.left.0) (0 < length (known failed.left.0))
+
+  -- as many came as were asked for, or all up to the end; or it failed as above
+  abbrev pub ReadUpTo : ℕ → (R → Context → PipeError → Type 0) → R → Vec ℕ Global
+      → Result (R × Vec ℕ Global) (Failed (R × Vec ℕ Global)) → Type 0
+  ReadUpTo size fails r bytes (Ok done) =
+      ReadsOn r bytes.items done.0 done.1.items × (length done.1.items ≤ size)
+      × (length done.1.items < size → AtEnd (known done.0) (saw done.0))
+  ReadUpTo size fails r bytes (Err failed) =
+      ReadsOn r bytes.items failed.left.0 failed.left.1.items
+      × IsTold failed.error (FailsOnce fails failed.left.0) (0 < length (known failed.left.0))
+
+-- what was read at once stands at the front of the places, and the rest of them stays;
+-- or the reader failed, and gave nothing
+abbrev pub ReadSome : {R : Type 0} → (R → List ℕ) → (R → Bool) → (R → Context → PipeError → Type 0)
+    → R → List ℕ → Result (R × Vec ℕ Global × ℕ) (Failed (R × Vec ℕ Global)) → Type 0
+ReadSome taken saw fails r places (Ok done) =
+    Reads {E = PipeError} (Ready (Ok done.2)) places done.1.items (taken r) (taken done.0) (saw done.0)
+ReadSome taken saw fails r places (Err failed) =
+    (taken failed.left.0 ≡ taken r) × (failed.left.1.items ≡ places)
+    × FailsOnce fails failed.left.0 failed.error

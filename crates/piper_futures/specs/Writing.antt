@@ -1,0 +1,51 @@
+-- What a future that writes gives.
+use Rattle.std.specs.Prelude.{◌≡◌, ℕ, ◌<◌, ◌≤◌, Bool, true, List, drop, length, Some, Result, Ok, Err}
+use Rattle.futures.specs.declared.task.context.Context.{Context}
+use Rattle.piper.specs.declared.error.PipeError.{PipeError}
+use Rattle.piper_lines.specs.Sends.{Sends}
+use Rattle.piper_futures.specs.declared.failed.Failed.{Failed}
+use Rattle.piper_futures.specs.declared.write_end.Closing.{Closing}
+use Rattle.piper_futures.specs.declared.write_end.Flushing.{Flushing}
+use Rattle.piper_futures.specs.declared.write_whole.WriteAll.{WriteAll}
+
+-- it is about to write these bytes to the writer
+abbrev pub StartsWriting : {W : Type 0} → WriteAll W → W → List ℕ → Type 0
+StartsWriting future writer bytes =
+    (future.writer ≡ Some writer) × (future.bytes.now ≡ bytes) × (future.written ≡ 0)
+
+-- it is about to flush the writer
+abbrev pub StartsFlushing : {W : Type 0} → Flushing W → W → Type 0
+StartsFlushing future writer = future.writer ≡ Some writer
+
+-- it is about to close it
+abbrev pub StartsClosing : {W : Type 0} → Closing W → W → Type 0
+StartsClosing future writer = future.writer ≡ Some writer
+
+-- the error is the end's own, in some poll
+abbrev pub FailsOnce : {E : Type 0} → (E → Context → PipeError → Type 0) → E → PipeError → Type 0
+FailsOnce fails end error = (cx : Context) × fails end cx error
+
+module _ {W : Type 0} (sent : W → List ℕ) (saw : W → Bool) where
+  -- from one state of the writer to another the bytes were sent that stand between these two counts
+  abbrev pub WritesOn : List ℕ → W → ℕ → W → ℕ → Type 0
+  WritesOn bytes w0 n0 w1 n1 =
+      (n1 ≤ length bytes) × Sends (drop n0 bytes) (drop n1 bytes) (sent w0) (sent w1) (saw w0) (saw w1)
+      × (saw w0 ≡ true → saw w1 ≡ true)
+
+  -- all were written, or the pipe was seen closed; or the writer failed
+  abbrev pub WroteAll : (W → Context → PipeError → Type 0) → List ℕ → W → ℕ
+      → Result (W × ℕ) (Failed (W × ℕ)) → Type 0
+  WroteAll fails bytes w n (Ok done) =
+      WritesOn bytes w n done.0 done.1 × (done.1 < length bytes → saw done.0 ≡ true)
+  WroteAll fails bytes w n (Err failed) =
+      WritesOn bytes w n failed.left.0 failed.left.1 × FailsOnce fails failed.left.0 failed.error
+
+  -- the writer sent nothing
+  abbrev pub Idles : W → W → Type 0
+  Idles w0 w1 = (sent w1 ≡ sent w0) × (saw w0 ≡ true → saw w1 ≡ true)
+
+  -- it comes back, with P where it has not failed, and sent nothing
+  abbrev pub ComesBack : (W → Context → PipeError → Type 0) → (W → Type 0) → W
+      → Result W (Failed W) → Type 0
+  ComesBack fails P w (Ok done) = Idles w done × P done
+  ComesBack fails P w (Err failed) = Idles w failed.left × FailsOnce fails failed.left failed.error

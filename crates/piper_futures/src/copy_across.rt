@@ -1,0 +1,52 @@
+//! All bytes of a reader, copied to a writer.
+ghost use Rattle.std.specs.Prelude.{IsSome, IsSomeAnd};
+ghost use Rattle.piper_futures.specs.Carrying.{CopiedAll, StartsCopy};
+
+use crate::failed::Failed;
+use futures::Future;
+use futures::task::{Context, Poll};
+use piper::io::{AsyncBufRead, AsyncWrite, Copied, poll_copy};
+
+/// The future of [`copy`].
+#[derive(Drop)]
+pub struct Copying<R, W> {
+    state: Option<(R, W)>,
+}
+
+/// Copies all bytes from the reader to the writer, in order, up to the end of the one or the close of the other, and gives both back with why it ended.
+///
+/// It holds no bytes of its own: where it fails, as where it is let go, all that was taken is written, but for what is lost where the writer's pipe is closed.
+pub fn copy<R: AsyncBufRead + Drop, W: AsyncWrite + Drop>(reader: R, writer: W) -> Copying<R, W>
+    ensures { StartsCopy result reader writer }
+{
+    Copying {
+        state: Some((reader, writer)),
+    }
+}
+
+// It waits for the one or the other, so it names no source.
+impl<R: AsyncBufRead + Drop, W: AsyncWrite + Drop> Future for Copying<R, W> {
+    type Output = Result<(R, W, Copied), Failed<(R, W)>>;
+
+    ghost can_poll = { λ future. IsSome future.state };
+
+    ghost gives = { λ future output. IsSomeAnd future.state (λ state.
+        CopiedAll R.taken R.known R.saw R.fails W.sent W.saw W.fails state.0 state.1 output) };
+
+    fn poll(&mut self, cx: &mut Context<'_>) -> Poll<Self::Output> {
+        let Some((reader, writer)) = &mut self.state else {
+            unreachable!()
+        };
+        match poll_copy(cx, reader, writer) {
+            Poll::Pending => Poll::Pending,
+            Poll::Ready(Ok(copied)) => {
+                let (reader, writer) = self.state.take().unwrap();
+                Poll::Ready(Ok((reader, writer, copied)))
+            }
+            Poll::Ready(Err(error)) => {
+                let left = self.state.take().unwrap();
+                Poll::Ready(Err(Failed { left, error }))
+            }
+        }
+    }
+}

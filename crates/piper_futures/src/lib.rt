@@ -1,0 +1,20 @@
+//! Futures over any reader that lends, and over any writer, by the names of `futures` and `tokio`.
+//!
+//! Each owns its ends and gives them back, also where it fails: pass `&mut` to keep one. One that is let go before it gives lets go what it owns, and the bytes that it gathered with it.
+#![tactic(auto)]
+
+mod copy_across;
+mod failed;
+mod read_all;
+mod read_some;
+mod read_up_to;
+mod write_end;
+mod write_whole;
+
+pub use copy_across::{Copying, copy};
+pub use failed::Failed;
+pub use read_all::{ReadToEnd, poll_read_to_end, read_to_end};
+pub use read_some::{ReadOnce, read};
+pub use read_up_to::{ReadExact, read_exact};
+pub use write_end::{Closing, Flushing, close, flush};
+pub use write_whole::{WriteAll, write_all};

@@ -1,0 +1,96 @@
+//! All bytes of a reader.
+ghost use Rattle.std.specs.Prelude.{◌≡◌, ◌<◌, length, Ok, IsSome, IsSomeAnd};
+ghost use Rattle.futures.specs.Task.{Covers, Keeps};
+ghost use Rattle.futures.specs.Poll.{OnPending};
+ghost use Rattle.piper.specs.Polls.{IfReadyErr};
+ghost use Rattle.piper_lines.specs.AtEnd.{AtEnd};
+ghost use Rattle.piper_lines.specs.Moves.{Grows};
+ghost use Rattle.piper_lines.specs.Refusals.{IsTold};
+ghost use Rattle.piper_futures.specs.Reading.{ReadAll, StartsReadingAll};
+
+use crate::failed::Failed;
+use futures::Future;
+use futures::task::{Context, Poll};
+use piper::PipeError;
+use piper::io::AsyncBufRead;
+
+/// How many pieces a poll takes at most, so that other tasks get their turn.
+const MOST_PIECES: u32 = 64;
+
+/// The future of [`read_to_end`].
+#[derive(Drop)]
+pub struct ReadToEnd<R> {
+    state: Option<(R, Vec<u8>)>,
+}
+
+/// Appends all bytes of the reader to `bytes`, in order, up to its end, and gives both back.
+///
+/// Where the reader fails or memory is refused, what is left is the reader and the bytes that came before; memory is asked for before bytes are taken, so none is lost.
+pub fn read_to_end<R: AsyncBufRead + Drop>(reader: R, bytes: Vec<u8>) -> ReadToEnd<R>
+    ensures { StartsReadingAll result reader bytes }
+{
+    ReadToEnd {
+        state: Some((reader, bytes)),
+    }
+}
+
+impl<R: AsyncBufRead + Drop> Future for ReadToEnd<R> {
+    type Output = Result<(R, Vec<u8>), Failed<(R, Vec<u8>)>>;
+
+    ghost can_poll = { λ future. IsSome future.state };
+
+    ghost needs = { λ future s. IsSomeAnd future.state (λ state. R.needs state.0 s) };
+
+    ghost gives = { λ future output. IsSomeAnd future.state (λ state.
+        ReadAll R.taken R.known R.saw R.fails state.0 state.1 output) };
+
+    fn poll(&mut self, cx: &mut Context<'_>) -> Poll<Self::Output> {
+        let Some((reader, bytes)) = &mut self.state else {
+            unreachable!()
+        };
+        match poll_read_to_end(reader, cx, bytes) {
+            Poll::Pending => Poll::Pending,
+            Poll::Ready(Ok(())) => Poll::Ready(Ok(self.state.take().unwrap())),
+            Poll::Ready(Err(error)) => {
+                let left = self.state.take().unwrap();
+                Poll::Ready(Err(Failed { left, error }))
+            }
+        }
+    }
+}
+
+/// Appends the bytes of the reader to `bytes`, up to its end.
+///
+/// Memory is asked for before bytes are taken: after an error, as where it is pending, the next poll goes on from there. After 64 pieces it asks for another poll.
+pub fn poll_read_to_end<R: AsyncBufRead>(
+    reader: &mut R,
+    cx: &mut Context<'_>,
+    bytes: &mut Vec<u8>,
+) -> Poll<Result<(), PipeError>>
+    ensures grown { Grows (R.taken reader.old) (R.taken reader.new)
+        bytes.old.items bytes.new.items }
+    ensures ended { result ≡ Poll.Ready (Ok (record {})) →
+        AtEnd (R.known reader.new) (R.saw reader.new) }
+    ensures error { IfReadyErr result (λ e. IsTold e (R.fails reader.new cx.new)
+        (0 < length (R.known reader.new))) }
+    ensures told { R.told reader.new ≡ R.told reader.old }
+    ensures covered { OnPending result (Covers cx.new (R.needs reader.new)) }
+    ensures kept { Keeps cx.old cx.new }
+{
+    for _ in 0..MOST_PIECES {
+        let piece = match reader.poll_fill_buf(cx) {
+            Poll::Pending => return Poll::Pending,
+            Poll::Ready(Err(error)) => return Poll::Ready(Err(error)),
+            Poll::Ready(Ok(piece)) => piece,
+        };
+        if piece.is_empty() {
+            return Poll::Ready(Ok(()));
+        }
+        if bytes.extend_from_slice(piece).is_err() {
+            return Poll::Ready(Err(PipeError::Memory));
+        }
+        let count = piece.len();
+        reader.consume(count);
+    }
+    cx.yield_now()
+}

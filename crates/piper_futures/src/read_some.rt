@@ -1,0 +1,53 @@
+//! What a reader has now.
+ghost use Rattle.std.specs.Prelude.{IsSome, IsSomeAnd};
+ghost use Rattle.piper_futures.specs.Reading.{ReadSome, StartsReading};
+
+use crate::failed::Failed;
+use futures::Future;
+use futures::task::{Context, Poll};
+use piper::io::AsyncRead;
+
+/// The future of [`read`].
+#[derive(Drop)]
+pub struct ReadOnce<R> {
+    state: Option<(R, Vec<u8>)>,
+}
+
+/// Waits for a byte, puts what came to the front of `places`, and gives both back with how many came; 0 where there are places is the end.
+///
+/// Where the reader fails, what is left is the reader and the places as they were.
+pub fn read<R: AsyncRead + Drop>(reader: R, places: Vec<u8>) -> ReadOnce<R>
+    ensures { StartsReading result reader places }
+{
+    ReadOnce {
+        state: Some((reader, places)),
+    }
+}
+
+impl<R: AsyncRead + Drop> Future for ReadOnce<R> {
+    type Output = Result<(R, Vec<u8>, usize), Failed<(R, Vec<u8>)>>;
+
+    ghost can_poll = { λ future. IsSome future.state };
+
+    ghost needs = { λ future s. IsSomeAnd future.state (λ state. R.needs state.0 s) };
+
+    ghost gives = { λ future output. IsSomeAnd future.state (λ state.
+        ReadSome R.taken R.saw R.fails state.0 state.1.items output) };
+
+    fn poll(&mut self, cx: &mut Context<'_>) -> Poll<Self::Output> {
+        let Some((reader, places)) = &mut self.state else {
+            unreachable!()
+        };
+        match reader.poll_read(cx, places.as_mut_slice()) {
+            Poll::Pending => Poll::Pending,
+            Poll::Ready(Ok(count)) => {
+                let (reader, places) = self.state.take().unwrap();
+                Poll::Ready(Ok((reader, places, count)))
+            }
+            Poll::Ready(Err(error)) => {
+                let left = self.state.take().unwrap();
+                Poll::Ready(Err(Failed { left, error }))
+            }
+        }
+    }
+}

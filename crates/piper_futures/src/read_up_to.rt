@@ -1,0 +1,55 @@
+//! A number of bytes.
+ghost use Rattle.std.specs.Prelude.{◌≤◌, length, IsSomeAnd};
+ghost use Rattle.piper_futures.specs.Reading.{ReadUpTo, StartsReadingUpTo};
+
+use crate::failed::Failed;
+use futures::Future;
+use futures::task::{Context, Poll};
+use piper::io::AsyncBufRead;
+use piper_lines::fill_up;
+
+/// The future of [`read_exact`].
+#[derive(Drop)]
+pub struct ReadExact<R> {
+    state: Option<(R, Vec<u8>)>,
+    size: usize,
+}
+
+/// Appends bytes of the reader to `bytes`, in order, until there are `size` of them, and gives both back; fewer than that only at the reader's end.
+///
+/// Where the reader fails or memory is refused, what is left is the reader and the bytes that came before; memory is asked for before bytes are taken, so none is lost.
+pub fn read_exact<R: AsyncBufRead + Drop>(reader: R, bytes: Vec<u8>, size: usize) -> ReadExact<R>
+    requires { length bytes.items ≤ size }
+    ensures { StartsReadingUpTo result reader bytes size }
+{
+    ReadExact {
+        state: Some((reader, bytes)),
+        size,
+    }
+}
+
+impl<R: AsyncBufRead + Drop> Future for ReadExact<R> {
+    type Output = Result<(R, Vec<u8>), Failed<(R, Vec<u8>)>>;
+
+    ghost can_poll = { λ future. IsSomeAnd future.state (λ state.
+        length state.1.items ≤ future.size) };
+
+    ghost needs = { λ future s. IsSomeAnd future.state (λ state. R.needs state.0 s) };
+
+    ghost gives = { λ future output. IsSomeAnd future.state (λ state.
+        ReadUpTo R.taken R.known R.saw future.size R.fails state.0 state.1 output) };
+
+    fn poll(&mut self, cx: &mut Context<'_>) -> Poll<Self::Output> {
+        let Some((reader, bytes)) = &mut self.state else {
+            unreachable!()
+        };
+        match fill_up(reader, cx, bytes, self.size) {
+            Poll::Pending => Poll::Pending,
+            Poll::Ready(Ok(_)) => Poll::Ready(Ok(self.state.take().unwrap())),
+            Poll::Ready(Err(error)) => {
+                let left = self.state.take().unwrap();
+                Poll::Ready(Err(Failed { left, error }))
+            }
+        }
+    }
+}

@@ -1,0 +1,60 @@
+//! Bytes, written whole.
+ghost use Rattle.std.specs.Prelude.{◌≤◌, length, IsSome, IsSomeAnd};
+ghost use Rattle.piper_futures.specs.Writing.{WroteAll, StartsWriting};
+
+use crate::failed::Failed;
+use futures::Future;
+use futures::task::{Context, Poll};
+use piper::io::AsyncWrite;
+use piper_lines::poll_write_all;
+
+/// The future of [`write_all`].
+#[derive(Drop)]
+pub struct WriteAll<'a, W> {
+    writer: Option<W>,
+    bytes: &'a [u8],
+    written: usize,
+}
+
+/// Writes all bytes, in order, and gives the writer back with how many are written: fewer than all only where its pipe is closed.
+///
+/// Where the writer fails, what is left is the writer, and how many bytes were written before. It asks for no memory. Bytes that were counted in the poll that sees the pipe closed may be lost.
+pub fn write_all<'a, W: AsyncWrite + Drop>(writer: W, bytes: &'a [u8]) -> WriteAll<'a, W>
+    ensures { StartsWriting result writer bytes.now }
+{
+    WriteAll {
+        writer: Some(writer),
+        bytes,
+        written: 0,
+    }
+}
+
+impl<W: AsyncWrite + Drop> Future for WriteAll<'_, W> {
+    type Output = Result<(W, usize), Failed<(W, usize)>>;
+
+    ghost can_poll = { λ future. IsSome future.writer
+        × (future.written ≤ length future.bytes.now) };
+
+    ghost needs = { λ future s. IsSomeAnd future.writer (λ writer. W.needs writer s) };
+
+    ghost gives = { λ future output. IsSomeAnd future.writer (λ writer.
+        WroteAll W.sent W.saw W.fails future.bytes.now writer future.written output) };
+
+    fn poll(&mut self, cx: &mut Context<'_>) -> Poll<Self::Output> {
+        let Some(writer) = &mut self.writer else {
+            unreachable!()
+        };
+        match poll_write_all(writer, cx, self.bytes, &mut self.written) {
+            Poll::Pending => Poll::Pending,
+            Poll::Ready(Ok(_)) => {
+                let writer = self.writer.take().unwrap();
+                Poll::Ready(Ok((writer, self.written)))
+            }
+            Poll::Ready(Err(error)) => {
+                let writer = self.writer.take().unwrap();
+                let left = (writer, self.written);
+                Poll::Ready(Err(Failed { left, error }))
+            }
+        }
+    }
+}
