@@ -1,0 +1,2 @@
+pub mod LinesRun
+pub mod PiecesSent

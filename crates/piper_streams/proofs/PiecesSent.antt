@@ -1,0 +1,35 @@
+-- Pieces that are sent one after the other.
+use Rattle.std.proofs.Common.{◌≡◌, ℕ, Bool, true, false, List, [], ◌∷◌, ◌++◌, Vec, Result, Ok, Err, sym, subst}
+use Rattle.std.specs.declared.alloc.Global.{Global}
+use Rattle.futures.specs.Sent.{UnlessFailed}
+use Rattle.futures.specs.declared.task.Poll.{Poll}
+use Rattle.futures.specs.declared.task.Poll.TheVariants.{Ready, Pending}
+use Rattle.piper_lines.specs.Sends.{Sends}
+use Rattle.piper_lines.specs.Split.{joined}
+use Rattle.piper_lines.proofs.Collecting.{flat_map-push}
+use Rattle.piper_lines.proofs.Sending.{sends_then, sends_same, sends_front}
+
+-- more of what was left is written
+pub sent_then : (all l1 l2 s1 s2 : List ℕ) (saw1 saw2 : Bool) → Sends all l1 [] s1 false saw1 → Sends l1 l2 s1 s2 saw1 saw2 → (saw1 ≡ true → saw2 ≡ true)
+    → Sends all l2 [] s2 false saw2
+sent_then all l1 l2 s1 s2 saw1 saw2 first second stays =
+    sends_then all l1 l2 [] s1 s2 false saw1 saw2 first second (λ (seen : false ≡ true). cc) stays
+
+-- nothing more is written, but the pipe may have been seen closed
+pub sent_same : (all left s1 s2 : List ℕ) (saw1 saw2 : Bool) → Sends all left [] s1 false saw1 → (saw1 ≡ true → saw2 ≡ true) → s2 ≡ s1
+    → Sends all left [] s2 false saw2
+sent_same all left s1 s2 saw1 saw2 first stays same = sends_same all left [] s1 s2 false saw1 saw2 first stays same
+
+-- a piece more, of which all is left
+pub sent_piece : (pieces : List (Vec ℕ Global)) (piece : Vec ℕ Global) (left s : List ℕ) (saw : Bool) → Sends (joined pieces) left [] s false saw → left ≡ []
+    → Sends (joined (pieces ++ piece ∷ [])) piece.items [] s false saw
+sent_piece pieces piece left s saw sends none =
+    let whole : Sends (joined pieces) [] [] s false saw = subst (λ ws. Sends (joined pieces) ws [] s false saw) none sends in
+    subst (λ ws. Sends ws piece.items [] s false saw) (sym (flat_map-push (λ (v : Vec ℕ Global). v.items) pieces piece))
+    (sends_front (joined pieces) [] piece.items [] s false saw whole)
+
+-- what holds in any case holds unless the poll failed
+pub unless_failed : {T E : Type 0} (r : Poll (Result T E)) (P : Type 0) → P → UnlessFailed r P
+unless_failed (Ready (Ok x)) P holds = holds
+unless_failed (Ready (Err e)) P holds = tt
+unless_failed Pending P holds = holds

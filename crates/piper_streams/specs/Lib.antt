@@ -1,0 +1,3 @@
+pub mod LineRuns
+pub mod LineStream
+pub mod Sent

@@ -1,0 +1,8 @@
+//! The lines of a reader as a stream of `futures`, and a sink that writes what it is sent.
+#![tactic(auto)]
+
+mod line_stream;
+mod write_sink;
+
+pub use line_stream::LineStream;
+pub use write_sink::WriteSink;

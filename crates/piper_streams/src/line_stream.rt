@@ -1,0 +1,88 @@
+//! The lines of a reader, one after another.
+ghost use Rattle.std.specs.Prelude.{◌≡◌, ◌<◌, [], length, true, false};
+ghost use Rattle.futures.specs.Runs.{EndsIf};
+ghost use Rattle.piper_lines.specs.LineReader.{reader_of, kept_of};
+ghost use Rattle.piper_streams.specs.LineRuns.{LineRuns};
+
+use futures::Stream;
+use futures::task::{Context, Poll};
+use piper::PipeError;
+use piper::io::AsyncBufRead;
+use piper_lines::{LineAnswer, Lines};
+use std::alloc::Global;
+
+/// The lines of a reader, each with its LF, as a stream; the last is what stands behind the last LF.
+///
+/// A line of more bytes than the limit comes in pieces of that many. Behind an error the stream goes on where it was: what was taken of a line is kept. In clauses, `lines_of` are the lines below, `limit_of` the limit, and `ended_of` whether the end was told.
+#[derive(Drop)]
+pub struct LineStream<R> {
+    lines: Lines<R>,
+    limit: usize,
+    alloc: Global,
+    is_ended: bool,
+    ghost some: { 0 < limit },
+    ghost short: { length (kept_of lines) < limit },
+}
+
+impl<R: AsyncBufRead + Drop> LineStream<R> {
+    ghost use Rattle.piper_streams.specs.LineStream.{lines_of, limit_of, ended_of};
+
+    /// The lines of at most `limit` bytes. Memory is asked for where a line comes.
+    pub fn new(alloc: Global, reader: R, limit: usize) -> LineStream<R>
+        requires { 0 < limit }
+        ensures reader { reader_of (lines_of result) ≡ reader }
+        ensures kept { kept_of (lines_of result) ≡ [] }
+        ensures limit { limit_of result ≡ limit }
+        ensures open { ended_of result ≡ false }
+    {
+        LineStream {
+            lines: Lines::new(alloc, reader),
+            limit,
+            alloc,
+            is_ended: false,
+        }
+    }
+
+    /// Gives the reader back. What is kept of a line is let go.
+    pub fn into_reader(self) -> R
+        ensures { result ≡ reader_of (lines_of self) }
+    {
+        let LineStream {
+            lines,
+            limit: _,
+            alloc: _,
+            is_ended: _,
+        } = self;
+        lines.into_reader()
+    }
+}
+
+impl<R: AsyncBufRead + Drop> Stream for LineStream<R> {
+    type Item = Result<Vec<u8>, PipeError>;
+
+    ghost needs = { λ stream s. R.needs (reader_of stream.lines) s };
+
+    ghost yields = { λ stream. EndsIf stream.is_ended (LineRuns R.taken R.known R.saw
+        stream.limit (reader_of stream.lines) (kept_of stream.lines)) };
+
+    fn poll_next(&mut self, cx: &mut Context<'_>) -> Poll<Option<Self::Item>> {
+        if self.is_ended {
+            return Poll::Ready(None);
+        }
+        let mut line = Vec::new(self.alloc);
+        match self.lines.poll_line(cx, &mut line, self.limit) {
+            Poll::Pending => Poll::Pending,
+            Poll::Ready(Err(error)) => Poll::Ready(Some(Err(error))),
+            Poll::Ready(Ok(LineAnswer::End)) => {
+                self.is_ended = true;
+                Poll::Ready(None)
+            }
+            Poll::Ready(Ok(LineAnswer::Last)) => {
+                self.is_ended = true;
+                Poll::Ready(Some(Ok(line)))
+            }
+            Poll::Ready(Ok(LineAnswer::Line)) => Poll::Ready(Some(Ok(line))),
+            Poll::Ready(Ok(LineAnswer::TooLong)) => Poll::Ready(Some(Ok(line))),
+        }
+    }
+}

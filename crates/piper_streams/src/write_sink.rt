@@ -1,0 +1,121 @@
+//! Bytes that are sent piece by piece.
+ghost use Rattle.std.specs.Prelude.{◌≡◌, ◌≤◌, [], length, true, Ok};
+ghost use Rattle.futures.specs.Task.{Covers, Keeps};
+ghost use Rattle.futures.specs.Poll.{OnPending};
+ghost use Rattle.piper_lines.specs.Sends.{Sends};
+
+use futures::Sink;
+use futures::task::{Context, Poll};
+use piper::PipeError;
+use piper::io::AsyncWrite;
+use piper_lines::{Written, poll_write_all};
+use std::alloc::Global;
+use std::io;
+
+/// Writes each piece of bytes that it is sent as it is, whole and in order: lines with their LF, or frames.
+///
+/// It holds one piece at a time, and asks for no memory. Where the writer's pipe is closed, the error is of the kind `BrokenPipe`; bytes that were counted in the poll that sees it closed may be lost. In clauses, `writer_of` is the writer, and `left_of` what is left of the piece.
+#[derive(Drop)]
+pub struct WriteSink<W> {
+    writer: W,
+    piece: Vec<u8>,
+    written: usize,
+    ghost within: { written ≤ length piece.items },
+}
+
+impl<W: AsyncWrite + Drop> WriteSink<W> {
+    ghost use Rattle.piper_streams.specs.Sent.{left_of, writer_of};
+
+    /// Nothing is sent yet.
+    pub fn new(alloc: Global, writer: W) -> WriteSink<W>
+        ensures writer { writer_of result ≡ writer }
+        ensures left { left_of result ≡ [] }
+    {
+        WriteSink {
+            writer,
+            piece: Vec::new(alloc),
+            written: 0,
+        }
+    }
+
+    /// Gives the writer back, and what is left of the last piece goes.
+    pub fn into_writer(self) -> W
+        ensures { result ≡ writer_of self }
+    {
+        let WriteSink {
+            writer,
+            piece: _,
+            written: _,
+        } = self;
+        writer
+    }
+}
+
+impl<W: AsyncWrite + Drop> WriteSink<W> {
+    ghost use Rattle.piper_streams.specs.Sent.{left_of, writer_of};
+
+    // Writes what is left of the piece.
+    fn poll_write(&mut self, cx: &mut Context<'_>) -> Poll<Result<(), PipeError>>
+        ensures sends { Sends (left_of self.old) (left_of self.new)
+            (W.sent (writer_of self.old)) (W.sent (writer_of self.new))
+            (W.saw (writer_of self.old)) (W.saw (writer_of self.new)) }
+        ensures whole { result ≡ Poll.Ready (Ok (record {})) → left_of self.new ≡ [] }
+        ensures stays { W.saw (writer_of self.old) ≡ true → W.saw (writer_of self.new) ≡ true }
+        ensures covered { OnPending result (Covers cx.new (W.needs (writer_of self.new))) }
+        ensures kept { Keeps cx.old cx.new }
+    {
+        match poll_write_all(
+            &mut self.writer,
+            cx,
+            self.piece.as_slice(),
+            &mut self.written,
+        ) {
+            Poll::Pending => Poll::Pending,
+            Poll::Ready(Err(error)) => Poll::Ready(Err(error)),
+            Poll::Ready(Ok(Written::Whole)) => Poll::Ready(Ok(())),
+            Poll::Ready(Ok(Written::Closed)) => {
+                Poll::Ready(Err(PipeError::Io(io::ErrorKind::BrokenPipe.into())))
+            }
+        }
+    }
+}
+
+impl<W: AsyncWrite + Drop> Sink<Vec<u8>> for WriteSink<W> {
+    ghost use Rattle.piper_streams.specs.Sent.{left_of, writer_of, WasSent};
+
+    type Error = PipeError;
+
+    ghost can_send = { λ sink. left_of sink ≡ [] };
+
+    ghost took = { WasSent W.sent W.saw };
+
+    ghost is_flushed = { λ sink. left_of sink ≡ [] };
+
+    ghost is_closed = { λ sink. (left_of sink ≡ []) × (W.saw (writer_of sink) ≡ true) };
+
+    ghost needs = { λ sink. W.needs (writer_of sink) };
+
+    fn poll_ready(&mut self, cx: &mut Context<'_>) -> Poll<Result<(), PipeError>> {
+        self.poll_write(cx)
+    }
+
+    fn start_send(&mut self, item: Vec<u8>) -> Result<(), PipeError> {
+        self.written = 0;
+        self.piece = item;
+        Ok(())
+    }
+
+    fn poll_flush(&mut self, cx: &mut Context<'_>) -> Poll<Result<(), PipeError>> {
+        match self.poll_write(cx) {
+            Poll::Ready(Ok(())) => self.writer.poll_flush(cx),
+            unfinished => unfinished,
+        }
+    }
+
+    fn poll_close(&mut self, cx: &mut Context<'_>) -> Poll<Result<(), PipeError>> {
+        match self.poll_write(cx) {
+            Poll::Ready(Ok(())) => self.writer.poll_close(cx),
+            unfinished => unfinished,
+        }
+    }
+}
