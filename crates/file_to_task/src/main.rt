@@ -86,7 +86,8 @@ fn open<R: Files + AllocGlobal>(rt: &R, path: &str) -> io::Result<R::File> {
 fn main(rt: HostRuntime) -> io::Result<()> {
     let file = open(&rt, "poem.txt")?;
     let theirs = rt.clone()?;
-    let (mut reader, mut writer) = owned_pipe(&rt, 64).map_err(|_| io::ErrorKind::OutOfMemory)?;
+    let (reader, writer) = pipe(&rt, rt.alloc(), 64, 1)?;
+    let (mut reader, mut writer) = (OwnedReader::new(reader), OwnedWriter::new(writer));
     let spawned = thread::spawn(&rt, move || {
         let fill = Fill {
             writer: writer.get_mut(),
@@ -108,6 +109,6 @@ fn main(rt: HostRuntime) -> io::Result<()> {
     child.join(&rt)?;
     match lines? {
         Ok(count) => println!(&rt; "{count} lines"),
-        Err(OutOfMemory) => Err(io::ErrorKind::OutOfMemory.into()),
+        Err(refused) => Err(refused.into()),
     }
 }
