@@ -1,3 +1,4 @@
+pub mod Crossing
 pub mod Digits
 pub mod Sides
 pub mod Whole

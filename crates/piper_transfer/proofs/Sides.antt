@@ -58,6 +58,13 @@ poured_round i j k a b c d p look q = poured_more i j k a c d (poured_looked i j
 pub poured_kept : (i j k : Option (List ℕ)) (a b : ReadView) → PouredAll i j a b → Keeps j k → PouredAll i k a b
 poured_kept i j k a b p kept = record { written = p.written; appended = Appends-kept i j k p.written p.appended kept; taken = p.taken; ring = p.ring }
 
+-- where all that was known was taken, all that was published is
+pub taken_all : (r0 r1 r2 : ReadView) (w0 w1 : WriteView)
+    → r0.taken ++ r0.known ≡ w0.sent → r1.taken ++ r1.known ≡ r0.taken ++ r0.known → r1.known ≡ []
+    → r2.taken ≡ r1.taken → w1.sent ≡ w0.sent → r2.taken ≡ w1.sent
+taken_all r0 r1 r2 w0 w1 fifo known none taken sent =
+    taken ∙ sym (append-nil r1.taken) ∙ ap (λ xs. r1.taken ++ xs) (sym none) ∙ known ∙ fifo ∙ sym sent
+
 -- where all that was known was taken, and both handles met again, the whole pipe is room
 pub room_again : (r0 r1 r2 : ReadView) (w0 w1 : WriteView)
     → r0.taken ++ r0.known ≡ w0.sent → r1.taken ++ r1.known ≡ r0.taken ++ r0.known → r1.known ≡ []

@@ -1,6 +1,7 @@
 -- What a transfer moves, and what each of its sides does.
-use Rattle.std.specs.Prelude.{◌≡◌, ℕ, List, [], ◌++◌, Option, Result, Ok, Err, OnOk, ⊤, false}
+use Rattle.std.specs.Prelude.{◌≡◌, ℕ, List, [], ◌++◌, ◌⊎◌, Option, Result, Ok, Err, OnOk, ⊤, false}
 use Rattle.std.specs.Io.KnownBytes.{Consumes, Appends, IsAtEnd}
+use Rattle.piper.specs.Ends.{IsEnded}
 use Rattle.piper.specs.ReadView.{ReadView}
 use Rattle.piper.specs.WriteView.{WriteView}
 use Rattle.piper_transfer.specs.declared.error.TransferError.{TransferError}
@@ -31,6 +32,10 @@ pub record PouredAll (output_old output_new : Option (List ℕ)) (a b : ReadView
   pub appended : Appends output_old output_new written
   pub taken : b.taken ≡ a.taken ++ written
   pub ring : b.ring ≡ a.ring
+
+-- all that the writing end published was taken: the reading end told the end, or met the other
+abbrev pub IsDrained : ReadView → WriteView → Type 0
+IsDrained r w = IsEnded r ⊎ (r.taken ≡ w.sent)
 
 -- the input failed
 abbrev pub IsOfInput : TransferError → Type 0

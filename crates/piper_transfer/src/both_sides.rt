@@ -1,11 +1,11 @@
 //! A transfer: both sides, each on a thread.
-ghost use Rattle.std.specs.Prelude.{◌≡◌, ◌<◌, ◌≤◌, ◌*◌, ◌^◌, [], IfOk, IfErr, OnOk, IfSome, IfNone};
-ghost use Rattle.std.specs.Io.KnownBytes.{IsAtEnd};
-ghost use Rattle.piper.specs.Drains.{StaysKnown};
+ghost use Rattle.std.specs.Prelude.{◌≡◌, ◌<◌, ◌≤◌, ◌*◌, ◌^◌, IfOk, IfErr, OnOk, IfSome, IfNone};
+ghost use Rattle.std.specs.Io.KnownBytes.{IsAtEnd, Keeps};
+ghost use Rattle.piper.specs.Ends.{IsEnded};
 ghost use Rattle.piper.specs.Opened.{FreshReadEnd, FreshWriteEnd};
-ghost use Rattle.piper_transfer.specs.Transfer.{Fed, IsOfInput, IsOpen, Poured, PouredAll, Transfers};
+ghost use Rattle.piper_transfer.specs.Transfer.{Fed, IsDrained, IsOfInput, IsOpen, Poured, PouredAll, Transfers};
 
-use crate::draining::{drain_from, drain_known};
+use crate::draining::{drain, drain_from};
 use crate::error::TransferError;
 use crate::filling::fill_from;
 use crate::meter::Meter;
@@ -13,7 +13,7 @@ use crate::one_thread::take_turns;
 use crate::patience::flush_patiently;
 use crate::start::Start;
 use crate::turns::{Input, Output, Turns};
-use piper::{Reader, pipe};
+use piper::{Writer, pipe};
 use std::alloc::AllocGlobal;
 use std::io::{Read, Write};
 use std::marker::Send;
@@ -64,10 +64,10 @@ where
         mut reader,
         level: _,
     } = output;
-    // Now that both handles are in one hand, the reader knows of all that was published.
+    // Now that both handles are in one hand, what is left where the output failed is known; else nothing is.
     reader.meet(&mut writer);
     let ended = match drained {
-        Ok(()) => finish(rt, &mut reader, dest, chunk, meter).and(filled),
+        Ok(()) => flush(rt, dest).and(filled),
         Err(error) => Err(error),
     };
     reader.drop();
@@ -101,24 +101,14 @@ where
     Ok((input, output))
 }
 
-// Writes what is left in the pipe, and flushes the output.
-fn finish<R, D>(
-    rt: &R,
-    reader: &mut Reader<R>,
-    dest: &mut D,
-    chunk: usize,
-    meter: &Meter,
-) -> Result<(), TransferError>
+// Flushes the output, which has all.
+fn flush<R, D>(rt: &R, dest: &mut D) -> Result<(), TransferError>
 where
-    R: Wait + Clock + Clone + Drop,
+    R: Wait + Clock,
     D: Write,
-    ensures poured { PouredAll (D.contents dest.old) (D.contents dest.new)
-        reader.old.end reader.new.end }
-    ensures known { StaysKnown reader.old.end reader.new.end }
-    ensures all { OnOk result (reader.new.end.known ≡ []) }
+    ensures kept { Keeps (D.contents dest.old) (D.contents dest.new) }
     ensures kind { IfErr result (λ e. ¬ IsOfInput e) }
 {
-    drain_known(rt, reader, dest, chunk, meter)?;
     flush_patiently(rt, dest).map_err(TransferError::Write)
 }
 
@@ -147,11 +137,13 @@ where
         output.old.reader.end output.new.reader.end }
     ensures all { OnOk result.1 (PouredAll (D.contents dest.old) (D.contents dest.new)
         output.old.reader.end output.new.reader.end) }
+    ensures drained { OnOk result.1 (IsDrained output.new.reader.end input.new.writer.end) }
     ensures kind { IfErr result.1 (λ e. ¬ IsOfInput e) }
 {
-    match on_two_threads(rt, source, input, output, dest, chunk, meter) {
+    let (turns, writer) = (&input.turns, &mut input.writer);
+    match on_two_threads(rt, source, turns, writer, output, dest, chunk, meter) {
         (Some(filled), Some(drained)) => (filled, drained),
-        (Some(filled), None) => (filled, Ok(())),
+        (Some(filled), None) => (filled, drain(rt, output, dest, chunk, meter)),
         (None, Some(drained)) => (Err(TransferError::Full), drained),
         (None, None) => {
             let (writer, reader) = (&mut input.writer, &mut output.reader);
@@ -164,7 +156,8 @@ where
 fn on_two_threads<R, S, D>(
     rt: &R,
     source: &mut S,
-    input: &mut Input<R>,
+    turns: &Turns,
+    writer: &mut Writer<R>,
     output: &mut Output<R>,
     dest: &mut D,
     chunk: usize,
@@ -178,15 +171,16 @@ where
     S: Read + Send,
     D: Write,
     requires chunk { 0 < chunk }
-    requires is_open { IsOpen input.old.writer.end }
+    requires is_open { IsOpen writer.old.end }
     ensures fed { Fed (S.remaining source.old) (S.remaining source.new)
-        input.old.writer.end input.new.writer.end }
+        writer.old.end writer.new.end }
     ensures input_ended { IfSome result.0 (λ r. OnOk r (IsAtEnd (S.remaining source.new))) }
-    ensures fill_given_up { IfNone result.0 (IsOpen input.new.writer.end) }
+    ensures fill_given_up { IfNone result.0 (IsOpen writer.new.end) }
     ensures poured { Poured (D.contents dest.old) (D.contents dest.new)
         output.old.reader.end output.new.reader.end }
     ensures all { IfSome result.1 (λ r. OnOk r (PouredAll (D.contents dest.old)
         (D.contents dest.new) output.old.reader.end output.new.reader.end)) }
+    ensures drained { IfSome result.1 (λ r. OnOk r (IsEnded output.new.reader.end)) }
     ensures kind { IfSome result.1 (λ r. IfErr r (λ e. ¬ IsOfInput e)) }
     ensures drain_given_up { IfNone result.1
         ((output.new ≡ output.old) × (dest.new ≡ dest.old)) }
@@ -195,7 +189,7 @@ where
     let begun = &start;
     join_mut(
         rt,
-        &mut || fill_from(rt, begun, input, source, chunk, meter),
+        &mut || fill_from(rt, begun, turns, source, writer, chunk, meter),
         &mut || drain_from(rt, begun, output, dest, chunk, meter),
     )
 }

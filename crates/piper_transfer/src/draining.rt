@@ -1,8 +1,9 @@
 //! The side that writes the pipe's bytes to the output.
-ghost use Rattle.std.specs.Prelude.{◌≡◌, ◌++◌, ℕ, List, [], OnOk, IfErr, IfSome, IfNone};
+ghost use Rattle.std.specs.Prelude.{◌≡◌, ◌++◌, ℕ, List, OnOk, IfErr, IfSome, IfNone};
 ghost use Rattle.futures.specs.Task.{IsArmed};
 ghost use Rattle.futures.specs.Poll.{IfReady, OnPending};
 ghost use Rattle.piper.specs.Drains.{StaysKnown};
+ghost use Rattle.piper.specs.Ends.{IsEnded};
 ghost use Rattle.piper_transfer.specs.Transfer.{IsOfInput, Poured, PouredAll};
 
 use crate::error::TransferError;
@@ -37,6 +38,7 @@ where
         output.old.reader.end output.new.reader.end }
     ensures all { IfSome result (λ r. OnOk r (PouredAll (D.contents dest.old) (D.contents dest.new)
         output.old.reader.end output.new.reader.end)) }
+    ensures ended { IfSome result (λ r. OnOk r (IsEnded output.new.reader.end)) }
     ensures kind { IfSome result (λ r. IfErr r (λ e. ¬ IsOfInput e)) }
     ensures given_up { IfNone result
         ((output.new ≡ output.old) × (dest.new ≡ dest.old)) }
@@ -47,10 +49,10 @@ where
     Some(drain(rt, output, dest, chunk, meter))
 }
 
-// Writes the pipe's bytes to the output, at most `chunk` at a time, up to the pipe's end.
-//
-// Where that fails, the other side is told to end: bytes that it publishes until then stay in the pipe or are let go.
-fn drain<R, D, H>(
+/// Writes the pipe's bytes to the output, at most `chunk` at a time, up to the pipe's end.
+///
+/// Where that fails, the other side is told to end: bytes that it publishes until then stay in the pipe or are let go.
+pub(crate) fn drain<R, D, H>(
     rt: &R,
     output: &mut Output<H>,
     dest: &mut D,
@@ -65,6 +67,7 @@ where
         output.old.reader.end output.new.reader.end }
     ensures all { OnOk result (PouredAll (D.contents dest.old) (D.contents dest.new)
         output.old.reader.end output.new.reader.end) }
+    ensures ended { OnOk result (IsEnded output.new.reader.end) }
     ensures kind { IfErr result (λ e. ¬ IsOfInput e) }
 {
     let ended = drain_in_turns(
@@ -107,6 +110,7 @@ where
     H: Wait + Clone + Drop,
     ensures poured { PouredAll (D.contents dest.old) (D.contents dest.new)
         reader.old.end reader.new.end }
+    ensures ended { OnOk result (IsEnded reader.new.end) }
     ensures kind { IfErr result (λ e. ¬ IsOfInput e) }
 {
     for _ in rt.forever() {
@@ -155,6 +159,7 @@ where
     H: Wait + Clone + Drop,
     ensures poured { PouredAll (D.contents dest.old) (D.contents dest.new)
         reader.old.end reader.new.end }
+    ensures ended { IfReady result (λ r. OnOk r (IsEnded reader.new.end)) }
     ensures kind { IfReady result (λ r. IfErr r (λ e. ¬ IsOfInput e)) }
     ensures armed { OnPending result (IsArmed cx.new) }
 {
@@ -172,36 +177,8 @@ where
     unreachable!()
 }
 
-/// Writes the bytes that the reader knows of to the output.
-pub(crate) fn drain_known<R, D, H>(
-    rt: &R,
-    reader: &mut Reader<H>,
-    dest: &mut D,
-    chunk: usize,
-    meter: &Meter,
-) -> Result<(), TransferError>
-where
-    R: Wait + Clock,
-    D: Write,
-    H: Wait + Clone + Drop,
-    ensures poured { PouredAll (D.contents dest.old) (D.contents dest.new)
-        reader.old.end reader.new.end }
-    ensures known { StaysKnown reader.old.end reader.new.end }
-    ensures capacity { reader.new.end.capacity ≡ reader.old.end.capacity }
-    ensures all { OnOk result (reader.new.end.known ≡ []) }
-    ensures kind { IfErr result (λ e. ¬ IsOfInput e) }
-{
-    for _ in rt.forever() {
-        if reader.peek_buf().is_empty() {
-            return Ok(());
-        }
-        write_some(rt, reader, dest, chunk, meter)?;
-    }
-    unreachable!()
-}
-
-// Takes as many bytes out of the pipe as one write takes.
-fn write_some<R, D, H>(
+/// Takes as many bytes out of the pipe as one write takes.
+pub(crate) fn write_some<R, D, H>(
     rt: &R,
     reader: &mut Reader<H>,
     dest: &mut D,

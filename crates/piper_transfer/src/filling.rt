@@ -10,7 +10,7 @@ use crate::meter::Meter;
 use crate::patience::read_patiently;
 use crate::piece::Piece;
 use crate::start::Start;
-use crate::turns::{Input, Turns};
+use crate::turns::Turns;
 use futures::task::{Context, Poll};
 use piper::Writer;
 use std::io;
@@ -18,12 +18,13 @@ use std::io::Read;
 use std::sync::Wait;
 use std::time::Clock;
 
-/// Fills the pipe as `fill` does, once it has told the other side that it begins. Where that one has given it up, it answers `None` and has done nothing.
+/// Fills the pipe as `fill_in_turns` does, once it has told the other side that it begins. Where that one has given it up, it answers `None` and has done nothing.
 pub(crate) fn fill_from<R, S, H>(
     rt: &R,
     start: &Start,
-    input: &mut Input<H>,
+    turns: &Turns,
     source: &mut S,
+    writer: &mut Writer<H>,
     chunk: usize,
     meter: &Meter,
 ) -> Option<Result<(), TransferError>>
@@ -32,39 +33,19 @@ where
     S: Read,
     H: Wait + Clone + Drop,
     requires chunk { 0 < chunk }
-    requires is_open { IsOpen input.old.writer.end }
+    requires is_open { IsOpen writer.old.end }
     ensures fed { Fed (S.remaining source.old) (S.remaining source.new)
-        input.old.writer.end input.new.writer.end }
+        writer.old.end writer.new.end }
     ensures ended { IfSome result (λ r. OnOk r (IsAtEnd (S.remaining source.new))) }
-    ensures given_up { IfNone result (IsOpen input.new.writer.end) }
+    ensures given_up { IfNone result (IsOpen writer.new.end) }
 {
     if !start.begin(rt) {
         return None;
     }
-    Some(fill(rt, input, source, chunk, meter))
+    Some(fill_in_turns(rt, turns, source, writer, chunk, meter))
 }
 
 // Reads the input into the pipe, at most `chunk` bytes at a time, up to its end, and closes the pipe.
-fn fill<R, S, H>(
-    rt: &R,
-    input: &mut Input<H>,
-    source: &mut S,
-    chunk: usize,
-    meter: &Meter,
-) -> Result<(), TransferError>
-where
-    R: Wait + Clock,
-    S: Read,
-    H: Wait + Clone + Drop,
-    requires chunk { 0 < chunk }
-    requires is_open { IsOpen input.old.writer.end }
-    ensures fed { Fed (S.remaining source.old) (S.remaining source.new)
-        input.old.writer.end input.new.writer.end }
-    ensures ended { OnOk result (IsAtEnd (S.remaining source.new)) }
-{
-    fill_in_turns(rt, &input.turns, source, &mut input.writer, chunk, meter)
-}
-
 fn fill_in_turns<R, S, H>(
     rt: &R,
     turns: &Turns,

@@ -1,10 +1,11 @@
 //! Both sides in turn on one thread, for where a second one is refused.
-ghost use Rattle.std.specs.Prelude.{◌≡◌, ◌<◌, OnOk, IfErr};
+ghost use Rattle.std.specs.Prelude.{◌≡◌, ◌<◌, [], OnOk, IfErr};
 ghost use Rattle.std.specs.Io.KnownBytes.{IsAtEnd};
+ghost use Rattle.piper.specs.Drains.{StaysKnown};
 ghost use Rattle.piper.specs.Ends.{WriterRefreshed};
 ghost use Rattle.piper_transfer.specs.Transfer.{Fed, IsOfInput, IsOpen, PouredAll};
 
-use crate::draining::drain_known;
+use crate::draining::write_some;
 use crate::error::TransferError;
 use crate::filling::read_chunk;
 use crate::meter::Meter;
@@ -38,6 +39,7 @@ where
     ensures input_ended { OnOk result.0 (IsAtEnd (S.remaining source.new)) }
     ensures poured { PouredAll (D.contents dest.old) (D.contents dest.new)
         reader.old.end reader.new.end }
+    ensures all { OnOk result.1 (reader.new.end.taken ≡ writer.new.end.sent) }
     ensures kind { IfErr result.1 (λ e. ¬ IsOfInput e) }
 {
     let mut piece = Piece::first(chunk);
@@ -46,9 +48,15 @@ where
             return (Err(TransferError::Full), Err(error));
         }
         match read_chunk(rt, source, writer, piece.len(), meter) {
-            Ok(0) => return (Ok(()), Ok(())),
+            Ok(0) => {
+                let written = pass_on(rt, writer, reader, dest, chunk, meter);
+                return (Ok(()), written);
+            }
             Ok(count) => piece = piece.behind(count),
-            Err(error) => return (Err(TransferError::Read(error)), Ok(())),
+            Err(error) => {
+                let written = pass_on(rt, writer, reader, dest, chunk, meter);
+                return (Err(TransferError::Read(error)), written);
+            }
         }
     }
     unreachable!()
@@ -73,6 +81,7 @@ where
     ensures poured { PouredAll (D.contents dest.old) (D.contents dest.new)
         reader.old.end reader.new.end }
     ensures capacity { reader.new.end.capacity ≡ reader.old.end.capacity }
+    ensures all { OnOk result (reader.new.end.taken ≡ writer.new.end.sent) }
     ensures room { OnOk result (0 < writer.new.end.room) }
     ensures kind { IfErr result (λ e. ¬ IsOfInput e) }
 {
@@ -80,4 +89,32 @@ where
     drain_known(rt, reader, dest, chunk, meter)?;
     reader.meet(writer);
     Ok(())
+}
+
+// Writes the bytes that the reader knows of to the output.
+fn drain_known<R, D, H>(
+    rt: &R,
+    reader: &mut Reader<H>,
+    dest: &mut D,
+    chunk: usize,
+    meter: &Meter,
+) -> Result<(), TransferError>
+where
+    R: Wait + Clock,
+    D: Write,
+    H: Wait + Clone + Drop,
+    ensures poured { PouredAll (D.contents dest.old) (D.contents dest.new)
+        reader.old.end reader.new.end }
+    ensures known { StaysKnown reader.old.end reader.new.end }
+    ensures capacity { reader.new.end.capacity ≡ reader.old.end.capacity }
+    ensures all { OnOk result (reader.new.end.known ≡ []) }
+    ensures kind { IfErr result (λ e. ¬ IsOfInput e) }
+{
+    for _ in rt.forever() {
+        if reader.peek_buf().is_empty() {
+            return Ok(());
+        }
+        write_some(rt, reader, dest, chunk, meter)?;
+    }
+    unreachable!()
 }

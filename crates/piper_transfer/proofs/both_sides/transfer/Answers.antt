@@ -1,8 +1,8 @@
 use Rattle.std.proofs.Common.{rules, ◌≡◌, [], OnOk, ◌∙◌}
 use Rattle.std.specs.Io.KnownBytes.{IsAtEnd}
-use Rattle.piper_transfer.specs.Transfer.{PouredAll, WritesAll}
-use Rattle.piper_transfer.proofs.Sides.{poured_more, poured_same}
-use Rattle.piper_transfer.proofs.Whole.{nothing_moved, output_failed, nothing_lost}
+use Rattle.piper_transfer.specs.Transfer.{IsDrained, PouredAll, WritesAll}
+use Rattle.piper_transfer.proofs.Sides.{poured_kept, poured_same}
+use Rattle.piper_transfer.proofs.Whole.{nothing_moved, none_known, output_failed, nothing_lost}
 use Rattle.piper_transfer.proofs.both_sides.transfer.Goals.{in-Ok, in-Err}
 use Rattle.piper_transfer.proofs.both_sides.transfer.Goals as goal
 
@@ -28,13 +28,13 @@ returns g c =
     let fifo = c.meet.ensures.fifo ∙ c.meet.ensures.writer.sent in
     elim c.match-drained.branch [
       | in-Ok w ↦
-          let q = contents w.finish.new.dest in
-          let r3 = w.finish.new.reader.end in
+          let q = contents w.flush.new.dest in
           let drained : PouredAll o p r0 r1 = search rules in
-          let poured : PouredAll o q r0 r3 = poured_more o p q r0 r2 r3 (poured_same o p r0 r1 r2 drained c.meet.ensures.reader.taken c.meet.ensures.reader.end.ring) w.finish.ensures.poured in
-          let all : WritesAll c.match-drained.ended → r3.known ≡ [] = search rules in
+          let poured : PouredAll o q r0 r2 = poured_kept o p q r0 r2 (poured_same o p r0 r1 r2 drained c.meet.ensures.reader.taken c.meet.ensures.reader.end.ring) w.flush.ensures.kept in
+          let whole : IsDrained r1 w1 = search rules in
+          let none : r2.known ≡ [] = none_known r1 r2 w1 c.meet.new.other.end whole c.meet.ensures.reader c.meet.ensures.fifo c.meet.ensures.writer.sent c.meet.ensures.all c.meet.ensures.same in
           let ended : OnOk c.match-drained.ended (IsAtEnd j) = search rules in
-          rw w.dest-is (nothing_lost c.match-drained.ended i j o q w0 w1 r0 r3 new_writer new_reader both.ensures.fed poured (w.finish.ensures.known ∙ fifo) all ended)
+          rw w.dest-is (nothing_lost c.match-drained.ended i j o q w0 w1 r0 r2 new_writer new_reader both.ensures.fed poured fifo (λ _. none) ended)
       | in-Err w ↦
           let failed : ¬ WritesAll c.match-drained.ended = search rules in
           let ended : OnOk c.match-drained.ended (IsAtEnd j) = rw w.ended-is tt in

@@ -1,6 +1,6 @@
 -- Once all known bytes are written and both handles meet, no byte is known.
 use Rattle.std.proofs.Common.{rules}
-use Rattle.piper_transfer.proofs.Sides.{room_again}
+use Rattle.piper_transfer.proofs.Sides.{room_again, taken_all}
 use Rattle.piper_transfer.proofs.one_thread.pass_on.Goals as goal
 
 pub returns-clause-room : goal.returns-clause-room
@@ -12,3 +12,12 @@ returns-clause-room g c =
     c.meet.new.other.end c.meet-2.new.other.end
     first.fifo drained.known (search rules) second.reader.taken second.fifo second.writer.sent
     second.room (search rules)
+
+pub returns-clause-all : goal.returns-clause-all
+returns-clause-all g c =
+    let first = c.meet.ensures in
+    let second = c.meet-2.ensures in
+    let drained = c.drain_known.ensures in
+    taken_all c.meet.new.self.end c.drain_known.new.reader.end c.meet-2.new.self.end
+    c.meet.new.other.end c.meet-2.new.other.end
+    first.fifo drained.known (search rules) second.reader.taken second.writer.sent

@@ -2,7 +2,7 @@
 use Rattle.std.specs.Prelude.{◌≡◌}
 use Rattle.piper.specs.Drains.{StaysKnown}
 use Rattle.piper_transfer.specs.Transfer.{PouredAll}
-use Rattle.piper_transfer.proofs.draining.drain_known.Given as goal
+use Rattle.piper_transfer.proofs.one_thread.drain_known.Given as goal
 
 abbrev pub invariant-loop : goal.invariant-loop
 invariant-loop g l =
