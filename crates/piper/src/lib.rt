@@ -16,5 +16,7 @@ mod writer;
 pub use error::{Inner, PipeError};
 pub use handles::{Reader, Writer, pipe};
 pub use owned::{DEFAULT_SEED, OwnedReader, OwnedWriter, owned_pipe};
-pub use piper_ring::{OutOfMemory, ReadEnd, ReadMark, WriteEnd, WriteMark, open_ring};
+pub use piper_ring::{
+    LastReadMark, OutOfMemory, ReadEnd, ReadMark, WriteEnd, WriteMark, open_ring,
+};
 pub use slot::{NoWaker, Slot, Taken};

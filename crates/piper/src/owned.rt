@@ -4,7 +4,7 @@ ghost use Rattle.std.specs.Borrow.{sem};
 ghost use Rattle.futures.specs.Task.{Keeps};
 ghost use Rattle.piper_ring.specs.Opened.{FreshReadEnd, FreshWriteEnd};
 ghost use Rattle.piper.specs.Contexts.{WantsWaker};
-ghost use Rattle.piper.specs.Ends.{WriterShut};
+ghost use Rattle.piper.specs.Ends.{IsEnded, WriterShut};
 ghost use Rattle.piper.specs.Generator.{generator};
 ghost use Rattle.piper.specs.Handles.{ArePair};
 

@@ -10,6 +10,8 @@ mod crossing;
 #[cfg(test)]
 mod ends;
 #[cfg(test)]
+mod marks;
+#[cfg(test)]
 mod meeting;
 #[cfg(test)]
 mod owners;

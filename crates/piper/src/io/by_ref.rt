@@ -10,6 +10,8 @@ impl<R: AsyncRead> AsyncRead for &mut R {
 
     ghost told = { λ r. R.told r.now };
 
+    ghost ended = { λ r. R.ended r.now };
+
     ghost needs = { λ r. R.needs r.now };
 
     ghost fails = { λ r. R.fails r.now };
@@ -33,6 +35,8 @@ impl<R: AsyncBufRead> AsyncBufRead for &mut R {
     ghost saw = { λ r. R.saw r.now };
 
     ghost told = { λ r. R.told r.now };
+
+    ghost ended = { λ r. R.ended r.now };
 
     ghost needs = { λ r. R.needs r.now };
 
