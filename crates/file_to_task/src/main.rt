@@ -86,8 +86,7 @@ fn open<R: Files + AllocGlobal>(rt: &R, path: &str) -> io::Result<R::File> {
 fn main(rt: HostRuntime) -> io::Result<()> {
     let file = open(&rt, "poem.txt")?;
     let theirs = rt.clone()?;
-    let (reader, writer) = pipe(&rt, rt.alloc(), 64, 1)?;
-    let (mut reader, mut writer) = (OwnedReader::new(reader), OwnedWriter::new(writer));
+    let (mut reader, mut writer) = owned_pipe(&rt, 64)?;
     let spawned = thread::spawn(&rt, move || {
         let fill = Fill {
             writer: writer.get_mut(),

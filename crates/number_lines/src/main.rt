@@ -83,8 +83,7 @@ impl<R: AsyncBufRead + Drop, W: Write + Drop> Future for Number<R, W> {
 
 fn main(rt: HostRuntime) -> io::Result<()> {
     let theirs = rt.clone()?;
-    let (reader, writer) = pipe(&rt, rt.alloc(), 64, 1)?;
-    let mut writer = OwnedWriter::new(writer);
+    let (reader, mut writer) = owned_pipe(&rt, 64)?;
     let number = Number {
         lines: Lines::new(rt.alloc(), reader),
         line: Vec::new(rt.alloc()),

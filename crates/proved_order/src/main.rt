@@ -15,9 +15,7 @@ where
     requires { (0 < length bytes.now) × (2 * length bytes.now < 2 ^ 64) }
     ensures { IfOk result (λ n. take n place.new ≡ take n bytes.now) }
 {
-    let (mut reader, mut writer) = owned_pipe(rt, bytes.len()).map_err(
-        |_| io::ErrorKind::OutOfMemory,
-    )?;
+    let (mut reader, mut writer) = owned_pipe(rt, bytes.len())?;
     writer.try_fill(bytes);
     let came = reader.try_drain(place);
     reader.meet(&mut writer);

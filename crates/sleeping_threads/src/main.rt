@@ -30,7 +30,7 @@ fn send<H: Wait + Clone + Drop>(
         }
         match writer.poll(cx) {
             Poll::Pending => return Poll::Pending,
-            Poll::Ready(Err(_)) => return Poll::Ready(Err(io::ErrorKind::OutOfMemory.into())),
+            Poll::Ready(Err(refused)) => return Poll::Ready(Err(refused.into())),
             Poll::Ready(Ok(false)) => return Poll::Ready(Ok(())),
             Poll::Ready(Ok(true)) => {
                 writer.try_fill(b"a");
@@ -53,7 +53,7 @@ fn count<H: Wait + Clone + Drop>(
     for _ in rt.forever() {
         match reader.poll(cx) {
             Poll::Pending => return Poll::Pending,
-            Poll::Ready(Err(_)) => return Poll::Ready(Err(io::ErrorKind::OutOfMemory.into())),
+            Poll::Ready(Err(refused)) => return Poll::Ready(Err(refused.into())),
             Poll::Ready(Ok(false)) => return Poll::Ready(Ok(())),
             Poll::Ready(Ok(true)) => {
                 let known = reader.peek_buf().len();
@@ -107,7 +107,7 @@ where
 
 fn main(rt: HostRuntime) -> io::Result<()> {
     let theirs = rt.clone()?;
-    let (reader, writer) = owned_pipe(&rt, 64).map_err(|_| io::ErrorKind::OutOfMemory)?;
+    let (reader, writer) = owned_pipe(&rt, 64)?;
     let spawned = thread::spawn(&rt, move || send_all(&theirs, writer));
     let child = spawned.map_err(|_| io::Error::other("a second thread is refused"))?;
     let came = count_all(&rt, reader);
