@@ -1,8 +1,8 @@
 -- What `clap` found is what the words say.
-use Rattle.std.proofs.Common.{◌≡◌, ◌∙◌, ◌<◌, ◌≤◌, ap, refl, sym, subst, true, ℕ, List, Option, Some, None, Result, Ok, Err, IfErr}
+use Rattle.std.proofs.Common.{◌≡◌, ◌∙◌, [], ◌<◌, ◌≤◌, ap, refl, sym, subst, true, ℕ, List, Option, Some, None, Result, Ok, Err, IfErr}
 use Rattle.std.specs.Prelude.{option_map, unwrap_or}
 use Rattle.std.specs.Borrow.{Bor}
-use Rattle.clap.specs.Words.{AddsArg, App, HasMatchesOf, Rule, app_of, with_rule, Text, first_of, first_value, found_of, is_simple, one_of, one_text, rows_of}
+use Rattle.clap.specs.Words.{AddsArg, App, HasMatchesOf, Rule, app_of, fault_of, with_rule, Text, first_of, first_value, found_of, is_simple, is_simple_and_free, one_of, one_text, rows_of}
 use Rattle.clap.specs.declared.builder.arg.Arg.{Arg}
 use Rattle.clap.specs.declared.builder.command.Command.{Command}
 use Rattle.clap.specs.declared.parser.matches.ArgMatches.{ArgMatches}
@@ -14,6 +14,10 @@ use Rattle.piper_pump.specs.Arguments.{AddsRule, IsSize, pump_command, said_by, 
 -- its rules ask for nothing but what `clap` gives as a function of the words
 command_is_simple : is_simple pump_command ≡ true
 command_is_simple = refl
+
+-- and what it refuses is a function of them
+command_is_free : is_simple_and_free pump_command ≡ true
+command_is_free = refl
 
 -- a command that was taken by some rules, and to which an argument is added
 pub added : (rule : Rule) (old new : Command) (arg : Arg) (a : App) → AddsRule rule arg → AddsArg old arg new
@@ -56,3 +60,19 @@ no_size text read r e is accepts failed size =
 pub on_error : {A E : Type 0} (r : Result A E) (P : Type 0) → P → IfErr r (λ _. P)
 on_error (Ok a) P p = tt
 on_error (Err e) P p = p
+
+-- where a command with these rules was taken, the words have no fault
+pub taken_is_sound : (a : App) (words : List Text) → a ≡ pump_command → (is_simple_and_free a ≡ true → fault_of a words ≡ [])
+    → fault_of pump_command words ≡ []
+taken_is_sound a words is_pump sound =
+    subst (λ (b : App). is_simple_and_free b ≡ true → fault_of b words ≡ []) is_pump sound command_is_free
+
+-- no text was found where the words have none
+pub no_text : (found : Option (Bor Text)) → option_map (λ s. s.now) found ≡ None → found ≡ None
+no_text None p = refl
+no_text (Some s) p = cc
+
+pub text_left_out : (words : List Text) (m : ArgMatches) (option : Text) (found : Option (Bor Text)) → rows_of (found_of m) ≡ said_by words
+    → option_map (λ s. s.now) found ≡ first_value (found_of m) option → first_of option (said_by words) ≡ None → found ≡ None
+text_left_out words m option found said finds none =
+    no_text found (finds ∙ first_value-rows (found_of m) option ∙ ap (first_of option) said ∙ none)

@@ -1,6 +1,6 @@
 -- What the words on the command line ask for. `clap` says what each argument then has.
-use Rattle.std.specs.Prelude.{◌≡◌, ◌<◌, ◌≤◌, ℕ, true, false, List, [], ◌∷◌, Some, codes, unwrap_or}
-use Rattle.clap.specs.Words.{AddsArg, App, Row, Rule, Text, app_of, first_of, one_of, matches_of, takes}
+use Rattle.std.specs.Prelude.{◌≡◌, ◌<◌, ◌≤◌, ℕ, true, false, List, [], ◌∷◌, Option, Some, None, IsSome, IsNone, codes, unwrap_or}
+use Rattle.clap.specs.Words.{AddsArg, App, Row, Rule, Text, app_of, fault_of, first_of, one_of, matches_of, takes}
 use Rattle.clap.specs.Simple.{on_top, with_rule}
 use Rattle.clap.specs.Words.{first_value, found_of, new_app, new_rule}
 use Rattle.clap.specs.declared.builder.action.ArgAction.TheVariants.{Append, Set, SetTrue}
@@ -103,6 +103,9 @@ pub record AskFor (words : List Text) (arguments : Arguments) : Type 0 where
       → arguments.is_quiet ≡ false
   pub sum : one_of (codes "sha256") (said_by words) ≡ Some (codes "true")
       → arguments.shows_sum ≡ true
+  pub sound : fault_of pump_command words ≡ []
+  pub input : first_of (codes "input") (said_by words) ≡ None → arguments.texts.input ≡ None
+  pub output : first_of (codes "output") (said_by words) ≡ None → arguments.texts.output ≡ None
   pub no_sum : one_of (codes "sha256") (said_by words) ≡ Some (codes "false")
       → arguments.shows_sum ≡ false
 
@@ -111,3 +114,15 @@ pub record AreTaken (words : List Text) : Type 0 where
   pub taken : takes pump_command words ≡ true
   pub capacity : IsSize (capacity_text words)
   pub chunk : IsSize (chunk_text words)
+
+-- the words name no file that stands in place of the input or the output
+pub record NamesNoFile (words : List Text) : Type 0 where
+  pub input : first_of (codes "input") (said_by words) ≡ None
+  pub output : first_of (codes "output") (said_by words) ≡ None
+
+-- progress is told where these words ask for it, and are not to be quiet; else it is not
+pub record ShowsAsAsked {W : Type 0} (words : List Text) (told : Option W) : Type 0 where
+  pub shown : one_of (codes "progress") (said_by words) ≡ Some (codes "true")
+      → one_of (codes "quiet") (said_by words) ≡ Some (codes "false") → IsSome told
+  pub silent : one_of (codes "progress") (said_by words) ≡ Some (codes "false") → IsNone told
+  pub quiet : one_of (codes "quiet") (said_by words) ≡ Some (codes "true") → IsNone told

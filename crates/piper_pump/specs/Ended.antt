@@ -29,6 +29,16 @@ IsOfWords ended.NotText = ⊤
 IsOfWords ended.Memory = ⊤
 IsOfWords other = ⊥
 
+-- the program ends before the first byte: for its words, a file that can't be opened, or memory
+abbrev pub IsEarly : Ended → Type 0
+IsEarly (ended.Words error) = ⊤
+IsEarly ended.NotText = ⊤
+IsEarly (ended.Value option) = ⊤
+IsEarly (ended.NoInput file) = ⊤
+IsEarly (ended.NoOutput file) = ⊤
+IsEarly ended.Memory = ⊤
+IsEarly other = ⊥
+
 -- the words on the command line ask for the help or the version
 abbrev pub IsShown : Error → Type 0
 IsShown error = (kind_of error ≡ DisplayHelp) ⊎ (kind_of error ≡ DisplayVersion)

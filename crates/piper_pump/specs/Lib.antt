@@ -1,3 +1,5 @@
 pub mod Arguments
 pub mod Ended
+pub mod Ends
 pub mod Progress
+pub mod Running

@@ -1,6 +1,6 @@
 //! The words on the command line.
-ghost use Rattle.std.specs.Prelude.{◌≡◌, IfOk, IfErr, map, string_bytes};
-ghost use Rattle.clap.specs.Words.{app_of, kind_of};
+ghost use Rattle.std.specs.Prelude.{◌≡◌, IfOk, IfErr, codes, map, option_map, string_bytes};
+ghost use Rattle.clap.specs.Words.{app_of, first_value, found_of, kind_of};
 ghost use Rattle.piper_pump.specs.Arguments.{AddsRule, file_rule, flag_rule, pump_command, size_rule, tee_rule};
 ghost use Rattle.piper_pump.specs.Arguments.{AskFor, AreTaken, IsSize, IsSizeOf, text_or};
 ghost use Rattle.piper_pump.specs.Ended.{IsOfWords};
@@ -80,7 +80,12 @@ pub fn read_words<'a>(alloc: Global, words: &'a [String]) -> Result<Arguments<'a
     })
 }
 
-fn texts_of<'a>(matches: &ArgMatches<'a>) -> Texts<'a> {
+fn texts_of<'a>(matches: &ArgMatches<'a>) -> Texts<'a>
+    ensures input { option_map (λ s. s.now) result.input
+        ≡ first_value (found_of matches.now) (codes "input") }
+    ensures output { option_map (λ s. s.now) result.output
+        ≡ first_value (found_of matches.now) (codes "output") }
+{
     Texts {
         rate: matches.get_str("rate"),
         size: matches.get_str("size"),

@@ -1,6 +1,9 @@
-//! What the program reads and writes: the standard streams or files, and what gets a copy of what passes.
-use crate::pace::Pace;
-use sha2::{Digest, Sha256};
+//! What the program reads and writes: the standard streams or files.
+ghost use Rattle.std.specs.Prelude.{◌≡◌, ◌⊎◌, true};
+ghost use Rattle.piper_pump.specs.Ends.{drain_bytes, inlet_bytes, DrainFails, InletFails, IsFlushed, IsFull};
+
+use crate::copies::Copies;
+use piper_transfer::{Destination, Source};
 use std::fs::File;
 use std::io;
 use std::io::{Read, Write};
@@ -8,83 +11,82 @@ use std::time::Clock;
 
 /// What is read.
 #[derive(Drop)]
-pub enum Inlet<S: Read + Drop> {
+pub enum Inlet<S: Source + Drop> {
     Standard(S),
     File(File),
 }
 
 /// What is written.
 #[derive(Drop)]
-pub enum Drain<D: Write + Drop> {
+pub enum Drain<D: Destination + Drop> {
     Standard(D),
     File(File),
 }
 
 /// What is written, with all that is to be done with the bytes that pass.
 #[derive(Drop)]
-pub struct Outlet<'a, R: Clock, D: Write + Drop> {
-    pub rt: &'a R,
+pub struct Outlet<'a, R: Clock, D: Destination + Drop> {
     pub drain: Drain<D>,
-    /// They get what the drain took.
-    pub tees: Vec<File>,
-    /// The sum of what the drain took.
-    pub sum: Option<Sha256>,
-    pub pace: Option<Pace>,
+    pub copies: Copies<'a, R>,
 }
 
-impl<S: Read + Drop> Read for Inlet<S> {
+impl<S: Source + Drop> Source for Inlet<S> {
+    ghost remaining = { inlet_bytes S.remaining };
+
+    ghost fails = { InletFails S.fails };
+
     fn read(&mut self, buf: &mut [u8]) -> io::Result<usize> {
         match self {
             Inlet::Standard(standard) => standard.read(buf),
-            Inlet::File(file) => file.read(buf),
+            Inlet::File(file) => Read::read(file, buf),
         }
     }
 }
 
-impl<D: Write + Drop> Write for Drain<D> {
+impl<D: Destination + Drop> Destination for Drain<D> {
+    ghost contents = { drain_bytes D.contents };
+
+    ghost flushed = { IsFlushed D.flushed };
+
+    ghost full = { IsFull D.full };
+
+    ghost fails = { DrainFails D.fails };
+
     fn write(&mut self, buf: &[u8]) -> io::Result<usize> {
         match self {
             Drain::Standard(standard) => standard.write(buf),
-            Drain::File(file) => file.write(buf),
+            Drain::File(file) => Write::write(file, buf),
         }
     }
 
     fn flush(&mut self) -> io::Result<()> {
         match self {
             Drain::Standard(standard) => standard.flush(),
-            Drain::File(file) => file.flush(),
+            Drain::File(file) => Write::flush(file),
         }
     }
 }
 
-impl<R: Clock, D: Write + Drop> Write for Outlet<'_, R, D> {
+impl<R: Clock, D: Destination + Drop> Destination for Outlet<'_, R, D> {
+    ghost contents = { λ o. drain_bytes D.contents o.drain };
+
+    ghost flushed = { λ o. IsFlushed D.flushed o.drain };
+
+    ghost full = { λ o. IsFull D.full o.drain };
+
+    ghost fails = { λ o e. DrainFails D.fails o.drain e ⊎ (o.copies.has_failed ≡ true) };
+
+    // A copy that fails is told by the next call, since the drain has taken the bytes by then.
     fn write(&mut self, buf: &[u8]) -> io::Result<usize> {
-        let most = match &mut self.pace {
-            Some(pace) => {
-                pace.begin(self.rt);
-                pace.most(buf.len())
-            }
-            None => buf.len(),
-        };
+        self.copies.tell()?;
+        let most = self.copies.begin(buf.len());
         let count = self.drain.write(&buf[..most])?;
-        let written = &buf[..count];
-        for tee in self.tees.iter_mut() {
-            tee.write_all(written)?;
-        }
-        if let Some(sum) = &mut self.sum {
-            sum.update(written);
-        }
-        if let Some(pace) = &mut self.pace {
-            pace.keep(self.rt, count);
-        }
+        self.copies.keep(&buf[..count]);
         Ok(count)
     }
 
     fn flush(&mut self) -> io::Result<()> {
         self.drain.flush()?;
-        for tee in self.tees.iter_mut() {
-            tee.flush()?;
-        }
-        Ok(())
+        self.copies.flush()
     }
 }

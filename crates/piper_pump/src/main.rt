@@ -2,6 +2,7 @@
 #![tactic(auto)]
 
 mod arguments;
+mod copies;
 mod ended;
 mod ends;
 mod pace;
@@ -10,14 +11,22 @@ mod progress;
 mod running;
 
 use arguments::words;
+use copies::Copies;
+use ends::{Drain, Inlet, Outlet};
+use piper_transfer::Plain;
 use running::run;
 use std::io::IsTerminal;
 use std::process::ExitCode;
 
 fn main(rt: HostRuntime) -> ExitCode {
     let redraws = rt.stderr().is_terminal();
+    let mut input = Inlet::Standard(Plain(rt.stdin()));
+    let mut output = Outlet {
+        drain: Drain::Standard(Plain(rt.stdout())),
+        copies: Copies::new(&rt, Vec::new(rt.alloc())),
+    };
     let ended = match words(&rt) {
-        Ok(words) => run(&rt, words.as_slice(), rt.stdin(), rt.stdout(), redraws),
+        Ok(words) => run(&rt, words.as_slice(), &mut input, &mut output, redraws),
         Err(ended) => ended,
     };
     ended.tell(&rt)

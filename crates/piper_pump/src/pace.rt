@@ -1,5 +1,5 @@
 //! A rate that is kept: so many bytes a second at most.
-ghost use Rattle.std.specs.Prelude.{◌≤◌};
+ghost use Rattle.std.specs.Prelude.{◌<◌, ◌≤◌};
 
 use std::thread;
 use std::time::{Clock, Duration, Instant};
@@ -23,7 +23,8 @@ impl Pace {
 
     /// How many of so many bytes are written at once: a tenth of a second's.
     pub fn most(&self, count: usize) -> usize
-        ensures { result ≤ count }
+        ensures most { result ≤ count }
+        ensures some { 0 < count → 0 < result }
     {
         count.min((self.rate / 10).max(1))
     }

@@ -1,4 +1,5 @@
 pub mod Crossing
 pub mod Digits
 pub mod Sides
+pub mod Told
 pub mod Whole

@@ -1,11 +1,14 @@
 -- What a transfer moves, and what each of its sides does.
-use Rattle.std.specs.Prelude.{◌≡◌, ℕ, List, [], ◌++◌, ◌⊎◌, Option, Result, Ok, Err, OnOk, ⊤, false}
+use Rattle.std.specs.Prelude.{◌≡◌, ◌≢◌, ℕ, List, [], ◌++◌, ◌⊎◌, Option, Result, Ok, Err, OnOk, ⊤, false}
+use Rattle.std.specs.IoError.{error_kind}
+use Rattle.std.specs.declared.io.Error.{Error}
+use Rattle.std.specs.declared.io.ErrorKind.TheVariants.{Interrupted, WouldBlock}
 use Rattle.std.specs.Io.KnownBytes.{Consumes, Appends, IsAtEnd}
 use Rattle.piper.specs.Ends.{IsEnded}
 use Rattle.piper.specs.ReadView.{ReadView}
 use Rattle.piper.specs.WriteView.{WriteView}
 use Rattle.piper_transfer.specs.declared.error.TransferError.{TransferError}
-use Rattle.piper_transfer.specs.declared.error.TransferError.TheVariants.{Read}
+use Rattle.piper_transfer.specs.declared.error.TransferError.TheVariants.{Read, Write, Full, Memory, Turns}
 
 -- its handle neither closed the pipe nor saw it closed
 abbrev pub IsOpen : WriteView → Type 0
@@ -46,6 +49,41 @@ IsOfInput other = ⊥
 abbrev pub WritesAll : Result Unit TransferError → Type 0
 WritesAll (Ok _) = ⊤
 WritesAll (Err e) = IsOfInput e
+
+-- a call that failed so is not made again: it was not interrupted, and would not block
+pub record IsLasting (e : Error) : Type 0 where
+  pub heard : error_kind e ≢ Interrupted
+  pub due : error_kind e ≢ WouldBlock
+
+-- the side that reads the input may tell this error: a read has failed so, or memory was refused
+abbrev pub IsOfSource : (Error → Type 0) → TransferError → Type 0
+IsOfSource fails (Read e) = fails e × IsLasting e
+IsOfSource fails Memory = ⊤
+IsOfSource fails (Turns e) = ⊤
+IsOfSource fails other = ⊥
+
+-- the side that writes the output may tell this error: a write or a flush has failed so, a write
+-- has taken no byte, or memory was refused
+abbrev pub IsOfDestination : (Error → Type 0) → Type 0 → TransferError → Type 0
+IsOfDestination fails full (Read e) = ⊥
+IsOfDestination fails full (Write e) = fails e × IsLasting e
+IsOfDestination fails full Full = full
+IsOfDestination fails full Memory = ⊤
+IsOfDestination fails full (Turns e) = ⊤
+
+-- memory was refused: for the pipe, for a waker, or for the turns of a thread
+abbrev pub IsOfMemory : TransferError → Type 0
+IsOfMemory Memory = ⊤
+IsOfMemory (Turns e) = ⊤
+IsOfMemory other = ⊥
+
+-- the error is of the side that it names
+abbrev pub IsOfSide : (Error → Type 0) → (Error → Type 0) → Type 0 → TransferError → Type 0
+IsOfSide read written full (Read e) = read e × IsLasting e
+IsOfSide read written full (Write e) = written e × IsLasting e
+IsOfSide read written full Full = full
+IsOfSide read written full Memory = ⊤
+IsOfSide read written full (Turns e) = ⊤
 
 -- what the output was given is a front of what the input gave
 pub record Transfers

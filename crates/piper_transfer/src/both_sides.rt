@@ -3,10 +3,12 @@ ghost use Rattle.std.specs.Prelude.{◌≡◌, ◌<◌, ◌≤◌, ◌*◌, ◌^
 ghost use Rattle.std.specs.Io.KnownBytes.{IsAtEnd, Keeps};
 ghost use Rattle.piper.specs.Ends.{IsEnded};
 ghost use Rattle.piper.specs.Opened.{FreshReadEnd, FreshWriteEnd};
-ghost use Rattle.piper_transfer.specs.Transfer.{Fed, IsDrained, IsOfInput, IsOpen, Poured, PouredAll, Transfers};
+ghost use Rattle.piper_transfer.specs.Transfer.{Fed, IsDrained, IsOfDestination, IsOfMemory, IsOfSide, IsOfSource};
+ghost use Rattle.piper_transfer.specs.Transfer.{IsOpen, Poured, PouredAll, Transfers, WritesAll};
 
 use crate::draining::{drain, drain_from};
-use crate::error::TransferError;
+use crate::ends::{Destination, Source};
+use crate::error::{TransferError, stopped};
 use crate::filling::fill_from;
 use crate::meter::Meter;
 use crate::one_thread::take_turns;
@@ -15,7 +17,6 @@ use crate::start::Start;
 use crate::turns::{Input, Output, Turns};
 use piper::{Writer, pipe};
 use std::alloc::AllocGlobal;
-use std::io::{Read, Write};
 use std::marker::Send;
 use std::random::RandomSource;
 use std::sync::Wait;
@@ -47,10 +48,13 @@ pub fn transfer<R, S, D>(
 ) -> Result<(), TransferError>
 where
     R: Wait + Threads + Clock + RandomSource + AllocGlobal + Clone + Drop + Send + Sync,
-    S: Read + Send,
-    D: Write,
-    ensures { Transfers result (S.remaining source.old) (S.remaining source.new)
+    S: Source + Send,
+    D: Destination,
+    ensures moved { Transfers result (S.remaining source.old) (S.remaining source.new)
         (D.contents dest.old) (D.contents dest.new) }
+    ensures flushed { WritesAll result → D.flushed dest.new }
+    ensures told { IfErr result
+        (IsOfSide (S.fails source.new) (D.fails dest.new) (D.full dest.new)) }
 {
     let (mut input, mut output) = open(rt, sizes.capacity, sizes.level)?;
     let chunk = sizes.chunk.min(sizes.capacity);
@@ -80,6 +84,7 @@ fn open<R>(rt: &R, capacity: usize, level: usize) -> Result<(Input<R>, Output<R>
 where
     R: Wait + RandomSource + AllocGlobal + Clone + Drop,
     requires { (0 < capacity) × (2 * capacity < 2 ^ 64) }
+    ensures refused { IfErr result IsOfMemory }
     ensures ring { IfOk result (λ (input, output). input.writer.end.ring ≡ output.reader.end.ring) }
     ensures input { IfOk result (λ (input, _). FreshWriteEnd capacity input.writer.end) }
     ensures output { IfOk result (λ (_, output). FreshReadEnd capacity output.reader.end) }
@@ -105,9 +110,10 @@ where
 fn flush<R, D>(rt: &R, dest: &mut D) -> Result<(), TransferError>
 where
     R: Wait + Clock,
-    D: Write,
+    D: Destination,
     ensures kept { Keeps (D.contents dest.old) (D.contents dest.new) }
-    ensures kind { IfErr result (λ e. ¬ IsOfInput e) }
+    ensures flushed { OnOk result (D.flushed dest.new) }
+    ensures told { IfErr result (IsOfDestination (D.fails dest.new) (D.full dest.new)) }
 {
     flush_patiently(rt, dest).map_err(TransferError::Write)
 }
@@ -124,8 +130,8 @@ fn run_sides<R, S, D>(
 ) -> (Result<(), TransferError>, Result<(), TransferError>)
 where
     R: Wait + Threads + Clock + Clone + Drop + Send + Sync,
-    S: Read + Send,
-    D: Write,
+    S: Source + Send,
+    D: Destination,
     requires chunk { 0 < chunk }
     requires is_open { IsOpen input.old.writer.end }
     requires pair { input.old.writer.end.ring ≡ output.old.reader.end.ring }
@@ -138,13 +144,14 @@ where
     ensures all { OnOk result.1 (PouredAll (D.contents dest.old) (D.contents dest.new)
         output.old.reader.end output.new.reader.end) }
     ensures drained { OnOk result.1 (IsDrained output.new.reader.end input.new.writer.end) }
-    ensures kind { IfErr result.1 (λ e. ¬ IsOfInput e) }
+    ensures input_told { IfErr result.0 (IsOfSource (S.fails source.new)) }
+    ensures told { IfErr result.1 (IsOfDestination (D.fails dest.new) (D.full dest.new)) }
 {
     let (turns, writer) = (&input.turns, &mut input.writer);
     match on_two_threads(rt, source, turns, writer, output, dest, chunk, meter) {
         (Some(filled), Some(drained)) => (filled, drained),
         (Some(filled), None) => (filled, drain(rt, output, dest, chunk, meter)),
-        (None, Some(drained)) => (Err(TransferError::Full), drained),
+        (None, Some(drained)) => (Err(stopped()), drained),
         (None, None) => {
             let (writer, reader) = (&mut input.writer, &mut output.reader);
             take_turns(rt, source, writer, reader, dest, chunk, meter)
@@ -168,8 +175,8 @@ fn on_two_threads<R, S, D>(
 )
 where
     R: Wait + Threads + Clock + Clone + Drop + Send + Sync,
-    S: Read + Send,
-    D: Write,
+    S: Source + Send,
+    D: Destination,
     requires chunk { 0 < chunk }
     requires is_open { IsOpen writer.old.end }
     ensures fed { Fed (S.remaining source.old) (S.remaining source.new)
@@ -181,7 +188,9 @@ where
     ensures all { IfSome result.1 (λ r. OnOk r (PouredAll (D.contents dest.old)
         (D.contents dest.new) output.old.reader.end output.new.reader.end)) }
     ensures drained { IfSome result.1 (λ r. OnOk r (IsEnded output.new.reader.end)) }
-    ensures kind { IfSome result.1 (λ r. IfErr r (λ e. ¬ IsOfInput e)) }
+    ensures input_told { IfSome result.0 (λ r. IfErr r (IsOfSource (S.fails source.new))) }
+    ensures told { IfSome result.1 (λ r. IfErr r
+        (IsOfDestination (D.fails dest.new) (D.full dest.new))) }
     ensures drain_given_up { IfNone result.1
         ((output.new ≡ output.old) × (dest.new ≡ dest.old)) }
 {

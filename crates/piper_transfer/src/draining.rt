@@ -1,11 +1,12 @@
 //! The side that writes the pipe's bytes to the output.
-ghost use Rattle.std.specs.Prelude.{◌≡◌, ◌++◌, ℕ, List, OnOk, IfErr, IfSome, IfNone};
+ghost use Rattle.std.specs.Prelude.{◌≡◌, ◌<◌, ◌++◌, ℕ, List, length, Ok, OnOk, IfErr, IfSome, IfNone};
 ghost use Rattle.futures.specs.Task.{IsArmed};
 ghost use Rattle.futures.specs.Poll.{IfReady, OnPending};
 ghost use Rattle.piper.specs.Drains.{StaysKnown};
 ghost use Rattle.piper.specs.Ends.{IsEnded};
-ghost use Rattle.piper_transfer.specs.Transfer.{IsOfInput, Poured, PouredAll};
+ghost use Rattle.piper_transfer.specs.Transfer.{IsLasting, IsOfDestination, Poured, PouredAll};
 
+use crate::ends::Destination;
 use crate::error::TransferError;
 use crate::meter::Meter;
 use crate::patience::write_patiently;
@@ -13,7 +14,6 @@ use crate::start::Start;
 use crate::turns::{Output, Turns};
 use futures::task::{Context, Poll};
 use piper::Reader;
-use std::io::Write;
 use std::sync::Wait;
 use std::time::{Clock, Duration};
 use std::{io, thread};
@@ -32,14 +32,16 @@ pub(crate) fn drain_from<R, D, H>(
 ) -> Option<Result<(), TransferError>>
 where
     R: Wait + Clock,
-    D: Write,
+    D: Destination,
     H: Wait + Clone + Drop,
+    requires chunk { 0 < chunk }
     ensures poured { Poured (D.contents dest.old) (D.contents dest.new)
         output.old.reader.end output.new.reader.end }
     ensures all { IfSome result (λ r. OnOk r (PouredAll (D.contents dest.old) (D.contents dest.new)
         output.old.reader.end output.new.reader.end)) }
     ensures ended { IfSome result (λ r. OnOk r (IsEnded output.new.reader.end)) }
-    ensures kind { IfSome result (λ r. IfErr r (λ e. ¬ IsOfInput e)) }
+    ensures told { IfSome result (λ r. IfErr r
+        (IsOfDestination (D.fails dest.new) (D.full dest.new))) }
     ensures given_up { IfNone result
         ((output.new ≡ output.old) × (dest.new ≡ dest.old)) }
 {
@@ -61,14 +63,15 @@ pub(crate) fn drain<R, D, H>(
 ) -> Result<(), TransferError>
 where
     R: Wait + Clock,
-    D: Write,
+    D: Destination,
     H: Wait + Clone + Drop,
+    requires chunk { 0 < chunk }
     ensures poured { Poured (D.contents dest.old) (D.contents dest.new)
         output.old.reader.end output.new.reader.end }
     ensures all { OnOk result (PouredAll (D.contents dest.old) (D.contents dest.new)
         output.old.reader.end output.new.reader.end) }
     ensures ended { OnOk result (IsEnded output.new.reader.end) }
-    ensures kind { IfErr result (λ e. ¬ IsOfInput e) }
+    ensures told { IfErr result (IsOfDestination (D.fails dest.new) (D.full dest.new)) }
 {
     let ended = drain_in_turns(
         rt,
@@ -106,12 +109,13 @@ fn drain_in_turns<R, D, H>(
 ) -> Result<(), TransferError>
 where
     R: Wait + Clock,
-    D: Write,
+    D: Destination,
     H: Wait + Clone + Drop,
+    requires chunk { 0 < chunk }
     ensures poured { PouredAll (D.contents dest.old) (D.contents dest.new)
         reader.old.end reader.new.end }
     ensures ended { OnOk result (IsEnded reader.new.end) }
-    ensures kind { IfErr result (λ e. ¬ IsOfInput e) }
+    ensures told { IfErr result (IsOfDestination (D.fails dest.new) (D.full dest.new)) }
 {
     for _ in rt.forever() {
         meter.output.begin_wait(rt);
@@ -155,12 +159,14 @@ fn drain_turn<R, D, H>(
 ) -> Poll<Result<(), TransferError>>
 where
     R: Wait + Clock,
-    D: Write,
+    D: Destination,
     H: Wait + Clone + Drop,
+    requires chunk { 0 < chunk }
     ensures poured { PouredAll (D.contents dest.old) (D.contents dest.new)
         reader.old.end reader.new.end }
     ensures ended { IfReady result (λ r. OnOk r (IsEnded reader.new.end)) }
-    ensures kind { IfReady result (λ r. IfErr r (λ e. ¬ IsOfInput e)) }
+    ensures told { IfReady result (λ r. IfErr r
+        (IsOfDestination (D.fails dest.new) (D.full dest.new))) }
     ensures armed { OnPending result (IsArmed cx.new) }
 {
     for _ in rt.forever() {
@@ -187,13 +193,15 @@ pub(crate) fn write_some<R, D, H>(
 ) -> Result<(), TransferError>
 where
     R: Wait + Clock,
-    D: Write,
+    D: Destination,
     H: Wait + Clone + Drop,
+    requires chunk { 0 < chunk }
+    requires some { 0 < length reader.old.end.known }
     ensures poured { PouredAll (D.contents dest.old) (D.contents dest.new)
         reader.old.end reader.new.end }
     ensures known { StaysKnown reader.old.end reader.new.end }
     ensures capacity { reader.new.end.capacity ≡ reader.old.end.capacity }
-    ensures kind { IfErr result (λ e. ¬ IsOfInput e) }
+    ensures told { IfErr result (IsOfDestination (D.fails dest.new) (D.full dest.new)) }
 {
     match write_chunk(rt, reader, dest, chunk) {
         Ok(0) => Err(TransferError::Full),
@@ -214,12 +222,17 @@ fn write_chunk<R, D, H>(
 ) -> io::Result<usize>
 where
     R: Wait + Clock,
-    D: Write,
+    D: Destination,
     H: Wait + Clone + Drop,
+    requires chunk { 0 < chunk }
+    requires some { 0 < length reader.old.end.known }
     ensures poured { PouredAll (D.contents dest.old) (D.contents dest.new)
         reader.old.end reader.new.end }
     ensures known { StaysKnown reader.old.end reader.new.end }
     ensures capacity { reader.new.end.capacity ≡ reader.old.end.capacity }
+    ensures full { result ≡ Ok 0 → D.full dest.new }
+    ensures error { IfErr result (D.fails dest.new) }
+    ensures lasting { IfErr result IsLasting }
 {
     let piece = reader.peek_buf();
     let count = write_patiently(rt, dest, &piece[..piece.len().min(chunk)])?;

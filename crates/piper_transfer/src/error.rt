@@ -1,4 +1,6 @@
 //! Why a transfer stopped before the input's end.
+ghost use Rattle.std.specs.Prelude.{◌≡◌};
+
 use std::io;
 use thiserror::Error;
 
@@ -20,4 +22,11 @@ pub enum TransferError {
     /// The system granted no random bytes for a thread's name of its own, or no memory for its turns.
     #[error("a thread can't be made to wait: {0}")]
     Turns(io::Error),
+}
+
+/// What a side answers that was told to end since the other one has failed. The other one's error is told then, and never this one.
+pub(crate) fn stopped() -> TransferError
+    ensures { result ≡ TransferError.Memory }
+{
+    TransferError::Memory
 }

@@ -1,11 +1,12 @@
 //! The side that reads the input into the pipe.
-ghost use Rattle.std.specs.Prelude.{◌≡◌, ◌<◌, Ok, OnOk, IfSome, IfNone};
+ghost use Rattle.std.specs.Prelude.{◌≡◌, ◌<◌, Ok, OnOk, IfErr, IfSome, IfNone};
 ghost use Rattle.std.specs.Io.KnownBytes.{IsAtEnd};
 ghost use Rattle.futures.specs.Task.{IsArmed};
 ghost use Rattle.futures.specs.Poll.{IfReady, OnPending};
-ghost use Rattle.piper_transfer.specs.Transfer.{Fed, IsOpen};
+ghost use Rattle.piper_transfer.specs.Transfer.{Fed, IsOfSource, IsOpen};
 
-use crate::error::TransferError;
+use crate::ends::Source;
+use crate::error::{TransferError, stopped};
 use crate::meter::Meter;
 use crate::patience::read_patiently;
 use crate::piece::Piece;
@@ -13,8 +14,6 @@ use crate::start::Start;
 use crate::turns::Turns;
 use futures::task::{Context, Poll};
 use piper::Writer;
-use std::io;
-use std::io::Read;
 use std::sync::Wait;
 use std::time::Clock;
 
@@ -30,13 +29,14 @@ pub(crate) fn fill_from<R, S, H>(
 ) -> Option<Result<(), TransferError>>
 where
     R: Wait + Clock,
-    S: Read,
+    S: Source,
     H: Wait + Clone + Drop,
     requires chunk { 0 < chunk }
     requires is_open { IsOpen writer.old.end }
     ensures fed { Fed (S.remaining source.old) (S.remaining source.new)
         writer.old.end writer.new.end }
     ensures ended { IfSome result (λ r. OnOk r (IsAtEnd (S.remaining source.new))) }
+    ensures told { IfSome result (λ r. IfErr r (IsOfSource (S.fails source.new))) }
     ensures given_up { IfNone result (IsOpen writer.new.end) }
 {
     if !start.begin(rt) {
@@ -56,13 +56,14 @@ fn fill_in_turns<R, S, H>(
 ) -> Result<(), TransferError>
 where
     R: Wait + Clock,
-    S: Read,
+    S: Source,
     H: Wait + Clone + Drop,
     requires chunk { 0 < chunk }
     requires is_open { IsOpen writer.old.end }
     ensures fed { Fed (S.remaining source.old) (S.remaining source.new)
         writer.old.end writer.new.end }
     ensures ended { OnOk result (IsAtEnd (S.remaining source.new)) }
+    ensures told { IfErr result (IsOfSource (S.fails source.new)) }
 {
     for _ in rt.forever() {
         meter.input.begin_wait(rt);
@@ -90,31 +91,32 @@ fn fill_turn<R, S, H>(
 ) -> Poll<Result<(), TransferError>>
 where
     R: Wait + Clock,
-    S: Read,
+    S: Source,
     H: Wait + Clone + Drop,
     requires chunk { 0 < chunk }
     requires is_open { IsOpen writer.old.end }
     ensures fed { Fed (S.remaining source.old) (S.remaining source.new)
         writer.old.end writer.new.end }
     ensures ended { IfReady result (λ r. OnOk r (IsAtEnd (S.remaining source.new))) }
+    ensures told { IfReady result (λ r. IfErr r (IsOfSource (S.fails source.new))) }
     ensures is_open { OnPending result (IsOpen writer.new.end) }
     ensures armed { OnPending result (IsArmed cx.new) }
 {
     let mut piece = Piece::first(chunk);
     for _ in rt.forever() {
         if meter.is_output_over() {
-            return close(cx, writer, Err(TransferError::Full));
+            return close(cx, writer, Err(stopped()));
         }
         match writer.poll(cx) {
             Poll::Pending => return Poll::Pending,
             Poll::Ready(Ok(true)) => {}
-            Poll::Ready(Ok(false)) => return close(cx, writer, Err(TransferError::Full)),
+            Poll::Ready(Ok(false)) => return close(cx, writer, Err(stopped())),
             Poll::Ready(Err(_)) => return close(cx, writer, Err(TransferError::Memory)),
         }
         match read_chunk(rt, source, writer, piece.len(), meter) {
             Ok(0) => return close(cx, writer, Ok(())),
             Ok(count) => piece = piece.behind(count),
-            Err(error) => return close(cx, writer, Err(TransferError::Read(error))),
+            Err(error) => return close(cx, writer, Err(error)),
         }
     }
     unreachable!()
@@ -127,10 +129,10 @@ pub(crate) fn read_chunk<R, S, H>(
     writer: &mut Writer<H>,
     most: usize,
     meter: &Meter,
-) -> io::Result<usize>
+) -> Result<usize, TransferError>
 where
     R: Wait + Clock,
-    S: Read,
+    S: Source,
     H: Wait + Clone + Drop,
     requires most { 0 < most }
     requires room { 0 < writer.old.end.room }
@@ -138,6 +140,7 @@ where
     ensures fed { Fed (S.remaining source.old) (S.remaining source.new)
         writer.old.end writer.new.end }
     ensures ended { result ≡ Ok 0 → IsAtEnd (S.remaining source.new) }
+    ensures told { IfErr result (IsOfSource (S.fails source.new)) }
     ensures is_open { IsOpen writer.new.end }
 {
     let count = read_patiently(rt, source, writer.write_buf(most), meter)?;

@@ -3,6 +3,7 @@
 
 mod both_sides;
 mod draining;
+mod ends;
 mod error;
 mod filling;
 mod meter;
@@ -14,6 +15,7 @@ mod start;
 mod turns;
 
 pub use both_sides::{Sizes, transfer};
+pub use ends::{Destination, Plain, Source};
 pub use error::TransferError;
 pub use meter::{Meter, Side};
 pub use size::{NotASize, parse_size};

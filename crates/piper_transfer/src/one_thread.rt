@@ -3,15 +3,15 @@ ghost use Rattle.std.specs.Prelude.{◌≡◌, ◌<◌, [], OnOk, IfErr};
 ghost use Rattle.std.specs.Io.KnownBytes.{IsAtEnd};
 ghost use Rattle.piper.specs.Drains.{StaysKnown};
 ghost use Rattle.piper.specs.Ends.{WriterRefreshed};
-ghost use Rattle.piper_transfer.specs.Transfer.{Fed, IsOfInput, IsOpen, PouredAll};
+ghost use Rattle.piper_transfer.specs.Transfer.{Fed, IsOfDestination, IsOfSource, IsOpen, PouredAll};
 
 use crate::draining::write_some;
-use crate::error::TransferError;
+use crate::ends::{Destination, Source};
+use crate::error::{TransferError, stopped};
 use crate::filling::read_chunk;
 use crate::meter::Meter;
 use crate::piece::Piece;
 use piper::{Reader, Writer};
-use std::io::{Read, Write};
 use std::sync::Wait;
 use std::time::Clock;
 
@@ -27,8 +27,8 @@ pub(crate) fn take_turns<R, S, D, H>(
 ) -> (Result<(), TransferError>, Result<(), TransferError>)
 where
     R: Wait + Clock,
-    S: Read,
-    D: Write,
+    S: Source,
+    D: Destination,
     H: Wait + Clone + Drop,
     requires chunk { 0 < chunk }
     requires is_open { IsOpen writer.old.end }
@@ -40,12 +40,13 @@ where
     ensures poured { PouredAll (D.contents dest.old) (D.contents dest.new)
         reader.old.end reader.new.end }
     ensures all { OnOk result.1 (reader.new.end.taken ≡ writer.new.end.sent) }
-    ensures kind { IfErr result.1 (λ e. ¬ IsOfInput e) }
+    ensures input_told { IfErr result.0 (IsOfSource (S.fails source.new)) }
+    ensures told { IfErr result.1 (IsOfDestination (D.fails dest.new) (D.full dest.new)) }
 {
     let mut piece = Piece::first(chunk);
     for _ in rt.forever() {
         if let Err(error) = pass_on(rt, writer, reader, dest, chunk, meter) {
-            return (Err(TransferError::Full), Err(error));
+            return (Err(stopped()), Err(error));
         }
         match read_chunk(rt, source, writer, piece.len(), meter) {
             Ok(0) => {
@@ -55,7 +56,7 @@ where
             Ok(count) => piece = piece.behind(count),
             Err(error) => {
                 let written = pass_on(rt, writer, reader, dest, chunk, meter);
-                return (Err(TransferError::Read(error)), written);
+                return (Err(error), written);
             }
         }
     }
@@ -73,8 +74,9 @@ fn pass_on<R, D, H>(
 ) -> Result<(), TransferError>
 where
     R: Wait + Clock,
-    D: Write,
+    D: Destination,
     H: Wait + Clone + Drop,
+    requires chunk { 0 < chunk }
     requires pair { writer.old.end.ring ≡ reader.old.end.ring }
     requires some { 0 < reader.old.end.capacity }
     ensures writer { WriterRefreshed writer.old.end writer.new.end }
@@ -83,7 +85,7 @@ where
     ensures capacity { reader.new.end.capacity ≡ reader.old.end.capacity }
     ensures all { OnOk result (reader.new.end.taken ≡ writer.new.end.sent) }
     ensures room { OnOk result (0 < writer.new.end.room) }
-    ensures kind { IfErr result (λ e. ¬ IsOfInput e) }
+    ensures told { IfErr result (IsOfDestination (D.fails dest.new) (D.full dest.new)) }
 {
     reader.meet(writer);
     drain_known(rt, reader, dest, chunk, meter)?;
@@ -101,14 +103,15 @@ fn drain_known<R, D, H>(
 ) -> Result<(), TransferError>
 where
     R: Wait + Clock,
-    D: Write,
+    D: Destination,
     H: Wait + Clone + Drop,
+    requires chunk { 0 < chunk }
     ensures poured { PouredAll (D.contents dest.old) (D.contents dest.new)
         reader.old.end reader.new.end }
     ensures known { StaysKnown reader.old.end reader.new.end }
     ensures capacity { reader.new.end.capacity ≡ reader.old.end.capacity }
     ensures all { OnOk result (reader.new.end.known ≡ []) }
-    ensures kind { IfErr result (λ e. ¬ IsOfInput e) }
+    ensures told { IfErr result (IsOfDestination (D.fails dest.new) (D.full dest.new)) }
 {
     for _ in rt.forever() {
         if reader.peek_buf().is_empty() {

@@ -1,9 +1,13 @@
 //! Calls of an input or an output that are made again: at once where they were interrupted, and after a short sleep where they would block.
+ghost use Rattle.std.specs.Prelude.{◌≡◌, ◌<◌, length, false, Ok, OnOk, IfErr};
 ghost use Rattle.std.specs.Io.{ReadsAtMost, WritesAtMost};
 ghost use Rattle.std.specs.Io.KnownBytes.{Keeps, ReadConsumes, WriteAppends};
+ghost use Rattle.piper_transfer.specs.Transfer.{IsLasting, IsOfSource};
 
+use crate::ends::{Destination, Source};
+use crate::error::{TransferError, stopped};
 use crate::meter::Meter;
-use std::io::{ErrorKind, Read, Write};
+use std::io::ErrorKind;
 use std::sync::Wait;
 use std::time::{Clock, Duration};
 use std::{io, thread};
@@ -28,7 +32,9 @@ impl Patience {
     }
 
     // Whether a call that failed so is to be made again. Where it would block, that is told after a sleep.
-    fn outlasts(&mut self, clock: &impl Clock, error: &io::Error) -> bool {
+    fn outlasts(&mut self, clock: &impl Clock, error: &io::Error) -> bool
+        ensures { result ≡ false → IsLasting error.now }
+    {
         match error.kind() {
             ErrorKind::Interrupted => true,
             ErrorKind::WouldBlock => {
@@ -47,18 +53,23 @@ pub(crate) fn read_patiently<R, S>(
     source: &mut S,
     buf: &mut [u8],
     meter: &Meter,
-) -> io::Result<usize>
+) -> Result<usize, TransferError>
 where
     R: Wait + Clock,
-    S: Read,
+    S: Source,
     ensures bound { ReadsAtMost result buf.new }
     ensures bytes { ReadConsumes (S.remaining source.old) (S.remaining source.new) result buf.new }
+    ensures told { IfErr result (IsOfSource (S.fails source.new)) }
 {
     let mut patience = Patience::new();
     for _ in rt.forever() {
         match source.read(buf) {
-            Err(error) if !meter.is_output_over() && patience.outlasts(rt, &error) => {}
-            read => return read,
+            Ok(count) => return Ok(count),
+            Err(error) if !patience.outlasts(rt, &error) => {
+                return Err(TransferError::Read(error));
+            }
+            Err(_) if meter.is_output_over() => return Err(stopped()),
+            Err(_) => {}
         }
     }
     unreachable!()
@@ -68,9 +79,12 @@ where
 pub(crate) fn write_patiently<R, D>(rt: &R, dest: &mut D, buf: &[u8]) -> io::Result<usize>
 where
     R: Wait + Clock,
-    D: Write,
+    D: Destination,
     ensures bound { WritesAtMost result buf.now }
     ensures bytes { WriteAppends (D.contents dest.old) (D.contents dest.new) result buf.now }
+    ensures full { result ≡ Ok 0 → 0 < length buf.now → D.full dest.new }
+    ensures error { IfErr result (D.fails dest.new) }
+    ensures lasting { IfErr result IsLasting }
 {
     let mut patience = Patience::new();
     for _ in rt.forever() {
@@ -86,8 +100,11 @@ where
 pub(crate) fn flush_patiently<R, D>(rt: &R, dest: &mut D) -> io::Result<()>
 where
     R: Wait + Clock,
-    D: Write,
-    ensures { Keeps (D.contents dest.old) (D.contents dest.new) }
+    D: Destination,
+    ensures bytes { Keeps (D.contents dest.old) (D.contents dest.new) }
+    ensures done { OnOk result (D.flushed dest.new) }
+    ensures error { IfErr result (D.fails dest.new) }
+    ensures lasting { IfErr result IsLasting }
 {
     let mut patience = Patience::new();
     for _ in rt.forever() {

@@ -1,7 +1,7 @@
 //! Transfers between ends of which one call goes wrong.
 use crate::compare::same;
 use crate::transfers::faulty::{Fault, Input, Output};
-use piper_transfer::{Meter, Sizes, TransferError, transfer};
+use piper_transfer::{Meter, Plain, Sizes, TransferError, transfer};
 use std::alloc::AllocGlobal;
 use std::io::ErrorKind;
 use std::marker::{Send, Sync};
@@ -61,7 +61,7 @@ where
 }
 
 /// The same, to this output.
-fn transfers_to<R>(rt: &R, read: Fault, mut output: Output) -> Seen
+fn transfers_to<R>(rt: &R, read: Fault, output: Output) -> Seen
 where
     R: Abort + Wait + Threads + Clock + RandomSource + AllocGlobal + Clone + Drop + Send + Sync,
 {
@@ -70,9 +70,11 @@ where
         chunk: 64,
         level: 0,
     };
-    let mut input = Input::new(TOTAL, read);
+    let mut input = Plain(Input::new(TOTAL, read));
+    let mut output = Plain(output);
     let meter = Meter::new();
     let ended = how_it_ended(transfer(rt, &mut input, &mut output, sizes, &meter));
+    let (input, output) = (input.0, output.0);
     same(rt, output.is_right, true);
     Seen {
         ended,

@@ -1,7 +1,6 @@
 //! How long a transfer's meter says that a side waited.
 use crate::compare::same;
-use piper_transfer::{Meter, Sizes, transfer};
-use std::io::{Read, Write};
+use piper_transfer::{Destination, Meter, Sizes, Source, transfer};
 use std::sync::Wait;
 use std::time::{Clock, Duration};
 use std::{io, thread};
@@ -42,7 +41,7 @@ struct SlowOutput<'a, R: Wait + Clock> {
     seen: Duration,
 }
 
-impl<R: Wait + Clock> Read for SlowInput<'_, R> {
+impl<R: Wait + Clock> Source for SlowInput<'_, R> {
     fn read(&mut self, buf: &mut [u8]) -> io::Result<usize> {
         self.calls = self.calls.wrapping_add(1);
         if self.sleeps && self.calls == 3 {
@@ -56,7 +55,7 @@ impl<R: Wait + Clock> Read for SlowInput<'_, R> {
     }
 }
 
-impl<R: Wait + Clock> Write for SlowOutput<'_, R> {
+impl<R: Wait + Clock> Destination for SlowOutput<'_, R> {
     fn write(&mut self, buf: &[u8]) -> io::Result<usize> {
         self.calls = self.calls.wrapping_add(1);
         if self.sleeps && self.calls == 3 {

@@ -1,4 +1,4 @@
-use Rattle.std.proofs.Common.{rules, ap, codes, false, ◌≡◌, ◌∙◌}
+use Rattle.std.proofs.Common.{rules, ap, false, ◌≡◌, ◌∙◌}
 use Rattle.clap.specs.Words.{Rule, app_of, rule_of, with_rule}
 use Rattle.piper_pump.specs.Arguments.{size_rule}
 use Rattle.piper_pump.proofs.arguments.option.Goals as goal

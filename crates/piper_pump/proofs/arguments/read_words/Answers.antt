@@ -2,7 +2,7 @@ use Rattle.std.proofs.Common.{rules, ap, subst, sym, codes, map, string_bytes, t
 use Rattle.std.proofs.lemmas.Result.{IfErr-weaker}
 use Rattle.clap.specs.Words.{App, Text, app_of, takes}
 use Rattle.piper_pump.specs.Arguments.{IsSize, IsSizeOf}
-use Rattle.piper_pump.proofs.Said.{flag_said, found_said, text_said}
+use Rattle.piper_pump.proofs.Said.{flag_said, found_said, taken_is_sound, text_left_out, text_said}
 use Rattle.piper_pump.proofs.arguments.read_words.Goals as goal
 
 pub returns-in_err-matches-clause-taken : goal.returns-in_err-matches-clause-taken
@@ -42,5 +42,8 @@ returns-clause-asked c =
       quiet = λ told. c.get_flag-2.ensures.value (flag_said words c.in_ok-matches.matches (codes "quiet") said ∙ told);
       loud = λ told. c.get_flag-2.ensures.other (flag_said words c.in_ok-matches.matches (codes "quiet") said ∙ told);
       sum = λ told. c.get_flag-3.ensures.value (flag_said words c.in_ok-matches.matches (codes "sha256") said ∙ told);
+      sound = taken_is_sound _ words c.in_ok-command.ensures.taken c.in_ok-matches.ensures.kinds;
+      input = λ none. text_left_out words c.in_ok-matches.matches (codes "input") _ said c.texts_of.ensures.input none;
+      output = λ none. text_left_out words c.in_ok-matches.matches (codes "output") _ said c.texts_of.ensures.output none;
       no_sum = λ told. c.get_flag-3.ensures.other (flag_said words c.in_ok-matches.matches (codes "sha256") said ∙ told);
     }

@@ -1,18 +1,27 @@
-use Rattle.std.proofs.Common.{rules, ◌≡◌, [], OnOk, ◌∙◌}
+use Rattle.std.proofs.Common.{rules, ◌≡◌, [], OnOk, IfErr, ◌∙◌}
+use Rattle.std.specs.Result.{result_and}
 use Rattle.std.specs.Io.KnownBytes.{IsAtEnd}
-use Rattle.piper_transfer.specs.Transfer.{IsDrained, PouredAll, WritesAll}
+use Rattle.piper_transfer.specs.Transfer.{IsDrained, IsOfDestination, IsOfMemory, PouredAll, WritesAll}
 use Rattle.piper_transfer.proofs.Sides.{poured_kept, poured_same}
+use Rattle.piper_transfer.proofs.Told.{refused_writes_none, refused_is_told, flushed_first, flush_is_told, failed_writes_not, failure_is_told}
 use Rattle.piper_transfer.proofs.Whole.{nothing_moved, none_known, output_failed, nothing_lost}
 use Rattle.piper_transfer.proofs.both_sides.transfer.Goals.{in-Ok, in-Err}
 use Rattle.piper_transfer.proofs.both_sides.transfer.Goals as goal
 
 pub returns-in_err-input : goal.returns-in_err-input
-returns-in_err-input g c = nothing_moved c.from_residual.result _ _ (search rules)
+returns-in_err-input g c =
+    let memory : IfErr c.from_residual.result IsOfMemory = search rules in
+    let never : OnOk c.from_residual.result ⊥ = search rules in
+    record {
+      moved = nothing_moved c.from_residual.result _ _ (search rules);
+      flushed = λ writes. absurd (refused_writes_none c.from_residual.result never memory writes);
+      told = refused_is_told c.from_residual.result _ _ _ memory;
+    }
 
 pub returns : goal.returns
 returns g c =
-    let remaining = g.S.Read.remaining in
-    let contents = g.D.Write.contents in
+    let remaining = g.S.Source.remaining in
+    let contents = g.D.Destination.contents in
     let both = c.run_sides-filled in
     let w0 = c.in_ok-input.input.writer.end in
     let w1 = both.new.input.writer.end in
@@ -23,6 +32,7 @@ returns g c =
     let j = remaining both.new.source in
     let o = contents c.args.dest.now in
     let p = contents both.new.dest in
+    let s = g.S.Source.fails both.new.source in
     let new_writer = c.in_ok-input.ensures.input.sent in
     let new_reader = c.in_ok-input.ensures.output.taken in
     let fifo = c.meet.ensures.fifo ∙ c.meet.ensures.writer.sent in
@@ -34,9 +44,23 @@ returns g c =
           let whole : IsDrained r1 w1 = search rules in
           let none : r2.known ≡ [] = none_known r1 r2 w1 c.meet.new.other.end whole c.meet.ensures.reader c.meet.ensures.fifo c.meet.ensures.writer.sent c.meet.ensures.all c.meet.ensures.same in
           let ended : OnOk c.match-drained.ended (IsAtEnd j) = search rules in
-          rw w.dest-is (nothing_lost c.match-drained.ended i j o q w0 w1 r0 r2 new_writer new_reader both.ensures.fed poured fifo (λ _. none) ended)
+          let same : c.match-drained.ended ≡ result_and w.flush.result both.result.0 = search rules in
+          let d = g.D.Destination.fails w.flush.new.dest in
+          let full = g.D.Destination.full w.flush.new.dest in
+          rw w.dest-is (record {
+            moved = nothing_lost c.match-drained.ended i j o q w0 w1 r0 r2 new_writer new_reader both.ensures.fed poured fifo (λ _. none) ended;
+            flushed = flushed_first w.flush.result both.result.0 c.match-drained.ended d full _ same w.flush.ensures.flushed w.flush.ensures.told;
+            told = flush_is_told w.flush.result both.result.0 c.match-drained.ended s d full same w.flush.ensures.told both.ensures.input_told;
+          })
       | in-Err w ↦
-          let failed : ¬ WritesAll c.match-drained.ended = search rules in
+          let d = g.D.Destination.fails both.new.dest in
+          let full = g.D.Destination.full both.new.dest in
+          let told : IsOfDestination d full w.in-Err.error = search rules in
+          let failed : ¬ WritesAll c.match-drained.ended = failed_writes_not c.match-drained.ended w.in-Err.error d full w.ended-is told in
           let ended : OnOk c.match-drained.ended (IsAtEnd j) = rw w.ended-is tt in
-          rw w.dest-is (output_failed c.match-drained.ended i j o p w0 w1 r0 r1 r2 new_writer new_reader both.ensures.fed both.ensures.poured c.meet.ensures.reader.taken fifo failed ended)
+          rw w.dest-is (record {
+            moved = output_failed c.match-drained.ended i j o p w0 w1 r0 r1 r2 new_writer new_reader both.ensures.fed both.ensures.poured c.meet.ensures.reader.taken fifo failed ended;
+            flushed = λ writes. absurd (failed writes);
+            told = failure_is_told c.match-drained.ended w.in-Err.error s d full w.ended-is told;
+          })
     ]

@@ -6,7 +6,7 @@ use Rattle.piper_transfer.proofs.one_thread.take_turns.Given as goal
 abbrev pub invariant-loop : goal.invariant-loop
 invariant-loop g l =
     (goal.iterator-loop g).can_next l.iterator' × (goal.iterator-loop g).is_finite l.iterator'
-    × Fed (g.S.Read.remaining l.initial.source) (g.S.Read.remaining l.source) l.initial.writer.end l.writer.end
+    × Fed (g.S.Source.remaining l.initial.source) (g.S.Source.remaining l.source) l.initial.writer.end l.writer.end
     × IsOpen l.writer.end
-    × PouredAll (g.D.Write.contents l.initial.dest) (g.D.Write.contents l.dest) l.initial.reader.end l.reader.end
+    × PouredAll (g.D.Destination.contents l.initial.dest) (g.D.Destination.contents l.dest) l.initial.reader.end l.reader.end
     × (l.writer.end.ring ≡ l.reader.end.ring) × (0 < l.reader.end.capacity)

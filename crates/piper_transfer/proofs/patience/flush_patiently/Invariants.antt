@@ -5,4 +5,4 @@ use Rattle.piper_transfer.proofs.patience.flush_patiently.Given as goal
 abbrev pub invariant-loop : goal.invariant-loop
 invariant-loop g l =
     (goal.iterator-loop g).can_next l.iterator' × (goal.iterator-loop g).is_finite l.iterator'
-    × Keeps (g.D.Write.contents l.initial.dest) (g.D.Write.contents l.dest)
+    × Keeps (g.D.Destination.contents l.initial.dest) (g.D.Destination.contents l.dest)
