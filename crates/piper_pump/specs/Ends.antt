@@ -1,5 +1,5 @@
--- What is known of the input and the output: what is known of the standard stream, and of a file nothing.
-use Rattle.std.specs.Prelude.{ℕ, List, Option, None, ⊤}
+-- What is known of the input and the output: of a standard stream what it says, of a file nothing.
+use Rattle.std.specs.Prelude.{◌≡◌, ◌⊎◌, ℕ, Bool, true, List, Option, None, ⊤}
 use Rattle.std.specs.declared.io.Error.{Error}
 use Rattle.piper_pump.specs.declared.ends.Inlet.{Inlet}
 use Rattle.piper_pump.specs.declared.ends.Inlet.TheVariants as inlet
@@ -35,3 +35,7 @@ IsFull full (drain.File f) = ⊤
 abbrev pub DrainFails : {D : Type 0} → (D → Error → Type 0) → Drain D → Error → Type 0
 DrainFails fails (drain.Standard d) e = fails d e
 DrainFails fails (drain.File f) e = ⊤
+
+-- the same, or a file did not get its copy
+abbrev pub OutletFails : {D : Type 0} → (D → Error → Type 0) → Drain D → Bool → Error → Type 0
+OutletFails fails d has_copy_failed e = DrainFails fails d e ⊎ (has_copy_failed ≡ true)

@@ -1,4 +1,4 @@
-//! What is done with the bytes that pass: copies of them, their sum, and the rate at which they pass.
+//! What is done with the bytes that pass: they are copied, summed up, and slowed down.
 ghost use Rattle.std.specs.Prelude.{◌≡◌, ◌<◌, ◌≤◌, true, IfErr};
 
 use crate::pace::Pace;
@@ -45,7 +45,9 @@ impl<'a, R: Clock> Copies<'a, R> {
     }
 
     /// The sum of all that passed, if it was wanted.
-    pub fn sum(&mut self) -> Option<[u8; 32]> {
+    pub fn sum(&mut self) -> Option<[u8; 32]>
+        ensures { self.new.has_failed ≡ self.old.has_failed }
+    {
         let sum = self.sum.take()?;
         Some(sum.finalize())
     }

@@ -1,6 +1,6 @@
 //! What the program reads and writes: the standard streams or files.
-ghost use Rattle.std.specs.Prelude.{◌≡◌, ◌⊎◌, true};
-ghost use Rattle.piper_pump.specs.Ends.{drain_bytes, inlet_bytes, DrainFails, InletFails, IsFlushed, IsFull};
+ghost use Rattle.piper_pump.specs.Ends.{drain_bytes, inlet_bytes, DrainFails, InletFails};
+ghost use Rattle.piper_pump.specs.Ends.{IsFlushed, IsFull, OutletFails};
 
 use crate::copies::Copies;
 use piper_transfer::{Destination, Source};
@@ -74,7 +74,7 @@ impl<R: Clock, D: Destination + Drop> Destination for Outlet<'_, R, D> {
 
     ghost full = { λ o. IsFull D.full o.drain };
 
-    ghost fails = { λ o e. DrainFails D.fails o.drain e ⊎ (o.copies.has_failed ≡ true) };
+    ghost fails = { λ o. OutletFails D.fails o.drain o.copies.has_failed };
 
     // A copy that fails is told by the next call, since the drain has taken the bytes by then.
     fn write(&mut self, buf: &[u8]) -> io::Result<usize> {

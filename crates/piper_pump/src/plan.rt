@@ -131,7 +131,8 @@ where
     Ok(tees)
 }
 
-/// Opens the files that are named, and takes them in place of what stands for them. Where one can't be opened, both stay.
+/// Opens the files that are named, and takes them in place of what stands for them. Where one
+/// can't be opened, both stay.
 pub fn open_files<R, S, D>(
     rt: &R,
     arguments: &Arguments<'_>,

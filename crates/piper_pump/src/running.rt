@@ -4,7 +4,8 @@ ghost use Rattle.clap.specs.Words.{fault_of};
 ghost use Rattle.piper_transfer.specs.Transfer.{IsOfSide, Transfers, WritesAll};
 ghost use Rattle.piper_pump.specs.Arguments.{NamesNoFile, ShowsAsAsked, pump_command};
 ghost use Rattle.piper_pump.specs.Ended.{IsEarly};
-ghost use Rattle.piper_pump.specs.Ends.{drain_bytes, inlet_bytes, IsFlushed};
+ghost use Rattle.piper_pump.specs.Ends.{drain_bytes, inlet_bytes, InletFails, IsFlushed};
+ghost use Rattle.piper_pump.specs.Ends.{IsFull, OutletFails};
 ghost use Rattle.piper_pump.specs.Running.{Runs};
 
 use crate::arguments::read_words;
@@ -31,7 +32,9 @@ struct Task {
 
 /// Does what the words ask for, between an input and an output that stand for files that are not named. `redraws` says that standard error is a terminal.
 ///
-/// Words that are refused end it before a byte is moved. Else it ends as the transfer does: with success only where all that the input gave was written and flushed. Progress, told or not, changes neither.
+/// Words that are refused end it before a byte is moved. Else it ends as the transfer does: with
+/// success only where all that the input gave was written and flushed. Progress, told or not,
+/// changes neither.
 pub fn run<R, S, D>(
     rt: &R,
     words: &[String],
@@ -49,7 +52,10 @@ where
     ensures runs { NamesNoFile (map string_bytes words.now) →
         Runs (inlet_bytes S.remaining input.old) (inlet_bytes S.remaining input.new)
         (drain_bytes D.contents output.old.drain) (drain_bytes D.contents output.new.drain)
-        (IsFlushed D.flushed output.new.drain) result }
+        (IsFlushed D.flushed output.new.drain)
+        (IsOfSide (InletFails S.fails input.new)
+        (OutletFails D.fails output.new.drain output.new.copies.has_failed)
+        (IsFull D.full output.new.drain)) result }
 {
     let task = match prepare(rt, words, input, output, redraws) {
         Ok(task) => task,

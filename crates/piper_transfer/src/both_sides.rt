@@ -39,6 +39,10 @@ pub struct Sizes {
 /// Moves all bytes from the reader to the writer, through a pipe: one thread reads while the other writes.
 ///
 /// It ends at the input's end, once all of it is written, or at the first failure of either side. A read that fails ends it once all that came before is written. Where a write fails or takes nothing, what is still in the pipe is let go, and the input is read no further once a read that is under way has ended. A read or a write that is interrupted is made again, and one that would block is made again after a sleep of at most 10 milliseconds. Where a second thread is refused, both sides take turns on this one, and each read is written at once. `meter` is kept up to date meanwhile.
+///
+/// Where all that the input gave is written, with `Ok` or with the input's error, the output is
+/// flushed behind the last byte; a flush that fails is told in place of the input's error. An error
+/// that is told is one that its side answered, and `Full` says that a write took nothing.
 pub fn transfer<R, S, D>(
     rt: &R,
     source: &mut S,

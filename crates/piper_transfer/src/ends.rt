@@ -8,7 +8,8 @@ use std::io::{Read, Write};
 
 /// What a transfer reads.
 ///
-/// It is a reader that can say which errors it fails with. A reader of which that is not to be said is one as a `Plain`.
+/// It is a reader that can say which errors it fails with. A reader of which that is not to be
+/// said is one as a `Plain`.
 pub trait Source {
     ghost use Rattle.std.specs.declared.io.Error.{Error};
 
@@ -27,7 +28,8 @@ pub trait Source {
 
 /// What a transfer writes.
 ///
-/// It is a writer that can say what it has flushed, and which errors it fails with. A writer of which that is not to be said is one as a `Plain`.
+/// It is a writer that can say what it has flushed, and which errors it fails with. A writer of
+/// which that is not to be said is one as a `Plain`.
 pub trait Destination {
     ghost use Rattle.std.specs.declared.io.Error.{Error};
 
@@ -57,7 +59,8 @@ pub trait Destination {
         ensures error { IfErr result (fails self.new) };
 }
 
-/// Any reader as a source, and any writer as a destination. Nothing is said of its failures, nor of what it has flushed.
+/// Any reader as a source, and any writer as a destination. Nothing is said of its failures, nor
+/// of what it has flushed.
 #[derive(Drop)]
 pub struct Plain<T>(pub T);
 
