@@ -1,3 +1,7 @@
 pub mod CarryingOn
+pub mod DrainingOn
+pub mod Failing
+pub mod FillingOn
 pub mod ReadingOn
+pub mod UntilOn
 pub mod WritingOn

@@ -1,3 +1,7 @@
 pub mod Carrying
+pub mod Draining
+pub mod Filling
+pub mod Moving
 pub mod Reading
+pub mod Until
 pub mod Writing

@@ -4,17 +4,23 @@
 #![tactic(auto)]
 
 mod copy_across;
+mod drain;
 mod failed;
+mod fill;
 mod read_all;
 mod read_some;
+mod read_through;
 mod read_up_to;
 mod write_end;
 mod write_whole;
 
 pub use copy_across::{Copying, copy};
+pub use drain::{Draining, drain_into, poll_drain_into};
 pub use failed::Failed;
+pub use fill::{AsyncFill, Filling, fill_from};
 pub use read_all::{ReadToEnd, poll_read_to_end, read_to_end};
 pub use read_some::{ReadOnce, read};
+pub use read_through::{ReadUntil, poll_read_until, read_until};
 pub use read_up_to::{ReadExact, read_exact};
 pub use write_end::{Closing, Flushing, close, flush};
 pub use write_whole::{WriteAll, write_all};

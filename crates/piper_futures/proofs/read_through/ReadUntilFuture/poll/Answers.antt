@@ -1,0 +1,19 @@
+use Rattle.std.proofs.Common.{rules, ◌≡◌, ◌<◌, length, sym, subst}
+use Rattle.piper_lines.specs.Refusals.{IsTold}
+use Rattle.piper_futures.specs.Writing.{FailsOnce}
+use Rattle.piper_futures.proofs.ReadingOn.{told_once}
+use Rattle.piper_futures.proofs.UntilOn.{read_through_then}
+use Rattle.piper_futures.proofs.read_through.ReadUntilFuture.poll.Goals as goal
+
+pub returns-in-Pending-clause-same : goal.returns-in-Pending-clause-same
+returns-in-Pending-clause-same g c = λ output gave.
+    let before = read_through_then g.R.AsyncBufRead.taken g.R.AsyncBufRead.known g.R.AsyncBufRead.saw g.R.AsyncBufRead.fails c.args.self.now.byte c.in-Some.reader c.poll_read_until.new.reader c.in-Some.bytes c.poll_read_until.new.bytes c.in-Pending.ensures.reaches output gave in
+    search rules
+
+pub returns-in-Ready-Err-clause-value : goal.returns-in-Ready-Err-clause-value
+returns-in-Ready-Err-clause-value g c =
+    let same : c.unwrap-left.result.0 ≡ c.poll_read_until.new.reader = search rules in
+    let own : IsTold c.in-Ready-Err.error (FailsOnce g.R.AsyncBufRead.fails c.unwrap-left.result.0) (0 < length (g.R.AsyncBufRead.known c.unwrap-left.result.0)) =
+    subst (λ r. IsTold c.in-Ready-Err.error (FailsOnce g.R.AsyncBufRead.fails r) (0 < length (g.R.AsyncBufRead.known r))) (sym same)
+    (told_once g.R.AsyncBufRead.fails _ _ _ _ _ (λ known. known) (rw c.in-Ready-Err.field-0-is at c.in-Ready-Err.ensures.error)) in
+    search rules

@@ -1,0 +1,12 @@
+-- What was taken so far stands at the end of the bytes, and lacks the delimiter.
+use Rattle.std.proofs.Common.{◌≡◌}
+use Rattle.futures.specs.Task.{Keeps}
+use Rattle.piper_futures.specs.Until.{GrowsBy, Lacks}
+use Rattle.piper_futures.proofs.read_through.poll_read_until.Given as goal
+
+abbrev pub invariant-loop : goal.invariant-loop
+invariant-loop g l = record {
+  grown : GrowsBy (g.R.AsyncBufRead.taken l.initial.reader) (g.R.AsyncBufRead.taken l.reader) l.initial.bytes.items l.bytes.items (Lacks l.byte);
+  told : g.R.AsyncBufRead.told l.reader ≡ g.R.AsyncBufRead.told l.initial.reader;
+  kept : Keeps l.initial.cx l.cx;
+}

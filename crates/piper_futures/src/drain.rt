@@ -1,0 +1,95 @@
+//! All bytes of a reader, moved into a writer of std.
+ghost use Rattle.std.specs.Prelude.{◌≡◌, ◌⊎◌, IsSome, IsSomeAnd, Ok};
+ghost use Rattle.futures.specs.Task.{Covers, Keeps};
+ghost use Rattle.futures.specs.Poll.{OnPending};
+ghost use Rattle.piper.specs.Polls.{IfReadyErr};
+ghost use Rattle.piper_lines.specs.AtEnd.{AtEnd};
+ghost use Rattle.piper_futures.specs.Draining.{DrainedAll, DrainsOn, StartsDraining};
+ghost use Rattle.piper_futures.specs.Moving.{IsIo};
+
+use crate::failed::Failed;
+use futures::Future;
+use futures::task::{Context, Poll};
+use piper::PipeError;
+use piper::io::AsyncBufRead;
+use std::io::{self, Write};
+
+/// How many pieces a poll moves at most, so that other tasks get their turn.
+const MOST_PIECES: u32 = 64;
+
+/// The future of [`drain_into`].
+#[derive(Drop)]
+pub struct Draining<R, D> {
+    state: Option<(R, D)>,
+}
+
+/// Moves all bytes of the reader, in order, into a writer of std, up to the reader's end, and gives both back.
+///
+/// Each write blocks the thread. It holds no bytes of its own: where it fails, as where it is let go, all that was taken is written. A writer that takes none of some bytes fails with the kind `WriteZero`. What the writer holds back is not flushed.
+pub fn drain_into<R: AsyncBufRead + Drop, D: Write + Drop>(reader: R, dest: D) -> Draining<R, D>
+    ensures { StartsDraining result reader dest }
+{
+    Draining {
+        state: Some((reader, dest)),
+    }
+}
+
+impl<R: AsyncBufRead + Drop, D: Write + Drop> Future for Draining<R, D> {
+    type Output = Result<(R, D), Failed<(R, D)>>;
+
+    ghost can_poll = { λ future. IsSome future.state };
+
+    ghost needs = { λ future s. IsSomeAnd future.state (λ state. R.needs state.0 s) };
+
+    ghost gives = { λ future output. IsSomeAnd future.state (λ state.
+        DrainedAll R.taken R.known R.saw R.fails D.contents state.0 state.1 output) };
+
+    fn poll(&mut self, cx: &mut Context<'_>) -> Poll<Self::Output> {
+        let Some((reader, dest)) = &mut self.state else {
+            unreachable!()
+        };
+        match poll_drain_into(reader, cx, dest) {
+            Poll::Pending => Poll::Pending,
+            Poll::Ready(Ok(())) => Poll::Ready(Ok(self.state.take().unwrap())),
+            Poll::Ready(Err(error)) => {
+                let left = self.state.take().unwrap();
+                Poll::Ready(Err(Failed { left, error }))
+            }
+        }
+    }
+}
+
+/// Moves the bytes of the reader into `dest`, up to the reader's end.
+///
+/// Bytes are taken once they are written: after an error, as where it is pending, the next poll goes on from there. After 64 pieces it asks for another poll. An error is the reader's own, or that of `dest` as it came.
+pub fn poll_drain_into<R: AsyncBufRead, D: Write>(
+    reader: &mut R,
+    cx: &mut Context<'_>,
+    dest: &mut D,
+) -> Poll<Result<(), PipeError>>
+    ensures drains { DrainsOn (R.taken reader.old) (R.taken reader.new)
+        (D.contents dest.old) (D.contents dest.new) }
+    ensures ended { result ≡ Poll.Ready (Ok (record {})) →
+        AtEnd (R.known reader.new) (R.saw reader.new) }
+    ensures error { IfReadyErr result (λ e. R.fails reader.new cx.new e ⊎ IsIo e) }
+    ensures told { R.told reader.new ≡ R.told reader.old }
+    ensures covered { OnPending result (Covers cx.new (R.needs reader.new)) }
+    ensures kept { Keeps cx.old cx.new }
+{
+    for _ in 0..MOST_PIECES {
+        let piece = match reader.poll_fill_buf(cx) {
+            Poll::Pending => return Poll::Pending,
+            Poll::Ready(Err(error)) => return Poll::Ready(Err(error)),
+            Poll::Ready(Ok(piece)) => piece,
+        };
+        if piece.is_empty() {
+            return Poll::Ready(Ok(()));
+        }
+        match dest.write(piece) {
+            Err(error) => return Poll::Ready(Err(PipeError::Io(error))),
+            Ok(0) => return Poll::Ready(Err(PipeError::Io(io::ErrorKind::WriteZero.into()))),
+            Ok(count) => reader.consume(count),
+        }
+    }
+    cx.yield_now()
+}

@@ -1,0 +1,133 @@
+//! All that a reader of std gives, moved into a pipe.
+ghost use Rattle.std.specs.Prelude.{◌≡◌, ◌⊎◌, IsSome, IsSomeAnd, true, false, Ok};
+ghost use Rattle.std.specs.Io.KnownBytes.{IsAtEnd};
+ghost use Rattle.futures.specs.Task.{Covers, Keeps};
+ghost use Rattle.futures.specs.Poll.{OnPending};
+ghost use Rattle.piper.specs.Polls.{IfReadyErr};
+ghost use Rattle.piper_futures.specs.Filling.{FilledAll, FillsOn, StartsFilling};
+ghost use Rattle.piper_futures.specs.Moving.{IsIo};
+
+use crate::failed::Failed;
+use futures::Future;
+use futures::task::{Context, Poll};
+use piper::io::{AsyncWrite, Copied};
+use piper::{OwnedWriter, PipeError, Writer};
+use std::io::Read;
+use std::sync::Wait;
+
+/// A writer that readers of std can read into, with no bytes held in between.
+pub trait AsyncFill: AsyncWrite {
+    /// Publishes what `source` gives, up to its end or the close of the pipe, and answers which it was; where both hold, it may be either.
+    ///
+    /// It asks for another poll where bytes came. After an answer other than that the pipe is closed, all that `source` gave is published, and the next poll goes on from there. An error is want of memory for a waker, or the source's own, as it came.
+    fn poll_fill_from<S: Read>(
+        &mut self,
+        cx: &mut Context<'_>,
+        source: &mut S,
+    ) -> Poll<Result<Copied, PipeError>>
+        ensures fills { FillsOn (S.remaining source.old) (S.remaining source.new)
+            (Self.sent self.old) (Self.sent self.new) (Self.saw self.old) (Self.saw self.new) }
+        ensures ended { result ≡ Poll.Ready (Ok Copied.ToTheEnd) →
+            IsAtEnd (S.remaining source.new) }
+        ensures closed { result ≡ Poll.Ready (Ok Copied.UntilClosed) → Self.saw self.new ≡ true }
+        ensures error { IfReadyErr result (λ e. Self.fails self.new cx.new e ⊎ IsIo e) }
+        ensures covered { OnPending result (Covers cx.new (Self.needs self.new)) }
+        ensures kept { Keeps cx.old cx.new };
+}
+
+impl<H: Wait + Clone + Drop> AsyncFill for Writer<H> {
+    fn poll_fill_from<S: Read>(
+        &mut self,
+        cx: &mut Context<'_>,
+        source: &mut S,
+    ) -> Poll<Result<Copied, PipeError>> {
+        match self.poll_fill(cx, source) {
+            Poll::Pending => Poll::Pending,
+            Poll::Ready(Err(error)) => Poll::Ready(Err(error)),
+            Poll::Ready(Ok(0)) => Poll::Ready(Ok(why_none(self, cx))),
+            Poll::Ready(Ok(_)) => cx.yield_now(),
+        }
+    }
+}
+
+// Why a fill moved nothing: the pipe is closed, or else its source gave none. A pipe that is closed is so for good, so the poll does not wait.
+fn why_none<H: Wait + Clone + Drop>(writer: &mut Writer<H>, cx: &mut Context<'_>) -> Copied
+    ensures ended { result ≡ Copied.ToTheEnd → writer.old.end.saw ≡ false }
+    ensures closed { result ≡ Copied.UntilClosed → writer.new.end.saw ≡ true }
+    ensures sent { writer.new.end.sent ≡ writer.old.end.sent }
+    ensures stays { writer.old.end.saw ≡ true → writer.new.end.saw ≡ true }
+    ensures kept { Keeps cx.old cx.new }
+{
+    if !writer.is_closed() {
+        return Copied::ToTheEnd;
+    }
+    match writer.poll(cx) {
+        Poll::Ready(Ok(false)) => Copied::UntilClosed,
+        _ => Copied::ToTheEnd,
+    }
+}
+
+impl<H: Wait + Clone + Drop> AsyncFill for OwnedWriter<H> {
+    fn poll_fill_from<S: Read>(
+        &mut self,
+        cx: &mut Context<'_>,
+        source: &mut S,
+    ) -> Poll<Result<Copied, PipeError>> {
+        self.get_mut().poll_fill_from(cx, source)
+    }
+}
+
+impl<W: AsyncFill> AsyncFill for &mut W {
+    fn poll_fill_from<S: Read>(
+        &mut self,
+        cx: &mut Context<'_>,
+        source: &mut S,
+    ) -> Poll<Result<Copied, PipeError>> {
+        (**self).poll_fill_from(cx, source)
+    }
+}
+
+/// The future of [`fill_from`].
+#[derive(Drop)]
+pub struct Filling<W, S> {
+    state: Option<(W, S)>,
+}
+
+/// Moves all that a reader of std gives into the writer's pipe, in order, up to its end or the close of the pipe, and gives both back with why it ended.
+///
+/// Each read blocks the thread, so it belongs on a thread of its own. It holds no bytes of its own: where it fails, as where it is let go, all that was read is published, but for what is lost where the pipe is closed.
+pub fn fill_from<W: AsyncFill + Drop, S: Read + Drop>(writer: W, source: S) -> Filling<W, S>
+    ensures { StartsFilling result writer source }
+{
+    Filling {
+        state: Some((writer, source)),
+    }
+}
+
+impl<W: AsyncFill + Drop, S: Read + Drop> Future for Filling<W, S> {
+    type Output = Result<(W, S, Copied), Failed<(W, S)>>;
+
+    ghost can_poll = { λ future. IsSome future.state };
+
+    ghost needs = { λ future s. IsSomeAnd future.state (λ state. W.needs state.0 s) };
+
+    ghost gives = { λ future output. IsSomeAnd future.state (λ state.
+        FilledAll W.sent W.saw W.fails S.remaining state.0 state.1 output) };
+
+    fn poll(&mut self, cx: &mut Context<'_>) -> Poll<Self::Output> {
+        let Some((writer, source)) = &mut self.state else {
+            unreachable!()
+        };
+        match writer.poll_fill_from(cx, source) {
+            Poll::Pending => Poll::Pending,
+            Poll::Ready(Ok(copied)) => {
+                let (writer, source) = self.state.take().unwrap();
+                Poll::Ready(Ok((writer, source, copied)))
+            }
+            Poll::Ready(Err(error)) => {
+                let left = self.state.take().unwrap();
+                Poll::Ready(Err(Failed { left, error }))
+            }
+        }
+    }
+}

@@ -1,0 +1,111 @@
+//! Bytes through a delimiter.
+ghost use Rattle.std.specs.Prelude.{◌≡◌, ◌<◌, ◌≤◌, length, take, IsSome, IsSomeAnd, MatchBool};
+ghost use Rattle.futures.specs.Task.{Covers, Keeps};
+ghost use Rattle.futures.specs.Poll.{OnPending};
+ghost use Rattle.piper.specs.Polls.{IfReadyErr};
+ghost use Rattle.piper_lines.specs.Refusals.{IsTold};
+ghost use Rattle.piper_futures.specs.Until.{IsThrough, Lacks, ReadThrough, Reaches, StartsReadingThrough};
+
+use crate::failed::Failed;
+use futures::Future;
+use futures::task::{Context, Poll};
+use memchr::memchr;
+use piper::PipeError;
+use piper::io::AsyncBufRead;
+
+/// How many pieces a poll takes at most, so that other tasks get their turn.
+const MOST_PIECES: u32 = 64;
+
+/// The future of [`read_until`].
+#[derive(Drop)]
+pub struct ReadUntil<R> {
+    state: Option<(R, Vec<u8>)>,
+    byte: u8,
+}
+
+/// Appends bytes of the reader to `bytes`, in order, through the first that is `byte`, or up to the reader's end, and gives both back.
+///
+/// Where the reader fails or memory is refused, what is left is the reader and the bytes that came before; memory is asked for before bytes are taken, so none is lost. Nothing bounds how many bytes come: `piper_lines` has a limit.
+pub fn read_until<R: AsyncBufRead + Drop>(reader: R, byte: u8, bytes: Vec<u8>) -> ReadUntil<R>
+    ensures { StartsReadingThrough result reader byte bytes }
+{
+    ReadUntil {
+        state: Some((reader, bytes)),
+        byte,
+    }
+}
+
+impl<R: AsyncBufRead + Drop> Future for ReadUntil<R> {
+    type Output = Result<(R, Vec<u8>), Failed<(R, Vec<u8>)>>;
+
+    ghost can_poll = { λ future. IsSome future.state };
+
+    ghost needs = { λ future s. IsSomeAnd future.state (λ state. R.needs state.0 s) };
+
+    ghost gives = { λ future output. IsSomeAnd future.state (λ state.
+        ReadThrough R.taken R.known R.saw R.fails future.byte state.0 state.1 output) };
+
+    fn poll(&mut self, cx: &mut Context<'_>) -> Poll<Self::Output> {
+        let Some((reader, bytes)) = &mut self.state else {
+            unreachable!()
+        };
+        match poll_read_until(reader, cx, self.byte, bytes) {
+            Poll::Pending => Poll::Pending,
+            Poll::Ready(Ok(_)) => Poll::Ready(Ok(self.state.take().unwrap())),
+            Poll::Ready(Err(error)) => {
+                let left = self.state.take().unwrap();
+                Poll::Ready(Err(Failed { left, error }))
+            }
+        }
+    }
+}
+
+/// Appends bytes of the reader to `bytes`, through the first that is `byte`, which answers true, or up to the reader's end, which answers false.
+///
+/// Memory is asked for before bytes are taken: after an error, as where it is pending, the next poll goes on from there. After 64 pieces it asks for another poll.
+pub fn poll_read_until<R: AsyncBufRead>(
+    reader: &mut R,
+    cx: &mut Context<'_>,
+    byte: u8,
+    bytes: &mut Vec<u8>,
+) -> Poll<Result<bool, PipeError>>
+    ensures reaches { Reaches result byte (R.taken reader.old) (R.taken reader.new)
+        bytes.old.items bytes.new.items (R.known reader.new) (R.saw reader.new) }
+    ensures error { IfReadyErr result (λ e. IsTold e (R.fails reader.new cx.new)
+        (0 < length (R.known reader.new))) }
+    ensures told { R.told reader.new ≡ R.told reader.old }
+    ensures covered { OnPending result (Covers cx.new (R.needs reader.new)) }
+    ensures kept { Keeps cx.old cx.new }
+{
+    for _ in 0..MOST_PIECES {
+        let piece = match reader.poll_fill_buf(cx) {
+            Poll::Pending => return Poll::Pending,
+            Poll::Ready(Err(error)) => return Poll::Ready(Err(error)),
+            Poll::Ready(Ok(piece)) => piece,
+        };
+        if piece.is_empty() {
+            return Poll::Ready(Ok(false));
+        }
+        let (count, is_found) = through(byte, piece);
+        if bytes.extend_from_slice(&piece[..count]).is_err() {
+            return Poll::Ready(Err(PipeError::Memory));
+        }
+        reader.consume(count);
+        if is_found {
+            return Poll::Ready(Ok(true));
+        }
+    }
+    cx.yield_now()
+}
+
+// How many bytes there are through the first that is `byte` and that there is one, or all of them.
+fn through(byte: u8, bytes: &[u8]) -> (usize, bool)
+    ensures within { result.0 ≤ length bytes.now }
+    ensures through { MatchBool result.1 (IsThrough byte (take result.0 bytes.now))
+        (Lacks byte (take result.0 bytes.now)) }
+{
+    match memchr(byte, bytes) {
+        Some(before) => (before + 1, true),
+        None => (bytes.len(), false),
+    }
+}
