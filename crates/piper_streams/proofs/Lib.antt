@@ -1,2 +1,3 @@
+pub mod FramesRun
 pub mod LinesRun
 pub mod PiecesSent

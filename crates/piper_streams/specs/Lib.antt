@@ -1,3 +1,5 @@
+pub mod FrameRuns
+pub mod FrameStream
 pub mod LineRuns
 pub mod LineStream
 pub mod Sent

@@ -1,8 +1,10 @@
-//! The lines of a reader as a stream of `futures`, and a sink that writes what it is sent.
+//! The lines or the frames of a reader as a stream of `futures`, and a sink that writes what it is sent.
 #![tactic(auto)]
 
+mod frame_stream;
 mod line_stream;
 mod write_sink;
 
+pub use frame_stream::FrameStream;
 pub use line_stream::LineStream;
 pub use write_sink::WriteSink;

@@ -1,0 +1,90 @@
+//! The frames of a reader, one after another.
+ghost use Rattle.std.specs.Prelude.{◌≡◌, [], true, false};
+ghost use Rattle.futures.specs.Runs.{EndsIf};
+ghost use Rattle.piper_lines.specs.FrameReader.{reader_of, kept_of, skips_of};
+ghost use Rattle.piper_streams.specs.FrameRuns.{FrameRuns};
+
+use futures::Stream;
+use futures::task::{Context, Poll};
+use piper::PipeError;
+use piper::io::AsyncBufRead;
+use piper_lines::{FrameAnswer, Frames};
+use std::alloc::Global;
+use std::io::ErrorKind;
+
+/// The bodies of a reader's frames, as a stream.
+///
+/// A frame of more bytes than the limit is told by an error of the kind `InvalidData`, and an end inside a frame by one of the kind `UnexpectedEof`; behind either the stream ends, and `into_frames` gives what is kept. Behind another error it goes on where it was. In clauses, `frames_of` are the frames below, `frame_limit_of` the limit, and `is_over` whether the stream has ended.
+#[derive(Drop)]
+pub struct FrameStream<R> {
+    frames: Frames<R>,
+    limit: usize,
+    alloc: Global,
+    is_ended: bool,
+    ghost whole: { skips_of frames ≡ 0 },
+}
+
+impl<R: AsyncBufRead + Drop> FrameStream<R> {
+    ghost use Rattle.piper_streams.specs.FrameStream.{frames_of, frame_limit_of, is_over};
+
+    /// The frames of at most `limit` bytes. Memory is asked for where a frame comes.
+    pub fn new(alloc: Global, reader: R, limit: usize) -> FrameStream<R>
+        ensures reader { reader_of (frames_of result) ≡ reader }
+        ensures kept { kept_of (frames_of result) ≡ [] }
+        ensures limit { frame_limit_of result ≡ limit }
+        ensures open { is_over result ≡ false }
+    {
+        FrameStream {
+            frames: Frames::new(alloc, reader),
+            limit,
+            alloc,
+            is_ended: false,
+        }
+    }
+
+    /// Gives the frames below back, with what is kept: to skip a frame that is too long, or to take it with another limit.
+    pub fn into_frames(self) -> Frames<R>
+        ensures { result ≡ frames_of self }
+    {
+        let FrameStream {
+            frames,
+            limit: _,
+            alloc: _,
+            is_ended: _,
+        } = self;
+        frames
+    }
+}
+
+impl<R: AsyncBufRead + Drop> Stream for FrameStream<R> {
+    type Item = Result<Vec<u8>, PipeError>;
+
+    ghost needs = { λ stream s. R.needs (reader_of stream.frames) s };
+
+    ghost yields = { λ stream. EndsIf stream.is_ended (FrameRuns R.taken R.known R.saw
+        stream.limit (reader_of stream.frames) (kept_of stream.frames)) };
+
+    fn poll_next(&mut self, cx: &mut Context<'_>) -> Poll<Option<Self::Item>> {
+        if self.is_ended {
+            return Poll::Ready(None);
+        }
+        let mut frame = Vec::new(self.alloc);
+        match self.frames.poll_frame(cx, &mut frame, self.limit) {
+            Poll::Pending => Poll::Pending,
+            Poll::Ready(Err(error)) => Poll::Ready(Some(Err(error))),
+            Poll::Ready(Ok(FrameAnswer::Frame)) => Poll::Ready(Some(Ok(frame))),
+            Poll::Ready(Ok(FrameAnswer::End)) => {
+                self.is_ended = true;
+                Poll::Ready(None)
+            }
+            Poll::Ready(Ok(FrameAnswer::TooLong(_))) => {
+                self.is_ended = true;
+                Poll::Ready(Some(Err(PipeError::Io(ErrorKind::InvalidData.into()))))
+            }
+            Poll::Ready(Ok(FrameAnswer::Truncated)) => {
+                self.is_ended = true;
+                Poll::Ready(Some(Err(PipeError::Io(ErrorKind::UnexpectedEof.into()))))
+            }
+        }
+    }
+}
