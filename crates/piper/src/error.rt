@@ -2,6 +2,7 @@
 ghost use Rattle.std.specs.Prelude.{◌≡◌};
 
 use piper_ring::OutOfMemory;
+use std::alloc::AllocError;
 use std::io;
 use thiserror::Error;
 
@@ -31,6 +32,17 @@ impl From<OutOfMemory> for PipeError {
     ghost from_gives = { λ _ error. error ≡ Memory };
 
     fn from(_error: OutOfMemory) -> PipeError {
+        PipeError::Memory
+    }
+}
+
+/// So that `?`, and a stream that is gathered, take a refused `Vec` to a `PipeError`.
+impl From<AllocError> for PipeError {
+    ghost use Rattle.piper.specs.declared.error.PipeError.TheVariants.{Memory};
+
+    ghost from_gives = { λ _ error. error ≡ Memory };
+
+    fn from(_error: AllocError) -> PipeError {
         PipeError::Memory
     }
 }
