@@ -6,6 +6,7 @@ use crate::failed::Failed;
 use futures::Future;
 use futures::task::{Context, Poll};
 use piper::io::{AsyncBufRead, AsyncWrite, Copied, poll_copy};
+use std::fmt::{self, Debug, Formatter};
 
 /// The future of [`copy`].
 #[derive(Drop)]
@@ -47,6 +48,19 @@ impl<R: AsyncBufRead + Drop, W: AsyncWrite + Drop> Future for Copying<R, W> {
                 let left = self.state.take().unwrap();
                 Poll::Ready(Err(Failed { left, error }))
             }
+        }
+    }
+}
+
+impl<R: Debug, W: Debug> Debug for Copying<R, W> {
+    fn fmt<O: fmt::Write>(&self, f: &mut Formatter<O>) -> fmt::Result {
+        match &self.state {
+            Some((reader, writer)) => f
+                .debug_tuple("Copying")
+                .field(reader)
+                .field(writer)
+                .finish(),
+            None => f.write_str("Copying"),
         }
     }
 }

@@ -7,11 +7,13 @@ ghost use Rattle.piper_lines.specs.AtEnd.{AtEnd};
 ghost use Rattle.piper_futures.specs.Draining.{DrainedAll, DrainsOn, StartsDraining};
 ghost use Rattle.piper_futures.specs.Moving.{IsIo};
 
+use crate::debug::moving;
 use crate::failed::Failed;
 use futures::Future;
 use futures::task::{Context, Poll};
 use piper::PipeError;
 use piper::io::AsyncBufRead;
+use std::fmt::{self, Debug, Formatter};
 use std::io::{self, Write};
 
 /// How many pieces a poll moves at most, so that other tasks get their turn.
@@ -92,4 +94,10 @@ pub fn poll_drain_into<R: AsyncBufRead, D: Write>(
         }
     }
     cx.yield_now()
+}
+
+impl<R: Debug, D> Debug for Draining<R, D> {
+    fn fmt<O: fmt::Write>(&self, f: &mut Formatter<O>) -> fmt::Result {
+        moving(f, "Draining", &self.state)
+    }
 }

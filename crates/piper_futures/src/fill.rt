@@ -7,11 +7,13 @@ ghost use Rattle.piper.specs.Polls.{IfReadyErr};
 ghost use Rattle.piper_futures.specs.Filling.{FilledAll, FillsOn, StartsFilling};
 ghost use Rattle.piper_futures.specs.Moving.{IsIo};
 
+use crate::debug::moving;
 use crate::failed::Failed;
 use futures::Future;
 use futures::task::{Context, Poll};
 use piper::io::{AsyncWrite, Copied};
 use piper::{OwnedWriter, PipeError, Writer};
+use std::fmt::{self, Debug, Formatter};
 use std::io::Read;
 use std::sync::Wait;
 
@@ -129,5 +131,11 @@ impl<W: AsyncFill + Drop, S: Read + Drop> Future for Filling<W, S> {
                 Poll::Ready(Err(Failed { left, error }))
             }
         }
+    }
+}
+
+impl<W: Debug, S> Debug for Filling<W, S> {
+    fn fmt<O: fmt::Write>(&self, f: &mut Formatter<O>) -> fmt::Result {
+        moving(f, "Filling", &self.state)
     }
 }

@@ -4,6 +4,7 @@
 #![tactic(auto)]
 
 mod copy_across;
+mod debug;
 mod drain;
 mod failed;
 mod fill;

@@ -8,11 +8,13 @@ ghost use Rattle.piper_lines.specs.Moves.{Grows};
 ghost use Rattle.piper_lines.specs.Refusals.{IsTold};
 ghost use Rattle.piper_futures.specs.Reading.{ReadAll, StartsReadingAll};
 
+use crate::debug::gathering;
 use crate::failed::Failed;
 use futures::Future;
 use futures::task::{Context, Poll};
 use piper::PipeError;
 use piper::io::AsyncBufRead;
+use std::fmt::{self, Debug, Formatter};
 
 /// How many pieces a poll takes at most, so that other tasks get their turn.
 const MOST_PIECES: u32 = 64;
@@ -93,4 +95,10 @@ pub fn poll_read_to_end<R: AsyncBufRead>(
         reader.consume(count);
     }
     cx.yield_now()
+}
+
+impl<R: Debug> Debug for ReadToEnd<R> {
+    fn fmt<O: fmt::Write>(&self, f: &mut Formatter<O>) -> fmt::Result {
+        gathering(f, "ReadToEnd", &self.state)
+    }
 }

@@ -2,10 +2,12 @@
 ghost use Rattle.std.specs.Prelude.{IsSome, IsSomeAnd};
 ghost use Rattle.piper_futures.specs.Reading.{ReadSome, StartsReading};
 
+use crate::debug::gathering;
 use crate::failed::Failed;
 use futures::Future;
 use futures::task::{Context, Poll};
 use piper::io::AsyncRead;
+use std::fmt::{self, Debug, Formatter};
 
 /// The future of [`read`].
 #[derive(Drop)]
@@ -49,5 +51,11 @@ impl<R: AsyncRead + Drop> Future for ReadOnce<R> {
                 Poll::Ready(Err(Failed { left, error }))
             }
         }
+    }
+}
+
+impl<R: Debug> Debug for ReadOnce<R> {
+    fn fmt<O: fmt::Write>(&self, f: &mut Formatter<O>) -> fmt::Result {
+        gathering(f, "ReadOnce", &self.state)
     }
 }

@@ -6,12 +6,14 @@ ghost use Rattle.piper.specs.Polls.{IfReadyErr};
 ghost use Rattle.piper_lines.specs.Refusals.{IsTold};
 ghost use Rattle.piper_futures.specs.Until.{IsThrough, Lacks, ReadThrough, Reaches, StartsReadingThrough};
 
+use crate::debug::gathering;
 use crate::failed::Failed;
 use futures::Future;
 use futures::task::{Context, Poll};
 use memchr::memchr;
 use piper::PipeError;
 use piper::io::AsyncBufRead;
+use std::fmt::{self, Debug, Formatter};
 
 /// How many pieces a poll takes at most, so that other tasks get their turn.
 const MOST_PIECES: u32 = 64;
@@ -107,5 +109,11 @@ fn through(byte: u8, bytes: &[u8]) -> (usize, bool)
     match memchr(byte, bytes) {
         Some(before) => (before + 1, true),
         None => (bytes.len(), false),
+    }
+}
+
+impl<R: Debug> Debug for ReadUntil<R> {
+    fn fmt<O: fmt::Write>(&self, f: &mut Formatter<O>) -> fmt::Result {
+        gathering(f, "ReadUntil", &self.state)
     }
 }

@@ -2,11 +2,13 @@
 ghost use Rattle.std.specs.Prelude.{◌≤◌, length, IsSomeAnd};
 ghost use Rattle.piper_futures.specs.Reading.{ReadUpTo, StartsReadingUpTo};
 
+use crate::debug::gathering;
 use crate::failed::Failed;
 use futures::Future;
 use futures::task::{Context, Poll};
 use piper::io::AsyncBufRead;
 use piper_lines::fill_up;
+use std::fmt::{self, Debug, Formatter};
 
 /// The future of [`read_exact`].
 #[derive(Drop)]
@@ -51,5 +53,11 @@ impl<R: AsyncBufRead + Drop> Future for ReadExact<R> {
                 Poll::Ready(Err(Failed { left, error }))
             }
         }
+    }
+}
+
+impl<R: Debug> Debug for ReadExact<R> {
+    fn fmt<O: fmt::Write>(&self, f: &mut Formatter<O>) -> fmt::Result {
+        gathering(f, "ReadExact", &self.state)
     }
 }

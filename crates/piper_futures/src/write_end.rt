@@ -8,13 +8,13 @@ use futures::task::{Context, Poll};
 use piper::io::AsyncWrite;
 
 /// The future of [`flush`].
-#[derive(Drop)]
+#[derive(Debug, Drop)]
 pub struct Flushing<W> {
     writer: Option<W>,
 }
 
 /// The future of [`close`].
-#[derive(Drop)]
+#[derive(Debug, Drop)]
 pub struct Closing<W> {
     writer: Option<W>,
 }

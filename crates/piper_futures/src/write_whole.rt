@@ -7,6 +7,7 @@ use futures::Future;
 use futures::task::{Context, Poll};
 use piper::io::AsyncWrite;
 use piper_lines::poll_write_all;
+use std::fmt::{self, Debug, Formatter};
 
 /// The future of [`write_all`].
 #[derive(Drop)]
@@ -55,6 +56,19 @@ impl<W: AsyncWrite + Drop> Future for WriteAll<'_, W> {
                 let left = (writer, self.written);
                 Poll::Ready(Err(Failed { left, error }))
             }
+        }
+    }
+}
+
+impl<E: Debug> Debug for WriteAll<'_, E> {
+    fn fmt<O: fmt::Write>(&self, f: &mut Formatter<O>) -> fmt::Result {
+        match &self.writer {
+            Some(writer) => f
+                .debug_tuple("WriteAll")
+                .field(writer)
+                .field(&self.written)
+                .finish(),
+            None => f.write_str("WriteAll"),
         }
     }
 }

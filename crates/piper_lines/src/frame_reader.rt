@@ -12,6 +12,7 @@ use futures::task::{Context, Poll};
 use piper::PipeError;
 use piper::io::AsyncBufRead;
 use std::alloc::Global;
+use std::fmt::{self, Debug, Formatter};
 use std::mem;
 
 /// How many bytes tell the length of a frame.
@@ -175,4 +176,15 @@ fn number(header: &[u8]) -> usize
     ensures spelled { length_bytes result ≡ header.now }
 {
     u32::from_be_bytes([header[0], header[1], header[2], header[3]]) as usize
+}
+
+impl<R: Debug> Debug for Frames<R> {
+    fn fmt<O: fmt::Write>(&self, f: &mut Formatter<O>) -> fmt::Result {
+        f.debug_struct("Frames")
+            .field("reader", &self.reader)
+            .field("header", &self.header.len())
+            .field("body", &self.body.len())
+            .field("to_skip", &self.to_skip)
+            .finish()
+    }
 }

@@ -10,6 +10,7 @@ use crate::write_all::{Written, poll_write_both};
 use futures::task::{Context, Poll};
 use piper::PipeError;
 use piper::io::AsyncWrite;
+use std::fmt::{self, Debug, Formatter};
 
 /// What is left of a frame that is being written: the length of a body in four bytes, the most significant first, and the body.
 ///
@@ -65,5 +66,14 @@ impl<'a> WriteFrame<'a> {
             self.body,
             &mut self.body_written,
         )
+    }
+}
+
+impl Debug for WriteFrame<'_> {
+    fn fmt<O: fmt::Write>(&self, f: &mut Formatter<O>) -> fmt::Result {
+        f.debug_struct("WriteFrame")
+            .field("written", &self.body_written)
+            .field("of", &self.body.len())
+            .finish()
     }
 }

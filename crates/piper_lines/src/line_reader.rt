@@ -14,6 +14,7 @@ use memchr::memchr;
 use piper::PipeError;
 use piper::io::AsyncBufRead;
 use std::alloc::Global;
+use std::fmt::{self, Debug, Formatter};
 use std::mem;
 
 /// What a poll for a line answers.
@@ -175,5 +176,14 @@ fn through_lf(bytes: &[u8]) -> (usize, bool)
     match memchr(b'\n', bytes) {
         Some(before) => (before + 1, true),
         None => (bytes.len(), false),
+    }
+}
+
+impl<R: Debug> Debug for Lines<R> {
+    fn fmt<O: fmt::Write>(&self, f: &mut Formatter<O>) -> fmt::Result {
+        f.debug_struct("Lines")
+            .field("reader", &self.reader)
+            .field("kept", &self.kept.len())
+            .finish()
     }
 }

@@ -11,6 +11,7 @@ use futures::task::{Context, Poll};
 use memchr::memchr;
 use piper::PipeError;
 use piper::io::AsyncWrite;
+use std::fmt::{self, Debug, Formatter};
 
 /// What is left of a line that is being written: a text, and the LF behind it.
 ///
@@ -71,5 +72,14 @@ impl<'a> WriteLine<'a> {
             b"\n",
             &mut self.end_written,
         )
+    }
+}
+
+impl Debug for WriteLine<'_> {
+    fn fmt<O: fmt::Write>(&self, f: &mut Formatter<O>) -> fmt::Result {
+        f.debug_struct("WriteLine")
+            .field("written", &self.text_written)
+            .field("of", &self.text.len())
+            .finish()
     }
 }

@@ -10,6 +10,7 @@ use piper::PipeError;
 use piper::io::AsyncBufRead;
 use piper_lines::{FrameAnswer, Frames};
 use std::alloc::Global;
+use std::fmt::{self, Debug, Formatter};
 use std::io::ErrorKind;
 
 /// The bodies of a reader's frames, as a stream.
@@ -86,5 +87,15 @@ impl<R: AsyncBufRead + Drop> Stream for FrameStream<R> {
                 Poll::Ready(Some(Err(PipeError::Io(ErrorKind::UnexpectedEof.into()))))
             }
         }
+    }
+}
+
+impl<R: Debug> Debug for FrameStream<R> {
+    fn fmt<O: fmt::Write>(&self, f: &mut Formatter<O>) -> fmt::Result {
+        f.debug_struct("FrameStream")
+            .field("frames", &self.frames)
+            .field("limit", &self.limit)
+            .field("ended", &self.is_ended)
+            .finish()
     }
 }

@@ -10,6 +10,7 @@ use piper::PipeError;
 use piper::io::AsyncBufRead;
 use piper_lines::{LineAnswer, Lines};
 use std::alloc::Global;
+use std::fmt::{self, Debug, Formatter};
 
 /// The lines of a reader, each with its LF, as a stream; the last is what stands behind the last LF.
 ///
@@ -84,5 +85,15 @@ impl<R: AsyncBufRead + Drop> Stream for LineStream<R> {
             Poll::Ready(Ok(LineAnswer::Line)) => Poll::Ready(Some(Ok(line))),
             Poll::Ready(Ok(LineAnswer::TooLong)) => Poll::Ready(Some(Ok(line))),
         }
+    }
+}
+
+impl<R: Debug> Debug for LineStream<R> {
+    fn fmt<O: fmt::Write>(&self, f: &mut Formatter<O>) -> fmt::Result {
+        f.debug_struct("LineStream")
+            .field("lines", &self.lines)
+            .field("limit", &self.limit)
+            .field("ended", &self.is_ended)
+            .finish()
     }
 }

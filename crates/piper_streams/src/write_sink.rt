@@ -10,6 +10,7 @@ use piper::PipeError;
 use piper::io::AsyncWrite;
 use piper_lines::{Written, poll_write_all};
 use std::alloc::Global;
+use std::fmt::{self, Debug, Formatter};
 use std::io;
 
 /// Writes each piece of bytes that it is sent as it is, whole and in order: lines with their LF, or frames.
@@ -117,5 +118,15 @@ impl<W: AsyncWrite + Drop> Sink<Vec<u8>> for WriteSink<W> {
             Poll::Ready(Ok(())) => self.writer.poll_close(cx),
             unfinished => unfinished,
         }
+    }
+}
+
+impl<E: Debug> Debug for WriteSink<E> {
+    fn fmt<O: fmt::Write>(&self, f: &mut Formatter<O>) -> fmt::Result {
+        f.debug_struct("WriteSink")
+            .field("writer", &self.writer)
+            .field("written", &self.written)
+            .field("of", &self.piece.len())
+            .finish()
     }
 }
