@@ -92,3 +92,20 @@ fn a_fill_ends_with_its_source_or_with_the_pipe(rt: HostRuntime) -> Result<(), F
     assert_eq!(rt; (why, rest.len()), (Copied::UntilClosed, 15));
     Ok(())
 }
+
+#[test]
+fn what_is_printed_tells_of_ends_and_counts_and_no_byte(rt: HostRuntime) -> Result<(), Fail> {
+    let alloc = rt.alloc();
+    let (reader, mut writer) = owned_pipe(&rt, 8)?;
+    writer.try_fill(b"ab");
+    let mut bytes = Vec::new(alloc);
+    bytes.extend_from_slice(b"xyz")?;
+    let printed = format!(in alloc; "{:?}", read_to_end(reader, bytes))?;
+    let wanted = "ReadToEnd(OwnedReader(Reader { capacity: 8, known: 0, closed: false }), 3)";
+    assert_eq!(rt; printed.as_str(), wanted);
+    let printed = format!(in alloc; "{:?}", WriteSink::new(alloc, writer))?;
+    let wanted =
+        "WriteSink { writer: OwnedWriter(Writer { capacity: 8, room: 6, closed: true }), written: 0, of: 0 }";
+    assert_eq!(rt; printed.as_str(), wanted);
+    Ok(())
+}
