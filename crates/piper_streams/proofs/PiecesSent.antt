@@ -6,6 +6,8 @@ use Rattle.futures.specs.declared.task.Poll.{Poll}
 use Rattle.futures.specs.declared.task.Poll.TheVariants.{Ready, Pending}
 use Rattle.piper_lines.specs.Sends.{Sends}
 use Rattle.piper_lines.specs.Split.{joined}
+use Rattle.std.specs.List.{flat_map}
+use Rattle.piper_streams.specs.SentLines.{line_of}
 use Rattle.piper_lines.proofs.Collecting.{flat_map-push}
 use Rattle.piper_lines.proofs.Sending.{sends_then, sends_same, sends_front}
 
@@ -27,6 +29,15 @@ sent_piece pieces piece left s saw sends none =
     let whole : Sends (joined pieces) [] [] s false saw = subst (λ ws. Sends (joined pieces) ws [] s false saw) none sends in
     subst (λ ws. Sends ws piece.items [] s false saw) (sym (flat_map-push (λ (v : Vec ℕ Global). v.items) pieces piece))
     (sends_front (joined pieces) [] piece.items [] s false saw whole)
+
+-- a line more, of which all is left
+pub sent_line : (texts : List (Vec ℕ Global)) (text line : Vec ℕ Global) (left s : List ℕ) (saw : Bool) → Sends (flat_map line_of texts) left [] s false saw → left ≡ []
+    → line.items ≡ line_of text → Sends (flat_map line_of (texts ++ text ∷ [])) line.items [] s false saw
+sent_line texts text line left s saw sends none is =
+    let whole : Sends (flat_map line_of texts) [] [] s false saw = subst (λ ws. Sends (flat_map line_of texts) ws [] s false saw) none sends in
+    let more : Sends (flat_map line_of texts ++ line_of text) (line_of text) [] s false saw = sends_front (flat_map line_of texts) [] (line_of text) [] s false saw whole in
+    subst (λ ws. Sends (flat_map line_of (texts ++ text ∷ [])) ws [] s false saw) (sym is)
+    (subst (λ ws. Sends ws (line_of text) [] s false saw) (sym (flat_map-push line_of texts text)) more)
 
 -- what holds in any case holds unless the poll failed
 pub unless_failed : {T E : Type 0} (r : Poll (Result T E)) (P : Type 0) → P → UnlessFailed r P

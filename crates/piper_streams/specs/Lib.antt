@@ -3,3 +3,4 @@ pub mod FrameStream
 pub mod LineRuns
 pub mod LineStream
 pub mod Sent
+pub mod SentLines

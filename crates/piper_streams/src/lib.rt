@@ -1,4 +1,4 @@
-//! The lines or the frames of a reader as a stream of `futures`, and a sink that writes what it is sent.
+//! The lines or the frames of a reader as a stream of `futures`, and sinks that write what they are sent.
 #![tactic(auto)]
 
 mod frame_stream;
@@ -7,4 +7,4 @@ mod write_sink;
 
 pub use frame_stream::FrameStream;
 pub use line_stream::LineStream;
-pub use write_sink::WriteSink;
+pub use write_sink::{LineSink, WriteSink};

@@ -4,8 +4,11 @@ ghost use Rattle.futures.specs.Task.{Covers, Keeps};
 ghost use Rattle.futures.specs.Poll.{OnPending};
 ghost use Rattle.piper_lines.specs.Sends.{Sends};
 
+mod line_sink;
+
 use futures::Sink;
 use futures::task::{Context, Poll};
+pub use line_sink::LineSink;
 use piper::PipeError;
 use piper::io::AsyncWrite;
 use piper_lines::{Written, poll_write_all};

@@ -1,0 +1,85 @@
+//! Lines that are sent text by text.
+ghost use Rattle.std.specs.Prelude.{◌≡◌, [], true};
+ghost use Rattle.piper_streams.specs.Sent.{left_of, writer_of};
+
+use super::WriteSink;
+use futures::Sink;
+use futures::task::{Context, Poll};
+use piper::PipeError;
+use piper::io::AsyncWrite;
+use std::alloc::Global;
+
+/// Writes each text that it is sent as a line, whole and in order, with an LF behind it.
+///
+/// The LF is put to the end of the text itself. Where memory for it is refused, the sink is as it was, and the text goes. What is said of [`WriteSink`] holds of it, too. In clauses, `lines_below` is the sink below.
+#[derive(Drop)]
+pub struct LineSink<W> {
+    sink: WriteSink<W>,
+}
+
+impl<W: AsyncWrite + Drop> LineSink<W> {
+    ghost use Rattle.piper_streams.specs.SentLines.{lines_below};
+
+    /// Nothing is sent yet.
+    pub fn new(alloc: Global, writer: W) -> LineSink<W>
+        ensures writer { writer_of (lines_below result) ≡ writer }
+        ensures left { left_of (lines_below result) ≡ [] }
+    {
+        LineSink {
+            sink: WriteSink::new(alloc, writer),
+        }
+    }
+
+    /// Gives the writer back, and what is left of the last line goes.
+    pub fn into_writer(self) -> W
+        ensures { result ≡ writer_of (lines_below self) }
+    {
+        let LineSink { sink } = self;
+        sink.into_writer()
+    }
+}
+
+impl<W: AsyncWrite + Drop> Sink<Vec<u8>> for LineSink<W> {
+    ghost use Rattle.piper_streams.specs.SentLines.{LinesSent};
+
+    type Error = PipeError;
+
+    ghost can_send = { λ lines. left_of lines.sink ≡ [] };
+
+    ghost took = { LinesSent W.sent W.saw };
+
+    ghost is_flushed = { λ lines. left_of lines.sink ≡ [] };
+
+    ghost is_closed = { λ lines.
+        (left_of lines.sink ≡ []) × (W.saw (writer_of lines.sink) ≡ true) };
+
+    ghost needs = { λ lines. W.needs (writer_of lines.sink) };
+
+    fn poll_ready(&mut self, cx: &mut Context<'_>) -> Poll<Result<(), PipeError>> {
+        self.sink.poll_write(cx)
+    }
+
+    fn start_send(&mut self, item: Vec<u8>) -> Result<(), PipeError> {
+        let mut line = item;
+        if line.push(b'\n').is_err() {
+            return Err(PipeError::Memory);
+        }
+        self.sink.written = 0;
+        self.sink.piece = line;
+        Ok(())
+    }
+
+    fn poll_flush(&mut self, cx: &mut Context<'_>) -> Poll<Result<(), PipeError>> {
+        match self.sink.poll_write(cx) {
+            Poll::Ready(Ok(())) => self.sink.writer.poll_flush(cx),
+            unfinished => unfinished,
+        }
+    }
+
+    fn poll_close(&mut self, cx: &mut Context<'_>) -> Poll<Result<(), PipeError>> {
+        match self.sink.poll_write(cx) {
+            Poll::Ready(Ok(())) => self.sink.writer.poll_close(cx),
+            unfinished => unfinished,
+        }
+    }
+}
