@@ -3,4 +3,5 @@ pub mod FrameStream
 pub mod LineRuns
 pub mod LineStream
 pub mod Sent
+pub mod SentFrames
 pub mod SentLines

@@ -7,4 +7,4 @@ mod write_sink;
 
 pub use frame_stream::FrameStream;
 pub use line_stream::LineStream;
-pub use write_sink::{LineSink, WriteSink};
+pub use write_sink::{FrameSink, LineSink, WriteSink};

@@ -4,8 +4,10 @@ ghost use Rattle.futures.specs.Task.{Covers, Keeps};
 ghost use Rattle.futures.specs.Poll.{OnPending};
 ghost use Rattle.piper_lines.specs.Sends.{Sends};
 
+mod frame_sink;
 mod line_sink;
 
+pub use frame_sink::FrameSink;
 use futures::Sink;
 use futures::task::{Context, Poll};
 pub use line_sink::LineSink;

@@ -1,0 +1,13 @@
+use Rattle.piper_lines.specs.Split.{joined_frames}
+use Rattle.piper_streams.proofs.PiecesSent.{sent_then, sent_same, unless_failed}
+use Rattle.piper_streams.proofs.write_sink.frame_sink.FrameSinkSinkVecU8.poll_close.Goals as goal
+
+pub returns-in-Ready-Ok-clause-history : goal.returns-in-Ready-Ok-clause-history
+returns-in-Ready-Ok-clause-history g c =
+    unless_failed c.poll_close.result _ (λ bodies sent.
+    sent_same (joined_frames bodies) _ _ _ _ _ (sent_then (joined_frames bodies) _ _ _ _ _ _ sent c.poll_write.ensures.sends c.poll_write.ensures.stays) c.poll_close.ensures.stays c.poll_close.ensures.sent)
+
+pub returns-in_default-2-clause-history : goal.returns-in_default-2-clause-history
+returns-in_default-2-clause-history g c =
+    unless_failed c.poll_write.result _ (λ bodies sent.
+    sent_then (joined_frames bodies) _ _ _ _ _ _ sent c.poll_write.ensures.sends c.poll_write.ensures.stays)

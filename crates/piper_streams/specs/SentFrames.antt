@@ -1,0 +1,20 @@
+-- What a sink of frames was sent.
+use Rattle.std.specs.Prelude.{ℕ, Bool, false, List, [], Vec}
+use Rattle.std.specs.declared.alloc.Global.{Global}
+use Rattle.piper_lines.specs.Sends.{Sends}
+use Rattle.piper_lines.specs.Split.{joined_frames}
+use Rattle.piper_streams.specs.Sent.{left_of, writer_of}
+use Rattle.piper_streams.specs.declared.write_sink.WriteSink.{WriteSink}
+use Rattle.piper_streams.specs.declared.write_sink.frame_sink.FrameSink.{FrameSink}
+
+-- the sink below
+abbrev pub frames_below : {W : Type 0} → FrameSink W → WriteSink W
+frames_below frames = frames.sink
+
+-- the frames of these bodies are all that the writer was ever sent, with what is left of the last
+-- one; bytes are lost only of a pipe that was seen closed
+abbrev pub FramesSent : {W : Type 0} → (W → List ℕ) → (W → Bool) → FrameSink W
+    → List (Vec ℕ Global) → Type 0
+FramesSent sent saw frames bodies =
+    Sends (joined_frames bodies) (left_of (frames_below frames)) []
+    (sent (writer_of (frames_below frames))) false (saw (writer_of (frames_below frames)))
