@@ -9,3 +9,4 @@ mod LookingIn
 mod RoundsIn
 mod RoundsOut
 mod Wrote
+mod StaysNotified

@@ -6,13 +6,13 @@ ghost use Rattle.piper_ring.specs.WriteView.{Lendable, SameButHeard, either};
 ghost use Rattle.piper_ring.specs.Opened.{FreshReadEnd, FreshWriteEnd};
 ghost use Rattle.piper.specs.Ends.{ReaderRefreshed, ReaderHeeded, WriterRefreshed, WriterHeeded};
 ghost use Rattle.piper.specs.Generator.{generator};
-ghost use Rattle.piper.specs.Handles.{ArePair};
+ghost use Rattle.piper.specs.Handles.{ArePair, NotifiesReader, NotifiesWriter};
 
 mod draws;
 pub(crate) mod read_steps;
 pub(crate) mod write_steps;
 
-use crate::slot::Slot;
+use crate::slot::{Notified, Slot};
 use piper_ring::{LastReadMark, OutOfMemory, ReadEnd, ReadMark, WriteEnd, WriteMark, open_ring};
 use rand_core::SeedableRng;
 use rand_pcg::Pcg32;
@@ -36,6 +36,8 @@ pub struct Reader<H: Wait + Clone + Drop> {
     rng: Pcg32,
     /// Whether the reader's slot may hold a waker: one was left there since the reader last emptied it.
     is_registered: bool,
+    /// Behind what the writer's slot was last emptied.
+    notified: Notified<ReadMark>,
 }
 
 /// The writing side of a pipe.
@@ -48,6 +50,8 @@ pub struct Writer<H: Wait + Clone + Drop> {
     rng: Pcg32,
     /// Whether the writer's slot may hold a waker: one was left there since the writer last emptied it.
     is_registered: bool,
+    /// Behind what the reader's slot was last emptied.
+    notified: Notified<WriteMark>,
 }
 
 /// Creates a bounded single-producer single-consumer pipe: a ring of `cap` bytes that can be read and written by two threads.
@@ -63,6 +67,7 @@ pub fn pipe<H: Wait + Clone + Drop>(
     ensures pair { IfOk result (λ (reader, writer). ArePair reader writer) }
     ensures reader { IfOk result (λ (reader, _). FreshReadEnd cap reader.end) }
     ensures writer { IfOk result (λ (_, writer). FreshWriteEnd cap writer.end) }
+    ensures woke { IfOk result (λ (reader, writer). NotifiesWriter reader × NotifiesReader writer) }
     ensures reader_rng { IfOk result (λ (reader, _). reader.rng ≡ generator seed) }
     ensures writer_rng { IfOk result (λ (_, writer). writer.rng ≡ generator (bit_xor seed 1)) }
 {
@@ -75,12 +80,16 @@ pub fn pipe<H: Wait + Clone + Drop>(
     let slots = Arc::new(alloc, slots).map_err(|_| OutOfMemory)?;
     let reader_slots = Arc::try_clone(&slots).map_err(|_| OutOfMemory)?;
     let (read_end, write_end) = open_ring(alloc, cap)?;
+    let (read_mark, write_mark) = (read_end.mark(), write_end.mark());
+    let writer_told = slots.writer.take(rt, read_mark).wake();
+    let reader_told = slots.reader.take(rt, write_mark).wake();
     let reader = Reader {
         end: read_end,
         slots: reader_slots,
         rt: reader_rt,
         rng: Pcg32::seed_from_u64(seed),
         is_registered: false,
+        notified: writer_told,
     };
     let writer = Writer {
         end: write_end,
@@ -88,6 +97,7 @@ pub fn pipe<H: Wait + Clone + Drop>(
         rt: writer_rt,
         rng: Pcg32::seed_from_u64(seed ^ 1),
         is_registered: false,
+        notified: reader_told,
     };
     Ok((reader, writer))
 }

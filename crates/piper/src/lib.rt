@@ -19,4 +19,4 @@ pub use owned::{DEFAULT_SEED, OwnedReader, OwnedWriter, owned_pipe};
 pub use piper_ring::{
     LastReadMark, OutOfMemory, ReadEnd, ReadMark, WriteEnd, WriteMark, open_ring,
 };
-pub use slot::{NoWaker, Slot, Taken};
+pub use slot::{Notified, Slot, Taken};

@@ -234,7 +234,7 @@ impl<H: Wait + Clone + Drop> AsyncBufRead for OwnedReader<H> {
 }
 
 impl<H: Wait + Clone + Drop> AsyncWrite for OwnedWriter<H> {
-    ghost use Rattle.piper.specs.Handles.{SameWriter, write_source};
+    ghost use Rattle.piper.specs.Handles.{NotifiesReader, SameWriterButWoke, write_source};
 
     ghost sent = { λ owned. owned.writer.end.sent };
 
@@ -263,7 +263,8 @@ impl<H: Wait + Clone + Drop> AsyncWrite for OwnedWriter<H> {
     fn poll_close(&mut self, cx: &mut Context<'_>) -> Poll<Result<(), PipeError>>
         ensures answer { result ≡ Poll.Ready (Ok (record {})) }
         ensures shut { WriterShut self.old.writer.end self.new.writer.end }
-        ensures handle { SameWriter self.old.writer self.new.writer }
+        ensures woke { NotifiesReader self.new.writer }
+        ensures handle { SameWriterButWoke self.old.writer self.new.writer }
         ensures kept { Keeps cx.old cx.new }
     {
         AsyncWrite::poll_close(&mut self.writer, cx)

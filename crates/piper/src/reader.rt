@@ -12,6 +12,7 @@ ghost use Rattle.piper.specs.Polls.{Behind};
 use crate::answers::{polled, read_wake};
 use crate::handles::Reader;
 use crate::handles::read_steps::take_writer;
+use crate::slot::Notified;
 use futures::task::{Context, Poll};
 use piper_ring::{LastReadMark, OutOfMemory, ReadMark};
 use piper_sides::calls::Side;
@@ -20,7 +21,7 @@ use piper_sides::table::{Action, Purpose, ReadPoint};
 use std::sync::Wait;
 
 impl<H: Wait + Clone + Drop> Reader<H> {
-    ghost use Rattle.piper.specs.Handles.{SameReader, read_source};
+    ghost use Rattle.piper.specs.Handles.{NotifiesWriter, SameReader, SameReaderButWoke, TellsWriter, read_source};
 
     /// How many bytes are unread now: at least those that the reader knows of or was told of. The writer may publish more at any time.
     pub fn len(&self) -> usize
@@ -131,8 +132,9 @@ impl<H: Wait + Clone + Drop> Reader<H> {
         ensures known { self.new.end.known ≡ drop amt self.old.end.known }
         ensures all { self.new.end.all ≡ self.old.end.all }
         ensures stays { IsEnded self.old.end → IsEnded self.new.end }
+        ensures woke { NotifiesWriter self.new }
         ensures end { ReaderConsumed self.old.end self.new.end }
-        ensures rest { SameReader self.old self.new }
+        ensures rest { SameReaderButWoke self.old self.new }
     {
         let call = self.store_head(ReadCall::consume(amt), amt);
         self.wake_writer(call).done();
@@ -140,16 +142,16 @@ impl<H: Wait + Clone + Drop> Reader<H> {
 
     /// Empties the writer's slot, and calls the waker that stood in it.
     #[inline(always)]
-    pub(crate) fn wake_writer(&self, call: ReadCall) -> ReadCall
+    pub(crate) fn wake_writer(&mut self, call: ReadCall) -> ReadCall
         requires next { read_action call.point ≡ Action.Take Side.Writer }
-        ensures { result ≡ read_step call.point (waker false) }
+        ensures step { result ≡ read_step call.point (waker false) }
+        ensures woke { NotifiesWriter self.new }
+        ensures end { self.new.end ≡ self.old.end }
+        ensures rest { SameReaderButWoke self.old self.new }
     {
         match self.find_no_writer(call) {
-            Ok((call, _none)) => call,
-            Err(call) => {
-                let (call, taken) = self.take_writer(call);
-                read_wake(call, taken)
-            }
+            Ok(call) => call,
+            Err(call) => self.take_and_wake_writer(call),
         }
     }
 
@@ -163,14 +165,16 @@ impl<H: Wait + Clone + Drop> Reader<H> {
 
     /// Closes the pipe and wakes the writer. The memory is freed if the writer is gone.
     ///
-    /// The answer is evidence, for the writer to heed, that the pipe is closed, and of all that was ever consumed. It is made by the store that closes, behind which the writer's waker is taken.
-    pub fn drop(self) -> LastReadMark
-        ensures ring { result.consumed.names ≡ self.end.ring.1.1 }
-        ensures count { result.consumed.count ≡ length self.end.taken }
+    /// The answer is evidence: what it tells, for the writer to heed, is that the pipe is closed, and all that was ever consumed; and behind the store that closed, the writer's waker was taken and called.
+    pub fn drop(self) -> Notified<LastReadMark>
+        ensures ring { result.told.consumed.names ≡ self.end.ring.1.1 }
+        ensures count { result.told.consumed.count ≡ length self.end.taken }
+        ensures woke { TellsWriter self result }
     {
         let (call, last, slots, rt) = self.store_closed(ReadCall::drop());
-        let (call, taken) = take_writer(&slots, &rt, call);
-        read_wake(call, taken).done();
-        last
+        let (call, taken) = take_writer(&slots, &rt, call, last);
+        let (call, notified) = read_wake(call, taken);
+        call.done();
+        notified
     }
 }

@@ -1,11 +1,12 @@
 //! A waker's slot that two threads share.
-ghost use Rattle.std.specs.Prelude.{◌≡◌, OnErr, IfSome, true};
+ghost use Rattle.std.specs.Borrow.{ftrue};
+ghost use Rattle.std.specs.Prelude.{◌≡◌, ℕ, IfOk, IfErr, OnErr, true};
 ghost use Rattle.futures.specs.Task.{Covers, Keeps};
 
 use futures::task::{Context, Poll, Source, Waker};
 use piper_sides::memory::OutOfMemory;
 use piper_sides::slot::SlotState;
-use std::snapshot::Snapshot;
+use std::marker::{Model, Send, Sync};
 use std::sync::atomic::AtomicBool;
 use std::sync::atomic::Ordering::SeqCst;
 use std::sync::{Mutex, Wait};
@@ -21,20 +22,49 @@ pub struct Slot {
     source: Source,
 }
 
-/// What stood in a slot when it was emptied. It is not let go by itself: `wake` or `let_go` has to take it.
-pub struct Taken {
-    waker: Option<Waker>,
-    slot: Snapshot<Slot>,
+/// Which slot it is, in clauses alone: `id` is that of the slot's source. It has no bytes, and owns nothing.
+#[derive(Drop)]
+pub struct SlotName {
+    seal: (),
+    pub ghost id: { ℕ },
 }
 
-/// That no waker stood in a slot when its flag was read.
+impl Model for SlotName {
+    ghost also_owns = { λ _. ftrue };
+}
+
+unsafe impl Send for SlotName {}
+
+unsafe impl Sync for SlotName {}
+
+impl SlotName {
+    fn of(source: &Source) -> SlotName
+        ensures { result.id ≡ source.now.id }
+    {
+        let _ = source;
+        SlotName { seal: () }
+    }
+}
+
+/// What stood in a slot when it was emptied, behind what `told` tells. It is not let go by itself: one of its calls has to take it.
+pub struct Taken<M> {
+    waker: Option<Waker>,
+    slot: SlotName,
+    told: M,
+}
+
+/// Evidence that a slot was emptied behind what `told` tells, and that the waker that stood there was called.
+///
+/// Only a slot makes it, and it takes no space. Who waits in the slot and was registered before is woken; who registers later, and then looks, finds what `told` tells.
 #[derive(Drop)]
-pub struct NoWaker {
-    slot: Snapshot<Slot>,
+pub struct Notified<M> {
+    slot: SlotName,
+    /// What was done before the slot was emptied.
+    pub told: M,
 }
 
 impl Slot {
-    ghost use Rattle.piper.specs.Slots.{source_of, IsFrom, IsNoneOf};
+    ghost use Rattle.piper.specs.Slots.{source_of, IsFrom, Tells};
 
     /// An empty slot.
     pub fn new() -> Slot {
@@ -60,27 +90,30 @@ impl Slot {
         Ok(())
     }
 
-    /// Reads whether a waker stands there. Where none does the slot is as a take leaves it, and no lock was taken; else it is still to be emptied.
+    /// Reads whether a waker stands there, behind what `told` tells. Where none does the slot is as a take leaves it, and no lock was taken; else it is still to be emptied, and `told` is given back.
     #[inline(always)]
-    pub fn find_none(&self) -> Option<NoWaker>
-        ensures { IfSome result (IsNoneOf self.now) }
+    pub fn find_none<M>(&self, told: M) -> Result<Notified<M>, M>
+        ensures none { IfOk result (Tells self.now told) }
+        ensures back { IfErr result (λ same. same ≡ told) }
     {
         if self.is_filled.load(SeqCst) {
-            return None;
+            return Err(told);
         }
-        Some(NoWaker {
-            slot: Snapshot::of(self),
+        Ok(Notified {
+            slot: SlotName::of(&self.source),
+            told,
         })
     }
 
-    /// Empties the slot. Where it is empty that is one load, and no lock is taken.
+    /// Empties the slot, behind what `told` tells. Where it is empty that is one load, and no lock is taken.
     #[inline(always)]
-    pub fn take(&self, rt: &impl Wait) -> Taken
-        ensures { IsFrom self.now result }
+    pub fn take<M>(&self, rt: &impl Wait, told: M) -> Taken<M>
+        ensures { IsFrom self.now told result }
     {
         Taken {
             waker: self.empty(rt),
-            slot: Snapshot::of(self),
+            slot: SlotName::of(&self.source),
+            told,
         }
     }
 
@@ -111,8 +144,8 @@ impl Slot {
     }
 }
 
-impl Taken {
-    ghost use Rattle.piper.specs.Slots.{found_in};
+impl<M> Taken<M> {
+    ghost use Rattle.piper.specs.Slots.{found_in, IsToldOf};
 
     /// Whether a waker stood in the slot.
     pub fn is_found(&self) -> bool
@@ -121,20 +154,26 @@ impl Taken {
         self.waker.is_some()
     }
 
-    /// Calls the waker.
-    pub fn wake(self)
-        requires { found_in self ≡ true }
+    /// Calls the waker, if there was one.
+    pub fn wake(self) -> Notified<M>
+        ensures { IsToldOf self result }
     {
-        let Taken { waker, slot: _ } = self;
-        match waker {
-            Some(waker) => waker.wake(),
-            None => unreachable!(),
+        let Taken { waker, slot, told } = self;
+        if let Some(waker) = waker {
+            waker.wake();
         }
+        Notified { slot, told }
     }
+}
 
+impl Taken<()> {
     /// Lets the waker go, if there was one. A waker that is let go wakes its task, too: it polls once too often, never once too seldom.
     pub fn let_go(self) {
-        let Taken { waker, slot: _ } = self;
+        let Taken {
+            waker,
+            slot: _,
+            told: _,
+        } = self;
         drop(waker);
     }
 }

@@ -11,6 +11,7 @@ ghost use Rattle.piper.specs.Looks.{WriterFound, WriterLooked, OnRefused};
 use crate::answers::{polled, write_wake};
 use crate::handles::Writer;
 use crate::handles::write_steps::take_reader;
+use crate::slot::Notified;
 use futures::task::{Context, Poll};
 use piper_ring::{OutOfMemory, WriteMark};
 use piper_sides::calls::Side;
@@ -19,7 +20,7 @@ use piper_sides::write_call::WriteCall;
 use std::sync::Wait;
 
 impl<H: Wait + Clone + Drop> Writer<H> {
-    ghost use Rattle.piper.specs.Handles.{SameWriter, write_source};
+    ghost use Rattle.piper.specs.Handles.{NotifiesReader, SameWriter, SameWriterButWoke, TellsReader, write_source};
 
     /// How many bytes are unread now: none of those that the writer was told are consumed. The reader may consume more at any time.
     pub fn len(&self) -> usize
@@ -117,8 +118,9 @@ impl<H: Wait + Clone + Drop> Writer<H> {
         ensures sent { self.new.end.sent ≡ self.old.end.sent ++ take n self.old.end.lent }
         ensures lent { self.new.end.lent ≡ drop n self.old.end.lent }
         ensures room { self.new.end.room + n ≡ self.old.end.room }
+        ensures woke { NotifiesReader self.new }
         ensures end { WriterPublished self.old.end self.new.end }
-        ensures rest { SameWriter self.old self.new }
+        ensures rest { SameWriterButWoke self.old self.new }
     {
         let call = self.store_tail(WriteCall::produced(n), n);
         self.wake_reader(call).done();
@@ -126,33 +128,33 @@ impl<H: Wait + Clone + Drop> Writer<H> {
 
     /// Empties the reader's slot, and calls the waker that stood in it.
     #[inline(always)]
-    pub(crate) fn wake_reader(&self, call: WriteCall) -> WriteCall
+    pub(crate) fn wake_reader(&mut self, call: WriteCall) -> WriteCall
         requires next { write_action call.point ≡ Action.Take Side.Reader }
-        ensures { result ≡ write_step call.point (waker false) }
+        ensures step { result ≡ write_step call.point (waker false) }
+        ensures woke { NotifiesReader self.new }
+        ensures end { self.new.end ≡ self.old.end }
+        ensures rest { SameWriterButWoke self.old self.new }
     {
         match self.find_no_reader(call) {
-            Ok((call, _none)) => call,
-            Err(call) => {
-                let (call, taken) = self.take_reader(call);
-                write_wake(call, taken)
-            }
+            Ok(call) => call,
+            Err(call) => self.take_and_wake_reader(call),
         }
     }
 
     /// Closes the pipe for good, and wakes both sides. Nothing is lent any more, and what was lent is taken back.
     pub fn poll_close(&mut self, cx: &mut Context<'_>) -> Poll<Result<(), OutOfMemory>>
         ensures answer { result ≡ Poll.Ready (Ok (record {})) }
+        ensures woke { NotifiesReader self.new }
         ensures end { WriterShut self.old.end self.new.end }
-        ensures rest { SameWriter self.old self.new }
+        ensures rest { SameWriterButWoke self.old self.new }
         ensures kept { Keeps cx.old cx.new }
     {
         let _unused = cx;
         let call = self.shut(WriteCall::close());
-        let (call, taken) = self.take_reader(call);
-        let call = write_wake(call, taken);
+        let call = self.take_and_wake_reader(call);
         let (call, taken) = self.take_own(call);
         match taken {
-            Some(taken) => write_wake(call, taken).done(),
+            Some(taken) => write_wake(call, taken).0.done(),
             None => call.done(),
         }
         Poll::Ready(Ok(()))
@@ -169,15 +171,17 @@ impl<H: Wait + Clone + Drop> Writer<H> {
 
     /// Closes the pipe and wakes the reader, who can still read what is unread. The memory is freed if the reader is gone.
     ///
-    /// The answer is evidence, for the reader to heed, that the pipe is closed, and of all that was ever published. It is made by the store that closes, behind which the reader's waker is taken.
-    pub fn drop(self) -> WriteMark
-        ensures ring { result.names ≡ self.end.ring.1.1 }
-        ensures bytes { result.bytes ≡ self.end.sent }
-        ensures shut { result.shut ≡ true }
+    /// The answer is evidence: what it tells, for the reader to heed, is that the pipe is closed, and all that was ever published; and behind the store that closed, the reader's waker was taken and called.
+    pub fn drop(self) -> Notified<WriteMark>
+        ensures ring { result.told.names ≡ self.end.ring.1.1 }
+        ensures bytes { result.told.bytes ≡ self.end.sent }
+        ensures shut { result.told.shut ≡ true }
+        ensures woke { TellsReader self result }
     {
         let (call, last, slots, rt) = self.store_closed(WriteCall::drop());
-        let (call, taken) = take_reader(&slots, &rt, call);
-        write_wake(call, taken).done();
-        last
+        let (call, taken) = take_reader(&slots, &rt, call, last);
+        let (call, notified) = write_wake(call, taken);
+        call.done();
+        notified
     }
 }

@@ -104,7 +104,7 @@ fn a_writer_that_closes_wakes_its_own_task(rt: HostRuntime) {
 
 /// Whether a waker stood in the slot when it was emptied.
 fn takes(rt: &impl Wait, slot: &Slot) -> bool {
-    let taken = slot.take(rt);
+    let taken = slot.take(rt, ());
     let is_found = taken.is_found();
     taken.let_go();
     is_found

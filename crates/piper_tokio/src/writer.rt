@@ -7,7 +7,7 @@ ghost use Rattle.futures.specs.Task.{Covers, Keeps};
 ghost use Rattle.tokio.specs.Io.Moved.{bytes_moved, count_moved, IfReadyErr};
 ghost use Rattle.piper.specs.Ends.{WriterShut};
 ghost use Rattle.piper.specs.Fills.{FillYields, LosesOneRound, OnNoCount};
-ghost use Rattle.piper.specs.Handles.{SameWriter, write_source};
+ghost use Rattle.piper.specs.Handles.{NotifiesReader, SameWriterButWoke, write_source};
 ghost use Rattle.piper.specs.Polls.{IfReadyOk};
 ghost use Rattle.piper_tokio.specs.Passing.{Gave};
 ghost use Rattle.piper_tokio.specs.PassingLaws.{gave_nothing, gave_in_order};
@@ -109,7 +109,8 @@ impl<H: Wait + Clone + Drop> tokio::io::AsyncWrite for CompatWriter<H> {
     fn poll_shutdown(&mut self, cx: &mut Context<'_>) -> Poll<io::Result<()>>
         ensures answer { result ≡ Poll.Ready (Ok (record {})) }
         ensures shut { WriterShut self.old.writer.end self.new.writer.end }
-        ensures handle { SameWriter self.old.writer self.new.writer }
+        ensures woke { NotifiesReader self.new.writer }
+        ensures handle { SameWriterButWoke self.old.writer self.new.writer }
         ensures bytes { Gave self.old.writer [] self.new.writer }
         ensures kept { Keeps cx.old cx.new }
     {

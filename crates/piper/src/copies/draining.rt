@@ -27,7 +27,7 @@ use std::io::Write;
 use std::sync::Wait;
 
 impl<H: Wait + Clone + Drop> Reader<H> {
-    ghost use Rattle.piper.specs.Handles.{SameReader, read_source};
+    ghost use Rattle.piper.specs.Handles.{NotifiesWriter, SameReader, SameReaderButWoke, read_source};
 
     /// Moves known bytes into a writer, and answers how many that took.
     ///
@@ -49,6 +49,7 @@ impl<H: Wait + Clone + Drop> Reader<H> {
             self.old.rng self.new.rng }
         ensures yields { DrainYields result self.old.end self.new.end cx.new }
         ensures refused { OnMemory (inner_of result) (cx.new.lacks_waker ≡ true) }
+        ensures woke { NotifiesWriter self.old → NotifiesWriter self.new }
         ensures slots { self.new.slots ≡ self.old.slots }
         ensures covered { OnPending result (Covers cx.new (λ s. s ≡ read_source self.old)) }
         ensures kept { Keeps cx.old cx.new }
@@ -87,6 +88,7 @@ impl<H: Wait + Clone + Drop> Reader<H> {
         ensures yields { DrainYields result self.old.end self.new.end cx.new }
         ensures refused { OnRefused result (cx.new.lacks_waker ≡ true) }
         ensures end { ReaderCopied self.old.end self.new.end }
+        ensures woke { NotifiesWriter self.old → NotifiesWriter self.new }
         ensures slots { self.new.slots ≡ self.old.slots }
         ensures covered { OnPending result (Covers cx.new (λ s. s ≡ read_source self.old)) }
         ensures kept { Keeps cx.old cx.new }
@@ -112,7 +114,8 @@ impl<H: Wait + Clone + Drop> Reader<H> {
         ensures same { KnowsEnd self.old.end → self.new.end.all ≡ self.old.end.all }
         ensures stays { IsEnded self.old.end → IsEnded self.new.end }
         ensures end { ReaderCopied self.old.end self.new.end }
-        ensures handle { SameReader self.old self.new }
+        ensures woke { NotifiesWriter self.old → NotifiesWriter self.new }
+        ensures handle { SameReaderButWoke self.old self.new }
     {
         let mut bytes = WriteBytes::new(dest);
         match self.drain_inner(None, &mut bytes) {
@@ -146,6 +149,7 @@ impl<H: Wait + Clone + Drop> Reader<H> {
         ensures undrawn { cx.entry ≡ None →
             Undrawn (0 < found_len self.old.end self.new.end) result self.old.rng self.new.rng }
         ensures granted { cx.entry ≡ None → OnMemory result ⊥ }
+        ensures woke { NotifiesWriter self.old → NotifiesWriter self.new }
         ensures slots { self.new.slots ≡ self.old.slots }
         ensures yields { IfGiven cx.entry cx.exit (λ _ left.
             DrainYields result self.old.end self.new.end left) }
@@ -178,6 +182,7 @@ impl<H: Wait + Clone + Drop> Reader<H> {
             self.old.rng self.new.rng }
         ensures yields { DrainYields result self.old.end self.new.end cx.new }
         ensures refused { OnMemory result (cx.new.lacks_waker ≡ true) }
+        ensures woke { NotifiesWriter self.old → NotifiesWriter self.new }
         ensures slots { self.new.slots ≡ self.old.slots }
         ensures covered { OnPending result (Covers cx.new (λ s. s ≡ read_source self.old)) }
         ensures kept { Keeps cx.old cx.new }
@@ -202,6 +207,7 @@ impl<H: Wait + Clone + Drop> Reader<H> {
         ensures draw { IsTrue result.1 ↔ DrawsYield self.old.rng }
         ensures rng { self.new.rng ≡ drawn_from self.old.rng }
         ensures slots { self.new.slots ≡ self.old.slots }
+        ensures notified { self.new.notified ≡ self.old.notified }
         ensures end { self.new.end ≡ self.old.end }
     {
         let call = match self.skip_own_and_draw(call) {
@@ -229,7 +235,8 @@ impl<H: Wait + Clone + Drop> Reader<H> {
         ensures open { OnPending result (
             (self.new.end.saw ≡ false) × (self.new.end.told_shut ≡ false)) }
         ensures granted { OnMemory result ⊥ }
-        ensures rest { SameReader self.old self.new }
+        ensures woke { NotifiesWriter self.old → NotifiesWriter self.new }
+        ensures rest { SameReaderButWoke self.old self.new }
     {
         match self.look_at_once() {
             Ok(call) => self.drain_rounds(call, Form::Try, dest),
@@ -326,7 +333,8 @@ impl<H: Wait + Clone + Drop> Reader<H> {
         ensures failures { CountsFailure result (W.failures dest.old) (W.failures dest.new) }
         ensures ready { IsAtOnce result }
         ensures all { self.new.end.all ≡ self.old.end.all }
-        ensures rest { SameReader self.old self.new }
+        ensures woke { NotifiesWriter self.old → NotifiesWriter self.new }
+        ensures rest { SameReaderButWoke self.old self.new }
     {
         self.end().learn();
         let mut call = call;

@@ -26,7 +26,7 @@ use std::io::Read;
 use std::sync::Wait;
 
 impl<H: Wait + Clone + Drop> Writer<H> {
-    ghost use Rattle.piper.specs.Handles.{SameWriter, write_source};
+    ghost use Rattle.piper.specs.Handles.{NotifiesReader, SameWriter, SameWriterButWoke, write_source};
 
     /// Publishes bytes that a reader gives, and answers how many it gave.
     ///
@@ -45,6 +45,7 @@ impl<H: Wait + Clone + Drop> Writer<H> {
         ensures yields { FillYields result self.new.end cx.new }
         ensures lent { self.new.end.lent ≡ [] }
         ensures refused { OnMemory (inner_of result) (cx.new.lacks_waker ≡ true) }
+        ensures woke { NotifiesReader self.old → NotifiesReader self.new }
         ensures slots { self.new.slots ≡ self.old.slots }
         ensures covered { OnPending result (Covers cx.new (λ s. s ≡ write_source self.old)) }
         ensures kept { Keeps cx.old cx.new }
@@ -84,6 +85,7 @@ impl<H: Wait + Clone + Drop> Writer<H> {
         ensures lent { self.new.end.lent ≡ [] }
         ensures refused { OnRefused result (cx.new.lacks_waker ≡ true) }
         ensures end { WriterFilled self.old.end self.new.end }
+        ensures woke { NotifiesReader self.old → NotifiesReader self.new }
         ensures slots { self.new.slots ≡ self.old.slots }
         ensures covered { OnPending result (Covers cx.new (λ s. s ≡ write_source self.old)) }
         ensures kept { Keeps cx.old cx.new }
@@ -114,7 +116,8 @@ impl<H: Wait + Clone + Drop> Writer<H> {
         ensures fresh { self.old.end.room ≡ 0 →
             self.new.end.saw ≡ false → WriterIsUpToDate self.new.end }
         ensures end { WriterCopied self.old.end self.new.end }
-        ensures handle { SameWriter self.old self.new }
+        ensures woke { NotifiesReader self.old → NotifiesReader self.new }
+        ensures handle { SameWriterButWoke self.old self.new }
     {
         let mut source = ReadBytes::new(bytes);
         match self.fill_inner(None, &mut source) {
@@ -145,6 +148,7 @@ impl<H: Wait + Clone + Drop> Writer<H> {
             Undrawn (FoundRoom result self.new.end) result self.old.rng self.new.rng }
         ensures granted { cx.entry ≡ None → OnMemory result ⊥ }
         ensures lent { self.new.end.lent ≡ [] }
+        ensures woke { NotifiesReader self.old → NotifiesReader self.new }
         ensures slots { self.new.slots ≡ self.old.slots }
         ensures yields { IfGiven cx.entry cx.exit (λ _ left. FillYields result self.new.end left) }
         ensures refused { IfGiven cx.entry cx.exit (LacksWaker result) }
@@ -180,6 +184,7 @@ impl<H: Wait + Clone + Drop> Writer<H> {
         ensures draws { Draws (FoundRoom result self.new.end) result self.old.rng self.new.rng }
         ensures yields { FillYields result self.new.end cx.new }
         ensures refused { OnMemory result (cx.new.lacks_waker ≡ true) }
+        ensures woke { NotifiesReader self.old → NotifiesReader self.new }
         ensures slots { self.new.slots ≡ self.old.slots }
         ensures covered { OnPending result (Covers cx.new (λ s. s ≡ write_source self.old)) }
         ensures kept { Keeps cx.old cx.new }
@@ -204,6 +209,7 @@ impl<H: Wait + Clone + Drop> Writer<H> {
         ensures draw { IsTrue result.1 ↔ DrawsYield self.old.rng }
         ensures rng { self.new.rng ≡ drawn_from self.old.rng }
         ensures slots { self.new.slots ≡ self.old.slots }
+        ensures notified { self.new.notified ≡ self.old.notified }
         ensures end { self.new.end ≡ self.old.end }
     {
         let call = match self.skip_own_and_draw(call) {
@@ -227,7 +233,8 @@ impl<H: Wait + Clone + Drop> Writer<H> {
         ensures open { OnNoCount result (self.new.end.saw ≡ false) }
         ensures waits { OnPending result (self.new.end.room ≡ 0) }
         ensures granted { OnMemory result ⊥ }
-        ensures rest { SameWriter self.old self.new }
+        ensures woke { NotifiesReader self.old → NotifiesReader self.new }
+        ensures rest { SameWriterButWoke self.old self.new }
     {
         match self.look_at_once() {
             Ok(call) => self.fill_rounds(call, Form::Try, source),
@@ -331,7 +338,8 @@ impl<H: Wait + Clone + Drop> Writer<H> {
         ensures open { OnNoCount result (self.new.end.saw ≡ false) }
         ensures found { FoundRoom result self.new.end }
         ensures ready { IsAtOnce result }
-        ensures rest { SameWriter self.old self.new }
+        ensures woke { NotifiesReader self.old → NotifiesReader self.new }
+        ensures rest { SameWriterButWoke self.old self.new }
     {
         self.end().learn();
         let mut call = call;

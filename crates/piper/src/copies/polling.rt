@@ -75,7 +75,7 @@ impl<H: Wait + Clone + Drop> AsyncBufRead for Reader<H> {
 }
 
 impl<H: Wait + Clone + Drop> AsyncWrite for Writer<H> {
-    ghost use Rattle.piper.specs.Handles.{SameWriter, write_source};
+    ghost use Rattle.piper.specs.Handles.{NotifiesReader, SameWriterButWoke, write_source};
 
     ghost sent = { λ w. w.end.sent };
 
@@ -110,7 +110,8 @@ impl<H: Wait + Clone + Drop> AsyncWrite for Writer<H> {
     fn poll_close(&mut self, cx: &mut Context<'_>) -> Poll<Result<(), PipeError>>
         ensures answer { result ≡ Poll.Ready (Ok (record {})) }
         ensures shut { WriterShut self.old.end self.new.end }
-        ensures handle { SameWriter self.old self.new }
+        ensures woke { NotifiesReader self.new }
+        ensures handle { SameWriterButWoke self.old self.new }
         ensures kept { Keeps cx.old cx.new }
     {
         match Writer::poll_close(self, cx) {

@@ -25,6 +25,7 @@ impl<H: Wait + Clone + Drop> Reader<H> {
             × (self.new.rng ≡ drawn_from self.old.rng)) }
         ensures stays { IfErr result (λ same. (same ≡ call) × (self.new ≡ self.old)) }
         ensures slots { self.new.slots ≡ self.old.slots }
+        ensures notified { self.new.notified ≡ self.old.notified }
         ensures end { self.new.end ≡ self.old.end }
     {
         if self.is_registered {
@@ -35,7 +36,10 @@ impl<H: Wait + Clone + Drop> Reader<H> {
     }
 
     /// Empties the reader's slot behind the true look of a polling copy, unless the slot is known to be empty; then draws, and tells whether the copy yields.
-    pub(crate) fn take_own_and_draw(&mut self, call: ReadCall) -> (ReadCall, Option<Taken>, bool)
+    pub(crate) fn take_own_and_draw(
+        &mut self,
+        call: ReadCall,
+    ) -> (ReadCall, Option<Taken<()>>, bool)
         requires next { call.point ≡ ReadPoint.LookTake (Purpose.Copy (Form.Polling false)) }
         ensures step { result.0 ≡ reader_is_true (Purpose.Copy (Form.Polling result.2)) }
         ensures emptied { IsEmptied (arc_value self.old.slots).reader
@@ -43,10 +47,11 @@ impl<H: Wait + Clone + Drop> Reader<H> {
         ensures draw { IsTrue result.2 ↔ DrawsYield self.old.rng }
         ensures rng { self.new.rng ≡ drawn_from self.old.rng }
         ensures slots { self.new.slots ≡ self.old.slots }
+        ensures notified { self.new.notified ≡ self.old.notified }
         ensures end { self.new.end ≡ self.old.end }
     {
         let taken = if self.is_registered {
-            Some(self.slots.reader.take(&self.rt))
+            Some(self.slots.reader.take(&self.rt, ()))
         } else {
             None
         };
@@ -70,6 +75,7 @@ impl<H: Wait + Clone + Drop> Writer<H> {
             × (self.new.rng ≡ drawn_from self.old.rng)) }
         ensures stays { IfErr result (λ same. (same ≡ call) × (self.new ≡ self.old)) }
         ensures slots { self.new.slots ≡ self.old.slots }
+        ensures notified { self.new.notified ≡ self.old.notified }
         ensures end { self.new.end ≡ self.old.end }
     {
         if self.is_registered {
@@ -80,7 +86,10 @@ impl<H: Wait + Clone + Drop> Writer<H> {
     }
 
     /// Empties the writer's slot behind the true look of a polling copy, unless the slot is known to be empty; then draws, and tells whether the copy yields.
-    pub(crate) fn take_own_and_draw(&mut self, call: WriteCall) -> (WriteCall, Option<Taken>, bool)
+    pub(crate) fn take_own_and_draw(
+        &mut self,
+        call: WriteCall,
+    ) -> (WriteCall, Option<Taken<()>>, bool)
         requires next { call.point ≡ WritePoint.LookTake (Purpose.Copy (Form.Polling false)) }
         ensures step { result.0 ≡ writer_is_true (Purpose.Copy (Form.Polling result.2)) }
         ensures emptied { IsEmptied (arc_value self.old.slots).writer
@@ -88,10 +97,11 @@ impl<H: Wait + Clone + Drop> Writer<H> {
         ensures draw { IsTrue result.2 ↔ DrawsYield self.old.rng }
         ensures rng { self.new.rng ≡ drawn_from self.old.rng }
         ensures slots { self.new.slots ≡ self.old.slots }
+        ensures notified { self.new.notified ≡ self.old.notified }
         ensures end { self.new.end ≡ self.old.end }
     {
         let taken = if self.is_registered {
-            Some(self.slots.writer.take(&self.rt))
+            Some(self.slots.writer.take(&self.rt, ()))
         } else {
             None
         };

@@ -5,11 +5,12 @@ ghost use Rattle.futures.specs.Task.{Covers, Keeps};
 ghost use Rattle.piper_sides.specs.Table.{goes_on, read_action, read_step, reader_draws_behind, reader_looks_for, nothing, refreshed, flag as loaded, granted, waker};
 ghost use Rattle.piper_ring.specs.ReadView.{KnowsEnd, in_one_piece};
 ghost use Rattle.piper_ring.specs.Shared.{flag};
-ghost use Rattle.piper.specs.Slots.{IsFrom, IsNoneOf, IsEmptied, found_in};
+ghost use Rattle.piper.specs.Slots.{IsFrom, IsToldOf, IsEmptied, found_in};
 ghost use Rattle.piper.specs.Ends.{HasAll, IsEnded, ReaderIsUpToDate, ReaderRefreshed, ReaderSaw, ReaderConsumed};
 
 use super::{Reader, Slots};
-use crate::slot::{NoWaker, Taken};
+use crate::answers::read_wake;
+use crate::slot::{Notified, Taken};
 use futures::task::Context;
 use piper_ring::LastReadMark;
 use piper_sides::calls::Side;
@@ -18,7 +19,7 @@ use piper_sides::table::{Action, Purpose, ReadPoint};
 use std::sync::{Arc, Wait};
 
 impl<H: Wait + Clone + Drop> Reader<H> {
-    ghost use Rattle.piper.specs.Handles.{SameReader, read_source};
+    ghost use Rattle.piper.specs.Handles.{NotifiesWriter, SameReader, SameReaderButWoke, read_source};
 
     /// Opens a call that begins with a look, and tells whether no byte is known.
     #[inline(always)]
@@ -81,7 +82,7 @@ impl<H: Wait + Clone + Drop> Reader<H> {
 
     /// Empties the reader's slot behind the look of a poll, unless the slot is known to be empty.
     #[inline(always)]
-    pub(crate) fn take_own(&mut self, call: ReadCall) -> (ReadCall, Option<Taken>)
+    pub(crate) fn take_own(&mut self, call: ReadCall) -> (ReadCall, Option<Taken<()>>)
         requires next { read_action call.point ≡ Action.Take Side.Reader }
         requires poll { reader_draws_behind call.point ≡ false }
         ensures step { result.0 ≡ read_step call.point nothing }
@@ -96,7 +97,7 @@ impl<H: Wait + Clone + Drop> Reader<H> {
             return (call, None);
         }
         self.is_registered = false;
-        (call, Some(self.slots.reader.take(&self.rt)))
+        (call, Some(self.slots.reader.take(&self.rt, ())))
     }
 
     /// Stores the head, `n` bytes further on.
@@ -132,26 +133,37 @@ impl<H: Wait + Clone + Drop> Reader<H> {
 
     /// Empties the writer's slot where no waker stands in it, which takes no lock. Where one stands there, the call stays where it is.
     #[inline(always)]
-    pub(crate) fn find_no_writer(&self, call: ReadCall) -> Result<(ReadCall, NoWaker), ReadCall>
+    pub(crate) fn find_no_writer(&mut self, call: ReadCall) -> Result<ReadCall, ReadCall>
         requires next { read_action call.point ≡ Action.Take Side.Writer }
-        ensures none { IfOk result (λ found. (found.0 ≡ read_step call.point (waker false))
-            × IsNoneOf (arc_value self.now.slots).writer found.1) }
-        ensures stays { IfErr result (λ same. same ≡ call) }
+        ensures none { IfOk result (λ after. after ≡ read_step call.point (waker false)) }
+        ensures woke { IfOk result (λ _. NotifiesWriter self.new) }
+        ensures stays { IfErr result (λ same. (same ≡ call) × (self.new ≡ self.old)) }
+        ensures end { self.new.end ≡ self.old.end }
+        ensures rest { SameReaderButWoke self.old self.new }
     {
-        match self.slots.writer.find_none() {
-            Some(none) => Ok((call.took_writer(false), none)),
-            None => Err(call),
+        let told = self.end.mark();
+        match self.slots.writer.find_none(told) {
+            Ok(notified) => {
+                self.notified = notified;
+                Ok(call.took_writer(false))
+            }
+            Err(_told) => Err(call),
         }
     }
 
-    /// Empties the writer's slot.
-    #[inline(always)]
-    pub(crate) fn take_writer(&self, call: ReadCall) -> (ReadCall, Taken)
+    /// Empties the writer's slot, and calls the waker that stood in it.
+    pub(crate) fn take_and_wake_writer(&mut self, call: ReadCall) -> ReadCall
         requires next { read_action call.point ≡ Action.Take Side.Writer }
-        ensures step { result.0 ≡ read_step call.point (waker (found_in result.1)) }
-        ensures taken { IsFrom (arc_value self.now.slots).writer result.1 }
+        ensures step { result ≡ read_step call.point (waker false) }
+        ensures woke { NotifiesWriter self.new }
+        ensures end { self.new.end ≡ self.old.end }
+        ensures rest { SameReaderButWoke self.old self.new }
     {
-        take_writer(&self.slots, &self.rt, call)
+        let told = self.end.mark();
+        let (call, taken) = take_writer(&self.slots, &self.rt, call, told);
+        let (call, notified) = read_wake(call, taken);
+        self.notified = notified;
+        call
     }
 
     /// Stores closed as it lets the end go, and gives the evidence of that: its last mark. The slots are left, and what their locks are waited for with.
@@ -168,30 +180,37 @@ impl<H: Wait + Clone + Drop> Reader<H> {
             rt,
             rng: _,
             is_registered: _,
+            notified: _,
         } = self;
         let last = end.finish();
         (call.stored_closed(), last, slots, rt)
     }
 }
 
-/// Empties the writer's slot.
+/// Empties the writer's slot, behind what `told` tells.
 #[inline(always)]
-pub(crate) fn take_writer(slots: &Slots, rt: &impl Wait, call: ReadCall) -> (ReadCall, Taken)
+pub(crate) fn take_writer<M>(
+    slots: &Slots,
+    rt: &impl Wait,
+    call: ReadCall,
+    told: M,
+) -> (ReadCall, Taken<M>)
     requires next { read_action call.point ≡ Action.Take Side.Writer }
     ensures step { result.0 ≡ read_step call.point (waker (found_in result.1)) }
-    ensures taken { IsFrom slots.now.writer result.1 }
+    ensures taken { IsFrom slots.now.writer told result.1 }
 {
-    let taken = slots.writer.take(rt);
+    let taken = slots.writer.take(rt, told);
     (call.took_writer(taken.is_found()), taken)
 }
 
 /// Calls the waker that was taken.
 #[inline(always)]
-pub(crate) fn wake(call: ReadCall, taken: Taken) -> ReadCall
+pub(crate) fn wake<M>(call: ReadCall, taken: Taken<M>) -> (ReadCall, Notified<M>)
     requires next { read_action call.point ≡ Action.Wake }
     requires found { found_in taken ≡ true }
-    ensures step { result ≡ read_step call.point nothing }
+    ensures step { result.0 ≡ read_step call.point nothing }
+    ensures told { IsToldOf taken result.1 }
 {
-    taken.wake();
-    call.woke()
+    let notified = taken.wake();
+    (call.woke(), notified)
 }

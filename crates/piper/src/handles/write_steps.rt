@@ -3,12 +3,13 @@ ghost use Rattle.std.specs.Prelude.{◌≡◌, ◌+◌, ◌≤◌, ◌++◌, ◌
 ghost use Rattle.std.specs.Arc.{arc_value};
 ghost use Rattle.futures.specs.Task.{Covers, Keeps};
 ghost use Rattle.piper_sides.specs.Table.{begins_look, look_begun, write_action, write_step, writer_draws_behind, nothing, refreshed, flag as loaded, granted, waker};
-ghost use Rattle.piper.specs.Slots.{IsFrom, IsNoneOf, IsEmptied, found_in};
+ghost use Rattle.piper.specs.Slots.{IsFrom, IsToldOf, IsEmptied, found_in};
 ghost use Rattle.piper.specs.Calls.{own_found};
 ghost use Rattle.piper.specs.Ends.{WriterIsUpToDate, WriterRefreshed, WriterSaw, WriterPublished, WriterUnlent, WriterShut};
 
 use super::{Slots, Writer};
-use crate::slot::{NoWaker, Taken};
+use crate::answers::write_wake;
+use crate::slot::{Notified, Taken};
 use futures::task::Context;
 use piper_ring::WriteMark;
 use piper_sides::calls::Side;
@@ -17,7 +18,7 @@ use piper_sides::write_call::WriteCall;
 use std::sync::{Arc, Wait};
 
 impl<H: Wait + Clone + Drop> Writer<H> {
-    ghost use Rattle.piper.specs.Handles.{SameWriter, write_source};
+    ghost use Rattle.piper.specs.Handles.{NotifiesReader, SameWriter, SameWriterButWoke, write_source};
 
     /// Loads closed where a look begins, and tells what the flag was, and whether no room is known. A pipe that the writer closed is closed.
     #[inline(always)]
@@ -86,7 +87,7 @@ impl<H: Wait + Clone + Drop> Writer<H> {
 
     /// Empties the writer's slot behind the look of a poll or in a close, unless the slot is known to be empty.
     #[inline(always)]
-    pub(crate) fn take_own(&mut self, call: WriteCall) -> (WriteCall, Option<Taken>)
+    pub(crate) fn take_own(&mut self, call: WriteCall) -> (WriteCall, Option<Taken<()>>)
         requires next { write_action call.point ≡ Action.Take Side.Writer }
         requires no_copy { writer_draws_behind call.point ≡ false }
         ensures step { result.0 ≡ write_step call.point (waker (own_found result.1)) }
@@ -100,7 +101,7 @@ impl<H: Wait + Clone + Drop> Writer<H> {
             return (call.took_own(false), None);
         }
         self.is_registered = false;
-        let taken = self.slots.writer.take(&self.rt);
+        let taken = self.slots.writer.take(&self.rt, ());
         (call.took_own(taken.is_found()), Some(taken))
     }
 
@@ -157,26 +158,37 @@ impl<H: Wait + Clone + Drop> Writer<H> {
 
     /// Empties the reader's slot where no waker stands in it, which takes no lock. Where one stands there, the call stays where it is.
     #[inline(always)]
-    pub(crate) fn find_no_reader(&self, call: WriteCall) -> Result<(WriteCall, NoWaker), WriteCall>
+    pub(crate) fn find_no_reader(&mut self, call: WriteCall) -> Result<WriteCall, WriteCall>
         requires next { write_action call.point ≡ Action.Take Side.Reader }
-        ensures none { IfOk result (λ found. (found.0 ≡ write_step call.point (waker false))
-            × IsNoneOf (arc_value self.now.slots).reader found.1) }
-        ensures stays { IfErr result (λ same. same ≡ call) }
+        ensures none { IfOk result (λ after. after ≡ write_step call.point (waker false)) }
+        ensures woke { IfOk result (λ _. NotifiesReader self.new) }
+        ensures stays { IfErr result (λ same. (same ≡ call) × (self.new ≡ self.old)) }
+        ensures end { self.new.end ≡ self.old.end }
+        ensures rest { SameWriterButWoke self.old self.new }
     {
-        match self.slots.reader.find_none() {
-            Some(none) => Ok((call.took_reader(false), none)),
-            None => Err(call),
+        let told = self.end.mark();
+        match self.slots.reader.find_none(told) {
+            Ok(notified) => {
+                self.notified = notified;
+                Ok(call.took_reader(false))
+            }
+            Err(_told) => Err(call),
         }
     }
 
-    /// Empties the reader's slot.
-    #[inline(always)]
-    pub(crate) fn take_reader(&self, call: WriteCall) -> (WriteCall, Taken)
+    /// Empties the reader's slot, and calls the waker that stood in it.
+    pub(crate) fn take_and_wake_reader(&mut self, call: WriteCall) -> WriteCall
         requires next { write_action call.point ≡ Action.Take Side.Reader }
-        ensures step { result.0 ≡ write_step call.point (waker (found_in result.1)) }
-        ensures taken { IsFrom (arc_value self.now.slots).reader result.1 }
+        ensures step { result ≡ write_step call.point (waker false) }
+        ensures woke { NotifiesReader self.new }
+        ensures end { self.new.end ≡ self.old.end }
+        ensures rest { SameWriterButWoke self.old self.new }
     {
-        take_reader(&self.slots, &self.rt, call)
+        let told = self.end.mark();
+        let (call, taken) = take_reader(&self.slots, &self.rt, call, told);
+        let (call, notified) = write_wake(call, taken);
+        self.notified = notified;
+        call
     }
 
     /// Stores closed as it lets the end go, and gives the evidence of that: its last mark. The slots are left, and what their locks are waited for with.
@@ -194,30 +206,37 @@ impl<H: Wait + Clone + Drop> Writer<H> {
             rt,
             rng: _,
             is_registered: _,
+            notified: _,
         } = self;
         let last = end.finish();
         (call.stored_closed(), last, slots, rt)
     }
 }
 
-/// Empties the reader's slot.
+/// Empties the reader's slot, behind what `told` tells.
 #[inline(always)]
-pub(crate) fn take_reader(slots: &Slots, rt: &impl Wait, call: WriteCall) -> (WriteCall, Taken)
+pub(crate) fn take_reader<M>(
+    slots: &Slots,
+    rt: &impl Wait,
+    call: WriteCall,
+    told: M,
+) -> (WriteCall, Taken<M>)
     requires next { write_action call.point ≡ Action.Take Side.Reader }
     ensures step { result.0 ≡ write_step call.point (waker (found_in result.1)) }
-    ensures taken { IsFrom slots.now.reader result.1 }
+    ensures taken { IsFrom slots.now.reader told result.1 }
 {
-    let taken = slots.reader.take(rt);
+    let taken = slots.reader.take(rt, told);
     (call.took_reader(taken.is_found()), taken)
 }
 
 /// Calls the waker that was taken.
 #[inline(always)]
-pub(crate) fn wake(call: WriteCall, taken: Taken) -> WriteCall
+pub(crate) fn wake<M>(call: WriteCall, taken: Taken<M>) -> (WriteCall, Notified<M>)
     requires next { write_action call.point ≡ Action.Wake }
     requires found { found_in taken ≡ true }
-    ensures step { result ≡ write_step call.point nothing }
+    ensures step { result.0 ≡ write_step call.point nothing }
+    ensures told { IsToldOf taken result.1 }
 {
-    taken.wake();
-    call.woke()
+    let notified = taken.wake();
+    (call.woke(), notified)
 }

@@ -5,4 +5,4 @@ use Rattle.piper.proofs.handles.Reader.consume.Goals as goal
 pub returns-clause-stays : goal.returns-clause-stays
 returns-clause-stays g c =
     let stored = c.store_head-call.ensures in
-    ended_consumed c.args.amt _ _ stored.taken stored.known stored.all stored.end.saw
+    rw c.wake_writer.ensures.end (ended_consumed c.args.amt _ _ stored.taken stored.known stored.all stored.end.saw)

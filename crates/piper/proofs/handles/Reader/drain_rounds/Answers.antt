@@ -13,6 +13,7 @@ rounds-init g c =
       failures = refl;
       all = refl;
       rest = record { slots = refl; rng = refl };
+      woke = λ woke. woke;
     }
 
 pub destination_took-round-requires-clause-fits : goal.destination_took-round-requires-clause-fits
@@ -31,7 +32,7 @@ overflow_add-sum g c =
     omega (arith, sum_fits _ _ _ _ _ _ _ _ c.rounds.invariant.drained c.end.ensures c.learn.ensures.known c.learn.ensures.capacity.1 c.in-Ok.ensures.bound)
 
 pub rounds-smaller : goal.rounds-smaller
-rounds-smaller g c = omega (arith, ap length c.store_head-round.ensures.known, length-drop c.in-Ok.n c.rounds.self.end.known, c.in-Ok.ensures.bound)
+rounds-smaller g c = rw c.wake_writer-call.ensures.end (omega (arith, ap length c.store_head-round.ensures.known, length-drop c.in-Ok.n c.rounds.self.end.known, c.in-Ok.ensures.bound))
 
 pub returns-in-Err-clause-drained : goal.returns-in-Err-clause-drained
 returns-in-Err-clause-drained g c =
@@ -55,10 +56,15 @@ pub rounds-preserved : goal.rounds-preserved
 rounds-preserved g c =
     let some = rw c.in-Ok.is at c.drain_round.ensures.bytes in
     let stored = c.store_head-round.ensures in
+    let woke = c.wake_writer-call.ensures in
     record {
-      at = drain_round c.args.form c.rounds.sum c.in-Ok.n _ _ (c.before_round-call.ensures ∙ c.rounds.invariant.at) c.if-n-eq0.false c.destination_took-round.ensures _ _ stored.step c.wake_writer-call.ensures;
-      drained = drained_more _ g.met.W.WriteLike.takes_in_order _ _ _ _ _ _ c.rounds.invariant.drained _ c.in-Ok.n c.in-Ok.ensures.bound some stored.taken stored.known stored.end;
+      at = drain_round c.args.form c.rounds.sum c.in-Ok.n _ _ (c.before_round-call.ensures ∙ c.rounds.invariant.at) c.if-n-eq0.false c.destination_took-round.ensures _ _ stored.step c.wake_writer-call.ensures.step;
+      drained = rw woke.end (drained_more _ g.met.W.WriteLike.takes_in_order _ _ _ _ _ _ c.rounds.invariant.drained _ c.in-Ok.n c.in-Ok.ensures.bound some stored.taken stored.known stored.end);
       failures = c.in-Ok.ensures.failures ∙ c.rounds.invariant.failures;
-      all = stored.all ∙ c.rounds.invariant.all;
-      rest = record { slots = stored.rest.slots ∙ c.rounds.invariant.rest.slots; rng = stored.rest.rng ∙ c.rounds.invariant.rest.rng };
+      all = rw woke.end (stored.all ∙ c.rounds.invariant.all);
+      rest = record {
+        slots = woke.rest.slots ∙ stored.rest.slots ∙ c.rounds.invariant.rest.slots;
+        rng = woke.rest.rng ∙ stored.rest.rng ∙ c.rounds.invariant.rest.rng;
+      };
+      woke = λ _. woke.woke;
     }

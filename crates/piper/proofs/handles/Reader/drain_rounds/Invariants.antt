@@ -2,7 +2,7 @@
 use Rattle.std.proofs.Common.{◌≡◌, length}
 use Rattle.piper_sides.specs.Table.{goes_on}
 use Rattle.piper_sides.specs.declared.table.ReadPoint.TheVariants.{CallDestination}
-use Rattle.piper.specs.Handles.{SameReader}
+use Rattle.piper.specs.Handles.{NotifiesWriter, SameReaderButWoke}
 use Rattle.piper.proofs.RoundsOut.{Drained}
 use Rattle.piper.proofs.handles.Reader.drain_rounds.Given as goal
 
@@ -12,7 +12,8 @@ invariant-rounds g l = record {
   drained : Drained g.W.WriteLike.takes l.initial.self.end l.self.end l.initial.dest l.dest l.sum;
   failures : g.W.WriteLike.failures l.dest ≡ g.W.WriteLike.failures l.initial.dest;
   all : l.self.end.all ≡ l.initial.self.end.all;
-  rest : SameReader l.initial.self l.self;
+  rest : SameReaderButWoke l.initial.self l.self;
+  woke : NotifiesWriter l.initial.self → NotifiesWriter l.self;
 }
 
 abbrev pub decreases-rounds : goal.decreases-rounds

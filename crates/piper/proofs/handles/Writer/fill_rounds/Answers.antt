@@ -5,6 +5,7 @@ use Rattle.piper_ring.specs.WriteView.{WriteView}
 use Rattle.piper_sides.specs.Table.{Next, write_step, failed}
 use Rattle.piper_sides.specs.declared.table.WritePoint.{WritePoint}
 use Rattle.piper.proofs.Rounds.{counts, told_count, gave_none, told_none, gives, gave_closed, stores, takes, fill_round}
+use Rattle.piper.proofs.StaysNotified.{reader_stays}
 use Rattle.piper.proofs.RoundsIn.{fill_ended, fill_failed, fill_closed, filled_more}
 use Rattle.piper.proofs.handles.Writer.fill_rounds.Goals as goal
 
@@ -18,6 +19,7 @@ returns-in-Err g c =
       found = tt;
       ready = tt;
       rest = record { slots = round.rest.slots ∙ before.rest.slots; rng = round.rest.rng ∙ before.rest.rng };
+      woke = λ woke. reader_stays _ _ round.rest.slots round.rest.notified round.end.end.ring round.end.sent round.end.shut (before.woke woke);
     }
 
 pub returns-then-n-eq0 : goal.returns-then-n-eq0
@@ -37,6 +39,7 @@ returns-then-n-eq0 g c =
       found = inr (round.end.saw ∙ before.open_yet);
       ready = tt;
       rest = record { slots = round.rest.slots ∙ before.rest.slots; rng = round.rest.rng ∙ before.rest.rng };
+      woke = λ woke. reader_stays _ _ round.rest.slots round.rest.notified round.end.end.ring round.end.sent round.end.shut (before.woke woke);
     })
 
 pub returns-then-asks-eq0 : goal.returns-then-asks-eq0
@@ -54,6 +57,7 @@ returns-then-asks-eq0 g c =
       found = inr before.open_yet;
       ready = tt;
       rest = before.rest;
+      woke = before.woke;
     })
 
 pub returns-then-is_closed : goal.returns-then-is_closed
@@ -73,6 +77,8 @@ returns-then-is_closed g c =
       found = inl (omega (arith, c.if-n-eq0.false));
       ready = tt;
       rest = record { slots = saw.rest.slots ∙ round.rest.slots ∙ before.rest.slots; rng = saw.rest.rng ∙ round.rest.rng ∙ before.rest.rng };
+      woke = λ woke. reader_stays _ _ (saw.rest.slots ∙ round.rest.slots) (saw.rest.notified ∙ round.rest.notified) (saw.end.end.ring ∙ round.end.end.ring)
+          (saw.end.sent ∙ round.end.sent) (saw.end.shut ∙ round.end.shut) (before.woke woke);
     })
 
 pub rounds-preserved : goal.rounds-preserved
@@ -82,18 +88,20 @@ rounds-preserved g c =
     let round = c.fill_round.ensures in
     let stored = c.store_tail-round.ensures in
     let saw = c.load_closed-round.ensures in
+    let woke = c.wake_reader-call.ensures in
     record {
       at = fill_round _ _ _ _ here _ c.source_gave-round.ensures c.if-n-eq0.false _ _ saw.step c.if-is_closed.false
-          _ stored.step _ c.wake_reader-call.ensures;
-      filled = filled_more _ g.met.R.ReadLike.gives_in_order _ _ _ _ _ _ _ before.filled round.end _ _ _
-          c.in-Ok.ensures.bound c.in-Ok.ensures.bytes saw.end stored.sent stored.room stored.end;
-      total = omega (arith, before.total, stored.room, saw.end.room, round.end.room);
-      open_yet = stored.end.saw ∙ sym saw.saw ∙ c.if-is_closed.false;
+          _ stored.step _ c.wake_reader-call.ensures.step;
+      filled = rw woke.end (filled_more _ g.met.R.ReadLike.gives_in_order _ _ _ _ _ _ _ before.filled round.end _ _ _
+          c.in-Ok.ensures.bound c.in-Ok.ensures.bytes saw.end stored.sent stored.room stored.end);
+      total = rw woke.end (omega (arith, before.total, stored.room, saw.end.room, round.end.room));
+      open_yet = rw woke.end (stored.end.saw ∙ sym saw.saw ∙ c.if-is_closed.false);
       failures = c.in-Ok.ensures.failures ∙ before.failures;
       rest = record {
-        slots = stored.rest.slots ∙ saw.rest.slots ∙ round.rest.slots ∙ before.rest.slots;
-        rng = stored.rest.rng ∙ saw.rest.rng ∙ round.rest.rng ∙ before.rest.rng;
+        slots = woke.rest.slots ∙ stored.rest.slots ∙ saw.rest.slots ∙ round.rest.slots ∙ before.rest.slots;
+        rng = woke.rest.rng ∙ stored.rest.rng ∙ saw.rest.rng ∙ round.rest.rng ∙ before.rest.rng;
       };
+      woke = λ _. woke.woke;
     }
 
 pub source_gave-requires : goal.source_gave-requires

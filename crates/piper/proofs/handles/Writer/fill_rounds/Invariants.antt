@@ -2,7 +2,7 @@
 use Rattle.std.proofs.Common.{◌≡◌, ◌+◌, false}
 use Rattle.piper_sides.specs.Table.{goes_on}
 use Rattle.piper_sides.specs.declared.table.WritePoint.TheVariants.{CallSource}
-use Rattle.piper.specs.Handles.{SameWriter}
+use Rattle.piper.specs.Handles.{NotifiesReader, SameWriterButWoke}
 use Rattle.piper.proofs.RoundsIn.{Filled}
 use Rattle.piper.proofs.handles.Writer.fill_rounds.Given as goal
 
@@ -13,7 +13,8 @@ invariant-rounds g l = record {
   total : l.sum + l.self.end.room ≡ l.initial.self.end.room;
   open_yet : l.self.end.saw ≡ false;
   failures : g.R.ReadLike.failures l.source ≡ g.R.ReadLike.failures l.initial.source;
-  rest : SameWriter l.initial.self l.self;
+  rest : SameWriterButWoke l.initial.self l.self;
+  woke : NotifiesReader l.initial.self → NotifiesReader l.self;
 }
 
 abbrev pub decreases-rounds : goal.decreases-rounds
