@@ -5,10 +5,7 @@ use denote.Param.{param}
 use denote.Param.Send.{IsSend, IsSync, sendable}
 use denote.Struct.Field.{shr_ref_field, mut_ref_field, u64-field}
 use Rattle.std.proofs.Crossing.{crosses}
-use Rattle.piper.below.piper_ring.proofs.ends.writer.WriteEnd.TheSendSync as end
-use Rattle.piper.below.piper_ring.proofs.ring.marks.WriteMark.TheSendSync as mark
-use Rattle.piper.below.rand_pcg.proofs.pcg64.Lcg64Xsh32.TheSendSync as rng
-use Rattle.piper.proofs.handles.Slots.TheSendSync as slots
+use Rattle.piper.proofs.handles.Writer.TheSendSync as writer
 use Rattle.piper.specs.contracts.handles.Writer as Writer
 use Rattle.piper_transfer.specs.contracts.meter.Meter as Meter
 use Rattle.piper_transfer.specs.contracts.start.Start as Start
@@ -19,7 +16,7 @@ use Rattle.piper_transfer.proofs.turns.Turns.TheSendSync as turns
 
 -- a writer, where its handle may
 pub writer_send : (R : RattleType) → IsSend R → IsSend (Writer.the_row R)
-writer_send R r = search (sendable, crosses, end.the_send, mark.the_send, rng.the_send, slots.the_send, slots.the_sync) depth 20
+writer_send R r = search (sendable, crosses, writer.the_send) depth 20
 
 -- each as it is lent, since a search that goes down through all of them at once runs out of steps
 pub writer_lent : (ℓ : NamedLft) (R : RattleType) → IsSend (param 0 R) → IsSend (mut_ref_field ℓ (Writer.the_row (param 0 R)) tt).row
