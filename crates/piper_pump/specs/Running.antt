@@ -13,7 +13,8 @@ pub record StopsEarly
   pub input : input_new ≡ input_old
   pub output : output_new ≡ output_old
 
--- it ended as a transfer did: the output was flushed where that one wrote all, and its error is told
+-- it ended as a transfer did: the output was flushed where that one wrote all, and the error that
+-- is told is one of the side that it names
 pub record EndsWithTransfer
     (input_old input_new output_old output_new : Option (List ℕ))
     (is_flushed : Type 0)
