@@ -6,6 +6,7 @@ mod streams;
 
 use piper::{OutOfMemory, Reader, Writer, pipe};
 use std::alloc::Global;
+use std::fmt::{self, Debug, Formatter};
 use std::sync::Wait;
 
 /// One end of a duplex stream.
@@ -95,5 +96,14 @@ impl<H: Wait + Clone + Drop> End<H> {
         let End { reader, writer } = self;
         writer.drop();
         reader.drop();
+    }
+}
+
+impl<H: Wait + Clone + Drop> Debug for End<H> {
+    fn fmt<O: fmt::Write>(&self, f: &mut Formatter<O>) -> fmt::Result {
+        f.debug_struct("End")
+            .field("reader", &self.reader)
+            .field("writer", &self.writer)
+            .finish()
     }
 }
