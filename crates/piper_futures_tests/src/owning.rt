@@ -4,7 +4,7 @@ use futures::{SinkExt, StreamExt};
 use piper::io::Copied;
 use piper::{PipeError, owned_pipe};
 use piper_futures::{close, copy, drain_into, fill_from, read_to_end, read_until, write_all};
-use piper_streams::{LineStream, WriteSink};
+use piper_streams::{FrameSink, FrameStream, LineSink, LineStream, WriteSink};
 use std::io;
 use std::test::Fail;
 
@@ -44,12 +44,16 @@ fn a_copy_ends_with_the_reader_or_with_the_other_pipe(rt: HostRuntime) -> Result
 fn lines_of_a_sink_come_out_of_a_stream_in_order(rt: HostRuntime) -> Result<(), Fail> {
     let alloc = rt.alloc();
     let (reader, writer) = owned_pipe(&rt, 64)?;
-    let mut sink = WriteSink::new(alloc, writer);
-    for line in ["one\n", "two\n", "three"] {
-        let mut piece = Vec::new(alloc);
-        piece.extend_from_slice(line.as_bytes())?;
-        sink = block_on(&rt, sink.send(piece))??;
+    let mut sink = LineSink::new(alloc, writer);
+    for line in ["one", "two"] {
+        let mut text = Vec::new(alloc);
+        text.extend_from_slice(line.as_bytes())?;
+        sink = block_on(&rt, sink.send(text))??;
     }
+    let mut sink = WriteSink::new(alloc, sink.into_writer());
+    let mut piece = Vec::new(alloc);
+    piece.extend_from_slice(b"three")?;
+    sink = block_on(&rt, sink.send(piece))??;
     drop(sink);
     let mut lines = LineStream::new(alloc, reader, 10);
     for line in ["one\n", "two\n", "three"] {
@@ -59,6 +63,28 @@ fn lines_of_a_sink_come_out_of_a_stream_in_order(rt: HostRuntime) -> Result<(), 
         assert_eq!(rt; came?.as_slice(), line.as_bytes());
     }
     assert!(rt; block_on(&rt, lines.next())?.is_none());
+    Ok(())
+}
+
+#[test]
+fn frames_of_a_sink_come_out_of_a_stream_up_to_one_too_long(rt: HostRuntime) -> Result<(), Fail> {
+    let alloc = rt.alloc();
+    let (reader, writer) = owned_pipe(&rt, 64)?;
+    let mut sink = FrameSink::new(alloc, writer);
+    for text in ["one", "", "three"] {
+        let mut body = Vec::new(alloc);
+        body.extend_from_slice(text.as_bytes())?;
+        sink = block_on(&rt, sink.send(body))??;
+    }
+    let mut frames = FrameStream::new(alloc, reader, 4);
+    for text in ["one", ""] {
+        let Some(came) = block_on(&rt, frames.next())? else {
+            return Err(Fail::from("a frame is missing"));
+        };
+        assert_eq!(rt; came?.as_slice(), text.as_bytes());
+    }
+    assert!(rt; matches!(block_on(&rt, frames.next())?, Some(Err(PipeError::Io(_)))));
+    assert!(rt; block_on(&rt, frames.next())?.is_none());
     Ok(())
 }
 
