@@ -25,6 +25,12 @@ OnEnd (Ready (Ok End)) P = P
 OnEnd (Ready (Err e)) P = ⊤
 OnEnd Pending P = ⊤
 
+-- the poll tells the end, or fails: it hands out no frame, and doesn't wait
+abbrev pub EndsAgain : {E : Type 0} → Poll (Result FrameAnswer E) → Type 0
+EndsAgain (Ready (Ok answer)) = answer ≡ End
+EndsAgain (Ready (Err e)) = ⊤
+EndsAgain Pending = ⊥
+
 -- by the answer: the frame that is handed out, and what is kept and has still to pass. What
 -- was taken of the body before stays where the frame is too long, and is at most more elsewhere
 abbrev pub HandsFrame : {E : Type 0} → Poll (Result FrameAnswer E)

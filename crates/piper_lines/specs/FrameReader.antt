@@ -1,6 +1,7 @@
 -- What a reader of frames has.
 use Rattle.std.specs.Prelude.{ℕ, List, ◌++◌, vec_capacity}
 use Rattle.std.specs.Borrow.{Fml, RattleType, MutBor, Lends}
+use Rattle.piper_lines.specs.Frame.{IsBetweenFrames}
 use Rattle.piper_lines.specs.declared.frame_reader.Frames.{Frames}
 use Rattle.piper_lines.specs.contracts.frame_reader.Frames.{the_row}
 
@@ -30,6 +31,12 @@ body_room_of frames = vec_capacity frames.body
 -- how many bytes of a skipped frame have still to pass
 abbrev pub skips_of : {R : Type 0} → Frames R → ℕ
 skips_of frames = frames.to_skip
+
+-- nothing more comes: the reader below has told its end, and no byte of a frame is kept or has to pass
+abbrev pub IsSpent : {R : Type 0} → (R → Type 0) → Frames R → Type 0
+IsSpent ended frames =
+    ended (reader_of frames)
+    × IsBetweenFrames (header_of frames) (body_of frames) (skips_of frames)
 
 -- the frames, once a `&mut` to the reader has ended: they have the reader as it was left
 abbrev pub lends_reader : (R : RattleType) → MutBor (Frames R.Denot) → MutBor R.Denot → Fml

@@ -47,9 +47,9 @@ pub struct Frames<R> {
 }
 
 impl<R: AsyncBufRead> Frames<R> {
-    ghost use Rattle.piper_lines.specs.FrameReader.{reader_of, kept_of, header_of, body_of, skips_of, header_room_of, body_room_of, lends_reader};
+    ghost use Rattle.piper_lines.specs.FrameReader.{reader_of, kept_of, header_of, body_of, skips_of, header_room_of, body_room_of, lends_reader, IsSpent};
     ghost use Rattle.piper_lines.specs.Refusals.{IsTold, LacksFrameRoom};
-    ghost use Rattle.piper_lines.specs.FrameAnswers.{HandsFrame, OnEnd, handed};
+    ghost use Rattle.piper_lines.specs.FrameAnswers.{EndsAgain, HandsFrame, OnEnd, handed};
     ghost use Rattle.piper_lines.specs.Moves.{PassesMoves};
 
     /// Nothing is kept yet, and no memory is asked for.
@@ -118,6 +118,7 @@ impl<R: AsyncBufRead> Frames<R> {
             (body_of self.old) (body_of self.new) (skips_of self.new)
             (R.known (reader_of self.new)) (R.saw (reader_of self.new)) }
         ensures ended { OnEnd result (R.ended (reader_of self.new)) }
+        ensures behind { IsSpent R.ended self.old → IsSpent R.ended self.new × EndsAgain result }
         ensures error { IfReadyErr result (λ e. IsTold e (R.fails (reader_of self.new) cx.new)
             (LacksFrameRoom limit (header_room_of self.old) (body_room_of self.old)
             (header_of self.new) (body_of self.new) (R.known (reader_of self.new)))) }

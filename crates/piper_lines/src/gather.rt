@@ -32,6 +32,8 @@ pub fn fill_up<R: AsyncBufRead>(
     ensures ended { result ≡ Poll.Ready (Ok false) →
         (length gathered.new.items < size) × AtEnd (R.known reader.new) (R.saw reader.new) }
     ensures ends { result ≡ Poll.Ready (Ok false) → R.ended reader.new }
+    ensures behind { R.ended reader.old → R.ended reader.new
+        × (gathered.new.items ≡ gathered.old.items) × OnPending result ⊥ }
     ensures error { IfReadyErr result (λ e. IsTold e (R.fails reader.new cx.new)
         (LacksRoom size (vec_capacity gathered.old) gathered.new.items (R.known reader.new))) }
     ensures told { R.told reader.new ≡ R.told reader.old }
@@ -68,6 +70,8 @@ pub(crate) fn pass_over<R: AsyncBufRead>(
     ensures ended { result ≡ Poll.Ready (Ok false) →
         (0 < left.new) × AtEnd (R.known reader.new) (R.saw reader.new) }
     ensures ends { result ≡ Poll.Ready (Ok false) → R.ended reader.new }
+    ensures none { left.old ≡ 0 →
+        (reader.new ≡ reader.old) × (result ≡ Poll.Ready (Ok true)) }
     ensures error { IfReadyErr result (R.fails reader.new cx.new) }
     ensures told { R.told reader.new ≡ R.told reader.old }
     ensures heeded { OnPending result (R.told reader.new ≡ true → AsksAgain cx.new) }

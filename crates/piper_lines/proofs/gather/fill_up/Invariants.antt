@@ -9,6 +9,7 @@ invariant-loop-reader g l = record {
   grown : Grows (g.R.AsyncBufRead.taken l.fn.reader) (g.R.AsyncBufRead.taken l.reader) l.fn.gathered.items l.gathered.items;
   within : length l.gathered.items ≤ l.size;
   room : vec_capacity l.fn.gathered ≤ vec_capacity l.gathered;
+  ended : g.R.AsyncBufRead.ended l.fn.reader → g.R.AsyncBufRead.ended l.reader × (l.gathered.items ≡ l.fn.gathered.items);
   told : g.R.AsyncBufRead.told l.reader ≡ g.R.AsyncBufRead.told l.fn.reader;
   kept : Keeps l.fn.cx l.cx;
 }
