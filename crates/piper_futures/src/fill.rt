@@ -52,7 +52,8 @@ impl<H: Wait + Clone + Drop> AsyncFill for Writer<H> {
     }
 }
 
-// Why a fill moved nothing: the pipe is closed, or else its source gave none. A pipe that is closed is so for good, so the poll does not wait.
+// Why a fill moved nothing: the pipe is closed, or else its source gave none. A pipe that is closed
+// is so for good, so the poll does not wait.
 fn why_none<H: Wait + Clone + Drop>(writer: &mut Writer<H>, cx: &mut Context<'_>) -> Copied
     ensures ended { result ≡ Copied.ToTheEnd → writer.old.end.saw ≡ false }
     ensures closed { result ≡ Copied.UntilClosed → writer.new.end.saw ≡ true }
