@@ -8,12 +8,13 @@ use futures::task::{Context, Poll};
 use piper::PipeError;
 use piper::io::AsyncWrite;
 use std::alloc::Global;
+use std::fmt::Debug;
 use std::io::ErrorKind;
 
 /// Writes a frame for each body that it is sent, whole and in order: its length in four bytes, the most significant first, and the body.
 ///
 /// Memory is asked for where a body is sent; where that is refused, or a body of 2^32 bytes or more is, by an error of the kind `InvalidInput`, the sink is as it was, and the body goes. What is said of [`WriteSink`] holds of it, too. In clauses, `frames_below` is the sink below.
-#[derive(Drop)]
+#[derive(Debug, Drop)]
 pub struct FrameSink<W> {
     sink: WriteSink<W>,
     alloc: Global,

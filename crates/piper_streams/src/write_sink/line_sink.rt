@@ -8,11 +8,12 @@ use futures::task::{Context, Poll};
 use piper::PipeError;
 use piper::io::AsyncWrite;
 use std::alloc::Global;
+use std::fmt::Debug;
 
 /// Writes each text that it is sent as a line, whole and in order, with an LF behind it.
 ///
 /// The LF is put to the end of the text itself. Where memory for it is refused, the sink is as it was, and the text goes. What is said of [`WriteSink`] holds of it, too. In clauses, `lines_below` is the sink below.
-#[derive(Drop)]
+#[derive(Debug, Drop)]
 pub struct LineSink<W> {
     sink: WriteSink<W>,
 }
