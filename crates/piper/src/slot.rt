@@ -38,6 +38,7 @@ unsafe impl Send for SlotName {}
 unsafe impl Sync for SlotName {}
 
 impl SlotName {
+    #[inline(always)]
     fn of(source: &Source) -> SlotName
         ensures { result.id ≡ source.now.id }
     {
@@ -148,6 +149,7 @@ impl<M> Taken<M> {
     ghost use Rattle.piper.specs.Slots.{found_in, IsToldOf};
 
     /// Whether a waker stood in the slot.
+    #[inline(always)]
     pub fn is_found(&self) -> bool
         ensures { result ≡ found_in self.now }
     {
@@ -155,6 +157,7 @@ impl<M> Taken<M> {
     }
 
     /// Calls the waker, if there was one.
+    #[inline(always)]
     pub fn wake(self) -> Notified<M>
         ensures { IsToldOf self result }
     {

@@ -152,6 +152,7 @@ impl<H: Wait + Clone + Drop> Reader<H> {
     }
 
     /// Empties the writer's slot, and calls the waker that stood in it.
+    #[inline(always)]
     pub(crate) fn take_and_wake_writer(&mut self, call: ReadCall) -> ReadCall
         requires next { read_action call.point ≡ Action.Take Side.Writer }
         ensures step { result ≡ read_step call.point (waker false) }

@@ -177,6 +177,7 @@ impl<H: Wait + Clone + Drop> Writer<H> {
     }
 
     /// Empties the reader's slot, and calls the waker that stood in it.
+    #[inline(always)]
     pub(crate) fn take_and_wake_reader(&mut self, call: WriteCall) -> WriteCall
         requires next { write_action call.point ≡ Action.Take Side.Reader }
         ensures step { result ≡ write_step call.point (waker false) }
