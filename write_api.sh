@@ -21,6 +21,7 @@ exported() {
 # The calls of one file. The layout of `rt fmt` is relied on: an item begins in column 0, and a method in column 4.
 calls() {
     awk -v names="$(exported "$1")" '
+        function forget() { comment = ""; is_whole = 0 }
         function first_sentence(text) {
             if (match(text, /[.:] /)) text = substr(text, 1, RSTART)
             sub(/:$/, ".", text)
@@ -34,7 +35,7 @@ calls() {
             if (asks != "") line = line "<br>asks " asks
             if (gives != "") line = line "<br>gives " gives
             print owner "\t" line
-            reading = 0; comment = ""
+            reading = 0; forget()
         }
         function clause(text,   word, name) {
             word = text; sub(/[ *].*/, "", word)
@@ -62,21 +63,26 @@ calls() {
         }
         BEGIN { count = split(names, list, " "); for (i = 1; i <= count; i++) is_out[list[i]] = 1 }
         reading { read_line($0); next }
-        /^\/\/\/ |^    \/\/\/ / { text = $0; sub(/^ *\/\/\/ /, "", text); if (comment == "") comment = text; next }
-        /^ *#\[|^ *\/\/\// { next }
+        /^\/\/\/ |^    \/\/\/ / {
+            text = $0; sub(/^ *\/\/\/ /, "", text)
+            if (!is_whole) comment = comment (comment == "" ? "" : " ") text
+            next
+        }
+        /^ *\/\/\/ *$/ { is_whole = 1; next }
+        /^ *#\[/ { next }
         /^impl/ {
             owner = ""; in_trait = 0; head = $0
             while (match(head, /<[^<>]*>/)) head = substr(head, 1, RSTART - 1) substr(head, RSTART + RLENGTH)
             sub(/^impl */, "", head)
             if (head !~ / for /) { sub(/ .*/, "", head); if (head in is_out) owner = head }
-            comment = ""; next
+            forget(); next
         }
-        /^pub trait / { owner = ""; name = $3; sub(/[^A-Za-z].*/, "", name); in_trait = name in is_out; if (in_trait) owner = name; comment = ""; next }
+        /^pub trait / { owner = ""; name = $3; sub(/[^A-Za-z].*/, "", name); in_trait = name in is_out; if (in_trait) owner = name; forget(); next }
         /^pub fn / { name = $3; sub(/[^a-z_0-9].*/, "", name); owner = ""; if (name in is_out) { start($0) } ; next }
-        /^    pub fn / { if (owner != "") { start($0) } else comment = ""; next }
-        /^    fn / { if (in_trait && owner != "") { start($0) } else comment = ""; next }
-        /^}/ { owner = ""; in_trait = 0; comment = ""; next }
-        { comment = "" }
+        /^    pub fn / { if (owner != "") { start($0) } else forget(); next }
+        /^    fn / { if (in_trait && owner != "") { start($0) } else forget(); next }
+        /^}/ { owner = ""; in_trait = 0; forget(); next }
+        { forget() }
     ' $(find "crates/$1/src" -name '*.rt' | LC_ALL=C sort)
 }
 
@@ -84,13 +90,14 @@ page() {
     local crate
     echo "# The public calls"
     echo
-    echo "Written by \`./write_api.sh\` from the sources: change those, and run it. Each call has its signature, what it does, the clauses that it asks of its caller, and those that it gives. [CONTRACTS.md](CONTRACTS.md) says in words what the clauses promise."
+    echo "Written by \`./write_api.sh\` from the sources: change those, and run it. Each call has its signature, what it does, the clauses that it asks of its caller, and those that it gives. [CONTRACTS.md](CONTRACTS.md) says how clauses are read."
     for crate in "${crates[@]}"; do
         [ -d "crates/$crate/src" ] || continue
         echo
         echo "## \`$crate\`"
         echo
-        sed -n '1s/^\/\/! //p' "crates/$crate/src/lib.rt"
+        awk '!/^\/\/! / { exit } { sub(/^\/\/! /, ""); printf "%s%s", gap, $0; gap = " " } END { print "" }' \
+            "crates/$crate/src/lib.rt"
         calls "$crate" | LC_ALL=C sort -s -t "$(printf '\t')" -k 1,1 | awk -F '\t' '
             NR == 1 || $1 != last { print ""; print "### " ($1 == "" ? "Functions" : "`" $1 "`"); print ""; last = $1 }
             { print $2 }
