@@ -19,6 +19,12 @@ use std::sync::Wait;
 /// The seed of the generators where a script is read.
 const SEED: u64 = 1;
 
+/// Words that are none of the modes, in place of what the player says, which has two of them.
+const WRONG_ARGUMENTS: Ended = Ended {
+    status: 1,
+    text: "usage: piper_replay [run|all|handles|twin [SEED COUNT]]",
+};
+
 /// Runs the script that `input` gives, and writes what it prints to `output`. `words` are the
 /// arguments of the command line.
 pub fn replay<H, I: Read, O: Write>(
@@ -40,10 +46,17 @@ where
                 number(count.as_str(), 0, MOST),
             ) {
                 (Ok(seed), Ok(count)) => draw_twin(rt, seed as u64, count as u64, output),
-                _ => return Ended::WRONG_ARGUMENTS,
+                _ => return WRONG_ARGUMENTS,
             }
         }
-        _ => return replay::replay(rt.alloc(), words, input, output),
+        _ => {
+            let ended = replay::replay(rt.alloc(), words, input, output);
+            return if ended == Ended::WRONG_ARGUMENTS {
+                WRONG_ARGUMENTS
+            } else {
+                ended
+            };
+        }
     };
     match played {
         Ok(true) => Ended::DONE,
