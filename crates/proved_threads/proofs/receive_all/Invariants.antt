@@ -1,0 +1,10 @@
+-- What was taken stands at the front of the place.
+use Rattle.std.proofs.Common.{◌≡◌, ◌≤◌, length, take}
+use Rattle.proved_threads.proofs.receive_all.Given as goal
+
+abbrev pub invariant-loop : goal.invariant-loop
+invariant-loop g l =
+    (goal.iterator-loop g).can_next l.iterator' × (goal.iterator-loop g).is_finite l.iterator'
+    × (l.came ≤ length l.place)
+    × (l.reader.reader.end.ring ≡ l.initial.reader.reader.end.ring)
+    × (l.reader.reader.end.taken ≡ take l.came l.place)

@@ -1,0 +1,12 @@
+-- What was published is a beginning of the bytes: all that were given, until the pipe is seen closed.
+use Rattle.std.proofs.Common.{◌≡◌, ℕ, ◌≤◌, length, take, false}
+use Rattle.proved_threads.proofs.send_all.Given as goal
+
+abbrev pub invariant-loop : goal.invariant-loop
+invariant-loop g l = record {
+  turns : (goal.iterator-loop g).can_next l.iterator' × (goal.iterator-loop g).is_finite l.iterator';
+  within : l.given ≤ length l.bytes;
+  ring : l.writer.end.ring ≡ l.initial.writer.end.ring;
+  front : (m : ℕ) × (l.writer.end.sent ≡ take m l.bytes);
+  all : l.writer.end.saw ≡ false → l.writer.end.sent ≡ take l.given l.bytes;
+}
