@@ -1,11 +1,10 @@
 -- Bytes that are written back, step by step.
-use Rattle.std.proofs.Common.{◌≡◌, ℕ, Bool, true, List, [], ◌++◌, sym, ap, ◌∙◌, subst, append-nil, append_assoc, arith}
+use Rattle.std.proofs.Common.{◌≡◌, ℕ, Bool, true, List, [], ◌++◌, drop, length, sym, ap, ◌∙◌, subst, append-nil, append_assoc, arith}
 use Rattle.std.proofs.lemmas.List.{drop_all}
 use Rattle.piper_lines.specs.Moves.{Moves}
 use Rattle.piper_lines.specs.Sends.{Sends}
 use Rattle.piper_lines.proofs.Sending.{sends_none, sends_front, sends_then}
-use Rattle.piper_duplex.specs.Echoes.{Echoes, left_of}
-use Rattle.piper_duplex.specs.declared.echoing.LineEcho.{LineEcho}
+use Rattle.piper_duplex.specs.Echoes.{Echoes}
 
 -- nothing was taken, and nothing written
 pub echoes_none : (taken held sent : List ℕ) (saw0 saw1 : Bool) → Echoes taken taken held held sent sent saw0 saw1
@@ -49,16 +48,13 @@ echoes_line t0 t1 h0 line1 line2 kept s0 s1 s2 saw0 saw1 saw2 echoes sends stays
     echoes_then t0 t1 t1 h0 (line1 ++ kept) (line2 ++ kept) s0 s1 s2 saw0 saw1 saw2 echoes
     (echoes_written t1 line1 line2 kept s1 s2 saw1 saw2 sends) stays0 stays1
 
--- a line that is written has nothing left
-nothing_left : (echo : LineEcho) → echo.is_written ≡ true → left_of echo ≡ []
-nothing_left echo is_written = drop_all echo.written echo.line.items (omega (arith, echo.whole is_written))
-
 -- then all of the line was written, and the next one read
-pub echoes_turn : (t0 t1 t2 h0 line1 line2 kept1 kept2 s0 s1 s2 : List ℕ) (saw0 saw1 saw2 : Bool) (wrote : LineEcho) → Echoes t0 t1 h0 (line1 ++ kept1) s0 s1 saw0 saw1
-    → Sends line1 (left_of wrote) s1 s2 saw1 saw2 → wrote.is_written ≡ true → Moves t1 t2 kept1 line2 kept2
+pub echoes_turn : (t0 t1 t2 h0 line1 line2 kept1 kept2 s0 s1 s2 : List ℕ) (saw0 saw1 saw2 : Bool) (line : List ℕ) (written : ℕ) → Echoes t0 t1 h0 (line1 ++ kept1) s0 s1 saw0 saw1
+    → Sends line1 (drop written line) s1 s2 saw1 saw2 → written ≡ length line → Moves t1 t2 kept1 line2 kept2
     → (saw0 ≡ true → saw1 ≡ true) → (saw1 ≡ true → saw2 ≡ true) → Echoes t0 t2 h0 (line2 ++ kept2) s0 s2 saw0 saw2
-echoes_turn t0 t1 t2 h0 line1 line2 kept1 kept2 s0 s1 s2 saw0 saw1 saw2 wrote echoes sends is_written moves stays0 stays1 =
-    echoes_then t0 t1 t2 h0 (left_of wrote ++ kept1) (line2 ++ kept2) s0 s2 s2 saw0 saw2 saw2
-    (echoes_line t0 t1 h0 line1 (left_of wrote) kept1 s0 s1 s2 saw0 saw1 saw2 echoes sends stays0 stays1)
-    (echoes_read t1 t2 (left_of wrote) line2 kept1 kept2 s2 saw2 saw2 (nothing_left wrote is_written) moves)
+echoes_turn t0 t1 t2 h0 line1 line2 kept1 kept2 s0 s1 s2 saw0 saw1 saw2 line written echoes sends whole moves stays0 stays1 =
+    let none : drop written line ≡ [] = drop_all written line (omega (arith, whole)) in
+    echoes_then t0 t1 t2 h0 (drop written line ++ kept1) (line2 ++ kept2) s0 s2 s2 saw0 saw2 saw2
+    (echoes_line t0 t1 h0 line1 (drop written line) kept1 s0 s1 s2 saw0 saw1 saw2 echoes sends stays0 stays1)
+    (echoes_read t1 t2 (drop written line) line2 kept1 kept2 s2 saw2 saw2 none moves)
     (λ seen. stays1 (stays0 seen)) (λ seen. seen)

@@ -1,5 +1,5 @@
 -- Bytes that are written back in the order in which they came.
-use Rattle.std.specs.Prelude.{◌≡◌, ℕ, Bool, List, ◌++◌, drop, MatchBool}
+use Rattle.std.specs.Prelude.{◌≡◌, ℕ, Bool, List, [], ◌∷◌, ◌++◌, drop}
 use Rattle.piper_lines.specs.LineReader.{kept_of}
 use Rattle.piper_lines.specs.Sends.{Sends}
 use Rattle.piper_lines.specs.declared.line_reader.Lines.{Lines}
@@ -20,6 +20,7 @@ Echoes taken_before taken_after held_before held_after sent_before sent_after sa
     (more : List ℕ) × (taken_after ≡ taken_before ++ more)
     × Sends (held_before ++ more) held_after sent_before sent_after saw_before saw_after
 
--- a pending echo waits for the writer while a line is on its way back, and else for the reader
-abbrev pub WaitsFor : (ℕ → Type 0) → (ℕ → Type 0) → LineEcho → ℕ → Type 0
-WaitsFor reads writes echo s = MatchBool echo.is_written (reads s) (writes s)
+-- a pending echo waits for the writer while bytes of a line are left, and else for the reader
+abbrev pub WaitsFor : (ℕ → Type 0) → (ℕ → Type 0) → List ℕ → ℕ → Type 0
+WaitsFor reads writes [] s = reads s
+WaitsFor reads writes (byte ∷ left) s = writes s

@@ -1,13 +1,12 @@
 //! An echo of lines: each is read whole and written back.
-ghost use Rattle.std.specs.Prelude.{◌≡◌, ◌<◌, ◌≤◌, ◌⊎◌, [], length, true, false, Ok};
+ghost use Rattle.std.specs.Prelude.{◌≡◌, ◌<◌, ◌≤◌, ◌⊎◌, [], length, true, Ok};
 ghost use Rattle.futures.specs.Task.{Covers, Keeps};
 ghost use Rattle.futures.specs.Poll.{OnPending};
 ghost use Rattle.piper_lines.specs.LineReader.{IsSpent, reader_of, kept_of};
+ghost use Rattle.piper.specs.Contexts.{AsksAgain};
 ghost use Rattle.piper.specs.Polls.{IfReadyErr};
 ghost use Rattle.piper_lines.specs.AtEnd.{AtEnd};
-ghost use Rattle.piper_lines.specs.Moves.{Moves};
 ghost use Rattle.piper_lines.specs.Refusals.{IsTold, LacksRoom};
-ghost use Rattle.piper_lines.specs.Sends.{Sends};
 
 use futures::task::{Context, Poll};
 use piper::PipeError;
@@ -34,9 +33,7 @@ pub enum Echoed {
 pub struct LineEcho {
     line: Vec<u8>,
     written: usize,
-    is_written: bool,
     ghost within: { written ≤ length line.items },
-    ghost whole: { is_written ≡ true → written ≡ length line.items },
 }
 
 impl LineEcho {
@@ -49,13 +46,12 @@ impl LineEcho {
         LineEcho {
             line: Vec::new(alloc),
             written: 0,
-            is_written: true,
         }
     }
 
     /// Reads lines of at most `limit` bytes, and writes each back once it is whole, up to the reader's end, the close of the writer's pipe, or the first error.
     ///
-    /// A longer line goes back in pieces of `limit` bytes, and what stands behind the last LF goes back too. Where it is pending, or on an error, the next poll goes on from there and loses nothing. It is woken by the writer while a line is on its way back, and else by the reader; after 64 lines it asks for another poll.
+    /// A longer line goes back in pieces of `limit` bytes, and what stands behind the last LF goes back too. Where it is pending, or on an error, the next poll goes on from there and loses nothing. It is woken by the writer while a line is on its way back, and else by the reader; after 64 lines it asks for another poll. It doesn't wait for a reader that was told of the end.
     pub fn poll<R: AsyncBufRead, W: AsyncWrite>(
         &mut self,
         cx: &mut Context<'_>,
@@ -75,18 +71,22 @@ impl LineEcho {
             ⊎ IsTold e (R.fails (reader_of lines.new) cx.new)
             (LacksRoom limit 0 (kept_of lines.new) (R.known (reader_of lines.new)))) }
         ensures stays { W.saw writer.old ≡ true → W.saw writer.new ≡ true }
+        ensures told { R.told (reader_of lines.new) ≡ R.told (reader_of lines.old) }
+        ensures heeded { OnPending result (R.told (reader_of lines.new) ≡ true →
+            (0 < length (left_of self.new)) ⊎ AsksAgain cx.new) }
         ensures covered { OnPending result (Covers cx.new
-            (WaitsFor (R.needs (reader_of lines.new)) (W.needs writer.new) self.new)) }
+            (WaitsFor (R.needs (reader_of lines.new)) (W.needs writer.new) (left_of self.new))) }
         ensures kept { Keeps cx.old cx.new }
     {
         for _ in 0..MOST_LINES {
-            match self.poll_write(cx, writer) {
+            match poll_write_all(writer, cx, self.line.as_slice(), &mut self.written) {
                 Poll::Pending => return Poll::Pending,
                 Poll::Ready(Err(error)) => return Poll::Ready(Err(error)),
                 Poll::Ready(Ok(Written::Closed)) => return Poll::Ready(Ok(Echoed::UntilClosed)),
                 Poll::Ready(Ok(Written::Whole)) => {}
             }
-            match self.poll_read(cx, lines, limit) {
+            self.written = 0;
+            match lines.poll_line(cx, &mut self.line, limit) {
                 Poll::Pending => return Poll::Pending,
                 Poll::Ready(Err(error)) => return Poll::Ready(Err(error)),
                 Poll::Ready(Ok(LineAnswer::End)) => return Poll::Ready(Ok(Echoed::ToTheEnd)),
@@ -94,57 +94,5 @@ impl LineEcho {
             }
         }
         cx.yield_now()
-    }
-
-    // Writes what is left of the line.
-    fn poll_write<W: AsyncWrite>(
-        &mut self,
-        cx: &mut Context<'_>,
-        writer: &mut W,
-    ) -> Poll<Result<Written, PipeError>>
-        ensures sends { Sends (left_of self.old) (left_of self.new)
-            (W.sent writer.old) (W.sent writer.new) (W.saw writer.old) (W.saw writer.new) }
-        ensures whole { result ≡ Poll.Ready (Ok Written.Whole) → self.new.is_written ≡ true }
-        ensures closed { result ≡ Poll.Ready (Ok Written.Closed) → W.saw writer.new ≡ true }
-        ensures stays { W.saw writer.old ≡ true → W.saw writer.new ≡ true }
-        ensures error { IfReadyErr result (W.fails writer.new cx.new) }
-        ensures waits { OnPending result (self.new.is_written ≡ false) }
-        ensures covered { OnPending result (Covers cx.new (W.needs writer.new)) }
-        ensures kept { Keeps cx.old cx.new }
-    {
-        if self.is_written {
-            return Poll::Ready(Ok(Written::Whole));
-        }
-        let polled = poll_write_all(writer, cx, self.line.as_slice(), &mut self.written);
-        if let Poll::Ready(Ok(Written::Whole)) = &polled {
-            self.is_written = true;
-        }
-        polled
-    }
-
-    // Replaces the line, which is written, by the next one.
-    fn poll_read<R: AsyncBufRead>(
-        &mut self,
-        cx: &mut Context<'_>,
-        lines: &mut Lines<R>,
-        limit: usize,
-    ) -> Poll<Result<LineAnswer, PipeError>>
-        requires limit { 0 < limit }
-        requires written { self.old.is_written ≡ true }
-        ensures moved { Moves (R.taken (reader_of lines.old)) (R.taken (reader_of lines.new))
-            (kept_of lines.old) (left_of self.new) (kept_of lines.new) }
-        ensures ended { result ≡ Poll.Ready (Ok LineAnswer.End) → (held_of self.new lines.new ≡ [])
-            × AtEnd (R.known (reader_of lines.new)) (R.saw (reader_of lines.new)) }
-        ensures spent { result ≡ Poll.Ready (Ok LineAnswer.End) → IsSpent R.ended lines.new }
-        ensures error { IfReadyErr result (λ e. IsTold e (R.fails (reader_of lines.new) cx.new)
-            (LacksRoom limit 0 (kept_of lines.new) (R.known (reader_of lines.new)))) }
-        ensures waits { OnPending result (self.new.is_written ≡ true) }
-        ensures covered { OnPending result (Covers cx.new (R.needs (reader_of lines.new))) }
-        ensures kept { Keeps cx.old cx.new }
-    {
-        self.written = 0;
-        let polled = lines.poll_line(cx, &mut self.line, limit);
-        self.is_written = self.line.is_empty();
-        polled
     }
 }

@@ -88,12 +88,12 @@ impl<R: AsyncBufRead + Drop, W: AsyncWrite + Drop> EchoAll<R, W> {
 }
 
 impl<R: AsyncBufRead + Drop, W: AsyncWrite + Drop> Future for EchoAll<R, W> {
-    ghost use Rattle.piper_duplex.specs.Echoes.{WaitsFor};
+    ghost use Rattle.piper_duplex.specs.Echoes.{WaitsFor, left_of};
 
     type Output = Result<Echoed, PipeError>;
 
     ghost needs = { λ future. WaitsFor (R.needs (reader_of future.lines)) (W.needs future.writer)
-        future.echo };
+        (left_of future.echo) };
 
     fn poll(&mut self, cx: &mut Context<'_>) -> Poll<Result<Echoed, PipeError>> {
         self.echo

@@ -1,5 +1,5 @@
 //! Bytes, written whole to a writer that takes as many as it has room for.
-ghost use Rattle.std.specs.Prelude.{◌≡◌, ◌≤◌, ◌++◌, drop, length, true, Ok};
+ghost use Rattle.std.specs.Prelude.{◌≡◌, ◌<◌, ◌≤◌, ◌++◌, drop, length, true, Ok};
 ghost use Rattle.futures.specs.Task.{Covers, Keeps};
 ghost use Rattle.futures.specs.Poll.{OnPending};
 ghost use Rattle.piper.specs.Polls.{IfReadyErr};
@@ -35,6 +35,7 @@ pub fn poll_write_all<W: AsyncWrite>(
     ensures closed { result ≡ Poll.Ready (Ok Written.Closed) → W.saw writer.new ≡ true }
     ensures stays { W.saw writer.old ≡ true → W.saw writer.new ≡ true }
     ensures error { IfReadyErr result (W.fails writer.new cx.new) }
+    ensures waits { OnPending result (written.new < length bytes.now) }
     ensures covered { OnPending result (Covers cx.new (W.needs writer.new)) }
     ensures kept { Keeps cx.old cx.new }
 {

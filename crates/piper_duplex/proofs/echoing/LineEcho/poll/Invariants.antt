@@ -9,5 +9,6 @@ abbrev pub invariant-loop : goal.invariant-loop
 invariant-loop g l = record {
   echoes : Echoes (g.R.AsyncBufRead.taken (reader_of l.initial.lines)) (g.R.AsyncBufRead.taken (reader_of l.lines)) (held_of l.initial.self l.initial.lines) (held_of l.self l.lines) (g.W.AsyncWrite.sent l.initial.writer) (g.W.AsyncWrite.sent l.writer) (g.W.AsyncWrite.saw l.initial.writer) (g.W.AsyncWrite.saw l.writer);
   stays : g.W.AsyncWrite.saw l.initial.writer ≡ true → g.W.AsyncWrite.saw l.writer ≡ true;
+  told : g.R.AsyncBufRead.told (reader_of l.lines) ≡ g.R.AsyncBufRead.told (reader_of l.initial.lines);
   kept : Keeps l.initial.cx l.cx;
 }
