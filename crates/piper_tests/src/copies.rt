@@ -185,7 +185,7 @@ fn a_destination_that_takes_none_ends_a_drain(rt: HostRuntime) {
     drains_end(&rt, false);
 }
 
-/// The second call of an end fails with an error of this kind, which comes out as it is; and a call behind it goes on.
+/// The second call of an end fails with an error of this kind, which comes out as it is, though the copy's handle knew of bytes or room before; and a call behind it goes on.
 fn tells_error<H>(rt: &H, through: Through, kind: ErrorKind)
 where
     H: Abort + Wait + RandomSource + AllocGlobal + Clone + Drop,
@@ -194,7 +194,10 @@ where
     let mut pair = Pair::new(rt, 4);
     let fills = matches!(through, Through::Fill | Through::FillInner);
     if !fills {
-        pair.play(rt, &[Act::Fill(&[0, 1, 2], 3)]);
+        pair.play(
+            rt,
+            &[Act::Fill(&[0, 1, 2], 3), Act::PollReader(Polled::Found)],
+        );
     }
     copies(rt, &mut pair, through, &mut end, Moved::Failed(kind), 1);
     pair.play(rt, &[Act::Unread(if fills { 1 } else { 2 })]);

@@ -1,6 +1,7 @@
 //! Slices as sources and destinations. They don't fail.
-ghost use Rattle.std.specs.Prelude.{◌≡◌, ◌+◌, ◌≤◌, ◌++◌, length, refl};
+ghost use Rattle.std.specs.Prelude.{◌≡◌, ◌+◌, ◌-◌, ◌<◌, ◌≤◌, ◌++◌, length, min, Ok, IfOk, IfErr, refl};
 ghost use Rattle.std.proofs.Common.{◌∙◌};
+ghost use Rattle.piper.specs.Like.{Counts, passed};
 ghost use Rattle.piper.specs.Written.{written, written_nothing, written_on, place_on, place_same, front_on};
 
 use super::slices::copy;
@@ -47,7 +48,14 @@ impl ReadLike for ReadBytes<'_> {
         front_on a.rest.now xs b.rest.now ys c.rest.now p q };
 
     #[inline(always)]
-    fn read(&mut self, dest: &mut [u8]) -> Result<usize, Infallible> {
+    fn read(&mut self, dest: &mut [u8]) -> Result<usize, Infallible>
+        ensures bound { IfOk result (λ n. n ≤ length dest.new) }
+        ensures bytes { self.old.rest.now ≡ passed result dest.new ++ self.new.rest.now }
+        ensures dry { result ≡ Ok 0 → 0 < length dest.new → length self.new.rest.now ≡ 0 }
+        ensures error { IfErr result (λ _. ⊥) }
+        ensures failures { Counts result 0 0 }
+        ensures all { result ≡ Ok (min (length self.old.rest.now) (length dest.old)) }
+    {
         let n = self.rest.len().min(dest.len());
         let (given, rest) = self.rest.split_at(n);
         copy(&mut dest[..n], given);
@@ -98,7 +106,19 @@ impl WriteLike for WriteBytes<'_> {
     ) };
 
     #[inline(always)]
-    fn write(&mut self, source: &[u8]) -> Result<usize, Infallible> {
+    fn write(&mut self, source: &[u8]) -> Result<usize, Infallible>
+        ensures bound { IfOk result (λ n. n ≤ length source.now) }
+        ensures bytes { (self.new.bytes.ghost_name ≡ self.old.bytes.ghost_name)
+            × (self.new.place ≡ self.old.place + length (passed result source.now))
+            × (self.new.bytes.now
+            ≡ written self.old.bytes.now self.old.place (passed result source.now)) }
+        ensures full { result ≡ Ok 0 → 0 < length source.now →
+            length self.new.bytes.now ≡ self.new.place }
+        ensures error { IfErr result (λ _. ⊥) }
+        ensures failures { Counts result 0 0 }
+        ensures all { result
+            ≡ Ok (min (length source.now) (length self.old.bytes.now - self.old.place)) }
+    {
         let n = source.len().min(self.bytes.len() - self.place);
         copy(&mut self.bytes[self.place..self.place + n], &source[..n]);
         self.place += n;
