@@ -1,7 +1,8 @@
 //! All bytes of a reader, moved into a writer of std.
-ghost use Rattle.std.specs.Prelude.{◌≡◌, ◌⊎◌, IsSome, IsSomeAnd, Ok};
+ghost use Rattle.std.specs.Prelude.{◌≡◌, ◌⊎◌, IsSome, IsSomeAnd, Ok, true};
 ghost use Rattle.futures.specs.Task.{Covers, Keeps};
 ghost use Rattle.futures.specs.Poll.{OnPending};
+ghost use Rattle.piper.specs.Contexts.{AsksAgain};
 ghost use Rattle.piper.specs.Polls.{IfReadyErr};
 ghost use Rattle.piper_lines.specs.AtEnd.{AtEnd};
 ghost use Rattle.piper_futures.specs.Draining.{DrainedAll, DrainsOn, StartsDraining};
@@ -73,8 +74,10 @@ pub fn poll_drain_into<R: AsyncBufRead, D: Write>(
         (D.contents dest.old) (D.contents dest.new) }
     ensures ended { result ≡ Poll.Ready (Ok (record {})) →
         AtEnd (R.known reader.new) (R.saw reader.new) }
+    ensures ends { result ≡ Poll.Ready (Ok (record {})) → R.ended reader.new }
     ensures error { IfReadyErr result (λ e. R.fails reader.new cx.new e ⊎ IsIo e) }
     ensures told { R.told reader.new ≡ R.told reader.old }
+    ensures heeded { OnPending result (R.told reader.new ≡ true → AsksAgain cx.new) }
     ensures covered { OnPending result (Covers cx.new (R.needs reader.new)) }
     ensures kept { Keeps cx.old cx.new }
 {

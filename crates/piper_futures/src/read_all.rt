@@ -1,7 +1,8 @@
 //! All bytes of a reader.
-ghost use Rattle.std.specs.Prelude.{◌≡◌, ◌<◌, length, Ok, IsSome, IsSomeAnd};
+ghost use Rattle.std.specs.Prelude.{◌≡◌, ◌<◌, length, Ok, true, IsSome, IsSomeAnd};
 ghost use Rattle.futures.specs.Task.{Covers, Keeps};
 ghost use Rattle.futures.specs.Poll.{OnPending};
+ghost use Rattle.piper.specs.Contexts.{AsksAgain};
 ghost use Rattle.piper.specs.Polls.{IfReadyErr};
 ghost use Rattle.piper_lines.specs.AtEnd.{AtEnd};
 ghost use Rattle.piper_lines.specs.Moves.{Grows};
@@ -73,9 +74,11 @@ pub fn poll_read_to_end<R: AsyncBufRead>(
         bytes.old.items bytes.new.items }
     ensures ended { result ≡ Poll.Ready (Ok (record {})) →
         AtEnd (R.known reader.new) (R.saw reader.new) }
+    ensures ends { result ≡ Poll.Ready (Ok (record {})) → R.ended reader.new }
     ensures error { IfReadyErr result (λ e. IsTold e (R.fails reader.new cx.new)
         (0 < length (R.known reader.new))) }
     ensures told { R.told reader.new ≡ R.told reader.old }
+    ensures heeded { OnPending result (R.told reader.new ≡ true → AsksAgain cx.new) }
     ensures covered { OnPending result (Covers cx.new (R.needs reader.new)) }
     ensures kept { Keeps cx.old cx.new }
 {

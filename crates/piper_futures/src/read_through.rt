@@ -1,7 +1,8 @@
 //! Bytes through a delimiter.
-ghost use Rattle.std.specs.Prelude.{◌≡◌, ◌<◌, ◌≤◌, length, take, IsSome, IsSomeAnd, MatchBool};
+ghost use Rattle.std.specs.Prelude.{◌≡◌, ◌<◌, ◌≤◌, length, take, Ok, true, false, IsSome, IsSomeAnd, MatchBool};
 ghost use Rattle.futures.specs.Task.{Covers, Keeps};
 ghost use Rattle.futures.specs.Poll.{OnPending};
+ghost use Rattle.piper.specs.Contexts.{AsksAgain};
 ghost use Rattle.piper.specs.Polls.{IfReadyErr};
 ghost use Rattle.piper_lines.specs.Refusals.{IsTold};
 ghost use Rattle.piper_futures.specs.Until.{IsThrough, Lacks, ReadThrough, Reaches, StartsReadingThrough};
@@ -73,9 +74,11 @@ pub fn poll_read_until<R: AsyncBufRead>(
 ) -> Poll<Result<bool, PipeError>>
     ensures reaches { Reaches result byte (R.taken reader.old) (R.taken reader.new)
         bytes.old.items bytes.new.items (R.known reader.new) (R.saw reader.new) }
+    ensures ends { result ≡ Poll.Ready (Ok false) → R.ended reader.new }
     ensures error { IfReadyErr result (λ e. IsTold e (R.fails reader.new cx.new)
         (0 < length (R.known reader.new))) }
     ensures told { R.told reader.new ≡ R.told reader.old }
+    ensures heeded { OnPending result (R.told reader.new ≡ true → AsksAgain cx.new) }
     ensures covered { OnPending result (Covers cx.new (R.needs reader.new)) }
     ensures kept { Keeps cx.old cx.new }
 {

@@ -22,7 +22,7 @@ pub enum Copied {
 
 /// Copies all bytes from the reader to the writer, in order, up to the end of the one, the close of the other, or the first error.
 ///
-/// After 64 pieces it asks for another poll. After an answer other than that the writer's pipe is closed, all that was taken is published, and the next poll goes on from there.
+/// After 64 pieces it asks for another poll. After an answer other than that the writer's pipe is closed, all that was taken is published, and the next poll goes on from there. Of a reader that was told of the end it doesn't wait for bytes.
 pub fn poll_copy<R: AsyncBufRead, W: AsyncWrite>(
     cx: &mut Context<'_>,
     reader: &mut R,
@@ -35,9 +35,13 @@ pub fn poll_copy<R: AsyncBufRead, W: AsyncWrite>(
     ensures stays { W.saw writer.old ≡ true → W.saw writer.new ≡ true }
     ensures ended { result ≡ Poll.Ready (Ok Copied.ToTheEnd) →
         (R.known reader.new ≡ []) × (R.saw reader.new ≡ true) }
+    ensures ends { result ≡ Poll.Ready (Ok Copied.ToTheEnd) → R.ended reader.new }
     ensures closed { result ≡ Poll.Ready (Ok Copied.UntilClosed) → W.saw writer.new ≡ true }
     ensures error { IfReadyErr result (λ e.
         R.fails reader.new cx.new e ⊎ W.fails writer.new cx.new e) }
+    ensures told { R.told reader.new ≡ R.told reader.old }
+    ensures heeded { OnPending result (
+        R.told reader.new ≡ true → Covers cx.new (W.needs writer.new)) }
     ensures covered { OnPending result (
         Covers cx.new (R.needs reader.new) ⊎ Covers cx.new (W.needs writer.new)) }
     ensures kept { Keeps cx.old cx.new }

@@ -8,6 +8,7 @@ loop-init g c = record {
   carried = carries_none (g.R.AsyncBufRead.taken c.args.reader.now) (g.W.AsyncWrite.sent c.args.writer.now) (g.W.AsyncWrite.saw c.args.writer.now);
   over = λ _. (refl, refl);
   stays = λ seen. seen;
+  told = refl;
   kept = λ fact held. held;
 }
 
@@ -24,5 +25,6 @@ loop-preserved g c =
       carried = carries_more _ _ _ _ _ _ piece written.1.0 n _ _ c.loop.invariant.carried unseen taken written.1.1 written.1.2 written.1.3;
       over = λ seen. absurd (unseen (c.loop.invariant.stays seen));
       stays = λ seen. absurd (unseen (c.loop.invariant.stays seen));
+      told = search rules;
       kept = search rules;
     }

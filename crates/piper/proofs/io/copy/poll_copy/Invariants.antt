@@ -9,5 +9,6 @@ invariant-loop g l = record {
   carried : Carries (g.R.AsyncBufRead.taken l.initial.reader) (g.R.AsyncBufRead.taken l.reader) (g.W.AsyncWrite.sent l.initial.writer) (g.W.AsyncWrite.sent l.writer) (g.W.AsyncWrite.saw l.writer);
   over : g.W.AsyncWrite.saw l.initial.writer ≡ true → (g.R.AsyncBufRead.taken l.reader ≡ g.R.AsyncBufRead.taken l.initial.reader) × (g.W.AsyncWrite.sent l.writer ≡ g.W.AsyncWrite.sent l.initial.writer);
   stays : g.W.AsyncWrite.saw l.initial.writer ≡ true → g.W.AsyncWrite.saw l.writer ≡ true;
+  told : g.R.AsyncBufRead.told l.reader ≡ g.R.AsyncBufRead.told l.initial.reader;
   kept : Keeps l.initial.cx l.cx;
 }
