@@ -30,6 +30,7 @@ calls() {
         function finish() {
             gsub(/\( /, "(", signature); gsub(/,? \)/, ")", signature); gsub(/ ,/, ",", signature)
             gsub(/  +/, " ", signature); sub(/,? *where$/, "", signature); sub(/ +$/, "", signature)
+            sub(/^(pub )?fn /, "", signature)
             line = "- `" signature "`"
             if (comment != "") line = line "<br>" first_sentence(comment)
             if (asks != "") line = line "<br>asks " asks
@@ -40,7 +41,7 @@ calls() {
         function clause(text,   word, name) {
             word = text; sub(/[ *].*/, "", word)
             name = text; sub(/^(requires|ensures)\*? */, "", name)
-            name = match(name, /^[a-z_]+/) ? "`" substr(name, 1, RLENGTH) "`" : "one fact"
+            name = match(name, /^[a-z_]+/) ? "`" substr(name, 1, RLENGTH) "`" : "one"
             if (word == "requires") asks = asks (asks == "" ? "" : ", ") name
             else gives = gives (gives == "" ? "" : ", ") name
         }
@@ -90,7 +91,7 @@ page() {
     local crate
     echo "# The public calls"
     echo
-    echo "Written by \`./write_api.sh\` from the sources: change those, and run it. Each call has its signature, what it does, the clauses that it asks of its caller, and those that it gives. [CONTRACTS.md](CONTRACTS.md) says how clauses are read."
+    echo "Written by \`./write_api.sh\` from the sources: change those, and run it. Each call has its signature, what it does, the clauses that it asks of its caller, and those that it gives; \`one\` has no name. [CONTRACTS.md](CONTRACTS.md) says how clauses are read."
     for crate in "${crates[@]}"; do
         [ -d "crates/$crate/src" ] || continue
         echo

@@ -4,6 +4,7 @@ use futures::{SinkExt, StreamExt};
 use piper::io::Copied;
 use piper::{PipeError, owned_pipe};
 use piper_futures::{close, copy, drain_into, fill_from, read_to_end, read_until, write_all};
+use piper_lines::{ByteOrder, FrameHeader, into_line_text};
 use piper_streams::{FrameSink, FrameStream, LineSink, LineStream, WriteSink};
 use std::io;
 use std::test::Fail;
@@ -85,6 +86,38 @@ fn frames_of_a_sink_come_out_of_a_stream_up_to_one_too_long(rt: HostRuntime) -> 
     }
     assert!(rt; matches!(block_on(&rt, frames.next())?, Some(Err(PipeError::Io(_)))));
     assert!(rt; block_on(&rt, frames.next())?.is_none());
+    Ok(())
+}
+
+#[test]
+fn texts_and_bodies_come_by_the_choices_of_both_ends(rt: HostRuntime) -> Result<(), Fail> {
+    let alloc = rt.alloc();
+    let (reader, mut writer) = owned_pipe(&rt, 64)?;
+    writer.try_fill(b"one\r\ntwo\n");
+    let mut sink = LineSink::ended_by(alloc, writer, b';');
+    let mut text = Vec::new(alloc);
+    text.extend_from_slice(b"three")?;
+    sink = block_on(&rt, sink.send(text))??;
+    drop(sink);
+    let mut texts = LineStream::new(alloc, reader, 10).map(|line| line.map(into_line_text));
+    for text in ["one", "two", "three;"] {
+        let Some(came) = block_on(&rt, texts.next())? else {
+            return Err(Fail::from("a text is missing"));
+        };
+        assert_eq!(rt; came?.as_slice(), text.as_bytes());
+    }
+    let (reader, writer) = owned_pipe(&rt, 64)?;
+    let format = FrameHeader::TwoBytes(ByteOrder::LittleEndian);
+    let mut sink = FrameSink::with_header(alloc, writer, format);
+    let mut body = Vec::new(alloc);
+    body.extend_from_slice(b"ab")?;
+    sink = block_on(&rt, sink.send(body))??;
+    drop(sink);
+    let mut frames = FrameStream::with_header(alloc, reader, format, 2);
+    let Some(came) = block_on(&rt, frames.next())? else {
+        return Err(Fail::from("a frame is missing"));
+    };
+    assert_eq!(rt; came?.as_slice(), b"ab".as_slice());
     Ok(())
 }
 

@@ -5,6 +5,7 @@ use Rattle.std.specs.declared.alloc.Global.{Global}
 use Rattle.std.proofs.lemmas.Grind.{flat_map-append}
 use Rattle.std.proofs.lemmas.List.Elements.{All-push}
 use Rattle.futures.specs.declared.task.Poll.TheVariants.{Ready}
+use Rattle.piper_lines.specs.declared.header.FrameHeader.{FrameHeader}
 use Rattle.piper_lines.specs.declared.line_reader.LineAnswer.{LineAnswer}
 use Rattle.piper_lines.specs.declared.line_reader.LineAnswer.TheVariants.{Line, TooLong, Last, End}
 use Rattle.piper_lines.specs.AtEnd.{AtEnd}
@@ -31,25 +32,25 @@ adds_piece Fits out0 out1 out2 piece adds pushed fits = (
 )
 
 -- less was kept than the limit, so it is as long as that
-too_long : (limit : ℕ) (before line : List ℕ) → IsTooLong limit before line → length before < limit → IsPiece limit line
-too_long limit before line (lacks, inl as_long) short = inr (lacks, as_long)
-too_long limit before line (lacks, inr (same, longer)) short = absurd (omega (arith, ap length same))
+too_long : (end limit : ℕ) (before line : List ℕ) → IsTooLong end limit before line → length before < limit → IsPiece end limit line
+too_long end limit before line (lacks, inl as_long) short = inr (lacks, as_long)
+too_long end limit before line (lacks, inr (same, longer)) short = absurd (omega (arith, ap length same))
 
 -- what was handed out before the end is a piece, and nothing is kept
-pub hands_piece : (E : Type 0) (a : LineAnswer) (limit : ℕ) (before line kept known : List ℕ) (saw : Bool) → at_end a ≡ false
-    → Hands {E = E} (Ready (Ok a)) limit before line kept known saw → (kept ≡ []) × (length before < limit → IsPiece limit line)
-hands_piece E Line limit before line kept known saw more hands = (hands.2, λ short. inl (hands.0, hands.1))
-hands_piece E TooLong limit before line kept known saw more hands = (hands.1, λ short. too_long limit before line hands.0 short)
-hands_piece E Last limit before line kept known saw more hands = cc
-hands_piece E End limit before line kept known saw more hands = cc
+pub hands_piece : (E : Type 0) (a : LineAnswer) (end limit : ℕ) (before line kept known : List ℕ) (saw : Bool) → at_end a ≡ false
+    → Hands {E = E} (Ready (Ok a)) end limit before line kept known saw → (kept ≡ []) × (length before < limit → IsPiece end limit line)
+hands_piece E Line end limit before line kept known saw more hands = (hands.2, λ short. inl (hands.0, hands.1))
+hands_piece E TooLong end limit before line kept known saw more hands = (hands.1, λ short. too_long end limit before line hands.0 short)
+hands_piece E Last end limit before line kept known saw more hands = cc
+hands_piece E End end limit before line kept known saw more hands = cc
 
 -- at the end nothing is kept
-pub hands_end : (E : Type 0) (a : LineAnswer) (limit : ℕ) (before line kept known : List ℕ) (saw : Bool) → at_end a ≡ true
-    → Hands {E = E} (Ready (Ok a)) limit before line kept known saw → (kept ≡ []) × AtEnd known saw
-hands_end E Line limit before line kept known saw more hands = cc
-hands_end E TooLong limit before line kept known saw more hands = cc
-hands_end E Last limit before line kept known saw more hands = (hands.2, hands.3)
-hands_end E End limit before line kept known saw more hands = (hands.1, hands.2)
+pub hands_end : (E : Type 0) (a : LineAnswer) (end limit : ℕ) (before line kept known : List ℕ) (saw : Bool) → at_end a ≡ true
+    → Hands {E = E} (Ready (Ok a)) end limit before line kept known saw → (kept ≡ []) × AtEnd known saw
+hands_end E Line end limit before line kept known saw more hands = cc
+hands_end E TooLong end limit before line kept known saw more hands = cc
+hands_end E Last end limit before line kept known saw more hands = (hands.2, hands.3)
+hands_end E End end limit before line kept known saw more hands = (hands.1, hands.2)
 
 -- a line more
 pub moves_line : (t0 t1 t2 k0 k1 k2 line rest : List ℕ) (out1 out2 : List (Vec ℕ Global)) → Moves t0 t1 k0 (joined out1) k1
@@ -59,18 +60,18 @@ moves_line t0 t1 t2 k0 k1 k2 line rest out1 out2 first second same is_rest =
     (subst (λ ws. Moves t0 t2 k0 (joined out1 ++ ws) k2) is_rest (moves_then t0 t1 t2 k0 k1 k2 (joined out1) line first second))
 
 -- a poll more, that handed out no frame
-pub passes_no_frame : (t0 t1 t2 k0 k1 k2 : List ℕ) (s0 s1 s2 : ℕ) (out1 out2 : List (Vec ℕ Global)) → PassesMoves t0 t1 s0 s1 k0 (joined_frames out1) k1
-    → PassesMoves t1 t2 s1 s2 k1 [] k2 → out2 ≡ out1 → PassesMoves t0 t2 s0 s2 k0 (joined_frames out2) k2
-passes_no_frame t0 t1 t2 k0 k1 k2 s0 s1 s2 out1 out2 first second same =
-    subst (λ ws. PassesMoves t0 t2 s0 s2 k0 ws k2) (append-nil (joined_frames out1) ∙ ap joined_frames (sym same))
-    (passes_then t0 t1 t2 k0 k1 k2 (joined_frames out1) [] s0 s1 s2 first second)
+pub passes_no_frame : (format : FrameHeader) (t0 t1 t2 k0 k1 k2 : List ℕ) (s0 s1 s2 : ℕ) (out1 out2 : List (Vec ℕ Global)) → PassesMoves t0 t1 s0 s1 k0 (joined_frames format out1) k1
+    → PassesMoves t1 t2 s1 s2 k1 [] k2 → out2 ≡ out1 → PassesMoves t0 t2 s0 s2 k0 (joined_frames format out2) k2
+passes_no_frame format t0 t1 t2 k0 k1 k2 s0 s1 s2 out1 out2 first second same =
+    subst (λ ws. PassesMoves t0 t2 s0 s2 k0 ws k2) (append-nil (joined_frames format out1) ∙ ap (λ out. joined_frames format out) (sym same))
+    (passes_then t0 t1 t2 k0 k1 k2 (joined_frames format out1) [] s0 s1 s2 first second)
 
 -- a frame more
-pub passes_frame : (t0 t1 t2 k0 k1 k2 : List ℕ) (s0 s1 s2 : ℕ) (out1 out2 : List (Vec ℕ Global)) (body : Vec ℕ Global)
-    → PassesMoves t0 t1 s0 s1 k0 (joined_frames out1) k1 → PassesMoves t1 t2 s1 s2 k1 (frame_bytes body.items) k2 → out2 ≡ out1 ++ body ∷ []
-    → PassesMoves t0 t2 s0 s2 k0 (joined_frames out2) k2
-passes_frame t0 t1 t2 k0 k1 k2 s0 s1 s2 out1 out2 body first second pushed =
-    let together : joined_frames out1 ++ frame_bytes body.items ≡ joined_frames out2 =
-    sym (ap joined_frames pushed ∙ flat_map-push (λ (v : Vec ℕ Global). frame_bytes v.items) out1 body) in
+pub passes_frame : (format : FrameHeader) (t0 t1 t2 k0 k1 k2 : List ℕ) (s0 s1 s2 : ℕ) (out1 out2 : List (Vec ℕ Global)) (body : Vec ℕ Global)
+    → PassesMoves t0 t1 s0 s1 k0 (joined_frames format out1) k1 → PassesMoves t1 t2 s1 s2 k1 (frame_bytes format body.items) k2 → out2 ≡ out1 ++ body ∷ []
+    → PassesMoves t0 t2 s0 s2 k0 (joined_frames format out2) k2
+passes_frame format t0 t1 t2 k0 k1 k2 s0 s1 s2 out1 out2 body first second pushed =
+    let together : joined_frames format out1 ++ frame_bytes format body.items ≡ joined_frames format out2 =
+    sym (ap (λ out. joined_frames format out) pushed ∙ flat_map-push (λ (v : Vec ℕ Global). frame_bytes format v.items) out1 body) in
     subst (λ ws. PassesMoves t0 t2 s0 s2 k0 ws k2) together
-    (passes_then t0 t1 t2 k0 k1 k2 (joined_frames out1) (frame_bytes body.items) s0 s1 s2 first second)
+    (passes_then t0 t1 t2 k0 k1 k2 (joined_frames format out1) (frame_bytes format body.items) s0 s1 s2 first second)

@@ -6,9 +6,10 @@ use Rattle.futures.specs.declared.task.Poll.TheVariants.{Ready, Pending}
 use Rattle.piper_lines.specs.AtEnd.{AtEnd}
 use Rattle.piper_lines.specs.Frame.{TellsLength, IsBetweenFrames, IsInsideFrame}
 use Rattle.piper_lines.specs.declared.collect.Collected.{Collected}
+use Rattle.piper_lines.specs.declared.header.FrameHeader.{FrameHeader}
 use Rattle.piper_lines.specs.declared.collect.Collected.TheVariants.{ToTheEnd, Truncated, UntilTooLong}
 
--- the bytes behind the last LF, once the reader ended
+-- the bytes behind the last line, once the reader ended
 abbrev pub rest_of : {E : Type 0} → Poll (Result (Vec ℕ Global) E) → List ℕ
 rest_of (Ready (Ok rest)) = rest.items
 rest_of (Ready (Err e)) = []
@@ -16,13 +17,13 @@ rest_of Pending = []
 
 -- by the answer: what is kept of a frame, and has still to pass of a skipped one.
 -- Where a frame is too long, what was taken of its body before is all that is kept of it
-abbrev pub EndsFrames : {E : Type 0} → Poll (Result Collected E)
+abbrev pub EndsFrames : {E : Type 0} → FrameHeader → Poll (Result Collected E)
     → ℕ → List ℕ → List ℕ → List ℕ → ℕ → List ℕ → Bool → Type 0
-EndsFrames (Ready (Ok ToTheEnd)) limit header before body skips known saw =
+EndsFrames format (Ready (Ok ToTheEnd)) limit header before body skips known saw =
     IsBetweenFrames header body skips × AtEnd known saw
-EndsFrames (Ready (Ok Truncated)) limit header before body skips known saw =
+EndsFrames format (Ready (Ok Truncated)) limit header before body skips known saw =
     IsInsideFrame header skips × AtEnd known saw
-EndsFrames (Ready (Ok (UntilTooLong n))) limit header before body skips known saw =
-    (limit < n) × TellsLength header n × ((body ≡ before) ⊎ (body ≡ [])) × (skips ≡ 0)
-EndsFrames (Ready (Err e)) limit header before body skips known saw = ⊤
-EndsFrames Pending limit header before body skips known saw = ⊤
+EndsFrames format (Ready (Ok (UntilTooLong n))) limit header before body skips known saw =
+    (limit < n) × TellsLength format header n × ((body ≡ before) ⊎ (body ≡ [])) × (skips ≡ 0)
+EndsFrames format (Ready (Err e)) limit header before body skips known saw = ⊤
+EndsFrames format Pending limit header before body skips known saw = ⊤

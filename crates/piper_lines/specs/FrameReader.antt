@@ -3,17 +3,22 @@ use Rattle.std.specs.Prelude.{ℕ, List, ◌++◌, vec_capacity}
 use Rattle.std.specs.Borrow.{Fml, RattleType, MutBor, Lends}
 use Rattle.piper_lines.specs.Frame.{IsBetweenFrames}
 use Rattle.piper_lines.specs.declared.frame_reader.Frames.{Frames}
+use Rattle.piper_lines.specs.declared.header.FrameHeader.{FrameHeader}
 use Rattle.piper_lines.specs.contracts.frame_reader.Frames.{the_row}
 
 -- the reader below
 abbrev pub reader_of : {R : Type 0} → Frames R → R
 reader_of frames = frames.reader
 
--- what was taken of the length of a frame
+-- how the length of a frame is told
+abbrev pub format_of : {R : Type 0} → Frames R → FrameHeader
+format_of frames = frames.format
+
+-- what was taken of the header of a frame
 abbrev pub header_of : {R : Type 0} → Frames R → List ℕ
 header_of frames = frames.header.items
 
--- what was taken of the frame behind its length
+-- what was taken of the frame behind its header
 abbrev pub body_of : {R : Type 0} → Frames R → List ℕ
 body_of frames = frames.body.items
 
@@ -21,7 +26,7 @@ body_of frames = frames.body.items
 abbrev pub kept_of : {R : Type 0} → Frames R → List ℕ
 kept_of frames = header_of frames ++ body_of frames
 
--- how many bytes the memory holds that is there for a length, and for a body
+-- how many bytes the memory holds that is there for a header, and for a body
 abbrev pub header_room_of : {R : Type 0} → Frames R → ℕ
 header_room_of frames = vec_capacity frames.header
 

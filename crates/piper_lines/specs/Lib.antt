@@ -4,6 +4,7 @@ pub mod Frame
 pub mod FrameAnswers
 pub mod FrameReader
 pub mod FrameWriter
+pub mod Header
 pub mod Line
 pub mod LineAnswers
 pub mod LineReader
@@ -11,4 +12,6 @@ pub mod LineWriter
 pub mod Moves
 pub mod Refusals
 pub mod Sends
+pub mod Shown
 pub mod Split
+pub mod Text

@@ -1,14 +1,18 @@
 -- A line of a text.
 use Rattle.std.specs.Prelude.{◌≡◌, ◌≢◌, ℕ, List, [], ◌∷◌, ◌++◌, All}
 
--- the byte LF (line feed), which ends a line
+-- the byte LF (line feed), which ends a line where no other byte is chosen
 abbrev pub line_feed : ℕ
 line_feed = 10
 
--- no byte of it is LF
-abbrev pub LacksLf : List ℕ → Type 0
-LacksLf bytes = All (λ b. b ≢ line_feed) bytes
+-- the byte CR (carriage return), which may stand before an LF
+abbrev pub carriage_return : ℕ
+carriage_return = 13
 
--- its last byte is its only LF
-abbrev pub IsLine : List ℕ → Type 0
-IsLine bytes = (front : List ℕ) × LacksLf front × (bytes ≡ front ++ line_feed ∷ [])
+-- no byte of it is this one
+abbrev pub Lacks : ℕ → List ℕ → Type 0
+Lacks end bytes = All (λ b. b ≢ end) bytes
+
+-- its last byte is the only one that ends a line
+abbrev pub IsLine : ℕ → List ℕ → Type 0
+IsLine end bytes = (front : List ℕ) × Lacks end front × (bytes ≡ front ++ end ∷ [])

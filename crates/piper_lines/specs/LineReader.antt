@@ -8,6 +8,10 @@ use Rattle.piper_lines.specs.contracts.line_reader.Lines.{the_row}
 abbrev pub reader_of : {R : Type 0} → Lines R → R
 reader_of lines = lines.reader
 
+-- the byte that ends a line
+abbrev pub end_of : {R : Type 0} → Lines R → ℕ
+end_of lines = lines.end
+
 -- what was taken of a line that has not come to its end
 abbrev pub kept_of : {R : Type 0} → Lines R → List ℕ
 kept_of lines = lines.kept.items

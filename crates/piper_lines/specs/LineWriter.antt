@@ -1,8 +1,7 @@
 -- What a line that is being written has.
-use Rattle.std.specs.Prelude.{ℕ, List, [], ◌∷◌, ◌++◌, drop}
+use Rattle.std.specs.Prelude.{ℕ, List, ◌++◌, drop}
 use Rattle.piper_lines.specs.declared.line_writer.WriteLine.{WriteLine}
-use Rattle.piper_lines.specs.Line.{line_feed}
 
 -- the bytes that are left
 abbrev pub left_of : WriteLine → List ℕ
-left_of line = drop line.text_written line.text.now ++ drop line.end_written (line_feed ∷ [])
+left_of line = drop line.text_written line.text.now ++ drop line.end_written line.end

@@ -2,7 +2,8 @@
 use Rattle.std.specs.Prelude.{◌≡◌, ℕ, ◌+◌, ◌<◌, ◌≤◌, ◌⊎◌, List, length}
 use Rattle.piper.specs.declared.error.PipeError.{PipeError}
 use Rattle.piper.specs.declared.error.PipeError.TheVariants.{Memory}
-use Rattle.piper_lines.specs.Frame.{told_length}
+use Rattle.piper_lines.specs.Header.{header_size, told_length}
+use Rattle.piper_lines.specs.declared.header.FrameHeader.{FrameHeader}
 
 -- fewer than `size` bytes are gathered and more are known, and
 -- the memory that there was at first has no room for all of them
@@ -11,11 +12,12 @@ LacksRoom size room gathered known =
     (length gathered < size) × (0 < length known)
     × (room < length gathered + length known)
 
--- the same of a frame of at most `limit` bytes: of its length, or of its body
-abbrev pub LacksFrameRoom : ℕ → ℕ → ℕ → List ℕ → List ℕ → List ℕ → Type 0
-LacksFrameRoom limit header_room body_room header body known =
-    LacksRoom 4 header_room header known
-    ⊎ ((told_length header ≤ limit) × LacksRoom (told_length header) body_room body known)
+-- the same of a frame of at most `limit` bytes: of its header, or of its body
+abbrev pub LacksFrameRoom : FrameHeader → ℕ → ℕ → ℕ → List ℕ → List ℕ → List ℕ → Type 0
+LacksFrameRoom format limit header_room body_room header body known =
+    LacksRoom (header_size format) header_room header known
+    ⊎ ((told_length format header ≤ limit)
+    × LacksRoom (told_length format header) body_room body known)
 
 -- an error is the reader's own, or memory was asked for and refused
 abbrev pub IsTold : PipeError → (PipeError → Type 0) → Type 0 → Type 0

@@ -5,18 +5,16 @@ ghost use Rattle.futures.specs.Task.{Covers, Keeps};
 ghost use Rattle.futures.specs.Poll.{OnPending};
 ghost use Rattle.piper.specs.Contexts.{AsksAgain};
 ghost use Rattle.piper.specs.Polls.{IfReadyErr};
-ghost use Rattle.piper_lines.specs.Frame.{length_bytes, told_length};
+ghost use Rattle.piper_lines.specs.Header.{header_size, told_length, usual_header};
 
 use crate::gather::{fill_up, pass_over};
+use crate::header::{ByteOrder, FrameHeader};
 use futures::task::{Context, Poll};
 use piper::PipeError;
 use piper::io::AsyncBufRead;
 use std::alloc::Global;
 use std::fmt::{self, Debug, Formatter};
 use std::mem;
-
-/// How many bytes tell the length of a frame.
-const HEADER_BYTES: usize = 4;
 
 /// What a poll for a frame answers.
 #[derive(Debug, Drop, Clone, Copy, PartialEq, Eq)]
@@ -31,30 +29,42 @@ pub enum FrameAnswer {
     End,
 }
 
-/// The frames of a reader: pieces of bytes with their length before them, in four bytes, the most significant first.
+/// The frames of a reader: pieces of bytes with their length before them.
 ///
-/// What was taken of a frame that has not come to its end is kept from poll to poll. In clauses, `reader_of` is the reader, `header_of` and `body_of` the bytes that are kept of the length and of the frame itself, `kept_of` all of them, and `skips_of` how many bytes of a skipped frame have still to pass.
+/// What was taken of a frame that has not come to its end is kept from poll to poll. In clauses, `reader_of` is the reader, `format_of` says how the length is told, `header_of` and `body_of` the bytes that are kept of the length and of the frame itself, `kept_of` all of them, and `skips_of` how many bytes of a skipped frame have still to pass.
 #[derive(Drop)]
 pub struct Frames<R> {
     reader: R,
     header: Vec<u8>,
     body: Vec<u8>,
     to_skip: usize,
-    ghost header_first: { length header.items < 4 → body.items ≡ [] },
-    ghost fits: { length body.items ≤ told_length header.items },
-    ghost short: { length header.items ≤ 4 },
+    format: FrameHeader,
+    ghost header_first: { length header.items < header_size format → body.items ≡ [] },
+    ghost fits: { length body.items ≤ told_length format header.items },
+    ghost short: { length header.items ≤ header_size format },
     ghost skips_first: { 0 < to_skip → header.items ≡ [] },
 }
 
 impl<R: AsyncBufRead> Frames<R> {
-    ghost use Rattle.piper_lines.specs.FrameReader.{reader_of, kept_of, header_of, body_of, skips_of, header_room_of, body_room_of, lends_reader, IsSpent};
+    ghost use Rattle.piper_lines.specs.FrameReader.{reader_of, format_of, kept_of, header_of, body_of, skips_of, header_room_of, body_room_of, lends_reader, IsSpent};
     ghost use Rattle.piper_lines.specs.Refusals.{IsTold, LacksFrameRoom};
     ghost use Rattle.piper_lines.specs.FrameAnswers.{EndsAgain, HandsFrame, OnEnd, handed};
     ghost use Rattle.piper_lines.specs.Moves.{PassesMoves};
 
-    /// Nothing is kept yet, and no memory is asked for.
+    /// The frames whose length is told in four bytes, the most significant first. Nothing is kept yet, and no memory is asked for.
     pub fn new(alloc: Global, reader: R) -> Frames<R>
         ensures reader { reader_of result ≡ reader }
+        ensures format { format_of result ≡ usual_header }
+        ensures kept { kept_of result ≡ [] }
+        ensures skips { skips_of result ≡ 0 }
+    {
+        Frames::with_header(alloc, reader, FrameHeader::FourBytes(ByteOrder::BigEndian))
+    }
+
+    /// The frames whose length is told in this way.
+    pub fn with_header(alloc: Global, reader: R, format: FrameHeader) -> Frames<R>
+        ensures reader { reader_of result ≡ reader }
+        ensures format { format_of result ≡ format }
         ensures kept { kept_of result ≡ [] }
         ensures skips { skips_of result ≡ 0 }
     {
@@ -65,6 +75,7 @@ impl<R: AsyncBufRead> Frames<R> {
             header,
             body,
             to_skip: 0,
+            format,
         }
     }
 
@@ -85,19 +96,21 @@ impl<R: AsyncBufRead> Frames<R> {
             header: _,
             body: _,
             to_skip: _,
+            format: _,
         } = self;
         reader
     }
 
     /// Gives up the frame whose length was told: the next polls pass over its bytes, and then take the frame behind it.
     pub fn skip(&mut self)
-        requires { length (header_of self.old) ≡ 4 }
+        requires { length (header_of self.old) ≡ header_size (format_of self.old) }
         ensures reader { reader_of self.new ≡ reader_of self.old }
+        ensures format { format_of self.new ≡ format_of self.old }
         ensures kept { kept_of self.new ≡ [] }
         ensures skips { skips_of self.new + length (body_of self.old)
-            ≡ told_length (header_of self.old) }
+            ≡ told_length (format_of self.old) (header_of self.old) }
     {
-        self.to_skip = number(&self.header) - self.body.len();
+        self.to_skip = self.format.told(&self.header) - self.body.len();
         self.body.clear();
         self.header.clear();
     }
@@ -112,16 +125,18 @@ impl<R: AsyncBufRead> Frames<R> {
         limit: usize,
     ) -> Poll<Result<FrameAnswer, PipeError>>
         ensures moved { PassesMoves (R.taken (reader_of self.old)) (R.taken (reader_of self.new))
-            (skips_of self.old) (skips_of self.new)
-            (kept_of self.old) (handed result frame.new.items) (kept_of self.new) }
-        ensures hands { HandsFrame result limit frame.new.items (header_of self.new)
-            (body_of self.old) (body_of self.new) (skips_of self.new)
+            (skips_of self.old) (skips_of self.new) (kept_of self.old)
+            (handed (format_of self.old) result frame.new.items) (kept_of self.new) }
+        ensures hands { HandsFrame (format_of self.old) result limit frame.new.items
+            (header_of self.new) (body_of self.old) (body_of self.new) (skips_of self.new)
             (R.known (reader_of self.new)) (R.saw (reader_of self.new)) }
         ensures ended { OnEnd result (R.ended (reader_of self.new)) }
         ensures behind { IsSpent R.ended self.old → IsSpent R.ended self.new × EndsAgain result }
         ensures error { IfReadyErr result (λ e. IsTold e (R.fails (reader_of self.new) cx.new)
-            (LacksFrameRoom limit (header_room_of self.old) (body_room_of self.old)
-            (header_of self.new) (body_of self.new) (R.known (reader_of self.new)))) }
+            (LacksFrameRoom (format_of self.old) limit (header_room_of self.old)
+            (body_room_of self.old) (header_of self.new) (body_of self.new)
+            (R.known (reader_of self.new)))) }
+        ensures format { format_of self.new ≡ format_of self.old }
         ensures told { R.told (reader_of self.new) ≡ R.told (reader_of self.old) }
         ensures heeded { OnPending result
             (R.told (reader_of self.new) ≡ true → AsksAgain cx.new) }
@@ -135,13 +150,14 @@ impl<R: AsyncBufRead> Frames<R> {
             Poll::Ready(Ok(false)) => return Poll::Ready(Ok(FrameAnswer::Truncated)),
             Poll::Ready(Ok(true)) => {}
         }
-        match fill_up(&mut self.reader, cx, &mut self.header, HEADER_BYTES) {
+        let header_size = self.format.size();
+        match fill_up(&mut self.reader, cx, &mut self.header, header_size) {
             Poll::Pending => return Poll::Pending,
             Poll::Ready(Err(error)) => return Poll::Ready(Err(error)),
             Poll::Ready(Ok(false)) => return Poll::Ready(Ok(ended(&self.header))),
             Poll::Ready(Ok(true)) => {}
         }
-        let size = number(&self.header);
+        let size = self.format.told(&self.header);
         if size > limit {
             return Poll::Ready(Ok(FrameAnswer::TooLong(size)));
         }
@@ -170,19 +186,11 @@ fn ended(header: &[u8]) -> FrameAnswer
     }
 }
 
-// The number that four bytes tell, the most significant first.
-fn number(header: &[u8]) -> usize
-    requires { length header.now ≡ 4 }
-    ensures told { result ≡ told_length header.now }
-    ensures spelled { length_bytes result ≡ header.now }
-{
-    u32::from_be_bytes([header[0], header[1], header[2], header[3]]) as usize
-}
-
 impl<R: Debug> Debug for Frames<R> {
     fn fmt<O: fmt::Write>(&self, f: &mut Formatter<O>) -> fmt::Result {
         f.debug_struct("Frames")
             .field("reader", &self.reader)
+            .field("format", &self.format)
             .field("header", &self.header.len())
             .field("body", &self.body.len())
             .field("to_skip", &self.to_skip)

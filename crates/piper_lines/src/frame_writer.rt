@@ -1,40 +1,69 @@
 //! A frame that is written whole.
-ghost use Rattle.std.specs.Prelude.{◌≡◌, ◌^◌, ◌<◌, ◌≤◌, [], length, true, Ok};
+ghost use Rattle.std.specs.Prelude.{◌≡◌, ◌↔◌, ◌^◌, ◌<◌, ◌≤◌, [], length, true, Ok, IfOk, IsOk};
 ghost use Rattle.futures.specs.Task.{Covers, Keeps};
 ghost use Rattle.futures.specs.Poll.{OnPending};
 ghost use Rattle.piper_lines.specs.Frame.{frame_bytes};
+ghost use Rattle.piper_lines.specs.Header.{usual_header, CanTell};
+ghost use Rattle.piper_lines.specs.Shown.{shown_of};
 ghost use Rattle.piper.specs.Polls.{IfReadyErr};
 ghost use Rattle.piper_lines.specs.Sends.{Sends};
 
+use crate::header::{ByteOrder, FrameHeader};
+use crate::length_bytes::LengthBytes;
 use crate::write_all::{Written, poll_write_both};
 use futures::task::{Context, Poll};
 use piper::PipeError;
 use piper::io::AsyncWrite;
 use std::fmt::{self, Debug, Formatter};
+use thiserror::Error;
 
-/// What is left of a frame that is being written: the length of a body in four bytes, the most significant first, and the body.
+/// The body has more bytes than the header of its frame can tell.
+#[derive(Clone, Copy, Debug, PartialEq, Eq, Error)]
+#[error("a body of more bytes than the header of its frame can tell")]
+pub struct BodyTooLong;
+
+/// What is left of a frame that is being written: the length of a body, and the body.
 ///
 /// In clauses, `left_of` are the bytes that are left.
 #[derive(Drop)]
 pub struct WriteFrame<'a> {
-    header: [u8; 4],
+    header: LengthBytes,
     header_written: usize,
     body: &'a [u8],
     body_written: usize,
-    ghost within_header: { header_written ≤ 4 },
+    ghost within_header: { header_written ≤ length (shown_of header) },
     ghost within: { body_written ≤ length body.now },
 }
 
 impl<'a> WriteFrame<'a> {
     ghost use Rattle.piper_lines.specs.FrameWriter.{left_of};
 
-    /// The frame with this body, none of which is written yet.
+    /// The frame with this body, none of which is written yet: its length in four bytes, the most significant first, and the body.
     pub fn new(body: &'a [u8]) -> WriteFrame<'a>
         requires { length body.now < 2 ^ 32 }
-        ensures { left_of result ≡ frame_bytes body.now }
+        ensures { left_of result ≡ frame_bytes usual_header body.now }
+    {
+        WriteFrame::begin(FrameHeader::FourBytes(ByteOrder::BigEndian), body)
+    }
+
+    /// The frame with this body, whose length is told in this way, unless it can't be told so.
+    pub fn with_header(format: FrameHeader, body: &'a [u8]) -> Result<WriteFrame<'a>, BodyTooLong>
+        ensures fits { IsOk result ↔ CanTell format (length body.now) }
+        ensures whole { IfOk result (λ frame. left_of frame ≡ frame_bytes format body.now) }
+    {
+        if format.can_tell(body.len()) {
+            Ok(WriteFrame::begin(format, body))
+        } else {
+            Err(BodyTooLong)
+        }
+    }
+
+    fn begin(format: FrameHeader, body: &'a [u8]) -> WriteFrame<'a>
+        requires { CanTell format (length body.now) }
+        ensures { left_of result ≡ frame_bytes format body.now }
     {
         WriteFrame {
-            header: (body.len() as u32).to_be_bytes(),
+            header: format.tell(body.len()),
             header_written: 0,
             body,
             body_written: 0,
@@ -61,7 +90,7 @@ impl<'a> WriteFrame<'a> {
         poll_write_both(
             writer,
             cx,
-            &self.header,
+            self.header.as_slice(),
             &mut self.header_written,
             self.body,
             &mut self.body_written,

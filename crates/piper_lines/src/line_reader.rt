@@ -3,7 +3,7 @@ ghost use Rattle.std.specs.Prelude.{◌≡◌, ◌<◌, ◌≤◌, ◌++◌, [],
 ghost use Rattle.std.specs.Borrow.{sem};
 ghost use Rattle.futures.specs.Task.{Covers, Keeps};
 ghost use Rattle.futures.specs.Poll.{OnPending};
-ghost use Rattle.piper_lines.specs.Line.{LacksLf, IsLine};
+ghost use Rattle.piper_lines.specs.Line.{Lacks, IsLine, line_feed};
 ghost use Rattle.piper_lines.specs.Moves.{Moves, Grows};
 ghost use Rattle.piper_lines.specs.LineAnswers.{EndsAgain, Gathers, Hands, OnEnd};
 ghost use Rattle.piper_lines.specs.Refusals.{IsTold, LacksRoom};
@@ -20,11 +20,11 @@ use std::mem;
 /// What a poll for a line answers.
 #[derive(Debug, Drop, Clone, Copy, PartialEq, Eq)]
 pub enum LineAnswer {
-    /// A whole line with its LF, of at most as many bytes as the limit.
+    /// A whole line with the byte that ends it, of at most as many bytes as the limit.
     Line,
-    /// As many bytes as the limit, or all that was kept where that is more, without an LF.
+    /// As many bytes as the limit, or all that was kept where that is more, none of which ends a line.
     TooLong,
-    /// What stands behind the last LF, at the end of the reader.
+    /// What stands behind the last line, at the end of the reader.
     Last,
     /// The end of the reader, with nothing left of a line. Behind it, and behind `Last`, each poll answers it again.
     End,
@@ -46,24 +46,35 @@ impl LineAnswer {
 
 /// The lines of a reader.
 ///
-/// What was taken of a line that has not come to its end is kept from poll to poll. In clauses, `reader_of` is the reader and `kept_of` the bytes that are kept.
+/// What was taken of a line that has not come to its end is kept from poll to poll. In clauses, `reader_of` is the reader, `end_of` the byte that ends a line, and `kept_of` the bytes that are kept.
 #[derive(Drop)]
 pub struct Lines<R> {
     reader: R,
     kept: Vec<u8>,
-    ghost unfinished: { LacksLf kept.items },
+    end: u8,
+    ghost unfinished: { Lacks end kept.items },
 }
 
 impl<R: AsyncBufRead> Lines<R> {
-    ghost use Rattle.piper_lines.specs.LineReader.{IsSpent, reader_of, kept_of, room_of, lends_reader};
+    ghost use Rattle.piper_lines.specs.LineReader.{IsSpent, reader_of, end_of, kept_of, room_of, lends_reader};
 
-    /// Nothing is kept yet, and no memory is asked for.
+    /// The lines that end with LF. Nothing is kept yet, and no memory is asked for.
     pub fn new(alloc: Global, reader: R) -> Lines<R>
         ensures reader { reader_of result ≡ reader }
+        ensures end { end_of result ≡ line_feed }
+        ensures kept { kept_of result ≡ [] }
+    {
+        Lines::split(alloc, reader, b'\n')
+    }
+
+    /// The lines that end with this byte.
+    pub fn split(alloc: Global, reader: R, end: u8) -> Lines<R>
+        ensures reader { reader_of result ≡ reader }
+        ensures end { end_of result ≡ end }
         ensures kept { kept_of result ≡ [] }
     {
         let kept = Vec::new(alloc);
-        Lines { reader, kept }
+        Lines { reader, kept, end }
     }
 
     /// The reader. What is kept of a line stays.
@@ -78,7 +89,11 @@ impl<R: AsyncBufRead> Lines<R> {
     pub fn into_reader(self) -> R
         ensures { result ≡ reader_of self }
     {
-        let Lines { reader, kept: _ } = self;
+        let Lines {
+            reader,
+            kept: _,
+            end: _,
+        } = self;
         reader
     }
 
@@ -94,12 +109,14 @@ impl<R: AsyncBufRead> Lines<R> {
         requires { 0 < limit }
         ensures moved { Moves (R.taken (reader_of self.old)) (R.taken (reader_of self.new))
             (kept_of self.old) line.new.items (kept_of self.new) }
-        ensures hands { Hands result limit (kept_of self.old) line.new.items (kept_of self.new)
+        ensures hands { Hands result (end_of self.old) limit
+            (kept_of self.old) line.new.items (kept_of self.new)
             (R.known (reader_of self.new)) (R.saw (reader_of self.new)) }
         ensures ended { OnEnd result (IsSpent R.ended self.new) }
         ensures behind { IsSpent R.ended self.old → IsSpent R.ended self.new × EndsAgain result }
         ensures error { IfReadyErr result (λ e. IsTold e (R.fails (reader_of self.new) cx.new)
             (LacksRoom limit (room_of self.old) (kept_of self.new) (R.known (reader_of self.new)))) }
+        ensures end { end_of self.new ≡ end_of self.old }
         ensures told { R.told (reader_of self.new) ≡ R.told (reader_of self.old) }
         ensures heeded { OnPending result (R.told (reader_of self.new) ≡ false) }
         ensures covered { OnPending result (Covers cx.new (R.needs (reader_of self.new))) }
@@ -107,7 +124,7 @@ impl<R: AsyncBufRead> Lines<R> {
     {
         line.clear();
         mem::swap(line, &mut self.kept);
-        let polled = gather(&mut self.reader, cx, line, limit);
+        let polled = gather(&mut self.reader, cx, line, self.end, limit);
         match &polled {
             Poll::Ready(Ok(_)) => {}
             _ => mem::swap(line, &mut self.kept),
@@ -116,16 +133,17 @@ impl<R: AsyncBufRead> Lines<R> {
     }
 }
 
-// Takes bytes from the reader to the end of `line`, through the first LF, up to the limit or to the end.
+// Takes bytes from the reader to the end of `line`, through the first that ends it, up to the limit or to the end of the reader.
 fn gather<R: AsyncBufRead>(
     reader: &mut R,
     cx: &mut Context<'_>,
     line: &mut Vec<u8>,
+    end: u8,
     limit: usize,
 ) -> Poll<Result<LineAnswer, PipeError>>
-    requires unfinished { LacksLf line.old.items }
+    requires unfinished { Lacks end line.old.items }
     ensures grown { Grows (R.taken reader.old) (R.taken reader.new) line.old.items line.new.items }
-    ensures gathers { Gathers result limit line.old.items line.new.items
+    ensures gathers { Gathers result end limit line.old.items line.new.items
         (R.known reader.new) (R.saw reader.new) }
     ensures ended { OnEnd result (R.ended reader.new) }
     ensures behind { 0 < limit → R.ended reader.old → line.old.items ≡ [] →
@@ -155,7 +173,7 @@ fn gather<R: AsyncBufRead>(
             }));
         }
         let front = &lent[..lent.len().min(room)];
-        let (count, is_found) = through_lf(front);
+        let (count, is_found) = through_end(front, end);
         if line.extend_from_slice(&front[..count]).is_err() {
             return Poll::Ready(Err(PipeError::Memory));
         }
@@ -166,14 +184,14 @@ fn gather<R: AsyncBufRead>(
     }
 }
 
-// How many bytes there are through the first LF and that there is one, or all of them.
-fn through_lf(bytes: &[u8]) -> (usize, bool)
+// How many bytes there are through the first that ends a line and that there is one, or all of them.
+fn through_end(bytes: &[u8], end: u8) -> (usize, bool)
     ensures within { result.0 ≤ length bytes.now }
     ensures some { 0 < length bytes.now → 0 < result.0 }
-    ensures through { MatchBool result.1 (IsLine (take result.0 bytes.now))
-        (LacksLf (take result.0 bytes.now)) }
+    ensures through { MatchBool result.1 (IsLine end (take result.0 bytes.now))
+        (Lacks end (take result.0 bytes.now)) }
 {
-    match memchr(b'\n', bytes) {
+    match memchr(end, bytes) {
         Some(before) => (before + 1, true),
         None => (bytes.len(), false),
     }
@@ -183,6 +201,7 @@ impl<R: Debug> Debug for Lines<R> {
     fn fmt<O: fmt::Write>(&self, f: &mut Formatter<O>) -> fmt::Result {
         f.debug_struct("Lines")
             .field("reader", &self.reader)
+            .field("end", &self.end)
             .field("kept", &self.kept.len())
             .finish()
     }

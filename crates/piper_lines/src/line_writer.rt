@@ -2,7 +2,7 @@
 ghost use Rattle.std.specs.Prelude.{◌≡◌, ◌↔◌, ◌≤◌, ◌++◌, [], ◌∷◌, IsTrue, length, true, Ok};
 ghost use Rattle.futures.specs.Task.{Covers, Keeps};
 ghost use Rattle.futures.specs.Poll.{OnPending};
-ghost use Rattle.piper_lines.specs.Line.{LacksLf, line_feed};
+ghost use Rattle.piper_lines.specs.Line.{Lacks, line_feed};
 ghost use Rattle.piper.specs.Polls.{IfReadyErr};
 ghost use Rattle.piper_lines.specs.Sends.{Sends};
 
@@ -13,13 +13,14 @@ use piper::PipeError;
 use piper::io::AsyncWrite;
 use std::fmt::{self, Debug, Formatter};
 
-/// What is left of a line that is being written: a text, and the LF behind it.
+/// What is left of a line that is being written: a text, and the byte that ends it.
 ///
 /// In clauses, `left_of` are the bytes that are left.
 #[derive(Drop)]
 pub struct WriteLine<'a> {
     text: &'a [u8],
     text_written: usize,
+    end: [u8; 1],
     end_written: usize,
     ghost within: { text_written ≤ length text.now },
     ghost within_end: { end_written ≤ 1 },
@@ -27,9 +28,16 @@ pub struct WriteLine<'a> {
 
 /// Whether the text has no LF, so that with an LF behind it it is one line.
 pub fn is_one_line(text: &[u8]) -> bool
-    ensures { IsTrue result ↔ LacksLf text.now }
+    ensures { IsTrue result ↔ Lacks line_feed text.now }
 {
-    memchr(b'\n', text).is_none()
+    lacks(text, b'\n')
+}
+
+/// Whether the text has no such byte, so that with one behind it it is one line of those that end with it.
+pub fn lacks(text: &[u8], end: u8) -> bool
+    ensures { IsTrue result ↔ Lacks end text.now }
+{
+    memchr(end, text).is_none()
 }
 
 impl<'a> WriteLine<'a> {
@@ -37,12 +45,21 @@ impl<'a> WriteLine<'a> {
 
     /// The text with an LF behind it, none of which is written yet.
     pub fn new(text: &'a [u8]) -> WriteLine<'a>
-        requires { LacksLf text.now }
+        requires { Lacks line_feed text.now }
         ensures { left_of result ≡ text.now ++ line_feed ∷ [] }
+    {
+        WriteLine::ended_by(text, b'\n')
+    }
+
+    /// The text with this byte behind it, none of which is written yet.
+    pub fn ended_by(text: &'a [u8], end: u8) -> WriteLine<'a>
+        requires { Lacks end text.now }
+        ensures { left_of result ≡ text.now ++ end ∷ [] }
     {
         WriteLine {
             text,
             text_written: 0,
+            end: [end],
             end_written: 0,
         }
     }
@@ -69,7 +86,7 @@ impl<'a> WriteLine<'a> {
             cx,
             self.text,
             &mut self.text_written,
-            b"\n",
+            &self.end,
             &mut self.end_written,
         )
     }

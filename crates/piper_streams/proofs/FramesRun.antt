@@ -5,6 +5,7 @@ use Rattle.std.proofs.lemmas.List.Elements.{All-nil, All-cons}
 use Rattle.futures.specs.Runs.{Ends, EndsIf}
 use Rattle.piper.specs.declared.error.PipeError.{PipeError}
 use Rattle.piper_lines.specs.AtEnd.{AtEnd}
+use Rattle.piper_lines.specs.declared.header.FrameHeader.{FrameHeader}
 use Rattle.piper_lines.specs.Moves.{Moves, PassesMoves}
 use Rattle.piper_lines.proofs.Moving.{moves_then}
 use Rattle.piper_streams.specs.LineRuns.{Item}
@@ -20,53 +21,53 @@ only_moves t0 t1 k0 handed k1 skips0 skips1 none moves =
     let same : moves.0 ≡ t0 = moves.1.1 ∙ ap (λ ws. t0 ++ ws) passed ∙ append-nil t0 in
     subst (λ ws. Moves ws t1 k0 handed k1) same moves.2
 
-module _ {R : Type 0} (taken known : R → List ℕ) (saw : R → Bool) (limit : ℕ) where
+module _ {R : Type 0} (taken known : R → List ℕ) (saw : R → Bool) (format : FrameHeader) (limit : ℕ) where
   -- where the stream has not ended, more may come
-  pub goes_on : (done : Bool) (r : R) (k : List ℕ) (items : List Item) (last : Option Item) → done ≡ false → EndsIf done (FrameRuns taken known saw limit r k) items last
-      → FrameRuns taken known saw limit r k items last
+  pub goes_on : (done : Bool) (r : R) (k : List ℕ) (items : List Item) (last : Option Item) → done ≡ false → EndsIf done (FrameRuns taken known saw format limit r k) items last
+      → FrameRuns taken known saw format limit r k items last
   goes_on false r k items last not_done runs = runs
   goes_on true r k items last not_done runs = cc
 
-  pub went_on : (done : Bool) (r : R) (k : List ℕ) (items : List Item) (last : Option Item) → done ≡ false → FrameRuns taken known saw limit r k items last
-      → EndsIf done (FrameRuns taken known saw limit r k) items last
+  pub went_on : (done : Bool) (r : R) (k : List ℕ) (items : List Item) (last : Option Item) → done ≡ false → FrameRuns taken known saw format limit r k items last
+      → EndsIf done (FrameRuns taken known saw format limit r k) items last
   went_on false r k items last not_done runs = runs
   went_on true r k items last not_done runs = cc
 
   -- the next answer is this item
-  pub comes : (r0 r1 : R) (k0 k1 : List ℕ) (item : Item) → Moves (taken r0) (taken r1) k0 (framed_bytes item) k1 → Fits limit item
-      → FrameRuns taken known saw limit r0 k0 [] (Some item)
+  pub comes : (r0 r1 : R) (k0 k1 : List ℕ) (item : Item) → Moves (taken r0) (taken r1) k0 (framed_bytes format item) k1 → Fits limit item
+      → FrameRuns taken known saw format limit r0 k0 [] (Some item)
   comes r0 r1 k0 k1 item moves fits = (r1, k1, moves, All-nil (Fits limit), fits, λ none. cc)
 
   -- the next answer is the end
   pub ends : (r0 r1 : R) (k0 k1 : List ℕ) → Moves (taken r0) (taken r1) k0 [] k1 → k1 ≡ [] → AtEnd (known r1) (saw r1)
-      → FrameRuns taken known saw limit r0 k0 [] None
+      → FrameRuns taken known saw format limit r0 k0 [] None
   ends r0 r1 k0 k1 moves none at_end = (r1, k1, moves, All-nil (Fits limit), tt, λ _. inl (none, at_end))
 
   -- no item came yet
   pub waits : (r0 r1 : R) (k0 k1 : List ℕ) (items : List Item) (last : Option Item) → Moves (taken r0) (taken r1) k0 [] k1
-      → FrameRuns taken known saw limit r1 k1 items last → FrameRuns taken known saw limit r0 k0 items last
+      → FrameRuns taken known saw format limit r1 k1 items last → FrameRuns taken known saw format limit r0 k0 items last
   waits r0 r1 k0 k1 items last moves runs = (
     runs.0,
     runs.1,
-    moves_then (taken r0) (taken r1) (taken runs.0) k0 k1 runs.1 [] (joined_frames_of items ++ last_framed last) moves runs.2,
+    moves_then (taken r0) (taken r1) (taken runs.0) k0 k1 runs.1 [] (joined_frames_of format items ++ last_framed format last) moves runs.2,
     runs.3,
     runs.4,
     runs.5,
   )
 
-  together : (r0 r1 : R) (k0 k1 : List ℕ) (item : Item) (items : List Item) (last : Option Item) → Moves (taken r0) (taken r1) k0 (framed_bytes item) k1
-      → (runs : FrameRuns taken known saw limit r1 k1 items last) → Moves (taken r0) (taken runs.0) k0 (joined_frames_of (item ∷ items) ++ last_framed last) runs.1
+  together : (r0 r1 : R) (k0 k1 : List ℕ) (item : Item) (items : List Item) (last : Option Item) → Moves (taken r0) (taken r1) k0 (framed_bytes format item) k1
+      → (runs : FrameRuns taken known saw format limit r1 k1 items last) → Moves (taken r0) (taken runs.0) k0 (joined_frames_of format (item ∷ items) ++ last_framed format last) runs.1
   together r0 r1 k0 k1 item items last moves runs =
-      subst (λ ws. Moves (taken r0) (taken runs.0) k0 ws runs.1) (sym (append_assoc (framed_bytes item) (joined_frames_of items) (last_framed last)))
-      (moves_then (taken r0) (taken r1) (taken runs.0) k0 k1 runs.1 (framed_bytes item) (joined_frames_of items ++ last_framed last) moves runs.2)
+      subst (λ ws. Moves (taken r0) (taken runs.0) k0 ws runs.1) (sym (append_assoc (framed_bytes format item) (joined_frames_of format items) (last_framed format last)))
+      (moves_then (taken r0) (taken r1) (taken runs.0) k0 k1 runs.1 (framed_bytes format item) (joined_frames_of format items ++ last_framed format last) moves runs.2)
 
   later_error : (item : Item) (items : List Item) (End : Type 0) → End ⊎ EndsInError items → End ⊎ EndsInError (item ∷ items)
   later_error item items End (inl clean) = inl clean
   later_error item items End (inr error) = inr (item ∷ error.0, error.1, ap (λ (xs : List Item). item ∷ xs) error.2)
 
   -- an item, and then the rest
-  pub comes_then : (r0 r1 : R) (k0 k1 : List ℕ) (item : Item) (items : List Item) (last : Option Item) → Moves (taken r0) (taken r1) k0 (framed_bytes item) k1
-      → Fits limit item → FrameRuns taken known saw limit r1 k1 items last → FrameRuns taken known saw limit r0 k0 (item ∷ items) last
+  pub comes_then : (r0 r1 : R) (k0 k1 : List ℕ) (item : Item) (items : List Item) (last : Option Item) → Moves (taken r0) (taken r1) k0 (framed_bytes format item) k1
+      → Fits limit item → FrameRuns taken known saw format limit r1 k1 items last → FrameRuns taken known saw format limit r0 k0 (item ∷ items) last
   comes_then r0 r1 k0 k1 item items last moves fits runs = (
     runs.0,
     runs.1,
@@ -78,10 +79,10 @@ module _ {R : Type 0} (taken known : R → List ℕ) (saw : R → Bool) (limit :
 
   -- an error, and then the end
   pub comes_last_error : (r0 r1 : R) (k0 k1 : List ℕ) (e : PipeError) (items : List Item) (last : Option Item) → Moves (taken r0) (taken r1) k0 [] k1 → Ends items last
-      → FrameRuns taken known saw limit r0 k0 (Err e ∷ items) last
+      → FrameRuns taken known saw format limit r0 k0 (Err e ∷ items) last
   comes_last_error r0 r1 k0 k1 e items last moves over =
-      let bytes : [] ≡ joined_frames_of (Err e ∷ items) ++ last_framed last =
-      ap (λ (xs : List Item). joined_frames_of (Err e ∷ xs) ++ last_framed None) (sym over.0) ∙ ap (λ (o : Option Item). joined_frames_of (Err e ∷ items) ++ last_framed o) (sym over.1) in (
+      let bytes : [] ≡ joined_frames_of format (Err e ∷ items) ++ last_framed format last =
+      ap (λ (xs : List Item). joined_frames_of format (Err e ∷ xs) ++ last_framed format None) (sym over.0) ∙ ap (λ (o : Option Item). joined_frames_of format (Err e ∷ items) ++ last_framed format o) (sym over.1) in (
         r1,
         k1,
         subst (λ ws. Moves (taken r0) (taken r1) k0 ws k1) bytes moves,

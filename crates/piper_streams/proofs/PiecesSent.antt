@@ -5,6 +5,7 @@ use Rattle.futures.specs.Sent.{UnlessFailed}
 use Rattle.futures.specs.declared.task.Poll.{Poll}
 use Rattle.futures.specs.declared.task.Poll.TheVariants.{Ready, Pending}
 use Rattle.piper_lines.specs.Frame.{frame_bytes}
+use Rattle.piper_lines.specs.declared.header.FrameHeader.{FrameHeader}
 use Rattle.piper_lines.specs.Sends.{Sends}
 use Rattle.piper_lines.specs.Split.{joined, joined_frames}
 use Rattle.std.specs.List.{flat_map}
@@ -32,22 +33,22 @@ sent_piece pieces piece left s saw sends none =
     (sends_front (joined pieces) [] piece.items [] s false saw whole)
 
 -- a line more, of which all is left
-pub sent_line : (texts : List (Vec ℕ Global)) (text line : Vec ℕ Global) (left s : List ℕ) (saw : Bool) → Sends (flat_map line_of texts) left [] s false saw → left ≡ []
-    → line.items ≡ line_of text → Sends (flat_map line_of (texts ++ text ∷ [])) line.items [] s false saw
-sent_line texts text line left s saw sends none is =
-    let whole : Sends (flat_map line_of texts) [] [] s false saw = subst (λ ws. Sends (flat_map line_of texts) ws [] s false saw) none sends in
-    let more : Sends (flat_map line_of texts ++ line_of text) (line_of text) [] s false saw = sends_front (flat_map line_of texts) [] (line_of text) [] s false saw whole in
-    subst (λ ws. Sends (flat_map line_of (texts ++ text ∷ [])) ws [] s false saw) (sym is)
-    (subst (λ ws. Sends ws (line_of text) [] s false saw) (sym (flat_map-push line_of texts text)) more)
+pub sent_line : (end : ℕ) (texts : List (Vec ℕ Global)) (text line : Vec ℕ Global) (left s : List ℕ) (saw : Bool) → Sends (flat_map (line_of end) texts) left [] s false saw → left ≡ []
+    → line.items ≡ line_of end text → Sends (flat_map (line_of end) (texts ++ text ∷ [])) line.items [] s false saw
+sent_line end texts text line left s saw sends none is =
+    let whole : Sends (flat_map (line_of end) texts) [] [] s false saw = subst (λ ws. Sends (flat_map (line_of end) texts) ws [] s false saw) none sends in
+    let more : Sends (flat_map (line_of end) texts ++ line_of end text) (line_of end text) [] s false saw = sends_front (flat_map (line_of end) texts) [] (line_of end text) [] s false saw whole in
+    subst (λ ws. Sends (flat_map (line_of end) (texts ++ text ∷ [])) ws [] s false saw) (sym is)
+    (subst (λ ws. Sends ws (line_of end text) [] s false saw) (sym (flat_map-push (line_of end) texts text)) more)
 
 -- a frame more, of which all is left
-pub sent_frame : (bodies : List (Vec ℕ Global)) (body frame : Vec ℕ Global) (left s : List ℕ) (saw : Bool) → Sends (joined_frames bodies) left [] s false saw → left ≡ []
-    → frame.items ≡ frame_bytes body.items → Sends (joined_frames (bodies ++ body ∷ [])) frame.items [] s false saw
-sent_frame bodies body frame left s saw sends none is =
-    let whole : Sends (joined_frames bodies) [] [] s false saw = subst (λ ws. Sends (joined_frames bodies) ws [] s false saw) none sends in
-    let more : Sends (joined_frames bodies ++ frame_bytes body.items) (frame_bytes body.items) [] s false saw = sends_front (joined_frames bodies) [] (frame_bytes body.items) [] s false saw whole in
-    subst (λ ws. Sends (joined_frames (bodies ++ body ∷ [])) ws [] s false saw) (sym is)
-    (subst (λ ws. Sends ws (frame_bytes body.items) [] s false saw) (sym (flat_map-push (λ (v : Vec ℕ Global). frame_bytes v.items) bodies body)) more)
+pub sent_frame : (format : FrameHeader) (bodies : List (Vec ℕ Global)) (body frame : Vec ℕ Global) (left s : List ℕ) (saw : Bool) → Sends (joined_frames format bodies) left [] s false saw → left ≡ []
+    → frame.items ≡ frame_bytes format body.items → Sends (joined_frames format (bodies ++ body ∷ [])) frame.items [] s false saw
+sent_frame format bodies body frame left s saw sends none is =
+    let whole : Sends (joined_frames format bodies) [] [] s false saw = subst (λ ws. Sends (joined_frames format bodies) ws [] s false saw) none sends in
+    let more : Sends (joined_frames format bodies ++ frame_bytes format body.items) (frame_bytes format body.items) [] s false saw = sends_front (joined_frames format bodies) [] (frame_bytes format body.items) [] s false saw whole in
+    subst (λ ws. Sends (joined_frames format (bodies ++ body ∷ [])) ws [] s false saw) (sym is)
+    (subst (λ ws. Sends ws (frame_bytes format body.items) [] s false saw) (sym (flat_map-push (λ (v : Vec ℕ Global). frame_bytes format v.items) bodies body)) more)
 
 -- what holds in any case holds unless the poll failed
 pub unless_failed : {T E : Type 0} (r : Poll (Result T E)) (P : Type 0) → P → UnlessFailed r P

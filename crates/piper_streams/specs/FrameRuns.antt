@@ -4,22 +4,23 @@ use Rattle.std.specs.List.{flat_map}
 use Rattle.piper.specs.declared.error.PipeError.{PipeError}
 use Rattle.piper_lines.specs.AtEnd.{AtEnd}
 use Rattle.piper_lines.specs.Frame.{frame_bytes}
+use Rattle.piper_lines.specs.declared.header.FrameHeader.{FrameHeader}
 use Rattle.piper_lines.specs.Moves.{Moves}
 use Rattle.piper_streams.specs.LineRuns.{Item}
 
 -- the bytes of an item, which is a body: those of its frame; none of an error
-abbrev pub framed_bytes : Item → List ℕ
-framed_bytes (Ok body) = frame_bytes body.items
-framed_bytes (Err e) = []
+abbrev pub framed_bytes : FrameHeader → Item → List ℕ
+framed_bytes format (Ok body) = frame_bytes format body.items
+framed_bytes format (Err e) = []
 
 -- the bytes of the items, in order
-abbrev pub joined_frames_of : List Item → List ℕ
-joined_frames_of items = flat_map framed_bytes items
+abbrev pub joined_frames_of : FrameHeader → List Item → List ℕ
+joined_frames_of format items = flat_map (framed_bytes format) items
 
 -- those of the next answer
-abbrev pub last_framed : Option Item → List ℕ
-last_framed None = []
-last_framed (Option.Some item) = framed_bytes item
+abbrev pub last_framed : FrameHeader → Option Item → List ℕ
+last_framed format None = []
+last_framed format (Option.Some item) = framed_bytes format item
 
 -- a body is no longer than the limit
 abbrev pub Fits : ℕ → Item → Type 0
@@ -32,10 +33,11 @@ EndsInError items = (front : List Item) × (e : PipeError) × (items ≡ front +
 
 -- what may come from a reader and what is kept of a frame: none of the bytes that were taken
 -- is lost, made up or out of its place. The end is told where nothing is left, or behind an error
-abbrev pub FrameRuns : {R : Type 0} → (R → List ℕ) → (R → List ℕ) → (R → Bool) → ℕ
-    → R → List ℕ → List Item → Option Item → Type 0
-FrameRuns {R} taken known saw limit reader kept items last =
+abbrev pub FrameRuns : {R : Type 0} → (R → List ℕ) → (R → List ℕ) → (R → Bool) → FrameHeader
+    → ℕ → R → List ℕ → List Item → Option Item → Type 0
+FrameRuns {R} taken known saw format limit reader kept items last =
     (later : R) × (left : List ℕ)
-    × Moves (taken reader) (taken later) kept (joined_frames_of items ++ last_framed last) left
+    × Moves (taken reader) (taken later)
+    kept (joined_frames_of format items ++ last_framed format last) left
     × All (Fits limit) items × IfSome last (Fits limit)
     × (last ≡ None → ((left ≡ []) × AtEnd (known later) (saw later)) ⊎ EndsInError items)

@@ -5,7 +5,7 @@ use Rattle.std.specs.declared.alloc.Global.{Global}
 use Rattle.futures.specs.Runs.{Ends}
 use Rattle.piper.specs.declared.error.PipeError.{PipeError}
 use Rattle.piper_lines.specs.AtEnd.{AtEnd}
-use Rattle.piper_lines.specs.Line.{LacksLf}
+use Rattle.piper_lines.specs.Line.{Lacks}
 use Rattle.piper_lines.specs.Moves.{Moves}
 use Rattle.piper_lines.specs.Split.{IsPiece}
 
@@ -27,25 +27,26 @@ abbrev pub last_bytes : Option Item → List ℕ
 last_bytes None = []
 last_bytes (Option.Some item) = item_bytes item
 
--- a piece, or what stands behind the last LF
-abbrev pub IsPart : ℕ → Item → Type 0
-IsPart limit (Ok line) = IsPiece limit line.items ⊎ (LacksLf line.items × (0 < length line.items))
-IsPart limit (Err e) = ⊤
+-- a piece, or what stands behind the last line
+abbrev pub IsPart : ℕ → ℕ → Item → Type 0
+IsPart end limit (Ok line) =
+    IsPiece end limit line.items ⊎ (Lacks end line.items × (0 < length line.items))
+IsPart end limit (Err e) = ⊤
 
--- each item is a whole piece, but for what stands behind the last LF, behind which nothing comes
-abbrev pub ArePieces : ℕ → List Item → Option Item → Type 0
-ArePieces limit [] last = IfSome last (IsPart limit)
-ArePieces limit (Err e ∷ items) last = ArePieces limit items last
-ArePieces limit (Ok line ∷ items) last =
-    (IsPiece limit line.items × ArePieces limit items last)
-    ⊎ (LacksLf line.items × (0 < length line.items) × Ends items last)
+-- each item is a whole piece, but for what stands behind the last line, behind which nothing comes
+abbrev pub ArePieces : ℕ → ℕ → List Item → Option Item → Type 0
+ArePieces end limit [] last = IfSome last (IsPart end limit)
+ArePieces end limit (Err e ∷ items) last = ArePieces end limit items last
+ArePieces end limit (Ok line ∷ items) last =
+    (IsPiece end limit line.items × ArePieces end limit items last)
+    ⊎ (Lacks end line.items × (0 < length line.items) × Ends items last)
 
 -- what may come from a reader and what is kept of a line: none of the bytes that were taken is lost,
 -- made up or out of its place, and nothing is left where the end is told
-abbrev pub LineRuns : {R : Type 0} → (R → List ℕ) → (R → List ℕ) → (R → Bool) → ℕ
+abbrev pub LineRuns : {R : Type 0} → (R → List ℕ) → (R → List ℕ) → (R → Bool) → ℕ → ℕ
     → R → List ℕ → List Item → Option Item → Type 0
-LineRuns {R} taken known saw limit reader kept items last =
+LineRuns {R} taken known saw end limit reader kept items last =
     (later : R) × (left : List ℕ)
     × Moves (taken reader) (taken later) kept (joined_items items ++ last_bytes last) left
-    × ArePieces limit items last
+    × ArePieces end limit items last
     × (last ≡ None → (left ≡ []) × AtEnd (known later) (saw later))

@@ -1,14 +1,15 @@
 //! The frames of a reader, one after another.
 ghost use Rattle.std.specs.Prelude.{◌≡◌, [], true, false};
 ghost use Rattle.futures.specs.Runs.{EndsIf};
-ghost use Rattle.piper_lines.specs.FrameReader.{reader_of, kept_of, skips_of};
+ghost use Rattle.piper_lines.specs.FrameReader.{reader_of, format_of, kept_of, skips_of};
+ghost use Rattle.piper_lines.specs.Header.{usual_header};
 ghost use Rattle.piper_streams.specs.FrameRuns.{FrameRuns};
 
 use futures::Stream;
 use futures::task::{Context, Poll};
 use piper::PipeError;
 use piper::io::AsyncBufRead;
-use piper_lines::{FrameAnswer, Frames};
+use piper_lines::{ByteOrder, FrameAnswer, FrameHeader, Frames};
 use std::alloc::Global;
 use std::fmt::{self, Debug, Formatter};
 use std::io::ErrorKind;
@@ -28,15 +29,33 @@ pub struct FrameStream<R> {
 impl<R: AsyncBufRead + Drop> FrameStream<R> {
     ghost use Rattle.piper_streams.specs.FrameStream.{frames_of, frame_limit_of, is_over};
 
-    /// The frames of at most `limit` bytes. Memory is asked for where a frame comes.
+    /// The frames of at most `limit` bytes, whose length is told in four bytes, the most significant first. Memory is asked for where a frame comes.
     pub fn new(alloc: Global, reader: R, limit: usize) -> FrameStream<R>
         ensures reader { reader_of (frames_of result) ≡ reader }
+        ensures format { format_of (frames_of result) ≡ usual_header }
+        ensures kept { kept_of (frames_of result) ≡ [] }
+        ensures limit { frame_limit_of result ≡ limit }
+        ensures open { is_over result ≡ false }
+    {
+        let format = FrameHeader::FourBytes(ByteOrder::BigEndian);
+        FrameStream::with_header(alloc, reader, format, limit)
+    }
+
+    /// The frames of at most `limit` bytes, whose length is told in this way.
+    pub fn with_header(
+        alloc: Global,
+        reader: R,
+        format: FrameHeader,
+        limit: usize,
+    ) -> FrameStream<R>
+        ensures reader { reader_of (frames_of result) ≡ reader }
+        ensures format { format_of (frames_of result) ≡ format }
         ensures kept { kept_of (frames_of result) ≡ [] }
         ensures limit { frame_limit_of result ≡ limit }
         ensures open { is_over result ≡ false }
     {
         FrameStream {
-            frames: Frames::new(alloc, reader),
+            frames: Frames::with_header(alloc, reader, format),
             limit,
             alloc,
             is_ended: false,
@@ -63,7 +82,7 @@ impl<R: AsyncBufRead + Drop> Stream for FrameStream<R> {
     ghost needs = { λ stream s. R.needs (reader_of stream.frames) s };
 
     ghost yields = { λ stream. EndsIf stream.is_ended (FrameRuns R.taken R.known R.saw
-        stream.limit (reader_of stream.frames) (kept_of stream.frames)) };
+        (format_of stream.frames) stream.limit (reader_of stream.frames) (kept_of stream.frames)) };
 
     fn poll_next(&mut self, cx: &mut Context<'_>) -> Poll<Option<Self::Item>> {
         if self.is_ended {

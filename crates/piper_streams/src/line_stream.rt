@@ -1,7 +1,8 @@
 //! The lines of a reader, one after another.
 ghost use Rattle.std.specs.Prelude.{◌≡◌, ◌<◌, [], length, true, false};
 ghost use Rattle.futures.specs.Runs.{EndsIf};
-ghost use Rattle.piper_lines.specs.LineReader.{reader_of, kept_of};
+ghost use Rattle.piper_lines.specs.LineReader.{reader_of, end_of, kept_of};
+ghost use Rattle.piper_lines.specs.Line.{line_feed};
 ghost use Rattle.piper_streams.specs.LineRuns.{LineRuns};
 
 use futures::Stream;
@@ -12,7 +13,7 @@ use piper_lines::{LineAnswer, Lines};
 use std::alloc::Global;
 use std::fmt::{self, Debug, Formatter};
 
-/// The lines of a reader, each with its LF, as a stream; the last is what stands behind the last LF.
+/// The lines of a reader, each with the byte that ends it, as a stream; the last is what stands behind the last line.
 ///
 /// A line of more bytes than the limit comes in pieces of that many. Behind an error the stream goes on where it was: what was taken of a line is kept. In clauses, `lines_of` are the lines below, `limit_of` the limit, and `ended_of` whether the end was told.
 #[derive(Drop)]
@@ -28,16 +29,29 @@ pub struct LineStream<R> {
 impl<R: AsyncBufRead + Drop> LineStream<R> {
     ghost use Rattle.piper_streams.specs.LineStream.{lines_of, limit_of, ended_of};
 
-    /// The lines of at most `limit` bytes. Memory is asked for where a line comes.
+    /// The lines of at most `limit` bytes that end with LF. Memory is asked for where a line comes.
     pub fn new(alloc: Global, reader: R, limit: usize) -> LineStream<R>
         requires { 0 < limit }
         ensures reader { reader_of (lines_of result) ≡ reader }
+        ensures end { end_of (lines_of result) ≡ line_feed }
+        ensures kept { kept_of (lines_of result) ≡ [] }
+        ensures limit { limit_of result ≡ limit }
+        ensures open { ended_of result ≡ false }
+    {
+        LineStream::split(alloc, reader, b'\n', limit)
+    }
+
+    /// The lines of at most `limit` bytes that end with this byte.
+    pub fn split(alloc: Global, reader: R, end: u8, limit: usize) -> LineStream<R>
+        requires { 0 < limit }
+        ensures reader { reader_of (lines_of result) ≡ reader }
+        ensures end { end_of (lines_of result) ≡ end }
         ensures kept { kept_of (lines_of result) ≡ [] }
         ensures limit { limit_of result ≡ limit }
         ensures open { ended_of result ≡ false }
     {
         LineStream {
-            lines: Lines::new(alloc, reader),
+            lines: Lines::split(alloc, reader, end),
             limit,
             alloc,
             is_ended: false,
@@ -64,7 +78,7 @@ impl<R: AsyncBufRead + Drop> Stream for LineStream<R> {
     ghost needs = { λ stream s. R.needs (reader_of stream.lines) s };
 
     ghost yields = { λ stream. EndsIf stream.is_ended (LineRuns R.taken R.known R.saw
-        stream.limit (reader_of stream.lines) (kept_of stream.lines)) };
+        (end_of stream.lines) stream.limit (reader_of stream.lines) (kept_of stream.lines)) };
 
     fn poll_next(&mut self, cx: &mut Context<'_>) -> Poll<Option<Self::Item>> {
         if self.is_ended {

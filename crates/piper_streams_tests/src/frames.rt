@@ -2,7 +2,7 @@
 use crate::compare::{Polled, feed, poll_frame, same, same_bytes, skip_long, write_frame};
 use futures::test::MockTask;
 use piper::{Reader, Writer, pipe};
-use piper_lines::{FrameAnswer, Frames, WriteFrame, Written};
+use piper_lines::{BodyTooLong, ByteOrder, FrameAnswer, FrameHeader, Frames, WriteFrame, Written};
 use rand_core::{Rng, SeedableRng};
 use rand_pcg::Pcg32;
 use std::alloc::{AllocError, Global};
@@ -153,4 +153,70 @@ fn a_frame_past_the_limit_can_be_skipped(rt: HostRuntime) -> Result<(), Fail> {
     );
     frames.into_reader().drop();
     Ok(())
+}
+
+/// Writes a frame with a header of this kind, holds what came against the bytes that are wanted, and reads it.
+fn header_through<H: Wait + Clone + Drop>(
+    rt: &impl Abort,
+    task: &MockTask,
+    alloc: Global,
+    pipe: (Reader<H>, Writer<H>),
+    format: FrameHeader,
+    wanted: &[u8],
+) {
+    let (mut reader, mut writer) = pipe;
+    if let Ok(mut frame) = WriteFrame::with_header(format, &[7, 8]) {
+        let written = write_frame(task, &mut frame, &mut writer);
+        same(rt, written, Polled::Told(Written::Whole));
+    }
+    let mut place = [0; 16];
+    let came = reader.try_drain(&mut place);
+    same_bytes(rt, &place[..came.min(16)], wanted);
+    writer.try_fill(wanted);
+    let mut frames = Frames::with_header(alloc, reader, format);
+    let told = Polled::Told(FrameAnswer::Frame);
+    expect_frame(rt, task, &mut frames, 2, told, &[7, 8], alloc);
+    frames.into_reader().drop();
+    writer.drop();
+}
+
+#[test]
+fn a_header_has_its_bytes_in_its_order(rt: HostRuntime) -> Result<(), Fail> {
+    let task = MockTask::new(&rt)?;
+    let alloc = rt.alloc();
+    for (format, wanted) in [
+        (FrameHeader::OneByte, [2, 7, 8].as_slice()),
+        (FrameHeader::TwoBytes(ByteOrder::BigEndian), &[0, 2, 7, 8]),
+        (
+            FrameHeader::TwoBytes(ByteOrder::LittleEndian),
+            &[2, 0, 7, 8],
+        ),
+        (
+            FrameHeader::FourBytes(ByteOrder::LittleEndian),
+            &[2, 0, 0, 0, 7, 8],
+        ),
+        (
+            FrameHeader::EightBytes(ByteOrder::BigEndian),
+            &[0, 0, 0, 0, 0, 0, 0, 2, 7, 8],
+        ),
+        (
+            FrameHeader::EightBytes(ByteOrder::LittleEndian),
+            &[2, 0, 0, 0, 0, 0, 0, 0, 7, 8],
+        ),
+    ] {
+        let handles = pipe(&rt, alloc, 32, 1)?;
+        header_through(&rt, &task, alloc, handles, format, wanted);
+    }
+    Ok(())
+}
+
+#[test]
+fn a_body_that_its_header_cannot_tell_is_refused(rt: HostRuntime) {
+    let body = [0; 256];
+    let whole = WriteFrame::with_header(FrameHeader::OneByte, &body[..255]);
+    assert!(rt; whole.is_ok());
+    let refused = WriteFrame::with_header(FrameHeader::OneByte, &body);
+    assert!(rt; matches!(&refused, Err(BodyTooLong)));
+    let two = WriteFrame::with_header(FrameHeader::TwoBytes(ByteOrder::LittleEndian), &body);
+    assert!(rt; two.is_ok());
 }

@@ -3,7 +3,9 @@ use crate::compare::{Polled, feed, poll_line, same, same_bytes, write_line};
 use futures::task::Poll;
 use futures::test::MockTask;
 use piper::{Reader, Writer, pipe};
-use piper_lines::{LineAnswer, Lines, WriteLine, Written, is_one_line, poll_lines};
+use piper_lines::{
+    LineAnswer, Lines, WriteLine, Written, is_one_line, lacks, line_text, poll_lines,
+};
 use rand_core::{Rng, SeedableRng};
 use rand_pcg::Pcg32;
 use std::alloc::{AllocError, Global};
@@ -231,4 +233,52 @@ fn a_line_is_written_whole(rt: HostRuntime) -> Result<(), Fail> {
     lines.into_reader().drop();
     writer.drop();
     Ok(())
+}
+
+#[test]
+fn lines_end_at_the_byte_that_is_chosen(rt: HostRuntime) -> Result<(), Fail> {
+    let task = MockTask::new(&rt)?;
+    let alloc = rt.alloc();
+    let (reader, mut writer) = pipe(&rt, alloc, 16, 1)?;
+    let mut lines = Lines::split(alloc, reader, b',');
+    let text = b"one\ntwo";
+    if lacks(text, b',') {
+        let mut line = WriteLine::ended_by(text, b',');
+        let written = write_line(&task, &mut line, &mut writer);
+        same(&rt, written, Polled::Told(Written::Whole));
+    }
+    writer.try_fill(b"three");
+    writer.drop();
+    for (answer, piece) in [
+        (LineAnswer::Line, b"one\ntwo,".as_slice()),
+        (LineAnswer::Last, b"three".as_slice()),
+    ] {
+        expect_line(
+            &rt,
+            &task,
+            &mut lines,
+            9,
+            Polled::Told(answer),
+            piece,
+            alloc,
+        );
+    }
+    lines.into_reader().drop();
+    Ok(())
+}
+
+#[test]
+fn the_end_of_a_line_is_taken_off(rt: HostRuntime) {
+    for (line, text) in [
+        (b"ab\r\n".as_slice(), b"ab".as_slice()),
+        (b"ab\n", b"ab"),
+        (b"a\rb\n", b"a\rb"),
+        (b"ab\r", b"ab\r"),
+        (b"ab\r\r\n", b"ab\r"),
+        (b"\n", b""),
+        (b"\r\n", b""),
+        (b"", b""),
+    ] {
+        same_bytes(&rt, line_text(line), text);
+    }
 }

@@ -3,7 +3,7 @@ ghost use Rattle.std.specs.Prelude.{◌≤◌, ◌++◌, ◌≡◌, ◌⊎◌, l
 ghost use Rattle.futures.specs.Task.{Covers, Keeps};
 ghost use Rattle.futures.specs.Poll.{OnPending};
 ghost use Rattle.piper_lines.specs.Split.{joined_frames, Adds};
-ghost use Rattle.piper_lines.specs.FrameReader.{reader_of, kept_of, header_of, body_of, skips_of};
+ghost use Rattle.piper_lines.specs.FrameReader.{reader_of, format_of, kept_of, header_of, body_of, skips_of};
 ghost use Rattle.piper_lines.specs.Moves.{PassesMoves};
 ghost use Rattle.piper_lines.specs.Collected.{EndsFrames};
 ghost use Rattle.piper_lines.specs.Refusals.{IsTold, LacksFrameRoom};
@@ -27,15 +27,16 @@ pub fn poll_frames<R: AsyncBufRead>(
 ) -> Poll<Result<Collected, PipeError>>
     ensures moved { PassesMoves (R.taken (reader_of frames.old)) (R.taken (reader_of frames.new))
         (skips_of frames.old) (skips_of frames.new)
-        (joined_frames out.old.items ++ kept_of frames.old)
-        (joined_frames out.new.items) (kept_of frames.new) }
+        (joined_frames (format_of frames.old) out.old.items ++ kept_of frames.old)
+        (joined_frames (format_of frames.old) out.new.items) (kept_of frames.new) }
     ensures within { Adds (λ body. length body ≤ limit) out.old.items out.new.items }
-    ensures ended { EndsFrames result limit (header_of frames.new)
-        (body_of frames.old) (body_of frames.new) (skips_of frames.new)
+    ensures ended { EndsFrames (format_of frames.old) result limit
+        (header_of frames.new) (body_of frames.old) (body_of frames.new) (skips_of frames.new)
         (R.known (reader_of frames.new)) (R.saw (reader_of frames.new)) }
     ensures error { IfReadyErr result (λ e. IsTold e (R.fails (reader_of frames.new) cx.new)
-        (LacksFrameRoom limit 0 0 (header_of frames.new) (body_of frames.new)
+        (LacksFrameRoom (format_of frames.old) limit 0 0 (header_of frames.new) (body_of frames.new)
         (R.known (reader_of frames.new)) ⊎ (vec_capacity out.old ≤ vec_len out.new))) }
+    ensures format { format_of frames.new ≡ format_of frames.old }
     ensures told { R.told (reader_of frames.new) ≡ R.told (reader_of frames.old) }
     ensures heeded { OnPending result (R.told (reader_of frames.new) ≡ true → AsksAgain cx.new) }
     ensures covered { OnPending result (Covers cx.new (R.needs (reader_of frames.new))) }

@@ -6,7 +6,7 @@ ghost use Rattle.piper.specs.Contexts.{AsksAgain};
 ghost use Rattle.piper.specs.Polls.{IfReadyOk, IfReadyErr};
 ghost use Rattle.piper_lines.specs.AtEnd.{AtEnd};
 ghost use Rattle.piper_lines.specs.Split.{joined, Adds, IsPiece};
-ghost use Rattle.piper_lines.specs.LineReader.{IsSpent, reader_of, kept_of};
+ghost use Rattle.piper_lines.specs.LineReader.{IsSpent, reader_of, end_of, kept_of};
 ghost use Rattle.piper_lines.specs.Moves.{Moves};
 ghost use Rattle.piper_lines.specs.Refusals.{IsTold, LacksRoom};
 ghost use Rattle.piper_lines.specs.Collected.{rest_of};
@@ -17,7 +17,7 @@ use futures::task::{Context, Poll};
 use piper::PipeError;
 use piper::io::AsyncBufRead;
 
-/// Appends the lines of the reader to `out`, up to its end, and answers what stands behind the last LF.
+/// Appends the lines of the reader to `out`, up to its end, and answers what stands behind the last line.
 ///
 /// A line of more than `limit` bytes comes in pieces of that many. Memory is asked for before bytes are taken: after an error, as where it is pending, `out` has each line that was handed out, and the next poll goes on from there. After 64 lines it asks for another poll.
 pub fn poll_lines<R: AsyncBufRead>(
@@ -30,14 +30,15 @@ pub fn poll_lines<R: AsyncBufRead>(
     ensures moved { Moves (R.taken (reader_of lines.old)) (R.taken (reader_of lines.new))
         (joined out.old.items ++ kept_of lines.old)
         (joined out.new.items ++ rest_of result) (kept_of lines.new) }
-    ensures split { Adds (λ piece. length (kept_of lines.old) < limit → IsPiece limit piece)
-        out.old.items out.new.items }
+    ensures split { Adds (λ piece. length (kept_of lines.old) < limit →
+        IsPiece (end_of lines.old) limit piece) out.old.items out.new.items }
     ensures ended { IfReadyOk result (λ _. (kept_of lines.new ≡ [])
         × AtEnd (R.known (reader_of lines.new)) (R.saw (reader_of lines.new))) }
     ensures spent { IfReadyOk result (λ _. IsSpent R.ended lines.new) }
     ensures error { IfReadyErr result (λ e. IsTold e (R.fails (reader_of lines.new) cx.new)
         (LacksRoom limit 0 (kept_of lines.new) (R.known (reader_of lines.new))
         ⊎ (vec_capacity out.old ≤ vec_len out.new))) }
+    ensures end { end_of lines.new ≡ end_of lines.old }
     ensures told { R.told (reader_of lines.new) ≡ R.told (reader_of lines.old) }
     ensures heeded { OnPending result (R.told (reader_of lines.new) ≡ true → AsksAgain cx.new) }
     ensures covered { OnPending result (Covers cx.new (R.needs (reader_of lines.new))) }

@@ -1,5 +1,6 @@
 //! Frames that are sent body by body.
 ghost use Rattle.std.specs.Prelude.{◌≡◌, [], true};
+ghost use Rattle.piper_lines.specs.Header.{usual_header};
 ghost use Rattle.piper_streams.specs.Sent.{left_of, writer_of};
 
 use super::WriteSink;
@@ -7,30 +8,43 @@ use futures::Sink;
 use futures::task::{Context, Poll};
 use piper::PipeError;
 use piper::io::AsyncWrite;
+use piper_lines::{ByteOrder, FrameHeader};
 use std::alloc::Global;
 use std::fmt::Debug;
 use std::io::ErrorKind;
 
-/// Writes a frame for each body that it is sent, whole and in order: its length in four bytes, the most significant first, and the body.
+/// Writes a frame for each body that it is sent, whole and in order: its length, and the body.
 ///
-/// Memory is asked for where a body is sent; where that is refused, or a body of 2^32 bytes or more is, by an error of the kind `InvalidInput`, the sink is as it was, and the body goes. What is said of [`WriteSink`] holds of it, too. In clauses, `frames_below` is the sink below.
+/// Memory is asked for where a body is sent; where that is refused, or a body whose length the header can't tell is, by an error of the kind `InvalidInput`, the sink is as it was, and the body goes. What is said of [`WriteSink`] holds of it, too. In clauses, `frames_below` is the sink below, and `header_of` how the length is told.
 #[derive(Debug, Drop)]
 pub struct FrameSink<W> {
     sink: WriteSink<W>,
     alloc: Global,
+    format: FrameHeader,
 }
 
 impl<W: AsyncWrite + Drop> FrameSink<W> {
-    ghost use Rattle.piper_streams.specs.SentFrames.{frames_below};
+    ghost use Rattle.piper_streams.specs.SentFrames.{frames_below, header_of};
 
-    /// Nothing is sent yet.
+    /// Frames whose length is told in four bytes, the most significant first. Nothing is sent yet.
     pub fn new(alloc: Global, writer: W) -> FrameSink<W>
         ensures writer { writer_of (frames_below result) ≡ writer }
+        ensures format { header_of result ≡ usual_header }
+        ensures left { left_of (frames_below result) ≡ [] }
+    {
+        FrameSink::with_header(alloc, writer, FrameHeader::FourBytes(ByteOrder::BigEndian))
+    }
+
+    /// Frames whose length is told in this way. Nothing is sent yet.
+    pub fn with_header(alloc: Global, writer: W, format: FrameHeader) -> FrameSink<W>
+        ensures writer { writer_of (frames_below result) ≡ writer }
+        ensures format { header_of result ≡ format }
         ensures left { left_of (frames_below result) ≡ [] }
     {
         FrameSink {
             sink: WriteSink::new(alloc, writer),
             alloc,
+            format,
         }
     }
 
@@ -38,7 +52,11 @@ impl<W: AsyncWrite + Drop> FrameSink<W> {
     pub fn into_writer(self) -> W
         ensures { result ≡ writer_of (frames_below self) }
     {
-        let FrameSink { sink, alloc: _ } = self;
+        let FrameSink {
+            sink,
+            alloc: _,
+            format: _,
+        } = self;
         sink.into_writer()
     }
 }
@@ -64,11 +82,12 @@ impl<W: AsyncWrite + Drop> Sink<Vec<u8>> for FrameSink<W> {
     }
 
     fn start_send(&mut self, item: Vec<u8>) -> Result<(), PipeError> {
-        let Ok(size) = u32::try_from(item.len()) else {
+        if !self.format.can_tell(item.len()) {
             return Err(PipeError::Io(ErrorKind::InvalidInput.into()));
-        };
+        }
+        let header = self.format.tell(item.len());
         let mut frame = Vec::new(self.alloc);
-        if frame.extend_from_slice(&size.to_be_bytes()).is_err() {
+        if frame.extend_from_slice(header.as_slice()).is_err() {
             return Err(PipeError::Memory);
         }
         if frame.extend_from_slice(&item).is_err() {

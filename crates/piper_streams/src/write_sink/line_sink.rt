@@ -1,5 +1,6 @@
 //! Lines that are sent text by text.
 ghost use Rattle.std.specs.Prelude.{◌≡◌, [], true};
+ghost use Rattle.piper_lines.specs.Line.{line_feed};
 ghost use Rattle.piper_streams.specs.Sent.{left_of, writer_of};
 
 use super::WriteSink;
@@ -10,24 +11,36 @@ use piper::io::AsyncWrite;
 use std::alloc::Global;
 use std::fmt::Debug;
 
-/// Writes each text that it is sent as a line, whole and in order, with an LF behind it.
+/// Writes each text that it is sent as a line, whole and in order, with the byte that ends it.
 ///
-/// The LF is put to the end of the text itself. Where memory for it is refused, the sink is as it was, and the text goes. What is said of [`WriteSink`] holds of it, too. In clauses, `lines_below` is the sink below.
+/// That byte is put to the end of the text itself. Where memory for it is refused, the sink is as it was, and the text goes. What is said of [`WriteSink`] holds of it, too. In clauses, `lines_below` is the sink below, and `ending_of` the byte that ends a line.
 #[derive(Debug, Drop)]
 pub struct LineSink<W> {
     sink: WriteSink<W>,
+    end: u8,
 }
 
 impl<W: AsyncWrite + Drop> LineSink<W> {
-    ghost use Rattle.piper_streams.specs.SentLines.{lines_below};
+    ghost use Rattle.piper_streams.specs.SentLines.{lines_below, ending_of};
 
-    /// Nothing is sent yet.
+    /// Lines that end with LF. Nothing is sent yet.
     pub fn new(alloc: Global, writer: W) -> LineSink<W>
         ensures writer { writer_of (lines_below result) ≡ writer }
+        ensures end { ending_of result ≡ line_feed }
+        ensures left { left_of (lines_below result) ≡ [] }
+    {
+        LineSink::ended_by(alloc, writer, b'\n')
+    }
+
+    /// Lines that end with this byte. Nothing is sent yet.
+    pub fn ended_by(alloc: Global, writer: W, end: u8) -> LineSink<W>
+        ensures writer { writer_of (lines_below result) ≡ writer }
+        ensures end { ending_of result ≡ end }
         ensures left { left_of (lines_below result) ≡ [] }
     {
         LineSink {
             sink: WriteSink::new(alloc, writer),
+            end,
         }
     }
 
@@ -35,7 +48,7 @@ impl<W: AsyncWrite + Drop> LineSink<W> {
     pub fn into_writer(self) -> W
         ensures { result ≡ writer_of (lines_below self) }
     {
-        let LineSink { sink } = self;
+        let LineSink { sink, end: _ } = self;
         sink.into_writer()
     }
 }
@@ -62,7 +75,7 @@ impl<W: AsyncWrite + Drop> Sink<Vec<u8>> for LineSink<W> {
 
     fn start_send(&mut self, item: Vec<u8>) -> Result<(), PipeError> {
         let mut line = item;
-        if line.push(b'\n').is_err() {
+        if line.push(self.end).is_err() {
             return Err(PipeError::Memory);
         }
         self.sink.written = 0;

@@ -3,7 +3,7 @@ use Rattle.std.specs.declared.alloc.Global.{Global}
 use Rattle.piper.specs.declared.error.PipeError.{PipeError}
 use Rattle.piper_lines.specs.Moves.{Moves}
 use Rattle.piper_lines.specs.Split.{joined, IsPiece}
-use Rattle.piper_lines.specs.LineReader.{reader_of, kept_of}
+use Rattle.piper_lines.specs.LineReader.{reader_of, end_of, kept_of}
 use Rattle.piper_lines.proofs.Moving.{moves_none, moves_then}
 use Rattle.piper_lines.proofs.Collecting.{moves_line, flat_map-push, adds_none, adds_piece, hands_piece, hands_end}
 use Rattle.piper_lines.proofs.collect.all_lines.poll_lines.Goals as goal
@@ -11,9 +11,10 @@ use Rattle.piper_lines.proofs.collect.all_lines.poll_lines.Goals as goal
 pub loop-init : goal.loop-init
 loop-init g c = record {
   moved = moves_none (g.R.AsyncBufRead.taken (reader_of c.args.lines.now)) (kept_of c.args.lines.now) (joined c.args.out.now.items);
-  split = adds_none (λ piece. length (kept_of c.args.lines.now) < c.args.limit → IsPiece c.args.limit piece) c.args.out.now.items;
+  split = adds_none (λ piece. length (kept_of c.args.lines.now) < c.args.limit → IsPiece (end_of c.args.lines.now) c.args.limit piece) c.args.out.now.items;
   short = λ short. short;
   room = omega arith;
+  end = refl;
   told = refl;
   kept = λ fact held. held;
 }
@@ -34,7 +35,7 @@ returns-then-is_end-clause-moved g c =
 pub returns-then-is_end-clause-ended : goal.returns-then-is_end-clause-ended
 returns-then-is_end-clause-ended g c =
     let hands = rw c.in-Ready-Ok.field-0-is at c.in-Ready-Ok.ensures.hands in
-    hands_end PipeError c.in-Ready-Ok.answer _ _ _ _ _ _ (sym c.is_end.ensures ∙ c.if-is_end.true) hands
+    hands_end PipeError c.in-Ready-Ok.answer _ _ _ _ _ _ _ (sym c.is_end.ensures ∙ c.if-is_end.true) hands
 
 pub returns-then-is_end-clause-spent : goal.returns-then-is_end-clause-spent
 returns-then-is_end-clause-spent g c =
@@ -42,17 +43,18 @@ returns-then-is_end-clause-spent g c =
 
 pub loop-preserved : goal.loop-preserved
 loop-preserved g c =
-    let hands = rw c.in-Ready-Ok.field-0-is at c.in-Ready-Ok.ensures.hands in
-    let piece = hands_piece PipeError c.in-Ready-Ok.answer _ _ _ _ _ _ (sym c.is_end.ensures ∙ c.if-is_end.false) hands in
+    let hands = rw (c.in-Ready-Ok.field-0-is, c.loop.invariant.end) at c.in-Ready-Ok.ensures.hands in
+    let piece = hands_piece PipeError c.in-Ready-Ok.answer _ _ _ _ _ _ _ (sym c.is_end.ensures ∙ c.if-is_end.false) hands in
     let line : Vec ℕ Global = c.poll_line.new.line in
     let moved = moves_then _ _ _ _ _ _ (joined c.loop.out.items) line.items c.loop.invariant.moved c.poll_line.ensures.moved in
     let pushed : c.push.new.out.items ≡ c.loop.out.items ++ line ∷ [] = c.push.ensures.items ∙ ap (λ (out : List (Vec ℕ Global)). out ++ line ∷ []) c.reserve.ensures.items in
     let together : joined c.loop.out.items ++ line.items ≡ joined c.push.new.out.items = sym (ap joined pushed ∙ flat_map-push (λ (v : Vec ℕ Global). v.items) c.loop.out.items line) in
     record {
       moved = subst (λ ws. Moves (g.R.AsyncBufRead.taken (reader_of c.args.lines.now)) (g.R.AsyncBufRead.taken (reader_of c.poll_line.new.self)) (joined c.args.out.now.items ++ kept_of c.args.lines.now) ws (kept_of c.poll_line.new.self)) together moved;
-      split = adds_piece (λ piece. length (kept_of c.args.lines.now) < c.args.limit → IsPiece c.args.limit piece) c.args.out.now.items c.loop.out.items c.push.new.out.items line c.loop.invariant.split pushed (λ short. piece.1 (c.loop.invariant.short short));
+      split = adds_piece (λ piece. length (kept_of c.args.lines.now) < c.args.limit → IsPiece (end_of c.args.lines.now) c.args.limit piece) c.args.out.now.items c.loop.out.items c.push.new.out.items line c.loop.invariant.split pushed (λ short. piece.1 (c.loop.invariant.short short));
       short = λ short. omega (arith, ap length piece.0);
       room = omega (arith, c.loop.invariant.room, c.reserve.ensures.capacity, c.push.ensures.capacity);
+      end = c.poll_line.ensures.end ∙ c.loop.invariant.end;
       told = c.poll_line.ensures.told ∙ c.loop.invariant.told;
       kept = λ fact held. c.poll_line.ensures.kept fact (c.loop.invariant.kept fact held);
     }
