@@ -21,6 +21,7 @@ mod peers;
 mod pipes;
 mod request;
 mod rings;
+mod to_and_fro;
 mod work;
 
 const USAGE: &str = "usage: piper_bench WHAT CAP CHUNK TOTAL
@@ -30,6 +31,7 @@ The first moves TOTAL bytes in pieces of CHUNK through a ring of CAP bytes, and 
 WHAT is ring (one thread, in and out in turn), ring2 (two threads), or rtrb or rtrb2 (the same work on rtrb).
 Or it is through the handles of a pipe: pipe (by try forms) and inplace (by lent slices, and by polls where these would be empty) on one thread, pipe2 and inplace2 between two threads, which look a few times and then sleep until they are woken, and on one thread filldrain (both ways by the copies that wait); and lines takes lines of CHUNK bytes out of one, the LF with them.
 Or it is one of its peers, between two threads that wait as those of a pipe do: tokio2 (a pipe by the traits of tokio), stream2 (the stream in memory of tokio, by the same) and channel2 (a bounded channel of pieces, each in memory of its own, whose ends wait as it will).
+Or a piece goes to and fro between two threads, each of which sleeps until the other has answered: pingpong (through two pipes, by the traits of tokio) and pingpong_stream (through two streams in memory, by the same).
 CAP is at least 1 and at most half of the greatest usize, CHUNK is 1 to 16777216.
 The second moves TOTAL bytes (67108864, where it is left out) through each of rtrb2, inplace2, pipe2, stream2, tokio2 and channel2 in pieces of 64, 4096 and 65536 bytes, with a CAP of 65536, or of 4 pieces where these are more, and prints one table: nanoseconds a piece and their ratio to rtrb2, each the median of 25 runs that are made in turn. A run whose checksum is not what its bytes come to ends it with status 2.
 Without arguments it makes a short run of each, and a short round of the second.";

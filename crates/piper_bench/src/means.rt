@@ -1,7 +1,7 @@
 //! The means that bytes go through, and the words for them.
 
 /// Each means by its word, in the order in which a run without arguments makes them.
-pub const WORDS: [(&str, What); 13] = [
+pub const WORDS: [(&str, What); 15] = [
     ("ring", What::Ring { is_shared: false }),
     ("ring2", What::Ring { is_shared: true }),
     ("rtrb", What::Rtrb { is_shared: false }),
@@ -45,6 +45,8 @@ pub const WORDS: [(&str, What); 13] = [
     ("tokio2", What::Peer(Peer::Pipe)),
     ("stream2", What::Peer(Peer::Stream)),
     ("channel2", What::Peer(Peer::Channel)),
+    ("pingpong", What::ToAndFro { is_stream: false }),
+    ("pingpong_stream", What::ToAndFro { is_stream: true }),
 ];
 
 /// What the bytes go through. The ends of a ring that is shared are each on a thread of their own.
@@ -55,6 +57,8 @@ pub enum What {
     Pipe { way: Way, is_shared: bool },
     Lines,
     Peer(Peer),
+    /// To and fro, through a means each way: streams of `tokio`, or pipes by its traits.
+    ToAndFro { is_stream: bool },
 }
 
 /// By which calls of the handles bytes go through a pipe.

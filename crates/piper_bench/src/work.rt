@@ -6,6 +6,7 @@ use crate::means::{Peer, Way, What};
 use crate::peers::{through_channel, through_stream};
 use crate::pipes::{Copies, InPlace, TryForms, through_pipe};
 use crate::rings::{BYTE, Input, Output, get_all, in_turn, put_all, yields};
+use crate::to_and_fro::to_and_fro;
 use crossbeam_channel::{Receiver, Sender, bounded};
 use futures::test::MockTask;
 use piper::{OutOfMemory, OwnedReader, OwnedWriter, ReadEnd, WriteEnd, open_ring, pipe};
@@ -110,6 +111,14 @@ where
         What::Pipe { way, is_shared: _ } => through_way(rt, way, work, source, place),
         What::Lines => lines_through_pipe(rt, work),
         What::Peer(peer) => through_peer(rt, peer, work, source, place),
+        What::ToAndFro { is_stream: false } => {
+            timed_exchange(rt, compat_of(rt, work)?, compat_of(rt, work)?, work)
+        }
+        What::ToAndFro { is_stream: true } => {
+            let there = tokio::io::duplex(rt.alloc(), work.capacity)?;
+            let back = tokio::io::duplex(rt.alloc(), work.capacity)?;
+            timed_exchange(rt, there, back, work)
+        }
     }
 }
 
@@ -192,6 +201,22 @@ where
 {
     let start = Instant::now(rt)?;
     let checksum = through_stream(rt, ends, source, place, work)?;
+    Ok((start.elapsed(rt)?, checksum))
+}
+
+fn timed_exchange<R, I, O>(
+    rt: &R,
+    there: (I, O),
+    back: (I, O),
+    work: Work,
+) -> io::Result<(Duration, u64)>
+where
+    R: Wait + Threads + Clock + RandomSource + AllocGlobal + Sync,
+    I: AsyncRead + Send,
+    O: AsyncWrite + Send,
+{
+    let start = Instant::now(rt)?;
+    let checksum = to_and_fro(rt, there, back, work)?;
     Ok((start.elapsed(rt)?, checksum))
 }
 
