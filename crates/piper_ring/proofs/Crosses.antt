@@ -8,7 +8,8 @@ use denote.Builtin.{u8}
 use denote.Param.Send.{IsSend, Common, sendable}
 use Rattle.core.specs.Allocator.{array_of}
 use Rattle.std.proofs.Crossing.{frees}
-use Rattle.piper_ring.specs.Shared.{words_type, deeds, Names, State, flag, gone, where_gone, until_both, writer_knows, reader_knows, arrived_first, ends, spare, blanks, memory, Inner, common, reader_owns, reader_lends, writer_owns, writer_lends}
+use Rattle.piper_ring.specs.Shared.{words_type, slots, deeds, Names, State, flag, gone, where_gone, until_both, writer_knows, reader_knows, arrived_first, ends, spare, blanks, memory, Inner, common, reader_owns, reader_lends, writer_owns, writer_lends}
+use Rattle.piper_ring.proofs.Evidence.{announced-Keyless, took-Keyless, raised-Keyless}
 use Rattle.piper_ring.proofs.PlacesLaws.{run-Keyless, span-Keyless}
 
 module _ (w p : Ptr) (z : Names) where
@@ -24,8 +25,14 @@ module _ (w p : Ptr) (z : Names) where
   unfolding latest
   ends-Keyless b = tt
 
+  slots-Keyless : Keyless (slots w p z)
+  slots-Keyless = (
+    λ s. ((λ _. tt), ((tt, tt), ((tt, tt), announced-Keyless z s.1.0.1.1.0 s.1.0.1.1.1))),
+    λ s. ((λ _. tt), ((tt, tt), ((tt, tt), (took-Keyless z s.1.0.1.1.0, raised-Keyless z.closed s.1.0.1.1.1)))),
+  )
+
   deeds-Keyless : Keyless (deeds w p z)
-  deeds-Keyless = (((tt, (tt, (tt, tt))), tt), (frees.frees (record { memory = record { seal = tt } }) words_type w, frees.frees (record { memory = record { seal = tt } }) (array_of u8 z.capacity) p))
+  deeds-Keyless = (((((tt, (tt, (tt, tt))), (tt, (tt, (tt, tt)))), tt), (frees.frees (record { memory = record { seal = tt } }) words_type w, frees.frees (record { memory = record { seal = tt } }) (array_of u8 z.capacity) p)), slots-Keyless)
 
   spare-Keyless : IsSend u8 → (k n : ℕ) → Keyless (spare w p z k n)
   spare-Keyless s k n xs = ((λ _. tt), run-Keyless p z.capacity s k xs)

@@ -24,6 +24,10 @@ use Rattle.piper_ring.specs.contracts.ring.places.Base as Base
 use Rattle.piper_ring.specs.contracts.ring.marks.WriteMark as WriteMark
 use Rattle.piper_ring.specs.contracts.ring.marks.ReadMark as ReadMark
 use Rattle.piper_ring.specs.contracts.ring.marks.Saw as Saw
+use Rattle.piper_ring.specs.contracts.ring.slots.ReaderWaits as ReaderWaits
+use Rattle.piper_ring.specs.contracts.ring.slots.WriterWakes as WriterWakes
+use Rattle.piper_ring.specs.contracts.ring.slots.WriterWaits as WriterWaits
+use Rattle.piper_ring.specs.contracts.ring.slots.ReaderWakes as ReaderWakes
 
 abbrev pub seat_val : Ptr → Val
 seat_val w = vstruct (vcons (ptr_val w) vnil)
@@ -114,14 +118,44 @@ BaseData = Struct (Declared.shape Base.the_type)
 pub base_made : {M : Type 1} {𝓤 : Ura M} (𝓛 : Logic 𝓤) (p : Ptr) → ent 𝓤 (emp 𝓤) (sem 𝓛 (BaseData.own_val (p, tt) (seat_val p ∷ [])))
 base_made 𝓛 p = makes_shadow 𝓛 (BaseData.own_val (p, tt) (seat_val p ∷ [])) (λ vss. (tt, (tt, tt))) ((ptr_val p ∷ [], tt), (refl, (refl, tt)))
 
--- a tuple of four
-abbrev pub four_val : Val → Val → Val → Val → Val
-four_val a b c d = vstruct (vcons a (vcons b (vcons c (vcons d vnil))))
+abbrev pub ReaderWaitsData : RattleType
+ReaderWaitsData = Struct (shape ReaderWaits.the_type)
 
-module _ {M : Type 1} {𝓤 : Ura M} (𝓛 : Logic 𝓤) (R S T U : RattleType) where
-  pub four_of : (x : R.Denot) (y : S.Denot) (z : T.Denot) (w : U.Denot) (a b c d : Val)
-      → ent 𝓤 (sep 𝓤 (sem 𝓛 (R.own_val x (a ∷ []))) (sep 𝓤 (sem 𝓛 (S.own_val y (b ∷ []))) (sep 𝓤 (sem 𝓛 (T.own_val z (c ∷ []))) (sem 𝓛 (U.own_val w (d ∷ [])))))) (sem 𝓛 ((Tuple (R ∷ S ∷ T ∷ U ∷ [])).own_val (x, y, z, w) (four_val a b c d ∷ [])))
-  four_of x y z w a b c d =
-      qed 𝓛 (‵ (R.own_val x (a ∷ [])) ∷ ‵ (S.own_val y (b ∷ [])) ∷ ‵ (T.own_val z (c ∷ [])) ∷ ‵ (U.own_val w (d ∷ [])) ∷ []) ∵ nothing ! $ move ! (4 ∷ 0 ∷ []) $ fjoin ! $ move ! (3 ∷ 0 ∷ []) $ fjoin ! $ move ! (2 ∷ 0 ∷ []) $ fjoin ! $ move ! (1 ∷ 0 ∷ []) $ fjoin ! $
-      feq_i ! (List Val) (four_val a b c d ∷ []) (four_val a b c d ∷ []) refl $ fjoin ! $
-      fpack ! (Valss (R ∷ S ∷ T ∷ U ∷ [])) (within (Declared.shape (tuple_type (R ∷ S ∷ T ∷ U ∷ []))) (x, (y, (z, (w, tt)))) (four_val a b c d ∷ [])) (a ∷ [], (b ∷ [], (c ∷ [], (d ∷ [], tt)))) $ done !
+pub reader_waits_made : {M : Type 1} {𝓤 : Ura M} (𝓛 : Logic 𝓤) → ent 𝓤 (emp 𝓤) (sem 𝓛 (ReaderWaitsData.own_val (record {}, tt) (ghost_val ∷ [])))
+reader_waits_made 𝓛 = makes_shadow 𝓛 (ReaderWaitsData.own_val (record {}, tt) (ghost_val ∷ [])) (λ vss. (tt, ((λ uss. (tt, tt)), tt))) ((vstruct vnil ∷ [], tt), (refl, ((tt, (refl, tt)), tt)))
+
+abbrev pub WriterWakesData : RattleType
+WriterWakesData = Struct (shape WriterWakes.the_type)
+
+pub writer_wakes_made : {M : Type 1} {𝓤 : Ura M} (𝓛 : Logic 𝓤) → ent 𝓤 (emp 𝓤) (sem 𝓛 (WriterWakesData.own_val (record {}, tt) (ghost_val ∷ [])))
+writer_wakes_made 𝓛 = makes_shadow 𝓛 (WriterWakesData.own_val (record {}, tt) (ghost_val ∷ [])) (λ vss. (tt, ((λ uss. (tt, tt)), tt))) ((vstruct vnil ∷ [], tt), (refl, ((tt, (refl, tt)), tt)))
+
+abbrev pub WriterWaitsData : RattleType
+WriterWaitsData = Struct (shape WriterWaits.the_type)
+
+pub writer_waits_made : {M : Type 1} {𝓤 : Ura M} (𝓛 : Logic 𝓤) → ent 𝓤 (emp 𝓤) (sem 𝓛 (WriterWaitsData.own_val (record {}, tt) (ghost_val ∷ [])))
+writer_waits_made 𝓛 = makes_shadow 𝓛 (WriterWaitsData.own_val (record {}, tt) (ghost_val ∷ [])) (λ vss. (tt, ((λ uss. (tt, tt)), tt))) ((vstruct vnil ∷ [], tt), (refl, ((tt, (refl, tt)), tt)))
+
+abbrev pub ReaderWakesData : RattleType
+ReaderWakesData = Struct (shape ReaderWakes.the_type)
+
+pub reader_wakes_made : {M : Type 1} {𝓤 : Ura M} (𝓛 : Logic 𝓤) → ent 𝓤 (emp 𝓤) (sem 𝓛 (ReaderWakesData.own_val (record {}, tt) (ghost_val ∷ [])))
+reader_wakes_made 𝓛 = makes_shadow 𝓛 (ReaderWakesData.own_val (record {}, tt) (ghost_val ∷ [])) (λ vss. (tt, ((λ uss. (tt, tt)), tt))) ((vstruct vnil ∷ [], tt), (refl, ((tt, (refl, tt)), tt)))
+
+-- a tuple of eight
+abbrev pub eight_val : Val → Val → Val → Val → Val → Val → Val → Val → Val
+eight_val a b c d e f g h = vstruct (vcons a (vcons b (vcons c (vcons d (vcons e (vcons f (vcons g (vcons h vnil))))))))
+
+module _ {M : Type 1} {𝓤 : Ura M} (𝓛 : Logic 𝓤) (R S T U R' S' T' U' : RattleType) where
+  abbrev Rows : List RattleType
+  Rows = R ∷ S ∷ T ∷ U ∷ R' ∷ S' ∷ T' ∷ U' ∷ []
+
+  pub eight_of : (x : R.Denot) (y : S.Denot) (z : T.Denot) (w : U.Denot) (x' : R'.Denot) (y' : S'.Denot) (z' : T'.Denot) (w' : U'.Denot) (a b c d e f g h : Val)
+      → ent 𝓤 (sep 𝓤 (sem 𝓛 (R.own_val x (a ∷ []))) (sep 𝓤 (sem 𝓛 (S.own_val y (b ∷ []))) (sep 𝓤 (sem 𝓛 (T.own_val z (c ∷ []))) (sep 𝓤 (sem 𝓛 (U.own_val w (d ∷ [])))
+      (sep 𝓤 (sem 𝓛 (R'.own_val x' (e ∷ []))) (sep 𝓤 (sem 𝓛 (S'.own_val y' (f ∷ []))) (sep 𝓤 (sem 𝓛 (T'.own_val z' (g ∷ []))) (sem 𝓛 (U'.own_val w' (h ∷ []))))))))))
+      (sem 𝓛 ((Tuple Rows).own_val (x, y, z, w, x', y', z', w') (eight_val a b c d e f g h ∷ [])))
+  eight_of x y z w x' y' z' w' a b c d e f g h = let v : Val = eight_val a b c d e f g h in
+      qed 𝓛 (‵ (R.own_val x (a ∷ [])) ∷ ‵ (S.own_val y (b ∷ [])) ∷ ‵ (T.own_val z (c ∷ [])) ∷ ‵ (U.own_val w (d ∷ [])) ∷ ‵ (R'.own_val x' (e ∷ [])) ∷ ‵ (S'.own_val y' (f ∷ [])) ∷ ‵ (T'.own_val z' (g ∷ [])) ∷ ‵ (U'.own_val w' (h ∷ [])) ∷ []) ∵
+      nothing ! $ move ! (8 ∷ 0 ∷ []) $ fjoin ! $ move ! (7 ∷ 0 ∷ []) $ fjoin ! $ move ! (6 ∷ 0 ∷ []) $ fjoin ! $ move ! (5 ∷ 0 ∷ []) $ fjoin ! $ move ! (4 ∷ 0 ∷ []) $ fjoin ! $ move ! (3 ∷ 0 ∷ []) $ fjoin ! $ move ! (2 ∷ 0 ∷ []) $ fjoin ! $ move ! (1 ∷ 0 ∷ []) $ fjoin ! $
+      feq_i ! (List Val) (v ∷ []) (v ∷ []) refl $ fjoin ! $
+      fpack ! (Valss Rows) (within (Declared.shape (tuple_type Rows)) (x, (y, (z, (w, (x', (y', (z', (w', tt)))))))) (v ∷ [])) (a ∷ [], (b ∷ [], (c ∷ [], (d ∷ [], (e ∷ [], (f ∷ [], (g ∷ [], (h ∷ [], tt)))))))) $ done !

@@ -27,7 +27,7 @@ use base.Fraction.{full_share}
 use Rattle.piper_ring.proofs.Steps.{flag_small, Rest, OneStays, ReaderSees, WriterSees, reader_opens, writer_opens, closes, inside, raise}
 use denote.Builtin.{u8}
 use Rattle.rtrb.specs.Fifo.{slot_of as offset_of}
-use Rattle.piper_ring.specs.Shared.{one_gone, Names, State, Holds, half, other, flag, gone, until_both, where_gone, word, word_room, words_type, four_rooms, blanks, memory, whole, writer_knows, reader_knows, ends, raised, standing, Inner, common}
+use Rattle.piper_ring.specs.Shared.{one_gone, Names, State, Holds, half, other, flag, gone, until_both, where_gone, word, word_room, words_type, slot_rooms, all_rooms, slots, blanks, memory, whole, writer_knows, reader_knows, ends, raised, standing, Inner, common}
 
 pub here : (i : ℕ) → i ≤ 1 → gone i ≡ false
 here zero le = refl
@@ -98,6 +98,14 @@ module _ {M : Type 1} {𝓤 : Ura M} (𝓛 : Logic 𝓤) (w p : Ptr) (z : Names)
   abbrev u : Ty
   u = ty_int w64
 
+  -- the words of the slots are room again
+  slots_end : ⟦ slots w p z ⟧ ⊢ ⟦ slot_rooms w ⟧
+  slots_end = let b : ℕ = block_of w in let o : ℕ = count_of w in qed 𝓛 (‵ (slots w p z) ∷ []) ∵ fsplit ! $
+      fpick ! (λ s. fsplit3 ! $ move ! (1 ∷ []) $ fsplit ! $ move ! (4 ∷ []) $ fpick ! (λ t. fsplit3 ! $ move ! (1 ∷ []) $ fsplit ! $
+      use1 𝓛 (‵ (word_room w 768)) (𝓛.laws.at_room u b (768 + o) _) $ move ! (1 ∷ []) $ use1 𝓛 (‵ (word_room w 896)) (𝓛.laws.at_room u b (896 + o) _) $
+      move ! (4 ∷ []) $ use1 𝓛 (‵ (word_room w 512)) (𝓛.laws.at_room u b (512 + o) _) $ move ! (5 ∷ []) $ use1 𝓛 (‵ (word_room w 640)) (𝓛.laws.at_room u b (640 + o) _) $
+      move ! (3 ∷ 2 ∷ []) $ fjoin ! $ move ! (2 ∷ 1 ∷ 0 ∷ []) $ fjoin3 ! $ keep ! (0 ∷ []) $ done !))
+
   -- once both ends are gone, the words and the places that each gave up are all of the memory
   gathers : (s : State) → Holds cap s → gone s.reader_stage ≡ true → gone s.writer_stage ≡ true → ⟦ memory w p z s ⟧ ⊢ ⟦ whole w p z ⟧
   gathers s so gr gw = let b : ℕ = block_of w in let o : ℕ = count_of w in let known = so.known in let arrived = so.arrived in let written = so.written in let freed = so.freed in let sl : ℕ = length s.sent in let pend : List ℕ = drop s.seen s.sent in let pl : length pend ≡ sl - s.seen = length-drop s.seen s.sent in
@@ -111,8 +119,8 @@ module _ {M : Type 1} {𝓤 : Ura M} (𝓛 : Logic 𝓤) (w p : Ptr) (z : Names)
       move ! (4 ∷ 0 ∷ []) $ use2 𝓛 (‵ (span U s.head (sl - s.head))) (span_join 𝓛 U (s.seen - s.head) s.head s.seen (length pend) (sl - s.head) (omega arith) (omega arith)) $
       move ! (0 ∷ 2 ∷ []) $ use2 𝓛 (‵ (span U s.head (s.limit - s.head))) (span_join 𝓛 U (sl - s.head) s.head sl (s.limit - sl) (s.limit - s.head) (omega arith) (omega arith)) $
       use2 𝓛 (‵ (span U s.head cap)) (span_join 𝓛 U (s.limit - s.head) s.head s.limit (length ys) cap (omega arith) (omega arith)) $
-      use1 𝓛 (‵ (froom (array_of u8 cap) (block_of p) (count_of p))) (as_array s.head) $ move ! (1 ∷ []) $ fsplit3 ! $ move ! (4 ∷ 0 ∷ []) $
-      use2 𝓛 (‵ (froom words_type b o)) (apply∗ 𝓤 ⟦ four_rooms w ⟧ ⟦ froom words_type b o ⟧) $ fjoin ! $ move ! (2 ∷ 1 ∷ []) $ fjoin ! $ move ! (1 ∷ 0 ∷ []) $ fjoin ! $ done !))
+      use1 𝓛 (‵ (froom (array_of u8 cap) (block_of p) (count_of p))) (as_array s.head) $ move ! (1 ∷ []) $ fsplit ! $ fsplit3 ! $ move ! (3 ∷ []) $ use1 𝓛 (‵ (slot_rooms w)) slots_end $ move ! (5 ∷ 0 ∷ []) $ fjoin ! $ move ! (0 ∷ 1 ∷ []) $
+      use2 𝓛 (‵ (froom words_type b o)) (apply∗ 𝓤 ⟦ all_rooms w ⟧ ⟦ froom words_type b o ⟧) $ fjoin ! $ move ! (2 ∷ 1 ∷ []) $ fjoin ! $ move ! (1 ∷ 0 ∷ []) $ fjoin ! $ done !))
 
   abbrev one : ℕ → ℕ
   one _ = 1

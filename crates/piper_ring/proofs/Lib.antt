@@ -14,6 +14,7 @@ pub mod Closing
 pub mod Freeing
 pub mod Leaving
 pub mod Meet
+pub mod Slots
 pub mod Opening
 pub mod Taking
 pub mod ReaderFacts

@@ -1,10 +1,10 @@
 -- A ring is opened: the words are cut out of their block, the bytes are places, and the invariant is made. Assumes `Logic`.
-use Rattle.std.proofs.Common.{◌≡◌, ℕ, zero, suc, ◌+◌, ◌-◌, ◌*◌, ◌<◌, ◌^◌, false, List, [], ◌∷◌, length, sym, refl, ap, ◌∙◌, subst, arith}
+use Rattle.std.proofs.Common.{◌≡◌, ℕ, zero, suc, ◌+◌, ◌-◌, ◌*◌, ◌<◌, ◌^◌, true, false, List, [], ◌∷◌, length, sym, refl, ap, ◌∙◌, subst, arith}
 use seplogic.Ra.Ura.{Ura}
 use base.Fraction.{full_share}
 use base.Growing.{Order, numbers, latest, at_least}
-use base.Logic.{SProp, ent, sep, emp, ex, via, id⊢}
-use base.Fml.{Fml, ftrue, fsep, finv}
+use base.Logic.{SProp, ent, sep, emp, ex, via, id⊢, apply∗}
+use base.Fml.{Fml, ftrue, fsep, finv, fobs}
 use types.Logic.{Logic, sem}
 use types.Growing.{latest_new, latest_shows}
 use types.Kit.{assume, ‵, ◌⊛◌, some, later, ◌$◌, ◌∵◌, !, qed, by, move, split, split3, fsplit, fsplit3, fjoin, fjoin3, fpack, pick, show, frame, rewrite, check, use0, use1, use2, use3, updating, await, now, done}
@@ -25,7 +25,11 @@ use Rattle.rtrb.proofs.Spans.{span_map, ring_out}
 use Rattle.rtrb.proofs.Positions.{position_zero}
 use Rattle.piper_ring.specs.Places.{unset}
 use Rattle.piper_ring.specs.Streams.{Stream, streams, reaches_same}
-use Rattle.piper_ring.specs.Shared.{Names, names_of, State, Holds, half, other, word, word_room, words_type, four_rooms, idle, deeds, Inner, Placed, common, reader_owns, writer_owns}
+use Rattle.piper_ring.specs.Shared.{Names, names_of, State, Holds, half, other, word, word_room, words_type, four_rooms, slot_rooms, all_rooms, idle, deeds, titles, Inner, Placed, common, reader_owns, writer_owns}
+use types.Tokens.{name_new}
+use Rattle.std.specs.Coded.{Coded}
+use Rattle.piper_ring.specs.Slots.{Waits, Wakes, Stands, Slot, with_waiter, code_of, slot, slot_at}
+use Rattle.piper_ring.specs.Shared.{Consumed, coded_stream, coded_consumed, published, consumed, took, waits_for, wakes_for, waits_back, wakes_back}
 use Rattle.piper_ring.proofs.Rights.{common_twice, cut}
 use Rattle.piper_ring.proofs.Steps.{closes}
 
@@ -73,22 +77,36 @@ module _ {M : Type 1} {𝓤 : Ura M} (𝓛 : Logic 𝓤) (w p : Ptr) (cap : ℕ)
       use2 𝓛 (‵ (many (15 + n) gap)) (room_glue 𝓛 u 15 n b gap) $ move ! (1 ∷ []) $ by ! (𝓛.laws.room_cons u (15 + n) b here)
 
   abbrev pub Rejoin : Fml
-  Rejoin = fwand (four_rooms w) (froom words_type b o)
+  Rejoin = fwand (all_rooms w) (froom words_type b o)
 
-  -- the block of the words is the four words in use, and what makes a block of them again
-  pub words_out : ⟦ froom words_type b o ⟧ ⊢ ⟦ word_room w 128 ⟧ ∗ ⟦ word_room w 256 ⟧ ∗ ⟦ word_room w 384 ⟧ ∗ ⟦ word_room w 0 ⟧ ∗ ⟦ Rejoin ⟧
+  -- the last four of the words in use, with what makes a block of them again
+  slots_out : ⟦ many 64 (512 + o) ⟧ ⊢ ⟦ slot_rooms w ⟧ ∗ ⟦ fwand (slot_rooms w) (many 64 (512 + o)) ⟧
+  slots_out = qed 𝓛 (‵ (many 64 (512 + o)) ∷ []) ∵
+      use1 𝓛 (‵ (word_room w 512) ⊛ ‵ (many 48 (640 + o)) ⊛ ‵ (many 15 (512 + o + 8))) (apart 48 (512 + o) (640 + o) (omega arith)) $ split3 ! $ move ! (1 ∷ []) $
+      use1 𝓛 (‵ (word_room w 640) ⊛ ‵ (many 32 (768 + o)) ⊛ ‵ (many 15 (640 + o + 8))) (apart 32 (640 + o) (768 + o) (omega arith)) $ split3 ! $ move ! (1 ∷ []) $
+      use1 𝓛 (‵ (word_room w 768) ⊛ ‵ (many 16 (896 + o)) ⊛ ‵ (many 15 (768 + o + 8))) (apart 16 (768 + o) (896 + o) (omega arith)) $ split3 ! $ move ! (1 ∷ []) $
+      use1 𝓛 (‵ (word_room w 896) ⊛ ‵ (many 0 (1024 + o)) ⊛ ‵ (many 15 (896 + o + 8))) (apart 0 (896 + o) (1024 + o) (omega arith)) $ split3 ! $
+      move ! (3 ∷ 0 ∷ []) $ fjoin ! $ move ! (4 ∷ 0 ∷ []) $ fjoin ! $ move ! (5 ∷ 0 ∷ []) $ fjoin ! $ frame ! $ assume ! (‵ (slot_rooms w)) $ fsplit3 ! $ move ! (2 ∷ []) $ fsplit ! $
+      move ! (1 ∷ 4 ∷ 5 ∷ []) $ use3 𝓛 (‵ (many 16 (896 + o))) (together 0 (896 + o) (1024 + o) (omega arith)) $
+      move ! (1 ∷ 0 ∷ 4 ∷ []) $ use3 𝓛 (‵ (many 32 (768 + o))) (together 16 (768 + o) (896 + o) (omega arith)) $
+      move ! (2 ∷ 0 ∷ 3 ∷ []) $ use3 𝓛 (‵ (many 48 (640 + o))) (together 32 (640 + o) (768 + o) (omega arith)) $
+      move ! (1 ∷ 0 ∷ 2 ∷ []) $ by ! (together 48 (512 + o) (640 + o) (omega arith))
+
+  -- the block of the words is the eight words in use, and what makes a block of them again
+  pub words_out : ⟦ froom words_type b o ⟧ ⊢ ⟦ word_room w 128 ⟧ ∗ ⟦ word_room w 256 ⟧ ∗ ⟦ word_room w 384 ⟧ ∗ ⟦ word_room w 0 ⟧ ∗ ⟦ slot_rooms w ⟧ ∗ ⟦ Rejoin ⟧
   words_out = let first_word : 0 + o ≡ o = omega arith in
-      qed 𝓛 (‵ (froom words_type b o) ∷ []) ∵ use1 𝓛 (‵ (many 64 o)) (𝓛.laws.raw-room (ty_array u 64) b o) $ rewrite ! 0 (λ (at : ℕ). ‵ (many 64 at)) (sym first_word) refl $
-      use1 𝓛 (‵ (word_room w 0) ⊛ ‵ (many 48 (128 + o)) ⊛ ‵ (many 15 (0 + o + 8))) (apart 48 (0 + o) (128 + o) (omega arith)) $ split3 ! $ move ! (1 ∷ []) $
-      use1 𝓛 (‵ (word_room w 128) ⊛ ‵ (many 32 (256 + o)) ⊛ ‵ (many 15 (128 + o + 8))) (apart 32 (128 + o) (256 + o) (omega arith)) $ split3 ! $ frame ! $
-      use1 𝓛 (‵ (word_room w 256) ⊛ ‵ (many 16 (384 + o)) ⊛ ‵ (many 15 (256 + o + 8))) (apart 16 (256 + o) (384 + o) (omega arith)) $ split3 ! $ frame ! $
-      use1 𝓛 (‵ (word_room w 384) ⊛ ‵ (many 0 (512 + o)) ⊛ ‵ (many 15 (384 + o + 8))) (apart 0 (384 + o) (512 + o) (omega arith)) $ split3 ! $ frame ! $
-      move ! (4 ∷ []) $ frame ! $ assume ! (‵ (four_rooms w)) $ fsplit3 ! $ move ! (2 ∷ []) $ fsplit ! $
-      move ! (0 ∷ 4 ∷ 5 ∷ []) $ use3 𝓛 (‵ (many 16 (384 + o))) (together 0 (384 + o) (512 + o) (omega arith)) $
-      move ! (3 ∷ 0 ∷ 4 ∷ []) $ use3 𝓛 (‵ (many 32 (256 + o))) (together 16 (256 + o) (384 + o) (omega arith)) $
-      move ! (2 ∷ 0 ∷ 3 ∷ []) $ use3 𝓛 (‵ (many 48 (128 + o))) (together 32 (128 + o) (256 + o) (omega arith)) $
-      move ! (1 ∷ 0 ∷ 2 ∷ []) $ use3 𝓛 (‵ (many 64 (0 + o))) (together 48 (0 + o) (128 + o) (omega arith)) $
-      rewrite ! 0 (λ (at : ℕ). ‵ (many 64 at)) first_word refl $ by ! (𝓛.laws.room-raw (ty_array u 64) b o)
+      qed 𝓛 (‵ (froom words_type b o) ∷ []) ∵ use1 𝓛 (‵ (many 128 o)) (𝓛.laws.raw-room (ty_array u 128) b o) $ rewrite ! 0 (λ (at : ℕ). ‵ (many 128 at)) (sym first_word) refl $
+      use1 𝓛 (‵ (word_room w 0) ⊛ ‵ (many 112 (128 + o)) ⊛ ‵ (many 15 (0 + o + 8))) (apart 112 (0 + o) (128 + o) (omega arith)) $ split3 ! $ move ! (1 ∷ []) $
+      use1 𝓛 (‵ (word_room w 128) ⊛ ‵ (many 96 (256 + o)) ⊛ ‵ (many 15 (128 + o + 8))) (apart 96 (128 + o) (256 + o) (omega arith)) $ split3 ! $ frame ! $
+      use1 𝓛 (‵ (word_room w 256) ⊛ ‵ (many 80 (384 + o)) ⊛ ‵ (many 15 (256 + o + 8))) (apart 80 (256 + o) (384 + o) (omega arith)) $ split3 ! $ frame ! $
+      use1 𝓛 (‵ (word_room w 384) ⊛ ‵ (many 64 (512 + o)) ⊛ ‵ (many 15 (384 + o + 8))) (apart 64 (384 + o) (512 + o) (omega arith)) $ split3 ! $ frame ! $
+      move ! (4 ∷ []) $ frame ! $ use1 𝓛 (‵ (slot_rooms w) ⊛ ‵ (fwand (slot_rooms w) (many 64 (512 + o)))) slots_out $ split ! $ frame ! $ assume ! (‵ (all_rooms w)) $ fsplit ! $
+      move ! (1 ∷ 2 ∷ []) $ use2 𝓛 (‵ (many 64 (512 + o))) (apply∗ 𝓤 ⟦ slot_rooms w ⟧ ⟦ many 64 (512 + o) ⟧) $ move ! (1 ∷ []) $ fsplit3 ! $ move ! (2 ∷ []) $ fsplit ! $
+      move ! (0 ∷ 4 ∷ 5 ∷ []) $ use3 𝓛 (‵ (many 80 (384 + o))) (together 64 (384 + o) (512 + o) (omega arith)) $
+      move ! (3 ∷ 0 ∷ 4 ∷ []) $ use3 𝓛 (‵ (many 96 (256 + o))) (together 80 (256 + o) (384 + o) (omega arith)) $
+      move ! (2 ∷ 0 ∷ 3 ∷ []) $ use3 𝓛 (‵ (many 112 (128 + o))) (together 96 (128 + o) (256 + o) (omega arith)) $
+      move ! (1 ∷ 0 ∷ 2 ∷ []) $ use3 𝓛 (‵ (many 128 (0 + o))) (together 112 (0 + o) (128 + o) (omega arith)) $
+      rewrite ! 0 (λ (at : ℕ). ‵ (many 128 at)) first_word refl $ by ! (𝓛.laws.room-raw (ty_array u 128) b o)
 
   abbrev τ : Ty
   τ = lone u8.mir
@@ -99,8 +117,12 @@ module _ {M : Type 1} {𝓤 : Ura M} (𝓛 : Logic 𝓤) (w p : Ptr) (cap : ℕ)
       via 𝓤 _ (ring_out 𝓛 τ (block_of p) (count_of p) cap) (span_map 𝓛 F (unset p cap) cap 0 0 (λ a e is le lt. let same : a ≡ e = omega arith in let flat : offset_of cap a * 1 + count_of p ≡ offset_of cap a + count_of p = omega arith in
       subst (λ (m : ℕ). ⟦ F a ⟧ ⊢ ⟦ froom (bare τ) (block_of p) m ⟧) (flat ∙ ap (λ (m : ℕ). offset_of cap m + count_of p) same) (id⊢ 𝓤 ⟦ F a ⟧)))
 
+  -- each side of a slot, as it begins
+  abbrev pub Slotted : Names → Fml
+  Slotted z = fsep (fsep (waits_for z true 0 [] false) (wakes_for z false 0 [] false)) (fsep (waits_back z true 0 0 false) (wakes_back z false 0 0 false))
+
   abbrev pub Made : Names → SProp 𝓤
-  Made z = base.Logic.guard 𝓤 (z.capacity ≡ cap) (sep 𝓤 (sem 𝓛 (reader_owns w p z 0 0 [] false)) (sem 𝓛 (writer_owns w p z [] cap false)))
+  Made z = base.Logic.guard 𝓤 (z.capacity ≡ cap) (sep 𝓤 (sem 𝓛 (reader_owns w p z 0 0 [] false)) (sep 𝓤 (sem 𝓛 (writer_owns w p z [] cap false)) (sem 𝓛 (Slotted z))))
 
   abbrev O : Order Stream
   O = streams
@@ -116,17 +138,31 @@ module _ {M : Type 1} {𝓤 : Ura M} (𝓛 : Logic 𝓤) (w p : Ptr) (cap : ℕ)
   starts n = qed 𝓛 [] {P = H.⇛ (ex 𝓤 (Begun n))} (updating ! $ use0 𝓛 (later (some (λ (γ : ℕ). ‵ (latest numbers full_share γ n)))) (via 𝓤 _ (latest_new numbers 𝓛 n) (basic 𝓛 _)) $ await ! tt $ pick ! (λ γ.
       use1 𝓛 (‵ (latest numbers half γ n) ⊛ ‵ (latest numbers other γ n)) (cut 𝓛 numbers γ n full_share) $ now ! $ show ! (Begun n) γ $ done !))
 
+  module _ {X : Type 0} (c : Coded X) (shows : X → Fml) (x : X) where
+    abbrev SlotMade : ℕ → ℕ × ℕ → SProp 𝓤
+    SlotMade far γ = sep 𝓤 (sem 𝓛 (slot w far γ.0 γ.1 c shows)) (sep 𝓤 (sem 𝓛 (fobs γ.0 ((code_of X c).code (true, (0, x))))) (sem 𝓛 (fobs γ.1 ((code_of X c).code (false, (0, x))))))
+
+    -- an empty slot, whose place is with the side that waits
+    slot_new : (far : ℕ) → ⟦ word w far 0 ⟧ ∗ ⟦ word w (128 + far) 0 ⟧ ∗ ⟦ shows x ⟧ ⊢ H.⇛ (ex 𝓤 (SlotMade far))
+    slot_new far = let a : Waits X = (true, (0, x)) in let b : Wakes X = (false, (0, x)) in let s : Slot X = (a, (b, with_waiter)) in
+        qed 𝓛 (‵ (word w far 0) ∷ ‵ (word w (128 + far) 0) ∷ ‵ (shows x) ∷ []) {P = H.⇛ (ex 𝓤 (SlotMade far))} (updating ! $ fjoin ! $
+        name_new ! tt ((code_of X c).code a) (λ γ. name_new ! tt ((code_of X c).code b) (λ δ. move ! (3 ∷ 1 ∷ []) $ fjoin ! $ move ! (3 ∷ 0 ∷ 4 ∷ []) $ fjoin3 ! $
+        nothing ! $ fpack ! (Stands X with_waiter a b) (λ _. ftrue) (refl, refl) $ fjoin ! $ fpack ! (Slot X) (slot_at w far γ δ c shows) s $ now ! $ show ! (SlotMade far) (γ, δ) $ move ! (0 ∷ 2 ∷ 1 ∷ []) $ done !)))
+
   abbrev pub zero_words : Fml
   zero_words = fsep (word w 128 0) (fsep (word w 256 0) (fsep (word w 384 0) (word w 0 0)))
 
+  abbrev pub slot_words : Fml
+  slot_words = fsep (word w 512 0) (fsep (word w 640 0) (fsep (word w 768 0) (word w 896 0)))
+
   abbrev pub Deeds : Fml
-  Deeds = deeds w p (names_of cap 0 0 0 0 0 0 0)
+  Deeds = titles w p (names_of cap 0 0 0 0 0 0 0 0 0 0 0)
 
   -- the words are 0 and the rights to free are there: an empty ring, all of whose places are the writer's room
-  pub begins : InBlock w × InBlock p × (cap < 2 ^ 63) → ⟦ zero_words ⟧ ∗ ⟦ Deeds ⟧ ⊢ H.⇛ (ex 𝓤 Made)
+  pub begins : InBlock w × InBlock p × (cap < 2 ^ 63) → ⟦ zero_words ⟧ ∗ ⟦ Deeds ⟧ ∗ ⟦ slot_words ⟧ ⊢ H.⇛ (ex 𝓤 Made)
   begins at = let fresh : State = record { sent = []; limit = cap; head = 0; seen = 0; closed = false; shut = false; reader_stage = 0; writer_stage = 0 } in
       let new : (n : ℕ) → ent 𝓤 (emp 𝓤) (H.⇛ (ex 𝓤 (Begun n))) = starts in
-      qed 𝓛 (‵ zero_words ∷ ‵ Deeds ∷ []) {P = H.⇛ (ex 𝓤 Made)} (updating ! $
+      qed 𝓛 (‵ zero_words ∷ ‵ Deeds ∷ ‵ slot_words ∷ []) {P = H.⇛ (ex 𝓤 Made)} (updating ! $
       use0 𝓛 (later (some (λ (γ : ℕ). ‵ (latest O full_share γ none)))) (via 𝓤 _ (latest_new O 𝓛 none) (basic 𝓛 _)) $ await ! tt $ pick ! (λ s. use1 𝓛 (‵ (latest O half s none) ⊛ ‵ (latest O other s none)) (cut 𝓛 O s none full_share) $ split ! $
       use0 𝓛 (later (some (λ (γ : ℕ). ‵ (latest numbers half γ cap) ⊛ ‵ (latest numbers other γ cap)))) (starts cap) $ await ! tt $ pick ! (λ l. split ! $
       use0 𝓛 (later (some (λ (γ : ℕ). ‵ (latest numbers half γ 0) ⊛ ‵ (latest numbers other γ 0)))) (starts 0) $ await ! tt $ pick ! (λ i. split ! $
@@ -137,11 +173,20 @@ module _ {M : Type 1} {𝓤 : Ura M} (𝓛 : Logic 𝓤) (w p : Ptr) (cap : ℕ)
       use0 𝓛 (later (some (λ (γ : ℕ). ‵ (latest numbers half γ 0) ⊛ ‵ (latest numbers other γ 0)))) (starts 0) $ await ! tt $ pick ! (λ k. split ! $
       move ! (3 ∷ 0 ∷ []) $ fjoin ! $ move ! (2 ∷ 1 ∷ []) $ fjoin ! $
       use0 𝓛 (later (some (λ (γ : ℕ). ‵ (latest numbers full_share γ 0)))) (via 𝓤 _ (latest_new numbers 𝓛 0) (basic 𝓛 _)) $ await ! tt $ pick ! (λ x.
-      let z : Names = names_of cap s l h k x j i in let so : Holds cap fresh = record { known = omega arith; arrived = omega arith; written = omega arith; freed = omega arith; closing = omega arith; shutting = omega arith; stages = (omega arith, omega arith) } in
+      let y : Names = names_of cap s l h k x j i 0 0 0 0 in let was : Consumed = (0, false) in
+      move ! (4 ∷ []) $ fsplit3 ! $ use1 𝓛 (‵ (latest O half s none) ⊛ ‵ (published y none)) (latest_shows O 𝓛 half s none none (reaches_same none)) $ split ! $ move ! (0 ∷ 2 ∷ 3 ∷ []) $ fjoin3 ! $
+      move ! (4 ∷ []) $ fsplit ! $ fsplit ! $ use1 𝓛 (‵ (latest numbers half h 0) ⊛ ‵ (took y 0)) (latest_shows numbers 𝓛 half h 0 0 (omega arith)) $ split ! $ move ! (0 ∷ 2 ∷ []) $ fjoin ! $ move ! (0 ∷ 2 ∷ []) $ fjoin ! $
+      move ! (1 ∷ []) $ nothing ! $ move ! (1 ∷ 0 ∷ []) $ fjoin ! $ move ! (9 ∷ []) $ fsplit3 ! $ move ! (2 ∷ []) $ fsplit ! $
+      move ! (0 ∷ 1 ∷ 4 ∷ []) $ use3 𝓛 (later (some (λ (γ : ℕ × ℕ). ‵ (slot w 768 γ.0 γ.1 coded_consumed (consumed y)) ⊛ ‵ (fobs γ.0 ((code_of Consumed coded_consumed).code (true, (0, was)))) ⊛ ‵ (fobs γ.1 ((code_of Consumed coded_consumed).code (false, (0, was)))))))
+      (slot_new coded_consumed (consumed y) was 768) $ await ! tt $ pick ! (λ d. split3 ! $
+      move ! (3 ∷ 4 ∷ 7 ∷ []) $ use3 𝓛 (later (some (λ (γ : ℕ × ℕ). ‵ (slot w 512 γ.0 γ.1 coded_stream (published y)) ⊛ ‵ (fobs γ.0 ((code_of Stream coded_stream).code (true, (0, none)))) ⊛ ‵ (fobs γ.1 ((code_of Stream coded_stream).code (false, (0, none)))))))
+      (slot_new coded_stream (published y) none 512) $ await ! tt $ pick ! (λ a. split3 ! $
+      let z : Names = names_of cap s l h k x j i a.0 a.1 d.0 d.1 in let so : Holds cap fresh = record { known = omega arith; arrived = omega arith; written = omega arith; freed = omega arith; closing = omega arith; shutting = omega arith; stages = (omega arith, omega arith) } in
       let I : Fml = Inner w p z in let C : Fml = common w p z in
-      move ! (6 ∷ []) $ nothing ! $ fjoin ! $ nothing ! $ fjoin ! $ nothing ! $ nothing ! $ fpack ! (length {A = ℕ} [] ≡ 0 + cap - cap) (λ _. ftrue) (omega arith) $ fjoin ! $ fpack ! (List ℕ) (idle w p z cap (0 + cap - cap)) [] $ fjoin ! $ nothing ! $ fjoin ! $
+      move ! (0 ∷ 3 ∷ []) $ fjoin ! $ move ! (11 ∷ 0 ∷ []) $ fjoin ! $ move ! (1 ∷ 2 ∷ []) $ fjoin ! $ move ! (2 ∷ 3 ∷ []) $ fjoin ! $ move ! (1 ∷ 0 ∷ []) $ fjoin ! $ move ! (1 ∷ 4 ∷ 5 ∷ 2 ∷ 6 ∷ 3 ∷ 7 ∷ 0 ∷ []) $
+      nothing ! $ fjoin ! $ nothing ! $ fjoin ! $ nothing ! $ nothing ! $ fpack ! (length {A = ℕ} [] ≡ 0 + cap - cap) (λ _. ftrue) (omega arith) $ fjoin ! $ fpack ! (List ℕ) (idle w p z cap (0 + cap - cap)) [] $ fjoin ! $ nothing ! $ fjoin ! $
       move ! (6 ∷ []) $ fsplit3 ! $
       rewrite ! 0 (λ (n : ℕ). ‵ (word w 128 n)) (sym (position_zero cap)) refl $ rewrite ! 1 (λ (n : ℕ). ‵ (word w 256 n)) (sym (position_zero cap)) refl $ fjoin3 ! $ fjoin ! $ move ! (1 ∷ 0 ∷ []) $ fjoin ! $
       move ! (3 ∷ 1 ∷ 0 ∷ []) $ use3 𝓛 (‵ I) (closes 𝓛 w p z fresh so (omega arith)) $ use1 𝓛 (later (‵ (finv I))) (𝓛.invs.inv_new I) $ await ! tt $
       nothing ! $ fpack ! (Placed w p z) (λ _. ftrue) at $ fjoin ! $ use1 𝓛 (‵ C ⊛ ‵ C) (common_twice 𝓛 w p z) $ split ! $ move ! (3 ∷ []) $ fsplit3 ! $ use1 𝓛 (‵ (latest O half s none) ⊛ ‵ (at_least O s none)) (latest_shows O 𝓛 half s none none (reaches_same none)) $ split ! $ move ! (0 ∷ 2 ∷ 3 ∷ []) $ fjoin3 ! $ move ! (2 ∷ 0 ∷ []) $ fjoin ! $ move ! (1 ∷ []) $ nothing ! $ fpack ! (length {A = ℕ} [] ≡ 0) (λ _. ftrue) refl $ fjoin ! $ move ! (3 ∷ 0 ∷ []) $ fjoin ! $ move ! (2 ∷ 0 ∷ []) $ fjoin ! $
-      now ! $ show ! Made z $ check ! refl $ done !))))))))
+      now ! $ show ! Made z $ check ! refl $ done !))))))))))

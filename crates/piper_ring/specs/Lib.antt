@@ -1,5 +1,7 @@
 pub mod Places
 pub mod Streams
+pub mod Words
+pub mod Slots
 pub mod Shared
 pub mod Memory
 pub mod Lends
@@ -9,3 +11,5 @@ pub mod Stretches
 pub mod WriteView
 pub mod LendsBuffer
 pub mod Opened
+pub mod SlotViews
+pub mod SlotsView

@@ -3,23 +3,25 @@
 -- of the bytes that it knows of, the writer those of its known room;
 -- the invariant owns the words, all other places, and the rights to free the memory.
 use Rattle.std.specs.Prelude.{◌≡◌, ℕ, zero, suc, ◌+◌, ◌-◌, ◌^◌, ◌<◌, ◌≤◌, Bool, true, false, List, length, drop, refl}
-use mir.Syntax.{Ty, w64, ty_int}
-use mir.Val.{vint}
+use mir.Syntax.{Ty}
 use base.Fraction.{full_share}
 use base.Share.{left, right}
 use base.Stored.{coded_ℕ}
 use base.Growing.{numbers, latest, at_least}
-use base.Fml.{Lft, Share, Fml, ftrue, fsep, fwand, fex, fat, froom, finv}
+use base.Fml.{Lft, Share, Fml, ftrue, fsep, fwand, fex, froom, finv, fobs}
 use denote.Builtin.{u8, u64}
 use denote.RawPtr.{Ptr, coded_ptr, block_of, count_of, InBlock}
 use denote.Sharing.{said, beside, one}
 use Rattle.core.specs.Allocator.{array_of}
-use Rattle.std.specs.Coded.{Coded, code_by, coded×}
+use Rattle.std.specs.Coded.{Coded, code_by, coded×, coded_list, coded_bool}
 use Rattle.std_heap.specs.contracts.GlobalAllocator.TheImpl.{ghosts}
 use Rattle.rtrb.specs.Fifo.{position_of}
 use Rattle.rtrb.specs.Shared.{run, span}
 use Rattle.piper_ring.specs.Places.{fact, byte, unset}
+pub use Rattle.piper_ring.specs.Streams.{Stream}
 use Rattle.piper_ring.specs.Streams.{streams}
+pub use Rattle.piper_ring.specs.Words.{word, word_room}
+use Rattle.piper_ring.specs.Slots.{slot, code_of}
 
 -- The capacity, and the ghost names under which the ring's history is kept.
 pub record Names : Type 0 where
@@ -37,9 +39,14 @@ pub record Names : Type 0 where
   -- how far each end has gone in leaving
   pub reader_stage : ℕ
   pub writer_stage : ℕ
+  -- how each side stands at the reader's slot, in which the reader waits, and at the writer's
+  pub reader_waits : ℕ
+  pub writer_wakes : ℕ
+  pub writer_waits : ℕ
+  pub reader_wakes : ℕ
 
-abbrev pub names_of : (c s l h e o i j : ℕ) → Names
-names_of c s l h e o i j = record {
+abbrev pub names_of : (c s l h e o i j a b d f : ℕ) → Names
+names_of c s l h e o i j a b d f = record {
   capacity = c;
   sent = s;
   limit = l;
@@ -48,6 +55,10 @@ names_of c s l h e o i j = record {
   closed = o;
   reader_stage = i;
   writer_stage = j;
+  reader_waits = a;
+  writer_wakes = b;
+  writer_waits = d;
+  reader_wakes = f;
 }
 
 abbrev pub Three : Type 0
@@ -56,18 +67,22 @@ Three = ℕ × (ℕ × ℕ)
 abbrev pub coded_three : Coded Three
 coded_three = coded× coded_ℕ (coded× coded_ℕ coded_ℕ)
 
-abbrev pub of_threes : Three → Three → ℕ × ℕ → Names
-of_threes a b c = names_of a.0 a.1.0 a.1.1 b.0 b.1.0 b.1.1 c.0 c.1
+abbrev pub of_threes : Three → Three → Three → Three → Names
+of_threes a b c d =
+    names_of a.0 a.1.0 a.1.1 b.0 b.1.0 b.1.1 c.0 c.1.0 c.1.1 d.0 d.1.0 d.1.1
 
 abbrev pub names_code : Coded Names
 names_code =
-    code_by (Three × (Three × (ℕ × ℕ)))
-    (coded× coded_three (coded× coded_three (coded× coded_ℕ coded_ℕ)))
+    code_by ((Three × Three) × (Three × Three))
+    (coded× (coded× coded_three coded_three) (coded× coded_three coded_three))
     (λ z. (
-      (z.capacity, (z.sent, z.limit)),
-      ((z.head, (z.seen, z.closed)), (z.reader_stage, z.writer_stage)),
+      ((z.capacity, (z.sent, z.limit)), (z.head, (z.seen, z.closed))),
+      (
+        (z.reader_stage, (z.writer_stage, z.reader_waits)),
+        (z.writer_wakes, (z.writer_waits, z.reader_wakes)),
+      ),
     ))
-    (λ p. of_threes p.0 p.1.0 p.1.1) (λ _. refl)
+    (λ p. of_threes p.0.0 p.0.1 p.1.0 p.1.1) (λ _. refl)
 
 -- which ring it is: where its words and its memory begin, and its names
 abbrev pub Ring : Type 0
@@ -128,20 +143,21 @@ pub record Holds (capacity : ℕ) (s : State) : Type 0 where
   pub shutting : flag s.shut ≤ flag s.closed
   pub stages : (s.reader_stage ≤ 2) × (s.writer_stage ≤ 2)
 
--- the word that lies so far after w, in bytes, holds n
-abbrev pub word : Ptr → ℕ → ℕ → Fml
-word w far n = fat full_share (ty_int w64) (block_of w) (far + count_of w) (vint w64 n)
-
-abbrev pub word_room : Ptr → ℕ → Fml
-word_room w far = froom (ty_int w64) (block_of w) (far + count_of w)
-
 -- the words stand 128 bytes apart, so that no two share a cache line
 abbrev pub words_type : Ty
-words_type = array_of u64 64
+words_type = array_of u64 128
 
 abbrev pub four_rooms : Ptr → Fml
 four_rooms w =
     fsep (word_room w 128) (fsep (word_room w 256) (fsep (word_room w 384) (word_room w 0)))
+
+-- the words of both slots
+abbrev pub slot_rooms : Ptr → Fml
+slot_rooms w =
+    fsep (word_room w 512) (fsep (word_room w 640) (fsep (word_room w 768) (word_room w 896)))
+
+abbrev pub all_rooms : Ptr → Fml
+all_rooms w = fsep (four_rooms w) (slot_rooms w)
 
 -- the right to give a block back to the heap, which is the same for each handle of it
 abbrev pub heap_token : Ty → Ptr → Fml
@@ -164,7 +180,49 @@ abbrev pub raised : ℕ → Bool → Fml
 raised γ false = ftrue
 raised γ true = at_least numbers γ 1
 
+abbrev pub coded_stream : Coded Stream
+coded_stream = coded× (coded_list coded_ℕ) coded_bool
+
+-- how many bytes were consumed, and whether the ring is closed
+abbrev pub Consumed : Type 0
+Consumed = ℕ × Bool
+
+abbrev pub coded_consumed : Coded Consumed
+coded_consumed = coded× coded_ℕ coded_bool
+
+abbrev pub published : Names → Stream → Fml
+published z s = announced z s.0 s.1
+
+abbrev pub consumed : Names → Consumed → Fml
+consumed z c = fsep (took z c.0) (raised z.closed c.1)
+
+-- what the reader knows of its own slot, and the writer of the reader's
+abbrev pub waits_for : Names → Bool → ℕ → List ℕ → Bool → Fml
+waits_for z owns tickets bytes shut =
+    fobs z.reader_waits ((code_of Stream coded_stream).code (owns, (tickets, (bytes, shut))))
+
+abbrev pub wakes_for : Names → Bool → ℕ → List ℕ → Bool → Fml
+wakes_for z holds taken bytes shut =
+    fobs z.writer_wakes ((code_of Stream coded_stream).code (holds, (taken, (bytes, shut))))
+
+-- what the writer knows of its own slot, and the reader of the writer's
+abbrev pub waits_back : Names → Bool → ℕ → ℕ → Bool → Fml
+waits_back z owns tickets count over =
+    fobs z.writer_waits ((code_of Consumed coded_consumed).code (owns, (tickets, (count, over))))
+
+abbrev pub wakes_back : Names → Bool → ℕ → ℕ → Bool → Fml
+wakes_back z holds taken count over =
+    fobs z.reader_wakes ((code_of Consumed coded_consumed).code (holds, (taken, (count, over))))
+
 module _ (w p : Ptr) (z : Names) where
+  -- in the reader's slot the reader waits for what the writer publishes
+  abbrev pub reader_slot : Fml
+  reader_slot = slot w 512 z.reader_waits z.writer_wakes coded_stream (published z)
+
+  -- in the writer's slot the writer waits for what the reader consumes
+  abbrev pub writer_slot : Fml
+  writer_slot = slot w 768 z.writer_waits z.reader_wakes coded_consumed (consumed z)
+
   abbrev pub words : State → Fml
   words s =
       fsep (word w 128 (position_of z.capacity s.head))
@@ -180,10 +238,16 @@ module _ (w p : Ptr) (z : Names) where
   spare limit n = fex (List ℕ) (idle limit n)
 
   -- the bytes between the words, and the rights to free the two blocks
-  abbrev pub deeds : Fml
-  deeds =
-      fsep (fwand (four_rooms w) (froom words_type (block_of w) (count_of w)))
+  abbrev pub titles : Fml
+  titles =
+      fsep (fwand (all_rooms w) (froom words_type (block_of w) (count_of w)))
       (fsep (heap_token words_type w) (heap_token (array_of u8 z.capacity) p))
+
+  abbrev pub slots : Fml
+  slots = fsep reader_slot writer_slot
+
+  abbrev pub deeds : Fml
+  deeds = fsep titles slots
 
   -- n places from k on, set or not
   abbrev pub blanks : ℕ → ℕ → Fml

@@ -4,4 +4,5 @@ pub(crate) mod leaving;
 pub(crate) mod opening;
 pub(crate) mod reader;
 pub(crate) mod room;
+pub(crate) mod slots;
 pub(crate) mod writer;

@@ -3,3 +3,4 @@ pub(crate) mod marks;
 pub(crate) mod memory;
 pub(crate) mod places;
 pub(crate) mod seats;
+pub(crate) mod slots;

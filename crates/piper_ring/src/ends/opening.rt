@@ -4,6 +4,7 @@ ghost use Rattle.piper_ring.specs.Opened.{FreshReadEnd, FreshWriteEnd};
 
 use crate::ends::reader::{ReadEnd, ReadParts};
 use crate::ends::room::Room;
+use crate::ends::slots::{ReadSlotParts, ReadSlots, WriteSlotParts, WriteSlots};
 use crate::ends::writer::{WriteEnd, WriteParts};
 use crate::ring::memory::Memory;
 use crate::ring::seats::{WORDS_ALIGN, WORDS_SIZE, open};
@@ -19,8 +20,23 @@ pub fn open_ring(alloc: Global, capacity: usize) -> Result<(ReadEnd, WriteEnd), 
     ensures reader { IfOk result (λ r. FreshReadEnd capacity r.0) }
     ensures writer { IfOk result (λ r. FreshWriteEnd capacity r.1) }
 {
+    let (reader, writer, _, _) = open_with_slots(alloc, capacity)?;
+    Ok((reader, writer))
+}
+
+/// The two ends of a new ring for `capacity` bytes, and what each has of its slots, in which nobody waits yet. Where memory is refused, all that was got is given back.
+pub fn open_with_slots(
+    alloc: Global,
+    capacity: usize,
+) -> Result<(ReadEnd, WriteEnd, ReadSlots, WriteSlots), OutOfMemory>
+    requires { (0 < capacity) × (2 * capacity < 2 ^ 64) }
+    ensures pair { IfOk result (λ r. r.1.ring ≡ r.0.ring) }
+    ensures reader { IfOk result (λ r. FreshReadEnd capacity r.0) }
+    ensures writer { IfOk result (λ r. FreshWriteEnd capacity r.1) }
+{
     let (words, bytes) = claim(&alloc, capacity)?;
-    let (read_seat, write_seat, mut blank, base) = open(words, bytes);
+    let (read_seat, write_seat, mut blank, base, reader_waits, writer_wakes, writer_waits, reader_wakes) =
+        open(words, bytes);
     let told_reader = write_seat.mark();
     let told_writer = read_seat.mark();
     let read_saw = told_reader.again();
@@ -45,13 +61,28 @@ pub fn open_ring(alloc: Global, capacity: usize) -> Result<(ReadEnd, WriteEnd), 
         alloc,
         indices: WriteIndices::new(capacity),
     };
-    Ok((ReadEnd { parts: reader }, WriteEnd { parts: writer }))
+    let read_slots = ReadSlotParts {
+        waits: reader_waits,
+        has_place: true,
+        wakes: reader_wakes,
+    };
+    let write_slots = WriteSlotParts {
+        waits: writer_waits,
+        has_place: true,
+        wakes: writer_wakes,
+    };
+    Ok((
+        ReadEnd { parts: reader },
+        WriteEnd { parts: writer },
+        ReadSlots { parts: read_slots },
+        WriteSlots { parts: write_slots },
+    ))
 }
 
 /// The memory of the words, and that of the bytes. Where the second is refused, the first is given back.
 fn claim(alloc: &Global, capacity: usize) -> Result<(Memory, Memory), OutOfMemory>
     requires { (0 < capacity) × (2 * capacity < 2 ^ 64) }
-    ensures words { IfOk result (λ m. (m.0.size ≡ 512) × (m.0.align ≡ 8)) }
+    ensures words { IfOk result (λ m. (m.0.size ≡ 1024) × (m.0.align ≡ 8)) }
     ensures bytes { IfOk result (λ m. (m.1.size ≡ capacity) × (m.1.align ≡ 1)) }
 {
     let words = Memory::claim(alloc, WORDS_SIZE, WORDS_ALIGN)?;

@@ -3,16 +3,18 @@ ghost use Rattle.std.specs.Prelude.{◌≡◌, ℕ, ◌+◌, ◌-◌, ◌<◌, �
 ghost use denote.RawPtr.{Ptr};
 ghost use Rattle.rtrb.specs.Fifo.{position_of};
 ghost use Rattle.piper_ring.specs.Shared.{Names, names_code, reader_owns, reader_lends, writer_owns, writer_lends, remains_own, flag};
+ghost use Rattle.piper_ring.specs.SlotViews.{IsUnused, LooksFirst, IsUnusedBack, LooksFirstBack};
 
 use crate::ring::marks::{ReadMark, Saw, WriteMark};
 use crate::ring::memory::Memory;
 use crate::ring::places::{Base, Blank, Places};
+use crate::ring::slots::{ReaderWaits, ReaderWakes, WriterWaits, WriterWakes};
 use std::marker::{Brand, Model, PhantomData, Send, Sync};
 use std::sync::atomic::Ordering::SeqCst;
 use std::sync::atomic::raw;
 
-/// The four words stand 128 bytes apart, so that no two share a cache line. What lies in front of this memory can share one with the first alone, which each end uses once, on leaving.
-pub(crate) const WORDS_SIZE: usize = 512;
+/// The four words of the ring, and the four of its two slots, stand 128 bytes apart, so that no two share a cache line. What lies in front of this memory can share one with the first alone, which each end uses once, on leaving.
+pub(crate) const WORDS_SIZE: usize = 1024;
 
 pub(crate) const WORDS_ALIGN: usize = 8;
 
@@ -24,9 +26,17 @@ const TAIL_WORD: usize = 32;
 
 const CLOSED_WORD: usize = 48;
 
+pub(crate) const READER_FLAG: usize = 64;
+
+pub(crate) const READER_BACK: usize = 80;
+
+pub(crate) const WRITER_FLAG: usize = 96;
+
+pub(crate) const WRITER_BACK: usize = 112;
+
 /// The reader's side of the words. `have` is all that it consumed, followed by all that it knows of.
 pub(crate) struct ReadSeat {
-    words: *mut u64,
+    pub(crate) words: *mut u64,
     pub(crate) ghost at: { Ptr },
     pub(crate) ghost names: { Names } by { names_code },
     pub(crate) ghost head: { ℕ },
@@ -47,7 +57,7 @@ unsafe impl Sync for ReadSeat {}
 
 /// The writer's side of the words. It may write up to the place `limit`.
 pub(crate) struct WriteSeat {
-    words: *mut u64,
+    pub(crate) words: *mut u64,
     pub(crate) ghost at: { Ptr },
     pub(crate) ghost names: { Names } by { names_code },
     pub(crate) ghost sent: { List ℕ },
@@ -88,7 +98,7 @@ impl Remains {
     /// The memory as the heap gave it: that of the words, and that of the bytes.
     pub(crate) fn into_memory(self, base: Base) -> (Memory, Memory)
         requires { (self.last ≡ true) × (base.ptr ≡ self.at) }
-        ensures words { (result.0.size ≡ 512) × (result.0.align ≡ 8) }
+        ensures words { (result.0.size ≡ 1024) × (result.0.align ≡ 8) }
         ensures bytes { (result.1.size ≡ self.names.capacity) × (result.1.align ≡ 1) }
     {
         let Remains { words } = self;
@@ -100,8 +110,9 @@ impl Remains {
     }
 }
 
-/// The two seats of an empty open ring, its places, all of them the writer's room and none of them set, and where they begin.
-pub(crate) fn open(words: Memory, bytes: Memory) -> (ReadSeat, WriteSeat, Blank, Base)
+/// The two seats of an empty open ring, its places, all of them the writer's room and none of them set, and where they begin, with what each side knows of the slots, which are empty.
+pub(crate) fn open(words: Memory, bytes: Memory)
+    -> (ReadSeat, WriteSeat, Blank, Base, ReaderWaits, WriterWakes, WriterWaits, ReaderWakes)
     requires { (words.align ≡ 8) × (bytes.align ≡ 1) }
     ensures ring { (result.0.words ≡ words.start) × (result.0.at ≡ bytes.start)
         × (result.0.names.capacity ≡ bytes.size) }
@@ -114,6 +125,10 @@ pub(crate) fn open(words: Memory, bytes: Memory) -> (ReadSeat, WriteSeat, Blank,
     ensures room { (result.2.at ≡ bytes.start) × (result.2.capacity ≡ bytes.size)
         × (result.2.first ≡ 0) × (result.2.count ≡ bytes.size) }
     ensures base { result.3.ptr ≡ bytes.start }
+    ensures reader_waits { IsUnused result.0.names result.4 }
+    ensures writer_wakes { LooksFirst result.0.names result.5 }
+    ensures writer_waits { IsUnusedBack result.0.names result.6 }
+    ensures reader_wakes { LooksFirstBack result.0.names result.7 }
 {
     let Memory { start: ptr } = bytes;
     let Memory { start } = words;
@@ -123,11 +138,28 @@ pub(crate) fn open(words: Memory, bytes: Memory) -> (ReadSeat, WriteSeat, Blank,
         start.add(TAIL_WORD).write(0);
         start.add(CLOSED_WORD).write(0);
         start.add(LEFT_WORD).write(0);
+        start.add(READER_FLAG).write(0);
+        start.add(READER_BACK).write(0);
+        start.add(WRITER_FLAG).write(0);
+        start.add(WRITER_BACK).write(0);
     }
     let reader = ReadSeat { words: start };
     let writer = WriteSeat { words: start };
     let room = Blank { mark: PhantomData };
-    (reader, writer, room, Base { ptr })
+    let reader_waits = ReaderWaits { mark: PhantomData };
+    let writer_wakes = WriterWakes { mark: PhantomData };
+    let writer_waits = WriterWaits { mark: PhantomData };
+    let reader_wakes = ReaderWakes { mark: PhantomData };
+    (
+        reader,
+        writer,
+        room,
+        Base { ptr },
+        reader_waits,
+        writer_wakes,
+        writer_waits,
+        reader_wakes,
+    )
 }
 
 impl ReadSeat {

@@ -1,11 +1,11 @@
 -- `open` writes the four words, and puts them under the ring's invariant. Assumes `Logic`.
-use Rattle.std.proofs.Common.{◌≡◌, ℕ, false, [], ◌∷◌, refl, ap, sym, lit<}
+use Rattle.std.proofs.Common.{◌≡◌, ℕ, true, false, [], ◌∷◌, refl, ap, sym, lit<}
 use mir.Syntax.{Ty}
 use mir.Val.{Val}
 use base.Logic.{SProp, emp, fst∗, never}
 use base.Fml.{ftrue}
 use types.Logic.{sem}
-use types.Kit.{‵, raw, ◌⊛◌, some, given, later, await, pick, at_ret, ◌$◌, ◌∵◌, !, qed, by, move, keep, drop, split, split3, join, fsplit, fsplit3, fjoin, fjoin3, fpick, fpack, learn, use0, use1, use2, rewrite}
+use types.Kit.{‵, raw, ◌⊛◌, some, given, later, await, pick, at_ret, ◌$◌, ◌∵◌, !, qed, by, move, keep, drop, split, split3, join, fsplit, fsplit3, fjoin, fjoin3, fpick, fpack, learn, use0, use1, use2, use3, rewrite}
 use types.Run.{stop, fld, init, lit, of_opd, bin, no_more, and_then, first, blocks, exec, assigns, assigns_last, returns, enter}
 use types.ByLocal.{alloc_all, pass_all, free_all, look_at, get, get_in, through, sets, is, env}
 use types.Part.{agg, sub, whole}
@@ -26,9 +26,14 @@ use Rattle.rtrb.specs.Shared.{span}
 use Rattle.rtrb.proofs.Walks.{proved, leaves}
 use Rattle.piper_ring.specs.Places.{unset}
 use Rattle.piper_ring.specs.Places as P
-use Rattle.piper_ring.specs.Shared.{Names, words_type, word_room, heap_token, reader_owns, writer_owns}
-use Rattle.piper_ring.proofs.Fields.{seat_val, ghost_val, four_val, four_of, memory_told, ReadData, read_made, WriteData, write_made, BlankData, blank_made, BaseData, base_made}
-use Rattle.piper_ring.proofs.Opening.{words_out, Rejoin, as_places, begins}
+use Rattle.piper_ring.specs.Shared.{Names, words_type, slot_rooms, word_room, heap_token, reader_owns, writer_owns}
+use Rattle.piper_ring.proofs.Fields.{seat_val, ghost_val, ReaderWaitsData, reader_waits_made, WriterWakesData, writer_wakes_made, WriterWaitsData, writer_waits_made, ReaderWakesData, reader_wakes_made, eight_val, eight_of, memory_told, ReadData, read_made, WriteData, write_made, BlankData, blank_made, BaseData, base_made}
+use Rattle.piper_ring.specs.SlotViews.{IsUnused, LooksFirst, IsUnusedBack, LooksFirstBack}
+use Rattle.piper_ring.specs.contracts.ring.slots.ReaderWaits as ReaderWaits
+use Rattle.piper_ring.specs.contracts.ring.slots.WriterWakes as WriterWakes
+use Rattle.piper_ring.specs.contracts.ring.slots.WriterWaits as WriterWaits
+use Rattle.piper_ring.specs.contracts.ring.slots.ReaderWakes as ReaderWakes
+use Rattle.piper_ring.proofs.Opening.{words_out, Rejoin, as_places, begins, Slotted}
 use Rattle.piper_ring.specs.Memory.{unused}
 use Rattle.piper_ring.specs.contracts.ring.memory.Memory as Memory
 use Rattle.piper_ring.specs.contracts.ring.places.Base as Base
@@ -55,33 +60,51 @@ open_spec 𝓤 𝓛 𝓜 𝓡 wired =
     rewrite ! 0 (λ (k : ℕ). ‵ (unused cap k p₀)) asked.1 refl $ fsplit ! $ fpick ! (λ small. drop ! $
     in_a_block ! p₀ (λ q. owned_block heap_token τ q) (fst∗ 𝓤 (never 𝓤) (sem 𝓛 (heap_token τ null_ptr))) (λ b' o' at_p. let w : Ptr = block_ptr b o in let p : Ptr = block_ptr b' o' in
     fsplit ! $ move ! (2 ∷ []) $ fsplit ! $ keep ! (0 ∷ 1 ∷ 3 ∷ 2 ∷ []) $
-    use1 𝓛 (‵ (word_room w 128) ⊛ ‵ (word_room w 256) ⊛ ‵ (word_room w 384) ⊛ ‵ (word_room w 0) ⊛ ‵ (Rejoin 𝓛 w p cap)) (words_out 𝓛 w p cap) $ split3 ! $ move ! (2 ∷ []) $ split3 ! $
+    use1 𝓛 (‵ (word_room w 128) ⊛ ‵ (word_room w 256) ⊛ ‵ (word_room w 384) ⊛ ‵ (word_room w 0) ⊛ ‵ (slot_rooms w) ⊛ ‵ (Rejoin 𝓛 w p cap)) (words_out 𝓛 w p cap) $ split3 ! $ move ! (2 ∷ []) $ split3 ! $ move ! (2 ∷ []) $ split ! $ fsplit3 ! $ move ! (2 ∷ []) $ fsplit ! $ move ! (5 ∷ 6 ∷ 4 ∷ 7 ∷ 8 ∷ 2 ∷ 3 ∷ 0 ∷ 1 ∷ []) $
     enter ! 𝓣.C 𝓣.Λ fn (seat_val w₀ ∷ seat_val p₀ ∷ []) Post $ alloc_all ! (λ l. pass_all ! refl (word-Good [] w₀, (word-Good [] p₀, tt)) $ let Ev = env fn.locals l in
     sets ! (is ! (of_opd ! (get_in ! (fld ! refl (stop !)) (sub ! 0 refl (whole !)))) (ap ptr_val at_p)) refl (tt, tt) $
     sets ! (is ! (of_opd ! (get_in ! (fld ! refl (stop !)) (sub ! 0 refl (whole !)))) (ap ptr_val at_w)) refl (tt, tt) $ sets ! (of_opd ! (get ! refl)) refl (tt, tt) $ first ! $ blocks ! $
     sets ! (bin ! (get ! refl) (lit ! tt) tt) refl (tt, tt) $ assigns ! (of_opd ! (lit ! tt)) (through ! refl (stop !)) (init ! 3 refl (tt, record { fits = lit< tt })) $
     sets ! (bin ! (get ! refl) (lit ! tt) tt) refl (tt, tt) $ assigns ! (of_opd ! (lit ! tt)) (through ! refl (stop !)) (init ! 4 refl (tt, record { fits = lit< tt })) $
     sets ! (bin ! (get ! refl) (lit ! tt) tt) refl (tt, tt) $ assigns ! (of_opd ! (lit ! tt)) (through ! refl (stop !)) (init ! 0 refl (tt, record { fits = lit< tt })) $
-    sets ! (bin ! (get ! refl) (lit ! tt) tt) refl (tt, tt) $ assigns_last ! (of_opd ! (lit ! tt)) (through ! refl (stop !)) (init ! 1 refl (tt, record { fits = lit< tt })) $
+    sets ! (bin ! (get ! refl) (lit ! tt) tt) refl (tt, tt) $ assigns ! (of_opd ! (lit ! tt)) (through ! refl (stop !)) (init ! 1 refl (tt, record { fits = lit< tt })) $
+    sets ! (bin ! (get ! refl) (lit ! tt) tt) refl (tt, tt) $ assigns ! (of_opd ! (lit ! tt)) (through ! refl (stop !)) (init ! 5 refl (tt, record { fits = lit< tt })) $
+    sets ! (bin ! (get ! refl) (lit ! tt) tt) refl (tt, tt) $ assigns ! (of_opd ! (lit ! tt)) (through ! refl (stop !)) (init ! 6 refl (tt, record { fits = lit< tt })) $
+    sets ! (bin ! (get ! refl) (lit ! tt) tt) refl (tt, tt) $ assigns ! (of_opd ! (lit ! tt)) (through ! refl (stop !)) (init ! 7 refl (tt, record { fits = lit< tt })) $
+    sets ! (bin ! (get ! refl) (lit ! tt) tt) refl (tt, tt) $ assigns_last ! (of_opd ! (lit ! tt)) (through ! refl (stop !)) (init ! 8 refl (tt, record { fits = lit< tt })) $
     exec ! 𝓣.C 𝓣.Λ Ev (from_on 4 fn.body) (at_ret Ev Post) $
-    fjoin ! $ move ! (2 ∷ 3 ∷ 0 ∷ []) $ fjoin3 ! $ move ! (1 ∷ 2 ∷ 3 ∷ []) $ fjoin3 ! $ move ! (1 ∷ 0 ∷ []) $
-    use2 𝓛 (later (some (λ (z : Names). given (z.capacity ≡ cap) (‵ (reader_owns w p z 0 0 [] false) ⊛ ‵ (writer_owns w p z [] cap false))))) (begins 𝓛 w p cap (tt, tt, small)) $ await ! tt $ pick ! (λ z. learn ! (λ ez. split ! $
+    fjoin ! $ move ! (2 ∷ 3 ∷ 0 ∷ []) $ fjoin3 ! $ move ! (4 ∷ 5 ∷ []) $ fjoin ! $ move ! (3 ∷ 4 ∷ 0 ∷ []) $ fjoin3 ! $ move ! (2 ∷ 3 ∷ 4 ∷ []) $ fjoin3 ! $ move ! (2 ∷ 0 ∷ 1 ∷ []) $
+    use3 𝓛 (later (some (λ (z : Names). given (z.capacity ≡ cap) (‵ (reader_owns w p z 0 0 [] false) ⊛ ‵ (writer_owns w p z [] cap false) ⊛ ‵ (Slotted 𝓛 w p cap z))))) (begins 𝓛 w p cap (tt, tt, small)) $ await ! tt $ pick ! (λ z. learn ! (λ ez. split3 ! $
     let one : ReadSeat.the_row.Denot = record { words = w; at = p; names = z; head = 0; seen = 0; have = []; leaving = false } in let two : WriteSeat.the_row.Denot = record { words = w; at = p; names = z; sent = []; limit = cap; shut = false } in
     let three : Blank.the_row.Denot = record { mark = record {}; at = p; capacity = cap; first = 0; count = cap } in let four : Base.the_row.Denot = record { ptr = p } in let v : Val = seat_val w in let q : Val = seat_val p in
-    use0 𝓛 (‵ (ReadData.own_val (w, tt) (v ∷ []))) (read_made 𝓛 w) $ fjoin ! $ move ! (1 ∷ []) $ use0 𝓛 (‵ (WriteData.own_val (w, tt) (v ∷ []))) (write_made 𝓛 w) $ fjoin ! $ move ! (2 ∷ []) $
+    let five : ReaderWaits.the_row.Denot = record { mark = record {}; names = z; owns = true; tickets = 0; bytes = []; shut = false } in let six : WriterWakes.the_row.Denot = record { mark = record {}; names = z; holds = false; taken = 0; bytes = []; shut = false } in
+    let seven : WriterWaits.the_row.Denot = record { mark = record {}; names = z; owns = true; tickets = 0; count = 0; over = false } in let eight : ReaderWakes.the_row.Denot = record { mark = record {}; names = z; holds = false; taken = 0; count = 0; over = false } in let g : Val = ghost_val in
+    use0 𝓛 (‵ (ReadData.own_val (w, tt) (v ∷ []))) (read_made 𝓛 w) $ fjoin ! $ move ! (1 ∷ []) $ use0 𝓛 (‵ (WriteData.own_val (w, tt) (v ∷ []))) (write_made 𝓛 w) $ fjoin ! $ move ! (3 ∷ []) $
     use1 𝓛 (‵ (span (unset p cap) 0 cap)) (as_places 𝓛 w p cap) $ nothing ! $ fpack ! (P.Placed p cap) (λ _. ftrue) (tt, small) $ fjoin ! $ use0 𝓛 (‵ (BlankData.own_val (record {}, tt) (ghost_val ∷ []))) (blank_made 𝓛) $ fjoin ! $
-    use0 𝓛 (‵ (BaseData.own_val (p, tt) (q ∷ []))) (base_made 𝓛 p) $ move ! (1 ∷ 0 ∷ []) $ join ! $ move ! (1 ∷ 0 ∷ []) $ join ! $ move ! (1 ∷ 0 ∷ []) $
-    use2 𝓛 (‵ ((denote.Struct.Tuple.Tuple (ReadSeat.the_row ∷ WriteSeat.the_row ∷ Blank.the_row ∷ Base.the_row ∷ [])).own_val (one, two, three, four) (four_val v v ghost_val q ∷ []))) (four_of 𝓛 ReadSeat.the_row WriteSeat.the_row Blank.the_row Base.the_row one two three four v v ghost_val q) $
+    use0 𝓛 (‵ (BaseData.own_val (p, tt) (q ∷ []))) (base_made 𝓛 p) $ move ! (4 ∷ []) $ fsplit ! $ fsplit ! $ move ! (2 ∷ []) $ fsplit ! $
+    use0 𝓛 (‵ (WriterWaitsData.own_val (record {}, tt) (g ∷ []))) (writer_waits_made 𝓛) $ fjoin ! $ move ! (1 ∷ []) $ use0 𝓛 (‵ (ReaderWakesData.own_val (record {}, tt) (g ∷ []))) (reader_wakes_made 𝓛) $ fjoin ! $ move ! (1 ∷ 0 ∷ []) $ join ! $ move ! (2 ∷ []) $
+    use0 𝓛 (‵ (WriterWakesData.own_val (record {}, tt) (g ∷ []))) (writer_wakes_made 𝓛) $ fjoin ! $ join ! $ move ! (1 ∷ []) $ use0 𝓛 (‵ (ReaderWaitsData.own_val (record {}, tt) (g ∷ []))) (reader_waits_made 𝓛) $ fjoin ! $ join ! $
+    move ! (1 ∷ 0 ∷ []) $ join ! $ move ! (1 ∷ 0 ∷ []) $ join ! $ move ! (1 ∷ 0 ∷ []) $ join ! $ move ! (1 ∷ 0 ∷ []) $
+    use2 𝓛 (‵ ((denote.Struct.Tuple.Tuple (ReadSeat.the_row ∷ WriteSeat.the_row ∷ Blank.the_row ∷ Base.the_row ∷ ReaderWaits.the_row ∷ WriterWakes.the_row ∷ WriterWaits.the_row ∷ ReaderWakes.the_row ∷ [])).own_val (one, two, three, four, five, six, seven, eight) (eight_val v v g q g g g g ∷ [])))
+    (eight_of 𝓛 ReadSeat.the_row WriteSeat.the_row Blank.the_row Base.the_row ReaderWaits.the_row WriterWakes.the_row WriterWaits.the_row ReaderWakes.the_row one two three four five six seven eight v v g q g g g g) $
     sets ! (agg ! (and_then ! (get ! refl) (no_more !))) refl (tt, (tt, tt)) $ sets ! (agg ! (and_then ! (get ! refl) (no_more !))) refl (tt, (tt, tt)) $
     sets ! (agg ! (no_more !)) refl (tt, tt) $ sets ! (agg ! (and_then ! (get ! refl) (no_more !))) refl (tt, (tt, tt)) $
+    sets ! (agg ! (no_more !)) refl (tt, tt) $ sets ! (agg ! (and_then ! (get ! refl) (no_more !))) refl (tt, (tt, tt)) $
+    sets ! (agg ! (no_more !)) refl (tt, tt) $ sets ! (agg ! (and_then ! (get ! refl) (no_more !))) refl (tt, (tt, tt)) $
+    sets ! (agg ! (no_more !)) refl (tt, tt) $ sets ! (agg ! (and_then ! (get ! refl) (no_more !))) refl (tt, (tt, tt)) $
+    sets ! (agg ! (no_more !)) refl (tt, tt) $ sets ! (agg ! (and_then ! (get ! refl) (no_more !))) refl (tt, (tt, tt)) $
     sets ! (of_opd ! (get ! refl)) refl (tt, (tt, tt)) $ sets ! (of_opd ! (get ! refl)) refl (tt, (tt, tt)) $ sets ! (of_opd ! (get ! refl)) refl (tt, (tt, tt)) $
-    sets ! (agg ! (and_then ! (get ! refl) (no_more !))) refl (tt, (tt, tt)) $
-    sets ! (agg ! (and_then ! (get ! refl) (and_then ! (get ! refl) (and_then ! (get ! refl) (and_then ! (get ! refl) (no_more !)))))) refl (tt, ((tt, tt), ((tt, tt), ((tt, tt), ((tt, tt), tt))))) $
-    use0 𝓛 (raw (fact 𝓤 (p ≡ p₀))) (fact_i 𝓤 (p ≡ p₀) (emp 𝓤) (sym at_p)) $
+    sets ! (agg ! (and_then ! (get ! refl) (no_more !))) refl (tt, (tt, tt)) $ sets ! (of_opd ! (get ! refl)) refl (tt, (tt, tt)) $ sets ! (of_opd ! (get ! refl)) refl (tt, (tt, tt)) $ sets ! (of_opd ! (get ! refl)) refl (tt, (tt, tt)) $ sets ! (of_opd ! (get ! refl)) refl (tt, (tt, tt)) $ 
+    sets ! (agg ! (and_then ! (get ! refl) (and_then ! (get ! refl) (and_then ! (get ! refl) (and_then ! (get ! refl) (and_then ! (get ! refl) (and_then ! (get ! refl) (and_then ! (get ! refl) (and_then ! (get ! refl) (no_more !)))))))))) refl (tt, ((tt, tt), ((tt, tt), ((tt, tt), ((tt, tt), ((tt, tt), ((tt, tt), ((tt, tt), ((tt, tt), tt))))))))) $
+    use0 𝓛 (raw (fact 𝓤 (LooksFirstBack z eight))) (fact_i 𝓤 (LooksFirstBack z eight) (emp 𝓤) (refl, refl)) $ 
+    use0 𝓛 (raw (fact 𝓤 (IsUnusedBack z seven))) (fact_i 𝓤 (IsUnusedBack z seven) (emp 𝓤) (refl, refl)) $ join ! $
+    use0 𝓛 (raw (fact 𝓤 (LooksFirst z six))) (fact_i 𝓤 (LooksFirst z six) (emp 𝓤) (refl, refl)) $ join ! $
+    use0 𝓛 (raw (fact 𝓤 (IsUnused z five))) (fact_i 𝓤 (IsUnused z five) (emp 𝓤) (refl, refl)) $ join ! $
+    use0 𝓛 (raw (fact 𝓤 (p ≡ p₀))) (fact_i 𝓤 (p ≡ p₀) (emp 𝓤) (sym at_p)) $ join ! $
     use0 𝓛 (raw (fact 𝓤 ((p ≡ p₀) × (cap ≡ cap) × (0 ≡ 0) × (cap ≡ cap)))) (fact_i 𝓤 ((p ≡ p₀) × (cap ≡ cap) × (0 ≡ 0) × (cap ≡ cap)) (emp 𝓤) (sym at_p, refl, refl, refl)) $ join ! $
     use0 𝓛 (raw (fact 𝓤 ((two.sent ≡ two.sent) × (cap ≡ cap) × (false ≡ false)))) (fact_i 𝓤 ((two.sent ≡ two.sent) × (cap ≡ cap) × (false ≡ false)) (emp 𝓤) (refl, refl, refl)) $ join ! $
     use0 𝓛 (raw (fact 𝓤 ((w ≡ w) × (p ≡ p₀) × (z ≡ z)))) (fact_i 𝓤 ((w ≡ w) × (p ≡ p₀) × (z ≡ z)) (emp 𝓤) (refl, sym at_p, refl)) $ join ! $
     use0 𝓛 (raw (fact 𝓤 ((0 ≡ 0) × (0 ≡ 0) × (one.have ≡ one.have) × (false ≡ false)))) (fact_i 𝓤 ((0 ≡ 0) × (0 ≡ 0) × (one.have ≡ one.have) × (false ≡ false)) (emp 𝓤) (refl, refl, refl, refl)) $ join ! $
     use0 𝓛 (raw (fact 𝓤 ((w ≡ w₀) × (p ≡ p₀) × (z.capacity ≡ cap)))) (fact_i 𝓤 ((w ≡ w₀) × (p ≡ p₀) × (z.capacity ≡ cap)) (emp 𝓤) (sym at_w, sym at_p, ez)) $ join ! $
     nothing ! $ nothing ! $ fjoin ! $ nothing ! $ fjoin ! $ nothing ! $
-    returns ! (look_at ! 0 refl) $ free_all ! refl $ keep ! (0 ∷ 1 ∷ 3 ∷ 2 ∷ []) $ by ! (leaves 𝓛 En hs c y (four_val v v ghost_val q) (one, two, three, four) (tt, (tt, tt)) (tt, (tt, tt)))))))))))
+    returns ! (look_at ! 0 refl) $ free_all ! refl $ keep ! (0 ∷ 1 ∷ 3 ∷ 2 ∷ []) $ by ! (leaves 𝓛 En hs c y (eight_val v v g q g g g g) (one, two, three, four, five, six, seven, eight) (tt, (tt, tt)) (tt, (tt, tt)))))))))))

@@ -8,7 +8,7 @@ use Rattle.piper_ring.specs.Streams.{Reaches, reaches_same}
 use Rattle.piper_ring.specs.declared.ring.places.Blank.{Blank}
 use Rattle.piper_sides.specs.ReaderIndices.{ReaderIndices}
 use Rattle.piper_sides.specs.WriterIndices.{WriterIndices}
-use Rattle.piper_ring.proofs.ends.opening.open_ring.Goals as goal
+use Rattle.piper_ring.proofs.ends.opening.open_with_slots.Goals as goal
 
 -- a copy of a mark tells what it tells
 same_as : (m n : WriteMark) → m ≡ n → Reaches (m.bytes, m.shut) (n.bytes, n.shut)

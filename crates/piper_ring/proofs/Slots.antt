@@ -1,0 +1,303 @@
+-- The steps of both sides on a slot. Assumes `Logic`.
+use Rattle.std.proofs.Common.{◌≡◌, ◌≢◌, ℕ, zero, suc, ◌+◌, ◌≤◌, ◌⊎◌, inl, inr, Bool, true, false, List, [], ◌∷◌, sym, refl, ap, ◌∙◌, subst, arith}
+use Rattle.std.proofs.lemmas.Bool.{false≢true}
+use seplogic.Ra.Ura.{Ura}
+use base.Logic.{SProp, ent, sep, upd, ex, guard, upd_i, apply∗}
+use base.Stored.{Gv}
+use base.Fml.{Share, Fml, ftrue, fsep, fex, fwand, fobs, fauth}
+use types.Logic.{Logic, sem}
+use types.Tokens.{name_agree}
+use types.Kit.{‵, raw, ◌⊛◌, some, given, ◌$◌, ◌∵◌, !, qed, by, move, keep, split, split3, fsplit, fsplit3, fjoin, fjoin3, fpick, fpack, pick, learn, check, show, frame, assume, settle, suffices, rewrite, use1, use2, use3, done}
+use types.Kit.{drop as forget}
+use denote.RawPtr.{Ptr, block_ptr, block_of, count_of}
+use denote.Steps.{nothing}
+use Rattle.core.specs.Sync.RawAtomic.{asks, always}
+use Rattle.std.specs.Coded.{Coded}
+use Rattle.rtrb.proofs.Asks.{Lies}
+use Rattle.piper_ring.specs.Places.{fact}
+use Rattle.piper_ring.specs.Slots.{Where, with_waiter, in_slot, with_taker, handed_back, flag_of, back_of, Waits, Wakes, Stands, Slot, code_of, slot, slot_at, Looks, Takes, GivesBack, HandsOver, Regains, IsRemembered}
+use Rattle.piper_ring.specs.Shared.{Names, State, Holds, other, word, reader_knows, writer_knows, slots, reader_slot, writer_slot, Inner, common}
+use base.Growing.{Order, numbers, latest}
+use types.Growing.{latest_shows}
+use Rattle.piper_ring.specs.Streams.{Stream, streams, reaches_same}
+use Rattle.piper_ring.specs.Shared.{published, consumed, coded_stream, coded_consumed, Consumed}
+use Rattle.piper_ring.proofs.Evidence.{announced_twice}
+use Rattle.piper_ring.proofs.Steps.{inside, Rest, OneStays, ReaderSees, WriterSees, reader_opens, writer_opens, closes}
+
+-- a step on a word makes f of what stands there, and leaves the other word
+abbrev pub OnFlag : (ℕ → ℕ) → Where → Where → Type 0
+OnFlag f at at' = (f (flag_of at) ≡ flag_of at') × (back_of at ≡ back_of at')
+
+abbrev pub OnBack : (ℕ → ℕ) → Where → Where → Type 0
+OnBack f at at' = (f (back_of at) ≡ back_of at') × (flag_of at ≡ flag_of at')
+
+module _ {X : Type 0} where
+  -- it wakes: b becomes b', and what it looked behind is x or what it was
+  abbrev pub WakesTo : (Where → Where → Type 0) → (ℕ → Wakes X → Type 0) → ℕ → X → Waits X → Wakes X → Where → Type 0
+  WakesTo on then n x a b at =
+      (b' : Wakes X) × (at' : Where) × on at at' × Stands X at' a b' × ((b'.1.1 ≡ x) ⊎ (b'.1.1 ≡ b.1.1)) × then n b'
+
+  abbrev pub WaitsTo : (Where → Where → Type 0) → (ℕ → X → Waits X → Type 0) → ℕ → Waits X → Wakes X → Where → Type 0
+  WaitsTo on then n a b at = (a' : Waits X) × (at' : Where) × on at at' × Stands X at' a' b × then n b.1.1 a'
+
+  looks : (b : Wakes X) (x : X) → b.0 ≡ false → (a : Waits X) (at : Where) → Stands X at a b → WakesTo (OnFlag (λ n. n)) (Looks X b x) (flag_of at) x a b at
+  looks b x rests a with_waiter h = ((b.0, (b.1.0, x)), with_waiter, (refl, refl), h, inl refl, (omega arith, (λ _. refl), λ n. absurd (n refl)))
+  looks b x rests a in_slot h = (b, in_slot, (refl, refl), h, inr refl, (omega arith, (λ (e : 1 ≡ 0). absurd (omega arith)), λ _. refl))
+  looks b x rests a with_taker h = absurd (false≢true (sym rests ∙ h.1))
+  looks b x rests a handed_back h = ((b.0, (b.1.0, x)), handed_back, (refl, refl), h, inl refl, (omega arith, (λ _. refl), λ n. absurd (n refl)))
+
+  takes : (b : Wakes X) (x : X) → b.0 ≡ false → (a : Waits X) (at : Where) → Stands X at a b → WakesTo (OnFlag (λ _. 0)) (Takes X b x) (flag_of at) x a b at
+  takes b x rests a with_waiter h = ((b.0, (b.1.0, x)), with_waiter, (refl, refl), h, inl refl, (omega arith, (λ _. refl), λ n. absurd (n refl)))
+  takes b x rests a in_slot h = ((true, (a.1.0, x)), with_taker, (refl, refl), (h.0, refl, refl), inl refl, (omega arith, (λ (e : 1 ≡ 0). absurd (omega arith)), λ _. (a.1.0, refl)))
+  takes b x rests a with_taker h = absurd (false≢true (sym rests ∙ h.1))
+  takes b x rests a handed_back h = ((b.0, (b.1.0, x)), handed_back, (refl, refl), h, inl refl, (omega arith, (λ _. refl), λ n. absurd (n refl)))
+
+  gives_back : (b : Wakes X) (x : X) → b.0 ≡ true → (a : Waits X) (at : Where) → Stands X at a b → WakesTo (OnBack (λ _. 1)) (GivesBack X b x) (back_of at) x a b at
+  gives_back b x holds a with_waiter h = absurd (false≢true (sym h.1 ∙ holds))
+  gives_back b x holds a in_slot h = absurd (false≢true (sym h.1 ∙ holds))
+  gives_back b x holds a with_taker h = ((false, b.1), handed_back, (refl, refl), (h.0, refl, h.2), inr refl, refl)
+  gives_back b x holds a handed_back h = absurd (false≢true (sym h.1 ∙ holds))
+
+  hands_over : (a : Waits X) → a.0 ≡ true → (b : Wakes X) (at : Where) → Stands X at a b → WaitsTo (OnFlag (λ _. 1)) (λ n x a'. HandsOver X a x n a') (flag_of at) a b at
+  hands_over a owns b with_waiter h = ((false, (a.1.0 + 1, b.1.1)), in_slot, (refl, refl), (refl, h.1, refl), refl)
+  hands_over a owns b in_slot h = absurd (false≢true (sym h.0 ∙ owns))
+  hands_over a owns b with_taker h = absurd (false≢true (sym h.0 ∙ owns))
+  hands_over a owns b handed_back h = absurd (false≢true (sym h.0 ∙ owns))
+
+  withdraws : (a : Waits X) → a.0 ≡ false → (b : Wakes X) (at : Where) → Stands X at a b → WaitsTo (OnFlag (λ _. 0)) (λ n x a'. Regains X a x n a') (flag_of at) a b at
+  withdraws a gave b with_waiter h = absurd (false≢true (sym gave ∙ h.0))
+  withdraws a gave b in_slot h = ((true, a.1), with_waiter, (refl, refl), (refl, h.1), (omega arith, (λ (e : 1 ≡ 0). absurd (omega arith)), λ _. refl))
+  withdraws a gave b with_taker h = (a, with_taker, (refl, refl), h, (omega arith, (λ _. refl), λ n. absurd (n refl)))
+  withdraws a gave b handed_back h = (a, handed_back, (refl, refl), h, (omega arith, (λ _. refl), λ n. absurd (n refl)))
+
+  regains : (a : Waits X) → a.0 ≡ false → (b : Wakes X) (at : Where) → Stands X at a b → WaitsTo (OnBack (λ _. 0)) (λ n x a'. Regains X a x n a') (back_of at) a b at
+  regains a gave b with_waiter h = absurd (false≢true (sym gave ∙ h.0))
+  regains a gave b in_slot h = (a, in_slot, (refl, refl), h, (omega arith, (λ _. refl), λ n. absurd (n refl)))
+  regains a gave b with_taker h = (a, with_taker, (refl, refl), h, (omega arith, (λ _. refl), λ n. absurd (n refl)))
+  regains a gave b handed_back h = ((true, a.1), with_waiter, (refl, refl), (refl, h.1), (omega arith, (λ (e : 1 ≡ 0). absurd (omega arith)), λ _. refl))
+
+  pub remembers : (a : Waits X) (b : Wakes X) (at : Where) → Stands X at a b → IsRemembered X a b
+  remembers a b with_waiter h gave rests new = absurd (false≢true (sym gave ∙ h.0))
+  remembers a b in_slot h gave rests new = absurd (new h.2)
+  remembers a b with_taker h gave rests new = absurd (false≢true (sym rests ∙ h.1))
+  remembers a b handed_back h gave rests new = h.2
+
+module _ {M : Type 1} {𝓤 : Ura M} (𝓛 : Logic 𝓤) (w p : Ptr) (z : Names) where
+  open 𝓛 use {H, A}
+
+  abbrev Pr : Type 2
+  Pr = SProp 𝓤
+
+  abbrev ◌⊢◌ : Pr → Pr → Type 1
+  P ⊢ Q = ent 𝓤 P Q
+
+  abbrev ◌∗◌ : Pr → Pr → Pr
+  P ∗ Q = sep 𝓤 P Q
+
+  abbrev ⟦◌⟧ : Fml → Pr
+  ⟦ P ⟧ = sem 𝓛 P
+
+  infix 26 ◌⊢◌
+  infixr 35 ◌∗◌
+  abbrev I : Fml
+  I = Inner w p z
+
+  abbrev C : Fml
+  C = common w p z
+
+  -- an access of the word d bytes on
+  abbrev access : (d : ℕ) (f : ℕ → ℕ) (after : ℕ → Fml) → Pr
+  access d f after = let spot : Ptr = block_ptr (block_of w) (d + count_of w) in asks 𝓛 spot f always after
+
+  -- the word d bytes on, under the invariant
+  abbrev Holding : (d : ℕ) (f : ℕ → ℕ) (after : ℕ → Fml) (n : ℕ) → Pr
+  Holding d f after n = Lies 𝓛 (block_of w) (d + count_of w) f after I n
+
+  abbrev RK : Share → ℕ → ℕ → ℕ → Fml
+  RK = reader_knows w p z
+
+  abbrev WK : Share → List ℕ → ℕ → Bool → ℕ → Fml
+  WK = writer_knows w p z
+
+  -- beside what K knows, the invariant lends F
+  abbrev pub Lent : Fml → Fml → Type 1
+  Lent K F = ⟦ I ⟧ ∗ ⟦ K ⟧ ⊢ ⟦ K ⟧ ∗ ⟦ F ⟧ ∗ ⟦ fwand F I ⟧
+
+  slots_lent : (K : Fml) (s : State) → Holds z.capacity s → OneStays 𝓛 w p z s
+      → ⟦ K ⟧ ∗ ⟦ WK other s.sent s.limit s.shut s.writer_stage ⟧ ∗ ⟦ RK other s.head s.seen s.reader_stage ⟧ ∗ ⟦ Rest 𝓛 w p z s ⟧ ⊢ ⟦ K ⟧ ∗ ⟦ slots w p z ⟧ ∗ ⟦ fwand (slots w p z) I ⟧
+  slots_lent K s so near = qed 𝓛 (‵ K ∷ ‵ (WK other s.sent s.limit s.shut s.writer_stage) ∷ ‵ (RK other s.head s.seen s.reader_stage) ∷ ‵ (Rest 𝓛 w p z s) ∷ []) ∵ frame ! $
+      move ! (2 ∷ []) $ fsplit ! $ move ! (1 ∷ []) $ fsplit ! $ move ! (1 ∷ []) $ fsplit3 ! $ move ! (2 ∷ []) $ fsplit3 ! $ move ! (2 ∷ []) $ fsplit ! $ move ! (1 ∷ []) $ frame ! $ assume ! (‵ (slots w p z)) $
+      move ! (1 ∷ 0 ∷ []) $ fjoin ! $ move ! (1 ∷ 2 ∷ 0 ∷ []) $ fjoin3 ! $ move ! (1 ∷ 2 ∷ 0 ∷ []) $ fjoin3 ! $ move ! (1 ∷ 0 ∷ []) $ fjoin ! $ move ! (1 ∷ 0 ∷ []) $ fjoin ! $ move ! (1 ∷ 2 ∷ 0 ∷ []) $ by ! (closes 𝓛 w p z s so near)
+
+  reader_lent : (q : Share) (head seen i : ℕ) → i ≤ 1 → Lent (RK q head seen i) (slots w p z)
+  reader_lent q head seen i le = let K : Fml = RK q head seen i in qed 𝓛 (‵ I ∷ ‵ K ∷ []) ∵
+      use2 𝓛 (some (λ (s : State). given (ReaderSees 𝓛 w p z head seen i s) (‵ K ⊛ ‵ (RK other s.head s.seen s.reader_stage) ⊛ ‵ (WK other s.sent s.limit s.shut s.writer_stage) ⊛ ‵ (Rest 𝓛 w p z s)))) (reader_opens 𝓛 w p z q head seen i le) $ pick ! (λ s. learn ! (λ so. split3 ! $
+      move ! (2 ∷ []) $ split ! $ let ei = so.3 in let top = so.0.stages.1 in move ! (2 ∷ 0 ∷ 3 ∷ 1 ∷ []) $ by ! (slots_lent K s so.0 (omega arith))))
+
+  writer_lent : (q : Share) (sent : List ℕ) (limit : ℕ) (shut : Bool) (i : ℕ) → i ≤ 1 → Lent (WK q sent limit shut i) (slots w p z)
+  writer_lent q sent limit shut i le = let K : Fml = WK q sent limit shut i in qed 𝓛 (‵ I ∷ ‵ K ∷ []) ∵
+      use2 𝓛 (some (λ (s : State). given (WriterSees 𝓛 w p z sent limit shut i s) (‵ K ⊛ ‵ (WK other s.sent s.limit s.shut s.writer_stage) ⊛ ‵ (RK other s.head s.seen s.reader_stage) ⊛ ‵ (Rest 𝓛 w p z s)))) (writer_opens 𝓛 w p z q sent limit shut i le) $ pick ! (λ s. learn ! (λ so. split3 ! $
+      move ! (2 ∷ []) $ split ! $ let ei = so.4 in let top = so.0.stages.0 in move ! (2 ∷ 3 ∷ 0 ∷ 1 ∷ []) $ by ! (slots_lent K s so.0 (omega arith))))
+
+  readers_own : (K : Fml) → Lent K (slots w p z) → Lent K (reader_slot w p z)
+  readers_own K h = let F : Fml = reader_slot w p z in let S : Fml = slots w p z in qed 𝓛 (‵ I ∷ ‵ K ∷ []) ∵ use2 𝓛 (‵ K ⊛ ‵ S ⊛ ‵ (fwand S I)) h $ split3 ! $ frame ! $
+      fsplit ! $ frame ! $ assume ! (‵ F) $ move ! (0 ∷ 1 ∷ []) $ fjoin ! $ by ! (apply∗ 𝓤 ⟦ S ⟧ ⟦ I ⟧)
+
+  writers_own : (K : Fml) → Lent K (slots w p z) → Lent K (writer_slot w p z)
+  writers_own K h = let F : Fml = writer_slot w p z in let S : Fml = slots w p z in qed 𝓛 (‵ I ∷ ‵ K ∷ []) ∵ use2 𝓛 (‵ K ⊛ ‵ S ⊛ ‵ (fwand S I)) h $ split3 ! $ frame ! $
+      fsplit ! $ move ! (1 ∷ []) $ frame ! $ assume ! (‵ F) $ move ! (1 ∷ 0 ∷ []) $ fjoin ! $ by ! (apply∗ 𝓤 ⟦ S ⟧ ⟦ I ⟧)
+
+  module _ {X : Type 0} (far γ δ : ℕ) (c : Coded X) (shows : X → Fml) (K : Fml) where
+    abbrev F : Fml
+    F = slot w far γ δ c shows
+
+    abbrev code : Bool × (ℕ × X) → Gv
+    code = (code_of X c).code
+
+    abbrev OneAfter : (ℕ → Wakes X → Type 0) → ℕ → Wakes X → Fml
+    OneAfter then n b = fsep (fact (then n b)) (fsep (fobs δ (code b)) K)
+
+    -- what the side that wakes has after its step
+    abbrev pub WakeAfter : (ℕ → Wakes X → Type 0) → ℕ → Fml
+    WakeAfter then n = fex (Wakes X) (OneAfter then n)
+
+    abbrev TwoAfter : (ℕ → X → Waits X → Type 0) → ℕ → X × Waits X → Fml
+    TwoAfter then n r = fsep (fact (then n r.0 r.1)) (fsep (shows r.0) (fsep (fobs γ (code r.1)) K))
+
+    -- what the side that waits has, with evidence of what the other had looked behind
+    abbrev pub WaitAfter : (ℕ → X → Waits X → Type 0) → ℕ → Fml
+    WaitAfter then n = fex (X × Waits X) (TwoAfter then n)
+
+    one_shows : (y x o : X) → (y ≡ x) ⊎ (y ≡ o) → ⟦ shows x ⟧ ∗ ⟦ shows o ⟧ ⊢ ⟦ shows y ⟧
+    one_shows y x o (inl e) = qed 𝓛 (‵ (shows x) ∷ ‵ (shows o) ∷ []) ∵ rewrite ! 0 (λ (u : X). ‵ (shows u)) {x = y} {y = x} (sym e) refl $ keep ! (0 ∷ []) $ done !
+    one_shows y x o (inr e) = qed 𝓛 (‵ (shows x) ∷ ‵ (shows o) ∷ []) ∵ rewrite ! 1 (λ (u : X). ‵ (shows u)) {x = y} {y = o} (sym e) refl $ keep ! (1 ∷ []) $ done !
+
+    wakes_flag : Lent K F → (b : Wakes X) (x : X) (f : ℕ → ℕ) (then : ℕ → Wakes X → Type 0) → ((a : Waits X) (at : Where) → Stands X at a b → WakesTo (OnFlag f) then (flag_of at) x a b at)
+        → ⟦ C ⟧ ∗ ⟦ K ⟧ ∗ ⟦ fobs δ (code b) ⟧ ∗ ⟦ shows x ⟧ ⊢ access far f (WakeAfter then)
+    wakes_flag lends b x f then can = let after : ℕ → Fml = WakeAfter then in let Z : Pr = ex 𝓤 (Holding far f after) in
+        inside 𝓛 w p z far f after (⟦ K ⟧ ∗ ⟦ fobs δ (code b) ⟧ ∗ ⟦ shows x ⟧) (qed 𝓛 (‵ I ∷ ‵ K ∷ ‵ (fobs δ (code b)) ∷ ‵ (shows x) ∷ []) ∵ use2 𝓛 (‵ K ⊛ ‵ F ⊛ ‵ (fwand F I)) lends $ split3 ! $ move ! (1 ∷ []) $
+        fpick ! (λ s. fsplit3 ! $ fpick ! (λ stands. forget ! $ move ! (1 ∷ []) $ fsplit ! $ fsplit ! $ move ! (6 ∷ 1 ∷ []) $ name_agree ! (code_of X c) (λ e.
+        let a : Waits X = s.0 in let at : Where = s.1.1 in let r = can a at (subst (λ (y : Wakes X). Stands X at a y) (sym e) stands) in let b' : Wakes X = r.0 in let at' : Where = r.1 in let n : ℕ = flag_of at in
+        use2 𝓛 (raw (upd 𝓤 (⟦ fobs δ (code b') ⟧ ∗ ⟦ fauth δ (code b') ⟧))) (𝓛.names.name_set_upd δ (code b) (code s.1.0) (code b')) $ settle 𝓛 Z (‵ (fobs δ (code b')) ⊛ ‵ (fauth δ (code b'))) $ suffices ! _ (upd_i 𝓤 Z) $ split ! $
+        rewrite ! 3 (λ (y : Wakes X). ‵ (shows y.1.1)) {x = b} {y = s.1.0} (sym e) refl $ move ! (7 ∷ 3 ∷ []) $ use2 𝓛 (‵ (shows b'.1.1)) (one_shows b'.1.1 x b.1.1 r.4) $
+        move ! (4 ∷ []) $ fsplit ! $ show ! (Holding far f after) n $ frame ! $ assume ! (‵ (word w far (f n))) $ suffices ! _ (upd_i 𝓤 (⟦ I ⟧ ∗ ⟦ after n ⟧)) $
+        rewrite ! 0 (λ (m : ℕ). ‵ (word w far m)) {x = flag_of at'} {y = f n} r.2.0 refl $ rewrite ! 1 (λ (m : ℕ). ‵ (word w (128 + far) m)) {x = back_of at'} {y = back_of at} r.2.1 refl $ fjoin ! $
+        move ! (4 ∷ 3 ∷ []) $ fjoin ! $ move ! (1 ∷ 0 ∷ 2 ∷ []) $ fjoin3 ! $ nothing ! $ fpack ! (Stands X at' a b') (λ _. ftrue) r.3 $ fjoin ! $ fpack ! (Slot X) (slot_at w far γ δ c shows) (a, (b', at')) $
+        move ! (0 ∷ 3 ∷ []) $ use2 𝓛 (‵ I) (apply∗ 𝓤 ⟦ F ⟧ ⟦ I ⟧) $ frame ! $ fjoin ! $ nothing ! $ fpack ! (then n b') (λ _. ftrue) r.5 $ fjoin ! $ fpack ! (Wakes X) (OneAfter then n) b' $ done !))))
+
+    wakes_back : Lent K F → (b : Wakes X) (x : X) (f : ℕ → ℕ) (then : ℕ → Wakes X → Type 0) → ((a : Waits X) (at : Where) → Stands X at a b → WakesTo (OnBack f) then (back_of at) x a b at)
+        → ⟦ C ⟧ ∗ ⟦ K ⟧ ∗ ⟦ fobs δ (code b) ⟧ ∗ ⟦ shows x ⟧ ⊢ access (128 + far) f (WakeAfter then)
+    wakes_back lends b x f then can = let after : ℕ → Fml = WakeAfter then in let Z : Pr = ex 𝓤 (Holding (128 + far) f after) in
+        inside 𝓛 w p z (128 + far) f after (⟦ K ⟧ ∗ ⟦ fobs δ (code b) ⟧ ∗ ⟦ shows x ⟧) (qed 𝓛 (‵ I ∷ ‵ K ∷ ‵ (fobs δ (code b)) ∷ ‵ (shows x) ∷ []) ∵ use2 𝓛 (‵ K ⊛ ‵ F ⊛ ‵ (fwand F I)) lends $ split3 ! $ move ! (1 ∷ []) $
+        fpick ! (λ s. fsplit3 ! $ fpick ! (λ stands. forget ! $ move ! (1 ∷ []) $ fsplit ! $ fsplit ! $ move ! (6 ∷ 1 ∷ []) $ name_agree ! (code_of X c) (λ e.
+        let a : Waits X = s.0 in let at : Where = s.1.1 in let r = can a at (subst (λ (y : Wakes X). Stands X at a y) (sym e) stands) in let b' : Wakes X = r.0 in let at' : Where = r.1 in let n : ℕ = back_of at in
+        use2 𝓛 (raw (upd 𝓤 (⟦ fobs δ (code b') ⟧ ∗ ⟦ fauth δ (code b') ⟧))) (𝓛.names.name_set_upd δ (code b) (code s.1.0) (code b')) $ settle 𝓛 Z (‵ (fobs δ (code b')) ⊛ ‵ (fauth δ (code b'))) $ suffices ! _ (upd_i 𝓤 Z) $ split ! $
+        rewrite ! 3 (λ (y : Wakes X). ‵ (shows y.1.1)) {x = b} {y = s.1.0} (sym e) refl $ move ! (7 ∷ 3 ∷ []) $ use2 𝓛 (‵ (shows b'.1.1)) (one_shows b'.1.1 x b.1.1 r.4) $
+        move ! (4 ∷ []) $ fsplit ! $ move ! (1 ∷ []) $ show ! (Holding (128 + far) f after) n $ frame ! $ assume ! (‵ (word w (128 + far) (f n))) $ suffices ! _ (upd_i 𝓤 (⟦ I ⟧ ∗ ⟦ after n ⟧)) $ move ! (1 ∷ 0 ∷ []) $
+        rewrite ! 0 (λ (m : ℕ). ‵ (word w far m)) {x = flag_of at'} {y = flag_of at} r.2.1 refl $ rewrite ! 1 (λ (m : ℕ). ‵ (word w (128 + far) m)) {x = back_of at'} {y = f n} r.2.0 refl $ fjoin ! $
+        move ! (4 ∷ 3 ∷ []) $ fjoin ! $ move ! (1 ∷ 0 ∷ 2 ∷ []) $ fjoin3 ! $ nothing ! $ fpack ! (Stands X at' a b') (λ _. ftrue) r.3 $ fjoin ! $ fpack ! (Slot X) (slot_at w far γ δ c shows) (a, (b', at')) $
+        move ! (0 ∷ 3 ∷ []) $ use2 𝓛 (‵ I) (apply∗ 𝓤 ⟦ F ⟧ ⟦ I ⟧) $ frame ! $ fjoin ! $ nothing ! $ fpack ! (then n b') (λ _. ftrue) r.5 $ fjoin ! $ fpack ! (Wakes X) (OneAfter then n) b' $ done !))))
+
+    -- evidence can be had twice
+    abbrev pub Twice : Type 1
+    Twice = (x : X) → ⟦ shows x ⟧ ⊢ ⟦ shows x ⟧ ∗ ⟦ shows x ⟧
+
+    waits_flag : Lent K F → Twice → (a : Waits X) (f : ℕ → ℕ) (then : ℕ → X → Waits X → Type 0) → ((b : Wakes X) (at : Where) → Stands X at a b → WaitsTo (OnFlag f) then (flag_of at) a b at)
+        → ⟦ C ⟧ ∗ ⟦ K ⟧ ∗ ⟦ fobs γ (code a) ⟧ ⊢ access far f (WaitAfter then)
+    waits_flag lends twice a f then can = let after : ℕ → Fml = WaitAfter then in let Z : Pr = ex 𝓤 (Holding far f after) in
+        inside 𝓛 w p z far f after (⟦ K ⟧ ∗ ⟦ fobs γ (code a) ⟧) (qed 𝓛 (‵ I ∷ ‵ K ∷ ‵ (fobs γ (code a)) ∷ []) ∵ use2 𝓛 (‵ K ⊛ ‵ F ⊛ ‵ (fwand F I)) lends $ split3 ! $ move ! (1 ∷ []) $
+        fpick ! (λ s. fsplit3 ! $ fpick ! (λ stands. forget ! $ move ! (1 ∷ []) $ fsplit ! $ fsplit ! $ move ! (6 ∷ 0 ∷ []) $ name_agree ! (code_of X c) (λ e.
+        let b : Wakes X = s.1.0 in let at : Where = s.1.1 in let r = can b at (subst (λ (y : Waits X). Stands X at y b) (sym e) stands) in let a' : Waits X = r.0 in let at' : Where = r.1 in let n : ℕ = flag_of at in let x : X = b.1.1 in
+        use2 𝓛 (raw (upd 𝓤 (⟦ fobs γ (code a') ⟧ ∗ ⟦ fauth γ (code a') ⟧))) (𝓛.names.name_set_upd γ (code a) (code s.0) (code a')) $ settle 𝓛 Z (‵ (fobs γ (code a')) ⊛ ‵ (fauth γ (code a'))) $ suffices ! _ (upd_i 𝓤 Z) $ split ! $
+        move ! (3 ∷ []) $ use1 𝓛 (‵ (shows x) ⊛ ‵ (shows x)) (twice x) $ split ! $
+        move ! (5 ∷ []) $ fsplit ! $ show ! (Holding far f after) n $ frame ! $ assume ! (‵ (word w far (f n))) $ suffices ! _ (upd_i 𝓤 (⟦ I ⟧ ∗ ⟦ after n ⟧)) $
+        rewrite ! 0 (λ (m : ℕ). ‵ (word w far m)) {x = flag_of at'} {y = f n} r.2.0 refl $ rewrite ! 1 (λ (m : ℕ). ‵ (word w (128 + far) m)) {x = back_of at'} {y = back_of at} r.2.1 refl $ fjoin ! $
+        move ! (4 ∷ 5 ∷ []) $ fjoin ! $ move ! (1 ∷ 0 ∷ 2 ∷ []) $ fjoin3 ! $ nothing ! $ fpack ! (Stands X at' a' b) (λ _. ftrue) r.3 $ fjoin ! $ fpack ! (Slot X) (slot_at w far γ δ c shows) (a', (b, at')) $
+        move ! (0 ∷ 4 ∷ []) $ use2 𝓛 (‵ I) (apply∗ 𝓤 ⟦ F ⟧ ⟦ I ⟧) $ frame ! $ fjoin3 ! $ nothing ! $ fpack ! (then n x a') (λ _. ftrue) r.4 $ fjoin ! $ fpack ! (X × Waits X) (TwoAfter then n) (x, a') $ done !))))
+
+    waits_back : Lent K F → Twice → (a : Waits X) (f : ℕ → ℕ) (then : ℕ → X → Waits X → Type 0) → ((b : Wakes X) (at : Where) → Stands X at a b → WaitsTo (OnBack f) then (back_of at) a b at)
+        → ⟦ C ⟧ ∗ ⟦ K ⟧ ∗ ⟦ fobs γ (code a) ⟧ ⊢ access (128 + far) f (WaitAfter then)
+    waits_back lends twice a f then can = let after : ℕ → Fml = WaitAfter then in let Z : Pr = ex 𝓤 (Holding (128 + far) f after) in
+        inside 𝓛 w p z (128 + far) f after (⟦ K ⟧ ∗ ⟦ fobs γ (code a) ⟧) (qed 𝓛 (‵ I ∷ ‵ K ∷ ‵ (fobs γ (code a)) ∷ []) ∵ use2 𝓛 (‵ K ⊛ ‵ F ⊛ ‵ (fwand F I)) lends $ split3 ! $ move ! (1 ∷ []) $
+        fpick ! (λ s. fsplit3 ! $ fpick ! (λ stands. forget ! $ move ! (1 ∷ []) $ fsplit ! $ fsplit ! $ move ! (6 ∷ 0 ∷ []) $ name_agree ! (code_of X c) (λ e.
+        let b : Wakes X = s.1.0 in let at : Where = s.1.1 in let r = can b at (subst (λ (y : Waits X). Stands X at y b) (sym e) stands) in let a' : Waits X = r.0 in let at' : Where = r.1 in let n : ℕ = back_of at in let x : X = b.1.1 in
+        use2 𝓛 (raw (upd 𝓤 (⟦ fobs γ (code a') ⟧ ∗ ⟦ fauth γ (code a') ⟧))) (𝓛.names.name_set_upd γ (code a) (code s.0) (code a')) $ settle 𝓛 Z (‵ (fobs γ (code a')) ⊛ ‵ (fauth γ (code a'))) $ suffices ! _ (upd_i 𝓤 Z) $ split ! $
+        move ! (3 ∷ []) $ use1 𝓛 (‵ (shows x) ⊛ ‵ (shows x)) (twice x) $ split ! $
+        move ! (5 ∷ []) $ fsplit ! $ move ! (1 ∷ []) $ show ! (Holding (128 + far) f after) n $ frame ! $ assume ! (‵ (word w (128 + far) (f n))) $ suffices ! _ (upd_i 𝓤 (⟦ I ⟧ ∗ ⟦ after n ⟧)) $ move ! (1 ∷ 0 ∷ []) $
+        rewrite ! 0 (λ (m : ℕ). ‵ (word w far m)) {x = flag_of at'} {y = flag_of at} r.2.1 refl $ rewrite ! 1 (λ (m : ℕ). ‵ (word w (128 + far) m)) {x = back_of at'} {y = f n} r.2.0 refl $ fjoin ! $
+        move ! (4 ∷ 5 ∷ []) $ fjoin ! $ move ! (1 ∷ 0 ∷ 2 ∷ []) $ fjoin3 ! $ nothing ! $ fpack ! (Stands X at' a' b) (λ _. ftrue) r.3 $ fjoin ! $ fpack ! (Slot X) (slot_at w far γ δ c shows) (a', (b, at')) $
+        move ! (0 ∷ 4 ∷ []) $ use2 𝓛 (‵ I) (apply∗ 𝓤 ⟦ F ⟧ ⟦ I ⟧) $ frame ! $ fjoin3 ! $ nothing ! $ fpack ! (then n x a') (λ _. ftrue) r.4 $ fjoin ! $ fpack ! (X × Waits X) (TwoAfter then n) (x, a') $ done !))))
+
+    abbrev pub Met : Waits X → Wakes X → Pr
+    Met a b = guard 𝓤 (IsRemembered X a b) (⟦ K ⟧ ∗ ⟦ fobs γ (code a) ⟧ ∗ ⟦ fobs δ (code b) ⟧)
+
+    -- both sides in one hand: it is no step
+    meets : Lent K F → (a : Waits X) (b : Wakes X) → ⟦ C ⟧ ∗ ⟦ K ⟧ ∗ ⟦ fobs γ (code a) ⟧ ∗ ⟦ fobs δ (code b) ⟧ ⊢ H.⇛ (Met a b)
+    meets lends a b = let Q : Pr = Met a b in let Z : Pr = ⟦ I ⟧ ∗ Q in
+        qed 𝓛 (‵ C ∷ ‵ K ∷ ‵ (fobs γ (code a)) ∷ ‵ (fobs δ (code b)) ∷ []) ∵ fsplit ! $ forget ! $ suffices ! _ (𝓛.invs.inv_acc I Q) $ frame ! $ assume ! (‵ I) $
+        use2 𝓛 (‵ K ⊛ ‵ F ⊛ ‵ (fwand F I)) lends $ split3 ! $ move ! (1 ∷ []) $ fpick ! (λ s. fsplit3 ! $ fpick ! (λ stands. forget ! $ move ! (1 ∷ []) $ fsplit ! $ fsplit ! $
+        move ! (6 ∷ 0 ∷ []) $ name_agree ! (code_of X c) (λ ea. move ! (7 ∷ 2 ∷ []) $ name_agree ! (code_of X c) (λ eb.
+        move ! (3 ∷ 1 ∷ []) $ fjoin ! $ move ! (4 ∷ 0 ∷ 3 ∷ []) $ fjoin3 ! $ nothing ! $ fpack ! (Stands X s.1.1 s.0 s.1.0) (λ _. ftrue) stands $ fjoin ! $ fpack ! (Slot X) (slot_at w far γ δ c shows) s $
+        move ! (0 ∷ 4 ∷ []) $ use2 𝓛 (‵ I) (apply∗ 𝓤 ⟦ F ⟧ ⟦ I ⟧) $ suffices ! _ (upd_i 𝓤 Z) $ frame ! $
+        check ! (subst (λ (r : Waits X × Wakes X). IsRemembered X r.0 r.1) (λ j. (sym ea j, sym eb j)) (remembers s.0 s.1.0 s.1.1 stands)) $ move ! (2 ∷ 1 ∷ 0 ∷ []) $ done !))))
+
+  -- what the writer's right to the stream shows
+  wk_shows : (q : Share) (sent : List ℕ) (limit : ℕ) (shut : Bool) (i : ℕ) → ⟦ WK q sent limit shut i ⟧ ⊢ ⟦ WK q sent limit shut i ⟧ ∗ ⟦ published z (sent, shut) ⟧
+  wk_shows q sent limit shut i = let O : Order Stream = streams in let s : Stream = (sent, shut) in qed 𝓛 (‵ (WK q sent limit shut i) ∷ []) ∵ fsplit3 ! $
+      use1 𝓛 (‵ (latest O q z.sent s) ⊛ ‵ (published z s)) (latest_shows O 𝓛 q z.sent s s (reaches_same s)) $ split ! $ move ! (0 ∷ 2 ∷ 3 ∷ []) $ fjoin3 ! $ done !
+
+  -- the writer's steps on the reader's slot
+  module _ (q : Share) (sent : List ℕ) (limit : ℕ) (shut : Bool) (i : ℕ) (le : i ≤ 1) (b : Wakes Stream) where
+    abbrev KW : Fml
+    KW = WK q sent limit shut i
+
+    abbrev BW : Fml
+    BW = fobs z.writer_wakes ((code_of Stream coded_stream).code b)
+
+    abbrev lent : Lent KW (reader_slot w p z)
+    lent = readers_own KW (writer_lent q sent limit shut i le)
+
+    abbrev pub WriterWoke : (ℕ → Wakes Stream → Type 0) → ℕ → Fml
+    WriterWoke = WakeAfter 512 z.reader_waits z.writer_wakes coded_stream (published z) KW
+
+    pub writer_looks_flag : b.0 ≡ false → ⟦ C ⟧ ∗ ⟦ KW ⟧ ∗ ⟦ BW ⟧ ⊢ access 512 (λ n. n) (WriterWoke (Looks Stream b (sent, shut)))
+    writer_looks_flag rests = let x : Stream = (sent, shut) in qed 𝓛 (‵ C ∷ ‵ KW ∷ ‵ BW ∷ []) ∵ move ! (1 ∷ []) $ use1 𝓛 (‵ KW ⊛ ‵ (published z x)) (wk_shows q sent limit shut i) $ split ! $ move ! (2 ∷ 0 ∷ 3 ∷ 1 ∷ []) $
+        by ! (wakes_flag 512 z.reader_waits z.writer_wakes coded_stream (published z) KW lent b x (λ n. n) (Looks Stream b x) (looks b x rests))
+
+    pub writer_takes : b.0 ≡ false → ⟦ C ⟧ ∗ ⟦ KW ⟧ ∗ ⟦ BW ⟧ ⊢ access 512 (λ _. 0) (WriterWoke (Takes Stream b (sent, shut)))
+    writer_takes rests = let x : Stream = (sent, shut) in qed 𝓛 (‵ C ∷ ‵ KW ∷ ‵ BW ∷ []) ∵ move ! (1 ∷ []) $ use1 𝓛 (‵ KW ⊛ ‵ (published z x)) (wk_shows q sent limit shut i) $ split ! $ move ! (2 ∷ 0 ∷ 3 ∷ 1 ∷ []) $
+        by ! (wakes_flag 512 z.reader_waits z.writer_wakes coded_stream (published z) KW lent b x (λ _. 0) (Takes Stream b x) (takes b x rests))
+
+    pub writer_gives_back : b.0 ≡ true → ⟦ C ⟧ ∗ ⟦ KW ⟧ ∗ ⟦ BW ⟧ ⊢ access 640 (λ _. 1) (WriterWoke (GivesBack Stream b (sent, shut)))
+    writer_gives_back holds = let x : Stream = (sent, shut) in qed 𝓛 (‵ C ∷ ‵ KW ∷ ‵ BW ∷ []) ∵ move ! (1 ∷ []) $ use1 𝓛 (‵ KW ⊛ ‵ (published z x)) (wk_shows q sent limit shut i) $ split ! $ move ! (2 ∷ 0 ∷ 3 ∷ 1 ∷ []) $
+        by ! (wakes_back 512 z.reader_waits z.writer_wakes coded_stream (published z) KW lent b x (λ _. 1) (GivesBack Stream b x) (gives_back b x holds))
+
+  -- the reader's steps on its own slot
+  module _ (q : Share) (head seen i : ℕ) (le : i ≤ 1) (a : Waits Stream) where
+    abbrev KR : Fml
+    KR = RK q head seen i
+
+    abbrev AR : Fml
+    AR = fobs z.reader_waits ((code_of Stream coded_stream).code a)
+
+    abbrev lent_too : Lent KR (reader_slot w p z)
+    lent_too = readers_own KR (reader_lent q head seen i le)
+
+    abbrev pub ReaderWaited : (ℕ → Stream → Waits Stream → Type 0) → ℕ → Fml
+    ReaderWaited = WaitAfter 512 z.reader_waits z.writer_wakes coded_stream (published z) KR
+
+    pub reader_hands_over : a.0 ≡ true → ⟦ C ⟧ ∗ ⟦ KR ⟧ ∗ ⟦ AR ⟧ ⊢ access 512 (λ _. 1) (ReaderWaited (λ n x a'. HandsOver Stream a x n a'))
+    reader_hands_over owns = waits_flag 512 z.reader_waits z.writer_wakes coded_stream (published z) KR lent_too (λ s. announced_twice 𝓛 z s.0 s.1) a (λ _. 1) (λ n x a'. HandsOver Stream a x n a') (hands_over a owns)
+
+    pub reader_withdraws : a.0 ≡ false → ⟦ C ⟧ ∗ ⟦ KR ⟧ ∗ ⟦ AR ⟧ ⊢ access 512 (λ _. 0) (ReaderWaited (λ n x a'. Regains Stream a x n a'))
+    reader_withdraws gave = waits_flag 512 z.reader_waits z.writer_wakes coded_stream (published z) KR lent_too (λ s. announced_twice 𝓛 z s.0 s.1) a (λ _. 0) (λ n x a'. Regains Stream a x n a') (withdraws a gave)
+
+    pub reader_regains : a.0 ≡ false → ⟦ C ⟧ ∗ ⟦ KR ⟧ ∗ ⟦ AR ⟧ ⊢ access 640 (λ _. 0) (ReaderWaited (λ n x a'. Regains Stream a x n a'))
+    reader_regains gave = waits_back 512 z.reader_waits z.writer_wakes coded_stream (published z) KR lent_too (λ s. announced_twice 𝓛 z s.0 s.1) a (λ _. 0) (λ n x a'. Regains Stream a x n a') (regains a gave)
+
+    abbrev pub BothMet : Wakes Stream → Pr
+    BothMet = Met 512 z.reader_waits z.writer_wakes coded_stream (published z) KR a
+
+    -- the reader and what the writer knows of its slot, in one hand
+    pub reader_meets : (b : Wakes Stream) → ⟦ C ⟧ ∗ ⟦ KR ⟧ ∗ ⟦ AR ⟧ ∗ ⟦ fobs z.writer_wakes ((code_of Stream coded_stream).code b) ⟧ ⊢ H.⇛ (BothMet b)
+    reader_meets b = meets 512 z.reader_waits z.writer_wakes coded_stream (published z) KR lent_too a b

@@ -1,0 +1,34 @@
+-- What is known of the slots, as values.
+use Rattle.std.specs.Prelude.{◌≡◌, ℕ, true, false, []}
+use Rattle.piper_ring.specs.Shared.{Names, Stream, Consumed}
+use Rattle.piper_ring.specs.Slots.{Waits, Wakes}
+use Rattle.piper_ring.specs.declared.ring.slots.ReaderWaits.{ReaderWaits}
+use Rattle.piper_ring.specs.declared.ring.slots.WriterWakes.{WriterWakes}
+use Rattle.piper_ring.specs.declared.ring.slots.WriterWaits.{WriterWaits}
+use Rattle.piper_ring.specs.declared.ring.slots.ReaderWakes.{ReaderWakes}
+
+abbrev pub of_reader_waits : ReaderWaits → Waits Stream
+of_reader_waits s = (s.owns, (s.tickets, (s.bytes, s.shut)))
+
+abbrev pub of_writer_wakes : WriterWakes → Wakes Stream
+of_writer_wakes s = (s.holds, (s.taken, (s.bytes, s.shut)))
+
+abbrev pub of_writer_waits : WriterWaits → Waits Consumed
+of_writer_waits s = (s.owns, (s.tickets, (s.count, s.over)))
+
+abbrev pub of_reader_wakes : ReaderWakes → Wakes Consumed
+of_reader_wakes s = (s.holds, (s.taken, (s.count, s.over)))
+
+-- nobody has registered yet: the place is with the side that waits
+abbrev pub IsUnused : Names → ReaderWaits → Type 0
+IsUnused z s = (s.names ≡ z) × (of_reader_waits s ≡ (true, (0, ([], false))))
+
+-- nothing has been looked behind yet
+abbrev pub LooksFirst : Names → WriterWakes → Type 0
+LooksFirst z s = (s.names ≡ z) × (of_writer_wakes s ≡ (false, (0, ([], false))))
+
+abbrev pub IsUnusedBack : Names → WriterWaits → Type 0
+IsUnusedBack z s = (s.names ≡ z) × (of_writer_waits s ≡ (true, (0, (0, false))))
+
+abbrev pub LooksFirstBack : Names → ReaderWakes → Type 0
+LooksFirstBack z s = (s.names ≡ z) × (of_reader_wakes s ≡ (false, (0, (0, false))))

@@ -1,0 +1,92 @@
+-- The slot in which a side that waits leaves its waker, as two words that both sides share: `flag`
+-- is 1 while a waker stands there, and `back` is 1 once the side that took it has handed its place
+-- back. The place of the waker belongs to one side at each moment.
+use Rattle.std.specs.Prelude.{◌≡◌, ◌≢◌, ℕ, ◌+◌, ◌≤◌, Bool, true, false}
+use base.Stored.{Gv}
+use base.Fml.{Fml, ftrue, fsep, fex, fauth, fobs}
+use denote.RawPtr.{Ptr}
+use Rattle.std.specs.Coded.{Coded, coded×, coded_ℕ, coded_bool}
+use Rattle.piper_ring.specs.Places.{fact}
+use Rattle.piper_ring.specs.Words.{word}
+
+-- where the place of the waker is
+pub data Where : Type 0 where
+  with_waiter : Where
+  in_slot : Where
+  with_taker : Where
+  handed_back : Where
+
+abbrev pub flag_of : Where → ℕ
+flag_of with_waiter = 0
+flag_of in_slot = 1
+flag_of with_taker = 0
+flag_of handed_back = 0
+
+abbrev pub back_of : Where → ℕ
+back_of with_waiter = 0
+back_of in_slot = 0
+back_of with_taker = 0
+back_of handed_back = 1
+
+module _ (X : Type 0) where
+  -- of the side that waits: whether it has the place, how often it registered,
+  -- and what the other side had looked behind when it registered last
+  abbrev pub Waits : Type 0
+  Waits = Bool × (ℕ × X)
+
+  -- of the side that wakes: whether it has the place, whose ticket it took last,
+  -- and what it had stored when it looked last
+  abbrev pub Wakes : Type 0
+  Wakes = Bool × (ℕ × X)
+
+  -- how both sides stand
+  abbrev pub Stands : Where → Waits → Wakes → Type 0
+  Stands with_waiter a b = (a.0 ≡ true) × (b.0 ≡ false)
+  Stands in_slot a b = (a.0 ≡ false) × (b.0 ≡ false) × (b.1.1 ≡ a.1.1)
+  Stands with_taker a b = (a.0 ≡ false) × (b.0 ≡ true) × (b.1.0 ≡ a.1.0)
+  Stands handed_back a b = (a.0 ≡ false) × (b.0 ≡ false) × (b.1.0 ≡ a.1.0)
+
+  abbrev pub code_of : Coded X → Coded (Bool × (ℕ × X))
+  code_of c = coded× coded_bool (coded× coded_ℕ c)
+
+  -- a waker stands in the slot, and nobody has looked since, or none does:
+  -- then all that was stored was looked behind
+  abbrev pub Looks : Wakes → X → ℕ → Wakes → Type 0
+  Looks b x n b' = (n ≤ 1) × (n ≡ 0 → b' ≡ (b.0, (b.1.0, x))) × (n ≢ 0 → b' ≡ b)
+
+  -- the waker was taken, with the place and the ticket, or none stood there
+  abbrev pub Takes : Wakes → X → ℕ → Wakes → Type 0
+  Takes b x n b' =
+      (n ≤ 1) × (n ≡ 0 → b' ≡ (b.0, (b.1.0, x))) × (n ≢ 0 → (t : ℕ) × (b' ≡ (true, (t, x))))
+
+  abbrev pub GivesBack : Wakes → X → ℕ → Wakes → Type 0
+  GivesBack b x n b' = b' ≡ (false, b.1)
+
+  -- the place is handed over, with the next ticket
+  abbrev pub HandsOver : Waits → X → ℕ → Waits → Type 0
+  HandsOver a x n a' = a' ≡ (false, (a.1.0 + 1, x))
+
+  -- the place came back, or it did not
+  abbrev pub Regains : Waits → X → ℕ → Waits → Type 0
+  Regains a x n a' = (n ≤ 1) × (n ≡ 0 → a' ≡ a) × (n ≢ 0 → a' ≡ (true, a.1))
+
+  -- no forgotten waiter: whoever has registered, and had the other side look
+  -- behind something new since, was taken
+  abbrev pub IsRemembered : Waits → Wakes → Type 0
+  IsRemembered a b = a.0 ≡ false → b.0 ≡ false → b.1.1 ≢ a.1.1 → b.1.0 ≡ a.1.0
+
+  abbrev pub Slot : Type 0
+  Slot = Waits × (Wakes × Where)
+
+-- the words lie `far` bytes after w and 128 more; the ghost names are those
+-- of the side that waits and of the side that wakes; `shows` is evidence of what was stored
+module _ {X : Type 0} (w : Ptr) (far : ℕ) (waits wakes : ℕ) (c : Coded X) (shows : X → Fml) where
+  abbrev pub slot_at : Slot X → Fml
+  slot_at s =
+      fsep (fact (Stands X s.1.1 s.0 s.1.0))
+      (fsep (fsep (word w far (flag_of s.1.1)) (word w (128 + far) (back_of s.1.1)))
+      (fsep (fsep (fauth waits ((code_of X c).code s.0)) (fauth wakes ((code_of X c).code s.1.0)))
+      (shows s.1.0.1.1)))
+
+  abbrev pub slot : Fml
+  slot = fex (Slot X) slot_at

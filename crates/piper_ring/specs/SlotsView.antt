@@ -1,0 +1,129 @@
+-- What a contract sees of what each end has of the slots, and how the ends keep it.
+use Rattle.std.specs.Prelude.{◌≡◌, ℕ, ◌+◌, ◌<◌, ◌≤◌, ◌⊎◌, Bool, true, false, List, [], length, refl}
+use Rattle.std.specs.Coded.{Coded, code_by, coded×, coded_list, coded_ℕ, coded_bool}
+use Rattle.piper_ring.specs.Shared.{Names, names_code, flag}
+use Rattle.piper_ring.specs.ReadView.{ReadView}
+use Rattle.piper_ring.specs.WriteView.{WriteView}
+use Rattle.piper_ring.specs.declared.ends.slots.ReadSlotParts.{ReadSlotParts}
+use Rattle.piper_ring.specs.declared.ends.slots.WriteSlotParts.{WriteSlotParts}
+
+pub record ReadSlotsView : Type 0 where
+  -- the names of the ring
+  pub names : Names
+  -- whether the place of the reader's waker is with it
+  pub owns : Bool
+  -- how often it registered
+  pub tickets : ℕ
+  -- what the writer had looked behind before: what it had published, and whether it had closed the pipe
+  pub bytes : List ℕ
+  pub shut : Bool
+  -- the ticket of the writer's that it took last
+  pub taken : ℕ
+  -- what it looked behind last: what it had consumed, and whether it had closed the pipe
+  pub count : ℕ
+  pub over : Bool
+
+abbrev pub read_slots : Names → Bool → ℕ → List ℕ → Bool → ℕ → ℕ → Bool → ReadSlotsView
+read_slots z o t b s k c e = record {
+  names = z;
+  owns = o;
+  tickets = t;
+  bytes = b;
+  shut = s;
+  taken = k;
+  count = c;
+  over = e;
+}
+
+abbrev pub read_slots_code : Coded ReadSlotsView
+read_slots_code =
+    code_by ((Names × (Bool × ℕ)) × ((List ℕ × Bool) × (ℕ × (ℕ × Bool))))
+    (coded× (coded× names_code (coded× coded_bool coded_ℕ))
+    (coded× (coded× (coded_list coded_ℕ) coded_bool)
+    (coded× coded_ℕ (coded× coded_ℕ coded_bool))))
+    (λ s. ((s.names, (s.owns, s.tickets)), ((s.bytes, s.shut), (s.taken, (s.count, s.over)))))
+    (λ p. read_slots p.0.0 p.0.1.0 p.0.1.1 p.1.0.0 p.1.0.1 p.1.1.0 p.1.1.1.0 p.1.1.1.1) (λ _. refl)
+
+abbrev pub read_slots_view : ReadSlotParts → ReadSlotsView
+read_slots_view s =
+    read_slots s.waits.names s.waits.owns s.waits.tickets s.waits.bytes s.waits.shut
+    s.wakes.taken s.wakes.count s.wakes.over
+
+pub record IsReadSlots (s : ReadSlotParts) : Type 0 where
+  pub place : s.has_place ≡ s.waits.owns
+  pub rests : s.wakes.holds ≡ false
+  pub of_one_ring : s.wakes.names ≡ s.waits.names
+
+pub record WriteSlotsView : Type 0 where
+  -- the names of the ring
+  pub names : Names
+  -- whether the place of the writer's waker is with it
+  pub owns : Bool
+  -- how often it registered
+  pub tickets : ℕ
+  -- what the reader had looked behind before: what it had consumed, and whether it had closed the pipe
+  pub count : ℕ
+  pub over : Bool
+  -- the ticket of the reader's that it took last
+  pub taken : ℕ
+  -- what it looked behind last: what it had published, and whether it had closed the pipe
+  pub bytes : List ℕ
+  pub shut : Bool
+
+abbrev pub write_slots : Names → Bool → ℕ → ℕ → Bool → ℕ → List ℕ → Bool → WriteSlotsView
+write_slots z o t c e k b s = record {
+  names = z;
+  owns = o;
+  tickets = t;
+  count = c;
+  over = e;
+  taken = k;
+  bytes = b;
+  shut = s;
+}
+
+abbrev pub write_slots_code : Coded WriteSlotsView
+write_slots_code =
+    code_by ((Names × (Bool × ℕ)) × ((ℕ × Bool) × (ℕ × (List ℕ × Bool))))
+    (coded× (coded× names_code (coded× coded_bool coded_ℕ))
+    (coded× (coded× coded_ℕ coded_bool)
+    (coded× coded_ℕ (coded× (coded_list coded_ℕ) coded_bool))))
+    (λ s. ((s.names, (s.owns, s.tickets)), ((s.count, s.over), (s.taken, (s.bytes, s.shut)))))
+    (λ p. write_slots p.0.0 p.0.1.0 p.0.1.1 p.1.0.0 p.1.0.1 p.1.1.0 p.1.1.1.0 p.1.1.1.1) (λ _. refl)
+
+abbrev pub write_slots_view : WriteSlotParts → WriteSlotsView
+write_slots_view s =
+    write_slots s.waits.names s.waits.owns s.waits.tickets s.waits.count s.waits.over
+    s.wakes.taken s.wakes.bytes s.wakes.shut
+
+pub record IsWriteSlots (s : WriteSlotParts) : Type 0 where
+  pub place : s.has_place ≡ s.waits.owns
+  pub rests : s.wakes.holds ≡ false
+  pub of_one_ring : s.wakes.names ≡ s.waits.names
+
+-- the reader left its waker in the slot, and knows to look for
+-- all that the writer had looked behind before
+pub record Registers (r : ReadView) (old new : ReadSlotsView) : Type 0 where
+  pub place : new.owns ≡ false
+  pub ticket : new.tickets ≡ old.tickets + 1
+  pub told : length new.bytes ≤ r.told
+  pub told_shut : flag new.shut ≤ flag r.told_shut
+  pub others : (new.taken ≡ old.taken) × (new.count ≡ old.count) × (new.over ≡ old.over)
+  pub names : new.names ≡ old.names
+
+-- the reader waits: it has registered, and its look behind that found nothing to do
+pub record IsPending (r : ReadView) (s : ReadSlotsView) : Type 0 where
+  pub registered : s.owns ≡ false
+  pub none : r.known ≡ []
+  pub stays_open : r.saw ≡ false
+  pub looked : length s.bytes ≤ length r.taken
+  pub goes_on : s.shut ≡ false
+
+-- the writer is between its calls: it has looked behind all that it stored
+pub record IsAtRest (w : WriteView) (s : WriteSlotsView) : Type 0 where
+  pub bytes : s.bytes ≡ w.sent
+  pub shut : s.shut ≡ w.shut
+
+-- the writer has stored something that the reader has not seen
+abbrev pub HasNews : ReadView → WriteView → Type 0
+HasNews r w = (length r.taken < length w.sent) ⊎ (w.shut ≡ true)

@@ -1,0 +1,14 @@
+-- A word of the ring's memory.
+use Rattle.std.specs.Prelude.{ℕ, ◌+◌}
+use mir.Syntax.{w64, ty_int}
+use mir.Val.{vint}
+use base.Fraction.{full_share}
+use base.Fml.{Fml, fat, froom}
+use denote.RawPtr.{Ptr, block_of, count_of}
+
+-- the word that lies so far after w, in bytes, holds n
+abbrev pub word : Ptr → ℕ → ℕ → Fml
+word w far n = fat full_share (ty_int w64) (block_of w) (far + count_of w) (vint w64 n)
+
+abbrev pub word_room : Ptr → ℕ → Fml
+word_room w far = froom (ty_int w64) (block_of w) (far + count_of w)

@@ -1,0 +1,177 @@
+//! What each side knows of a slot, in which a side that waits leaves its waker. It takes no space.
+ghost use Rattle.std.specs.Prelude.{◌≡◌, ℕ, Bool, List, true, false};
+ghost use Rattle.piper_ring.specs.Shared.{Names, Stream, names_code, waits_for, wakes_for, waits_back, wakes_back};
+
+use crate::ring::marks::WriteMark;
+use crate::ring::seats::{READER_BACK, READER_FLAG, ReadSeat, WRITER_BACK, WRITER_FLAG, WriteSeat};
+use std::marker::{Brand, Model, PhantomData, Send};
+use std::sync::atomic::Ordering::SeqCst;
+use std::sync::atomic::raw;
+
+/// The reader, at its own slot. `owns` is whether it has the place of the waker, `tickets` how often it registered, and the rest what the writer had published when it looked last before that.
+pub(crate) struct ReaderWaits {
+    pub(crate) mark: PhantomData<*mut u8>,
+    pub(crate) ghost names: { Names } by { names_code },
+    pub(crate) ghost owns: { Bool },
+    pub(crate) ghost tickets: { ℕ },
+    pub(crate) ghost bytes: { List ℕ },
+    pub(crate) ghost shut: { Bool },
+}
+
+impl Model for ReaderWaits {
+    ghost also_owns = { λ s. waits_for s.names s.owns s.tickets s.bytes s.shut };
+}
+
+unsafe impl Send for ReaderWaits {}
+
+impl Drop for ReaderWaits {
+    fn drop(self) {
+        let Self { mark: _ } = self;
+    }
+}
+
+/// The writer, at the reader's slot. `holds` is whether it has the place of the waker, `taken` whose ticket it took last, and the rest what it had published when it looked last.
+pub(crate) struct WriterWakes {
+    pub(crate) mark: PhantomData<*mut u8>,
+    pub(crate) ghost names: { Names } by { names_code },
+    pub(crate) ghost holds: { Bool },
+    pub(crate) ghost taken: { ℕ },
+    pub(crate) ghost bytes: { List ℕ },
+    pub(crate) ghost shut: { Bool },
+}
+
+impl Model for WriterWakes {
+    ghost also_owns = { λ s. wakes_for s.names s.holds s.taken s.bytes s.shut };
+}
+
+unsafe impl Send for WriterWakes {}
+
+impl Drop for WriterWakes {
+    fn drop(self) {
+        let Self { mark: _ } = self;
+    }
+}
+
+/// The writer, at its own slot. `owns` is whether it has the place of the waker, `tickets` how often it registered, and the rest what the reader had consumed when it looked last before that, and whether it had closed the ring.
+pub(crate) struct WriterWaits {
+    pub(crate) mark: PhantomData<*mut u8>,
+    pub(crate) ghost names: { Names } by { names_code },
+    pub(crate) ghost owns: { Bool },
+    pub(crate) ghost tickets: { ℕ },
+    pub(crate) ghost count: { ℕ },
+    pub(crate) ghost over: { Bool },
+}
+
+impl Model for WriterWaits {
+    ghost also_owns = { λ s. waits_back s.names s.owns s.tickets s.count s.over };
+}
+
+unsafe impl Send for WriterWaits {}
+
+impl Drop for WriterWaits {
+    fn drop(self) {
+        let Self { mark: _ } = self;
+    }
+}
+
+/// The reader, at the writer's slot. `holds` is whether it has the place of the waker, `taken` whose ticket it took last, and the rest what it had consumed when it looked last, and whether it had closed the ring.
+pub(crate) struct ReaderWakes {
+    pub(crate) mark: PhantomData<*mut u8>,
+    pub(crate) ghost names: { Names } by { names_code },
+    pub(crate) ghost holds: { Bool },
+    pub(crate) ghost taken: { ℕ },
+    pub(crate) ghost count: { ℕ },
+    pub(crate) ghost over: { Bool },
+}
+
+impl Model for ReaderWakes {
+    ghost also_owns = { λ s. wakes_back s.names s.holds s.taken s.count s.over };
+}
+
+unsafe impl Send for ReaderWakes {}
+
+impl Drop for ReaderWakes {
+    fn drop(self) {
+        let Self { mark: _ } = self;
+    }
+}
+
+impl WriteSeat {
+    ghost use Rattle.piper_ring.specs.Slots.{Looks, Takes, GivesBack};
+    ghost use Rattle.piper_ring.specs.SlotViews.{of_writer_wakes};
+
+    /// 1 where a waker stands in the reader's slot, else 0: then all that was published so far was looked behind.
+    pub(crate) fn look_flag(&self, slot: &mut WriterWakes) -> u64
+        requires { (slot.old.names ≡ self.now.names) × (slot.old.holds ≡ false) }
+        ensures ring { slot.new.names ≡ slot.old.names }
+        ensures looked { Looks Stream (of_writer_wakes slot.old) (self.now.sent, self.now.shut)
+            result (of_writer_wakes slot.new) }
+    {
+        unsafe { raw::load::<Brand>(self.words.add(READER_FLAG), SeqCst) }
+    }
+
+    /// 1 where it took the waker that stood in the reader's slot, with its place, else 0: then all that was published so far was looked behind.
+    pub(crate) fn take_waker(&self, slot: &mut WriterWakes) -> u64
+        requires { (slot.old.names ≡ self.now.names) × (slot.old.holds ≡ false) }
+        ensures ring { slot.new.names ≡ slot.old.names }
+        ensures taken { Takes Stream (of_writer_wakes slot.old) (self.now.sent, self.now.shut)
+            result (of_writer_wakes slot.new) }
+    {
+        unsafe { raw::swap::<Brand>(self.words.add(READER_FLAG), 0, SeqCst) }
+    }
+
+    /// Hands the place of the reader's waker back.
+    pub(crate) fn give_back(&self, slot: &mut WriterWakes)
+        requires { (slot.old.names ≡ self.now.names) × (slot.old.holds ≡ true) }
+        ensures ring { slot.new.names ≡ slot.old.names }
+        ensures gave { GivesBack Stream (of_writer_wakes slot.old) (self.now.sent, self.now.shut)
+            0 (of_writer_wakes slot.new) }
+    {
+        unsafe { raw::store::<Brand>(self.words.add(READER_BACK), 1, SeqCst) }
+    }
+}
+
+impl ReadSeat {
+    ghost use Rattle.piper_ring.specs.Slots.{HandsOver, IsRemembered, Regains};
+    ghost use Rattle.piper_ring.specs.SlotViews.{of_reader_waits, of_writer_wakes};
+
+    /// The reader's waker stands in its slot, under the next ticket. With it comes evidence of what the writer had looked behind.
+    pub(crate) fn hand_over(&self, slot: &mut ReaderWaits) -> WriteMark
+        requires { (slot.old.names ≡ self.now.names) × (slot.old.owns ≡ true) }
+        ensures ring { slot.new.names ≡ slot.old.names }
+        ensures mark { result.names ≡ self.now.names }
+        ensures stands { HandsOver Stream (of_reader_waits slot.old) (result.bytes, result.shut)
+            0 (of_reader_waits slot.new) }
+    {
+        unsafe { raw::store::<Brand>(self.words.add(READER_FLAG), 1, SeqCst) };
+        WriteMark { mark: PhantomData }
+    }
+
+    /// 1 where the reader's waker stood in its slot and is the reader's again, else 0.
+    pub(crate) fn withdraw(&self, slot: &mut ReaderWaits) -> u64
+        requires { (slot.old.names ≡ self.now.names) × (slot.old.owns ≡ false) }
+        ensures ring { slot.new.names ≡ slot.old.names }
+        ensures back { Regains Stream (of_reader_waits slot.old) (slot.old.bytes, slot.old.shut)
+            result (of_reader_waits slot.new) }
+    {
+        unsafe { raw::swap::<Brand>(self.words.add(READER_FLAG), 0, SeqCst) }
+    }
+
+    /// 1 where the writer had handed the place of the reader's waker back, else 0.
+    pub(crate) fn regain(&self, slot: &mut ReaderWaits) -> u64
+        requires { (slot.old.names ≡ self.now.names) × (slot.old.owns ≡ false) }
+        ensures ring { slot.new.names ≡ slot.old.names }
+        ensures back { Regains Stream (of_reader_waits slot.old) (slot.old.bytes, slot.old.shut)
+            result (of_reader_waits slot.new) }
+    {
+        unsafe { raw::swap::<Brand>(self.words.add(READER_BACK), 0, SeqCst) }
+    }
+
+    /// Both sides of the reader's slot in one hand: a reader that has registered, and since which the writer looked behind something new, was taken. It is no step of the program.
+    pub(crate) fn meet_slot(&self, waits: &mut ReaderWaits, wakes: &mut WriterWakes)
+        requires { (waits.old.names ≡ self.now.names) × (wakes.old.names ≡ self.now.names) }
+        ensures remembered { IsRemembered Stream (of_reader_waits waits.old)
+            (of_writer_wakes wakes.old) }
+        ensures kept { (waits.new ≡ waits.old) × (wakes.new ≡ wakes.old) }
+    {}
+}
