@@ -20,8 +20,8 @@ use Rattle.piper_ring.specs.Shared.{Names, State, Holds, other, word, reader_kno
 use base.Growing.{Order, numbers, latest}
 use types.Growing.{latest_shows}
 use Rattle.piper_ring.specs.Streams.{Stream, streams, reaches_same}
-use Rattle.piper_ring.specs.Shared.{published, consumed, coded_stream, coded_consumed, Consumed}
-use Rattle.piper_ring.proofs.Evidence.{announced_twice}
+use Rattle.piper_ring.specs.Shared.{took, raised, published, consumed, coded_stream, coded_consumed, Consumed}
+use Rattle.piper_ring.proofs.Evidence.{announced_twice, took_twice, raised_twice}
 use Rattle.piper_ring.proofs.Steps.{inside, Rest, OneStays, ReaderSees, WriterSees, reader_opens, writer_opens, closes}
 
 -- a step on a word makes f of what stands there, and leaves the other word
@@ -301,3 +301,68 @@ module _ {M : Type 1} {𝓤 : Ura M} (𝓛 : Logic 𝓤) (w p : Ptr) (z : Names)
     -- the reader and what the writer knows of its slot, in one hand
     pub reader_meets : (b : Wakes Stream) → ⟦ C ⟧ ∗ ⟦ KR ⟧ ∗ ⟦ AR ⟧ ∗ ⟦ fobs z.writer_wakes ((code_of Stream coded_stream).code b) ⟧ ⊢ H.⇛ (BothMet b)
     reader_meets b = meets 512 z.reader_waits z.writer_wakes coded_stream (published z) KR lent_too a b
+
+  -- what the reader's right to the head shows
+  rk_shows : (q : Share) (head seen i : ℕ) → ⟦ RK q head seen i ⟧ ⊢ ⟦ RK q head seen i ⟧ ∗ ⟦ took z head ⟧
+  rk_shows q head seen i = qed 𝓛 (‵ (RK q head seen i) ∷ []) ∵ fsplit ! $ fsplit ! $
+      use1 𝓛 (‵ (latest numbers q z.head head) ⊛ ‵ (took z head)) (latest_shows numbers 𝓛 q z.head head head (omega arith)) $ split ! $ move ! (0 ∷ 2 ∷ []) $ fjoin ! $ move ! (0 ∷ 2 ∷ []) $ fjoin ! $ done !
+
+  consumed_twice : (x : Consumed) → ⟦ consumed z x ⟧ ⊢ ⟦ consumed z x ⟧ ∗ ⟦ consumed z x ⟧
+  consumed_twice x = let T : Fml = took z x.0 in let S : Fml = raised z.closed x.1 in qed 𝓛 (‵ (consumed z x) ∷ []) ∵ fsplit ! $ use1 𝓛 (‵ T ⊛ ‵ T) (took_twice 𝓛 z x.0) $ split ! $ move ! (2 ∷ []) $
+      use1 𝓛 (‵ S ⊛ ‵ S) (raised_twice 𝓛 z.closed x.1) $ split ! $ move ! (2 ∷ 0 ∷ []) $ fjoin ! $ move ! (2 ∷ 1 ∷ []) $ fjoin ! $ done !
+
+  -- the reader's steps on the writer's slot
+  module _ (q : Share) (head seen i : ℕ) (le : i ≤ 1) (b : Wakes Consumed) where
+    abbrev KR' : Fml
+    KR' = RK q head seen i
+
+    abbrev BR : Fml
+    BR = fobs z.reader_wakes ((code_of Consumed coded_consumed).code b)
+
+    abbrev lent_back : Lent KR' (writer_slot w p z)
+    lent_back = writers_own KR' (reader_lent q head seen i le)
+
+    abbrev pub ReaderWoke : (ℕ → Wakes Consumed → Type 0) → ℕ → Fml
+    ReaderWoke = WakeAfter 768 z.writer_waits z.reader_wakes coded_consumed (consumed z) KR'
+
+    pub reader_looks_flag : (over : Bool) → b.0 ≡ false → ⟦ C ⟧ ∗ ⟦ KR' ⟧ ∗ ⟦ BR ⟧ ∗ ⟦ raised z.closed over ⟧ ⊢ access 768 (λ n. n) (ReaderWoke (Looks Consumed b (head, over)))
+    reader_looks_flag over rests = let x : Consumed = (head, over) in qed 𝓛 (‵ C ∷ ‵ KR' ∷ ‵ BR ∷ ‵ (raised z.closed over) ∷ []) ∵ move ! (1 ∷ []) $ use1 𝓛 (‵ KR' ⊛ ‵ (took z head)) (rk_shows q head seen i) $ split ! $ move ! (1 ∷ 4 ∷ []) $ fjoin ! $ move ! (2 ∷ 1 ∷ 3 ∷ 0 ∷ []) $
+        by ! (wakes_flag 768 z.writer_waits z.reader_wakes coded_consumed (consumed z) KR' lent_back b x (λ n. n) (Looks Consumed b x) (looks b x rests))
+
+    pub reader_takes : (over : Bool) → b.0 ≡ false → ⟦ C ⟧ ∗ ⟦ KR' ⟧ ∗ ⟦ BR ⟧ ∗ ⟦ raised z.closed over ⟧ ⊢ access 768 (λ _. 0) (ReaderWoke (Takes Consumed b (head, over)))
+    reader_takes over rests = let x : Consumed = (head, over) in qed 𝓛 (‵ C ∷ ‵ KR' ∷ ‵ BR ∷ ‵ (raised z.closed over) ∷ []) ∵ move ! (1 ∷ []) $ use1 𝓛 (‵ KR' ⊛ ‵ (took z head)) (rk_shows q head seen i) $ split ! $ move ! (1 ∷ 4 ∷ []) $ fjoin ! $ move ! (2 ∷ 1 ∷ 3 ∷ 0 ∷ []) $
+        by ! (wakes_flag 768 z.writer_waits z.reader_wakes coded_consumed (consumed z) KR' lent_back b x (λ _. 0) (Takes Consumed b x) (takes b x rests))
+
+    pub reader_gives_back : b.0 ≡ true → ⟦ C ⟧ ∗ ⟦ KR' ⟧ ∗ ⟦ BR ⟧ ⊢ access 896 (λ _. 1) (ReaderWoke (GivesBack Consumed b (head, false)))
+    reader_gives_back holds = let x : Consumed = (head, false) in qed 𝓛 (‵ C ∷ ‵ KR' ∷ ‵ BR ∷ []) ∵ move ! (1 ∷ []) $ use1 𝓛 (‵ KR' ⊛ ‵ (took z head)) (rk_shows q head seen i) $ split ! $ move ! (1 ∷ []) $ nothing ! $ move ! (1 ∷ 0 ∷ []) $ fjoin ! $ move ! (2 ∷ 1 ∷ 3 ∷ 0 ∷ []) $
+        by ! (wakes_back 768 z.writer_waits z.reader_wakes coded_consumed (consumed z) KR' lent_back b x (λ _. 1) (GivesBack Consumed b x) (gives_back b x holds))
+
+  -- the writer's steps on its own slot
+  module _ (q : Share) (sent : List ℕ) (limit : ℕ) (shut : Bool) (i : ℕ) (le : i ≤ 1) (a : Waits Consumed) where
+    abbrev KW' : Fml
+    KW' = WK q sent limit shut i
+
+    abbrev AW : Fml
+    AW = fobs z.writer_waits ((code_of Consumed coded_consumed).code a)
+
+    abbrev lent_own : Lent KW' (writer_slot w p z)
+    lent_own = writers_own KW' (writer_lent q sent limit shut i le)
+
+    abbrev pub WriterWaited : (ℕ → Consumed → Waits Consumed → Type 0) → ℕ → Fml
+    WriterWaited = WaitAfter 768 z.writer_waits z.reader_wakes coded_consumed (consumed z) KW'
+
+    pub writer_hands_over : a.0 ≡ true → ⟦ C ⟧ ∗ ⟦ KW' ⟧ ∗ ⟦ AW ⟧ ⊢ access 768 (λ _. 1) (WriterWaited (λ n x a'. HandsOver Consumed a x n a'))
+    writer_hands_over owns = waits_flag 768 z.writer_waits z.reader_wakes coded_consumed (consumed z) KW' lent_own consumed_twice a (λ _. 1) (λ n x a'. HandsOver Consumed a x n a') (hands_over a owns)
+
+    pub writer_withdraws : a.0 ≡ false → ⟦ C ⟧ ∗ ⟦ KW' ⟧ ∗ ⟦ AW ⟧ ⊢ access 768 (λ _. 0) (WriterWaited (λ n x a'. Regains Consumed a x n a'))
+    writer_withdraws gave = waits_flag 768 z.writer_waits z.reader_wakes coded_consumed (consumed z) KW' lent_own consumed_twice a (λ _. 0) (λ n x a'. Regains Consumed a x n a') (withdraws a gave)
+
+    pub writer_regains : a.0 ≡ false → ⟦ C ⟧ ∗ ⟦ KW' ⟧ ∗ ⟦ AW ⟧ ⊢ access 896 (λ _. 0) (WriterWaited (λ n x a'. Regains Consumed a x n a'))
+    writer_regains gave = waits_back 768 z.writer_waits z.reader_wakes coded_consumed (consumed z) KW' lent_own consumed_twice a (λ _. 0) (λ n x a'. Regains Consumed a x n a') (regains a gave)
+
+    abbrev pub BothMetBack : Wakes Consumed → Pr
+    BothMetBack = Met 768 z.writer_waits z.reader_wakes coded_consumed (consumed z) KW' a
+
+    -- the writer and what the reader knows of its slot, in one hand
+    pub writer_meets : (b : Wakes Consumed) → ⟦ C ⟧ ∗ ⟦ KW' ⟧ ∗ ⟦ AW ⟧ ∗ ⟦ fobs z.reader_wakes ((code_of Consumed coded_consumed).code b) ⟧ ⊢ H.⇛ (BothMetBack b)
+    writer_meets b = meets 768 z.writer_waits z.reader_wakes coded_consumed (consumed z) KW' lent_own a b

@@ -124,6 +124,44 @@ pub record IsAtRest (w : WriteView) (s : WriteSlotsView) : Type 0 where
   pub bytes : s.bytes ≡ w.sent
   pub shut : s.shut ≡ w.shut
 
--- the writer has stored something that the reader has not seen
-abbrev pub HasNews : ReadView → WriteView → Type 0
-HasNews r w = (length r.taken < length w.sent) ⊎ (w.shut ≡ true)
+-- when the writer looked last it had stored something that the reader has not seen
+abbrev pub HasNews : ReadView → WriteSlotsView → Type 0
+HasNews r s = (length r.taken < length s.bytes) ⊎ (s.shut ≡ true)
+
+-- the writer left its waker in the slot, and knows to look for
+-- all that the reader had looked behind before
+pub record WriterRegisters (w : WriteView) (old new : WriteSlotsView) : Type 0 where
+  pub place : new.owns ≡ false
+  pub ticket : new.tickets ≡ old.tickets + 1
+  pub told : new.count ≤ w.told
+  pub told_closed : flag new.over ≤ flag w.saw
+  pub others : (new.taken ≡ old.taken) × (new.bytes ≡ old.bytes) × (new.shut ≡ old.shut)
+  pub names : new.names ≡ old.names
+
+-- the writer waits: it has registered, and its look behind that found no room
+pub record IsWriterPending (w : WriteView) (s : WriteSlotsView) : Type 0 where
+  pub registered : s.owns ≡ false
+  pub none : w.room ≡ 0
+  pub stays_open : w.saw ≡ false
+  pub looked : s.count + w.capacity ≤ length w.sent
+  pub goes_on : s.over ≡ false
+
+-- the reader is between its calls: it has looked behind all that it consumed
+pub record IsReaderAtRest (r : ReadView) (s : ReadSlotsView) : Type 0 where
+  pub count : s.count ≡ length r.taken
+  pub stays_open : s.over ≡ false
+
+-- when the reader looked last it had given room back that the writer has not seen, or had closed the ring
+abbrev pub HasRoomNews : WriteView → ReadSlotsView → Type 0
+HasRoomNews w s = (length w.sent < s.count + w.capacity) ⊎ (s.over ≡ true)
+
+-- nothing changed of how the side waits
+abbrev pub SameReaderPlace : ReadSlotsView → ReadSlotsView → Type 0
+SameReaderPlace a b =
+    (b.names ≡ a.names) × (b.owns ≡ a.owns) × (b.tickets ≡ a.tickets) × (b.bytes ≡ a.bytes)
+    × (b.shut ≡ a.shut)
+
+abbrev pub SameWriterPlace : WriteSlotsView → WriteSlotsView → Type 0
+SameWriterPlace a b =
+    (b.names ≡ a.names) × (b.owns ≡ a.owns) × (b.tickets ≡ a.tickets) × (b.count ≡ a.count)
+    × (b.over ≡ a.over)

@@ -239,6 +239,7 @@ impl ReadEnd {
     pub(crate) fn close(self) -> (LeavingReader, Saw)
         ensures ring { (result.0.seat.words, (result.0.seat.at, result.0.seat.names))
             ≡ self.ring }
+        ensures head { result.0.seat.head ≡ length self.taken }
         ensures closed { (result.1.names ≡ self.ring.1.1) × (result.1.seen ≡ true) }
     {
         let ReadEnd { parts } = self;

@@ -3,6 +3,7 @@ ghost use Rattle.std.specs.Prelude.{◌≡◌, ◌+◌, ◌≤◌, length, true,
 
 use crate::ends::reader::ReadEnd;
 use crate::ends::writer::WriteEnd;
+use crate::ring::marks::{LastReadMark, WriteMark};
 use crate::ring::slots::{ReaderWaits, ReaderWakes, WriterWaits, WriterWakes};
 use std::marker::Model;
 
@@ -100,7 +101,7 @@ impl ReadSlots {
 
 impl ReadEnd {
     ghost use Rattle.piper_ring.specs.ReadView.{SameButTold};
-    ghost use Rattle.piper_ring.specs.SlotsView.{Registers, IsPending, IsAtRest, HasNews};
+    ghost use Rattle.piper_ring.specs.SlotsView.{Registers, IsPending, HasNews, IsReaderAtRest, SameReaderPlace, IsWriterPending, HasRoomNews};
 
     /// Leaves this end's waker in its slot, where the writer's next look finds it. The answer is `false`, and it is left nowhere, where the writer has just stored something and is about to call the waker that it took.
     pub fn register(&mut self, slots: &mut ReadSlots) -> bool
@@ -133,7 +134,34 @@ impl ReadEnd {
         !self.look_closed() && self.knows_none()
     }
 
-    /// Both ends in one hand: a reader that waits, and for which the writer has stored something since, was taken from its slot.
+    /// Looks for the writer's waker behind all that this end consumed, and takes it. The answer is whether one stood there: its ticket is `taken` then.
+    pub fn wake(&self, slots: &mut ReadSlots) -> bool
+        requires { slots.old.names ≡ self.now.ring.1.1 }
+        ensures rests { IsReaderAtRest self.now slots.new }
+        ensures none { IsFalse result → slots.new.taken ≡ slots.old.taken }
+        ensures own { SameReaderPlace slots.old slots.new }
+    {
+        let seat = &self.parts.seat;
+        seat.wake(&mut slots.parts.wakes, &seat.unseen())
+    }
+
+    /// `finish`, which takes the writer's waker behind the close. The answer says whether one stood there.
+    pub fn finish_waking(self, slots: &mut ReadSlots) -> (LastReadMark, bool)
+        requires { slots.old.names ≡ self.ring.1.1 }
+        ensures ring { result.0.consumed.names ≡ self.ring.1.1 }
+        ensures count { result.0.consumed.count ≡ length self.taken }
+        ensures looked { (slots.new.count ≡ length self.taken) × (slots.new.over ≡ true) }
+        ensures none { IsFalse result.1 → slots.new.taken ≡ slots.old.taken }
+        ensures own { SameReaderPlace slots.old slots.new }
+    {
+        let consumed = self.mark();
+        let (leaving, closed) = self.close();
+        let woke = leaving.seat.wake(&mut slots.parts.wakes, &closed);
+        leaving.leave();
+        (LastReadMark { consumed, closed }, woke)
+    }
+
+    /// Both ends in one hand. A reader that waits, and for which the writer has stored something since, was taken from its slot; and so was a writer that waits, for which the reader has.
     pub fn meet_slots(
         &self,
         slots: &mut ReadSlots,
@@ -142,36 +170,101 @@ impl ReadEnd {
     )
         requires { (writer.now.ring ≡ self.now.ring) × (slots.old.names ≡ self.now.ring.1.1)
             × (writer_slots.old.names ≡ self.now.ring.1.1) }
-        ensures reader { IsPending self.now slots.old → IsAtRest writer.now writer_slots.old
-            → HasNews self.now writer.now → writer_slots.old.taken ≡ slots.old.tickets }
+        ensures reader { IsPending self.now slots.old → HasNews self.now writer_slots.old
+            → writer_slots.old.taken ≡ slots.old.tickets }
+        ensures writer { IsWriterPending writer.now writer_slots.old
+            → HasRoomNews writer.now slots.old → slots.old.taken ≡ writer_slots.old.tickets }
         ensures kept { (slots.new ≡ slots.old) × (writer_slots.new ≡ writer_slots.old) }
     {
-        let _ = writer;
         let seat = &self.parts.seat;
         seat.meet_slot(&mut slots.parts.waits, &mut writer_slots.parts.wakes);
+        let other = &writer.parts.seat;
+        other.meet_slot(&mut writer_slots.parts.waits, &mut slots.parts.wakes);
+    }
+}
+
+impl WriteSlots {
+    /// Whether the place of the writer's waker is with its end: it takes back a waker that still stands in the slot, and a place that the reader handed back.
+    pub(crate) fn reclaim(&mut self, end: &WriteEnd) -> bool
+        requires { self.old.names ≡ end.now.ring.1.1 }
+        ensures owns { result ≡ self.new.owns }
+        ensures refused { IsFalse result → self.new ≡ self.old }
+        ensures kept { self.new ≡ record self.old { owns = self.new.owns } }
+    {
+        let parts = &mut self.parts;
+        if parts.has_place {
+            return true;
+        }
+        let seat = &end.parts.seat;
+        if seat.withdraw(&mut parts.waits) == 1 || seat.regain(&mut parts.waits) == 1 {
+            parts.has_place = true;
+        }
+        parts.has_place
     }
 }
 
 impl WriteEnd {
-    ghost use Rattle.piper_ring.specs.SlotsView.{IsAtRest};
+    ghost use Rattle.piper_ring.specs.WriteView.{SameButHeard};
+    ghost use Rattle.piper_ring.specs.SlotsView.{WriterRegisters, IsWriterPending, IsAtRest, SameWriterPlace};
+
+    /// Leaves this end's waker in its slot, where the reader's next look finds it. It is for an end that has not seen the pipe closed. The answer is `false`, and it is left nowhere, where the reader has just consumed something and is about to call the waker that it took.
+    pub fn register(&mut self, slots: &mut WriteSlots) -> bool
+        requires ring { slots.old.names ≡ self.old.ring.1.1 }
+        requires open { self.old.saw ≡ false }
+        ensures registered { IsTrue result → WriterRegisters self.new slots.old slots.new }
+        ensures refused { IsFalse result → slots.new ≡ slots.old }
+        ensures kept { SameButHeard self.old self.new }
+    {
+        if !slots.reclaim(self) {
+            return false;
+        }
+        let (consumed, closed) = self.parts.seat.hand_over(&mut slots.parts.waits);
+        slots.parts.has_place = false;
+        self.parts.told.heed(&consumed);
+        self.parts.saw = closed;
+        true
+    }
+
+    /// Registers, and looks once more whether the reader consumed something or closed the pipe. Where the answer is `true` this end waits: it has no room, and whatever the reader stores from now on, its next look finds the waker.
+    pub fn wait(&mut self, slots: &mut WriteSlots) -> bool
+        requires ring { slots.old.names ≡ self.old.ring.1.1 }
+        requires none { self.old.room ≡ 0 }
+        requires open { self.old.saw ≡ false }
+        ensures pending { IsTrue result → IsWriterPending self.new slots.new }
+        ensures ticket { IsTrue result → slots.new.tickets ≡ slots.old.tickets + 1 }
+        ensures end { (self.new.ring ≡ self.old.ring) × (self.new.sent ≡ self.old.sent) }
+    {
+        if !self.register(slots) {
+            return false;
+        }
+        self.reload();
+        !self.look_closed() && self.knows_none()
+    }
 
     /// Looks for the reader's waker behind all that this end stored, and takes it. The answer is whether one stood there: its ticket is `taken` then.
     pub fn wake(&self, slots: &mut WriteSlots) -> bool
         requires { slots.old.names ≡ self.now.ring.1.1 }
         ensures rests { IsAtRest self.now slots.new }
         ensures none { IsFalse result → slots.new.taken ≡ slots.old.taken }
-        ensures own { (slots.new.owns ≡ slots.old.owns) × (slots.new.tickets ≡ slots.old.tickets) }
-        ensures names { slots.new.names ≡ slots.old.names }
+        ensures own { SameWriterPlace slots.old slots.new }
     {
-        let seat = &self.parts.seat;
-        let wakes = &mut slots.parts.wakes;
-        if seat.look_flag(wakes) == 0 {
-            return false;
-        }
-        if seat.take_waker(wakes) == 0 {
-            return false;
-        }
-        seat.give_back(wakes);
-        true
+        self.parts.seat.wake(&mut slots.parts.wakes)
+    }
+
+    /// `finish`, which takes the reader's waker behind the close. The answer says whether one stood there.
+    pub fn finish_waking(self, slots: &mut WriteSlots) -> (WriteMark, bool)
+        requires { slots.old.names ≡ self.ring.1.1 }
+        ensures ring { result.0.names ≡ self.ring.1.1 }
+        ensures bytes { result.0.bytes ≡ self.sent }
+        ensures shut { result.0.shut ≡ true }
+        ensures looked { (slots.new.bytes ≡ self.sent) × (slots.new.shut ≡ true) }
+        ensures none { IsFalse result.1 → slots.new.taken ≡ slots.old.taken }
+        ensures own { SameWriterPlace slots.old slots.new }
+    {
+        let leaving = self.close();
+        let mark = leaving.seat.mark();
+        let woke = leaving.seat.wake(&mut slots.parts.wakes);
+        leaving.leave();
+        (mark, woke)
     }
 }

@@ -1,8 +1,8 @@
 //! What each side knows of a slot, in which a side that waits leaves its waker. It takes no space.
-ghost use Rattle.std.specs.Prelude.{◌≡◌, ℕ, Bool, List, true, false};
-ghost use Rattle.piper_ring.specs.Shared.{Names, Stream, names_code, waits_for, wakes_for, waits_back, wakes_back};
+ghost use Rattle.std.specs.Prelude.{◌≡◌, ℕ, Bool, List, true, false, IsFalse};
+ghost use Rattle.piper_ring.specs.Shared.{Consumed, Names, Stream, names_code, waits_for, wakes_for, waits_back, wakes_back};
 
-use crate::ring::marks::WriteMark;
+use crate::ring::marks::{ReadMark, Saw, WriteMark};
 use crate::ring::seats::{READER_BACK, READER_FLAG, ReadSeat, WRITER_BACK, WRITER_FLAG, WriteSeat};
 use std::marker::{Brand, Model, PhantomData, Send};
 use std::sync::atomic::Ordering::SeqCst;
@@ -97,8 +97,8 @@ impl Drop for ReaderWakes {
 }
 
 impl WriteSeat {
-    ghost use Rattle.piper_ring.specs.Slots.{Looks, Takes, GivesBack};
-    ghost use Rattle.piper_ring.specs.SlotViews.{of_writer_wakes};
+    ghost use Rattle.piper_ring.specs.Slots.{GivesBack, HandsOver, IsRemembered, Looks, Regains, Takes};
+    ghost use Rattle.piper_ring.specs.SlotViews.{of_reader_wakes, of_writer_waits, of_writer_wakes};
 
     /// 1 where a waker stands in the reader's slot, else 0: then all that was published so far was looked behind.
     pub(crate) fn look_flag(&self, slot: &mut WriterWakes) -> u64
@@ -129,11 +129,71 @@ impl WriteSeat {
     {
         unsafe { raw::store::<Brand>(self.words.add(READER_BACK), 1, SeqCst) }
     }
+
+    /// The writer's waker stands in its slot, under the next ticket. With it comes evidence of what the reader had looked behind.
+    pub(crate) fn hand_over(&self, slot: &mut WriterWaits) -> (ReadMark, Saw)
+        requires { (slot.old.names ≡ self.now.names) × (slot.old.owns ≡ true) }
+        ensures ring { slot.new.names ≡ slot.old.names }
+        ensures marks { (result.0.names ≡ self.now.names) × (result.1.names ≡ self.now.names) }
+        ensures stands { HandsOver Consumed (of_writer_waits slot.old)
+            (result.0.count, result.1.seen) 0 (of_writer_waits slot.new) }
+    {
+        unsafe { raw::store::<Brand>(self.words.add(WRITER_FLAG), 1, SeqCst) };
+        (
+            ReadMark { mark: PhantomData },
+            Saw { mark: PhantomData },
+        )
+    }
+
+    /// 1 where the writer's waker stood in its slot and is the writer's again, else 0.
+    pub(crate) fn withdraw(&self, slot: &mut WriterWaits) -> u64
+        requires { (slot.old.names ≡ self.now.names) × (slot.old.owns ≡ false) }
+        ensures ring { slot.new.names ≡ slot.old.names }
+        ensures back { Regains Consumed (of_writer_waits slot.old) (slot.old.count, slot.old.over)
+            result (of_writer_waits slot.new) }
+    {
+        unsafe { raw::swap::<Brand>(self.words.add(WRITER_FLAG), 0, SeqCst) }
+    }
+
+    /// 1 where the reader had handed the place of the writer's waker back, else 0.
+    pub(crate) fn regain(&self, slot: &mut WriterWaits) -> u64
+        requires { (slot.old.names ≡ self.now.names) × (slot.old.owns ≡ false) }
+        ensures ring { slot.new.names ≡ slot.old.names }
+        ensures back { Regains Consumed (of_writer_waits slot.old) (slot.old.count, slot.old.over)
+            result (of_writer_waits slot.new) }
+    {
+        unsafe { raw::swap::<Brand>(self.words.add(WRITER_BACK), 0, SeqCst) }
+    }
+
+    /// Both sides of the writer's slot in one hand: a writer that has registered, and since which the reader looked behind something new, was taken. It is no step of the program.
+    pub(crate) fn meet_slot(&self, waits: &mut WriterWaits, wakes: &mut ReaderWakes)
+        requires { (waits.old.names ≡ self.now.names) × (wakes.old.names ≡ self.now.names) }
+        ensures remembered { IsRemembered Consumed (of_writer_waits waits.old)
+            (of_reader_wakes wakes.old) }
+        ensures kept { (waits.new ≡ waits.old) × (wakes.new ≡ wakes.old) }
+    {}
+
+    /// Looks for the reader's waker behind all that was published, takes it, and hands its place back. The answer is whether one stood there.
+    pub(crate) fn wake(&self, slot: &mut WriterWakes) -> bool
+        requires { (slot.old.names ≡ self.now.names) × (slot.old.holds ≡ false) }
+        ensures ring { (slot.new.names ≡ slot.old.names) × (slot.new.holds ≡ false) }
+        ensures looked { (slot.new.bytes ≡ self.now.sent) × (slot.new.shut ≡ self.now.shut) }
+        ensures none { IsFalse result → slot.new.taken ≡ slot.old.taken }
+    {
+        if self.look_flag(slot) == 0 {
+            return false;
+        }
+        if self.take_waker(slot) == 0 {
+            return false;
+        }
+        self.give_back(slot);
+        true
+    }
 }
 
 impl ReadSeat {
-    ghost use Rattle.piper_ring.specs.Slots.{HandsOver, IsRemembered, Regains};
-    ghost use Rattle.piper_ring.specs.SlotViews.{of_reader_waits, of_writer_wakes};
+    ghost use Rattle.piper_ring.specs.Slots.{GivesBack, HandsOver, IsRemembered, Looks, Regains, Takes};
+    ghost use Rattle.piper_ring.specs.SlotViews.{of_reader_waits, of_reader_wakes, of_writer_wakes};
 
     /// The reader's waker stands in its slot, under the next ticket. With it comes evidence of what the writer had looked behind.
     pub(crate) fn hand_over(&self, slot: &mut ReaderWaits) -> WriteMark
@@ -174,4 +234,54 @@ impl ReadSeat {
             (of_writer_wakes wakes.old) }
         ensures kept { (waits.new ≡ waits.old) × (wakes.new ≡ wakes.old) }
     {}
+
+    /// 1 where a waker stands in the writer's slot, else 0: then all that was consumed so far was looked behind, and that the ring is closed where `saw` tells so.
+    pub(crate) fn look_flag(&self, slot: &mut ReaderWakes, saw: &Saw) -> u64
+        requires { (slot.old.names ≡ self.now.names) × (slot.old.holds ≡ false)
+            × (saw.now.names ≡ self.now.names) }
+        ensures ring { slot.new.names ≡ slot.old.names }
+        ensures looked { Looks Consumed (of_reader_wakes slot.old) (self.now.head, saw.now.seen)
+            result (of_reader_wakes slot.new) }
+    {
+        unsafe { raw::load::<Brand>(self.words.add(WRITER_FLAG), SeqCst) }
+    }
+
+    /// 1 where it took the waker that stood in the writer's slot, with its place, else 0: then all that was consumed so far was looked behind, and that the ring is closed where `saw` tells so.
+    pub(crate) fn take_waker(&self, slot: &mut ReaderWakes, saw: &Saw) -> u64
+        requires { (slot.old.names ≡ self.now.names) × (slot.old.holds ≡ false)
+            × (saw.now.names ≡ self.now.names) }
+        ensures ring { slot.new.names ≡ slot.old.names }
+        ensures taken { Takes Consumed (of_reader_wakes slot.old) (self.now.head, saw.now.seen)
+            result (of_reader_wakes slot.new) }
+    {
+        unsafe { raw::swap::<Brand>(self.words.add(WRITER_FLAG), 0, SeqCst) }
+    }
+
+    /// Hands the place of the writer's waker back.
+    pub(crate) fn give_back(&self, slot: &mut ReaderWakes)
+        requires { (slot.old.names ≡ self.now.names) × (slot.old.holds ≡ true) }
+        ensures ring { slot.new.names ≡ slot.old.names }
+        ensures gave { GivesBack Consumed (of_reader_wakes slot.old) (self.now.head, false)
+            0 (of_reader_wakes slot.new) }
+    {
+        unsafe { raw::store::<Brand>(self.words.add(WRITER_BACK), 1, SeqCst) }
+    }
+
+    /// Looks for the writer's waker behind all that was consumed, takes it, and hands its place back. The answer is whether one stood there.
+    pub(crate) fn wake(&self, slot: &mut ReaderWakes, saw: &Saw) -> bool
+        requires { (slot.old.names ≡ self.now.names) × (slot.old.holds ≡ false)
+            × (saw.now.names ≡ self.now.names) }
+        ensures ring { (slot.new.names ≡ slot.old.names) × (slot.new.holds ≡ false) }
+        ensures looked { (slot.new.count ≡ self.now.head) × (slot.new.over ≡ saw.now.seen) }
+        ensures none { IsFalse result → slot.new.taken ≡ slot.old.taken }
+    {
+        if self.look_flag(slot, saw) == 0 {
+            return false;
+        }
+        if self.take_waker(slot, saw) == 0 {
+            return false;
+        }
+        self.give_back(slot);
+        true
+    }
 }

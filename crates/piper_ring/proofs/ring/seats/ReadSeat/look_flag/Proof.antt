@@ -1,0 +1,89 @@
+-- `look_flag` is one load, beside a share of what the reader knows. Assumes `Logic`.
+use Rattle.std.proofs.Common.{true, false, arith, lit<, ◌≡◌, ℕ, ◌+◌, ◌^◌, List, [], ◌∷◌, sym, refl, w64}
+use mir.Syntax.{named}
+use mir.Val.{Val, vint, vptr, vunit}
+use base.Logic.{SProp, emp, via}
+use base.Fml.{Share, Fml, ftrue, flft, fhide, fobs}
+use types.Kit.{‵, raw, ◌⊛◌, given, mean, at_ret, ◌$◌, ◌∵◌, !, qed, by, move, keep, drop, split, split3, join, fsplit, fsplit3, fjoin, fjoin3, fpick, fpack, learn, use0, use1, use3, rewrite, feq_i, flt_i}
+use types.Run.{stop, fld, load, look, lit, unit_lit, of_opd, bin, no_more, and_then, first, blocks, exec, Calls-last, returns, enter}
+use types.ByLocal.{alloc_all, pass_all, free_all, look_at, get, through, sets, lands_last, env}
+use types.Part.{agg}
+use types.Tokens.{shr_bor-open, obor_close}
+use contract.Monad.{fact, fact_i}
+use contract.Running.{tables}
+use denote.Exit.{yes}
+use denote.RattleType.{RattleType, owns}
+use denote.Signature.{types_at, plain}
+use denote.RawPtr.{Ptr, block_ptr, block_of, count_of, at_block}
+use denote.Builtin.{RefOf}
+use denote.Ref.{shr_vals, shr_Tells, mut_vals, mut_Tells}
+use denote.Memory.{hidden_shr}
+use denote.Opens.{hide, unhide}
+use denote.Steps.{nothing, opens, closes}
+use denote.Struct.Struct.{Struct}
+use denote.Struct.Owning.{shape}
+use denote.Struct.Lending.{lent_out}
+use denote.Triple.Walked.{Stays, stay_dropped, stay_ref, walk_of, Goes-dropped, Goes-ref}
+use Rattle.core.proofs.atomic.Steps.{tail}
+use Rattle.core.proofs.slots.Lent.{pointer_in, pointer_out}
+use Rattle.rtrb.proofs.Walks.{proved, leaves}
+use Rattle.rtrb.proofs.Calls.{seq_cst, fm, found, finds, stored, has_stored, loads, stores, swaps}
+use Rattle.piper_ring.specs.Streams.{Stream}
+use Rattle.piper_ring.specs.Slots.{Waits, Wakes, code_of, Looks, Takes, GivesBack, HandsOver, Regains}
+use Rattle.piper_ring.specs.SlotViews.{of_reader_waits, of_writer_wakes, of_writer_waits, of_reader_wakes}
+use Rattle.piper_ring.specs.Shared.{Names, Consumed, coded_stream, coded_consumed, flag, Placed, common, announced, reader_knows, reader_lends, writer_knows, writer_lends}
+use Rattle.piper_ring.proofs.Rights.{reader_halves, writer_halves}
+use Rattle.piper_ring.proofs.Steps.{flag_small}
+use Rattle.piper_ring.proofs.Slots.{ReaderWoke, reader_looks_flag}
+use Rattle.core.specs.contracts.marker.PhantomData as marker
+use denote.RawPtr.{RawPtr}
+use Rattle.piper_ring.specs.Shared.{raised}
+use Rattle.piper_ring.specs.contracts.ring.marks.Saw as Saw
+use Rattle.piper_ring.proofs.Fields.{ghost_val, ReaderWakesData, SawData}
+use Rattle.piper_ring.specs.contracts.ring.slots.ReaderWakes as Slot
+use Rattle.piper_ring.specs.contracts.ring.seats.ReadSeat as Seat
+use Rattle.piper_ring.specs.contracts.ring.seats.ReadSeat.look_flag.{ended, clauses}
+use Rattle.piper_ring.specs.contracts.ring.seats.ReadSeat.look_flag.Key.{name as #self}
+use Rattle.piper_ring.proofs.ring.seats.ReadSeat.look_flag.Statement.{statement}
+use Rattle.piper_ring.proofs.ring.seats.ReadSeat.look_flag.Code as code
+
+abbrev Data : RattleType
+Data = Struct (shape Seat.the_type)
+
+pub look_flag_spec : {M : Type 1} → statement M
+look_flag_spec 𝓤 𝓛 𝓜 𝓡 wired =
+    let H = 𝓛.H in let 𝓣 = tables 𝓤 H 𝓜 𝓡 𝓡.env in let En = ended in let fn = code.function in let c = clauses 𝓛 𝓜.mem 𝓡.returns in
+    let self = RefOf (0 ∷ []) tt (plain (λ _. Seat.the_row)) (λ _. tt) in let SRow : RattleType = Slot.the_row in let slot_ref = plain (λ _. SRow) in
+    let saw_ref = RefOf (2 ∷ []) tt (plain (λ _. Saw.the_row)) (λ _. tt) in
+    let hs : Stays En.signature.params En.kept = (stay_dropped self yes, (stay_ref (1 ∷ []) tt slot_ref, (stay_dropped saw_ref yes, tt))) in
+    proved 𝓛 En hs c 𝓜 𝓡 (Goes-dropped 𝓛 3 self yes (λ κs x f. refl), (Goes-ref 𝓛 3 1 tt slot_ref, (Goes-dropped 𝓛 3 saw_ref yes (λ κs x f. refl), tt))) #self fn (code.unfolded 𝓤 H 𝓜 𝓡 wired)
+    (λ κs. (shr_vals, (mut_vals, (shr_vals, tt)))) (λ κs. (shr_Tells (named 0) κs.0 Seat.the_row, (mut_Tells (named 1) κs.1.0 SRow, (shr_Tells (named 2) κs.1.1.0 Saw.the_row, tt)))) (λ κs qs bounds a gh are.
+    let b : ℕ = a.0.ref_ptr.0 in let o : ℕ = a.0.ref_ptr.1 in let h = a.0.now in let w : Ptr = h.words in let p : Ptr = h.at in let z : Names = h.names in let κ = κs.0 in let q : Share = qs.0 in
+    let b' : ℕ = a.1.0.ref_ptr.0 in let o' : ℕ = a.1.0.ref_ptr.1 in let k = a.1.0.now in let b2 : ℕ = a.1.1.0.ref_ptr.0 in let o2 : ℕ = a.1.1.0.ref_ptr.1 in let j = a.1.1.0.now in let view : Wakes Consumed = of_reader_wakes k in
+    let C : Fml = common w p z in let Φ : Share → Fml = λ s. reader_knows w p z s h.head h.seen (flag h.leaving) in
+    let y : (walk_of 𝓛 En hs c).Ghost = ((κs, qs, bounds, a, (vptr b o ∷ [], (vptr b' o' ∷ [], (vptr b2 o2 ∷ [], tt)))), gh) in let Post : Val → SProp 𝓤 = (walk_of 𝓛 En hs c).post y in
+    qed 𝓛 (((‵ (flft κ q) ⊛ ‵ (flft κs.1.0 qs.1.0) ⊛ ‵ (flft κs.1.1.0 qs.1.1.0) ⊛ ‵ ftrue) ⊛ ‵ (owns (types_at En.signature.params κs) a y.0.4)) ∷ given ((k.names ≡ z) × (k.holds ≡ false) × (j.names ≡ z)) (‵ ftrue) ∷ []) ∵
+    keep ! (1 ∷ 0 ∷ []) $ learn ! (λ asked. drop ! $ split ! $ split3 ! $ move ! (2 ∷ []) $ split ! $ move ! (4 ∷ []) $ fsplit3 ! $ move ! (2 ∷ []) $ fsplit ! $ fsplit ! $ drop ! $
+    use1 𝓛 (‵ (hidden_shr SawData κs.1.1.0 (record {}, tt) b2 o2) ⊛ ‵ (fhide (raised j.names.closed j.seen))) (lent_out 𝓛 Saw.struct (Saw.the_codes (marker.the_row RawPtr).coded) Saw.the_heap Saw.the_lent κs.1.1.0 j b2 o2) $
+    split ! $ drop ! $ unhide ! $ rewrite ! 0 (λ (m : Names). ‵ (raised m.closed j.seen)) asked.2 refl $ move ! (3 ∷ []) $ fsplit3 ! $ move ! (5 ∷ []) $ fsplit ! $ keep ! (1 ∷ 9 ∷ 3 ∷ 4 ∷ 10 ∷ 5 ∷ 7 ∷ []) $
+    use1 𝓛 (‵ (hidden_shr Data κ (w, tt) b o) ⊛ ‵ (fhide (reader_lends w p z h.head h.seen h.leaving κ))) (lent_out 𝓛 Seat.struct Seat.the_codes Seat.the_heap Seat.the_lent κ h b o) $
+    split ! $ unhide ! $ fsplit ! $ fsplit ! $ keep ! (0 ∷ 3 ∷ 4 ∷ 5 ∷ 6 ∷ 7 ∷ 8 ∷ 9 ∷ []) $ hide ! $ move ! (1 ∷ []) $ unhide ! $ fsplit ! $ fsplit ! $ fpick ! (λ at. drop ! $ nothing ! $ fpack ! (Placed w p z) (λ _. ftrue) at $ fjoin ! $
+    let bw : ℕ = block_of w in let ow : ℕ = count_of w in let e : ℕ = 768 + ow in let isw : w ≡ block_ptr bw ow = at_block w at.0 in
+    enter ! 𝓣.C 𝓣.Λ fn (vptr b o ∷ vptr b' o' ∷ vptr b2 o2 ∷ []) Post $ alloc_all ! (λ l. pass_all ! refl ((tt, tt), ((tt, tt), ((tt, tt), tt))) $ let Ev = env fn.locals l in
+    move ! (4 ∷ 5 ∷ 6 ∷ []) $ opens ! tt SRow b' o' (λ vs'. move ! (1 ∷ []) $ fsplit ! $ move ! (8 ∷ 9 ∷ 6 ∷ 7 ∷ []) $ first ! $ blocks ! $
+    pointer_in ! tt w bw ow isw b (o + 0) (λ r.
+    sets ! (of_opd ! (load ! (through ! refl (fld ! refl (stop !))) (look ! 0 refl))) refl (tt, tt) $ pointer_out ! tt w bw ow isw b (o + 0) $
+    sets ! (bin ! (get ! refl) (lit ! tt) tt) refl (tt, tt) $ move ! (2 ∷ 0 ∷ []) $ shr_bor-open ! tt (reader_halves 𝓛 w p z h.head h.seen (flag h.leaving)) (λ s. move ! (2 ∷ 1 ∷ 4 ∷ 9 ∷ []) $
+    rewrite ! 2 (λ (m : Names). ‵ (fobs m.reader_wakes ((code_of Consumed coded_consumed).code view))) {x = z} {y = k.names} asked.0 refl $ move ! (2 ∷ 3 ∷ []) $ join ! $ move ! (1 ∷ 2 ∷ 0 ∷ []) $
+    let out : ℕ → Fml = ReaderWoke 𝓛 w p z s h.head h.seen (flag h.leaving) (flag_small h.leaving) view (Looks Consumed view (h.head, j.seen)) in
+    use3 𝓛 (raw (𝓣.C _ (vptr bw e ∷ seq_cst ∷ []) (λ u. mean 𝓛 (found out u))))
+    (via 𝓤 _ (reader_looks_flag 𝓛 w p z s h.head h.seen (flag h.leaving) (flag_small h.leaving) view j.seen asked.1) (loads 𝓛 𝓜 𝓡 (code.calls-core::raw_atomic::load 𝓡.env wired) (block_ptr bw e) out)) $
+    sets ! (agg ! (and_then ! (lit ! tt) (no_more !))) refl (tt, (record { fits = lit< tt }, tt)) $
+    Calls-last ! (fm 𝓛 𝓜 𝓡) (found out) (and_then ! (get ! refl) (and_then ! (get ! refl) (no_more !))) (λ u. finds ! out (λ n fits.
+    lands_last ! refl (tt, record { fits = fits }) $ exec ! 𝓣.C 𝓣.Λ Ev (tail fn.body) (at_ret Ev Post) $ sets ! (of_opd ! (get ! refl)) refl (tt, record { fits = fits }) $
+        fpick ! (λ v. fsplit3 ! $ fpick ! (λ told. drop ! $ move ! (2 ∷ 1 ∷ []) $ obor_close ! tt $ drop ! $
+    let k' : SRow.Denot = record k { holds = v.0; taken = v.1.0; count = v.1.1.0; over = v.1.1.1 } in
+    rewrite ! 1 (λ (m : Names). ‵ (fobs m.reader_wakes ((code_of Consumed coded_consumed).code v))) {x = k.names} {y = z} (sym asked.0) refl $ move ! (2 ∷ 1 ∷ []) $ fjoin ! $ move ! (2 ∷ 0 ∷ 3 ∷ 4 ∷ 5 ∷ []) $ closes ! tt SRow k' vs' b' o' $
+    feq_i ! (List Val) (vptr b' o' ∷ []) (vptr b' o' ∷ []) refl $ fjoin3 ! $ nothing ! $ nothing ! $ fjoin ! $ move ! (1 ∷ 0 ∷ []) $ fjoin ! $ nothing ! $ fjoin ! $ nothing ! $ move ! (4 ∷ 0 ∷ []) $ join ! $ move ! (2 ∷ 0 ∷ []) $ join ! $ move ! (2 ∷ 0 ∷ []) $ join ! $
+    use0 𝓛 (raw (fact 𝓤 (Looks Consumed view (h.head, j.seen) n v))) (fact_i 𝓤 (Looks Consumed view (h.head, j.seen) n v) (emp 𝓤) told) $ use0 𝓛 (raw (fact 𝓤 (k.names ≡ k.names))) (fact_i 𝓤 (k.names ≡ k.names) (emp 𝓤) refl) $ join ! $ flt_i ! n (2 ^ 64) fits $ feq_i ! (List Val) (vint w64 n ∷ []) (vint w64 n ∷ []) refl $ fjoin ! $
+    returns ! (look_at ! 0 refl) $ free_all ! refl $ keep ! (2 ∷ 3 ∷ 0 ∷ 1 ∷ []) $ by ! (leaves 𝓛 En hs c y (vint w64 n) n (tt, (k', (tt, tt))) (tt, (tt, (tt, tt)))))))))))))))

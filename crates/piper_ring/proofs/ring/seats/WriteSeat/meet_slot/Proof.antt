@@ -1,0 +1,79 @@
+-- `meet_slot` is no step of the program. Assumes `Logic`.
+use Rattle.std.proofs.Common.{true, false, arith, lit<, ◌≡◌, ℕ, ◌+◌, ◌^◌, List, [], ◌∷◌, sym, refl, w64}
+use mir.Syntax.{named}
+use mir.Val.{Val, vint, vptr, vunit}
+use base.Logic.{SProp, emp, via}
+use base.Fml.{Share, Fml, ftrue, flft, fhide, fobs}
+use types.Kit.{‵, raw, ◌⊛◌, given, mean, at_ret, ◌$◌, ◌∵◌, !, qed, by, move, keep, drop, split, split3, join, fsplit, fsplit3, fjoin, fjoin3, fpick, fpack, learn, use0, use1, use3, rewrite, feq_i, flt_i}
+use types.Run.{stop, fld, load, look, lit, unit_lit, of_opd, bin, no_more, and_then, first, blocks, exec, Calls-last, returns, enter}
+use types.ByLocal.{alloc_all, pass_all, free_all, look_at, get, through, sets, lands_last, env}
+use types.Part.{agg}
+use types.Tokens.{shr_bor-open, obor_close}
+use contract.Monad.{fact, fact_i}
+use contract.Running.{tables}
+use denote.Exit.{yes}
+use denote.RattleType.{RattleType, owns}
+use denote.Signature.{types_at, plain}
+use denote.RawPtr.{Ptr, block_ptr, block_of, count_of, at_block}
+use denote.Builtin.{RefOf}
+use denote.Ref.{shr_vals, shr_Tells, mut_vals, mut_Tells}
+use denote.Memory.{hidden_shr}
+use denote.Opens.{hide, unhide}
+use denote.Steps.{nothing, opens, closes}
+use denote.Struct.Struct.{Struct}
+use denote.Struct.Owning.{shape}
+use denote.Struct.Lending.{lent_out}
+use denote.Triple.Walked.{Stays, stay_dropped, stay_ref, walk_of, Goes-dropped, Goes-ref}
+use Rattle.core.proofs.atomic.Steps.{tail}
+use Rattle.core.proofs.slots.Lent.{pointer_in, pointer_out}
+use Rattle.rtrb.proofs.Walks.{proved, leaves}
+use Rattle.rtrb.proofs.Calls.{seq_cst, fm, found, finds, stored, has_stored, loads, stores, swaps}
+use Rattle.piper_ring.specs.Streams.{Stream}
+use Rattle.piper_ring.specs.Slots.{Waits, Wakes, code_of, Looks, Takes, GivesBack, HandsOver, Regains}
+use Rattle.piper_ring.specs.SlotViews.{of_reader_waits, of_writer_wakes, of_writer_waits, of_reader_wakes}
+use Rattle.piper_ring.specs.Shared.{Names, Consumed, coded_stream, coded_consumed, flag, Placed, common, announced, reader_knows, reader_lends, writer_knows, writer_lends}
+use Rattle.piper_ring.proofs.Rights.{reader_halves, writer_halves}
+use Rattle.piper_ring.proofs.Steps.{flag_small}
+use types.Kit.{later, await, use2}
+use Rattle.piper_ring.specs.Slots.{IsRemembered}
+use Rattle.piper_ring.proofs.Slots.{writer_meets}
+use Rattle.piper_ring.specs.contracts.ring.slots.WriterWaits as One
+use Rattle.piper_ring.specs.contracts.ring.slots.ReaderWakes as Two
+use Rattle.piper_ring.specs.contracts.ring.seats.WriteSeat as Seat
+use Rattle.piper_ring.specs.contracts.ring.seats.WriteSeat.meet_slot.{ended, clauses}
+use Rattle.piper_ring.specs.contracts.ring.seats.WriteSeat.meet_slot.Key.{name as #self}
+use Rattle.piper_ring.proofs.ring.seats.WriteSeat.meet_slot.Statement.{statement}
+use Rattle.piper_ring.proofs.ring.seats.WriteSeat.meet_slot.Code as code
+
+abbrev Data : RattleType
+Data = Struct (shape Seat.the_type)
+
+pub meet_slot_spec : {M : Type 1} → statement M
+meet_slot_spec 𝓤 𝓛 𝓜 𝓡 wired =
+    let H = 𝓛.H in let 𝓣 = tables 𝓤 H 𝓜 𝓡 𝓡.env in let En = ended in let fn = code.function in let c = clauses 𝓛 𝓜.mem 𝓡.returns in
+    let self = RefOf (0 ∷ []) tt (plain (λ _. Seat.the_row)) (λ _. tt) in let ORow : RattleType = One.the_row in let one_ref = plain (λ _. ORow) in let TRow : RattleType = Two.the_row in let two_ref = plain (λ _. TRow) in
+    let hs : Stays En.signature.params En.kept = (stay_dropped self yes, (stay_ref (1 ∷ []) tt one_ref, (stay_ref (2 ∷ []) tt two_ref, tt))) in
+    proved 𝓛 En hs c 𝓜 𝓡 (Goes-dropped 𝓛 3 self yes (λ κs x f. refl), (Goes-ref 𝓛 3 1 tt one_ref, (Goes-ref 𝓛 3 2 tt two_ref, tt))) #self fn (code.unfolded 𝓤 H 𝓜 𝓡 wired)
+    (λ κs. (shr_vals, (mut_vals, (mut_vals, tt)))) (λ κs. (shr_Tells (named 0) κs.0 Seat.the_row, (mut_Tells (named 1) κs.1.0 ORow, (mut_Tells (named 2) κs.1.1.0 TRow, tt)))) (λ κs qs bounds a gh are.
+    let b : ℕ = a.0.ref_ptr.0 in let o : ℕ = a.0.ref_ptr.1 in let h = a.0.now in let w : Ptr = h.words in let p : Ptr = h.at in let z : Names = h.names in let κ = κs.0 in let q : Share = qs.0 in
+    let b' : ℕ = a.1.0.ref_ptr.0 in let o' : ℕ = a.1.0.ref_ptr.1 in let k = a.1.0.now in let b2 : ℕ = a.1.1.0.ref_ptr.0 in let o2 : ℕ = a.1.1.0.ref_ptr.1 in let m = a.1.1.0.now in
+    let view : Waits Consumed = of_writer_waits k in let other : Wakes Consumed = of_reader_wakes m in
+    let C : Fml = common w p z in let Φ : Share → Fml = λ s. writer_knows w p z s h.sent h.limit h.shut 0 in let V : Names → Fml = λ y. fobs y.writer_waits ((code_of Consumed coded_consumed).code view) in let U : Names → Fml = λ y. fobs y.reader_wakes ((code_of Consumed coded_consumed).code other) in
+    let y : (walk_of 𝓛 En hs c).Ghost = ((κs, qs, bounds, a, (vptr b o ∷ [], (vptr b' o' ∷ [], (vptr b2 o2 ∷ [], tt)))), gh) in let Post : Val → SProp 𝓤 = (walk_of 𝓛 En hs c).post y in
+    qed 𝓛 (((‵ (flft κ q) ⊛ ‵ (flft κs.1.0 qs.1.0) ⊛ ‵ (flft κs.1.1.0 qs.1.1.0) ⊛ ‵ ftrue) ⊛ ‵ (owns (types_at En.signature.params κs) a y.0.4)) ∷ given ((k.names ≡ z) × (m.names ≡ z)) (‵ ftrue) ∷ []) ∵
+    keep ! (1 ∷ 0 ∷ []) $ learn ! (λ asked. drop ! $ split ! $ split3 ! $ move ! (2 ∷ []) $ split ! $ move ! (4 ∷ []) $ fsplit3 ! $ move ! (2 ∷ []) $ fsplit ! $ fsplit3 ! $ move ! (5 ∷ []) $ fsplit3 ! $ move ! (7 ∷ []) $ fsplit ! $ keep ! (1 ∷ 11 ∷ 3 ∷ 4 ∷ 12 ∷ 6 ∷ 7 ∷ 9 ∷ []) $
+    use1 𝓛 (‵ (hidden_shr Data κ (w, tt) b o) ⊛ ‵ (fhide (writer_lends w p z h.sent h.limit h.shut κ))) (lent_out 𝓛 Seat.struct Seat.the_codes Seat.the_heap Seat.the_lent κ h b o) $ split ! $ drop ! $ unhide ! $ fsplit ! $
+    enter ! 𝓣.C 𝓣.Λ fn (vptr b o ∷ vptr b' o' ∷ vptr b2 o2 ∷ []) Post $ alloc_all ! (λ l. pass_all ! refl ((tt, tt), ((tt, tt), ((tt, tt), tt))) $ let Ev = env fn.locals l in
+    move ! (3 ∷ 4 ∷ 5 ∷ []) $ opens ! tt ORow b' o' (λ vs'. move ! (8 ∷ 9 ∷ 10 ∷ []) $ opens ! tt TRow b2 o2 (λ vs2. move ! (1 ∷ []) $ fsplit ! $ move ! (7 ∷ []) $ fsplit ! $
+    move ! (13 ∷ 14 ∷ []) $ shr_bor-open ! tt (writer_halves 𝓛 w p z h.sent h.limit h.shut 0) (λ s. move ! (14 ∷ 1 ∷ 3 ∷ 5 ∷ []) $
+    rewrite ! 2 (λ (u : Names). ‵ (V u)) {x = z} {y = k.names} asked.0 refl $ rewrite ! 3 (λ (u : Names). ‵ (U u)) {x = z} {y = m.names} asked.1 refl $
+    move ! (2 ∷ 3 ∷ []) $ join ! $ move ! (2 ∷ 0 ∷ []) $ join ! $ move ! (1 ∷ 0 ∷ []) $
+    use2 𝓛 (later (given (IsRemembered Consumed view other) (‵ (Φ s) ⊛ ‵ (V z) ⊛ ‵ (U z)))) (writer_meets 𝓛 w p z s h.sent h.limit h.shut 0 (flag_small false) view other) $ await ! tt $ learn ! (λ told. split3 ! $
+    move ! (3 ∷ 0 ∷ []) $ obor_close ! tt $ drop ! $
+    rewrite ! 1 (λ (u : Names). ‵ (V u)) {x = k.names} {y = z} (sym asked.0) refl $ rewrite ! 2 (λ (u : Names). ‵ (U u)) {x = m.names} {y = z} (sym asked.1) refl $
+    move ! (4 ∷ 2 ∷ []) $ fjoin ! $ move ! (4 ∷ 0 ∷ 5 ∷ 6 ∷ 7 ∷ []) $ closes ! tt TRow m vs2 b2 o2 $ feq_i ! (List Val) (vptr b2 o2 ∷ []) (vptr b2 o2 ∷ []) refl $ fjoin3 ! $
+    move ! (4 ∷ 3 ∷ []) $ fjoin ! $ move ! (4 ∷ 0 ∷ 5 ∷ 6 ∷ 7 ∷ []) $ closes ! tt ORow k vs' b' o' $ feq_i ! (List Val) (vptr b' o' ∷ []) (vptr b' o' ∷ []) refl $ fjoin3 ! $
+    sets ! (of_opd ! (unit_lit !)) refl (tt, tt) $
+    nothing ! $ move ! (3 ∷ 0 ∷ []) $ fjoin ! $ move ! (1 ∷ 0 ∷ []) $ fjoin ! $ nothing ! $ fjoin ! $ nothing ! $ move ! (3 ∷ 0 ∷ []) $ join ! $ move ! (2 ∷ 0 ∷ []) $ join ! $ move ! (2 ∷ 0 ∷ []) $ join ! $
+    use0 𝓛 (raw (fact 𝓤 ((k ≡ k) × (m ≡ m)))) (fact_i 𝓤 ((k ≡ k) × (m ≡ m)) (emp 𝓤) (refl, refl)) $ use0 𝓛 (raw (fact 𝓤 (IsRemembered Consumed view other))) (fact_i 𝓤 (IsRemembered Consumed view other) (emp 𝓤) told) $ join ! $
+    feq_i ! (List Val) (vunit ∷ []) (vunit ∷ []) refl $ returns ! (look_at ! 0 refl) $ free_all ! refl $ keep ! (2 ∷ 3 ∷ 0 ∷ 1 ∷ []) $ by ! (leaves 𝓛 En hs c y vunit tt (tt, (k, (m, tt))) (tt, (tt, (tt, tt)))))))))))
