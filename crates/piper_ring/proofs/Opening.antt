@@ -147,7 +147,7 @@ module _ {M : Type 1} {𝓤 : Ura M} (𝓛 : Logic 𝓤) (w p : Ptr) (cap : ℕ)
     slot_new far = let a : Waits X = (true, (0, x)) in let b : Wakes X = (false, (0, x)) in let s : Slot X = (a, (b, with_waiter)) in
         qed 𝓛 (‵ (word w far 0) ∷ ‵ (word w (128 + far) 0) ∷ ‵ (shows x) ∷ []) {P = H.⇛ (ex 𝓤 (SlotMade far))} (updating ! $ fjoin ! $
         name_new ! tt ((code_of X c).code a) (λ γ. name_new ! tt ((code_of X c).code b) (λ δ. move ! (3 ∷ 1 ∷ []) $ fjoin ! $ move ! (3 ∷ 0 ∷ 4 ∷ []) $ fjoin3 ! $
-        nothing ! $ fpack ! (Stands X with_waiter a b) (λ _. ftrue) (refl, refl) $ fjoin ! $ fpack ! (Slot X) (slot_at w far γ δ c shows) s $ now ! $ show ! (SlotMade far) (γ, δ) $ move ! (0 ∷ 2 ∷ 1 ∷ []) $ done !)))
+        nothing ! $ fpack ! (Stands X with_waiter a b) (λ _. ftrue) (refl, refl, omega arith) $ fjoin ! $ fpack ! (Slot X) (slot_at w far γ δ c shows) s $ now ! $ show ! (SlotMade far) (γ, δ) $ move ! (0 ∷ 2 ∷ 1 ∷ []) $ done !)))
 
   abbrev pub zero_words : Fml
   zero_words = fsep (word w 128 0) (fsep (word w 256 0) (fsep (word w 384 0) (word w 0 0)))

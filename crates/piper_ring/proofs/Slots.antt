@@ -48,7 +48,7 @@ module _ {X : Type 0} where
 
   takes : (b : Wakes X) (x : X) → b.0 ≡ false → (a : Waits X) (at : Where) → Stands X at a b → WakesTo (OnFlag (λ _. 0)) (Takes X b x) (flag_of at) x a b at
   takes b x rests a with_waiter h = ((b.0, (b.1.0, x)), with_waiter, (refl, refl), h, inl refl, (omega arith, (λ _. refl), λ n. absurd (n refl)))
-  takes b x rests a in_slot h = ((true, (a.1.0, x)), with_taker, (refl, refl), (h.0, refl, refl), inl refl, (omega arith, (λ (e : 1 ≡ 0). absurd (omega arith)), λ _. (a.1.0, refl)))
+  takes b x rests a in_slot h = ((true, (a.1.0, x)), with_taker, (refl, refl), (h.0, refl, refl), inl refl, (omega arith, (λ (e : 1 ≡ 0). absurd (omega arith)), λ _. (a.1.0, h.3, refl)))
   takes b x rests a with_taker h = absurd (false≢true (sym rests ∙ h.1))
   takes b x rests a handed_back h = ((b.0, (b.1.0, x)), handed_back, (refl, refl), h, inl refl, (omega arith, (λ _. refl), λ n. absurd (n refl)))
 
@@ -59,14 +59,14 @@ module _ {X : Type 0} where
   gives_back b x holds a handed_back h = absurd (false≢true (sym h.1 ∙ holds))
 
   hands_over : (a : Waits X) → a.0 ≡ true → (b : Wakes X) (at : Where) → Stands X at a b → WaitsTo (OnFlag (λ _. 1)) (λ n x a'. HandsOver X a x n a') (flag_of at) a b at
-  hands_over a owns b with_waiter h = ((false, (a.1.0 + 1, b.1.1)), in_slot, (refl, refl), (refl, h.1, refl), refl)
+  hands_over a owns b with_waiter h = let le = h.2 in ((false, (a.1.0 + 1, b.1.1)), in_slot, (refl, refl), (refl, h.1, refl, omega arith), refl)
   hands_over a owns b in_slot h = absurd (false≢true (sym h.0 ∙ owns))
   hands_over a owns b with_taker h = absurd (false≢true (sym h.0 ∙ owns))
   hands_over a owns b handed_back h = absurd (false≢true (sym h.0 ∙ owns))
 
   withdraws : (a : Waits X) → a.0 ≡ false → (b : Wakes X) (at : Where) → Stands X at a b → WaitsTo (OnFlag (λ _. 0)) (λ n x a'. Regains X a x n a') (flag_of at) a b at
   withdraws a gave b with_waiter h = absurd (false≢true (sym gave ∙ h.0))
-  withdraws a gave b in_slot h = ((true, a.1), with_waiter, (refl, refl), (refl, h.1), (omega arith, (λ (e : 1 ≡ 0). absurd (omega arith)), λ _. refl))
+  withdraws a gave b in_slot h = let lt = h.3 in ((true, a.1), with_waiter, (refl, refl), (refl, h.1, omega arith), (omega arith, (λ (e : 1 ≡ 0). absurd (omega arith)), λ _. refl))
   withdraws a gave b with_taker h = (a, with_taker, (refl, refl), h, (omega arith, (λ _. refl), λ n. absurd (n refl)))
   withdraws a gave b handed_back h = (a, handed_back, (refl, refl), h, (omega arith, (λ _. refl), λ n. absurd (n refl)))
 
@@ -74,7 +74,7 @@ module _ {X : Type 0} where
   regains a gave b with_waiter h = absurd (false≢true (sym gave ∙ h.0))
   regains a gave b in_slot h = (a, in_slot, (refl, refl), h, (omega arith, (λ _. refl), λ n. absurd (n refl)))
   regains a gave b with_taker h = (a, with_taker, (refl, refl), h, (omega arith, (λ _. refl), λ n. absurd (n refl)))
-  regains a gave b handed_back h = ((true, a.1), with_waiter, (refl, refl), (refl, h.1), (omega arith, (λ (e : 1 ≡ 0). absurd (omega arith)), λ _. refl))
+  regains a gave b handed_back h = let same = h.2 in ((true, a.1), with_waiter, (refl, refl), (refl, h.1, omega arith), (omega arith, (λ (e : 1 ≡ 0). absurd (omega arith)), λ _. refl))
 
   pub remembers : (a : Waits X) (b : Wakes X) (at : Where) → Stands X at a b → IsRemembered X a b
   remembers a b with_waiter h gave rests new = absurd (false≢true (sym gave ∙ h.0))

@@ -1,7 +1,7 @@
 -- The slot in which a side that waits leaves its waker, as two words that both sides share: `flag`
 -- is 1 while a waker stands there, and `back` is 1 once the side that took it has handed its place
 -- back. The place of the waker belongs to one side at each moment.
-use Rattle.std.specs.Prelude.{◌≡◌, ◌≢◌, ℕ, ◌+◌, ◌≤◌, Bool, true, false}
+use Rattle.std.specs.Prelude.{◌≡◌, ◌≢◌, ℕ, ◌+◌, ◌<◌, ◌≤◌, Bool, true, false}
 use base.Stored.{Gv}
 use base.Fml.{Fml, ftrue, fsep, fex, fauth, fobs}
 use denote.RawPtr.{Ptr}
@@ -41,8 +41,8 @@ module _ (X : Type 0) where
 
   -- how both sides stand
   abbrev pub Stands : Where → Waits → Wakes → Type 0
-  Stands with_waiter a b = (a.0 ≡ true) × (b.0 ≡ false)
-  Stands in_slot a b = (a.0 ≡ false) × (b.0 ≡ false) × (b.1.1 ≡ a.1.1)
+  Stands with_waiter a b = (a.0 ≡ true) × (b.0 ≡ false) × (b.1.0 ≤ a.1.0)
+  Stands in_slot a b = (a.0 ≡ false) × (b.0 ≡ false) × (b.1.1 ≡ a.1.1) × (b.1.0 < a.1.0)
   Stands with_taker a b = (a.0 ≡ false) × (b.0 ≡ true) × (b.1.0 ≡ a.1.0)
   Stands handed_back a b = (a.0 ≡ false) × (b.0 ≡ false) × (b.1.0 ≡ a.1.0)
 
@@ -54,10 +54,11 @@ module _ (X : Type 0) where
   abbrev pub Looks : Wakes → X → ℕ → Wakes → Type 0
   Looks b x n b' = (n ≤ 1) × (n ≡ 0 → b' ≡ (b.0, (b.1.0, x))) × (n ≢ 0 → b' ≡ b)
 
-  -- the waker was taken, with the place and the ticket, or none stood there
+  -- the waker was taken, with the place and a ticket that was not taken before, or none stood there
   abbrev pub Takes : Wakes → X → ℕ → Wakes → Type 0
   Takes b x n b' =
-      (n ≤ 1) × (n ≡ 0 → b' ≡ (b.0, (b.1.0, x))) × (n ≢ 0 → (t : ℕ) × (b' ≡ (true, (t, x))))
+      (n ≤ 1) × (n ≡ 0 → b' ≡ (b.0, (b.1.0, x)))
+      × (n ≢ 0 → (t : ℕ) × (b.1.0 < t) × (b' ≡ (true, (t, x))))
 
   abbrev pub GivesBack : Wakes → X → ℕ → Wakes → Type 0
   GivesBack b x n b' = b' ≡ (false, b.1)

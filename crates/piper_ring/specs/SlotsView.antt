@@ -1,5 +1,5 @@
 -- What a contract sees of what each end has of the slots, and how the ends keep it.
-use Rattle.std.specs.Prelude.{◌≡◌, ℕ, ◌+◌, ◌<◌, ◌≤◌, ◌⊎◌, Bool, true, false, List, [], length, refl}
+use Rattle.std.specs.Prelude.{◌≡◌, ◌≢◌, ℕ, ◌+◌, ◌<◌, ◌≤◌, ◌⊎◌, Bool, true, false, List, [], length, refl}
 use Rattle.std.specs.Coded.{Coded, code_by, coded×, coded_list, coded_ℕ, coded_bool}
 use Rattle.piper_ring.specs.Shared.{Names, names_code, flag}
 use Rattle.piper_ring.specs.ReadView.{ReadView}
@@ -111,6 +111,10 @@ pub record Registers (r : ReadView) (old new : ReadSlotsView) : Type 0 where
   pub others : (new.taken ≡ old.taken) × (new.count ≡ old.count) × (new.over ≡ old.over)
   pub names : new.names ≡ old.names
 
+-- the reader knows of a byte, or saw the pipe closed
+abbrev pub HasToDo : ReadView → Type 0
+HasToDo r = (r.known ≢ []) ⊎ (r.saw ≡ true)
+
 -- the reader waits: it has registered, and its look behind that found nothing to do
 pub record IsPending (r : ReadView) (s : ReadSlotsView) : Type 0 where
   pub registered : s.owns ≡ false
@@ -137,6 +141,10 @@ pub record WriterRegisters (w : WriteView) (old new : WriteSlotsView) : Type 0 w
   pub told_closed : flag new.over ≤ flag w.saw
   pub others : (new.taken ≡ old.taken) × (new.bytes ≡ old.bytes) × (new.shut ≡ old.shut)
   pub names : new.names ≡ old.names
+
+-- the writer knows of room, or saw the pipe closed
+abbrev pub WriterHasToDo : WriteView → Type 0
+WriterHasToDo w = (w.room ≢ 0) ⊎ (w.saw ≡ true)
 
 -- the writer waits: it has registered, and its look behind that found no room
 pub record IsWriterPending (w : WriteView) (s : WriteSlotsView) : Type 0 where

@@ -1,5 +1,5 @@
 //! What each end has of the two slots, in which a side that waits for the other leaves its waker.
-ghost use Rattle.std.specs.Prelude.{◌≡◌, ◌+◌, ◌≤◌, length, true, false, IsTrue, IsFalse};
+ghost use Rattle.std.specs.Prelude.{◌≡◌, ◌+◌, ◌<◌, ◌≤◌, length, true, false, IsTrue, IsFalse};
 
 use crate::ends::reader::ReadEnd;
 use crate::ends::writer::WriteEnd;
@@ -84,6 +84,7 @@ impl ReadSlots {
     pub(crate) fn reclaim(&mut self, end: &ReadEnd) -> bool
         requires { self.old.names ≡ end.now.ring.1.1 }
         ensures owns { result ≡ self.new.owns }
+        ensures stays { self.old.owns ≡ true → IsTrue result }
         ensures refused { IsFalse result → self.new ≡ self.old }
         ensures kept { self.new ≡ record self.old { owns = self.new.owns } }
     {
@@ -101,13 +102,14 @@ impl ReadSlots {
 
 impl ReadEnd {
     ghost use Rattle.piper_ring.specs.ReadView.{SameButTold};
-    ghost use Rattle.piper_ring.specs.SlotsView.{Registers, IsPending, HasNews, IsReaderAtRest, SameReaderPlace, IsWriterPending, HasRoomNews};
+    ghost use Rattle.piper_ring.specs.SlotsView.{Registers, HasToDo, IsPending, HasNews, IsReaderAtRest, SameReaderPlace, IsWriterPending, HasRoomNews};
 
     /// Leaves this end's waker in its slot, where the writer's next look finds it. The answer is `false`, and it is left nowhere, where the writer has just stored something and is about to call the waker that it took.
     pub fn register(&mut self, slots: &mut ReadSlots) -> bool
         requires { slots.old.names ≡ self.old.ring.1.1 }
         ensures registered { IsTrue result → Registers self.new slots.old slots.new }
         ensures refused { IsFalse result → slots.new ≡ slots.old }
+        ensures owned { slots.old.owns ≡ true → IsTrue result }
         ensures kept { SameButTold self.old self.new }
     {
         if !slots.reclaim(self) {
@@ -125,6 +127,7 @@ impl ReadEnd {
         requires none { length self.old.known ≡ 0 }
         ensures pending { IsTrue result → IsPending self.new slots.new }
         ensures ticket { IsTrue result → slots.new.tickets ≡ slots.old.tickets + 1 }
+        ensures owned { IsFalse result → slots.old.owns ≡ true → HasToDo self.new }
         ensures end { (self.new.ring ≡ self.old.ring) × (self.new.taken ≡ self.old.taken) }
     {
         if !self.register(slots) {
@@ -139,6 +142,7 @@ impl ReadEnd {
         requires { slots.old.names ≡ self.now.ring.1.1 }
         ensures rests { IsReaderAtRest self.now slots.new }
         ensures none { IsFalse result → slots.new.taken ≡ slots.old.taken }
+        ensures some { IsTrue result → slots.old.taken < slots.new.taken }
         ensures own { SameReaderPlace slots.old slots.new }
     {
         let seat = &self.parts.seat;
@@ -152,6 +156,7 @@ impl ReadEnd {
         ensures count { result.0.consumed.count ≡ length self.taken }
         ensures looked { (slots.new.count ≡ length self.taken) × (slots.new.over ≡ true) }
         ensures none { IsFalse result.1 → slots.new.taken ≡ slots.old.taken }
+        ensures some { IsTrue result.1 → slots.old.taken < slots.new.taken }
         ensures own { SameReaderPlace slots.old slots.new }
     {
         let consumed = self.mark();
@@ -188,6 +193,7 @@ impl WriteSlots {
     pub(crate) fn reclaim(&mut self, end: &WriteEnd) -> bool
         requires { self.old.names ≡ end.now.ring.1.1 }
         ensures owns { result ≡ self.new.owns }
+        ensures stays { self.old.owns ≡ true → IsTrue result }
         ensures refused { IsFalse result → self.new ≡ self.old }
         ensures kept { self.new ≡ record self.old { owns = self.new.owns } }
     {
@@ -205,7 +211,7 @@ impl WriteSlots {
 
 impl WriteEnd {
     ghost use Rattle.piper_ring.specs.WriteView.{SameButHeard};
-    ghost use Rattle.piper_ring.specs.SlotsView.{WriterRegisters, IsWriterPending, IsAtRest, SameWriterPlace};
+    ghost use Rattle.piper_ring.specs.SlotsView.{WriterRegisters, WriterHasToDo, IsWriterPending, IsAtRest, SameWriterPlace};
 
     /// Leaves this end's waker in its slot, where the reader's next look finds it. It is for an end that has not seen the pipe closed. The answer is `false`, and it is left nowhere, where the reader has just consumed something and is about to call the waker that it took.
     pub fn register(&mut self, slots: &mut WriteSlots) -> bool
@@ -213,6 +219,7 @@ impl WriteEnd {
         requires open { self.old.saw ≡ false }
         ensures registered { IsTrue result → WriterRegisters self.new slots.old slots.new }
         ensures refused { IsFalse result → slots.new ≡ slots.old }
+        ensures owned { slots.old.owns ≡ true → IsTrue result }
         ensures kept { SameButHeard self.old self.new }
     {
         if !slots.reclaim(self) {
@@ -232,6 +239,7 @@ impl WriteEnd {
         requires open { self.old.saw ≡ false }
         ensures pending { IsTrue result → IsWriterPending self.new slots.new }
         ensures ticket { IsTrue result → slots.new.tickets ≡ slots.old.tickets + 1 }
+        ensures owned { IsFalse result → slots.old.owns ≡ true → WriterHasToDo self.new }
         ensures end { (self.new.ring ≡ self.old.ring) × (self.new.sent ≡ self.old.sent) }
     {
         if !self.register(slots) {
@@ -246,6 +254,7 @@ impl WriteEnd {
         requires { slots.old.names ≡ self.now.ring.1.1 }
         ensures rests { IsAtRest self.now slots.new }
         ensures none { IsFalse result → slots.new.taken ≡ slots.old.taken }
+        ensures some { IsTrue result → slots.old.taken < slots.new.taken }
         ensures own { SameWriterPlace slots.old slots.new }
     {
         self.parts.seat.wake(&mut slots.parts.wakes)
@@ -259,6 +268,7 @@ impl WriteEnd {
         ensures shut { result.0.shut ≡ true }
         ensures looked { (slots.new.bytes ≡ self.sent) × (slots.new.shut ≡ true) }
         ensures none { IsFalse result.1 → slots.new.taken ≡ slots.old.taken }
+        ensures some { IsTrue result.1 → slots.old.taken < slots.new.taken }
         ensures own { SameWriterPlace slots.old slots.new }
     {
         let leaving = self.close();

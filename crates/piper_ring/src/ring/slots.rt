@@ -1,5 +1,5 @@
 //! What each side knows of a slot, in which a side that waits leaves its waker. It takes no space.
-ghost use Rattle.std.specs.Prelude.{◌≡◌, ℕ, Bool, List, true, false, IsFalse};
+ghost use Rattle.std.specs.Prelude.{◌≡◌, ◌<◌, ℕ, Bool, List, true, false, IsTrue, IsFalse};
 ghost use Rattle.piper_ring.specs.Shared.{Consumed, Names, Stream, names_code, waits_for, wakes_for, waits_back, wakes_back};
 
 use crate::ring::marks::{ReadMark, Saw, WriteMark};
@@ -179,6 +179,7 @@ impl WriteSeat {
         ensures ring { (slot.new.names ≡ slot.old.names) × (slot.new.holds ≡ false) }
         ensures looked { (slot.new.bytes ≡ self.now.sent) × (slot.new.shut ≡ self.now.shut) }
         ensures none { IsFalse result → slot.new.taken ≡ slot.old.taken }
+        ensures some { IsTrue result → slot.old.taken < slot.new.taken }
     {
         if self.look_flag(slot) == 0 {
             return false;
@@ -274,6 +275,7 @@ impl ReadSeat {
         ensures ring { (slot.new.names ≡ slot.old.names) × (slot.new.holds ≡ false) }
         ensures looked { (slot.new.count ≡ self.now.head) × (slot.new.over ≡ saw.now.seen) }
         ensures none { IsFalse result → slot.new.taken ≡ slot.old.taken }
+        ensures some { IsTrue result → slot.old.taken < slot.new.taken }
     {
         if self.look_flag(slot, saw) == 0 {
             return false;
