@@ -1,7 +1,9 @@
--- The two ends of a new ring.
-use Rattle.std.specs.Prelude.{◌≡◌, ℕ, false, []}
+-- The two ends of a new ring, and its slots.
+use Rattle.std.specs.Prelude.{◌≡◌, ℕ, true, false, []}
 use Rattle.piper_ring.specs.ReadView.{ReadView}
 use Rattle.piper_ring.specs.WriteView.{WriteView}
+use Rattle.piper_ring.specs.Shared.{Names}
+use Rattle.piper_ring.specs.SlotsView.{ReadSlotsView, WriteSlotsView}
 
 -- nothing was consumed, nothing is known, nothing was told and nothing was seen
 pub record FreshReadEnd (cap : ℕ) (r : ReadView) : Type 0 where
@@ -21,3 +23,14 @@ pub record FreshWriteEnd (cap : ℕ) (w : WriteView) : Type 0 where
   pub shut : w.shut ≡ false
   pub told : w.told ≡ 0
   pub saw : w.saw ≡ false
+
+-- nobody has waited, and nothing was looked behind
+pub record FreshReadSlots (z : Names) (s : ReadSlotsView) : Type 0 where
+  pub names : s.names ≡ z
+  pub waits : (s.owns ≡ true) × (s.tickets ≡ 0)
+  pub wakes : (s.taken ≡ 0) × (s.count ≡ 0) × (s.over ≡ false)
+
+pub record FreshWriteSlots (z : Names) (s : WriteSlotsView) : Type 0 where
+  pub names : s.names ≡ z
+  pub waits : (s.owns ≡ true) × (s.tickets ≡ 0)
+  pub wakes : (s.taken ≡ 0) × (s.bytes ≡ []) × (s.shut ≡ false)

@@ -21,14 +21,18 @@ of_reader_wakes s = (s.holds, (s.taken, (s.count, s.over)))
 
 -- nobody has registered yet: the place is with the side that waits
 abbrev pub IsUnused : Names → ReaderWaits → Type 0
-IsUnused z s = (s.names ≡ z) × (of_reader_waits s ≡ (true, (0, ([], false))))
+IsUnused z s =
+    (s.names ≡ z) × (s.owns ≡ true) × (s.tickets ≡ 0) × (s.bytes ≡ []) × (s.shut ≡ false)
 
 -- nothing has been looked behind yet
 abbrev pub LooksFirst : Names → WriterWakes → Type 0
-LooksFirst z s = (s.names ≡ z) × (of_writer_wakes s ≡ (false, (0, ([], false))))
+LooksFirst z s =
+    (s.names ≡ z) × (s.holds ≡ false) × (s.taken ≡ 0) × (s.bytes ≡ []) × (s.shut ≡ false)
 
 abbrev pub IsUnusedBack : Names → WriterWaits → Type 0
-IsUnusedBack z s = (s.names ≡ z) × (of_writer_waits s ≡ (true, (0, (0, false))))
+IsUnusedBack z s =
+    (s.names ≡ z) × (s.owns ≡ true) × (s.tickets ≡ 0) × (s.count ≡ 0) × (s.over ≡ false)
 
 abbrev pub LooksFirstBack : Names → ReaderWakes → Type 0
-LooksFirstBack z s = (s.names ≡ z) × (of_reader_wakes s ≡ (false, (0, (0, false))))
+LooksFirstBack z s =
+    (s.names ≡ z) × (s.holds ≡ false) × (s.taken ≡ 0) × (s.count ≡ 0) × (s.over ≡ false)

@@ -1,6 +1,6 @@
 //! A ring is opened.
 ghost use Rattle.std.specs.Prelude.{◌≡◌, ℕ, ◌*◌, ◌<◌, ◌^◌, [], false, IfOk};
-ghost use Rattle.piper_ring.specs.Opened.{FreshReadEnd, FreshWriteEnd};
+ghost use Rattle.piper_ring.specs.Opened.{FreshReadEnd, FreshReadSlots, FreshWriteEnd, FreshWriteSlots};
 
 use crate::ends::reader::{ReadEnd, ReadParts};
 use crate::ends::room::Room;
@@ -33,6 +33,8 @@ pub fn open_with_slots(
     ensures pair { IfOk result (λ r. r.1.ring ≡ r.0.ring) }
     ensures reader { IfOk result (λ r. FreshReadEnd capacity r.0) }
     ensures writer { IfOk result (λ r. FreshWriteEnd capacity r.1) }
+    ensures read_slots { IfOk result (λ r. FreshReadSlots r.0.ring.1.1 r.2) }
+    ensures write_slots { IfOk result (λ r. FreshWriteSlots r.0.ring.1.1 r.3) }
 {
     let (words, bytes) = claim(&alloc, capacity)?;
     let (read_seat, write_seat, mut blank, base, reader_waits, writer_wakes, writer_waits, reader_wakes) =
