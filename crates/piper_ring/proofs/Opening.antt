@@ -25,7 +25,7 @@ use Rattle.rtrb.proofs.Spans.{span_map, ring_out}
 use Rattle.rtrb.proofs.Positions.{position_zero}
 use Rattle.piper_ring.specs.Places.{unset}
 use Rattle.piper_ring.specs.Streams.{Stream, streams, reaches_same}
-use Rattle.piper_ring.specs.Shared.{Names, names_of, State, Holds, half, other, word, word_room, words_type, four_rooms, slot_rooms, all_rooms, idle, deeds, titles, Inner, Placed, common, reader_owns, writer_owns}
+use Rattle.piper_ring.specs.Shared.{Names, names_of, State, Holds, half, other, word, word_room, words_type, slot_rooms, all_rooms, idle, titles, Inner, Placed, common, reader_owns, writer_owns}
 use types.Tokens.{name_new}
 use Rattle.std.specs.Coded.{Coded}
 use Rattle.piper_ring.specs.Slots.{Waits, Wakes, Stands, Slot, with_waiter, code_of, slot, slot_at}

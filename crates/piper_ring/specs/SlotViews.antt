@@ -1,5 +1,5 @@
 -- What is known of the slots, as values.
-use Rattle.std.specs.Prelude.{◌≡◌, ℕ, true, false, []}
+use Rattle.std.specs.Prelude.{◌≡◌, true, false, []}
 use Rattle.piper_ring.specs.Shared.{Names, Stream, Consumed}
 use Rattle.piper_ring.specs.Slots.{Waits, Wakes}
 use Rattle.piper_ring.specs.declared.ring.slots.ReaderWaits.{ReaderWaits}

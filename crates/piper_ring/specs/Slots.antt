@@ -2,8 +2,7 @@
 -- is 1 while a waker stands there, and `back` is 1 once the side that took it has handed its place
 -- back. The place of the waker belongs to one side at each moment.
 use Rattle.std.specs.Prelude.{◌≡◌, ◌≢◌, ℕ, ◌+◌, ◌<◌, ◌≤◌, Bool, true, false}
-use base.Stored.{Gv}
-use base.Fml.{Fml, ftrue, fsep, fex, fauth, fobs}
+use base.Fml.{Fml, fsep, fex, fauth}
 use denote.RawPtr.{Ptr}
 use Rattle.std.specs.Coded.{Coded, coded×, coded_ℕ, coded_bool}
 use Rattle.piper_ring.specs.Places.{fact}

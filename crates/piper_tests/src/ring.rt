@@ -2,3 +2,4 @@
 mod acts;
 mod one_thread;
 mod two_threads;
+mod waiting;

@@ -37,8 +37,16 @@ pub fn open_with_slots(
     ensures write_slots { IfOk result (λ r. FreshWriteSlots r.0.ring.1.1 r.3) }
 {
     let (words, bytes) = claim(&alloc, capacity)?;
-    let (read_seat, write_seat, mut blank, base, reader_waits, writer_wakes, writer_waits, reader_wakes) =
-        open(words, bytes);
+    let (
+        read_seat,
+        write_seat,
+        mut blank,
+        base,
+        reader_waits,
+        writer_wakes,
+        writer_waits,
+        reader_wakes,
+    ) = open(words, bytes);
     let told_reader = write_seat.mark();
     let told_writer = read_seat.mark();
     let read_saw = told_reader.again();

@@ -1,4 +1,4 @@
-//! What each end has of the two slots, in which a side that waits for the other leaves its waker.
+//! What each end has of the two slots, at which a side waits for the other. They tell who waits and who was found, by tickets; where a waker is kept is for who calls, and its place is one side's at each moment.
 ghost use Rattle.std.specs.Prelude.{◌≡◌, ◌+◌, ◌<◌, ◌≤◌, length, true, false, IsTrue, IsFalse};
 
 use crate::ends::reader::ReadEnd;
@@ -104,7 +104,7 @@ impl ReadEnd {
     ghost use Rattle.piper_ring.specs.ReadView.{SameButTold};
     ghost use Rattle.piper_ring.specs.SlotsView.{Registers, HasToDo, IsPending, HasNews, IsReaderAtRest, SameReaderPlace, IsWriterPending, HasRoomNews};
 
-    /// Leaves this end's waker in its slot, where the writer's next look finds it. The answer is `false`, and it is left nowhere, where the writer has just stored something and is about to call the waker that it took.
+    /// Stands at this end's slot, where the writer's next look finds it. The answer is `false`, and it stands nowhere, where the writer has stored something and has not handed the place back yet.
     pub fn register(&mut self, slots: &mut ReadSlots) -> bool
         requires { slots.old.names ≡ self.old.ring.1.1 }
         ensures registered { IsTrue result → Registers self.new slots.old slots.new }
@@ -121,7 +121,7 @@ impl ReadEnd {
         true
     }
 
-    /// Registers, and looks once more whether the writer published something or closed the pipe. Where the answer is `true` this end waits: it has nothing to do, and whatever the writer stores from now on, its next look finds the waker.
+    /// Registers, and looks once more whether the writer published something or closed the pipe. Where the answer is `true` this end waits: it has nothing to do, and the look behind whatever the writer stores from now on finds it.
     pub fn wait(&mut self, slots: &mut ReadSlots) -> bool
         requires ring { slots.old.names ≡ self.old.ring.1.1 }
         requires none { length self.old.known ≡ 0 }
@@ -137,7 +137,7 @@ impl ReadEnd {
         !self.look_closed() && self.knows_none()
     }
 
-    /// Looks for the writer's waker behind all that this end consumed, and takes it. The answer is whether one stood there: its ticket is `taken` then.
+    /// Looks behind all that this end consumed whether the writer stands at its slot, and takes its ticket. The answer is whether it did.
     pub fn wake(&self, slots: &mut ReadSlots) -> bool
         requires { slots.old.names ≡ self.now.ring.1.1 }
         ensures rests { IsReaderAtRest self.now slots.new }
@@ -149,7 +149,7 @@ impl ReadEnd {
         seat.wake(&mut slots.parts.wakes, &seat.unseen())
     }
 
-    /// `finish`, which takes the writer's waker behind the close. The answer says whether one stood there.
+    /// `finish`, and `wake` behind its close.
     pub fn finish_waking(self, slots: &mut ReadSlots) -> (LastReadMark, bool)
         requires { slots.old.names ≡ self.ring.1.1 }
         ensures ring { result.0.consumed.names ≡ self.ring.1.1 }
@@ -166,7 +166,7 @@ impl ReadEnd {
         (LastReadMark { consumed, closed }, woke)
     }
 
-    /// Both ends in one hand. A reader that waits, and for which the writer has stored something since, was taken from its slot; and so was a writer that waits, for which the reader has.
+    /// Both ends in one hand: of each that waits, and behind whose back the other stored something since and looked, the last ticket was taken.
     pub fn meet_slots(
         &self,
         slots: &mut ReadSlots,
@@ -213,7 +213,7 @@ impl WriteEnd {
     ghost use Rattle.piper_ring.specs.WriteView.{SameButHeard};
     ghost use Rattle.piper_ring.specs.SlotsView.{WriterRegisters, WriterHasToDo, IsWriterPending, IsAtRest, SameWriterPlace};
 
-    /// Leaves this end's waker in its slot, where the reader's next look finds it. It is for an end that has not seen the pipe closed. The answer is `false`, and it is left nowhere, where the reader has just consumed something and is about to call the waker that it took.
+    /// Stands at this end's slot, where the reader's next look finds it. It is for an end that has not seen the pipe closed. The answer is `false`, and it stands nowhere, where the reader has consumed something and has not handed the place back yet.
     pub fn register(&mut self, slots: &mut WriteSlots) -> bool
         requires ring { slots.old.names ≡ self.old.ring.1.1 }
         requires open { self.old.saw ≡ false }
@@ -232,7 +232,7 @@ impl WriteEnd {
         true
     }
 
-    /// Registers, and looks once more whether the reader consumed something or closed the pipe. Where the answer is `true` this end waits: it has no room, and whatever the reader stores from now on, its next look finds the waker.
+    /// Registers, and looks once more whether the reader consumed something or closed the pipe. Where the answer is `true` this end waits: it has no room, and the look behind whatever the reader stores from now on finds it.
     pub fn wait(&mut self, slots: &mut WriteSlots) -> bool
         requires ring { slots.old.names ≡ self.old.ring.1.1 }
         requires none { self.old.room ≡ 0 }
@@ -249,7 +249,7 @@ impl WriteEnd {
         !self.look_closed() && self.knows_none()
     }
 
-    /// Looks for the reader's waker behind all that this end stored, and takes it. The answer is whether one stood there: its ticket is `taken` then.
+    /// Looks behind all that this end stored whether the reader stands at its slot, and takes its ticket. The answer is whether it did.
     pub fn wake(&self, slots: &mut WriteSlots) -> bool
         requires { slots.old.names ≡ self.now.ring.1.1 }
         ensures rests { IsAtRest self.now slots.new }
@@ -260,7 +260,7 @@ impl WriteEnd {
         self.parts.seat.wake(&mut slots.parts.wakes)
     }
 
-    /// `finish`, which takes the reader's waker behind the close. The answer says whether one stood there.
+    /// `finish`, and `wake` behind its close.
     pub fn finish_waking(self, slots: &mut WriteSlots) -> (WriteMark, bool)
         requires { slots.old.names ≡ self.ring.1.1 }
         ensures ring { result.0.names ≡ self.ring.1.1 }

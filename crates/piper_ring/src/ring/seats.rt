@@ -111,8 +111,19 @@ impl Remains {
 }
 
 /// The two seats of an empty open ring, its places, all of them the writer's room and none of them set, and where they begin, with what each side knows of the slots, which are empty.
-pub(crate) fn open(words: Memory, bytes: Memory)
-    -> (ReadSeat, WriteSeat, Blank, Base, ReaderWaits, WriterWakes, WriterWaits, ReaderWakes)
+pub(crate) fn open(
+    words: Memory,
+    bytes: Memory,
+) -> (
+    ReadSeat,
+    WriteSeat,
+    Blank,
+    Base,
+    ReaderWaits,
+    WriterWakes,
+    WriterWaits,
+    ReaderWakes,
+)
     requires { (words.align ≡ 8) × (bytes.align ≡ 1) }
     ensures ring { (result.0.words ≡ words.start) × (result.0.at ≡ bytes.start)
         × (result.0.names.capacity ≡ bytes.size) }

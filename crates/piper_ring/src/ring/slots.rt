@@ -1,4 +1,4 @@
-//! What each side knows of a slot, in which a side that waits leaves its waker. It takes no space.
+//! What each side knows of a slot, at which a side waits for the other, and its steps on the slot's two words. It takes no space.
 ghost use Rattle.std.specs.Prelude.{◌≡◌, ◌<◌, ℕ, Bool, List, true, false, IsTrue, IsFalse};
 ghost use Rattle.piper_ring.specs.Shared.{Consumed, Names, Stream, names_code, waits_for, wakes_for, waits_back, wakes_back};
 
@@ -139,10 +139,7 @@ impl WriteSeat {
             (result.0.count, result.1.seen) 0 (of_writer_waits slot.new) }
     {
         unsafe { raw::store::<Brand>(self.words.add(WRITER_FLAG), 1, SeqCst) };
-        (
-            ReadMark { mark: PhantomData },
-            Saw { mark: PhantomData },
-        )
+        (ReadMark { mark: PhantomData }, Saw { mark: PhantomData })
     }
 
     /// 1 where the writer's waker stood in its slot and is the writer's again, else 0.

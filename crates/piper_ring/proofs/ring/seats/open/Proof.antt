@@ -94,9 +94,9 @@ open_spec 𝓤 𝓛 𝓜 𝓡 wired =
     sets ! (agg ! (no_more !)) refl (tt, tt) $ sets ! (agg ! (and_then ! (get ! refl) (no_more !))) refl (tt, (tt, tt)) $
     sets ! (agg ! (no_more !)) refl (tt, tt) $ sets ! (agg ! (and_then ! (get ! refl) (no_more !))) refl (tt, (tt, tt)) $
     sets ! (of_opd ! (get ! refl)) refl (tt, (tt, tt)) $ sets ! (of_opd ! (get ! refl)) refl (tt, (tt, tt)) $ sets ! (of_opd ! (get ! refl)) refl (tt, (tt, tt)) $
-    sets ! (agg ! (and_then ! (get ! refl) (no_more !))) refl (tt, (tt, tt)) $ sets ! (of_opd ! (get ! refl)) refl (tt, (tt, tt)) $ sets ! (of_opd ! (get ! refl)) refl (tt, (tt, tt)) $ sets ! (of_opd ! (get ! refl)) refl (tt, (tt, tt)) $ sets ! (of_opd ! (get ! refl)) refl (tt, (tt, tt)) $ 
+    sets ! (agg ! (and_then ! (get ! refl) (no_more !))) refl (tt, (tt, tt)) $ sets ! (of_opd ! (get ! refl)) refl (tt, (tt, tt)) $ sets ! (of_opd ! (get ! refl)) refl (tt, (tt, tt)) $ sets ! (of_opd ! (get ! refl)) refl (tt, (tt, tt)) $ sets ! (of_opd ! (get ! refl)) refl (tt, (tt, tt)) $
     sets ! (agg ! (and_then ! (get ! refl) (and_then ! (get ! refl) (and_then ! (get ! refl) (and_then ! (get ! refl) (and_then ! (get ! refl) (and_then ! (get ! refl) (and_then ! (get ! refl) (and_then ! (get ! refl) (no_more !)))))))))) refl (tt, ((tt, tt), ((tt, tt), ((tt, tt), ((tt, tt), ((tt, tt), ((tt, tt), ((tt, tt), ((tt, tt), tt))))))))) $
-    use0 𝓛 (raw (fact 𝓤 (LooksFirstBack z eight))) (fact_i 𝓤 (LooksFirstBack z eight) (emp 𝓤) (refl, refl, refl, refl, refl)) $ 
+    use0 𝓛 (raw (fact 𝓤 (LooksFirstBack z eight))) (fact_i 𝓤 (LooksFirstBack z eight) (emp 𝓤) (refl, refl, refl, refl, refl)) $
     use0 𝓛 (raw (fact 𝓤 (IsUnusedBack z seven))) (fact_i 𝓤 (IsUnusedBack z seven) (emp 𝓤) (refl, refl, refl, refl, refl)) $ join ! $
     use0 𝓛 (raw (fact 𝓤 (LooksFirst z six))) (fact_i 𝓤 (LooksFirst z six) (emp 𝓤) (refl, refl, refl, refl, refl)) $ join ! $
     use0 𝓛 (raw (fact 𝓤 (IsUnused z five))) (fact_i 𝓤 (IsUnused z five) (emp 𝓤) (refl, refl, refl, refl, refl)) $ join ! $

@@ -1,10 +1,10 @@
 -- `give_back` is one store, beside a share of what the reader knows. Assumes `Logic`.
-use Rattle.std.proofs.Common.{true, false, arith, lit<, ◌≡◌, ℕ, ◌+◌, ◌^◌, List, [], ◌∷◌, sym, refl, w64}
+use Rattle.std.proofs.Common.{true, false, lit<, ◌≡◌, ℕ, ◌+◌, List, [], ◌∷◌, sym, refl, w64}
 use mir.Syntax.{named}
 use mir.Val.{Val, vint, vptr, vunit}
 use base.Logic.{SProp, emp, via}
 use base.Fml.{Share, Fml, ftrue, flft, fhide, fobs}
-use types.Kit.{‵, raw, ◌⊛◌, given, mean, at_ret, ◌$◌, ◌∵◌, !, qed, by, move, keep, drop, split, split3, join, fsplit, fsplit3, fjoin, fjoin3, fpick, fpack, learn, use0, use1, use3, rewrite, feq_i, flt_i}
+use types.Kit.{‵, raw, ◌⊛◌, given, mean, at_ret, ◌$◌, ◌∵◌, !, qed, by, move, keep, drop, split, split3, join, fsplit, fsplit3, fjoin, fjoin3, fpick, fpack, learn, use0, use1, use3, rewrite, feq_i}
 use types.Run.{stop, fld, load, look, lit, unit_lit, of_opd, bin, no_more, and_then, first, blocks, exec, Calls-last, returns, enter}
 use types.ByLocal.{alloc_all, pass_all, free_all, look_at, get, through, sets, lands_last, env}
 use types.Part.{agg}
@@ -27,15 +27,13 @@ use denote.Triple.Walked.{Stays, stay_dropped, stay_ref, walk_of, Goes-dropped, 
 use Rattle.core.proofs.atomic.Steps.{tail}
 use Rattle.core.proofs.slots.Lent.{pointer_in, pointer_out}
 use Rattle.rtrb.proofs.Walks.{proved, leaves}
-use Rattle.rtrb.proofs.Calls.{seq_cst, fm, found, finds, stored, has_stored, loads, stores, swaps}
-use Rattle.piper_ring.specs.Streams.{Stream}
-use Rattle.piper_ring.specs.Slots.{Waits, Wakes, code_of, Looks, Takes, GivesBack, HandsOver, Regains}
-use Rattle.piper_ring.specs.SlotViews.{of_reader_waits, of_writer_wakes, of_writer_waits, of_reader_wakes}
-use Rattle.piper_ring.specs.Shared.{Names, Consumed, coded_stream, coded_consumed, flag, Placed, common, announced, reader_knows, reader_lends, writer_knows, writer_lends}
-use Rattle.piper_ring.proofs.Rights.{reader_halves, writer_halves}
+use Rattle.rtrb.proofs.Calls.{seq_cst, fm, stored, has_stored, stores}
+use Rattle.piper_ring.specs.Slots.{Wakes, code_of, GivesBack}
+use Rattle.piper_ring.specs.SlotViews.{of_reader_wakes}
+use Rattle.piper_ring.specs.Shared.{Names, Consumed, coded_consumed, flag, Placed, common, reader_knows, reader_lends}
+use Rattle.piper_ring.proofs.Rights.{reader_halves}
 use Rattle.piper_ring.proofs.Steps.{flag_small}
 use Rattle.piper_ring.proofs.Slots.{ReaderWoke, reader_gives_back}
-use Rattle.piper_ring.proofs.Fields.{ghost_val, ReaderWakesData}
 use Rattle.piper_ring.specs.contracts.ring.slots.ReaderWakes as Slot
 use Rattle.piper_ring.specs.contracts.ring.seats.ReadSeat as Seat
 use Rattle.piper_ring.specs.contracts.ring.seats.ReadSeat.give_back.{ended, clauses}

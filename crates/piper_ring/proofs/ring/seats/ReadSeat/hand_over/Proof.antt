@@ -1,11 +1,11 @@
 -- `hand_over` is one store, beside a share of what the reader knows. Assumes `Logic`.
-use Rattle.std.proofs.Common.{true, false, arith, lit<, ◌≡◌, ℕ, ◌+◌, ◌^◌, List, [], ◌∷◌, sym, refl, w64}
+use Rattle.std.proofs.Common.{true, lit<, ◌≡◌, ℕ, ◌+◌, List, [], ◌∷◌, sym, refl, w64}
 use mir.Syntax.{named}
-use mir.Val.{Val, vint, vptr, vunit}
+use mir.Val.{Val, vint, vptr}
 use base.Logic.{SProp, emp, via}
 use base.Fml.{Share, Fml, ftrue, flft, fhide, fobs}
-use types.Kit.{‵, raw, ◌⊛◌, given, mean, at_ret, ◌$◌, ◌∵◌, !, qed, by, move, keep, drop, split, split3, join, fsplit, fsplit3, fjoin, fjoin3, fpick, fpack, learn, use0, use1, use3, rewrite, feq_i, flt_i}
-use types.Run.{stop, fld, load, look, lit, unit_lit, of_opd, bin, no_more, and_then, first, blocks, exec, Calls-last, returns, enter}
+use types.Kit.{‵, raw, ◌⊛◌, given, mean, at_ret, ◌$◌, ◌∵◌, !, qed, by, move, keep, drop, split, split3, join, fsplit, fsplit3, fjoin, fjoin3, fpick, fpack, learn, use0, use1, use3, rewrite, feq_i}
+use types.Run.{stop, fld, load, look, lit, of_opd, bin, no_more, and_then, first, blocks, exec, Calls-last, returns, enter}
 use types.ByLocal.{alloc_all, pass_all, free_all, look_at, get, through, sets, lands_last, env}
 use types.Part.{agg}
 use types.Tokens.{shr_bor-open, obor_close}
@@ -27,15 +27,15 @@ use denote.Triple.Walked.{Stays, stay_dropped, stay_ref, walk_of, Goes-dropped, 
 use Rattle.core.proofs.atomic.Steps.{tail}
 use Rattle.core.proofs.slots.Lent.{pointer_in, pointer_out}
 use Rattle.rtrb.proofs.Walks.{proved, leaves}
-use Rattle.rtrb.proofs.Calls.{seq_cst, fm, found, finds, stored, has_stored, loads, stores, swaps}
+use Rattle.rtrb.proofs.Calls.{seq_cst, fm, stored, has_stored, stores}
 use Rattle.piper_ring.specs.Streams.{Stream}
-use Rattle.piper_ring.specs.Slots.{Waits, Wakes, code_of, Looks, Takes, GivesBack, HandsOver, Regains}
-use Rattle.piper_ring.specs.SlotViews.{of_reader_waits, of_writer_wakes, of_writer_waits, of_reader_wakes}
-use Rattle.piper_ring.specs.Shared.{Names, Consumed, coded_stream, coded_consumed, flag, Placed, common, announced, reader_knows, reader_lends, writer_knows, writer_lends}
-use Rattle.piper_ring.proofs.Rights.{reader_halves, writer_halves}
+use Rattle.piper_ring.specs.Slots.{Waits, code_of, HandsOver}
+use Rattle.piper_ring.specs.SlotViews.{of_reader_waits}
+use Rattle.piper_ring.specs.Shared.{Names, coded_stream, flag, Placed, common, reader_knows, reader_lends}
+use Rattle.piper_ring.proofs.Rights.{reader_halves}
 use Rattle.piper_ring.proofs.Steps.{flag_small}
 use Rattle.piper_ring.proofs.Slots.{ReaderWaited, reader_hands_over}
-use Rattle.piper_ring.proofs.Fields.{ghost_val, ReaderWaitsData, SentData, sent_made}
+use Rattle.piper_ring.proofs.Fields.{ghost_val, SentData, sent_made}
 use Rattle.piper_ring.specs.contracts.ring.slots.ReaderWaits as Slot
 use Rattle.piper_ring.specs.contracts.ring.marks.WriteMark as Mark
 use Rattle.piper_ring.specs.contracts.ring.seats.ReadSeat as Seat

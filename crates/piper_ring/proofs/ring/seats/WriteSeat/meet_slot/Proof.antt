@@ -1,38 +1,33 @@
 -- `meet_slot` is no step of the program. Assumes `Logic`.
-use Rattle.std.proofs.Common.{true, false, arith, lit<, ◌≡◌, ℕ, ◌+◌, ◌^◌, List, [], ◌∷◌, sym, refl, w64}
+use Rattle.std.proofs.Common.{false, ◌≡◌, ℕ, List, [], ◌∷◌, sym, refl}
 use mir.Syntax.{named}
-use mir.Val.{Val, vint, vptr, vunit}
-use base.Logic.{SProp, emp, via}
+use mir.Val.{Val, vptr, vunit}
+use base.Logic.{SProp, emp}
 use base.Fml.{Share, Fml, ftrue, flft, fhide, fobs}
-use types.Kit.{‵, raw, ◌⊛◌, given, mean, at_ret, ◌$◌, ◌∵◌, !, qed, by, move, keep, drop, split, split3, join, fsplit, fsplit3, fjoin, fjoin3, fpick, fpack, learn, use0, use1, use3, rewrite, feq_i, flt_i}
-use types.Run.{stop, fld, load, look, lit, unit_lit, of_opd, bin, no_more, and_then, first, blocks, exec, Calls-last, returns, enter}
-use types.ByLocal.{alloc_all, pass_all, free_all, look_at, get, through, sets, lands_last, env}
-use types.Part.{agg}
+use types.Kit.{‵, raw, ◌⊛◌, given, ◌$◌, ◌∵◌, !, qed, by, move, keep, drop, split, split3, join, fsplit, fsplit3, fjoin, fjoin3, learn, use0, use1, rewrite, feq_i}
+use types.Run.{unit_lit, of_opd, returns, enter}
+use types.ByLocal.{alloc_all, pass_all, free_all, look_at, sets, env}
 use types.Tokens.{shr_bor-open, obor_close}
 use contract.Monad.{fact, fact_i}
 use contract.Running.{tables}
 use denote.Exit.{yes}
 use denote.RattleType.{RattleType, owns}
 use denote.Signature.{types_at, plain}
-use denote.RawPtr.{Ptr, block_ptr, block_of, count_of, at_block}
+use denote.RawPtr.{Ptr}
 use denote.Builtin.{RefOf}
 use denote.Ref.{shr_vals, shr_Tells, mut_vals, mut_Tells}
 use denote.Memory.{hidden_shr}
-use denote.Opens.{hide, unhide}
+use denote.Opens.{unhide}
 use denote.Steps.{nothing, opens, closes}
 use denote.Struct.Struct.{Struct}
 use denote.Struct.Owning.{shape}
 use denote.Struct.Lending.{lent_out}
 use denote.Triple.Walked.{Stays, stay_dropped, stay_ref, walk_of, Goes-dropped, Goes-ref}
-use Rattle.core.proofs.atomic.Steps.{tail}
-use Rattle.core.proofs.slots.Lent.{pointer_in, pointer_out}
 use Rattle.rtrb.proofs.Walks.{proved, leaves}
-use Rattle.rtrb.proofs.Calls.{seq_cst, fm, found, finds, stored, has_stored, loads, stores, swaps}
-use Rattle.piper_ring.specs.Streams.{Stream}
-use Rattle.piper_ring.specs.Slots.{Waits, Wakes, code_of, Looks, Takes, GivesBack, HandsOver, Regains}
-use Rattle.piper_ring.specs.SlotViews.{of_reader_waits, of_writer_wakes, of_writer_waits, of_reader_wakes}
-use Rattle.piper_ring.specs.Shared.{Names, Consumed, coded_stream, coded_consumed, flag, Placed, common, announced, reader_knows, reader_lends, writer_knows, writer_lends}
-use Rattle.piper_ring.proofs.Rights.{reader_halves, writer_halves}
+use Rattle.piper_ring.specs.Slots.{Waits, Wakes, code_of}
+use Rattle.piper_ring.specs.SlotViews.{of_writer_waits, of_reader_wakes}
+use Rattle.piper_ring.specs.Shared.{Names, Consumed, coded_consumed, common, writer_knows, writer_lends}
+use Rattle.piper_ring.proofs.Rights.{writer_halves}
 use Rattle.piper_ring.proofs.Steps.{flag_small}
 use types.Kit.{later, await, use2}
 use Rattle.piper_ring.specs.Slots.{IsRemembered}

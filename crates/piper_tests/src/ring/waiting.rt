@@ -1,0 +1,80 @@
+//! That a side which waits at its slot is found there by the other's next look: in one hand, and on two threads.
+ghost use Rattle.std.specs.Prelude.{◌≡◌, ◌<◌, ◌^◌, ◌*◌};
+
+use crate::pair::same;
+use crate::ring::acts::{receive_due, send, send_due};
+use piper_ring::{ReadEnd, ReadSlots, WriteEnd, WriteSlots, open_with_slots};
+use std::alloc::AllocGlobal;
+use std::process::Abort;
+use std::sync::Wait;
+use std::sync::atomic::{AtomicU64, Ordering};
+use std::thread;
+
+/// The most turns that a reader makes for one wake.
+const MOST_TURNS: u32 = 20_000_000;
+
+/// An end that reads, with what it has of the slots.
+#[derive(Drop)]
+struct Reading {
+    end: ReadEnd,
+    slots: ReadSlots,
+    ghost of_one_ring: { slots.names ≡ end.ring.1.1 },
+}
+
+/// An end that writes, with what it has of the slots.
+#[derive(Drop)]
+struct Writing {
+    end: WriteEnd,
+    slots: WriteSlots,
+    ghost of_one_ring: { slots.names ≡ end.ring.1.1 },
+}
+
+/// Both ends of a new ring. Ends the test where memory is refused.
+fn both(rt: &(impl Abort + AllocGlobal), capacity: usize) -> (Reading, Writing)
+    requires { (0 < capacity) × (2 * capacity < 2 ^ 64) }
+{
+    let (reader, writer, read_slots, write_slots) =
+        open_with_slots(rt.alloc(), capacity).expect(rt, "a ring");
+    let reading = Reading {
+        end: reader,
+        slots: read_slots,
+    };
+    let writing = Writing {
+        end: writer,
+        slots: write_slots,
+    };
+    (reading, writing)
+}
+
+impl Reading {
+    /// Whether it waits now. It is no end to wait where it knows of a byte.
+    fn waits(&mut self) -> bool {
+        self.end.knows_none() && self.end.wait(&mut self.slots)
+    }
+
+    fn wakes(&mut self) -> bool {
+        self.end.wake(&mut self.slots)
+    }
+}
+
+impl Writing {
+    /// Publishes what is due, and wakes a reader that waits. The answer is how much, and whether one waited.
+    fn sends_due(&mut self, sent: usize, most: usize) -> (usize, bool) {
+        let n = send_due(&mut self.end, sent, most);
+        (n, self.end.wake(&mut self.slots))
+    }
+}
+
+#[test]
+fn who_waits_is_found_once(rt: HostRuntime) {
+    let (mut reading, mut writing) = both(&rt, 4);
+    same(&rt, &"nobody waits", writing.sends_due(0, 0), (0, false));
+    same(&rt, &"waits", reading.waits(), true);
+    same(&rt, &"waits again", reading.waits(), true);
+    same(&rt, &"is found", writing.sends_due(0, 3), (3, true));
+    same(&rt, &"is found once", writing.sends_due(3, 0), (0, false));
+    same(&rt, &"has something to do", reading.waits(), false);
+    same(&rt, &"nobody waits for room", reading.wakes(), false);
+    same(&rt, &"reads", receive_due(&mut reading.end, 0, 4), Some(3));
+    same(&rt, &"waits at last", reading.waits(), true);
+}
