@@ -128,6 +128,7 @@ impl ReadEnd {
         ensures pending { IsTrue result → IsPending self.new slots.new }
         ensures ticket { IsTrue result → slots.new.tickets ≡ slots.old.tickets + 1 }
         ensures owned { IsFalse result → slots.old.owns ≡ true → HasToDo self.new }
+        ensures names { slots.new.names ≡ slots.old.names }
         ensures end { (self.new.ring ≡ self.old.ring) × (self.new.taken ≡ self.old.taken) }
     {
         if !self.register(slots) {
@@ -240,6 +241,7 @@ impl WriteEnd {
         ensures pending { IsTrue result → IsWriterPending self.new slots.new }
         ensures ticket { IsTrue result → slots.new.tickets ≡ slots.old.tickets + 1 }
         ensures owned { IsFalse result → slots.old.owns ≡ true → WriterHasToDo self.new }
+        ensures names { slots.new.names ≡ slots.old.names }
         ensures end { (self.new.ring ≡ self.old.ring) × (self.new.sent ≡ self.old.sent) }
     {
         if !self.register(slots) {

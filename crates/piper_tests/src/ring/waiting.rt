@@ -33,8 +33,9 @@ struct Writing {
 fn both(rt: &(impl Abort + AllocGlobal), capacity: usize) -> (Reading, Writing)
     requires { (0 < capacity) × (2 * capacity < 2 ^ 64) }
 {
-    let (reader, writer, read_slots, write_slots) =
-        open_with_slots(rt.alloc(), capacity).expect(rt, "a ring");
+    let (reader, writer, read_slots, write_slots) = open_with_slots(rt.alloc(), capacity).expect(
+        rt, "a ring",
+    );
     let reading = Reading {
         end: reader,
         slots: read_slots,
@@ -77,4 +78,76 @@ fn who_waits_is_found_once(rt: HostRuntime) {
     same(&rt, &"nobody waits for room", reading.wakes(), false);
     same(&rt, &"reads", receive_due(&mut reading.end, 0, 4), Some(3));
     same(&rt, &"waits at last", reading.waits(), true);
+}
+
+/// Publishes all of it in pieces of changing length, counts each reader that it found waiting, and leaves.
+fn send_all(rt: &impl Wait, mut writing: Writing, total: usize, found: &AtomicU64) {
+    let mut sent = 0usize;
+    let mut round = 0usize;
+    for _ in rt.forever() {
+        round = round.wrapping_add(1);
+        let ask = (1 + round % 5).min(total.saturating_sub(sent));
+        let (n, waited) = writing.sends_due(sent, ask);
+        if waited {
+            found.fetch_add(1, Ordering::SeqCst);
+        }
+        sent = sent.wrapping_add(n);
+        if sent == total {
+            break;
+        }
+        if n == 0 {
+            thread::yield_now();
+        }
+    }
+    let Writing { end, mut slots } = writing;
+    let (_, waited) = end.finish_waking(&mut slots);
+    if waited {
+        found.fetch_add(1, Ordering::SeqCst);
+    }
+}
+
+/// Whether another reader was found since `before`.
+fn is_found(found: &AtomicU64, before: u64) -> bool {
+    for _ in 0..MOST_TURNS {
+        if found.load(Ordering::SeqCst) != before {
+            return true;
+        }
+        thread::yield_now();
+    }
+    false
+}
+
+/// Consumes until the ring is closed, and waits wherever nothing is there until it is found. The answer is how many bytes came in order, or none where it was forgotten.
+fn receive_all(rt: &impl Wait, mut reading: Reading, found: &AtomicU64) -> Option<usize> {
+    let mut received = 0usize;
+    for _ in rt.forever() {
+        let is_closed = reading.end.look_closed();
+        let n = receive_due(&mut reading.end, received, 3)?;
+        received = received.wrapping_add(n);
+        if n > 0 {
+            continue;
+        }
+        if is_closed {
+            return Some(received);
+        }
+        let before = found.load(Ordering::SeqCst);
+        if reading.waits() && !is_found(found, before) {
+            return None;
+        }
+    }
+    unreachable!()
+}
+
+#[test]
+fn no_reader_is_forgotten(rt: HostRuntime) {
+    for capacity in [1usize, 3, 64] {
+        let (reading, writing) = both(&rt, capacity);
+        let found = AtomicU64::new(0);
+        let (_, received) = thread::join(
+            &rt,
+            || send_all(&rt, writing, 50_000, &found),
+            || receive_all(&rt, reading, &found),
+        );
+        same(&rt, &"received in order", received, Some(50_000));
+    }
 }
