@@ -1,0 +1,201 @@
+//! Many pipes at once: all are made, then each is filled and emptied, and then all are let go. By tasks of one pool, by the calls that never wait, or, to compare, by streams in memory of `tokio`.
+#![tactic(auto)]
+
+ghost use Rattle.std.specs.Prelude.{◌≡◌};
+ghost use Rattle.piper.specs.Handles.{read_source};
+
+use futures::Future;
+use futures::executor::{LocalPool, LocalSpawner};
+use futures::task::{Context, Poll};
+use futures::test::MockTask;
+use piper::{OwnedReader, OwnedWriter, owned_pipe};
+use std::alloc::AllocGlobal;
+use std::process::ExitCode;
+use std::random::RandomSource;
+use std::rt::Clock;
+use std::sync::atomic::AtomicU64;
+use std::sync::atomic::Ordering::SeqCst;
+use std::sync::{Arc, Wait};
+use std::time::Instant;
+use std::{env, io};
+use tokio::io::{AsyncRead, AsyncWrite, duplex};
+
+const USAGE: &str = "usage: many_pipes [tasks|pipes|tokio COUNT]
+Makes COUNT pipes of 64 bytes, moves 64 bytes through each, and lets them go: with a task for each reader in one pool, by the calls that never wait, or by as many streams of tokio in place of the pipes. It prints how many bytes came, and nanoseconds a pipe.
+Without arguments it makes 1,000 by each means, and prints no time.";
+
+/// What goes through each.
+const BYTES: [u8; 64] = [7; 64];
+
+/// Takes all bytes of a pipe, and adds how many came to a sum.
+#[derive(Drop)]
+struct Counting<H: Wait + Clone + Drop> {
+    reader: OwnedReader<H>,
+    sum: Arc<AtomicU64>,
+}
+
+impl<H: Wait + Clone + Drop> Future for Counting<H> {
+    type Output = ();
+
+    ghost needs = { λ counting s. s ≡ read_source counting.reader.reader };
+
+    fn poll(&mut self, cx: &mut Context<'_>) -> Poll<()> {
+        let mut place = [0; 64];
+        match self.reader.poll_drain_bytes(cx, &mut place) {
+            Poll::Pending => Poll::Pending,
+            Poll::Ready(Ok(count)) if count > 0 => {
+                self.sum.fetch_add(count as u64, SeqCst);
+                cx.yield_now()
+            }
+            Poll::Ready(_) => Poll::Ready(()),
+        }
+    }
+}
+
+/// Makes the pipes, and a task for each reader. The writers are what is left to the caller.
+fn spawn_all<R>(
+    rt: &R,
+    count: usize,
+    spawner: &LocalSpawner<Counting<R>>,
+    came: &Arc<AtomicU64>,
+) -> io::Result<Vec<OwnedWriter<R>>>
+where
+    R: Wait + AllocGlobal + Clone + Drop,
+{
+    let mut writers = Vec::new(rt.alloc());
+    for _ in 0..count {
+        let (reader, writer) = owned_pipe(rt, BYTES.len())?;
+        let sum = Arc::try_clone(came)?;
+        if spawner.spawn(Counting { reader, sum }).is_err() {
+            return Err(io::ErrorKind::OutOfMemory.into());
+        }
+        writers.push(writer)?;
+    }
+    Ok(writers)
+}
+
+/// With a task for each reader, which takes all up to the end.
+fn by_tasks<R>(rt: &R, count: usize) -> io::Result<u64>
+where
+    R: Wait + RandomSource + AllocGlobal + Clone + Drop,
+{
+    let came = Arc::new(rt.alloc(), AtomicU64::new(0))?;
+    let mut pool = LocalPool::new(rt)?;
+    let mut writers = spawn_all(rt, count, &pool.spawner()?, &came)?;
+    for writer in writers.iter_mut() {
+        writer.try_fill(&BYTES);
+    }
+    drop(writers);
+    pool.run(rt);
+    Ok(came.load(SeqCst))
+}
+
+/// By the calls that never wait.
+fn by_pipes<R>(rt: &R, count: usize) -> io::Result<u64>
+where
+    R: Wait + AllocGlobal + Clone + Drop,
+{
+    let mut pipes = Vec::new(rt.alloc());
+    for _ in 0..count {
+        pipes.push(owned_pipe(rt, BYTES.len())?)?;
+    }
+    let mut came = 0u64;
+    for (reader, writer) in pipes.iter_mut() {
+        let mut place = [0; 64];
+        writer.try_fill(&BYTES);
+        came = came.wrapping_add(reader.try_drain(&mut place) as u64);
+    }
+    Ok(came)
+}
+
+/// By streams of `tokio`.
+fn by_tokio<R>(rt: &R, count: usize) -> io::Result<u64>
+where
+    R: RandomSource + AllocGlobal,
+{
+    let task = MockTask::new(rt)?;
+    let mut streams = Vec::new(rt.alloc());
+    for _ in 0..count {
+        streams.push(duplex(rt.alloc(), BYTES.len())?)?;
+    }
+    let mut came = 0u64;
+    for (near, far) in streams.iter_mut() {
+        let mut place = [0; 64];
+        let _written = task.enter(|cx| near.poll_write(cx, &BYTES));
+        if let Poll::Ready(Ok(count)) = task.enter(|cx| far.poll_read(cx, &mut place)) {
+            came = came.wrapping_add(count as u64);
+        }
+    }
+    Ok(came)
+}
+
+/// By which means.
+#[derive(Clone, Copy)]
+enum Means {
+    Tasks,
+    Pipes,
+    Tokio,
+}
+
+impl Means {
+    fn of(word: &str) -> Option<Means> {
+        match word {
+            "tasks" => Some(Means::Tasks),
+            "pipes" => Some(Means::Pipes),
+            "tokio" => Some(Means::Tokio),
+            _ => None,
+        }
+    }
+}
+
+/// What the arguments ask for.
+fn asked(words: &[String]) -> Option<(Means, usize)> {
+    match words {
+        [means, count] => {
+            let count = count.as_str().parse::<usize>().ok()?;
+            Some((Means::of(means.as_str())?, count))
+        }
+        _ => None,
+    }
+}
+
+fn run<R>(rt: &R, means: Means, count: usize) -> io::Result<u64>
+where
+    R: Wait + RandomSource + AllocGlobal + Clone + Drop,
+{
+    match means {
+        Means::Tasks => by_tasks(rt, count),
+        Means::Pipes => by_pipes(rt, count),
+        Means::Tokio => by_tokio(rt, count),
+    }
+}
+
+fn timed_run<R>(rt: &R, means: Means, count: usize) -> io::Result<()>
+where
+    R: Wait + Clock + Print + RandomSource + AllocGlobal + Clone + Drop,
+{
+    let begun = Instant::now(rt)?;
+    let came = run(rt, means, count)?;
+    let nanoseconds = begun.elapsed(rt)?.as_nanos() / count.max(1) as u128;
+    println!(rt; "bytes={came} ns/pipe={nanoseconds}")
+}
+
+fn main(rt: HostRuntime) -> io::Result<ExitCode> {
+    let mut words = Vec::new(rt.alloc());
+    for word in env::args(&rt)?.skip(1) {
+        words.push(word)?;
+    }
+    if words.is_empty() {
+        for means in [Means::Tasks, Means::Pipes, Means::Tokio] {
+            let came = run(&rt, means, 1_000)?;
+            println!(&rt; "bytes={came}")?;
+        }
+        return Ok(ExitCode::SUCCESS);
+    }
+    let Some((means, count)) = asked(words.as_slice()) else {
+        eprintln!(&rt; "{USAGE}")?;
+        return Ok(ExitCode::from(1));
+    };
+    timed_run(&rt, means, count)?;
+    Ok(ExitCode::SUCCESS)
+}
