@@ -3,7 +3,8 @@ use Rattle.std.proofs.Common.{◌≡◌, ◌==◌, ℕ, ◌+◌, ◌∙◌, refl
 use Rattle.std.proofs.lemmas.Bool.Decides.{nat_tests}
 use Rattle.futures.specs.declared.task.Poll.{Poll}
 use Rattle.futures.specs.declared.task.Poll.TheVariants.{Ready}
-use Rattle.piper_sides.specs.Table.{Next, goes_on, ends, count_answer, write_step, writer_moved, writer_rounds, nothing, moved, waker, flag}
+use Rattle.piper_sides.specs.declared.table.Found.TheVariants.{Nothing as nothing, Moved as moved, Waker as waker, Flag as flag}
+use Rattle.piper_sides.specs.Table.{Next, goes_on, ends, count_answer, write_step, writer_moved, writer_rounds}
 use Rattle.piper_sides.specs.declared.events.Answer.{Answer}
 use Rattle.piper_sides.specs.declared.table.Form.{Form}
 use Rattle.piper_sides.specs.declared.table.Form.TheVariants.{Try, Polling}

@@ -2,7 +2,8 @@
 use Rattle.std.proofs.Common.{◌≡◌, ◌==◌, ℕ, ◌+◌, ◌*◌, ◌^◌, ◌<◌, ◌≤◌, ◌⊎◌, Bool, false, List, [], ◌++◌, take, drop, length, Ok, Err, refl, sym, ap, ◌∙◌, subst, append_assoc, append-nil, take-append-drop, length-append, length-take-le, arith}
 use Rattle.std.proofs.lemmas.Bool.Decides.{nat_tests}
 use Rattle.futures.specs.declared.task.Poll.TheVariants.{Ready}
-use Rattle.piper_sides.specs.Table.{Next, goes_on, read_step, reader_moved, nothing, moved, waker}
+use Rattle.piper_sides.specs.declared.table.Found.TheVariants.{Nothing as nothing, Moved as moved, Waker as waker}
+use Rattle.piper_sides.specs.Table.{Next, goes_on, read_step, reader_moved}
 use Rattle.piper_sides.specs.declared.table.Form.{Form}
 use Rattle.piper_sides.specs.declared.table.AfterRead.TheVariants as afterward
 use Rattle.piper_sides.specs.declared.table.ReadPoint.{ReadPoint}

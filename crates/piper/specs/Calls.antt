@@ -8,7 +8,8 @@ use Rattle.piper_sides.specs.declared.memory.OutOfMemory.{OutOfMemory}
 use Rattle.piper_sides.specs.declared.polling.Polled.TheVariants as told
 use Rattle.piper_sides.specs.declared.table.ReadPoint.{ReadPoint}
 use Rattle.piper_sides.specs.declared.table.WritePoint.{WritePoint}
-use Rattle.piper_sides.specs.Table.{Next, read_step, write_step, nothing}
+use Rattle.piper_sides.specs.declared.table.Found.TheVariants.{Nothing as nothing}
+use Rattle.piper_sides.specs.Table.{Next, read_step, write_step}
 use Rattle.piper.specs.Slots.{found_in}
 use Rattle.piper.specs.declared.slot.Taken.{Taken}
 

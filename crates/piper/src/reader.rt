@@ -2,7 +2,7 @@
 ghost use Rattle.std.specs.Prelude.{◌≡◌, ◌<◌, ◌≤◌, ◌++◌, length, take, drop, IsTrue, Ok, true, false};
 ghost use Rattle.futures.specs.Task.{Covers, Keeps};
 ghost use Rattle.futures.specs.Poll.{OnPending};
-ghost use Rattle.piper_sides.specs.Table.{read_action, read_step, waker};
+ghost use Rattle.piper_sides.specs.Table.{read_action, read_step};
 ghost use Rattle.piper_ring.specs.ReadView.{MayBeUnread, KnowsEnd, in_one_piece};
 ghost use Rattle.piper.specs.Counts.{ReaderCompares};
 ghost use Rattle.piper.specs.Ends.{IsEnded, ReaderConsumed};
@@ -17,7 +17,7 @@ use futures::task::{Context, Poll};
 use piper_ring::{LastReadMark, OutOfMemory, ReadMark};
 use piper_sides::calls::Side;
 use piper_sides::read_call::ReadCall;
-use piper_sides::table::{Action, Purpose, ReadPoint};
+use piper_sides::table::{Action, Found, Purpose, ReadPoint};
 use std::sync::Wait;
 
 impl<H: Wait + Clone + Drop> Reader<H> {
@@ -144,7 +144,7 @@ impl<H: Wait + Clone + Drop> Reader<H> {
     #[inline(always)]
     pub(crate) fn wake_writer(&mut self, call: ReadCall) -> ReadCall
         requires next { read_action call.point ≡ Action.Take Side.Writer }
-        ensures step { result ≡ read_step call.point (waker false) }
+        ensures step { result ≡ read_step call.point (Found.Waker false) }
         ensures woke { NotifiesWriter self.new }
         ensures end { self.new.end ≡ self.old.end }
         ensures rest { SameReaderButWoke self.old self.new }

@@ -2,7 +2,7 @@
 ghost use Rattle.std.specs.Prelude.{◌≡◌, ◌+◌, ◌-◌, ◌<◌, ◌≤◌, ◌++◌, length, take, drop, IsTrue, Ok, true, false};
 ghost use Rattle.futures.specs.Task.{Covers, Keeps};
 ghost use Rattle.futures.specs.Poll.{OnPending};
-ghost use Rattle.piper_sides.specs.Table.{write_action, write_step, waker};
+ghost use Rattle.piper_sides.specs.Table.{write_action, write_step};
 ghost use Rattle.piper_ring.specs.WriteView.{MayBeUnread};
 ghost use Rattle.piper.specs.Counts.{WriterCompares};
 ghost use Rattle.piper.specs.Ends.{WriterPublished, WriterShut};
@@ -15,7 +15,7 @@ use crate::slot::Notified;
 use futures::task::{Context, Poll};
 use piper_ring::{OutOfMemory, WriteMark};
 use piper_sides::calls::Side;
-use piper_sides::table::{Action, Purpose, WritePoint};
+use piper_sides::table::{Action, Found, Purpose, WritePoint};
 use piper_sides::write_call::WriteCall;
 use std::sync::Wait;
 
@@ -130,7 +130,7 @@ impl<H: Wait + Clone + Drop> Writer<H> {
     #[inline(always)]
     pub(crate) fn wake_reader(&mut self, call: WriteCall) -> WriteCall
         requires next { write_action call.point ≡ Action.Take Side.Reader }
-        ensures step { result ≡ write_step call.point (waker false) }
+        ensures step { result ≡ write_step call.point (Found.Waker false) }
         ensures woke { NotifiesReader self.new }
         ensures end { self.new.end ≡ self.old.end }
         ensures rest { SameWriterButWoke self.old self.new }

@@ -19,7 +19,9 @@ use Rattle.piper_sides.specs.declared.table.ReadPoint.{ReadPoint}
 use Rattle.piper_sides.specs.declared.table.ReadPoint.TheVariants as at
 use Rattle.piper_sides.specs.Open.{is_granted}
 use Rattle.piper_sides.specs.Side.{head_store}
-use Rattle.piper_sides.specs.Table.{Found, Next, nothing, refreshed, granted, waker, goes_on, read_action, read_after, reader_looks_for, reader_looked, reader_looked_again, reader_registered, reader_is_true, reader_moved, writer_taken}
+use Rattle.piper_sides.specs.declared.table.Found.{Found}
+use Rattle.piper_sides.specs.declared.table.Found.TheVariants.{Nothing as nothing, Refreshed as refreshed, Granted as granted, Waker as waker}
+use Rattle.piper_sides.specs.Table.{moved_in, Next, goes_on, read_action, read_after, reader_looks_for, reader_looked, reader_looked_again, reader_registered, reader_is_true, reader_moved, writer_taken}
 use Rattle.piper_machine.specs.declared.destination.Destination.{Destination}
 use Rattle.piper_machine.specs.declared.destination.Destination.TheVariants.{Slice, Acts}
 use Rattle.piper_machine.specs.Pipe.{Pipe, begun}
@@ -39,7 +41,7 @@ use Rattle.piper_machine.specs.Alone.{Ended, heard, is_draining, reader_alone}
 use Rattle.piper_machine.proofs.Alone.{reader_rest, reads_left, read_step}
 use Rattle.piper_machine.proofs.Copies.{drain-rest}
 use Rattle.piper_machine.proofs.Falling.{drain-falls}
-use Rattle.piper_machine.proofs.Standing.{IsSettled, ReaderStands, moved_of, reads-on, reader-settled, reader-stands}
+use Rattle.piper_machine.proofs.Standing.{IsSettled, ReaderStands, reads-on, reader-settled, reader-stands}
 use Rattle.piper_machine.proofs.Rounds.{next_part, HasOneWake, one_wake-room, one_wake-none}
 
 -- the pipe of a call that holds this destination
@@ -234,7 +236,7 @@ called destination found p q r answer calls draining found_is round =
     gone-on p q r rest answer (read_step q.reader u).pipe pipe (settled-destination answer r.destination q.destination kept) (drained-by p u answer draining answer_is)
 
 -- the unread bytes: a store that is next gives them up
-no-store : (capacity : ℕ) (point : ReadPoint) (found : Found) → reader_state point ≡ Busy → moved_of found ≡ 0 → head_store (read_after capacity point found).point ≡ 0
+no-store : (capacity : ℕ) (point : ReadPoint) (found : Found) → reader_state point ≡ Busy → moved_in found ≡ 0 → head_store (read_after capacity point found).point ≡ 0
 no-store capacity point found busy none = let store = (reads-on capacity point found busy).store in omega arith
 
 pub calls-store : (point : ReadPoint) → read_action point ≡ does.CallDestination → head_store point ≡ 0

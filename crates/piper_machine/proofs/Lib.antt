@@ -22,6 +22,7 @@ pub mod Copies
 pub mod Filling
 pub mod Draining
 pub mod Standing
+pub mod Making
 pub mod Falling
 pub mod BySteps
 pub mod Whole

@@ -11,9 +11,10 @@ use Rattle.piper_sides.specs.declared.table.WritePoint.{WritePoint}
 use Rattle.piper_sides.specs.declared.table.WritePoint.TheVariants as on
 use Rattle.piper_sides.specs.Open.{no_call}
 use Rattle.piper_sides.specs.Index.{distance, place_of, advanced}
-use Rattle.piper_sides.specs.Side.{Reading, Writing, IsReading, IsWriting, known_of, room_of}
+use Rattle.piper_sides.specs.Side.{Reading, Writing, IsReading, IsWriting, known_of, room_of, tail_store}
 use Rattle.piper_sides.specs.SideSteps.{writing_answer}
-use Rattle.piper_sides.specs.Table.{Found, Next, write_after}
+use Rattle.piper_sides.specs.declared.table.Found.{Found}
+use Rattle.piper_sides.specs.Table.{Next, write_after}
 use Rattle.piper_machine.specs.Pipe.{Pipe}
 use Rattle.piper_machine.specs.Step.{filled_out, lent_count_after, round_answer}
 use Rattle.piper_machine.specs.Machine.{pipe_of, IsMachine}
@@ -99,8 +100,8 @@ lent-settled true None count bytes = refl
 lent-settled false (Some answer) count bytes = refl
 lent-settled false None count bytes = refl
 
-pub writing-settled : (w : Writing) (fills : Bool) (answer : Option Answer) → IsWriting w → (IsSome answer → w.point ≡ on.Idle) → IsWriting (record w { lent = lent_count_after fills answer w.lent })
-writing-settled w true (Some answer) writing idle = record {
+pub writing-settled : (w : Writing) (fills : Bool) (answer : Option Answer) → IsWriting w → (IsSome answer → tail_store w.point ≡ 0) → IsWriting (record w { lent = lent_count_after fills answer w.lent })
+writing-settled w true (Some answer) writing rests = record {
   capacity = writing.capacity;
   tail = writing.tail;
   head = writing.head;
@@ -110,9 +111,9 @@ writing-settled w true (Some answer) writing idle = record {
   zeroed = writing.zeroed;
   lent_zeroed = omega (arith, writing.lent_zeroed);
   shut = λ is_shut. refl;
-  store = rw (idle refl) (omega arith);
+  store = rw (rests refl) (omega arith);
   sum = writing.sum;
 }
-writing-settled w true None writing idle = writing
-writing-settled w false (Some answer) writing idle = writing
-writing-settled w false None writing idle = writing
+writing-settled w true None writing rests = writing
+writing-settled w false (Some answer) writing rests = writing
+writing-settled w false None writing rests = writing

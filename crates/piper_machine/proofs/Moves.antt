@@ -13,7 +13,8 @@ use Rattle.piper_sides.specs.Index.{distance, place_of, advanced}
 use Rattle.piper_machine.specs.Places.{places_left}
 use Rattle.piper_machine.specs.Lend.{Lendable, lend_limit}
 use Rattle.piper_machine.specs.Move.{published, consumed}
-use Rattle.piper_sides.specs.Table.{write_after, refreshed}
+use Rattle.piper_sides.specs.declared.table.Found.TheVariants.{Refreshed as refreshed}
+use Rattle.piper_sides.specs.Table.{write_after}
 use Rattle.piper_sides.specs.Side.{Reading, Writing, known_of, room_of, left_of, lend_length}
 use Rattle.piper_machine.specs.Buffer.{between, written}
 use Rattle.piper_machine.specs.Machine.{pipe_of, IsMachine}

@@ -12,7 +12,8 @@ use Rattle.piper_sides.specs.declared.table.Form.{Form}
 use Rattle.piper_sides.specs.declared.table.WritePoint.{WritePoint}
 use Rattle.piper_sides.specs.declared.table.WritePoint.TheVariants as on
 use Rattle.piper_sides.specs.declared.table.AfterWrite.TheVariants as behind
-use Rattle.piper_sides.specs.Table.{write_action, writer_moved, moved}
+use Rattle.piper_sides.specs.declared.table.Found.TheVariants.{Moved as moved}
+use Rattle.piper_sides.specs.Table.{write_action, writer_moved}
 use Rattle.piper_machine.specs.Pipe.{Pipe}
 use Rattle.piper_machine.specs.Lend.{Lendable, lending}
 use Rattle.piper_machine.specs.Round.{given, found_of}

@@ -22,7 +22,8 @@ use Rattle.piper_sides.specs.declared.table.ReadPoint.{ReadPoint}
 use Rattle.piper_sides.specs.declared.table.ReadPoint.TheVariants as at
 use Rattle.piper_sides.specs.Open.{is_granted, is_yield_granted}
 use Rattle.piper_sides.specs.Side.{head_store}
-use Rattle.piper_sides.specs.Table.{Next, granted, read_after, query_answer, copy_answer, count_answer, failed_answer, end_or_pending, yield_answer, reader_found, reader_looks_for, reader_looked, reader_looked_again, reader_registered, reader_is_true, reader_moved, writer_taken, read_done}
+use Rattle.piper_sides.specs.declared.table.Found.TheVariants.{Granted as granted}
+use Rattle.piper_sides.specs.Table.{Next, read_after, query_answer, copy_answer, count_answer, failed_answer, end_or_pending, yield_answer, reader_found, reader_looks_for, reader_looked, reader_looked_again, reader_registered, reader_is_true, reader_moved, writer_taken, read_done}
 use Rattle.piper_sides.specs.Log.{answer_event}
 use Rattle.piper_machine.specs.declared.destination.Destination.{Destination}
 use Rattle.piper_machine.specs.declared.destination.Destination.TheVariants.{Slice, Acts}

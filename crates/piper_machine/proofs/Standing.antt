@@ -19,7 +19,9 @@ use Rattle.piper_sides.specs.declared.table.WritePoint.{WritePoint}
 use Rattle.piper_sides.specs.declared.table.WritePoint.TheVariants as on
 use Rattle.piper_sides.specs.Index.{place_of}
 use Rattle.piper_sides.specs.Side.{head_store, tail_store}
-use Rattle.piper_sides.specs.Table.{Found, unread, refreshed, flag, granted, waker, moved, failed, Next, read_action, read_after, write_after, write_action, reader_moved, writer_moved, writer_is_open}
+use Rattle.piper_sides.specs.declared.table.Found.{Found}
+use Rattle.piper_sides.specs.declared.table.Found.TheVariants.{Unread as unread, Refreshed as refreshed, Flag as flag, Granted as granted, Waker as waker, Moved as moved, Failed as failed}
+use Rattle.piper_sides.specs.Table.{moved_in, Next, read_action, read_after, write_after, write_action, reader_moved, writer_moved, writer_is_open}
 use Rattle.piper_machine.specs.declared.destination.Destination.{Destination}
 use Rattle.piper_machine.specs.declared.destination.Destination.TheVariants.{Slice, Acts}
 use Rattle.piper_machine.specs.Pipe.{Pipe}
@@ -37,14 +39,9 @@ abbrev pub IsSettled : Option Answer → SideState → Type 0
 IsSettled None state = state ≡ Busy
 IsSettled (Some answer) state = cannot_go state ≡ None → ⊥
 
--- how many bytes a call of a source or destination moved
-abbrev pub moved_of : Found → ℕ
-moved_of (moved n) = n
-moved_of found = 0
-
 pub record IsNextRead (found : Found) (next : Next ReadPoint) : Type 0 where
   pub settled : IsSettled next.answer (reader_state next.point)
-  pub store : head_store next.point ≤ moved_of found
+  pub store : head_store next.point ≤ moved_in found
 
 reader_moves-on : (none : Bool) (n : ℕ) (form : Form) (sum : ℕ) → IsNextRead (moved n) (reader_moved none n form sum)
 reader_moves-on true n form sum = record { settled = λ none. absurd (cc); store = omega arith }
@@ -91,7 +88,7 @@ pub record ReaderStands (point : ReadPoint) (p : Pipe) : Type 0 where
   pub known : p.known ≤ length p.unread
   pub store : head_store point ≤ peeked_count p
 
-taken-within : (destination : Destination) (most : ℕ) → moved_of (found_of (taken most destination)) ≤ most
+pub taken-within : (destination : Destination) (most : ℕ) → moved_in (found_of (taken most destination)) ≤ most
 taken-within (Slice size) most = omega arith
 taken-within (Acts []) most = omega arith
 taken-within (Acts (dest.Fail ∷ acts)) most = omega arith
@@ -106,7 +103,7 @@ module _ (point : ReadPoint) (p : Pipe) (busy : reader_state point ≡ Busy) (st
   abbrev next : Found → ReadPoint
   next found = (read_after p.capacity point found).point
 
-  within : (found : Found) (most : ℕ) → moved_of found ≤ most → head_store (next found) ≤ most
+  within : (found : Found) (most : ℕ) → moved_in found ≤ most → head_store (next found) ≤ most
   within found most few = let store = (reads-on p.capacity point found busy).store in omega arith
 
 pub reader-stands : (point : ReadPoint) (p : Pipe) → reader_state point ≡ Busy → ReaderStands point p → let s = read_step point p in ReaderStands s.pipe.reader s.pipe
@@ -138,7 +135,7 @@ is_first point = false
 
 pub record IsNextWrite (point : WritePoint) (found : Found) (next : Next WritePoint) : Type 0 where
   pub settled : IsSettled next.answer (writer_state next.point)
-  pub store : tail_store next.point ≤ tail_store point + moved_of found
+  pub store : tail_store next.point ≤ tail_store point + moved_in found
   pub unclosed : saw_open next.point ≡ true → saw_open point ≡ true
   pub plain : closes_round next.point ≡ false
 
@@ -230,7 +227,7 @@ writes-on capacity room on.TakeWriter (waker true) busy later plain = record { s
 writes-on capacity room on.WakeWriter found busy later plain = record { settled = λ none. absurd (cc); store = omega arith; unclosed = λ saw. absurd (cc); plain = refl }
 writes-on capacity room point found busy later plain = record { settled = refl; store = omega arith; unclosed = λ saw. saw; plain = refl }
 
-given-within : (acts : List SourceAct) (lent : List ℕ) (form : Form) (sum : ℕ) (p : Pipe) → MayOffer (on.CallSource form sum) acts lent p → moved_of (found_of (given (length lent) acts)) ≤ p.room
+given-within : (acts : List SourceAct) (lent : List ℕ) (form : Form) (sum : ℕ) (p : Pipe) → MayOffer (on.CallSource form sum) acts lent p → moved_in (found_of (given (length lent) acts)) ≤ p.room
 given-within [] lent form sum p may = omega arith
 given-within (source.Fail ∷ acts) lent form sum p may = omega arith
 given-within (source.Bytes [] ∷ acts) lent form sum p may = omega arith

@@ -27,7 +27,8 @@ use Rattle.piper_sides.specs.declared.table.WritePoint.{WritePoint}
 use Rattle.piper_sides.specs.declared.table.WritePoint.TheVariants as on
 use Rattle.piper_sides.specs.Open.{is_granted, is_yield_granted}
 use Rattle.piper_sides.specs.Side.{tail_store}
-use Rattle.piper_sides.specs.Table.{Next, nothing, granted, look_answer, write_after, query_answer, copy_answer, count_answer, failed_answer, end_or_pending, yield_answer, writer_found, writer_is_open, writer_looked, writer_looked_again, writer_registered, writer_is_true, writer_moved, writer_rounds, reader_taken, write_done, own_taken}
+use Rattle.piper_sides.specs.declared.table.Found.TheVariants.{Nothing as nothing, Granted as granted}
+use Rattle.piper_sides.specs.Table.{Next, look_answer, write_after, query_answer, copy_answer, count_answer, failed_answer, end_or_pending, yield_answer, writer_found, writer_is_open, writer_looked, writer_looked_again, writer_registered, writer_is_true, writer_moved, writer_rounds, reader_taken, write_done, own_taken}
 use Rattle.piper_sides.specs.Log.{answer_event}
 use Rattle.piper_machine.specs.Pipe.{Pipe}
 use Rattle.piper_machine.specs.Round.{given, found_of, moved_by, unspent, left_of_source}

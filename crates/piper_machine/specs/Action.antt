@@ -17,7 +17,8 @@ use Rattle.piper_machine.specs.Places.{peeked_count}
 use Rattle.piper_machine.specs.Move.{published, consumed}
 use Rattle.piper_machine.specs.Source.{bytes_of}
 use Rattle.piper_machine.specs.Round.{given, taken, left_of_source, left_of_destination, found_of, moved_by}
-use Rattle.piper_sides.specs.Table.{Found, nothing, unread, refreshed, flag, granted, waker}
+use Rattle.piper_sides.specs.declared.table.Found.{Found}
+use Rattle.piper_sides.specs.declared.table.Found.TheVariants.{Nothing as nothing, Unread as unread, Refreshed as refreshed, Flag as flag, Granted as granted, Waker as waker}
 
 -- what the open call of a side holds
 abbrev pub call_of : Side → Pipe → OpenCall

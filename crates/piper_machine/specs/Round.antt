@@ -7,7 +7,8 @@ use Rattle.piper_sides.specs.declared.scripted.DestAct.{DestAct}
 use Rattle.piper_sides.specs.declared.scripted.DestAct.TheVariants as dest
 use Rattle.piper_sides.specs.declared.calls.Call.{Call}
 use Rattle.piper_sides.specs.declared.calls.Call.TheVariants as call
-use Rattle.piper_sides.specs.Table.{Found, moved, failed}
+use Rattle.piper_sides.specs.declared.table.Found.{Found}
+use Rattle.piper_sides.specs.declared.table.Found.TheVariants.{Moved as moved, Failed as failed}
 use Rattle.piper_machine.specs.declared.destination.Destination.{Destination}
 use Rattle.piper_machine.specs.declared.destination.Destination.TheVariants.{Slice, Acts}
 

@@ -35,7 +35,8 @@ use Rattle.piper_machine.specs.Pipe.{Pipe}
 use Rattle.piper_sides.specs.Call.{side_of, kind_of, waker_of}
 use Rattle.piper_machine.specs.Look.{context}
 use Rattle.piper_machine.specs.Lend.{Lendable, lending}
-use Rattle.piper_sides.specs.Table.{Found, read_action, read_after, reader_looks_for, write_action, write_after, ends_fill}
+use Rattle.piper_sides.specs.declared.table.Found.{Found}
+use Rattle.piper_sides.specs.Table.{read_action, read_after, reader_looks_for, write_action, write_after, ends_fill}
 use Rattle.piper_machine.specs.Action.{performed, found_by, logged_of}
 
 -- the pipe after a step, what the call answers if it was its last, and what is logged

@@ -84,6 +84,11 @@ tail_store (on.RoundClosed n form sum) = n
 tail_store (on.StoreTail n next) = n
 tail_store point = 0
 
+-- whether the step that comes next publishes bytes
+abbrev pub publishes : WritePoint → Bool
+publishes (on.StoreTail n next) = true
+publishes point = false
+
 -- how many bytes the open copy has moved, with those of a store that is next
 abbrev pub read_round : AfterRead → ℕ
 read_round (afterward.Round form sum) = sum

@@ -7,7 +7,9 @@ use Rattle.piper_sides.specs.Index.{distance}
 use Rattle.piper_sides.specs.ReaderIndices.{ReaderIndices}
 use Rattle.piper_sides.specs.WriterIndices.{WriterIndices}
 use Rattle.piper_sides.specs.Side.{Reading, Writing, room_of}
-use Rattle.piper_sides.specs.Table.{Found, refreshed, read_after, write_after}
+use Rattle.piper_sides.specs.declared.table.Found.{Found}
+use Rattle.piper_sides.specs.declared.table.Found.TheVariants.{Refreshed as refreshed}
+use Rattle.piper_sides.specs.Table.{read_after, write_after}
 
 -- a side is its indices and its point
 abbrev pub reading_of : ReaderIndices → ReadPoint → Reading

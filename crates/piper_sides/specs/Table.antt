@@ -1,5 +1,5 @@
 -- The call table: which step a side makes at each point of a call, and where what it found leads.
-use Rattle.std.specs.Prelude.{◌≡◌, ℕ, ◌+◌, Bool, true, false, Option, None, Some, ◌==◌, Result, Ok, Err}
+use Rattle.std.specs.Prelude.{◌≡◌, ℕ, ◌+◌, ◌<◌, ◌^◌, ⊤, Bool, true, false, Option, None, Some, ◌==◌, Result, Ok, Err}
 use Rattle.piper_sides.specs.declared.calls.Side.TheVariants.{Reader, Writer}
 use Rattle.piper_sides.specs.declared.calls.Query.{Query}
 use Rattle.piper_sides.specs.declared.calls.Query.TheVariants.{Len, IsEmpty, IsFull}
@@ -18,27 +18,12 @@ use Rattle.piper_sides.specs.declared.table.AfterRead.{AfterRead}
 use Rattle.piper_sides.specs.declared.table.AfterRead.TheVariants as afterward
 use Rattle.piper_sides.specs.declared.table.AfterWrite.{AfterWrite}
 use Rattle.piper_sides.specs.declared.table.AfterWrite.TheVariants as behind
+use Rattle.piper_sides.specs.declared.table.Found.{Found}
+use Rattle.piper_sides.specs.declared.table.Found.TheVariants.{Nothing as nothing, Unread as unread, Refreshed as refreshed, Flag as flag, Granted as granted, Waker as waker, Moved as moved, Failed as failed}
 use Rattle.piper_sides.specs.declared.table.ReadPoint.{ReadPoint}
 use Rattle.piper_sides.specs.declared.table.ReadPoint.TheVariants as at
 use Rattle.piper_sides.specs.declared.table.WritePoint.{WritePoint}
 use Rattle.piper_sides.specs.declared.table.WritePoint.TheVariants as on
-
--- what a step found
-pub data Found : Type 0 where
-  nothing : Found
-  -- so many unread bytes
-  unread : ℕ → Found
-  -- a refresh: whether the side knows nothing even now
-  refreshed : Bool → Found
-  flag : Bool → Found
-  -- whether a waker's clone was granted
-  granted : Bool → Found
-  -- whether a waker stood in the slot that was emptied
-  waker : Bool → Found
-  -- so many bytes were given by the source or taken by the destination
-  moved : ℕ → Found
-  -- the source or destination failed
-  failed : Found
 
 -- where a step leads, and what the call answers if that was its last step
 pub record Next (P : Type 0) : Type 0 where
@@ -55,6 +40,16 @@ ends point answer = record { point = point; answer = Some answer }
 pub record Leads {P : Type 0} (to : P × Option Answer) (next : Next P) : Type 0 where
   pub point : to.0 ≡ next.point
   pub answer : to.1 ≡ next.answer
+
+-- the count of bytes that a copy has moved stays a machine's number
+abbrev pub SumFits : ℕ → Found → Type 0
+SumFits sum (moved n) = sum + n < 2 ^ 64
+SumFits sum found = ⊤
+
+-- how many bytes the source gave or the destination took
+abbrev pub moved_in : Found → ℕ
+moved_in (moved n) = n
+moved_in found = 0
 
 abbrev pub query_answer : Query → ℕ → ℕ → Answer
 query_answer Len capacity count = Count count

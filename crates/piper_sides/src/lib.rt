@@ -6,6 +6,7 @@ pub mod calls;
 pub mod events;
 pub mod index;
 pub mod memory;
+pub mod open_call;
 pub mod polling;
 pub mod read_call;
 pub mod read_indices;

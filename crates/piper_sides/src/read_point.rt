@@ -1,36 +1,41 @@
-//! The rows of the reader's calls: one function a kind of step, allowed where it is next, which changes the point to the next one.
+//! The rows of the reader's calls: which step a point puts next, and where what that step found leads.
 //!
 //! They are inlined, so that a call whose point is known keeps none at run time.
-ghost use Rattle.std.specs.Prelude.{IsSome, ◌≡◌, ℕ, ◌+◌, ◌^◌, ◌<◌, ◌≤◌, true, false};
-ghost use Rattle.piper_sides.specs.Table.{Leads, ReadLeads, read_action, read_after, read_done, read_step, reader_draws, reader_found, reader_found_none, reader_looks_for, nothing, unread, refreshed, flag, granted, waker, moved, failed};
+ghost use Rattle.std.specs.Prelude.{IsSome, ◌≡◌, ◌≢◌, ◌+◌, ◌≤◌};
+ghost use Rattle.piper_sides.specs.Table.{SumFits, moved_in, read_action, read_after, read_done, read_step, reader_draws, reader_found, reader_found_none, reader_is_true, reader_looks_for};
 ghost use Rattle.piper_sides.specs.Side.{head_store, read_sum, read_round};
 
 use crate::calls::Side;
 use crate::events::Answer;
+use crate::open_call::{CallAt, ends, goes_on};
 use crate::polling::Polled;
-use crate::read_side::{end_or_pending, look_answer, yield_answer};
-use crate::scripted::Failed;
-use crate::table::{Action, AfterRead, Form, Purpose, ReadPoint};
+use crate::table::ReadPoint::{
+    CallDestination, Dropped, Idle, LookClosed, LookRegister, LookTail, LookTailAgain, LookTake,
+    QueryClosed, QueryHead, QueryTail, StoreClosed, StoreHead, TakeWriter, WakeWriter, Yield,
+};
+use crate::table::{
+    Action, AfterRead, Form, Found, Purpose, ReadPoint, end_or_pending, failed_answer, yield_answer,
+};
 
 // Where a look leads that finds a byte.
 #[inline(always)]
-fn found(purpose: Purpose) -> ReadPoint
+pub(crate) fn found_some(purpose: Purpose) -> ReadPoint
     ensures { result ≡ reader_found purpose }
 {
     match purpose {
-        Purpose::Copy(Form::Try) => ReadPoint::CallDestination(Form::Try, 0),
-        _ => ReadPoint::LookTake(purpose),
+        Purpose::Copy(Form::Try) => CallDestination(Form::Try, 0),
+        _ => LookTake(purpose),
     }
 }
 
 // Where a look leads that finds none.
 #[inline(always)]
-fn found_none(purpose: Purpose) -> ReadPoint
+pub(crate) fn found_none(purpose: Purpose) -> ReadPoint
     ensures { result ≡ reader_found_none purpose }
 {
     match purpose {
-        Purpose::Copy(Form::Try) => ReadPoint::LookClosed(purpose),
-        _ => ReadPoint::LookRegister(purpose),
+        Purpose::Copy(Form::Try) => LookClosed(purpose),
+        _ => LookRegister(purpose),
     }
 }
 
@@ -40,305 +45,132 @@ fn draws(form: Form) -> ReadPoint
     ensures { result ≡ reader_draws form }
 {
     match form {
-        Form::Polling { is_drawn: true } => ReadPoint::Yield,
-        _ => ReadPoint::CallDestination(form, 0),
+        Form::Polling { is_drawn: true } => Yield,
+        _ => CallDestination(form, 0),
     }
 }
 
-// Where a call goes on that has woken the writer, and what it answers if it ends there.
+// Where a call goes on that has woken the writer.
 #[inline(always)]
-fn done(point: &mut ReadPoint, next: AfterRead) -> Option<Answer>
-    ensures point { point.new ≡ (read_done next).point }
-    ensures answer { result ≡ (read_done next).answer }
-    ensures no_store { head_store point.new ≡ 0 }
-    ensures sum { read_sum point.new ≤ read_round next }
+pub(crate) fn done(next: AfterRead) -> CallAt<ReadPoint>
+    ensures { result ≡ read_done next }
 {
     match next {
-        AfterRead::Answer => {
-            *point = ReadPoint::Idle;
-            Some(Answer::Done)
-        }
-        AfterRead::Drop => {
-            *point = ReadPoint::Dropped;
-            Some(Answer::Done)
-        }
-        AfterRead::Round(form, sum) => {
-            *point = ReadPoint::CallDestination(form, sum);
-            None
-        }
+        AfterRead::Answer => ends(Idle, Answer::Done),
+        AfterRead::Drop => ends(Dropped, Answer::Done),
+        AfterRead::Round(form, sum) => goes_on(CallDestination(form, sum)),
+    }
+}
+
+// Where a call goes on whose look is true.
+#[inline(always)]
+pub(crate) fn is_true(purpose: Purpose) -> CallAt<ReadPoint>
+    ensures { result ≡ reader_is_true purpose }
+{
+    match purpose {
+        Purpose::Poll => ends(Idle, Answer::Poll(Polled::Ready(true))),
+        Purpose::Copy(form) => goes_on(draws(form)),
     }
 }
 
 impl ReadPoint {
-    /// Where a call begins that looks: a known byte needs no load.
+    /// Where a call begins that looks, where no byte is known (`none`) or some are: a known byte needs
+    /// no load.
+    ///
+    /// A polling copy is opened as one that has not drawn: `Form::Polling { is_drawn: false }`.
     #[inline(always)]
-    pub(crate) fn look(none: bool, purpose: Purpose) -> ReadPoint
+    pub fn look(none: bool, purpose: Purpose) -> ReadPoint
         ensures point { result ≡ reader_looks_for none purpose }
         ensures no_store { head_store result ≡ 0 }
         ensures no_sum { read_sum result ≡ 0 }
     {
         if none {
-            ReadPoint::LookTail(purpose)
+            LookTail(purpose)
         } else {
-            found(purpose)
+            found_some(purpose)
         }
     }
 
-    /// The head was loaded in a query.
+    /// The step that the call table puts next.
     #[inline(always)]
-    pub(crate) fn loaded_head(&mut self) -> Option<Answer>
-        requires next { read_action self.old ≡ Action.LoadHead }
-        ensures leads { ReadLeads (self.new, result) self.old nothing }
-        ensures open { self.new ≡ ReadPoint.Idle → IsSome result }
-        ensures no_store { head_store self.new ≡ 0 }
-        ensures no_sum { read_sum self.new ≡ 0 }
+    pub fn action(self) -> Action
+        ensures { result ≡ read_action self }
     {
-        match *self {
-            ReadPoint::QueryHead(query) => {
-                *self = ReadPoint::QueryTail(query);
-                None
-            }
-            _ => unreachable!(),
+        match self {
+            Idle | Dropped => Action::Rest,
+            QueryHead(_) => Action::LoadHead,
+            QueryTail(_) => Action::LoadTail,
+            QueryClosed | LookClosed(_) => Action::LoadClosed,
+            LookTail(_) | LookTailAgain(_, _) => Action::Refresh,
+            LookRegister(_) => Action::Register,
+            LookTake(_) => Action::Take(Side::Reader),
+            Yield => Action::Yield,
+            CallDestination(_, _) => Action::CallDestination,
+            StoreHead(n, _) => Action::StoreHead(n),
+            TakeWriter(_) => Action::Take(Side::Writer),
+            WakeWriter(_) => Action::Wake,
+            StoreClosed => Action::StoreClosed { is_shut: false },
         }
     }
 
-    /// The tail was loaded in a query, and so many bytes were unread.
+    /// Where the step leads that comes next, by what it found; whatever the capacity.
     #[inline(always)]
-    pub(crate) fn loaded_tail(&mut self, capacity: usize, count: usize) -> Option<Answer>
-        requires next { read_action self.old ≡ Action.LoadTail }
-        ensures after { Leads (self.new, result) (read_after capacity self.old (unread count)) }
-        ensures open { self.new ≡ ReadPoint.Idle → IsSome result }
-        ensures no_store { head_store self.new ≡ 0 }
-        ensures no_sum { read_sum self.new ≡ 0 }
+    pub(crate) fn step(self, found: Found) -> CallAt<ReadPoint>
+        requires fits { SumFits (read_sum self) found }
+        ensures step { result ≡ read_step self found }
+        ensures open { read_action self ≢ Action.Rest → result.point ≡ ReadPoint.Idle
+            → IsSome result.answer }
+        ensures store { head_store result.point ≤ moved_in found }
+        ensures sum { read_sum result.point ≤ read_sum self + head_store result.point }
     {
-        match *self {
-            ReadPoint::QueryTail(query) => {
-                *self = ReadPoint::Idle;
-                Some(query.answer(capacity, count))
-            }
-            _ => unreachable!(),
+        match (self, found) {
+            (QueryHead(query), _) => goes_on(QueryTail(query)),
+            (QueryClosed, Found::Flag(is_closed)) => ends(Idle, Answer::Flag(is_closed)),
+            (LookTail(purpose), Found::Refreshed { none: true }) => goes_on(found_none(purpose)),
+            (LookTail(purpose), Found::Refreshed { none: false })
+            | (LookTailAgain(purpose, _), Found::Refreshed { none: false }) => goes_on(found_some(
+                purpose,
+            )),
+            (LookTailAgain(purpose, was_closed), Found::Refreshed { none: true }) => ends(
+                Idle,
+                purpose.look_answer(end_or_pending(was_closed)),
+            ),
+            (LookRegister(purpose), Found::Granted(true)) => goes_on(LookClosed(purpose)),
+            (LookRegister(purpose), Found::Granted(false)) => ends(
+                Idle,
+                purpose.look_answer(Polled::Memory),
+            ),
+            (LookClosed(purpose), Found::Flag(is_closed)) => goes_on(LookTailAgain(
+                purpose, is_closed,
+            )),
+            (LookTake(purpose), _) => is_true(purpose),
+            (Yield, Found::Granted(is_granted)) => ends(Idle, yield_answer(is_granted)),
+            (CallDestination(form, sum), Found::Moved(0)) => ends(Idle, form.count_answer(sum)),
+            (CallDestination(form, sum), Found::Moved(n)) => goes_on(StoreHead(
+                n,
+                AfterRead::Round(form, sum + n),
+            )),
+            (CallDestination(_, _), Found::Failed) => ends(Idle, failed_answer()),
+            (StoreHead(_, next), _) => goes_on(TakeWriter(next)),
+            (TakeWriter(next), Found::Waker(true)) => goes_on(WakeWriter(next)),
+            (TakeWriter(next), Found::Waker(false)) | (WakeWriter(next), _) => done(next),
+            (StoreClosed, _) => goes_on(TakeWriter(AfterRead::Drop)),
+            _ => goes_on(self),
         }
     }
 
-    /// The tail was loaded in a look, and the reader knows of no byte even now, or of some.
-    #[inline(always)]
-    pub(crate) fn refreshed(&mut self, none: bool) -> Option<Answer>
-        requires next { read_action self.old ≡ Action.Refresh }
-        ensures leads { ReadLeads (self.new, result) self.old (refreshed none) }
-        ensures open { self.new ≡ ReadPoint.Idle → IsSome result }
-        ensures no_store { head_store self.new ≡ 0 }
-        ensures no_sum { read_sum self.new ≡ 0 }
+    /// Where the step leads that comes next in a pipe of this capacity, by what it found.
+    pub(crate) fn after(self, capacity: usize, found: Found) -> CallAt<ReadPoint>
+        requires fits { SumFits (read_sum self) found }
+        ensures after { result ≡ read_after capacity self found }
+        ensures open { read_action self ≢ Action.Rest → result.point ≡ ReadPoint.Idle
+            → IsSome result.answer }
+        ensures store { head_store result.point ≤ moved_in found }
+        ensures sum { read_sum result.point ≤ read_sum self + head_store result.point }
     {
-        match *self {
-            ReadPoint::LookTail(purpose) if none => {
-                *self = found_none(purpose);
-                None
-            }
-            ReadPoint::LookTailAgain(purpose, was_closed) if none => {
-                *self = ReadPoint::Idle;
-                Some(look_answer(purpose, end_or_pending(was_closed)))
-            }
-            ReadPoint::LookTail(purpose) | ReadPoint::LookTailAgain(purpose, _) => {
-                *self = found(purpose);
-                None
-            }
-            _ => unreachable!(),
-        }
-    }
-
-    /// Closed was loaded, and the flag was this.
-    #[inline(always)]
-    pub(crate) fn loaded_closed(&mut self, is_closed: bool) -> Option<Answer>
-        requires next { read_action self.old ≡ Action.LoadClosed }
-        ensures leads { ReadLeads (self.new, result) self.old (flag is_closed) }
-        ensures open { self.new ≡ ReadPoint.Idle → IsSome result }
-        ensures no_store { head_store self.new ≡ 0 }
-        ensures no_sum { read_sum self.new ≡ 0 }
-    {
-        match *self {
-            ReadPoint::QueryClosed => {
-                *self = ReadPoint::Idle;
-                Some(Answer::Flag(is_closed))
-            }
-            ReadPoint::LookClosed(purpose) => {
-                *self = ReadPoint::LookTailAgain(purpose, is_closed);
-                None
-            }
-            _ => unreachable!(),
-        }
-    }
-
-    /// The call's waker was registered, or its clone was refused.
-    #[inline(always)]
-    pub(crate) fn registered(&mut self, is_granted: bool) -> Option<Answer>
-        requires next { read_action self.old ≡ Action.Register }
-        ensures leads { ReadLeads (self.new, result) self.old (granted is_granted) }
-        ensures open { self.new ≡ ReadPoint.Idle → IsSome result }
-        ensures no_store { head_store self.new ≡ 0 }
-        ensures no_sum { read_sum self.new ≡ 0 }
-    {
-        match *self {
-            ReadPoint::LookRegister(purpose) if is_granted => {
-                *self = ReadPoint::LookClosed(purpose);
-                None
-            }
-            ReadPoint::LookRegister(purpose) => {
-                *self = ReadPoint::Idle;
-                Some(look_answer(purpose, Polled::Memory))
-            }
-            _ => unreachable!(),
-        }
-    }
-
-    /// The reader's own slot was emptied.
-    #[inline(always)]
-    pub(crate) fn took_own(&mut self) -> Option<Answer>
-        requires next { read_action self.old ≡ Action.Take Side.Reader }
-        ensures leads { ReadLeads (self.new, result) self.old nothing }
-        ensures open { self.new ≡ ReadPoint.Idle → IsSome result }
-        ensures no_store { head_store self.new ≡ 0 }
-        ensures no_sum { read_sum self.new ≡ 0 }
-    {
-        match *self {
-            ReadPoint::LookTake(Purpose::Poll) => {
-                *self = ReadPoint::Idle;
-                Some(Answer::Poll(Polled::Ready(true)))
-            }
-            ReadPoint::LookTake(Purpose::Copy(form)) => {
-                *self = draws(form);
-                None
-            }
-            _ => unreachable!(),
-        }
-    }
-
-    /// The caller's own waker was called in place of the rounds, or its clone was refused.
-    #[inline(always)]
-    pub(crate) fn yielded(&mut self, is_granted: bool) -> Option<Answer>
-        requires next { read_action self.old ≡ Action.Yield }
-        ensures leads { ReadLeads (self.new, result) self.old (granted is_granted) }
-        ensures open { self.new ≡ ReadPoint.Idle → IsSome result }
-        ensures no_store { head_store self.new ≡ 0 }
-        ensures no_sum { read_sum self.new ≡ 0 }
-    {
-        match *self {
-            ReadPoint::Yield => {
-                *self = ReadPoint::Idle;
-                Some(yield_answer(is_granted))
-            }
-            _ => unreachable!(),
-        }
-    }
-
-    /// The destination took the first `n` bytes of the peeked slice.
-    #[inline(always)]
-    pub(crate) fn destination_took(&mut self, n: usize) -> Option<Answer>
-        requires next { read_action self.old ≡ Action.CallDestination }
-        requires fits { read_sum self.old + n < 2 ^ 64 }
-        ensures leads { ReadLeads (self.new, result) self.old (moved n) }
-        ensures open { self.new ≡ ReadPoint.Idle → IsSome result }
-        ensures stored { head_store self.new ≤ n }
-        ensures sum { read_sum self.new ≤ read_sum self.old + head_store self.new }
-    {
-        match *self {
-            ReadPoint::CallDestination(form, sum) if n == 0 => {
-                *self = ReadPoint::Idle;
-                Some(form.count_answer(sum))
-            }
-            ReadPoint::CallDestination(form, sum) => {
-                *self = ReadPoint::StoreHead(n, AfterRead::Round(form, sum + n));
-                None
-            }
-            _ => unreachable!(),
-        }
-    }
-
-    /// The destination failed, and took nothing.
-    #[inline(always)]
-    pub(crate) fn destination_failed(&mut self) -> Option<Answer>
-        requires next { read_action self.old ≡ Action.CallDestination }
-        ensures leads { ReadLeads (self.new, result) self.old failed }
-        ensures open { self.new ≡ ReadPoint.Idle → IsSome result }
-        ensures no_store { head_store self.new ≡ 0 }
-        ensures no_sum { read_sum self.new ≡ 0 }
-    {
-        match *self {
-            ReadPoint::CallDestination(_, _) => {
-                *self = ReadPoint::Idle;
-                Some(Answer::Copy(Polled::Ready(Err(Failed))))
-            }
-            _ => unreachable!(),
-        }
-    }
-
-    /// The head was stored, past `n` bytes.
-    #[inline(always)]
-    pub(crate) fn stored_head(&mut self, n: usize) -> Option<Answer>
-        requires next { read_action self.old ≡ Action.StoreHead n }
-        ensures leads { ReadLeads (self.new, result) self.old nothing }
-        ensures open { self.new ≡ ReadPoint.Idle → IsSome result }
-        ensures stored { head_store self.old ≡ n }
-        ensures no_store { head_store self.new ≡ 0 }
-        ensures sum { read_sum self.new ≡ read_sum self.old }
-    {
-        match *self {
-            ReadPoint::StoreHead(_, next) => {
-                *self = ReadPoint::TakeWriter(next);
-                None
-            }
-            _ => unreachable!(),
-        }
-    }
-
-    /// The writer's slot was emptied, and a waker stood in it or not.
-    #[inline(always)]
-    pub(crate) fn took_writer(&mut self, is_found: bool) -> Option<Answer>
-        requires next { read_action self.old ≡ Action.Take Side.Writer }
-        ensures leads { ReadLeads (self.new, result) self.old (waker is_found) }
-        ensures open { self.new ≡ ReadPoint.Idle → IsSome result }
-        ensures no_store { head_store self.new ≡ 0 }
-        ensures sum { read_sum self.new ≤ read_sum self.old }
-    {
-        match *self {
-            ReadPoint::TakeWriter(next) if !is_found => done(self, next),
-            ReadPoint::TakeWriter(next) => {
-                *self = ReadPoint::WakeWriter(next);
-                None
-            }
-            _ => unreachable!(),
-        }
-    }
-
-    /// The waker that was taken was called.
-    #[inline(always)]
-    pub(crate) fn woke(&mut self) -> Option<Answer>
-        requires next { read_action self.old ≡ Action.Wake }
-        ensures leads { ReadLeads (self.new, result) self.old nothing }
-        ensures open { self.new ≡ ReadPoint.Idle → IsSome result }
-        ensures no_store { head_store self.new ≡ 0 }
-        ensures sum { read_sum self.new ≤ read_sum self.old }
-    {
-        match *self {
-            ReadPoint::WakeWriter(next) => done(self, next),
-            _ => unreachable!(),
-        }
-    }
-
-    /// The closed flag was set.
-    #[inline(always)]
-    pub(crate) fn stored_closed(&mut self) -> Option<Answer>
-        requires next { read_action self.old ≡ Action.StoreClosed false }
-        ensures leads { ReadLeads (self.new, result) self.old nothing }
-        ensures open { self.new ≡ ReadPoint.Idle → IsSome result }
-        ensures no_store { head_store self.new ≡ 0 }
-        ensures no_sum { read_sum self.new ≡ 0 }
-    {
-        match *self {
-            ReadPoint::StoreClosed => {
-                *self = ReadPoint::TakeWriter(AfterRead::Drop);
-                None
-            }
-            _ => unreachable!(),
+        match (self, found) {
+            (QueryTail(query), Found::Unread(count)) => ends(Idle, query.answer(capacity, count)),
+            _ => self.step(found),
         }
     }
 }

@@ -1,19 +1,19 @@
 //! The reader's side: its own index, the writer's as it last saw it, and its point inside the open call.
-ghost use Rattle.std.specs.Prelude.{IsSome, ◌≡◌, ◌≢◌, true, ℕ, ◌*◌, ◌<◌, ◌≤◌, false, ◌==◌};
+ghost use Rattle.std.specs.Prelude.{IsSome, ◌≡◌, ◌≢◌, ℕ, true, ◌*◌, ◌<◌, ◌≤◌, ◌==◌};
 ghost use Rattle.piper_sides.specs.Index.{IsCapacity, distance, place_of, advanced};
-ghost use Rattle.piper_sides.specs.Table.{end_or_pending, look_answer, read_action, reader_looks_for, yield_answer, nothing, unread, flag, granted, waker, moved, failed};
+ghost use Rattle.piper_sides.specs.Table.{moved_in, read_action, reader_looks_for};
 
-use crate::calls::{Query, Side};
 use crate::events::Answer;
-use crate::polling::Polled;
+use crate::open_call::CallAt;
 use crate::read_indices::ReadIndices;
-use crate::table::{Action, AfterRead, Purpose, ReadPoint};
+use crate::table::{Action, Found, Purpose, ReadPoint};
 use std::marker::Model;
 
 /// What the reader keeps. It knows no buffer, no slot, no waker and no runtime.
 ///
-/// A call is opened by one of the `begin_` functions. `next` then says which step the call table puts
-/// next, and the function named after that step takes in what was found; it answers where the call ends.
+/// A call is opened by `begin`. `next` then says which step the call table puts next, and `step` takes
+/// in what that step found; it answers where the call ends. A step that moves an index is told by
+/// `refreshed` or `stored_head`.
 #[derive(Drop)]
 pub struct ReadSide {
     indices: ReadIndices,
@@ -31,40 +31,8 @@ impl Model for ReadSide {
     ghost invariant = { λ side. IsReading (reading_of side.indices side.point) };
 }
 
-// What a look that is not true finds behind the closed flag that it loaded.
-pub fn end_or_pending(was_closed: bool) -> Polled<bool>
-    ensures { result ≡ end_or_pending was_closed }
-{
-    if was_closed {
-        Polled::Ready(false)
-    } else {
-        Polled::Pending
-    }
-}
-
-// What the call answers where its look is not true.
-pub fn look_answer(purpose: Purpose, answer: Polled<bool>) -> Answer
-    ensures { result ≡ look_answer purpose answer }
-{
-    match purpose {
-        Purpose::Poll => Answer::Poll(answer),
-        Purpose::Copy(form) => form.copy_answer(answer),
-    }
-}
-
-// What a copying call answers after its yield.
-pub fn yield_answer(is_granted: bool) -> Answer
-    ensures { result ≡ yield_answer is_granted }
-{
-    Answer::Copy(if is_granted {
-        Polled::Pending
-    } else {
-        Polled::Memory
-    })
-}
-
 impl ReadSide {
-    ghost use Rattle.piper_sides.specs.Side.{IsReading, fresh_reading, known_of, peekable_of};
+    ghost use Rattle.piper_sides.specs.Side.{IsReading, fresh_reading, head_store, known_of, peekable_of, read_sum};
     ghost use Rattle.piper_sides.specs.SideSteps.{reading_after, reading_answer, tail_found};
 
     /// The reader of an empty pipe.
@@ -123,22 +91,15 @@ impl ReadSide {
         self.point
     }
 
-    /// Opens a query on the number of unread bytes.
-    pub fn begin_query(&mut self, query: Query)
-        requires { self.old.point ≡ ReadPoint.Idle }
-        ensures after { self.new ≡ record self.old { point = ReadPoint.QueryHead query } }
+    /// Opens a call at its first point. One that gives up bytes gives up those of one piece.
+    pub fn begin(&mut self, point: ReadPoint)
+        requires idle { self.old.point ≡ ReadPoint.Idle }
+        requires within { head_store point ≤ peekable_of self.old }
+        requires new { read_sum point ≡ 0 }
+        ensures after { self.new ≡ record self.old { point = point } }
         ensures sound { IsReading self.new }
     {
-        self.point = ReadPoint::QueryHead(query);
-    }
-
-    /// Opens the query whether the pipe is closed.
-    pub fn begin_is_closed(&mut self)
-        requires { self.old.point ≡ ReadPoint.Idle }
-        ensures after { self.new ≡ record self.old { point = ReadPoint.QueryClosed } }
-        ensures sound { IsReading self.new }
-    {
-        self.point = ReadPoint::QueryClosed;
+        self.point = point;
     }
 
     /// Opens a call that begins with a look.
@@ -152,27 +113,6 @@ impl ReadSide {
         self.point = ReadPoint::look(self.indices.knows_none(), purpose);
     }
 
-    /// Opens the call that gives up the first `n` bytes.
-    pub fn begin_consume(&mut self, n: usize)
-        requires idle { self.old.point ≡ ReadPoint.Idle }
-        requires within { n ≤ peekable_of self.old }
-        ensures after { self.new ≡ record self.old {
-          point = ReadPoint.StoreHead n AfterRead.Answer;
-        } }
-        ensures sound { IsReading self.new }
-    {
-        self.point = ReadPoint::StoreHead(n, AfterRead::Answer);
-    }
-
-    /// Opens the reader's drop.
-    pub fn begin_drop(&mut self)
-        requires { self.old.point ≡ ReadPoint.Idle }
-        ensures after { self.new ≡ record self.old { point = ReadPoint.StoreClosed } }
-        ensures sound { IsReading self.new }
-    {
-        self.point = ReadPoint::StoreClosed;
-    }
-
     /// The step that the call table puts next.
     pub fn next(&self) -> Action
         ensures step { result ≡ read_action self.now.point }
@@ -180,43 +120,22 @@ impl ReadSide {
         ensures no_tail { (n : ℕ) → result ≢ Action.StoreTail n }
         ensures not_shut { result ≢ Action.StoreClosed true }
     {
-        match self.point {
-            ReadPoint::Idle | ReadPoint::Dropped => Action::Rest,
-            ReadPoint::QueryHead(_) => Action::LoadHead,
-            ReadPoint::QueryTail(_) => Action::LoadTail,
-            ReadPoint::QueryClosed | ReadPoint::LookClosed(_) => Action::LoadClosed,
-            ReadPoint::LookTail(_) | ReadPoint::LookTailAgain(_, _) => Action::Refresh,
-            ReadPoint::LookRegister(_) => Action::Register,
-            ReadPoint::LookTake(_) => Action::Take(Side::Reader),
-            ReadPoint::Yield => Action::Yield,
-            ReadPoint::CallDestination(_, _) => Action::CallDestination,
-            ReadPoint::StoreHead(n, _) => Action::StoreHead(n),
-            ReadPoint::TakeWriter(_) => Action::Take(Side::Writer),
-            ReadPoint::WakeWriter(_) => Action::Wake,
-            ReadPoint::StoreClosed => Action::StoreClosed { is_shut: false },
-        }
+        self.point.action()
     }
 
-    /// The head was loaded in a query.
-    pub fn loaded_head(&mut self) -> Option<Answer>
-        requires next { read_action self.old.point ≡ Action.LoadHead }
-        ensures after { self.new ≡ reading_after nothing self.old }
-        ensures answer { result ≡ reading_answer nothing self.old }
+    /// The step that comes next was made and found this, and no index moved with it.
+    pub fn step(&mut self, found: Found) -> Option<Answer>
+        requires next { read_action self.old.point ≢ Action.Rest }
+        requires no_store { head_store self.old.point ≡ 0 }
+        requires within { moved_in found ≤ peekable_of self.old }
+        ensures after { self.new ≡ reading_after found self.old }
+        ensures answer { result ≡ reading_answer found self.old }
         ensures open { self.new.point ≡ ReadPoint.Idle → IsSome result }
         ensures sound { IsReading self.new }
     {
-        self.point.loaded_head()
-    }
-
-    /// The tail was loaded in a query, and so many bytes were unread.
-    pub fn loaded_tail(&mut self, count: usize) -> Option<Answer>
-        requires next { read_action self.old.point ≡ Action.LoadTail }
-        ensures after { self.new ≡ reading_after (unread count) self.old }
-        ensures answer { result ≡ reading_answer (unread count) self.old }
-        ensures open { self.new.point ≡ ReadPoint.Idle → IsSome result }
-        ensures sound { IsReading self.new }
-    {
-        self.point.loaded_tail(self.indices.capacity(), count)
+        let CallAt { point, answer } = self.point.after(self.indices.capacity(), found);
+        self.point = point;
+        answer
     }
 
     /// The tail was loaded in a look, and stood at this index.
@@ -232,121 +151,28 @@ impl ReadSide {
         ensures sound { IsReading self.new }
     {
         self.indices.sees(tail);
-        self.point.refreshed(self.indices.knows_none())
-    }
-
-    /// Closed was loaded, and the flag was this.
-    pub fn loaded_closed(&mut self, is_closed: bool) -> Option<Answer>
-        requires next { read_action self.old.point ≡ Action.LoadClosed }
-        ensures after { self.new ≡ reading_after (flag is_closed) self.old }
-        ensures answer { result ≡ reading_answer (flag is_closed) self.old }
-        ensures open { self.new.point ≡ ReadPoint.Idle → IsSome result }
-        ensures sound { IsReading self.new }
-    {
-        self.point.loaded_closed(is_closed)
-    }
-
-    /// The call's waker was registered, or its clone was refused.
-    pub fn registered(&mut self, is_granted: bool) -> Option<Answer>
-        requires next { read_action self.old.point ≡ Action.Register }
-        ensures after { self.new ≡ reading_after (granted is_granted) self.old }
-        ensures answer { result ≡ reading_answer (granted is_granted) self.old }
-        ensures open { self.new.point ≡ ReadPoint.Idle → IsSome result }
-        ensures sound { IsReading self.new }
-    {
-        self.point.registered(is_granted)
-    }
-
-    /// The reader's own slot was emptied.
-    pub fn took_own(&mut self) -> Option<Answer>
-        requires next { read_action self.old.point ≡ Action.Take Side.Reader }
-        ensures after { self.new ≡ reading_after nothing self.old }
-        ensures answer { result ≡ reading_answer nothing self.old }
-        ensures open { self.new.point ≡ ReadPoint.Idle → IsSome result }
-        ensures sound { IsReading self.new }
-    {
-        self.point.took_own()
-    }
-
-    /// The caller's own waker was called in place of the rounds, or its clone was refused.
-    pub fn yielded(&mut self, is_granted: bool) -> Option<Answer>
-        requires next { read_action self.old.point ≡ Action.Yield }
-        ensures after { self.new ≡ reading_after (granted is_granted) self.old }
-        ensures answer { result ≡ reading_answer (granted is_granted) self.old }
-        ensures open { self.new.point ≡ ReadPoint.Idle → IsSome result }
-        ensures sound { IsReading self.new }
-    {
-        self.point.yielded(is_granted)
-    }
-
-    /// The destination took the first `n` bytes of the peeked slice.
-    pub fn destination_took(&mut self, n: usize) -> Option<Answer>
-        requires next { read_action self.old.point ≡ Action.CallDestination }
-        requires within { n ≤ peekable_of self.old }
-        ensures after { self.new ≡ reading_after (moved n) self.old }
-        ensures answer { result ≡ reading_answer (moved n) self.old }
-        ensures open { self.new.point ≡ ReadPoint.Idle → IsSome result }
-        ensures sound { IsReading self.new }
-    {
-        self.point.destination_took(n)
-    }
-
-    /// The destination failed, and took nothing.
-    pub fn destination_failed(&mut self) -> Option<Answer>
-        requires next { read_action self.old.point ≡ Action.CallDestination }
-        ensures after { self.new ≡ reading_after failed self.old }
-        ensures answer { result ≡ reading_answer failed self.old }
-        ensures open { self.new.point ≡ ReadPoint.Idle → IsSome result }
-        ensures sound { IsReading self.new }
-    {
-        self.point.destination_failed()
-    }
-
-    /// The writer's slot was emptied, and a waker stood in it or not.
-    pub fn took_writer(&mut self, is_found: bool) -> Option<Answer>
-        requires next { read_action self.old.point ≡ Action.Take Side.Writer }
-        ensures after { self.new ≡ reading_after (waker is_found) self.old }
-        ensures answer { result ≡ reading_answer (waker is_found) self.old }
-        ensures open { self.new.point ≡ ReadPoint.Idle → IsSome result }
-        ensures sound { IsReading self.new }
-    {
-        self.point.took_writer(is_found)
-    }
-
-    /// The waker that was taken was called.
-    pub fn woke(&mut self) -> Option<Answer>
-        requires next { read_action self.old.point ≡ Action.Wake }
-        ensures after { self.new ≡ reading_after nothing self.old }
-        ensures answer { result ≡ reading_answer nothing self.old }
-        ensures open { self.new.point ≡ ReadPoint.Idle → IsSome result }
-        ensures sound { IsReading self.new }
-    {
-        self.point.woke()
-    }
-
-    /// The closed flag was set.
-    pub fn stored_closed(&mut self) -> Option<Answer>
-        requires next { read_action self.old.point ≡ Action.StoreClosed false }
-        ensures after { self.new ≡ reading_after nothing self.old }
-        ensures answer { result ≡ reading_answer nothing self.old }
-        ensures open { self.new.point ≡ ReadPoint.Idle → IsSome result }
-        ensures sound { IsReading self.new }
-    {
-        self.point.stored_closed()
+        let none = self.indices.knows_none();
+        let CallAt { point, answer } = self
+            .point
+            .after(self.indices.capacity(), Found::Refreshed { none });
+        self.point = point;
+        answer
     }
 
     /// The head was stored, past `n` bytes.
     pub fn stored_head(&mut self, n: usize) -> Option<Answer>
         requires next { read_action self.old.point ≡ Action.StoreHead n }
         requires within { n ≤ peekable_of self.old }
-        ensures after { self.new ≡ record (reading_after nothing self.old) {
+        ensures after { self.new ≡ record (reading_after Found.Nothing self.old) {
           head = advanced self.old.capacity self.old.head n;
         } }
-        ensures answer { result ≡ reading_answer nothing self.old }
+        ensures answer { result ≡ reading_answer Found.Nothing self.old }
         ensures open { self.new.point ≡ ReadPoint.Idle → IsSome result }
         ensures sound { IsReading self.new }
     {
         self.indices.gives(n);
-        self.point.stored_head(n)
+        let CallAt { point, answer } = self.point.after(self.indices.capacity(), Found::Nothing);
+        self.point = point;
+        answer
     }
 }

@@ -1,10 +1,11 @@
 //! The call table: where a side can stand inside a call, and the steps that it makes there.
 ghost use Rattle.std.specs.Prelude.{◌≡◌};
-ghost use Rattle.piper_sides.specs.Table.{query_answer, copy_answer, count_answer};
+ghost use Rattle.piper_sides.specs.Table.{query_answer, copy_answer, count_answer, end_or_pending, failed_answer, look_answer, yield_answer};
 
 use crate::calls::{Query, Side};
 use crate::events::Answer;
 use crate::polling::Polled;
+use crate::scripted::Failed;
 
 /// The step that a side makes next.
 #[derive(Clone, Copy, Debug, PartialEq, Eq)]
@@ -123,6 +124,27 @@ pub enum WritePoint {
     WakeWriter,
 }
 
+/// What a step found.
+#[derive(Clone, Copy)]
+pub enum Found {
+    /// Nothing that decides where the call goes on.
+    Nothing,
+    /// So many unread bytes.
+    Unread(usize),
+    /// The other side's index: whether the side knows of nothing even now.
+    Refreshed { none: bool },
+    /// The closed flag.
+    Flag(bool),
+    /// Whether a waker's clone was granted.
+    Granted(bool),
+    /// Whether a waker stood in the slot that was emptied.
+    Waker(bool),
+    /// So many bytes were given by the source, or taken by the destination.
+    Moved(usize),
+    /// The source or destination failed.
+    Failed,
+}
+
 impl Query {
     /// What a query answers where so many bytes are unread.
     #[inline(always)]
@@ -163,4 +185,49 @@ impl Form {
             Form::Polling { is_drawn: _ } => Answer::Copy(Polled::Ready(Ok(count))),
         }
     }
+}
+
+impl Purpose {
+    /// What the call answers where its look is not true.
+    #[inline(always)]
+    pub fn look_answer(self, answer: Polled<bool>) -> Answer
+        ensures { result ≡ look_answer self answer }
+    {
+        match self {
+            Purpose::Poll => Answer::Poll(answer),
+            Purpose::Copy(form) => form.copy_answer(answer),
+        }
+    }
+}
+
+/// What a look that is not true finds behind the closed flag that it loaded.
+#[inline(always)]
+pub fn end_or_pending(was_closed: bool) -> Polled<bool>
+    ensures { result ≡ end_or_pending was_closed }
+{
+    if was_closed {
+        Polled::Ready(false)
+    } else {
+        Polled::Pending
+    }
+}
+
+/// What a copying call answers after its yield.
+#[inline(always)]
+pub fn yield_answer(is_granted: bool) -> Answer
+    ensures { result ≡ yield_answer is_granted }
+{
+    Answer::Copy(if is_granted {
+        Polled::Pending
+    } else {
+        Polled::Memory
+    })
+}
+
+/// What a copying call answers whose source or destination failed.
+#[inline(always)]
+pub fn failed_answer() -> Answer
+    ensures { result ≡ failed_answer }
+{
+    Answer::Copy(Polled::Ready(Err(Failed)))
 }

@@ -2,7 +2,7 @@
 ghost use Rattle.std.specs.Prelude.{◌≡◌, ◌≤◌, ◌++◌, ◌↔◌, length, take, drop, IsTrue, IsFalse, IfOk, IfErr, true, false};
 ghost use Rattle.std.specs.Arc.{arc_value};
 ghost use Rattle.futures.specs.Task.{Covers, Keeps};
-ghost use Rattle.piper_sides.specs.Table.{goes_on, read_action, read_step, reader_draws_behind, reader_looks_for, nothing, refreshed, flag as loaded, granted, waker};
+ghost use Rattle.piper_sides.specs.Table.{goes_on, read_action, read_step, reader_draws_behind, reader_looks_for};
 ghost use Rattle.piper_ring.specs.ReadView.{KnowsEnd, in_one_piece};
 ghost use Rattle.piper_ring.specs.Shared.{flag};
 ghost use Rattle.piper.specs.Slots.{IsFrom, IsToldOf, IsEmptied, found_in};
@@ -15,7 +15,7 @@ use futures::task::Context;
 use piper_ring::LastReadMark;
 use piper_sides::calls::Side;
 use piper_sides::read_call::ReadCall;
-use piper_sides::table::{Action, Purpose, ReadPoint};
+use piper_sides::table::{Action, Found, Purpose, ReadPoint};
 use std::sync::{Arc, Wait};
 
 impl<H: Wait + Clone + Drop> Reader<H> {
@@ -36,7 +36,7 @@ impl<H: Wait + Clone + Drop> Reader<H> {
     pub(crate) fn load_tail(&mut self, call: ReadCall) -> (ReadCall, bool)
         requires next { read_action call.point ≡ Action.Refresh }
         requires none { length self.old.end.known ≡ 0 }
-        ensures step { result.0 ≡ read_step call.point (refreshed result.1) }
+        ensures step { result.0 ≡ read_step call.point (Found.Refreshed result.1) }
         ensures none { IsTrue result.1 ↔ (length self.new.end.known ≡ 0) }
         ensures fresh { ReaderIsUpToDate self.new.end }
         ensures all { KnowsEnd self.old.end → HasAll self.old.end self.new.end }
@@ -53,7 +53,7 @@ impl<H: Wait + Clone + Drop> Reader<H> {
     #[inline(always)]
     pub(crate) fn load_closed(&mut self, call: ReadCall) -> (ReadCall, bool)
         requires next { read_action call.point ≡ Action.LoadClosed }
-        ensures step { result.0 ≡ read_step call.point (loaded result.1) }
+        ensures step { result.0 ≡ read_step call.point (Found.Flag result.1) }
         ensures saw { result.1 ≡ self.new.end.saw }
         ensures told { flag self.old.end.told_shut ≤ flag self.new.end.saw }
         ensures all { KnowsEnd self.old.end → self.new.end.all ≡ self.old.end.all }
@@ -68,7 +68,7 @@ impl<H: Wait + Clone + Drop> Reader<H> {
     /// Registers in the reader's slot, and tells whether a waker was granted.
     pub(crate) fn register(&mut self, call: ReadCall, cx: &mut Context<'_>) -> (ReadCall, bool)
         requires next { read_action call.point ≡ Action.Register }
-        ensures step { result.0 ≡ read_step call.point (granted result.1) }
+        ensures step { result.0 ≡ read_step call.point (Found.Granted result.1) }
         ensures covered { Covers cx.new (λ s. s ≡ read_source self.old) }
         ensures known { self.new.is_registered ≡ result.1 }
         ensures refused { IsFalse result.1 → cx.new.lacks_waker ≡ true }
@@ -85,7 +85,7 @@ impl<H: Wait + Clone + Drop> Reader<H> {
     pub(crate) fn take_own(&mut self, call: ReadCall) -> (ReadCall, Option<Taken<()>>)
         requires next { read_action call.point ≡ Action.Take Side.Reader }
         requires poll { reader_draws_behind call.point ≡ false }
-        ensures step { result.0 ≡ read_step call.point nothing }
+        ensures step { result.0 ≡ read_step call.point Found.Nothing }
         ensures emptied { IsEmptied (arc_value self.old.slots).reader
             self.old.is_registered result.1 }
         ensures known { self.new.is_registered ≡ false }
@@ -105,7 +105,7 @@ impl<H: Wait + Clone + Drop> Reader<H> {
     pub(crate) fn store_head(&mut self, call: ReadCall, n: usize) -> ReadCall
         requires next { read_action call.point ≡ Action.StoreHead n }
         requires there { n ≤ in_one_piece self.old.end }
-        ensures step { result ≡ read_step call.point nothing }
+        ensures step { result ≡ read_step call.point Found.Nothing }
         ensures taken { self.new.end.taken ≡ self.old.end.taken ++ take n self.old.end.known }
         ensures known { self.new.end.known ≡ drop n self.old.end.known }
         ensures all { self.new.end.all ≡ self.old.end.all }
@@ -122,7 +122,7 @@ impl<H: Wait + Clone + Drop> Reader<H> {
         requires next { read_action call.point ≡ Action.Take Side.Reader }
         requires poll { reader_draws_behind call.point ≡ false }
         ensures skipped { IfOk result (λ after. (self.now.is_registered ≡ false)
-            × (after ≡ read_step call.point nothing)) }
+            × (after ≡ read_step call.point Found.Nothing)) }
         ensures stays { IfErr result (λ same. same ≡ call) }
     {
         if self.is_registered {
@@ -135,7 +135,7 @@ impl<H: Wait + Clone + Drop> Reader<H> {
     #[inline(always)]
     pub(crate) fn find_no_writer(&mut self, call: ReadCall) -> Result<ReadCall, ReadCall>
         requires next { read_action call.point ≡ Action.Take Side.Writer }
-        ensures none { IfOk result (λ after. after ≡ read_step call.point (waker false)) }
+        ensures none { IfOk result (λ after. after ≡ read_step call.point (Found.Waker false)) }
         ensures woke { IfOk result (λ _. NotifiesWriter self.new) }
         ensures stays { IfErr result (λ same. (same ≡ call) × (self.new ≡ self.old)) }
         ensures end { self.new.end ≡ self.old.end }
@@ -155,7 +155,7 @@ impl<H: Wait + Clone + Drop> Reader<H> {
     #[inline(always)]
     pub(crate) fn take_and_wake_writer(&mut self, call: ReadCall) -> ReadCall
         requires next { read_action call.point ≡ Action.Take Side.Writer }
-        ensures step { result ≡ read_step call.point (waker false) }
+        ensures step { result ≡ read_step call.point (Found.Waker false) }
         ensures woke { NotifiesWriter self.new }
         ensures end { self.new.end ≡ self.old.end }
         ensures rest { SameReaderButWoke self.old self.new }
@@ -170,7 +170,7 @@ impl<H: Wait + Clone + Drop> Reader<H> {
     /// Stores closed as it lets the end go, and gives the evidence of that: its last mark. The slots are left, and what their locks are waited for with.
     pub(crate) fn store_closed(self, call: ReadCall) -> (ReadCall, LastReadMark, Arc<Slots>, H)
         requires next { read_action call.point ≡ Action.StoreClosed false }
-        ensures step { result.0 ≡ read_step call.point nothing }
+        ensures step { result.0 ≡ read_step call.point Found.Nothing }
         ensures ring { result.1.consumed.names ≡ self.end.ring.1.1 }
         ensures count { result.1.consumed.count ≡ length self.end.taken }
         ensures slots { result.2 ≡ self.slots }
@@ -197,7 +197,7 @@ pub(crate) fn take_writer<M>(
     told: M,
 ) -> (ReadCall, Taken<M>)
     requires next { read_action call.point ≡ Action.Take Side.Writer }
-    ensures step { result.0 ≡ read_step call.point (waker (found_in result.1)) }
+    ensures step { result.0 ≡ read_step call.point (Found.Waker (found_in result.1)) }
     ensures taken { IsFrom slots.now.writer told result.1 }
 {
     let taken = slots.writer.take(rt, told);
@@ -209,7 +209,7 @@ pub(crate) fn take_writer<M>(
 pub(crate) fn wake<M>(call: ReadCall, taken: Taken<M>) -> (ReadCall, Notified<M>)
     requires next { read_action call.point ≡ Action.Wake }
     requires found { found_in taken ≡ true }
-    ensures step { result.0 ≡ read_step call.point nothing }
+    ensures step { result.0 ≡ read_step call.point Found.Nothing }
     ensures told { IsToldOf taken result.1 }
 {
     let notified = taken.wake();

@@ -2,7 +2,7 @@
 ghost use Rattle.std.specs.Prelude.{◌≡◌, ◌+◌, ◌≤◌, ◌++◌, ◌↔◌, length, take, drop, IsTrue, IsFalse, IfOk, IfErr, true, false};
 ghost use Rattle.std.specs.Arc.{arc_value};
 ghost use Rattle.futures.specs.Task.{Covers, Keeps};
-ghost use Rattle.piper_sides.specs.Table.{begins_look, look_begun, write_action, write_step, writer_draws_behind, nothing, refreshed, flag as loaded, granted, waker};
+ghost use Rattle.piper_sides.specs.Table.{begins_look, look_begun, write_action, write_step, writer_draws_behind};
 ghost use Rattle.piper.specs.Slots.{IsFrom, IsToldOf, IsEmptied, found_in};
 ghost use Rattle.piper.specs.Calls.{own_found};
 ghost use Rattle.piper.specs.Ends.{WriterIsUpToDate, WriterRefreshed, WriterSaw, WriterPublished, WriterUnlent, WriterShut};
@@ -13,7 +13,7 @@ use crate::slot::{Notified, Taken};
 use futures::task::Context;
 use piper_ring::WriteMark;
 use piper_sides::calls::Side;
-use piper_sides::table::Action;
+use piper_sides::table::{Action, Found};
 use piper_sides::write_call::WriteCall;
 use std::sync::{Arc, Wait};
 
@@ -43,7 +43,7 @@ impl<H: Wait + Clone + Drop> Writer<H> {
     pub(crate) fn load_closed(&mut self, call: WriteCall) -> (WriteCall, bool)
         requires next { write_action call.point ≡ Action.LoadClosed }
         requires goes_on { begins_look call.point ≡ false }
-        ensures step { result.0 ≡ write_step call.point (loaded result.1) }
+        ensures step { result.0 ≡ write_step call.point (Found.Flag result.1) }
         ensures saw { result.1 ≡ self.new.end.saw }
         ensures shut { self.new.end.shut ≡ true → self.new.end.saw ≡ true }
         ensures end { WriterSaw self.old.end self.new.end }
@@ -59,7 +59,7 @@ impl<H: Wait + Clone + Drop> Writer<H> {
     pub(crate) fn load_head(&mut self, call: WriteCall) -> (WriteCall, bool)
         requires next { write_action call.point ≡ Action.Refresh }
         requires none { self.old.end.room ≡ 0 }
-        ensures step { result.0 ≡ write_step call.point (refreshed result.1) }
+        ensures step { result.0 ≡ write_step call.point (Found.Refreshed result.1) }
         ensures none { IsTrue result.1 ↔ (self.new.end.room ≡ 0) }
         ensures fresh { WriterIsUpToDate self.new.end }
         ensures end { WriterRefreshed self.old.end self.new.end }
@@ -73,7 +73,7 @@ impl<H: Wait + Clone + Drop> Writer<H> {
     /// Registers in the writer's slot, and tells whether a waker was granted.
     pub(crate) fn register(&mut self, call: WriteCall, cx: &mut Context<'_>) -> (WriteCall, bool)
         requires next { write_action call.point ≡ Action.Register }
-        ensures step { result.0 ≡ write_step call.point (granted result.1) }
+        ensures step { result.0 ≡ write_step call.point (Found.Granted result.1) }
         ensures covered { Covers cx.new (λ s. s ≡ write_source self.old) }
         ensures known { self.new.is_registered ≡ result.1 }
         ensures refused { IsFalse result.1 → cx.new.lacks_waker ≡ true }
@@ -90,7 +90,7 @@ impl<H: Wait + Clone + Drop> Writer<H> {
     pub(crate) fn take_own(&mut self, call: WriteCall) -> (WriteCall, Option<Taken<()>>)
         requires next { write_action call.point ≡ Action.Take Side.Writer }
         requires no_copy { writer_draws_behind call.point ≡ false }
-        ensures step { result.0 ≡ write_step call.point (waker (own_found result.1)) }
+        ensures step { result.0 ≡ write_step call.point (Found.Waker (own_found result.1)) }
         ensures emptied { IsEmptied (arc_value self.old.slots).writer
             self.old.is_registered result.1 }
         ensures known { self.new.is_registered ≡ false }
@@ -119,7 +119,7 @@ impl<H: Wait + Clone + Drop> Writer<H> {
     pub(crate) fn store_tail(&mut self, call: WriteCall, n: usize) -> WriteCall
         requires next { write_action call.point ≡ Action.StoreTail n }
         requires there { n ≤ length self.old.end.lent }
-        ensures step { result ≡ write_step call.point nothing }
+        ensures step { result ≡ write_step call.point Found.Nothing }
         ensures sent { self.new.end.sent ≡ self.old.end.sent ++ take n self.old.end.lent }
         ensures lent { self.new.end.lent ≡ drop n self.old.end.lent }
         ensures room { self.new.end.room + n ≡ self.old.end.room }
@@ -133,12 +133,12 @@ impl<H: Wait + Clone + Drop> Writer<H> {
     /// Stores closed, for good: nothing is lent any more.
     pub(crate) fn shut(&mut self, call: WriteCall) -> WriteCall
         requires next { write_action call.point ≡ Action.StoreClosed true }
-        ensures step { result ≡ write_step call.point nothing }
+        ensures step { result ≡ write_step call.point Found.Nothing }
         ensures end { WriterShut self.old.end self.new.end }
         ensures rest { SameWriter self.old self.new }
     {
         self.end.shut();
-        call.shut()
+        call.stored_closed(true)
     }
 
     /// Behind the look of a poll, where the writer's slot is known to be empty: the step is made, and no access. Else the call stays where it is.
@@ -147,7 +147,7 @@ impl<H: Wait + Clone + Drop> Writer<H> {
         requires next { write_action call.point ≡ Action.Take Side.Writer }
         requires poll { writer_draws_behind call.point ≡ false }
         ensures skipped { IfOk result (λ after. (self.now.is_registered ≡ false)
-            × (after ≡ write_step call.point (waker false))) }
+            × (after ≡ write_step call.point (Found.Waker false))) }
         ensures stays { IfErr result (λ same. same ≡ call) }
     {
         if self.is_registered {
@@ -160,7 +160,7 @@ impl<H: Wait + Clone + Drop> Writer<H> {
     #[inline(always)]
     pub(crate) fn find_no_reader(&mut self, call: WriteCall) -> Result<WriteCall, WriteCall>
         requires next { write_action call.point ≡ Action.Take Side.Reader }
-        ensures none { IfOk result (λ after. after ≡ write_step call.point (waker false)) }
+        ensures none { IfOk result (λ after. after ≡ write_step call.point (Found.Waker false)) }
         ensures woke { IfOk result (λ _. NotifiesReader self.new) }
         ensures stays { IfErr result (λ same. (same ≡ call) × (self.new ≡ self.old)) }
         ensures end { self.new.end ≡ self.old.end }
@@ -180,7 +180,7 @@ impl<H: Wait + Clone + Drop> Writer<H> {
     #[inline(always)]
     pub(crate) fn take_and_wake_reader(&mut self, call: WriteCall) -> WriteCall
         requires next { write_action call.point ≡ Action.Take Side.Reader }
-        ensures step { result ≡ write_step call.point (waker false) }
+        ensures step { result ≡ write_step call.point (Found.Waker false) }
         ensures woke { NotifiesReader self.new }
         ensures end { self.new.end ≡ self.old.end }
         ensures rest { SameWriterButWoke self.old self.new }
@@ -195,7 +195,7 @@ impl<H: Wait + Clone + Drop> Writer<H> {
     /// Stores closed as it lets the end go, and gives the evidence of that: its last mark. The slots are left, and what their locks are waited for with.
     pub(crate) fn store_closed(self, call: WriteCall) -> (WriteCall, WriteMark, Arc<Slots>, H)
         requires next { write_action call.point ≡ Action.StoreClosed false }
-        ensures step { result.0 ≡ write_step call.point nothing }
+        ensures step { result.0 ≡ write_step call.point Found.Nothing }
         ensures ring { result.1.names ≡ self.end.ring.1.1 }
         ensures bytes { result.1.bytes ≡ self.end.sent }
         ensures shut { result.1.shut ≡ true }
@@ -210,7 +210,7 @@ impl<H: Wait + Clone + Drop> Writer<H> {
             notified: _,
         } = self;
         let last = end.finish();
-        (call.stored_closed(), last, slots, rt)
+        (call.stored_closed(false), last, slots, rt)
     }
 }
 
@@ -223,7 +223,7 @@ pub(crate) fn take_reader<M>(
     told: M,
 ) -> (WriteCall, Taken<M>)
     requires next { write_action call.point ≡ Action.Take Side.Reader }
-    ensures step { result.0 ≡ write_step call.point (waker (found_in result.1)) }
+    ensures step { result.0 ≡ write_step call.point (Found.Waker (found_in result.1)) }
     ensures taken { IsFrom slots.now.reader told result.1 }
 {
     let taken = slots.reader.take(rt, told);
@@ -235,7 +235,7 @@ pub(crate) fn take_reader<M>(
 pub(crate) fn wake<M>(call: WriteCall, taken: Taken<M>) -> (WriteCall, Notified<M>)
     requires next { write_action call.point ≡ Action.Wake }
     requires found { found_in taken ≡ true }
-    ensures step { result.0 ≡ write_step call.point nothing }
+    ensures step { result.0 ≡ write_step call.point Found.Nothing }
     ensures told { IsToldOf taken result.1 }
 {
     let notified = taken.wake();

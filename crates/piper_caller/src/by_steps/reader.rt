@@ -1,14 +1,14 @@
 //! A reader's poll and consume, by steps.
 ghost use Rattle.std.specs.Prelude.{◌≡◌, ◌≢◌, ◌*◌, ◌<◌, ◌≤◌, ◌↔◌, ℕ, Bool, IsTrue, true, false};
 ghost use Rattle.piper_sides.specs.ReaderIndices.{known_in, tail_seen, head_passed};
-ghost use Rattle.piper_sides.specs.Table.{read_action, read_step, nothing, refreshed, flag, granted, waker};
+ghost use Rattle.piper_sides.specs.Table.{read_action, read_step};
 ghost use Rattle.piper_sides.specs.declared.polling.Polled.TheVariants.{Ready, Memory};
 
 use piper_sides::calls::Side;
 use piper_sides::polling::Polled;
 use piper_sides::read_call::ReadCall;
 use piper_sides::read_indices::ReadIndices;
-use piper_sides::table::{Action, Purpose, ReadPoint};
+use piper_sides::table::{Action, Found, Purpose, ReadPoint};
 
 /// What a reader reaches of the pipe that it shares, by one access each.
 pub trait ReadWords {
@@ -85,7 +85,7 @@ impl<W: ReadWords> Reader<W> {
 
     fn refresh(&mut self, call: ReadCall) -> (ReadCall, bool)
         requires next { read_action call.point ≡ Action.Refresh }
-        ensures step { result.0 ≡ read_step call.point (refreshed result.1) }
+        ensures step { result.0 ≡ read_step call.point (Found.Refreshed result.1) }
         ensures none { IsTrue result.1 ↔ (known_in self.new.indices ≡ 0) }
     {
         let tail = self.words.load_tail(&self.indices);
@@ -96,7 +96,7 @@ impl<W: ReadWords> Reader<W> {
 
     fn look_closed(&mut self, call: ReadCall) -> ReadCall
         requires next { read_action call.point ≡ Action.LoadClosed }
-        ensures step { (is_closed : Bool) × (result ≡ read_step call.point (flag is_closed)) }
+        ensures step { (is_closed : Bool) × (result ≡ read_step call.point (Found.Flag is_closed)) }
         ensures kept { self.new.indices ≡ self.old.indices }
     {
         call.loaded_closed(self.words.load_closed())
@@ -104,7 +104,7 @@ impl<W: ReadWords> Reader<W> {
 
     fn register(&mut self, call: ReadCall) -> ReadCall
         requires next { read_action call.point ≡ Action.Register }
-        ensures step { result ≡ read_step call.point (granted true) }
+        ensures step { result ≡ read_step call.point (Found.Granted true) }
         ensures kept { self.new.indices ≡ self.old.indices }
     {
         self.words.put_own();
@@ -113,7 +113,7 @@ impl<W: ReadWords> Reader<W> {
 
     fn clear_own(&mut self, call: ReadCall) -> ReadCall
         requires next { call.point ≡ ReadPoint.LookTake Purpose.Poll }
-        ensures step { result ≡ read_step call.point nothing }
+        ensures step { result ≡ read_step call.point Found.Nothing }
         ensures kept { self.new.indices ≡ self.old.indices }
     {
         self.words.take_own();
@@ -123,7 +123,7 @@ impl<W: ReadWords> Reader<W> {
     fn pass(&mut self, call: ReadCall, n: usize) -> ReadCall
         requires next { read_action call.point ≡ Action.StoreHead n }
         requires known { n ≤ known_in self.old.indices }
-        ensures step { result ≡ read_step call.point nothing }
+        ensures step { result ≡ read_step call.point Found.Nothing }
         ensures passed { self.new.indices ≡ head_passed n self.old.indices }
     {
         self.indices.gives(n);
@@ -133,7 +133,7 @@ impl<W: ReadWords> Reader<W> {
 
     fn take_writer(&mut self, call: ReadCall) -> (ReadCall, bool)
         requires next { read_action call.point ≡ Action.Take Side.Writer }
-        ensures step { result.0 ≡ read_step call.point (waker result.1) }
+        ensures step { result.0 ≡ read_step call.point (Found.Waker result.1) }
         ensures kept { self.new.indices ≡ self.old.indices }
     {
         let is_found = self.words.take_writer();
@@ -142,7 +142,7 @@ impl<W: ReadWords> Reader<W> {
 
     fn wake(&mut self, call: ReadCall) -> ReadCall
         requires next { read_action call.point ≡ Action.Wake }
-        ensures step { result ≡ read_step call.point nothing }
+        ensures step { result ≡ read_step call.point Found.Nothing }
         ensures kept { self.new.indices ≡ self.old.indices }
     {
         self.words.wake_writer();

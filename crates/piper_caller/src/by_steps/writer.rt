@@ -2,12 +2,12 @@
 ghost use Rattle.std.specs.Prelude.{◌≡◌, ◌≢◌, ◌*◌, ◌<◌, ◌≤◌, ◌↔◌, Bool, IsTrue, true, false};
 ghost use Rattle.piper_sides.specs.Index.{distance};
 ghost use Rattle.piper_sides.specs.WriterIndices.{room_in, head_seen, tail_passed};
-ghost use Rattle.piper_sides.specs.Table.{look_begun, write_action, write_step, nothing, refreshed, flag, granted, waker};
+ghost use Rattle.piper_sides.specs.Table.{look_begun, write_action, write_step};
 ghost use Rattle.piper_sides.specs.declared.polling.Polled.TheVariants.{Pending, Ready, Memory};
 
 use piper_sides::calls::Side;
 use piper_sides::polling::Polled;
-use piper_sides::table::{Action, Purpose, WritePoint};
+use piper_sides::table::{Action, Found, Purpose, WritePoint};
 use piper_sides::write_call::WriteCall;
 use piper_sides::write_indices::WriteIndices;
 
@@ -102,7 +102,7 @@ impl<W: WriteWords> Writer<W> {
 
     fn refresh(&mut self, call: WriteCall) -> (WriteCall, bool)
         requires next { write_action call.point ≡ Action.Refresh }
-        ensures step { result.0 ≡ write_step call.point (refreshed result.1) }
+        ensures step { result.0 ≡ write_step call.point (Found.Refreshed result.1) }
         ensures none { IsTrue result.1 ↔ (room_in self.new.indices ≡ 0) }
         ensures lent { self.new.indices.lent ≡ self.old.indices.lent }
     {
@@ -114,7 +114,7 @@ impl<W: WriteWords> Writer<W> {
 
     fn look_closed(&mut self, call: WriteCall) -> WriteCall
         requires next { call.point ≡ WritePoint.LookClosedAgain Purpose.Poll }
-        ensures step { (is_closed : Bool) × (result ≡ write_step call.point (flag is_closed)) }
+        ensures step { (is_closed : Bool) × (result ≡ write_step call.point (Found.Flag is_closed)) }
         ensures kept { self.new.indices ≡ self.old.indices }
     {
         call.loaded_closed(self.words.load_closed())
@@ -122,7 +122,7 @@ impl<W: WriteWords> Writer<W> {
 
     fn register(&mut self, call: WriteCall) -> WriteCall
         requires next { write_action call.point ≡ Action.Register }
-        ensures step { result ≡ write_step call.point (granted true) }
+        ensures step { result ≡ write_step call.point (Found.Granted true) }
         ensures kept { self.new.indices ≡ self.old.indices }
     {
         self.words.put_own();
@@ -131,7 +131,7 @@ impl<W: WriteWords> Writer<W> {
 
     fn clear_own(&mut self, call: WriteCall) -> WriteCall
         requires next { call.point ≡ WritePoint.LookTake Purpose.Poll }
-        ensures step { (is_found : Bool) × (result ≡ write_step call.point (waker is_found)) }
+        ensures step { (is_found : Bool) × (result ≡ write_step call.point (Found.Waker is_found)) }
         ensures kept { self.new.indices ≡ self.old.indices }
     {
         call.took_own(self.words.take_own())
@@ -140,7 +140,7 @@ impl<W: WriteWords> Writer<W> {
     fn publish(&mut self, call: WriteCall, n: usize) -> WriteCall
         requires next { write_action call.point ≡ Action.StoreTail n }
         requires lent { n ≤ self.old.indices.lent }
-        ensures step { result ≡ write_step call.point nothing }
+        ensures step { result ≡ write_step call.point Found.Nothing }
         ensures passed { self.new.indices ≡ tail_passed n self.old.indices }
     {
         self.indices.publishes(n);
@@ -150,7 +150,7 @@ impl<W: WriteWords> Writer<W> {
 
     fn take_reader(&mut self, call: WriteCall) -> (WriteCall, bool)
         requires next { write_action call.point ≡ Action.Take Side.Reader }
-        ensures step { result.0 ≡ write_step call.point (waker result.1) }
+        ensures step { result.0 ≡ write_step call.point (Found.Waker result.1) }
         ensures kept { self.new.indices ≡ self.old.indices }
     {
         let is_found = self.words.take_reader();
@@ -159,7 +159,7 @@ impl<W: WriteWords> Writer<W> {
 
     fn wake(&mut self, call: WriteCall) -> WriteCall
         requires next { write_action call.point ≡ Action.Wake }
-        ensures step { result ≡ write_step call.point nothing }
+        ensures step { result ≡ write_step call.point Found.Nothing }
         ensures kept { self.new.indices ≡ self.old.indices }
     {
         self.words.wake_reader();

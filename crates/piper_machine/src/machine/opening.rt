@@ -15,7 +15,7 @@ use piper_sides::events::{Answer, Event, Log, answered};
 use piper_sides::memory::OutOfMemory;
 use piper_sides::polling::Context;
 use piper_sides::refusals::StepRefusal;
-use piper_sides::table::{Form, Purpose, ReadPoint, WritePoint};
+use piper_sides::table::{AfterRead, AfterWrite, Form, Purpose, ReadPoint, WritePoint};
 use std::mem;
 
 // In which form a copying call is made.
@@ -84,14 +84,18 @@ impl Machine {
                 context,
                 mem::replace(destination, Destination::Slice(0)),
             ),
-            Call::Consume(n) => self.read.begin_consume(n),
+            Call::Consume(n) => self.read.begin(ReadPoint::StoreHead(n, AfterRead::Answer)),
             Call::TryFill(_) | Call::PollFillBytes(..) | Call::PollFill(..) => self.open_fill(
                 context,
                 mem::replace(source, Source::none(alloc)),
             ),
             Call::WriteBuf(most) => return Some(Answer::Lent(self.lend(most))),
-            Call::Produced(n) => self.write.begin_produced(n),
-            Call::Close => self.write.begin_close(),
+            Call::Produced(n) => self
+                .write
+                .begin(WritePoint::StoreTail(n, AfterWrite::Answer)),
+            Call::Close => self
+                .write
+                .begin(WritePoint::StoreClosed(AfterWrite::WakeWriter)),
             Call::Drop(side) => self.open_drop(side),
         }
         None
@@ -113,7 +117,8 @@ impl Machine {
         requires { self.old.writer ≡ WritePoint.Idle }
         ensures { self.new ≡ fill_opened context source self.old }
     {
-        self.write.begin_look(Purpose::Copy(form(context)));
+        self.write
+            .begin(WritePoint::LookClosed(Purpose::Copy(form(context))));
         self.writer_call = OpenCall {
             context,
             taken: None,
@@ -126,8 +131,8 @@ impl Machine {
         ensures { self.new ≡ query_opened side query self.old }
     {
         match side {
-            Side::Reader => self.read.begin_query(query),
-            Side::Writer => self.write.begin_query(query),
+            Side::Reader => self.read.begin(ReadPoint::QueryHead(query)),
+            Side::Writer => self.write.begin(WritePoint::QueryHead(query)),
         }
     }
 
@@ -136,8 +141,8 @@ impl Machine {
         ensures { self.new ≡ is_closed_opened side self.old }
     {
         match side {
-            Side::Reader => self.read.begin_is_closed(),
-            Side::Writer => self.write.begin_is_closed(),
+            Side::Reader => self.read.begin(ReadPoint::QueryClosed),
+            Side::Writer => self.write.begin(WritePoint::QueryClosed),
         }
     }
 
@@ -155,7 +160,7 @@ impl Machine {
                 self.reader_call = call;
             }
             Side::Writer => {
-                self.write.begin_look(Purpose::Poll);
+                self.write.begin(WritePoint::LookClosed(Purpose::Poll));
                 self.writer_call = call;
             }
         }
@@ -166,8 +171,8 @@ impl Machine {
         ensures { self.new ≡ drop_opened side self.old }
     {
         match side {
-            Side::Reader => self.read.begin_drop(),
-            Side::Writer => self.write.begin_drop(),
+            Side::Reader => self.read.begin(ReadPoint::StoreClosed),
+            Side::Writer => self.write.begin(WritePoint::StoreClosed(AfterWrite::Drop)),
         }
     }
 

@@ -1,12 +1,12 @@
 //! The steps of the two sides, one at a time.
-ghost use Rattle.std.specs.Prelude.{IsSome, ◌≡◌, ◌≢◌, ◌≤◌, ℕ, [], length, true, false};
+ghost use Rattle.std.specs.Prelude.{IsSome, ◌≡◌, ◌≢◌, ◌≤◌, ℕ, [], length, Bool, true, false};
 ghost use Rattle.piper_sides.specs.Open.{is_granted, is_yield_granted, no_call};
-ghost use Rattle.piper_sides.specs.Side.{Writing};
+ghost use Rattle.piper_sides.specs.Side.{Writing, head_store, publishes, tail_store};
 ghost use Rattle.piper_machine.specs.Lend.{Lendable, lending};
 ghost use Rattle.piper_machine.specs.Round.{given, found_of, moved_by};
-ghost use Rattle.piper_machine.specs.Action.{registered_in, source_called};
+ghost use Rattle.piper_machine.specs.Action.{found_by, performed, registered_in, source_called};
 ghost use Rattle.piper_machine.specs.Places.{peeked_count};
-ghost use Rattle.piper_sides.specs.Table.{read_action, write_action, moved, failed};
+ghost use Rattle.piper_sides.specs.Table.{moved_in, read_action, write_action};
 ghost use Rattle.piper_machine.specs.Step.{reader_stepped, writer_stepped, went, stepped, offering, call_after, source_after, destination_after, lent_count_after, round_left, round_answer, drain_left, drain_answer, MayLend};
 
 use super::Machine;
@@ -17,7 +17,7 @@ use piper_sides::events::Answer;
 use piper_sides::polling::Context;
 use piper_sides::scripted::{Failed, MOST_A_ROUND};
 use piper_sides::slot::SlotState;
-use piper_sides::table::{Action, WritePoint};
+use piper_sides::table::{Action, Found};
 use piper_sides::write_side::WriteSide;
 use std::alloc::Global;
 use std::mem;
@@ -87,7 +87,7 @@ fn settle_writer(
 
 // Nothing stays lent where a fill has answered.
 fn settle_lent(write: &mut WriteSide, is_fill: bool, answer: Option<Answer>)
-    requires { IsSome answer → write.old.point ≡ WritePoint.Idle }
+    requires { IsSome answer → tail_store write.old.point ≡ 0 }
     ensures { write.new
         ≡ record write.old { lent = lent_count_after is_fill answer write.old.lent } }
 {
@@ -96,23 +96,26 @@ fn settle_lent(write: &mut WriteSide, is_fill: bool, answer: Option<Answer>)
     }
 }
 
-impl Machine {
-    fn reader_loads_head(&mut self) -> Option<Answer>
-        requires { read_action self.old.reader ≡ Action.LoadHead }
-        ensures after { self.new ≡ (reader_stepped Action.LoadHead self.old).pipe }
-        ensures answer { result ≡ (reader_stepped Action.LoadHead self.old).answer }
-    {
-        let answer = self.read.loaded_head();
-        settle_reader(&mut self.reader_call, &mut self.destination, answer)
+// What a side finds that has called its source or destination.
+fn found(moved: Result<usize, Failed>) -> Found
+    ensures { result ≡ found_of moved }
+{
+    match moved {
+        Ok(n) => Found::Moved(n),
+        Err(Failed) => Found::Failed,
     }
+}
 
-    fn reader_loads_tail(&mut self) -> Option<Answer>
-        requires { read_action self.old.reader ≡ Action.LoadTail }
-        ensures after { self.new ≡ (reader_stepped Action.LoadTail self.old).pipe }
-        ensures answer { result ≡ (reader_stepped Action.LoadTail self.old).answer }
+impl Machine {
+    // The reader made its next step, which moved no index, and found this.
+    fn reader_found(&mut self, found: Found) -> Option<Answer>
+        requires next { read_action self.old.reader ≢ Action.Rest }
+        requires no_store { head_store self.old.reader ≡ 0 }
+        requires within { moved_in found ≤ peeked_count self.old }
+        ensures after { self.new ≡ drain_left found self.old }
+        ensures answer { result ≡ drain_answer found self.old }
     {
-        let count = self.len();
-        let answer = self.read.loaded_tail(count);
+        let answer = self.read.step(found);
         settle_reader(&mut self.reader_call, &mut self.destination, answer)
     }
 
@@ -122,56 +125,6 @@ impl Machine {
         ensures answer { result ≡ (reader_stepped Action.Refresh self.old).answer }
     {
         let answer = self.read.refreshed(self.write.tail());
-        settle_reader(&mut self.reader_call, &mut self.destination, answer)
-    }
-
-    fn reader_loads_closed(&mut self) -> Option<Answer>
-        requires { read_action self.old.reader ≡ Action.LoadClosed }
-        ensures after { self.new ≡ (reader_stepped Action.LoadClosed self.old).pipe }
-        ensures answer { result ≡ (reader_stepped Action.LoadClosed self.old).answer }
-    {
-        let answer = self.read.loaded_closed(self.is_closed);
-        settle_reader(&mut self.reader_call, &mut self.destination, answer)
-    }
-
-    fn reader_registers(&mut self) -> Option<Answer>
-        requires { read_action self.old.reader ≡ Action.Register }
-        ensures after { self.new ≡ (reader_stepped Action.Register self.old).pipe }
-        ensures answer { result ≡ (reader_stepped Action.Register self.old).answer }
-    {
-        let is_granted = register(&mut self.reader_slot, self.reader_call.context);
-        let answer = self.read.registered(is_granted);
-        settle_reader(&mut self.reader_call, &mut self.destination, answer)
-    }
-
-    fn reader_takes_own(&mut self) -> Option<Answer>
-        requires { read_action self.old.reader ≡ Action.Take Side.Reader }
-        ensures after { self.new ≡ (reader_stepped (Action.Take Side.Reader) self.old).pipe }
-        ensures answer { result ≡ (reader_stepped (Action.Take Side.Reader) self.old).answer }
-    {
-        self.reader_call.taken = self.reader_slot.take();
-        let answer = self.read.took_own();
-        settle_reader(&mut self.reader_call, &mut self.destination, answer)
-    }
-
-    fn reader_takes_writer(&mut self) -> Option<Answer>
-        requires { read_action self.old.reader ≡ Action.Take Side.Writer }
-        ensures after { self.new ≡ (reader_stepped (Action.Take Side.Writer) self.old).pipe }
-        ensures answer { result ≡ (reader_stepped (Action.Take Side.Writer) self.old).answer }
-    {
-        let taken = self.writer_slot.take();
-        self.reader_call.taken = taken;
-        let answer = self.read.took_writer(taken.is_some());
-        settle_reader(&mut self.reader_call, &mut self.destination, answer)
-    }
-
-    fn reader_wakes(&mut self) -> Option<Answer>
-        requires { read_action self.old.reader ≡ Action.Wake }
-        ensures after { self.new ≡ (reader_stepped Action.Wake self.old).pipe }
-        ensures answer { result ≡ (reader_stepped Action.Wake self.old).answer }
-    {
-        self.reader_call.taken = None;
-        let answer = self.read.woke();
         settle_reader(&mut self.reader_call, &mut self.destination, answer)
     }
 
@@ -185,27 +138,6 @@ impl Machine {
         settle_reader(&mut self.reader_call, &mut self.destination, answer)
     }
 
-    fn reader_stores_closed(&mut self) -> Option<Answer>
-        requires { read_action self.old.reader ≡ Action.StoreClosed false }
-        ensures after { self.new ≡ (reader_stepped (Action.StoreClosed false) self.old).pipe }
-        ensures answer { result ≡ (reader_stepped (Action.StoreClosed false) self.old).answer }
-    {
-        self.is_closed = true;
-        let answer = self.read.stored_closed();
-        settle_reader(&mut self.reader_call, &mut self.destination, answer)
-    }
-
-    fn reader_yields(&mut self) -> Option<Answer>
-        requires { read_action self.old.reader ≡ Action.Yield }
-        ensures after { self.new ≡ (reader_stepped Action.Yield self.old).pipe }
-        ensures answer { result ≡ (reader_stepped Action.Yield self.old).answer }
-    {
-        let answer = self
-            .read
-            .yielded(is_yield_granted(self.reader_call.context));
-        settle_reader(&mut self.reader_call, &mut self.destination, answer)
-    }
-
     // The destination took so many bytes, or failed.
     pub(super) fn destination_called(&mut self, taken: Result<usize, Failed>) -> Option<Answer>
         requires next { read_action self.old.reader ≡ Action.CallDestination }
@@ -213,21 +145,49 @@ impl Machine {
         ensures after { self.new ≡ drain_left (found_of taken) self.old }
         ensures answer { result ≡ drain_answer (found_of taken) self.old }
     {
-        let answer = match taken {
-            Ok(n) => self.read.destination_took(n),
-            Err(Failed) => self.read.destination_failed(),
-        };
-        settle_reader(&mut self.reader_call, &mut self.destination, answer)
+        self.reader_found(found(taken))
     }
 
-    fn reader_calls_destination(&mut self) -> Option<Answer>
-        requires { read_action self.old.reader ≡ Action.CallDestination }
-        ensures after { self.new ≡ (reader_stepped Action.CallDestination self.old).pipe }
-        ensures answer { result ≡ (reader_stepped Action.CallDestination self.old).answer }
+    // The access of the reader's next step, where that moves no index, and what it finds.
+    fn reader_finds(&mut self, action: Action) -> Found
+        requires next { action ≡ read_action self.old.reader }
+        requires open { action ≢ Action.Rest }
+        requires no_refresh { action ≢ Action.Refresh }
+        requires no_store { (n : ℕ) → action ≢ Action.StoreHead n }
+        ensures after { self.new ≡ performed Side.Reader action self.old }
+        ensures found { result ≡ found_by Side.Reader action self.old }
     {
-        let most = self.read.peekable().min(MOST_A_ROUND);
-        let taken = self.destination.take(most);
-        self.destination_called(taken)
+        match action {
+            Action::LoadTail => Found::Unread(self.len()),
+            Action::LoadClosed => Found::Flag(self.is_closed),
+            Action::Register => Found::Granted(register(
+                &mut self.reader_slot,
+                self.reader_call.context,
+            )),
+            Action::Take(Side::Reader) => {
+                self.reader_call.taken = self.reader_slot.take();
+                Found::Nothing
+            }
+            Action::Take(Side::Writer) => {
+                let taken = self.writer_slot.take();
+                self.reader_call.taken = taken;
+                Found::Waker(taken.is_some())
+            }
+            Action::Wake => {
+                self.reader_call.taken = None;
+                Found::Nothing
+            }
+            Action::StoreClosed { is_shut: _ } => {
+                self.is_closed = true;
+                Found::Nothing
+            }
+            Action::Yield => Found::Granted(is_yield_granted(self.reader_call.context)),
+            Action::CallDestination => {
+                let most = self.read.peekable().min(MOST_A_ROUND);
+                found(self.destination.take(most))
+            }
+            _ => Found::Nothing,
+        }
     }
 
     /// Makes the reader's next step, which is of this kind.
@@ -238,20 +198,13 @@ impl Machine {
     {
         self.learn();
         match action {
-            Action::Rest | Action::StoreTail(_) | Action::StoreClosed { is_shut: true } => None,
-            Action::CallSource => None,
-            Action::Yield => self.reader_yields(),
-            Action::CallDestination => self.reader_calls_destination(),
-            Action::LoadHead => self.reader_loads_head(),
-            Action::LoadTail => self.reader_loads_tail(),
+            Action::Rest => None,
             Action::Refresh => self.reader_refreshes(),
-            Action::LoadClosed => self.reader_loads_closed(),
-            Action::Register => self.reader_registers(),
             Action::StoreHead(n) => self.reader_stores_head(n),
-            Action::StoreClosed { is_shut: false } => self.reader_stores_closed(),
-            Action::Take(Side::Reader) => self.reader_takes_own(),
-            Action::Take(Side::Writer) => self.reader_takes_writer(),
-            Action::Wake => self.reader_wakes(),
+            _ => {
+                let found = self.reader_finds(action);
+                self.reader_found(found)
+            }
         }
     }
 
@@ -266,22 +219,17 @@ impl Machine {
         self.read.next()
     }
 
-    fn writer_loads_head(&mut self) -> Option<Answer>
-        requires { write_action self.old.writer ≡ Action.LoadHead }
-        ensures after { self.new ≡ (writer_stepped Action.LoadHead self.old).pipe }
-        ensures answer { result ≡ (writer_stepped Action.LoadHead self.old).answer }
+    // The writer made its next step, which moved no index, and found this.
+    fn writer_found(&mut self, found: Found) -> Option<Answer>
+        requires next { write_action self.old.writer ≢ Action.Rest }
+        requires no_store { publishes self.old.writer ≡ false }
+        requires within { moved_in found ≤ length self.old.lent }
+        ensures after { self.new ≡ round_left found self.old }
+        ensures answer { result ≡ round_answer found self.old }
     {
-        let count = self.len();
-        let answer = self.write.loaded_head(count);
-        settle_writer(self.alloc, &mut self.writer_call, &mut self.source, answer)
-    }
-
-    fn writer_loads_tail(&mut self) -> Option<Answer>
-        requires { write_action self.old.writer ≡ Action.LoadTail }
-        ensures after { self.new ≡ (writer_stepped Action.LoadTail self.old).pipe }
-        ensures answer { result ≡ (writer_stepped Action.LoadTail self.old).answer }
-    {
-        let answer = self.write.loaded_tail();
+        let is_fill = self.write.point().ends_fill();
+        let answer = self.write.step(found);
+        settle_lent(&mut self.write, is_fill, answer);
         settle_writer(self.alloc, &mut self.writer_call, &mut self.source, answer)
     }
 
@@ -291,61 +239,6 @@ impl Machine {
         ensures answer { result ≡ (writer_stepped Action.Refresh self.old).answer }
     {
         let answer = self.write.refreshed(self.read.head());
-        settle_writer(self.alloc, &mut self.writer_call, &mut self.source, answer)
-    }
-
-    fn writer_loads_closed(&mut self) -> Option<Answer>
-        requires { write_action self.old.writer ≡ Action.LoadClosed }
-        ensures after { self.new ≡ (writer_stepped Action.LoadClosed self.old).pipe }
-        ensures answer { result ≡ (writer_stepped Action.LoadClosed self.old).answer }
-    {
-        let is_fill = self.write.ends_fill();
-        let answer = self.write.loaded_closed(self.is_closed);
-        settle_lent(&mut self.write, is_fill, answer);
-        settle_writer(self.alloc, &mut self.writer_call, &mut self.source, answer)
-    }
-
-    fn writer_registers(&mut self) -> Option<Answer>
-        requires { write_action self.old.writer ≡ Action.Register }
-        ensures after { self.new ≡ (writer_stepped Action.Register self.old).pipe }
-        ensures answer { result ≡ (writer_stepped Action.Register self.old).answer }
-    {
-        let is_fill = self.write.ends_fill();
-        let is_granted = register(&mut self.writer_slot, self.writer_call.context);
-        let answer = self.write.registered(is_granted);
-        settle_lent(&mut self.write, is_fill, answer);
-        settle_writer(self.alloc, &mut self.writer_call, &mut self.source, answer)
-    }
-
-    fn writer_takes_own(&mut self) -> Option<Answer>
-        requires { write_action self.old.writer ≡ Action.Take Side.Writer }
-        ensures after { self.new ≡ (writer_stepped (Action.Take Side.Writer) self.old).pipe }
-        ensures answer { result ≡ (writer_stepped (Action.Take Side.Writer) self.old).answer }
-    {
-        let taken = self.writer_slot.take();
-        self.writer_call.taken = taken;
-        let answer = self.write.took_own(taken.is_some());
-        settle_writer(self.alloc, &mut self.writer_call, &mut self.source, answer)
-    }
-
-    fn writer_takes_reader(&mut self) -> Option<Answer>
-        requires { write_action self.old.writer ≡ Action.Take Side.Reader }
-        ensures after { self.new ≡ (writer_stepped (Action.Take Side.Reader) self.old).pipe }
-        ensures answer { result ≡ (writer_stepped (Action.Take Side.Reader) self.old).answer }
-    {
-        let taken = self.reader_slot.take();
-        self.writer_call.taken = taken;
-        let answer = self.write.took_reader(taken.is_some());
-        settle_writer(self.alloc, &mut self.writer_call, &mut self.source, answer)
-    }
-
-    fn writer_wakes(&mut self) -> Option<Answer>
-        requires { write_action self.old.writer ≡ Action.Wake }
-        ensures after { self.new ≡ (writer_stepped Action.Wake self.old).pipe }
-        ensures answer { result ≡ (writer_stepped Action.Wake self.old).answer }
-    {
-        self.writer_call.taken = None;
-        let answer = self.write.woke();
         settle_writer(self.alloc, &mut self.writer_call, &mut self.source, answer)
     }
 
@@ -365,7 +258,7 @@ impl Machine {
         ensures answer { result ≡ (writer_stepped (Action.StoreClosed false) self.old).answer }
     {
         self.is_closed = true;
-        let answer = self.write.stored_closed();
+        let answer = self.write.step(Found::Nothing);
         settle_writer(self.alloc, &mut self.writer_call, &mut self.source, answer)
     }
 
@@ -376,19 +269,6 @@ impl Machine {
     {
         self.is_closed = true;
         let answer = self.write.shut();
-        settle_writer(self.alloc, &mut self.writer_call, &mut self.source, answer)
-    }
-
-    fn writer_yields(&mut self) -> Option<Answer>
-        requires { write_action self.old.writer ≡ Action.Yield }
-        ensures after { self.new ≡ (writer_stepped Action.Yield self.old).pipe }
-        ensures answer { result ≡ (writer_stepped Action.Yield self.old).answer }
-    {
-        let is_fill = self.write.ends_fill();
-        let answer = self
-            .write
-            .yielded(is_yield_granted(self.writer_call.context));
-        settle_lent(&mut self.write, is_fill, answer);
         settle_writer(self.alloc, &mut self.writer_call, &mut self.source, answer)
     }
 
@@ -407,32 +287,7 @@ impl Machine {
         if is_failing { Err(Failed) } else { Ok(count) }
     }
 
-    fn source_gave(&mut self, n: usize) -> Option<Answer>
-        requires next { write_action self.old.writer ≡ Action.CallSource }
-        requires within { n ≤ length self.old.lent }
-        ensures after { self.new ≡ round_left (moved n) self.old }
-        ensures answer { result ≡ round_answer (moved n) self.old }
-    {
-        let is_fill = self.write.ends_fill();
-        let answer = self.write.source_gave(n);
-        settle_lent(&mut self.write, is_fill, answer);
-        settle_writer(self.alloc, &mut self.writer_call, &mut self.source, answer)
-    }
-
-    // The source failed, which was lent places as one that gives bytes is.
-    fn source_failed(&mut self) -> Option<Answer>
-        requires next { write_action self.old.writer ≡ Action.CallSource }
-        requires lent { Lendable MOST_A_ROUND self.old (length self.old.lent) }
-        ensures after { self.new ≡ round_left failed self.old }
-        ensures answer { result ≡ round_answer failed self.old }
-    {
-        let is_fill = self.write.ends_fill();
-        let answer = self.write.source_failed();
-        settle_lent(&mut self.write, is_fill, answer);
-        settle_writer(self.alloc, &mut self.writer_call, &mut self.source, answer)
-    }
-
-    // The source gave so many bytes, or failed.
+    // The source gave so many bytes, or failed; one that failed was lent places as one that gives bytes is.
     pub(super) fn source_called(&mut self, given: Result<usize, Failed>) -> Option<Answer>
         requires next { write_action self.old.writer ≡ Action.CallSource }
         requires lent { Lendable MOST_A_ROUND self.old (length self.old.lent) }
@@ -440,10 +295,7 @@ impl Machine {
         ensures after { self.new ≡ round_left (found_of given) self.old }
         ensures answer { result ≡ round_answer (found_of given) self.old }
     {
-        match given {
-            Ok(n) => self.source_gave(n),
-            Err(Failed) => self.source_failed(),
-        }
+        self.writer_found(found(given))
     }
 
     fn writer_calls_source(&mut self) -> Option<Answer>
@@ -456,6 +308,41 @@ impl Machine {
         self.source_called(given)
     }
 
+    // The access of the writer's next step, where that moves no index and lends nothing, and what it finds.
+    fn writer_finds(&mut self, action: Action) -> Found
+        requires next { action ≡ write_action self.old.writer }
+        requires open { action ≢ Action.Rest }
+        requires no_refresh { action ≢ Action.Refresh }
+        requires no_store { (n : ℕ) → action ≢ Action.StoreTail n }
+        requires no_close { (is_shut : Bool) → action ≢ Action.StoreClosed is_shut }
+        requires no_source { action ≢ Action.CallSource }
+        ensures after { self.new ≡ performed Side.Writer action self.old }
+        ensures found { result ≡ found_by Side.Writer action self.old }
+    {
+        match action {
+            Action::LoadHead => Found::Unread(self.len()),
+            Action::LoadClosed => Found::Flag(self.is_closed),
+            Action::Register => Found::Granted(register(
+                &mut self.writer_slot,
+                self.writer_call.context,
+            )),
+            Action::Take(slot) => {
+                let taken = match slot {
+                    Side::Reader => self.reader_slot.take(),
+                    Side::Writer => self.writer_slot.take(),
+                };
+                self.writer_call.taken = taken;
+                Found::Waker(taken.is_some())
+            }
+            Action::Wake => {
+                self.writer_call.taken = None;
+                Found::Nothing
+            }
+            Action::Yield => Found::Granted(is_yield_granted(self.writer_call.context)),
+            _ => Found::Nothing,
+        }
+    }
+
     /// Makes the writer's next step, which is of this kind.
     pub(super) fn writer_goes(&mut self, action: Action) -> Option<Answer>
         requires { action ≡ write_action self.old.writer }
@@ -465,20 +352,19 @@ impl Machine {
     {
         self.learn();
         match action {
-            Action::Rest | Action::StoreHead(_) | Action::CallDestination => None,
-            Action::Yield => self.writer_yields(),
+            Action::Rest => None,
             Action::CallSource => self.writer_calls_source(),
-            Action::LoadHead => self.writer_loads_head(),
-            Action::LoadTail => self.writer_loads_tail(),
             Action::Refresh => self.writer_refreshes(),
-            Action::LoadClosed => self.writer_loads_closed(),
-            Action::Register => self.writer_registers(),
             Action::StoreTail(n) => self.writer_stores_tail(n),
-            Action::StoreClosed { is_shut: false } => self.writer_stores_closed(),
-            Action::StoreClosed { is_shut: true } => self.writer_shuts(),
-            Action::Take(Side::Reader) => self.writer_takes_reader(),
-            Action::Take(Side::Writer) => self.writer_takes_own(),
-            Action::Wake => self.writer_wakes(),
+            Action::StoreClosed { is_shut } => if is_shut {
+                self.writer_shuts()
+            } else {
+                self.writer_stores_closed()
+            },
+            _ => {
+                let found = self.writer_finds(action);
+                self.writer_found(found)
+            }
         }
     }
 

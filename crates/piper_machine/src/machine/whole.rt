@@ -21,7 +21,7 @@ use crate::destination::Destination;
 use piper_sides::calls::{Call, Query, Side, SideState};
 use piper_sides::events::Answer;
 use piper_sides::polling::{Context, Luck, Polled};
-use piper_sides::table::{Action, ReadPoint, WritePoint};
+use piper_sides::table::{Action, AfterRead, AfterWrite, ReadPoint, WritePoint};
 
 // The waker that a yield of this call calls.
 fn yield_waker(context: Option<Context>) -> Option<u32>
@@ -276,7 +276,7 @@ impl Machine {
     {
         self.learn_steps();
         self.begin_reader();
-        self.read.begin_consume(n);
+        self.read.begin(ReadPoint::StoreHead(n, AfterRead::Answer));
         self.drive_reader();
     }
 
@@ -313,7 +313,8 @@ impl Machine {
     {
         self.learn_steps();
         self.begin_writer();
-        self.write.begin_produced(n);
+        self.write
+            .begin(WritePoint::StoreTail(n, AfterWrite::Answer));
         self.drive_writer();
     }
 
@@ -325,7 +326,8 @@ impl Machine {
     {
         self.learn_steps();
         self.begin_writer();
-        self.write.begin_close();
+        self.write
+            .begin(WritePoint::StoreClosed(AfterWrite::WakeWriter));
         self.drive_writer();
     }
 

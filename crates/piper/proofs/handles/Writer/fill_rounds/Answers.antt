@@ -2,7 +2,8 @@
 use Rattle.std.proofs.Common.{◌≡◌, ◌+◌, ◌%◌, ◌^◌, ◌∙◌, ℕ, [], Ok, take, refl, sym, ap, subst, inl, inr, arith}
 use Rattle.futures.specs.declared.task.Poll.TheVariants.{Ready}
 use Rattle.piper_ring.specs.WriteView.{WriteView}
-use Rattle.piper_sides.specs.Table.{Next, write_step, failed}
+use Rattle.piper_sides.specs.declared.table.Found.TheVariants.{Failed as failed}
+use Rattle.piper_sides.specs.Table.{Next, write_step}
 use Rattle.piper_sides.specs.declared.table.WritePoint.{WritePoint}
 use Rattle.piper.proofs.Rounds.{counts, told_count, gave_none, told_none, gives, gave_closed, stores, takes, fill_round}
 use Rattle.piper.proofs.StaysNotified.{reader_stays}
