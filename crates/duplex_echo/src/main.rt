@@ -1,4 +1,5 @@
-//! Sends standard input line by line through a duplex stream to a thread that writes it back, and prints what comes back.
+//! Sends standard input line by line through a duplex stream to a thread that writes it back, and
+//! prints what comes back.
 #![tactic(auto)]
 
 use piper_duplex::{Ended, echo};

@@ -1,4 +1,5 @@
-//! A thread reads a file into a pipe, and a task counts its lines as they come. The thread may wait for the file; the task is only polled, and sleeps while nothing is there.
+//! A thread reads a file into a pipe, and a task counts its lines as they come. The thread may wait
+//! for the file; the task is only polled, and sleeps while nothing is there.
 #![tactic(auto)]
 
 use futures::executor::block_on;

@@ -1,4 +1,6 @@
-//! A client and a server of HTTP speak through a duplex stream in place of a socket, so that a service can be tried with no network. Each line of standard input is a path that the client asks for.
+//! A client and a server of HTTP speak through a duplex stream in place of a socket, so that a
+//! service can be tried with no network. Each line of standard input is a path that the client asks
+//! for.
 #![tactic(auto)]
 
 use bytes::Bytes;
@@ -59,7 +61,8 @@ where
 
 /// Asks for one page: its status and its bytes.
 ///
-/// The connection has to be polled beside the request, since it carries the bytes of both; so `join` waits for the two of them.
+/// The connection has to be polled beside the request, since it carries the bytes of both; so
+/// `join` waits for the two of them.
 fn fetch<R, I>(rt: &R, io: I, path: &str) -> anyhow::Result<(StatusCode, Bytes)>
 where
     R: Wait + RandomSource + AllocGlobal,
@@ -94,7 +97,8 @@ fn main(rt: HostRuntime) -> anyhow::Result<()> {
         // Each path has a stream of its own, as it would have a connection of its own to a server.
         let (near, far) = duplex(&rt, rt.alloc(), 64, 64, 1)?;
         let (near, far) = (CompatEnd::new(near), CompatEnd::new(far));
-        // The service owns its end: where it returns, the end is let go, which closes both pipes and
+        // The service owns its end: where it returns, the end is let go, which closes both pipes
+        // and
         // wakes a client that waits.
         let child = thread::spawn(&rt, move || serve(&theirs, far))?;
         let (status, page) = fetch(&rt, near, path.as_str())?;

@@ -1,4 +1,5 @@
-//! Numbers the lines of standard input. A thread pumps the input into a pipe, and a task takes whole lines out of it, whatever pieces they came in.
+//! Numbers the lines of standard input. A thread pumps the input into a pipe, and a task takes
+//! whole lines out of it, whatever pieces they came in.
 #![tactic(auto)]
 
 use futures::executor::block_on;

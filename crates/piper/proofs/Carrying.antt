@@ -18,7 +18,8 @@ pub carries_same : (t0 t1 t2 s0 s1 s2 : List ℕ) (saw1 saw2 : Bool) → Carries
 carries_same t0 t1 t2 s0 s1 s2 saw1 saw2 c stays t s =
     (c.0, c.1, t ∙ c.2, s ∙ c.3, λ not_seen. c.4 (unseen saw1 saw2 stays not_seen))
 
--- n bytes more were taken, of a piece that the writer was handed, and the first m of them were published
+-- n bytes more were taken, of a piece that the writer was handed, and the first m of them were
+-- published
 pub carries_more : (t0 t1 t2 s0 s1 s2 piece : List ℕ) (m n : ℕ) (saw1 saw2 : Bool) → Carries t0 t1 s0 s1 saw1 → ¬ (saw1 ≡ true)
     → t2 ≡ t1 ++ take n piece → m ≤ n → s2 ≡ s1 ++ take m piece → (saw2 ≡ false → m ≡ n) → Carries t0 t2 s0 s2 saw2
 carries_more t0 t1 t2 s0 s1 s2 piece m n true saw2 c unseen t within s all = absurd (unseen refl)

@@ -2,7 +2,8 @@
 use Rattle.std.specs.Prelude.{◌≡◌, ℕ, ◌+◌, ◌≤◌, List, ◌++◌, take, drop, length}
 use Rattle.std.proofs.Common.{sym, ap, ◌∙◌, append_assoc, take-add, take_at, length-take-le}
 
--- the first n bytes of xs stand at the front: k of them stood there, and the next ones were put behind
+-- the first n bytes of xs stand at the front: k of them stood there, and the next ones were put
+-- behind
 pub copied_on : (xs front more behind : List ℕ) (k m n : ℕ) → n ≤ length xs → n ≡ k + m
     → front ≡ take k xs → more ≡ take m (drop k xs)
     → take n (front ++ (more ++ behind)) ≡ take n xs

@@ -1,4 +1,5 @@
-//! What the call table answers, as the calls of the handles answer it; and the wake at the end of a round or a call.
+//! What the call table answers, as the calls of the handles answer it; and the wake at the end of a
+//! round or a call.
 ghost use Rattle.std.specs.Prelude.{◌≡◌, Bool, true};
 ghost use Rattle.piper_sides.specs.Table.{read_action, write_action};
 ghost use Rattle.piper.specs.Slots.{found_in, IsToldOf};

@@ -47,7 +47,8 @@ impl From<AllocError> for PipeError {
     }
 }
 
-/// So that `?` takes a failed call of the pipe to an `io::Result`: want of memory by its kind, and the error of a source or destination as it is.
+/// So that `?` takes a failed call of the pipe to an `io::Result`: want of memory by its kind, and
+/// the error of a source or destination as it is.
 impl From<PipeError> for io::Error {
     ghost use Rattle.piper.specs.Failed.{TellsFailure};
 

@@ -1,4 +1,5 @@
-//! The two handles of a pipe. Each is an end of the ring, the slots of both sides, and what it waits and draws with.
+//! The two handles of a pipe. Each is an end of the ring, the slots of both sides, and what it
+//! waits and draws with.
 ghost use Rattle.std.specs.Prelude.{◌≡◌, ℕ, List, ◌+◌, ◌*◌, ◌^◌, ◌<◌, ◌≤◌, ◌++◌, length, max, IfOk, bit_xor, true};
 ghost use Rattle.std.specs.Borrow.{sem};
 ghost use Rattle.piper_ring.specs.ReadView.{KnowsEnd, Agree};
@@ -28,13 +29,15 @@ pub(crate) struct Slots {
 
 /// The reading side of a pipe.
 ///
-/// It is made by `pipe`, can't be cloned, and has to be spent by its call `drop`. In clauses, `end` is the view of the end that `end()` lends.
+/// It is made by `pipe`, can't be cloned, and has to be spent by its call `drop`. In clauses, `end`
+/// is the view of the end that `end()` lends.
 pub struct Reader<H: Wait + Clone + Drop> {
     end: ReadEnd,
     slots: Arc<Slots>,
     rt: H,
     rng: Pcg32,
-    /// Whether the reader's slot may hold a waker: one was left there since the reader last emptied it.
+    /// Whether the reader's slot may hold a waker: one was left there since the reader last emptied
+    /// it.
     is_registered: bool,
     /// Behind what the writer's slot was last emptied.
     notified: Notified<ReadMark>,
@@ -42,21 +45,26 @@ pub struct Reader<H: Wait + Clone + Drop> {
 
 /// The writing side of a pipe.
 ///
-/// It is made by `pipe`, can't be cloned, and has to be spent by its call `drop`. In clauses, `end` is the view of the end that `end()` lends.
+/// It is made by `pipe`, can't be cloned, and has to be spent by its call `drop`. In clauses, `end`
+/// is the view of the end that `end()` lends.
 pub struct Writer<H: Wait + Clone + Drop> {
     end: WriteEnd,
     slots: Arc<Slots>,
     rt: H,
     rng: Pcg32,
-    /// Whether the writer's slot may hold a waker: one was left there since the writer last emptied it.
+    /// Whether the writer's slot may hold a waker: one was left there since the writer last emptied
+    /// it.
     is_registered: bool,
     /// Behind what the reader's slot was last emptied.
     notified: Notified<WriteMark>,
 }
 
-/// Creates a bounded single-producer single-consumer pipe: a ring of `cap` bytes that can be read and written by two threads.
+/// Creates a bounded single-producer single-consumer pipe: a ring of `cap` bytes that can be read
+/// and written by two threads.
 ///
-/// Both handles keep a clone of `rt`, under which they wait for the locks of their slots. The reader's generator begins at `seed`, the writer's at `seed` with its lowest bit flipped. Where memory is refused, all that was got is given back.
+/// Both handles keep a clone of `rt`, under which they wait for the locks of their slots. The
+/// reader's generator begins at `seed`, the writer's at `seed` with its lowest bit flipped. Where
+/// memory is refused, all that was got is given back.
 pub fn pipe<H: Wait + Clone + Drop>(
     rt: &H,
     alloc: Global,
@@ -112,7 +120,10 @@ impl<H: Wait + Clone + Drop> Reader<H> {
         &self.end
     }
 
-    /// From now on it knows what the mark tells: a look finds at least the bytes that were published before it, and a pipe that the writer closed before it is seen closed. Its bytes and those that the reader took and knows of are beginnings of one stream, and those of a mark that tells of the end are all bytes that were ever published.
+    /// From now on it knows what the mark tells: a look finds at least the bytes that were
+    /// published before it, and a pipe that the writer closed before it is seen closed. Its bytes
+    /// and those that the reader took and knows of are beginnings of one stream, and those of a
+    /// mark that tells of the end are all bytes that were ever published.
     pub fn heed(&mut self, mark: &WriteMark)
         requires { mark.now.names ≡ self.old.end.ring.1.1 }
         ensures told { self.new.end.told ≡ max self.old.end.told (length mark.now.bytes) }
@@ -126,7 +137,9 @@ impl<H: Wait + Clone + Drop> Reader<H> {
         self.end.heed(mark);
     }
 
-    /// Both handles in one hand: then the reader knows of all that was published, and the writer of all the free room, and where either saw the pipe closed the writer closed it: what the reader took for all bytes is what the writer published. It takes no lock and no memory.
+    /// Both handles in one hand: then the reader knows of all that was published, and the writer of
+    /// all the free room, and where either saw the pipe closed the writer closed it: what the
+    /// reader took for all bytes is what the writer published. It takes no lock and no memory.
     pub fn meet(&mut self, other: &mut Writer<H>)
         requires { other.old.end.ring ≡ self.old.end.ring }
         ensures fifo { self.new.end.taken ++ self.new.end.known ≡ other.new.end.sent }
@@ -156,7 +169,8 @@ impl<H: Wait + Clone + Drop> Writer<H> {
         &self.end
     }
 
-    /// From now on it knows what the mark tells: a look finds at least the room that was given back before it.
+    /// From now on it knows what the mark tells: a look finds at least the room that was given back
+    /// before it.
     pub fn heed(&mut self, mark: &ReadMark)
         requires { mark.now.names ≡ self.old.end.ring.1.1 }
         ensures told { self.new.end.told ≡ max self.old.end.told mark.now.count }
@@ -166,7 +180,8 @@ impl<H: Wait + Clone + Drop> Writer<H> {
         self.end.heed(mark);
     }
 
-    /// From now on it knows that the reader was dropped: the pipe counts as seen closed, so polls answer `false` and fills 0. And it knows of all that was ever consumed.
+    /// From now on it knows that the reader was dropped: the pipe counts as seen closed, so polls
+    /// answer `false` and fills 0. And it knows of all that was ever consumed.
     pub fn heed_last(&mut self, mark: &LastReadMark)
         requires { mark.now.consumed.names ≡ self.old.end.ring.1.1 }
         ensures saw { self.new.end.saw ≡ true }
@@ -177,9 +192,12 @@ impl<H: Wait + Clone + Drop> Writer<H> {
         self.end.heed_last(mark);
     }
 
-    /// Lends at most `max` bytes of the known room, in one piece, to be written: at least one where there is room, one is asked for and the writer didn't close the pipe. It replaces what was lent before; what stands in the bytes is not said.
+    /// Lends at most `max` bytes of the known room, in one piece, to be written: at least one where
+    /// there is room, one is asked for and the writer didn't close the pipe. It replaces what was
+    /// lent before; what stands in the bytes is not said.
     ///
-    /// Nothing is lent once the writer closed the pipe. Else all that is asked for and fits is lent, or at least 4,096 bytes of it: the memory is zeroed on the way.
+    /// Nothing is lent once the writer closed the pipe. Else all that is asked for and fits is
+    /// lent, or at least 4,096 bytes of it: the memory is zeroed on the way.
     pub fn write_buf(&mut self, max: usize) -> &mut [u8]
         ensures* writes { sem 𝓛 (lends_room H.row self.entry result) }
         ensures length { Lendable self.old.end max (length result.now) }

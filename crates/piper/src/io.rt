@@ -38,7 +38,9 @@ pub trait AsyncRead {
     // a call with this context has failed with this error, and left it so
     ghost fails: { Self → Context → PipeError → Type 0 } = { λ _ _ _. ⊤ };
 
-    /// Takes bytes, puts them at the front of `dest`, and answers how many; 0 where `dest` has room is the end, behind which no byte comes and no call waits. A reader that was told of the end is pending only where it asked for another poll itself.
+    /// Takes bytes, puts them at the front of `dest`, and answers how many; 0 where `dest` has room
+    /// is the end, behind which no byte comes and no call waits. A reader that was told of the end
+    /// is pending only where it asked for another poll itself.
     fn poll_read(&mut self, cx: &mut Context<'_>, dest: &mut [u8]) -> Poll<Result<usize, PipeError>>
         ensures read { Reads result dest.old dest.new
             (taken self.old) (taken self.new) (saw self.new) }
@@ -82,7 +84,9 @@ pub trait AsyncBufRead {
     // a call with this context has failed with this error, and left it so
     ghost fails: { Self → Context → PipeError → Type 0 } = { λ _ _ _. ⊤ };
 
-    /// Lends the first piece of the bytes that it knows; an empty slice is the end, behind which no byte comes and no call waits. Bytes that were known stay known, and none is taken. A reader that was told of the end is not pending.
+    /// Lends the first piece of the bytes that it knows; an empty slice is the end, behind which no
+    /// byte comes and no call waits. Bytes that were known stay known, and none is taken. A reader
+    /// that was told of the end is not pending.
     fn poll_fill_buf(&mut self, cx: &mut Context<'_>) -> Poll<Result<&[u8], PipeError>>
         // said of the reader as it is once the slice is given back
         ensures* lent { sem 𝓛 (Rests Self.row self.entry (λ new.
@@ -125,7 +129,9 @@ pub trait AsyncWrite {
     // a call with this context has failed with this error, and left it so
     ghost fails: { Self → Context → PipeError → Type 0 } = { λ _ _ _. ⊤ };
 
-    /// Publishes bytes from the front of `source`, and answers how many; 0 where there are some says that the pipe is closed, and so does each later answer. Bytes that were counted in the call that sees the pipe closed may be lost.
+    /// Publishes bytes from the front of `source`, and answers how many; 0 where there are some
+    /// says that the pipe is closed, and so does each later answer. Bytes that were counted in the
+    /// call that sees the pipe closed may be lost.
     fn poll_write(&mut self, cx: &mut Context<'_>, source: &[u8]) -> Poll<Result<usize, PipeError>>
         ensures written { Writes result source.now (sent self.old) (sent self.new) (saw self.new) }
         ensures full { result ≡ Poll.Ready (Ok 0) →

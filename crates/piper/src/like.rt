@@ -26,7 +26,8 @@ pub trait ReadLike {
     // how many reads failed, modulo 2^64
     ghost failures: { Self → ℕ };
 
-    /// Reads bytes to the front of `dest`, and answers how many. A read that fails gives none, though `dest` may be changed.
+    /// Reads bytes to the front of `dest`, and answers how many. A read that fails gives none,
+    /// though `dest` may be changed.
     fn read(&mut self, dest: &mut [u8]) -> Result<usize, Self::Error>
         ensures bound { IfOk result (λ n. n ≤ length dest.new) }
         ensures bytes { gives self.old (passed result dest.new) self.new }
@@ -34,7 +35,8 @@ pub trait ReadLike {
         ensures error { IfErr result (λ e. fails self.old e self.new) }
         ensures failures { Counts result (failures self.old) (failures self.new) };
 
-    /// For how many bytes it asks next: for 0 only where it has none left to give. One that can't tell asks for any number of them.
+    /// For how many bytes it asks next: for 0 only where it has none left to give. One that can't
+    /// tell asks for any number of them.
     #[inline(always)]
     fn asks(&self) -> usize
         ensures { result ≡ 0 → is_dry self.now }
@@ -64,7 +66,8 @@ pub trait WriteLike {
     // how many writes failed, modulo 2^64
     ghost failures: { Self → ℕ };
 
-    /// Writes bytes from the front of `source`, and answers how many. A write that fails takes none.
+    /// Writes bytes from the front of `source`, and answers how many. A write that fails takes
+    /// none.
     fn write(&mut self, source: &[u8]) -> Result<usize, Self::Error>
         ensures bound { IfOk result (λ n. n ≤ length source.now) }
         ensures bytes { takes self.old (passed result source.now) self.new }
@@ -72,7 +75,8 @@ pub trait WriteLike {
         ensures error { IfErr result (λ e. fails self.old e self.new) }
         ensures failures { Counts result (failures self.old) (failures self.new) };
 
-    /// For how many bytes it asks next: for 0 only where it takes no more. One that can't tell asks for any number of them.
+    /// For how many bytes it asks next: for 0 only where it takes no more. One that can't tell asks
+    /// for any number of them.
     #[inline(always)]
     fn asks(&self) -> usize
         ensures { result ≡ 0 → is_full self.now }

@@ -36,7 +36,8 @@ pub struct OwnedWriter<H: Wait + Clone + Drop> {
 
 /// Creates a pipe of `cap` bytes whose handles are let go by themselves.
 ///
-/// It is `pipe` over the global allocator, from the seed `DEFAULT_SEED`. Where memory is refused, all that was got is given back.
+/// It is `pipe` over the global allocator, from the seed `DEFAULT_SEED`. Where memory is refused,
+/// all that was got is given back.
 pub fn owned_pipe<H: Wait + Clone + AllocGlobal + Drop>(
     rt: &H,
     cap: usize,
@@ -76,7 +77,8 @@ impl<H: Wait + Clone + Drop> OwnedReader<H> {
         &self.reader
     }
 
-    /// The reader itself, which has to be spent by its call `drop`. The pipe is as it was: it is not closed.
+    /// The reader itself, which has to be spent by its call `drop`. The pipe is as it was: it is
+    /// not closed.
     pub fn into_inner(self) -> Reader<H>
         ensures { result ≡ self.reader }
     {
@@ -109,7 +111,8 @@ impl<H: Wait + Clone + Drop> OwnedWriter<H> {
         &self.writer
     }
 
-    /// The writer itself, which has to be spent by its call `drop`. The pipe is as it was: it is not closed.
+    /// The writer itself, which has to be spent by its call `drop`. The pipe is as it was: it is
+    /// not closed.
     pub fn into_inner(self) -> Writer<H>
         ensures { result ≡ self.writer }
     {

@@ -23,7 +23,8 @@ use std::sync::Wait;
 impl<H: Wait + Clone + Drop> Reader<H> {
     ghost use Rattle.piper.specs.Handles.{NotifiesWriter, SameReader, SameReaderButWoke, TellsWriter, read_source};
 
-    /// How many bytes are unread now: at least those that the reader knows of or was told of. The writer may publish more at any time.
+    /// How many bytes are unread now: at least those that the reader knows of or was told of. The
+    /// writer may publish more at any time.
     pub fn len(&self) -> usize
         ensures { MayBeUnread self.now.end result }
     {
@@ -51,7 +52,8 @@ impl<H: Wait + Clone + Drop> Reader<H> {
         self.end().is_full()
     }
 
-    /// Whether the pipe is closed now: a handle was dropped, or the writer closed the pipe. Once the reader saw it closed, or was told that the writer closed it, the answer is `true`.
+    /// Whether the pipe is closed now: a handle was dropped, or the writer closed the pipe. Once
+    /// the reader saw it closed, or was told that the writer closed it, the answer is `true`.
     pub fn is_closed(&self) -> bool
         ensures saw { self.now.end.saw ≡ true → IsTrue result }
         ensures told { self.now.end.told_shut ≡ true → IsTrue result }
@@ -61,7 +63,11 @@ impl<H: Wait + Clone + Drop> Reader<H> {
 
     /// Waits for a byte, or for the end.
     ///
-    /// The answer is `true` once a byte is known, which `peek_buf` then lends; and `false` once the pipe is closed and all that was ever published has been taken: this is final. Until then the call is pending, and the task is woken when bytes are published or the pipe is closed. It looks for more bytes only where none is known. Where no waker can be made the answer is want of memory.
+    /// The answer is `true` once a byte is known, which `peek_buf` then lends; and `false` once the
+    /// pipe is closed and all that was ever published has been taken: this is final. Until then the
+    /// call is pending, and the task is woken when bytes are published or the pipe is closed. It
+    /// looks for more bytes only where none is known. Where no waker can be made the answer is want
+    /// of memory.
     pub fn poll(&mut self, cx: &mut Context<'_>) -> Poll<Result<bool, OutOfMemory>>
         ensures answer { ReaderFound result self.new.end }
         ensures looked { ReaderLooked self.old.end self.new.end }
@@ -115,7 +121,9 @@ impl<H: Wait + Clone + Drop> Reader<H> {
         }
     }
 
-    /// The known bytes that stand in one piece, the next one first; at least one where any is known. The slice stays as it is while the writer writes and publishes. More bytes become known by a look, as by `poll`.
+    /// The known bytes that stand in one piece, the next one first; at least one where any is
+    /// known. The slice stays as it is while the writer writes and publishes. More bytes become
+    /// known by a look, as by `poll`.
     pub fn peek_buf(&self) -> &[u8]
         ensures bytes { result.now ≡ take (in_one_piece self.now.end) self.now.end.known }
         ensures length { length result.now ≡ in_one_piece self.now.end }
@@ -124,7 +132,8 @@ impl<H: Wait + Clone + Drop> Reader<H> {
         self.end().peek_buf()
     }
 
-    /// Takes the first `amt` bytes of what `peek_buf` lends, gives their places back, and wakes the writer.
+    /// Takes the first `amt` bytes of what `peek_buf` lends, gives their places back, and wakes the
+    /// writer.
     #[inline(always)]
     pub fn consume(&mut self, amt: usize)
         requires { amt ≤ in_one_piece self.old.end }
@@ -165,7 +174,9 @@ impl<H: Wait + Clone + Drop> Reader<H> {
 
     /// Closes the pipe and wakes the writer. The memory is freed if the writer is gone.
     ///
-    /// The answer is evidence: what it tells, for the writer to heed, is that the pipe is closed, and all that was ever consumed; and behind the store that closed, the writer's waker was taken and called.
+    /// The answer is evidence: what it tells, for the writer to heed, is that the pipe is closed,
+    /// and all that was ever consumed; and behind the store that closed, the writer's waker was
+    /// taken and called.
     pub fn drop(self) -> Notified<LastReadMark>
         ensures ring { result.told.consumed.names ≡ self.end.ring.1.1 }
         ensures count { result.told.consumed.count ≡ length self.end.taken }

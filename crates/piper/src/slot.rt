@@ -13,7 +13,9 @@ use std::sync::{Mutex, Wait};
 
 /// At most one waker, behind a lock. A waker is called outside the lock.
 ///
-/// No wake is lost where the waking side stores what it has to tell and then takes, and the waiting side registers and then looks at that once more, both by sequentially consistent accesses: then the look finds what was stored, or the take finds the waker.
+/// No wake is lost where the waking side stores what it has to tell and then takes, and the waiting
+/// side registers and then looks at that once more, both by sequentially consistent accesses: then
+/// the look finds what was stored, or the take finds the waker.
 #[derive(Drop)]
 pub struct Slot {
     state: Mutex<SlotState<Waker>>,
@@ -22,7 +24,8 @@ pub struct Slot {
     source: Source,
 }
 
-/// Which slot it is, in clauses alone: `id` is that of the slot's source. It has no bytes, and owns nothing.
+/// Which slot it is, in clauses alone: `id` is that of the slot's source. It has no bytes, and owns
+/// nothing.
 #[derive(Drop)]
 pub struct SlotName {
     seal: (),
@@ -47,16 +50,19 @@ impl SlotName {
     }
 }
 
-/// What stood in a slot when it was emptied, behind what `told` tells. It is not let go by itself: one of its calls has to take it.
+/// What stood in a slot when it was emptied, behind what `told` tells. It is not let go by itself:
+/// one of its calls has to take it.
 pub struct Taken<M> {
     waker: Option<Waker>,
     slot: SlotName,
     told: M,
 }
 
-/// Evidence that a slot was emptied behind what `told` tells, and that the waker that stood there was called.
+/// Evidence that a slot was emptied behind what `told` tells, and that the waker that stood there
+/// was called.
 ///
-/// Only a slot makes it, and it takes no space. Who waits in the slot and was registered before is woken; who registers later, and then looks, finds what `told` tells.
+/// Only a slot makes it, and it takes no space. Who waits in the slot and was registered before is
+/// woken; who registers later, and then looks, finds what `told` tells.
 #[derive(Drop)]
 pub struct Notified<M> {
     slot: SlotName,
@@ -76,7 +82,8 @@ impl Slot {
         }
     }
 
-    /// Leaves a waker of the task that is polled, in place of what stood there. Another task's waker is woken. Where no waker can be made, the task has asked for another poll.
+    /// Leaves a waker of the task that is polled, in place of what stood there. Another task's
+    /// waker is woken. Where no waker can be made, the task has asked for another poll.
     pub fn register(&self, rt: &impl Wait, cx: &mut Context<'_>) -> Result<(), OutOfMemory>
         ensures covered { Covers cx.new (λ s. s ≡ source_of self.now) }
         ensures refused { OnErr result (cx.new.lacks_waker ≡ true) }
@@ -91,7 +98,9 @@ impl Slot {
         Ok(())
     }
 
-    /// Reads whether a waker stands there, behind what `told` tells. Where none does the slot is as a take leaves it, and no lock was taken; else it is still to be emptied, and `told` is given back.
+    /// Reads whether a waker stands there, behind what `told` tells. Where none does the slot is as
+    /// a take leaves it, and no lock was taken; else it is still to be emptied, and `told` is given
+    /// back.
     #[inline(always)]
     pub fn find_none<M>(&self, told: M) -> Result<Notified<M>, M>
         ensures none { IfOk result (Tells self.now told) }
@@ -106,7 +115,8 @@ impl Slot {
         })
     }
 
-    /// Empties the slot, behind what `told` tells. Where it is empty that is one load, and no lock is taken.
+    /// Empties the slot, behind what `told` tells. Where it is empty that is one load, and no lock
+    /// is taken.
     #[inline(always)]
     pub fn take<M>(&self, rt: &impl Wait, told: M) -> Taken<M>
         ensures { IsFrom self.now told result }
@@ -135,7 +145,8 @@ impl Slot {
         }
     }
 
-    // The same of a slot in which a waker stood just now. It stands apart, out of the way of a pipe that flows.
+    // The same of a slot in which a waker stood just now. It stands apart, out of the way of a pipe
+    // that flows.
     #[cold]
     #[inline(never)]
     fn take_out(&self, rt: &impl Wait) -> Option<Waker> {
@@ -170,7 +181,8 @@ impl<M> Taken<M> {
 }
 
 impl Taken<()> {
-    /// Lets the waker go, if there was one. A waker that is let go wakes its task, too: it polls once too often, never once too seldom.
+    /// Lets the waker go, if there was one. A waker that is let go wakes its task, too: it polls
+    /// once too often, never once too seldom.
     pub fn let_go(self) {
         let Taken {
             waker,

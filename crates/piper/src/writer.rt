@@ -22,7 +22,8 @@ use std::sync::Wait;
 impl<H: Wait + Clone + Drop> Writer<H> {
     ghost use Rattle.piper.specs.Handles.{NotifiesReader, SameWriter, SameWriterButWoke, TellsReader, write_source};
 
-    /// How many bytes are unread now: none of those that the writer was told are consumed. The reader may consume more at any time.
+    /// How many bytes are unread now: none of those that the writer was told are consumed. The
+    /// reader may consume more at any time.
     pub fn len(&self) -> usize
         ensures { MayBeUnread self.now.end result }
     {
@@ -50,7 +51,8 @@ impl<H: Wait + Clone + Drop> Writer<H> {
         self.end().is_full()
     }
 
-    /// Whether the pipe is closed now: a handle was dropped, or this one closed the pipe. Once the writer saw it closed, or closed it, the answer is `true`.
+    /// Whether the pipe is closed now: a handle was dropped, or this one closed the pipe. Once the
+    /// writer saw it closed, or closed it, the answer is `true`.
     pub fn is_closed(&self) -> bool
         ensures { self.now.end.saw ≡ true → IsTrue result }
     {
@@ -59,7 +61,10 @@ impl<H: Wait + Clone + Drop> Writer<H> {
 
     /// Waits for room, or for the end.
     ///
-    /// The answer is `false` once the pipe is closed; and else `true` once there is room, which `write_buf` then lends. Until then the call is pending, and the task is woken when bytes are consumed or the pipe is closed. It looks for more room only where none is known. Where no waker can be made the answer is want of memory.
+    /// The answer is `false` once the pipe is closed; and else `true` once there is room, which
+    /// `write_buf` then lends. Until then the call is pending, and the task is woken when bytes are
+    /// consumed or the pipe is closed. It looks for more room only where none is known. Where no
+    /// waker can be made the answer is want of memory.
     pub fn poll(&mut self, cx: &mut Context<'_>) -> Poll<Result<bool, OutOfMemory>>
         ensures answer { WriterFound result self.new.end }
         ensures looked { WriterLooked self.old.end self.new.end }
@@ -111,7 +116,8 @@ impl<H: Wait + Clone + Drop> Writer<H> {
         }
     }
 
-    /// Publishes the first `n` bytes of what is left of the slice last lent, as they stand, and wakes the reader.
+    /// Publishes the first `n` bytes of what is left of the slice last lent, as they stand, and
+    /// wakes the reader.
     #[inline(always)]
     pub fn produced(&mut self, n: usize)
         requires { n ≤ length self.old.end.lent }
@@ -141,7 +147,8 @@ impl<H: Wait + Clone + Drop> Writer<H> {
         }
     }
 
-    /// Closes the pipe for good, and wakes both sides. Nothing is lent any more, and what was lent is taken back.
+    /// Closes the pipe for good, and wakes both sides. Nothing is lent any more, and what was lent
+    /// is taken back.
     pub fn poll_close(&mut self, cx: &mut Context<'_>) -> Poll<Result<(), OutOfMemory>>
         ensures answer { result ≡ Poll.Ready (Ok (record {})) }
         ensures woke { NotifiesReader self.new }
@@ -169,9 +176,12 @@ impl<H: Wait + Clone + Drop> Writer<H> {
         self.end().mark()
     }
 
-    /// Closes the pipe and wakes the reader, who can still read what is unread. The memory is freed if the reader is gone.
+    /// Closes the pipe and wakes the reader, who can still read what is unread. The memory is freed
+    /// if the reader is gone.
     ///
-    /// The answer is evidence: what it tells, for the reader to heed, is that the pipe is closed, and all that was ever published; and behind the store that closed, the reader's waker was taken and called.
+    /// The answer is evidence: what it tells, for the reader to heed, is that the pipe is closed,
+    /// and all that was ever published; and behind the store that closed, the reader's waker was
+    /// taken and called.
     pub fn drop(self) -> Notified<WriteMark>
         ensures ring { result.told.names ≡ self.end.ring.1.1 }
         ensures bytes { result.told.bytes ≡ self.end.sent }

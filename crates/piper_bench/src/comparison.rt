@@ -40,13 +40,15 @@ const COMPARED: [(&str, What); MEANS] = [
 /// Each means holds at least so many bytes.
 const LEAST_CAPACITY: usize = 65_536;
 
-/// Each means holds at least so many pieces: with one alone both threads would work in turn, and many long ones would leave the cache of a core.
+/// Each means holds at least so many pieces: with one alone both threads would work in turn, and
+/// many long ones would leave the cache of a core.
 const LEAST_PIECES: usize = 4;
 
 /// How many bytes go through each means in a run, where no other number is given.
 pub const TOTAL: usize = 67_108_864;
 
-/// Each means makes so many runs with pieces of a length, all of them in turn; their median is told.
+/// Each means makes so many runs with pieces of a length, all of them in turn; their median is
+/// told.
 const ROUNDS: usize = 25;
 
 /// Why there is no table.

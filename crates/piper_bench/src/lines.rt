@@ -1,4 +1,5 @@
-//! Lines move through a pipe in turn, on one thread: each goes in by the slices that the writer lends, and is taken out whole.
+//! Lines move through a pipe in turn, on one thread: each goes in by the slices that the writer
+//! lends, and is taken out whole.
 
 use crate::pipes::{Fill, InPlace};
 use crate::rings::{BYTE, ByLibrary, add_piece};

@@ -1,4 +1,5 @@
-//! Moves bytes through a ring or a pipe and tells how long it took, beside the same work on `rtrb` or by other means of the toolchain.
+//! Moves bytes through a ring or a pipe and tells how long it took, beside the same work on `rtrb`
+//! or by other means of the toolchain.
 #![tactic(auto)]
 
 use comparison::{Failed, print_comparison, short_rounds};
@@ -78,7 +79,8 @@ where
     Ok(())
 }
 
-/// A run of a million bytes by each means, and then rounds of so many by those that are compared, told without their times.
+/// A run of a million bytes by each means, and then rounds of so many by those that are compared,
+/// told without their times.
 fn short_runs<R>(rt: &R) -> Result<(), Failed>
 where
     R: Wait + Threads + Clock + Print + RandomSource + AllocGlobal + Clone + Drop + Send + Sync,

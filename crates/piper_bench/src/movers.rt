@@ -1,4 +1,5 @@
-//! What a thread does at its end of a pipe or a stream: it moves one piece after another, and where it has to wait it looks again a few times, as at the end of a ring, and then sleeps.
+//! What a thread does at its end of a pipe or a stream: it moves one piece after another, and where
+//! it has to wait it looks again a few times, as at the end of a ring, and then sleeps.
 ghost use Rattle.std.specs.Prelude.{ℕ};
 ghost use Rattle.futures.specs.Poll.{OnPending};
 ghost use Rattle.futures.specs.Task.{Covers, Keeps};
@@ -11,7 +12,8 @@ use std::io;
 use std::random::RandomSource;
 use std::sync::Wait;
 
-/// So often an end that has to wait looks again before it sleeps. To fall asleep and to be woken takes as long as many short pieces.
+/// So often an end that has to wait looks again before it sleeps. To fall asleep and to be woken
+/// takes as long as many short pieces.
 const LOOKS: usize = 8;
 
 /// One end, and what it moves.
@@ -22,13 +24,15 @@ pub trait Mover: Drop {
     /// Holds of each source that a pending move waits for.
     ghost needs: { Self → ℕ → Type 0 };
 
-    /// Moves a piece where this end need not wait, and answers of how many bytes. An end that can do nothing without a task moves none.
+    /// Moves a piece where this end need not wait, and answers of how many bytes. An end that can
+    /// do nothing without a task moves none.
     #[inline(always)]
     fn move_at_once(&mut self) -> usize {
         0
     }
 
-    /// Whether the other end has to move first, as far as a look tells that leaves no waker. An end that can't be looked at so says no.
+    /// Whether the other end has to move first, as far as a look tells that leaves no waker. An end
+    /// that can't be looked at so says no.
     #[inline(always)]
     fn is_held_up(&self) -> bool {
         false
@@ -43,7 +47,8 @@ pub trait Mover: Drop {
     fn checksum(&self) -> u64;
 }
 
-/// Moves all pieces, on this thread. Before it looks again it lets the other thread go on so many times. It answers the checksum.
+/// Moves all pieces, on this thread. Before it looks again it lets the other thread go on so many
+/// times. It answers the checksum.
 pub fn move_all<R, M>(rt: &R, mover: M, yields: usize) -> io::Result<Result<u64, M::Error>>
 where
     R: Wait + RandomSource + AllocGlobal,
@@ -91,7 +96,8 @@ impl<R: Wait, M: Mover> Future for MoveAll<'_, R, M> {
     }
 }
 
-/// Looks so many times, or until the other end has moved, and lets the other thread go on before each. It answers how many looks are left.
+/// Looks so many times, or until the other end has moved, and lets the other thread go on before
+/// each. It answers how many looks are left.
 #[cold]
 #[inline(never)]
 fn look_again(mover: &impl Mover, looks: usize, yields: usize) -> usize {

@@ -1,4 +1,5 @@
-//! Bytes move from one thread to another by other means of the toolchain: a stream in memory, and a channel of pieces; and a pipe by the same loops beside them.
+//! Bytes move from one thread to another by other means of the toolchain: a stream in memory, and a
+//! channel of pieces; and a pipe by the same loops beside them.
 
 use crate::movers::{Mover, move_all};
 use crate::rings::add_piece;
@@ -140,7 +141,8 @@ fn receive_all(rt: &impl Wait, receiver: Receiver<Vec<u8>>, place: &mut [u8]) ->
     checksum
 }
 
-/// Moves the bytes through a channel of pieces, one end on each of two threads. It answers the checksum.
+/// Moves the bytes through a channel of pieces, one end on each of two threads. It answers the
+/// checksum.
 pub fn through_channel<R>(
     rt: &R,
     (sender, receiver): (Sender<Vec<u8>>, Receiver<Vec<u8>>),

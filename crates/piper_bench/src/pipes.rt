@@ -1,4 +1,5 @@
-//! Bytes move through a pipe by its handles: on one thread in turn, or between two, each of which runs a future.
+//! Bytes move through a pipe by its handles: on one thread in turn, or between two, each of which
+//! runs a future.
 ghost use Rattle.std.specs.Prelude.{◌≡◌};
 ghost use Rattle.futures.specs.Poll.{OnPending};
 ghost use Rattle.futures.specs.Task.{Covers, Keeps};
@@ -19,7 +20,8 @@ use std::{io, thread};
 
 /// How pieces go into a pipe.
 pub trait Fill {
-    /// Puts bytes from the front of the piece in where the writer need not wait, and answers how many. A way that can do nothing without a task puts none in.
+    /// Puts bytes from the front of the piece in where the writer need not wait, and answers how
+    /// many. A way that can do nothing without a task puts none in.
     #[inline(always)]
     fn fill_at_once<C: Copying, H: Wait + Clone + Drop>(
         &self,
@@ -31,7 +33,8 @@ pub trait Fill {
         0
     }
 
-    /// Puts bytes from the front of the piece in, and answers how many. Of a piece that isn't empty it puts none only where the pipe is closed, and it is pending where there is no room.
+    /// Puts bytes from the front of the piece in, and answers how many. Of a piece that isn't empty
+    /// it puts none only where the pipe is closed, and it is pending where there is no room.
     fn fill<C: Copying, H: Wait + Clone + Drop>(
         &self,
         writer: &mut Writer<H>,
@@ -45,7 +48,8 @@ pub trait Fill {
 
 /// How pieces come out of a pipe.
 pub trait Drain {
-    /// Copies bytes out to the front of the place where the reader need not wait, and answers how many. A way that can do nothing without a task copies none out.
+    /// Copies bytes out to the front of the place where the reader need not wait, and answers how
+    /// many. A way that can do nothing without a task copies none out.
     #[inline(always)]
     fn drain_at_once<C: Copying, H: Wait + Clone + Drop>(
         &self,
@@ -57,7 +61,8 @@ pub trait Drain {
         0
     }
 
-    /// Copies bytes out to the front of the place, and answers how many. Into a place that has room it copies none only at the end of the pipe, and it is pending where none is there.
+    /// Copies bytes out to the front of the place, and answers how many. Into a place that has room
+    /// it copies none only at the end of the pipe, and it is pending where none is there.
     fn drain<C: Copying, H: Wait + Clone + Drop>(
         &self,
         reader: &mut Reader<H>,
@@ -241,7 +246,8 @@ impl Drain for Copies {
     }
 }
 
-/// How many bytes a poll moved: none where it is pending, since on one thread it is so only where it yielded.
+/// How many bytes a poll moved: none where it is pending, since on one thread it is so only where
+/// it yielded.
 fn moved(polled: Poll<Result<usize, OutOfMemory>>) -> Result<usize, OutOfMemory> {
     match polled {
         Poll::Ready(moved) => moved,
@@ -249,7 +255,8 @@ fn moved(polled: Poll<Result<usize, OutOfMemory>>) -> Result<usize, OutOfMemory>
     }
 }
 
-/// Puts `total` bytes in and takes them out again, in turn, on one thread and under one task. It answers the checksum.
+/// Puts `total` bytes in and takes them out again, in turn, on one thread and under one task. It
+/// answers the checksum.
 #[inline(never)]
 fn in_turn<F: Fill + Drop, D: Drain + Drop, H: Wait + Clone + Drop>(
     rt: &impl Wait,
@@ -396,7 +403,8 @@ fn drain_all<D: Drain + Drop, R: Wait + RandomSource + AllocGlobal, H: Wait + Cl
     move_all(rt, mover, work.yields())
 }
 
-/// Moves the bytes through a pipe, and answers the checksum: on one thread under this task, between two under a task each.
+/// Moves the bytes through a pipe, and answers the checksum: on one thread under this task, between
+/// two under a task each.
 pub fn through_pipe<F, D, R>(
     rt: &R,
     task: &MockTask,

@@ -12,16 +12,19 @@ pub const BYTE: u8 = 7;
 /// Up to so many bytes are copied without a call.
 const FEW: usize = 256;
 
-/// An end that finds nothing to do lets the other thread go on as often as its pieces make up so many bytes.
+/// An end that finds nothing to do lets the other thread go on as often as its pieces make up so
+/// many bytes.
 const AHEAD: usize = 512;
 
 /// At most so often.
 const MOST_YIELDS: usize = 128;
 
-/// At most once for so many pieces that the ring holds: the other end moves about as many meanwhile.
+/// At most once for so many pieces that the ring holds: the other end moves about as many
+/// meanwhile.
 const PIECES_A_YIELD: usize = 32;
 
-/// How bytes are copied to and from the slices that our ring lends. The rival copies by itself, in either case by a loop.
+/// How bytes are copied to and from the slices that our ring lends. The rival copies by itself, in
+/// either case by a loop.
 pub trait Copying {
     fn copy_in(to: &mut [u8], from: &[u8])
         requires { length from.now ≡ length to.old }
@@ -32,7 +35,8 @@ pub trait Copying {
         ensures { to.new ≡ from.now };
 }
 
-/// By a loop, which the compiler turns into wide moves. Between two threads that is faster than the C library's copy.
+/// By a loop, which the compiler turns into wide moves. Between two threads that is faster than the
+/// C library's copy.
 pub struct ByLoop;
 
 /// By the C library, which is faster on one thread, and few bytes by a loop.
@@ -44,7 +48,8 @@ impl Copying for ByLoop {
         copy_each(to, from);
     }
 
-    // With a short way for a single byte: on bytes one by one the reader is the slower of two threads.
+    // With a short way for a single byte: on bytes one by one the reader is the slower of two
+    // threads.
     #[inline(always)]
     fn copy_out(to: &mut [u8], from: &[u8]) {
         if to.len() == 1 {
@@ -98,7 +103,8 @@ fn copy_many(to: &mut [u8], from: &[u8])
     to.copy_from_slice(from);
 }
 
-/// Where bytes are put in. `put` and `get` are inlined for both rings, so that neither pays for a call.
+/// Where bytes are put in. `put` and `get` are inlined for both rings, so that neither pays for a
+/// call.
 pub trait Input {
     /// Puts as many of the bytes in as fit in one piece, and answers how many.
     fn put<C: Copying>(&mut self, bytes: &[u8]) -> usize
@@ -118,7 +124,8 @@ impl Input for WriteEnd {
         self.refresh();
         let buf = self.write_buf(bytes.len());
         let n = buf.len();
-        // A whole piece has a branch of its own: there the count is known before the ring's indices are.
+        // A whole piece has a branch of its own: there the count is known before the ring's indices
+        // are.
         if n == bytes.len() {
             C::copy_in(buf, bytes);
             self.produce(bytes.len());
@@ -164,7 +171,8 @@ impl Output for Consumer<u8> {
     }
 }
 
-/// Puts `total` bytes in and takes them out again, in turn, on one thread. It answers the checksum. It stands apart, so that for either ring the compiler keeps its values in registers.
+/// Puts `total` bytes in and takes them out again, in turn, on one thread. It answers the checksum.
+/// It stands apart, so that for either ring the compiler keeps its values in registers.
 #[inline(never)]
 pub fn in_turn<I: Input + Drop, O: Output + Drop>(
     rt: &impl Wait,
@@ -233,7 +241,9 @@ pub fn get_all<O: Output + Drop>(
     unreachable!()
 }
 
-/// How often an end that finds nothing to do lets the other thread go on before it looks again: the more often the shorter pieces are, as far as the ring has room. An end that came back at once would stand at the other's heels, and then both wait for the same cache line at each piece.
+/// How often an end that finds nothing to do lets the other thread go on before it looks again: the
+/// more often the shorter pieces are, as far as the ring has room. An end that came back at once
+/// would stand at the other's heels, and then both wait for the same cache line at each piece.
 pub fn yields(capacity: usize, chunk: usize) -> usize
     requires { 0 < chunk }
     ensures { let by_length = AHEAD / chunk in let by_room = capacity / chunk / PIECES_A_YIELD in

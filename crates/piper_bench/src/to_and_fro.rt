@@ -1,4 +1,5 @@
-//! Pieces go to and fro between two threads, through a means each way: each thread sleeps until the other has answered.
+//! Pieces go to and fro between two threads, through a means each way: each thread sleeps until the
+//! other has answered.
 ghost use Rattle.futures.specs.Poll.{OnPending};
 ghost use Rattle.futures.specs.Task.{Covers, Keeps};
 
@@ -110,7 +111,8 @@ where
     block_on(rt, partner)?
 }
 
-/// Sends pieces through the one means and back through the other, and answers the checksum of what came back.
+/// Sends pieces through the one means and back through the other, and answers the checksum of what
+/// came back.
 pub fn to_and_fro<R, I, O>(
     rt: &R,
     (there_reader, there_writer): (I, O),

@@ -25,7 +25,8 @@ use tokio::io::{AsyncRead, AsyncWrite};
 /// The longest piece.
 const LONGEST: usize = 16_777_216;
 
-/// So many bytes lie between what one thread writes and what the other reads, so that they share no cache line.
+/// So many bytes lie between what one thread writes and what the other reads, so that they share no
+/// cache line.
 const APART: usize = 128;
 
 /// What a run is to do.

@@ -19,7 +19,8 @@ rests_less {𝓤 = 𝓤} 𝓛 R s P Q f =
     (λ (t : (p : (R.Denot → R.Denot) × R.Denot) × ((w : R.Denot) → ⊤) × Q p.1). sem 𝓛 (follows_by R.Denot R.Denot R.coded.code R.coded.code s.ghost_name none t.0.0 t.0.1))
     (y.0, y.1, f y.0.1 y.2))
 
--- a method that lends meets its trait's clause, where it says more of the lender, and the same of all else
+-- a method that lends meets its trait's clause, where it says more of the lender, and the same of
+-- all else
 pub meets_less : {M : Type 1} {𝓤 : Ura M} (𝓛 : Logic 𝓤) (R : RattleType) (s : MutBor R.Denot) (A X : Type 0) (P Q : A → X → R.Denot → Type 0) (C : A → X → SProp 𝓤)
     → ((r : A) (e : X) (x : R.Denot) → P r e x → Q r e x)
     → Gives 𝓤 (emp 𝓤) (Unit {0}) (λ g. emp 𝓤) (λ g. Turns 𝓤 A X (λ r e. sep 𝓤 (sem 𝓛 (Rests R s (P r e))) (C r e)) (λ r e. sep 𝓤 (sem 𝓛 (Rests R s (Q r e))) (C r e)))

@@ -28,7 +28,8 @@ pub enum Echoed {
 
 /// The line that an echo has on its way back.
 ///
-/// In clauses, `left_of` are the bytes of it that are not written yet, and `held_of` these and what is kept of the next line.
+/// In clauses, `left_of` are the bytes of it that are not written yet, and `held_of` these and what
+/// is kept of the next line.
 #[derive(Drop)]
 pub struct LineEcho {
     line: Vec<u8>,
@@ -49,9 +50,14 @@ impl LineEcho {
         }
     }
 
-    /// Reads lines of at most `limit` bytes, and writes each back once it is whole, up to the reader's end, the close of the writer's pipe, or the first error.
+    /// Reads lines of at most `limit` bytes, and writes each back once it is whole, up to the
+    /// reader's end, the close of the writer's pipe, or the first error.
     ///
-    /// A longer line goes back in pieces of `limit` bytes, and what stands behind the last LF goes back too. Where it is pending, or on an error, the next poll goes on from there and loses nothing. It is woken by the writer while a line is on its way back, and else by the reader; after 64 lines it asks for another poll. It doesn't wait for a reader that was told of the end.
+    /// A longer line goes back in pieces of `limit` bytes, and what stands behind the last LF goes
+    /// back too. Where it is pending, or on an error, the next poll goes on from there and loses
+    /// nothing. It is woken by the writer while a line is on its way back, and else by the reader;
+    /// after 64 lines it asks for another poll. It doesn't wait for a reader that was told of the
+    /// end.
     pub fn poll<R: AsyncBufRead, W: AsyncWrite>(
         &mut self,
         cx: &mut Context<'_>,

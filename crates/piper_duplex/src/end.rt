@@ -11,15 +11,19 @@ use std::sync::Wait;
 
 /// One end of a duplex stream.
 ///
-/// It is made by `duplex`, can't be cloned, and has to be spent: by its call `drop`, or by `into_halves`. In clauses, `reader` and `writer` are the handles that the calls of these names lend.
+/// It is made by `duplex`, can't be cloned, and has to be spent: by its call `drop`, or by
+/// `into_halves`. In clauses, `reader` and `writer` are the handles that the calls of these names
+/// lend.
 pub struct End<H: Wait + Clone + Drop> {
     reader: Reader<H>,
     writer: Writer<H>,
 }
 
-/// Creates a duplex stream: what the first end writes the second reads, through a pipe of `cap_a` bytes, and what the second writes the first reads, through one of `cap_b`.
+/// Creates a duplex stream: what the first end writes the second reads, through a pipe of `cap_a`
+/// bytes, and what the second writes the first reads, through one of `cap_b`.
 ///
-/// Each of the four handles keeps a clone of `rt`, and both pipes take `seed`. Where memory is refused, all that was got is given back.
+/// Each of the four handles keeps a clone of `rt`, and both pipes take `seed`. Where memory is
+/// refused, all that was got is given back.
 pub fn duplex<H: Wait + Clone + Drop>(
     rt: &H,
     alloc: Global,
@@ -71,7 +75,8 @@ impl<H: Wait + Clone + Drop> End<H> {
         &self.writer
     }
 
-    /// Both handles, each for itself: for two tasks, or for a reader of lines over the one and answers through the other.
+    /// Both handles, each for itself: for two tasks, or for a reader of lines over the one and
+    /// answers through the other.
     pub fn into_halves(self) -> (Reader<H>, Writer<H>)
         ensures reader { result.0 ≡ self.reader }
         ensures writer { result.1 ≡ self.writer }
@@ -80,7 +85,8 @@ impl<H: Wait + Clone + Drop> End<H> {
         (reader, writer)
     }
 
-    /// Both ends in one hand: then each reader knows of all that the writer at the other end published, in its order. It takes no lock and no memory.
+    /// Both ends in one hand: then each reader knows of all that the writer at the other end
+    /// published, in its order. It takes no lock and no memory.
     pub fn meet(&mut self, other: &mut End<H>)
         requires there { self.old.writer.end.ring ≡ other.old.reader.end.ring }
         requires back { other.old.writer.end.ring ≡ self.old.reader.end.ring }
@@ -91,7 +97,8 @@ impl<H: Wait + Clone + Drop> End<H> {
         self.reader.meet(&mut other.writer);
     }
 
-    /// Closes both pipes, first the one that it writes into, and wakes who waits at the other end. What is unread there can still be read.
+    /// Closes both pipes, first the one that it writes into, and wakes who waits at the other end.
+    /// What is unread there can still be read.
     pub fn drop(self) {
         let End { reader, writer } = self;
         writer.drop();

@@ -1,4 +1,5 @@
-//! A duplex stream: two pipes of bytes between the same two ends, one for each way; and an echo of lines over one.
+//! A duplex stream: two pipes of bytes between the same two ends, one for each way; and an echo of
+//! lines over one.
 #![tactic(auto)]
 
 mod echoing;

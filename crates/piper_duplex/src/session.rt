@@ -57,9 +57,12 @@ impl Ended {
     };
 }
 
-/// Sends the text that `input` gives line by line through a duplex stream, at the other end of which a thread writes each line back, and prints what comes back to `output`. `words` are the arguments of the command line; there are to be none.
+/// Sends the text that `input` gives line by line through a duplex stream, at the other end of
+/// which a thread writes each line back, and prints what comes back to `output`. `words` are the
+/// arguments of the command line; there are to be none.
 ///
-/// A line is printed before the next one is read. One that is longer than 65,536 bytes goes through in pieces of that many.
+/// A line is printed before the next one is read. One that is longer than 65,536 bytes goes through
+/// in pieces of that many.
 pub fn echo<R, I, O>(
     rt: &R,
     alloc: Global,
@@ -185,7 +188,8 @@ where
     }
 }
 
-// Prints the next `total` bytes that come. Where the end comes first, the thread that answers was refused memory.
+// Prints the next `total` bytes that come. Where the end comes first, the thread that answers was
+// refused memory.
 fn print_answer<R, A, O>(rt: &R, reader: &mut A, total: usize, output: &mut O) -> Result<(), Ended>
 where
     R: Wait + RandomSource + AllocGlobal,

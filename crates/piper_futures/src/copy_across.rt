@@ -14,9 +14,11 @@ pub struct Copying<R, W> {
     state: Option<(R, W)>,
 }
 
-/// Copies all bytes from the reader to the writer, in order, up to the end of the one or the close of the other, and gives both back with why it ended.
+/// Copies all bytes from the reader to the writer, in order, up to the end of the one or the close
+/// of the other, and gives both back with why it ended.
 ///
-/// It holds no bytes of its own: where it fails, as where it is let go, all that was taken is written, but for what is lost where the writer's pipe is closed.
+/// It holds no bytes of its own: where it fails, as where it is let go, all that was taken is
+/// written, but for what is lost where the writer's pipe is closed.
 pub fn copy<R: AsyncBufRead + Drop, W: AsyncWrite + Drop>(reader: R, writer: W) -> Copying<R, W>
     ensures { StartsCopy result reader writer }
 {

@@ -26,9 +26,12 @@ pub struct Draining<R, D> {
     state: Option<(R, D)>,
 }
 
-/// Moves all bytes of the reader, in order, into a writer of std, up to the reader's end, and gives both back.
+/// Moves all bytes of the reader, in order, into a writer of std, up to the reader's end, and gives
+/// both back.
 ///
-/// Each write blocks the thread. It holds no bytes of its own: where it fails, as where it is let go, all that was taken is written. A writer that takes none of some bytes fails with the kind `WriteZero`. What the writer holds back is not flushed.
+/// Each write blocks the thread. It holds no bytes of its own: where it fails, as where it is let
+/// go, all that was taken is written. A writer that takes none of some bytes fails with the kind
+/// `WriteZero`. What the writer holds back is not flushed.
 pub fn drain_into<R: AsyncBufRead + Drop, D: Write + Drop>(reader: R, dest: D) -> Draining<R, D>
     ensures { StartsDraining result reader dest }
 {
@@ -64,7 +67,9 @@ impl<R: AsyncBufRead + Drop, D: Write + Drop> Future for Draining<R, D> {
 
 /// Moves the bytes of the reader into `dest`, up to the reader's end.
 ///
-/// Bytes are taken once they are written: after an error, as where it is pending, the next poll goes on from there. After 64 pieces it asks for another poll. An error is the reader's own, or that of `dest` as it came.
+/// Bytes are taken once they are written: after an error, as where it is pending, the next poll
+/// goes on from there. After 64 pieces it asks for another poll. An error is the reader's own, or
+/// that of `dest` as it came.
 pub fn poll_drain_into<R: AsyncBufRead, D: Write>(
     reader: &mut R,
     cx: &mut Context<'_>,

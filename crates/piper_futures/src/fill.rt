@@ -19,9 +19,12 @@ use std::sync::Wait;
 
 /// A writer that readers of std can read into, with no bytes held in between.
 pub trait AsyncFill: AsyncWrite {
-    /// Publishes what `source` gives, up to its end or the close of the pipe, and answers which it was; where both hold, it may be either.
+    /// Publishes what `source` gives, up to its end or the close of the pipe, and answers which it
+    /// was; where both hold, it may be either.
     ///
-    /// It asks for another poll where bytes came. After an answer other than that the pipe is closed, all that `source` gave is published, and the next poll goes on from there. An error is want of memory for a waker, or the source's own, as it came.
+    /// It asks for another poll where bytes came. After an answer other than that the pipe is
+    /// closed, all that `source` gave is published, and the next poll goes on from there. An error
+    /// is want of memory for a waker, or the source's own, as it came.
     fn poll_fill_from<S: Read>(
         &mut self,
         cx: &mut Context<'_>,
@@ -96,9 +99,12 @@ pub struct Filling<W, S> {
     state: Option<(W, S)>,
 }
 
-/// Moves all that a reader of std gives into the writer's pipe, in order, up to its end or the close of the pipe, and gives both back with why it ended.
+/// Moves all that a reader of std gives into the writer's pipe, in order, up to its end or the
+/// close of the pipe, and gives both back with why it ended.
 ///
-/// Each read blocks the thread, so it belongs on a thread of its own. It holds no bytes of its own: where it fails, as where it is let go, all that was read is published, but for what is lost where the pipe is closed.
+/// Each read blocks the thread, so it belongs on a thread of its own. It holds no bytes of its own:
+/// where it fails, as where it is let go, all that was read is published, but for what is lost
+/// where the pipe is closed.
 pub fn fill_from<W: AsyncFill + Drop, S: Read + Drop>(writer: W, source: S) -> Filling<W, S>
     ensures { StartsFilling result writer source }
 {

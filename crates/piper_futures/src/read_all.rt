@@ -28,7 +28,8 @@ pub struct ReadToEnd<R> {
 
 /// Appends all bytes of the reader to `bytes`, in order, up to its end, and gives both back.
 ///
-/// Where the reader fails or memory is refused, what is left is the reader and the bytes that came before; memory is asked for before bytes are taken, so none is lost.
+/// Where the reader fails or memory is refused, what is left is the reader and the bytes that came
+/// before; memory is asked for before bytes are taken, so none is lost.
 pub fn read_to_end<R: AsyncBufRead + Drop>(reader: R, bytes: Vec<u8>) -> ReadToEnd<R>
     ensures { StartsReadingAll result reader bytes }
 {
@@ -64,7 +65,8 @@ impl<R: AsyncBufRead + Drop> Future for ReadToEnd<R> {
 
 /// Appends the bytes of the reader to `bytes`, up to its end.
 ///
-/// Memory is asked for before bytes are taken: after an error, as where it is pending, the next poll goes on from there. After 64 pieces it asks for another poll.
+/// Memory is asked for before bytes are taken: after an error, as where it is pending, the next
+/// poll goes on from there. After 64 pieces it asks for another poll.
 pub fn poll_read_to_end<R: AsyncBufRead>(
     reader: &mut R,
     cx: &mut Context<'_>,

@@ -15,7 +15,8 @@ pub struct ReadOnce<R> {
     state: Option<(R, Vec<u8>)>,
 }
 
-/// Waits for a byte, puts what came to the front of `places`, and gives both back with how many came; 0 where there are places is the end.
+/// Waits for a byte, puts what came to the front of `places`, and gives both back with how many
+/// came; 0 where there are places is the end.
 ///
 /// Where the reader fails, what is left is the reader and the places as they were.
 pub fn read<R: AsyncRead + Drop>(reader: R, places: Vec<u8>) -> ReadOnce<R>

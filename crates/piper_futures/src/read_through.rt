@@ -26,9 +26,12 @@ pub struct ReadUntil<R> {
     byte: u8,
 }
 
-/// Appends bytes of the reader to `bytes`, in order, through the first that is `byte`, or up to the reader's end, and gives both back.
+/// Appends bytes of the reader to `bytes`, in order, through the first that is `byte`, or up to the
+/// reader's end, and gives both back.
 ///
-/// Where the reader fails or memory is refused, what is left is the reader and the bytes that came before; memory is asked for before bytes are taken, so none is lost. Nothing bounds how many bytes come: `piper_lines` has a limit.
+/// Where the reader fails or memory is refused, what is left is the reader and the bytes that came
+/// before; memory is asked for before bytes are taken, so none is lost. Nothing bounds how many
+/// bytes come: `piper_lines` has a limit.
 pub fn read_until<R: AsyncBufRead + Drop>(reader: R, byte: u8, bytes: Vec<u8>) -> ReadUntil<R>
     ensures { StartsReadingThrough result reader byte bytes }
 {
@@ -63,9 +66,11 @@ impl<R: AsyncBufRead + Drop> Future for ReadUntil<R> {
     }
 }
 
-/// Appends bytes of the reader to `bytes`, through the first that is `byte`, which answers true, or up to the reader's end, which answers false.
+/// Appends bytes of the reader to `bytes`, through the first that is `byte`, which answers true, or
+/// up to the reader's end, which answers false.
 ///
-/// Memory is asked for before bytes are taken: after an error, as where it is pending, the next poll goes on from there. After 64 pieces it asks for another poll.
+/// Memory is asked for before bytes are taken: after an error, as where it is pending, the next
+/// poll goes on from there. After 64 pieces it asks for another poll.
 pub fn poll_read_until<R: AsyncBufRead>(
     reader: &mut R,
     cx: &mut Context<'_>,

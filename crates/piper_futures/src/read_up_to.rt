@@ -17,9 +17,11 @@ pub struct ReadExact<R> {
     size: usize,
 }
 
-/// Appends bytes of the reader to `bytes`, in order, until there are `size` of them, and gives both back; fewer than that only at the reader's end.
+/// Appends bytes of the reader to `bytes`, in order, until there are `size` of them, and gives both
+/// back; fewer than that only at the reader's end.
 ///
-/// Where the reader fails or memory is refused, what is left is the reader and the bytes that came before; memory is asked for before bytes are taken, so none is lost.
+/// Where the reader fails or memory is refused, what is left is the reader and the bytes that came
+/// before; memory is asked for before bytes are taken, so none is lost.
 pub fn read_exact<R: AsyncBufRead + Drop>(reader: R, bytes: Vec<u8>, size: usize) -> ReadExact<R>
     requires { length bytes.items ≤ size }
     ensures { StartsReadingUpTo result reader bytes size }

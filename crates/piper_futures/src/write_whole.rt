@@ -17,9 +17,11 @@ pub struct WriteAll<'a, W> {
     written: usize,
 }
 
-/// Writes all bytes, in order, and gives the writer back with how many are written: fewer than all only where its pipe is closed.
+/// Writes all bytes, in order, and gives the writer back with how many are written: fewer than all
+/// only where its pipe is closed.
 ///
-/// Where the writer fails, what is left is the writer, and how many bytes were written before. It asks for no memory. Bytes that were counted in the poll that sees the pipe closed may be lost.
+/// Where the writer fails, what is left is the writer, and how many bytes were written before. It
+/// asks for no memory. Bytes that were counted in the poll that sees the pipe closed may be lost.
 pub fn write_all<'a, W: AsyncWrite + Drop>(writer: W, bytes: &'a [u8]) -> WriteAll<'a, W>
     ensures { StartsWriting result writer bytes.now }
 {

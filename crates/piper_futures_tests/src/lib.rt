@@ -1,4 +1,5 @@
-//! Tests of the futures that own their ends, of the streams and of the sinks. They stand apart, so that these crates are proved once.
+//! Tests of the futures that own their ends, of the streams and of the sinks. They stand apart, so
+//! that these crates are proved once.
 #![tactic(auto)]
 
 #[cfg(test)]

@@ -1,4 +1,5 @@
-//! Hunts for what two threads on one pipe could do wrong: a wake that is lost, a byte that is lost, doubled or out of order, an end that is told too early.
+//! Hunts for what two threads on one pipe could do wrong: a wake that is lost, a byte that is lost,
+//! doubled or out of order, an end that is told too early.
 #![tactic(auto)]
 
 mod game;

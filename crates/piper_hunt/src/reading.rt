@@ -20,7 +20,8 @@ enum Taken {
     End,
 }
 
-/// The side that reads: it takes bytes by all calls of the reader, and holds each against what the writer gives there.
+/// The side that reads: it takes bytes by all calls of the reader, and holds each against what the
+/// writer gives there.
 #[derive(Drop)]
 pub struct Reading<'a, H: Wait + Clone + Drop> {
     reader: &'a mut Reader<H>,

@@ -37,7 +37,8 @@ body_room_of frames = vec_capacity frames.body
 abbrev pub skips_of : {R : Type 0} → Frames R → ℕ
 skips_of frames = frames.to_skip
 
--- nothing more comes: the reader below has told its end, and no byte of a frame is kept or has to pass
+-- nothing more comes: the reader below has told its end, and no byte of a frame is kept or has to
+-- pass
 abbrev pub IsSpent : {R : Type 0} → (R → Type 0) → Frames R → Type 0
 IsSpent ended frames =
     ended (reader_of frames)

@@ -21,7 +21,8 @@ use std::mem;
 pub enum FrameAnswer {
     /// A whole frame, of at most as many bytes as the limit.
     Frame,
-    /// The next frame has this many bytes, which are more than the limit. None of them was taken by this poll.
+    /// The next frame has this many bytes, which are more than the limit. None of them was taken by
+    /// this poll.
     TooLong(usize),
     /// The end of the reader, inside a frame.
     Truncated,
@@ -31,7 +32,10 @@ pub enum FrameAnswer {
 
 /// The frames of a reader: pieces of bytes with their length before them.
 ///
-/// What was taken of a frame that has not come to its end is kept from poll to poll. In clauses, `reader_of` is the reader, `format_of` says how the length is told, `header_of` and `body_of` the bytes that are kept of the length and of the frame itself, `kept_of` all of them, and `skips_of` how many bytes of a skipped frame have still to pass.
+/// What was taken of a frame that has not come to its end is kept from poll to poll. In clauses,
+/// `reader_of` is the reader, `format_of` says how the length is told, `header_of` and `body_of`
+/// the bytes that are kept of the length and of the frame itself, `kept_of` all of them, and
+/// `skips_of` how many bytes of a skipped frame have still to pass.
 #[derive(Drop)]
 pub struct Frames<R> {
     reader: R,
@@ -51,7 +55,8 @@ impl<R: AsyncBufRead> Frames<R> {
     ghost use Rattle.piper_lines.specs.FrameAnswers.{EndsAgain, HandsFrame, OnEnd, handed};
     ghost use Rattle.piper_lines.specs.Moves.{PassesMoves};
 
-    /// The frames whose length is told in four bytes, the most significant first. Nothing is kept yet, and no memory is asked for.
+    /// The frames whose length is told in four bytes, the most significant first. Nothing is kept
+    /// yet, and no memory is asked for.
     pub fn new(alloc: Global, reader: R) -> Frames<R>
         ensures reader { reader_of result ≡ reader }
         ensures format { format_of result ≡ usual_header }
@@ -101,7 +106,8 @@ impl<R: AsyncBufRead> Frames<R> {
         reader
     }
 
-    /// Gives up the frame whose length was told: the next polls pass over its bytes, and then take the frame behind it.
+    /// Gives up the frame whose length was told: the next polls pass over its bytes, and then take
+    /// the frame behind it.
     pub fn skip(&mut self)
         requires { length (header_of self.old) ≡ header_size (format_of self.old) }
         ensures reader { reader_of self.new ≡ reader_of self.old }
@@ -117,7 +123,11 @@ impl<R: AsyncBufRead> Frames<R> {
 
     /// Replaces `frame` by the next frame of the reader, if that has at most `limit` bytes.
     ///
-    /// It is empty where no frame is handed out: on another answer, where the poll is pending, and on an error. What was taken by then is kept, and the next poll goes on from there. Memory is asked for before bytes are taken, so a refusal loses none. After `TooLong` the caller can skip the frame, ask again with another limit, or stop. A pending poll is woken by the reader, or at once where it has passed over many bytes.
+    /// It is empty where no frame is handed out: on another answer, where the poll is pending, and
+    /// on an error. What was taken by then is kept, and the next poll goes on from there. Memory is
+    /// asked for before bytes are taken, so a refusal loses none. After `TooLong` the caller can
+    /// skip the frame, ask again with another limit, or stop. A pending poll is woken by the
+    /// reader, or at once where it has passed over many bytes.
     pub fn poll_frame(
         &mut self,
         cx: &mut Context<'_>,

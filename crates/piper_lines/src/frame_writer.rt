@@ -38,7 +38,8 @@ pub struct WriteFrame<'a> {
 impl<'a> WriteFrame<'a> {
     ghost use Rattle.piper_lines.specs.FrameWriter.{left_of};
 
-    /// The frame with this body, none of which is written yet: its length in four bytes, the most significant first, and the body.
+    /// The frame with this body, none of which is written yet: its length in four bytes, the most
+    /// significant first, and the body.
     pub fn new(body: &'a [u8]) -> WriteFrame<'a>
         requires { length body.now < 2 ^ 32 }
         ensures { left_of result ≡ frame_bytes usual_header body.now }
@@ -72,7 +73,9 @@ impl<'a> WriteFrame<'a> {
 
     /// Writes what is left of the frame.
     ///
-    /// Where it is pending, or on an error, the rest is left for the next poll. It is woken by the writer, and asks for no memory of its own. Bytes that were counted in the poll that sees the pipe closed may be lost.
+    /// Where it is pending, or on an error, the rest is left for the next poll. It is woken by the
+    /// writer, and asks for no memory of its own. Bytes that were counted in the poll that sees the
+    /// pipe closed may be lost.
     pub fn poll<W: AsyncWrite>(
         &mut self,
         cx: &mut Context<'_>,

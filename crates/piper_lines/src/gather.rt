@@ -15,9 +15,11 @@ use piper::io::AsyncBufRead;
 /// How many pieces a poll passes over at most, so that other tasks get their turn.
 const MOST_PIECES: u32 = 64;
 
-/// Takes bytes from the reader to the end of `gathered`, until it has `size` of them; false at the end of the reader.
+/// Takes bytes from the reader to the end of `gathered`, until it has `size` of them; false at the
+/// end of the reader.
 ///
-/// Memory is asked for before bytes are taken: after an error, as where it is pending, the next poll goes on from there.
+/// Memory is asked for before bytes are taken: after an error, as where it is pending, the next
+/// poll goes on from there.
 pub fn fill_up<R: AsyncBufRead>(
     reader: &mut R,
     cx: &mut Context<'_>,
@@ -59,7 +61,8 @@ pub fn fill_up<R: AsyncBufRead>(
     Poll::Ready(Ok(true))
 }
 
-// Takes `left` bytes from the reader and lets them go; false at the end of the reader. After many pieces it asks for another poll.
+// Takes `left` bytes from the reader and lets them go; false at the end of the reader. After many
+// pieces it asks for another poll.
 pub(crate) fn pass_over<R: AsyncBufRead>(
     reader: &mut R,
     cx: &mut Context<'_>,

@@ -22,11 +22,13 @@ use std::mem;
 pub enum LineAnswer {
     /// A whole line with the byte that ends it, of at most as many bytes as the limit.
     Line,
-    /// As many bytes as the limit, or all that was kept where that is more, none of which ends a line.
+    /// As many bytes as the limit, or all that was kept where that is more, none of which ends a
+    /// line.
     TooLong,
     /// What stands behind the last line, at the end of the reader.
     Last,
-    /// The end of the reader, with nothing left of a line. Behind it, and behind `Last`, each poll answers it again.
+    /// The end of the reader, with nothing left of a line. Behind it, and behind `Last`, each poll
+    /// answers it again.
     End,
 }
 
@@ -46,7 +48,9 @@ impl LineAnswer {
 
 /// The lines of a reader.
 ///
-/// What was taken of a line that has not come to its end is kept from poll to poll. In clauses, `reader_of` is the reader, `end_of` the byte that ends a line, and `kept_of` the bytes that are kept.
+/// What was taken of a line that has not come to its end is kept from poll to poll. In clauses,
+/// `reader_of` is the reader, `end_of` the byte that ends a line, and `kept_of` the bytes that are
+/// kept.
 #[derive(Drop)]
 pub struct Lines<R> {
     reader: R,
@@ -99,7 +103,9 @@ impl<R: AsyncBufRead> Lines<R> {
 
     /// Replaces `line` by the next line of the reader, up to `limit` bytes of it.
     ///
-    /// It is empty where nothing is handed out: at the end, where the poll is pending, and on an error. What was taken by then is kept, and the next poll goes on from there. Memory is asked for before bytes are taken, so a refusal loses none. A pending poll is woken by the reader.
+    /// It is empty where nothing is handed out: at the end, where the poll is pending, and on an
+    /// error. What was taken by then is kept, and the next poll goes on from there. Memory is asked
+    /// for before bytes are taken, so a refusal loses none. A pending poll is woken by the reader.
     pub fn poll_line(
         &mut self,
         cx: &mut Context<'_>,
@@ -133,7 +139,8 @@ impl<R: AsyncBufRead> Lines<R> {
     }
 }
 
-// Takes bytes from the reader to the end of `line`, through the first that ends it, up to the limit or to the end of the reader.
+// Takes bytes from the reader to the end of `line`, through the first that ends it, up to the limit
+// or to the end of the reader.
 fn gather<R: AsyncBufRead>(
     reader: &mut R,
     cx: &mut Context<'_>,
@@ -184,7 +191,8 @@ fn gather<R: AsyncBufRead>(
     }
 }
 
-// How many bytes there are through the first that ends a line and that there is one, or all of them.
+// How many bytes there are through the first that ends a line and that there is one, or all of
+// them.
 fn through_end(bytes: &[u8], end: u8) -> (usize, bool)
     ensures within { result.0 ≤ length bytes.now }
     ensures some { 0 < length bytes.now → 0 < result.0 }

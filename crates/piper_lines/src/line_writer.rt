@@ -33,7 +33,8 @@ pub fn is_one_line(text: &[u8]) -> bool
     lacks(text, b'\n')
 }
 
-/// Whether the text has no such byte, so that with one behind it it is one line of those that end with it.
+/// Whether the text has no such byte, so that with one behind it it is one line of those that end
+/// with it.
 pub fn lacks(text: &[u8], end: u8) -> bool
     ensures { IsTrue result ↔ Lacks end text.now }
 {
@@ -66,7 +67,9 @@ impl<'a> WriteLine<'a> {
 
     /// Writes what is left of the line.
     ///
-    /// Where it is pending, or on an error, the rest is left for the next poll. It is woken by the writer, and asks for no memory of its own. Bytes that were counted in the poll that sees the pipe closed may be lost.
+    /// Where it is pending, or on an error, the rest is left for the next poll. It is woken by the
+    /// writer, and asks for no memory of its own. Bytes that were counted in the poll that sees the
+    /// pipe closed may be lost.
     pub fn poll<W: AsyncWrite>(
         &mut self,
         cx: &mut Context<'_>,

@@ -2,7 +2,8 @@
 ghost use Rattle.std.specs.Prelude.{◌≡◌, ◌++◌, ◌∷◌, [], MatchOption};
 ghost use Rattle.piper_lines.specs.Text.{EndsIn, IsTextOf};
 
-/// The line without the LF at its end, and without a CR before that LF. A piece that does not end with LF comes as it is.
+/// The line without the LF at its end, and without a CR before that LF. A piece that does not end
+/// with LF comes as it is.
 pub fn line_text(line: &[u8]) -> &[u8]
     ensures { IsTextOf line.now result.now }
 {

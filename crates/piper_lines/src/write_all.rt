@@ -20,7 +20,9 @@ pub enum Written {
 
 /// Writes what is left of `bytes`, from `written` on, and adds what it wrote to `written`.
 ///
-/// Where it is pending, or on an error, the next poll goes on from there. It is woken by the writer, and asks for no memory of its own. Bytes that were counted in the poll that sees the pipe closed may be lost.
+/// Where it is pending, or on an error, the next poll goes on from there. It is woken by the
+/// writer, and asks for no memory of its own. Bytes that were counted in the poll that sees the
+/// pipe closed may be lost.
 pub fn poll_write_all<W: AsyncWrite>(
     writer: &mut W,
     cx: &mut Context<'_>,

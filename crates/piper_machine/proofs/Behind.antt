@@ -1,4 +1,5 @@
--- Behind an end that was found: where the reader can stand, what its steps log and answer, and what it has seen of the close.
+-- Behind an end that was found: where the reader can stand, what its steps log and answer, and what
+-- it has seen of the close.
 use Rattle.std.proofs.Common.{◌≡◌, inl, inr, ℕ, zero, suc, List, [], length, take, Bool, true, false, Option, None, Some, ◌==◌, is_some, Result, Ok, Err, refl, sym, ◌∙◌}
 use Rattle.std.specs.Bool.{⊤}
 use Rattle.piper_sides.specs.declared.calls.Side.{Side}

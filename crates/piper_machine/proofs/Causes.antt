@@ -1,4 +1,5 @@
--- Who has closed: the reader by its drop; or the writer, by its drop or its close, and then it publishes nothing more.
+-- Who has closed: the reader by its drop; or the writer, by its drop or its close, and then it
+-- publishes nothing more.
 use Rattle.std.proofs.Common.{◌≡◌, ◌⊎◌, inl, inr, ℕ, ◌-◌, List, length, Bool, true, false, ◌==◌, is_some, Result, Ok, Err, refl}
 use Rattle.piper_sides.specs.declared.calls.Side.TheVariants.{Reader, Writer}
 use Rattle.piper_sides.specs.declared.scripted.Failed.{Failed}

@@ -1,4 +1,5 @@
--- Each step conserves the bytes: what it moves leaves the front of what is unread, or joins its end.
+-- Each step conserves the bytes: what it moves leaves the front of what is unread, or joins its
+-- end.
 use Rattle.std.proofs.Common.{◌≡◌, ℕ, ◌+◌, ◌*◌, ◌/◌, ◌%◌, ◌<◌, ◌≤◌, List, [], ◌∷◌, ◌++◌, length, take, drop, Bool, true, false, Option, None, Some, inl, inr, refl, sym, ap, ◌∙◌, arith, append_assoc, append-nil, length-append, length-take-le}
 use Rattle.std.proofs.Math.Nat.{div-add-mod', add-mod_right, mul-mod_left}
 use Rattle.std.proofs.lemmas.Nat.{mod-mul-add}

@@ -1,4 +1,5 @@
--- What each side knows, and how many steps its call has made, and calls of its destination or source: what one step does to them.
+-- What each side knows, and how many steps its call has made, and calls of its destination or
+-- source: what one step does to them.
 use Rattle.std.proofs.Common.{◌≡◌, ℕ, ◌+◌, ◌*◌, ◌≤◌, List, ◌++◌, Bool, true, false, Option, None, Some, ◌==◌, refl, sym, subst, ◌∙◌, arith}
 use Rattle.piper_sides.specs.declared.calls.Side.{Side}
 use Rattle.piper_sides.specs.declared.calls.Side.TheVariants.{Reader, Writer}
@@ -33,7 +34,8 @@ use Rattle.piper_machine.proofs.Knowing.{knowledge-append, answer-tells, learns,
 use Rattle.piper_machine.proofs.ReaderCounts.{read_calls, read_least, ReaderSees, reader-fits, reader-goes, reader_next, some-known}
 use Rattle.piper_machine.proofs.WriterCounts.{write_calls, write_least, WriterSees, writer-fits, writer-goes, writer_next}
 
--- The steps and calls made so far, with those that are left, are within what the look finds, or can still find.
+-- The steps and calls made so far, with those that are left, are within what the look finds, or can
+-- still find.
 pub record IsWithin (f steps_made calls_made steps_left calls_left : ℕ) (c : Option Call) : Type 0 where
   pub steps : steps_made + steps_left ≤ most_of f c
   pub calls : calls_made + calls_left ≤ f + 1

@@ -1,4 +1,5 @@
--- The places of the two sides are apart in every sound pipe, and no step of the writer changes a byte that the reader knows.
+-- The places of the two sides are apart in every sound pipe, and no step of the writer changes a
+-- byte that the reader knows.
 use Rattle.std.proofs.Common.{◌≡◌, ◌≢◌, ℕ, ◌+◌, ◌-◌, ◌<◌, ◌≤◌, List, length, take, true, false, refl, sym, ap, ◌∙◌, arith}
 use Rattle.std.proofs.lemmas.List.{take-append-le}
 use Rattle.std.proofs.lemmas.Bool.Decides.{nat_tests}

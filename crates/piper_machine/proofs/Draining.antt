@@ -1,4 +1,5 @@
--- A drain run whole: its destination stays with the caller, and each step is that of a call which holds this destination.
+-- A drain run whole: its destination stays with the caller, and each step is that of a call which
+-- holds this destination.
 use Rattle.std.proofs.Common.{◌≡◌, ℕ, ◌+◌, ◌-◌, ◌<◌, ◌≤◌, min, List, [], ◌∷◌, ◌++◌, take, drop, length, Bool, true, false, Option, None, Some, ◌==◌, is_some, refl, sym, ap, subst, ◌∙◌, arith, length-append, length-drop, length-take}
 use Rattle.std.proofs.lemmas.Bool.Decides.{nat_tests}
 use Rattle.std.proofs.lemmas.List.{drop-drop}
@@ -192,7 +193,8 @@ settled-destination : (answer : Option Answer) (left held : Destination) → lef
 settled-destination None left held is = refl
 settled-destination (Some answer) left held is = is
 
--- a step that the machine makes with no destination of its own: the waker that it calls is heard, and then it goes
+-- a step that the machine makes with no destination of its own: the waker that it calls is heard,
+-- and then it goes
 pub goes-on : (p q h r : Pipe) (destination : Destination) (answer : Option Answer) → Draining p (placing destination q) → (read_action q.reader ≡ does.CallDestination → ⊥) → h ≡ heard Reader (read_action q.reader) q
     → answer ≡ (went Reader h).answer → r ≡ (went Reader h).pipe → IsGoneOn p destination q answer r
 goes-on p q h r destination answer draining other hears answers after =

@@ -12,7 +12,8 @@ use Rattle.piper_sides.specs.declared.polling.Polled.TheVariants.{Ready}
 use Rattle.piper_machine.specs.End.{saw_closed_after, saw_closed_from, found_none}
 use Rattle.piper_machine.specs.Final.{IsBehindEnd}
 
--- whether an end was found, by a look at the tail behind one that saw the pipe closed, or was told by a poll
+-- whether an end was found, by a look at the tail behind one that saw the pipe closed, or was told
+-- by a poll
 
 abbrev pub found_at_tail : Bool → ℕ → Bool → Bool
 found_at_tail true zero ended = true

@@ -1,4 +1,5 @@
--- A fill run whole: its source stays with the caller, and each step is that of a call which holds this source.
+-- A fill run whole: its source stays with the caller, and each step is that of a call which holds
+-- this source.
 use Rattle.std.proofs.Common.{◌≡◌, ℕ, ◌-◌, ◌<◌, ◌≤◌, min, List, [], ◌∷◌, take, length, Bool, true, false, Option, None, Some, ◌==◌, is_some, refl, sym, ap, subst, ◌∙◌, arith, Result, Ok, Err, length-append}
 use Rattle.piper_sides.specs.declared.calls.OpenCall.{OpenCall}
 use Rattle.piper_sides.specs.declared.calls.Side.TheVariants.{Writer}
@@ -206,7 +207,8 @@ settled-source : (answer : Option Answer) (acts held : List SourceAct) → acts 
 settled-source None acts held is = refl
 settled-source (Some answer) acts held is = is
 
--- a step that the machine makes with no source of its own: the waker that it calls is heard, and then it goes
+-- a step that the machine makes with no source of its own: the waker that it calls is heard, and
+-- then it goes
 pub goes-on : (p q h r : Pipe) (acts : List SourceAct) (answer : Option Answer) → Filling p (giving acts q) → (write_action q.writer ≡ does.CallSource → ⊥) → h ≡ heard Writer (write_action q.writer) q
     → answer ≡ (stepped r.lent (Go Writer) h).answer → r ≡ (stepped r.lent (Go Writer) h).pipe → IsGoneOn p acts q answer r
 goes-on p q h r acts answer filling other hears answers after =

@@ -1,4 +1,5 @@
--- Each step keeps a told end final: the pipe is closed for good, with nothing unread and nothing lent that could still be published.
+-- Each step keeps a told end final: the pipe is closed for good, with nothing unread and nothing
+-- lent that could still be published.
 use Rattle.std.proofs.Common.{◌≡◌, inl, inr, ℕ, List, [], ◌∷◌, ◌++◌, length, take, Bool, true, false, Option, None, Some, ◌==◌, refl, sym, ap, subst, ◌∙◌, slice_set, arith}
 use Rattle.std.proofs.lemmas.Bool.Decides.{nat_tests}
 use Rattle.piper_sides.specs.declared.calls.Side.TheVariants.{Reader, Writer}

@@ -1,4 +1,5 @@
--- Each step heeds a close that was seen: the writer publishes only where its call has not found the pipe closed.
+-- Each step heeds a close that was seen: the writer publishes only where its call has not found the
+-- pipe closed.
 use Rattle.std.proofs.Common.{◌≡◌, ℕ, ◌-◌, List, [], ◌∷◌, ◌++◌, length, Bool, true, false, Option, None, Some, ◌==◌, is_some, refl, sym, ap, subst, ◌∙◌}
 use Rattle.std.specs.Bool.{⊤}
 use Rattle.piper_sides.specs.declared.calls.Side.{Side}
@@ -140,7 +141,8 @@ writer-heeds saw offered p on.TakeWriter stores = (tt, unstored (own_taken (is_s
 writer-heeds saw offered p on.WakeWriter stores = ((wake-quiet saw p.writer_call.taken).0, λ storing. absurd (cc))
 writer-heeds saw offered p point stores = ((tt, tt), λ storing. absurd (cc))
 
--- a call of the writer forgets what the one before it saw; one of the reader leaves the writer as it is
+-- a call of the writer forgets what the one before it saw; one of the reader leaves the writer as
+-- it is
 abbrev Adds : Bool → Stepped → Type 0
 Adds saw new = HeedsFrom saw new.events × (is_storing new.pipe.writer ≡ true → saw_closed_from Writer saw new.events ≡ false)
 

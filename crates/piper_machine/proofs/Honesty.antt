@@ -1,4 +1,5 @@
--- Each step keeps the honest end: what the reader knows of the close it read off the pipe, before its last look.
+-- Each step keeps the honest end: what the reader knows of the close it read off the pipe, before
+-- its last look.
 use Rattle.std.proofs.Common.{◌≡◌, ℕ, List, [], ◌∷◌, ◌++◌, length, Bool, true, false, Option, None, Some, Result, Ok, Err, ◌==◌, is_some, refl, sym, ap, subst, ◌∙◌, arith}
 use Rattle.std.proofs.lemmas.Bool.Decides.{nat_tests}
 use Rattle.piper_sides.specs.declared.calls.Side.{Side}

@@ -210,7 +210,8 @@ writer-stores (on.StoreClosed behind.WakeWriter) lent p store = tt
 writer-stores (on.StoreClosed (behind.Round form sum)) lent p store = tt
 writer-stores point lent p store = tt
 
--- what the log tells of a side is what the pipe has, and what a look found is no more than the capacity
+-- what the log tells of a side is what the pipe has, and what a look found is no more than the
+-- capacity
 record Known (c : ℕ) (side : Side) (p : Pipe) (k : Knowledge) : Type 0 where
   known : k.known ≡ knows side p
   found : k.found ≤ c

@@ -1,4 +1,5 @@
--- A machine after one of its sides has moved, or a lent place was written: it is a machine again, and which pipe it stands for.
+-- A machine after one of its sides has moved, or a lent place was written: it is a machine again,
+-- and which pipe it stands for.
 use Rattle.std.proofs.Common.{◌≡◌, ◌==◌, ◌+◌, ◌-◌, ◌*◌, ◌<◌, ◌≤◌, ℕ, List, ◌++◌, take, drop, length, min, false, inl, inr, refl, sym, ap, ◌∙◌, arith, length-take-le}
 use Rattle.std.proofs.lemmas.List.{drop-take, drop-drop, take-take, drop_at}
 use Rattle.std.proofs.lemmas.Bool.{cases_lt}

@@ -1,4 +1,5 @@
--- What is told of the reader's open call where the reader stands, and that its steps keep it and answer what is right.
+-- What is told of the reader's open call where the reader stands, and that its steps keep it and
+-- answer what is right.
 use Rattle.std.specs.Prelude.{IsSomeAnd}
 use Rattle.std.proofs.Common.{◌≡◌, ℕ, ◌+◌, ◌≤◌, List, [], ◌∷◌, ◌++◌, take, length, Bool, true, false, Some, ◌==◌, is_some, Result, Ok, Err, refl, sym, ap, subst, ◌∙◌, arith, length-append, length-take-le}
 use Rattle.piper_sides.specs.declared.calls.Side.TheVariants.{Reader}

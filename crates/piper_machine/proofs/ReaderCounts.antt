@@ -1,4 +1,5 @@
--- Where a step of the reader leads: fewer steps remain, no more calls of the destination, and a poll is true only where a byte is known.
+-- Where a step of the reader leads: fewer steps remain, no more calls of the destination, and a
+-- poll is true only where a byte is known.
 use Rattle.std.proofs.Common.{◌≡◌, ℕ, ◌+◌, ◌-◌, ◌<◌, ◌≤◌, min, [], ◌∷◌, length, Bool, true, false, None, ◌==◌, is_some, Result, Ok, Err, refl, arith}
 use Rattle.std.specs.Prelude.{⊤}
 use Rattle.std.proofs.lemmas.Bool.Decides.{nat_tests}

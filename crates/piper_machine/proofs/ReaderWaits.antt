@@ -1,4 +1,5 @@
--- The reader as a waiter, from point to point of its own calls, and what each of its steps is to a waiting writer.
+-- The reader as a waiter, from point to point of its own calls, and what each of its steps is to a
+-- waiting writer.
 use Rattle.std.proofs.Common.{◌≡◌, ℕ, zero, suc, List, [], ◌∷◌, length, drop, Bool, true, false, Option, None, Some, ◌==◌, Result, Ok, Err, refl, sym, ap, subst, ◌∙◌, arith}
 use Rattle.std.specs.Bool.{⊤}
 use Rattle.std.proofs.lemmas.Bool.Decides.{nat_tests}
@@ -26,7 +27,8 @@ use Rattle.piper_machine.specs.Waiting.{IsBlocked}
 use Rattle.piper_machine.specs.Wait.{Wait, wait_from}
 use Rattle.piper_machine.proofs.Watching.{Errand, read_errand, Watched, woken, calmly, Same, same, Touch, rests, stores, finds, misses, calls, hears-more, rewatch, touched, touched-pending, IsHanded, HasBegun, Awaits, handed-touched, begun-touched, awaits-touched, awaits-more, has_begun, awaits, refused-told, counted-told, yielded, yield-heard, hears-it, answered-passes, registration-passes, wake-heard, context_of, query-told}
 
--- what holds of the pipe while the waker stands in the slot: nothing any more once the reader itself has closed
+-- what holds of the pipe while the waker stands in the slot: nothing any more once the reader
+-- itself has closed
 abbrev pub read_calm : ReadPoint → Pipe → Type 0
 read_calm at.Dropped p = ⊤
 read_calm (at.TakeWriter afterward.Drop) p = ⊤

@@ -1,4 +1,5 @@
--- Each step keeps both sides remembered: its own side goes on from point to point, and the other is touched by it.
+-- Each step keeps both sides remembered: its own side goes on from point to point, and the other is
+-- touched by it.
 use Rattle.std.proofs.Common.{◌≡◌, inl, inr, ℕ, List, [], ◌∷◌, ◌++◌, Bool, true, false, Option, None, Some, ◌==◌, refl, sym, ap, subst, slice_set}
 use Rattle.piper_sides.specs.declared.calls.Side.TheVariants.{Reader, Writer}
 use Rattle.piper_sides.specs.declared.calls.OpenCall.{OpenCall}
@@ -79,7 +80,8 @@ looks-away false (purpose.Copy Try) c = refl
 looks-away false (purpose.Copy (Polling is_drawn)) c = refl
 
 module _ (p : Pipe) (reads writes : Wait) (kept : Keeps p reads writes) where
-  -- the reader opens a call: it goes to a point away from the writer's slot, and the writer does not notice
+  -- the reader opens a call: it goes to a point away from the writer's slot, and the writer does
+  -- not notice
   reader-opens : (point : ReadPoint) (c : OpenCall) (destination : Destination) (now : Wait) → p.reader ≡ at.Idle → read_errand point c ≡ away
       → (ReadWaits (record p { reader = at.Idle }) (write_errand p.writer p.writer_call) reads → ReadWaits (record p { reader = point; reader_call = c; destination = destination }) (write_errand p.writer p.writer_call) now)
       → Keeps (record p { reader = point; reader_call = c; destination = destination }) now writes

@@ -1,4 +1,5 @@
--- The bytes of a ring, one by one: number i of those from the place h on stands at the place of h + i.
+-- The bytes of a ring, one by one: number i of those from the place h on stands at the place of h +
+-- i.
 use Rattle.std.proofs.Common.{◌≡◌, ◌≢◌, ℕ, ◌+◌, ◌-◌, ◌<◌, ◌≤◌, ◌⊎◌, List, ◌++◌, length, get_or, take, drop, refl, sym, ap, ◌∙◌, inl, inr, arith, length-append, length-drop, length-take-le, get_or-drop, get_or-take, append-nil, min}
 use Rattle.std.proofs.Math.Seq.{take-append-add, take-length}
 use Rattle.std.proofs.Math.ListN.{set, length-set}

@@ -1,4 +1,5 @@
--- The rounds of a copy are one move: what two of them move one after the other, one of them moves at once.
+-- The rounds of a copy are one move: what two of them move one after the other, one of them moves
+-- at once.
 use Rattle.std.proofs.Common.{◌≡◌, ℕ, zero, suc, ◌+◌, ◌-◌, ◌<◌, ◌≤◌, List, [], ◌∷◌, ◌++◌, take, drop, length, Option, None, Some, lit≤, sym, ap, ◌∙◌, arith, append_assoc, append-nil, length-append, length-drop, length-take-le}
 use Rattle.std.proofs.lemmas.Bool.Decides.{nat_tests}
 use Rattle.std.proofs.lemmas.List.{drop-drop, drop_all, take_at, drop_at}

@@ -1,4 +1,5 @@
--- How what is told of a side's calls grows with the log: the events that leave it, and those of the other side.
+-- How what is told of a side's calls grows with the log: the events that leave it, and those of the
+-- other side.
 use Rattle.std.proofs.Common.{◌≡◌, ℕ, ◌+◌, length, arith, List, [], ◌∷◌, ◌++◌, Bool, true, false, Option, None, Some, refl, sym, ap, subst, ◌∙◌}
 use Rattle.piper_sides.specs.declared.calls.Side.{Side}
 use Rattle.piper_sides.specs.declared.calls.Side.TheVariants.{Reader, Writer}

@@ -1,4 +1,5 @@
--- A waiting side is watched over: what makes sure that its waker is called, and that no step of the other side changes that.
+-- A waiting side is watched over: what makes sure that its waker is called, and that no step of the
+-- other side changes that.
 use Rattle.std.proofs.Common.{◌≡◌, ℕ, List, [], ◌∷◌, ◌++◌, Bool, true, false, Option, None, Some, refl, sym, ap, ◌∙◌, arith}
 use Rattle.std.specs.Bool.{⊤}
 use Rattle.std.proofs.lemmas.Bool.Decides.{nat_tests}
@@ -26,7 +27,8 @@ use Rattle.piper_machine.specs.Counts.{is_same}
 use Rattle.piper_machine.specs.Wait.{Wait, called, if_same, told, wait_after, wait_from}
 use Rattle.piper_machine.proofs.Queries.{query-holds}
 
--- how far the other side is with the wake that follows its store: away from it, about to empty the slot, or with what it found there
+-- how far the other side is with the wake that follows its store: away from it, about to empty the
+-- slot, or with what it found there
 pub data Errand : Type 0 where
   away : Errand
   takes : Errand
@@ -44,8 +46,10 @@ write_errand (on.TakeReader next) c = takes
 write_errand (on.WakeReader next) c = wakes c.taken
 write_errand point c = away
 
--- of a side with this wait and slot, that holds what it took from its own slot: its waker was called; or stands in the slot while
--- all is calm; or stands there and the other side takes it next; or is in the other side's hand; or in its own
+-- of a side with this wait and slot, that holds what it took from its own slot: its waker was
+-- called; or stands in the slot while
+-- all is calm; or stands there and the other side takes it next; or is in the other side's hand; or
+-- in its own
 pub data Watched (w : Wait) (slot held : Option ℕ) (calm : Type 0) (e : Errand) : Type 0 where
   woken : w.is_woken ≡ true → Watched w slot held calm e
   calmly : slot ≡ Some w.handed → calm → Watched w slot held calm e

@@ -1,4 +1,5 @@
--- What is told of the writer's open call where the writer stands, and that its steps keep it and answer what is right.
+-- What is told of the writer's open call where the writer stands, and that its steps keep it and
+-- answer what is right.
 use Rattle.std.specs.Prelude.{IsSomeAnd}
 use Rattle.std.proofs.Common.{◌≡◌, ℕ, ◌+◌, ◌-◌, ◌≤◌, min, List, [], ◌∷◌, ◌++◌, take, drop, length, Bool, true, false, Option, None, Some, ◌==◌, is_some, refl, sym, ap, subst, ◌∙◌, arith, append_assoc, append-nil, length-append, length-take-le, take-append-drop, take_all}
 use Rattle.std.proofs.lemmas.List.{take-append-le}
@@ -121,7 +122,8 @@ steps capacity held lent_then next t u es right told leads =
       subst (λ (v : Told). WriterAt capacity next.point (source_after next.answer held) (lent_then next.answer) v) (sym behind) leads.1,
     )
 
--- the count of a fill is all that its source gave, whether the last bytes are published or found the pipe closed
+-- the count of a fill is all that its source gave, whether the last bytes are published or found
+-- the pipe closed
 filled : (handed moved last left : List ℕ) (sum : ℕ) (looks : List Seen) → moved ++ (last ++ left) ≡ handed → length moved + length last ≡ sum → (found_closed looks ≡ false → length last ≡ 0) → (first_look looks ≡ Some (seen.Closed true) → sum ≡ 0) → IsFilled handed looks moved sum
 filled handed moved last left sum looks bytes count open_none closed_none =
     let all : length (moved ++ (last ++ left)) ≡ length handed = ap (λ (xs : List ℕ). length xs) bytes in

@@ -1,4 +1,5 @@
--- Where a step of the writer leads: fewer steps remain, no more calls of the source, and a poll is true only where room is known.
+-- Where a step of the writer leads: fewer steps remain, no more calls of the source, and a poll is
+-- true only where room is known.
 use Rattle.std.proofs.Common.{◌≡◌, ℕ, ◌+◌, ◌-◌, ◌<◌, ◌≤◌, min, List, [], ◌∷◌, length, Bool, true, false, None, ◌==◌, is_some, Result, Ok, Err, refl, arith}
 use Rattle.std.specs.Prelude.{⊤}
 use Rattle.piper_sides.specs.declared.calls.Side.TheVariants.{Writer}

@@ -1,4 +1,5 @@
--- The writer as a waiter, from point to point of its own calls, and what each of its steps is to a waiting reader.
+-- The writer as a waiter, from point to point of its own calls, and what each of its steps is to a
+-- waiting reader.
 use Rattle.std.proofs.Common.{◌≡◌, ℕ, ◌-◌, ◌≤◌, List, [], ◌++◌, length, take, Bool, true, false, Option, None, Some, ◌==◌, Result, Ok, Err, refl, sym, ap, subst, ◌∙◌, arith, length-append, length-take-le}
 use Rattle.std.specs.Bool.{⊤}
 use Rattle.std.proofs.lemmas.Bool.Decides.{nat_tests}
@@ -28,7 +29,8 @@ use Rattle.piper_machine.specs.Waiting.{IsBlocked}
 use Rattle.piper_machine.specs.Wait.{Wait, wait_from}
 use Rattle.piper_machine.proofs.Watching.{Errand, wakes, write_errand, Watched, woken, calmly, taking, waking, holding, Same, same, Touch, rests, stores, finds, misses, calls, hears, hears-more, hears-it, hears-handed, rewatch, touched, touched-pending, IsHanded, HasBegun, Awaits, handed-touched, begun-touched, awaits-touched, awaits-more, has_begun, awaits, refused-told, counted-told, yielded, yield-heard, answered-passes, registration-passes, wake-heard, context_of, query-told}
 
--- what holds of the pipe while the waker stands in the slot: nothing any more once the writer itself has closed; behind its own take
+-- what holds of the pipe while the waker stands in the slot: nothing any more once the writer
+-- itself has closed; behind its own take
 -- it does not stand there, and a close that wakes the reader alone does not occur
 abbrev pub write_calm : WritePoint → Pipe → Type 0
 write_calm on.Dropped p = ⊤

@@ -1,4 +1,5 @@
--- Worked examples: what lists of calls and of steps answer, evaluated on the definitions by computation.
+-- Worked examples: what lists of calls and of steps answer, evaluated on the definitions by
+-- computation.
 mod Script
 mod Counts
 mod WrapAround

@@ -34,7 +34,8 @@ mod whole;
 
 pub use runs::run;
 
-/// A pipe of bytes and its two sides. Each call of a side is run whole: the other side makes no step during it.
+/// A pipe of bytes and its two sides. Each call of a side is run whole: the other side makes no
+/// step during it.
 #[derive(Drop)]
 pub struct Machine {
     alloc: Global,
@@ -118,7 +119,8 @@ impl Machine {
         let _ = &self.is_closed;
     }
 
-    // It does nothing, as `learn`. Its clause is that each call which may be opened now is the same run whole and
+    // It does nothing, as `learn`. Its clause is that each call which may be opened now is the same
+    // run whole and
     // made by steps alone; a whole call hands it on as `by_steps`.
     fn learn_steps(&self)
         ensures { AreWholeBySteps self.now }
@@ -134,7 +136,8 @@ impl Machine {
         index::distance(self.read.capacity(), self.read.head(), self.write.tail())
     }
 
-    /// The known bytes that stand in one piece, oldest first: from the first unread byte's place on.
+    /// The known bytes that stand in one piece, oldest first: from the first unread byte's place
+    /// on.
     pub fn r_peek(&self) -> &[u8]
         ensures bytes { result.now ≡ peeked self.now }
         ensures count { length result.now ≡ peeked_count self.now }
@@ -193,7 +196,8 @@ impl Machine {
         count
     }
 
-    /// The unread bytes in the two pieces in which they stand: up to the end of the buffer, and from its beginning.
+    /// The unread bytes in the two pieces in which they stand: up to the end of the buffer, and
+    /// from its beginning.
     fn pieces(&self) -> (&[u8], &[u8])
         ensures { result.0.now ++ result.1.now ≡ self.now.unread }
     {

@@ -29,7 +29,8 @@ impl Model for Source {
     ghost invariant = { λ source. IsSource source.given source.spent source.script };
 }
 
-/// What a source gives next that has these bytes left of an act, and these acts behind it: the bytes or those of the next act, the acts behind them, and whether it fails in their place.
+/// What a source gives next that has these bytes left of an act, and these acts behind it: the
+/// bytes or those of the next act, the acts behind them, and whether it fails in their place.
 pub fn next<'a>(bytes: &'a [u8], acts: &'a [SourceAct]) -> (&'a [u8], &'a [SourceAct], bool)
     ensures front { result.0.now ≡ bytes_of (unspent bytes.now acts.now) }
     ensures rest { (n : ℕ) → unspent (drop n result.0.now) result.1.now
@@ -46,7 +47,8 @@ pub fn next<'a>(bytes: &'a [u8], acts: &'a [SourceAct]) -> (&'a [u8], &'a [Sourc
     }
 }
 
-// How many acts are spent, and how many bytes the next one has given, when that act has given `n` bytes more.
+// How many acts are spent, and how many bytes the next one has given, when that act has given `n`
+// bytes more.
 fn passed(acts: &[SourceAct], spent: usize, given: usize, n: usize) -> (usize, usize)
     requires before { IsSource given spent acts.now }
     requires within { n ≤ length (bytes_of (source_left given spent acts.now)) }

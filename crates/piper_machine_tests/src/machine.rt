@@ -108,7 +108,8 @@ impl Run {
         assert!(rt; self.pipe.step(step, &mut self.log).is_ok());
     }
 
-    /// Makes the step. Where it is refused for want of memory, nothing has changed, and it is made again.
+    /// Makes the step. Where it is refused for want of memory, nothing has changed, and it is made
+    /// again.
     fn made_at_last(&mut self, rt: &impl Abort, step: &Step) {
         let logged = self.log.events().len();
         let states = (self.pipe.r_state(), self.pipe.w_state());

@@ -45,7 +45,8 @@ impl CallsToOrder {
         }
     }
 
-    // Reads a script to its end. Its commands are made as they are read, so that they are refused in the order of lines.
+    // Reads a script to its end. Its commands are made as they are read, so that they are refused
+    // in the order of lines.
     fn read<I: Read>(&mut self, alloc: Global, input: &mut I) -> Result<(), Stop> {
         let mut lines = Lines::new(alloc, input)?;
         self.add_lines(
@@ -157,7 +158,8 @@ enum Explored {
     PastLimit(u64),
 }
 
-// Makes the steps in one order, from the start. Its outcome is kept, unless a call makes too many steps.
+// Makes the steps in one order, from the start. Its outcome is kept, unless a call makes too many
+// steps.
 fn make_order(
     alloc: Global,
     script: &CallsToOrder,
@@ -213,7 +215,8 @@ fn explore(
     Ok(Explored::Outcomes(outcomes))
 }
 
-/// Reads the script that `input` gives to its end, makes the steps of its two calls in every order, and writes each
+/// Reads the script that `input` gives to its end, makes the steps of its two calls in every order,
+/// and writes each
 /// distinct outcome to `output`.
 pub fn run_all<I: Read, O: Write>(
     alloc: Global,

@@ -48,7 +48,8 @@ impl Player {
         }
     }
 
-    /// Runs the command and writes what it prints. Where the pipe refuses a step of it, it is refused for the same
+    /// Runs the command and writes what it prints. Where the pipe refuses a step of it, it is
+    /// refused for the same
     /// reason.
     pub fn play(&mut self, command: Command, reply: &mut Reply) -> Result<(), Stop>
         requires { IsInLimits command }

@@ -80,7 +80,8 @@ enum Mode {
     Play,
     /// The script is read to its end, and then its steps are run.
     Run,
-    /// The script is read to its end, and then the steps of its two open calls are made in every order.
+    /// The script is read to its end, and then the steps of its two open calls are made in every
+    /// order.
     All,
 }
 
@@ -160,7 +161,8 @@ fn play_lines<I: Read, O: Write>(
     Ok(())
 }
 
-// Plays the line of this number, and writes what it prints in place of what `reply` holds, and then to `output`.
+// Plays the line of this number, and writes what it prints in place of what `reply` holds, and then
+// to `output`.
 fn answer_line<O: Write>(
     player: &mut Player,
     number: u64,

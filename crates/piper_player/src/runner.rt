@@ -197,7 +197,8 @@ pub fn run<I: Read, O: Write>(alloc: Global, input: &mut I, output: &mut O) -> R
     run_steps(alloc, capacity, &script, output)
 }
 
-// Runs the steps of a script on a new machine, and writes what happened, or the line that is refused.
+// Runs the steps of a script on a new machine, and writes what happened, or the line that is
+// refused.
 #[tactic(auto, using(crate::proofs::Lines::run_is_written, crate::proofs::Lines::refused_step_is_told))]
 fn run_steps<O: Write>(
     alloc: Global,

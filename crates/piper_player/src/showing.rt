@@ -10,7 +10,8 @@ use piper_machine::polling::Polled;
 use piper_script::reply::Reply;
 use std::alloc::AllocError;
 
-/// Writes what the call answered, the bytes that it moved out of the pipe, which stand in front in `dest`, and whom it woke.
+/// Writes what the call answered, the bytes that it moved out of the pipe, which stand in front in
+/// `dest`, and whom it woke.
 pub fn write_made(
     call: &Call,
     answer: Answer,

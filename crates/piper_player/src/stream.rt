@@ -18,14 +18,16 @@ pub struct Lines<'input, I: Read> {
 }
 
 impl<'input, I: Read> Lines<'input, I> {
-    /// The lines of the script that `input` gives. With room for a whole line from the start, reading one takes no memory.
+    /// The lines of the script that `input` gives. With room for a whole line from the start,
+    /// reading one takes no memory.
     pub fn new(alloc: Global, input: &'input mut I) -> Result<Lines<'input, I>, Stop> {
         let line = Vec::with_capacity(alloc, MOST_OF_A_LINE + 1)?;
         let reader = BufReader::new(alloc, input).map_err(|_| Stop::Memory)?;
         Ok(Lines { reader, line })
     }
 
-    /// The next line without its LF, unless the script has ended. Of a line that is too long only the beginning is read.
+    /// The next line without its LF, unless the script has ended. Of a line that is too long only
+    /// the beginning is read.
     pub fn next(&mut self) -> Result<Option<&[u8]>, Stop> {
         self.line.clear();
         let count = self

@@ -61,7 +61,8 @@ fn slice_copied(polled: Polled<usize>) -> Polled<Result<usize, Failed>>
     }
 }
 
-/// Makes the call, and answers what it answers. Bytes that it moves out of the pipe go to the front of `dest`.
+/// Makes the call, and answers what it answers. Bytes that it moves out of the pipe go to the front
+/// of `dest`.
 pub fn answer(machine: &mut Machine, call: &Call, dest: &mut [u8]) -> Answer
     requires ready { IsReady call.now machine.old }
     requires room { length dest.old ≡ room_for call.now }

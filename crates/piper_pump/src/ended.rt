@@ -92,7 +92,8 @@ impl Ended {
     }
 }
 
-// Prints the help or the version, or why the words are refused. A help that can't be printed is an output that failed.
+// Prints the help or the version, or why the words are refused. A help that can't be printed is an
+// output that failed.
 fn tell_words<R: Print + Eprint>(rt: &R, error: &clap::Error) -> (io::Result<()>, u8)
     ensures shown { IsShown error.now → (result.1 ≡ 0) ⊎ (result.1 ≡ 4) }
     ensures refused { ¬ IsShown error.now → result.1 ≡ 2 }

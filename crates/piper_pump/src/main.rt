@@ -1,4 +1,5 @@
-//! A buffer between two programs: one thread reads standard input into a pipe, and another writes it to standard output.
+//! A buffer between two programs: one thread reads standard input into a pipe, and another writes
+//! it to standard output.
 #![tactic(auto)]
 
 mod arguments;

@@ -37,7 +37,8 @@ impl Pace {
         }
     }
 
-    /// So many bytes have passed: sleeps until their time is over. Time in which none came is not made up for.
+    /// So many bytes have passed: sleeps until their time is over. Time in which none came is not
+    /// made up for.
     pub fn keep(&mut self, clock: &impl Clock, count: usize) {
         let Some(since) = self.since else {
             return;

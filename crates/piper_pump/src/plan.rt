@@ -1,4 +1,5 @@
-//! What is done, from what the words ask for: the rate, the size and the level in numbers, and the files opened.
+//! What is done, from what the words ask for: the rate, the size and the level in numbers, and the
+//! files opened.
 ghost use Rattle.std.specs.Prelude.{◌≡◌, None, Ok, OnErr, IfErr};
 ghost use Rattle.piper_pump.specs.Ended.{IsEarly};
 

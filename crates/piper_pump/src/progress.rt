@@ -91,7 +91,8 @@ where
     }
 }
 
-// Prints a line, or draws it over the one before. Where standard error is closed, the bytes still go on.
+// Prints a line, or draws it over the one before. Where standard error is closed, the bytes still
+// go on.
 fn print(rt: &impl Eprint, line: &Line, done: Option<Done>, redraws: bool, is_last: bool) {
     let (before, behind) = match (redraws, is_last) {
         (false, _) => ("", "\n"),

@@ -30,7 +30,8 @@ struct Task {
     asked: Option<Watched>,
 }
 
-/// Does what the words ask for, between an input and an output that stand for files that are not named. `redraws` says that standard error is a terminal.
+/// Does what the words ask for, between an input and an output that stand for files that are not
+/// named. `redraws` says that standard error is a terminal.
 ///
 /// Words that are refused end it before a byte is moved. Else it ends as the transfer does: with
 /// success only where all that the input gave was written and flushed. Progress, told or not,
@@ -107,7 +108,8 @@ where
     })
 }
 
-/// Moves all bytes, and tells meanwhile how far it is where that is asked for. Told or not, the bytes and the answer are those of the transfer.
+/// Moves all bytes, and tells meanwhile how far it is where that is asked for. Told or not, the
+/// bytes and the answer are those of the transfer.
 pub fn pump<R, S, D>(
     rt: &R,
     source: &mut S,

@@ -114,7 +114,8 @@ module _ {M : Type 1} {𝓤 : Ura M} (𝓛 : Logic 𝓤) (w p : Ptr) (z : Names)
   shows_all true false sent m e h = absurd (omega arith)
   shows_all false true sent m e h = absurd (omega arith)
 
-  -- r is what the reader saw of the stream: its end, where 1 was loaded, and what it had seen and was told of stays
+  -- r is what the reader saw of the stream: its end, where 1 was loaded, and what it had seen and
+  -- was told of stays
   abbrev pub SeenEnd : Stream → Stream → ℕ → Stream → Type 0
   SeenEnd m b n r = (n ≡ flag r.1) × Reaches m r × (flag b.1 ≤ flag r.1)
 

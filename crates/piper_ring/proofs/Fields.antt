@@ -1,4 +1,5 @@
--- What the machine keeps of the ring's own types: a seat is its pointer to the words, and the owners of places and the marks take no space. Assumes `Logic`.
+-- What the machine keeps of the ring's own types: a seat is its pointer to the words, and the
+-- owners of places and the marks take no space. Assumes `Logic`.
 use Rattle.std.proofs.Common.{◌≡◌, List, [], ◌∷◌, ◌++◌, refl, ap, ◌∙◌}
 use seplogic.Ra.Ura.{Ura}
 use mir.Val.{Val, vstruct, vcons, vnil, of_list}

@@ -1,4 +1,5 @@
--- The two calls of the heap, as a walk meets them: what a call is handed, and what its caller has afterwards. Assumes `Logic`.
+-- The two calls of the heap, as a walk meets them: what a call is handed, and what its caller has
+-- afterwards. Assumes `Logic`.
 use Rattle.std.proofs.Common.{◌≡◌, ℕ, List, [], ◌∷◌, ◌++◌, refl, ap, ◌∙◌, w64}
 use seplogic.Ra.Ura.{Ura}
 use mir.Syntax.{Ty}

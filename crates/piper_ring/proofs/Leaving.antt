@@ -1,4 +1,5 @@
--- An end leaves: it closes the ring, and then gives up its places; the second one to leave gets all of the memory. Assumes `Logic`.
+-- An end leaves: it closes the ring, and then gives up its places; the second one to leave gets all
+-- of the memory. Assumes `Logic`.
 use Rattle.std.proofs.Common.{◌≡◌, ℕ, zero, suc, ◌+◌, ◌-◌, ◌*◌, ◌≤◌, Bool, true, false, List, [], ◌∷◌, length, drop, sym, refl, ap, ◌∙◌, subst, arith}
 use seplogic.Ra.Ura.{Ura}
 use base.Growing.{numbers, latest}

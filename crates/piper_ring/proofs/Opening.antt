@@ -1,4 +1,5 @@
--- A ring is opened: the words are cut out of their block, the bytes are places, and the invariant is made. Assumes `Logic`.
+-- A ring is opened: the words are cut out of their block, the bytes are places, and the invariant
+-- is made. Assumes `Logic`.
 use Rattle.std.proofs.Common.{◌≡◌, ℕ, zero, suc, ◌+◌, ◌-◌, ◌*◌, ◌<◌, ◌^◌, true, false, List, [], ◌∷◌, length, sym, refl, ap, ◌∙◌, subst, arith}
 use seplogic.Ra.Ura.{Ura}
 use base.Fraction.{full_share}
@@ -158,7 +159,8 @@ module _ {M : Type 1} {𝓤 : Ura M} (𝓛 : Logic 𝓤) (w p : Ptr) (cap : ℕ)
   abbrev pub Deeds : Fml
   Deeds = titles w p (names_of cap 0 0 0 0 0 0 0 0 0 0 0)
 
-  -- the words are 0 and the rights to free are there: an empty ring, all of whose places are the writer's room
+  -- the words are 0 and the rights to free are there: an empty ring, all of whose places are the
+  -- writer's room
   pub begins : InBlock w × InBlock p × (cap < 2 ^ 63) → ⟦ zero_words ⟧ ∗ ⟦ Deeds ⟧ ∗ ⟦ slot_words ⟧ ⊢ H.⇛ (ex 𝓤 Made)
   begins at = let fresh : State = record { sent = []; limit = cap; head = 0; seen = 0; closed = false; shut = false; reader_stage = 0; writer_stage = 0 } in
       let new : (n : ℕ) → ent 𝓤 (emp 𝓤) (H.⇛ (ex 𝓤 (Begun n))) = starts in

@@ -1,4 +1,5 @@
--- Stretches of places are cut; their front is one piece of memory; and their bytes are given up. Assumes `Logic`.
+-- Stretches of places are cut; their front is one piece of memory; and their bytes are given up.
+-- Assumes `Logic`.
 use Rattle.std.proofs.Common.{◌≡◌, ℕ, zero, suc, ◌+◌, ◌<◌, ◌≤◌, List, [], ◌∷◌, length, take, sym, ap, ◌∙◌, subst, arith}
 use seplogic.Ra.Ura.{Ura}
 use base.Logic.{ent, mono_r, id⊢}

@@ -1,4 +1,5 @@
--- The places that the writer saw given back come to it, with no step of the program. Assumes `Logic`.
+-- The places that the writer saw given back come to it, with no step of the program. Assumes
+-- `Logic`.
 use Rattle.std.proofs.Common.{◌≡◌, ℕ, ◌+◌, ◌-◌, ◌≤◌, Bool, false, List, [], ◌∷◌, length, take, drop, sym, refl, ap, arith}
 use Rattle.std.proofs.lemmas.List.{length-take-le, length-drop}
 use seplogic.Ra.Ura.{Ura}

@@ -1,4 +1,5 @@
--- The places of the bytes that the reader saw published come to it, with no step of the program. Assumes `Logic`.
+-- The places of the bytes that the reader saw published come to it, with no step of the program.
+-- Assumes `Logic`.
 use Rattle.std.proofs.Common.{◌≡◌, ℕ, ◌+◌, ◌-◌, ◌≤◌, Bool, false, List, [], ◌∷◌, ◌++◌, length, take, drop, sym, refl, ap, ◌∙◌, length-append, append_assoc, arith}
 use Rattle.std.proofs.Math.Seq.{drop-append_seam, take-append_seam}
 use seplogic.Ra.Ura.{Ura}

@@ -1,4 +1,5 @@
--- The invariant is taken apart by what one end knows and put together again; and the steps on the tail, and the look at the head. Assumes `Logic`.
+-- The invariant is taken apart by what one end knows and put together again; and the steps on the
+-- tail, and the look at the head. Assumes `Logic`.
 use Rattle.std.proofs.Common.{◌≡◌, ℕ, zero, suc, ◌+◌, ◌-◌, ◌≤◌, Bool, true, false, List, [], ◌∷◌, ◌++◌, length, drop, sym, refl, ap, ◌∙◌, length-append, append-nil, arith}
 use seplogic.Ra.Ura.{Ura}
 use base.Fraction.{full_share}

@@ -14,7 +14,8 @@ pub record ReadSlotsView : Type 0 where
   pub owns : Bool
   -- how often it registered
   pub tickets : ℕ
-  -- what the writer had looked behind before: what it had published, and whether it had closed the pipe
+  -- what the writer had looked behind before: what it had published, and whether it had closed the
+  -- pipe
   pub bytes : List ℕ
   pub shut : Bool
   -- the ticket of the writer's that it took last
@@ -61,7 +62,8 @@ pub record WriteSlotsView : Type 0 where
   pub owns : Bool
   -- how often it registered
   pub tickets : ℕ
-  -- what the reader had looked behind before: what it had consumed, and whether it had closed the pipe
+  -- what the reader had looked behind before: what it had consumed, and whether it had closed the
+  -- pipe
   pub count : ℕ
   pub over : Bool
   -- the ticket of the reader's that it took last
@@ -159,7 +161,8 @@ pub record IsReaderAtRest (r : ReadView) (s : ReadSlotsView) : Type 0 where
   pub count : s.count ≡ length r.taken
   pub stays_open : s.over ≡ false
 
--- when the reader looked last it had given room back that the writer has not seen, or had closed the ring
+-- when the reader looked last it had given room back that the writer has not seen, or had closed
+-- the ring
 abbrev pub HasRoomNews : WriteView → ReadSlotsView → Type 0
 HasRoomNews w s = (length w.sent < s.count + w.capacity) ⊎ (s.over ≡ true)
 

@@ -1,4 +1,5 @@
-//! The two ends of the ring, without wakers. Every call returns, waits for nobody and takes no lock.
+//! The two ends of the ring, without wakers. Every call returns, waits for nobody and takes no
+//! lock.
 
 pub(crate) mod leaving;
 pub(crate) mod opening;

@@ -1,4 +1,5 @@
-//! The ring that two threads share without a lock: the two ends of a bounded pipe of bytes, without wakers.
+//! The ring that two threads share without a lock: the two ends of a bounded pipe of bytes, without
+//! wakers.
 #![tactic(auto)]
 
 mod ends;

@@ -47,7 +47,8 @@ impl<'line> Sources<'line> {
         Ok(Sources { text, len })
     }
 
-    /// The acts, with bytes of their own. Acts whose text was accepted are refused for want of memory alone.
+    /// The acts, with bytes of their own. Acts whose text was accepted are refused for want of
+    /// memory alone.
     pub fn acts(self, alloc: Global) -> Result<ActList<SourceAct>, Stop>
         ensures acts { IfOk result (λ acts. StandsForActs self.entry.text.now acts) }
         ensures memory { IsSourcesText self.entry.text.now self.entry.len →

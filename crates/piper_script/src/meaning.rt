@@ -25,7 +25,8 @@ impl From<SaidLuck> for polling::Luck {
 }
 
 impl SaidCall<'_> {
-    /// The call of the machine that the script asks for, with bytes and acts of its own. One within the limits is
+    /// The call of the machine that the script asks for, with bytes and acts of its own. One within
+    /// the limits is
     /// refused for want of memory alone.
     pub fn to_machine(self, alloc: Global) -> Result<calls::Call, Stop>
         ensures call { IfOk result (Means self.entry) }

@@ -1,4 +1,5 @@
-//! Indices of a ring of `cap` places. They lie in `0..2 * cap`, so that a full ring differs from an empty one.
+//! Indices of a ring of `cap` places. They lie in `0..2 * cap`, so that a full ring differs from an
+//! empty one.
 ghost use Rattle.std.specs.Prelude.{◌≡◌, ◌+◌, ◌-◌, ◌*◌, ◌%◌, ◌<◌, ◌≤◌};
 ghost use Rattle.piper_sides.specs.Index.{IsCapacity, distance, place_of, advanced, turned};
 

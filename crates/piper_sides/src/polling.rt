@@ -1,6 +1,7 @@
 //! What a polling call is handed, and what it answers.
 
-/// The outcomes of a polling call that lie outside the pipe: its draw, and whether memory is granted.
+/// The outcomes of a polling call that lie outside the pipe: its draw, and whether memory is
+/// granted.
 #[derive(Clone, Copy)]
 pub struct Luck {
     /// The number drawn, below 100: a copying call yields exactly at 0.

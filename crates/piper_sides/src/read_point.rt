@@ -1,4 +1,5 @@
-//! The rows of the reader's calls: which step a point puts next, and where what that step found leads.
+//! The rows of the reader's calls: which step a point puts next, and where what that step found
+//! leads.
 //!
 //! They are inlined, so that a call whose point is known keeps none at run time.
 ghost use Rattle.std.specs.Prelude.{IsSome, ◌≡◌, ◌≢◌, ◌+◌, ◌≤◌};
@@ -74,7 +75,8 @@ pub(crate) fn is_true(purpose: Purpose) -> CallAt<ReadPoint>
 }
 
 impl ReadPoint {
-    /// Where a call begins that looks, where no byte is known (`none`) or some are: a known byte needs
+    /// Where a call begins that looks, where no byte is known (`none`) or some are: a known byte
+    /// needs
     /// no load.
     ///
     /// A polling copy is opened as one that has not drawn: `Form::Polling { is_drawn: false }`.

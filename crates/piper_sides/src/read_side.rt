@@ -1,4 +1,5 @@
-//! The reader's side: its own index, the writer's as it last saw it, and its point inside the open call.
+//! The reader's side: its own index, the writer's as it last saw it, and its point inside the open
+//! call.
 ghost use Rattle.std.specs.Prelude.{IsSome, ◌≡◌, ◌≢◌, ℕ, true, ◌*◌, ◌<◌, ◌≤◌, ◌==◌};
 ghost use Rattle.piper_sides.specs.Index.{IsCapacity, distance, place_of, advanced};
 ghost use Rattle.piper_sides.specs.Table.{moved_in, read_action, reader_looks_for};
@@ -11,7 +12,8 @@ use std::marker::Model;
 
 /// What the reader keeps. It knows no buffer, no slot, no waker and no runtime.
 ///
-/// A call is opened by `begin`. `next` then says which step the call table puts next, and `step` takes
+/// A call is opened by `begin`. `next` then says which step the call table puts next, and `step`
+/// takes
 /// in what that step found; it answers where the call ends. A step that moves an index is told by
 /// `refreshed` or `stored_head`.
 #[derive(Drop)]

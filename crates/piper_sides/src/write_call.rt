@@ -1,6 +1,7 @@
 //! The steps of a writer's open call by their names, for code that makes one behind the other.
 //!
-//! Each is a row or two of `WritePoint::step`, and says `unreachable!()` of the points that its condition
+//! Each is a row or two of `WritePoint::step`, and says `unreachable!()` of the points that its
+//! condition
 //! rules out. So the compiler knows where a call stands, and leaves nothing of it at run time.
 ghost use Rattle.std.specs.Prelude.{◌≡◌, ◌+◌, ◌^◌, ◌<◌, true, false};
 ghost use Rattle.piper_sides.specs.Table.{begins_look, goes_on, look_begun, write_action, write_step, writer_draws_behind, writer_is_true};
@@ -69,7 +70,8 @@ impl CallAt<WritePoint> {
         goes_on(CallSource(form, sum))
     }
 
-    /// Closed was loaded where a look begins, and the flag was this. No room is known (`none`), or some is.
+    /// Closed was loaded where a look begins, and the flag was this. No room is known (`none`), or
+    /// some is.
     #[inline(always)]
     pub fn looked_closed(self, none: bool, is_closed: bool) -> CallAt<WritePoint>
         requires { begins_look self.point ≡ true }
@@ -121,7 +123,8 @@ impl CallAt<WritePoint> {
         }
     }
 
-    /// The writer's own slot was emptied, behind the look of a poll or in a close, and a waker stood in it
+    /// The writer's own slot was emptied, behind the look of a poll or in a close, and a waker
+    /// stood in it
     /// or not.
     #[inline(always)]
     pub fn took_own(self, is_found: bool) -> CallAt<WritePoint>
@@ -225,7 +228,8 @@ impl CallAt<WritePoint> {
         }
     }
 
-    /// The writer's own slot was emptied behind the true look of a polling copy, which then drew whether
+    /// The writer's own slot was emptied behind the true look of a polling copy, which then drew
+    /// whether
     /// to yield.
     #[inline(always)]
     pub fn took_own_and_drew(self, is_drawn: bool) -> CallAt<WritePoint>

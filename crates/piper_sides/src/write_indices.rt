@@ -164,7 +164,8 @@ impl WriteIndices {
         }
     }
 
-    /// Lends up to `most` free places in one piece, in place of what was lent before, and answers how many.
+    /// Lends up to `most` free places in one piece, in place of what was lent before, and answers
+    /// how many.
     ///
     /// Places beyond those that were set already are to be set to zero before they are handed out.
     pub fn lend(&mut self, most: usize) -> usize

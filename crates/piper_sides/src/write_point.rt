@@ -1,4 +1,5 @@
-//! The rows of the writer's calls: which step a point puts next, and where what that step found leads.
+//! The rows of the writer's calls: which step a point puts next, and where what that step found
+//! leads.
 //!
 //! They are inlined, so that a call whose point is known keeps none at run time.
 ghost use Rattle.std.specs.Prelude.{IsSome, ◌≡◌, ◌≢◌, ℕ, ◌+◌, ◌≤◌, ◌==◌, false, true};
@@ -114,7 +115,8 @@ impl WritePoint {
         }
     }
 
-    /// Where a look goes on behind the load of closed that it begins with: no room is known (`none`), or
+    /// Where a look goes on behind the load of closed that it begins with: no room is known
+    /// (`none`), or
     /// some is.
     #[inline(always)]
     pub(crate) fn look_begun(self, none: bool, is_closed: bool) -> CallAt<WritePoint>
@@ -131,7 +133,8 @@ impl WritePoint {
         }
     }
 
-    /// Where the step leads that comes next, by what it found; whatever the capacity and the known room.
+    /// Where the step leads that comes next, by what it found; whatever the capacity and the known
+    /// room.
     #[inline(always)]
     pub(crate) fn step(self, found: Found) -> CallAt<WritePoint>
         requires fits { SumFits (write_sum self) found }
@@ -185,7 +188,8 @@ impl WritePoint {
         }
     }
 
-    /// Where the step leads that comes next in a pipe of this capacity, by what it found; no room is
+    /// Where the step leads that comes next in a pipe of this capacity, by what it found; no room
+    /// is
     /// known (`none`), or some is.
     pub(crate) fn after(self, capacity: usize, none: bool, found: Found) -> CallAt<WritePoint>
         requires fits { SumFits (write_sum self) found }

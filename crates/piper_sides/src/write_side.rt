@@ -1,4 +1,5 @@
-//! The writer's side: its own index, the reader's as it last saw it, what is lent, and its point inside the open call.
+//! The writer's side: its own index, the reader's as it last saw it, what is lent, and its point
+//! inside the open call.
 ghost use Rattle.std.specs.Prelude.{IsSome, ◌≡◌, ◌≢◌, ℕ, ◌+◌, ◌-◌, ◌*◌, ◌<◌, ◌≤◌, true, false, ◌==◌};
 ghost use Rattle.piper_sides.specs.Table.{moved_in, write_action};
 ghost use Rattle.piper_sides.specs.Index.{IsCapacity, distance, place_of, advanced};
@@ -11,8 +12,10 @@ use std::marker::Model;
 
 /// What the writer keeps. It knows no buffer, no slot, no waker and no runtime.
 ///
-/// A call is opened by `begin`. `next` then says which step the call table puts next, and `step` takes
-/// in what that step found; it answers where the call ends. A step that moves an index or shuts the pipe
+/// A call is opened by `begin`. `next` then says which step the call table puts next, and `step`
+/// takes
+/// in what that step found; it answers where the call ends. A step that moves an index or shuts the
+/// pipe
 /// is told by `refreshed`, `stored_tail` or `shut`.
 #[derive(Drop)]
 pub struct WriteSide {
@@ -94,7 +97,8 @@ impl WriteSide {
         self.indices.lendable(most)
     }
 
-    /// Lends up to `most` free places in one piece, in place of what was lent before, and answers how many.
+    /// Lends up to `most` free places in one piece, in place of what was lent before, and answers
+    /// how many.
     ///
     /// Places beyond those that were set already are to be set to zero before they are handed out.
     pub fn lend(&mut self, most: usize) -> usize

@@ -16,7 +16,11 @@ use std::io::ErrorKind;
 
 /// The bodies of a reader's frames, as a stream.
 ///
-/// A frame of more bytes than the limit is told by an error of the kind `InvalidData`, and an end inside a frame by one of the kind `UnexpectedEof`; behind either the stream ends, and `into_frames` gives what is kept. Behind another error it goes on where it was. In clauses, `frames_of` are the frames below, `frame_limit_of` the limit, and `is_over` whether the stream has ended.
+/// A frame of more bytes than the limit is told by an error of the kind `InvalidData`, and an end
+/// inside a frame by one of the kind `UnexpectedEof`; behind either the stream ends, and
+/// `into_frames` gives what is kept. Behind another error it goes on where it was. In clauses,
+/// `frames_of` are the frames below, `frame_limit_of` the limit, and `is_over` whether the stream
+/// has ended.
 #[derive(Drop)]
 pub struct FrameStream<R> {
     frames: Frames<R>,
@@ -29,7 +33,8 @@ pub struct FrameStream<R> {
 impl<R: AsyncBufRead + Drop> FrameStream<R> {
     ghost use Rattle.piper_streams.specs.FrameStream.{frames_of, frame_limit_of, is_over};
 
-    /// The frames of at most `limit` bytes, whose length is told in four bytes, the most significant first. Memory is asked for where a frame comes.
+    /// The frames of at most `limit` bytes, whose length is told in four bytes, the most
+    /// significant first. Memory is asked for where a frame comes.
     pub fn new(alloc: Global, reader: R, limit: usize) -> FrameStream<R>
         ensures reader { reader_of (frames_of result) ≡ reader }
         ensures format { format_of (frames_of result) ≡ usual_header }
@@ -62,7 +67,8 @@ impl<R: AsyncBufRead + Drop> FrameStream<R> {
         }
     }
 
-    /// Gives the frames below back, with what is kept: to skip a frame that is too long, or to take it with another limit.
+    /// Gives the frames below back, with what is kept: to skip a frame that is too long, or to take
+    /// it with another limit.
     pub fn into_frames(self) -> Frames<R>
         ensures { result ≡ frames_of self }
     {

@@ -1,4 +1,5 @@
-//! The lines or the frames of a reader as a stream of `futures`, and sinks that write what they are sent.
+//! The lines or the frames of a reader as a stream of `futures`, and sinks that write what they are
+//! sent.
 #![tactic(auto)]
 
 mod frame_stream;

@@ -13,9 +13,12 @@ use piper_lines::{LineAnswer, Lines};
 use std::alloc::Global;
 use std::fmt::{self, Debug, Formatter};
 
-/// The lines of a reader, each with the byte that ends it, as a stream; the last is what stands behind the last line.
+/// The lines of a reader, each with the byte that ends it, as a stream; the last is what stands
+/// behind the last line.
 ///
-/// A line of more bytes than the limit comes in pieces of that many. Behind an error the stream goes on where it was: what was taken of a line is kept. In clauses, `lines_of` are the lines below, `limit_of` the limit, and `ended_of` whether the end was told.
+/// A line of more bytes than the limit comes in pieces of that many. Behind an error the stream
+/// goes on where it was: what was taken of a line is kept. In clauses, `lines_of` are the lines
+/// below, `limit_of` the limit, and `ended_of` whether the end was told.
 #[derive(Drop)]
 pub struct LineStream<R> {
     lines: Lines<R>,

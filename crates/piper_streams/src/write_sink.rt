@@ -18,9 +18,12 @@ use std::alloc::Global;
 use std::fmt::{self, Debug, Formatter};
 use std::io;
 
-/// Writes each piece of bytes that it is sent as it is, whole and in order: lines with their LF, or frames.
+/// Writes each piece of bytes that it is sent as it is, whole and in order: lines with their LF, or
+/// frames.
 ///
-/// It holds one piece at a time, and asks for no memory. Where the writer's pipe is closed, the error is of the kind `BrokenPipe`; bytes that were counted in the poll that sees it closed may be lost. In clauses, `writer_of` is the writer, and `left_of` what is left of the piece.
+/// It holds one piece at a time, and asks for no memory. Where the writer's pipe is closed, the
+/// error is of the kind `BrokenPipe`; bytes that were counted in the poll that sees it closed may
+/// be lost. In clauses, `writer_of` is the writer, and `left_of` what is left of the piece.
 #[derive(Drop)]
 pub struct WriteSink<W> {
     writer: W,

@@ -155,7 +155,8 @@ fn a_frame_past_the_limit_can_be_skipped(rt: HostRuntime) -> Result<(), Fail> {
     Ok(())
 }
 
-/// Writes a frame with a header of this kind, holds what came against the bytes that are wanted, and reads it.
+/// Writes a frame with a header of this kind, holds what came against the bytes that are wanted,
+/// and reads it.
 fn header_through<H: Wait + Clone + Drop>(
     rt: &impl Abort,
     task: &MockTask,

@@ -1,4 +1,5 @@
-//! Lines and frames of a reader that is pending or fails at any one of its looks: nothing is lost, and the next poll goes on. So it does where memory is refused.
+//! Lines and frames of a reader that is pending or fails at any one of its looks: nothing is lost,
+//! and the next poll goes on. So it does where memory is refused.
 use crate::compare::{same, same_bytes};
 use crate::halting::{Halt, Halting};
 use futures::task::{Context, Poll};
@@ -40,7 +41,8 @@ impl Halts {
     }
 }
 
-/// What a poll answered, if it did, and else one more halt. Where memory was refused it is none: the poll is made again.
+/// What a poll answered, if it did, and else one more halt. Where memory was refused it is none:
+/// the poll is made again.
 fn told<A: Drop>(polled: Poll<Result<A, PipeError>>, halts: &mut Halts) -> Option<A> {
     match polled {
         Poll::Ready(Ok(answer)) => return Some(answer),
@@ -114,7 +116,8 @@ fn a_line_goes_on_behind_each_look(rt: HostRuntime) -> Result<(), Fail> {
 fn a_frame_goes_on_behind_each_look(rt: HostRuntime) -> Result<(), Fail> {
     let task = MockTask::new(&rt)?;
     for how in [Halt::Pending, Halt::Fails] {
-        // Fifteen bytes one by one, so that each look inside a body is one of them, and then the end.
+        // Fifteen bytes one by one, so that each look inside a body is one of them, and then the
+        // end.
         for last in 1..17 {
             let bytes = [0, 0, 0, 1, 7, 0, 0, 0, 0, 0, 0, 0, 2, 8, 9];
             let mut frames = Frames::new(rt.alloc(), Halting::new(&bytes, 1, how, last));

@@ -148,7 +148,8 @@ fn random_text(alloc: Global, rng: &mut Pcg32) -> Result<Vec<u8>, AllocError> {
     Ok(text)
 }
 
-/// Sends the text in random pieces, closes, and collects the lines: the last is what stands behind the last LF. Where memory is refused it polls again.
+/// Sends the text in random pieces, closes, and collects the lines: the last is what stands behind
+/// the last LF. Where memory is refused it polls again.
 fn lines_through<H: Wait + Clone + Drop>(
     task: &MockTask,
     alloc: Global,

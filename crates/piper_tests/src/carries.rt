@@ -11,7 +11,8 @@ use std::io::ErrorKind;
 use std::process::Abort;
 use std::random::RandomSource;
 
-/// A reader that lends the bytes of a slice one by one, and fails at its call `last`, counted from 1.
+/// A reader that lends the bytes of a slice one by one, and fails at its call `last`, counted from
+/// 1.
 #[derive(Drop)]
 struct Lender<'a> {
     bytes: &'a [u8],
@@ -130,18 +131,21 @@ impl AsyncWrite for Keeper {
 const BYTES: &[u8] = b"abcdefghijklmnopqrstuvwxyzabcdefghijklmnopqrstuvwxyz\
     abcdefghijklmnopqrstuvwxyzabcdefghijklmnopqrstuvwxyz";
 
-/// A copy of so many bytes, between ends of which each fails at a call, and what each poll of it must answer.
+/// A copy of so many bytes, between ends of which each fails at a call, and what each poll of it
+/// must answer.
 #[derive(Clone, Copy)]
 struct Copying<'a> {
     len: usize,
-    /// The call at which the reader fails, and the one at which the writer does. None has the number 0.
+    /// The call at which the reader fails, and the one at which the writer does. None has the
+    /// number 0.
     fails: (usize, usize),
     is_closed: bool,
     /// What each poll answers, and how many bytes were carried by then.
     polls: &'a [(Moved<Copied>, usize)],
 }
 
-/// Makes the polls of a copy. What was carried stands in the writer, and none is lost; who is pending asked for another poll.
+/// Makes the polls of a copy. What was carried stands in the writer, and none is lost; who is
+/// pending asked for another poll.
 fn carries<R>(rt: &R, copying: Copying<'_>)
 where
     R: Abort + RandomSource + AllocGlobal,
@@ -162,7 +166,8 @@ where
     }
 }
 
-/// Copies eight bytes, while the one end fails at its call `read`, or the other at its call `write`.
+/// Copies eight bytes, while the one end fails at its call `read`, or the other at its call
+/// `write`.
 fn fails_at<R>(rt: &R, read: usize, write: usize, kind: ErrorKind, carried: usize)
 where
     R: Abort + RandomSource + AllocGlobal,

@@ -1,4 +1,5 @@
-//! Copies that wait: between the pipe and slices, readers, writers, and sources and destinations of its own traits.
+//! Copies that wait: between the pipe and slices, readers, writers, and sources and destinations of
+//! its own traits.
 ghost use Rattle.std.specs.Prelude.{◌<◌, ◌*◌, ◌^◌};
 
 use crate::ends::End;
@@ -84,7 +85,8 @@ fn copies<H: Wait + Clone + Drop>(
     same(rt, &through, end.moved(), Some(moved));
 }
 
-/// A source gives a byte a call, and its call `last` fails or gives none. What it gave before stays published.
+/// A source gives a byte a call, and its call `last` fails or gives none. What it gave before stays
+/// published.
 fn fill_ends_at<H>(rt: &H, through: Through, capacity: usize, last: usize, error: Option<ErrorKind>)
 where
     H: Abort + Wait + RandomSource + AllocGlobal + Clone + Drop,
@@ -109,7 +111,8 @@ where
     pair.play(rt, &left);
 }
 
-/// Through either call, into a pipe that is full before the last call of the source and into one that is not.
+/// Through either call, into a pipe that is full before the last call of the source and into one
+/// that is not.
 fn fills_end<H>(rt: &H, fails: bool)
 where
     H: Abort + Wait + RandomSource + AllocGlobal + Clone + Drop,
@@ -133,7 +136,8 @@ fn a_source_that_gives_none_ends_a_fill(rt: HostRuntime) {
     fills_end(&rt, false);
 }
 
-/// A destination takes a byte a call of the eight of a full pipe, and its call `last` fails or takes none. What it took before is gone from the pipe.
+/// A destination takes a byte a call of the eight of a full pipe, and its call `last` fails or
+/// takes none. What it took before is gone from the pipe.
 fn drain_ends_at<H>(rt: &H, through: Through, last: usize, error: Option<ErrorKind>)
 where
     H: Abort + Wait + RandomSource + AllocGlobal + Clone + Drop,
@@ -185,7 +189,8 @@ fn a_destination_that_takes_none_ends_a_drain(rt: HostRuntime) {
     drains_end(&rt, false);
 }
 
-/// The second call of an end fails with an error of this kind, which comes out as it is, though the copy's handle knew of bytes or room before; and a call behind it goes on.
+/// The second call of an end fails with an error of this kind, which comes out as it is, though the
+/// copy's handle knew of bytes or room before; and a call behind it goes on.
 fn tells_error<H>(rt: &H, through: Through, kind: ErrorKind)
 where
     H: Abort + Wait + RandomSource + AllocGlobal + Clone + Drop,

@@ -1,4 +1,5 @@
-//! Bytes that cross from one thread to another, each of which sleeps until its waker is called: by fills and drains, by reads and writes of the traits, and by a copy from one pipe to another.
+//! Bytes that cross from one thread to another, each of which sleeps until its waker is called: by
+//! fills and drains, by reads and writes of the traits, and by a copy from one pipe to another.
 ghost use Rattle.std.specs.Prelude.{◌<◌, ◌*◌, ◌^◌};
 
 use crate::ends::byte_at;

@@ -1,4 +1,5 @@
-//! Tests of the pipe and of the ring below it, over their public calls. They stand apart from both, so that these are proved once.
+//! Tests of the pipe and of the ring below it, over their public calls. They stand apart from both,
+//! so that these are proved once.
 #![tactic(auto)]
 
 #[cfg(test)]

@@ -7,7 +7,8 @@ use std::process::Abort;
 use std::random::RandomSource;
 use std::sync::Wait;
 
-/// The reader knows of one of its three bytes, and the writer of one of its five places, unless they meet. The answer is how many bytes the writer then takes.
+/// The reader knows of one of its three bytes, and the writer of one of its five places, unless
+/// they meet. The answer is how many bytes the writer then takes.
 fn taken_after<H>(rt: &H, they_meet: bool) -> usize
 where
     H: Abort + Wait + AllocGlobal + Clone + Drop,

@@ -1,4 +1,5 @@
-//! A pipe with a task for each of its sides, and what a test makes them do. It is proved once, and a test is a list of acts.
+//! A pipe with a task for each of its sides, and what a test makes them do. It is proved once, and
+//! a test is a list of acts.
 ghost use Rattle.std.specs.Prelude.{◌<◌, ◌*◌, ◌^◌};
 ghost use Rattle.piper.specs.Handles.{ArePair};
 
@@ -95,7 +96,8 @@ pub(crate) struct Pair<H: Wait + Clone + Drop> {
     capacity: usize,
 }
 
-/// A pipe. Where memory is refused, it is asked for again: so the tests pass whichever allocation fails.
+/// A pipe. Where memory is refused, it is asked for again: so the tests pass whichever allocation
+/// fails.
 pub(crate) fn pipe_at_last<H>(rt: &H, capacity: usize) -> (Reader<H>, Writer<H>)
 where
     H: Abort + Wait + AllocGlobal + Clone + Drop,
@@ -162,7 +164,8 @@ pub(crate) fn copied<T: Drop>(polled: Poll<Result<T, PipeError>>) -> Moved<T> {
     }
 }
 
-/// Writes the bytes into lent slices and publishes them, until all are in or nothing is lent. The answer is how many are in.
+/// Writes the bytes into lent slices and publishes them, until all are in or nothing is lent. The
+/// answer is how many are in.
 fn produce<H: Wait + Clone + Drop>(writer: &mut Writer<H>, bytes: &[u8]) -> usize {
     let mut rest = bytes;
     for _ in 0..bytes.len() {

@@ -1,4 +1,5 @@
-//! Futures over the calls that wait, for handles and for any reader and writer of the traits. Each makes one call a poll, and asks for another poll where that call moved bytes.
+//! Futures over the calls that wait, for handles and for any reader and writer of the traits. Each
+//! makes one call a poll, and asks for another poll where that call moved bytes.
 ghost use Rattle.std.specs.Prelude.{◌≡◌, ◌<◌, ◌*◌, ◌^◌};
 ghost use Rattle.piper.specs.Handles.{read_source, write_source};
 
@@ -78,7 +79,8 @@ impl<H: Wait + Clone + Drop> Future for DrainAll<'_, '_, H> {
     }
 }
 
-/// Writes all bytes, or until the writer's pipe is closed, and then closes it where that is asked for.
+/// Writes all bytes, or until the writer's pipe is closed, and then closes it where that is asked
+/// for.
 #[derive(Drop)]
 pub(crate) struct WriteAll<'a, 'b, W: AsyncWrite> {
     pub(crate) writer: &'a mut W,

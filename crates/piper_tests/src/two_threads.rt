@@ -1,4 +1,5 @@
-//! Two threads that must see each other: neither alone can end these tests. None holds a lock while a slice is lent.
+//! Two threads that must see each other: neither alone can end these tests. None holds a lock while
+//! a slice is lent.
 ghost use Rattle.std.specs.Prelude.{◌≡◌};
 
 use crate::ends::byte_at;
@@ -15,7 +16,8 @@ use std::thread::Threads;
 /// The most turns that a thread makes before the test fails.
 const MOST_TURNS: u32 = 50_000_000;
 
-/// Writes bytes in pieces until `total` are in, or the other thread says stop. The answer is how many are in.
+/// Writes bytes in pieces until `total` are in, or the other thread says stop. The answer is how
+/// many are in.
 fn write_until<H: Wait + Clone + Drop>(
     writer: &mut Writer<H>,
     total: usize,
@@ -42,7 +44,8 @@ fn write_until<H: Wait + Clone + Drop>(
     sent
 }
 
-/// Reads bytes until at least `total` came, and says stop. The answer is how many came, or none where one was wrong.
+/// Reads bytes until at least `total` came, and says stop. The answer is how many came, or none
+/// where one was wrong.
 fn read_until<H: Wait + Clone + Drop>(
     reader: &mut Reader<H>,
     total: usize,
@@ -94,7 +97,8 @@ fn a_pipe_of_one_place_carries_all_bytes(rt: HostRuntime) {
     carries_by_single_bytes(&rt);
 }
 
-/// Drains what is left, at most 64 bytes, and tells how many came if each is the one that is due behind `came`.
+/// Drains what is left, at most 64 bytes, and tells how many came if each is the one that is due
+/// behind `came`.
 fn drain_rest<H: Wait + Clone + Drop>(reader: &mut Reader<H>, came: usize) -> Option<usize> {
     let mut rest = [0; 64];
     let left = reader.try_drain(&mut rest);

@@ -1,4 +1,5 @@
-//! What the Rust crate tests of its own pipe, without sleeps: a first run, reads and buffered reads across threads, and drops.
+//! What the Rust crate tests of its own pipe, without sleeps: a first run, reads and buffered reads
+//! across threads, and drops.
 use crate::crossing::{Give, Take, crosses};
 use crate::pair::{Act, plays};
 

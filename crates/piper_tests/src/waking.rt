@@ -1,4 +1,5 @@
-//! Polls, lent slices, and who is woken. A task is woken where a call of the other side changed what it waits for.
+//! Polls, lent slices, and who is woken. A task is woken where a call of the other side changed
+//! what it waits for.
 use crate::pair::{Act, Pair, Polled, plays, same, task_at_last};
 use piper::Slot;
 use std::alloc::AllocGlobal;

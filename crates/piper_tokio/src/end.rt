@@ -24,7 +24,8 @@ use std::io;
 use std::sync::Wait;
 use tokio::io::{AsyncBufRead, AsyncRead, AsyncWrite};
 
-/// An end of a duplex stream, as a reader and a writer of `tokio`. Where it is let go it closes both pipes, first the one that it writes into, and wakes who waits at the other end.
+/// An end of a duplex stream, as a reader and a writer of `tokio`. Where it is let go it closes
+/// both pipes, first the one that it writes into, and wakes who waits at the other end.
 ///
 /// In clauses, `reader` and `writer` are what `into_halves` gives.
 #[derive(Drop)]

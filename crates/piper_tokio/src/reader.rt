@@ -7,9 +7,11 @@ mod streams;
 use piper::Reader;
 use std::sync::Wait;
 
-/// The reading side of a pipe, as a reader of `tokio`. Where it is let go it closes the pipe and wakes the writer.
+/// The reading side of a pipe, as a reader of `tokio`. Where it is let go it closes the pipe and
+/// wakes the writer.
 ///
-/// In clauses, `reader` is the handle that the call of this name lends, and `shown_by` tells the bytes that `buffer` shows.
+/// In clauses, `reader` is the handle that the call of this name lends, and `shown_by` tells the
+/// bytes that `buffer` shows.
 pub struct CompatReader<H: Wait + Clone + Drop> {
     reader: Reader<H>,
     // `tokio` asks that `buffer` shows what is left of one piece and no more, until the next fill.

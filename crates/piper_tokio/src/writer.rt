@@ -17,7 +17,8 @@ use piper::{OutOfMemory, Writer};
 use std::io;
 use std::sync::Wait;
 
-/// The writing side of a pipe, as a writer of `tokio`. Where it is let go it closes the pipe and wakes the reader.
+/// The writing side of a pipe, as a writer of `tokio`. Where it is let go it closes the pipe and
+/// wakes the reader.
 ///
 /// In clauses, `writer` is the handle that the call of this name lends.
 pub struct CompatWriter<H: Wait + Clone + Drop> {

@@ -1,4 +1,5 @@
-//! An end of a duplex stream as a reader and a writer of std, which block: their thread sleeps until it is woken.
+//! An end of a duplex stream as a reader and a writer of std, which block: their thread sleeps
+//! until it is woken.
 ghost use Rattle.std.specs.Prelude.{◌≤◌, length, IfOk};
 
 use futures::Future;

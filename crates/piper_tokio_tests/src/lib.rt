@@ -1,4 +1,5 @@
-//! Tests of `tokio`, its codecs and `tungstenite` over pipes. They stand apart, so that the crate is proved once.
+//! Tests of `tokio`, its codecs and `tungstenite` over pipes. They stand apart, so that the crate
+//! is proved once.
 #![tactic(auto)]
 
 #[cfg(test)]

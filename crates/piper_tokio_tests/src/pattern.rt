@@ -1,11 +1,13 @@
-//! Bytes by a formula: a reader that makes them and a writer that compares what it is given with them, neither of which keeps any.
+//! Bytes by a formula: a reader that makes them and a writer that compares what it is given with
+//! them, neither of which keeps any.
 ghost use Rattle.std.specs.Prelude.{⊤};
 
 use futures::task::{Context, Poll};
 use std::io;
 use tokio::io::{AsyncRead, AsyncWrite};
 
-/// Spreads the numbers of the bytes, so that pieces which are lost, doubled or out of order don't look alike.
+/// Spreads the numbers of the bytes, so that pieces which are lost, doubled or out of order don't
+/// look alike.
 const SPREAD: u32 = 0x9e37_79b1;
 
 /// The byte of this number.

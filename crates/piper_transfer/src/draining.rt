@@ -21,7 +21,8 @@ use std::{io, thread};
 /// How many milliseconds it is from one look at how full the pipe is to the next.
 const LEVEL_PAUSE: u64 = 2;
 
-/// Empties the pipe as `drain` does, once the other side has begun. Where that one has not, it is given up; then the answer is `None` and nothing was done.
+/// Empties the pipe as `drain` does, once the other side has begun. Where that one has not, it is
+/// given up; then the answer is `None` and nothing was done.
 pub(crate) fn drain_from<R, D, H>(
     rt: &R,
     start: &Start,
@@ -53,7 +54,8 @@ where
 
 /// Writes the pipe's bytes to the output, at most `chunk` at a time, up to the pipe's end.
 ///
-/// Where that fails, the other side is told to end: bytes that it publishes until then stay in the pipe or are let go.
+/// Where that fails, the other side is told to end: bytes that it publishes until then stay in the
+/// pipe or are let go.
 pub(crate) fn drain<R, D, H>(
     rt: &R,
     output: &mut Output<H>,

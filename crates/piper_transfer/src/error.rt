@@ -19,7 +19,8 @@ pub enum TransferError {
     /// Memory was refused: for the pipe, or for a waker.
     #[error("out of memory")]
     Memory,
-    /// The system granted no random bytes for a thread's name of its own, or no memory for its turns.
+    /// The system granted no random bytes for a thread's name of its own, or no memory for its
+    /// turns.
     #[error("a thread can't be made to wait: {0}")]
     Turns(io::Error),
 }

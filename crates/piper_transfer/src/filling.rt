@@ -17,7 +17,8 @@ use piper::Writer;
 use std::sync::Wait;
 use std::time::Clock;
 
-/// Fills the pipe as `fill_in_turns` does, once it has told the other side that it begins. Where that one has given it up, it answers `None` and has done nothing.
+/// Fills the pipe as `fill_in_turns` does, once it has told the other side that it begins. Where
+/// that one has given it up, it answers `None` and has done nothing.
 pub(crate) fn fill_from<R, S, H>(
     rt: &R,
     start: &Start,
@@ -45,7 +46,8 @@ where
     Some(fill_in_turns(rt, turns, source, writer, chunk, meter))
 }
 
-// Reads the input into the pipe, at most `chunk` bytes at a time, up to its end, and closes the pipe.
+// Reads the input into the pipe, at most `chunk` bytes at a time, up to its end, and closes the
+// pipe.
 fn fill_in_turns<R, S, H>(
     rt: &R,
     turns: &Turns,
@@ -122,7 +124,8 @@ where
     unreachable!()
 }
 
-/// Publishes what one read gives, of at most so many bytes, and answers how many they are; 0 is the input's end.
+/// Publishes what one read gives, of at most so many bytes, and answers how many they are; 0 is the
+/// input's end.
 pub(crate) fn read_chunk<R, S, H>(
     rt: &R,
     source: &mut S,

@@ -1,4 +1,5 @@
-//! Moves bytes from a reader to a writer through a pipe: one thread reads and another writes, so neither waits for the other while the pipe has room and bytes.
+//! Moves bytes from a reader to a writer through a pipe: one thread reads and another writes, so
+//! neither waits for the other while the pipe has room and bytes.
 #![tactic(auto)]
 
 mod both_sides;

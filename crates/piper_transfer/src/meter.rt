@@ -37,7 +37,8 @@ impl Side {
         self.bytes.load(Ordering::SeqCst)
     }
 
-    /// How long it has waited for the other side, with the wait that is under way. A clock that can't be read counts none.
+    /// How long it has waited for the other side, with the wait that is under way. A clock that
+    /// can't be read counts none.
     pub fn waited<R: Wait + Clock>(&self, rt: &R) -> Duration {
         let since = *self.since.lock(rt);
         let under_way = nanoseconds_since(rt, since);

@@ -1,4 +1,5 @@
-//! Calls of an input or an output that are made again: at once where they were interrupted, and after a short sleep where they would block.
+//! Calls of an input or an output that are made again: at once where they were interrupted, and
+//! after a short sleep where they would block.
 ghost use Rattle.std.specs.Prelude.{◌≡◌, ◌<◌, length, false, Ok, OnOk, IfErr};
 ghost use Rattle.std.specs.Io.{ReadsAtMost, WritesAtMost};
 ghost use Rattle.std.specs.Io.KnownBytes.{Keeps, ReadConsumes, WriteAppends};
@@ -12,7 +13,8 @@ use std::sync::Wait;
 use std::time::{Clock, Duration};
 use std::{io, thread};
 
-/// How many milliseconds the first sleep takes. Each later one takes twice as long as the one before.
+/// How many milliseconds the first sleep takes. Each later one takes twice as long as the one
+/// before.
 const SHORTEST: u64 = 1;
 
 /// How many milliseconds a sleep takes at most.
@@ -31,7 +33,8 @@ impl Patience {
         }
     }
 
-    // Whether a call that failed so is to be made again. Where it would block, that is told after a sleep.
+    // Whether a call that failed so is to be made again. Where it would block, that is told after a
+    // sleep.
     fn outlasts(&mut self, clock: &impl Clock, error: &io::Error) -> bool
         ensures { result ≡ false → IsLasting error.now }
     {
@@ -47,7 +50,8 @@ impl Patience {
     }
 }
 
-/// Reads once. A read that gave nothing for now is made again, unless the output has ended meanwhile.
+/// Reads once. A read that gave nothing for now is made again, unless the output has ended
+/// meanwhile.
 pub(crate) fn read_patiently<R, S>(
     rt: &R,
     source: &mut S,

@@ -4,7 +4,8 @@ ghost use Rattle.std.specs.Prelude.{◌<◌, ◌≤◌};
 /// How many bytes the first read is asked for at most.
 const FIRST: usize = 65_536;
 
-/// How many bytes the next read is asked for. The place for them is zeroed in the pipe, so that is at most twice as many as the last read gave, however long a chunk may be.
+/// How many bytes the next read is asked for. The place for them is zeroed in the pipe, so that is
+/// at most twice as many as the last read gave, however long a chunk may be.
 #[derive(Clone, Copy)]
 pub(crate) struct Piece {
     chunk: usize,

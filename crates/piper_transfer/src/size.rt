@@ -13,7 +13,9 @@ const GREATEST: usize = 9_223_372_036_854_775_807;
 #[error("a size is a number of bytes from 1 to 9223372036854775807, as 4096, 64K, 16m or 2GiB")]
 pub struct NotASize;
 
-/// The number of bytes that the text writes in decimal digits, behind which may stand `K` (1,024 bytes), `M` (1,024 `K`), `G` (1,024 `M`) or `T` (1,024 `G`), also in lower case, and `iB` behind that. It is at least 1, and at most half of the greatest `usize`; nothing else is a size.
+/// The number of bytes that the text writes in decimal digits, behind which may stand `K` (1,024
+/// bytes), `M` (1,024 `K`), `G` (1,024 `M`) or `T` (1,024 `G`), also in lower case, and `iB` behind
+/// that. It is at least 1, and at most half of the greatest `usize`; nothing else is a size.
 pub fn parse_size(text: &str) -> Result<usize, NotASize>
     ensures written { IfOk result (λ n. WritesSize text.now n) }
     ensures bounds { IfOk result (λ n. (0 < n) × (n ≤ greatest)) }

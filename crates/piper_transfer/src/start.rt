@@ -13,9 +13,12 @@ enum Stage {
     GivenUp,
 }
 
-/// Tells the first thread whether the second one has begun, and the second one whether it is still waited for.
+/// Tells the first thread whether the second one has begun, and the second one whether it is still
+/// waited for.
 ///
-/// A thread that the system refuses is run behind the first one, on the same thread. So neither may wait for the other before both have begun; and where one has not begun for a while, neither does.
+/// A thread that the system refuses is run behind the first one, on the same thread. So neither may
+/// wait for the other before both have begun; and where one has not begun for a while, neither
+/// does.
 #[derive(Drop)]
 pub(crate) struct Start {
     stage: Mutex<Stage>,
@@ -41,7 +44,8 @@ impl Start {
         true
     }
 
-    /// Waits for the second thread, and gives it up once the time is over. It answers whether it has begun.
+    /// Waits for the second thread, and gives it up once the time is over. It answers whether it
+    /// has begun.
     pub(crate) fn wait(&self, rt: &(impl Wait + Clock)) -> bool {
         let held = self.stage.lock(rt);
         let pause = Duration::from_millis(PATIENCE);

@@ -6,7 +6,8 @@ use std::io;
 use std::random::RandomSource;
 use std::sync::Wait;
 
-/// The turns of one thread. It gets the first at once, and each later one when the waker was called that its last turn left.
+/// The turns of one thread. It gets the first at once, and each later one when the waker was called
+/// that its last turn left.
 #[derive(Drop)]
 pub(crate) struct Turns {
     queue: Queue,

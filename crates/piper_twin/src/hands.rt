@@ -62,7 +62,8 @@ impl<H: Wait + RandomSource + AllocGlobal + Clone + Drop> Hands<H> {
         }
     }
 
-    /// Whether only the machine plays it: single steps, a waker that cannot be made, a lend whose length the contracts
+    /// Whether only the machine plays it: single steps, a waker that cannot be made, a lend whose
+    /// length the contracts
     /// leave open, and a look at the bytes of a reader that is gone.
     pub fn is_only_machine(&self, command: &Command) -> bool {
         match command {
@@ -106,7 +107,8 @@ impl<H: Wait + RandomSource + AllocGlobal + Clone + Drop> Hands<H> {
     }
 }
 
-// Whether the line says that no waker can be made, or asks for a lend whose length the contracts leave open.
+// Whether the line says that no waker can be made, or asks for a lend whose length the contracts
+// leave open.
 fn is_open(said: &SaidCall) -> bool {
     match said {
         SaidCall::Lend(most) => *most > MOST_TO_LEND,

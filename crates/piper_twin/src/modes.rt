@@ -92,7 +92,8 @@ where
     Ok(true)
 }
 
-// Plays a script on both, and tells where the answers differ. The answer is whether it was played to its end.
+// Plays a script on both, and tells where the answers differ. The answer is whether it was played
+// to its end.
 fn play_twin<H, I: Read, O: Write>(rt: &H, input: &mut I, output: &mut O) -> Result<bool, Stop>
 where
     H: Wait + RandomSource + AllocGlobal + Clone + Drop,
@@ -136,7 +137,8 @@ where
     write_reply(&twin.handles, output)
 }
 
-// Plays so many drawn scripts on both, and tells the first difference. The answer is whether there is none.
+// Plays so many drawn scripts on both, and tells the first difference. The answer is whether there
+// is none.
 fn draw_twin<H, O: Write>(rt: &H, seed: u64, count: u64, output: &mut O) -> Result<bool, Stop>
 where
     H: Wait + RandomSource + AllocGlobal + Clone + Drop,
@@ -153,7 +155,8 @@ where
     Ok(true)
 }
 
-// Plays the script that is drawn from the seed. The answer is how many lines it has, if none differs.
+// Plays the script that is drawn from the seed. The answer is how many lines it has, if none
+// differs.
 fn play_drawn<H, O: Write>(rt: &H, seed: u64, output: &mut O) -> Result<Option<u64>, Stop>
 where
     H: Wait + RandomSource + AllocGlobal + Clone + Drop,

@@ -32,7 +32,8 @@ impl Drawn {
         self.rng.next_word() % bound
     }
 
-    /// Writes a line that makes a new pipe: mostly a small one, at times one of several rounds of a copy.
+    /// Writes a line that makes a new pipe: mostly a small one, at times one of several rounds of a
+    /// copy.
     pub fn write_pipe(&mut self, line: &mut String) -> Result<(), AllocError> {
         self.capacity = match self.below(200) {
             0 => 131_072 + self.below(80_000),

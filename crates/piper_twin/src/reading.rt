@@ -12,7 +12,8 @@ use piper_sides::polling::Polled;
 use piper_sides::scripted::{DestAct, Failed};
 use std::sync::Wait;
 
-/// Makes a call without a waker, and answers what it answers. Bytes that it takes go to the front of `dest`.
+/// Makes a call without a waker, and answers what it answers. Bytes that it takes go to the front
+/// of `dest`.
 pub fn at_once<H: Wait + Clone + Drop>(
     reader: &mut Reader<H>,
     call: &Call,
@@ -35,7 +36,8 @@ pub fn at_once<H: Wait + Clone + Drop>(
     })
 }
 
-/// Makes a call as this task, and answers what it answers. Bytes that it takes go to the front of `dest`.
+/// Makes a call as this task, and answers what it answers. Bytes that it takes go to the front of
+/// `dest`.
 pub fn as_task<H: Wait + Clone + Drop>(
     reader: &mut Reader<H>,
     task: &MockTask,

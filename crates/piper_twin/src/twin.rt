@@ -10,7 +10,8 @@ use std::alloc::AllocGlobal;
 use std::random::RandomSource;
 use std::sync::Wait;
 
-/// A machine and handles on which the same script is played, and what each answered to the last line.
+/// A machine and handles on which the same script is played, and what each answered to the last
+/// line.
 #[derive(Drop)]
 pub struct Twin<H: Wait + Clone + Drop> {
     player: Player,
@@ -31,7 +32,8 @@ pub enum Compared {
 }
 
 impl<H: Wait + RandomSource + AllocGlobal + Clone + Drop> Twin<H> {
-    /// Neither has a pipe. What the handles draw goes by the seed, and the machine is told the same.
+    /// Neither has a pipe. What the handles draw goes by the seed, and the machine is told the
+    /// same.
     pub fn new(rt: H, seed: u64) -> Twin<H> {
         let alloc = rt.alloc();
         Twin {

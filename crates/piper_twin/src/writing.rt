@@ -10,7 +10,8 @@ use piper_sides::calls::{Call, Query};
 use piper_sides::events::Answer;
 use std::sync::Wait;
 
-/// Makes a call without a waker, and answers what it answers. `lent` is how much is left of what is lent.
+/// Makes a call without a waker, and answers what it answers. `lent` is how much is left of what is
+/// lent.
 pub fn at_once<H: Wait + Clone + Drop>(
     writer: &mut Writer<H>,
     lent: &mut usize,

@@ -1,4 +1,5 @@
-//! Replays scripts to which the answers are known, on the machine and on the handles, and tells how many are answered alike.
+//! Replays scripts to which the answers are known, on the machine and on the handles, and tells how
+//! many are answered alike.
 #![tactic(auto)]
 
 use anyhow::Context;
@@ -11,7 +12,8 @@ use std::random::RandomSource;
 use std::sync::Wait;
 use std::{fs, io, str};
 
-/// The scripts that the Rust crate answered. Each file lies where the program runs, and has one script a line.
+/// The scripts that the Rust crate answered. Each file lies where the program runs, and has one
+/// script a line.
 const OF_THE_CRATE: [&str; 1] = ["upstream-play.jsonl"];
 
 /// The scripts that the page of the language answers, in a file for each subject.

@@ -1,4 +1,6 @@
-//! A client that proves of itself that all bytes arrive in order: what came is a beginning of what was sent. Its proof is a lemma on beginnings of lists; the rest follows from what the calls of the pipe promise.
+//! A client that proves of itself that all bytes arrive in order: what came is a beginning of what
+//! was sent. Its proof is a lemma on beginnings of lists; the rest follows from what the calls of
+//! the pipe promise.
 #![tactic(auto)]
 
 ghost use Rattle.std.specs.Prelude.{◌≡◌, ◌<◌, ◌*◌, ◌^◌, ◌≤◌, ◌+◌, take, length, IfOk};

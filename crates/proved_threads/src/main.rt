@@ -1,4 +1,6 @@
-//! A client of two threads that proves of itself that all bytes arrive in order. The thread that writes hands its last mark back, and by that alone, with no more than the reader in hand, what came is a beginning of what was sent.
+//! A client of two threads that proves of itself that all bytes arrive in order. The thread that
+//! writes hands its last mark back, and by that alone, with no more than the reader in hand, what
+//! came is a beginning of what was sent.
 #![tactic(auto)]
 
 ghost use Rattle.std.specs.Prelude.{◌≡◌, ℕ, ◌≤◌, ◌<◌, [], length, take, IfOk, true};
@@ -14,7 +16,8 @@ use std::{io, thread};
 /// How many bytes the pipe holds: fewer than are sent, so the threads take turns.
 const CAPACITY: usize = 4;
 
-/// What the thread that writes promises of its last mark: it is of the pipe that `pipe` is a mark of, and tells a beginning of `bytes`.
+/// What the thread that writes promises of its last mark: it is of the pipe that `pipe` is a mark
+/// of, and tells a beginning of `bytes`.
 #[derive(Drop)]
 struct SendsFront {
     pipe: WriteMark,
@@ -26,7 +29,8 @@ impl Promise<WriteMark> for SendsFront {
         TellsFront promise.pipe.names last.names promise.bytes.now last.bytes last.shut };
 }
 
-/// Publishes `bytes` in order, up to the last or to the pipe's close, and drops the writer. The answer is its last mark.
+/// Publishes `bytes` in order, up to the last or to the pipe's close, and drops the writer. The
+/// answer is its last mark.
 fn send_all<H: Wait + Clone + Drop>(rt: &H, writer: OwnedWriter<H>, bytes: &[u8]) -> WriteMark
     requires { writer.writer.end.sent ≡ [] }
     ensures { TellsFront writer.writer.end.ring.1.1 result.names
@@ -44,7 +48,8 @@ fn send_all<H: Wait + Clone + Drop>(rt: &H, writer: OwnedWriter<H>, bytes: &[u8]
     writer.drop().told
 }
 
-/// Takes bytes to the front of `place` until it is full or the pipe has ended, and answers how many.
+/// Takes bytes to the front of `place` until it is full or the pipe has ended, and answers how
+/// many.
 fn receive_all<H: Wait + Clone + Drop>(
     rt: &H,
     reader: &mut OwnedReader<H>,

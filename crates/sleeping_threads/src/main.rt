@@ -1,4 +1,5 @@
-//! Two threads share a pipe, and each polls its side by hand. It sleeps where there is nothing to do, until a call of the other side wakes it.
+//! Two threads share a pipe, and each polls its side by hand. It sleeps where there is nothing to
+//! do, until a call of the other side wakes it.
 #![tactic(auto)]
 
 ghost use Rattle.std.specs.Prelude.{◌≡◌};

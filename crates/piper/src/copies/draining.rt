@@ -31,7 +31,13 @@ impl<H: Wait + Clone + Drop> Reader<H> {
 
     /// Moves known bytes into a writer, and answers how many that took.
     ///
-    /// It begins with the look of `poll`: 0 is the end of a closed pipe, or says that the writer took none, and where nothing is known the call is pending, or wants memory. Once in a hundred calls, as the reader's generator draws, it yields in place of the rounds: it moves nothing and asks for another poll. A round hands the writer at most 131,072 bytes in one piece; the rounds end once nothing is known or the writer takes none. Where the writer fails, what it took in the rounds before stays taken, and its error is answered; no clause can tell that error.
+    /// It begins with the look of `poll`: 0 is the end of a closed pipe, or says that the writer
+    /// took none, and where nothing is known the call is pending, or wants memory. Once in a
+    /// hundred calls, as the reader's generator draws, it yields in place of the rounds: it moves
+    /// nothing and asks for another poll. A round hands the writer at most 131,072 bytes in one
+    /// piece; the rounds end once nothing is known or the writer takes none. Where the writer
+    /// fails, what it took in the rounds before stays taken, and its error is answered; no clause
+    /// can tell that error.
     pub fn poll_drain<W: Write>(
         &mut self,
         cx: &mut Context<'_>,
@@ -63,9 +69,11 @@ impl<H: Wait + Clone + Drop> Reader<H> {
         }
     }
 
-    /// Moves known bytes into the front of `dest`, and answers how many: as many as its look left known and as fit.
+    /// Moves known bytes into the front of `dest`, and answers how many: as many as its look left
+    /// known and as fit.
     ///
-    /// It looks, draws and waits as `poll_drain` does: 0 is the end of a closed pipe, or `dest` has no room and a byte is known.
+    /// It looks, draws and waits as `poll_drain` does: 0 is the end of a closed pipe, or `dest` has
+    /// no room and a byte is known.
     pub fn poll_drain_bytes(
         &mut self,
         cx: &mut Context<'_>,
@@ -102,7 +110,8 @@ impl<H: Wait + Clone + Drop> Reader<H> {
         }
     }
 
-    /// Moves known bytes into the front of `dest`, as many as fit, and answers how many. It looks for more only where none is known, and doesn't wait: 0 is no end.
+    /// Moves known bytes into the front of `dest`, as many as fit, and answers how many. It looks
+    /// for more only where none is known, and doesn't wait: 0 is no end.
     pub fn try_drain(&mut self, dest: &mut [u8]) -> usize
         ensures count { result ≤ length dest.old }
         ensures rest { drop result dest.new ≡ drop result dest.old }
@@ -126,9 +135,12 @@ impl<H: Wait + Clone + Drop> Reader<H> {
         }
     }
 
-    /// Moves known bytes into any destination. With a context it does so as `poll_drain` does into a writer; without one it registers no task and doesn't draw: it is pending where the look knows of no byte and didn't see the pipe closed.
+    /// Moves known bytes into any destination. With a context it does so as `poll_drain` does into
+    /// a writer; without one it registers no task and doesn't draw: it is pending where the look
+    /// knows of no byte and didn't see the pipe closed.
     ///
-    /// A failure is the destination's own error: what it took in the rounds before stays taken, and nothing else moved.
+    /// A failure is the destination's own error: what it took in the rounds before stays taken, and
+    /// nothing else moved.
     #[inline(always)]
     pub fn drain_inner<W: WriteLike>(
         &mut self,
@@ -199,7 +211,8 @@ impl<H: Wait + Clone + Drop> Reader<H> {
         self.drain_rounds(call, Form::Polling { is_drawn: false }, dest)
     }
 
-    // The draw behind the look, and whether the copy yields. A waker that may stand in the reader's slot is let go first.
+    // The draw behind the look, and whether the copy yields. A waker that may stand in the reader's
+    // slot is let go first.
     #[inline(always)]
     fn empty_own_and_draw(&mut self, call: ReadCall) -> (ReadCall, bool)
         requires next { call.point ≡ ReadPoint.LookTake (Purpose.Copy (Form.Polling false)) }
@@ -284,7 +297,8 @@ impl<H: Wait + Clone + Drop> Reader<H> {
         Err(copied(call.end()))
     }
 
-    // The look of a drain that doesn't wait: its open call once a byte is known, or what it answers, pending where it would wait.
+    // The look of a drain that doesn't wait: its open call once a byte is known, or what it
+    // answers, pending where it would wait.
     #[inline(always)]
     fn look_at_once<E>(&mut self) -> Result<ReadCall, Poll<Result<usize, Inner<E>>>>
         ensures found { IfOk result (λ call.
@@ -319,7 +333,8 @@ impl<H: Wait + Clone + Drop> Reader<H> {
         })
     }
 
-    // Hands known bytes to the destination in rounds, each in one piece, until none is known or it takes none.
+    // Hands known bytes to the destination in rounds, each in one piece, until none is known or it
+    // takes none.
     #[inline(always)]
     fn drain_rounds<W: WriteLike>(
         &mut self,

@@ -30,7 +30,14 @@ impl<H: Wait + Clone + Drop> Writer<H> {
 
     /// Publishes bytes that a reader gives, and answers how many it gave.
     ///
-    /// It begins with the look of `poll`: 0 says that the pipe is closed, or that the reader gave none, and where no room is known the call is pending, or wants memory. Once in a hundred calls, as the writer's generator draws, it yields in place of the rounds: it moves nothing and asks for another poll. A round lends the reader at most 131,072 places in one piece; the rounds end once there is no room, the reader gives none, or the pipe is seen closed, and what was given in that last round is counted and lost. Where the reader fails, what it gave in the rounds before stays published, and its error is answered; no clause can tell that error. Nothing is lent afterwards.
+    /// It begins with the look of `poll`: 0 says that the pipe is closed, or that the reader gave
+    /// none, and where no room is known the call is pending, or wants memory. Once in a hundred
+    /// calls, as the writer's generator draws, it yields in place of the rounds: it moves nothing
+    /// and asks for another poll. A round lends the reader at most 131,072 places in one piece; the
+    /// rounds end once there is no room, the reader gives none, or the pipe is seen closed, and
+    /// what was given in that last round is counted and lost. Where the reader fails, what it gave
+    /// in the rounds before stays published, and its error is answered; no clause can tell that
+    /// error. Nothing is lent afterwards.
     pub fn poll_fill<R: Read>(
         &mut self,
         cx: &mut Context<'_>,
@@ -59,9 +66,13 @@ impl<H: Wait + Clone + Drop> Writer<H> {
         }
     }
 
-    /// Publishes bytes from the front of `bytes`, and answers how many: as many as there is room for once it looked, and all of them if they fit.
+    /// Publishes bytes from the front of `bytes`, and answers how many: as many as there is room
+    /// for once it looked, and all of them if they fit.
     ///
-    /// It looks, draws and waits as `poll_fill` does: 0, where there are some, says that the pipe is closed, and so does each later answer. Where the pipe is seen closed only once some bytes were taken, the last of them, at most one round, are counted and lost. Nothing is lent afterwards.
+    /// It looks, draws and waits as `poll_fill` does: 0, where there are some, says that the pipe
+    /// is closed, and so does each later answer. Where the pipe is seen closed only once some bytes
+    /// were taken, the last of them, at most one round, are counted and lost. Nothing is lent
+    /// afterwards.
     pub fn poll_fill_bytes(
         &mut self,
         cx: &mut Context<'_>,
@@ -99,9 +110,12 @@ impl<H: Wait + Clone + Drop> Writer<H> {
         }
     }
 
-    /// Publishes bytes from the front of `bytes`, as many as there is room for, and answers how many it took. It looks for more room only where none is known, and doesn't wait. Nothing is lent afterwards.
+    /// Publishes bytes from the front of `bytes`, as many as there is room for, and answers how
+    /// many it took. It looks for more room only where none is known, and doesn't wait. Nothing is
+    /// lent afterwards.
     ///
-    /// A closed pipe takes none. Where the pipe is seen closed only once some bytes were taken, the last of them, at most one round, are counted and not published.
+    /// A closed pipe takes none. Where the pipe is seen closed only once some bytes were taken, the
+    /// last of them, at most one round, are counted and not published.
     pub fn try_fill(&mut self, bytes: &[u8]) -> usize
         ensures count { result ≤ length bytes.now }
         ensures sent { self.new.end.saw ≡ false →
@@ -128,9 +142,12 @@ impl<H: Wait + Clone + Drop> Writer<H> {
         }
     }
 
-    /// Publishes bytes that any source gives. With a context it does so as `poll_fill` does those of a reader; without one it registers no task and doesn't draw: it is pending where the look knows of no room and didn't see the pipe closed.
+    /// Publishes bytes that any source gives. With a context it does so as `poll_fill` does those
+    /// of a reader; without one it registers no task and doesn't draw: it is pending where the look
+    /// knows of no room and didn't see the pipe closed.
     ///
-    /// A failure is the source's own error: what it gave in the rounds before stays published, and nothing else moved.
+    /// A failure is the source's own error: what it gave in the rounds before stays published, and
+    /// nothing else moved.
     #[inline(always)]
     pub fn fill_inner<R: ReadLike>(
         &mut self,
@@ -201,7 +218,8 @@ impl<H: Wait + Clone + Drop> Writer<H> {
         self.fill_rounds(call, Form::Polling { is_drawn: false }, source)
     }
 
-    // The draw behind the look, and whether the copy yields. A waker that may stand in the writer's slot is let go first.
+    // The draw behind the look, and whether the copy yields. A waker that may stand in the writer's
+    // slot is let go first.
     #[inline(always)]
     fn empty_own_and_draw(&mut self, call: WriteCall) -> (WriteCall, bool)
         requires next { call.point ≡ WritePoint.LookTake (Purpose.Copy (Form.Polling false)) }
@@ -285,7 +303,8 @@ impl<H: Wait + Clone + Drop> Writer<H> {
         Err(copied(call.end()))
     }
 
-    // The look of a fill that doesn't wait: its open call once there is room, or what it answers, pending where it would wait.
+    // The look of a fill that doesn't wait: its open call once there is room, or what it answers,
+    // pending where it would wait.
     #[inline(always)]
     fn look_at_once<E>(&mut self) -> Result<WriteCall, Poll<Result<usize, Inner<E>>>>
         ensures found { IfOk result (λ call. call ≡ goes_on (WritePoint.CallSource Form.Try 0)) }
@@ -321,7 +340,8 @@ impl<H: Wait + Clone + Drop> Writer<H> {
         })
     }
 
-    // Publishes what the source gives in rounds, each in one piece, until there is no room, it gives none, or the pipe is seen closed.
+    // Publishes what the source gives in rounds, each in one piece, until there is no room, it
+    // gives none, or the pipe is seen closed.
     #[inline(always)]
     fn fill_rounds<R: ReadLike>(
         &mut self,

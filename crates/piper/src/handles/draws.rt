@@ -15,7 +15,8 @@ use rand_pcg::Pcg32;
 use std::sync::Wait;
 
 impl<H: Wait + Clone + Drop> Reader<H> {
-    /// Behind the true look of a polling copy, where the reader's slot is known to be empty: draws, and tells whether the copy yields. Else the call stays where it is, and nothing was drawn.
+    /// Behind the true look of a polling copy, where the reader's slot is known to be empty: draws,
+    /// and tells whether the copy yields. Else the call stays where it is, and nothing was drawn.
     #[inline(always)]
     pub(crate) fn skip_own_and_draw(&mut self, call: ReadCall) -> Result<(ReadCall, bool), ReadCall>
         requires next { call.point ≡ ReadPoint.LookTake (Purpose.Copy (Form.Polling false)) }
@@ -35,7 +36,8 @@ impl<H: Wait + Clone + Drop> Reader<H> {
         Ok((call.took_own_and_drew(is_drawn), is_drawn))
     }
 
-    /// Empties the reader's slot behind the true look of a polling copy, unless the slot is known to be empty; then draws, and tells whether the copy yields.
+    /// Empties the reader's slot behind the true look of a polling copy, unless the slot is known
+    /// to be empty; then draws, and tells whether the copy yields.
     pub(crate) fn take_own_and_draw(
         &mut self,
         call: ReadCall,
@@ -62,7 +64,8 @@ impl<H: Wait + Clone + Drop> Reader<H> {
 }
 
 impl<H: Wait + Clone + Drop> Writer<H> {
-    /// Behind the true look of a polling copy, where the writer's slot is known to be empty: draws, and tells whether the copy yields. Else the call stays where it is, and nothing was drawn.
+    /// Behind the true look of a polling copy, where the writer's slot is known to be empty: draws,
+    /// and tells whether the copy yields. Else the call stays where it is, and nothing was drawn.
     #[inline(always)]
     pub(crate) fn skip_own_and_draw(
         &mut self,
@@ -85,7 +88,8 @@ impl<H: Wait + Clone + Drop> Writer<H> {
         Ok((call.took_own_and_drew(is_drawn), is_drawn))
     }
 
-    /// Empties the writer's slot behind the true look of a polling copy, unless the slot is known to be empty; then draws, and tells whether the copy yields.
+    /// Empties the writer's slot behind the true look of a polling copy, unless the slot is known
+    /// to be empty; then draws, and tells whether the copy yields.
     pub(crate) fn take_own_and_draw(
         &mut self,
         call: WriteCall,

@@ -1,4 +1,5 @@
-//! The steps of the reader: one function for each kind, which makes the one access of its end or of a slot and takes the open call one step on.
+//! The steps of the reader: one function for each kind, which makes the one access of its end or of
+//! a slot and takes the open call one step on.
 ghost use Rattle.std.specs.Prelude.{◌≡◌, ◌≤◌, ◌++◌, ◌↔◌, length, take, drop, IsTrue, IsFalse, IfOk, IfErr, true, false};
 ghost use Rattle.std.specs.Arc.{arc_value};
 ghost use Rattle.futures.specs.Task.{Covers, Keeps};
@@ -116,7 +117,8 @@ impl<H: Wait + Clone + Drop> Reader<H> {
         call.stored_head(n)
     }
 
-    /// Behind the look of a poll, where the reader's slot is known to be empty: the step is made, and no access. Else the call stays where it is.
+    /// Behind the look of a poll, where the reader's slot is known to be empty: the step is made,
+    /// and no access. Else the call stays where it is.
     #[inline(always)]
     pub(crate) fn skip_own(&self, call: ReadCall) -> Result<ReadCall, ReadCall>
         requires next { read_action call.point ≡ Action.Take Side.Reader }
@@ -131,7 +133,8 @@ impl<H: Wait + Clone + Drop> Reader<H> {
         Ok(call.took_own())
     }
 
-    /// Empties the writer's slot where no waker stands in it, which takes no lock. Where one stands there, the call stays where it is.
+    /// Empties the writer's slot where no waker stands in it, which takes no lock. Where one stands
+    /// there, the call stays where it is.
     #[inline(always)]
     pub(crate) fn find_no_writer(&mut self, call: ReadCall) -> Result<ReadCall, ReadCall>
         requires next { read_action call.point ≡ Action.Take Side.Writer }
@@ -167,7 +170,8 @@ impl<H: Wait + Clone + Drop> Reader<H> {
         call
     }
 
-    /// Stores closed as it lets the end go, and gives the evidence of that: its last mark. The slots are left, and what their locks are waited for with.
+    /// Stores closed as it lets the end go, and gives the evidence of that: its last mark. The
+    /// slots are left, and what their locks are waited for with.
     pub(crate) fn store_closed(self, call: ReadCall) -> (ReadCall, LastReadMark, Arc<Slots>, H)
         requires next { read_action call.point ≡ Action.StoreClosed false }
         ensures step { result.0 ≡ read_step call.point Found.Nothing }

@@ -1,4 +1,5 @@
-//! The steps of the writer: one function for each kind, which makes the one access of its end or of a slot and takes the open call one step on.
+//! The steps of the writer: one function for each kind, which makes the one access of its end or of
+//! a slot and takes the open call one step on.
 ghost use Rattle.std.specs.Prelude.{◌≡◌, ◌+◌, ◌≤◌, ◌++◌, ◌↔◌, length, take, drop, IsTrue, IsFalse, IfOk, IfErr, true, false};
 ghost use Rattle.std.specs.Arc.{arc_value};
 ghost use Rattle.futures.specs.Task.{Covers, Keeps};
@@ -20,7 +21,8 @@ use std::sync::{Arc, Wait};
 impl<H: Wait + Clone + Drop> Writer<H> {
     ghost use Rattle.piper.specs.Handles.{NotifiesReader, SameWriter, SameWriterButWoke, write_source};
 
-    /// Loads closed where a look begins, and tells what the flag was, and whether no room is known. A pipe that the writer closed is closed.
+    /// Loads closed where a look begins, and tells what the flag was, and whether no room is known.
+    /// A pipe that the writer closed is closed.
     #[inline(always)]
     pub(crate) fn look_closed(&mut self, call: WriteCall) -> (WriteCall, bool, bool)
         requires next { write_action call.point ≡ Action.LoadClosed }
@@ -38,7 +40,8 @@ impl<H: Wait + Clone + Drop> Writer<H> {
         (call.looked_closed(none, is_closed), is_closed, none)
     }
 
-    /// Loads closed at the end of a look or in a round, and tells what the flag was. A pipe that the writer closed is closed.
+    /// Loads closed at the end of a look or in a round, and tells what the flag was. A pipe that
+    /// the writer closed is closed.
     #[inline(always)]
     pub(crate) fn load_closed(&mut self, call: WriteCall) -> (WriteCall, bool)
         requires next { write_action call.point ≡ Action.LoadClosed }
@@ -85,7 +88,8 @@ impl<H: Wait + Clone + Drop> Writer<H> {
         (call.registered(self.is_registered), self.is_registered)
     }
 
-    /// Empties the writer's slot behind the look of a poll or in a close, unless the slot is known to be empty.
+    /// Empties the writer's slot behind the look of a poll or in a close, unless the slot is known
+    /// to be empty.
     #[inline(always)]
     pub(crate) fn take_own(&mut self, call: WriteCall) -> (WriteCall, Option<Taken<()>>)
         requires next { write_action call.point ≡ Action.Take Side.Writer }
@@ -141,7 +145,8 @@ impl<H: Wait + Clone + Drop> Writer<H> {
         call.stored_closed(true)
     }
 
-    /// Behind the look of a poll, where the writer's slot is known to be empty: the step is made, and no access. Else the call stays where it is.
+    /// Behind the look of a poll, where the writer's slot is known to be empty: the step is made,
+    /// and no access. Else the call stays where it is.
     #[inline(always)]
     pub(crate) fn skip_own(&self, call: WriteCall) -> Result<WriteCall, WriteCall>
         requires next { write_action call.point ≡ Action.Take Side.Writer }
@@ -156,7 +161,8 @@ impl<H: Wait + Clone + Drop> Writer<H> {
         Ok(call.took_own(false))
     }
 
-    /// Empties the reader's slot where no waker stands in it, which takes no lock. Where one stands there, the call stays where it is.
+    /// Empties the reader's slot where no waker stands in it, which takes no lock. Where one stands
+    /// there, the call stays where it is.
     #[inline(always)]
     pub(crate) fn find_no_reader(&mut self, call: WriteCall) -> Result<WriteCall, WriteCall>
         requires next { write_action call.point ≡ Action.Take Side.Reader }
@@ -192,7 +198,8 @@ impl<H: Wait + Clone + Drop> Writer<H> {
         call
     }
 
-    /// Stores closed as it lets the end go, and gives the evidence of that: its last mark. The slots are left, and what their locks are waited for with.
+    /// Stores closed as it lets the end go, and gives the evidence of that: its last mark. The
+    /// slots are left, and what their locks are waited for with.
     pub(crate) fn store_closed(self, call: WriteCall) -> (WriteCall, WriteMark, Arc<Slots>, H)
         requires next { write_action call.point ≡ Action.StoreClosed false }
         ensures step { result.0 ≡ write_step call.point Found.Nothing }

@@ -20,9 +20,12 @@ pub enum Copied {
     UntilClosed,
 }
 
-/// Copies all bytes from the reader to the writer, in order, up to the end of the one, the close of the other, or the first error.
+/// Copies all bytes from the reader to the writer, in order, up to the end of the one, the close of
+/// the other, or the first error.
 ///
-/// After 64 pieces it asks for another poll. After an answer other than that the writer's pipe is closed, all that was taken is published, and the next poll goes on from there. Of a reader that was told of the end it doesn't wait for bytes.
+/// After 64 pieces it asks for another poll. After an answer other than that the writer's pipe is
+/// closed, all that was taken is published, and the next poll goes on from there. Of a reader that
+/// was told of the end it doesn't wait for bytes.
 pub fn poll_copy<R: AsyncBufRead, W: AsyncWrite>(
     cx: &mut Context<'_>,
     reader: &mut R,

@@ -1,4 +1,5 @@
-//! The traits of readers and writers, for an end. Each call is that call of one of its handles, and leaves the other as it is.
+//! The traits of readers and writers, for an end. Each call is that call of one of its handles, and
+//! leaves the other as it is.
 ghost use Rattle.std.specs.Prelude.{◌≡◌, ◌<◌, ◌≤◌, ◌++◌, [], length, take, drop, true, false, Ok};
 ghost use Rattle.std.specs.Borrow.{sem};
 ghost use Rattle.std.specs.Io.BufRead.{Rests};

@@ -16,9 +16,13 @@ use futures::task::{Context, Poll};
 use piper::PipeError;
 use piper::io::AsyncBufRead;
 
-/// Appends the frames of the reader to `out`, up to its end or to a frame of more than `limit` bytes.
+/// Appends the frames of the reader to `out`, up to its end or to a frame of more than `limit`
+/// bytes.
 ///
-/// Of a frame past the limit no byte is taken: the caller can skip it and poll again, or ask again with another limit. Memory is asked for before bytes are taken: after an error, as where it is pending, `out` has each frame that was handed out, and the next poll goes on from there. After 64 frames it asks for another poll.
+/// Of a frame past the limit no byte is taken: the caller can skip it and poll again, or ask again
+/// with another limit. Memory is asked for before bytes are taken: after an error, as where it is
+/// pending, `out` has each frame that was handed out, and the next poll goes on from there. After
+/// 64 frames it asks for another poll.
 pub fn poll_frames<R: AsyncBufRead>(
     frames: &mut Frames<R>,
     cx: &mut Context<'_>,

@@ -17,9 +17,12 @@ use futures::task::{Context, Poll};
 use piper::PipeError;
 use piper::io::AsyncBufRead;
 
-/// Appends the lines of the reader to `out`, up to its end, and answers what stands behind the last line.
+/// Appends the lines of the reader to `out`, up to its end, and answers what stands behind the last
+/// line.
 ///
-/// A line of more than `limit` bytes comes in pieces of that many. Memory is asked for before bytes are taken: after an error, as where it is pending, `out` has each line that was handed out, and the next poll goes on from there. After 64 lines it asks for another poll.
+/// A line of more than `limit` bytes comes in pieces of that many. Memory is asked for before bytes
+/// are taken: after an error, as where it is pending, `out` has each line that was handed out, and
+/// the next poll goes on from there. After 64 lines it asks for another poll.
 pub fn poll_lines<R: AsyncBufRead>(
     lines: &mut Lines<R>,
     cx: &mut Context<'_>,

@@ -50,7 +50,8 @@ yield_whole = (refl, refl, refl, refl)
 fill_whole : ((whole [] (call.TryFill (1 to 2)) full).answer ≡ answer.Count 0) × ((whole [] (call.TryFill (1 to 6)) (fresh 4)).answer ≡ answer.Count 4)
 fill_whole = (refl, refl)
 
--- what their looks find: the reader has not looked yet, the writer of the full pipe finds no place, and that of the empty one knows of four
+-- what their looks find: the reader has not looked yet, the writer of the full pipe finds no place,
+-- and that of the empty one knows of four
 found_by_the_looks : (found_alone Reader full ≡ 4) × (found_alone Writer full ≡ 0) × (found_alone Writer (fresh 4) ≡ 4)
 found_by_the_looks = (refl, refl, refl)
 

@@ -1,4 +1,5 @@
--- A fill whose pipe is closed between its round and its look: what its source gave is counted, and not published.
+-- A fill whose pipe is closed between its round and its look: what its source gave is counted, and
+-- not published.
 use Rattle.std.specs.Prelude.{◌≡◌, List, [], ◌∷◌, ◌++◌, true, false, None, refl}
 use Rattle.piper_sides.specs.declared.calls.Side.TheVariants.{Reader, Writer}
 use Rattle.piper_sides.specs.declared.calls.Kind.TheVariants as kind
@@ -20,7 +21,8 @@ its_last_look_found_it = refl
 published_behind_it : IsHeeded (up_to_its_look ++ Published (7 ∷ []) ∷ []) → ⊥
 published_behind_it heeded = absurd (let never : true ≡ false = heeded up_to_its_look [] (7 ∷ []) refl in cc)
 
--- the close alone stops nobody who has not looked: what was lent before it can be published, and a new call looks afresh
+-- the close alone stops nobody who has not looked: what was lent before it can be published, and a
+-- new call looks afresh
 published_before_the_look : saw_closed Writer (Began Writer kind.TryFill None ∷ Looked Writer (seen.Closed false) ∷ Closed Reader ∷ []) ≡ false
 published_before_the_look = refl
 

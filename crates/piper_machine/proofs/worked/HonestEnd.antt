@@ -1,4 +1,5 @@
--- A poll that tells the reader false, what the log says of its last look, and who stands where on the way.
+-- A poll that tells the reader false, what the log says of its last look, and who stands where on
+-- the way.
 use Rattle.std.specs.Prelude.{◌≡◌, List, [], ◌∷◌, ◌++◌, take, true, false, None, Some, refl}
 use Rattle.piper_sides.specs.declared.calls.Side.TheVariants.{Reader, Writer}
 use Rattle.piper_sides.specs.declared.calls.Call.TheVariants as call
@@ -16,7 +17,8 @@ use Rattle.piper_machine.specs.Waiting.{IsBlocked, stands_between}
 use Rattle.piper_machine.proofs.worked.Script.{by}
 use Rattle.piper_machine.proofs.worked.StepScript.{gone}
 
--- The reader registers, and only then the writer is dropped: it takes the reader's waker and calls it.
+-- The reader registers, and only then the writer is dropped: it takes the reader's waker and calls
+-- it.
 abbrev dropped_while_it_looks : List Step
 dropped_while_it_looks =
     Begin (call.Poll Reader 1 (by 1).luck) ∷ Go Reader ∷ Go Reader
@@ -37,7 +39,8 @@ told_behind_the_last_look :
     × ((history_from unwritten logged_up_to_the_end).last_look ≡ Some (record { count = 0; is_after_close = true }))
 told_behind_the_last_look = (refl, refl)
 
--- Behind each of these the reader may not be told false: the close came after the look, a byte was found, or the call has
+-- Behind each of these the reader may not be told false: the close came after the look, a byte was
+-- found, or the call has
 -- not looked yet.
 abbrev first_look : List Event
 first_look = Began Reader kind.Poll (Some 1) ∷ Looked Reader (seen.Tail 0) ∷ Closed Writer ∷ []
@@ -54,7 +57,8 @@ other_last_looks :
     × ((history_from unwritten no_look).last_look ≡ None)
 other_last_looks = (refl, refl, refl)
 
--- An empty open pipe blocks the reader. From the store of closed to the call of its waker the writer stands between.
+-- An empty open pipe blocks the reader. From the store of closed to the call of its waker the
+-- writer stands between.
 blocked_when_fresh : IsBlocked Reader (fresh 4)
 blocked_when_fresh = (refl, refl)
 

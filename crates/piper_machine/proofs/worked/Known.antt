@@ -44,7 +44,8 @@ polled = three_published ++ (Begin (call.Poll Reader 1 (by 1).luck) ∷ Go Reade
 after_a_look : knowledge_of 4 Reader (log_of polled) ≡ record { known = 3; found = 3; is_query = false }
 after_a_look = refl
 
--- A drain begins with the three bytes that the poll left known, and needs no look: the fourth byte that is published meanwhile it
+-- A drain begins with the three bytes that the poll left known, and needs no look: the fourth byte
+-- that is published meanwhile it
 -- does not come to know.
 abbrev drained : List Step
 drained =
@@ -60,7 +61,8 @@ steps_of_the_drain = (refl, refl)
 left_by_the_drain : (gone drained (fresh 4)).pipe.unread ≡ 0 ∷ []
 left_by_the_drain = refl
 
--- A drain that finds one byte calls its destination twice, as often as it may: the second time there is no byte left.
+-- A drain that finds one byte calls its destination twice, as often as it may: the second time
+-- there is no byte left.
 abbrev one_unread : Pipe
 one_unread = record (fresh 2) { unread = 5 ∷ [] }
 

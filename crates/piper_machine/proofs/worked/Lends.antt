@@ -1,4 +1,5 @@
--- How much is lent: exactly by the writer's side, which knows how much was set to zero already, and within bounds for the pipe.
+-- How much is lent: exactly by the writer's side, which knows how much was set to zero already, and
+-- within bounds for the pipe.
 use Rattle.std.specs.Prelude.{◌≡◌, ℕ, ◌-◌, ◌≤◌, min, List, [], ◌∷◌, length, take, Bool, true, false, if◌then◌else◌, refl}
 use Rattle.std.proofs.Common.{◌∙◌, sym, arith}
 use Rattle.std.proofs.lemmas.List.{length-take}
@@ -48,11 +49,13 @@ rounds_of_a_fill :
     ≡ (4096 ∷ 12288 ∷ 36864 ∷ 110592 ∷ 36160 ∷ 0 ∷ [])
 rounds_of_a_fill = refl
 
--- The round of a fill whose source fails at once lends as any first round does: the lend behind it finds 4096 places set.
+-- The round of a fill whose source fails at once lends as any first round does: the lend behind it
+-- finds 4096 places set.
 lend_behind_a_failure : lengths (writer 200000) (Lend 131072 ∷ Lend 131072 ∷ []) ≡ (4096 ∷ 12288 ∷ [])
 lend_behind_a_failure = refl
 
--- What the pipe says of the first of these: of 10,000 free places at least 4096 are lent, and then at least 4096 of 5904.
+-- What the pipe says of the first of these: of 10,000 free places at least 4096 are lent, and then
+-- at least 4096 of 5904.
 first_lend_between : (n : ℕ) → Lendable 10000 (fresh 10000) n → (4096 ≤ n) × (n ≤ 10000)
 first_lend_between n lendable =
     let least : 4096 ≤ n = lendable.at_least refl in
@@ -68,7 +71,8 @@ second_lend_between bytes lent n lendable =
     let most : n ≤ 5904 = rw limit at lendable.at_most in
     (least, most)
 
--- Where no more than 4096 can be lent the bounds meet: all of it is lent, and nothing of a shut pipe.
+-- Where no more than 4096 can be lent the bounds meet: all of it is lent, and nothing of a shut
+-- pipe.
 bounded : (is_shut : Bool) (limit n : ℕ) → limit ≤ 4096 → n ≤ limit → (is_shut ≡ false → min 4096 limit ≤ n) → (is_shut ≡ true → n ≡ 0)
     → n ≡ (if is_shut then 0 else limit)
 bounded true limit n small most least shut = shut refl
@@ -104,7 +108,8 @@ exact_length_is_lendable most w p room left shut sound =
       shut = λ is_shut. none_where_shut w.is_shut n (sym shut ∙ is_shut);
     }
 
--- Of an open pipe with room something is lent to whoever asks for something; to who asks for nothing, nothing.
+-- Of an open pipe with room something is lent to whoever asks for something; to who asks for
+-- nothing, nothing.
 open_pipe_lends : (n : ℕ) → Lendable 1 (fresh 4) n → 1 ≤ n
 open_pipe_lends n lendable = lendable.some refl (omega arith) (omega arith)
 

@@ -1,4 +1,5 @@
--- A small language of whole calls over the definitions: what each call of a list answers, from a given pipe on.
+-- A small language of whole calls over the definitions: what each call of a list answers, from a
+-- given pipe on.
 -- Its calls and answers are those of the replayer's scripts.
 use Rattle.std.specs.Prelude.{◌≡◌, ℕ, suc, zero, ◌+◌, ◌-◌, List, [], ◌∷◌, take, length, replicate, slice_set, Bool, true, false, Some, Result, if◌then◌else◌}
 use Rattle.std.specs.declared.result.Result.TheVariants as result
@@ -36,7 +37,8 @@ counted from (suc more) = from ∷ counted (from + 1) more
 abbrev pub ◌to◌ : ℕ → ℕ → List ℕ
 first to last = counted first (last + 1 - first)
 
--- The calls. A waker is a number; `by`, `yielding` and the two after them make the context of a polling call.
+-- The calls. A waker is a number; `by`, `yielding` and the two after them make the context of a
+-- polling call.
 -- A query names its side, and answers the same on both.
 pub data Call : Type 0 where
   Fill : List ℕ → Call
@@ -115,7 +117,8 @@ scripted_answer polled.Memory = Memory
 abbrev pub bytes_of : Pipe → ℕ → Answer
 bytes_of p count = Bytes count (take count p.unread)
 
--- The length lent is open within bounds. Where no more than 4096 can be lent the bounds meet (`bounds_meet` in Lends.antt),
+-- The length lent is open within bounds. Where no more than 4096 can be lent the bounds meet
+-- (`bounds_meet` in Lends.antt),
 -- and the scripts lend there alone.
 abbrev pub lent_count : ℕ → Pipe → ℕ
 lent_count most p = if p.is_shut then 0 else lend_limit most p

@@ -1,4 +1,5 @@
--- Sources and destinations that end or fail: earlier rounds stay done, and the refused one moves nothing.
+-- Sources and destinations that end or fail: earlier rounds stay done, and the refused one moves
+-- nothing.
 use Rattle.std.specs.Prelude.{◌≡◌, ℕ, List, [], ◌∷◌, Ok, refl}
 use Rattle.piper_sides.specs.declared.calls.Side.TheVariants.{Reader, Writer}
 use Rattle.piper_sides.specs.declared.calls.Query.TheVariants.{Len}
@@ -30,7 +31,8 @@ destination_fails_after_its_bytes :
     ≡ (Count 3 ∷ Failed ∷ Count 1 ∷ Bytes 1 (3 ∷ []) ∷ [])
 destination_fails_after_its_bytes = refl
 
--- The first source is called once more, on no place, and fails there. The second never comes to its failure.
+-- The first source is called once more, on no place, and fails there. The second never comes to its
+-- failure.
 failure_at_a_full_pipe :
     answers (fresh 2)
     (FillFrom (by 1) (source.Bytes (1 to 2) ∷ source.Fail ∷ []) ∷ Drain 2

@@ -1,4 +1,5 @@
--- A small language of lines over the definitions: whole calls, calls that are opened, and the steps of a side.
+-- A small language of lines over the definitions: whole calls, calls that are opened, and the steps
+-- of a side.
 -- Its lines, and what each prints, are those of the replayer; a line that is refused is the last.
 use Rattle.std.specs.Prelude.{ℕ, suc, zero, List, [], ◌∷◌, ◌++◌, replicate, Option, None, Some, nat_lt, Bool, true, false, is_some}
 use Rattle.piper_sides.specs.declared.calls.Side.{Side}
@@ -58,7 +59,8 @@ abbrev pub gone : List Step → Pipe → Gone
 gone [] p = record { pipe = p; events = []; refusal = None }
 gone (s ∷ ss) p = gone_unless (refusal_of s p) (stepped (lent_by s p) s p) (gone ss) p
 
--- the steps of a side up to its answer; the first number ends the recursion, and is more than a call here makes
+-- the steps of a side up to its answer; the first number ends the recursion, and is more than a
+-- call here makes
 abbrev pub gone_on : Bool → (Pipe → Gone) → Pipe → Gone
 gone_on true rest p = record { pipe = p; events = []; refusal = None }
 gone_on false rest p = rest p
@@ -69,7 +71,8 @@ gone_to_the_answer (suc more) side p =
     gone_unless (refusal_of (step.Go side) p) (went side p)
     (gone_on (is_some (went side p).answer) (gone_to_the_answer more side)) p
 
--- A whole call is refused as its opening is. The calls that copy are refused by their side, and then by their draw.
+-- A whole call is refused as its opening is. The calls that copy are refused by their side, and
+-- then by their draw.
 abbrev pub copy_refusal : Side → Pipe → Option StepRefusal
 copy_refusal side p = cannot_begin (state_of side p)
 

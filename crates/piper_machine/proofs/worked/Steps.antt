@@ -1,4 +1,5 @@
--- Calls that are run step by step, with whole calls of the other side in between: what each step logs.
+-- Calls that are run step by step, with whole calls of the other side in between: what each step
+-- logs.
 use Rattle.std.specs.Prelude.{◌≡◌, List, [], ◌∷◌, take, Some, None, true, refl}
 use Rattle.std.proofs.Common.{arith}
 use Rattle.piper_sides.specs.declared.calls.Side.TheVariants.{Reader, Writer}
@@ -21,7 +22,8 @@ use Rattle.piper_machine.specs.Run.{Runs}
 use Rattle.piper_machine.proofs.worked.Script.{Fill, Drain, Poll, by, Close, Drop, Done, Count, Bytes, Pending, ◌woken◌}
 use Rattle.piper_machine.proofs.worked.StepScript.{Whole, Begin, Go, GoEnd, Says, Logs, gone, prints}
 
--- The reader's poll finds no byte and registers; then a byte is published, and the writer is gone. The byte is not lost
+-- The reader's poll finds no byte and registers; then a byte is published, and the writer is gone.
+-- The byte is not lost
 -- to the end, since the last load of tail comes behind that of closed.
 a_byte_before_the_end :
     prints (fresh 4)
@@ -33,7 +35,8 @@ a_byte_before_the_end :
     ∷ Logs (Looked Reader (seen.Closed true) ∷ Looked Reader (seen.Tail 1) ∷ Answered Reader (answer.Poll (polled.Ready true)) ∷ []) ∷ [])
 a_byte_before_the_end = refl
 
--- The reader found nothing, and registers only after the writer has filled the pipe and waits itself: both slots hold a
+-- The reader found nothing, and registers only after the writer has filled the pipe and waits
+-- itself: both slots hold a
 -- waker, and the close calls both, the reader's first.
 both_wait_at_a_close :
     prints (fresh 1)
@@ -143,7 +146,8 @@ a_run = (
   ),
 )
 
--- What the laws over runs count here: one byte published and none consumed, and two steps of at most three.
+-- What the laws over runs count here: one byte published and none consumed, and two steps of at
+-- most three.
 bytes_in_place : (published_of logged_in_place ≡ 5 ∷ []) × (consumed_of logged_in_place ≡ [])
 bytes_in_place = (refl, refl)
 

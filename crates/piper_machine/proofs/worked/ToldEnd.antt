@@ -18,7 +18,8 @@ use Rattle.piper_machine.specs.Final.{told_end, IsBehindEnd}
 use Rattle.piper_machine.proofs.worked.Script.{by}
 use Rattle.piper_machine.proofs.worked.StepScript.{gone}
 
--- A writer with a lent slice closes; the reader is told the end; then the writer can publish no byte, and the reader is told again.
+-- A writer with a lent slice closes; the reader is told the end; then the writer can publish no
+-- byte, and the reader is told again.
 abbrev asked_twice : List Step
 asked_twice =
     Begin (call.WriteBuf 2) ∷ Begin call.Close ∷ Go Writer ∷ Go Writer ∷ Go Writer
@@ -38,7 +39,8 @@ told_and_empty :
     × ((gone asked_twice (fresh 4)).pipe.unread ≡ [])
 told_and_empty = (refl, refl)
 
--- A drain finds the end as a poll does, and answers no byte; the writer looks at the same empty pipe behind it.
+-- A drain finds the end as a poll does, and answers no byte; the writer looks at the same empty
+-- pipe behind it.
 abbrev drained_to_the_end : List Step
 drained_to_the_end =
     Begin call.Close ∷ Go Writer ∷ Go Writer ∷ Go Writer
@@ -58,7 +60,8 @@ found_by_a_drain :
     × (saw_closed Reader before_it_is_found ≡ true)
 found_by_a_drain = (refl, refl)
 
--- A drain that looked at closed before the close answers 0 as well, and found no end: the writer may have published in between.
+-- A drain that looked at closed before the close answers 0 as well, and found no end: the writer
+-- may have published in between.
 abbrev drained_over_the_drop : List Step
 drained_over_the_drop = Begin (call.TryDrain 4) ∷ Go Reader ∷ Go Reader ∷ Begin (call.Drop Writer) ∷ Go Writer ∷ Go Reader ∷ []
 
@@ -76,7 +79,8 @@ zero_is_no_end = (refl, refl)
 forgotten_by_the_next : saw_closed Reader (before_it_is_found ++ Began Reader (kind.Query Len) None ∷ []) ≡ false
 forgotten_by_the_next = refl
 
--- The reader closes its own end in the middle of a publication: a drop of the reader does not shut, and the writer goes on. No end
+-- The reader closes its own end in the middle of a publication: a drop of the reader does not shut,
+-- and the writer goes on. No end
 -- was told, so this is allowed.
 abbrev published_after_a_drop : List Step
 published_after_a_drop = Begin (call.WriteBuf 2) ∷ Begin (call.Produced 1) ∷ Begin (call.Drop Reader) ∷ Go Reader ∷ Go Writer ∷ []

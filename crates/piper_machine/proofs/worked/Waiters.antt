@@ -1,4 +1,5 @@
--- A side that was told to wait, from point to point of the other side's wake, and what no run may come to.
+-- A side that was told to wait, from point to point of the other side's wake, and what no run may
+-- come to.
 use Rattle.std.specs.Prelude.{◌≡◌, ℕ, List, [], ◌∷◌, take, true, false, None, Some, Ok, refl}
 use Rattle.std.proofs.Common.{inl, inr}
 use Rattle.piper_sides.specs.declared.calls.Side.TheVariants.{Reader, Writer}
@@ -18,7 +19,8 @@ use Rattle.piper_machine.specs.Remembered.{IsRemembered}
 use Rattle.piper_machine.proofs.worked.Script.{by}
 use Rattle.piper_machine.proofs.worked.StepScript.{gone}
 
--- The reader polls an empty pipe and is told to wait; then the writer publishes no byte, which wakes all the same.
+-- The reader polls an empty pipe and is told to wait; then the writer publishes no byte, which
+-- wakes all the same.
 abbrev waits_then_woken : List Step
 waits_then_woken =
     Begin (call.Poll Reader 1 (by 1).luck) ∷ Go Reader ∷ Go Reader ∷ Go Reader ∷ Go Reader
@@ -31,7 +33,8 @@ pipe_after n = (gone (take n waits_then_woken) (fresh 4)).pipe
 abbrev reader_waits : ℕ → Wait
 reader_waits n = wait_of Reader (gone (take n waits_then_woken) (fresh 4)).events
 
--- told to wait at the fifth step, woken at the ninth; a query in between or behind changes nothing of it
+-- told to wait at the fifth step, woken at the ninth; a query in between or behind changes nothing
+-- of it
 told_and_woken :
     (reader_waits 4 ≡ record { handed = 1; is_woken = false; is_pending = false })
     × (reader_waits 5 ≡ record { handed = 1; is_woken = false; is_pending = true })
@@ -39,7 +42,8 @@ told_and_woken :
     × (reader_waits 12 ≡ record { handed = 1; is_woken = true; is_pending = true })
 told_and_woken = (refl, refl, refl, refl)
 
--- it stands ready; behind the store the writer is to find its waker in the slot; then it has it in its hand; then it has called it
+-- it stands ready; behind the store the writer is to find its waker in the slot; then it has it in
+-- its hand; then it has called it
 always_remembered :
     IsRemembered Reader (pipe_after 5) (reader_waits 5)
     × IsRemembered Reader (pipe_after 7) (reader_waits 7)
@@ -70,7 +74,8 @@ copied_after_a_wait = refl
 tried_after_a_wait : wait_of Reader (Began Reader kind.Poll (Some 1) ∷ Registered Reader 1 ∷ pending ∷ Began Reader kind.TryDrain None ∷ Answered Reader (answer.Count 0) ∷ []) ≡ record { handed = 1; is_woken = false; is_pending = true }
 tried_after_a_wait = refl
 
--- To these pipes, with nobody about to call, a wrong order of steps would come. The reader was told to wait and is not called.
+-- To these pipes, with nobody about to call, a wrong order of steps would come. The reader was told
+-- to wait and is not called.
 abbrev told_to_wait : Wait
 told_to_wait = record { handed = 1; is_woken = false; is_pending = true }
 
@@ -110,7 +115,8 @@ writer_untold_forgets (inl called) = absurd (cc)
 writer_untold_forgets (inr (inl ready)) = let open_still = ready.1.1 in absurd (cc)
 writer_untold_forgets (inr (inr about)) = let between = about.0 in absurd (cc)
 
--- a wake before its store: the reader, called too early, was told to wait once more, and then the byte came
+-- a wake before its store: the reader, called too early, was told to wait once more, and then the
+-- byte came
 abbrev called_too_early : List Event
 called_too_early = Began Reader kind.Poll (Some 1) ∷ Registered Reader 1 ∷ pending ∷ Woken 1 ∷ Began Reader kind.Poll (Some 1) ∷ Registered Reader 1 ∷ pending ∷ Published (7 ∷ []) ∷ []
 

@@ -41,7 +41,8 @@ empty_copies_wake_nobody :
     ≡ (Pending ∷ Count 0 ∷ Count 1 woken (1 ∷ []) ∷ Pending ∷ Bytes 0 [] ∷ Bytes 1 (7 ∷ []) woken (3 ∷ []) ∷ [])
 empty_copies_wake_nobody = refl
 
--- After whole calls no side finds anything with its own waker still in its slot, since the call that brought the byte or
+-- After whole calls no side finds anything with its own waker still in its slot, since the call
+-- that brought the byte or
 -- the room has woken it. So the next pipes stand in the middle of such a call.
 
 -- the reader waits, the byte 5 is published, and its waker is not called yet
@@ -74,7 +75,8 @@ a_poll_takes_the_writers_waker :
     × ((writer_woken (after before_the_writers_wake (Poll Writer (by 4) ∷ []))).woken ≡ [])
 a_poll_takes_the_writers_waker = (refl, refl)
 
--- the writer waits, the reader's drop has closed the pipe, and the writer is not called yet: its look leaves the slot
+-- the writer waits, the reader's drop has closed the pipe, and the writer is not called yet: its
+-- look leaves the slot
 abbrev before_the_drops_wake : Pipe
 before_the_drops_wake = record (after (fresh 1) (Fill (7 ∷ []) ∷ Poll Writer (by 3) ∷ [])) { is_closed = true }
 
@@ -83,7 +85,8 @@ a_poll_of_a_closed_pipe_leaves_the_waker :
     × ((writer_woken (after before_the_drops_wake (Poll Writer (by 4) ∷ []))).woken ≡ 3 ∷ [])
 a_poll_of_a_closed_pipe_leaves_the_waker = (refl, refl)
 
--- The reader found the pipe empty, and registers only after the writer has filled it and waits itself.
+-- The reader found the pipe empty, and registers only after the writer has filled it and waits
+-- itself.
 abbrev both_wait : Pipe
 both_wait = record (after (fresh 1) (Fill (5 ∷ []) ∷ Drain 1 ∷ Fill (7 ∷ []) ∷ Poll Writer (by 2) ∷ [])) { reader_waker = Some 1 }
 

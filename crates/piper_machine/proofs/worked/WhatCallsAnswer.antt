@@ -33,7 +33,8 @@ told_by side steps events = told_from side (untold (calls_of side steps)) events
 abbrev reader_drops : List Step
 reader_drops = Begin (call.Drop Reader) ∷ Go Reader ∷ Go Reader ∷ []
 
--- A fill of two bytes has found the pipe open before the reader drops: it publishes them, and counts them.
+-- A fill of two bytes has found the pipe open before the reader drops: it publishes them, and
+-- counts them.
 abbrev dropped_behind_the_look : List Step
 dropped_behind_the_look = Begin (call.TryFill (1 ∷ 2 ∷ [])) ∷ Go Writer ∷ Go Writer ∷ Go Writer ∷ reader_drops ++ Go Writer ∷ Go Writer ∷ Go Writer ∷ []
 
@@ -73,7 +74,8 @@ told_of_the_counted :
     })
 told_of_the_counted = (refl, refl)
 
--- Both counts are right. A count of 2 is wrong of a fill that found the pipe open and published nothing.
+-- Both counts are right. A count of 2 is wrong of a fill that found the pipe open and published
+-- nothing.
 counts_of_fills :
     IsFilled (1 ∷ 2 ∷ []) (seen.Closed false ∷ seen.Closed false ∷ []) (1 ∷ 2 ∷ []) 2
     × IsFilled (1 ∷ 2 ∷ []) (seen.Closed true ∷ seen.Closed false ∷ []) [] 2
@@ -114,7 +116,8 @@ told_of_the_failure :
     × HasFailed (source.Bytes (9 ∷ []) ∷ source.Fail ∷ []) (told_by Writer fails_behind_a_byte logged_of_the_failure).moved
 told_of_the_failure = (refl, record { fails = refl; published = refl })
 
--- A drain of at most three bytes of a pipe that holds two, between the two looks of the writer's query.
+-- A drain of at most three bytes of a pipe that holds two, between the two looks of the writer's
+-- query.
 abbrev drained_between_the_looks : List Step
 drained_between_the_looks =
     Begin (call.TryFill (7 ∷ 8 ∷ [])) ∷ Go Writer ∷ Go Writer ∷ Go Writer ∷ Go Writer ∷ Go Writer ∷ Go Writer
@@ -147,7 +150,8 @@ told_of_the_drained :
     })
 told_of_the_drained = (refl, refl, refl)
 
--- A destination that takes one byte and then fails: it has places for one, and that byte stays consumed.
+-- A destination that takes one byte and then fails: it has places for one, and that byte stays
+-- consumed.
 abbrev destination_fails : List Step
 destination_fails =
     Begin (call.TryFill (7 ∷ 8 ∷ [])) ∷ Go Writer ∷ Go Writer ∷ Go Writer ∷ Go Writer ∷ Go Writer ∷ Go Writer

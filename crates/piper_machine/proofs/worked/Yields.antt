@@ -1,4 +1,5 @@
--- A copying poll yields exactly at a draw of 0, and answers `memory` exactly where a clone is needed and refused.
+-- A copying poll yields exactly at a draw of 0, and answers `memory` exactly where a clone is
+-- needed and refused.
 use Rattle.std.specs.Prelude.{◌≡◌, List, [], ◌∷◌, refl}
 use Rattle.piper_sides.specs.declared.calls.Side.TheVariants.{Reader, Writer}
 use Rattle.piper_sides.specs.declared.calls.Call.TheVariants as call
@@ -13,7 +14,8 @@ yield_moves_nothing :
     ≡ (Count 2 ∷ Pending woken (7 ∷ []) ∷ Ready (Bytes 2 (1 to 2)) ∷ [])
 yield_moves_nothing = refl
 
--- nothing is drawn by a call that has to wait, and a refused registration leaves the waker before it
+-- nothing is drawn by a call that has to wait, and a refused registration leaves the waker before
+-- it
 refused_clones :
     answers (fresh 4)
     (PollDrain (yielding 7) 4 ∷ Poll Reader (unregistered 8) ∷ Fill (3 ∷ []) ∷ PollDrain (refused_yield 9) 4 ∷ Drain 4 ∷ [])

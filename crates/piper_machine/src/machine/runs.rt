@@ -97,7 +97,8 @@ impl Machine {
 
     /// Makes one step of a run, and logs it.
     ///
-    /// A refused step changes neither the machine nor the log: all memory is asked for before anything changes.
+    /// A refused step changes neither the machine nor the log: all memory is asked for before
+    /// anything changes.
     pub fn step(&mut self, step: &Step, log: &mut Log) -> Result<(), StepRefusal>
         ensures made { OnOk result
             (Made self.old step.now self.new (events log.old) (events log.new)) }
@@ -122,7 +123,8 @@ impl Machine {
     }
 }
 
-/// Makes the steps on a new machine, one after another, and gives back the machine and what happened.
+/// Makes the steps on a new machine, one after another, and gives back the machine and what
+/// happened.
 pub fn run(alloc: Global, cap: usize, steps: &[Step]) -> Result<(Machine, Log), RunRefusal>
     requires { IsCapacity cap }
     ensures runs { IfOk result (λ run. Runs (fresh cap) [] steps.now run.0 (events run.1)) }

@@ -272,7 +272,8 @@ impl Machine {
         settle_writer(self.alloc, &mut self.writer_call, &mut self.source, answer)
     }
 
-    // Lends places to the source, which writes into them what it gives. One that fails is lent places too.
+    // Lends places to the source, which writes into them what it gives. One that fails is lent
+    // places too.
     fn offer_source(&mut self) -> Result<usize, Failed>
         requires { write_action self.old.writer ≡ Action.CallSource }
         ensures answer { result ≡ given (length self.new.lent) self.old.source }
@@ -287,7 +288,8 @@ impl Machine {
         if is_failing { Err(Failed) } else { Ok(count) }
     }
 
-    // The source gave so many bytes, or failed; one that failed was lent places as one that gives bytes is.
+    // The source gave so many bytes, or failed; one that failed was lent places as one that gives
+    // bytes is.
     pub(super) fn source_called(&mut self, given: Result<usize, Failed>) -> Option<Answer>
         requires next { write_action self.old.writer ≡ Action.CallSource }
         requires lent { Lendable MOST_A_ROUND self.old (length self.old.lent) }
@@ -308,7 +310,8 @@ impl Machine {
         self.source_called(given)
     }
 
-    // The access of the writer's next step, where that moves no index and lends nothing, and what it finds.
+    // The access of the writer's next step, where that moves no index and lends nothing, and what
+    // it finds.
     fn writer_finds(&mut self, action: Action) -> Found
         requires next { action ≡ write_action self.old.writer }
         requires open { action ≢ Action.Rest }

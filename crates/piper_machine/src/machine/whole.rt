@@ -231,9 +231,11 @@ impl Machine {
         self.drive_writer().flag()
     }
 
-    /// Looks for a byte. Without one the waker is registered, and called when that may have changed.
+    /// Looks for a byte. Without one the waker is registered, and called when that may have
+    /// changed.
     ///
-    /// Ready with true: a byte is known. Ready with false: the pipe is closed, and no byte is unread.
+    /// Ready with true: a byte is known. Ready with false: the pipe is closed, and no byte is
+    /// unread.
     /// `Memory` is answered exactly where a registration is needed and not granted.
     pub fn r_poll(&mut self, waker: u32, luck: Luck) -> Polled<bool>
         requires idle { self.old.reader ≡ ReadPoint.Idle }
@@ -280,10 +282,13 @@ impl Machine {
         self.drive_reader();
     }
 
-    /// Lends at most `max` free places in one piece, in place of what was lent before, and answers how many.
+    /// Lends at most `max` free places in one piece, in place of what was lent before, and answers
+    /// how many.
     ///
-    /// Nothing is lent of a shut pipe; else at least the lesser of `max`, 4096, the known room and what is left up to
-    /// the end of the buffer. What is lent is written by `w_write`, shown by `w_lent` and published by `w_produced`.
+    /// Nothing is lent of a shut pipe; else at least the lesser of `max`, 4096, the known room and
+    /// what is left up to
+    /// the end of the buffer. What is lent is written by `w_write`, shown by `w_lent` and published
+    /// by `w_produced`.
     pub fn w_write_buf(&mut self, max: usize) -> usize
         requires { self.old.writer ≡ WritePoint.Idle }
         ensures bounds { Lendable max self.old result }
@@ -304,7 +309,8 @@ impl Machine {
         write_at(&mut self.bytes, self.write.front() + offset, bytes);
     }
 
-    /// Publishes the first `n` bytes of what is lent, as they stand now, and wakes the reader, also at 0.
+    /// Publishes the first `n` bytes of what is lent, as they stand now, and wakes the reader, also
+    /// at 0.
     pub fn w_produced(&mut self, n: usize)
         requires idle { self.old.writer ≡ WritePoint.Idle }
         requires within { n ≤ length self.old.lent }
@@ -318,7 +324,8 @@ impl Machine {
         self.drive_writer();
     }
 
-    /// Closes the pipe: nothing can be written any more, and both sides are woken. What is unread stays.
+    /// Closes the pipe: nothing can be written any more, and both sides are woken. What is unread
+    /// stays.
     pub fn w_close(&mut self)
         requires { self.old.writer ≡ WritePoint.Idle }
         ensures after { self.new ≡ close (begun self.old) }

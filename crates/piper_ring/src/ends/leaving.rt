@@ -1,4 +1,5 @@
-//! The ends once they closed the ring and are about to leave. The second one to leave frees the memory.
+//! The ends once they closed the ring and are about to leave. The second one to leave frees the
+//! memory.
 ghost use Rattle.std.specs.Prelude.{◌≡◌, ◌+◌, length, true};
 ghost use Rattle.piper_ring.specs.Shared.{flag};
 ghost use Rattle.piper_ring.specs.Stretches.{IsBlankFrom};
@@ -7,7 +8,8 @@ use crate::ring::places::{Base, Blank};
 use crate::ring::seats::{ReadSeat, Remains, WORDS_ALIGN, WORDS_SIZE, WriteSeat};
 use std::alloc::Global;
 
-/// The reader's end, which has closed the ring. The places of the bytes that it knew of go to whoever frees them.
+/// The reader's end, which has closed the ring. The places of the bytes that it knew of go to
+/// whoever frees them.
 pub(crate) struct LeavingReader {
     pub(crate) seat: ReadSeat,
     pub(crate) known: Blank,

@@ -13,7 +13,8 @@ use piper_sides::read_indices::ReadIndices;
 use piper_sides::write_indices::WriteIndices;
 use std::alloc::Global;
 
-/// The two ends of a new ring for `capacity` bytes. Where memory is refused, all that was got is given back.
+/// The two ends of a new ring for `capacity` bytes. Where memory is refused, all that was got is
+/// given back.
 pub fn open_ring(alloc: Global, capacity: usize) -> Result<(ReadEnd, WriteEnd), OutOfMemory>
     requires { (0 < capacity) × (2 * capacity < 2 ^ 64) }
     ensures pair { IfOk result (λ r. r.1.ring ≡ r.0.ring) }
@@ -24,7 +25,8 @@ pub fn open_ring(alloc: Global, capacity: usize) -> Result<(ReadEnd, WriteEnd), 
     Ok((reader, writer))
 }
 
-/// The two ends of a new ring for `capacity` bytes, and what each has of its slots, in which nobody waits yet. Where memory is refused, all that was got is given back.
+/// The two ends of a new ring for `capacity` bytes, and what each has of its slots, in which nobody
+/// waits yet. Where memory is refused, all that was got is given back.
 pub fn open_with_slots(
     alloc: Global,
     capacity: usize,
@@ -89,7 +91,8 @@ pub fn open_with_slots(
     ))
 }
 
-/// The memory of the words, and that of the bytes. Where the second is refused, the first is given back.
+/// The memory of the words, and that of the bytes. Where the second is refused, the first is given
+/// back.
 fn claim(alloc: &Global, capacity: usize) -> Result<(Memory, Memory), OutOfMemory>
     requires { (0 < capacity) × (2 * capacity < 2 ^ 64) }
     ensures words { IfOk result (λ m. (m.0.size ≡ 1024) × (m.0.align ≡ 8)) }

@@ -79,7 +79,8 @@ impl ReadEnd {
         self.parts.indices.knows_none()
     }
 
-    /// How many bytes are unread now. The writer may publish more at any time, until it is known where the pipe ends: then these are all that come.
+    /// How many bytes are unread now. The writer may publish more at any time, until it is known
+    /// where the pipe ends: then these are all that come.
     pub fn len(&self) -> usize
         ensures { MayBeUnread self.now result }
     {
@@ -94,14 +95,16 @@ impl ReadEnd {
         self.len() == 0
     }
 
-    /// Whether the ring is full now. It compares a count within the bounds of `len` with the capacity.
+    /// Whether the ring is full now. It compares a count within the bounds of `len` with the
+    /// capacity.
     pub fn is_full(&self) -> bool
         ensures { (n : ℕ) × MayBeUnread self.now n × (IsTrue result ↔ (n ≡ self.now.capacity)) }
     {
         self.len() == self.capacity()
     }
 
-    /// Whether the pipe is closed now. Once this end saw it closed, or was told that the writer closed it, the answer is `true`.
+    /// Whether the pipe is closed now. Once this end saw it closed, or was told that the writer
+    /// closed it, the answer is `true`.
     pub fn is_closed(&self) -> bool
         ensures saw { self.now.saw ≡ true → IsTrue result }
         ensures told { self.now.told_shut ≡ true → IsTrue result }
@@ -110,7 +113,8 @@ impl ReadEnd {
         self.parts.seat.load_closed(&mut saw, &self.parts.told) != 0
     }
 
-    /// The known bytes that stand in one piece, at least one where any is known. The slice stays as it is while the writer writes and publishes.
+    /// The known bytes that stand in one piece, at least one where any is known. The slice stays as
+    /// it is while the writer writes and publishes.
     pub fn peek_buf(&self) -> &[u8]
         ensures bytes { result.now ≡ take (in_one_piece self.now) self.now.known }
         ensures length { length result.now ≡ in_one_piece self.now }
@@ -129,7 +133,10 @@ impl ReadEnd {
         self.parts.seat.mark()
     }
 
-    /// From now on it knows what the mark tells: a reload finds at least the bytes that were published before it, and a ring that the writer closed before it is seen closed. Its bytes and those that this end took and knows of are beginnings of one stream, and those of a mark that tells of the end are all.
+    /// From now on it knows what the mark tells: a reload finds at least the bytes that were
+    /// published before it, and a ring that the writer closed before it is seen closed. Its bytes
+    /// and those that this end took and knows of are beginnings of one stream, and those of a mark
+    /// that tells of the end are all.
     pub fn heed(&mut self, mark: &WriteMark)
         requires { mark.now.names ≡ self.old.ring.1.1 }
         ensures told { self.new.told ≡ max self.old.told (length mark.now.bytes) }
@@ -143,7 +150,9 @@ impl ReadEnd {
         self.parts.heard.heed(mark);
     }
 
-    /// Looks for bytes that were published: for all there are, once it is known where the pipe ends. It is for an end that knows of none: one that does has something to do, and need not touch the other's word.
+    /// Looks for bytes that were published: for all there are, once it is known where the pipe
+    /// ends. It is for an end that knows of none: one that does has something to do, and need not
+    /// touch the other's word.
     pub fn reload(&mut self)
         requires { length self.old.known ≡ 0 }
         ensures fresh { self.old.told ≤ length (self.new.taken ++ self.new.known) }
@@ -171,7 +180,9 @@ impl ReadEnd {
         }
     }
 
-    /// Both ends in one hand: then this end knows of all that was published, and the other of all the free room, and where either saw the pipe closed the writer closed it: what the reader took for the end is all that was published.
+    /// Both ends in one hand: then this end knows of all that was published, and the other of all
+    /// the free room, and where either saw the pipe closed the writer closed it: what the reader
+    /// took for the end is all that was published.
     pub fn meet(&mut self, other: &mut WriteEnd)
         requires { other.old.ring ≡ self.old.ring }
         ensures fifo { self.new.taken ++ self.new.known ≡ other.new.sent }
@@ -195,7 +206,8 @@ impl ReadEnd {
         writer.indices.sees(reader.indices.head());
     }
 
-    /// Looks whether the pipe is closed, and keeps what it saw. Where it is, it is known from then on where the pipe ends.
+    /// Looks whether the pipe is closed, and keeps what it saw. Where it is, it is known from then
+    /// on where the pipe ends.
     pub fn look_closed(&mut self) -> bool
         ensures saw { result ≡ self.new.saw }
         ensures stays { flag self.old.saw ≤ flag self.new.saw }
@@ -208,7 +220,8 @@ impl ReadEnd {
         is_closed
     }
 
-    /// Takes the first `n` known bytes off, which stand in one piece, and gives their places back to the writer. It wakes nobody.
+    /// Takes the first `n` known bytes off, which stand in one piece, and gives their places back
+    /// to the writer. It wakes nobody.
     pub fn consume(&mut self, n: usize)
         requires { n ≤ in_one_piece self.old }
         ensures taken { self.new.taken ≡ self.old.taken ++ take n self.old.known }
@@ -222,9 +235,11 @@ impl ReadEnd {
         parts.seat.store_head(back, parts.indices.head() as u64);
     }
 
-    /// Closes the pipe and lets this end go. The memory is freed if the writer's end is gone. It wakes nobody.
+    /// Closes the pipe and lets this end go. The memory is freed if the writer's end is gone. It
+    /// wakes nobody.
     ///
-    /// The answer is evidence, for the writer's end, that the pipe is closed, and of all that was ever consumed.
+    /// The answer is evidence, for the writer's end, that the pipe is closed, and of all that was
+    /// ever consumed.
     pub fn finish(self) -> LastReadMark
         ensures ring { result.consumed.names ≡ self.ring.1.1 }
         ensures count { result.consumed.count ≡ length self.taken }

@@ -49,7 +49,9 @@ impl Room {
         self.ready.put(front);
     }
 
-    /// Lends its first `len` places, which stand in one piece from the offset `from` on, in place of what was lent before. Those that are not set, from the offset `zeroed` on, are zeroed first.
+    /// Lends its first `len` places, which stand in one piece from the offset `from` on, in place
+    /// of what was lent before. Those that are not set, from the offset `zeroed` on, are zeroed
+    /// first.
     pub(crate) fn lend(
         &mut self,
         base: Base,

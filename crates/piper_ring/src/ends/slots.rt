@@ -1,4 +1,6 @@
-//! What each end has of the two slots, at which a side waits for the other. They tell who waits and who was found, by tickets; where a waker is kept is for who calls, and its place is one side's at each moment.
+//! What each end has of the two slots, at which a side waits for the other. They tell who waits and
+//! who was found, by tickets; where a waker is kept is for who calls, and its place is one side's
+//! at each moment.
 ghost use Rattle.std.specs.Prelude.{◌≡◌, ◌+◌, ◌<◌, ◌≤◌, length, true, false, IsTrue, IsFalse};
 
 use crate::ends::reader::ReadEnd;
@@ -15,7 +17,8 @@ pub(crate) struct ReadSlotParts {
     pub(crate) wakes: ReaderWakes,
 }
 
-/// What the reader's end has of both slots: it waits in its own, and wakes whoever waits in the writer's.
+/// What the reader's end has of both slots: it waits in its own, and wakes whoever waits in the
+/// writer's.
 pub struct ReadSlots {
     pub(crate) parts: ReadSlotParts,
 }
@@ -40,7 +43,8 @@ pub(crate) struct WriteSlotParts {
     pub(crate) wakes: WriterWakes,
 }
 
-/// What the writer's end has of both slots: it waits in its own, and wakes whoever waits in the reader's.
+/// What the writer's end has of both slots: it waits in its own, and wakes whoever waits in the
+/// reader's.
 pub struct WriteSlots {
     pub(crate) parts: WriteSlotParts,
 }
@@ -80,7 +84,8 @@ impl Drop for WriteSlots {
 }
 
 impl ReadSlots {
-    /// Whether the place of the reader's waker is with its end: it takes back a waker that still stands in the slot, and a place that the writer handed back.
+    /// Whether the place of the reader's waker is with its end: it takes back a waker that still
+    /// stands in the slot, and a place that the writer handed back.
     pub(crate) fn reclaim(&mut self, end: &ReadEnd) -> bool
         requires { self.old.names ≡ end.now.ring.1.1 }
         ensures owns { result ≡ self.new.owns }
@@ -104,7 +109,9 @@ impl ReadEnd {
     ghost use Rattle.piper_ring.specs.ReadView.{SameButTold};
     ghost use Rattle.piper_ring.specs.SlotsView.{Registers, HasToDo, IsPending, HasNews, IsReaderAtRest, SameReaderPlace, IsWriterPending, HasRoomNews};
 
-    /// Stands at this end's slot, where the writer's next look finds it. The answer is `false`, and it stands nowhere, where the writer has stored something and has not handed the place back yet.
+    /// Stands at this end's slot, where the writer's next look finds it. The answer is `false`, and
+    /// it stands nowhere, where the writer has stored something and has not handed the place back
+    /// yet.
     pub fn register(&mut self, slots: &mut ReadSlots) -> bool
         requires { slots.old.names ≡ self.old.ring.1.1 }
         ensures registered { IsTrue result → Registers self.new slots.old slots.new }
@@ -121,7 +128,9 @@ impl ReadEnd {
         true
     }
 
-    /// Registers, and looks once more whether the writer published something or closed the pipe. Where the answer is `true` this end waits: it has nothing to do, and the look behind whatever the writer stores from now on finds it.
+    /// Registers, and looks once more whether the writer published something or closed the pipe.
+    /// Where the answer is `true` this end waits: it has nothing to do, and the look behind
+    /// whatever the writer stores from now on finds it.
     pub fn wait(&mut self, slots: &mut ReadSlots) -> bool
         requires ring { slots.old.names ≡ self.old.ring.1.1 }
         requires none { length self.old.known ≡ 0 }
@@ -138,7 +147,8 @@ impl ReadEnd {
         !self.look_closed() && self.knows_none()
     }
 
-    /// Looks behind all that this end consumed whether the writer stands at its slot, and takes its ticket. The answer is whether it did.
+    /// Looks behind all that this end consumed whether the writer stands at its slot, and takes its
+    /// ticket. The answer is whether it did.
     pub fn wake(&self, slots: &mut ReadSlots) -> bool
         requires { slots.old.names ≡ self.now.ring.1.1 }
         ensures rests { IsReaderAtRest self.now slots.new }
@@ -167,7 +177,8 @@ impl ReadEnd {
         (LastReadMark { consumed, closed }, woke)
     }
 
-    /// Both ends in one hand: of each that waits, and behind whose back the other stored something since and looked, the last ticket was taken.
+    /// Both ends in one hand: of each that waits, and behind whose back the other stored something
+    /// since and looked, the last ticket was taken.
     pub fn meet_slots(
         &self,
         slots: &mut ReadSlots,
@@ -190,7 +201,8 @@ impl ReadEnd {
 }
 
 impl WriteSlots {
-    /// Whether the place of the writer's waker is with its end: it takes back a waker that still stands in the slot, and a place that the reader handed back.
+    /// Whether the place of the writer's waker is with its end: it takes back a waker that still
+    /// stands in the slot, and a place that the reader handed back.
     pub(crate) fn reclaim(&mut self, end: &WriteEnd) -> bool
         requires { self.old.names ≡ end.now.ring.1.1 }
         ensures owns { result ≡ self.new.owns }
@@ -214,7 +226,9 @@ impl WriteEnd {
     ghost use Rattle.piper_ring.specs.WriteView.{SameButHeard};
     ghost use Rattle.piper_ring.specs.SlotsView.{WriterRegisters, WriterHasToDo, IsWriterPending, IsAtRest, SameWriterPlace};
 
-    /// Stands at this end's slot, where the reader's next look finds it. It is for an end that has not seen the pipe closed. The answer is `false`, and it stands nowhere, where the reader has consumed something and has not handed the place back yet.
+    /// Stands at this end's slot, where the reader's next look finds it. It is for an end that has
+    /// not seen the pipe closed. The answer is `false`, and it stands nowhere, where the reader has
+    /// consumed something and has not handed the place back yet.
     pub fn register(&mut self, slots: &mut WriteSlots) -> bool
         requires ring { slots.old.names ≡ self.old.ring.1.1 }
         requires open { self.old.saw ≡ false }
@@ -233,7 +247,9 @@ impl WriteEnd {
         true
     }
 
-    /// Registers, and looks once more whether the reader consumed something or closed the pipe. Where the answer is `true` this end waits: it has no room, and the look behind whatever the reader stores from now on finds it.
+    /// Registers, and looks once more whether the reader consumed something or closed the pipe.
+    /// Where the answer is `true` this end waits: it has no room, and the look behind whatever the
+    /// reader stores from now on finds it.
     pub fn wait(&mut self, slots: &mut WriteSlots) -> bool
         requires ring { slots.old.names ≡ self.old.ring.1.1 }
         requires none { self.old.room ≡ 0 }
@@ -251,7 +267,8 @@ impl WriteEnd {
         !self.look_closed() && self.knows_none()
     }
 
-    /// Looks behind all that this end stored whether the reader stands at its slot, and takes its ticket. The answer is whether it did.
+    /// Looks behind all that this end stored whether the reader stands at its slot, and takes its
+    /// ticket. The answer is whether it did.
     pub fn wake(&self, slots: &mut WriteSlots) -> bool
         requires { slots.old.names ≡ self.now.ring.1.1 }
         ensures rests { IsAtRest self.now slots.new }

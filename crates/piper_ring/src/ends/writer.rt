@@ -19,7 +19,8 @@ pub(crate) struct WriteParts {
     pub(crate) saw: Saw,
     pub(crate) base: Base,
     pub(crate) alloc: Global,
-    /// A copy of the tail, which only this end stores, and the head as this end last saw it; how much is lent and set, and whether this end closed the pipe for good.
+    /// A copy of the tail, which only this end stores, and the head as this end last saw it; how
+    /// much is lent and set, and whether this end closed the pipe for good.
     pub(crate) indices: WriteIndices,
 }
 
@@ -92,14 +93,16 @@ impl WriteEnd {
         self.len() == 0
     }
 
-    /// Whether the ring is full now. It compares a count within the bounds of `len` with the capacity.
+    /// Whether the ring is full now. It compares a count within the bounds of `len` with the
+    /// capacity.
     pub fn is_full(&self) -> bool
         ensures { (n : ℕ) × MayBeUnread self.now n × (IsTrue result ↔ (n ≡ self.now.capacity)) }
     {
         self.len() == self.capacity()
     }
 
-    /// Whether the pipe is closed now. Once this end saw it closed, or closed it, the answer is `true`.
+    /// Whether the pipe is closed now. Once this end saw it closed, or closed it, the answer is
+    /// `true`.
     pub fn is_closed(&self) -> bool
         ensures { self.now.saw ≡ true → IsTrue result }
     {
@@ -116,7 +119,8 @@ impl WriteEnd {
         self.parts.seat.mark()
     }
 
-    /// From now on it knows what the mark tells: a reload finds at least the room that was given back before it.
+    /// From now on it knows what the mark tells: a reload finds at least the room that was given
+    /// back before it.
     pub fn heed(&mut self, mark: &ReadMark)
         requires { mark.now.names ≡ self.old.ring.1.1 }
         ensures told { self.new.told ≡ max self.old.told mark.now.count }
@@ -125,7 +129,8 @@ impl WriteEnd {
         self.parts.told.heed(mark);
     }
 
-    /// From now on it knows that the reader's end left: the pipe counts as seen closed. And it knows of all that was consumed.
+    /// From now on it knows that the reader's end left: the pipe counts as seen closed. And it
+    /// knows of all that was consumed.
     pub fn heed_last(&mut self, mark: &LastReadMark)
         requires { mark.now.consumed.names ≡ self.old.ring.1.1 }
         ensures saw { self.new.saw ≡ true }
@@ -136,7 +141,8 @@ impl WriteEnd {
         self.parts.saw = mark.closed.again();
     }
 
-    /// Looks for room that was given back. It is for an end that knows of none, as the reader's `reload`.
+    /// Looks for room that was given back. It is for an end that knows of none, as the reader's
+    /// `reload`.
     pub fn reload(&mut self)
         requires { self.old.room ≡ 0 }
         ensures fresh { self.old.told + self.old.capacity ≤ length self.new.sent + self.new.room }
@@ -158,7 +164,8 @@ impl WriteEnd {
         parts.seat.load_closed(&mut parts.saw) != 0
     }
 
-    /// Publishes the first `n` bytes of what is left of the slice last lent, as they stand. It wakes nobody.
+    /// Publishes the first `n` bytes of what is left of the slice last lent, as they stand. It
+    /// wakes nobody.
     pub fn produce(&mut self, n: usize)
         requires { n ≤ length self.old.lent }
         ensures sent { self.new.sent ≡ self.old.sent ++ take n self.old.lent }
@@ -185,13 +192,16 @@ impl WriteEnd {
         }
     }
 
-    /// Lends at most `max` bytes of the room, in one piece, to be written: at least one where there is room, one is asked for and the pipe wasn't closed here. It replaces what was lent before; what stands in the bytes is not said.
+    /// Lends at most `max` bytes of the room, in one piece, to be written: at least one where there
+    /// is room, one is asked for and the pipe wasn't closed here. It replaces what was lent before;
+    /// what stands in the bytes is not said.
     pub fn write_buf(&mut self, max: usize) -> &mut [u8]
         ensures* writes { sem 𝓛 (lends_buffer self.entry result) }
         ensures length { Lendable self.old max (length result.now) }
         ensures some { self.old.shut ≡ false → 0 < self.old.room → 0 < max → 0 < length result.now }
     {
-        // Once all places are set nothing is left to be zeroed, and the compiler leaves out the looks for that.
+        // Once all places are set nothing is left to be zeroed, and the compiler leaves out the
+        // looks for that.
         if self.parts.indices.is_set() {
             self.lend(max)
         } else {
@@ -238,9 +248,11 @@ impl WriteEnd {
         parts.seat.store_shut();
     }
 
-    /// Closes the pipe for good and lets this end go. The memory is freed if the reader's end is gone. It wakes nobody.
+    /// Closes the pipe for good and lets this end go. The memory is freed if the reader's end is
+    /// gone. It wakes nobody.
     ///
-    /// The answer is evidence, for the reader's end, of all that was ever published, and that the pipe is closed behind it.
+    /// The answer is evidence, for the reader's end, of all that was ever published, and that the
+    /// pipe is closed behind it.
     pub fn finish(self) -> WriteMark
         ensures ring { result.names ≡ self.ring.1.1 }
         ensures bytes { result.bytes ≡ self.sent }

@@ -1,4 +1,5 @@
-//! Evidence of what the other end did. It takes no space, threads may hand it on, and it stays true for good.
+//! Evidence of what the other end did. It takes no space, threads may hand it on, and it stays true
+//! for good.
 ghost use Rattle.std.specs.Prelude.{◌≡◌, ℕ, ◌≤◌, Bool, true, List, length, max};
 ghost use denote.Sharing.{said};
 ghost use Rattle.piper_ring.specs.Shared.{Names, names_code, announced, took, raised, flag};
@@ -6,7 +7,8 @@ ghost use Rattle.piper_ring.specs.Streams.{Stream, Reaches};
 
 use std::marker::{Model, PhantomData, Send, Sync};
 
-/// The bytes published begin with `bytes`, and where `shut` is `true` they are all: the writer closed the pipe behind them.
+/// The bytes published begin with `bytes`, and where `shut` is `true` they are all: the writer
+/// closed the pipe behind them.
 pub struct WriteMark {
     pub(crate) mark: PhantomData<*mut u8>,
     pub ghost names: { Names } by { names_code },

@@ -1,4 +1,5 @@
-//! The words that the two ends share, and what each end knows of them. Each step on a word is one sequentially consistent access. Only the reader stores the head, and only the writer the tail.
+//! The words that the two ends share, and what each end knows of them. Each step on a word is one
+//! sequentially consistent access. Only the reader stores the head, and only the writer the tail.
 ghost use Rattle.std.specs.Prelude.{◌≡◌, ℕ, ◌+◌, ◌-◌, ◌<◌, ◌≤◌, ◌++◌, Bool, true, false, List, [], length};
 ghost use denote.RawPtr.{Ptr};
 ghost use Rattle.rtrb.specs.Fifo.{position_of};
@@ -13,7 +14,9 @@ use std::marker::{Brand, Model, PhantomData, Send, Sync};
 use std::sync::atomic::Ordering::SeqCst;
 use std::sync::atomic::raw;
 
-/// The four words of the ring, and the four of its two slots, stand 128 bytes apart, so that no two share a cache line. What lies in front of this memory can share one with the first alone, which each end uses once, on leaving.
+/// The four words of the ring, and the four of its two slots, stand 128 bytes apart, so that no two
+/// share a cache line. What lies in front of this memory can share one with the first alone, which
+/// each end uses once, on leaving.
 pub(crate) const WORDS_SIZE: usize = 1024;
 
 pub(crate) const WORDS_ALIGN: usize = 8;
@@ -34,7 +37,8 @@ pub(crate) const WRITER_FLAG: usize = 96;
 
 pub(crate) const WRITER_BACK: usize = 112;
 
-/// The reader's side of the words. `have` is all that it consumed, followed by all that it knows of.
+/// The reader's side of the words. `have` is all that it consumed, followed by all that it knows
+/// of.
 pub(crate) struct ReadSeat {
     pub(crate) words: *mut u64,
     pub(crate) ghost at: { Ptr },
@@ -110,7 +114,8 @@ impl Remains {
     }
 }
 
-/// The two seats of an empty open ring, its places, all of them the writer's room and none of them set, and where they begin, with what each side knows of the slots, which are empty.
+/// The two seats of an empty open ring, its places, all of them the writer's room and none of them
+/// set, and where they begin, with what each side knows of the slots, which are empty.
 pub(crate) fn open(
     words: Memory,
     bytes: Memory,
@@ -191,7 +196,8 @@ impl ReadSeat {
         Saw { mark: PhantomData }
     }
 
-    /// Where the tail stands: no less than the reader has seen or was told of, and right at the end where it was told of that. With it comes evidence of the bytes that were published.
+    /// Where the tail stands: no less than the reader has seen or was told of, and right at the end
+    /// where it was told of that. With it comes evidence of the bytes that were published.
     pub(crate) fn look_tail(&self, told: &WriteMark) -> (u64, WriteMark)
         requires { told.now.names ≡ self.now.names }
         ensures ring { result.1.names ≡ self.now.names }
@@ -205,7 +211,8 @@ impl ReadSeat {
         (tail, WriteMark { mark: PhantomData })
     }
 
-    /// The places of the bytes that were seen published come to the reader. It is no step of the program.
+    /// The places of the bytes that were seen published come to the reader. It is no step of the
+    /// program.
     pub(crate) fn accept(&mut self, known: &mut Places, published: &WriteMark)
         requires { (known.old.at ≡ self.old.at) × (known.old.capacity ≡ self.old.names.capacity)
             × (known.old.first + length known.old.bytes ≡ self.old.seen)
@@ -214,7 +221,9 @@ impl ReadSeat {
         ensures { ReadGains self.old self.new known.old known.new published.now.bytes }
     {}
 
-    /// 1 if the ring is closed, else 0. Once it was seen closed, or the reader was told that the writer closed it, the answer is 1. While the reader is there only the writer closes the ring: so with a 1 comes evidence of all that was published.
+    /// 1 if the ring is closed, else 0. Once it was seen closed, or the reader was told that the
+    /// writer closed it, the answer is 1. While the reader is there only the writer closes the
+    /// ring: so with a 1 comes evidence of all that was published.
     pub(crate) fn load_closed(&self, saw: &mut WriteMark, told: &WriteMark) -> u64
         requires { (saw.old.names ≡ self.now.names) × (told.now.names ≡ self.now.names)
             × (self.now.leaving ≡ false) }
@@ -237,7 +246,8 @@ impl ReadSeat {
         unsafe { raw::store::<Brand>(self.words.add(HEAD_WORD), head, SeqCst) }
     }
 
-    /// Closes the ring, since the reader is about to leave. With it comes evidence that the ring is closed.
+    /// Closes the ring, since the reader is about to leave. With it comes evidence that the ring is
+    /// closed.
     pub(crate) fn store_closed(&mut self) -> Saw
         ensures leaving { self.new ≡ record self.old { leaving = true } }
         ensures closed { (result.names ≡ self.old.names) × (result.seen ≡ true) }
@@ -246,7 +256,8 @@ impl ReadSeat {
         Saw { mark: PhantomData }
     }
 
-    /// The reader leaves, and gives up the places of the bytes that it knows of. The answer is 1 if the writer had left before.
+    /// The reader leaves, and gives up the places of the bytes that it knows of. The answer is 1 if
+    /// the writer had left before.
     pub(crate) fn leave(self, known: Blank) -> (u64, Remains)
         requires { IsBlankFrom self.at self.names.capacity self.head self.seen known
             × (self.leaving ≡ true) }
@@ -260,7 +271,9 @@ impl ReadSeat {
         (found, Remains { words })
     }
 
-    /// Both ends in one hand: the reader gets the places of all bytes that were published, and the writer those of all that were consumed. What the reader heard of the end is so, and where the writer saw the ring closed it closed it itself.
+    /// Both ends in one hand: the reader gets the places of all bytes that were published, and the
+    /// writer those of all that were consumed. What the reader heard of the end is so, and where
+    /// the writer saw the ring closed it closed it itself.
     pub(crate) fn meet(
         &mut self,
         other: &mut WriteSeat,
@@ -300,7 +313,8 @@ impl WriteSeat {
         WriteMark { mark: PhantomData }
     }
 
-    /// Where the head stands: no less than the writer was told of, and no room that it knows of is taken away. With it comes evidence of how many bytes were consumed.
+    /// Where the head stands: no less than the writer was told of, and no room that it knows of is
+    /// taken away. With it comes evidence of how many bytes were consumed.
     pub(crate) fn look_head(&self, told: &ReadMark) -> (u64, ReadMark)
         requires { told.now.names ≡ self.now.names }
         ensures ring { result.1.names ≡ self.now.names }
@@ -323,7 +337,8 @@ impl WriteSeat {
             (consumed.now.count + self.old.names.capacity) }
     {}
 
-    /// 1 if the ring is closed, else 0. Once it was seen closed, or the writer closed it, the answer is 1.
+    /// 1 if the ring is closed, else 0. Once it was seen closed, or the writer closed it, the
+    /// answer is 1.
     pub(crate) fn load_closed(&self, saw: &mut Saw) -> u64
         requires { saw.old.names ≡ self.now.names }
         ensures ring { saw.new.names ≡ saw.old.names }
@@ -334,7 +349,8 @@ impl WriteSeat {
         unsafe { raw::load::<Brand>(self.words.add(CLOSED_WORD), SeqCst) }
     }
 
-    /// Publishes the bytes that stand in the places handed over. Once the writer closed the ring there are none.
+    /// Publishes the bytes that stand in the places handed over. Once the writer closed the ring
+    /// there are none.
     pub(crate) fn store_tail(&mut self, bytes: Places, tail: u64)
         requires { BeginsAt self.old.at self.old.names.capacity (length self.old.sent) bytes
             × (length self.old.sent + length bytes.bytes ≤ self.old.limit)
@@ -353,7 +369,8 @@ impl WriteSeat {
         unsafe { raw::store::<Brand>(self.words.add(CLOSED_WORD), 1, SeqCst) }
     }
 
-    /// The writer leaves, and gives up the places of its room. The answer is 1 if the reader had left before.
+    /// The writer leaves, and gives up the places of its room. The answer is 1 if the reader had
+    /// left before.
     pub(crate) fn leave(self, room: Blank) -> (u64, Remains)
         requires { IsBlankFrom self.at self.names.capacity (length self.sent) self.limit room
             × (self.shut ≡ true) }

@@ -1,4 +1,5 @@
-//! What each side knows of a slot, at which a side waits for the other, and its steps on the slot's two words. It takes no space.
+//! What each side knows of a slot, at which a side waits for the other, and its steps on the slot's
+//! two words. It takes no space.
 ghost use Rattle.std.specs.Prelude.{◌≡◌, ◌<◌, ℕ, Bool, List, true, false, IsTrue, IsFalse};
 ghost use Rattle.piper_ring.specs.Shared.{Consumed, Names, Stream, names_code, waits_for, wakes_for, waits_back, wakes_back};
 
@@ -8,7 +9,8 @@ use std::marker::{Brand, Model, PhantomData, Send};
 use std::sync::atomic::Ordering::SeqCst;
 use std::sync::atomic::raw;
 
-/// The reader, at its own slot. `owns` is whether it has the place of the waker, `tickets` how often it registered, and the rest what the writer had published when it looked last before that.
+/// The reader, at its own slot. `owns` is whether it has the place of the waker, `tickets` how
+/// often it registered, and the rest what the writer had published when it looked last before that.
 pub(crate) struct ReaderWaits {
     pub(crate) mark: PhantomData<*mut u8>,
     pub(crate) ghost names: { Names } by { names_code },
@@ -30,7 +32,8 @@ impl Drop for ReaderWaits {
     }
 }
 
-/// The writer, at the reader's slot. `holds` is whether it has the place of the waker, `taken` whose ticket it took last, and the rest what it had published when it looked last.
+/// The writer, at the reader's slot. `holds` is whether it has the place of the waker, `taken`
+/// whose ticket it took last, and the rest what it had published when it looked last.
 pub(crate) struct WriterWakes {
     pub(crate) mark: PhantomData<*mut u8>,
     pub(crate) ghost names: { Names } by { names_code },
@@ -52,7 +55,9 @@ impl Drop for WriterWakes {
     }
 }
 
-/// The writer, at its own slot. `owns` is whether it has the place of the waker, `tickets` how often it registered, and the rest what the reader had consumed when it looked last before that, and whether it had closed the ring.
+/// The writer, at its own slot. `owns` is whether it has the place of the waker, `tickets` how
+/// often it registered, and the rest what the reader had consumed when it looked last before that,
+/// and whether it had closed the ring.
 pub(crate) struct WriterWaits {
     pub(crate) mark: PhantomData<*mut u8>,
     pub(crate) ghost names: { Names } by { names_code },
@@ -74,7 +79,9 @@ impl Drop for WriterWaits {
     }
 }
 
-/// The reader, at the writer's slot. `holds` is whether it has the place of the waker, `taken` whose ticket it took last, and the rest what it had consumed when it looked last, and whether it had closed the ring.
+/// The reader, at the writer's slot. `holds` is whether it has the place of the waker, `taken`
+/// whose ticket it took last, and the rest what it had consumed when it looked last, and whether it
+/// had closed the ring.
 pub(crate) struct ReaderWakes {
     pub(crate) mark: PhantomData<*mut u8>,
     pub(crate) ghost names: { Names } by { names_code },
@@ -100,7 +107,8 @@ impl WriteSeat {
     ghost use Rattle.piper_ring.specs.Slots.{GivesBack, HandsOver, IsRemembered, Looks, Regains, Takes};
     ghost use Rattle.piper_ring.specs.SlotViews.{of_reader_wakes, of_writer_waits, of_writer_wakes};
 
-    /// 1 where a waker stands in the reader's slot, else 0: then all that was published so far was looked behind.
+    /// 1 where a waker stands in the reader's slot, else 0: then all that was published so far was
+    /// looked behind.
     pub(crate) fn look_flag(&self, slot: &mut WriterWakes) -> u64
         requires { (slot.old.names ≡ self.now.names) × (slot.old.holds ≡ false) }
         ensures ring { slot.new.names ≡ slot.old.names }
@@ -110,7 +118,8 @@ impl WriteSeat {
         unsafe { raw::load::<Brand>(self.words.add(READER_FLAG), SeqCst) }
     }
 
-    /// 1 where it took the waker that stood in the reader's slot, with its place, else 0: then all that was published so far was looked behind.
+    /// 1 where it took the waker that stood in the reader's slot, with its place, else 0: then all
+    /// that was published so far was looked behind.
     pub(crate) fn take_waker(&self, slot: &mut WriterWakes) -> u64
         requires { (slot.old.names ≡ self.now.names) × (slot.old.holds ≡ false) }
         ensures ring { slot.new.names ≡ slot.old.names }
@@ -130,7 +139,8 @@ impl WriteSeat {
         unsafe { raw::store::<Brand>(self.words.add(READER_BACK), 1, SeqCst) }
     }
 
-    /// The writer's waker stands in its slot, under the next ticket. With it comes evidence of what the reader had looked behind.
+    /// The writer's waker stands in its slot, under the next ticket. With it comes evidence of what
+    /// the reader had looked behind.
     pub(crate) fn hand_over(&self, slot: &mut WriterWaits) -> (ReadMark, Saw)
         requires { (slot.old.names ≡ self.now.names) × (slot.old.owns ≡ true) }
         ensures ring { slot.new.names ≡ slot.old.names }
@@ -162,7 +172,8 @@ impl WriteSeat {
         unsafe { raw::swap::<Brand>(self.words.add(WRITER_BACK), 0, SeqCst) }
     }
 
-    /// Both sides of the writer's slot in one hand: a writer that has registered, and since which the reader looked behind something new, was taken. It is no step of the program.
+    /// Both sides of the writer's slot in one hand: a writer that has registered, and since which
+    /// the reader looked behind something new, was taken. It is no step of the program.
     pub(crate) fn meet_slot(&self, waits: &mut WriterWaits, wakes: &mut ReaderWakes)
         requires { (waits.old.names ≡ self.now.names) × (wakes.old.names ≡ self.now.names) }
         ensures remembered { IsRemembered Consumed (of_writer_waits waits.old)
@@ -170,7 +181,8 @@ impl WriteSeat {
         ensures kept { (waits.new ≡ waits.old) × (wakes.new ≡ wakes.old) }
     {}
 
-    /// Looks for the reader's waker behind all that was published, takes it, and hands its place back. The answer is whether one stood there.
+    /// Looks for the reader's waker behind all that was published, takes it, and hands its place
+    /// back. The answer is whether one stood there.
     pub(crate) fn wake(&self, slot: &mut WriterWakes) -> bool
         requires { (slot.old.names ≡ self.now.names) × (slot.old.holds ≡ false) }
         ensures ring { (slot.new.names ≡ slot.old.names) × (slot.new.holds ≡ false) }
@@ -193,7 +205,8 @@ impl ReadSeat {
     ghost use Rattle.piper_ring.specs.Slots.{GivesBack, HandsOver, IsRemembered, Looks, Regains, Takes};
     ghost use Rattle.piper_ring.specs.SlotViews.{of_reader_waits, of_reader_wakes, of_writer_wakes};
 
-    /// The reader's waker stands in its slot, under the next ticket. With it comes evidence of what the writer had looked behind.
+    /// The reader's waker stands in its slot, under the next ticket. With it comes evidence of what
+    /// the writer had looked behind.
     pub(crate) fn hand_over(&self, slot: &mut ReaderWaits) -> WriteMark
         requires { (slot.old.names ≡ self.now.names) × (slot.old.owns ≡ true) }
         ensures ring { slot.new.names ≡ slot.old.names }
@@ -225,7 +238,8 @@ impl ReadSeat {
         unsafe { raw::swap::<Brand>(self.words.add(READER_BACK), 0, SeqCst) }
     }
 
-    /// Both sides of the reader's slot in one hand: a reader that has registered, and since which the writer looked behind something new, was taken. It is no step of the program.
+    /// Both sides of the reader's slot in one hand: a reader that has registered, and since which
+    /// the writer looked behind something new, was taken. It is no step of the program.
     pub(crate) fn meet_slot(&self, waits: &mut ReaderWaits, wakes: &mut WriterWakes)
         requires { (waits.old.names ≡ self.now.names) × (wakes.old.names ≡ self.now.names) }
         ensures remembered { IsRemembered Stream (of_reader_waits waits.old)
@@ -233,7 +247,8 @@ impl ReadSeat {
         ensures kept { (waits.new ≡ waits.old) × (wakes.new ≡ wakes.old) }
     {}
 
-    /// 1 where a waker stands in the writer's slot, else 0: then all that was consumed so far was looked behind, and that the ring is closed where `saw` tells so.
+    /// 1 where a waker stands in the writer's slot, else 0: then all that was consumed so far was
+    /// looked behind, and that the ring is closed where `saw` tells so.
     pub(crate) fn look_flag(&self, slot: &mut ReaderWakes, saw: &Saw) -> u64
         requires { (slot.old.names ≡ self.now.names) × (slot.old.holds ≡ false)
             × (saw.now.names ≡ self.now.names) }
@@ -244,7 +259,9 @@ impl ReadSeat {
         unsafe { raw::load::<Brand>(self.words.add(WRITER_FLAG), SeqCst) }
     }
 
-    /// 1 where it took the waker that stood in the writer's slot, with its place, else 0: then all that was consumed so far was looked behind, and that the ring is closed where `saw` tells so.
+    /// 1 where it took the waker that stood in the writer's slot, with its place, else 0: then all
+    /// that was consumed so far was looked behind, and that the ring is closed where `saw` tells
+    /// so.
     pub(crate) fn take_waker(&self, slot: &mut ReaderWakes, saw: &Saw) -> u64
         requires { (slot.old.names ≡ self.now.names) × (slot.old.holds ≡ false)
             × (saw.now.names ≡ self.now.names) }
@@ -265,7 +282,8 @@ impl ReadSeat {
         unsafe { raw::store::<Brand>(self.words.add(WRITER_BACK), 1, SeqCst) }
     }
 
-    /// Looks for the writer's waker behind all that was consumed, takes it, and hands its place back. The answer is whether one stood there.
+    /// Looks for the writer's waker behind all that was consumed, takes it, and hands its place
+    /// back. The answer is whether one stood there.
     pub(crate) fn wake(&self, slot: &mut ReaderWakes, saw: &Saw) -> bool
         requires { (slot.old.names ≡ self.now.names) × (slot.old.holds ≡ false)
             × (saw.now.names ≡ self.now.names) }

@@ -15,7 +15,10 @@ use std::io::ErrorKind;
 
 /// Writes a frame for each body that it is sent, whole and in order: its length, and the body.
 ///
-/// Memory is asked for where a body is sent; where that is refused, or a body whose length the header can't tell is, by an error of the kind `InvalidInput`, the sink is as it was, and the body goes. What is said of [`WriteSink`] holds of it, too. In clauses, `frames_below` is the sink below, and `header_of` how the length is told.
+/// Memory is asked for where a body is sent; where that is refused, or a body whose length the
+/// header can't tell is, by an error of the kind `InvalidInput`, the sink is as it was, and the
+/// body goes. What is said of [`WriteSink`] holds of it, too. In clauses, `frames_below` is the
+/// sink below, and `header_of` how the length is told.
 #[derive(Debug, Drop)]
 pub struct FrameSink<W> {
     sink: WriteSink<W>,

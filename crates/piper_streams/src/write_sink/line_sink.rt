@@ -13,7 +13,9 @@ use std::fmt::Debug;
 
 /// Writes each text that it is sent as a line, whole and in order, with the byte that ends it.
 ///
-/// That byte is put to the end of the text itself. Where memory for it is refused, the sink is as it was, and the text goes. What is said of [`WriteSink`] holds of it, too. In clauses, `lines_below` is the sink below, and `ending_of` the byte that ends a line.
+/// That byte is put to the end of the text itself. Where memory for it is refused, the sink is as
+/// it was, and the text goes. What is said of [`WriteSink`] holds of it, too. In clauses,
+/// `lines_below` is the sink below, and `ending_of` the byte that ends a line.
 #[derive(Debug, Drop)]
 pub struct LineSink<W> {
     sink: WriteSink<W>,

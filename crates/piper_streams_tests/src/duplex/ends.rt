@@ -72,7 +72,8 @@ fn fresh_ends_that_meet_know_of_nothing(rt: HostRuntime) {
     second.drop();
 }
 
-/// One task waits to read from an end and another one to write to it, until the other end is dropped.
+/// One task waits to read from an end and another one to write to it, until the other end is
+/// dropped.
 fn wakes_both<H>(rt: &H)
 where
     H: Abort + Wait + RandomSource + AllocGlobal + Clone + Drop,

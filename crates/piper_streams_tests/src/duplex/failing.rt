@@ -22,7 +22,8 @@ fn whole_before(count: usize) -> &'static [u8] {
     }
 }
 
-/// An echo whose input fails once so many bytes went through it: the whole lines before that come back.
+/// An echo whose input fails once so many bytes went through it: the whole lines before that come
+/// back.
 fn input_fails_at<R>(rt: &R, good: usize)
 where
     R: Abort + Wait + Threads + RandomSource + AllocGlobal + Clone + Drop + Send + 'static,
@@ -61,7 +62,8 @@ fn a_failing_output_ends_the_echo(rt: HostRuntime) {
     }
 }
 
-/// A rest that goes through the stream in many pieces comes back whole, though some reads give less than they could.
+/// A rest that goes through the stream in many pieces comes back whole, though some reads give less
+/// than they could.
 #[test]
 fn a_long_rest_comes_back_whole(rt: HostRuntime) {
     for before in 1..8 {

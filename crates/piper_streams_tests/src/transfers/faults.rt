@@ -52,7 +52,8 @@ fn how_it_ended(moved: Result<(), TransferError>) -> Ended {
     }
 }
 
-/// A transfer of `TOTAL` bytes between ends of which one call or none goes wrong. The answer is how it ended, and how many calls were made of either end.
+/// A transfer of `TOTAL` bytes between ends of which one call or none goes wrong. The answer is how
+/// it ended, and how many calls were made of either end.
 fn transfers<R>(rt: &R, read: Fault, write: Fault) -> Seen
 where
     R: Abort + Wait + Threads + Clock + RandomSource + AllocGlobal + Clone + Drop + Send + Sync,

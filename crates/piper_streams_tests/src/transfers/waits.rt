@@ -70,7 +70,8 @@ impl<R: Wait + Clock> Destination for SlowOutput<'_, R> {
     }
 }
 
-/// A transfer of which one side sleeps once. The answer is how many milliseconds the other side had waited by then, how many it had waited in all, and how many the slow one had.
+/// A transfer of which one side sleeps once. The answer is how many milliseconds the other side had
+/// waited by then, how many it had waited in all, and how many the slow one had.
 macro_rules! waits {
     ($rt:expr, $is_input_slow:expr) => {{
         let meter = Meter::new();

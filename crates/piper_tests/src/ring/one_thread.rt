@@ -44,7 +44,8 @@ fn lends_grow_with_the_places_that_are_set(rt: HostRuntime) {
     }
 }
 
-/// The ends leave one after the other, with so many bytes unread. The one that is left sees the ring closed.
+/// The ends leave one after the other, with so many bytes unread. The one that is left sees the
+/// ring closed.
 fn leave_in_turn(rt: &(impl Abort + AllocGlobal), left: usize, is_reader_first: bool) {
     let (mut reader, mut writer) = ring_of(rt, 3);
     for _ in 0..2 {

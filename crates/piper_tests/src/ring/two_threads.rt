@@ -27,7 +27,8 @@ fn publish_all(rt: &impl Wait, mut writer: WriteEnd, total: usize, most: usize)
     }
 }
 
-/// Consumes until the ring is closed and nothing is left, in pieces of changing length, and leaves. The answer is how many bytes came in order.
+/// Consumes until the ring is closed and nothing is left, in pieces of changing length, and leaves.
+/// The answer is how many bytes came in order.
 fn consume_all(rt: &impl Wait, mut reader: ReadEnd, most: usize) -> usize
     requires { (0 < most) × (most < 2 ^ 32) }
 {

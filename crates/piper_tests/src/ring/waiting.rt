@@ -1,4 +1,5 @@
-//! That a side which waits at its slot is found there by the other's next look: in one hand, and on two threads.
+//! That a side which waits at its slot is found there by the other's next look: in one hand, and on
+//! two threads.
 ghost use Rattle.std.specs.Prelude.{◌≡◌, ◌<◌, ◌^◌, ◌*◌};
 
 use crate::pair::same;
@@ -59,7 +60,8 @@ impl Reading {
 }
 
 impl Writing {
-    /// Publishes what is due, and wakes a reader that waits. The answer is how much, and whether one waited.
+    /// Publishes what is due, and wakes a reader that waits. The answer is how much, and whether
+    /// one waited.
     fn sends_due(&mut self, sent: usize, most: usize) -> (usize, bool) {
         let n = send_due(&mut self.end, sent, most);
         (n, self.end.wake(&mut self.slots))
@@ -80,7 +82,8 @@ fn who_waits_is_found_once(rt: HostRuntime) {
     same(&rt, &"waits at last", reading.waits(), true);
 }
 
-/// Publishes all of it in pieces of changing length, counts each reader that it found waiting, and leaves.
+/// Publishes all of it in pieces of changing length, counts each reader that it found waiting, and
+/// leaves.
 fn send_all(rt: &impl Wait, mut writing: Writing, total: usize, found: &AtomicU64) {
     let mut sent = 0usize;
     let mut round = 0usize;
@@ -117,7 +120,8 @@ fn is_found(found: &AtomicU64, before: u64) -> bool {
     false
 }
 
-/// Consumes until the ring is closed, and waits wherever nothing is there until it is found. The answer is how many bytes came in order, or none where it was forgotten.
+/// Consumes until the ring is closed, and waits wherever nothing is there until it is found. The
+/// answer is how many bytes came in order, or none where it was forgotten.
 fn receive_all(rt: &impl Wait, mut reading: Reading, found: &AtomicU64) -> Option<usize> {
     let mut received = 0usize;
     for _ in rt.forever() {

@@ -1,4 +1,5 @@
--- What was published is a beginning of the bytes: all that were given, until the pipe is seen closed.
+-- What was published is a beginning of the bytes: all that were given, until the pipe is seen
+-- closed.
 use Rattle.std.proofs.Common.{◌≡◌, ℕ, ◌≤◌, length, take, false}
 use Rattle.proved_threads.proofs.send_all.Given as goal
 

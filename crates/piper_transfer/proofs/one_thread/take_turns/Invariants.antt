@@ -1,4 +1,5 @@
--- What the input gave so far is published, what was taken out of the pipe was written, and both are ends of one pipe.
+-- What the input gave so far is published, what was taken out of the pipe was written, and both are
+-- ends of one pipe.
 use Rattle.std.specs.Prelude.{◌≡◌, ◌<◌}
 use Rattle.piper_transfer.specs.Transfer.{Fed, IsOpen, PouredAll}
 use Rattle.piper_transfer.proofs.one_thread.take_turns.Given as goal

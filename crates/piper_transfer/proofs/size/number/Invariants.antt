@@ -1,4 +1,5 @@
--- What was read so far, followed by the rest, writes the number; and all are digits where the rest are.
+-- What was read so far, followed by the rest, writes the number; and all are digits where the rest
+-- are.
 use Rattle.std.proofs.Common.{◌≡◌, length}
 use Rattle.std.specs.Str.Parse.{AllDigits, digits_value, digits_value_after}
 use Rattle.piper_transfer.proofs.size.number.Given as goal

@@ -1,4 +1,5 @@
--- The bytes that were taken so far are those that passed, those of the frames, and those that are kept.
+-- The bytes that were taken so far are those that passed, those of the frames, and those that are
+-- kept.
 use Rattle.std.proofs.Common.{◌≡◌, ◌≤◌, ◌⊎◌, ◌++◌, [], length, vec_capacity}
 use Rattle.futures.specs.Task.{Keeps}
 use Rattle.piper_lines.specs.FrameReader.{reader_of, format_of, kept_of, body_of, skips_of}

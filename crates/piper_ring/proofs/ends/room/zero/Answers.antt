@@ -1,4 +1,5 @@
--- The next place to be zeroed is the first of `blank`, and in the first turn its number is its offset.
+-- The next place to be zeroed is the first of `blank`, and in the first turn its number is its
+-- offset.
 use Rattle.std.proofs.Common.{◌≡◌, ℕ, ◌+◌, ◌<◌, ◌≤◌, arith, sym, ap, ◌∙◌}
 use Rattle.rtrb.specs.Fifo.{slot_of as offset_of}
 use Rattle.rtrb.proofs.Positions.{slot_small}

@@ -1,4 +1,5 @@
--- All that was published lies at most a turn past the head, and what is lent lies in the room that is left.
+-- All that was published lies at most a turn past the head, and what is lent lies in the room that
+-- is left.
 -- Both ends keep their views as the one comes to know of all bytes, and the other of all room.
 use Rattle.std.proofs.Common.{◌≡◌, ℕ, ◌+◌, ◌-◌, ◌^◌, ◌<◌, ◌≤◌, ◌++◌, List, length, take, arith, refl, sym, subst, ap, ◌∙◌, length-append}
 use mathlib.Core.List.{IsPrefix}

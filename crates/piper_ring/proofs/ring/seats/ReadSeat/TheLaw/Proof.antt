@@ -1,4 +1,5 @@
--- A `&` to the reader's side lends the invariant and a share of what the reader knows. Assumes `Logic`.
+-- A `&` to the reader's side lends the invariant and a share of what the reader knows. Assumes
+-- `Logic`.
 use denote.Param.Shared.{copy_shared}
 use denote.Struct.Field.{RawPtr-field}
 use denote.Struct.Laws.{RawPtr-copy}

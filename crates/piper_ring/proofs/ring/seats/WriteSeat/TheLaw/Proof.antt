@@ -1,4 +1,5 @@
--- A `&` to the writer's side lends the invariant and a share of what the writer knows. Assumes `Logic`.
+-- A `&` to the writer's side lends the invariant and a share of what the writer knows. Assumes
+-- `Logic`.
 use denote.Param.Shared.{copy_shared}
 use denote.Struct.Field.{RawPtr-field}
 use denote.Struct.Laws.{RawPtr-copy}

@@ -1,4 +1,5 @@
--- `leave` is one swap: it gives the end's places to the invariant, and takes all of the memory out where the other end is gone. Assumes `Logic`.
+-- `leave` is one swap: it gives the end's places to the invariant, and takes all of the memory out
+-- where the other end is gone. Assumes `Logic`.
 use Rattle.std.proofs.Common.{false, true, ◌≡◌, ℕ, ◌+◌, ◌-◌, ◌^◌, List, [], ◌∷◌, length, sym, refl, ap, arith, lit<, w64}
 use mir.Val.{Val, vint, vptr}
 use base.Logic.{SProp, emp}
