@@ -3,7 +3,7 @@
 # names of its clauses. ./write_api.sh --check writes nothing, and fails where the page is not as the sources say.
 set -eu
 cd "$(dirname "$0")"
-crates=(piper piper_lines piper_futures piper_streams piper_duplex piper_transfer piper_tokio piper_ring)
+crates=(piper piper_lines piper_futures piper_streams piper_duplex piper_transfer piper_tokio)
 
 # The names that a crate exports: those that lib.rt names, and all of the modules that are public there.
 exported() {
@@ -91,7 +91,7 @@ page() {
     local crate
     echo "# The public calls"
     echo
-    echo "Written by \`./write_api.sh\` from the sources: change those, and run it. Each call has its signature, what it does, the clauses that it asks of its caller, and those that it gives; \`one\` has no name. [CONTRACTS.md](CONTRACTS.md) says how clauses are read."
+    echo "Written by \`./write_api.sh\` from the sources: change those, and run it. Each call has its signature, what it does, the clauses that it asks of its caller, and those that it gives; \`one\` has no name. [CONTRACTS.md](CONTRACTS.md) says how clauses are read, [RING.md](RING.md) what the ends of \`piper_ring\` are, whose calls the source lists."
     for crate in "${crates[@]}"; do
         [ -d "crates/$crate/src" ] || continue
         echo
