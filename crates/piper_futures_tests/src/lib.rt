@@ -3,4 +3,6 @@
 #![tactic(auto)]
 
 #[cfg(test)]
+mod crossing;
+#[cfg(test)]
 mod owning;

@@ -7,8 +7,6 @@ mod carries;
 #[cfg(test)]
 mod copies;
 #[cfg(test)]
-mod crossing;
-#[cfg(test)]
 mod ends;
 #[cfg(test)]
 mod marks;
@@ -20,8 +18,6 @@ mod owners;
 mod pair;
 #[cfg(test)]
 mod ring;
-#[cfg(test)]
-mod tasks;
 #[cfg(test)]
 mod two_threads;
 #[cfg(test)]
