@@ -36,11 +36,6 @@ goes_on point = record { point = point; answer = None }
 abbrev pub ends : {P : Type 0} → P → Answer → Next P
 ends point answer = record { point = point; answer = Some answer }
 
--- a point, and the answer if there is one, are where a step leads
-pub record Leads {P : Type 0} (to : P × Option Answer) (next : Next P) : Type 0 where
-  pub point : to.0 ≡ next.point
-  pub answer : to.1 ≡ next.answer
-
 -- the count of bytes that a copy has moved stays a machine's number
 abbrev pub SumFits : ℕ → Found → Type 0
 SumFits sum (moved n) = sum + n < 2 ^ 64
@@ -192,12 +187,6 @@ read_after capacity (at.QueryTail query) (unread count) =
     ends at.Idle (query_answer query capacity count)
 read_after capacity point found = read_step point found
 
--- where a step of the reader leads, whatever the capacity
-pub record ReadLeads (to : ReadPoint × Option Answer) (point : ReadPoint)
-    (found : Found) : Type 0 where
-  pub step : Leads to (read_step point found)
-  pub after : (capacity : ℕ) → Leads to (read_after capacity point found)
-
 -- the writer
 
 abbrev pub write_action : WritePoint → Action
@@ -322,11 +311,6 @@ abbrev pub look_begun : Bool → WritePoint → Bool → Next WritePoint
 look_begun none (on.LookClosed l) is_closed = writer_is_open is_closed none l
 look_begun none point is_closed = goes_on point
 
--- where a query's last load leads in a pipe of this capacity
-abbrev pub query_told : ℕ → WritePoint → Next WritePoint
-query_told capacity (on.QueryTail query count) = ends on.Idle (query_answer query capacity count)
-query_told capacity point = goes_on point
-
 -- whether a copy draws behind the step that comes next
 abbrev pub writer_draws_behind : WritePoint → Bool
 writer_draws_behind (on.LookTake (purpose.Copy form)) = true
@@ -340,12 +324,6 @@ write_after capacity room (on.QueryTail query count) found =
 write_after capacity room (on.LookClosed l) (flag is_closed) =
     writer_is_open is_closed (room == 0) l
 write_after capacity room point found = write_step point found
-
--- where a step of the writer leads, whatever the capacity and the known room
-pub record WriteLeads (to : WritePoint × Option Answer) (point : WritePoint)
-    (found : Found) : Type 0 where
-  pub step : Leads to (write_step point found)
-  pub after : (capacity room : ℕ) → Leads to (write_after capacity room point found)
 
 -- whether the answer of a step at this point would end a fill
 abbrev pub is_copy : Purpose → Bool
