@@ -99,7 +99,9 @@ fn texts_and_bodies_come_by_the_choices_of_both_ends(rt: HostRuntime) -> Result<
     text.extend_from_slice(b"three")?;
     sink = block_on(&rt, sink.send(text))??;
     drop(sink);
-    let mut texts = LineStream::new(alloc, reader, 10).map(|line| line.map(into_line_text));
+    let mut texts = LineStream::new(alloc, reader, 10).map(|line| line.map(|line| into_line_text(
+        line,
+    )));
     for text in ["one", "two", "three;"] {
         let Some(came) = block_on(&rt, texts.next())? else {
             return Err(Fail::from("a text is missing"));
