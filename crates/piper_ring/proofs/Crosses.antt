@@ -8,9 +8,18 @@ use denote.Builtin.{u8}
 use denote.Param.Send.{IsSend, Common, sendable}
 use Rattle.core.specs.Allocator.{array_of}
 use Rattle.std.proofs.Crossing.{frees}
-use Rattle.piper_ring.specs.Shared.{words_type, slots, deeds, Names, State, flag, gone, where_gone, until_both, writer_knows, reader_knows, arrived_first, ends, spare, blanks, memory, Inner, common, reader_owns, reader_lends, writer_owns, writer_lends}
+use Rattle.piper_ring.specs.Shared.{key, words_type, slots, deeds, Names, State, flag, gone, where_gone, until_both, writer_knows, reader_knows, arrived_first, ends, spare, blanks, memory, Inner, common, reader_owns, reader_lends, writer_owns, writer_lends}
 use Rattle.piper_ring.proofs.Evidence.{announced-Keyless, took-Keyless, raised-Keyless}
+use Rattle.piper_ring.specs.Slots.{keyed}
 use Rattle.piper_ring.proofs.PlacesLaws.{run-Keyless, span-Keyless}
+
+pub where-Keyless : (b : Bool) (F : Fml) → Keyless F → Keyless (where_gone b F)
+where-Keyless false F k = tt
+where-Keyless true F k = k
+
+pub key-Keyless : (γ : ℕ) → Keyless (key γ)
+unfolding latest
+key-Keyless γ = tt
 
 module _ (w p : Ptr) (z : Names) where
   writer-Keyless : (q : Share) (l : List ℕ) (n : ℕ) (b : Bool) (i : ℕ) → Keyless (writer_knows w p z q l n b i)
@@ -27,8 +36,8 @@ module _ (w p : Ptr) (z : Names) where
 
   slots-Keyless : Keyless (slots w p z)
   slots-Keyless = (
-    λ s. ((λ _. tt), ((tt, tt), ((tt, tt), announced-Keyless z s.1.0.1.1.0 s.1.0.1.1.1))),
-    λ s. ((λ _. tt), ((tt, tt), ((tt, tt), (took-Keyless z s.1.0.1.1.0, raised-Keyless z.closed s.1.0.1.1.1)))),
+    λ s. ((λ _. tt), ((tt, tt), ((tt, tt), (announced-Keyless z s.1.0.1.1.0 s.1.0.1.1.1, where-Keyless (keyed s.1.1) (key z.reader_place) (key-Keyless z.reader_place))))),
+    λ s. ((λ _. tt), ((tt, tt), ((tt, tt), ((took-Keyless z s.1.0.1.1.0, raised-Keyless z.closed s.1.0.1.1.1), where-Keyless (keyed s.1.1) (key z.writer_place) (key-Keyless z.writer_place))))),
   )
 
   deeds-Keyless : Keyless (deeds w p z)
@@ -36,10 +45,6 @@ module _ (w p : Ptr) (z : Names) where
 
   spare-Keyless : IsSend u8 → (k n : ℕ) → Keyless (spare w p z k n)
   spare-Keyless s k n xs = ((λ _. tt), run-Keyless p z.capacity s k xs)
-
-  where-Keyless : (b : Bool) (F : Fml) → Keyless F → Keyless (where_gone b F)
-  where-Keyless false F k = tt
-  where-Keyless true F k = k
 
   unless-Keyless : (a b : Bool) (F : Fml) → Keyless F → Keyless (until_both a b F)
   unless-Keyless true true F k = tt

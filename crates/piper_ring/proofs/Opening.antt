@@ -30,7 +30,7 @@ use Rattle.piper_ring.specs.Shared.{Names, names_of, State, Holds, half, other, 
 use types.Tokens.{name_new}
 use Rattle.std.specs.Coded.{Coded}
 use Rattle.piper_ring.specs.Slots.{Waits, Wakes, Stands, Slot, with_waiter, code_of, slot, slot_at}
-use Rattle.piper_ring.specs.Shared.{Consumed, coded_stream, coded_consumed, published, consumed, took, waits_for, wakes_for, waits_back, wakes_back}
+use Rattle.piper_ring.specs.Shared.{Consumed, coded_stream, coded_consumed, published, consumed, took, key, waits_for, wakes_for, waits_back, wakes_back}
 use Rattle.piper_ring.proofs.Rights.{common_twice, cut}
 use Rattle.piper_ring.proofs.Steps.{closes}
 
@@ -140,15 +140,17 @@ module _ {M : Type 1} {𝓤 : Ura M} (𝓛 : Logic 𝓤) (w p : Ptr) (cap : ℕ)
       use1 𝓛 (‵ (latest numbers half γ n) ⊛ ‵ (latest numbers other γ n)) (cut 𝓛 numbers γ n full_share) $ now ! $ show ! (Begun n) γ $ done !))
 
   module _ {X : Type 0} (c : Coded X) (shows : X → Fml) (x : X) where
-    abbrev SlotMade : ℕ → ℕ × ℕ → SProp 𝓤
-    SlotMade far γ = sep 𝓤 (sem 𝓛 (slot w far γ.0 γ.1 c shows)) (sep 𝓤 (sem 𝓛 (fobs γ.0 ((code_of X c).code (true, (0, x))))) (sem 𝓛 (fobs γ.1 ((code_of X c).code (false, (0, x))))))
+    abbrev SlotMade : ℕ → ℕ × (ℕ × ℕ) → SProp 𝓤
+    SlotMade far γ = sep 𝓤 (sem 𝓛 (slot w far γ.0 γ.1.0 γ.1.1 c shows)) (sep 𝓤 (sem 𝓛 (fsep (fobs γ.0 ((code_of X c).code (true, (0, x)))) (key γ.1.1))) (sem 𝓛 (fsep (fobs γ.1.0 ((code_of X c).code (false, (0, x)))) ftrue)))
 
     -- an empty slot, whose place is with the side that waits
     slot_new : (far : ℕ) → ⟦ word w far 0 ⟧ ∗ ⟦ word w (128 + far) 0 ⟧ ∗ ⟦ shows x ⟧ ⊢ H.⇛ (ex 𝓤 (SlotMade far))
     slot_new far = let a : Waits X = (true, (0, x)) in let b : Wakes X = (false, (0, x)) in let s : Slot X = (a, (b, with_waiter)) in
         qed 𝓛 (‵ (word w far 0) ∷ ‵ (word w (128 + far) 0) ∷ ‵ (shows x) ∷ []) {P = H.⇛ (ex 𝓤 (SlotMade far))} (updating ! $ fjoin ! $
-        name_new ! tt ((code_of X c).code a) (λ γ. name_new ! tt ((code_of X c).code b) (λ δ. move ! (3 ∷ 1 ∷ []) $ fjoin ! $ move ! (3 ∷ 0 ∷ 4 ∷ []) $ fjoin3 ! $
-        nothing ! $ fpack ! (Stands X with_waiter a b) (λ _. ftrue) (refl, refl, omega arith) $ fjoin ! $ fpack ! (Slot X) (slot_at w far γ δ c shows) s $ now ! $ show ! (SlotMade far) (γ, δ) $ move ! (0 ∷ 2 ∷ 1 ∷ []) $ done !)))
+        use0 𝓛 (later (some (λ (ι : ℕ). ‵ (key ι)))) (via 𝓤 _ (latest_new numbers 𝓛 0) (basic 𝓛 _)) $ await ! tt $ pick ! (λ ι. move ! (1 ∷ 2 ∷ 0 ∷ []) $
+        name_new ! tt ((code_of X c).code a) (λ γ. name_new ! tt ((code_of X c).code b) (λ δ. move ! (3 ∷ 1 ∷ []) $ fjoin ! $ move ! (4 ∷ []) $ nothing ! $ move ! (1 ∷ 0 ∷ []) $ fjoin ! $ move ! (4 ∷ 1 ∷ 0 ∷ []) $ fjoin3 ! $
+        nothing ! $ fpack ! (Stands X with_waiter a b) (λ _. ftrue) (refl, refl, omega arith) $ fjoin ! $ fpack ! (Slot X) (slot_at w far γ δ ι c shows) s $
+        move ! (2 ∷ 3 ∷ []) $ fjoin ! $ move ! (2 ∷ []) $ nothing ! $ move ! (1 ∷ 0 ∷ []) $ fjoin ! $ now ! $ show ! (SlotMade far) (γ, (δ, ι)) $ move ! (2 ∷ 1 ∷ 0 ∷ []) $ done !))))
 
   abbrev pub zero_words : Fml
   zero_words = fsep (word w 128 0) (fsep (word w 256 0) (fsep (word w 384 0) (word w 0 0)))
@@ -157,7 +159,7 @@ module _ {M : Type 1} {𝓤 : Ura M} (𝓛 : Logic 𝓤) (w p : Ptr) (cap : ℕ)
   slot_words = fsep (word w 512 0) (fsep (word w 640 0) (fsep (word w 768 0) (word w 896 0)))
 
   abbrev pub Deeds : Fml
-  Deeds = titles w p (names_of cap 0 0 0 0 0 0 0 0 0 0 0)
+  Deeds = titles w p (names_of cap 0 0 0 0 0 0 0 0 0 0 0 0 0)
 
   -- the words are 0 and the rights to free are there: an empty ring, all of whose places are the
   -- writer's room
@@ -175,15 +177,15 @@ module _ {M : Type 1} {𝓤 : Ura M} (𝓛 : Logic 𝓤) (w p : Ptr) (cap : ℕ)
       use0 𝓛 (later (some (λ (γ : ℕ). ‵ (latest numbers half γ 0) ⊛ ‵ (latest numbers other γ 0)))) (starts 0) $ await ! tt $ pick ! (λ k. split ! $
       move ! (3 ∷ 0 ∷ []) $ fjoin ! $ move ! (2 ∷ 1 ∷ []) $ fjoin ! $
       use0 𝓛 (later (some (λ (γ : ℕ). ‵ (latest numbers full_share γ 0)))) (via 𝓤 _ (latest_new numbers 𝓛 0) (basic 𝓛 _)) $ await ! tt $ pick ! (λ x.
-      let y : Names = names_of cap s l h k x j i 0 0 0 0 in let was : Consumed = (0, false) in
+      let y : Names = names_of cap s l h k x j i 0 0 0 0 0 0 in let was : Consumed = (0, false) in
       move ! (4 ∷ []) $ fsplit3 ! $ use1 𝓛 (‵ (latest O half s none) ⊛ ‵ (published y none)) (latest_shows O 𝓛 half s none none (reaches_same none)) $ split ! $ move ! (0 ∷ 2 ∷ 3 ∷ []) $ fjoin3 ! $
       move ! (4 ∷ []) $ fsplit ! $ fsplit ! $ use1 𝓛 (‵ (latest numbers half h 0) ⊛ ‵ (took y 0)) (latest_shows numbers 𝓛 half h 0 0 (omega arith)) $ split ! $ move ! (0 ∷ 2 ∷ []) $ fjoin ! $ move ! (0 ∷ 2 ∷ []) $ fjoin ! $
       move ! (1 ∷ []) $ nothing ! $ move ! (1 ∷ 0 ∷ []) $ fjoin ! $ move ! (9 ∷ []) $ fsplit3 ! $ move ! (2 ∷ []) $ fsplit ! $
-      move ! (0 ∷ 1 ∷ 4 ∷ []) $ use3 𝓛 (later (some (λ (γ : ℕ × ℕ). ‵ (slot w 768 γ.0 γ.1 coded_consumed (consumed y)) ⊛ ‵ (fobs γ.0 ((code_of Consumed coded_consumed).code (true, (0, was)))) ⊛ ‵ (fobs γ.1 ((code_of Consumed coded_consumed).code (false, (0, was)))))))
+      move ! (0 ∷ 1 ∷ 4 ∷ []) $ use3 𝓛 (later (some (λ (γ : ℕ × (ℕ × ℕ)). ‵ (slot w 768 γ.0 γ.1.0 γ.1.1 coded_consumed (consumed y)) ⊛ ‵ (fsep (fobs γ.0 ((code_of Consumed coded_consumed).code (true, (0, was)))) (key γ.1.1)) ⊛ ‵ (fsep (fobs γ.1.0 ((code_of Consumed coded_consumed).code (false, (0, was)))) ftrue))))
       (slot_new coded_consumed (consumed y) was 768) $ await ! tt $ pick ! (λ d. split3 ! $
-      move ! (3 ∷ 4 ∷ 7 ∷ []) $ use3 𝓛 (later (some (λ (γ : ℕ × ℕ). ‵ (slot w 512 γ.0 γ.1 coded_stream (published y)) ⊛ ‵ (fobs γ.0 ((code_of Stream coded_stream).code (true, (0, none)))) ⊛ ‵ (fobs γ.1 ((code_of Stream coded_stream).code (false, (0, none)))))))
+      move ! (3 ∷ 4 ∷ 7 ∷ []) $ use3 𝓛 (later (some (λ (γ : ℕ × (ℕ × ℕ)). ‵ (slot w 512 γ.0 γ.1.0 γ.1.1 coded_stream (published y)) ⊛ ‵ (fsep (fobs γ.0 ((code_of Stream coded_stream).code (true, (0, none)))) (key γ.1.1)) ⊛ ‵ (fsep (fobs γ.1.0 ((code_of Stream coded_stream).code (false, (0, none)))) ftrue))))
       (slot_new coded_stream (published y) none 512) $ await ! tt $ pick ! (λ a. split3 ! $
-      let z : Names = names_of cap s l h k x j i a.0 a.1 d.0 d.1 in let so : Holds cap fresh = record { known = omega arith; arrived = omega arith; written = omega arith; freed = omega arith; closing = omega arith; shutting = omega arith; stages = (omega arith, omega arith) } in
+      let z : Names = names_of cap s l h k x j i a.0 a.1.0 d.0 d.1.0 a.1.1 d.1.1 in let so : Holds cap fresh = record { known = omega arith; arrived = omega arith; written = omega arith; freed = omega arith; closing = omega arith; shutting = omega arith; stages = (omega arith, omega arith) } in
       let I : Fml = Inner w p z in let C : Fml = common w p z in
       move ! (0 ∷ 3 ∷ []) $ fjoin ! $ move ! (11 ∷ 0 ∷ []) $ fjoin ! $ move ! (1 ∷ 2 ∷ []) $ fjoin ! $ move ! (2 ∷ 3 ∷ []) $ fjoin ! $ move ! (1 ∷ 0 ∷ []) $ fjoin ! $ move ! (1 ∷ 4 ∷ 5 ∷ 2 ∷ 6 ∷ 3 ∷ 7 ∷ 0 ∷ []) $
       nothing ! $ fjoin ! $ nothing ! $ fjoin ! $ nothing ! $ nothing ! $ fpack ! (length {A = ℕ} [] ≡ 0 + cap - cap) (λ _. ftrue) (omega arith) $ fjoin ! $ fpack ! (List ℕ) (idle w p z cap (0 + cap - cap)) [] $ fjoin ! $ nothing ! $ fjoin ! $

@@ -20,7 +20,7 @@ use Rattle.rtrb.specs.Shared.{run, span}
 use Rattle.piper_ring.specs.Places.{fact, byte, unset}
 pub use Rattle.piper_ring.specs.Streams.{Stream}
 use Rattle.piper_ring.specs.Streams.{streams}
-pub use Rattle.piper_ring.specs.Words.{word, word_room}
+pub use Rattle.piper_ring.specs.Words.{flag, word, word_room, where_gone, key}
 use Rattle.piper_ring.specs.Slots.{slot, code_of}
 
 -- The capacity, and the ghost names under which the ring's history is kept.
@@ -44,9 +44,12 @@ pub record Names : Type 0 where
   pub writer_wakes : ℕ
   pub writer_waits : ℕ
   pub reader_wakes : ℕ
+  -- the rights to the places of the two wakers
+  pub reader_place : ℕ
+  pub writer_place : ℕ
 
-abbrev pub names_of : (c s l h e o i j a b d f : ℕ) → Names
-names_of c s l h e o i j a b d f = record {
+abbrev pub names_of : (c s l h e o i j a b d f u v : ℕ) → Names
+names_of c s l h e o i j a b d f u v = record {
   capacity = c;
   sent = s;
   limit = l;
@@ -59,6 +62,8 @@ names_of c s l h e o i j a b d f = record {
   writer_wakes = b;
   writer_waits = d;
   reader_wakes = f;
+  reader_place = u;
+  writer_place = v;
 }
 
 abbrev pub Three : Type 0
@@ -67,22 +72,26 @@ Three = ℕ × (ℕ × ℕ)
 abbrev pub coded_three : Coded Three
 coded_three = coded× coded_ℕ (coded× coded_ℕ coded_ℕ)
 
-abbrev pub of_threes : Three → Three → Three → Three → Names
-of_threes a b c d =
-    names_of a.0 a.1.0 a.1.1 b.0 b.1.0 b.1.1 c.0 c.1.0 c.1.1 d.0 d.1.0 d.1.1
+abbrev pub of_threes : Three → Three → Three → Three → ℕ × ℕ → Names
+of_threes a b c d e =
+    names_of a.0 a.1.0 a.1.1 b.0 b.1.0 b.1.1 c.0 c.1.0 c.1.1 d.0 d.1.0 d.1.1 e.0 e.1
 
 abbrev pub names_code : Coded Names
 names_code =
-    code_by ((Three × Three) × (Three × Three))
-    (coded× (coded× coded_three coded_three) (coded× coded_three coded_three))
+    code_by ((Three × Three) × ((Three × Three) × (ℕ × ℕ)))
+    (coded× (coded× coded_three coded_three)
+    (coded× (coded× coded_three coded_three) (coded× coded_ℕ coded_ℕ)))
     (λ z. (
       ((z.capacity, (z.sent, z.limit)), (z.head, (z.seen, z.closed))),
       (
-        (z.reader_stage, (z.writer_stage, z.reader_waits)),
-        (z.writer_wakes, (z.writer_waits, z.reader_wakes)),
+        (
+          (z.reader_stage, (z.writer_stage, z.reader_waits)),
+          (z.writer_wakes, (z.writer_waits, z.reader_wakes)),
+        ),
+        (z.reader_place, z.writer_place),
       ),
     ))
-    (λ p. of_threes p.0.0 p.0.1 p.1.0 p.1.1) (λ _. refl)
+    (λ p. of_threes p.0.0 p.0.1 p.1.0.0 p.1.0.1 p.1.1) (λ _. refl)
 
 -- which ring it is: where its words and its memory begin, and its names
 abbrev pub Ring : Type 0
@@ -97,10 +106,6 @@ half = left full_share
 
 abbrev pub other : Share
 other = right full_share
-
-abbrev pub flag : Bool → ℕ
-flag false = 0
-flag true = 1
 
 pub record State : Type 0 where
   pub sent : List ℕ
@@ -127,10 +132,6 @@ abbrev pub until_both : Bool → Bool → Fml → Fml
 until_both true true F = ftrue
 until_both false b F = F
 until_both true false F = F
-
-abbrev pub where_gone : Bool → Fml → Fml
-where_gone false F = ftrue
-where_gone true F = F
 
 pub record Holds (capacity : ℕ) (s : State) : Type 0 where
   pub known : s.head ≤ s.seen
@@ -199,29 +200,33 @@ consumed z c = fsep (took z c.0) (raised z.closed c.1)
 -- what the reader knows of its own slot, and the writer of the reader's
 abbrev pub waits_for : Names → Bool → ℕ → List ℕ → Bool → Fml
 waits_for z owns tickets bytes shut =
-    fobs z.reader_waits ((code_of Stream coded_stream).code (owns, (tickets, (bytes, shut))))
+    fsep (fobs z.reader_waits ((code_of Stream coded_stream).code (owns, (tickets, (bytes, shut)))))
+    (where_gone owns (key z.reader_place))
 
 abbrev pub wakes_for : Names → Bool → ℕ → List ℕ → Bool → Fml
 wakes_for z holds taken bytes shut =
-    fobs z.writer_wakes ((code_of Stream coded_stream).code (holds, (taken, (bytes, shut))))
+    fsep (fobs z.writer_wakes ((code_of Stream coded_stream).code (holds, (taken, (bytes, shut)))))
+    (where_gone holds (key z.reader_place))
 
 -- what the writer knows of its own slot, and the reader of the writer's
 abbrev pub waits_back : Names → Bool → ℕ → ℕ → Bool → Fml
 waits_back z owns tickets count over =
-    fobs z.writer_waits ((code_of Consumed coded_consumed).code (owns, (tickets, (count, over))))
+    fsep (fobs z.writer_waits ((code_of Consumed coded_consumed).code (owns, (tickets, (count, over)))))
+    (where_gone owns (key z.writer_place))
 
 abbrev pub wakes_back : Names → Bool → ℕ → ℕ → Bool → Fml
 wakes_back z holds taken count over =
-    fobs z.reader_wakes ((code_of Consumed coded_consumed).code (holds, (taken, (count, over))))
+    fsep (fobs z.reader_wakes ((code_of Consumed coded_consumed).code (holds, (taken, (count, over)))))
+    (where_gone holds (key z.writer_place))
 
 module _ (w p : Ptr) (z : Names) where
   -- in the reader's slot the reader waits for what the writer publishes
   abbrev pub reader_slot : Fml
-  reader_slot = slot w 512 z.reader_waits z.writer_wakes coded_stream (published z)
+  reader_slot = slot w 512 z.reader_waits z.writer_wakes z.reader_place coded_stream (published z)
 
   -- in the writer's slot the writer waits for what the reader consumes
   abbrev pub writer_slot : Fml
-  writer_slot = slot w 768 z.writer_waits z.reader_wakes coded_consumed (consumed z)
+  writer_slot = slot w 768 z.writer_waits z.reader_wakes z.writer_place coded_consumed (consumed z)
 
   abbrev pub words : State → Fml
   words s =

@@ -6,7 +6,7 @@ use base.Fml.{Fml, fsep, fex, fauth}
 use denote.RawPtr.{Ptr}
 use Rattle.std.specs.Coded.{Coded, coded×, coded_ℕ, coded_bool}
 use Rattle.piper_ring.specs.Places.{fact}
-use Rattle.piper_ring.specs.Words.{word}
+use Rattle.piper_ring.specs.Words.{word, where_gone, key}
 
 -- where the place of the waker is
 pub data Where : Type 0 where
@@ -26,6 +26,13 @@ back_of with_waiter = 0
 back_of in_slot = 0
 back_of with_taker = 0
 back_of handed_back = 1
+
+-- the right to the place is with the slot's words
+abbrev pub keyed : Where → Bool
+keyed with_waiter = false
+keyed in_slot = true
+keyed with_taker = false
+keyed handed_back = true
 
 module _ (X : Type 0) where
   -- of the side that waits: whether it has the place, how often it registered,
@@ -80,13 +87,13 @@ module _ (X : Type 0) where
 
 -- the words lie `far` bytes after w and 128 more; the ghost names are those
 -- of the side that waits and of the side that wakes; `shows` is evidence of what was stored
-module _ {X : Type 0} (w : Ptr) (far : ℕ) (waits wakes : ℕ) (c : Coded X) (shows : X → Fml) where
+module _ {X : Type 0} (w : Ptr) (far : ℕ) (waits wakes place : ℕ) (c : Coded X) (shows : X → Fml) where
   abbrev pub slot_at : Slot X → Fml
   slot_at s =
       fsep (fact (Stands X s.1.1 s.0 s.1.0))
       (fsep (fsep (word w far (flag_of s.1.1)) (word w (128 + far) (back_of s.1.1)))
       (fsep (fsep (fauth waits ((code_of X c).code s.0)) (fauth wakes ((code_of X c).code s.1.0)))
-      (shows s.1.0.1.1)))
+      (fsep (shows s.1.0.1.1) (where_gone (keyed s.1.1) (key place)))))
 
   abbrev pub slot : Fml
   slot = fex (Slot X) slot_at

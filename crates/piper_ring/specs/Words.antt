@@ -1,9 +1,10 @@
--- A word of the ring's memory.
-use Rattle.std.specs.Prelude.{ℕ, ◌+◌}
+-- A word of the ring's memory, and a right that is there or not.
+use Rattle.std.specs.Prelude.{ℕ, ◌+◌, Bool, true, false}
 use mir.Syntax.{w64, ty_int}
 use mir.Val.{vint}
 use base.Fraction.{full_share}
-use base.Fml.{Fml, fat, froom}
+use base.Fml.{Fml, ftrue, fat, froom}
+use base.Growing.{numbers, latest}
 use denote.RawPtr.{Ptr, block_of, count_of}
 
 -- the word that lies so far after w, in bytes, holds n
@@ -12,3 +13,15 @@ word w far n = fat full_share (ty_int w64) (block_of w) (far + count_of w) (vint
 
 abbrev pub word_room : Ptr → ℕ → Fml
 word_room w far = froom (ty_int w64) (block_of w) (far + count_of w)
+
+abbrev pub flag : Bool → ℕ
+flag false = 0
+flag true = 1
+
+abbrev pub where_gone : Bool → Fml → Fml
+where_gone false F = ftrue
+where_gone true F = F
+
+-- a right that only one can have
+abbrev pub key : ℕ → Fml
+key γ = latest numbers full_share γ 0

@@ -3,7 +3,7 @@ use Rattle.std.proofs.Common.{true, lit<, ◌≡◌, ℕ, ◌+◌, List, [], ◌
 use mir.Syntax.{named}
 use mir.Val.{Val, vint, vptr}
 use base.Logic.{SProp, emp, via}
-use base.Fml.{Share, Fml, ftrue, flft, fhide, fobs}
+use base.Fml.{Share, Fml, ftrue, flft, fhide}
 use types.Kit.{‵, raw, ◌⊛◌, given, mean, at_ret, ◌$◌, ◌∵◌, !, qed, by, move, keep, drop, split, split3, join, fsplit, fsplit3, fjoin, fjoin3, fpick, fpack, learn, use0, use1, use3, rewrite, feq_i}
 use types.Run.{stop, fld, load, look, lit, of_opd, bin, no_more, and_then, first, blocks, exec, Calls-last, returns, enter}
 use types.ByLocal.{alloc_all, pass_all, free_all, look_at, get, through, sets, lands_last, env}
@@ -29,11 +29,12 @@ use Rattle.core.proofs.slots.Lent.{pointer_in, pointer_out}
 use Rattle.rtrb.proofs.Walks.{proved, leaves}
 use Rattle.rtrb.proofs.Calls.{seq_cst, fm, stored, has_stored, stores}
 use Rattle.piper_ring.specs.Streams.{Stream}
-use Rattle.piper_ring.specs.Slots.{Waits, code_of, HandsOver}
+use Rattle.piper_ring.specs.Slots.{Waits, HandsOver}
 use Rattle.piper_ring.specs.SlotViews.{of_reader_waits}
-use Rattle.piper_ring.specs.Shared.{Names, coded_stream, flag, Placed, common, reader_knows, reader_lends}
+use Rattle.piper_ring.specs.Shared.{Names, flag, Placed, common, reader_knows, reader_lends}
 use Rattle.piper_ring.proofs.Rights.{reader_halves}
 use Rattle.piper_ring.proofs.Steps.{flag_small}
+use Rattle.piper_ring.specs.Shared.{waits_for}
 use Rattle.piper_ring.proofs.Slots.{ReaderWaited, reader_hands_over}
 use Rattle.piper_ring.proofs.Fields.{ghost_val, SentData, sent_made}
 use Rattle.piper_ring.specs.contracts.ring.slots.ReaderWaits as Slot
@@ -68,7 +69,7 @@ hand_over_spec 𝓤 𝓛 𝓜 𝓡 wired =
     pointer_in ! tt w bw ow isw b (o + 0) (λ r.
     sets ! (of_opd ! (load ! (through ! refl (fld ! refl (stop !))) (look ! 0 refl))) refl (tt, tt) $ pointer_out ! tt w bw ow isw b (o + 0) $
     sets ! (bin ! (get ! refl) (lit ! tt) tt) refl (tt, tt) $ move ! (2 ∷ 0 ∷ []) $ shr_bor-open ! tt (reader_halves 𝓛 w p z h.head h.seen (flag h.leaving)) (λ s. move ! (2 ∷ 1 ∷ 4 ∷ []) $
-    rewrite ! 2 (λ (m : Names). ‵ (fobs m.reader_waits ((code_of Stream coded_stream).code view))) {x = z} {y = k.names} asked.0 refl $
+    rewrite ! 2 (λ (m : Names). ‵ (waits_for m view.0 view.1.0 view.1.1.0 view.1.1.1)) {x = z} {y = k.names} asked.0 refl $
     let out : ℕ → Fml = ReaderWaited 𝓛 w p z s h.head h.seen (flag h.leaving) (flag_small h.leaving) view (λ n x u. HandsOver Stream view x n u) in
     use3 𝓛 (raw (𝓣.C _ (vptr bw e ∷ vint w64 1 ∷ seq_cst ∷ []) (λ u. mean 𝓛 (stored (out 0) u))))
     (via 𝓤 _ (reader_hands_over 𝓛 w p z s h.head h.seen (flag h.leaving) (flag_small h.leaving) view asked.1) (stores 𝓛 𝓜 𝓡 (code.calls-core::raw_atomic::store 𝓡.env wired) (block_ptr bw e) 1 (lit< tt) (out 0))) $
@@ -77,7 +78,7 @@ hand_over_spec 𝓤 𝓛 𝓜 𝓡 wired =
     lands_last ! refl (tt, tt) $ exec ! 𝓣.C 𝓣.Λ Ev (tail fn.body) (at_ret Ev Post) $ sets ! (agg ! (no_more !)) refl (tt, tt) $ sets ! (agg ! (and_then ! (get ! refl) (no_more !))) refl (tt, (tt, tt)) $
     fpick ! (λ r. let v : Waits Stream = r.1 in fsplit3 ! $ fpick ! (λ told. drop ! $ use0 𝓛 (‵ (SentData.own_val (record {}, tt) (ghost_val ∷ []))) (sent_made 𝓛) $ fjoin ! $ move ! (1 ∷ []) $ fsplit ! $ move ! (3 ∷ 1 ∷ []) $ obor_close ! tt $ drop ! $
     let k' : SRow.Denot = record k { owns = v.0; tickets = v.1.0; bytes = v.1.1.0; shut = v.1.1.1 } in let mark : Mark.the_row.Denot = record { mark = record {}; names = z; bytes = r.0.0; shut = r.0.1 } in
-    rewrite ! 1 (λ (m : Names). ‵ (fobs m.reader_waits ((code_of Stream coded_stream).code v))) {x = k.names} {y = z} (sym asked.0) refl $ move ! (3 ∷ 1 ∷ []) $ fjoin ! $ move ! (3 ∷ 0 ∷ 4 ∷ 5 ∷ 6 ∷ []) $ closes ! tt SRow k' vs' b' o' $
+    rewrite ! 1 (λ (m : Names). ‵ (waits_for m v.0 v.1.0 v.1.1.0 v.1.1.1)) {x = k.names} {y = z} (sym asked.0) refl $ move ! (3 ∷ 1 ∷ []) $ fjoin ! $ move ! (3 ∷ 0 ∷ 4 ∷ 5 ∷ 6 ∷ []) $ closes ! tt SRow k' vs' b' o' $
     feq_i ! (List Val) (vptr b' o' ∷ []) (vptr b' o' ∷ []) refl $ fjoin3 ! $ nothing ! $ move ! (1 ∷ 0 ∷ []) $ fjoin ! $ nothing ! $ fjoin ! $ nothing ! $ move ! (2 ∷ 0 ∷ []) $ join ! $ move ! (2 ∷ 0 ∷ []) $ join ! $
     use0 𝓛 (raw (fact 𝓤 (HandsOver Stream view (r.0.0, r.0.1) 0 v))) (fact_i 𝓤 (HandsOver Stream view (r.0.0, r.0.1) 0 v) (emp 𝓤) told) $ use0 𝓛 (raw (fact 𝓤 (z ≡ z))) (fact_i 𝓤 (z ≡ z) (emp 𝓤) refl) $ join ! $ use0 𝓛 (raw (fact 𝓤 (k.names ≡ k.names))) (fact_i 𝓤 (k.names ≡ k.names) (emp 𝓤) refl) $ join ! $ move ! (3 ∷ []) $
     returns ! (look_at ! 0 refl) $ free_all ! refl $ keep ! (2 ∷ 3 ∷ 0 ∷ 1 ∷ []) $ by ! (leaves 𝓛 En hs c y ghost_val mark (tt, (k', tt)) (tt, (tt, tt))))))))))))))

@@ -3,7 +3,7 @@ use Rattle.std.proofs.Common.{true, false, lit<, ◌≡◌, ℕ, ◌+◌, List, 
 use mir.Syntax.{named}
 use mir.Val.{Val, vint, vptr, vunit}
 use base.Logic.{SProp, emp, via}
-use base.Fml.{Share, Fml, ftrue, flft, fhide, fobs}
+use base.Fml.{Share, Fml, ftrue, flft, fhide}
 use types.Kit.{‵, raw, ◌⊛◌, given, mean, at_ret, ◌$◌, ◌∵◌, !, qed, by, move, keep, drop, split, split3, join, fsplit, fsplit3, fjoin, fjoin3, fpick, fpack, learn, use0, use1, use3, rewrite, feq_i}
 use types.Run.{stop, fld, load, look, lit, unit_lit, of_opd, bin, no_more, and_then, first, blocks, exec, Calls-last, returns, enter}
 use types.ByLocal.{alloc_all, pass_all, free_all, look_at, get, through, sets, lands_last, env}
@@ -29,11 +29,12 @@ use Rattle.core.proofs.slots.Lent.{pointer_in, pointer_out}
 use Rattle.rtrb.proofs.Walks.{proved, leaves}
 use Rattle.rtrb.proofs.Calls.{seq_cst, fm, stored, has_stored, stores}
 use Rattle.piper_ring.specs.Streams.{Stream}
-use Rattle.piper_ring.specs.Slots.{Wakes, code_of, GivesBack}
+use Rattle.piper_ring.specs.Slots.{Wakes, GivesBack}
 use Rattle.piper_ring.specs.SlotViews.{of_writer_wakes}
-use Rattle.piper_ring.specs.Shared.{Names, coded_stream, Placed, common, writer_knows, writer_lends}
+use Rattle.piper_ring.specs.Shared.{Names, Placed, common, writer_knows, writer_lends}
 use Rattle.piper_ring.proofs.Rights.{writer_halves}
 use Rattle.piper_ring.proofs.Steps.{flag_small}
+use Rattle.piper_ring.specs.Shared.{wakes_for}
 use Rattle.piper_ring.proofs.Slots.{WriterWoke, writer_gives_back}
 use Rattle.piper_ring.specs.contracts.ring.slots.WriterWakes as Slot
 use Rattle.piper_ring.specs.contracts.ring.seats.WriteSeat as Seat
@@ -66,7 +67,7 @@ give_back_spec 𝓤 𝓛 𝓜 𝓡 wired =
     pointer_in ! tt w bw ow isw b (o + 0) (λ r.
     sets ! (of_opd ! (load ! (through ! refl (fld ! refl (stop !))) (look ! 0 refl))) refl (tt, tt) $ pointer_out ! tt w bw ow isw b (o + 0) $
     sets ! (bin ! (get ! refl) (lit ! tt) tt) refl (tt, tt) $ move ! (2 ∷ 0 ∷ []) $ shr_bor-open ! tt (writer_halves 𝓛 w p z h.sent h.limit h.shut 0) (λ s. move ! (2 ∷ 1 ∷ 4 ∷ []) $
-    rewrite ! 2 (λ (m : Names). ‵ (fobs m.writer_wakes ((code_of Stream coded_stream).code view))) {x = z} {y = k.names} asked.0 refl $
+    rewrite ! 2 (λ (m : Names). ‵ (wakes_for m view.0 view.1.0 view.1.1.0 view.1.1.1)) {x = z} {y = k.names} asked.0 refl $
     let out : ℕ → Fml = WriterWoke 𝓛 w p z s h.sent h.limit h.shut 0 (flag_small false) view (GivesBack Stream view (h.sent, h.shut)) in
     use3 𝓛 (raw (𝓣.C _ (vptr bw e ∷ vint w64 1 ∷ seq_cst ∷ []) (λ u. mean 𝓛 (stored (out 0) u))))
     (via 𝓤 _ (writer_gives_back 𝓛 w p z s h.sent h.limit h.shut 0 (flag_small false) view asked.1) (stores 𝓛 𝓜 𝓡 (code.calls-core::raw_atomic::store 𝓡.env wired) (block_ptr bw e) 1 (lit< tt) (out 0))) $
@@ -75,7 +76,7 @@ give_back_spec 𝓤 𝓛 𝓜 𝓡 wired =
     lands_last ! refl (tt, tt) $ exec ! 𝓣.C 𝓣.Λ Ev (tail fn.body) (at_ret Ev Post) $ sets ! (of_opd ! (unit_lit !)) refl (tt, tt) $
     fpick ! (λ v. fsplit3 ! $ fpick ! (λ told. drop ! $ move ! (2 ∷ 1 ∷ []) $ obor_close ! tt $ drop ! $
     let k' : SRow.Denot = record k { holds = v.0; taken = v.1.0; bytes = v.1.1.0; shut = v.1.1.1 } in
-    rewrite ! 1 (λ (m : Names). ‵ (fobs m.writer_wakes ((code_of Stream coded_stream).code v))) {x = k.names} {y = z} (sym asked.0) refl $ move ! (2 ∷ 1 ∷ []) $ fjoin ! $ move ! (2 ∷ 0 ∷ 3 ∷ 4 ∷ 5 ∷ []) $ closes ! tt SRow k' vs' b' o' $
+    rewrite ! 1 (λ (m : Names). ‵ (wakes_for m v.0 v.1.0 v.1.1.0 v.1.1.1)) {x = k.names} {y = z} (sym asked.0) refl $ move ! (2 ∷ 1 ∷ []) $ fjoin ! $ move ! (2 ∷ 0 ∷ 3 ∷ 4 ∷ 5 ∷ []) $ closes ! tt SRow k' vs' b' o' $
     feq_i ! (List Val) (vptr b' o' ∷ []) (vptr b' o' ∷ []) refl $ fjoin3 ! $ nothing ! $ move ! (1 ∷ 0 ∷ []) $ fjoin ! $ nothing ! $ fjoin ! $ nothing ! $ move ! (2 ∷ 0 ∷ []) $ join ! $ move ! (2 ∷ 0 ∷ []) $ join ! $
     use0 𝓛 (raw (fact 𝓤 (GivesBack Stream view (h.sent, h.shut) 0 v))) (fact_i 𝓤 (GivesBack Stream view (h.sent, h.shut) 0 v) (emp 𝓤) told) $ use0 𝓛 (raw (fact 𝓤 (k.names ≡ k.names))) (fact_i 𝓤 (k.names ≡ k.names) (emp 𝓤) refl) $ join ! $ feq_i ! (List Val) (vunit ∷ []) (vunit ∷ []) refl $
     returns ! (look_at ! 0 refl) $ free_all ! refl $ keep ! (2 ∷ 3 ∷ 0 ∷ 1 ∷ []) $ by ! (leaves 𝓛 En hs c y vunit tt (tt, (k', tt)) (tt, (tt, tt))))))))))))))

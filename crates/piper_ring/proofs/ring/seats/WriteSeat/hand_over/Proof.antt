@@ -3,7 +3,7 @@ use Rattle.std.proofs.Common.{true, false, lit<, ◌≡◌, ℕ, ◌+◌, List, 
 use mir.Syntax.{named}
 use mir.Val.{Val, vint, vptr}
 use base.Logic.{SProp, emp, via}
-use base.Fml.{Share, Fml, ftrue, flft, fhide, fobs}
+use base.Fml.{Share, Fml, ftrue, flft, fhide}
 use types.Kit.{‵, raw, ◌⊛◌, given, mean, at_ret, ◌$◌, ◌∵◌, !, qed, by, move, keep, drop, split, split3, join, fsplit, fsplit3, fjoin, fjoin3, fpick, fpack, learn, use0, use1, use3, rewrite, feq_i}
 use types.Run.{stop, fld, load, look, lit, of_opd, bin, no_more, and_then, first, blocks, exec, Calls-last, returns, enter}
 use types.ByLocal.{alloc_all, pass_all, free_all, look_at, get, through, sets, lands_last, env}
@@ -28,11 +28,12 @@ use Rattle.core.proofs.atomic.Steps.{tail}
 use Rattle.core.proofs.slots.Lent.{pointer_in, pointer_out}
 use Rattle.rtrb.proofs.Walks.{proved, leaves}
 use Rattle.rtrb.proofs.Calls.{seq_cst, fm, stored, has_stored, stores}
-use Rattle.piper_ring.specs.Slots.{Waits, code_of, HandsOver}
+use Rattle.piper_ring.specs.Slots.{Waits, HandsOver}
 use Rattle.piper_ring.specs.SlotViews.{of_writer_waits}
-use Rattle.piper_ring.specs.Shared.{Names, Consumed, coded_consumed, Placed, common, writer_knows, writer_lends}
+use Rattle.piper_ring.specs.Shared.{Names, Consumed, Placed, common, writer_knows, writer_lends}
 use Rattle.piper_ring.proofs.Rights.{writer_halves}
 use Rattle.piper_ring.proofs.Steps.{flag_small}
+use Rattle.piper_ring.specs.Shared.{waits_back}
 use Rattle.piper_ring.proofs.Slots.{WriterWaited, writer_hands_over}
 use Rattle.piper_ring.proofs.Fields.{ghost_val, TookData, took_made, SawData, saw_made}
 use types.Kit.{use2}
@@ -70,7 +71,7 @@ hand_over_spec 𝓤 𝓛 𝓜 𝓡 wired =
     pointer_in ! tt w bw ow isw b (o + 0) (λ r.
     sets ! (of_opd ! (load ! (through ! refl (fld ! refl (stop !))) (look ! 0 refl))) refl (tt, tt) $ pointer_out ! tt w bw ow isw b (o + 0) $
     sets ! (bin ! (get ! refl) (lit ! tt) tt) refl (tt, tt) $ move ! (2 ∷ 0 ∷ []) $ shr_bor-open ! tt (writer_halves 𝓛 w p z h.sent h.limit h.shut 0) (λ s. move ! (2 ∷ 1 ∷ 4 ∷ []) $
-    rewrite ! 2 (λ (m : Names). ‵ (fobs m.writer_waits ((code_of Consumed coded_consumed).code view))) {x = z} {y = k.names} asked.0 refl $
+    rewrite ! 2 (λ (m : Names). ‵ (waits_back m view.0 view.1.0 view.1.1.0 view.1.1.1)) {x = z} {y = k.names} asked.0 refl $
     let out : ℕ → Fml = WriterWaited 𝓛 w p z s h.sent h.limit h.shut 0 (flag_small false) view (λ n x u. HandsOver Consumed view x n u) in
     use3 𝓛 (raw (𝓣.C _ (vptr bw e ∷ vint w64 1 ∷ seq_cst ∷ []) (λ u. mean 𝓛 (stored (out 0) u))))
     (via 𝓤 _ (writer_hands_over 𝓛 w p z s h.sent h.limit h.shut 0 (flag_small false) view asked.1) (stores 𝓛 𝓜 𝓡 (code.calls-core::raw_atomic::store 𝓡.env wired) (block_ptr bw e) 1 (lit< tt) (out 0))) $
@@ -82,7 +83,7 @@ hand_over_spec 𝓤 𝓛 𝓜 𝓡 wired =
     use2 𝓛 (‵ ((denote.Struct.Tuple.Tuple (Mark.the_row ∷ Saw.the_row ∷ [])).own_val (mark, saw) (pair_val g g ∷ []))) (pair_of 𝓛 Mark.the_row Saw.the_row mark saw g g) $
     move ! (1 ∷ []) $ fsplit ! $ move ! (3 ∷ 1 ∷ []) $ obor_close ! tt $ drop ! $
     let k' : SRow.Denot = record k { owns = v.0; tickets = v.1.0; count = v.1.1.0; over = v.1.1.1 } in
-    rewrite ! 1 (λ (m : Names). ‵ (fobs m.writer_waits ((code_of Consumed coded_consumed).code v))) {x = k.names} {y = z} (sym asked.0) refl $ move ! (3 ∷ 1 ∷ []) $ fjoin ! $ move ! (3 ∷ 0 ∷ 4 ∷ 5 ∷ 6 ∷ []) $ closes ! tt SRow k' vs' b' o' $
+    rewrite ! 1 (λ (m : Names). ‵ (waits_back m v.0 v.1.0 v.1.1.0 v.1.1.1)) {x = k.names} {y = z} (sym asked.0) refl $ move ! (3 ∷ 1 ∷ []) $ fjoin ! $ move ! (3 ∷ 0 ∷ 4 ∷ 5 ∷ 6 ∷ []) $ closes ! tt SRow k' vs' b' o' $
     feq_i ! (List Val) (vptr b' o' ∷ []) (vptr b' o' ∷ []) refl $ fjoin3 ! $ nothing ! $ move ! (1 ∷ 0 ∷ []) $ fjoin ! $ nothing ! $ fjoin ! $ nothing ! $ move ! (2 ∷ 0 ∷ []) $ join ! $ move ! (2 ∷ 0 ∷ []) $ join ! $
     use0 𝓛 (raw (fact 𝓤 (HandsOver Consumed view (r.0.0, r.0.1) 0 v))) (fact_i 𝓤 (HandsOver Consumed view (r.0.0, r.0.1) 0 v) (emp 𝓤) told) $ use0 𝓛 (raw (fact 𝓤 ((z ≡ z) × (z ≡ z)))) (fact_i 𝓤 ((z ≡ z) × (z ≡ z)) (emp 𝓤) (refl, refl)) $ join ! $ use0 𝓛 (raw (fact 𝓤 (k.names ≡ k.names))) (fact_i 𝓤 (k.names ≡ k.names) (emp 𝓤) refl) $ join ! $ move ! (3 ∷ []) $
     returns ! (look_at ! 0 refl) $ free_all ! refl $ keep ! (2 ∷ 3 ∷ 0 ∷ 1 ∷ []) $ by ! (leaves 𝓛 En hs c y (pair_val g g) (mark, saw) (tt, (k', tt)) (tt, (tt, tt))))))))))))))

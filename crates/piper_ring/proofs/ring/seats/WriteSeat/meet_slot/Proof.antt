@@ -3,7 +3,7 @@ use Rattle.std.proofs.Common.{false, ◌≡◌, ℕ, List, [], ◌∷◌, sym, r
 use mir.Syntax.{named}
 use mir.Val.{Val, vptr, vunit}
 use base.Logic.{SProp, emp}
-use base.Fml.{Share, Fml, ftrue, flft, fhide, fobs}
+use base.Fml.{Share, Fml, ftrue, flft, fhide}
 use types.Kit.{‵, raw, ◌⊛◌, given, ◌$◌, ◌∵◌, !, qed, by, move, keep, drop, split, split3, join, fsplit, fsplit3, fjoin, fjoin3, learn, use0, use1, rewrite, feq_i}
 use types.Run.{unit_lit, of_opd, returns, enter}
 use types.ByLocal.{alloc_all, pass_all, free_all, look_at, sets, env}
@@ -24,13 +24,14 @@ use denote.Struct.Owning.{shape}
 use denote.Struct.Lending.{lent_out}
 use denote.Triple.Walked.{Stays, stay_dropped, stay_ref, walk_of, Goes-dropped, Goes-ref}
 use Rattle.rtrb.proofs.Walks.{proved, leaves}
-use Rattle.piper_ring.specs.Slots.{Waits, Wakes, code_of}
+use Rattle.piper_ring.specs.Slots.{Waits, Wakes}
 use Rattle.piper_ring.specs.SlotViews.{of_writer_waits, of_reader_wakes}
-use Rattle.piper_ring.specs.Shared.{Names, Consumed, coded_consumed, common, writer_knows, writer_lends}
+use Rattle.piper_ring.specs.Shared.{Names, Consumed, common, writer_knows, writer_lends}
 use Rattle.piper_ring.proofs.Rights.{writer_halves}
 use Rattle.piper_ring.proofs.Steps.{flag_small}
 use types.Kit.{later, await, use2}
 use Rattle.piper_ring.specs.Slots.{IsRemembered}
+use Rattle.piper_ring.specs.Shared.{waits_back, wakes_back}
 use Rattle.piper_ring.proofs.Slots.{writer_meets}
 use Rattle.piper_ring.specs.contracts.ring.slots.WriterWaits as One
 use Rattle.piper_ring.specs.contracts.ring.slots.ReaderWakes as Two
@@ -53,7 +54,7 @@ meet_slot_spec 𝓤 𝓛 𝓜 𝓡 wired =
     let b : ℕ = a.0.ref_ptr.0 in let o : ℕ = a.0.ref_ptr.1 in let h = a.0.now in let w : Ptr = h.words in let p : Ptr = h.at in let z : Names = h.names in let κ = κs.0 in let q : Share = qs.0 in
     let b' : ℕ = a.1.0.ref_ptr.0 in let o' : ℕ = a.1.0.ref_ptr.1 in let k = a.1.0.now in let b2 : ℕ = a.1.1.0.ref_ptr.0 in let o2 : ℕ = a.1.1.0.ref_ptr.1 in let m = a.1.1.0.now in
     let view : Waits Consumed = of_writer_waits k in let other : Wakes Consumed = of_reader_wakes m in
-    let C : Fml = common w p z in let Φ : Share → Fml = λ s. writer_knows w p z s h.sent h.limit h.shut 0 in let V : Names → Fml = λ y. fobs y.writer_waits ((code_of Consumed coded_consumed).code view) in let U : Names → Fml = λ y. fobs y.reader_wakes ((code_of Consumed coded_consumed).code other) in
+    let C : Fml = common w p z in let Φ : Share → Fml = λ s. writer_knows w p z s h.sent h.limit h.shut 0 in let V : Names → Fml = λ y. waits_back y view.0 view.1.0 view.1.1.0 view.1.1.1 in let U : Names → Fml = λ y. wakes_back y other.0 other.1.0 other.1.1.0 other.1.1.1 in
     let y : (walk_of 𝓛 En hs c).Ghost = ((κs, qs, bounds, a, (vptr b o ∷ [], (vptr b' o' ∷ [], (vptr b2 o2 ∷ [], tt)))), gh) in let Post : Val → SProp 𝓤 = (walk_of 𝓛 En hs c).post y in
     qed 𝓛 (((‵ (flft κ q) ⊛ ‵ (flft κs.1.0 qs.1.0) ⊛ ‵ (flft κs.1.1.0 qs.1.1.0) ⊛ ‵ ftrue) ⊛ ‵ (owns (types_at En.signature.params κs) a y.0.4)) ∷ given ((k.names ≡ z) × (m.names ≡ z)) (‵ ftrue) ∷ []) ∵
     keep ! (1 ∷ 0 ∷ []) $ learn ! (λ asked. drop ! $ split ! $ split3 ! $ move ! (2 ∷ []) $ split ! $ move ! (4 ∷ []) $ fsplit3 ! $ move ! (2 ∷ []) $ fsplit ! $ fsplit3 ! $ move ! (5 ∷ []) $ fsplit3 ! $ move ! (7 ∷ []) $ fsplit ! $ keep ! (1 ∷ 11 ∷ 3 ∷ 4 ∷ 12 ∷ 6 ∷ 7 ∷ 9 ∷ []) $

@@ -3,7 +3,7 @@ use Rattle.std.proofs.Common.{false, lit<, ◌≡◌, ℕ, ◌+◌, ◌^◌, Lis
 use mir.Syntax.{named}
 use mir.Val.{Val, vint, vptr}
 use base.Logic.{SProp, emp, via}
-use base.Fml.{Share, Fml, ftrue, flft, fhide, fobs}
+use base.Fml.{Share, Fml, ftrue, flft, fhide}
 use types.Kit.{‵, raw, ◌⊛◌, given, mean, at_ret, ◌$◌, ◌∵◌, !, qed, by, move, keep, drop, split, split3, join, fsplit, fsplit3, fjoin, fjoin3, fpick, fpack, learn, use0, use1, use3, rewrite, feq_i, flt_i}
 use types.Run.{stop, fld, load, look, lit, of_opd, bin, no_more, and_then, first, blocks, exec, Calls-last, returns, enter}
 use types.ByLocal.{alloc_all, pass_all, free_all, look_at, get, through, sets, lands_last, env}
@@ -28,11 +28,12 @@ use Rattle.core.proofs.atomic.Steps.{tail}
 use Rattle.core.proofs.slots.Lent.{pointer_in, pointer_out}
 use Rattle.rtrb.proofs.Walks.{proved, leaves}
 use Rattle.rtrb.proofs.Calls.{seq_cst, fm, found, finds, swaps}
-use Rattle.piper_ring.specs.Slots.{Waits, code_of, Regains}
+use Rattle.piper_ring.specs.Slots.{Waits, Regains}
 use Rattle.piper_ring.specs.SlotViews.{of_writer_waits}
-use Rattle.piper_ring.specs.Shared.{Names, Consumed, coded_consumed, Placed, common, writer_knows, writer_lends}
+use Rattle.piper_ring.specs.Shared.{Names, Consumed, Placed, common, writer_knows, writer_lends}
 use Rattle.piper_ring.proofs.Rights.{writer_halves}
 use Rattle.piper_ring.proofs.Steps.{flag_small}
+use Rattle.piper_ring.specs.Shared.{waits_back}
 use Rattle.piper_ring.proofs.Slots.{WriterWaited, writer_regains}
 use Rattle.piper_ring.specs.contracts.ring.slots.WriterWaits as Slot
 use Rattle.piper_ring.specs.contracts.ring.seats.WriteSeat as Seat
@@ -65,7 +66,7 @@ regain_spec 𝓤 𝓛 𝓜 𝓡 wired =
     pointer_in ! tt w bw ow isw b (o + 0) (λ r.
     sets ! (of_opd ! (load ! (through ! refl (fld ! refl (stop !))) (look ! 0 refl))) refl (tt, tt) $ pointer_out ! tt w bw ow isw b (o + 0) $
     sets ! (bin ! (get ! refl) (lit ! tt) tt) refl (tt, tt) $ move ! (2 ∷ 0 ∷ []) $ shr_bor-open ! tt (writer_halves 𝓛 w p z h.sent h.limit h.shut 0) (λ s. move ! (2 ∷ 1 ∷ 4 ∷ []) $
-    rewrite ! 2 (λ (m : Names). ‵ (fobs m.writer_waits ((code_of Consumed coded_consumed).code view))) {x = z} {y = k.names} asked.0 refl $
+    rewrite ! 2 (λ (m : Names). ‵ (waits_back m view.0 view.1.0 view.1.1.0 view.1.1.1)) {x = z} {y = k.names} asked.0 refl $
     let out : ℕ → Fml = WriterWaited 𝓛 w p z s h.sent h.limit h.shut 0 (flag_small false) view (λ n x u. Regains Consumed view x n u) in
     use3 𝓛 (raw (𝓣.C _ (vptr bw e ∷ vint w64 0 ∷ seq_cst ∷ []) (λ u. mean 𝓛 (found out u))))
     (via 𝓤 _ (writer_regains 𝓛 w p z s h.sent h.limit h.shut 0 (flag_small false) view asked.1) (swaps 𝓛 𝓜 𝓡 (code.calls-core::raw_atomic::swap 𝓡.env wired) (block_ptr bw e) 0 (lit< tt) out)) $
@@ -74,7 +75,7 @@ regain_spec 𝓤 𝓛 𝓜 𝓡 wired =
     lands_last ! refl (tt, record { fits = fits }) $ exec ! 𝓣.C 𝓣.Λ Ev (tail fn.body) (at_ret Ev Post) $ sets ! (of_opd ! (get ! refl)) refl (tt, record { fits = fits }) $
     fpick ! (λ r. let v : Waits Consumed = r.1 in fsplit3 ! $ fpick ! (λ told. drop ! $ drop ! $ fsplit ! $ move ! (2 ∷ 1 ∷ []) $ obor_close ! tt $ drop ! $
     let k' : SRow.Denot = record k { owns = v.0; tickets = v.1.0; count = v.1.1.0; over = v.1.1.1 } in
-    rewrite ! 1 (λ (m : Names). ‵ (fobs m.writer_waits ((code_of Consumed coded_consumed).code v))) {x = k.names} {y = z} (sym asked.0) refl $ move ! (2 ∷ 1 ∷ []) $ fjoin ! $ move ! (2 ∷ 0 ∷ 3 ∷ 4 ∷ 5 ∷ []) $ closes ! tt SRow k' vs' b' o' $
+    rewrite ! 1 (λ (m : Names). ‵ (waits_back m v.0 v.1.0 v.1.1.0 v.1.1.1)) {x = k.names} {y = z} (sym asked.0) refl $ move ! (2 ∷ 1 ∷ []) $ fjoin ! $ move ! (2 ∷ 0 ∷ 3 ∷ 4 ∷ 5 ∷ []) $ closes ! tt SRow k' vs' b' o' $
     feq_i ! (List Val) (vptr b' o' ∷ []) (vptr b' o' ∷ []) refl $ fjoin3 ! $ nothing ! $ move ! (1 ∷ 0 ∷ []) $ fjoin ! $ nothing ! $ fjoin ! $ nothing ! $ move ! (2 ∷ 0 ∷ []) $ join ! $ move ! (2 ∷ 0 ∷ []) $ join ! $
     use0 𝓛 (raw (fact 𝓤 (Regains Consumed view (k.count, k.over) n v))) (fact_i 𝓤 (Regains Consumed view (k.count, k.over) n v) (emp 𝓤) told) $ use0 𝓛 (raw (fact 𝓤 (k.names ≡ k.names))) (fact_i 𝓤 (k.names ≡ k.names) (emp 𝓤) refl) $ join ! $ flt_i ! n (2 ^ 64) fits $ feq_i ! (List Val) (vint w64 n ∷ []) (vint w64 n ∷ []) refl $ fjoin ! $
     returns ! (look_at ! 0 refl) $ free_all ! refl $ keep ! (2 ∷ 3 ∷ 0 ∷ 1 ∷ []) $ by ! (leaves 𝓛 En hs c y (vint w64 n) n (tt, (k', tt)) (tt, (tt, tt))))))))))))))
