@@ -57,6 +57,15 @@ impl Reading {
     fn wakes(&mut self) -> bool {
         self.end.wake(&mut self.slots)
     }
+
+    fn sees_the_end(&mut self) -> bool {
+        self.end.look_closed()
+    }
+
+    /// Consumes what is due behind the first `received`. The answer is how much, or none where it is not that.
+    fn receives_due(&mut self, received: usize) -> Option<usize> {
+        receive_due(&mut self.end, received, 3)
+    }
 }
 
 impl Writing {
@@ -78,7 +87,7 @@ fn who_waits_is_found_once(rt: HostRuntime) {
     same(&rt, &"is found once", writing.sends_due(3, 0), (0, false));
     same(&rt, &"has something to do", reading.waits(), false);
     same(&rt, &"nobody waits for room", reading.wakes(), false);
-    same(&rt, &"reads", receive_due(&mut reading.end, 0, 4), Some(3));
+    same(&rt, &"reads", reading.receives_due(0), Some(3));
     same(&rt, &"waits at last", reading.waits(), true);
 }
 
@@ -125,8 +134,8 @@ fn is_found(found: &AtomicU64, before: u64) -> bool {
 fn receive_all(rt: &impl Wait, mut reading: Reading, found: &AtomicU64) -> Option<usize> {
     let mut received = 0usize;
     for _ in rt.forever() {
-        let is_closed = reading.end.look_closed();
-        let n = receive_due(&mut reading.end, received, 3)?;
+        let is_closed = reading.sees_the_end();
+        let n = reading.receives_due(received)?;
         received = received.wrapping_add(n);
         if n > 0 {
             continue;
