@@ -62,7 +62,8 @@ impl Reading {
         self.end.look_closed()
     }
 
-    /// Consumes what is due behind the first `received`. The answer is how much, or none where it is not that.
+    /// Consumes what is due behind the first `received`. The answer is how much, or none where it
+    /// is not that.
     fn receives_due(&mut self, received: usize) -> Option<usize> {
         receive_due(&mut self.end, received, 3)
     }
