@@ -9,9 +9,9 @@ ghost use Rattle.piper_sides.specs.Side.{read_sum};
 
 use crate::calls::Side;
 use crate::events::Answer;
-use crate::open_call::{CallAt, ends, goes_on};
+use crate::open_call::{CallAt, goes_on};
 use crate::polling::Polled;
-use crate::read_point::{done, found_none, found_some, is_true};
+use crate::read_point::{finish, found_none, found_some, truly};
 use crate::table::ReadPoint::{
     CallDestination, Idle, LookClosed, LookRegister, LookTail, LookTailAgain, LookTake,
     QueryClosed, StoreClosed, StoreHead, TakeWriter, WakeWriter, Yield,
@@ -66,15 +66,26 @@ impl CallAt<ReadPoint> {
         requires next { read_action self.point ≡ Action.Refresh }
         ensures { result ≡ read_step self.point (Found.Refreshed none) }
     {
-        match self.place() {
-            LookTail(purpose) if none => goes_on(found_none(purpose)),
-            LookTailAgain(purpose, was_closed) if none => ends(
-                Idle,
-                purpose.look_answer(end_or_pending(was_closed)),
-            ),
-            LookTail(purpose) | LookTailAgain(purpose, _) => goes_on(found_some(purpose)),
+        let CallAt {
+            mut point,
+            answer: _,
+        } = self;
+        let answer = match point {
+            LookTail(purpose) if none => {
+                point = found_none(purpose);
+                None
+            }
+            LookTailAgain(purpose, was_closed) if none => {
+                point = Idle;
+                Some(purpose.look_answer(end_or_pending(was_closed)))
+            }
+            LookTail(purpose) | LookTailAgain(purpose, _) => {
+                point = found_some(purpose);
+                None
+            }
             _ => unreachable!(),
-        }
+        };
+        CallAt { point, answer }
     }
 
     /// Closed was loaded in a look, and the flag was this.
@@ -83,11 +94,22 @@ impl CallAt<ReadPoint> {
         requires next { read_action self.point ≡ Action.LoadClosed }
         ensures { result ≡ read_step self.point (Found.Flag is_closed) }
     {
-        match self.place() {
-            LookClosed(purpose) => goes_on(LookTailAgain(purpose, is_closed)),
-            QueryClosed => ends(Idle, Answer::Flag(is_closed)),
+        let CallAt {
+            mut point,
+            answer: _,
+        } = self;
+        let answer = match point {
+            LookClosed(purpose) => {
+                point = LookTailAgain(purpose, is_closed);
+                None
+            }
+            QueryClosed => {
+                point = Idle;
+                Some(Answer::Flag(is_closed))
+            }
             _ => unreachable!(),
-        }
+        };
+        CallAt { point, answer }
     }
 
     /// The call's waker was registered, or its clone was refused.
@@ -96,11 +118,22 @@ impl CallAt<ReadPoint> {
         requires next { read_action self.point ≡ Action.Register }
         ensures { result ≡ read_step self.point (Found.Granted is_granted) }
     {
-        match self.place() {
-            LookRegister(purpose) if is_granted => goes_on(LookClosed(purpose)),
-            LookRegister(purpose) => ends(Idle, purpose.look_answer(Polled::Memory)),
+        let CallAt {
+            mut point,
+            answer: _,
+        } = self;
+        let answer = match point {
+            LookRegister(purpose) if is_granted => {
+                point = LookClosed(purpose);
+                None
+            }
+            LookRegister(purpose) => {
+                point = Idle;
+                Some(purpose.look_answer(Polled::Memory))
+            }
             _ => unreachable!(),
-        }
+        };
+        CallAt { point, answer }
     }
 
     /// The reader's own slot was emptied, behind the look of a poll.
@@ -110,10 +143,15 @@ impl CallAt<ReadPoint> {
         requires poll { reader_draws_behind self.point ≡ false }
         ensures { result ≡ read_step self.point Found.Nothing }
     {
-        match self.place() {
-            LookTake(purpose) => is_true(purpose),
+        let CallAt {
+            mut point,
+            answer: _,
+        } = self;
+        let answer = match point {
+            LookTake(purpose) => truly(&mut point, purpose),
             _ => unreachable!(),
-        }
+        };
+        CallAt { point, answer }
     }
 
     /// The caller's own waker was called in place of the rounds, or its clone was refused.
@@ -122,10 +160,18 @@ impl CallAt<ReadPoint> {
         requires next { read_action self.point ≡ Action.Yield }
         ensures { result ≡ read_step self.point (Found.Granted is_granted) }
     {
-        match self.place() {
-            Yield => ends(Idle, yield_answer(is_granted)),
+        let CallAt {
+            mut point,
+            answer: _,
+        } = self;
+        let answer = match point {
+            Yield => {
+                point = Idle;
+                Some(yield_answer(is_granted))
+            }
             _ => unreachable!(),
-        }
+        };
+        CallAt { point, answer }
     }
 
     /// The destination took the first `n` bytes of the peeked slice.
@@ -135,11 +181,22 @@ impl CallAt<ReadPoint> {
         requires fits { read_sum self.point + n < 2 ^ 64 }
         ensures { result ≡ read_step self.point (Found.Moved n) }
     {
-        match self.place() {
-            CallDestination(form, sum) if n == 0 => ends(Idle, form.count_answer(sum)),
-            CallDestination(form, sum) => goes_on(StoreHead(n, AfterRead::Round(form, sum + n))),
+        let CallAt {
+            mut point,
+            answer: _,
+        } = self;
+        let answer = match point {
+            CallDestination(form, sum) if n == 0 => {
+                point = Idle;
+                Some(form.count_answer(sum))
+            }
+            CallDestination(form, sum) => {
+                point = StoreHead(n, AfterRead::Round(form, sum + n));
+                None
+            }
             _ => unreachable!(),
-        }
+        };
+        CallAt { point, answer }
     }
 
     /// The destination failed, and took nothing.
@@ -148,10 +205,18 @@ impl CallAt<ReadPoint> {
         requires next { read_action self.point ≡ Action.CallDestination }
         ensures { result ≡ read_step self.point Found.Failed }
     {
-        match self.place() {
-            CallDestination(_, _) => ends(Idle, failed_answer()),
+        let CallAt {
+            mut point,
+            answer: _,
+        } = self;
+        let answer = match point {
+            CallDestination(_, _) => {
+                point = Idle;
+                Some(failed_answer())
+            }
             _ => unreachable!(),
-        }
+        };
+        CallAt { point, answer }
     }
 
     /// The head was stored, past `n` bytes.
@@ -160,10 +225,18 @@ impl CallAt<ReadPoint> {
         requires next { read_action self.point ≡ Action.StoreHead n }
         ensures { result ≡ read_step self.point Found.Nothing }
     {
-        match self.place() {
-            StoreHead(_, next) => goes_on(TakeWriter(next)),
+        let CallAt {
+            mut point,
+            answer: _,
+        } = self;
+        let answer = match point {
+            StoreHead(_, next) => {
+                point = TakeWriter(next);
+                None
+            }
             _ => unreachable!(),
-        }
+        };
+        CallAt { point, answer }
     }
 
     /// The writer's slot was emptied, and a waker stood in it or not.
@@ -172,11 +245,19 @@ impl CallAt<ReadPoint> {
         requires next { read_action self.point ≡ Action.Take Side.Writer }
         ensures { result ≡ read_step self.point (Found.Waker is_found) }
     {
-        match self.place() {
-            TakeWriter(next) if is_found => goes_on(WakeWriter(next)),
-            TakeWriter(next) => done(next),
+        let CallAt {
+            mut point,
+            answer: _,
+        } = self;
+        let answer = match point {
+            TakeWriter(next) if is_found => {
+                point = WakeWriter(next);
+                None
+            }
+            TakeWriter(next) => finish(&mut point, next),
             _ => unreachable!(),
-        }
+        };
+        CallAt { point, answer }
     }
 
     /// The waker that was taken was called.
@@ -185,10 +266,15 @@ impl CallAt<ReadPoint> {
         requires next { read_action self.point ≡ Action.Wake }
         ensures { result ≡ read_step self.point Found.Nothing }
     {
-        match self.place() {
-            WakeWriter(next) => done(next),
+        let CallAt {
+            mut point,
+            answer: _,
+        } = self;
+        let answer = match point {
+            WakeWriter(next) => finish(&mut point, next),
             _ => unreachable!(),
-        }
+        };
+        CallAt { point, answer }
     }
 
     /// The closed flag was set.
@@ -197,10 +283,18 @@ impl CallAt<ReadPoint> {
         requires next { read_action self.point ≡ Action.StoreClosed false }
         ensures { result ≡ read_step self.point Found.Nothing }
     {
-        match self.place() {
-            StoreClosed => goes_on(TakeWriter(AfterRead::Drop)),
+        let CallAt {
+            mut point,
+            answer: _,
+        } = self;
+        let answer = match point {
+            StoreClosed => {
+                point = TakeWriter(AfterRead::Drop);
+                None
+            }
             _ => unreachable!(),
-        }
+        };
+        CallAt { point, answer }
     }
 
     /// The reader's own slot was emptied behind the true look of a polling copy, which then drew
@@ -211,7 +305,11 @@ impl CallAt<ReadPoint> {
         requires next { self.point ≡ ReadPoint.LookTake (Purpose.Copy (Form.Polling false)) }
         ensures { result ≡ reader_is_true (Purpose.Copy (Form.Polling is_drawn)) }
     {
-        let _ = self.place();
-        is_true(Purpose::Copy(Form::Polling { is_drawn }))
+        let CallAt {
+            mut point,
+            answer: _,
+        } = self;
+        let answer = truly(&mut point, Purpose::Copy(Form::Polling { is_drawn }));
+        CallAt { point, answer }
     }
 }

@@ -53,7 +53,7 @@ fn draws(form: Form) -> ReadPoint
 
 // Where a call goes on that has woken the writer.
 #[inline(always)]
-pub(crate) fn done(next: AfterRead) -> CallAt<ReadPoint>
+fn done(next: AfterRead) -> CallAt<ReadPoint>
     ensures { result ≡ read_done next }
 {
     match next {
@@ -65,12 +65,52 @@ pub(crate) fn done(next: AfterRead) -> CallAt<ReadPoint>
 
 // Where a call goes on whose look is true.
 #[inline(always)]
-pub(crate) fn is_true(purpose: Purpose) -> CallAt<ReadPoint>
+fn is_true(purpose: Purpose) -> CallAt<ReadPoint>
     ensures { result ≡ reader_is_true purpose }
 {
     match purpose {
         Purpose::Poll => ends(Idle, Answer::Poll(Polled::Ready(true))),
         Purpose::Copy(form) => goes_on(draws(form)),
+    }
+}
+
+// Where a call goes on that has woken the writer, and what it answers if it ends there.
+#[inline(always)]
+pub(crate) fn finish(point: &mut ReadPoint, next: AfterRead) -> Option<Answer>
+    ensures point { point.new ≡ (read_done next).point }
+    ensures answer { result ≡ (read_done next).answer }
+{
+    match next {
+        AfterRead::Answer => {
+            *point = Idle;
+            Some(Answer::Done)
+        }
+        AfterRead::Drop => {
+            *point = Dropped;
+            Some(Answer::Done)
+        }
+        AfterRead::Round(form, sum) => {
+            *point = CallDestination(form, sum);
+            None
+        }
+    }
+}
+
+// Where a call goes on whose look is true, and what it answers if it ends there.
+#[inline(always)]
+pub(crate) fn truly(point: &mut ReadPoint, purpose: Purpose) -> Option<Answer>
+    ensures point { point.new ≡ (reader_is_true purpose).point }
+    ensures answer { result ≡ (reader_is_true purpose).answer }
+{
+    match purpose {
+        Purpose::Poll => {
+            *point = Idle;
+            Some(Answer::Poll(Polled::Ready(true)))
+        }
+        Purpose::Copy(form) => {
+            *point = draws(form);
+            None
+        }
     }
 }
 

@@ -9,7 +9,7 @@ ghost use Rattle.piper_sides.specs.Side.{write_sum};
 
 use crate::calls::Side;
 use crate::events::Answer;
-use crate::open_call::{CallAt, ends, goes_on};
+use crate::open_call::{CallAt, goes_on};
 use crate::polling::Polled;
 use crate::table::WritePoint::{
     CallSource, Idle, LookClosedAgain, LookHead, LookHeadAgain, LookRegister, LookTake,
@@ -20,7 +20,7 @@ use crate::table::{
     Action, AfterWrite, Form, Found, Purpose, WritePoint, end_or_pending, failed_answer,
     yield_answer,
 };
-use crate::write_point::{done, found_none, found_some, is_true};
+use crate::write_point::{finish, found_none, found_some, truly};
 
 /// A writer's open call.
 pub type WriteCall = CallAt<WritePoint>;
@@ -87,13 +87,30 @@ impl CallAt<WritePoint> {
         requires goes_on { begins_look self.point ≡ false }
         ensures { result ≡ write_step self.point (Found.Flag is_closed) }
     {
-        match self.place() {
-            QueryClosed => ends(Idle, Answer::Flag(is_closed)),
-            LookClosedAgain(purpose) => ends(Idle, purpose.look_answer(end_or_pending(is_closed))),
-            RoundClosed(_, form, sum) if is_closed => ends(Idle, form.count_answer(sum)),
-            RoundClosed(n, form, sum) => goes_on(StoreTail(n, AfterWrite::Round(form, sum))),
+        let CallAt {
+            mut point,
+            answer: _,
+        } = self;
+        let answer = match point {
+            QueryClosed => {
+                point = Idle;
+                Some(Answer::Flag(is_closed))
+            }
+            LookClosedAgain(purpose) => {
+                point = Idle;
+                Some(purpose.look_answer(end_or_pending(is_closed)))
+            }
+            RoundClosed(_, form, sum) if is_closed => {
+                point = Idle;
+                Some(form.count_answer(sum))
+            }
+            RoundClosed(n, form, sum) => {
+                point = StoreTail(n, AfterWrite::Round(form, sum));
+                None
+            }
             _ => unreachable!(),
-        }
+        };
+        CallAt { point, answer }
     }
 
     /// The head was loaded in a look, and no room is known even now (`none`), or some is.
@@ -102,12 +119,26 @@ impl CallAt<WritePoint> {
         requires next { write_action self.point ≡ Action.Refresh }
         ensures { result ≡ write_step self.point (Found.Refreshed none) }
     {
-        match self.place() {
-            LookHead(purpose) if none => goes_on(found_none(purpose)),
-            LookHeadAgain(purpose) if none => goes_on(LookClosedAgain(purpose)),
-            LookHead(purpose) | LookHeadAgain(purpose) => goes_on(found_some(purpose)),
+        let CallAt {
+            mut point,
+            answer: _,
+        } = self;
+        let answer = match point {
+            LookHead(purpose) if none => {
+                point = found_none(purpose);
+                None
+            }
+            LookHeadAgain(purpose) if none => {
+                point = LookClosedAgain(purpose);
+                None
+            }
+            LookHead(purpose) | LookHeadAgain(purpose) => {
+                point = found_some(purpose);
+                None
+            }
             _ => unreachable!(),
-        }
+        };
+        CallAt { point, answer }
     }
 
     /// The call's waker was registered, or its clone was refused.
@@ -116,11 +147,22 @@ impl CallAt<WritePoint> {
         requires next { write_action self.point ≡ Action.Register }
         ensures { result ≡ write_step self.point (Found.Granted is_granted) }
     {
-        match self.place() {
-            LookRegister(purpose) if is_granted => goes_on(LookHeadAgain(purpose)),
-            LookRegister(purpose) => ends(Idle, purpose.look_answer(Polled::Memory)),
+        let CallAt {
+            mut point,
+            answer: _,
+        } = self;
+        let answer = match point {
+            LookRegister(purpose) if is_granted => {
+                point = LookHeadAgain(purpose);
+                None
+            }
+            LookRegister(purpose) => {
+                point = Idle;
+                Some(purpose.look_answer(Polled::Memory))
+            }
             _ => unreachable!(),
-        }
+        };
+        CallAt { point, answer }
     }
 
     /// The writer's own slot was emptied, behind the look of a poll or in a close, and a waker
@@ -132,12 +174,23 @@ impl CallAt<WritePoint> {
         requires no_copy { writer_draws_behind self.point ≡ false }
         ensures { result ≡ write_step self.point (Found.Waker is_found) }
     {
-        match self.place() {
-            LookTake(purpose) => is_true(purpose),
-            TakeWriter if is_found => goes_on(WakeWriter),
-            TakeWriter => ends(Idle, Answer::Done),
+        let CallAt {
+            mut point,
+            answer: _,
+        } = self;
+        let answer = match point {
+            LookTake(purpose) => truly(&mut point, purpose),
+            TakeWriter if is_found => {
+                point = WakeWriter;
+                None
+            }
+            TakeWriter => {
+                point = Idle;
+                Some(Answer::Done)
+            }
             _ => unreachable!(),
-        }
+        };
+        CallAt { point, answer }
     }
 
     /// The caller's own waker was called in place of the rounds, or its clone was refused.
@@ -146,10 +199,18 @@ impl CallAt<WritePoint> {
         requires next { write_action self.point ≡ Action.Yield }
         ensures { result ≡ write_step self.point (Found.Granted is_granted) }
     {
-        match self.place() {
-            Yield => ends(Idle, yield_answer(is_granted)),
+        let CallAt {
+            mut point,
+            answer: _,
+        } = self;
+        let answer = match point {
+            Yield => {
+                point = Idle;
+                Some(yield_answer(is_granted))
+            }
             _ => unreachable!(),
-        }
+        };
+        CallAt { point, answer }
     }
 
     /// The source gave `n` bytes, which stand at the front of what is lent.
@@ -159,11 +220,22 @@ impl CallAt<WritePoint> {
         requires fits { write_sum self.point + n < 2 ^ 64 }
         ensures { result ≡ write_step self.point (Found.Moved n) }
     {
-        match self.place() {
-            CallSource(form, sum) if n == 0 => ends(Idle, form.count_answer(sum)),
-            CallSource(form, sum) => goes_on(RoundClosed(n, form, sum + n)),
+        let CallAt {
+            mut point,
+            answer: _,
+        } = self;
+        let answer = match point {
+            CallSource(form, sum) if n == 0 => {
+                point = Idle;
+                Some(form.count_answer(sum))
+            }
+            CallSource(form, sum) => {
+                point = RoundClosed(n, form, sum + n);
+                None
+            }
             _ => unreachable!(),
-        }
+        };
+        CallAt { point, answer }
     }
 
     /// The source failed, and gave nothing.
@@ -172,10 +244,18 @@ impl CallAt<WritePoint> {
         requires next { write_action self.point ≡ Action.CallSource }
         ensures { result ≡ write_step self.point Found.Failed }
     {
-        match self.place() {
-            CallSource(_, _) => ends(Idle, failed_answer()),
+        let CallAt {
+            mut point,
+            answer: _,
+        } = self;
+        let answer = match point {
+            CallSource(_, _) => {
+                point = Idle;
+                Some(failed_answer())
+            }
             _ => unreachable!(),
-        }
+        };
+        CallAt { point, answer }
     }
 
     /// The tail was stored, past `n` bytes.
@@ -184,10 +264,18 @@ impl CallAt<WritePoint> {
         requires next { write_action self.point ≡ Action.StoreTail n }
         ensures { result ≡ write_step self.point Found.Nothing }
     {
-        match self.place() {
-            StoreTail(_, next) => goes_on(TakeReader(next)),
+        let CallAt {
+            mut point,
+            answer: _,
+        } = self;
+        let answer = match point {
+            StoreTail(_, next) => {
+                point = TakeReader(next);
+                None
+            }
             _ => unreachable!(),
-        }
+        };
+        CallAt { point, answer }
     }
 
     /// The reader's slot was emptied, and a waker stood in it or not.
@@ -196,11 +284,19 @@ impl CallAt<WritePoint> {
         requires next { write_action self.point ≡ Action.Take Side.Reader }
         ensures { result ≡ write_step self.point (Found.Waker is_found) }
     {
-        match self.place() {
-            TakeReader(next) if is_found => goes_on(WakeReader(next)),
-            TakeReader(next) => done(next),
+        let CallAt {
+            mut point,
+            answer: _,
+        } = self;
+        let answer = match point {
+            TakeReader(next) if is_found => {
+                point = WakeReader(next);
+                None
+            }
+            TakeReader(next) => finish(&mut point, next),
             _ => unreachable!(),
-        }
+        };
+        CallAt { point, answer }
     }
 
     /// The waker that was taken was called.
@@ -209,11 +305,19 @@ impl CallAt<WritePoint> {
         requires next { write_action self.point ≡ Action.Wake }
         ensures { result ≡ write_step self.point Found.Nothing }
     {
-        match self.place() {
-            WakeReader(next) => done(next),
-            WakeWriter => ends(Idle, Answer::Done),
+        let CallAt {
+            mut point,
+            answer: _,
+        } = self;
+        let answer = match point {
+            WakeReader(next) => finish(&mut point, next),
+            WakeWriter => {
+                point = Idle;
+                Some(Answer::Done)
+            }
             _ => unreachable!(),
-        }
+        };
+        CallAt { point, answer }
     }
 
     /// The closed flag was set, by a close (`is_shut`) or by a drop.
@@ -222,10 +326,18 @@ impl CallAt<WritePoint> {
         requires next { write_action self.point ≡ Action.StoreClosed is_shut }
         ensures { result ≡ write_step self.point Found.Nothing }
     {
-        match self.place() {
-            StoreClosed(next) => goes_on(TakeReader(next)),
+        let CallAt {
+            mut point,
+            answer: _,
+        } = self;
+        let answer = match point {
+            StoreClosed(next) => {
+                point = TakeReader(next);
+                None
+            }
             _ => unreachable!(),
-        }
+        };
+        CallAt { point, answer }
     }
 
     /// The writer's own slot was emptied behind the true look of a polling copy, which then drew
@@ -236,7 +348,11 @@ impl CallAt<WritePoint> {
         requires next { self.point ≡ WritePoint.LookTake (Purpose.Copy (Form.Polling false)) }
         ensures { result ≡ writer_is_true (Purpose.Copy (Form.Polling is_drawn)) }
     {
-        let _ = self.place();
-        is_true(Purpose::Copy(Form::Polling { is_drawn }))
+        let CallAt {
+            mut point,
+            answer: _,
+        } = self;
+        let answer = truly(&mut point, Purpose::Copy(Form::Polling { is_drawn }));
+        CallAt { point, answer }
     }
 }

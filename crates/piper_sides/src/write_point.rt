@@ -55,7 +55,7 @@ fn draws(form: Form) -> WritePoint
 
 // Where a call goes on that has woken the reader.
 #[inline(always)]
-pub(crate) fn done(next: AfterWrite) -> CallAt<WritePoint>
+fn done(next: AfterWrite) -> CallAt<WritePoint>
     ensures { result ≡ write_done next }
 {
     match next {
@@ -68,12 +68,56 @@ pub(crate) fn done(next: AfterWrite) -> CallAt<WritePoint>
 
 // Where a call goes on whose look is true.
 #[inline(always)]
-pub(crate) fn is_true(purpose: Purpose) -> CallAt<WritePoint>
+fn is_true(purpose: Purpose) -> CallAt<WritePoint>
     ensures { result ≡ writer_is_true purpose }
 {
     match purpose {
         Purpose::Poll => ends(Idle, Answer::Poll(Polled::Ready(true))),
         Purpose::Copy(form) => goes_on(draws(form)),
+    }
+}
+
+// Where a call goes on that has woken the reader, and what it answers if it ends there.
+#[inline(always)]
+pub(crate) fn finish(point: &mut WritePoint, next: AfterWrite) -> Option<Answer>
+    ensures point { point.new ≡ (write_done next).point }
+    ensures answer { result ≡ (write_done next).answer }
+{
+    match next {
+        AfterWrite::Answer => {
+            *point = Idle;
+            Some(Answer::Done)
+        }
+        AfterWrite::Drop => {
+            *point = Dropped;
+            Some(Answer::Done)
+        }
+        AfterWrite::WakeWriter => {
+            *point = TakeWriter;
+            None
+        }
+        AfterWrite::Round(form, sum) => {
+            *point = CallSource(form, sum);
+            None
+        }
+    }
+}
+
+// Where a call goes on whose look is true, and what it answers if it ends there.
+#[inline(always)]
+pub(crate) fn truly(point: &mut WritePoint, purpose: Purpose) -> Option<Answer>
+    ensures point { point.new ≡ (writer_is_true purpose).point }
+    ensures answer { result ≡ (writer_is_true purpose).answer }
+{
+    match purpose {
+        Purpose::Poll => {
+            *point = Idle;
+            Some(Answer::Poll(Polled::Ready(true)))
+        }
+        Purpose::Copy(form) => {
+            *point = draws(form);
+            None
+        }
     }
 }
 
