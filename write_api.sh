@@ -34,7 +34,7 @@ calls() {
             line = "- `" signature "`"
             if (comment != "") line = line "<br>" first_sentence(comment)
             if (asks != "") line = line "<br>asks " asks
-            if (gives != "") line = line "<br>gives " gives
+            if (gives != "" && gives != "one") line = line "<br>gives " gives
             print owner "\t" line
             reading = 0; forget()
         }
@@ -91,7 +91,7 @@ page() {
     local crate
     echo "# The public calls"
     echo
-    echo "Written by \`./write_api.sh\` from the sources: change those, and run it. Each call has its signature, what it does, the clauses that it asks of its caller, and those that it gives; \`one\` has no name. [CONTRACTS.md](CONTRACTS.md) says how clauses are read, [RING.md](RING.md) what the ends of \`piper_ring\` are, whose calls the source lists."
+    echo "Written by \`./write_api.sh\` from the sources: change those, and run it. Each call has its signature, what it does, the clauses that it asks of its caller, and those that it gives, where they have names; \`one\` has none. [CONTRACTS.md](CONTRACTS.md) says how clauses are read, [RING.md](RING.md) what the ends of \`piper_ring\` are, whose calls the source lists."
     for crate in "${crates[@]}"; do
         [ -d "crates/$crate/src" ] || continue
         echo
