@@ -98,8 +98,7 @@ fn main(rt: HostRuntime) -> anyhow::Result<()> {
         let (near, far) = duplex(&rt, rt.alloc(), 64, 64, 1)?;
         let (near, far) = (CompatEnd::new(near), CompatEnd::new(far));
         // The service owns its end: where it returns, the end is let go, which closes both pipes
-        // and
-        // wakes a client that waits.
+        // and wakes a client that waits.
         let child = thread::spawn(&rt, move || serve(&theirs, far))?;
         let (status, page) = fetch(&rt, near, path.as_str())?;
         child.join(&rt)?;

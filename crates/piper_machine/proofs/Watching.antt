@@ -47,9 +47,8 @@ write_errand (on.WakeReader next) c = wakes c.taken
 write_errand point c = away
 
 -- of a side with this wait and slot, that holds what it took from its own slot: its waker was
--- called; or stands in the slot while
--- all is calm; or stands there and the other side takes it next; or is in the other side's hand; or
--- in its own
+-- called; or stands in the slot while all is calm; or stands there and the other side takes it
+-- next; or is in the other side's hand; or in its own
 pub data Watched (w : Wait) (slot held : Option ℕ) (calm : Type 0) (e : Errand) : Type 0 where
   woken : w.is_woken ≡ true → Watched w slot held calm e
   calmly : slot ≡ Some w.handed → calm → Watched w slot held calm e

@@ -30,8 +30,8 @@ use Rattle.piper_machine.specs.Wait.{Wait, wait_from}
 use Rattle.piper_machine.proofs.Watching.{Errand, wakes, write_errand, Watched, woken, calmly, taking, waking, holding, Same, same, Touch, rests, stores, finds, misses, calls, hears, hears-more, hears-it, hears-handed, rewatch, touched, touched-pending, IsHanded, HasBegun, Awaits, handed-touched, begun-touched, awaits-touched, awaits-more, has_begun, awaits, refused-told, counted-told, yielded, yield-heard, answered-passes, registration-passes, wake-heard, context_of, query-told}
 
 -- what holds of the pipe while the waker stands in the slot: nothing any more once the writer
--- itself has closed; behind its own take
--- it does not stand there, and a close that wakes the reader alone does not occur
+-- itself has closed; behind its own take it does not stand there, and a close that wakes the reader
+-- alone does not occur
 abbrev pub write_calm : WritePoint → Pipe → Type 0
 write_calm on.Dropped p = ⊤
 write_calm (on.TakeReader behind.Drop) p = ⊤

@@ -120,8 +120,7 @@ impl Machine {
     }
 
     // It does nothing, as `learn`. Its clause is that each call which may be opened now is the same
-    // run whole and
-    // made by steps alone; a whole call hands it on as `by_steps`.
+    // run whole and made by steps alone; a whole call hands it on as `by_steps`.
     fn learn_steps(&self)
         ensures { AreWholeBySteps self.now }
     {

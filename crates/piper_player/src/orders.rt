@@ -216,8 +216,7 @@ fn explore(
 }
 
 /// Reads the script that `input` gives to its end, makes the steps of its two calls in every order,
-/// and writes each
-/// distinct outcome to `output`.
+/// and writes each distinct outcome to `output`.
 pub fn run_all<I: Read, O: Write>(
     alloc: Global,
     input: &mut I,

@@ -49,8 +49,7 @@ impl Player {
     }
 
     /// Runs the command and writes what it prints. Where the pipe refuses a step of it, it is
-    /// refused for the same
-    /// reason.
+    /// refused for the same reason.
     pub fn play(&mut self, command: Command, reply: &mut Reply) -> Result<(), Stop>
         requires { IsInLimits command }
         ensures plays { OnOk result (Plays command.entry self.old self.new reply.old reply.new) }

@@ -81,9 +81,8 @@ impl Trial {
     }
 
     /// Makes the steps that `moves` says, and then those that are left, which are added to `moves`:
-    /// the reader's before
-    /// the writer's. A call that makes too many steps is then made to its end, if it is not the one
-    /// opened first.
+    /// the reader's before the writer's. A call that makes too many steps is then made to its end,
+    /// if it is not the one opened first.
     pub fn play(&mut self, moves: &mut Vec<Move>, first: Side) -> Result<Length, Stop>
         ensures goes { IfOk result (λ length.
             GoesAsLong length first moves.new.items self.old self.new) }
@@ -275,8 +274,7 @@ fn last_with_other(moves: &[Move]) -> Option<usize>
 }
 
 /// Turns the moves of an order into the beginning of the next one, if there is one: at the last
-/// step that the writer can
-/// make in place of the reader, the writer makes it.
+/// step that the writer can make in place of the reader, the writer makes it.
 #[tactic(auto, using(std::proofs::lemmas::List::take_more_set))]
 pub fn turn_to_next(moves: &mut Vec<Move>) -> bool
     ensures { MatchBool result (IsNext moves.old.items moves.new.items)

@@ -26,8 +26,7 @@ impl From<SaidLuck> for polling::Luck {
 
 impl SaidCall<'_> {
     /// The call of the machine that the script asks for, with bytes and acts of its own. One within
-    /// the limits is
-    /// refused for want of memory alone.
+    /// the limits is refused for want of memory alone.
     pub fn to_machine(self, alloc: Global) -> Result<calls::Call, Stop>
         ensures call { IfOk result (Means self.entry) }
         ensures memory { IsCallInLimits self.entry → IfErr result (λ stop. stop ≡ Stop.Memory) }

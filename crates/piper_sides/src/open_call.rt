@@ -8,10 +8,8 @@ use std::marker::Model;
 /// A side's open call: its point in the call table, and its answer once it has one.
 ///
 /// Each step that was made takes it and gives it back, and is allowed only where the table puts
-/// that
-/// step next. It is neither copied nor let go: it ends by `end` or `done`, and so only where the
-/// table
-/// ends it.
+/// that step next. It is neither copied nor let go: it ends by `end` or `done`, and so only where
+/// the table ends it.
 pub struct CallAt<P> {
     pub(crate) point: P,
     pub(crate) answer: Option<Answer>,

@@ -1,8 +1,8 @@
 //! The steps of a reader's open call by their names, for code that makes one behind the other.
 //!
 //! Each is a row or two of `ReadPoint::step`, and says `unreachable!()` of the points that its
-//! condition
-//! rules out. So the compiler knows where a call stands, and leaves nothing of it at run time.
+//! condition rules out. So the compiler knows where a call stands, and leaves nothing of it at run
+//! time.
 ghost use Rattle.std.specs.Prelude.{◌≡◌, ◌+◌, ◌^◌, ◌<◌, false};
 ghost use Rattle.piper_sides.specs.Table.{goes_on, read_action, read_step, reader_draws_behind, reader_is_true, reader_looks_for};
 ghost use Rattle.piper_sides.specs.Side.{read_sum};
@@ -298,8 +298,7 @@ impl CallAt<ReadPoint> {
     }
 
     /// The reader's own slot was emptied behind the true look of a polling copy, which then drew
-    /// whether
-    /// to yield.
+    /// whether to yield.
     #[inline(always)]
     pub fn took_own_and_drew(self, is_drawn: bool) -> CallAt<ReadPoint>
         requires next { self.point ≡ ReadPoint.LookTake (Purpose.Copy (Form.Polling false)) }

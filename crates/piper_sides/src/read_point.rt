@@ -116,8 +116,7 @@ pub(crate) fn truly(point: &mut ReadPoint, purpose: Purpose) -> Option<Answer>
 
 impl ReadPoint {
     /// Where a call begins that looks, where no byte is known (`none`) or some are: a known byte
-    /// needs
-    /// no load.
+    /// needs no load.
     ///
     /// A polling copy is opened as one that has not drawn: `Form::Polling { is_drawn: false }`.
     #[inline(always)]

@@ -13,9 +13,8 @@ use std::marker::Model;
 /// What the reader keeps. It knows no buffer, no slot, no waker and no runtime.
 ///
 /// A call is opened by `begin`. `next` then says which step the call table puts next, and `step`
-/// takes
-/// in what that step found; it answers where the call ends. A step that moves an index is told by
-/// `refreshed` or `stored_head`.
+/// takes in what that step found; it answers where the call ends. A step that moves an index is
+/// told by `refreshed` or `stored_head`.
 #[derive(Drop)]
 pub struct ReadSide {
     indices: ReadIndices,

@@ -1,8 +1,8 @@
 //! The steps of a writer's open call by their names, for code that makes one behind the other.
 //!
 //! Each is a row or two of `WritePoint::step`, and says `unreachable!()` of the points that its
-//! condition
-//! rules out. So the compiler knows where a call stands, and leaves nothing of it at run time.
+//! condition rules out. So the compiler knows where a call stands, and leaves nothing of it at run
+//! time.
 ghost use Rattle.std.specs.Prelude.{◌≡◌, ◌+◌, ◌^◌, ◌<◌, true, false};
 ghost use Rattle.piper_sides.specs.Table.{begins_look, goes_on, look_begun, write_action, write_step, writer_draws_behind, writer_is_true};
 ghost use Rattle.piper_sides.specs.Side.{write_sum};
@@ -166,8 +166,7 @@ impl CallAt<WritePoint> {
     }
 
     /// The writer's own slot was emptied, behind the look of a poll or in a close, and a waker
-    /// stood in it
-    /// or not.
+    /// stood in it or not.
     #[inline(always)]
     pub fn took_own(self, is_found: bool) -> CallAt<WritePoint>
         requires next { write_action self.point ≡ Action.Take Side.Writer }
@@ -341,8 +340,7 @@ impl CallAt<WritePoint> {
     }
 
     /// The writer's own slot was emptied behind the true look of a polling copy, which then drew
-    /// whether
-    /// to yield.
+    /// whether to yield.
     #[inline(always)]
     pub fn took_own_and_drew(self, is_drawn: bool) -> CallAt<WritePoint>
         requires next { self.point ≡ WritePoint.LookTake (Purpose.Copy (Form.Polling false)) }

@@ -160,8 +160,7 @@ impl WritePoint {
     }
 
     /// Where a look goes on behind the load of closed that it begins with: no room is known
-    /// (`none`), or
-    /// some is.
+    /// (`none`), or some is.
     #[inline(always)]
     pub(crate) fn look_begun(self, none: bool, is_closed: bool) -> CallAt<WritePoint>
         ensures { result ≡ look_begun none self is_closed }
@@ -233,8 +232,7 @@ impl WritePoint {
     }
 
     /// Where the step leads that comes next in a pipe of this capacity, by what it found; no room
-    /// is
-    /// known (`none`), or some is.
+    /// is known (`none`), or some is.
     pub(crate) fn after(self, capacity: usize, none: bool, found: Found) -> CallAt<WritePoint>
         requires fits { SumFits (write_sum self) found }
         ensures after { (room : ℕ) → (room == 0) ≡ none

@@ -13,10 +13,8 @@ use std::marker::Model;
 /// What the writer keeps. It knows no buffer, no slot, no waker and no runtime.
 ///
 /// A call is opened by `begin`. `next` then says which step the call table puts next, and `step`
-/// takes
-/// in what that step found; it answers where the call ends. A step that moves an index or shuts the
-/// pipe
-/// is told by `refreshed`, `stored_tail` or `shut`.
+/// takes in what that step found; it answers where the call ends. A step that moves an index or
+/// shuts the pipe is told by `refreshed`, `stored_tail` or `shut`.
 #[derive(Drop)]
 pub struct WriteSide {
     indices: WriteIndices,

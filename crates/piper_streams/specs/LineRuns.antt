@@ -42,8 +42,7 @@ ArePieces end limit (Ok line ∷ items) last =
     ⊎ (Lacks end line.items × (0 < length line.items) × Ends items last)
 
 -- what may come from a reader and what is kept of a line: none of the bytes that were taken is
--- lost,
--- made up or out of its place, and nothing is left where the end is told
+-- lost, made up or out of its place, and nothing is left where the end is told
 abbrev pub LineRuns : {R : Type 0} → (R → List ℕ) → (R → List ℕ) → (R → Bool) → ℕ → ℕ
     → R → List ℕ → List Item → Option Item → Type 0
 LineRuns {R} taken known saw end limit reader kept items last =

@@ -63,8 +63,7 @@ impl<H: Wait + RandomSource + AllocGlobal + Clone + Drop> Hands<H> {
     }
 
     /// Whether only the machine plays it: single steps, a waker that cannot be made, a lend whose
-    /// length the contracts
-    /// leave open, and a look at the bytes of a reader that is gone.
+    /// length the contracts leave open, and a look at the bytes of a reader that is gone.
     pub fn is_only_machine(&self, command: &Command) -> bool {
         match command {
             Command::Begin(_) | Command::Go(..) => true,

@@ -14,8 +14,7 @@ use piper_sides::write_indices::WriteIndices;
 /// What a writer reaches of the pipe that it shares, by one access each.
 pub trait WriteWords {
     /// Loads the reader's index, which is no more than a turn behind the writer's own, and leaves
-    /// room
-    /// for what is lent.
+    /// room for what is lent.
     fn load_head(&mut self, indices: &WriteIndices) -> usize
         ensures index { result < 2 * indices.now.capacity }
         ensures within { distance indices.now.capacity result indices.now.tail

@@ -40,8 +40,7 @@ told_behind_the_last_look :
 told_behind_the_last_look = (refl, refl)
 
 -- Behind each of these the reader may not be told false: the close came after the look, a byte was
--- found, or the call has
--- not looked yet.
+-- found, or the call has not looked yet.
 abbrev first_look : List Event
 first_look = Began Reader kind.Poll (Some 1) ∷ Looked Reader (seen.Tail 0) ∷ Closed Writer ∷ []
 

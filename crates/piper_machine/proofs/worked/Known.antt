@@ -45,8 +45,7 @@ after_a_look : knowledge_of 4 Reader (log_of polled) ≡ record { known = 3; fou
 after_a_look = refl
 
 -- A drain begins with the three bytes that the poll left known, and needs no look: the fourth byte
--- that is published meanwhile it
--- does not come to know.
+-- that is published meanwhile it does not come to know.
 abbrev drained : List Step
 drained =
     (polled ++ (Go Reader ∷ Begin (call.TryDrain 8) ∷ Begin (call.WriteBuf 1) ∷ Begin (call.Produced 1) ∷ Go Writer ∷ Go Writer ∷ []))

@@ -1,6 +1,5 @@
 -- A small language of whole calls over the definitions: what each call of a list answers, from a
--- given pipe on.
--- Its calls and answers are those of the replayer's scripts.
+-- given pipe on. Its calls and answers are those of the replayer's scripts.
 use Rattle.std.specs.Prelude.{◌≡◌, ℕ, suc, zero, ◌+◌, ◌-◌, List, [], ◌∷◌, take, length, replicate, slice_set, Bool, true, false, Some, Result, if◌then◌else◌}
 use Rattle.std.specs.declared.result.Result.TheVariants as result
 use Rattle.piper_sides.specs.declared.calls.Side.{Side}
@@ -38,8 +37,7 @@ abbrev pub ◌to◌ : ℕ → ℕ → List ℕ
 first to last = counted first (last + 1 - first)
 
 -- The calls. A waker is a number; `by`, `yielding` and the two after them make the context of a
--- polling call.
--- A query names its side, and answers the same on both.
+-- polling call. A query names its side, and answers the same on both.
 pub data Call : Type 0 where
   Fill : List ℕ → Call
   Drain : ℕ → Call
@@ -118,8 +116,7 @@ abbrev pub bytes_of : Pipe → ℕ → Answer
 bytes_of p count = Bytes count (take count p.unread)
 
 -- The length lent is open within bounds. Where no more than 4096 can be lent the bounds meet
--- (`bounds_meet` in Lends.antt),
--- and the scripts lend there alone.
+-- (`bounds_meet` in Lends.antt), and the scripts lend there alone.
 abbrev pub lent_count : ℕ → Pipe → ℕ
 lent_count most p = if p.is_shut then 0 else lend_limit most p
 

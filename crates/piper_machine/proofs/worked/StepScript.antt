@@ -1,6 +1,6 @@
 -- A small language of lines over the definitions: whole calls, calls that are opened, and the steps
--- of a side.
--- Its lines, and what each prints, are those of the replayer; a line that is refused is the last.
+-- of a side. Its lines, and what each prints, are those of the replayer; a line that is refused is
+-- the last.
 use Rattle.std.specs.Prelude.{ℕ, suc, zero, List, [], ◌∷◌, ◌++◌, replicate, Option, None, Some, nat_lt, Bool, true, false, is_some}
 use Rattle.piper_sides.specs.declared.calls.Side.{Side}
 use Rattle.piper_sides.specs.declared.calls.Side.TheVariants.{Reader, Writer}

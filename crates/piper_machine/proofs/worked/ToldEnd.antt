@@ -80,8 +80,7 @@ forgotten_by_the_next : saw_closed Reader (before_it_is_found ++ Began Reader (k
 forgotten_by_the_next = refl
 
 -- The reader closes its own end in the middle of a publication: a drop of the reader does not shut,
--- and the writer goes on. No end
--- was told, so this is allowed.
+-- and the writer goes on. No end was told, so this is allowed.
 abbrev published_after_a_drop : List Step
 published_after_a_drop = Begin (call.WriteBuf 2) ∷ Begin (call.Produced 1) ∷ Begin (call.Drop Reader) ∷ Go Reader ∷ Go Writer ∷ []
 

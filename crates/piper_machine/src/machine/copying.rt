@@ -170,10 +170,9 @@ impl Machine {
     /// closed pipe.
     ///
     /// Without room it waits as `w_poll` does. With room it yields where the draw is 0: the
-    /// caller's own waker is
-    /// called, the answer is pending, and no byte has moved. `Memory` is answered exactly where a
-    /// registration or a
-    /// yield is needed and not granted. Nothing stays lent, whatever is answered.
+    /// caller's own waker is called, the answer is pending, and no byte has moved. `Memory` is
+    /// answered exactly where a registration or a yield is needed and not granted. Nothing stays
+    /// lent, whatever is answered.
     pub fn w_poll_fill_bytes(&mut self, waker: u32, luck: Luck, bytes: &[u8]) -> Polled<usize>
         requires idle { self.old.writer ≡ WritePoint.Idle }
         requires draw { luck.draw < 100 }
@@ -193,10 +192,8 @@ impl Machine {
     /// the end of a closed pipe.
     ///
     /// Without a byte it waits as `r_poll` does. With one it yields where the draw is 0: the
-    /// caller's own waker is
-    /// called, the answer is pending, and no byte has moved. `Memory` is answered exactly where a
-    /// registration or a
-    /// yield is needed and not granted.
+    /// caller's own waker is called, the answer is pending, and no byte has moved. `Memory` is
+    /// answered exactly where a registration or a yield is needed and not granted.
     pub fn r_poll_drain_bytes(&mut self, waker: u32, luck: Luck, dest: &mut [u8]) -> Polled<usize>
         requires idle { self.old.reader ≡ ReadPoint.Idle }
         requires draw { luck.draw < 100 }
@@ -222,8 +219,8 @@ impl Machine {
     /// bytes.
     ///
     /// It waits and yields as `w_poll_fill_bytes` does. The source's end is a failure, an act of no
-    /// bytes, or the end of
-    /// its script; a failure that is reached is answered, and what moved before it stays.
+    /// bytes, or the end of its script; a failure that is reached is answered, and what moved
+    /// before it stays.
     pub fn w_poll_fill(
         &mut self,
         waker: u32,
@@ -245,10 +242,9 @@ impl Machine {
     /// Hands known bytes to a scripted destination, and answers how many it took.
     ///
     /// It waits and yields as `r_poll_drain_bytes` does. Each call of the destination is lent the
-    /// known bytes that
-    /// stand in one piece, at most 131,072; one that takes none, and the end of the script, end the
-    /// call. A failure is
-    /// answered, and what was taken before it stays consumed.
+    /// known bytes that stand in one piece, at most 131,072; one that takes none, and the end of
+    /// the script, end the call. A failure is answered, and what was taken before it stays
+    /// consumed.
     pub fn r_poll_drain(
         &mut self,
         waker: u32,

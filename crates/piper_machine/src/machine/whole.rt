@@ -235,8 +235,7 @@ impl Machine {
     /// changed.
     ///
     /// Ready with true: a byte is known. Ready with false: the pipe is closed, and no byte is
-    /// unread.
-    /// `Memory` is answered exactly where a registration is needed and not granted.
+    /// unread. `Memory` is answered exactly where a registration is needed and not granted.
     pub fn r_poll(&mut self, waker: u32, luck: Luck) -> Polled<bool>
         requires idle { self.old.reader ≡ ReadPoint.Idle }
         requires draw { luck.draw < 100 }
@@ -286,9 +285,8 @@ impl Machine {
     /// how many.
     ///
     /// Nothing is lent of a shut pipe; else at least the lesser of `max`, 4096, the known room and
-    /// what is left up to
-    /// the end of the buffer. What is lent is written by `w_write`, shown by `w_lent` and published
-    /// by `w_produced`.
+    /// what is left up to the end of the buffer. What is lent is written by `w_write`, shown by
+    /// `w_lent` and published by `w_produced`.
     pub fn w_write_buf(&mut self, max: usize) -> usize
         requires { self.old.writer ≡ WritePoint.Idle }
         ensures bounds { Lendable max self.old result }
