@@ -11,7 +11,7 @@ use crate::calls::Side;
 use crate::events::Answer;
 use crate::open_call::{CallAt, goes_on};
 use crate::polling::Polled;
-use crate::read_point::{finish, found_none, found_some, truly};
+use crate::read_point::{found_none, found_some, move_past_true_look, move_past_wake};
 use crate::table::ReadPoint::{
     CallDestination, Idle, LookClosed, LookRegister, LookTail, LookTailAgain, LookTake,
     QueryClosed, StoreClosed, StoreHead, TakeWriter, WakeWriter, Yield,
@@ -148,7 +148,7 @@ impl CallAt<ReadPoint> {
             answer: _,
         } = self;
         let answer = match point {
-            LookTake(purpose) => truly(&mut point, purpose),
+            LookTake(purpose) => move_past_true_look(&mut point, purpose),
             _ => unreachable!(),
         };
         CallAt { point, answer }
@@ -254,7 +254,7 @@ impl CallAt<ReadPoint> {
                 point = WakeWriter(next);
                 None
             }
-            TakeWriter(next) => finish(&mut point, next),
+            TakeWriter(next) => move_past_wake(&mut point, next),
             _ => unreachable!(),
         };
         CallAt { point, answer }
@@ -271,7 +271,7 @@ impl CallAt<ReadPoint> {
             answer: _,
         } = self;
         let answer = match point {
-            WakeWriter(next) => finish(&mut point, next),
+            WakeWriter(next) => move_past_wake(&mut point, next),
             _ => unreachable!(),
         };
         CallAt { point, answer }
@@ -308,7 +308,7 @@ impl CallAt<ReadPoint> {
             mut point,
             answer: _,
         } = self;
-        let answer = truly(&mut point, Purpose::Copy(Form::Polling { is_drawn }));
+        let answer = move_past_true_look(&mut point, Purpose::Copy(Form::Polling { is_drawn }));
         CallAt { point, answer }
     }
 }

@@ -51,32 +51,10 @@ fn draws(form: Form) -> ReadPoint
     }
 }
 
-// Where a call goes on that has woken the writer.
+// Moves the point to where a call goes on that has woken the writer, and answers what the call
+// does, if it ends there.
 #[inline(always)]
-fn done(next: AfterRead) -> CallAt<ReadPoint>
-    ensures { result ≡ read_done next }
-{
-    match next {
-        AfterRead::Answer => ends(Idle, Answer::Done),
-        AfterRead::Drop => ends(Dropped, Answer::Done),
-        AfterRead::Round(form, sum) => goes_on(CallDestination(form, sum)),
-    }
-}
-
-// Where a call goes on whose look is true.
-#[inline(always)]
-fn is_true(purpose: Purpose) -> CallAt<ReadPoint>
-    ensures { result ≡ reader_is_true purpose }
-{
-    match purpose {
-        Purpose::Poll => ends(Idle, Answer::Poll(Polled::Ready(true))),
-        Purpose::Copy(form) => goes_on(draws(form)),
-    }
-}
-
-// Where a call goes on that has woken the writer, and what it answers if it ends there.
-#[inline(always)]
-pub(crate) fn finish(point: &mut ReadPoint, next: AfterRead) -> Option<Answer>
+pub(crate) fn move_past_wake(point: &mut ReadPoint, next: AfterRead) -> Option<Answer>
     ensures point { point.new ≡ (read_done next).point }
     ensures answer { result ≡ (read_done next).answer }
 {
@@ -96,9 +74,10 @@ pub(crate) fn finish(point: &mut ReadPoint, next: AfterRead) -> Option<Answer>
     }
 }
 
-// Where a call goes on whose look is true, and what it answers if it ends there.
+// Moves the point to where a call goes on whose look is true, and answers what the call does, if it
+// ends there.
 #[inline(always)]
-pub(crate) fn truly(point: &mut ReadPoint, purpose: Purpose) -> Option<Answer>
+pub(crate) fn move_past_true_look(point: &mut ReadPoint, purpose: Purpose) -> Option<Answer>
     ensures point { point.new ≡ (reader_is_true purpose).point }
     ensures answer { result ≡ (reader_is_true purpose).answer }
 {
@@ -112,6 +91,26 @@ pub(crate) fn truly(point: &mut ReadPoint, purpose: Purpose) -> Option<Answer>
             None
         }
     }
+}
+
+// Where a call goes on that has woken the writer.
+#[inline(always)]
+fn done(next: AfterRead) -> CallAt<ReadPoint>
+    ensures { result ≡ read_done next }
+{
+    let mut point = WakeWriter(next);
+    let answer = move_past_wake(&mut point, next);
+    CallAt { point, answer }
+}
+
+// Where a call goes on whose look is true.
+#[inline(always)]
+fn is_true(purpose: Purpose) -> CallAt<ReadPoint>
+    ensures { result ≡ reader_is_true purpose }
+{
+    let mut point = LookTake(purpose);
+    let answer = move_past_true_look(&mut point, purpose);
+    CallAt { point, answer }
 }
 
 impl ReadPoint {

@@ -20,7 +20,7 @@ use crate::table::{
     Action, AfterWrite, Form, Found, Purpose, WritePoint, end_or_pending, failed_answer,
     yield_answer,
 };
-use crate::write_point::{finish, found_none, found_some, truly};
+use crate::write_point::{found_none, found_some, move_past_true_look, move_past_wake};
 
 /// A writer's open call.
 pub type WriteCall = CallAt<WritePoint>;
@@ -178,7 +178,7 @@ impl CallAt<WritePoint> {
             answer: _,
         } = self;
         let answer = match point {
-            LookTake(purpose) => truly(&mut point, purpose),
+            LookTake(purpose) => move_past_true_look(&mut point, purpose),
             TakeWriter if is_found => {
                 point = WakeWriter;
                 None
@@ -292,7 +292,7 @@ impl CallAt<WritePoint> {
                 point = WakeReader(next);
                 None
             }
-            TakeReader(next) => finish(&mut point, next),
+            TakeReader(next) => move_past_wake(&mut point, next),
             _ => unreachable!(),
         };
         CallAt { point, answer }
@@ -309,7 +309,7 @@ impl CallAt<WritePoint> {
             answer: _,
         } = self;
         let answer = match point {
-            WakeReader(next) => finish(&mut point, next),
+            WakeReader(next) => move_past_wake(&mut point, next),
             WakeWriter => {
                 point = Idle;
                 Some(Answer::Done)
@@ -350,7 +350,7 @@ impl CallAt<WritePoint> {
             mut point,
             answer: _,
         } = self;
-        let answer = truly(&mut point, Purpose::Copy(Form::Polling { is_drawn }));
+        let answer = move_past_true_look(&mut point, Purpose::Copy(Form::Polling { is_drawn }));
         CallAt { point, answer }
     }
 }

@@ -53,33 +53,10 @@ fn draws(form: Form) -> WritePoint
     }
 }
 
-// Where a call goes on that has woken the reader.
+// Moves the point to where a call goes on that has woken the reader, and answers what the call
+// does, if it ends there.
 #[inline(always)]
-fn done(next: AfterWrite) -> CallAt<WritePoint>
-    ensures { result ≡ write_done next }
-{
-    match next {
-        AfterWrite::Answer => ends(Idle, Answer::Done),
-        AfterWrite::Drop => ends(Dropped, Answer::Done),
-        AfterWrite::WakeWriter => goes_on(TakeWriter),
-        AfterWrite::Round(form, sum) => goes_on(CallSource(form, sum)),
-    }
-}
-
-// Where a call goes on whose look is true.
-#[inline(always)]
-fn is_true(purpose: Purpose) -> CallAt<WritePoint>
-    ensures { result ≡ writer_is_true purpose }
-{
-    match purpose {
-        Purpose::Poll => ends(Idle, Answer::Poll(Polled::Ready(true))),
-        Purpose::Copy(form) => goes_on(draws(form)),
-    }
-}
-
-// Where a call goes on that has woken the reader, and what it answers if it ends there.
-#[inline(always)]
-pub(crate) fn finish(point: &mut WritePoint, next: AfterWrite) -> Option<Answer>
+pub(crate) fn move_past_wake(point: &mut WritePoint, next: AfterWrite) -> Option<Answer>
     ensures point { point.new ≡ (write_done next).point }
     ensures answer { result ≡ (write_done next).answer }
 {
@@ -103,9 +80,10 @@ pub(crate) fn finish(point: &mut WritePoint, next: AfterWrite) -> Option<Answer>
     }
 }
 
-// Where a call goes on whose look is true, and what it answers if it ends there.
+// Moves the point to where a call goes on whose look is true, and answers what the call does, if it
+// ends there.
 #[inline(always)]
-pub(crate) fn truly(point: &mut WritePoint, purpose: Purpose) -> Option<Answer>
+pub(crate) fn move_past_true_look(point: &mut WritePoint, purpose: Purpose) -> Option<Answer>
     ensures point { point.new ≡ (writer_is_true purpose).point }
     ensures answer { result ≡ (writer_is_true purpose).answer }
 {
@@ -119,6 +97,26 @@ pub(crate) fn truly(point: &mut WritePoint, purpose: Purpose) -> Option<Answer>
             None
         }
     }
+}
+
+// Where a call goes on that has woken the reader.
+#[inline(always)]
+fn done(next: AfterWrite) -> CallAt<WritePoint>
+    ensures { result ≡ write_done next }
+{
+    let mut point = WakeReader(next);
+    let answer = move_past_wake(&mut point, next);
+    CallAt { point, answer }
+}
+
+// Where a call goes on whose look is true.
+#[inline(always)]
+fn is_true(purpose: Purpose) -> CallAt<WritePoint>
+    ensures { result ≡ writer_is_true purpose }
+{
+    let mut point = LookTake(purpose);
+    let answer = move_past_true_look(&mut point, purpose);
+    CallAt { point, answer }
 }
 
 impl WritePoint {
