@@ -2,7 +2,7 @@
 #![tactic(auto)]
 
 use piper_player::replay::Ended;
-use piper_twin::modes::replay;
+use piper_twin::modes::{WRONG_ARGUMENTS, replay};
 use std::env;
 use std::io::ErrorKind;
 use std::process::ExitCode;
@@ -15,7 +15,7 @@ fn words(rt: &HostRuntime) -> Result<Vec<String>, Ended> {
             .collect(rt.alloc())
             .map_err(|_| Ended::OUT_OF_MEMORY),
         // An argument that is no text is a wrong one.
-        Err(error) if error.kind() == ErrorKind::InvalidData => Err(Ended::WRONG_ARGUMENTS),
+        Err(error) if error.kind() == ErrorKind::InvalidData => Err(WRONG_ARGUMENTS),
         Err(_) => Err(Ended::OUT_OF_MEMORY),
     }
 }

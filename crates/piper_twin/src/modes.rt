@@ -20,7 +20,7 @@ use std::sync::Wait;
 const SEED: u64 = 1;
 
 /// Words that are none of the modes, in place of what the player says, which has two of them.
-const WRONG_ARGUMENTS: Ended = Ended {
+pub const WRONG_ARGUMENTS: Ended = Ended {
     status: 1,
     text: "usage: piper_replay [run|all|handles|twin [SEED COUNT]]",
 };
