@@ -30,7 +30,7 @@ const OF_THE_LANGUAGE: [&str; 10] = [
     "mode-handles.jsonl",
 ];
 
-/// A script, what it prints, and the status with which its replay ends.
+/// A script, what it prints, and how its replay ends.
 #[derive(Clone, Copy)]
 struct Vector<'json> {
     /// What the script shows, unless it was drawn at random.
@@ -38,6 +38,8 @@ struct Vector<'json> {
     script: &'json str,
     output: &'json str,
     status: u64,
+    /// What is told on standard error, without its LF.
+    told: &'json str,
 }
 
 impl Vector<'_> {
@@ -48,6 +50,7 @@ impl Vector<'_> {
             script: text_of(line, "script")?,
             output: text_of(line, "output")?,
             status: line.get("status")?.as_u64()?,
+            told: text_of(line, "told").unwrap_or(""),
         })
     }
 }
@@ -139,10 +142,10 @@ fn is_alike(
         tell_difference(rt, &difference)?;
         return Ok(false);
     }
-    if u64::from(ended.status) != vector.status || !ended.text.is_empty() {
+    if u64::from(ended.status) != vector.status || ended.text != vector.told {
         println!(rt;
-            "status {} {} in place of {}",
-            ended.status, ended.text, vector.status
+            "status {} {} in place of {} {}",
+            ended.status, ended.text, vector.status, vector.told
         )?;
         return Ok(false);
     }
