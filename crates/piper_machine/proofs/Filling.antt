@@ -14,9 +14,9 @@ use Rattle.piper_sides.specs.declared.table.Action.TheVariants as does
 use Rattle.piper_sides.specs.declared.table.Form.{Form}
 use Rattle.piper_sides.specs.declared.table.Form.TheVariants.{Try, Polling}
 use Rattle.piper_sides.specs.declared.table.Purpose.TheVariants as purpose
-use Rattle.piper_sides.specs.declared.table.AfterWrite.TheVariants as behind
+use Rattle.piper_sides.specs.declared.table.AfterWrite.TheVariants as afterward
 use Rattle.piper_sides.specs.declared.table.WritePoint.{WritePoint}
-use Rattle.piper_sides.specs.declared.table.WritePoint.TheVariants as on
+use Rattle.piper_sides.specs.declared.table.WritePoint.TheVariants as at
 use Rattle.piper_sides.specs.Open.{is_granted}
 use Rattle.piper_sides.specs.declared.table.Found.{Found}
 use Rattle.piper_sides.specs.Table.{Next, goes_on, write_action, write_after, writer_is_open, writer_looked, writer_looked_again, writer_registered, writer_is_true, writer_moved, writer_rounds, reader_taken}
@@ -44,7 +44,7 @@ giving acts p = record p { source = acts }
 
 -- the waker that the call has taken, and calls next
 abbrev pub errand : WritePoint → OpenCall → Option ℕ
-errand (on.WakeReader next) c = c.taken
+errand (at.WakeReader next) c = c.taken
 errand point c = None
 
 abbrev pub WakesOne : WritePoint → Pipe → Type 0
@@ -95,7 +95,7 @@ module _ (woken : List ℕ) (waker : Option ℕ) (c : OpenCall) (one : HasOneWak
   moves-kept n true form sum goes = absurd (cc)
   moves-kept n false form sum goes = (refl, one)
 
-  gives-kept : (most : ℕ) (acts : List SourceAct) (form : Form) (sum capacity room : ℕ) → IsKept woken waker (write_after capacity room (on.CallSource form sum) (found_of (given most acts))) c
+  gives-kept : (most : ℕ) (acts : List SourceAct) (form : Form) (sum capacity room : ℕ) → IsKept woken waker (write_after capacity room (at.CallSource form sum) (found_of (given most acts))) c
   gives-kept most [] form sum capacity room = moves-kept 0 true form sum
   gives-kept most (source.Fail ∷ acts) form sum capacity room = λ goes. absurd (cc)
   gives-kept most (source.Bytes bytes ∷ acts) form sum capacity room = moves-kept (min most (length bytes)) (min most (length bytes) == 0) form sum
@@ -104,24 +104,24 @@ module _ (woken : List ℕ) (waker : Option ℕ) (c : OpenCall) (one : HasOneWak
   rounds-kept true n form sum goes = absurd (cc)
   rounds-kept false n form sum goes = (refl, one)
 
-wakes-kept : (name : Option ℕ) (form : Form) (sum : ℕ) (woken : List ℕ) (c : OpenCall) → HasOneWake woken name → IsKept woken None (reader_taken (behind.Round form sum) (is_some name)) (record c { taken = name })
+wakes-kept : (name : Option ℕ) (form : Form) (sum : ℕ) (woken : List ℕ) (c : OpenCall) → HasOneWake woken name → IsKept woken None (reader_taken (afterward.Round form sum) (is_some name)) (record c { taken = name })
 wakes-kept None form sum woken c one goes = (refl, one)
 wakes-kept (Some name) form sum woken c one goes = (refl, one)
 
 fill-kept : (point : WritePoint) (lent : List ℕ) (p : Pipe) → is_filling point ≡ true → closes_round point ≡ false → WakesOne point p
     → let s = fill_step point lent p in s.answer ≡ None → (is_filling s.pipe.writer ≡ true) × WakesOne s.pipe.writer s.pipe
-fill-kept (on.LookClosed (purpose.Copy form)) lent p fills plain one goes = open-kept p.woken p.reader_waker p.writer_call one p.is_closed (p.room == 0) form goes
-fill-kept (on.LookHead (purpose.Copy form)) lent p fills plain one goes = loads-kept p.woken p.reader_waker p.writer_call one (p.capacity - length p.unread == 0) form goes
-fill-kept (on.LookRegister (purpose.Copy form)) lent p fills plain one goes = registers-kept p.woken p.reader_waker p.writer_call one (is_granted p.writer_call.context) form goes
-fill-kept (on.LookHeadAgain (purpose.Copy form)) lent p fills plain one goes = again-kept p.woken p.reader_waker p.writer_call one (p.capacity - length p.unread == 0) form goes
-fill-kept (on.LookClosedAgain (purpose.Copy form)) lent p fills plain one goes = absurd (cc)
-fill-kept (on.LookTake (purpose.Copy form)) lent p fills plain one goes = takes-kept p.woken p.reader_waker (record p.writer_call { taken = p.writer_waker }) one form goes
-fill-kept on.Yield lent p fills plain one goes = absurd (cc)
-fill-kept (on.CallSource form sum) lent p fills plain one goes = gives-kept p.woken p.reader_waker p.writer_call one (length lent) p.source form sum p.capacity p.room goes
-fill-kept (on.RoundClosed n form sum) lent p fills plain one goes = rounds-kept p.woken p.reader_waker p.writer_call one p.is_closed n form sum goes
-fill-kept (on.StoreTail n (behind.Round form sum)) lent p fills plain one goes = (refl, one)
-fill-kept (on.TakeReader (behind.Round form sum)) lent p fills plain one goes = wakes-kept p.reader_waker form sum p.woken p.writer_call one goes
-fill-kept (on.WakeReader (behind.Round form sum)) lent p fills plain one goes = (refl, one)
+fill-kept (at.LookClosed (purpose.Copy form)) lent p fills plain one goes = open-kept p.woken p.reader_waker p.writer_call one p.is_closed (p.room == 0) form goes
+fill-kept (at.LookHead (purpose.Copy form)) lent p fills plain one goes = loads-kept p.woken p.reader_waker p.writer_call one (p.capacity - length p.unread == 0) form goes
+fill-kept (at.LookRegister (purpose.Copy form)) lent p fills plain one goes = registers-kept p.woken p.reader_waker p.writer_call one (is_granted p.writer_call.context) form goes
+fill-kept (at.LookHeadAgain (purpose.Copy form)) lent p fills plain one goes = again-kept p.woken p.reader_waker p.writer_call one (p.capacity - length p.unread == 0) form goes
+fill-kept (at.LookClosedAgain (purpose.Copy form)) lent p fills plain one goes = absurd (cc)
+fill-kept (at.LookTake (purpose.Copy form)) lent p fills plain one goes = takes-kept p.woken p.reader_waker (record p.writer_call { taken = p.writer_waker }) one form goes
+fill-kept at.Yield lent p fills plain one goes = absurd (cc)
+fill-kept (at.CallSource form sum) lent p fills plain one goes = gives-kept p.woken p.reader_waker p.writer_call one (length lent) p.source form sum p.capacity p.room goes
+fill-kept (at.RoundClosed n form sum) lent p fills plain one goes = rounds-kept p.woken p.reader_waker p.writer_call one p.is_closed n form sum goes
+fill-kept (at.StoreTail n (afterward.Round form sum)) lent p fills plain one goes = (refl, one)
+fill-kept (at.TakeReader (afterward.Round form sum)) lent p fills plain one goes = wakes-kept p.reader_waker form sum p.woken p.writer_call one goes
+fill-kept (at.WakeReader (afterward.Round form sum)) lent p fills plain one goes = (refl, one)
 fill-kept point lent p fills plain one goes = absurd (cc)
 
 -- a fill that was opened at p has come to u
@@ -162,7 +162,7 @@ filled-by p u lent (Some answer) filling may is =
 
 -- a step that does not call the source leaves it as it is
 may-go : (point : WritePoint) (acts : List SourceAct) (lent : List ℕ) (p : Pipe) → (write_action point ≡ does.CallSource → ⊥) → MayOffer point acts lent p
-may-go (on.CallSource form sum) acts lent p other = absurd (other refl)
+may-go (at.CallSource form sum) acts lent p other = absurd (other refl)
 may-go point acts lent p other = tt
 
 pub record IsApart (point : WritePoint) (lent : List ℕ) (acts : List SourceAct) (p : Pipe) : Type 0 where
@@ -171,11 +171,11 @@ pub record IsApart (point : WritePoint) (lent : List ℕ) (acts : List SourceAct
   pub source : (fill_step point lent p).pipe.source ≡ source_after (fill_step point lent p).answer p.source
 
 apart : (point : WritePoint) (lent : List ℕ) (acts : List SourceAct) (p : Pipe) → (write_action point ≡ does.CallSource → ⊥) → IsApart point lent acts p
-apart (on.CallSource form sum) lent acts p other = absurd (other refl)
-apart (on.StoreClosed behind.Answer) lent acts p other = record { answer = refl; pipe = refl; source = refl }
-apart (on.StoreClosed behind.Drop) lent acts p other = record { answer = refl; pipe = refl; source = refl }
-apart (on.StoreClosed behind.WakeWriter) lent acts p other = record { answer = refl; pipe = refl; source = refl }
-apart (on.StoreClosed (behind.Round form sum)) lent acts p other = record { answer = refl; pipe = refl; source = refl }
+apart (at.CallSource form sum) lent acts p other = absurd (other refl)
+apart (at.StoreClosed afterward.Answer) lent acts p other = record { answer = refl; pipe = refl; source = refl }
+apart (at.StoreClosed afterward.Drop) lent acts p other = record { answer = refl; pipe = refl; source = refl }
+apart (at.StoreClosed afterward.WakeWriter) lent acts p other = record { answer = refl; pipe = refl; source = refl }
+apart (at.StoreClosed (afterward.Round form sum)) lent acts p other = record { answer = refl; pipe = refl; source = refl }
 apart point lent acts p other = record { answer = refl; pipe = refl; source = refl }
 
 -- the same of a pipe whose call holds no source
@@ -225,10 +225,10 @@ goes-on p q h r acts answer filling other hears answers after =
 
 -- a call of the source
 may-call : (point : WritePoint) (acts : List SourceAct) (lent : List ℕ) (p : Pipe) → Lendable MOST_A_ROUND p (length lent) → MayOffer point acts lent p
-may-call (on.CallSource form sum) [] lent p lendable = tt
-may-call (on.CallSource form sum) (source.Fail ∷ acts) lent p lendable = tt
-may-call (on.CallSource form sum) (source.Bytes [] ∷ acts) lent p lendable = tt
-may-call (on.CallSource form sum) (source.Bytes (byte ∷ bytes) ∷ acts) lent p lendable = lendable
+may-call (at.CallSource form sum) [] lent p lendable = tt
+may-call (at.CallSource form sum) (source.Fail ∷ acts) lent p lendable = tt
+may-call (at.CallSource form sum) (source.Bytes [] ∷ acts) lent p lendable = tt
+may-call (at.CallSource form sum) (source.Bytes (byte ∷ bytes) ∷ acts) lent p lendable = lendable
 may-call point acts lent p lendable = tt
 
 pub record IsCalled (point : WritePoint) (lent : List ℕ) (p : Pipe) : Type 0 where
@@ -236,11 +236,11 @@ pub record IsCalled (point : WritePoint) (lent : List ℕ) (p : Pipe) : Type 0 w
   pub pipe : (fill_step point lent p).pipe ≡ round_left (found_of (given (length lent) p.source)) (source_called (lending lent (record p { writer = point })))
 
 call-step : (point : WritePoint) (lent : List ℕ) (p : Pipe) → write_action point ≡ does.CallSource → IsCalled point lent p
-call-step (on.CallSource form sum) lent p calls = record { answer = refl; pipe = refl }
-call-step (on.StoreClosed behind.Answer) lent p calls = absurd (cc)
-call-step (on.StoreClosed behind.Drop) lent p calls = absurd (cc)
-call-step (on.StoreClosed behind.WakeWriter) lent p calls = absurd (cc)
-call-step (on.StoreClosed (behind.Round form sum)) lent p calls = absurd (cc)
+call-step (at.CallSource form sum) lent p calls = record { answer = refl; pipe = refl }
+call-step (at.StoreClosed afterward.Answer) lent p calls = absurd (cc)
+call-step (at.StoreClosed afterward.Drop) lent p calls = absurd (cc)
+call-step (at.StoreClosed afterward.WakeWriter) lent p calls = absurd (cc)
+call-step (at.StoreClosed (afterward.Round form sum)) lent p calls = absurd (cc)
 call-step point lent p calls = absurd (cc)
 
 -- what a call of the source finds in w, which was lent to it, leads to r

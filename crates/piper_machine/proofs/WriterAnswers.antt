@@ -23,9 +23,9 @@ use Rattle.piper_sides.specs.declared.table.Purpose.{Purpose}
 use Rattle.piper_sides.specs.declared.table.Purpose.TheVariants as purpose
 use Rattle.piper_sides.specs.declared.table.Action.TheVariants as does
 use Rattle.piper_sides.specs.declared.table.AfterWrite.{AfterWrite}
-use Rattle.piper_sides.specs.declared.table.AfterWrite.TheVariants as behind
+use Rattle.piper_sides.specs.declared.table.AfterWrite.TheVariants as afterward
 use Rattle.piper_sides.specs.declared.table.WritePoint.{WritePoint}
-use Rattle.piper_sides.specs.declared.table.WritePoint.TheVariants as on
+use Rattle.piper_sides.specs.declared.table.WritePoint.TheVariants as at
 use Rattle.piper_sides.specs.Open.{is_granted, is_yield_granted}
 use Rattle.piper_sides.specs.Side.{tail_store}
 use Rattle.piper_sides.specs.declared.table.Found.TheVariants.{Nothing as nothing, Granted as granted}
@@ -67,42 +67,42 @@ WriterLooks first purpose.Poll held t = Polls t
 WriterLooks first (purpose.Copy form) held t = Fills first form held [] 0 t
 
 abbrev pub WriterBehind : AfterWrite → List SourceAct → Told → Type 0
-WriterBehind behind.Answer held t = t.call ≡ Some (call.Produced (length t.moved))
-WriterBehind behind.Drop held t = t.call ≡ Some (call.Drop Writer)
-WriterBehind behind.WakeWriter held t = t.call ≡ Some call.Close
-WriterBehind (behind.Round form sum) held t = Fills found_open form held [] sum t
+WriterBehind afterward.Answer held t = t.call ≡ Some (call.Produced (length t.moved))
+WriterBehind afterward.Drop held t = t.call ≡ Some (call.Drop Writer)
+WriterBehind afterward.WakeWriter held t = t.call ≡ Some call.Close
+WriterBehind (afterward.Round form sum) held t = Fills found_open form held [] sum t
 
 abbrev pub WriterStores : ℕ → AfterWrite → List SourceAct → List ℕ → Told → Type 0
-WriterStores n behind.Answer held lent t = (t.call ≡ Some (call.Produced n)) × (t.moved ≡ [])
-WriterStores n (behind.Round form sum) held lent t = Fills found_open form held (take n lent) sum t
+WriterStores n afterward.Answer held lent t = (t.call ≡ Some (call.Produced n)) × (t.moved ≡ [])
+WriterStores n (afterward.Round form sum) held lent t = Fills found_open form held (take n lent) sum t
 WriterStores n next held lent t = ⊥
 
 abbrev pub WriterCloses : AfterWrite → Told → Type 0
-WriterCloses behind.Drop t = t.call ≡ Some (call.Drop Writer)
-WriterCloses behind.WakeWriter t = t.call ≡ Some call.Close
+WriterCloses afterward.Drop t = t.call ≡ Some (call.Drop Writer)
+WriterCloses afterward.WakeWriter t = t.call ≡ Some call.Close
 WriterCloses next t = ⊥
 
 abbrev pub WriterAt : ℕ → WritePoint → List SourceAct → List ℕ → Told → Type 0
-WriterAt capacity on.Idle held lent t = Unit {0}
-WriterAt capacity on.Dropped held lent t = Unit {0}
-WriterAt capacity (on.QueryHead query) held lent t = (t.call ≡ Some (call.Query Writer query)) × (t.looks ≡ [])
-WriterAt capacity (on.QueryTail query count) held lent t = (count ≤ capacity) × (t.call ≡ Some (call.Query Writer query)) × (t.looks ≡ seen.Head count ∷ [])
-WriterAt capacity on.QueryClosed held lent t = (t.call ≡ Some (call.IsClosed Writer)) × (t.looks ≡ [])
-WriterAt capacity (on.LookClosed l) held lent t = WriterLooks None l held t
-WriterAt capacity (on.LookHead l) held lent t = WriterLooks found_open l held t
-WriterAt capacity (on.LookRegister l) held lent t = WriterLooks found_open l held t
-WriterAt capacity (on.LookHeadAgain l) held lent t = WriterLooks found_open l held t
-WriterAt capacity (on.LookClosedAgain l) held lent t = WriterLooks found_open l held t
-WriterAt capacity (on.LookTake l) held lent t = WriterLooks found_open l held t
-WriterAt capacity on.Yield held lent t = Fills found_open (Polling true) held [] 0 t
-WriterAt capacity (on.CallSource form sum) held lent t = Fills found_open form held [] sum t
-WriterAt capacity (on.RoundClosed n form sum) held lent t = Fills found_open form held (take n lent) sum t
-WriterAt capacity (on.StoreTail n next) held lent t = WriterStores n next held lent t
-WriterAt capacity (on.TakeReader next) held lent t = WriterBehind next held t
-WriterAt capacity (on.WakeReader next) held lent t = WriterBehind next held t
-WriterAt capacity (on.StoreClosed next) held lent t = WriterCloses next t
-WriterAt capacity on.TakeWriter held lent t = t.call ≡ Some call.Close
-WriterAt capacity on.WakeWriter held lent t = t.call ≡ Some call.Close
+WriterAt capacity at.Idle held lent t = Unit {0}
+WriterAt capacity at.Dropped held lent t = Unit {0}
+WriterAt capacity (at.QueryHead query) held lent t = (t.call ≡ Some (call.Query Writer query)) × (t.looks ≡ [])
+WriterAt capacity (at.QueryTail query count) held lent t = (count ≤ capacity) × (t.call ≡ Some (call.Query Writer query)) × (t.looks ≡ seen.Head count ∷ [])
+WriterAt capacity at.QueryClosed held lent t = (t.call ≡ Some (call.IsClosed Writer)) × (t.looks ≡ [])
+WriterAt capacity (at.LookClosed l) held lent t = WriterLooks None l held t
+WriterAt capacity (at.LookHead l) held lent t = WriterLooks found_open l held t
+WriterAt capacity (at.LookRegister l) held lent t = WriterLooks found_open l held t
+WriterAt capacity (at.LookHeadAgain l) held lent t = WriterLooks found_open l held t
+WriterAt capacity (at.LookClosedAgain l) held lent t = WriterLooks found_open l held t
+WriterAt capacity (at.LookTake l) held lent t = WriterLooks found_open l held t
+WriterAt capacity at.Yield held lent t = Fills found_open (Polling true) held [] 0 t
+WriterAt capacity (at.CallSource form sum) held lent t = Fills found_open form held [] sum t
+WriterAt capacity (at.RoundClosed n form sum) held lent t = Fills found_open form held (take n lent) sum t
+WriterAt capacity (at.StoreTail n next) held lent t = WriterStores n next held lent t
+WriterAt capacity (at.TakeReader next) held lent t = WriterBehind next held t
+WriterAt capacity (at.WakeReader next) held lent t = WriterBehind next held t
+WriterAt capacity (at.StoreClosed next) held lent t = WriterCloses next t
+WriterAt capacity at.TakeWriter held lent t = t.call ≡ Some call.Close
+WriterAt capacity at.WakeWriter held lent t = t.call ≡ Some call.Close
 
 -- a step that leads there answers what is right, or goes on where this is told
 abbrev Leads : ℕ → List SourceAct → (Option Answer → List ℕ) → Next WritePoint → Told → Type 0
@@ -230,10 +230,10 @@ module _ (capacity : ℕ) where
     yields-leads false looks = waits found_open (Polling true) Memory looks
 
     done-leads : (next : AfterWrite) → WriterBehind next held t → Leads capacity held lent_then (write_done next) t
-    done-leads behind.Answer told = (answers capacity t Writer _ _ told refl, tt)
-    done-leads behind.Drop told = (answers capacity t Writer _ _ told tt, tt)
-    done-leads behind.WakeWriter told = (tt, told)
-    done-leads (behind.Round form sum) told = (tt, told)
+    done-leads afterward.Answer told = (answers capacity t Writer _ _ told refl, tt)
+    done-leads afterward.Drop told = (answers capacity t Writer _ _ told tt, tt)
+    done-leads afterward.WakeWriter told = (tt, told)
+    done-leads (afterward.Round form sum) told = (tt, told)
 
     take-leads : (next : AfterWrite) (is_found : Bool) → WriterBehind next held t → Leads capacity held lent_then (reader_taken next is_found) t
     take-leads next true told = (tt, told)
@@ -295,7 +295,7 @@ module _ (capacity : ℕ) where
 
   source-leads : (held : List SourceAct) (form : Form) (sum : ℕ) (lent : List ℕ) (t : Told) (room : ℕ) → Fills found_open form held [] sum t
       → let n = moved_by (given (length lent) held) in
-      Leads capacity (left_of_source n held) (λ answer. filled_out true answer (take n (bytes_of held) ++ drop n lent)) (write_after capacity room (on.CallSource form sum) (found_of (given (length lent) held))) t
+      Leads capacity (left_of_source n held) (λ answer. filled_out true answer (take n (bytes_of held) ++ drop n lent)) (write_after capacity room (at.CallSource form sum) (found_of (given (length lent) held))) t
   source-leads [] form sum lent t room given = (ends-call form sum [] t given, tt)
   source-leads (source.Fail ∷ acts) form sum lent t room given = (answers capacity t Writer given.fill _ given.is (fill-fails form given.fill t.moved t.looks given.fills), tt)
   source-leads (source.Bytes bytes ∷ acts) form sum lent t room given =
@@ -305,13 +305,13 @@ module _ (capacity : ℕ) where
   -- a store of tail
   stores : (n : ℕ) (next : AfterWrite) (held : List SourceAct) (lent : List ℕ) (t : Told) → n ≤ length lent → WriterStores n next held lent t
       → let u = record t { moved = t.moved ++ take n lent } in IsSomeAnd t.call (λ (c : Call). MayHaveMoved c u.moved) × WriterBehind next held u
-  stores n behind.Answer held lent t within told =
+  stores n afterward.Answer held lent t within told =
       let whole : t.moved ++ take n lent ≡ take n lent = ap (λ (xs : List ℕ). xs ++ take n lent) told.1 in
       let count : length (t.moved ++ take n lent) ≡ n = ap (λ (xs : List ℕ). length xs) whole ∙ length-take-le n lent within in
       (rw told.0 count, told.0 ∙ ap (λ (k : ℕ). Some (call.Produced k)) (sym count))
-  stores n behind.Drop held lent t within told = absurd told
-  stores n behind.WakeWriter held lent t within told = absurd told
-  stores n (behind.Round form sum) held lent t within told =
+  stores n afterward.Drop held lent t within told = absurd told
+  stores n afterward.WakeWriter held lent t within told = absurd told
+  stores n (afterward.Round form sum) held lent t within told =
       let both = length-append t.moved (take n lent) in
       let count = told.count in
       let fills = subst (λ (xs : List ℕ). IsFill form told.fill xs (ends_in_failure held)) (sym (append_assoc t.moved (take n lent) (bytes_given held))) told.fills in
@@ -320,51 +320,51 @@ module _ (capacity : ℕ) where
 -- the step of each point
 pub writer-point : (point : WritePoint) (offered : List ℕ) (p : Pipe) (t : Told) → length p.unread ≤ p.capacity → tail_store point ≤ length p.lent → WriterAt p.capacity point p.source p.lent t
     → let new = went Writer (offering offered (record p { writer = point })) in AreRightFrom p.capacity Writer t new.events × WriterAt p.capacity new.pipe.writer new.pipe.source new.pipe.lent (told_from Writer t new.events)
-writer-point on.Idle offered p t fits within told = (tt, tt)
-writer-point on.Dropped offered p t fits within told = (tt, tt)
-writer-point (on.QueryHead query) offered p t fits within told = ((tt, tt), (fits, told.0, ap (λ (looks : List Seen). seen.Head (length p.unread) ∷ looks) told.1))
-writer-point (on.QueryTail query count) offered p t fits within told =
+writer-point at.Idle offered p t fits within told = (tt, tt)
+writer-point at.Dropped offered p t fits within told = (tt, tt)
+writer-point (at.QueryHead query) offered p t fits within told = ((tt, tt), (fits, told.0, ap (λ (looks : List Seen). seen.Head (length p.unread) ∷ looks) told.1))
+writer-point (at.QueryTail query count) offered p t fits within told =
     let u = record t { looks = seen.Tail (length p.unread) ∷ t.looks } in
     let looks = ap (λ (before : List Seen). seen.Tail (length p.unread) ∷ before) told.2 in
     ((tt, answers p.capacity u Writer (call.Query Writer query) (query_answer query p.capacity count) told.1 (record { number = count; is_found = ap (λ (all : List Seen). number_found Writer all) looks; within = told.0; answers = refl })), tt)
-writer-point on.QueryClosed offered p t fits within told =
+writer-point at.QueryClosed offered p t fits within told =
     let u = record t { looks = seen.Closed p.is_closed ∷ t.looks } in
     ((tt, answers p.capacity u Writer (call.IsClosed Writer) _ told.0 (ap (λ (before : List Seen). seen.Closed p.is_closed ∷ before) told.1)), tt)
-writer-point (on.LookClosed l) offered p t fits within told =
+writer-point (at.LookClosed l) offered p t fits within told =
     let u = record t { looks = seen.Closed p.is_closed ∷ t.looks } in
-    steps p.capacity p.source (λ answer. lent_after does.LoadClosed (on.LookClosed l) answer p.lent) (writer_is_open p.is_closed (p.room == 0) l) t u (Looked Writer (seen.Closed p.is_closed) ∷ []) (tt, tt) refl (open-leads p.capacity u p.source (λ answer. lent_after does.LoadClosed (on.LookClosed l) answer p.lent) p.is_closed (p.room == 0) l (first-looked p.capacity l p.source t (seen.Closed p.is_closed) told))
-writer-point (on.LookHead l) offered p t fits within told = ((tt, tt), looks-leads p.capacity _ p.source (λ answer. p.lent) (p.capacity - length p.unread == 0) l (looked p.capacity l p.source t _ told))
-writer-point (on.LookRegister l) offered p t fits within told =
+    steps p.capacity p.source (λ answer. lent_after does.LoadClosed (at.LookClosed l) answer p.lent) (writer_is_open p.is_closed (p.room == 0) l) t u (Looked Writer (seen.Closed p.is_closed) ∷ []) (tt, tt) refl (open-leads p.capacity u p.source (λ answer. lent_after does.LoadClosed (at.LookClosed l) answer p.lent) p.is_closed (p.room == 0) l (first-looked p.capacity l p.source t (seen.Closed p.is_closed) told))
+writer-point (at.LookHead l) offered p t fits within told = ((tt, tt), looks-leads p.capacity _ p.source (λ answer. p.lent) (p.capacity - length p.unread == 0) l (looked p.capacity l p.source t _ told))
+writer-point (at.LookRegister l) offered p t fits within told =
     let quiet = registers-leaves p.capacity t Writer Writer p.writer_call.context in
-    steps p.capacity p.source (λ answer. lent_after does.Register (on.LookRegister l) answer p.lent) (writer_registered (is_granted p.writer_call.context) l) t t (registration_of Writer p.writer_call.context) quiet.0 quiet.1 (registers-leads p.capacity t p.source (λ answer. lent_after does.Register (on.LookRegister l) answer p.lent) (is_granted p.writer_call.context) l told)
-writer-point (on.LookHeadAgain l) offered p t fits within told = ((tt, tt), again-leads p.capacity _ p.source (λ answer. p.lent) (p.capacity - length p.unread == 0) l (looked p.capacity l p.source t _ told))
-writer-point (on.LookClosedAgain l) offered p t fits within told =
+    steps p.capacity p.source (λ answer. lent_after does.Register (at.LookRegister l) answer p.lent) (writer_registered (is_granted p.writer_call.context) l) t t (registration_of Writer p.writer_call.context) quiet.0 quiet.1 (registers-leads p.capacity t p.source (λ answer. lent_after does.Register (at.LookRegister l) answer p.lent) (is_granted p.writer_call.context) l told)
+writer-point (at.LookHeadAgain l) offered p t fits within told = ((tt, tt), again-leads p.capacity _ p.source (λ answer. p.lent) (p.capacity - length p.unread == 0) l (looked p.capacity l p.source t _ told))
+writer-point (at.LookClosedAgain l) offered p t fits within told =
     let u = record t { looks = seen.Closed p.is_closed ∷ t.looks } in
     ((tt, ends-leads p.capacity u p.source (λ answer. p.lent) p.is_closed l (looked p.capacity l p.source t _ told)), tt)
-writer-point (on.LookTake l) offered p t fits within told = steps p.capacity p.source (λ answer. p.lent) (writer_is_true l) t t [] tt refl (true-leads p.capacity t p.source (λ answer. p.lent) l told)
-writer-point on.Yield offered p t fits within told =
+writer-point (at.LookTake l) offered p t fits within told = steps p.capacity p.source (λ answer. p.lent) (writer_is_true l) t t [] tt refl (true-leads p.capacity t p.source (λ answer. p.lent) l told)
+writer-point at.Yield offered p t fits within told =
     let quiet = yield-leaves p.capacity t Writer p.writer_call.context in
-    steps p.capacity p.source (λ answer. lent_after does.Yield on.Yield answer p.lent) (write_after p.capacity p.room on.Yield (granted (is_yield_granted p.writer_call.context))) t t (yield_of p.writer_call.context) quiet.0 quiet.1 (yields-leads p.capacity t p.source (λ answer. p.lent) (is_yield_granted p.writer_call.context) told, tt)
-writer-point (on.CallSource form sum) offered p t fits within told =
+    steps p.capacity p.source (λ answer. lent_after does.Yield at.Yield answer p.lent) (write_after p.capacity p.room at.Yield (granted (is_yield_granted p.writer_call.context))) t t (yield_of p.writer_call.context) quiet.0 quiet.1 (yields-leads p.capacity t p.source (λ answer. p.lent) (is_yield_granted p.writer_call.context) told, tt)
+writer-point (at.CallSource form sum) offered p t fits within told =
     let n = moved_by (given (length offered) p.source) in
-    steps p.capacity (left_of_source n p.source) (λ answer. filled_out true answer (take n (bytes_of p.source) ++ drop n offered)) (write_after p.capacity p.room (on.CallSource form sum) (found_of (given (length offered) p.source))) t t [] tt refl
+    steps p.capacity (left_of_source n p.source) (λ answer. filled_out true answer (take n (bytes_of p.source) ++ drop n offered)) (write_after p.capacity p.room (at.CallSource form sum) (found_of (given (length offered) p.source))) t t [] tt refl
     (source-leads p.capacity p.source form sum offered t p.room told)
-writer-point (on.RoundClosed n form sum) offered p t fits within told =
+writer-point (at.RoundClosed n form sum) offered p t fits within told =
     let u = record t { looks = seen.Closed p.is_closed ∷ t.looks } in
     let given : Fills found_open form p.source (take n p.lent) sum u = record { fill = told.fill; is = told.is; fills = told.fills; count = told.count; found = first-stays t.looks (seen.Closed p.is_closed) (seen.Closed false) told.found } in
     steps p.capacity p.source (λ answer. filled_out true answer p.lent) (writer_rounds p.is_closed n form sum) t u (Looked Writer (seen.Closed p.is_closed) ∷ []) (tt, tt) refl (rounds-leads p.capacity u p.source (λ answer. filled_out true answer p.lent) p.is_closed n form sum t.looks refl given)
-writer-point (on.StoreTail n next) offered p t fits within told =
+writer-point (at.StoreTail n next) offered p t fits within told =
     let stored = stores p.capacity n next p.source p.lent t within told in
     ((stored.0, tt), stored.1)
-writer-point (on.TakeReader next) offered p t fits within told = steps p.capacity p.source (λ answer. p.lent) (reader_taken next (is_some p.reader_waker)) t t [] tt refl (take-leads p.capacity t p.source (λ answer. p.lent) next (is_some p.reader_waker) told)
-writer-point (on.WakeReader next) offered p t fits within told =
+writer-point (at.TakeReader next) offered p t fits within told = steps p.capacity p.source (λ answer. p.lent) (reader_taken next (is_some p.reader_waker)) t t [] tt refl (take-leads p.capacity t p.source (λ answer. p.lent) next (is_some p.reader_waker) told)
+writer-point (at.WakeReader next) offered p t fits within told =
     let quiet = wake-leaves p.capacity t Writer p.writer_call.taken in
     steps p.capacity p.source (λ answer. p.lent) (write_done next) t t (wake_of p.writer_call.taken) quiet.0 quiet.1 (done-leads p.capacity t p.source (λ answer. p.lent) next told)
-writer-point (on.StoreClosed behind.WakeWriter) offered p t fits within told = ((tt, tt), told)
-writer-point (on.StoreClosed behind.Drop) offered p t fits within told = ((tt, tt), told)
-writer-point (on.StoreClosed behind.Answer) offered p t fits within told = absurd told
-writer-point (on.StoreClosed (behind.Round form sum)) offered p t fits within told = absurd told
-writer-point on.TakeWriter offered p t fits within told = steps p.capacity p.source (λ answer. p.lent) (own_taken (is_some p.writer_waker)) t t [] tt refl (own-leads p.capacity t p.source (λ answer. p.lent) (is_some p.writer_waker) told)
-writer-point on.WakeWriter offered p t fits within told =
+writer-point (at.StoreClosed afterward.WakeWriter) offered p t fits within told = ((tt, tt), told)
+writer-point (at.StoreClosed afterward.Drop) offered p t fits within told = ((tt, tt), told)
+writer-point (at.StoreClosed afterward.Answer) offered p t fits within told = absurd told
+writer-point (at.StoreClosed (afterward.Round form sum)) offered p t fits within told = absurd told
+writer-point at.TakeWriter offered p t fits within told = steps p.capacity p.source (λ answer. p.lent) (own_taken (is_some p.writer_waker)) t t [] tt refl (own-leads p.capacity t p.source (λ answer. p.lent) (is_some p.writer_waker) told)
+writer-point at.WakeWriter offered p t fits within told =
     let quiet = wake-leaves p.capacity t Writer p.writer_call.taken in
-    steps p.capacity p.source (λ answer. p.lent) (write_after p.capacity p.room on.WakeWriter nothing) t t (wake_of p.writer_call.taken) quiet.0 quiet.1 (answers p.capacity t Writer call.Close answer.Done told tt, tt)
+    steps p.capacity p.source (λ answer. p.lent) (write_after p.capacity p.room at.WakeWriter nothing) t t (wake_of p.writer_call.taken) quiet.0 quiet.1 (answers p.capacity t Writer call.Close answer.Done told tt, tt)
