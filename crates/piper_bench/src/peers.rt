@@ -13,7 +13,8 @@ use std::thread::Threads;
 use std::{io, thread};
 use tokio::io::{AsyncRead, AsyncWrite};
 
-/// Writes what is left of so many bytes.
+/// Writes what is left of so many bytes. Of an error it hands its kind on: an `io::Error` holds its
+/// message, and to hand on an answer with room for one would copy that at each piece.
 #[derive(Drop)]
 struct Writing<'a, W> {
     writer: W,
@@ -22,21 +23,24 @@ struct Writing<'a, W> {
 }
 
 impl<W: AsyncWrite> Mover for Writing<'_, W> {
-    type Error = io::Error;
+    type Error = io::ErrorKind;
 
     ghost needs = { λ mover. W.needs mover.writer };
 
     #[inline(always)]
-    fn move_piece(&mut self, cx: &mut Context<'_>) -> Poll<io::Result<usize>> {
+    fn move_piece(&mut self, cx: &mut Context<'_>) -> Poll<Result<usize, io::ErrorKind>> {
         let piece = &self.source[..self.left.min(self.source.len())];
         if piece.is_empty() {
             return Poll::Ready(Ok(0));
         }
-        let written = self.writer.poll_write(cx, piece);
-        if let Poll::Ready(Ok(n)) = &written {
-            self.left = self.left.saturating_sub(*n);
+        match self.writer.poll_write(cx, piece) {
+            Poll::Pending => Poll::Pending,
+            Poll::Ready(Err(error)) => Poll::Ready(Err(error.kind())),
+            Poll::Ready(Ok(n)) => {
+                self.left = self.left.saturating_sub(n);
+                Poll::Ready(Ok(n))
+            }
         }
-        written
     }
 
     fn checksum(&self) -> u64 {
@@ -44,7 +48,7 @@ impl<W: AsyncWrite> Mover for Writing<'_, W> {
     }
 }
 
-/// Reads up to the end.
+/// Reads up to the end. Of an error it hands its kind on, as `Writing` does.
 #[derive(Drop)]
 struct Reading<'a, I> {
     reader: I,
@@ -53,17 +57,20 @@ struct Reading<'a, I> {
 }
 
 impl<I: AsyncRead> Mover for Reading<'_, I> {
-    type Error = io::Error;
+    type Error = io::ErrorKind;
 
     ghost needs = { λ mover. I.needs mover.reader };
 
     #[inline(always)]
-    fn move_piece(&mut self, cx: &mut Context<'_>) -> Poll<io::Result<usize>> {
-        let read = self.reader.poll_read(cx, self.place);
-        if let Poll::Ready(Ok(n)) = &read {
-            self.checksum = add_piece(self.checksum, self.place, *n);
+    fn move_piece(&mut self, cx: &mut Context<'_>) -> Poll<Result<usize, io::ErrorKind>> {
+        match self.reader.poll_read(cx, self.place) {
+            Poll::Pending => Poll::Pending,
+            Poll::Ready(Err(error)) => Poll::Ready(Err(error.kind())),
+            Poll::Ready(Ok(n)) => {
+                self.checksum = add_piece(self.checksum, self.place, n);
+                Poll::Ready(Ok(n))
+            }
         }
-        read
     }
 
     fn checksum(&self) -> u64 {
@@ -101,7 +108,7 @@ where
         move || move_all(rt, reading, yields),
     );
     written??;
-    read?
+    Ok(read??)
 }
 
 // Sends a piece in memory of its own.
