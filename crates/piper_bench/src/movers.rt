@@ -84,8 +84,12 @@ impl<R: Wait, M: Mover> Future for MoveAll<'_, R, M> {
                     if looks == 0 {
                         return Poll::Pending;
                     }
+                    // A copy that yields is pending though it need not wait: so it is asked again
+                    // at once, before the other thread goes on.
+                    if looks < LOOKS {
+                        let_ahead(self.yields);
+                    }
                     looks -= 1;
-                    let_ahead(self.yields);
                 }
                 Poll::Ready(Err(error)) => return Poll::Ready(Err(error)),
                 Poll::Ready(Ok(0)) => return Poll::Ready(Ok(self.mover.checksum())),
