@@ -1,7 +1,5 @@
 //! Two threads share a pipe, and each polls its side by hand. It sleeps where there is nothing to
 //! do, until a call of the other side wakes it.
-#![tactic(auto)]
-
 ghost use Rattle.std.specs.Prelude.{◌≡◌};
 ghost use Rattle.futures.specs.Task.{IsArmed};
 ghost use Rattle.futures.specs.Poll.{OnPending};
@@ -9,8 +7,10 @@ ghost use Rattle.futures.specs.Poll.{OnPending};
 use futures::task::{Context, Doorbell, Poll, Queue};
 use piper::{OwnedReader, OwnedWriter, owned_pipe};
 use std::alloc::AllocGlobal;
+use std::marker::{Send, Sync};
 use std::random::RandomSource;
 use std::sync::Wait;
+use std::thread::Threads;
 use std::{io, thread};
 
 /// How many bytes are sent.
@@ -106,12 +106,16 @@ where
     unreachable!()
 }
 
-fn main(rt: HostRuntime) -> io::Result<()> {
+/// Sends all bytes from one thread to another, and answers how many came.
+pub fn carry<H>(rt: &H) -> io::Result<u64>
+where
+    H: Threads + Wait + RandomSource + AllocGlobal + Clone + Drop + Send + Sync + 'static,
+{
     let theirs = rt.clone()?;
-    let (reader, writer) = owned_pipe(&rt, 64)?;
-    let spawned = thread::spawn(&rt, move || send_all(&theirs, writer));
+    let (reader, writer) = owned_pipe(rt, 64)?;
+    let spawned = thread::spawn(rt, move || send_all(&theirs, writer));
     let child = spawned.map_err(|_| io::Error::other("a second thread is refused"))?;
-    let came = count_all(&rt, reader);
-    child.join(&rt)?;
-    println!(&rt; "{} bytes came", came?)
+    let came = count_all(rt, reader);
+    child.join(rt)?;
+    came
 }

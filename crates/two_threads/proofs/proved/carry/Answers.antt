@@ -1,7 +1,7 @@
 -- By the last mark alone: what came is the front of what was sent.
 use Rattle.std.proofs.Common.{rules}
-use Rattle.proved_threads.proofs.Beginnings.{came_first}
-use Rattle.proved_threads.proofs.carry.Goals as goal
+use Rattle.two_threads.proofs.Beginnings.{came_first}
+use Rattle.two_threads.proofs.proved.carry.Goals as goal
 
 pub returns : goal.returns
 returns g c =

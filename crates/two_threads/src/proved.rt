@@ -1,10 +1,8 @@
 //! A client of two threads that proves of itself that all bytes arrive in order. The thread that
 //! writes hands its last mark back, and by that alone, with no more than the reader in hand, what
 //! came is a beginning of what was sent.
-#![tactic(auto)]
-
 ghost use Rattle.std.specs.Prelude.{◌≡◌, ℕ, ◌≤◌, ◌<◌, [], length, take, IfOk, true};
-ghost use Rattle.proved_threads.specs.LastMark.{TellsFront};
+ghost use Rattle.two_threads.specs.LastMark.{TellsFront};
 
 use piper::{OwnedReader, OwnedWriter, WriteMark, owned_pipe};
 use std::alloc::AllocGlobal;
@@ -76,7 +74,7 @@ fn receive_all<H: Wait + Clone + Drop>(
 }
 
 /// Sends `bytes` from one thread to another, and answers how many came to the front of `place`.
-fn carry<H>(rt: &H, bytes: &'static [u8], place: &mut [u8]) -> io::Result<usize>
+pub fn carry<H>(rt: &H, bytes: &'static [u8], place: &mut [u8]) -> io::Result<usize>
 where
     H: Threads + Wait + Clone + AllocGlobal + Drop + Send + Sync + 'static,
     requires { length bytes.now ≤ length place.old }
@@ -94,10 +92,4 @@ where
     reader.heed(&last);
     reader.end().learn();
     Ok(came)
-}
-
-fn main(rt: HostRuntime) -> io::Result<()> {
-    let mut place = [0; 16];
-    let came = carry(&rt, b"hello, threads", &mut place)?;
-    println!(&rt; "{}", place[..came].escape_ascii())
 }
