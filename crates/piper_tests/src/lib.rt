@@ -1,11 +1,13 @@
-//! Tests of the pipe and of the ring below it, over their public calls. They stand apart from both,
-//! so that these are proved once.
+//! Tests of the pipe, of the ring below it, and of the futures, streams and sinks over it, by their
+//! public calls. They stand apart, so that these crates are proved once.
 #![tactic(auto)]
 
 #[cfg(test)]
 mod carries;
 #[cfg(test)]
 mod copies;
+#[cfg(test)]
+mod crossing;
 #[cfg(test)]
 mod ends;
 #[cfg(test)]
@@ -15,9 +17,13 @@ mod meeting;
 #[cfg(test)]
 mod owners;
 #[cfg(test)]
+mod owning;
+#[cfg(test)]
 mod pair;
 #[cfg(test)]
 mod ring;
+#[cfg(test)]
+mod running;
 #[cfg(test)]
 mod two_threads;
 #[cfg(test)]

@@ -1,49 +1,78 @@
 //! Owners of the handles: the calls of a handle, made on its owner, and what `{:?}` prints of both.
+ghost use Rattle.std.specs.Prelude.{◌≡◌, ◌<◌, ◌*◌, ◌^◌};
+ghost use Rattle.piper.specs.Handles.{ArePair};
+
+use crate::pair::same;
 use piper::{OwnedReader, OwnedWriter, owned_pipe};
-use std::test::Fail;
+use std::alloc::AllocGlobal;
+use std::process::Abort;
+use std::sync::Wait;
 
-#[test]
-fn the_calls_of_a_handle_are_those_of_its_owner(rt: HostRuntime) -> Result<(), Fail> {
-    let (mut reader, mut writer) = owned_pipe(&rt, 8)?;
-    let sent = writer.try_fill(b"abc");
+/// A new pipe of so many bytes, with these in it.
+pub(crate) fn holding<H>(rt: &H, capacity: usize, bytes: &[u8]) -> (OwnedReader<H>, OwnedWriter<H>)
+where
+    H: Abort + Wait + AllocGlobal + Clone + Drop,
+    requires { (0 < capacity) × (2 * capacity < 2 ^ 64) }
+    ensures { ArePair result.0.reader result.1.writer }
+{
+    let (reader, mut writer) = owned_pipe(rt, capacity).expect(rt, "a pipe");
+    same(rt, &"taken", writer.try_fill(bytes), bytes.len());
+    (reader, writer)
+}
+
+fn calls_as_its_handle<H>(rt: &H)
+where
+    H: Abort + Wait + AllocGlobal + Clone + Drop,
+{
+    let (mut reader, mut writer) = holding(rt, 8, b"abc");
     let mut place = [0; 2];
-    let taken = reader.try_drain(&mut place);
-    let left = reader.len();
-    assert_eq!(rt; (sent, taken, left), (3, 2, 1));
-    assert_eq!(rt; &place, b"ab");
+    same(rt, &"came", reader.try_drain(&mut place), 2);
+    same(rt, &"came", place.as_slice(), b"ab");
+    same(rt, &"left", reader.len(), 1);
     reader.meet(&mut writer);
-    assert_eq!(rt; reader.peek_buf(), b"c".as_slice());
-    Ok(())
+    same(rt, &"known", reader.peek_buf(), b"c".as_slice());
 }
 
 #[test]
-fn an_owner_gives_its_handle_back_and_leaves_the_pipe_open(rt: HostRuntime) -> Result<(), Fail> {
-    let (reader, writer) = owned_pipe(&rt, 8)?;
+fn the_calls_of_a_handle_are_those_of_its_owner(rt: HostRuntime) {
+    calls_as_its_handle(&rt);
+}
+
+fn gives_its_handle_back<H>(rt: &H)
+where
+    H: Abort + Wait + AllocGlobal + Clone + Drop,
+{
+    let (reader, writer) = holding(rt, 8, b"");
     let reader = OwnedReader::new(reader.into_inner());
-    let stays_open = !writer.is_closed();
+    same(rt, &"closed", writer.is_closed(), false);
     drop(reader);
-    let closes = writer.is_closed();
-    assert_eq!(rt; (stays_open, closes), (true, true));
+    same(rt, &"closed", writer.is_closed(), true);
     let writer = OwnedWriter::new(writer.into_inner());
-    assert_eq!(rt; writer.get_ref().capacity(), 8);
-    Ok(())
+    same(rt, &"capacity", writer.get_ref().capacity(), 8);
 }
 
 #[test]
-fn what_is_printed_tells_how_a_handle_stands_and_no_byte(rt: HostRuntime) -> Result<(), Fail> {
-    let (mut reader, mut writer) = owned_pipe(&rt, 8)?;
-    writer.try_fill(b"abc");
-    let mut place = [0; 2];
-    reader.try_drain(&mut place);
-    let printed = format!(in rt.alloc(); "{reader:?}, {writer:?}")?;
+fn an_owner_gives_its_handle_back_and_leaves_the_pipe_open(rt: HostRuntime) {
+    gives_its_handle_back(&rt);
+}
+
+fn is_printed<H>(rt: &H)
+where
+    H: Abort + Wait + AllocGlobal + Clone + Drop,
+{
+    let (mut reader, writer) = holding(rt, 8, b"abc");
+    reader.try_drain(&mut [0; 2]);
+    let printed = format!(in rt.alloc(); "{reader:?}, {writer:?}").expect(rt, "memory");
     let wanted =
         "OwnedReader(Reader { capacity: 8, known: 1, closed: false }), OwnedWriter(Writer { capacity: 8, room: 5, closed: false })";
-    assert_eq!(rt; printed.as_str(), wanted);
+    same(rt, &"printed", printed.as_str(), wanted);
     drop(writer);
-    let printed = format!(in rt.alloc(); "{:?}", reader.get_ref())?;
-    assert_eq!(rt;
-        printed.as_str(),
-        "Reader { capacity: 8, known: 1, closed: true }"
-    );
-    Ok(())
+    let printed = format!(in rt.alloc(); "{:?}", reader.get_ref()).expect(rt, "memory");
+    let wanted = "Reader { capacity: 8, known: 1, closed: true }";
+    same(rt, &"printed", printed.as_str(), wanted);
+}
+
+#[test]
+fn what_is_printed_tells_how_a_handle_stands_and_no_byte(rt: HostRuntime) {
+    is_printed(&rt);
 }

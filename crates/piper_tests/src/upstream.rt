@@ -1,5 +1,5 @@
 //! What the Rust crate tests of its own pipe on one thread. What it tests across threads stands in
-//! `piper_futures_tests`.
+//! crossing.rt.
 use crate::pair::{Act, plays};
 
 #[test]

@@ -2,13 +2,11 @@
 //! fills and drains, by reads and writes, and by a copy from one pipe to another.
 ghost use Rattle.std.specs.Prelude.{◌<◌, ◌*◌, ◌^◌};
 
-use futures::Future;
-use futures::executor::block_on;
+use crate::running::{ends, same_bytes};
 use piper::io::Copied;
 use piper::{OwnedReader, OwnedWriter, owned_pipe};
 use piper_futures::{close, copy, drain_into, fill_from, read_exact, read_until, write_all};
 use std::alloc::AllocGlobal;
-use std::fmt::Debug;
 use std::marker::{Send, Sync};
 use std::process::Abort;
 use std::random::RandomSource;
@@ -48,18 +46,6 @@ fn bytes_to_cross() -> [u8; TOTAL] {
     bytes
 }
 
-/// Runs a future to its end.
-fn ends<R, F, T, E>(rt: &R, future: F) -> T
-where
-    R: Abort + Wait + RandomSource + AllocGlobal,
-    F: Future<Output = Result<T, E>>,
-    E: Debug + Drop,
-    requires { F.can_poll future }
-{
-    let output = block_on(rt, future).expect(rt, "an executor");
-    output.expect(rt, "a future that does not fail")
-}
-
 /// Gives all of this, one after another, and lets the writer go.
 fn gives<H>(rt: &H, owned: OwnedWriter<H>, given: &[Give<'_>])
 where
@@ -92,7 +78,7 @@ where
             Take::Line(want) => (ends(rt, read_until(reader, b'\n', came)), want),
             Take::Drained(want) => (ends(rt, drain_into(reader, came)), want),
         };
-        assert!(rt; bytes.as_slice() == want);
+        same_bytes(rt, &bytes, want);
         reader = next;
     }
 }
