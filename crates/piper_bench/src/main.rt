@@ -3,6 +3,7 @@
 #![tactic(auto)]
 
 use comparison::{Failed, print_comparison, short_rounds};
+use many::{Means, run_each, timed_run};
 use means::{WORDS, What};
 use request::Request;
 use std::marker::Send;
@@ -16,6 +17,7 @@ use work::{Work, run};
 
 mod comparison;
 mod lines;
+mod many;
 mod means;
 mod movers;
 mod peers;
@@ -27,6 +29,7 @@ mod work;
 
 const USAGE: &str = "usage: piper_bench WHAT CAP CHUNK TOTAL
        piper_bench peers [TOTAL]
+       piper_bench many tasks|pipes|tokio COUNT
        piper_bench
 The first moves TOTAL bytes in pieces of CHUNK through a ring of CAP bytes, and prints bytes, nanoseconds, nanoseconds a piece and a checksum.
 WHAT is ring (one thread, in and out in turn), ring2 (two threads), or rtrb or rtrb2 (the same work on rtrb).
@@ -35,7 +38,8 @@ Or it is one of its peers, between two threads that wait as those of a pipe do: 
 Or a piece goes to and fro between two threads, each of which sleeps until the other has answered: pingpong (through two pipes, by the traits of tokio) and pingpong_stream (through two streams in memory, by the same).
 CAP is at least 1 and at most half of the greatest usize, CHUNK is 1 to 16777216.
 The second moves TOTAL bytes (67108864, where it is left out) through each of rtrb2, inplace2, pipe2, stream2, tokio2 and channel2 in pieces of 64, 4096 and 65536 bytes, with a CAP of 65536, or of 4 pieces where these are more, and prints one table: nanoseconds a piece and their ratio to rtrb2, each the median of 25 runs that are made in turn. A run whose checksum is not what its bytes come to ends it with status 2.
-Without arguments it makes a short run of each, and a short round of the second.";
+The third makes COUNT pipes of 64 bytes, moves 64 bytes through each, and lets them go: with a task for each reader in one pool, by the calls that never wait, or by as many streams of tokio in place of the pipes. It prints how many bytes came, and nanoseconds a pipe.
+Without arguments it makes a short run of each, a short round of the second, and 1,000 pipes by each means.";
 
 /// How many bytes a short run moves.
 const SHORT: usize = 1_000_000;
@@ -48,6 +52,7 @@ fn main(rt: HostRuntime) -> io::Result<ExitCode> {
     let done = match Request::of(words.as_slice()) {
         Some(Request::ShortRuns) => short_runs(&rt),
         Some(Request::Comparison { total }) => print_comparison(&rt, total),
+        Some(Request::Many(means, count)) => timed_many(&rt, means, count),
         Some(Request::Run(work)) => told_run(&rt, work),
         None => {
             eprintln!(&rt; "{USAGE}")?;
@@ -79,6 +84,14 @@ where
     Ok(())
 }
 
+/// So many pipes at once, told with their time.
+fn timed_many<R>(rt: &R, means: Means, count: usize) -> Result<(), Failed>
+where
+    R: Wait + Clock + Print + RandomSource + AllocGlobal + Clone + Drop,
+{
+    Ok(timed_run(rt, means, count)?)
+}
+
 /// A run of a million bytes by each means, and then rounds of so many by those that are compared,
 /// told without their times.
 fn short_runs<R>(rt: &R) -> Result<(), Failed>
@@ -88,7 +101,8 @@ where
     for (word, what) in WORDS {
         short_run(rt, word, what)?;
     }
-    short_rounds(rt, SHORT)
+    short_rounds(rt, SHORT)?;
+    Ok(run_each(rt)?)
 }
 
 fn short_run<R>(rt: &R, word: &str, what: What) -> io::Result<()>

@@ -1,6 +1,7 @@
 //! What the arguments ask for.
 
 use crate::comparison::TOTAL;
+use crate::many::Means;
 use crate::means::What;
 use crate::work::Work;
 
@@ -10,6 +11,8 @@ pub enum Request {
     ShortRuns,
     /// The comparison, with so many bytes in each run.
     Comparison { total: usize },
+    /// So many pipes at once, by this means.
+    Many(Means, usize),
     /// One run.
     Run(Work),
 }
@@ -22,6 +25,10 @@ impl Request {
             [word, total] if word.as_str() == "peers" => {
                 let total = total.as_str().parse::<usize>().ok()?;
                 Some(Request::Comparison { total })
+            }
+            [word, means, count] if word.as_str() == "many" => {
+                let count = count.as_str().parse::<usize>().ok()?;
+                Some(Request::Many(Means::of(means.as_str())?, count))
             }
             [what, capacity, chunk, total] => {
                 let what = What::of(what.as_str())?;

@@ -1,8 +1,6 @@
 //! Many pipes at once: all are made, then each is filled and emptied, and then all are let go. By
 //! tasks of one pool, by the calls that never wait, or, to compare, by streams in memory of
 //! `tokio`.
-#![tactic(auto)]
-
 ghost use Rattle.std.specs.Prelude.{◌≡◌};
 ghost use Rattle.piper.specs.Handles.{read_source};
 
@@ -12,19 +10,17 @@ use futures::task::{Context, Poll};
 use futures::test::MockTask;
 use piper::{OwnedReader, OwnedWriter, owned_pipe};
 use std::alloc::AllocGlobal;
-use std::process::ExitCode;
+use std::io;
 use std::random::RandomSource;
 use std::rt::Clock;
 use std::sync::atomic::AtomicU64;
 use std::sync::atomic::Ordering::SeqCst;
 use std::sync::{Arc, Wait};
 use std::time::Instant;
-use std::{env, io};
 use tokio::io::{AsyncRead, AsyncWrite, duplex};
 
-const USAGE: &str = "usage: many_pipes [tasks|pipes|tokio COUNT]
-Makes COUNT pipes of 64 bytes, moves 64 bytes through each, and lets them go: with a task for each reader in one pool, by the calls that never wait, or by as many streams of tokio in place of the pipes. It prints how many bytes came, and nanoseconds a pipe.
-Without arguments it makes 1,000 by each means, and prints no time.";
+/// So many are made by each means in a short run.
+const COUNT: usize = 1_000;
 
 /// What goes through each.
 const BYTES: [u8; 64] = [7; 64];
@@ -133,31 +129,20 @@ where
 
 /// By which means.
 #[derive(Clone, Copy)]
-enum Means {
+pub enum Means {
     Tasks,
     Pipes,
     Tokio,
 }
 
 impl Means {
-    fn of(word: &str) -> Option<Means> {
+    pub fn of(word: &str) -> Option<Means> {
         match word {
             "tasks" => Some(Means::Tasks),
             "pipes" => Some(Means::Pipes),
             "tokio" => Some(Means::Tokio),
             _ => None,
         }
-    }
-}
-
-/// What the arguments ask for.
-fn asked(words: &[String]) -> Option<(Means, usize)> {
-    match words {
-        [means, count] => {
-            let count = count.as_str().parse::<usize>().ok()?;
-            Some((Means::of(means.as_str())?, count))
-        }
-        _ => None,
     }
 }
 
@@ -172,7 +157,8 @@ where
     }
 }
 
-fn timed_run<R>(rt: &R, means: Means, count: usize) -> io::Result<()>
+/// Makes so many pipes by this means, and prints how many bytes came, and nanoseconds a pipe.
+pub fn timed_run<R>(rt: &R, means: Means, count: usize) -> io::Result<()>
 where
     R: Wait + Clock + Print + RandomSource + AllocGlobal + Clone + Drop,
 {
@@ -182,22 +168,14 @@ where
     println!(rt; "bytes={came} ns/pipe={nanoseconds}")
 }
 
-fn main(rt: HostRuntime) -> io::Result<ExitCode> {
-    let mut words = Vec::new(rt.alloc());
-    for word in env::args(&rt)?.skip(1) {
-        words.push(word)?;
+/// Makes pipes by each means in turn, and prints how many bytes came.
+pub fn run_each<R>(rt: &R) -> io::Result<()>
+where
+    R: Wait + Print + RandomSource + AllocGlobal + Clone + Drop,
+{
+    for means in [Means::Tasks, Means::Pipes, Means::Tokio] {
+        let came = run(rt, means, COUNT)?;
+        println!(rt; "bytes={came}")?;
     }
-    if words.is_empty() {
-        for means in [Means::Tasks, Means::Pipes, Means::Tokio] {
-            let came = run(&rt, means, 1_000)?;
-            println!(&rt; "bytes={came}")?;
-        }
-        return Ok(ExitCode::SUCCESS);
-    }
-    let Some((means, count)) = asked(words.as_slice()) else {
-        eprintln!(&rt; "{USAGE}")?;
-        return Ok(ExitCode::from(1));
-    };
-    timed_run(&rt, means, count)?;
-    Ok(ExitCode::SUCCESS)
+    Ok(())
 }
