@@ -1,7 +1,7 @@
 -- What a contract sees of what each end has of the slots, and how the ends keep it.
 use Rattle.std.specs.Prelude.{◌≡◌, ◌≢◌, ℕ, ◌+◌, ◌<◌, ◌≤◌, ◌⊎◌, Bool, true, false, List, [], length, refl}
 use Rattle.std.specs.Coded.{Coded, code_by, coded×, coded_list, coded_ℕ, coded_bool}
-use Rattle.piper_ring.specs.Shared.{Names, names_code, flag}
+use Rattle.piper_ring.specs.Shared.{Names, names_code}
 use Rattle.piper_ring.specs.ReadView.{ReadView}
 use Rattle.piper_ring.specs.WriteView.{WriteView}
 use Rattle.piper_ring.specs.declared.ends.slots.ReadSlotParts.{ReadSlotParts}
@@ -52,8 +52,9 @@ read_slots_view s =
 
 pub record IsReadSlots (s : ReadSlotParts) : Type 0 where
   pub place : s.has_place ≡ s.waits.owns
+  pub heard : (s.heard.bytes ≡ s.waits.bytes) × (s.heard.shut ≡ s.waits.shut)
   pub rests : s.wakes.holds ≡ false
-  pub of_one_ring : s.wakes.names ≡ s.waits.names
+  pub of_one_ring : (s.wakes.names ≡ s.waits.names) × (s.heard.names ≡ s.waits.names)
 
 pub record WriteSlotsView : Type 0 where
   -- the names of the ring
@@ -100,18 +101,28 @@ write_slots_view s =
 
 pub record IsWriteSlots (s : WriteSlotParts) : Type 0 where
   pub place : s.has_place ≡ s.waits.owns
+  pub heard : (s.heard.count ≡ s.waits.count) × (s.saw.seen ≡ s.waits.over)
   pub rests : s.wakes.holds ≡ false
-  pub of_one_ring : s.wakes.names ≡ s.waits.names
+  pub of_one_ring :
+      (s.wakes.names ≡ s.waits.names) × (s.heard.names ≡ s.waits.names)
+      × (s.saw.names ≡ s.waits.names)
 
--- the reader left its waker in the slot, and knows to look for
--- all that the writer had looked behind before
-pub record Registers (r : ReadView) (old new : ReadSlotsView) : Type 0 where
+-- nothing changed of how the side waits
+abbrev pub SameReaderPlace : ReadSlotsView → ReadSlotsView → Type 0
+SameReaderPlace a b =
+    (b.names ≡ a.names) × (b.owns ≡ a.owns) × (b.tickets ≡ a.tickets) × (b.bytes ≡ a.bytes)
+    × (b.shut ≡ a.shut)
+
+-- nothing changed of whom the side took, and of what it looked behind
+abbrev pub SameReaderLooks : ReadSlotsView → ReadSlotsView → Type 0
+SameReaderLooks a b =
+    (b.names ≡ a.names) × (b.taken ≡ a.taken) × (b.count ≡ a.count) × (b.over ≡ a.over)
+
+-- the reader stands at its slot
+pub record Registers (old new : ReadSlotsView) : Type 0 where
   pub place : new.owns ≡ false
   pub ticket : new.tickets ≡ old.tickets + 1
-  pub told : length new.bytes ≤ r.told
-  pub told_shut : flag new.shut ≤ flag r.told_shut
-  pub others : (new.taken ≡ old.taken) × (new.count ≡ old.count) × (new.over ≡ old.over)
-  pub names : new.names ≡ old.names
+  pub looks : SameReaderLooks old new
 
 -- the reader knows of a byte, or saw the pipe closed
 abbrev pub HasToDo : ReadView → Type 0
@@ -134,15 +145,20 @@ pub record IsAtRest (w : WriteView) (s : WriteSlotsView) : Type 0 where
 abbrev pub HasNews : ReadView → WriteSlotsView → Type 0
 HasNews r s = (length r.taken < length s.bytes) ⊎ (s.shut ≡ true)
 
--- the writer left its waker in the slot, and knows to look for
--- all that the reader had looked behind before
-pub record WriterRegisters (w : WriteView) (old new : WriteSlotsView) : Type 0 where
+abbrev pub SameWriterPlace : WriteSlotsView → WriteSlotsView → Type 0
+SameWriterPlace a b =
+    (b.names ≡ a.names) × (b.owns ≡ a.owns) × (b.tickets ≡ a.tickets) × (b.count ≡ a.count)
+    × (b.over ≡ a.over)
+
+abbrev pub SameWriterLooks : WriteSlotsView → WriteSlotsView → Type 0
+SameWriterLooks a b =
+    (b.names ≡ a.names) × (b.taken ≡ a.taken) × (b.bytes ≡ a.bytes) × (b.shut ≡ a.shut)
+
+-- the writer stands at its slot
+pub record WriterRegisters (old new : WriteSlotsView) : Type 0 where
   pub place : new.owns ≡ false
   pub ticket : new.tickets ≡ old.tickets + 1
-  pub told : new.count ≤ w.told
-  pub told_closed : flag new.over ≤ flag w.saw
-  pub others : (new.taken ≡ old.taken) × (new.bytes ≡ old.bytes) × (new.shut ≡ old.shut)
-  pub names : new.names ≡ old.names
+  pub looks : SameWriterLooks old new
 
 -- the writer knows of room, or saw the pipe closed
 abbrev pub WriterHasToDo : WriteView → Type 0
@@ -165,14 +181,3 @@ pub record IsReaderAtRest (r : ReadView) (s : ReadSlotsView) : Type 0 where
 -- the ring
 abbrev pub HasRoomNews : WriteView → ReadSlotsView → Type 0
 HasRoomNews w s = (length w.sent < s.count + w.capacity) ⊎ (s.over ≡ true)
-
--- nothing changed of how the side waits
-abbrev pub SameReaderPlace : ReadSlotsView → ReadSlotsView → Type 0
-SameReaderPlace a b =
-    (b.names ≡ a.names) × (b.owns ≡ a.owns) × (b.tickets ≡ a.tickets) × (b.bytes ≡ a.bytes)
-    × (b.shut ≡ a.shut)
-
-abbrev pub SameWriterPlace : WriteSlotsView → WriteSlotsView → Type 0
-SameWriterPlace a b =
-    (b.names ≡ a.names) × (b.owns ≡ a.owns) × (b.tickets ≡ a.tickets) × (b.count ≡ a.count)
-    × (b.over ≡ a.over)

@@ -54,6 +54,19 @@ pub fn open_with_slots(
     let read_saw = told_reader.again();
     let heard = told_reader.again();
     let write_saw = read_seat.unseen();
+    let read_slots = ReadSlotParts {
+        waits: reader_waits,
+        has_place: true,
+        heard: told_reader.again(),
+        wakes: reader_wakes,
+    };
+    let write_slots = WriteSlotParts {
+        waits: writer_waits,
+        has_place: true,
+        heard: told_writer.again(),
+        saw: read_seat.unseen(),
+        wakes: writer_wakes,
+    };
     let reader = ReadParts {
         seat: read_seat,
         known: blank.none(0),
@@ -72,16 +85,6 @@ pub fn open_with_slots(
         base,
         alloc,
         indices: WriteIndices::new(capacity),
-    };
-    let read_slots = ReadSlotParts {
-        waits: reader_waits,
-        has_place: true,
-        wakes: reader_wakes,
-    };
-    let write_slots = WriteSlotParts {
-        waits: writer_waits,
-        has_place: true,
-        wakes: writer_wakes,
     };
     Ok((
         ReadEnd { parts: reader },

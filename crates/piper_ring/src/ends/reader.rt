@@ -159,11 +159,32 @@ impl ReadEnd {
         ensures end { KnowsEnd self.old → self.new.taken ++ self.new.known ≡ self.new.all }
         ensures kept { KnowsMore self.old self.new }
     {
+        self.reload_heard();
+    }
+
+    /// `reload`: it finds all that this end has heard of.
+    pub(crate) fn reload_heard(&mut self)
+        requires { length self.old.known ≡ 0 }
+        ensures heard { length self.old.all ≤ length (self.new.taken ++ self.new.known) }
+        ensures fresh { self.old.told ≤ length (self.new.taken ++ self.new.known) }
+        ensures end { KnowsEnd self.old → self.new.taken ++ self.new.known ≡ self.new.all }
+        ensures kept { KnowsMore self.old self.new }
+    {
         let parts = &mut self.parts;
         let (tail, published) = parts.seat.look_tail(&parts.heard);
         parts.seat.accept(&mut parts.known, &published);
         parts.heard.heed(&published);
         parts.indices.sees(tail as usize);
+    }
+
+    /// From now on it has heard of what the mark tells.
+    pub(crate) fn hear(&mut self, mark: &WriteMark)
+        requires { mark.now.names ≡ self.old.ring.1.1 }
+        ensures heard { length mark.now.bytes ≤ length self.new.all }
+        ensures saw { self.new.saw ≡ self.old.saw }
+        ensures kept { SameButSaw self.old self.new }
+    {
+        self.parts.heard.heed(mark);
     }
 
     /// `reload`, where it knows of no byte.
@@ -214,8 +235,23 @@ impl ReadEnd {
         ensures told { flag self.old.told_shut ≤ flag self.new.saw }
         ensures kept { SameButSaw self.old self.new }
     {
+        let told = self.parts.told.again();
+        self.look_closed_knowing(&told)
+    }
+
+    /// `look_closed`, with evidence of what the writer did besides: it finds that, too.
+    pub(crate) fn look_closed_knowing(&mut self, more: &WriteMark) -> bool
+        requires { more.now.names ≡ self.old.ring.1.1 }
+        ensures more { flag more.now.shut ≤ flag self.new.saw }
+        ensures saw { result ≡ self.new.saw }
+        ensures stays { flag self.old.saw ≤ flag self.new.saw }
+        ensures told { flag self.old.told_shut ≤ flag self.new.saw }
+        ensures kept { SameButSaw self.old self.new }
+    {
         let parts = &mut self.parts;
-        let is_closed = parts.seat.load_closed(&mut parts.saw, &parts.told) != 0;
+        let mut told = parts.told.again();
+        told.heed(more);
+        let is_closed = parts.seat.load_closed(&mut parts.saw, &told) != 0;
         parts.heard.heed(&parts.saw);
         is_closed
     }

@@ -148,8 +148,22 @@ impl WriteEnd {
         ensures fresh { self.old.told + self.old.capacity ≤ length self.new.sent + self.new.room }
         ensures kept { HasMoreRoom self.old self.new }
     {
+        let told = self.parts.told.again();
+        self.reload_knowing(&told);
+    }
+
+    /// `reload`, with evidence of what was consumed besides: it finds that room, too.
+    pub(crate) fn reload_knowing(&mut self, more: &ReadMark)
+        requires none { self.old.room ≡ 0 }
+        requires ring { more.now.names ≡ self.old.ring.1.1 }
+        ensures more { more.now.count + self.old.capacity ≤ length self.new.sent + self.new.room }
+        ensures fresh { self.old.told + self.old.capacity ≤ length self.new.sent + self.new.room }
+        ensures kept { HasMoreRoom self.old self.new }
+    {
         let parts = &mut self.parts;
-        let (head, consumed) = parts.seat.look_head(&parts.told);
+        let mut told = parts.told.again();
+        told.heed(more);
+        let (head, consumed) = parts.seat.look_head(&told);
         parts.seat.accept(&mut parts.room.later, &consumed);
         parts.indices.sees(head as usize);
     }
@@ -162,6 +176,22 @@ impl WriteEnd {
     {
         let parts = &mut self.parts;
         parts.seat.load_closed(&mut parts.saw) != 0
+    }
+
+    /// `look_closed`, by an end that has not seen the pipe closed, with evidence of what the reader
+    /// did: it finds that.
+    pub(crate) fn look_closed_knowing(&mut self, more: &Saw) -> bool
+        requires ring { more.now.names ≡ self.old.ring.1.1 }
+        requires open { self.old.saw ≡ false }
+        ensures more { flag more.now.seen ≤ flag self.new.saw }
+        ensures saw { result ≡ self.new.saw }
+        ensures kept { SameButSaw self.old self.new }
+    {
+        let parts = &mut self.parts;
+        let mut saw = more.again();
+        let is_closed = parts.seat.load_closed(&mut saw) != 0;
+        parts.saw = saw;
+        is_closed
     }
 
     /// Publishes the first `n` bytes of what is left of the slice last lent, as they stand. It

@@ -1,11 +1,12 @@
 //! What each side knows of a slot, at which a side waits for the other, and its steps on the slot's
-//! two words. It takes no space.
-ghost use Rattle.std.specs.Prelude.{◌≡◌, ◌<◌, ℕ, Bool, List, true, false, IsTrue, IsFalse};
+//! two words. It takes no space, and a `&` to it gives nothing.
+ghost use Rattle.std.specs.Borrow.{ftrue};
+ghost use Rattle.std.specs.Prelude.{◌≡◌, ◌<◌, ℕ, Bool, List, None, IsSome, true, false};
 ghost use Rattle.piper_ring.specs.Shared.{Consumed, Names, Stream, names_code, waits_for, wakes_for, waits_back, wakes_back};
 
 use crate::ring::marks::{ReadMark, Saw, WriteMark};
 use crate::ring::seats::{READER_BACK, READER_FLAG, ReadSeat, WRITER_BACK, WRITER_FLAG, WriteSeat};
-use std::marker::{Brand, Model, PhantomData, Send};
+use std::marker::{Brand, Model, PhantomData, Send, Sync};
 use std::sync::atomic::Ordering::SeqCst;
 use std::sync::atomic::raw;
 
@@ -22,9 +23,13 @@ pub(crate) struct ReaderWaits {
 
 impl Model for ReaderWaits {
     ghost also_owns = { λ s. waits_for s.names s.owns s.tickets s.bytes s.shut };
+
+    ghost also_shares = { λ _ _ _. ftrue };
 }
 
 unsafe impl Send for ReaderWaits {}
+
+unsafe impl Sync for ReaderWaits {}
 
 impl Drop for ReaderWaits {
     fn drop(self) {
@@ -45,9 +50,13 @@ pub(crate) struct WriterWakes {
 
 impl Model for WriterWakes {
     ghost also_owns = { λ s. wakes_for s.names s.holds s.taken s.bytes s.shut };
+
+    ghost also_shares = { λ _ _ _. ftrue };
 }
 
 unsafe impl Send for WriterWakes {}
+
+unsafe impl Sync for WriterWakes {}
 
 impl Drop for WriterWakes {
     fn drop(self) {
@@ -69,9 +78,13 @@ pub(crate) struct WriterWaits {
 
 impl Model for WriterWaits {
     ghost also_owns = { λ s. waits_back s.names s.owns s.tickets s.count s.over };
+
+    ghost also_shares = { λ _ _ _. ftrue };
 }
 
 unsafe impl Send for WriterWaits {}
+
+unsafe impl Sync for WriterWaits {}
 
 impl Drop for WriterWaits {
     fn drop(self) {
@@ -93,9 +106,13 @@ pub(crate) struct ReaderWakes {
 
 impl Model for ReaderWakes {
     ghost also_owns = { λ s. wakes_back s.names s.holds s.taken s.count s.over };
+
+    ghost also_shares = { λ _ _ _. ftrue };
 }
 
 unsafe impl Send for ReaderWakes {}
+
+unsafe impl Sync for ReaderWakes {}
 
 impl Drop for ReaderWakes {
     fn drop(self) {
@@ -139,6 +156,30 @@ impl WriteSeat {
         unsafe { raw::store::<Brand>(self.words.add(READER_BACK), 1, SeqCst) }
     }
 
+    /// Takes the waker that stands in the reader's slot, if one does. `take_out` is called while its
+    /// place is the writer's, which then hands the place back.
+    pub(crate) fn take_by<T, F: FnOnce() -> T>(
+        &self,
+        slot: &mut WriterWakes,
+        take_out: F,
+    ) -> Option<T>
+    where
+        F: Drop,
+        requires slot { (slot.old.names ≡ self.now.names) × (slot.old.holds ≡ false) }
+        requires call { F.pre take_out }
+        ensures ring { (slot.new.names ≡ slot.old.names) × (slot.new.holds ≡ false) }
+        ensures looked { (slot.new.bytes ≡ self.now.sent) × (slot.new.shut ≡ self.now.shut) }
+        ensures none { result ≡ None → slot.new.taken ≡ slot.old.taken }
+        ensures some { IsSome result → slot.old.taken < slot.new.taken }
+    {
+        if self.take_waker(slot) == 0 {
+            return None;
+        }
+        let taken = take_out();
+        self.give_back(slot);
+        Some(taken)
+    }
+
     /// The writer's waker stands in its slot, under the next ticket. With it comes evidence of what
     /// the reader had looked behind.
     pub(crate) fn hand_over(&self, slot: &mut WriterWaits) -> (ReadMark, Saw)
@@ -180,25 +221,6 @@ impl WriteSeat {
             (of_reader_wakes wakes.old) }
         ensures kept { (waits.new ≡ waits.old) × (wakes.new ≡ wakes.old) }
     {}
-
-    /// Looks for the reader's waker behind all that was published, takes it, and hands its place
-    /// back. The answer is whether one stood there.
-    pub(crate) fn wake(&self, slot: &mut WriterWakes) -> bool
-        requires { (slot.old.names ≡ self.now.names) × (slot.old.holds ≡ false) }
-        ensures ring { (slot.new.names ≡ slot.old.names) × (slot.new.holds ≡ false) }
-        ensures looked { (slot.new.bytes ≡ self.now.sent) × (slot.new.shut ≡ self.now.shut) }
-        ensures none { IsFalse result → slot.new.taken ≡ slot.old.taken }
-        ensures some { IsTrue result → slot.old.taken < slot.new.taken }
-    {
-        if self.look_flag(slot) == 0 {
-            return false;
-        }
-        if self.take_waker(slot) == 0 {
-            return false;
-        }
-        self.give_back(slot);
-        true
-    }
 }
 
 impl ReadSeat {
@@ -282,23 +304,29 @@ impl ReadSeat {
         unsafe { raw::store::<Brand>(self.words.add(WRITER_BACK), 1, SeqCst) }
     }
 
-    /// Looks for the writer's waker behind all that was consumed, takes it, and hands its place
-    /// back. The answer is whether one stood there.
-    pub(crate) fn wake(&self, slot: &mut ReaderWakes, saw: &Saw) -> bool
-        requires { (slot.old.names ≡ self.now.names) × (slot.old.holds ≡ false)
+    /// Takes the waker that stands in the writer's slot, if one does. `take_out` is called while its
+    /// place is the reader's, which then hands the place back.
+    pub(crate) fn take_by<T, F: FnOnce() -> T>(
+        &self,
+        slot: &mut ReaderWakes,
+        saw: &Saw,
+        take_out: F,
+    ) -> Option<T>
+    where
+        F: Drop,
+        requires slot { (slot.old.names ≡ self.now.names) × (slot.old.holds ≡ false)
             × (saw.now.names ≡ self.now.names) }
+        requires call { F.pre take_out }
         ensures ring { (slot.new.names ≡ slot.old.names) × (slot.new.holds ≡ false) }
         ensures looked { (slot.new.count ≡ self.now.head) × (slot.new.over ≡ saw.now.seen) }
-        ensures none { IsFalse result → slot.new.taken ≡ slot.old.taken }
-        ensures some { IsTrue result → slot.old.taken < slot.new.taken }
+        ensures none { result ≡ None → slot.new.taken ≡ slot.old.taken }
+        ensures some { IsSome result → slot.old.taken < slot.new.taken }
     {
-        if self.look_flag(slot, saw) == 0 {
-            return false;
-        }
         if self.take_waker(slot, saw) == 0 {
-            return false;
+            return None;
         }
+        let taken = take_out();
         self.give_back(slot);
-        true
+        Some(taken)
     }
 }

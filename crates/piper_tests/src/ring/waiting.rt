@@ -113,8 +113,8 @@ fn send_all(rt: &impl Wait, mut writing: Writing, total: usize, found: &AtomicU6
         }
     }
     let Writing { end, mut slots } = writing;
-    let (_, waited) = end.finish_waking(&mut slots);
-    if waited {
+    let (_, taken) = end.finish_waking(&mut slots, || ());
+    if taken.is_some() {
         found.fetch_add(1, Ordering::SeqCst);
     }
 }

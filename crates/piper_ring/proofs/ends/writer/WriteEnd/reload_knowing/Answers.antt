@@ -4,7 +4,7 @@ use Rattle.rtrb.specs.Fifo.{position_of}
 use Rattle.rtrb.proofs.Positions.{position_inside}
 use Rattle.piper_ring.proofs.Indices.{apart}
 use Rattle.piper_ring.proofs.WriterFacts.{sent_below}
-use Rattle.piper_ring.proofs.ends.writer.WriteEnd.reload.Goals as goal
+use Rattle.piper_ring.proofs.ends.writer.WriteEnd.reload_knowing.Goals as goal
 
 pub sees-requires-clause-index : goal.sees-requires-clause-index
 sees-requires-clause-index c = let i = c.self.invariant in let h : ℕ = c.look_head-head.result.1.count in

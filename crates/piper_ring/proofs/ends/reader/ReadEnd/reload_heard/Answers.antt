@@ -3,7 +3,7 @@ use Rattle.std.proofs.Common.{◌≡◌, ℕ, ◌+◌, ◌-◌, ◌≤◌, lengt
 use Rattle.rtrb.specs.Fifo.{position_of}
 use Rattle.rtrb.proofs.Positions.{position_inside}
 use Rattle.piper_ring.proofs.Indices.{apart}
-use Rattle.piper_ring.proofs.ends.reader.ReadEnd.reload.Goals as goal
+use Rattle.piper_ring.proofs.ends.reader.ReadEnd.reload_heard.Goals as goal
 
 pub sees-requires-clause-index : goal.sees-requires-clause-index
 sees-requires-clause-index c = let i = c.self.invariant in let t : ℕ = length c.look_tail-tail.result.1.bytes in
