@@ -1,0 +1,3 @@
+pub mod Crosses
+pub mod Fields
+pub mod Steps
