@@ -8,18 +8,15 @@ use denote.Builtin.{u8}
 use denote.Param.Send.{IsSend, Common, sendable}
 use Rattle.core.specs.Allocator.{array_of}
 use Rattle.std.proofs.Crossing.{frees}
-use Rattle.piper_ring.specs.Shared.{key, words_type, slots, deeds, Names, State, flag, gone, where_gone, until_both, writer_knows, reader_knows, arrived_first, ends, spare, blanks, memory, Inner, common, reader_owns, reader_lends, writer_owns, writer_lends}
+use Rattle.piper_ring.specs.Shared.{words_type, slots, deeds, Names, State, flag, gone, where_gone, until_both, writer_knows, reader_knows, arrived_first, ends, spare, blanks, memory, Inner, common, reader_owns, reader_lends, writer_owns, writer_lends}
 use Rattle.piper_ring.proofs.Evidence.{announced-Keyless, took-Keyless, raised-Keyless}
-use Rattle.piper_ring.specs.Slots.{keyed}
+use Rattle.piper_ring.specs.Slots.{held_at}
+use Rattle.piper_place.proofs.Crosses.{right-Keyless}
 use Rattle.piper_ring.proofs.PlacesLaws.{run-Keyless, span-Keyless}
 
 pub where-Keyless : (b : Bool) (F : Fml) → Keyless F → Keyless (where_gone b F)
 where-Keyless false F k = tt
 where-Keyless true F k = k
-
-pub key-Keyless : (γ : ℕ) → Keyless (key γ)
-unfolding latest
-key-Keyless γ = tt
 
 module _ (w p : Ptr) (z : Names) where
   writer-Keyless : (q : Share) (l : List ℕ) (n : ℕ) (b : Bool) (i : ℕ) → Keyless (writer_knows w p z q l n b i)
@@ -36,8 +33,8 @@ module _ (w p : Ptr) (z : Names) where
 
   slots-Keyless : Keyless (slots w p z)
   slots-Keyless = (
-    λ s. ((λ _. tt), ((tt, tt), ((tt, tt), (announced-Keyless z s.1.0.1.1.0 s.1.0.1.1.1, where-Keyless (keyed s.1.1) (key z.reader_place) (key-Keyless z.reader_place))))),
-    λ s. ((λ _. tt), ((tt, tt), ((tt, tt), ((took-Keyless z s.1.0.1.1.0, raised-Keyless z.closed s.1.0.1.1.1), where-Keyless (keyed s.1.1) (key z.writer_place) (key-Keyless z.writer_place))))),
+    λ s. ((λ _. tt), ((tt, tt), ((tt, tt), (announced-Keyless z s.1.0.1.1.0 s.1.0.1.1.1, right-Keyless (held_at s.1.1).0 z.reader_place (held_at s.1.1).1)))),
+    λ s. ((λ _. tt), ((tt, tt), ((tt, tt), ((took-Keyless z s.1.0.1.1.0, raised-Keyless z.closed s.1.0.1.1.1), right-Keyless (held_at s.1.1).0 z.writer_place (held_at s.1.1).1)))),
   )
 
   deeds-Keyless : Keyless (deeds w p z)

@@ -30,7 +30,7 @@ use Rattle.piper_ring.specs.Shared.{Names, names_of, State, Holds, half, other, 
 use types.Tokens.{name_new}
 use Rattle.std.specs.Coded.{Coded}
 use Rattle.piper_ring.specs.Slots.{Waits, Wakes, Stands, Slot, with_waiter, code_of, slot, slot_at}
-use Rattle.piper_ring.specs.Shared.{Consumed, coded_stream, coded_consumed, published, consumed, took, key, waits_for, wakes_for, waits_back, wakes_back}
+use Rattle.piper_ring.specs.Shared.{Consumed, coded_stream, coded_consumed, published, consumed, took, waits_for, wakes_for, waits_back, wakes_back}
 use Rattle.piper_ring.proofs.Rights.{common_twice, cut}
 use Rattle.piper_ring.proofs.Steps.{closes}
 
@@ -122,8 +122,12 @@ module _ {M : Type 1} {𝓤 : Ura M} (𝓛 : Logic 𝓤) (w p : Ptr) (cap : ℕ)
   abbrev pub Slotted : Names → Fml
   Slotted z = fsep (fsep (waits_for z true 0 [] false) (wakes_for z false 0 [] false)) (fsep (waits_back z true 0 0 false) (wakes_back z false 0 0 false))
 
-  abbrev pub Made : Names → SProp 𝓤
-  Made z = base.Logic.guard 𝓤 (z.capacity ≡ cap) (sep 𝓤 (sem 𝓛 (reader_owns w p z 0 0 [] false)) (sep 𝓤 (sem 𝓛 (writer_owns w p z [] cap false)) (sem 𝓛 (Slotted z))))
+  abbrev pub IsNamed : ℕ → ℕ → Names → Type 0
+  IsNamed mine theirs z = (z.capacity ≡ cap) × (z.reader_place ≡ mine) × (z.writer_place ≡ theirs)
+
+  -- with the names of the reader's place and of the writer's
+  abbrev pub Made : ℕ → ℕ → Names → SProp 𝓤
+  Made mine theirs z = base.Logic.guard 𝓤 (IsNamed mine theirs z) (sep 𝓤 (sem 𝓛 (reader_owns w p z 0 0 [] false)) (sep 𝓤 (sem 𝓛 (writer_owns w p z [] cap false)) (sem 𝓛 (Slotted z))))
 
   abbrev O : Order Stream
   O = streams
@@ -139,18 +143,17 @@ module _ {M : Type 1} {𝓤 : Ura M} (𝓛 : Logic 𝓤) (w p : Ptr) (cap : ℕ)
   starts n = qed 𝓛 [] {P = H.⇛ (ex 𝓤 (Begun n))} (updating ! $ use0 𝓛 (later (some (λ (γ : ℕ). ‵ (latest numbers full_share γ n)))) (via 𝓤 _ (latest_new numbers 𝓛 n) (basic 𝓛 _)) $ await ! tt $ pick ! (λ γ.
       use1 𝓛 (‵ (latest numbers half γ n) ⊛ ‵ (latest numbers other γ n)) (cut 𝓛 numbers γ n full_share) $ now ! $ show ! (Begun n) γ $ done !))
 
-  module _ {X : Type 0} (c : Coded X) (shows : X → Fml) (x : X) where
-    abbrev SlotMade : ℕ → ℕ × (ℕ × ℕ) → SProp 𝓤
-    SlotMade far γ = sep 𝓤 (sem 𝓛 (slot w far γ.0 γ.1.0 γ.1.1 c shows)) (sep 𝓤 (sem 𝓛 (fsep (fobs γ.0 ((code_of X c).code (true, (0, x)))) (key γ.1.1))) (sem 𝓛 (fsep (fobs γ.1.0 ((code_of X c).code (false, (0, x)))) ftrue)))
+  module _ {X : Type 0} (c : Coded X) (shows : X → Fml) (x : X) (ι : ℕ) where
+    abbrev SlotMade : ℕ → ℕ × ℕ → SProp 𝓤
+    SlotMade far γ = sep 𝓤 (sem 𝓛 (slot w far γ.0 γ.1 ι c shows)) (sep 𝓤 (sem 𝓛 (fobs γ.0 ((code_of X c).code (true, (0, x))))) (sem 𝓛 (fobs γ.1 ((code_of X c).code (false, (0, x))))))
 
     -- an empty slot, whose place is with the side that waits
     slot_new : (far : ℕ) → ⟦ word w far 0 ⟧ ∗ ⟦ word w (128 + far) 0 ⟧ ∗ ⟦ shows x ⟧ ⊢ H.⇛ (ex 𝓤 (SlotMade far))
     slot_new far = let a : Waits X = (true, (0, x)) in let b : Wakes X = (false, (0, x)) in let s : Slot X = (a, (b, with_waiter)) in
-        qed 𝓛 (‵ (word w far 0) ∷ ‵ (word w (128 + far) 0) ∷ ‵ (shows x) ∷ []) {P = H.⇛ (ex 𝓤 (SlotMade far))} (updating ! $ fjoin ! $
-        use0 𝓛 (later (some (λ (ι : ℕ). ‵ (key ι)))) (via 𝓤 _ (latest_new numbers 𝓛 0) (basic 𝓛 _)) $ await ! tt $ pick ! (λ ι. move ! (1 ∷ 2 ∷ 0 ∷ []) $
+        qed 𝓛 (‵ (word w far 0) ∷ ‵ (word w (128 + far) 0) ∷ ‵ (shows x) ∷ []) {P = H.⇛ (ex 𝓤 (SlotMade far))} (updating ! $ fjoin ! $ move ! (0 ∷ 1 ∷ []) $
         name_new ! tt ((code_of X c).code a) (λ γ. name_new ! tt ((code_of X c).code b) (λ δ. move ! (3 ∷ 1 ∷ []) $ fjoin ! $ move ! (4 ∷ []) $ nothing ! $ move ! (1 ∷ 0 ∷ []) $ fjoin ! $ move ! (4 ∷ 1 ∷ 0 ∷ []) $ fjoin3 ! $
         nothing ! $ fpack ! (Stands X with_waiter a b) (λ _. ftrue) (refl, refl, omega arith) $ fjoin ! $ fpack ! (Slot X) (slot_at w far γ δ ι c shows) s $
-        move ! (2 ∷ 3 ∷ []) $ fjoin ! $ move ! (2 ∷ []) $ nothing ! $ move ! (1 ∷ 0 ∷ []) $ fjoin ! $ now ! $ show ! (SlotMade far) (γ, (δ, ι)) $ move ! (2 ∷ 1 ∷ 0 ∷ []) $ done !))))
+        now ! $ show ! (SlotMade far) (γ, δ) $ move ! (0 ∷ 2 ∷ 1 ∷ []) $ done !)))
 
   abbrev pub zero_words : Fml
   zero_words = fsep (word w 128 0) (fsep (word w 256 0) (fsep (word w 384 0) (word w 0 0)))
@@ -163,10 +166,10 @@ module _ {M : Type 1} {𝓤 : Ura M} (𝓛 : Logic 𝓤) (w p : Ptr) (cap : ℕ)
 
   -- the words are 0 and the rights to free are there: an empty ring, all of whose places are the
   -- writer's room
-  pub begins : InBlock w × InBlock p × (cap < 2 ^ 63) → ⟦ zero_words ⟧ ∗ ⟦ Deeds ⟧ ∗ ⟦ slot_words ⟧ ⊢ H.⇛ (ex 𝓤 Made)
-  begins at = let fresh : State = record { sent = []; limit = cap; head = 0; seen = 0; closed = false; shut = false; reader_stage = 0; writer_stage = 0 } in
+  pub begins : (mine theirs : ℕ) → InBlock w × InBlock p × (cap < 2 ^ 63) → ⟦ zero_words ⟧ ∗ ⟦ Deeds ⟧ ∗ ⟦ slot_words ⟧ ⊢ H.⇛ (ex 𝓤 (Made mine theirs))
+  begins mine theirs at = let fresh : State = record { sent = []; limit = cap; head = 0; seen = 0; closed = false; shut = false; reader_stage = 0; writer_stage = 0 } in
       let new : (n : ℕ) → ent 𝓤 (emp 𝓤) (H.⇛ (ex 𝓤 (Begun n))) = starts in
-      qed 𝓛 (‵ zero_words ∷ ‵ Deeds ∷ ‵ slot_words ∷ []) {P = H.⇛ (ex 𝓤 Made)} (updating ! $
+      qed 𝓛 (‵ zero_words ∷ ‵ Deeds ∷ ‵ slot_words ∷ []) {P = H.⇛ (ex 𝓤 (Made mine theirs))} (updating ! $
       use0 𝓛 (later (some (λ (γ : ℕ). ‵ (latest O full_share γ none)))) (via 𝓤 _ (latest_new O 𝓛 none) (basic 𝓛 _)) $ await ! tt $ pick ! (λ s. use1 𝓛 (‵ (latest O half s none) ⊛ ‵ (latest O other s none)) (cut 𝓛 O s none full_share) $ split ! $
       use0 𝓛 (later (some (λ (γ : ℕ). ‵ (latest numbers half γ cap) ⊛ ‵ (latest numbers other γ cap)))) (starts cap) $ await ! tt $ pick ! (λ l. split ! $
       use0 𝓛 (later (some (λ (γ : ℕ). ‵ (latest numbers half γ 0) ⊛ ‵ (latest numbers other γ 0)))) (starts 0) $ await ! tt $ pick ! (λ i. split ! $
@@ -181,11 +184,11 @@ module _ {M : Type 1} {𝓤 : Ura M} (𝓛 : Logic 𝓤) (w p : Ptr) (cap : ℕ)
       move ! (4 ∷ []) $ fsplit3 ! $ use1 𝓛 (‵ (latest O half s none) ⊛ ‵ (published y none)) (latest_shows O 𝓛 half s none none (reaches_same none)) $ split ! $ move ! (0 ∷ 2 ∷ 3 ∷ []) $ fjoin3 ! $
       move ! (4 ∷ []) $ fsplit ! $ fsplit ! $ use1 𝓛 (‵ (latest numbers half h 0) ⊛ ‵ (took y 0)) (latest_shows numbers 𝓛 half h 0 0 (omega arith)) $ split ! $ move ! (0 ∷ 2 ∷ []) $ fjoin ! $ move ! (0 ∷ 2 ∷ []) $ fjoin ! $
       move ! (1 ∷ []) $ nothing ! $ move ! (1 ∷ 0 ∷ []) $ fjoin ! $ move ! (9 ∷ []) $ fsplit3 ! $ move ! (2 ∷ []) $ fsplit ! $
-      move ! (0 ∷ 1 ∷ 4 ∷ []) $ use3 𝓛 (later (some (λ (γ : ℕ × (ℕ × ℕ)). ‵ (slot w 768 γ.0 γ.1.0 γ.1.1 coded_consumed (consumed y)) ⊛ ‵ (fsep (fobs γ.0 ((code_of Consumed coded_consumed).code (true, (0, was)))) (key γ.1.1)) ⊛ ‵ (fsep (fobs γ.1.0 ((code_of Consumed coded_consumed).code (false, (0, was)))) ftrue))))
-      (slot_new coded_consumed (consumed y) was 768) $ await ! tt $ pick ! (λ d. split3 ! $
-      move ! (3 ∷ 4 ∷ 7 ∷ []) $ use3 𝓛 (later (some (λ (γ : ℕ × (ℕ × ℕ)). ‵ (slot w 512 γ.0 γ.1.0 γ.1.1 coded_stream (published y)) ⊛ ‵ (fsep (fobs γ.0 ((code_of Stream coded_stream).code (true, (0, none)))) (key γ.1.1)) ⊛ ‵ (fsep (fobs γ.1.0 ((code_of Stream coded_stream).code (false, (0, none)))) ftrue))))
-      (slot_new coded_stream (published y) none 512) $ await ! tt $ pick ! (λ a. split3 ! $
-      let z : Names = names_of cap s l h k x j i a.0 a.1.0 d.0 d.1.0 a.1.1 d.1.1 in let so : Holds cap fresh = record { known = omega arith; arrived = omega arith; written = omega arith; freed = omega arith; closing = omega arith; shutting = omega arith; stages = (omega arith, omega arith) } in
+      move ! (0 ∷ 1 ∷ 4 ∷ []) $ use3 𝓛 (later (some (λ (γ : ℕ × ℕ). ‵ (slot w 768 γ.0 γ.1 theirs coded_consumed (consumed y)) ⊛ ‵ (fobs γ.0 ((code_of Consumed coded_consumed).code (true, (0, was)))) ⊛ ‵ (fobs γ.1 ((code_of Consumed coded_consumed).code (false, (0, was)))))))
+      (slot_new coded_consumed (consumed y) was theirs 768) $ await ! tt $ pick ! (λ d. split3 ! $
+      move ! (3 ∷ 4 ∷ 7 ∷ []) $ use3 𝓛 (later (some (λ (γ : ℕ × ℕ). ‵ (slot w 512 γ.0 γ.1 mine coded_stream (published y)) ⊛ ‵ (fobs γ.0 ((code_of Stream coded_stream).code (true, (0, none)))) ⊛ ‵ (fobs γ.1 ((code_of Stream coded_stream).code (false, (0, none)))))))
+      (slot_new coded_stream (published y) none mine 512) $ await ! tt $ pick ! (λ a. split3 ! $
+      let z : Names = names_of cap s l h k x j i a.0 a.1 d.0 d.1 mine theirs in let so : Holds cap fresh = record { known = omega arith; arrived = omega arith; written = omega arith; freed = omega arith; closing = omega arith; shutting = omega arith; stages = (omega arith, omega arith) } in
       let I : Fml = Inner w p z in let C : Fml = common w p z in
       move ! (0 ∷ 3 ∷ []) $ fjoin ! $ move ! (11 ∷ 0 ∷ []) $ fjoin ! $ move ! (1 ∷ 2 ∷ []) $ fjoin ! $ move ! (2 ∷ 3 ∷ []) $ fjoin ! $ move ! (1 ∷ 0 ∷ []) $ fjoin ! $ move ! (1 ∷ 4 ∷ 5 ∷ 2 ∷ 6 ∷ 3 ∷ 7 ∷ 0 ∷ []) $
       nothing ! $ fjoin ! $ nothing ! $ fjoin ! $ nothing ! $ nothing ! $ fpack ! (length {A = ℕ} [] ≡ 0 + cap - cap) (λ _. ftrue) (omega arith) $ fjoin ! $ fpack ! (List ℕ) (idle w p z cap (0 + cap - cap)) [] $ fjoin ! $ nothing ! $ fjoin ! $
@@ -193,4 +196,4 @@ module _ {M : Type 1} {𝓤 : Ura M} (𝓛 : Logic 𝓤) (w p : Ptr) (cap : ℕ)
       rewrite ! 0 (λ (n : ℕ). ‵ (word w 128 n)) (sym (position_zero cap)) refl $ rewrite ! 1 (λ (n : ℕ). ‵ (word w 256 n)) (sym (position_zero cap)) refl $ fjoin3 ! $ fjoin ! $ move ! (1 ∷ 0 ∷ []) $ fjoin ! $
       move ! (3 ∷ 1 ∷ 0 ∷ []) $ use3 𝓛 (‵ I) (closes 𝓛 w p z fresh so (omega arith)) $ use1 𝓛 (later (‵ (finv I))) (𝓛.invs.inv_new I) $ await ! tt $
       nothing ! $ fpack ! (Placed w p z) (λ _. ftrue) at $ fjoin ! $ use1 𝓛 (‵ C ⊛ ‵ C) (common_twice 𝓛 w p z) $ split ! $ move ! (3 ∷ []) $ fsplit3 ! $ use1 𝓛 (‵ (latest O half s none) ⊛ ‵ (at_least O s none)) (latest_shows O 𝓛 half s none none (reaches_same none)) $ split ! $ move ! (0 ∷ 2 ∷ 3 ∷ []) $ fjoin3 ! $ move ! (2 ∷ 0 ∷ []) $ fjoin ! $ move ! (1 ∷ []) $ nothing ! $ fpack ! (length {A = ℕ} [] ≡ 0) (λ _. ftrue) refl $ fjoin ! $ move ! (3 ∷ 0 ∷ []) $ fjoin ! $ move ! (2 ∷ 0 ∷ []) $ fjoin ! $
-      now ! $ show ! Made z $ check ! refl $ done !))))))))))
+      now ! $ show ! (Made mine theirs) z $ check ! (refl, refl, refl) $ done !))))))))))

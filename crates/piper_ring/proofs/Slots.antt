@@ -1,8 +1,8 @@
 -- The steps of both sides on a slot. Assumes `Logic`.
-use Rattle.std.proofs.Common.{◌≡◌, ℕ, ◌+◌, ◌≤◌, ◌⊎◌, inl, inr, Bool, true, false, List, [], ◌∷◌, sym, refl, ap, ◌∙◌, subst, arith}
+use Rattle.std.proofs.Common.{◌≡◌, ℕ, ◌+◌, ◌≤◌, ◌⊎◌, inl, inr, Bool, true, false, List, [], ◌∷◌, sym, refl, ◌∙◌, subst, arith}
 use Rattle.std.proofs.lemmas.Bool.{false≢true}
 use seplogic.Ra.Ura.{Ura}
-use base.Logic.{SProp, ent, sep, upd, ex, guard, upd_i, apply∗, id⊢}
+use base.Logic.{SProp, ent, sep, upd, ex, guard, upd_i, apply∗}
 use base.Stored.{Gv}
 use base.Fml.{Share, Fml, ftrue, fsep, fex, fwand, fobs, fauth}
 use types.Logic.{Logic, sem}
@@ -15,8 +15,8 @@ use Rattle.core.specs.Sync.RawAtomic.{asks, always}
 use Rattle.std.specs.Coded.{Coded}
 use Rattle.rtrb.proofs.Asks.{Lies}
 use Rattle.piper_ring.specs.Places.{fact}
-use Rattle.piper_ring.specs.Slots.{Where, with_waiter, in_slot, with_taker, handed_back, keyed, flag_of, back_of, Waits, Wakes, Stands, Slot, code_of, slot, slot_at, Looks, Takes, GivesBack, HandsOver, Regains, IsRemembered}
-use Rattle.piper_ring.specs.Shared.{Names, State, Holds, other, word, reader_knows, writer_knows, slots, reader_slot, writer_slot, flag, where_gone, key, Inner, common}
+use Rattle.piper_ring.specs.Slots.{Where, with_waiter, in_slot, with_taker, handed_back, Held, held_at, held, flag_of, back_of, Waits, Wakes, Stands, Slot, code_of, slot, slot_at, Looks, Takes, GivesBack, HandsOver, Regains, IsRemembered}
+use Rattle.piper_ring.specs.Shared.{Names, State, Holds, other, word, reader_knows, writer_knows, slots, reader_slot, writer_slot, Inner, common}
 use base.Growing.{Order, numbers, latest}
 use types.Growing.{latest_shows}
 use Rattle.piper_ring.specs.Streams.{Stream, streams, reaches_same}
@@ -31,52 +31,81 @@ OnFlag f at at' = (f (flag_of at) ≡ flag_of at') × (back_of at ≡ back_of at
 abbrev pub OnBack : (ℕ → ℕ) → Where → Where → Type 0
 OnBack f at at' = (f (back_of at) ≡ back_of at') × (flag_of at ≡ flag_of at')
 
+-- what two hands hold stays where it is, or changes hands
+abbrev pub Passes : Held → Held → Held → Held → Type 0
+Passes u v u' v' = ((u ≡ u') × (v ≡ v')) ⊎ ((u ≡ v') × (v ≡ u'))
+
+abbrev none : Held
+none = (false, false)
+
+abbrev pub filled : Held
+filled = (true, true)
+
+abbrev pub emptied : Held
+emptied = (true, false)
+
+-- nothing is held, as the side's own state tells
+holds_none : (y : Bool) → y ≡ false → none ≡ (y, y)
+holds_none y e i = (sym e i, sym e i)
+
 module _ {X : Type 0} where
-  -- it wakes: b becomes b', and what it looked behind is x or what it was
-  abbrev pub WakesTo : (Where → Where → Type 0) → (ℕ → Wakes X → Type 0) → ℕ → X → Waits X → Wakes X → Where → Type 0
-  WakesTo on then n x a b at =
-      (b' : Wakes X) × (at' : Where) × on at at' × Stands X at' a b' × ((b'.1.1 ≡ x) ⊎ (b'.1.1 ≡ b.1.1)) × then n b'
-      × (flag b.0 + flag (keyed at) ≡ flag b'.0 + flag (keyed at'))
+  -- it wakes: b becomes b', what it looked behind is x or what it was, and it holds u' and no longer u
+  abbrev pub WakesTo : (Where → Where → Type 0) → (ℕ → Wakes X → Held → Type 0) → ℕ → X → Held → Waits X → Wakes X → Where → Type 0
+  WakesTo on then n x u a b at =
+      (b' : Wakes X) × (at' : Where) × (u' : Held) × on at at' × Stands X at' a b' × ((b'.1.1 ≡ x) ⊎ (b'.1.1 ≡ b.1.1)) × then n b' u'
+      × Passes u (held_at at) u' (held_at at')
 
-  abbrev pub WaitsTo : (Where → Where → Type 0) → (ℕ → X → Waits X → Type 0) → ℕ → Waits X → Wakes X → Where → Type 0
-  WaitsTo on then n a b at = (a' : Waits X) × (at' : Where) × on at at' × Stands X at' a' b × then n b.1.1 a'
-      × (flag a.0 + flag (keyed at) ≡ flag a'.0 + flag (keyed at'))
+  abbrev pub WaitsTo : (Where → Where → Type 0) → (ℕ → X → Waits X → Held → Type 0) → ℕ → Held → Waits X → Wakes X → Where → Type 0
+  WaitsTo on then n u a b at = (a' : Waits X) × (at' : Where) × (u' : Held) × on at at' × Stands X at' a' b × then n b.1.1 a' u'
+      × Passes u (held_at at) u' (held_at at')
 
-  looks : (b : Wakes X) (x : X) → b.0 ≡ false → (a : Waits X) (at : Where) → Stands X at a b → WakesTo (OnFlag (λ n. n)) (Looks X b x) (flag_of at) x a b at
-  looks b x rests a with_waiter h = ((b.0, (b.1.0, x)), with_waiter, (refl, refl), h, inl refl, (omega arith, (λ _. refl), λ n. absurd (n refl)), refl)
-  looks b x rests a in_slot h = (b, in_slot, (refl, refl), h, inr refl, (omega arith, (λ (e : 1 ≡ 0). absurd (omega arith)), λ _. refl), refl)
+  -- it took the waker, and with it the place where it lies; or it took nothing
+  abbrev pub TakesHeld : Wakes X → X → ℕ → Wakes X → Held → Type 0
+  TakesHeld b x n b' u = Takes X b x n b' × (u ≡ (b'.0, b'.0))
+
+  -- the waker came back with its place, or nothing did
+  abbrev pub Withdraws : Waits X → ℕ → X → Waits X → Held → Type 0
+  Withdraws a n x a' u = Regains X a x n a' × (u ≡ (a'.0, a'.0))
+
+  -- the place came back, with nothing in it, or it did not
+  abbrev pub RegainsHeld : Waits X → ℕ → X → Waits X → Held → Type 0
+  RegainsHeld a n x a' u = Regains X a x n a' × (u ≡ (a'.0, false))
+
+  looks : (b : Wakes X) (x : X) → b.0 ≡ false → (a : Waits X) (at : Where) → Stands X at a b → WakesTo (OnFlag (λ n. n)) (λ n b' _. Looks X b x n b') (flag_of at) x none a b at
+  looks b x rests a with_waiter h = ((b.0, (b.1.0, x)), with_waiter, none, (refl, refl), h, inl refl, (omega arith, (λ _. refl), λ n. absurd (n refl)), inl (refl, refl))
+  looks b x rests a in_slot h = (b, in_slot, none, (refl, refl), h, inr refl, (omega arith, (λ (e : 1 ≡ 0). absurd (omega arith)), λ _. refl), inl (refl, refl))
   looks b x rests a with_taker h = absurd (false≢true (sym rests ∙ h.1))
-  looks b x rests a handed_back h = ((b.0, (b.1.0, x)), handed_back, (refl, refl), h, inl refl, (omega arith, (λ _. refl), λ n. absurd (n refl)), refl)
+  looks b x rests a handed_back h = ((b.0, (b.1.0, x)), handed_back, none, (refl, refl), h, inl refl, (omega arith, (λ _. refl), λ n. absurd (n refl)), inl (refl, refl))
 
-  takes : (b : Wakes X) (x : X) → b.0 ≡ false → (a : Waits X) (at : Where) → Stands X at a b → WakesTo (OnFlag (λ _. 0)) (Takes X b x) (flag_of at) x a b at
-  takes b x rests a with_waiter h = ((b.0, (b.1.0, x)), with_waiter, (refl, refl), h, inl refl, (omega arith, (λ _. refl), λ n. absurd (n refl)), refl)
-  takes b x rests a in_slot h = ((true, (a.1.0, x)), with_taker, (refl, refl), (h.0, refl, refl), inl refl, (omega arith, (λ (e : 1 ≡ 0). absurd (omega arith)), λ _. (a.1.0, h.3, refl)), ap (λ (c : Bool). flag c + 1) rests)
+  takes : (b : Wakes X) (x : X) → b.0 ≡ false → (a : Waits X) (at : Where) → Stands X at a b → WakesTo (OnFlag (λ _. 0)) (TakesHeld b x) (flag_of at) x none a b at
+  takes b x rests a with_waiter h = ((b.0, (b.1.0, x)), with_waiter, none, (refl, refl), h, inl refl, ((omega arith, (λ _. refl), λ n. absurd (n refl)), holds_none b.0 rests), inl (refl, refl))
+  takes b x rests a in_slot h = ((true, (a.1.0, x)), with_taker, filled, (refl, refl), (h.0, refl, refl), inl refl, ((omega arith, (λ (e : 1 ≡ 0). absurd (omega arith)), λ _. (a.1.0, h.3, refl)), refl), inr (refl, refl))
   takes b x rests a with_taker h = absurd (false≢true (sym rests ∙ h.1))
-  takes b x rests a handed_back h = ((b.0, (b.1.0, x)), handed_back, (refl, refl), h, inl refl, (omega arith, (λ _. refl), λ n. absurd (n refl)), refl)
+  takes b x rests a handed_back h = ((b.0, (b.1.0, x)), handed_back, none, (refl, refl), h, inl refl, ((omega arith, (λ _. refl), λ n. absurd (n refl)), holds_none b.0 rests), inl (refl, refl))
 
-  gives_back : (b : Wakes X) (x : X) → b.0 ≡ true → (a : Waits X) (at : Where) → Stands X at a b → WakesTo (OnBack (λ _. 1)) (GivesBack X b x) (back_of at) x a b at
+  gives_back : (b : Wakes X) (x : X) → b.0 ≡ true → (a : Waits X) (at : Where) → Stands X at a b → WakesTo (OnBack (λ _. 1)) (λ n b' _. GivesBack X b x n b') (back_of at) x emptied a b at
   gives_back b x holds a with_waiter h = absurd (false≢true (sym h.1 ∙ holds))
   gives_back b x holds a in_slot h = absurd (false≢true (sym h.1 ∙ holds))
-  gives_back b x holds a with_taker h = ((false, b.1), handed_back, (refl, refl), (h.0, refl, h.2), inr refl, refl, ap (λ (c : Bool). flag c + 0) holds)
+  gives_back b x holds a with_taker h = ((false, b.1), handed_back, none, (refl, refl), (h.0, refl, h.2), inr refl, refl, inr (refl, refl))
   gives_back b x holds a handed_back h = absurd (false≢true (sym h.1 ∙ holds))
 
-  hands_over : (a : Waits X) → a.0 ≡ true → (b : Wakes X) (at : Where) → Stands X at a b → WaitsTo (OnFlag (λ _. 1)) (λ n x a'. HandsOver X a x n a') (flag_of at) a b at
-  hands_over a owns b with_waiter h = let le = h.2 in ((false, (a.1.0 + 1, b.1.1)), in_slot, (refl, refl), (refl, h.1, refl, omega arith), refl, ap (λ (c : Bool). flag c + 0) owns)
+  hands_over : (a : Waits X) → a.0 ≡ true → (b : Wakes X) (at : Where) → Stands X at a b → WaitsTo (OnFlag (λ _. 1)) (λ n x a' _. HandsOver X a x n a') (flag_of at) filled a b at
+  hands_over a owns b with_waiter h = let le = h.2 in ((false, (a.1.0 + 1, b.1.1)), in_slot, none, (refl, refl), (refl, h.1, refl, omega arith), refl, inr (refl, refl))
   hands_over a owns b in_slot h = absurd (false≢true (sym h.0 ∙ owns))
   hands_over a owns b with_taker h = absurd (false≢true (sym h.0 ∙ owns))
   hands_over a owns b handed_back h = absurd (false≢true (sym h.0 ∙ owns))
 
-  withdraws : (a : Waits X) → a.0 ≡ false → (b : Wakes X) (at : Where) → Stands X at a b → WaitsTo (OnFlag (λ _. 0)) (λ n x a'. Regains X a x n a') (flag_of at) a b at
+  withdraws : (a : Waits X) → a.0 ≡ false → (b : Wakes X) (at : Where) → Stands X at a b → WaitsTo (OnFlag (λ _. 0)) (Withdraws a) (flag_of at) none a b at
   withdraws a gave b with_waiter h = absurd (false≢true (sym gave ∙ h.0))
-  withdraws a gave b in_slot h = let lt = h.3 in ((true, a.1), with_waiter, (refl, refl), (refl, h.1, omega arith), (omega arith, (λ (e : 1 ≡ 0). absurd (omega arith)), λ _. refl), ap (λ (c : Bool). flag c + 1) gave)
-  withdraws a gave b with_taker h = (a, with_taker, (refl, refl), h, (omega arith, (λ _. refl), λ n. absurd (n refl)), refl)
-  withdraws a gave b handed_back h = (a, handed_back, (refl, refl), h, (omega arith, (λ _. refl), λ n. absurd (n refl)), refl)
+  withdraws a gave b in_slot h = let lt = h.3 in ((true, a.1), with_waiter, filled, (refl, refl), (refl, h.1, omega arith), ((omega arith, (λ (e : 1 ≡ 0). absurd (omega arith)), λ _. refl), refl), inr (refl, refl))
+  withdraws a gave b with_taker h = (a, with_taker, none, (refl, refl), h, ((omega arith, (λ _. refl), λ n. absurd (n refl)), holds_none a.0 gave), inl (refl, refl))
+  withdraws a gave b handed_back h = (a, handed_back, none, (refl, refl), h, ((omega arith, (λ _. refl), λ n. absurd (n refl)), holds_none a.0 gave), inl (refl, refl))
 
-  regains : (a : Waits X) → a.0 ≡ false → (b : Wakes X) (at : Where) → Stands X at a b → WaitsTo (OnBack (λ _. 0)) (λ n x a'. Regains X a x n a') (back_of at) a b at
+  regains : (a : Waits X) → a.0 ≡ false → (b : Wakes X) (at : Where) → Stands X at a b → WaitsTo (OnBack (λ _. 0)) (RegainsHeld a) (back_of at) none a b at
   regains a gave b with_waiter h = absurd (false≢true (sym gave ∙ h.0))
-  regains a gave b in_slot h = (a, in_slot, (refl, refl), h, (omega arith, (λ _. refl), λ n. absurd (n refl)), refl)
-  regains a gave b with_taker h = (a, with_taker, (refl, refl), h, (omega arith, (λ _. refl), λ n. absurd (n refl)), refl)
-  regains a gave b handed_back h = let same = h.2 in ((true, a.1), with_waiter, (refl, refl), (refl, h.1, omega arith), (omega arith, (λ (e : 1 ≡ 0). absurd (omega arith)), λ _. refl), ap (λ (c : Bool). flag c + 1) gave)
+  regains a gave b in_slot h = (a, in_slot, none, (refl, refl), h, ((omega arith, (λ _. refl), λ n. absurd (n refl)), λ i. (sym gave i, false)), inl (refl, refl))
+  regains a gave b with_taker h = (a, with_taker, none, (refl, refl), h, ((omega arith, (λ _. refl), λ n. absurd (n refl)), λ i. (sym gave i, false)), inl (refl, refl))
+  regains a gave b handed_back h = let same = h.2 in ((true, a.1), with_waiter, emptied, (refl, refl), (refl, h.1, omega arith), ((omega arith, (λ (e : 1 ≡ 0). absurd (omega arith)), λ _. refl), refl), inr (refl, refl))
 
   pub remembers : (a : Waits X) (b : Wakes X) (at : Where) → Stands X at a b → IsRemembered X a b
   remembers a b with_waiter h gave rests new = absurd (false≢true (sym gave ∙ h.0))
@@ -149,126 +178,112 @@ module _ {M : Type 1} {𝓤 : Ura M} (𝓛 : Logic 𝓤) (w p : Ptr) (z : Names)
   writers_own K h = let F : Fml = writer_slot w p z in let S : Fml = slots w p z in qed 𝓛 (‵ I ∷ ‵ K ∷ []) ∵ use2 𝓛 (‵ K ⊛ ‵ S ⊛ ‵ (fwand S I)) h $ split3 ! $ frame ! $
       fsplit ! $ move ! (1 ∷ []) $ frame ! $ assume ! (‵ F) $ move ! (1 ∷ 0 ∷ []) $ fjoin ! $ by ! (apply∗ 𝓤 ⟦ S ⟧ ⟦ I ⟧)
 
-  -- a right that is in one of two hands goes to the other
-  passes : (k : Fml) (a b c d : Bool) → flag a + flag b ≡ flag c + flag d → ⟦ where_gone b k ⟧ ∗ ⟦ where_gone a k ⟧ ⊢ ⟦ where_gone d k ⟧ ∗ ⟦ where_gone c k ⟧
-  passes k false false false false e = id⊢ 𝓤 _
-  passes k true true true true e = id⊢ 𝓤 _
-  passes k false true false true e = id⊢ 𝓤 _
-  passes k true false true false e = id⊢ 𝓤 _
-  passes k false true true false e = qed 𝓛 (‵ k ∷ ‵ ftrue ∷ []) ∵ move ! (1 ∷ 0 ∷ []) $ done !
-  passes k true false false true e = qed 𝓛 (‵ ftrue ∷ ‵ k ∷ []) ∵ move ! (1 ∷ 0 ∷ []) $ done !
-  passes k false false true true e = absurd (omega arith)
-  passes k false false true false e = absurd (omega arith)
-  passes k false false false true e = absurd (omega arith)
-  passes k true true false false e = absurd (omega arith)
-  passes k true true false true e = absurd (omega arith)
-  passes k true true true false e = absurd (omega arith)
-  passes k false true true true e = absurd (omega arith)
-  passes k false true false false e = absurd (omega arith)
-  passes k true false true true e = absurd (omega arith)
-  passes k true false false false e = absurd (omega arith)
+  -- what is in one of two hands stays there or goes to the other
+  passes : (ι : ℕ) (u v u' v' : Held) → Passes u v u' v' → ⟦ held ι v ⟧ ∗ ⟦ held ι u ⟧ ⊢ ⟦ held ι v' ⟧ ∗ ⟦ held ι u' ⟧
+  passes ι u v u' v' (inl e) = qed 𝓛 (‵ (held ι v) ∷ ‵ (held ι u) ∷ []) ∵ rewrite ! 0 (λ (w : Held). ‵ (held ι w)) e.1 refl $ rewrite ! 1 (λ (w : Held). ‵ (held ι w)) e.0 refl $ done !
+  passes ι u v u' v' (inr e) = qed 𝓛 (‵ (held ι v) ∷ ‵ (held ι u) ∷ []) ∵ rewrite ! 0 (λ (w : Held). ‵ (held ι w)) e.1 refl $ rewrite ! 1 (λ (w : Held). ‵ (held ι w)) e.0 refl $ move ! (1 ∷ 0 ∷ []) $ done !
 
   module _ {X : Type 0} (far γ δ ι : ℕ) (c : Coded X) (shows : X → Fml) (K : Fml) where
     abbrev F : Fml
     F = slot w far γ δ ι c shows
 
     -- the right to the place, where it is there
-    abbrev Right : Bool → Fml
-    Right b = where_gone b (key ι)
+    abbrev Right : Held → Fml
+    Right u = held ι u
 
     abbrev code : Bool × (ℕ × X) → Gv
     code = (code_of X c).code
 
-    abbrev OneAfter : (ℕ → Wakes X → Type 0) → ℕ → Wakes X → Fml
-    OneAfter then n b = fsep (fact (then n b)) (fsep (fsep (fobs δ (code b)) (Right b.0)) K)
+    abbrev OneAfter : (ℕ → Wakes X → Held → Type 0) → ℕ → Wakes X × Held → Fml
+    OneAfter then n r = fsep (fact (then n r.0 r.1)) (fsep (fsep (fobs δ (code r.0)) (Right r.1)) K)
 
     -- what the side that wakes has after its step
-    abbrev pub WakeAfter : (ℕ → Wakes X → Type 0) → ℕ → Fml
-    WakeAfter then n = fex (Wakes X) (OneAfter then n)
+    abbrev pub WakeAfter : (ℕ → Wakes X → Held → Type 0) → ℕ → Fml
+    WakeAfter then n = fex (Wakes X × Held) (OneAfter then n)
 
-    abbrev TwoAfter : (ℕ → X → Waits X → Type 0) → ℕ → X × Waits X → Fml
-    TwoAfter then n r = fsep (fact (then n r.0 r.1)) (fsep (shows r.0) (fsep (fsep (fobs γ (code r.1)) (Right r.1.0)) K))
+    abbrev TwoAfter : (ℕ → X → Waits X → Held → Type 0) → ℕ → X × (Waits X × Held) → Fml
+    TwoAfter then n r = fsep (fact (then n r.0 r.1.0 r.1.1)) (fsep (shows r.0) (fsep (fsep (fobs γ (code r.1.0)) (Right r.1.1)) K))
 
     -- what the side that waits has, with evidence of what the other had looked behind
-    abbrev pub WaitAfter : (ℕ → X → Waits X → Type 0) → ℕ → Fml
-    WaitAfter then n = fex (X × Waits X) (TwoAfter then n)
+    abbrev pub WaitAfter : (ℕ → X → Waits X → Held → Type 0) → ℕ → Fml
+    WaitAfter then n = fex (X × (Waits X × Held)) (TwoAfter then n)
 
     one_shows : (y x o : X) → (y ≡ x) ⊎ (y ≡ o) → ⟦ shows x ⟧ ∗ ⟦ shows o ⟧ ⊢ ⟦ shows y ⟧
     one_shows y x o (inl e) = qed 𝓛 (‵ (shows x) ∷ ‵ (shows o) ∷ []) ∵ rewrite ! 0 (λ (u : X). ‵ (shows u)) {x = y} {y = x} (sym e) refl $ keep ! (0 ∷ []) $ done !
     one_shows y x o (inr e) = qed 𝓛 (‵ (shows x) ∷ ‵ (shows o) ∷ []) ∵ rewrite ! 1 (λ (u : X). ‵ (shows u)) {x = y} {y = o} (sym e) refl $ keep ! (1 ∷ []) $ done !
 
-    wakes_flag : Lent K F → (b : Wakes X) (x : X) (f : ℕ → ℕ) (then : ℕ → Wakes X → Type 0) → ((a : Waits X) (at : Where) → Stands X at a b → WakesTo (OnFlag f) then (flag_of at) x a b at)
-        → ⟦ C ⟧ ∗ ⟦ K ⟧ ∗ ⟦ fsep (fobs δ (code b)) (Right b.0) ⟧ ∗ ⟦ shows x ⟧ ⊢ access far f (WakeAfter then)
-    wakes_flag lends b x f then can = let after : ℕ → Fml = WakeAfter then in let Z : Pr = ex 𝓤 (Holding far f after) in
-        inside 𝓛 w p z far f after (⟦ K ⟧ ∗ ⟦ fsep (fobs δ (code b)) (Right b.0) ⟧ ∗ ⟦ shows x ⟧) (qed 𝓛 (‵ I ∷ ‵ K ∷ ‵ (fsep (fobs δ (code b)) (Right b.0)) ∷ ‵ (shows x) ∷ []) ∵ move ! (2 ∷ []) $ fsplit ! $ move ! (2 ∷ 3 ∷ 0 ∷ 4 ∷ []) $ use2 𝓛 (‵ K ⊛ ‵ F ⊛ ‵ (fwand F I)) lends $ split3 ! $ move ! (1 ∷ []) $
+    wakes_flag : Lent K F → (u : Held) (b : Wakes X) (x : X) (f : ℕ → ℕ) (then : ℕ → Wakes X → Held → Type 0) → ((a : Waits X) (at : Where) → Stands X at a b → WakesTo (OnFlag f) then (flag_of at) x u a b at)
+        → ⟦ C ⟧ ∗ ⟦ K ⟧ ∗ ⟦ fsep (fobs δ (code b)) (Right u) ⟧ ∗ ⟦ shows x ⟧ ⊢ access far f (WakeAfter then)
+    wakes_flag lends u b x f then can = let after : ℕ → Fml = WakeAfter then in let Z : Pr = ex 𝓤 (Holding far f after) in
+        inside 𝓛 w p z far f after (⟦ K ⟧ ∗ ⟦ fsep (fobs δ (code b)) (Right u) ⟧ ∗ ⟦ shows x ⟧) (qed 𝓛 (‵ I ∷ ‵ K ∷ ‵ (fsep (fobs δ (code b)) (Right u)) ∷ ‵ (shows x) ∷ []) ∵ move ! (2 ∷ []) $ fsplit ! $ move ! (2 ∷ 3 ∷ 0 ∷ 4 ∷ []) $ use2 𝓛 (‵ K ⊛ ‵ F ⊛ ‵ (fwand F I)) lends $ split3 ! $ move ! (1 ∷ []) $
         fpick ! (λ s. fsplit3 ! $ fpick ! (λ stands. forget ! $ move ! (1 ∷ []) $ fsplit ! $ fsplit ! $ move ! (6 ∷ 1 ∷ []) $ name_agree ! (code_of X c) (λ e.
-        let a : Waits X = s.0 in let at : Where = s.1.1 in let r = can a at (subst (λ (y : Wakes X). Stands X at a y) (sym e) stands) in let b' : Wakes X = r.0 in let at' : Where = r.1 in let n : ℕ = flag_of at in
+        let a : Waits X = s.0 in let at : Where = s.1.1 in let r = can a at (subst (λ (y : Wakes X). Stands X at a y) (sym e) stands) in let b' : Wakes X = r.0 in let at' : Where = r.1 in let u' : Held = r.2 in let n : ℕ = flag_of at in
         use2 𝓛 (raw (upd 𝓤 (⟦ fobs δ (code b') ⟧ ∗ ⟦ fauth δ (code b') ⟧))) (𝓛.names.name_set_upd δ (code b) (code s.1.0) (code b')) $ settle 𝓛 Z (‵ (fobs δ (code b')) ⊛ ‵ (fauth δ (code b'))) $ suffices ! _ (upd_i 𝓤 Z) $ split ! $
-        move ! (3 ∷ []) $ fsplit ! $ rewrite ! 0 (λ (y : Wakes X). ‵ (shows y.1.1)) {x = b} {y = s.1.0} (sym e) refl $ move ! (8 ∷ 0 ∷ []) $ use2 𝓛 (‵ (shows b'.1.1)) (one_shows b'.1.1 x b.1.1 r.4) $
-        move ! (1 ∷ 8 ∷ []) $ use2 𝓛 (‵ (Right (keyed at')) ⊛ ‵ (Right b'.0)) (passes (key ι) b.0 (keyed at) b'.0 (keyed at') r.6) $ split ! $ move ! (2 ∷ 0 ∷ []) $ fjoin ! $ move ! (2 ∷ 1 ∷ []) $ fjoin ! $ move ! (1 ∷ 0 ∷ []) $
+        move ! (3 ∷ []) $ fsplit ! $ rewrite ! 0 (λ (y : Wakes X). ‵ (shows y.1.1)) {x = b} {y = s.1.0} (sym e) refl $ move ! (8 ∷ 0 ∷ []) $ use2 𝓛 (‵ (shows b'.1.1)) (one_shows b'.1.1 x b.1.1 r.5) $
+        move ! (1 ∷ 8 ∷ []) $ use2 𝓛 (‵ (Right (held_at at')) ⊛ ‵ (Right u')) (passes ι u (held_at at) u' (held_at at') r.7) $ split ! $ move ! (2 ∷ 0 ∷ []) $ fjoin ! $ move ! (2 ∷ 1 ∷ []) $ fjoin ! $ move ! (1 ∷ 0 ∷ []) $
         move ! (4 ∷ []) $ fsplit ! $ show ! (Holding far f after) n $ frame ! $ assume ! (‵ (word w far (f n))) $ suffices ! _ (upd_i 𝓤 (⟦ I ⟧ ∗ ⟦ after n ⟧)) $
-        rewrite ! 0 (λ (m : ℕ). ‵ (word w far m)) {x = flag_of at'} {y = f n} r.2.0 refl $ rewrite ! 1 (λ (m : ℕ). ‵ (word w (128 + far) m)) {x = back_of at'} {y = back_of at} r.2.1 refl $ fjoin ! $
-        move ! (4 ∷ 3 ∷ []) $ fjoin ! $ move ! (1 ∷ 0 ∷ 2 ∷ []) $ fjoin3 ! $ nothing ! $ fpack ! (Stands X at' a b') (λ _. ftrue) r.3 $ fjoin ! $ fpack ! (Slot X) (slot_at w far γ δ ι c shows) (a, (b', at')) $
-        move ! (0 ∷ 3 ∷ []) $ use2 𝓛 (‵ I) (apply∗ 𝓤 ⟦ F ⟧ ⟦ I ⟧) $ frame ! $ fjoin ! $ nothing ! $ fpack ! (then n b') (λ _. ftrue) r.5 $ fjoin ! $ fpack ! (Wakes X) (OneAfter then n) b' $ done !))))
+        rewrite ! 0 (λ (m : ℕ). ‵ (word w far m)) {x = flag_of at'} {y = f n} r.3.0 refl $ rewrite ! 1 (λ (m : ℕ). ‵ (word w (128 + far) m)) {x = back_of at'} {y = back_of at} r.3.1 refl $ fjoin ! $
+        move ! (4 ∷ 3 ∷ []) $ fjoin ! $ move ! (1 ∷ 0 ∷ 2 ∷ []) $ fjoin3 ! $ nothing ! $ fpack ! (Stands X at' a b') (λ _. ftrue) r.4 $ fjoin ! $ fpack ! (Slot X) (slot_at w far γ δ ι c shows) (a, (b', at')) $
+        move ! (0 ∷ 3 ∷ []) $ use2 𝓛 (‵ I) (apply∗ 𝓤 ⟦ F ⟧ ⟦ I ⟧) $ frame ! $ fjoin ! $ nothing ! $ fpack ! (then n b' u') (λ _. ftrue) r.6 $ fjoin ! $ fpack ! (Wakes X × Held) (OneAfter then n) (b', u') $ done !))))
 
-    wakes_back : Lent K F → (b : Wakes X) (x : X) (f : ℕ → ℕ) (then : ℕ → Wakes X → Type 0) → ((a : Waits X) (at : Where) → Stands X at a b → WakesTo (OnBack f) then (back_of at) x a b at)
-        → ⟦ C ⟧ ∗ ⟦ K ⟧ ∗ ⟦ fsep (fobs δ (code b)) (Right b.0) ⟧ ∗ ⟦ shows x ⟧ ⊢ access (128 + far) f (WakeAfter then)
-    wakes_back lends b x f then can = let after : ℕ → Fml = WakeAfter then in let Z : Pr = ex 𝓤 (Holding (128 + far) f after) in
-        inside 𝓛 w p z (128 + far) f after (⟦ K ⟧ ∗ ⟦ fsep (fobs δ (code b)) (Right b.0) ⟧ ∗ ⟦ shows x ⟧) (qed 𝓛 (‵ I ∷ ‵ K ∷ ‵ (fsep (fobs δ (code b)) (Right b.0)) ∷ ‵ (shows x) ∷ []) ∵ move ! (2 ∷ []) $ fsplit ! $ move ! (2 ∷ 3 ∷ 0 ∷ 4 ∷ []) $ use2 𝓛 (‵ K ⊛ ‵ F ⊛ ‵ (fwand F I)) lends $ split3 ! $ move ! (1 ∷ []) $
+    wakes_back : Lent K F → (u : Held) (b : Wakes X) (x : X) (f : ℕ → ℕ) (then : ℕ → Wakes X → Held → Type 0) → ((a : Waits X) (at : Where) → Stands X at a b → WakesTo (OnBack f) then (back_of at) x u a b at)
+        → ⟦ C ⟧ ∗ ⟦ K ⟧ ∗ ⟦ fsep (fobs δ (code b)) (Right u) ⟧ ∗ ⟦ shows x ⟧ ⊢ access (128 + far) f (WakeAfter then)
+    wakes_back lends u b x f then can = let after : ℕ → Fml = WakeAfter then in let Z : Pr = ex 𝓤 (Holding (128 + far) f after) in
+        inside 𝓛 w p z (128 + far) f after (⟦ K ⟧ ∗ ⟦ fsep (fobs δ (code b)) (Right u) ⟧ ∗ ⟦ shows x ⟧) (qed 𝓛 (‵ I ∷ ‵ K ∷ ‵ (fsep (fobs δ (code b)) (Right u)) ∷ ‵ (shows x) ∷ []) ∵ move ! (2 ∷ []) $ fsplit ! $ move ! (2 ∷ 3 ∷ 0 ∷ 4 ∷ []) $ use2 𝓛 (‵ K ⊛ ‵ F ⊛ ‵ (fwand F I)) lends $ split3 ! $ move ! (1 ∷ []) $
         fpick ! (λ s. fsplit3 ! $ fpick ! (λ stands. forget ! $ move ! (1 ∷ []) $ fsplit ! $ fsplit ! $ move ! (6 ∷ 1 ∷ []) $ name_agree ! (code_of X c) (λ e.
-        let a : Waits X = s.0 in let at : Where = s.1.1 in let r = can a at (subst (λ (y : Wakes X). Stands X at a y) (sym e) stands) in let b' : Wakes X = r.0 in let at' : Where = r.1 in let n : ℕ = back_of at in
+        let a : Waits X = s.0 in let at : Where = s.1.1 in let r = can a at (subst (λ (y : Wakes X). Stands X at a y) (sym e) stands) in let b' : Wakes X = r.0 in let at' : Where = r.1 in let u' : Held = r.2 in let n : ℕ = back_of at in
         use2 𝓛 (raw (upd 𝓤 (⟦ fobs δ (code b') ⟧ ∗ ⟦ fauth δ (code b') ⟧))) (𝓛.names.name_set_upd δ (code b) (code s.1.0) (code b')) $ settle 𝓛 Z (‵ (fobs δ (code b')) ⊛ ‵ (fauth δ (code b'))) $ suffices ! _ (upd_i 𝓤 Z) $ split ! $
-        move ! (3 ∷ []) $ fsplit ! $ rewrite ! 0 (λ (y : Wakes X). ‵ (shows y.1.1)) {x = b} {y = s.1.0} (sym e) refl $ move ! (8 ∷ 0 ∷ []) $ use2 𝓛 (‵ (shows b'.1.1)) (one_shows b'.1.1 x b.1.1 r.4) $
-        move ! (1 ∷ 8 ∷ []) $ use2 𝓛 (‵ (Right (keyed at')) ⊛ ‵ (Right b'.0)) (passes (key ι) b.0 (keyed at) b'.0 (keyed at') r.6) $ split ! $ move ! (2 ∷ 0 ∷ []) $ fjoin ! $ move ! (2 ∷ 1 ∷ []) $ fjoin ! $ move ! (1 ∷ 0 ∷ []) $
+        move ! (3 ∷ []) $ fsplit ! $ rewrite ! 0 (λ (y : Wakes X). ‵ (shows y.1.1)) {x = b} {y = s.1.0} (sym e) refl $ move ! (8 ∷ 0 ∷ []) $ use2 𝓛 (‵ (shows b'.1.1)) (one_shows b'.1.1 x b.1.1 r.5) $
+        move ! (1 ∷ 8 ∷ []) $ use2 𝓛 (‵ (Right (held_at at')) ⊛ ‵ (Right u')) (passes ι u (held_at at) u' (held_at at') r.7) $ split ! $ move ! (2 ∷ 0 ∷ []) $ fjoin ! $ move ! (2 ∷ 1 ∷ []) $ fjoin ! $ move ! (1 ∷ 0 ∷ []) $
         move ! (4 ∷ []) $ fsplit ! $ move ! (1 ∷ []) $ show ! (Holding (128 + far) f after) n $ frame ! $ assume ! (‵ (word w (128 + far) (f n))) $ suffices ! _ (upd_i 𝓤 (⟦ I ⟧ ∗ ⟦ after n ⟧)) $ move ! (1 ∷ 0 ∷ []) $
-        rewrite ! 0 (λ (m : ℕ). ‵ (word w far m)) {x = flag_of at'} {y = flag_of at} r.2.1 refl $ rewrite ! 1 (λ (m : ℕ). ‵ (word w (128 + far) m)) {x = back_of at'} {y = f n} r.2.0 refl $ fjoin ! $
-        move ! (4 ∷ 3 ∷ []) $ fjoin ! $ move ! (1 ∷ 0 ∷ 2 ∷ []) $ fjoin3 ! $ nothing ! $ fpack ! (Stands X at' a b') (λ _. ftrue) r.3 $ fjoin ! $ fpack ! (Slot X) (slot_at w far γ δ ι c shows) (a, (b', at')) $
-        move ! (0 ∷ 3 ∷ []) $ use2 𝓛 (‵ I) (apply∗ 𝓤 ⟦ F ⟧ ⟦ I ⟧) $ frame ! $ fjoin ! $ nothing ! $ fpack ! (then n b') (λ _. ftrue) r.5 $ fjoin ! $ fpack ! (Wakes X) (OneAfter then n) b' $ done !))))
+        rewrite ! 0 (λ (m : ℕ). ‵ (word w far m)) {x = flag_of at'} {y = flag_of at} r.3.1 refl $ rewrite ! 1 (λ (m : ℕ). ‵ (word w (128 + far) m)) {x = back_of at'} {y = f n} r.3.0 refl $ fjoin ! $
+        move ! (4 ∷ 3 ∷ []) $ fjoin ! $ move ! (1 ∷ 0 ∷ 2 ∷ []) $ fjoin3 ! $ nothing ! $ fpack ! (Stands X at' a b') (λ _. ftrue) r.4 $ fjoin ! $ fpack ! (Slot X) (slot_at w far γ δ ι c shows) (a, (b', at')) $
+        move ! (0 ∷ 3 ∷ []) $ use2 𝓛 (‵ I) (apply∗ 𝓤 ⟦ F ⟧ ⟦ I ⟧) $ frame ! $ fjoin ! $ nothing ! $ fpack ! (then n b' u') (λ _. ftrue) r.6 $ fjoin ! $ fpack ! (Wakes X × Held) (OneAfter then n) (b', u') $ done !))))
 
     -- evidence can be had twice
     abbrev pub Twice : Type 1
     Twice = (x : X) → ⟦ shows x ⟧ ⊢ ⟦ shows x ⟧ ∗ ⟦ shows x ⟧
 
-    waits_flag : Lent K F → Twice → (a : Waits X) (f : ℕ → ℕ) (then : ℕ → X → Waits X → Type 0) → ((b : Wakes X) (at : Where) → Stands X at a b → WaitsTo (OnFlag f) then (flag_of at) a b at)
-        → ⟦ C ⟧ ∗ ⟦ K ⟧ ∗ ⟦ fsep (fobs γ (code a)) (Right a.0) ⟧ ⊢ access far f (WaitAfter then)
-    waits_flag lends twice a f then can = let after : ℕ → Fml = WaitAfter then in let Z : Pr = ex 𝓤 (Holding far f after) in
-        inside 𝓛 w p z far f after (⟦ K ⟧ ∗ ⟦ fsep (fobs γ (code a)) (Right a.0) ⟧) (qed 𝓛 (‵ I ∷ ‵ K ∷ ‵ (fsep (fobs γ (code a)) (Right a.0)) ∷ []) ∵ move ! (2 ∷ []) $ fsplit ! $ move ! (2 ∷ 3 ∷ 0 ∷ []) $ use2 𝓛 (‵ K ⊛ ‵ F ⊛ ‵ (fwand F I)) lends $ split3 ! $ move ! (1 ∷ []) $
+    waits_flag : Lent K F → Twice → (u : Held) (a : Waits X) (f : ℕ → ℕ) (then : ℕ → X → Waits X → Held → Type 0) → ((b : Wakes X) (at : Where) → Stands X at a b → WaitsTo (OnFlag f) then (flag_of at) u a b at)
+        → ⟦ C ⟧ ∗ ⟦ K ⟧ ∗ ⟦ fsep (fobs γ (code a)) (Right u) ⟧ ⊢ access far f (WaitAfter then)
+    waits_flag lends twice u a f then can = let after : ℕ → Fml = WaitAfter then in let Z : Pr = ex 𝓤 (Holding far f after) in
+        inside 𝓛 w p z far f after (⟦ K ⟧ ∗ ⟦ fsep (fobs γ (code a)) (Right u) ⟧) (qed 𝓛 (‵ I ∷ ‵ K ∷ ‵ (fsep (fobs γ (code a)) (Right u)) ∷ []) ∵ move ! (2 ∷ []) $ fsplit ! $ move ! (2 ∷ 3 ∷ 0 ∷ []) $ use2 𝓛 (‵ K ⊛ ‵ F ⊛ ‵ (fwand F I)) lends $ split3 ! $ move ! (1 ∷ []) $
         fpick ! (λ s. fsplit3 ! $ fpick ! (λ stands. forget ! $ move ! (1 ∷ []) $ fsplit ! $ fsplit ! $ move ! (6 ∷ 0 ∷ []) $ name_agree ! (code_of X c) (λ e.
-        let b : Wakes X = s.1.0 in let at : Where = s.1.1 in let r = can b at (subst (λ (y : Waits X). Stands X at y b) (sym e) stands) in let a' : Waits X = r.0 in let at' : Where = r.1 in let n : ℕ = flag_of at in let x : X = b.1.1 in
+        let b : Wakes X = s.1.0 in let at : Where = s.1.1 in let r = can b at (subst (λ (y : Waits X). Stands X at y b) (sym e) stands) in let a' : Waits X = r.0 in let at' : Where = r.1 in let u' : Held = r.2 in let n : ℕ = flag_of at in let x : X = b.1.1 in
         use2 𝓛 (raw (upd 𝓤 (⟦ fobs γ (code a') ⟧ ∗ ⟦ fauth γ (code a') ⟧))) (𝓛.names.name_set_upd γ (code a) (code s.0) (code a')) $ settle 𝓛 Z (‵ (fobs γ (code a')) ⊛ ‵ (fauth γ (code a'))) $ suffices ! _ (upd_i 𝓤 Z) $ split ! $
         move ! (3 ∷ []) $ fsplit ! $ use1 𝓛 (‵ (shows x) ⊛ ‵ (shows x)) (twice x) $ split ! $
-        move ! (2 ∷ 9 ∷ []) $ use2 𝓛 (‵ (Right (keyed at')) ⊛ ‵ (Right a'.0)) (passes (key ι) a.0 (keyed at) a'.0 (keyed at') r.5) $ split ! $ move ! (2 ∷ 0 ∷ []) $ fjoin ! $ move ! (3 ∷ 1 ∷ []) $ fjoin ! $ move ! (1 ∷ 2 ∷ 0 ∷ []) $
+        move ! (2 ∷ 9 ∷ []) $ use2 𝓛 (‵ (Right (held_at at')) ⊛ ‵ (Right u')) (passes ι u (held_at at) u' (held_at at') r.6) $ split ! $ move ! (2 ∷ 0 ∷ []) $ fjoin ! $ move ! (3 ∷ 1 ∷ []) $ fjoin ! $ move ! (1 ∷ 2 ∷ 0 ∷ []) $
         move ! (5 ∷ []) $ fsplit ! $ show ! (Holding far f after) n $ frame ! $ assume ! (‵ (word w far (f n))) $ suffices ! _ (upd_i 𝓤 (⟦ I ⟧ ∗ ⟦ after n ⟧)) $
-        rewrite ! 0 (λ (m : ℕ). ‵ (word w far m)) {x = flag_of at'} {y = f n} r.2.0 refl $ rewrite ! 1 (λ (m : ℕ). ‵ (word w (128 + far) m)) {x = back_of at'} {y = back_of at} r.2.1 refl $ fjoin ! $
-        move ! (4 ∷ 5 ∷ []) $ fjoin ! $ move ! (1 ∷ 0 ∷ 2 ∷ []) $ fjoin3 ! $ nothing ! $ fpack ! (Stands X at' a' b) (λ _. ftrue) r.3 $ fjoin ! $ fpack ! (Slot X) (slot_at w far γ δ ι c shows) (a', (b, at')) $
-        move ! (0 ∷ 4 ∷ []) $ use2 𝓛 (‵ I) (apply∗ 𝓤 ⟦ F ⟧ ⟦ I ⟧) $ frame ! $ fjoin3 ! $ nothing ! $ fpack ! (then n x a') (λ _. ftrue) r.4 $ fjoin ! $ fpack ! (X × Waits X) (TwoAfter then n) (x, a') $ done !))))
+        rewrite ! 0 (λ (m : ℕ). ‵ (word w far m)) {x = flag_of at'} {y = f n} r.3.0 refl $ rewrite ! 1 (λ (m : ℕ). ‵ (word w (128 + far) m)) {x = back_of at'} {y = back_of at} r.3.1 refl $ fjoin ! $
+        move ! (4 ∷ 5 ∷ []) $ fjoin ! $ move ! (1 ∷ 0 ∷ 2 ∷ []) $ fjoin3 ! $ nothing ! $ fpack ! (Stands X at' a' b) (λ _. ftrue) r.4 $ fjoin ! $ fpack ! (Slot X) (slot_at w far γ δ ι c shows) (a', (b, at')) $
+        move ! (0 ∷ 4 ∷ []) $ use2 𝓛 (‵ I) (apply∗ 𝓤 ⟦ F ⟧ ⟦ I ⟧) $ frame ! $ fjoin3 ! $ nothing ! $ fpack ! (then n x a' u') (λ _. ftrue) r.5 $ fjoin ! $ fpack ! (X × (Waits X × Held)) (TwoAfter then n) (x, (a', u')) $ done !))))
 
-    waits_back : Lent K F → Twice → (a : Waits X) (f : ℕ → ℕ) (then : ℕ → X → Waits X → Type 0) → ((b : Wakes X) (at : Where) → Stands X at a b → WaitsTo (OnBack f) then (back_of at) a b at)
-        → ⟦ C ⟧ ∗ ⟦ K ⟧ ∗ ⟦ fsep (fobs γ (code a)) (Right a.0) ⟧ ⊢ access (128 + far) f (WaitAfter then)
-    waits_back lends twice a f then can = let after : ℕ → Fml = WaitAfter then in let Z : Pr = ex 𝓤 (Holding (128 + far) f after) in
-        inside 𝓛 w p z (128 + far) f after (⟦ K ⟧ ∗ ⟦ fsep (fobs γ (code a)) (Right a.0) ⟧) (qed 𝓛 (‵ I ∷ ‵ K ∷ ‵ (fsep (fobs γ (code a)) (Right a.0)) ∷ []) ∵ move ! (2 ∷ []) $ fsplit ! $ move ! (2 ∷ 3 ∷ 0 ∷ []) $ use2 𝓛 (‵ K ⊛ ‵ F ⊛ ‵ (fwand F I)) lends $ split3 ! $ move ! (1 ∷ []) $
+    waits_back : Lent K F → Twice → (u : Held) (a : Waits X) (f : ℕ → ℕ) (then : ℕ → X → Waits X → Held → Type 0) → ((b : Wakes X) (at : Where) → Stands X at a b → WaitsTo (OnBack f) then (back_of at) u a b at)
+        → ⟦ C ⟧ ∗ ⟦ K ⟧ ∗ ⟦ fsep (fobs γ (code a)) (Right u) ⟧ ⊢ access (128 + far) f (WaitAfter then)
+    waits_back lends twice u a f then can = let after : ℕ → Fml = WaitAfter then in let Z : Pr = ex 𝓤 (Holding (128 + far) f after) in
+        inside 𝓛 w p z (128 + far) f after (⟦ K ⟧ ∗ ⟦ fsep (fobs γ (code a)) (Right u) ⟧) (qed 𝓛 (‵ I ∷ ‵ K ∷ ‵ (fsep (fobs γ (code a)) (Right u)) ∷ []) ∵ move ! (2 ∷ []) $ fsplit ! $ move ! (2 ∷ 3 ∷ 0 ∷ []) $ use2 𝓛 (‵ K ⊛ ‵ F ⊛ ‵ (fwand F I)) lends $ split3 ! $ move ! (1 ∷ []) $
         fpick ! (λ s. fsplit3 ! $ fpick ! (λ stands. forget ! $ move ! (1 ∷ []) $ fsplit ! $ fsplit ! $ move ! (6 ∷ 0 ∷ []) $ name_agree ! (code_of X c) (λ e.
-        let b : Wakes X = s.1.0 in let at : Where = s.1.1 in let r = can b at (subst (λ (y : Waits X). Stands X at y b) (sym e) stands) in let a' : Waits X = r.0 in let at' : Where = r.1 in let n : ℕ = back_of at in let x : X = b.1.1 in
+        let b : Wakes X = s.1.0 in let at : Where = s.1.1 in let r = can b at (subst (λ (y : Waits X). Stands X at y b) (sym e) stands) in let a' : Waits X = r.0 in let at' : Where = r.1 in let u' : Held = r.2 in let n : ℕ = back_of at in let x : X = b.1.1 in
         use2 𝓛 (raw (upd 𝓤 (⟦ fobs γ (code a') ⟧ ∗ ⟦ fauth γ (code a') ⟧))) (𝓛.names.name_set_upd γ (code a) (code s.0) (code a')) $ settle 𝓛 Z (‵ (fobs γ (code a')) ⊛ ‵ (fauth γ (code a'))) $ suffices ! _ (upd_i 𝓤 Z) $ split ! $
         move ! (3 ∷ []) $ fsplit ! $ use1 𝓛 (‵ (shows x) ⊛ ‵ (shows x)) (twice x) $ split ! $
-        move ! (2 ∷ 9 ∷ []) $ use2 𝓛 (‵ (Right (keyed at')) ⊛ ‵ (Right a'.0)) (passes (key ι) a.0 (keyed at) a'.0 (keyed at') r.5) $ split ! $ move ! (2 ∷ 0 ∷ []) $ fjoin ! $ move ! (3 ∷ 1 ∷ []) $ fjoin ! $ move ! (1 ∷ 2 ∷ 0 ∷ []) $
+        move ! (2 ∷ 9 ∷ []) $ use2 𝓛 (‵ (Right (held_at at')) ⊛ ‵ (Right u')) (passes ι u (held_at at) u' (held_at at') r.6) $ split ! $ move ! (2 ∷ 0 ∷ []) $ fjoin ! $ move ! (3 ∷ 1 ∷ []) $ fjoin ! $ move ! (1 ∷ 2 ∷ 0 ∷ []) $
         move ! (5 ∷ []) $ fsplit ! $ move ! (1 ∷ []) $ show ! (Holding (128 + far) f after) n $ frame ! $ assume ! (‵ (word w (128 + far) (f n))) $ suffices ! _ (upd_i 𝓤 (⟦ I ⟧ ∗ ⟦ after n ⟧)) $ move ! (1 ∷ 0 ∷ []) $
-        rewrite ! 0 (λ (m : ℕ). ‵ (word w far m)) {x = flag_of at'} {y = flag_of at} r.2.1 refl $ rewrite ! 1 (λ (m : ℕ). ‵ (word w (128 + far) m)) {x = back_of at'} {y = f n} r.2.0 refl $ fjoin ! $
-        move ! (4 ∷ 5 ∷ []) $ fjoin ! $ move ! (1 ∷ 0 ∷ 2 ∷ []) $ fjoin3 ! $ nothing ! $ fpack ! (Stands X at' a' b) (λ _. ftrue) r.3 $ fjoin ! $ fpack ! (Slot X) (slot_at w far γ δ ι c shows) (a', (b, at')) $
-        move ! (0 ∷ 4 ∷ []) $ use2 𝓛 (‵ I) (apply∗ 𝓤 ⟦ F ⟧ ⟦ I ⟧) $ frame ! $ fjoin3 ! $ nothing ! $ fpack ! (then n x a') (λ _. ftrue) r.4 $ fjoin ! $ fpack ! (X × Waits X) (TwoAfter then n) (x, a') $ done !))))
+        rewrite ! 0 (λ (m : ℕ). ‵ (word w far m)) {x = flag_of at'} {y = flag_of at} r.3.1 refl $ rewrite ! 1 (λ (m : ℕ). ‵ (word w (128 + far) m)) {x = back_of at'} {y = f n} r.3.0 refl $ fjoin ! $
+        move ! (4 ∷ 5 ∷ []) $ fjoin ! $ move ! (1 ∷ 0 ∷ 2 ∷ []) $ fjoin3 ! $ nothing ! $ fpack ! (Stands X at' a' b) (λ _. ftrue) r.4 $ fjoin ! $ fpack ! (Slot X) (slot_at w far γ δ ι c shows) (a', (b, at')) $
+        move ! (0 ∷ 4 ∷ []) $ use2 𝓛 (‵ I) (apply∗ 𝓤 ⟦ F ⟧ ⟦ I ⟧) $ frame ! $ fjoin3 ! $ nothing ! $ fpack ! (then n x a' u') (λ _. ftrue) r.5 $ fjoin ! $ fpack ! (X × (Waits X × Held)) (TwoAfter then n) (x, (a', u')) $ done !))))
 
     abbrev pub Met : Waits X → Wakes X → Pr
-    Met a b = guard 𝓤 (IsRemembered X a b) (⟦ K ⟧ ∗ ⟦ fsep (fobs γ (code a)) (Right a.0) ⟧ ∗ ⟦ fsep (fobs δ (code b)) (Right b.0) ⟧)
+    Met a b = guard 𝓤 (IsRemembered X a b) (⟦ K ⟧ ∗ ⟦ fobs γ (code a) ⟧ ∗ ⟦ fobs δ (code b) ⟧)
 
     -- both sides in one hand: it is no step
-    meets : Lent K F → (a : Waits X) (b : Wakes X) → ⟦ C ⟧ ∗ ⟦ K ⟧ ∗ ⟦ fsep (fobs γ (code a)) (Right a.0) ⟧ ∗ ⟦ fsep (fobs δ (code b)) (Right b.0) ⟧ ⊢ H.⇛ (Met a b)
+    meets : Lent K F → (a : Waits X) (b : Wakes X) → ⟦ C ⟧ ∗ ⟦ K ⟧ ∗ ⟦ fobs γ (code a) ⟧ ∗ ⟦ fobs δ (code b) ⟧ ⊢ H.⇛ (Met a b)
     meets lends a b = let Q : Pr = Met a b in let Z : Pr = ⟦ I ⟧ ∗ Q in
-        qed 𝓛 (‵ C ∷ ‵ K ∷ ‵ (fsep (fobs γ (code a)) (Right a.0)) ∷ ‵ (fsep (fobs δ (code b)) (Right b.0)) ∷ []) ∵ move ! (3 ∷ []) $ fsplit ! $ move ! (4 ∷ []) $ fsplit ! $ move ! (4 ∷ 5 ∷ 0 ∷ 2 ∷ []) $ fsplit ! $ forget ! $ suffices ! _ (𝓛.invs.inv_acc I Q) $ frame ! $ assume ! (‵ I) $
+        qed 𝓛 (‵ C ∷ ‵ K ∷ ‵ (fobs γ (code a)) ∷ ‵ (fobs δ (code b)) ∷ []) ∵ fsplit ! $ forget ! $ suffices ! _ (𝓛.invs.inv_acc I Q) $ frame ! $ assume ! (‵ I) $
         use2 𝓛 (‵ K ⊛ ‵ F ⊛ ‵ (fwand F I)) lends $ split3 ! $ move ! (1 ∷ []) $ fpick ! (λ s. fsplit3 ! $ fpick ! (λ stands. forget ! $ move ! (1 ∷ []) $ fsplit ! $ fsplit ! $
         move ! (6 ∷ 0 ∷ []) $ name_agree ! (code_of X c) (λ ea. move ! (7 ∷ 2 ∷ []) $ name_agree ! (code_of X c) (λ eb.
         move ! (3 ∷ 1 ∷ []) $ fjoin ! $ move ! (4 ∷ 0 ∷ 3 ∷ []) $ fjoin3 ! $ nothing ! $ fpack ! (Stands X s.1.1 s.0 s.1.0) (λ _. ftrue) stands $ fjoin ! $ fpack ! (Slot X) (slot_at w far γ δ ι c shows) s $
         move ! (0 ∷ 4 ∷ []) $ use2 𝓛 (‵ I) (apply∗ 𝓤 ⟦ F ⟧ ⟦ I ⟧) $ suffices ! _ (upd_i 𝓤 Z) $ frame ! $
-        check ! (subst (λ (r : Waits X × Wakes X). IsRemembered X r.0 r.1) (λ j. (sym ea j, sym eb j)) (remembers s.0 s.1.0 s.1.1 stands)) $ move ! (0 ∷ 4 ∷ []) $ fjoin ! $ move ! (1 ∷ 3 ∷ []) $ fjoin ! $ move ! (2 ∷ 0 ∷ 1 ∷ []) $ done !))))
+        check ! (subst (λ (r : Waits X × Wakes X). IsRemembered X r.0 r.1) (λ j. (sym ea j, sym eb j)) (remembers s.0 s.1.0 s.1.1 stands)) $ move ! (2 ∷ 1 ∷ 0 ∷ []) $ done !))))
 
   -- what the writer's right to the stream shows
   wk_shows : (q : Share) (sent : List ℕ) (limit : ℕ) (shut : Bool) (i : ℕ) → ⟦ WK q sent limit shut i ⟧ ⊢ ⟦ WK q sent limit shut i ⟧ ∗ ⟦ published z (sent, shut) ⟧
@@ -281,25 +296,25 @@ module _ {M : Type 1} {𝓤 : Ura M} (𝓛 : Logic 𝓤) (w p : Ptr) (z : Names)
     KW = WK q sent limit shut i
 
     abbrev BW : Fml
-    BW = fsep (fobs z.writer_wakes ((code_of Stream coded_stream).code b)) (where_gone b.0 (key z.reader_place))
+    BW = fobs z.writer_wakes ((code_of Stream coded_stream).code b)
 
     abbrev lent : Lent KW (reader_slot w p z)
     lent = readers_own KW (writer_lent q sent limit shut i le)
 
-    abbrev pub WriterWoke : (ℕ → Wakes Stream → Type 0) → ℕ → Fml
+    abbrev pub WriterWoke : (ℕ → Wakes Stream → Held → Type 0) → ℕ → Fml
     WriterWoke = WakeAfter 512 z.reader_waits z.writer_wakes z.reader_place coded_stream (published z) KW
 
-    pub writer_looks_flag : b.0 ≡ false → ⟦ C ⟧ ∗ ⟦ KW ⟧ ∗ ⟦ BW ⟧ ⊢ access 512 (λ n. n) (WriterWoke (Looks Stream b (sent, shut)))
-    writer_looks_flag rests = let x : Stream = (sent, shut) in qed 𝓛 (‵ C ∷ ‵ KW ∷ ‵ BW ∷ []) ∵ move ! (1 ∷ []) $ use1 𝓛 (‵ KW ⊛ ‵ (published z x)) (wk_shows q sent limit shut i) $ split ! $ move ! (2 ∷ 0 ∷ 3 ∷ 1 ∷ []) $
-        by ! (wakes_flag 512 z.reader_waits z.writer_wakes z.reader_place coded_stream (published z) KW lent b x (λ n. n) (Looks Stream b x) (looks b x rests))
+    pub writer_looks_flag : b.0 ≡ false → ⟦ C ⟧ ∗ ⟦ KW ⟧ ∗ ⟦ BW ⟧ ⊢ access 512 (λ n. n) (WriterWoke (λ n b' _. Looks Stream b (sent, shut) n b'))
+    writer_looks_flag rests = let x : Stream = (sent, shut) in qed 𝓛 (‵ C ∷ ‵ KW ∷ ‵ BW ∷ []) ∵ move ! (2 ∷ []) $ nothing ! $ move ! (1 ∷ 0 ∷ []) $ fjoin ! $ move ! (2 ∷ []) $ use1 𝓛 (‵ KW ⊛ ‵ (published z x)) (wk_shows q sent limit shut i) $ split ! $ move ! (3 ∷ 0 ∷ 2 ∷ 1 ∷ []) $
+        by ! (wakes_flag 512 z.reader_waits z.writer_wakes z.reader_place coded_stream (published z) KW lent none b x (λ n. n) (λ n b' _. Looks Stream b x n b') (looks b x rests))
 
-    pub writer_takes : b.0 ≡ false → ⟦ C ⟧ ∗ ⟦ KW ⟧ ∗ ⟦ BW ⟧ ⊢ access 512 (λ _. 0) (WriterWoke (Takes Stream b (sent, shut)))
-    writer_takes rests = let x : Stream = (sent, shut) in qed 𝓛 (‵ C ∷ ‵ KW ∷ ‵ BW ∷ []) ∵ move ! (1 ∷ []) $ use1 𝓛 (‵ KW ⊛ ‵ (published z x)) (wk_shows q sent limit shut i) $ split ! $ move ! (2 ∷ 0 ∷ 3 ∷ 1 ∷ []) $
-        by ! (wakes_flag 512 z.reader_waits z.writer_wakes z.reader_place coded_stream (published z) KW lent b x (λ _. 0) (Takes Stream b x) (takes b x rests))
+    pub writer_takes : b.0 ≡ false → ⟦ C ⟧ ∗ ⟦ KW ⟧ ∗ ⟦ BW ⟧ ⊢ access 512 (λ _. 0) (WriterWoke (TakesHeld b (sent, shut)))
+    writer_takes rests = let x : Stream = (sent, shut) in qed 𝓛 (‵ C ∷ ‵ KW ∷ ‵ BW ∷ []) ∵ move ! (2 ∷ []) $ nothing ! $ move ! (1 ∷ 0 ∷ []) $ fjoin ! $ move ! (2 ∷ []) $ use1 𝓛 (‵ KW ⊛ ‵ (published z x)) (wk_shows q sent limit shut i) $ split ! $ move ! (3 ∷ 0 ∷ 2 ∷ 1 ∷ []) $
+        by ! (wakes_flag 512 z.reader_waits z.writer_wakes z.reader_place coded_stream (published z) KW lent none b x (λ _. 0) (TakesHeld b x) (takes b x rests))
 
-    pub writer_gives_back : b.0 ≡ true → ⟦ C ⟧ ∗ ⟦ KW ⟧ ∗ ⟦ BW ⟧ ⊢ access 640 (λ _. 1) (WriterWoke (GivesBack Stream b (sent, shut)))
-    writer_gives_back holds = let x : Stream = (sent, shut) in qed 𝓛 (‵ C ∷ ‵ KW ∷ ‵ BW ∷ []) ∵ move ! (1 ∷ []) $ use1 𝓛 (‵ KW ⊛ ‵ (published z x)) (wk_shows q sent limit shut i) $ split ! $ move ! (2 ∷ 0 ∷ 3 ∷ 1 ∷ []) $
-        by ! (wakes_back 512 z.reader_waits z.writer_wakes z.reader_place coded_stream (published z) KW lent b x (λ _. 1) (GivesBack Stream b x) (gives_back b x holds))
+    pub writer_gives_back : b.0 ≡ true → ⟦ C ⟧ ∗ ⟦ KW ⟧ ∗ ⟦ fsep BW (held z.reader_place emptied) ⟧ ⊢ access 640 (λ _. 1) (WriterWoke (λ n b' _. GivesBack Stream b (sent, shut) n b'))
+    writer_gives_back holds = let x : Stream = (sent, shut) in qed 𝓛 (‵ C ∷ ‵ KW ∷ ‵ (fsep BW (held z.reader_place emptied)) ∷ []) ∵ move ! (1 ∷ []) $ use1 𝓛 (‵ KW ⊛ ‵ (published z x)) (wk_shows q sent limit shut i) $ split ! $ move ! (2 ∷ 0 ∷ 3 ∷ 1 ∷ []) $
+        by ! (wakes_back 512 z.reader_waits z.writer_wakes z.reader_place coded_stream (published z) KW lent emptied b x (λ _. 1) (λ n b' _. GivesBack Stream b x n b') (gives_back b x holds))
 
   -- the reader's steps on its own slot
   module _ (q : Share) (head seen i : ℕ) (le : i ≤ 1) (a : Waits Stream) where
@@ -307,28 +322,30 @@ module _ {M : Type 1} {𝓤 : Ura M} (𝓛 : Logic 𝓤) (w p : Ptr) (z : Names)
     KR = RK q head seen i
 
     abbrev AR : Fml
-    AR = fsep (fobs z.reader_waits ((code_of Stream coded_stream).code a)) (where_gone a.0 (key z.reader_place))
+    AR = fobs z.reader_waits ((code_of Stream coded_stream).code a)
 
     abbrev lent_too : Lent KR (reader_slot w p z)
     lent_too = readers_own KR (reader_lent q head seen i le)
 
-    abbrev pub ReaderWaited : (ℕ → Stream → Waits Stream → Type 0) → ℕ → Fml
+    abbrev pub ReaderWaited : (ℕ → Stream → Waits Stream → Held → Type 0) → ℕ → Fml
     ReaderWaited = WaitAfter 512 z.reader_waits z.writer_wakes z.reader_place coded_stream (published z) KR
 
-    pub reader_hands_over : a.0 ≡ true → ⟦ C ⟧ ∗ ⟦ KR ⟧ ∗ ⟦ AR ⟧ ⊢ access 512 (λ _. 1) (ReaderWaited (λ n x a'. HandsOver Stream a x n a'))
-    reader_hands_over owns = waits_flag 512 z.reader_waits z.writer_wakes z.reader_place coded_stream (published z) KR lent_too (λ s. announced_twice 𝓛 z s.0 s.1) a (λ _. 1) (λ n x a'. HandsOver Stream a x n a') (hands_over a owns)
+    pub reader_hands_over : a.0 ≡ true → ⟦ C ⟧ ∗ ⟦ KR ⟧ ∗ ⟦ fsep AR (held z.reader_place filled) ⟧ ⊢ access 512 (λ _. 1) (ReaderWaited (λ n x a' _. HandsOver Stream a x n a'))
+    reader_hands_over owns = waits_flag 512 z.reader_waits z.writer_wakes z.reader_place coded_stream (published z) KR lent_too (λ s. announced_twice 𝓛 z s.0 s.1) filled a (λ _. 1) (λ n x a' _. HandsOver Stream a x n a') (hands_over a owns)
 
-    pub reader_withdraws : a.0 ≡ false → ⟦ C ⟧ ∗ ⟦ KR ⟧ ∗ ⟦ AR ⟧ ⊢ access 512 (λ _. 0) (ReaderWaited (λ n x a'. Regains Stream a x n a'))
-    reader_withdraws gave = waits_flag 512 z.reader_waits z.writer_wakes z.reader_place coded_stream (published z) KR lent_too (λ s. announced_twice 𝓛 z s.0 s.1) a (λ _. 0) (λ n x a'. Regains Stream a x n a') (withdraws a gave)
+    pub reader_withdraws : a.0 ≡ false → ⟦ C ⟧ ∗ ⟦ KR ⟧ ∗ ⟦ AR ⟧ ⊢ access 512 (λ _. 0) (ReaderWaited (Withdraws a))
+    reader_withdraws gave = qed 𝓛 (‵ C ∷ ‵ KR ∷ ‵ AR ∷ []) ∵ move ! (2 ∷ []) $ nothing ! $ move ! (1 ∷ 0 ∷ []) $ fjoin ! $ move ! (1 ∷ 2 ∷ 0 ∷ []) $
+        by ! (waits_flag 512 z.reader_waits z.writer_wakes z.reader_place coded_stream (published z) KR lent_too (λ s. announced_twice 𝓛 z s.0 s.1) none a (λ _. 0) (Withdraws a) (withdraws a gave))
 
-    pub reader_regains : a.0 ≡ false → ⟦ C ⟧ ∗ ⟦ KR ⟧ ∗ ⟦ AR ⟧ ⊢ access 640 (λ _. 0) (ReaderWaited (λ n x a'. Regains Stream a x n a'))
-    reader_regains gave = waits_back 512 z.reader_waits z.writer_wakes z.reader_place coded_stream (published z) KR lent_too (λ s. announced_twice 𝓛 z s.0 s.1) a (λ _. 0) (λ n x a'. Regains Stream a x n a') (regains a gave)
+    pub reader_regains : a.0 ≡ false → ⟦ C ⟧ ∗ ⟦ KR ⟧ ∗ ⟦ AR ⟧ ⊢ access 640 (λ _. 0) (ReaderWaited (RegainsHeld a))
+    reader_regains gave = qed 𝓛 (‵ C ∷ ‵ KR ∷ ‵ AR ∷ []) ∵ move ! (2 ∷ []) $ nothing ! $ move ! (1 ∷ 0 ∷ []) $ fjoin ! $ move ! (1 ∷ 2 ∷ 0 ∷ []) $
+        by ! (waits_back 512 z.reader_waits z.writer_wakes z.reader_place coded_stream (published z) KR lent_too (λ s. announced_twice 𝓛 z s.0 s.1) none a (λ _. 0) (RegainsHeld a) (regains a gave))
 
     abbrev pub BothMet : Wakes Stream → Pr
     BothMet = Met 512 z.reader_waits z.writer_wakes z.reader_place coded_stream (published z) KR a
 
     -- the reader and what the writer knows of its slot, in one hand
-    pub reader_meets : (b : Wakes Stream) → ⟦ C ⟧ ∗ ⟦ KR ⟧ ∗ ⟦ AR ⟧ ∗ ⟦ fsep (fobs z.writer_wakes ((code_of Stream coded_stream).code b)) (where_gone b.0 (key z.reader_place)) ⟧ ⊢ H.⇛ (BothMet b)
+    pub reader_meets : (b : Wakes Stream) → ⟦ C ⟧ ∗ ⟦ KR ⟧ ∗ ⟦ AR ⟧ ∗ ⟦ fobs z.writer_wakes ((code_of Stream coded_stream).code b) ⟧ ⊢ H.⇛ (BothMet b)
     reader_meets b = meets 512 z.reader_waits z.writer_wakes z.reader_place coded_stream (published z) KR lent_too a b
 
   -- what the reader's right to the head shows
@@ -346,25 +363,25 @@ module _ {M : Type 1} {𝓤 : Ura M} (𝓛 : Logic 𝓤) (w p : Ptr) (z : Names)
     KR' = RK q head seen i
 
     abbrev BR : Fml
-    BR = fsep (fobs z.reader_wakes ((code_of Consumed coded_consumed).code b)) (where_gone b.0 (key z.writer_place))
+    BR = fobs z.reader_wakes ((code_of Consumed coded_consumed).code b)
 
     abbrev lent_back : Lent KR' (writer_slot w p z)
     lent_back = writers_own KR' (reader_lent q head seen i le)
 
-    abbrev pub ReaderWoke : (ℕ → Wakes Consumed → Type 0) → ℕ → Fml
+    abbrev pub ReaderWoke : (ℕ → Wakes Consumed → Held → Type 0) → ℕ → Fml
     ReaderWoke = WakeAfter 768 z.writer_waits z.reader_wakes z.writer_place coded_consumed (consumed z) KR'
 
-    pub reader_looks_flag : (over : Bool) → b.0 ≡ false → ⟦ C ⟧ ∗ ⟦ KR' ⟧ ∗ ⟦ BR ⟧ ∗ ⟦ raised z.closed over ⟧ ⊢ access 768 (λ n. n) (ReaderWoke (Looks Consumed b (head, over)))
-    reader_looks_flag over rests = let x : Consumed = (head, over) in qed 𝓛 (‵ C ∷ ‵ KR' ∷ ‵ BR ∷ ‵ (raised z.closed over) ∷ []) ∵ move ! (1 ∷ []) $ use1 𝓛 (‵ KR' ⊛ ‵ (took z head)) (rk_shows q head seen i) $ split ! $ move ! (1 ∷ 4 ∷ []) $ fjoin ! $ move ! (2 ∷ 1 ∷ 3 ∷ 0 ∷ []) $
-        by ! (wakes_flag 768 z.writer_waits z.reader_wakes z.writer_place coded_consumed (consumed z) KR' lent_back b x (λ n. n) (Looks Consumed b x) (looks b x rests))
+    pub reader_looks_flag : (over : Bool) → b.0 ≡ false → ⟦ C ⟧ ∗ ⟦ KR' ⟧ ∗ ⟦ BR ⟧ ∗ ⟦ raised z.closed over ⟧ ⊢ access 768 (λ n. n) (ReaderWoke (λ n b' _. Looks Consumed b (head, over) n b'))
+    reader_looks_flag over rests = let x : Consumed = (head, over) in qed 𝓛 (‵ C ∷ ‵ KR' ∷ ‵ BR ∷ ‵ (raised z.closed over) ∷ []) ∵ move ! (2 ∷ []) $ nothing ! $ move ! (1 ∷ 0 ∷ []) $ fjoin ! $ move ! (2 ∷ []) $ use1 𝓛 (‵ KR' ⊛ ‵ (took z head)) (rk_shows q head seen i) $ split ! $ move ! (1 ∷ 4 ∷ []) $ fjoin ! $ move ! (3 ∷ 1 ∷ 2 ∷ 0 ∷ []) $
+        by ! (wakes_flag 768 z.writer_waits z.reader_wakes z.writer_place coded_consumed (consumed z) KR' lent_back none b x (λ n. n) (λ n b' _. Looks Consumed b x n b') (looks b x rests))
 
-    pub reader_takes : (over : Bool) → b.0 ≡ false → ⟦ C ⟧ ∗ ⟦ KR' ⟧ ∗ ⟦ BR ⟧ ∗ ⟦ raised z.closed over ⟧ ⊢ access 768 (λ _. 0) (ReaderWoke (Takes Consumed b (head, over)))
-    reader_takes over rests = let x : Consumed = (head, over) in qed 𝓛 (‵ C ∷ ‵ KR' ∷ ‵ BR ∷ ‵ (raised z.closed over) ∷ []) ∵ move ! (1 ∷ []) $ use1 𝓛 (‵ KR' ⊛ ‵ (took z head)) (rk_shows q head seen i) $ split ! $ move ! (1 ∷ 4 ∷ []) $ fjoin ! $ move ! (2 ∷ 1 ∷ 3 ∷ 0 ∷ []) $
-        by ! (wakes_flag 768 z.writer_waits z.reader_wakes z.writer_place coded_consumed (consumed z) KR' lent_back b x (λ _. 0) (Takes Consumed b x) (takes b x rests))
+    pub reader_takes : (over : Bool) → b.0 ≡ false → ⟦ C ⟧ ∗ ⟦ KR' ⟧ ∗ ⟦ BR ⟧ ∗ ⟦ raised z.closed over ⟧ ⊢ access 768 (λ _. 0) (ReaderWoke (TakesHeld b (head, over)))
+    reader_takes over rests = let x : Consumed = (head, over) in qed 𝓛 (‵ C ∷ ‵ KR' ∷ ‵ BR ∷ ‵ (raised z.closed over) ∷ []) ∵ move ! (2 ∷ []) $ nothing ! $ move ! (1 ∷ 0 ∷ []) $ fjoin ! $ move ! (2 ∷ []) $ use1 𝓛 (‵ KR' ⊛ ‵ (took z head)) (rk_shows q head seen i) $ split ! $ move ! (1 ∷ 4 ∷ []) $ fjoin ! $ move ! (3 ∷ 1 ∷ 2 ∷ 0 ∷ []) $
+        by ! (wakes_flag 768 z.writer_waits z.reader_wakes z.writer_place coded_consumed (consumed z) KR' lent_back none b x (λ _. 0) (TakesHeld b x) (takes b x rests))
 
-    pub reader_gives_back : b.0 ≡ true → ⟦ C ⟧ ∗ ⟦ KR' ⟧ ∗ ⟦ BR ⟧ ⊢ access 896 (λ _. 1) (ReaderWoke (GivesBack Consumed b (head, false)))
-    reader_gives_back holds = let x : Consumed = (head, false) in qed 𝓛 (‵ C ∷ ‵ KR' ∷ ‵ BR ∷ []) ∵ move ! (1 ∷ []) $ use1 𝓛 (‵ KR' ⊛ ‵ (took z head)) (rk_shows q head seen i) $ split ! $ move ! (1 ∷ []) $ nothing ! $ move ! (1 ∷ 0 ∷ []) $ fjoin ! $ move ! (2 ∷ 1 ∷ 3 ∷ 0 ∷ []) $
-        by ! (wakes_back 768 z.writer_waits z.reader_wakes z.writer_place coded_consumed (consumed z) KR' lent_back b x (λ _. 1) (GivesBack Consumed b x) (gives_back b x holds))
+    pub reader_gives_back : b.0 ≡ true → ⟦ C ⟧ ∗ ⟦ KR' ⟧ ∗ ⟦ fsep BR (held z.writer_place emptied) ⟧ ⊢ access 896 (λ _. 1) (ReaderWoke (λ n b' _. GivesBack Consumed b (head, false) n b'))
+    reader_gives_back holds = let x : Consumed = (head, false) in qed 𝓛 (‵ C ∷ ‵ KR' ∷ ‵ (fsep BR (held z.writer_place emptied)) ∷ []) ∵ move ! (1 ∷ []) $ use1 𝓛 (‵ KR' ⊛ ‵ (took z head)) (rk_shows q head seen i) $ split ! $ move ! (1 ∷ []) $ nothing ! $ move ! (1 ∷ 0 ∷ []) $ fjoin ! $ move ! (2 ∷ 1 ∷ 3 ∷ 0 ∷ []) $
+        by ! (wakes_back 768 z.writer_waits z.reader_wakes z.writer_place coded_consumed (consumed z) KR' lent_back emptied b x (λ _. 1) (λ n b' _. GivesBack Consumed b x n b') (gives_back b x holds))
 
   -- the writer's steps on its own slot
   module _ (q : Share) (sent : List ℕ) (limit : ℕ) (shut : Bool) (i : ℕ) (le : i ≤ 1) (a : Waits Consumed) where
@@ -372,26 +389,28 @@ module _ {M : Type 1} {𝓤 : Ura M} (𝓛 : Logic 𝓤) (w p : Ptr) (z : Names)
     KW' = WK q sent limit shut i
 
     abbrev AW : Fml
-    AW = fsep (fobs z.writer_waits ((code_of Consumed coded_consumed).code a)) (where_gone a.0 (key z.writer_place))
+    AW = fobs z.writer_waits ((code_of Consumed coded_consumed).code a)
 
     abbrev lent_own : Lent KW' (writer_slot w p z)
     lent_own = writers_own KW' (writer_lent q sent limit shut i le)
 
-    abbrev pub WriterWaited : (ℕ → Consumed → Waits Consumed → Type 0) → ℕ → Fml
+    abbrev pub WriterWaited : (ℕ → Consumed → Waits Consumed → Held → Type 0) → ℕ → Fml
     WriterWaited = WaitAfter 768 z.writer_waits z.reader_wakes z.writer_place coded_consumed (consumed z) KW'
 
-    pub writer_hands_over : a.0 ≡ true → ⟦ C ⟧ ∗ ⟦ KW' ⟧ ∗ ⟦ AW ⟧ ⊢ access 768 (λ _. 1) (WriterWaited (λ n x a'. HandsOver Consumed a x n a'))
-    writer_hands_over owns = waits_flag 768 z.writer_waits z.reader_wakes z.writer_place coded_consumed (consumed z) KW' lent_own consumed_twice a (λ _. 1) (λ n x a'. HandsOver Consumed a x n a') (hands_over a owns)
+    pub writer_hands_over : a.0 ≡ true → ⟦ C ⟧ ∗ ⟦ KW' ⟧ ∗ ⟦ fsep AW (held z.writer_place filled) ⟧ ⊢ access 768 (λ _. 1) (WriterWaited (λ n x a' _. HandsOver Consumed a x n a'))
+    writer_hands_over owns = waits_flag 768 z.writer_waits z.reader_wakes z.writer_place coded_consumed (consumed z) KW' lent_own consumed_twice filled a (λ _. 1) (λ n x a' _. HandsOver Consumed a x n a') (hands_over a owns)
 
-    pub writer_withdraws : a.0 ≡ false → ⟦ C ⟧ ∗ ⟦ KW' ⟧ ∗ ⟦ AW ⟧ ⊢ access 768 (λ _. 0) (WriterWaited (λ n x a'. Regains Consumed a x n a'))
-    writer_withdraws gave = waits_flag 768 z.writer_waits z.reader_wakes z.writer_place coded_consumed (consumed z) KW' lent_own consumed_twice a (λ _. 0) (λ n x a'. Regains Consumed a x n a') (withdraws a gave)
+    pub writer_withdraws : a.0 ≡ false → ⟦ C ⟧ ∗ ⟦ KW' ⟧ ∗ ⟦ AW ⟧ ⊢ access 768 (λ _. 0) (WriterWaited (Withdraws a))
+    writer_withdraws gave = qed 𝓛 (‵ C ∷ ‵ KW' ∷ ‵ AW ∷ []) ∵ move ! (2 ∷ []) $ nothing ! $ move ! (1 ∷ 0 ∷ []) $ fjoin ! $ move ! (1 ∷ 2 ∷ 0 ∷ []) $
+        by ! (waits_flag 768 z.writer_waits z.reader_wakes z.writer_place coded_consumed (consumed z) KW' lent_own consumed_twice none a (λ _. 0) (Withdraws a) (withdraws a gave))
 
-    pub writer_regains : a.0 ≡ false → ⟦ C ⟧ ∗ ⟦ KW' ⟧ ∗ ⟦ AW ⟧ ⊢ access 896 (λ _. 0) (WriterWaited (λ n x a'. Regains Consumed a x n a'))
-    writer_regains gave = waits_back 768 z.writer_waits z.reader_wakes z.writer_place coded_consumed (consumed z) KW' lent_own consumed_twice a (λ _. 0) (λ n x a'. Regains Consumed a x n a') (regains a gave)
+    pub writer_regains : a.0 ≡ false → ⟦ C ⟧ ∗ ⟦ KW' ⟧ ∗ ⟦ AW ⟧ ⊢ access 896 (λ _. 0) (WriterWaited (RegainsHeld a))
+    writer_regains gave = qed 𝓛 (‵ C ∷ ‵ KW' ∷ ‵ AW ∷ []) ∵ move ! (2 ∷ []) $ nothing ! $ move ! (1 ∷ 0 ∷ []) $ fjoin ! $ move ! (1 ∷ 2 ∷ 0 ∷ []) $
+        by ! (waits_back 768 z.writer_waits z.reader_wakes z.writer_place coded_consumed (consumed z) KW' lent_own consumed_twice none a (λ _. 0) (RegainsHeld a) (regains a gave))
 
     abbrev pub BothMetBack : Wakes Consumed → Pr
     BothMetBack = Met 768 z.writer_waits z.reader_wakes z.writer_place coded_consumed (consumed z) KW' a
 
     -- the writer and what the reader knows of its slot, in one hand
-    pub writer_meets : (b : Wakes Consumed) → ⟦ C ⟧ ∗ ⟦ KW' ⟧ ∗ ⟦ AW ⟧ ∗ ⟦ fsep (fobs z.reader_wakes ((code_of Consumed coded_consumed).code b)) (where_gone b.0 (key z.writer_place)) ⟧ ⊢ H.⇛ (BothMetBack b)
+    pub writer_meets : (b : Wakes Consumed) → ⟦ C ⟧ ∗ ⟦ KW' ⟧ ∗ ⟦ AW ⟧ ∗ ⟦ fobs z.reader_wakes ((code_of Consumed coded_consumed).code b) ⟧ ⊢ H.⇛ (BothMetBack b)
     writer_meets b = meets 768 z.writer_waits z.reader_wakes z.writer_place coded_consumed (consumed z) KW' lent_own a b

@@ -20,7 +20,7 @@ use Rattle.rtrb.specs.Shared.{run, span}
 use Rattle.piper_ring.specs.Places.{fact, byte, unset}
 pub use Rattle.piper_ring.specs.Streams.{Stream}
 use Rattle.piper_ring.specs.Streams.{streams}
-pub use Rattle.piper_ring.specs.Words.{flag, word, word_room, where_gone, key}
+pub use Rattle.piper_ring.specs.Words.{flag, word, word_room, where_gone}
 use Rattle.piper_ring.specs.Slots.{slot, code_of}
 
 -- The capacity, and the ghost names under which the ring's history is kept.
@@ -200,24 +200,20 @@ consumed z c = fsep (took z c.0) (raised z.closed c.1)
 -- what the reader knows of its own slot, and the writer of the reader's
 abbrev pub waits_for : Names → Bool → ℕ → List ℕ → Bool → Fml
 waits_for z owns tickets bytes shut =
-    fsep (fobs z.reader_waits ((code_of Stream coded_stream).code (owns, (tickets, (bytes, shut)))))
-    (where_gone owns (key z.reader_place))
+    fobs z.reader_waits ((code_of Stream coded_stream).code (owns, (tickets, (bytes, shut))))
 
 abbrev pub wakes_for : Names → Bool → ℕ → List ℕ → Bool → Fml
 wakes_for z holds taken bytes shut =
-    fsep (fobs z.writer_wakes ((code_of Stream coded_stream).code (holds, (taken, (bytes, shut)))))
-    (where_gone holds (key z.reader_place))
+    fobs z.writer_wakes ((code_of Stream coded_stream).code (holds, (taken, (bytes, shut))))
 
 -- what the writer knows of its own slot, and the reader of the writer's
 abbrev pub waits_back : Names → Bool → ℕ → ℕ → Bool → Fml
 waits_back z owns tickets count over =
-    fsep (fobs z.writer_waits ((code_of Consumed coded_consumed).code (owns, (tickets, (count, over)))))
-    (where_gone owns (key z.writer_place))
+    fobs z.writer_waits ((code_of Consumed coded_consumed).code (owns, (tickets, (count, over))))
 
 abbrev pub wakes_back : Names → Bool → ℕ → ℕ → Bool → Fml
 wakes_back z holds taken count over =
-    fsep (fobs z.reader_wakes ((code_of Consumed coded_consumed).code (holds, (taken, (count, over)))))
-    (where_gone holds (key z.writer_place))
+    fobs z.reader_wakes ((code_of Consumed coded_consumed).code (holds, (taken, (count, over))))
 
 module _ (w p : Ptr) (z : Names) where
   -- in the reader's slot the reader waits for what the writer publishes

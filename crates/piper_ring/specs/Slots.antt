@@ -1,12 +1,14 @@
 -- The slot in which a side that waits leaves its waker, as two words that both sides share: `flag`
 -- is 1 while a waker stands there, and `back` is 1 once the side that took it has handed its place
--- back. The place of the waker belongs to one side at each moment.
+-- back. The right to the place of the waker belongs to one side at each moment, or moves with the
+-- words: a waker lies there while it stands in the slot, and none once the place was handed back.
 use Rattle.std.specs.Prelude.{◌≡◌, ◌≢◌, ℕ, ◌+◌, ◌<◌, ◌≤◌, Bool, true, false}
 use base.Fml.{Fml, fsep, fex, fauth}
 use denote.RawPtr.{Ptr}
 use Rattle.std.specs.Coded.{Coded, coded×, coded_ℕ, coded_bool}
 use Rattle.piper_ring.specs.Places.{fact}
-use Rattle.piper_ring.specs.Words.{word, where_gone, key}
+use Rattle.piper_place.specs.Place.{right}
+use Rattle.piper_ring.specs.Words.{word}
 
 -- where the place of the waker is
 pub data Where : Type 0 where
@@ -27,12 +29,19 @@ back_of in_slot = 0
 back_of with_taker = 0
 back_of handed_back = 1
 
--- the right to the place is with the slot's words
-abbrev pub keyed : Where → Bool
-keyed with_waiter = false
-keyed in_slot = true
-keyed with_taker = false
-keyed handed_back = true
+-- whether the right to the place is there, and whether a waker lies in the place
+abbrev pub Held : Type 0
+Held = Bool × Bool
+
+-- what is with the slot's words
+abbrev pub held_at : Where → Held
+held_at with_waiter = (false, false)
+held_at in_slot = (true, true)
+held_at with_taker = (false, false)
+held_at handed_back = (true, false)
+
+abbrev pub held : ℕ → Held → Fml
+held place u = right u.0 place u.1
 
 module _ (X : Type 0) where
   -- of the side that waits: whether it has the place, how often it registered,
@@ -93,7 +102,7 @@ module _ {X : Type 0} (w : Ptr) (far : ℕ) (waits wakes place : ℕ) (c : Coded
       fsep (fact (Stands X s.1.1 s.0 s.1.0))
       (fsep (fsep (word w far (flag_of s.1.1)) (word w (128 + far) (back_of s.1.1)))
       (fsep (fsep (fauth waits ((code_of X c).code s.0)) (fauth wakes ((code_of X c).code s.1.0)))
-      (fsep (shows s.1.0.1.1) (where_gone (keyed s.1.1) (key place)))))
+      (fsep (shows s.1.0.1.1) (held place (held_at s.1.1)))))
 
   abbrev pub slot : Fml
   slot = fex (Slot X) slot_at

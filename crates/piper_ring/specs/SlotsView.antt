@@ -1,7 +1,8 @@
 -- What a contract sees of what each end has of the slots, and how the ends keep it.
-use Rattle.std.specs.Prelude.{◌≡◌, ◌≢◌, ℕ, ◌+◌, ◌<◌, ◌≤◌, ◌⊎◌, Bool, true, false, List, [], length, refl}
+use Rattle.std.specs.Prelude.{◌≡◌, ◌≢◌, ℕ, ◌+◌, ◌<◌, ◌≤◌, ◌⊎◌, Bool, true, false, List, [], length, refl, is_some, IfSome}
 use Rattle.std.specs.Coded.{Coded, code_by, coded×, coded_list, coded_ℕ, coded_bool}
 use Rattle.piper_ring.specs.Shared.{Names, names_code}
+use Rattle.piper_ring.specs.SlotViews.{IsRightTo}
 use Rattle.piper_ring.specs.ReadView.{ReadView}
 use Rattle.piper_ring.specs.WriteView.{WriteView}
 use Rattle.piper_ring.specs.declared.ends.slots.ReadSlotParts.{ReadSlotParts}
@@ -51,7 +52,8 @@ read_slots_view s =
     s.wakes.taken s.wakes.count s.wakes.over
 
 pub record IsReadSlots (s : ReadSlotParts) : Type 0 where
-  pub place : s.has_place ≡ s.waits.owns
+  pub there : is_some s.right ≡ s.waits.owns
+  pub right : IfSome s.right (IsRightTo s.waits.names.reader_place true false)
   pub heard : (s.heard.bytes ≡ s.waits.bytes) × (s.heard.shut ≡ s.waits.shut)
   pub rests : s.wakes.holds ≡ false
   pub of_one_ring : (s.wakes.names ≡ s.waits.names) × (s.heard.names ≡ s.waits.names)
@@ -100,7 +102,8 @@ write_slots_view s =
     s.wakes.taken s.wakes.bytes s.wakes.shut
 
 pub record IsWriteSlots (s : WriteSlotParts) : Type 0 where
-  pub place : s.has_place ≡ s.waits.owns
+  pub there : is_some s.right ≡ s.waits.owns
+  pub right : IfSome s.right (IsRightTo s.waits.names.writer_place true false)
   pub heard : (s.heard.count ≡ s.waits.count) × (s.saw.seen ≡ s.waits.over)
   pub rests : s.wakes.holds ≡ false
   pub of_one_ring :

@@ -1,10 +1,9 @@
--- A word of the ring's memory, and a right that is there or not.
+-- A word of the ring's memory, and what is there or not.
 use Rattle.std.specs.Prelude.{ℕ, ◌+◌, Bool, true, false}
 use mir.Syntax.{w64, ty_int}
 use mir.Val.{vint}
 use base.Fraction.{full_share}
 use base.Fml.{Fml, ftrue, fat, froom}
-use base.Growing.{numbers, latest}
 use denote.RawPtr.{Ptr, block_of, count_of}
 
 -- the word that lies so far after w, in bytes, holds n
@@ -21,7 +20,3 @@ flag true = 1
 abbrev pub where_gone : Bool → Fml → Fml
 where_gone false F = ftrue
 where_gone true F = F
-
--- a right that only one can have
-abbrev pub key : ℕ → Fml
-key γ = latest numbers full_share γ 0

@@ -10,6 +10,7 @@ use crate::ring::marks::{ReadMark, Saw, WriteMark};
 use crate::ring::memory::Memory;
 use crate::ring::places::{Base, Blank, Places};
 use crate::ring::slots::{ReaderWaits, ReaderWakes, WriterWaits, WriterWakes};
+use piper_place::Right;
 use std::marker::{Brand, Model, PhantomData, Send, Sync};
 use std::sync::atomic::Ordering::SeqCst;
 use std::sync::atomic::raw;
@@ -115,10 +116,13 @@ impl Remains {
 }
 
 /// The two seats of an empty open ring, its places, all of them the writer's room and none of them
-/// set, and where they begin, with what each side knows of the slots, which are empty.
+/// set, and where they begin, with what each side knows of the slots, which are empty. The wakers
+/// lie in the places to which these are the rights.
 pub(crate) fn open(
     words: Memory,
     bytes: Memory,
+    reader_right: &Right,
+    writer_right: &Right,
 ) -> (
     ReadSeat,
     WriteSeat,
@@ -132,6 +136,8 @@ pub(crate) fn open(
     requires { (words.align ≡ 8) × (bytes.align ≡ 1) }
     ensures ring { (result.0.words ≡ words.start) × (result.0.at ≡ bytes.start)
         × (result.0.names.capacity ≡ bytes.size) }
+    ensures places { (result.0.names.reader_place ≡ reader_right.now.name)
+        × (result.0.names.writer_place ≡ writer_right.now.name) }
     ensures reader { (result.0.head ≡ 0) × (result.0.seen ≡ 0) × (result.0.have ≡ [])
         × (result.0.leaving ≡ false) }
     ensures pair { (result.1.words ≡ result.0.words) × (result.1.at ≡ bytes.start)

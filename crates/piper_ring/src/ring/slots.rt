@@ -6,6 +6,7 @@ ghost use Rattle.piper_ring.specs.Shared.{Consumed, Names, Stream, names_code, w
 
 use crate::ring::marks::{ReadMark, Saw, WriteMark};
 use crate::ring::seats::{READER_BACK, READER_FLAG, ReadSeat, WRITER_BACK, WRITER_FLAG, WriteSeat};
+use piper_place::{Place, Right};
 use std::marker::{Brand, Model, PhantomData, Send, Sync};
 use std::sync::atomic::Ordering::SeqCst;
 use std::sync::atomic::raw;
@@ -122,7 +123,7 @@ impl Drop for ReaderWakes {
 
 impl WriteSeat {
     ghost use Rattle.piper_ring.specs.Slots.{GivesBack, HandsOver, IsRemembered, Looks, Regains, Takes};
-    ghost use Rattle.piper_ring.specs.SlotViews.{of_reader_wakes, of_writer_waits, of_writer_wakes};
+    ghost use Rattle.piper_ring.specs.SlotViews.{IsRightTo, of_reader_wakes, of_writer_waits, of_writer_wakes};
 
     /// 1 where a waker stands in the reader's slot, else 0: then all that was published so far was
     /// looked behind.
@@ -135,82 +136,90 @@ impl WriteSeat {
         unsafe { raw::load::<Brand>(self.words.add(READER_FLAG), SeqCst) }
     }
 
-    /// 1 where it took the waker that stood in the reader's slot, with its place, else 0: then all
-    /// that was published so far was looked behind.
-    pub(crate) fn take_waker(&self, slot: &mut WriterWakes) -> u64
+    /// 1 where it took the waker that stood in the reader's slot, with the right to its place, else
+    /// 0: then all that was published so far was looked behind.
+    pub(crate) fn take_waker(&self, slot: &mut WriterWakes) -> (u64, Right)
         requires { (slot.old.names ≡ self.now.names) × (slot.old.holds ≡ false) }
         ensures ring { slot.new.names ≡ slot.old.names }
         ensures taken { Takes Stream (of_writer_wakes slot.old) (self.now.sent, self.now.shut)
-            result (of_writer_wakes slot.new) }
+            result.0 (of_writer_wakes slot.new) }
+        ensures right { IsRightTo self.now.names.reader_place slot.new.holds slot.new.holds
+            result.1 }
     {
-        unsafe { raw::swap::<Brand>(self.words.add(READER_FLAG), 0, SeqCst) }
+        let found = unsafe { raw::swap::<Brand>(self.words.add(READER_FLAG), 0, SeqCst) };
+        (found, Right { mark: PhantomData })
     }
 
-    /// Hands the place of the reader's waker back.
-    pub(crate) fn give_back(&self, slot: &mut WriterWakes)
-        requires { (slot.old.names ≡ self.now.names) × (slot.old.holds ≡ true) }
+    /// Hands the place of the reader's waker back, with nothing in it.
+    pub(crate) fn give_back(&self, slot: &mut WriterWakes, right: Right)
+        requires { (slot.old.names ≡ self.now.names) × (slot.old.holds ≡ true)
+            × IsRightTo self.now.names.reader_place true false right }
         ensures ring { slot.new.names ≡ slot.old.names }
         ensures gave { GivesBack Stream (of_writer_wakes slot.old) (self.now.sent, self.now.shut)
             0 (of_writer_wakes slot.new) }
     {
+        let Right { mark: _ } = right;
         unsafe { raw::store::<Brand>(self.words.add(READER_BACK), 1, SeqCst) }
     }
 
-    /// Takes the waker that stands in the reader's slot, if one does. `take_out` is called while its
-    /// place is the writer's, which then hands the place back.
-    pub(crate) fn take_by<T, F: FnOnce() -> T>(
-        &self,
-        slot: &mut WriterWakes,
-        take_out: F,
-    ) -> Option<T>
-    where
-        F: Drop,
+    /// Takes the waker that stands in the reader's slot, if one does, out of its place, and hands
+    /// the place back.
+    pub(crate) fn take<T>(&self, slot: &mut WriterWakes, place: &Place<Option<T>>) -> Option<T>
         requires slot { (slot.old.names ≡ self.now.names) × (slot.old.holds ≡ false) }
-        requires call { F.pre take_out }
+        requires place { place.now ≡ self.now.names.reader_place }
         ensures ring { (slot.new.names ≡ slot.old.names) × (slot.new.holds ≡ false) }
         ensures looked { (slot.new.bytes ≡ self.now.sent) × (slot.new.shut ≡ self.now.shut) }
         ensures none { result ≡ None → slot.new.taken ≡ slot.old.taken }
         ensures some { IsSome result → slot.old.taken < slot.new.taken }
     {
-        if self.take_waker(slot) == 0 {
+        let (found, mut right) = self.take_waker(slot);
+        if found == 0 {
             return None;
         }
-        let taken = take_out();
-        self.give_back(slot);
+        let taken = place.take(&mut right);
+        self.give_back(slot, right);
         Some(taken)
     }
 
-    /// The writer's waker stands in its slot, under the next ticket. With it comes evidence of what
-    /// the reader had looked behind.
-    pub(crate) fn hand_over(&self, slot: &mut WriterWaits) -> (ReadMark, Saw)
-        requires { (slot.old.names ≡ self.now.names) × (slot.old.owns ≡ true) }
+    /// The writer's waker, which lies in its place, stands in its slot, under the next ticket. With
+    /// it comes evidence of what the reader had looked behind.
+    pub(crate) fn hand_over(&self, slot: &mut WriterWaits, right: Right) -> (ReadMark, Saw)
+        requires { (slot.old.names ≡ self.now.names) × (slot.old.owns ≡ true)
+            × IsRightTo self.now.names.writer_place true true right }
         ensures ring { slot.new.names ≡ slot.old.names }
         ensures marks { (result.0.names ≡ self.now.names) × (result.1.names ≡ self.now.names) }
         ensures stands { HandsOver Consumed (of_writer_waits slot.old)
             (result.0.count, result.1.seen) 0 (of_writer_waits slot.new) }
     {
+        let Right { mark: _ } = right;
         unsafe { raw::store::<Brand>(self.words.add(WRITER_FLAG), 1, SeqCst) };
         (ReadMark { mark: PhantomData }, Saw { mark: PhantomData })
     }
 
-    /// 1 where the writer's waker stood in its slot and is the writer's again, else 0.
-    pub(crate) fn withdraw(&self, slot: &mut WriterWaits) -> u64
+    /// 1 where the writer's waker stood in its slot and is the writer's again, with the right to
+    /// its place, else 0.
+    pub(crate) fn withdraw(&self, slot: &mut WriterWaits) -> (u64, Right)
         requires { (slot.old.names ≡ self.now.names) × (slot.old.owns ≡ false) }
         ensures ring { slot.new.names ≡ slot.old.names }
         ensures back { Regains Consumed (of_writer_waits slot.old) (slot.old.count, slot.old.over)
-            result (of_writer_waits slot.new) }
+            result.0 (of_writer_waits slot.new) }
+        ensures right { IsRightTo self.now.names.writer_place slot.new.owns slot.new.owns result.1 }
     {
-        unsafe { raw::swap::<Brand>(self.words.add(WRITER_FLAG), 0, SeqCst) }
+        let found = unsafe { raw::swap::<Brand>(self.words.add(WRITER_FLAG), 0, SeqCst) };
+        (found, Right { mark: PhantomData })
     }
 
-    /// 1 where the reader had handed the place of the writer's waker back, else 0.
-    pub(crate) fn regain(&self, slot: &mut WriterWaits) -> u64
+    /// 1 where the reader had handed the place of the writer's waker back, with nothing in it, else
+    /// 0.
+    pub(crate) fn regain(&self, slot: &mut WriterWaits) -> (u64, Right)
         requires { (slot.old.names ≡ self.now.names) × (slot.old.owns ≡ false) }
         ensures ring { slot.new.names ≡ slot.old.names }
         ensures back { Regains Consumed (of_writer_waits slot.old) (slot.old.count, slot.old.over)
-            result (of_writer_waits slot.new) }
+            result.0 (of_writer_waits slot.new) }
+        ensures right { IsRightTo self.now.names.writer_place slot.new.owns false result.1 }
     {
-        unsafe { raw::swap::<Brand>(self.words.add(WRITER_BACK), 0, SeqCst) }
+        let found = unsafe { raw::swap::<Brand>(self.words.add(WRITER_BACK), 0, SeqCst) };
+        (found, Right { mark: PhantomData })
     }
 
     /// Both sides of the writer's slot in one hand: a writer that has registered, and since which
@@ -225,39 +234,47 @@ impl WriteSeat {
 
 impl ReadSeat {
     ghost use Rattle.piper_ring.specs.Slots.{GivesBack, HandsOver, IsRemembered, Looks, Regains, Takes};
-    ghost use Rattle.piper_ring.specs.SlotViews.{of_reader_waits, of_reader_wakes, of_writer_wakes};
+    ghost use Rattle.piper_ring.specs.SlotViews.{IsRightTo, of_reader_waits, of_reader_wakes, of_writer_wakes};
 
-    /// The reader's waker stands in its slot, under the next ticket. With it comes evidence of what
-    /// the writer had looked behind.
-    pub(crate) fn hand_over(&self, slot: &mut ReaderWaits) -> WriteMark
-        requires { (slot.old.names ≡ self.now.names) × (slot.old.owns ≡ true) }
+    /// The reader's waker, which lies in its place, stands in its slot, under the next ticket. With
+    /// it comes evidence of what the writer had looked behind.
+    pub(crate) fn hand_over(&self, slot: &mut ReaderWaits, right: Right) -> WriteMark
+        requires { (slot.old.names ≡ self.now.names) × (slot.old.owns ≡ true)
+            × IsRightTo self.now.names.reader_place true true right }
         ensures ring { slot.new.names ≡ slot.old.names }
         ensures mark { result.names ≡ self.now.names }
         ensures stands { HandsOver Stream (of_reader_waits slot.old) (result.bytes, result.shut)
             0 (of_reader_waits slot.new) }
     {
+        let Right { mark: _ } = right;
         unsafe { raw::store::<Brand>(self.words.add(READER_FLAG), 1, SeqCst) };
         WriteMark { mark: PhantomData }
     }
 
-    /// 1 where the reader's waker stood in its slot and is the reader's again, else 0.
-    pub(crate) fn withdraw(&self, slot: &mut ReaderWaits) -> u64
+    /// 1 where the reader's waker stood in its slot and is the reader's again, with the right to
+    /// its place, else 0.
+    pub(crate) fn withdraw(&self, slot: &mut ReaderWaits) -> (u64, Right)
         requires { (slot.old.names ≡ self.now.names) × (slot.old.owns ≡ false) }
         ensures ring { slot.new.names ≡ slot.old.names }
         ensures back { Regains Stream (of_reader_waits slot.old) (slot.old.bytes, slot.old.shut)
-            result (of_reader_waits slot.new) }
+            result.0 (of_reader_waits slot.new) }
+        ensures right { IsRightTo self.now.names.reader_place slot.new.owns slot.new.owns result.1 }
     {
-        unsafe { raw::swap::<Brand>(self.words.add(READER_FLAG), 0, SeqCst) }
+        let found = unsafe { raw::swap::<Brand>(self.words.add(READER_FLAG), 0, SeqCst) };
+        (found, Right { mark: PhantomData })
     }
 
-    /// 1 where the writer had handed the place of the reader's waker back, else 0.
-    pub(crate) fn regain(&self, slot: &mut ReaderWaits) -> u64
+    /// 1 where the writer had handed the place of the reader's waker back, with nothing in it, else
+    /// 0.
+    pub(crate) fn regain(&self, slot: &mut ReaderWaits) -> (u64, Right)
         requires { (slot.old.names ≡ self.now.names) × (slot.old.owns ≡ false) }
         ensures ring { slot.new.names ≡ slot.old.names }
         ensures back { Regains Stream (of_reader_waits slot.old) (slot.old.bytes, slot.old.shut)
-            result (of_reader_waits slot.new) }
+            result.0 (of_reader_waits slot.new) }
+        ensures right { IsRightTo self.now.names.reader_place slot.new.owns false result.1 }
     {
-        unsafe { raw::swap::<Brand>(self.words.add(READER_BACK), 0, SeqCst) }
+        let found = unsafe { raw::swap::<Brand>(self.words.add(READER_BACK), 0, SeqCst) };
+        (found, Right { mark: PhantomData })
     }
 
     /// Both sides of the reader's slot in one hand: a reader that has registered, and since which
@@ -281,52 +298,56 @@ impl ReadSeat {
         unsafe { raw::load::<Brand>(self.words.add(WRITER_FLAG), SeqCst) }
     }
 
-    /// 1 where it took the waker that stood in the writer's slot, with its place, else 0: then all
-    /// that was consumed so far was looked behind, and that the ring is closed where `saw` tells
-    /// so.
-    pub(crate) fn take_waker(&self, slot: &mut ReaderWakes, saw: &Saw) -> u64
+    /// 1 where it took the waker that stood in the writer's slot, with the right to its place, else
+    /// 0: then all that was consumed so far was looked behind, and that the ring is closed where
+    /// `saw` tells so.
+    pub(crate) fn take_waker(&self, slot: &mut ReaderWakes, saw: &Saw) -> (u64, Right)
         requires { (slot.old.names ≡ self.now.names) × (slot.old.holds ≡ false)
             × (saw.now.names ≡ self.now.names) }
         ensures ring { slot.new.names ≡ slot.old.names }
         ensures taken { Takes Consumed (of_reader_wakes slot.old) (self.now.head, saw.now.seen)
-            result (of_reader_wakes slot.new) }
+            result.0 (of_reader_wakes slot.new) }
+        ensures right { IsRightTo self.now.names.writer_place slot.new.holds slot.new.holds
+            result.1 }
     {
-        unsafe { raw::swap::<Brand>(self.words.add(WRITER_FLAG), 0, SeqCst) }
+        let found = unsafe { raw::swap::<Brand>(self.words.add(WRITER_FLAG), 0, SeqCst) };
+        (found, Right { mark: PhantomData })
     }
 
-    /// Hands the place of the writer's waker back.
-    pub(crate) fn give_back(&self, slot: &mut ReaderWakes)
-        requires { (slot.old.names ≡ self.now.names) × (slot.old.holds ≡ true) }
+    /// Hands the place of the writer's waker back, with nothing in it.
+    pub(crate) fn give_back(&self, slot: &mut ReaderWakes, right: Right)
+        requires { (slot.old.names ≡ self.now.names) × (slot.old.holds ≡ true)
+            × IsRightTo self.now.names.writer_place true false right }
         ensures ring { slot.new.names ≡ slot.old.names }
         ensures gave { GivesBack Consumed (of_reader_wakes slot.old) (self.now.head, false)
             0 (of_reader_wakes slot.new) }
     {
+        let Right { mark: _ } = right;
         unsafe { raw::store::<Brand>(self.words.add(WRITER_BACK), 1, SeqCst) }
     }
 
-    /// Takes the waker that stands in the writer's slot, if one does. `take_out` is called while its
-    /// place is the reader's, which then hands the place back.
-    pub(crate) fn take_by<T, F: FnOnce() -> T>(
+    /// Takes the waker that stands in the writer's slot, if one does, out of its place, and hands
+    /// the place back.
+    pub(crate) fn take<T>(
         &self,
         slot: &mut ReaderWakes,
         saw: &Saw,
-        take_out: F,
+        place: &Place<Option<T>>,
     ) -> Option<T>
-    where
-        F: Drop,
         requires slot { (slot.old.names ≡ self.now.names) × (slot.old.holds ≡ false)
             × (saw.now.names ≡ self.now.names) }
-        requires call { F.pre take_out }
+        requires place { place.now ≡ self.now.names.writer_place }
         ensures ring { (slot.new.names ≡ slot.old.names) × (slot.new.holds ≡ false) }
         ensures looked { (slot.new.count ≡ self.now.head) × (slot.new.over ≡ saw.now.seen) }
         ensures none { result ≡ None → slot.new.taken ≡ slot.old.taken }
         ensures some { IsSome result → slot.old.taken < slot.new.taken }
     {
-        if self.take_waker(slot, saw) == 0 {
+        let (found, mut right) = self.take_waker(slot, saw);
+        if found == 0 {
             return None;
         }
-        let taken = take_out();
-        self.give_back(slot);
+        let taken = place.take(&mut right);
+        self.give_back(slot, right);
         Some(taken)
     }
 }

@@ -1,25 +1,37 @@
-//! That a side which waits at its slot is found there by the other's next look: in one hand, and on
-//! two threads.
+//! That a side which waits at its slot is found there by the other's next look, with what it left
+//! in its place: in one hand, and on two threads.
 ghost use Rattle.std.specs.Prelude.{◌≡◌, ◌<◌, ◌^◌, ◌*◌};
+ghost use Rattle.std.specs.Arc.{arc_value};
 
 use crate::pair::same;
 use crate::ring::acts::{receive_due, send, send_due};
+use piper_place::Place;
 use piper_ring::{ReadEnd, ReadSlots, WriteEnd, WriteSlots, open_with_slots};
 use std::alloc::AllocGlobal;
 use std::process::Abort;
-use std::sync::Wait;
 use std::sync::atomic::{AtomicU64, Ordering};
+use std::sync::{Arc, Wait};
 use std::thread;
 
 /// The most turns that a reader makes for one wake.
 const MOST_TURNS: u32 = 20_000_000;
+
+/// Where each side leaves a number while it waits.
+#[derive(Drop)]
+struct Places {
+    reader: Place<Option<u64>>,
+    writer: Place<Option<u64>>,
+}
 
 /// An end that reads, with what it has of the slots.
 #[derive(Drop)]
 struct Reading {
     end: ReadEnd,
     slots: ReadSlots,
+    places: Arc<Places>,
     ghost of_one_ring: { slots.names ≡ end.ring.1.1 },
+    ghost reader: { (arc_value places).reader ≡ slots.names.reader_place },
+    ghost writer: { (arc_value places).writer ≡ slots.names.writer_place },
 }
 
 /// An end that writes, with what it has of the slots.
@@ -27,35 +39,47 @@ struct Reading {
 struct Writing {
     end: WriteEnd,
     slots: WriteSlots,
+    places: Arc<Places>,
     ghost of_one_ring: { slots.names ≡ end.ring.1.1 },
+    ghost reader: { (arc_value places).reader ≡ slots.names.reader_place },
 }
 
 /// Both ends of a new ring. Ends the test where memory is refused.
 fn both(rt: &(impl Abort + AllocGlobal), capacity: usize) -> (Reading, Writing)
     requires { (0 < capacity) × (2 * capacity < 2 ^ 64) }
 {
-    let (reader, writer, read_slots, write_slots) = open_with_slots(rt.alloc(), capacity).expect(
-        rt, "a ring",
-    );
+    let (reader, reader_right) = Place::empty();
+    let (writer, writer_right) = Place::empty();
+    let places = Arc::new(rt.alloc(), Places { reader, writer }).expect(rt, "two places");
+    let others = Arc::try_clone(&places).expect(rt, "one more count");
+    let (reader, writer, read_slots, write_slots) = open_with_slots(
+        rt.alloc(),
+        capacity,
+        reader_right,
+        writer_right,
+    ).expect(rt, "a ring");
     let reading = Reading {
         end: reader,
         slots: read_slots,
+        places,
     };
     let writing = Writing {
         end: writer,
         slots: write_slots,
+        places: others,
     };
     (reading, writing)
 }
 
 impl Reading {
-    /// Whether it waits now. It is no end to wait where it knows of a byte.
-    fn waits(&mut self) -> bool {
-        self.end.knows_none() && self.end.wait(&mut self.slots)
+    /// Whether it waits now, with `number` in its place. It is no end to wait where it knows of a
+    /// byte.
+    fn waits(&mut self, number: u64) -> bool {
+        self.end.knows_none() && self.end.wait(&mut self.slots, &self.places.reader, number)
     }
 
     fn wakes(&mut self) -> bool {
-        self.end.wake(&mut self.slots)
+        self.end.wake(&mut self.slots, &self.places.writer)
     }
 
     fn sees_the_end(&mut self) -> bool {
@@ -70,26 +94,26 @@ impl Reading {
 }
 
 impl Writing {
-    /// Publishes what is due, and wakes a reader that waits. The answer is how much, and whether
-    /// one waited.
-    fn sends_due(&mut self, sent: usize, most: usize) -> (usize, bool) {
+    /// Publishes what is due, and takes out what a reader that waits has left. The answer is how
+    /// much, and that.
+    fn sends_due(&mut self, sent: usize, most: usize) -> (usize, Option<u64>) {
         let n = send_due(&mut self.end, sent, most);
-        (n, self.end.wake(&mut self.slots))
+        (n, self.end.take(&mut self.slots, &self.places.reader))
     }
 }
 
 #[test]
 fn who_waits_is_found_once(rt: HostRuntime) {
     let (mut reading, mut writing) = both(&rt, 4);
-    same(&rt, &"nobody waits", writing.sends_due(0, 0), (0, false));
-    same(&rt, &"waits", reading.waits(), true);
-    same(&rt, &"waits again", reading.waits(), true);
-    same(&rt, &"is found", writing.sends_due(0, 3), (3, true));
-    same(&rt, &"is found once", writing.sends_due(3, 0), (0, false));
-    same(&rt, &"has something to do", reading.waits(), false);
+    same(&rt, &"nobody waits", writing.sends_due(0, 0), (0, None));
+    same(&rt, &"waits", reading.waits(5), true);
+    same(&rt, &"waits again", reading.waits(7), true);
+    same(&rt, &"is found", writing.sends_due(0, 3), (3, Some(7)));
+    same(&rt, &"is found once", writing.sends_due(3, 0), (0, None));
+    same(&rt, &"has something to do", reading.waits(8), false);
     same(&rt, &"nobody waits for room", reading.wakes(), false);
     same(&rt, &"reads", reading.receives_due(0), Some(3));
-    same(&rt, &"waits at last", reading.waits(), true);
+    same(&rt, &"waits at last", reading.waits(9), true);
 }
 
 /// Publishes all of it in pieces of changing length, counts each reader that it found waiting, and
@@ -100,8 +124,8 @@ fn send_all(rt: &impl Wait, mut writing: Writing, total: usize, found: &AtomicU6
     for _ in rt.forever() {
         round = round.wrapping_add(1);
         let ask = (1 + round % 5).min(total.saturating_sub(sent));
-        let (n, waited) = writing.sends_due(sent, ask);
-        if waited {
+        let (n, left) = writing.sends_due(sent, ask);
+        if left.is_some() {
             found.fetch_add(1, Ordering::SeqCst);
         }
         sent = sent.wrapping_add(n);
@@ -112,8 +136,12 @@ fn send_all(rt: &impl Wait, mut writing: Writing, total: usize, found: &AtomicU6
             thread::yield_now();
         }
     }
-    let Writing { end, mut slots } = writing;
-    let (_, taken) = end.finish_waking(&mut slots, || ());
+    let Writing {
+        end,
+        mut slots,
+        places,
+    } = writing;
+    let (_, taken) = end.finish_waking(&mut slots, &places.reader);
     if taken.is_some() {
         found.fetch_add(1, Ordering::SeqCst);
     }
@@ -145,7 +173,7 @@ fn receive_all(rt: &impl Wait, mut reading: Reading, found: &AtomicU64) -> Optio
             return Some(received);
         }
         let before = found.load(Ordering::SeqCst);
-        if reading.waits() && !is_found(found, before) {
+        if reading.waits(before) && !is_found(found, before) {
             return None;
         }
     }

@@ -16,8 +16,8 @@ same_as m n e = subst (λ (k : WriteMark). Reaches (m.bytes, m.shut) (k.bytes, k
 
 pub invariant_of-result : goal.invariant_of-result
 invariant_of-result c = let o = c.open-read_seat.ensures in let seat = c.open-read_seat.result.0 in let n = c.none.ensures in let size : c.in_ok-words.bytes.size ≡ c.args.capacity = c.in_ok-words.ensures.bytes.0 in let cap : ℕ = c.args.capacity in
-    let most : 2 * cap < 2 ^ 64 = c.requires.1 in let first : c.none.result.first ≡ c.open-read_seat.result.2.first + 0 = (λ j. (n.none j).first) in let start : c.open-read_seat.result.2.first ≡ 0 = o.room.2 in let none : length c.none.result.bytes ≡ 0 = ap length (λ j. (n.none j).bytes) in
-    let head : seat.head ≡ 0 = o.reader.0 in let seen : seat.seen ≡ 0 = o.reader.1 in let pos : 0 < cap = c.requires.0 in
+    let most : 2 * cap < 2 ^ 64 = c.requires.capacity.1 in let first : c.none.result.first ≡ c.open-read_seat.result.2.first + 0 = (λ j. (n.none j).first) in let start : c.open-read_seat.result.2.first ≡ 0 = o.room.2 in let none : length c.none.result.bytes ≡ 0 = ap length (λ j. (n.none j).bytes) in
+    let head : seat.head ≡ 0 = o.reader.0 in let seen : seat.seen ≡ 0 = o.reader.1 in let pos : 0 < cap = c.requires.capacity.0 in
     let named = c.mark-told_reader.ensures.0 ∙ o.pair.2 in let fresh = c.new.ensures.fresh in let same : c.new.result.capacity ≡ cap = ap (λ (r : ReaderIndices). r.capacity) fresh in let low : c.new.result.head ≡ 0 = ap (λ (r : ReaderIndices). r.head) fresh in let high : c.new.result.tail ≡ 0 = ap (λ (r : ReaderIndices). r.tail) fresh in
     record {
       fits = (same ∙ sym (o.ring.2 ∙ size), omega arith, omega arith);
@@ -32,7 +32,7 @@ invariant_of-result c = let o = c.open-read_seat.ensures in let seat = c.open-re
 
 pub invariant_of-result-2 : goal.invariant_of-result-2
 invariant_of-result-2 c = let o = c.open-read_seat.ensures in let seat = c.open-read_seat.result.1 in let blank : Blank = c.open-read_seat.result.2 in let left : c.none.new.self ≡ blank = c.none.ensures.same in let room = c.new-2.ensures in
-    let size : c.in_ok-words.bytes.size ≡ c.args.capacity = c.in_ok-words.ensures.bytes.0 in let cap : ℕ = c.args.capacity in let most : 2 * cap < 2 ^ 64 = c.requires.1 in let pos : 0 < cap = c.requires.0 in
+    let size : c.in_ok-words.bytes.size ≡ c.args.capacity = c.in_ok-words.ensures.bytes.0 in let cap : ℕ = c.args.capacity in let most : 2 * cap < 2 ^ 64 = c.requires.capacity.1 in let pos : 0 < cap = c.requires.capacity.0 in
     let at : c.new-2.result.lent.at ≡ blank.at = room.place.0 ∙ ap (λ (b : Blank). b.at) left in let many : c.new-2.result.lent.capacity ≡ blank.capacity = room.place.1 ∙ ap (λ (b : Blank). b.capacity) left in
     let first : c.new-2.result.lent.first ≡ 0 = room.whole.0 in let last : c.new-2.result.later.first + length c.new-2.result.later.bytes ≡ cap = room.whole.1 in
     let limit : seat.limit ≡ cap = o.writer.1 ∙ size in let sent : length seat.sent ≡ 0 = ap length o.writer.0 in let full : seat.names.capacity ≡ c.in_ok-words.bytes.size = ap (λ (z : Names). z.capacity) o.pair.2 ∙ o.ring.2 in

@@ -1,7 +1,7 @@
 -- `open` writes the four words, and puts them under the ring's invariant. Assumes `Logic`.
 use Rattle.std.proofs.Common.{◌≡◌, ℕ, true, false, [], ◌∷◌, refl, ap, sym, lit<}
-use mir.Syntax.{Ty}
-use mir.Val.{Val}
+use mir.Syntax.{Ty, named}
+use mir.Val.{Val, vptr}
 use base.Logic.{SProp, emp, fst∗, never}
 use base.Fml.{ftrue}
 use types.Logic.{sem}
@@ -12,10 +12,10 @@ use types.Part.{agg, sub, whole}
 use contract.Monad.{fact, fact_i}
 use contract.Running.{tables}
 use denote.Exit.{yes}
-use denote.RattleType.{owns}
+use denote.RattleType.{RattleType, owns}
 use denote.Signature.{types_at, plain}
 use denote.RawPtr.{Ptr, block_ptr, null_ptr, ptr_val, in_a_block}
-use denote.Builtin.{u8}
+use denote.Builtin.{u8, RefOf}
 use denote.Steps.{nothing}
 use denote.Triple.Entry.{alive}
 use denote.Triple.Walked.{Stays, stay_dropped, walk_of, Goes-dropped}
@@ -33,8 +33,10 @@ use Rattle.piper_ring.specs.contracts.ring.slots.ReaderWaits as ReaderWaits
 use Rattle.piper_ring.specs.contracts.ring.slots.WriterWakes as WriterWakes
 use Rattle.piper_ring.specs.contracts.ring.slots.WriterWaits as WriterWaits
 use Rattle.piper_ring.specs.contracts.ring.slots.ReaderWakes as ReaderWakes
-use Rattle.piper_ring.proofs.Opening.{words_out, Rejoin, as_places, begins, Slotted}
+use Rattle.piper_ring.proofs.Opening.{words_out, Rejoin, as_places, begins, Slotted, IsNamed}
 use Rattle.piper_ring.specs.Memory.{unused}
+use denote.Ref.{shr_vals, shr_Tells}
+use Rattle.piper_place.specs.contracts.Right as Token
 use Rattle.piper_ring.specs.contracts.ring.memory.Memory as Memory
 use Rattle.piper_ring.specs.contracts.ring.places.Base as Base
 use Rattle.piper_ring.specs.contracts.ring.places.Blank as Blank
@@ -48,20 +50,21 @@ use Rattle.piper_ring.proofs.ring.seats.«open».Code as code
 pub open_spec : {M : Type 1} → statement M
 open_spec 𝓤 𝓛 𝓜 𝓡 wired =
     let H = 𝓛.H in let 𝓣 = tables 𝓤 H 𝓜 𝓡 𝓡.env in let En = ended in let fn = code.function in let c = clauses 𝓛 𝓜.mem 𝓡.returns in
-    let memory = plain (λ _. Memory.the_row) in let hs : Stays En.signature.params En.kept = (stay_dropped memory yes, (stay_dropped memory yes, tt)) in
-    proved 𝓛 En hs c 𝓜 𝓡 (Goes-dropped 𝓛 0 memory yes (λ κs x f. refl), (Goes-dropped 𝓛 0 memory yes (λ κs x f. refl), tt)) #self fn (code.unfolded 𝓤 H 𝓜 𝓡 wired)
-    (λ κs. ((λ m. seat_val m.start ∷ []), ((λ m. seat_val m.start ∷ []), tt))) (λ κs. ((λ m vs is. memory_told m.start vs is.0), ((λ m vs is. memory_told m.start vs is.0), tt))) (λ κs qs bounds a gh are.
-    let w₀ : Ptr = a.0.start in let p₀ : Ptr = a.1.0.start in let wide : ℕ = a.0.size in let cap : ℕ = a.1.0.size in let τ : Ty = array_of u8 cap in
-    let y : (walk_of 𝓛 En hs c).Ghost = ((κs, qs, bounds, a, (seat_val w₀ ∷ [], (seat_val p₀ ∷ [], tt))), gh) in let Post : Val → SProp 𝓤 = (walk_of 𝓛 En hs c).post y in
+    let memory = plain (λ _. Memory.the_row) in let TRow : RattleType = Token.the_row in let mine = RefOf (0 ∷ []) tt (plain (λ _. TRow)) (λ _. tt) in let theirs = RefOf (1 ∷ []) tt (plain (λ _. TRow)) (λ _. tt) in
+    let hs : Stays En.signature.params En.kept = (stay_dropped memory yes, (stay_dropped memory yes, (stay_dropped mine yes, (stay_dropped theirs yes, tt)))) in
+    proved 𝓛 En hs c 𝓜 𝓡 (Goes-dropped 𝓛 2 memory yes (λ κs x f. refl), (Goes-dropped 𝓛 2 memory yes (λ κs x f. refl), (Goes-dropped 𝓛 2 mine yes (λ κs x f. refl), (Goes-dropped 𝓛 2 theirs yes (λ κs x f. refl), tt)))) #self fn (code.unfolded 𝓤 H 𝓜 𝓡 wired)
+    (λ κs. ((λ m. seat_val m.start ∷ []), ((λ m. seat_val m.start ∷ []), (shr_vals, (shr_vals, tt))))) (λ κs. ((λ m vs is. memory_told m.start vs is.0), ((λ m vs is. memory_told m.start vs is.0), (shr_Tells (named 0) κs.0 TRow, (shr_Tells (named 1) κs.1.0 TRow, tt))))) (λ κs qs bounds a gh are.
+    let w₀ : Ptr = a.0.start in let p₀ : Ptr = a.1.0.start in let v₁ : Val = vptr a.1.1.0.ref_ptr.0 a.1.1.0.ref_ptr.1 in let v₂ : Val = vptr a.1.1.1.0.ref_ptr.0 a.1.1.1.0.ref_ptr.1 in let name₁ : ℕ = a.1.1.0.now.name in let name₂ : ℕ = a.1.1.1.0.now.name in let wide : ℕ = a.0.size in let cap : ℕ = a.1.0.size in let τ : Ty = array_of u8 cap in
+    let y : (walk_of 𝓛 En hs c).Ghost = ((κs, qs, bounds, a, (seat_val w₀ ∷ [], (seat_val p₀ ∷ [], (v₁ ∷ [], (v₂ ∷ [], tt))))), gh) in let Post : Val → SProp 𝓤 = (walk_of 𝓛 En hs c).post y in
     qed 𝓛 ((raw (alive 𝓛 En.signature κs qs) ⊛ ‵ (owns (types_at En.signature.params κs) a y.0.4)) ∷ given ((a.0.align ≡ 8) × (a.1.0.align ≡ 1)) (‵ ftrue) ∷ []) ∵
     keep ! (1 ∷ 0 ∷ []) $ learn ! (λ asked. drop ! $ split ! $ move ! (1 ∷ []) $ fsplit3 ! $ fsplit ! $ drop ! $
     rewrite ! 0 (λ (k : ℕ). ‵ (unused wide k w₀)) asked.0 refl $ fsplit ! $ drop ! $
     in_a_block ! w₀ (λ q. owned_block heap_token words_type q) (fst∗ 𝓤 (never 𝓤) (sem 𝓛 (heap_token words_type null_ptr))) (λ b o at_w. move ! (1 ∷ []) $ fsplit ! $ drop ! $
     rewrite ! 0 (λ (k : ℕ). ‵ (unused cap k p₀)) asked.1 refl $ fsplit ! $ fpick ! (λ small. drop ! $
     in_a_block ! p₀ (λ q. owned_block heap_token τ q) (fst∗ 𝓤 (never 𝓤) (sem 𝓛 (heap_token τ null_ptr))) (λ b' o' at_p. let w : Ptr = block_ptr b o in let p : Ptr = block_ptr b' o' in
-    fsplit ! $ move ! (2 ∷ []) $ fsplit ! $ keep ! (0 ∷ 1 ∷ 3 ∷ 2 ∷ []) $
+    fsplit ! $ move ! (2 ∷ []) $ fsplit ! $ keep ! (0 ∷ 1 ∷ 3 ∷ 2 ∷ 5 ∷ []) $
     use1 𝓛 (‵ (word_room w 128) ⊛ ‵ (word_room w 256) ⊛ ‵ (word_room w 384) ⊛ ‵ (word_room w 0) ⊛ ‵ (slot_rooms w) ⊛ ‵ (Rejoin 𝓛 w p cap)) (words_out 𝓛 w p cap) $ split3 ! $ move ! (2 ∷ []) $ split3 ! $ move ! (2 ∷ []) $ split ! $ fsplit3 ! $ move ! (2 ∷ []) $ fsplit ! $ move ! (5 ∷ 6 ∷ 4 ∷ 7 ∷ 8 ∷ 2 ∷ 3 ∷ 0 ∷ 1 ∷ []) $
-    enter ! 𝓣.C 𝓣.Λ fn (seat_val w₀ ∷ seat_val p₀ ∷ []) Post $ alloc_all ! (λ l. pass_all ! refl (word-Good [] w₀, (word-Good [] p₀, tt)) $ let Ev = env fn.locals l in
+    enter ! 𝓣.C 𝓣.Λ fn (seat_val w₀ ∷ seat_val p₀ ∷ v₁ ∷ v₂ ∷ []) Post $ alloc_all ! (λ l. pass_all ! refl (word-Good [] w₀, (word-Good [] p₀, ((tt, tt), ((tt, tt), tt)))) $ let Ev = env fn.locals l in
     sets ! (is ! (of_opd ! (get_in ! (fld ! refl (stop !)) (sub ! 0 refl (whole !)))) (ap ptr_val at_p)) refl (tt, tt) $
     sets ! (is ! (of_opd ! (get_in ! (fld ! refl (stop !)) (sub ! 0 refl (whole !)))) (ap ptr_val at_w)) refl (tt, tt) $ sets ! (of_opd ! (get ! refl)) refl (tt, tt) $ first ! $ blocks ! $
     sets ! (bin ! (get ! refl) (lit ! tt) tt) refl (tt, tt) $ assigns ! (of_opd ! (lit ! tt)) (through ! refl (stop !)) (init ! 3 refl (tt, record { fits = lit< tt })) $
@@ -74,7 +77,7 @@ open_spec 𝓤 𝓛 𝓜 𝓡 wired =
     sets ! (bin ! (get ! refl) (lit ! tt) tt) refl (tt, tt) $ assigns_last ! (of_opd ! (lit ! tt)) (through ! refl (stop !)) (init ! 8 refl (tt, record { fits = lit< tt })) $
     exec ! 𝓣.C 𝓣.Λ Ev (from_on 4 fn.body) (at_ret Ev Post) $
     fjoin ! $ move ! (2 ∷ 3 ∷ 0 ∷ []) $ fjoin3 ! $ move ! (4 ∷ 5 ∷ []) $ fjoin ! $ move ! (3 ∷ 4 ∷ 0 ∷ []) $ fjoin3 ! $ move ! (2 ∷ 3 ∷ 4 ∷ []) $ fjoin3 ! $ move ! (2 ∷ 0 ∷ 1 ∷ []) $
-    use3 𝓛 (later (some (λ (z : Names). given (z.capacity ≡ cap) (‵ (reader_owns w p z 0 0 [] false) ⊛ ‵ (writer_owns w p z [] cap false) ⊛ ‵ (Slotted 𝓛 w p cap z))))) (begins 𝓛 w p cap (tt, tt, small)) $ await ! tt $ pick ! (λ z. learn ! (λ ez. split3 ! $
+    use3 𝓛 (later (some (λ (z : Names). given (IsNamed 𝓛 w p cap name₁ name₂ z) (‵ (reader_owns w p z 0 0 [] false) ⊛ ‵ (writer_owns w p z [] cap false) ⊛ ‵ (Slotted 𝓛 w p cap z))))) (begins 𝓛 w p cap name₁ name₂ (tt, tt, small)) $ await ! tt $ pick ! (λ z. learn ! (λ ez. split3 ! $
     let one : ReadSeat.the_row.Denot = record { words = w; at = p; names = z; head = 0; seen = 0; have = []; leaving = false } in let two : WriteSeat.the_row.Denot = record { words = w; at = p; names = z; sent = []; limit = cap; shut = false } in
     let three : Blank.the_row.Denot = record { mark = record {}; at = p; capacity = cap; first = 0; count = cap } in let four : Base.the_row.Denot = record { ptr = p } in let v : Val = seat_val w in let q : Val = seat_val p in
     let five : ReaderWaits.the_row.Denot = record { mark = record {}; names = z; owns = true; tickets = 0; bytes = []; shut = false } in let six : WriterWakes.the_row.Denot = record { mark = record {}; names = z; holds = false; taken = 0; bytes = []; shut = false } in
@@ -105,6 +108,7 @@ open_spec 𝓤 𝓛 𝓜 𝓡 wired =
     use0 𝓛 (raw (fact 𝓤 ((two.sent ≡ two.sent) × (cap ≡ cap) × (false ≡ false)))) (fact_i 𝓤 ((two.sent ≡ two.sent) × (cap ≡ cap) × (false ≡ false)) (emp 𝓤) (refl, refl, refl)) $ join ! $
     use0 𝓛 (raw (fact 𝓤 ((w ≡ w) × (p ≡ p₀) × (z ≡ z)))) (fact_i 𝓤 ((w ≡ w) × (p ≡ p₀) × (z ≡ z)) (emp 𝓤) (refl, sym at_p, refl)) $ join ! $
     use0 𝓛 (raw (fact 𝓤 ((0 ≡ 0) × (0 ≡ 0) × (one.have ≡ one.have) × (false ≡ false)))) (fact_i 𝓤 ((0 ≡ 0) × (0 ≡ 0) × (one.have ≡ one.have) × (false ≡ false)) (emp 𝓤) (refl, refl, refl, refl)) $ join ! $
-    use0 𝓛 (raw (fact 𝓤 ((w ≡ w₀) × (p ≡ p₀) × (z.capacity ≡ cap)))) (fact_i 𝓤 ((w ≡ w₀) × (p ≡ p₀) × (z.capacity ≡ cap)) (emp 𝓤) (sym at_w, sym at_p, ez)) $ join ! $
-    nothing ! $ nothing ! $ fjoin ! $ nothing ! $ fjoin ! $ nothing ! $
-    returns ! (look_at ! 0 refl) $ free_all ! refl $ keep ! (0 ∷ 1 ∷ 3 ∷ 2 ∷ []) $ by ! (leaves 𝓛 En hs c y (eight_val v v g q g g g g) (one, two, three, four, five, six, seven, eight) (tt, (tt, tt)) (tt, (tt, tt)))))))))))
+    use0 𝓛 (raw (fact 𝓤 ((z.reader_place ≡ name₁) × (z.writer_place ≡ name₂)))) (fact_i 𝓤 ((z.reader_place ≡ name₁) × (z.writer_place ≡ name₂)) (emp 𝓤) (ez.1, ez.2)) $ join ! $
+    use0 𝓛 (raw (fact 𝓤 ((w ≡ w₀) × (p ≡ p₀) × (z.capacity ≡ cap)))) (fact_i 𝓤 ((w ≡ w₀) × (p ≡ p₀) × (z.capacity ≡ cap)) (emp 𝓤) (sym at_w, sym at_p, ez.0)) $ join ! $
+    nothing ! $ nothing ! $ fjoin ! $ nothing ! $ fjoin ! $ nothing ! $ fjoin ! $ nothing ! $ fjoin ! $
+    returns ! (look_at ! 0 refl) $ free_all ! refl $ keep ! (3 ∷ 0 ∷ 2 ∷ 1 ∷ []) $ by ! (leaves 𝓛 En hs c y (eight_val v v g q g g g g) (one, two, three, four, five, six, seven, eight) (tt, (tt, (tt, (tt, tt)))) (tt, (tt, (tt, (tt, tt)))))))))))))

@@ -68,13 +68,13 @@ look_flag_spec 𝓤 𝓛 𝓜 𝓡 wired =
     sets ! (of_opd ! (load ! (through ! refl (fld ! refl (stop !))) (look ! 0 refl))) refl (tt, tt) $ pointer_out ! tt w bw ow isw b (o + 0) $
     sets ! (bin ! (get ! refl) (lit ! tt) tt) refl (tt, tt) $ move ! (2 ∷ 0 ∷ []) $ shr_bor-open ! tt (writer_halves 𝓛 w p z h.sent h.limit h.shut 0) (λ s. move ! (2 ∷ 1 ∷ 4 ∷ []) $
     rewrite ! 2 (λ (m : Names). ‵ (wakes_for m view.0 view.1.0 view.1.1.0 view.1.1.1)) {x = z} {y = k.names} asked.0 refl $
-    let out : ℕ → Fml = WriterWoke 𝓛 w p z s h.sent h.limit h.shut 0 (flag_small false) view (Looks Stream view (h.sent, h.shut)) in
+    let out : ℕ → Fml = WriterWoke 𝓛 w p z s h.sent h.limit h.shut 0 (flag_small false) view (λ m u _. Looks Stream view (h.sent, h.shut) m u) in
     use3 𝓛 (raw (𝓣.C _ (vptr bw e ∷ seq_cst ∷ []) (λ u. mean 𝓛 (found out u))))
     (via 𝓤 _ (writer_looks_flag 𝓛 w p z s h.sent h.limit h.shut 0 (flag_small false) view asked.1) (loads 𝓛 𝓜 𝓡 (code.calls-core::raw_atomic::load 𝓡.env wired) (block_ptr bw e) out)) $
     sets ! (agg ! (and_then ! (lit ! tt) (no_more !))) refl (tt, (record { fits = lit< tt }, tt)) $
     Calls-last ! (fm 𝓛 𝓜 𝓡) (found out) (and_then ! (get ! refl) (and_then ! (get ! refl) (no_more !))) (λ u. finds ! out (λ n fits.
     lands_last ! refl (tt, record { fits = fits }) $ exec ! 𝓣.C 𝓣.Λ Ev (tail fn.body) (at_ret Ev Post) $ sets ! (of_opd ! (get ! refl)) refl (tt, record { fits = fits }) $
-    fpick ! (λ v. fsplit3 ! $ fpick ! (λ told. drop ! $ move ! (2 ∷ 1 ∷ []) $ obor_close ! tt $ drop ! $
+    fpick ! (λ got. let v : Wakes Stream = got.0 in fsplit3 ! $ fpick ! (λ told. drop ! $ move ! (2 ∷ 1 ∷ []) $ obor_close ! tt $ drop ! $ move ! (1 ∷ []) $ fsplit ! $ move ! (1 ∷ []) $ drop ! $ move ! (1 ∷ 0 ∷ []) $
     let k' : SRow.Denot = record k { holds = v.0; taken = v.1.0; bytes = v.1.1.0; shut = v.1.1.1 } in
     rewrite ! 1 (λ (m : Names). ‵ (wakes_for m v.0 v.1.0 v.1.1.0 v.1.1.1)) {x = k.names} {y = z} (sym asked.0) refl $ move ! (2 ∷ 1 ∷ []) $ fjoin ! $ move ! (2 ∷ 0 ∷ 3 ∷ 4 ∷ 5 ∷ []) $ closes ! tt SRow k' vs' b' o' $
     feq_i ! (List Val) (vptr b' o' ∷ []) (vptr b' o' ∷ []) refl $ fjoin3 ! $ nothing ! $ move ! (1 ∷ 0 ∷ []) $ fjoin ! $ nothing ! $ fjoin ! $ nothing ! $ move ! (2 ∷ 0 ∷ []) $ join ! $ move ! (2 ∷ 0 ∷ []) $ join ! $

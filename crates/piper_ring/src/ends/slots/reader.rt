@@ -1,0 +1,254 @@
+//! How the reader's end waits in its slot, and wakes whoever waits in the writer's.
+ghost use Rattle.std.specs.Prelude.{◌≡◌, ◌+◌, ◌<◌, ◌≤◌, ◌++◌, length, None, IsSome, IsOk, IfOk, IfErr, true, false, IsTrue, IsFalse};
+
+use crate::ends::reader::ReadEnd;
+use crate::ends::slots::{ReadSlots, WriteSlots};
+use crate::ends::writer::WriteEnd;
+use crate::ring::marks::LastReadMark;
+use piper_place::Place;
+
+impl ReadEnd {
+    ghost use Rattle.piper_ring.specs.ReadView.{KnowsEnd, KnowsMore, SameButSaw};
+    ghost use Rattle.piper_ring.specs.Shared.{flag};
+    ghost use Rattle.piper_ring.specs.SlotsView.{Registers, HasToDo, IsPending, HasNews, IsReaderAtRest, SameReaderPlace, IsWriterPending, HasRoomNews};
+
+    /// Takes its waker back, where it still stands in this end's slot.
+    pub fn withdraw<T>(&self, slots: &mut ReadSlots, place: &Place<Option<T>>) -> Option<T>
+        requires ring { slots.old.names ≡ self.now.ring.1.1 }
+        requires place { place.now ≡ slots.old.names.reader_place }
+        ensures back { IsSome result → (slots.old.owns ≡ false) × (slots.new.owns ≡ true) }
+        ensures none { result ≡ None → slots.new ≡ slots.old }
+        ensures kept { slots.new ≡ record slots.old { owns = slots.new.owns } }
+    {
+        let parts = &mut slots.parts;
+        if parts.right.is_some() {
+            return None;
+        }
+        let (found, mut right) = self.parts.seat.withdraw(&mut parts.waits);
+        if found == 0 {
+            return None;
+        }
+        let waker = place.take(&mut right);
+        parts.right = Some(right);
+        Some(waker)
+    }
+
+    /// Whether the place of this end's waker is with it: it takes back a place that the writer
+    /// handed back.
+    pub fn regain(&self, slots: &mut ReadSlots) -> bool
+        requires { slots.old.names ≡ self.now.ring.1.1 }
+        ensures owns { result ≡ slots.new.owns }
+        ensures stays { slots.old.owns ≡ true → IsTrue result }
+        ensures refused { IsFalse result → slots.new ≡ slots.old }
+        ensures kept { slots.new ≡ record slots.old { owns = slots.new.owns } }
+    {
+        let parts = &mut slots.parts;
+        if parts.right.is_some() {
+            return true;
+        }
+        let (found, right) = self.parts.seat.regain(&mut parts.waits);
+        if found == 0 {
+            return false;
+        }
+        parts.right = Some(right);
+        true
+    }
+
+    /// Stands at this end's slot, where the writer's next look finds it, with `waker` in its place.
+    pub fn hand_over<T>(&self, slots: &mut ReadSlots, place: &Place<Option<T>>, waker: T)
+        requires ring { slots.old.names ≡ self.now.ring.1.1 }
+        requires place { place.now ≡ slots.old.names.reader_place }
+        requires owned { slots.old.owns ≡ true }
+        ensures { Registers slots.old slots.new }
+    {
+        let parts = &mut slots.parts;
+        let Some(mut right) = parts.right.take() else {
+            unreachable!()
+        };
+        place.put(&mut right, waker);
+        parts.heard = self.parts.seat.hand_over(&mut parts.waits, right);
+    }
+
+    /// `hand_over`, where the place can be had: the answer is the waker that still stood there, if
+    /// one did. It is `Err`, and this end stands nowhere, where the writer has stored something and
+    /// has not handed the place back yet.
+    pub fn register<T>(
+        &self,
+        slots: &mut ReadSlots,
+        place: &Place<Option<T>>,
+        waker: T,
+    ) -> Result<Option<T>, T>
+        requires ring { slots.old.names ≡ self.now.ring.1.1 }
+        requires place { place.now ≡ slots.old.names.reader_place }
+        ensures registered { IfOk result (λ _. Registers slots.old slots.new) }
+        ensures refused { IfErr result (λ _. slots.new ≡ slots.old) }
+        ensures owned { slots.old.owns ≡ true → IsOk result }
+    {
+        let before = match self.withdraw(slots, place) {
+            Some(before) => Some(before),
+            None => {
+                if !self.regain(slots) {
+                    return Err(waker);
+                }
+                None
+            }
+        };
+        self.hand_over(slots, place, waker);
+        Ok(before)
+    }
+
+    /// `reload`, by an end that has registered: it finds all that the writer had looked behind
+    /// before that.
+    #[inline(always)]
+    pub fn reload_behind(&mut self, slots: &ReadSlots)
+        requires ring { slots.now.names ≡ self.old.ring.1.1 }
+        requires none { length self.old.known ≡ 0 }
+        ensures behind { length slots.now.bytes ≤ length (self.new.taken ++ self.new.known) }
+        ensures fresh { self.old.told ≤ length (self.new.taken ++ self.new.known) }
+        ensures end { KnowsEnd self.old → self.new.taken ++ self.new.known ≡ self.new.all }
+        ensures kept { KnowsMore self.old self.new }
+    {
+        self.hear(&slots.parts.heard);
+        self.reload_heard();
+    }
+
+    /// `look_closed`, by an end that has registered: it finds a close that the writer had looked
+    /// behind before that.
+    #[inline(always)]
+    pub fn look_closed_behind(&mut self, slots: &ReadSlots) -> bool
+        requires { slots.now.names ≡ self.old.ring.1.1 }
+        ensures behind { flag slots.now.shut ≤ flag self.new.saw }
+        ensures saw { result ≡ self.new.saw }
+        ensures stays { flag self.old.saw ≤ flag self.new.saw }
+        ensures told { flag self.old.told_shut ≤ flag self.new.saw }
+        ensures kept { SameButSaw self.old self.new }
+    {
+        self.look_closed_knowing(&slots.parts.heard)
+    }
+
+    /// Registers, and looks once more whether the writer published something or closed the pipe.
+    /// Where the answer is `true` this end waits: it has nothing to do, and the look behind
+    /// whatever the writer stores from now on finds it.
+    pub fn wait<T: Drop>(
+        &mut self,
+        slots: &mut ReadSlots,
+        place: &Place<Option<T>>,
+        waker: T,
+    ) -> bool
+        requires ring { slots.old.names ≡ self.old.ring.1.1 }
+        requires place { place.now ≡ slots.old.names.reader_place }
+        requires none { length self.old.known ≡ 0 }
+        ensures pending { IsTrue result → IsPending self.new slots.new }
+        ensures ticket { IsTrue result → slots.new.tickets ≡ slots.old.tickets + 1 }
+        ensures owned { IsFalse result → slots.old.owns ≡ true → HasToDo self.new }
+        ensures names { slots.new.names ≡ slots.old.names }
+        ensures end { (self.new.ring ≡ self.old.ring) × (self.new.taken ≡ self.old.taken) }
+    {
+        if self.register(slots, place, waker).is_err() {
+            return false;
+        }
+        self.reload_behind(slots);
+        !self.look_closed_behind(slots) && self.knows_none()
+    }
+
+    /// Looks behind all that this end consumed whether the writer stands at its slot. The answer is
+    /// `true` where it doesn't.
+    #[inline(always)]
+    pub fn finds_none(&self, slots: &mut ReadSlots) -> bool
+        requires { slots.old.names ≡ self.now.ring.1.1 }
+        ensures rests { IsTrue result → IsReaderAtRest self.now slots.new }
+        ensures found { IsFalse result → slots.new ≡ slots.old }
+        ensures none { slots.new.taken ≡ slots.old.taken }
+        ensures own { SameReaderPlace slots.old slots.new }
+    {
+        let seat = &self.parts.seat;
+        seat.look_flag(&mut slots.parts.wakes, &seat.unseen()) == 0
+    }
+
+    /// Behind all that this end consumed, takes the writer's ticket where it stands at its slot.
+    /// The answer is the waker that it put there, and its place is handed back.
+    pub fn take<T>(&self, slots: &mut ReadSlots, place: &Place<Option<T>>) -> Option<T>
+        requires ring { slots.old.names ≡ self.now.ring.1.1 }
+        requires place { place.now ≡ slots.old.names.writer_place }
+        ensures rests { IsReaderAtRest self.now slots.new }
+        ensures none { result ≡ None → slots.new.taken ≡ slots.old.taken }
+        ensures some { IsSome result → slots.old.taken < slots.new.taken }
+        ensures own { SameReaderPlace slots.old slots.new }
+    {
+        let seat = &self.parts.seat;
+        seat.take(&mut slots.parts.wakes, &seat.unseen(), place)
+    }
+
+    /// Looks behind all that this end consumed whether the writer stands at its slot, and takes its
+    /// ticket. The answer is whether it did.
+    pub fn wake<T: Drop>(&self, slots: &mut ReadSlots, place: &Place<Option<T>>) -> bool
+        requires ring { slots.old.names ≡ self.now.ring.1.1 }
+        requires place { place.now ≡ slots.old.names.writer_place }
+        ensures rests { IsReaderAtRest self.now slots.new }
+        ensures none { IsFalse result → slots.new.taken ≡ slots.old.taken }
+        ensures some { IsTrue result → slots.old.taken < slots.new.taken }
+        ensures own { SameReaderPlace slots.old slots.new }
+    {
+        if self.finds_none(slots) {
+            return false;
+        }
+        self.take(slots, place).is_some()
+    }
+
+    /// `finish`, and `take` behind its close.
+    pub fn finish_waking<T>(
+        self,
+        slots: &mut ReadSlots,
+        place: &Place<Option<T>>,
+    ) -> (LastReadMark, Option<T>)
+        requires ring { slots.old.names ≡ self.ring.1.1 }
+        requires place { place.now ≡ slots.old.names.writer_place }
+        ensures ring { result.0.consumed.names ≡ self.ring.1.1 }
+        ensures count { result.0.consumed.count ≡ length self.taken }
+        ensures looked { (slots.new.count ≡ length self.taken) × (slots.new.over ≡ true) }
+        ensures none { result.1 ≡ None → slots.new.taken ≡ slots.old.taken }
+        ensures some { IsSome result.1 → slots.old.taken < slots.new.taken }
+        ensures own { SameReaderPlace slots.old slots.new }
+    {
+        let consumed = self.mark();
+        let (leaving, closed) = self.close();
+        let taken = leaving.seat.take(&mut slots.parts.wakes, &closed, place);
+        leaving.leave();
+        (LastReadMark { consumed, closed }, taken)
+    }
+
+    /// Both ends in one hand: of each that waits, and behind whose back the other stored something
+    /// since and looked, the last ticket was taken.
+    pub fn meet_slots(
+        &self,
+        slots: &mut ReadSlots,
+        writer: &WriteEnd,
+        writer_slots: &mut WriteSlots,
+    )
+        requires { (writer.now.ring ≡ self.now.ring) × (slots.old.names ≡ self.now.ring.1.1)
+            × (writer_slots.old.names ≡ self.now.ring.1.1) }
+        ensures reader { IsPending self.now slots.old → HasNews self.now writer_slots.old
+            → writer_slots.old.taken ≡ slots.old.tickets }
+        ensures writer { IsWriterPending writer.now writer_slots.old
+            → HasRoomNews writer.now slots.old → slots.old.taken ≡ writer_slots.old.tickets }
+        ensures capacity { writer.now.capacity ≡ self.now.capacity }
+        ensures kept { (slots.new ≡ slots.old) × (writer_slots.new ≡ writer_slots.old) }
+    {
+        self.meet_left(slots, writer_slots);
+        writer.meet_left(writer_slots, slots);
+    }
+
+    /// With what is left of the writer's slots once its end is gone, and also before: where this
+    /// end waits, and behind its back the writer stored something since and looked, its last ticket
+    /// was taken.
+    pub fn meet_left(&self, slots: &mut ReadSlots, left: &mut WriteSlots)
+        requires { (slots.old.names ≡ self.now.ring.1.1) × (left.old.names ≡ self.now.ring.1.1) }
+        ensures reader { IsPending self.now slots.old → HasNews self.now left.old
+            → left.old.taken ≡ slots.old.tickets }
+        ensures capacity { self.now.capacity ≡ self.now.ring.1.1.capacity }
+        ensures kept { (slots.new ≡ slots.old) × (left.new ≡ left.old) }
+    {
+        let seat = &self.parts.seat;
+        seat.meet_slot(&mut slots.parts.waits, &mut left.parts.wakes);
+    }
+}

@@ -1,0 +1,232 @@
+//! How the writer's end waits in its slot, and wakes whoever waits in the reader's.
+ghost use Rattle.std.specs.Prelude.{◌≡◌, ◌+◌, ◌<◌, ◌≤◌, length, None, IsSome, IsOk, IfOk, IfErr, true, false, IsTrue, IsFalse};
+
+use crate::ends::slots::{ReadSlots, WriteSlots};
+use crate::ends::writer::WriteEnd;
+use crate::ring::marks::WriteMark;
+use piper_place::Place;
+
+impl WriteEnd {
+    ghost use Rattle.piper_ring.specs.Shared.{flag};
+    ghost use Rattle.piper_ring.specs.WriteView.{HasMoreRoom, SameButSaw};
+    ghost use Rattle.piper_ring.specs.SlotsView.{WriterRegisters, WriterHasToDo, IsWriterPending, IsAtRest, SameWriterPlace, HasRoomNews};
+
+    /// Takes its waker back, where it still stands in this end's slot.
+    pub fn withdraw<T>(&self, slots: &mut WriteSlots, place: &Place<Option<T>>) -> Option<T>
+        requires ring { slots.old.names ≡ self.now.ring.1.1 }
+        requires place { place.now ≡ slots.old.names.writer_place }
+        ensures back { IsSome result → (slots.old.owns ≡ false) × (slots.new.owns ≡ true) }
+        ensures none { result ≡ None → slots.new ≡ slots.old }
+        ensures kept { slots.new ≡ record slots.old { owns = slots.new.owns } }
+    {
+        let parts = &mut slots.parts;
+        if parts.right.is_some() {
+            return None;
+        }
+        let (found, mut right) = self.parts.seat.withdraw(&mut parts.waits);
+        if found == 0 {
+            return None;
+        }
+        let waker = place.take(&mut right);
+        parts.right = Some(right);
+        Some(waker)
+    }
+
+    /// Whether the place of this end's waker is with it: it takes back a place that the reader
+    /// handed back.
+    pub fn regain(&self, slots: &mut WriteSlots) -> bool
+        requires { slots.old.names ≡ self.now.ring.1.1 }
+        ensures owns { result ≡ slots.new.owns }
+        ensures stays { slots.old.owns ≡ true → IsTrue result }
+        ensures refused { IsFalse result → slots.new ≡ slots.old }
+        ensures kept { slots.new ≡ record slots.old { owns = slots.new.owns } }
+    {
+        let parts = &mut slots.parts;
+        if parts.right.is_some() {
+            return true;
+        }
+        let (found, right) = self.parts.seat.regain(&mut parts.waits);
+        if found == 0 {
+            return false;
+        }
+        parts.right = Some(right);
+        true
+    }
+
+    /// Stands at this end's slot, where the reader's next look finds it, with `waker` in its place.
+    pub fn hand_over<T>(&self, slots: &mut WriteSlots, place: &Place<Option<T>>, waker: T)
+        requires ring { slots.old.names ≡ self.now.ring.1.1 }
+        requires place { place.now ≡ slots.old.names.writer_place }
+        requires owned { slots.old.owns ≡ true }
+        ensures { WriterRegisters slots.old slots.new }
+    {
+        let parts = &mut slots.parts;
+        let Some(mut right) = parts.right.take() else {
+            unreachable!()
+        };
+        place.put(&mut right, waker);
+        let (heard, saw) = self.parts.seat.hand_over(&mut parts.waits, right);
+        parts.heard = heard;
+        parts.saw = saw;
+    }
+
+    /// `hand_over`, where the place can be had: the answer is the waker that still stood there, if
+    /// one did. It is `Err`, and this end stands nowhere, where the reader has consumed something and
+    /// has not handed the place back yet.
+    pub fn register<T>(
+        &self,
+        slots: &mut WriteSlots,
+        place: &Place<Option<T>>,
+        waker: T,
+    ) -> Result<Option<T>, T>
+        requires ring { slots.old.names ≡ self.now.ring.1.1 }
+        requires place { place.now ≡ slots.old.names.writer_place }
+        ensures registered { IfOk result (λ _. WriterRegisters slots.old slots.new) }
+        ensures refused { IfErr result (λ _. slots.new ≡ slots.old) }
+        ensures owned { slots.old.owns ≡ true → IsOk result }
+    {
+        let before = match self.withdraw(slots, place) {
+            Some(before) => Some(before),
+            None => {
+                if !self.regain(slots) {
+                    return Err(waker);
+                }
+                None
+            }
+        };
+        self.hand_over(slots, place, waker);
+        Ok(before)
+    }
+
+    /// `reload`, by an end that has registered: it finds all the room that the reader had looked
+    /// behind before that.
+    #[inline(always)]
+    pub fn reload_behind(&mut self, slots: &WriteSlots)
+        requires ring { slots.now.names ≡ self.old.ring.1.1 }
+        requires none { self.old.room ≡ 0 }
+        ensures behind { slots.now.count + self.old.capacity
+            ≤ length self.new.sent + self.new.room }
+        ensures fresh { self.old.told + self.old.capacity ≤ length self.new.sent + self.new.room }
+        ensures kept { HasMoreRoom self.old self.new }
+    {
+        self.reload_knowing(&slots.parts.heard);
+    }
+
+    /// `look_closed`, by an end that has registered and has not seen the pipe closed: it finds a
+    /// close that the reader had looked behind before that.
+    #[inline(always)]
+    pub fn look_closed_behind(&mut self, slots: &WriteSlots) -> bool
+        requires ring { slots.now.names ≡ self.old.ring.1.1 }
+        requires open { self.old.saw ≡ false }
+        ensures behind { flag slots.now.over ≤ flag self.new.saw }
+        ensures saw { result ≡ self.new.saw }
+        ensures kept { SameButSaw self.old self.new }
+    {
+        self.look_closed_knowing(&slots.parts.saw)
+    }
+
+    /// Registers, and looks once more whether the reader consumed something or closed the pipe.
+    /// Where the answer is `true` this end waits: it has no room, and the look behind whatever the
+    /// reader stores from now on finds it.
+    pub fn wait<T: Drop>(
+        &mut self,
+        slots: &mut WriteSlots,
+        place: &Place<Option<T>>,
+        waker: T,
+    ) -> bool
+        requires ring { slots.old.names ≡ self.old.ring.1.1 }
+        requires place { place.now ≡ slots.old.names.writer_place }
+        requires none { self.old.room ≡ 0 }
+        requires open { self.old.saw ≡ false }
+        ensures pending { IsTrue result → IsWriterPending self.new slots.new }
+        ensures ticket { IsTrue result → slots.new.tickets ≡ slots.old.tickets + 1 }
+        ensures owned { IsFalse result → slots.old.owns ≡ true → WriterHasToDo self.new }
+        ensures names { slots.new.names ≡ slots.old.names }
+        ensures end { (self.new.ring ≡ self.old.ring) × (self.new.sent ≡ self.old.sent) }
+    {
+        if self.register(slots, place, waker).is_err() {
+            return false;
+        }
+        self.reload_behind(slots);
+        !self.look_closed_behind(slots) && self.knows_none()
+    }
+
+    /// Looks behind all that this end stored whether the reader stands at its slot. The answer is
+    /// `true` where it doesn't.
+    #[inline(always)]
+    pub fn finds_none(&self, slots: &mut WriteSlots) -> bool
+        requires { slots.old.names ≡ self.now.ring.1.1 }
+        ensures rests { IsTrue result → IsAtRest self.now slots.new }
+        ensures found { IsFalse result → slots.new ≡ slots.old }
+        ensures none { slots.new.taken ≡ slots.old.taken }
+        ensures own { SameWriterPlace slots.old slots.new }
+    {
+        self.parts.seat.look_flag(&mut slots.parts.wakes) == 0
+    }
+
+    /// Behind all that this end stored, takes the reader's ticket where it stands at its slot. The
+    /// answer is the waker that it put there, and its place is handed back.
+    pub fn take<T>(&self, slots: &mut WriteSlots, place: &Place<Option<T>>) -> Option<T>
+        requires ring { slots.old.names ≡ self.now.ring.1.1 }
+        requires place { place.now ≡ slots.old.names.reader_place }
+        ensures rests { IsAtRest self.now slots.new }
+        ensures none { result ≡ None → slots.new.taken ≡ slots.old.taken }
+        ensures some { IsSome result → slots.old.taken < slots.new.taken }
+        ensures own { SameWriterPlace slots.old slots.new }
+    {
+        self.parts.seat.take(&mut slots.parts.wakes, place)
+    }
+
+    /// Looks behind all that this end stored whether the reader stands at its slot, and takes its
+    /// ticket. The answer is whether it did.
+    pub fn wake<T: Drop>(&self, slots: &mut WriteSlots, place: &Place<Option<T>>) -> bool
+        requires ring { slots.old.names ≡ self.now.ring.1.1 }
+        requires place { place.now ≡ slots.old.names.reader_place }
+        ensures rests { IsAtRest self.now slots.new }
+        ensures none { IsFalse result → slots.new.taken ≡ slots.old.taken }
+        ensures some { IsTrue result → slots.old.taken < slots.new.taken }
+        ensures own { SameWriterPlace slots.old slots.new }
+    {
+        if self.finds_none(slots) {
+            return false;
+        }
+        self.take(slots, place).is_some()
+    }
+
+    /// `finish`, and `take` behind its close.
+    pub fn finish_waking<T>(
+        self,
+        slots: &mut WriteSlots,
+        place: &Place<Option<T>>,
+    ) -> (WriteMark, Option<T>)
+        requires ring { slots.old.names ≡ self.ring.1.1 }
+        requires place { place.now ≡ slots.old.names.reader_place }
+        ensures ring { result.0.names ≡ self.ring.1.1 }
+        ensures bytes { result.0.bytes ≡ self.sent }
+        ensures shut { result.0.shut ≡ true }
+        ensures looked { (slots.new.bytes ≡ self.sent) × (slots.new.shut ≡ true) }
+        ensures none { result.1 ≡ None → slots.new.taken ≡ slots.old.taken }
+        ensures some { IsSome result.1 → slots.old.taken < slots.new.taken }
+        ensures own { SameWriterPlace slots.old slots.new }
+    {
+        let leaving = self.close();
+        let mark = leaving.seat.mark();
+        let taken = leaving.seat.take(&mut slots.parts.wakes, place);
+        leaving.leave();
+        (mark, taken)
+    }
+
+    /// With what is left of the reader's slots once its end is gone, and also before: where this
+    /// end waits, and behind its back the reader stored something since and looked, its last ticket
+    /// was taken.
+    pub fn meet_left(&self, slots: &mut WriteSlots, left: &mut ReadSlots)
+        requires { (slots.old.names ≡ self.now.ring.1.1) × (left.old.names ≡ self.now.ring.1.1) }
+        ensures writer { IsWriterPending self.now slots.old → HasRoomNews self.now left.old
+            → left.old.taken ≡ slots.old.tickets }
+        ensures capacity { self.now.capacity ≡ self.now.ring.1.1.capacity }
+        ensures kept { (slots.new ≡ slots.old) × (left.new ≡ left.old) }
+    {
+        let seat = &self.parts.seat;
+        seat.meet_slot(&mut slots.parts.waits, &mut left.parts.wakes);
+    }
+}
