@@ -27,7 +27,7 @@ fn open<R: fs::Files + AllocGlobal>(rt: &R, path: &str) -> io::Result<R::File> {
 fn main(rt: HostRuntime) -> io::Result<()> {
     let file = open(&rt, "poem.txt")?;
     let theirs = rt.clone()?;
-    let (reader, writer) = owned_pipe(&rt, 64)?;
+    let (reader, writer) = owned_pipe(rt.alloc(), 64)?;
     let child = thread::spawn(&rt, move || -> io::Result<()> {
         // The writer comes back and is let go here, which closes the pipe.
         drop(block_on(&theirs, fill_from(writer, file))??);

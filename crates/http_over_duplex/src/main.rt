@@ -95,7 +95,7 @@ fn main(rt: HostRuntime) -> anyhow::Result<()> {
         let path = path?;
         let theirs = rt.clone()?;
         // Each path has a stream of its own, as it would have a connection of its own to a server.
-        let (near, far) = duplex(&rt, rt.alloc(), 64, 64, 1)?;
+        let (near, far) = duplex(rt.alloc(), 64, 64, 1)?;
         let (near, far) = (CompatEnd::new(near), CompatEnd::new(far));
         // The service owns its end: where it returns, the end is let go, which closes both pipes
         // and wakes a client that waits.

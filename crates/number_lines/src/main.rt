@@ -25,7 +25,7 @@ fn print<W: io::Write>(output: &mut W, number: usize, line: &[u8]) -> io::Result
 
 fn main(rt: HostRuntime) -> io::Result<()> {
     let theirs = rt.clone()?;
-    let (reader, writer) = owned_pipe(&rt, 64)?;
+    let (reader, writer) = owned_pipe(rt.alloc(), 64)?;
     let child = thread::spawn(&rt, move || -> io::Result<()> {
         // The writer comes back and is let go here, which closes the pipe.
         drop(block_on(&theirs, fill_from(writer, theirs.stdin()))??);

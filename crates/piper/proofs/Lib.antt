@@ -10,3 +10,7 @@ mod RoundsIn
 mod RoundsOut
 mod Wrote
 mod StaysNotified
+mod SamePlace
+mod RoomOrNone
+mod StandsStill
+mod Woken

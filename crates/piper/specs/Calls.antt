@@ -20,7 +20,7 @@ poll_of (answer.Poll told.Memory) = polling.Ready (Err (record {}))
 poll_of other = polling.Pending
 
 -- whether a waker stood in the handle's own slot, where that was emptied
-abbrev pub own_found : {M : Type 0} → Option (Taken M) → Bool
+abbrev pub own_found : Option Taken → Bool
 own_found None = false
 own_found (Some taken) = found_in taken
 

@@ -1,75 +1,78 @@
 -- The two handles of a pipe.
-use Rattle.std.specs.Prelude.{◌≡◌, ℕ, List, length}
+use Rattle.std.specs.Prelude.{◌≡◌, ℕ, List}
 use Rattle.std.specs.Arc.{arc_value}
 use Rattle.std.specs.Borrow.{Fml, RattleType, MutBor, Array, Lends}
 use denote.Builtin.{u8}
 use Rattle.piper_ring.specs.LendsBuffer.{with_lent}
+use Rattle.piper_ring.specs.SlotsView.{IsAtRest, IsReaderAtRest, SameReaderLooks, SameReaderPlace, SameWriterLooks, SameWriterPlace}
 use Rattle.piper.specs.Slots.{source_of}
 use Rattle.piper.specs.declared.handles.Reader.{Reader}
 use Rattle.piper.specs.declared.handles.Writer.{Writer}
-use Rattle.piper.specs.declared.slot.Notified.{Notified}
 use Rattle.piper.specs.contracts.handles.Writer.{the_row}
 
--- it was the writer's slot that was emptied
-abbrev pub TellsWriter : {H M : Type 0} → Reader H → Notified M → Type 0
-TellsWriter reader notified =
-    notified.slot.id ≡ source_of (arc_value reader.slots).writer
-
--- it was the reader's slot that was emptied
-abbrev pub TellsReader : {H M : Type 0} → Writer H → Notified M → Type 0
-TellsReader writer notified =
-    notified.slot.id ≡ source_of (arc_value writer.slots).reader
-
 -- the handles of one pipe: each wakes the other's slot
-pub record ArePair {H : Type 0} (reader : Reader H) (writer : Writer H) : Type 0 where
+pub record ArePair (reader : Reader) (writer : Writer) : Type 0 where
   pub ring : writer.end.ring ≡ reader.end.ring
   pub slots : arc_value writer.slots ≡ arc_value reader.slots
 
 -- the source at which a task waits that polls the reader
-abbrev pub read_source : {H : Type 0} → Reader H → ℕ
+abbrev pub read_source : Reader → ℕ
 read_source reader = source_of (arc_value reader.slots).reader
 
 -- the source at which a task waits that polls the writer
-abbrev pub write_source : {H : Type 0} → Writer H → ℕ
+abbrev pub write_source : Writer → ℕ
 write_source writer = source_of (arc_value writer.slots).writer
 
--- the writer's slot was emptied behind all that the reader consumed, and who waited there was woken
-pub record NotifiesWriter {H : Type 0} (reader : Reader H) : Type 0 where
-  pub slot : TellsWriter reader reader.notified
-  pub ring : reader.notified.told.names ≡ reader.end.ring.1.1
-  pub count : reader.notified.told.count ≡ length reader.end.taken
+-- the reader looked at the writer's slot behind all that it consumed, and took who waited there
+abbrev pub NotifiesWriter : Reader → Type 0
+NotifiesWriter reader = IsReaderAtRest reader.end reader.waiting
 
--- the reader's slot was emptied behind all that the writer published, and behind
--- its close where it closed the pipe, and who waited there was woken
-pub record NotifiesReader {H : Type 0} (writer : Writer H) : Type 0 where
-  pub slot : TellsReader writer writer.notified
-  pub ring : writer.notified.told.names ≡ writer.end.ring.1.1
-  pub bytes : writer.notified.told.bytes ≡ writer.end.sent
-  pub shut : writer.notified.told.shut ≡ writer.end.shut
+-- the writer looked at the reader's slot behind all that it published,
+-- and behind its close where it closed the pipe, and took who waited there
+abbrev pub NotifiesReader : Writer → Type 0
+NotifiesReader writer = IsAtRest writer.end writer.waiting
 
--- b waits and wakes at the slots of a, and draws the same numbers next
-pub record SameReaderButWoke {H : Type 0} (a b : Reader H) : Type 0 where
+-- b waits as a does and wakes at the slots of a, and draws the same numbers next
+pub record SameReaderButWoke (a b : Reader) : Type 0 where
+  pub slots : b.slots ≡ a.slots
+  pub rng : b.rng ≡ a.rng
+  pub waits : SameReaderPlace a.waiting b.waiting
+
+pub record SameWriterButWoke (a b : Writer) : Type 0 where
+  pub slots : b.slots ≡ a.slots
+  pub rng : b.rng ≡ a.rng
+  pub waits : SameWriterPlace a.waiting b.waiting
+
+-- b woke the other side behind what a had woken it, and may wait otherwise
+pub record SameReaderButWaits (a b : Reader) : Type 0 where
+  pub slots : b.slots ≡ a.slots
+  pub rng : b.rng ≡ a.rng
+  pub looks : SameReaderLooks a.waiting b.waiting
+
+pub record SameWriterButWaits (a b : Writer) : Type 0 where
+  pub slots : b.slots ≡ a.slots
+  pub rng : b.rng ≡ a.rng
+  pub looks : SameWriterLooks a.waiting b.waiting
+
+-- b may wait otherwise, and have woken the other side since
+pub record SameWriterButSlots (a b : Writer) : Type 0 where
   pub slots : b.slots ≡ a.slots
   pub rng : b.rng ≡ a.rng
 
-pub record SameWriterButWoke {H : Type 0} (a b : Writer H) : Type 0 where
+-- b waits as a does, and has woken the other side behind what a had woken it
+pub record SameReader (a b : Reader) : Type 0 where
   pub slots : b.slots ≡ a.slots
   pub rng : b.rng ≡ a.rng
+  pub waiting : b.waiting ≡ a.waiting
 
--- and has woken the other side behind what a had woken it
-pub record SameReader {H : Type 0} (a b : Reader H) : Type 0 where
+pub record SameWriter (a b : Writer) : Type 0 where
   pub slots : b.slots ≡ a.slots
   pub rng : b.rng ≡ a.rng
-  pub notified : b.notified ≡ a.notified
-
-pub record SameWriter {H : Type 0} (a b : Writer H) : Type 0 where
-  pub slots : b.slots ≡ a.slots
-  pub rng : b.rng ≡ a.rng
-  pub notified : b.notified ≡ a.notified
+  pub waiting : b.waiting ≡ a.waiting
 
 -- the handle that writes, once a `&mut` into the slice that
 -- it lent has ended: what is lent holds what was written there
-abbrev pub lends_room : (H : RattleType) → MutBor (Writer H.Denot) → MutBor (List ℕ) → Fml
-lends_room H writer room =
-    Lends (the_row H) (Array u8 0) writer room
+abbrev pub lends_room : MutBor Writer → MutBor (List ℕ) → Fml
+lends_room writer room =
+    Lends the_row (Array u8 0) writer room
     (λ bytes. record writer.now { end = with_lent writer.now.end room.now bytes })

@@ -6,6 +6,7 @@ pub mod Polls
 pub mod Like
 pub mod Written
 pub mod Slots
+pub mod Places
 pub mod Calls
 pub mod Contexts
 pub mod Copies
@@ -16,9 +17,11 @@ pub mod Generator
 pub mod Handles
 pub mod Looks
 pub mod Owned
+pub mod Waits
 -- What the contracts of the ring's ends speak of.
 pub use Rattle.piper_ring.specs.ReadView
 pub use Rattle.piper_ring.specs.WriteView
 pub use Rattle.piper_ring.specs.LendsBuffer
 pub use Rattle.piper_ring.specs.Opened
 pub use Rattle.piper_ring.specs.Shared
+pub use Rattle.piper_ring.specs.SlotsView

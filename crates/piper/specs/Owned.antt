@@ -10,14 +10,12 @@ use Rattle.piper.specs.contracts.handles.Writer.{the_row as writer_row}
 use Rattle.piper.specs.contracts.owned.OwnedReader.{the_row as owned_reader_row}
 use Rattle.piper.specs.contracts.owned.OwnedWriter.{the_row as owned_writer_row}
 
-abbrev pub lends_reader : (H : RattleType)
-    → MutBor (OwnedReader H.Denot) → MutBor (Reader H.Denot) → Fml
-lends_reader H owned reader =
-    Lends (owned_reader_row H) (reader_row H) owned reader
-    (λ (handle : Reader H.Denot). record owned.now { reader = handle })
+abbrev pub lends_reader : MutBor OwnedReader → MutBor Reader → Fml
+lends_reader owned reader =
+    Lends owned_reader_row reader_row owned reader
+    (λ (handle : Reader). record owned.now { reader = handle })
 
-abbrev pub lends_writer : (H : RattleType)
-    → MutBor (OwnedWriter H.Denot) → MutBor (Writer H.Denot) → Fml
-lends_writer H owned writer =
-    Lends (owned_writer_row H) (writer_row H) owned writer
-    (λ (handle : Writer H.Denot). record owned.now { writer = handle })
+abbrev pub lends_writer : MutBor OwnedWriter → MutBor Writer → Fml
+lends_writer owned writer =
+    Lends owned_writer_row writer_row owned writer
+    (λ (handle : Writer). record owned.now { writer = handle })

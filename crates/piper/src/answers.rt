@@ -2,11 +2,11 @@
 //! round or a call.
 ghost use Rattle.std.specs.Prelude.{◌≡◌, Bool, true};
 ghost use Rattle.piper_sides.specs.Table.{read_action, write_action};
-ghost use Rattle.piper.specs.Slots.{found_in, IsToldOf};
+ghost use Rattle.piper.specs.Slots.{found_in};
 ghost use Rattle.piper.specs.Calls.{poll_of, read_woken, write_woken};
 
 use crate::handles::{read_steps, write_steps};
-use crate::slot::{Notified, Taken};
+use crate::slot::Taken;
 use futures::task::Poll;
 use piper_sides::events::Answer;
 use piper_sides::memory::OutOfMemory;
@@ -31,26 +31,26 @@ pub(crate) fn polled(answer: Answer) -> Poll<Result<bool, OutOfMemory>>
 
 /// Calls the waker that the reader took, if there was one.
 #[inline(always)]
-pub(crate) fn read_wake<M>(call: ReadCall, taken: Taken<M>) -> (ReadCall, Notified<M>)
+pub(crate) fn read_wake(call: ReadCall, taken: Taken) -> ReadCall
     requires next { found_in taken ≡ true → read_action call.point ≡ Action.Wake }
-    ensures step { result.0 ≡ read_woken (found_in taken) call }
-    ensures told { IsToldOf taken result.1 }
+    ensures step { result ≡ read_woken (found_in taken) call }
 {
     if taken.is_found() {
         return read_steps::wake(call, taken);
     }
-    (call, taken.wake())
+    taken.let_go();
+    call
 }
 
 /// Calls the waker that the writer took, if there was one.
 #[inline(always)]
-pub(crate) fn write_wake<M>(call: WriteCall, taken: Taken<M>) -> (WriteCall, Notified<M>)
+pub(crate) fn write_wake(call: WriteCall, taken: Taken) -> WriteCall
     requires next { found_in taken ≡ true → write_action call.point ≡ Action.Wake }
-    ensures step { result.0 ≡ write_woken (found_in taken) call }
-    ensures told { IsToldOf taken result.1 }
+    ensures step { result ≡ write_woken (found_in taken) call }
 {
     if taken.is_found() {
         return write_steps::wake(call, taken);
     }
-    (call, taken.wake())
+    taken.let_go();
+    call
 }

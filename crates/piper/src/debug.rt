@@ -2,9 +2,8 @@
 use crate::handles::{Reader, Writer};
 use crate::owned::{OwnedReader, OwnedWriter};
 use std::fmt::{self, Debug, Formatter};
-use std::sync::Wait;
 
-impl<H: Wait + Clone + Drop> Debug for Reader<H> {
+impl Debug for Reader {
     fn fmt<W: fmt::Write>(&self, f: &mut Formatter<W>) -> fmt::Result {
         f.debug_struct("Reader")
             .field("capacity", &self.capacity())
@@ -14,7 +13,7 @@ impl<H: Wait + Clone + Drop> Debug for Reader<H> {
     }
 }
 
-impl<H: Wait + Clone + Drop> Debug for Writer<H> {
+impl Debug for Writer {
     fn fmt<W: fmt::Write>(&self, f: &mut Formatter<W>) -> fmt::Result {
         f.debug_struct("Writer")
             .field("capacity", &self.capacity())
@@ -24,13 +23,13 @@ impl<H: Wait + Clone + Drop> Debug for Writer<H> {
     }
 }
 
-impl<H: Wait + Clone + Drop> Debug for OwnedReader<H> {
+impl Debug for OwnedReader {
     fn fmt<W: fmt::Write>(&self, f: &mut Formatter<W>) -> fmt::Result {
         f.debug_tuple("OwnedReader").field(self.get_ref()).finish()
     }
 }
 
-impl<H: Wait + Clone + Drop> Debug for OwnedWriter<H> {
+impl Debug for OwnedWriter {
     fn fmt<W: fmt::Write>(&self, f: &mut Formatter<W>) -> fmt::Result {
         f.debug_tuple("OwnedWriter").field(self.get_ref()).finish()
     }

@@ -13,9 +13,8 @@ use crate::handles::{Reader, Writer, pipe};
 use crate::io::{AsyncBufRead, AsyncRead, AsyncWrite};
 use futures::task::{Context, Poll};
 use piper_ring::OutOfMemory;
-use std::alloc::AllocGlobal;
+use std::alloc::Global;
 use std::ops::{Deref, DerefMut};
-use std::sync::Wait;
 
 /// Where the generators of a pipe begin for which no seed is chosen.
 pub const DEFAULT_SEED: u64 = 0;
@@ -23,25 +22,22 @@ pub const DEFAULT_SEED: u64 = 0;
 /// A reader that is dropped where it is let go: it closes the pipe and wakes the writer.
 ///
 /// Each call of [`Reader`] can be made on it, with the same contract.
-pub struct OwnedReader<H: Wait + Clone + Drop> {
-    reader: Reader<H>,
+pub struct OwnedReader {
+    reader: Reader,
 }
 
 /// A writer that is dropped where it is let go: it closes the pipe and wakes the reader.
 ///
 /// Each call of [`Writer`] can be made on it, with the same contract.
-pub struct OwnedWriter<H: Wait + Clone + Drop> {
-    writer: Writer<H>,
+pub struct OwnedWriter {
+    writer: Writer,
 }
 
 /// Creates a pipe of `cap` bytes whose handles are let go by themselves.
 ///
-/// It is `pipe` over the global allocator, from the seed `DEFAULT_SEED`. Where memory is refused,
-/// all that was got is given back.
-pub fn owned_pipe<H: Wait + Clone + AllocGlobal + Drop>(
-    rt: &H,
-    cap: usize,
-) -> Result<(OwnedReader<H>, OwnedWriter<H>), OutOfMemory>
+/// It is `pipe` from the seed `DEFAULT_SEED`. Where memory is refused, all that was got is given
+/// back.
+pub fn owned_pipe(alloc: Global, cap: usize) -> Result<(OwnedReader, OwnedWriter), OutOfMemory>
     requires { (0 < cap) × (2 * cap < 2 ^ 64) }
     ensures pair { IfOk result (λ (owned, other). ArePair owned.reader other.writer) }
     ensures reader { IfOk result (λ (owned, _). FreshReadEnd cap owned.reader.end) }
@@ -49,29 +45,29 @@ pub fn owned_pipe<H: Wait + Clone + AllocGlobal + Drop>(
     ensures reader_rng { IfOk result (λ (owned, _). owned.reader.rng ≡ generator 0) }
     ensures writer_rng { IfOk result (λ (_, owned). owned.writer.rng ≡ generator (bit_xor 0 1)) }
 {
-    let (reader, writer) = pipe(rt, rt.alloc(), cap, DEFAULT_SEED)?;
+    let (reader, writer) = pipe(alloc, cap, DEFAULT_SEED)?;
     Ok((OwnedReader { reader }, OwnedWriter { writer }))
 }
 
-impl<H: Wait + Clone + Drop> OwnedReader<H> {
+impl OwnedReader {
     ghost use Rattle.piper.specs.Owned.{lends_reader};
 
-    pub fn new(reader: Reader<H>) -> OwnedReader<H>
+    pub fn new(reader: Reader) -> OwnedReader
         ensures { result.reader ≡ reader }
     {
         OwnedReader { reader }
     }
 
     /// The reader.
-    pub fn get_mut(&mut self) -> &mut Reader<H>
-        ensures* lends { sem 𝓛 (lends_reader H.row self.entry result) }
+    pub fn get_mut(&mut self) -> &mut Reader
+        ensures* lends { sem 𝓛 (lends_reader self.entry result) }
         ensures value { result.now ≡ self.old.reader }
     {
         &mut self.reader
     }
 
     /// The reader, to be looked at.
-    pub fn get_ref(&self) -> &Reader<H>
+    pub fn get_ref(&self) -> &Reader
         ensures { result.now ≡ self.now.reader }
     {
         &self.reader
@@ -79,7 +75,7 @@ impl<H: Wait + Clone + Drop> OwnedReader<H> {
 
     /// The reader itself, which has to be spent by its call `drop`. The pipe is as it was: it is
     /// not closed.
-    pub fn into_inner(self) -> Reader<H>
+    pub fn into_inner(self) -> Reader
         ensures { result ≡ self.reader }
     {
         let OwnedReader { reader } = self;
@@ -87,25 +83,25 @@ impl<H: Wait + Clone + Drop> OwnedReader<H> {
     }
 }
 
-impl<H: Wait + Clone + Drop> OwnedWriter<H> {
+impl OwnedWriter {
     ghost use Rattle.piper.specs.Owned.{lends_writer};
 
-    pub fn new(writer: Writer<H>) -> OwnedWriter<H>
+    pub fn new(writer: Writer) -> OwnedWriter
         ensures { result.writer ≡ writer }
     {
         OwnedWriter { writer }
     }
 
     /// The writer.
-    pub fn get_mut(&mut self) -> &mut Writer<H>
-        ensures* lends { sem 𝓛 (lends_writer H.row self.entry result) }
+    pub fn get_mut(&mut self) -> &mut Writer
+        ensures* lends { sem 𝓛 (lends_writer self.entry result) }
         ensures value { result.now ≡ self.old.writer }
     {
         &mut self.writer
     }
 
     /// The writer, to be looked at.
-    pub fn get_ref(&self) -> &Writer<H>
+    pub fn get_ref(&self) -> &Writer
         ensures { result.now ≡ self.now.writer }
     {
         &self.writer
@@ -113,7 +109,7 @@ impl<H: Wait + Clone + Drop> OwnedWriter<H> {
 
     /// The writer itself, which has to be spent by its call `drop`. The pipe is as it was: it is
     /// not closed.
-    pub fn into_inner(self) -> Writer<H>
+    pub fn into_inner(self) -> Writer
         ensures { result ≡ self.writer }
     {
         let OwnedWriter { writer } = self;
@@ -122,23 +118,23 @@ impl<H: Wait + Clone + Drop> OwnedWriter<H> {
 }
 
 /// So that each call of the reader can be made on its owner.
-impl<H: Wait + Clone + Drop> Deref for OwnedReader<H> {
-    type Target = Reader<H>;
+impl Deref for OwnedReader {
+    type Target = Reader;
 
     ghost deref_gives = { λ owned reader. reader ≡ owned.reader };
 
-    fn deref(&self) -> &Reader<H> {
+    fn deref(&self) -> &Reader {
         &self.reader
     }
 }
 
-impl<H: Wait + Clone + Drop> DerefMut for OwnedReader<H> {
+impl DerefMut for OwnedReader {
     ghost use Rattle.piper.specs.Owned.{lends_reader};
 
     ghost deref_mut_gives = { λ owned reader. reader ≡ owned.reader };
 
-    fn deref_mut(&mut self) -> &mut Reader<H>
-        ensures* lends { sem 𝓛 (lends_reader H.row self.entry result) }
+    fn deref_mut(&mut self) -> &mut Reader
+        ensures* lends { sem 𝓛 (lends_reader self.entry result) }
         ensures shows { result.now ≡ self.old.reader }
     {
         &mut self.reader
@@ -146,44 +142,44 @@ impl<H: Wait + Clone + Drop> DerefMut for OwnedReader<H> {
 }
 
 /// So that each call of the writer can be made on its owner.
-impl<H: Wait + Clone + Drop> Deref for OwnedWriter<H> {
-    type Target = Writer<H>;
+impl Deref for OwnedWriter {
+    type Target = Writer;
 
     ghost deref_gives = { λ owned writer. writer ≡ owned.writer };
 
-    fn deref(&self) -> &Writer<H> {
+    fn deref(&self) -> &Writer {
         &self.writer
     }
 }
 
-impl<H: Wait + Clone + Drop> DerefMut for OwnedWriter<H> {
+impl DerefMut for OwnedWriter {
     ghost use Rattle.piper.specs.Owned.{lends_writer};
 
     ghost deref_mut_gives = { λ owned writer. writer ≡ owned.writer };
 
-    fn deref_mut(&mut self) -> &mut Writer<H>
-        ensures* lends { sem 𝓛 (lends_writer H.row self.entry result) }
+    fn deref_mut(&mut self) -> &mut Writer
+        ensures* lends { sem 𝓛 (lends_writer self.entry result) }
         ensures shows { result.now ≡ self.old.writer }
     {
         &mut self.writer
     }
 }
 
-impl<H: Wait + Clone + Drop> Drop for OwnedReader<H> {
+impl Drop for OwnedReader {
     fn drop(self) {
         let OwnedReader { reader } = self;
         reader.drop();
     }
 }
 
-impl<H: Wait + Clone + Drop> Drop for OwnedWriter<H> {
+impl Drop for OwnedWriter {
     fn drop(self) {
         let OwnedWriter { writer } = self;
         writer.drop();
     }
 }
 
-impl<H: Wait + Clone + Drop> AsyncRead for OwnedReader<H> {
+impl AsyncRead for OwnedReader {
     ghost use Rattle.piper.specs.Handles.{read_source};
 
     ghost taken = { λ owned. owned.reader.end.taken };
@@ -207,7 +203,7 @@ impl<H: Wait + Clone + Drop> AsyncRead for OwnedReader<H> {
     }
 }
 
-impl<H: Wait + Clone + Drop> AsyncBufRead for OwnedReader<H> {
+impl AsyncBufRead for OwnedReader {
     ghost use Rattle.piper_ring.specs.ReadView.{in_one_piece};
     ghost use Rattle.piper.specs.Handles.{read_source};
 
@@ -236,8 +232,8 @@ impl<H: Wait + Clone + Drop> AsyncBufRead for OwnedReader<H> {
     }
 }
 
-impl<H: Wait + Clone + Drop> AsyncWrite for OwnedWriter<H> {
-    ghost use Rattle.piper.specs.Handles.{NotifiesReader, SameWriterButWoke, write_source};
+impl AsyncWrite for OwnedWriter {
+    ghost use Rattle.piper.specs.Handles.{NotifiesReader, SameWriterButSlots, write_source};
 
     ghost sent = { λ owned. owned.writer.end.sent };
 
@@ -267,7 +263,7 @@ impl<H: Wait + Clone + Drop> AsyncWrite for OwnedWriter<H> {
         ensures answer { result ≡ Poll.Ready (Ok (record {})) }
         ensures shut { WriterShut self.old.writer.end self.new.writer.end }
         ensures woke { NotifiesReader self.new.writer }
-        ensures handle { SameWriterButWoke self.old.writer self.new.writer }
+        ensures handle { SameWriterButSlots self.old.writer self.new.writer }
         ensures kept { Keeps cx.old cx.new }
     {
         AsyncWrite::poll_close(&mut self.writer, cx)

@@ -11,17 +11,16 @@ ghost use Rattle.piper.specs.Polls.{Behind};
 
 use crate::answers::{polled, read_wake};
 use crate::handles::Reader;
-use crate::handles::read_steps::take_writer;
-use crate::slot::Notified;
+use crate::left::LeftReader;
 use futures::task::{Context, Poll};
 use piper_ring::{LastReadMark, OutOfMemory, ReadMark};
 use piper_sides::calls::Side;
 use piper_sides::read_call::ReadCall;
 use piper_sides::table::{Action, Found, Purpose, ReadPoint};
-use std::sync::Wait;
 
-impl<H: Wait + Clone + Drop> Reader<H> {
-    ghost use Rattle.piper.specs.Handles.{NotifiesWriter, SameReader, SameReaderButWoke, TellsWriter, read_source};
+impl Reader {
+    ghost use Rattle.piper.specs.Handles.{NotifiesWriter, SameReaderButWaits, SameReaderButWoke, read_source};
+    ghost use Rattle.piper.specs.Waits.{ReaderStands, ReaderWokeLast};
 
     /// How many bytes are unread now: at least those that the reader knows of or was told of. The
     /// writer may publish more at any time.
@@ -77,8 +76,9 @@ impl<H: Wait + Clone + Drop> Reader<H> {
             Behind result (IsEnded self.new.end) self.new.end.known }
         ensures all { KnowsEnd self.old.end → self.new.end.all ≡ self.old.end.all }
         ensures refused { OnRefused result (cx.new.lacks_waker ≡ true) }
-        ensures rest { SameReader self.old self.new }
+        ensures rest { SameReaderButWaits self.old self.new }
         ensures covered { OnPending result (Covers cx.new (λ s. s ≡ read_source self.old)) }
+        ensures waits { OnPending result (ReaderStands self.old self.new cx.new) }
         ensures kept { Keeps cx.old cx.new }
     {
         let (call, none) = self.look(Purpose::Poll);
@@ -107,7 +107,7 @@ impl<H: Wait + Clone + Drop> Reader<H> {
         requires { call.point ≡ ReadPoint.LookTake Purpose.Poll }
         ensures answer { result ≡ Poll.Ready (Ok true) }
         ensures end { self.new.end ≡ self.old.end }
-        ensures rest { SameReader self.old self.new }
+        ensures rest { SameReaderButWaits self.old self.new }
     {
         match self.skip_own(call) {
             Ok(call) => polled(call.end()),
@@ -149,7 +149,7 @@ impl<H: Wait + Clone + Drop> Reader<H> {
         self.wake_writer(call).done();
     }
 
-    /// Empties the writer's slot, and calls the waker that stood in it.
+    /// Takes who stands in the writer's slot, and calls its waker.
     #[inline(always)]
     pub(crate) fn wake_writer(&mut self, call: ReadCall) -> ReadCall
         requires next { read_action call.point ≡ Action.Take Side.Writer }
@@ -174,18 +174,16 @@ impl<H: Wait + Clone + Drop> Reader<H> {
 
     /// Closes the pipe and wakes the writer. The memory is freed if the writer is gone.
     ///
-    /// The answer is evidence: what it tells, for the writer to heed, is that the pipe is closed,
-    /// and all that was ever consumed; and behind the store that closed, the writer's waker was
-    /// taken and called.
-    pub fn drop(self) -> Notified<LastReadMark>
+    /// The answer is evidence, for the writer to take in (`meet_left`): all that was ever consumed,
+    /// that the pipe is closed, and that behind the store that closed, who stood in the writer's
+    /// slot was taken, and its waker called.
+    pub fn drop(self) -> LeftReader
         ensures ring { result.told.consumed.names ≡ self.end.ring.1.1 }
         ensures count { result.told.consumed.count ≡ length self.end.taken }
-        ensures woke { TellsWriter self result }
+        ensures woke { ReaderWokeLast self.end result }
     {
-        let (call, last, slots, rt) = self.store_closed(ReadCall::drop());
-        let (call, taken) = take_writer(&slots, &rt, call, last);
-        let (call, notified) = read_wake(call, taken);
-        call.done();
-        notified
+        let (call, taken, left) = self.close_and_take(ReadCall::drop());
+        read_wake(call, taken).done();
+        left
     }
 }

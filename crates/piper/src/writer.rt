@@ -10,17 +10,16 @@ ghost use Rattle.piper.specs.Looks.{WriterFound, WriterLooked, OnRefused};
 
 use crate::answers::{polled, write_wake};
 use crate::handles::Writer;
-use crate::handles::write_steps::take_reader;
-use crate::slot::Notified;
+use crate::left::LeftWriter;
 use futures::task::{Context, Poll};
 use piper_ring::{OutOfMemory, WriteMark};
 use piper_sides::calls::Side;
 use piper_sides::table::{Action, Found, Purpose, WritePoint};
 use piper_sides::write_call::WriteCall;
-use std::sync::Wait;
 
-impl<H: Wait + Clone + Drop> Writer<H> {
-    ghost use Rattle.piper.specs.Handles.{NotifiesReader, SameWriter, SameWriterButWoke, TellsReader, write_source};
+impl Writer {
+    ghost use Rattle.piper.specs.Handles.{NotifiesReader, SameWriterButSlots, SameWriterButWaits, SameWriterButWoke, write_source};
+    ghost use Rattle.piper.specs.Waits.{WriterStands, WriterWokeLast};
 
     /// How many bytes are unread now: none of those that the writer was told are consumed. The
     /// reader may consume more at any time.
@@ -69,8 +68,9 @@ impl<H: Wait + Clone + Drop> Writer<H> {
         ensures answer { WriterFound result self.new.end }
         ensures looked { WriterLooked self.old.end self.new.end }
         ensures refused { OnRefused result (cx.new.lacks_waker ≡ true) }
-        ensures rest { SameWriter self.old self.new }
+        ensures rest { SameWriterButWaits self.old self.new }
         ensures covered { OnPending result (Covers cx.new (λ s. s ≡ write_source self.old)) }
+        ensures waits { OnPending result (WriterStands self.old self.new cx.new) }
         ensures kept { Keeps cx.old cx.new }
     {
         let (call, is_closed, none) = self.look_closed(WriteCall::look(Purpose::Poll));
@@ -102,7 +102,7 @@ impl<H: Wait + Clone + Drop> Writer<H> {
         requires { call.point ≡ WritePoint.LookTake Purpose.Poll }
         ensures answer { result ≡ Poll.Ready (Ok true) }
         ensures end { self.new.end ≡ self.old.end }
-        ensures rest { SameWriter self.old self.new }
+        ensures rest { SameWriterButWaits self.old self.new }
     {
         match self.skip_own(call) {
             Ok(call) => polled(call.end()),
@@ -132,7 +132,7 @@ impl<H: Wait + Clone + Drop> Writer<H> {
         self.wake_reader(call).done();
     }
 
-    /// Empties the reader's slot, and calls the waker that stood in it.
+    /// Takes who stands in the reader's slot, and calls its waker.
     #[inline(always)]
     pub(crate) fn wake_reader(&mut self, call: WriteCall) -> WriteCall
         requires next { write_action call.point ≡ Action.Take Side.Reader }
@@ -153,7 +153,7 @@ impl<H: Wait + Clone + Drop> Writer<H> {
         ensures answer { result ≡ Poll.Ready (Ok (record {})) }
         ensures woke { NotifiesReader self.new }
         ensures end { WriterShut self.old.end self.new.end }
-        ensures rest { SameWriterButWoke self.old self.new }
+        ensures rest { SameWriterButSlots self.old self.new }
         ensures kept { Keeps cx.old cx.new }
     {
         let _unused = cx;
@@ -161,7 +161,7 @@ impl<H: Wait + Clone + Drop> Writer<H> {
         let call = self.take_and_wake_reader(call);
         let (call, taken) = self.take_own(call);
         match taken {
-            Some(taken) => write_wake(call, taken).0.done(),
+            Some(taken) => write_wake(call, taken).done(),
             None => call.done(),
         }
         Poll::Ready(Ok(()))
@@ -179,19 +179,17 @@ impl<H: Wait + Clone + Drop> Writer<H> {
     /// Closes the pipe and wakes the reader, who can still read what is unread. The memory is freed
     /// if the reader is gone.
     ///
-    /// The answer is evidence: what it tells, for the reader to heed, is that the pipe is closed,
-    /// and all that was ever published; and behind the store that closed, the reader's waker was
-    /// taken and called.
-    pub fn drop(self) -> Notified<WriteMark>
+    /// The answer is evidence, for the reader to take in (`meet_left`): all that was ever published,
+    /// that the pipe is closed, and that behind the store that closed, who stood in the reader's
+    /// slot was taken, and its waker called.
+    pub fn drop(self) -> LeftWriter
         ensures ring { result.told.names ≡ self.end.ring.1.1 }
         ensures bytes { result.told.bytes ≡ self.end.sent }
         ensures shut { result.told.shut ≡ true }
-        ensures woke { TellsReader self result }
+        ensures woke { WriterWokeLast self.end result }
     {
-        let (call, last, slots, rt) = self.store_closed(WriteCall::drop());
-        let (call, taken) = take_reader(&slots, &rt, call, last);
-        let (call, notified) = write_wake(call, taken);
-        call.done();
-        notified
+        let (call, taken, left) = self.close_and_take(WriteCall::drop());
+        write_wake(call, taken).done();
+        left
     }
 }

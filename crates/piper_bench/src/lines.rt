@@ -14,11 +14,11 @@ use std::sync::Wait;
 
 /// Puts `total` bytes of lines in and takes them out again, in turn. It answers the checksum.
 #[inline(never)]
-fn in_turn<H: Wait + Clone + Drop>(
+fn in_turn(
     rt: &impl Wait,
     cx: &mut Context<'_>,
-    writer: &mut Writer<H>,
-    lines: &mut Lines<OwnedReader<H>>,
+    writer: &mut Writer,
+    lines: &mut Lines<OwnedReader>,
     line: &mut Vec<u8>,
     text: &[u8],
     total: usize,
@@ -30,7 +30,7 @@ fn in_turn<H: Wait + Clone + Drop>(
             return Ok(checksum);
         }
         let piece = &text[text.len() - unsent.min(text.len())..];
-        if let Poll::Ready(sent) = InPlace.fill::<ByLibrary, H>(writer, cx, piece) {
+        if let Poll::Ready(sent) = InPlace.fill::<ByLibrary>(writer, cx, piece) {
             unsent = unsent.saturating_sub(sent?);
         }
         if let Poll::Ready(answer) = lines.poll_line(cx, line, usize::MAX) {
@@ -45,7 +45,7 @@ fn in_turn<H: Wait + Clone + Drop>(
 /// Moves lines of `length` bytes through a pipe, the LF with them, and answers the checksum.
 pub fn through_lines<R>(
     rt: &R,
-    (reader, mut writer): (OwnedReader<R>, OwnedWriter<R>),
+    (reader, mut writer): (OwnedReader, OwnedWriter),
     length: usize,
     total: usize,
 ) -> io::Result<u64>

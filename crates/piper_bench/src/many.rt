@@ -27,12 +27,12 @@ const BYTES: [u8; 64] = [7; 64];
 
 /// Takes all bytes of a pipe, and adds how many came to a sum.
 #[derive(Drop)]
-struct Counting<H: Wait + Clone + Drop> {
-    reader: OwnedReader<H>,
+struct Counting {
+    reader: OwnedReader,
     sum: Arc<AtomicU64>,
 }
 
-impl<H: Wait + Clone + Drop> Future for Counting<H> {
+impl Future for Counting {
     type Output = ();
 
     ghost needs = { λ counting s. s ≡ read_source counting.reader.reader };
@@ -54,15 +54,15 @@ impl<H: Wait + Clone + Drop> Future for Counting<H> {
 fn spawn_all<R>(
     rt: &R,
     count: usize,
-    spawner: &LocalSpawner<Counting<R>>,
+    spawner: &LocalSpawner<Counting>,
     came: &Arc<AtomicU64>,
-) -> io::Result<Vec<OwnedWriter<R>>>
+) -> io::Result<Vec<OwnedWriter>>
 where
     R: Wait + AllocGlobal + Clone + Drop,
 {
     let mut writers = Vec::new(rt.alloc());
     for _ in 0..count {
-        let (reader, writer) = owned_pipe(rt, BYTES.len())?;
+        let (reader, writer) = owned_pipe(rt.alloc(), BYTES.len())?;
         let sum = Arc::try_clone(came)?;
         if spawner.spawn(Counting { reader, sum }).is_err() {
             return Err(io::ErrorKind::OutOfMemory.into());
@@ -95,7 +95,7 @@ where
 {
     let mut pipes = Vec::new(rt.alloc());
     for _ in 0..count {
-        pipes.push(owned_pipe(rt, BYTES.len())?)?;
+        pipes.push(owned_pipe(rt.alloc(), BYTES.len())?)?;
     }
     let mut came = 0u64;
     for (reader, writer) in pipes.iter_mut() {

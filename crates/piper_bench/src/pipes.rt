@@ -23,11 +23,7 @@ pub trait Fill {
     /// Puts bytes from the front of the piece in where the writer need not wait, and answers how
     /// many. A way that can do nothing without a task puts none in.
     #[inline(always)]
-    fn fill_at_once<C: Copying, H: Wait + Clone + Drop>(
-        &self,
-        writer: &mut Writer<H>,
-        bytes: &[u8],
-    ) -> usize
+    fn fill_at_once<C: Copying>(&self, writer: &mut Writer, bytes: &[u8]) -> usize
         ensures slots { writer.new.slots ≡ writer.old.slots }
     {
         0
@@ -35,9 +31,9 @@ pub trait Fill {
 
     /// Puts bytes from the front of the piece in, and answers how many. Of a piece that isn't empty
     /// it puts none only where the pipe is closed, and it is pending where there is no room.
-    fn fill<C: Copying, H: Wait + Clone + Drop>(
+    fn fill<C: Copying>(
         &self,
-        writer: &mut Writer<H>,
+        writer: &mut Writer,
         cx: &mut Context<'_>,
         bytes: &[u8],
     ) -> Poll<Result<usize, OutOfMemory>>
@@ -51,11 +47,7 @@ pub trait Drain {
     /// Copies bytes out to the front of the place where the reader need not wait, and answers how
     /// many. A way that can do nothing without a task copies none out.
     #[inline(always)]
-    fn drain_at_once<C: Copying, H: Wait + Clone + Drop>(
-        &self,
-        reader: &mut Reader<H>,
-        place: &mut [u8],
-    ) -> usize
+    fn drain_at_once<C: Copying>(&self, reader: &mut Reader, place: &mut [u8]) -> usize
         ensures slots { reader.new.slots ≡ reader.old.slots }
     {
         0
@@ -63,9 +55,9 @@ pub trait Drain {
 
     /// Copies bytes out to the front of the place, and answers how many. Into a place that has room
     /// it copies none only at the end of the pipe, and it is pending where none is there.
-    fn drain<C: Copying, H: Wait + Clone + Drop>(
+    fn drain<C: Copying>(
         &self,
-        reader: &mut Reader<H>,
+        reader: &mut Reader,
         cx: &mut Context<'_>,
         place: &mut [u8],
     ) -> Poll<Result<usize, OutOfMemory>>
@@ -88,18 +80,14 @@ pub struct Copies;
 
 impl Fill for TryForms {
     #[inline(always)]
-    fn fill_at_once<C: Copying, H: Wait + Clone + Drop>(
-        &self,
-        writer: &mut Writer<H>,
-        bytes: &[u8],
-    ) -> usize {
+    fn fill_at_once<C: Copying>(&self, writer: &mut Writer, bytes: &[u8]) -> usize {
         writer.try_fill(bytes)
     }
 
     #[inline(always)]
-    fn fill<C: Copying, H: Wait + Clone + Drop>(
+    fn fill<C: Copying>(
         &self,
-        writer: &mut Writer<H>,
+        writer: &mut Writer,
         cx: &mut Context<'_>,
         bytes: &[u8],
     ) -> Poll<Result<usize, OutOfMemory>> {
@@ -117,18 +105,14 @@ impl Fill for TryForms {
 
 impl Drain for TryForms {
     #[inline(always)]
-    fn drain_at_once<C: Copying, H: Wait + Clone + Drop>(
-        &self,
-        reader: &mut Reader<H>,
-        place: &mut [u8],
-    ) -> usize {
+    fn drain_at_once<C: Copying>(&self, reader: &mut Reader, place: &mut [u8]) -> usize {
         reader.try_drain(place)
     }
 
     #[inline(always)]
-    fn drain<C: Copying, H: Wait + Clone + Drop>(
+    fn drain<C: Copying>(
         &self,
-        reader: &mut Reader<H>,
+        reader: &mut Reader,
         cx: &mut Context<'_>,
         place: &mut [u8],
     ) -> Poll<Result<usize, OutOfMemory>> {
@@ -146,11 +130,7 @@ impl Drain for TryForms {
 
 impl Fill for InPlace {
     #[inline(always)]
-    fn fill_at_once<C: Copying, H: Wait + Clone + Drop>(
-        &self,
-        writer: &mut Writer<H>,
-        bytes: &[u8],
-    ) -> usize {
+    fn fill_at_once<C: Copying>(&self, writer: &mut Writer, bytes: &[u8]) -> usize {
         let buf = writer.write_buf(bytes.len());
         let n = buf.len();
         // As in `put` of a ring.
@@ -165,9 +145,9 @@ impl Fill for InPlace {
     }
 
     #[inline(always)]
-    fn fill<C: Copying, H: Wait + Clone + Drop>(
+    fn fill<C: Copying>(
         &self,
-        writer: &mut Writer<H>,
+        writer: &mut Writer,
         cx: &mut Context<'_>,
         bytes: &[u8],
     ) -> Poll<Result<usize, OutOfMemory>> {
@@ -178,17 +158,13 @@ impl Fill for InPlace {
                 Poll::Ready(Ok(_)) => {}
             }
         }
-        Poll::Ready(Ok(self.fill_at_once::<C, H>(writer, bytes)))
+        Poll::Ready(Ok(self.fill_at_once::<C>(writer, bytes)))
     }
 }
 
 impl Drain for InPlace {
     #[inline(always)]
-    fn drain_at_once<C: Copying, H: Wait + Clone + Drop>(
-        &self,
-        reader: &mut Reader<H>,
-        place: &mut [u8],
-    ) -> usize {
+    fn drain_at_once<C: Copying>(&self, reader: &mut Reader, place: &mut [u8]) -> usize {
         let piece = reader.peek_buf();
         let n = piece.len();
         // As in `get` of a ring.
@@ -205,9 +181,9 @@ impl Drain for InPlace {
     }
 
     #[inline(always)]
-    fn drain<C: Copying, H: Wait + Clone + Drop>(
+    fn drain<C: Copying>(
         &self,
-        reader: &mut Reader<H>,
+        reader: &mut Reader,
         cx: &mut Context<'_>,
         place: &mut [u8],
     ) -> Poll<Result<usize, OutOfMemory>> {
@@ -218,15 +194,15 @@ impl Drain for InPlace {
                 Poll::Ready(Ok(_)) => {}
             }
         }
-        Poll::Ready(Ok(self.drain_at_once::<C, H>(reader, place)))
+        Poll::Ready(Ok(self.drain_at_once::<C>(reader, place)))
     }
 }
 
 impl Fill for Copies {
     #[inline(always)]
-    fn fill<C: Copying, H: Wait + Clone + Drop>(
+    fn fill<C: Copying>(
         &self,
-        writer: &mut Writer<H>,
+        writer: &mut Writer,
         cx: &mut Context<'_>,
         bytes: &[u8],
     ) -> Poll<Result<usize, OutOfMemory>> {
@@ -236,9 +212,9 @@ impl Fill for Copies {
 
 impl Drain for Copies {
     #[inline(always)]
-    fn drain<C: Copying, H: Wait + Clone + Drop>(
+    fn drain<C: Copying>(
         &self,
-        reader: &mut Reader<H>,
+        reader: &mut Reader,
         cx: &mut Context<'_>,
         place: &mut [u8],
     ) -> Poll<Result<usize, OutOfMemory>> {
@@ -258,12 +234,12 @@ fn moved(polled: Poll<Result<usize, OutOfMemory>>) -> Result<usize, OutOfMemory>
 /// Puts `total` bytes in and takes them out again, in turn, on one thread and under one task. It
 /// answers the checksum.
 #[inline(never)]
-fn in_turn<F: Fill + Drop, D: Drain + Drop, H: Wait + Clone + Drop>(
+fn in_turn<F: Fill + Drop, D: Drain + Drop>(
     rt: &impl Wait,
     (by_fill, by_drain): (F, D),
     cx: &mut Context<'_>,
-    reader: &mut Reader<H>,
-    writer: &mut Writer<H>,
+    reader: &mut Reader,
+    writer: &mut Writer,
     source: &[u8],
     place: &mut [u8],
     total: usize,
@@ -275,9 +251,9 @@ fn in_turn<F: Fill + Drop, D: Drain + Drop, H: Wait + Clone + Drop>(
             return Ok(checksum);
         }
         let piece = &source[..unsent.min(source.len())];
-        let sent = moved(by_fill.fill::<ByLibrary, H>(writer, cx, piece))?;
+        let sent = moved(by_fill.fill::<ByLibrary>(writer, cx, piece))?;
         unsent = unsent.saturating_sub(sent);
-        let n = moved(by_drain.drain::<ByLibrary, H>(reader, cx, place))?;
+        let n = moved(by_drain.drain::<ByLibrary>(reader, cx, place))?;
         left = left.saturating_sub(n);
         checksum = add_piece(checksum, place, n);
     }
@@ -286,14 +262,14 @@ fn in_turn<F: Fill + Drop, D: Drain + Drop, H: Wait + Clone + Drop>(
 
 /// Puts in what is left of so many bytes, or less where the pipe is closed.
 #[derive(Drop)]
-struct Filling<'a, F: Drop, H: Wait + Clone + Drop> {
+struct Filling<'a, F: Drop> {
     way: F,
-    writer: &'a mut Writer<H>,
+    writer: &'a mut Writer,
     source: &'a [u8],
     left: usize,
 }
 
-impl<F: Fill + Drop, H: Wait + Clone + Drop> Mover for Filling<'_, F, H> {
+impl<F: Fill + Drop> Mover for Filling<'_, F> {
     type Error = OutOfMemory;
 
     ghost needs = { λ mover s. s ≡ write_source mover.writer.now };
@@ -301,7 +277,7 @@ impl<F: Fill + Drop, H: Wait + Clone + Drop> Mover for Filling<'_, F, H> {
     #[inline(always)]
     fn move_at_once(&mut self) -> usize {
         let piece = &self.source[..self.left.min(self.source.len())];
-        let n = self.way.fill_at_once::<ByLoop, H>(self.writer, piece);
+        let n = self.way.fill_at_once::<ByLoop>(self.writer, piece);
         self.left = self.left.saturating_sub(n);
         n
     }
@@ -317,7 +293,7 @@ impl<F: Fill + Drop, H: Wait + Clone + Drop> Mover for Filling<'_, F, H> {
         if piece.is_empty() {
             return Poll::Ready(Ok(0));
         }
-        let filled = self.way.fill::<ByLoop, H>(self.writer, cx, piece);
+        let filled = self.way.fill::<ByLoop>(self.writer, cx, piece);
         if let Poll::Ready(Ok(n)) = &filled {
             self.left = self.left.saturating_sub(*n);
         }
@@ -331,21 +307,21 @@ impl<F: Fill + Drop, H: Wait + Clone + Drop> Mover for Filling<'_, F, H> {
 
 /// Takes bytes out up to the end of the pipe.
 #[derive(Drop)]
-struct Draining<'a, D: Drop, H: Wait + Clone + Drop> {
+struct Draining<'a, D: Drop> {
     way: D,
-    reader: &'a mut Reader<H>,
+    reader: &'a mut Reader,
     place: &'a mut [u8],
     checksum: u64,
 }
 
-impl<D: Drain + Drop, H: Wait + Clone + Drop> Mover for Draining<'_, D, H> {
+impl<D: Drain + Drop> Mover for Draining<'_, D> {
     type Error = OutOfMemory;
 
     ghost needs = { λ mover s. s ≡ read_source mover.reader.now };
 
     #[inline(always)]
     fn move_at_once(&mut self) -> usize {
-        let n = self.way.drain_at_once::<ByLoop, H>(self.reader, self.place);
+        let n = self.way.drain_at_once::<ByLoop>(self.reader, self.place);
         self.checksum = add_piece(self.checksum, self.place, n);
         n
     }
@@ -357,7 +333,7 @@ impl<D: Drain + Drop, H: Wait + Clone + Drop> Mover for Draining<'_, D, H> {
     #[cold]
     #[inline(never)]
     fn move_piece(&mut self, cx: &mut Context<'_>) -> Poll<Result<usize, OutOfMemory>> {
-        let drained = self.way.drain::<ByLoop, H>(self.reader, cx, self.place);
+        let drained = self.way.drain::<ByLoop>(self.reader, cx, self.place);
         if let Poll::Ready(Ok(n)) = &drained {
             self.checksum = add_piece(self.checksum, self.place, *n);
         }
@@ -369,10 +345,10 @@ impl<D: Drain + Drop, H: Wait + Clone + Drop> Mover for Draining<'_, D, H> {
     }
 }
 
-fn fill_all<F: Fill + Drop, R: Wait + RandomSource + AllocGlobal, H: Wait + Clone + Drop>(
+fn fill_all<F: Fill + Drop, R: Wait + RandomSource + AllocGlobal>(
     rt: &R,
     way: F,
-    mut writer: OwnedWriter<H>,
+    mut writer: OwnedWriter,
     source: &[u8],
     work: Work,
 ) -> io::Result<Result<u64, OutOfMemory>> {
@@ -386,10 +362,10 @@ fn fill_all<F: Fill + Drop, R: Wait + RandomSource + AllocGlobal, H: Wait + Clon
     move_all(rt, mover, work.yields())
 }
 
-fn drain_all<D: Drain + Drop, R: Wait + RandomSource + AllocGlobal, H: Wait + Clone + Drop>(
+fn drain_all<D: Drain + Drop, R: Wait + RandomSource + AllocGlobal>(
     rt: &R,
     way: D,
-    mut reader: OwnedReader<H>,
+    mut reader: OwnedReader,
     place: &mut [u8],
     work: Work,
 ) -> io::Result<Result<u64, OutOfMemory>> {
@@ -409,7 +385,7 @@ pub fn through_pipe<F, D, R>(
     rt: &R,
     task: &MockTask,
     ways: (F, D),
-    handles: (OwnedReader<R>, OwnedWriter<R>),
+    handles: (OwnedReader, OwnedWriter),
     work: Work,
     source: &[u8],
     place: &mut [u8],

@@ -236,11 +236,11 @@ where
     Ok((start.elapsed(rt)?, checksum))
 }
 
-fn compat_of<R>(rt: &R, work: Work) -> Result<(CompatReader<R>, CompatWriter<R>), AllocError>
+fn compat_of<R>(rt: &R, work: Work) -> Result<(CompatReader, CompatWriter), AllocError>
 where
     R: Wait + AllocGlobal + Clone + Drop,
 {
-    match pipe(rt, rt.alloc(), work.capacity, 1) {
+    match pipe(rt.alloc(), work.capacity, 1) {
         Ok((reader, writer)) => Ok((CompatReader::new(reader), CompatWriter::new(writer))),
         Err(OutOfMemory) => Err(AllocError),
     }
@@ -256,11 +256,11 @@ fn ring_of(
     }
 }
 
-fn pipe_of<R>(rt: &R, work: Work) -> Result<(OwnedReader<R>, OwnedWriter<R>), AllocError>
+fn pipe_of<R>(rt: &R, work: Work) -> Result<(OwnedReader, OwnedWriter), AllocError>
 where
     R: Wait + AllocGlobal + Clone + Drop,
 {
-    match pipe(rt, rt.alloc(), work.capacity, 1) {
+    match pipe(rt.alloc(), work.capacity, 1) {
         Ok((reader, writer)) => Ok((OwnedReader::new(reader), OwnedWriter::new(writer))),
         Err(OutOfMemory) => Err(AllocError),
     }

@@ -1,36 +1,34 @@
 //! The two ends of a duplex stream. Each reads from the one pipe and writes into the other.
-ghost use Rattle.std.specs.Prelude.{◌≡◌, ◌*◌, ◌^◌, ◌<◌, IfOk};
+ghost use Rattle.std.specs.Prelude.{◌≡◌, ◌*◌, ◌^◌, ◌<◌, IfOk, length};
+ghost use Rattle.piper.specs.Waits.{ReaderWokeLast, WriterWokeLast};
 ghost use Rattle.piper_duplex.specs.Crosswise.{IsNewPipe};
 
 mod streams;
 
-use piper::{OutOfMemory, Reader, Writer, pipe};
+use piper::{LeftReader, LeftWriter, OutOfMemory, Reader, Writer, pipe};
 use std::alloc::Global;
 use std::fmt::{self, Debug, Formatter};
-use std::sync::Wait;
 
 /// One end of a duplex stream.
 ///
 /// It is made by `duplex`, can't be cloned, and has to be spent: by its call `drop`, or by
 /// `into_halves`. In clauses, `reader` and `writer` are the handles that the calls of these names
 /// lend.
-pub struct End<H: Wait + Clone + Drop> {
-    reader: Reader<H>,
-    writer: Writer<H>,
+pub struct End {
+    reader: Reader,
+    writer: Writer,
 }
 
 /// Creates a duplex stream: what the first end writes the second reads, through a pipe of `cap_a`
 /// bytes, and what the second writes the first reads, through one of `cap_b`.
 ///
-/// Each of the four handles keeps a clone of `rt`, and both pipes take `seed`. Where memory is
-/// refused, all that was got is given back.
-pub fn duplex<H: Wait + Clone + Drop>(
-    rt: &H,
+/// Both pipes take `seed`. Where memory is refused, all that was got is given back.
+pub fn duplex(
     alloc: Global,
     cap_a: usize,
     cap_b: usize,
     seed: u64,
-) -> Result<(End<H>, End<H>), OutOfMemory>
+) -> Result<(End, End), OutOfMemory>
     requires there { (0 < cap_a) × (2 * cap_a < 2 ^ 64) }
     requires back { (0 < cap_b) × (2 * cap_b < 2 ^ 64) }
     ensures there { IfOk result
@@ -38,8 +36,8 @@ pub fn duplex<H: Wait + Clone + Drop>(
     ensures back { IfOk result
         (λ (first, second). IsNewPipe cap_b seed first.reader second.writer) }
 {
-    let (there_reader, there_writer) = pipe(rt, alloc, cap_a, seed)?;
-    let (back_reader, back_writer) = match pipe(rt, alloc, cap_b, seed) {
+    let (there_reader, there_writer) = pipe(alloc, cap_a, seed)?;
+    let (back_reader, back_writer) = match pipe(alloc, cap_b, seed) {
         Ok(handles) => handles,
         Err(refused) => {
             there_writer.drop();
@@ -58,18 +56,18 @@ pub fn duplex<H: Wait + Clone + Drop>(
     Ok((first, second))
 }
 
-impl<H: Wait + Clone + Drop> End<H> {
+impl End {
     ghost use Rattle.piper_duplex.specs.Crosswise.{HaveMet};
 
     /// The handle that reads what the other end writes.
-    pub fn reader(&self) -> &Reader<H>
+    pub fn reader(&self) -> &Reader
         ensures { result.now ≡ self.now.reader }
     {
         &self.reader
     }
 
     /// The handle that writes what the other end reads.
-    pub fn writer(&self) -> &Writer<H>
+    pub fn writer(&self) -> &Writer
         ensures { result.now ≡ self.now.writer }
     {
         &self.writer
@@ -77,7 +75,7 @@ impl<H: Wait + Clone + Drop> End<H> {
 
     /// Both handles, each for itself: for two tasks, or for a reader of lines over the one and
     /// answers through the other.
-    pub fn into_halves(self) -> (Reader<H>, Writer<H>)
+    pub fn into_halves(self) -> (Reader, Writer)
         ensures reader { result.0 ≡ self.reader }
         ensures writer { result.1 ≡ self.writer }
     {
@@ -87,7 +85,7 @@ impl<H: Wait + Clone + Drop> End<H> {
 
     /// Both ends in one hand: then each reader knows of all that the writer at the other end
     /// published, in its order. It takes no lock and no memory.
-    pub fn meet(&mut self, other: &mut End<H>)
+    pub fn meet(&mut self, other: &mut End)
         requires there { self.old.writer.end.ring ≡ other.old.reader.end.ring }
         requires back { other.old.writer.end.ring ≡ self.old.reader.end.ring }
         ensures there { HaveMet other.old.reader other.new.reader self.old.writer self.new.writer }
@@ -98,15 +96,23 @@ impl<H: Wait + Clone + Drop> End<H> {
     }
 
     /// Closes both pipes, first the one that it writes into, and wakes who waits at the other end.
-    /// What is unread there can still be read.
-    pub fn drop(self) {
+    /// What is unread there can still be read. The answer is what is left of both handles, for those
+    /// of the other end to take in.
+    pub fn drop(self) -> (LeftReader, LeftWriter)
+        ensures ring { (result.0.told.consumed.names ≡ self.reader.end.ring.1.1)
+            × (result.1.told.names ≡ self.writer.end.ring.1.1) }
+        ensures taken { result.0.told.consumed.count ≡ length self.reader.end.taken }
+        ensures sent { result.1.told.bytes ≡ self.writer.end.sent }
+        ensures woke { ReaderWokeLast self.reader.end result.0
+            × WriterWokeLast self.writer.end result.1 }
+    {
         let End { reader, writer } = self;
-        writer.drop();
-        reader.drop();
+        let left = writer.drop();
+        (reader.drop(), left)
     }
 }
 
-impl<H: Wait + Clone + Drop> Debug for End<H> {
+impl Debug for End {
     fn fmt<O: fmt::Write>(&self, f: &mut Formatter<O>) -> fmt::Result {
         f.debug_struct("End")
             .field("reader", &self.reader)

@@ -95,9 +95,7 @@ where
     ensures { IfErr result (λ e. e.status ≡ 2) }
 {
     let theirs = rt.clone().map_err(|_| Ended::OUT_OF_MEMORY)?;
-    let (first, second) = duplex(rt, alloc, CAPACITY, CAPACITY, 1).map_err(
-        |_| Ended::OUT_OF_MEMORY,
-    )?;
+    let (first, second) = duplex(alloc, CAPACITY, CAPACITY, 1).map_err(|_| Ended::OUT_OF_MEMORY)?;
     let (reader, writer) = second.into_halves();
     let echo = EchoAll::new(alloc, OwnedReader::new(reader), OwnedWriter::new(writer));
     let spawned = thread::spawn(rt, move || {

@@ -6,15 +6,10 @@ use piper::{OwnedReader, OwnedWriter, owned_pipe};
 use piper_duplex::{Echoed, Ended, LineEcho, duplex, echo};
 use piper_lines::Lines;
 use std::process::Abort;
-use std::sync::Wait;
 use std::test::Fail;
 
 /// What the one end writes the other reads.
-fn halves<H: Wait + Clone + Drop>(
-    rt: &impl Abort,
-    mut reader: OwnedReader<H>,
-    mut writer: OwnedWriter<H>,
-) {
+fn halves(rt: &impl Abort, mut reader: OwnedReader, mut writer: OwnedWriter) {
     let mut place = [0; 4];
     writer.try_fill(b"ab");
     assert_eq!(rt; (reader.try_drain(&mut place), &place), (2, b"ab\0\0"));
@@ -40,7 +35,7 @@ where
 fn bytes_go_both_ways(rt: HostRuntime) -> Result<(), Fail> {
     let alloc = rt.alloc();
     let task = MockTask::new(&rt)?;
-    let (mut near, mut far) = duplex(&rt, alloc, 8, 8, 1)?;
+    let (mut near, mut far) = duplex(alloc, 8, 8, 1)?;
     assert_eq!(rt; (near.reader().len(), near.writer().capacity()), (0, 8));
     near.meet(&mut far);
     let (reader, back) = far.into_halves();
@@ -48,11 +43,11 @@ fn bytes_go_both_ways(rt: HostRuntime) -> Result<(), Fail> {
     halves(&rt, OwnedReader::new(reader), OwnedWriter::new(writer));
     back.drop();
     answers.drop();
-    let (near, far) = duplex(&rt, alloc, 8, 8, 1)?;
+    let (near, far) = duplex(alloc, 8, 8, 1)?;
     near.drop();
     far.drop();
-    let (reader, mut writer) = owned_pipe(&rt, 8)?;
-    let (mut last, mut second) = owned_pipe(&rt, 8)?;
+    let (reader, mut writer) = owned_pipe(rt.alloc(), 8)?;
+    let (mut last, mut second) = owned_pipe(rt.alloc(), 8)?;
     writer.try_fill(b"a\nb");
     drop(writer);
     let mut lines = Lines::new(alloc, reader);

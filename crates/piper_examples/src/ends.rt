@@ -1,24 +1,14 @@
-//! How a pipe begins and ends, what its sides can prove to each other, and the slot that a waker
-//! waits in.
+//! How a pipe begins and ends, and what its sides can prove to each other.
 ghost use Rattle.piper.specs.Handles.{ArePair};
 
 use futures::task::Context;
 use futures::test::MockTask;
-use piper::{OwnedReader, OwnedWriter, Reader, Slot, Writer, pipe};
+use piper::{OwnedReader, OwnedWriter, Reader, Writer, pipe};
 use std::process::Abort;
-use std::sync::Wait;
 use std::test::Fail;
 
 /// The writer closes the pipe; what is unread can still be read.
-fn poll_close<H>(
-    rt: &impl Abort,
-    cx: &mut Context<'_>,
-    reader: &mut Reader<H>,
-    writer: &mut Writer<H>,
-)
-where
-    H: Wait + Clone + Drop,
-{
+fn poll_close(rt: &impl Abort, cx: &mut Context<'_>, reader: &mut Reader, writer: &mut Writer) {
     writer.try_fill(b"ab");
     assert!(rt; writer.poll_close(cx).is_ready());
     assert_eq!(rt;
@@ -28,11 +18,7 @@ where
 }
 
 /// What a side did, the other heeds; in one hand both meet.
-fn mark_and_meet<H: Wait + Clone + Drop>(
-    rt: &impl Abort,
-    mut reader: Reader<H>,
-    mut writer: Writer<H>,
-)
+fn mark_and_meet(rt: &impl Abort, mut reader: Reader, mut writer: Writer)
     requires { ArePair reader writer }
 {
     reader.meet(&mut writer);
@@ -49,7 +35,7 @@ fn mark_and_meet<H: Wait + Clone + Drop>(
 }
 
 /// An owner lets its handle go by itself.
-fn owners<H: Wait + Clone + Drop>(rt: &impl Abort, reader: Reader<H>, writer: Writer<H>) {
+fn owners(rt: &impl Abort, reader: Reader, writer: Writer) {
     let (mut reader, mut writer) = (OwnedReader::new(reader), OwnedWriter::new(writer));
     writer.get_mut().try_fill(b"ab");
     reader.get_mut().try_drain(&mut [0; 1]);
@@ -59,30 +45,17 @@ fn owners<H: Wait + Clone + Drop>(rt: &impl Abort, reader: Reader<H>, writer: Wr
     writer.into_inner().drop();
 }
 
-/// A waker is left in a slot, taken out and called.
-fn slot(rt: &(impl Abort + Wait), cx: &mut Context<'_>) {
-    let slot = Slot::new();
-    assert!(rt; slot.find_none(()).is_ok());
-    assert!(rt; slot.register(rt, cx).is_ok());
-    let taken = slot.take(rt, ());
-    assert!(rt; taken.is_found());
-    taken.wake();
-    slot.take(rt, ()).let_go();
-}
-
 #[test]
 fn how_pipes_begin_and_end(rt: HostRuntime) -> Result<(), Fail> {
     let alloc = rt.alloc();
     let task = MockTask::new(&rt)?;
-    let (mut reader, mut writer) = pipe(&rt, alloc, 4, 1)?;
+    let (mut reader, mut writer) = pipe(alloc, 4, 1)?;
     task.enter(|cx| poll_close(&rt, cx, &mut reader, &mut writer));
     reader.drop();
     writer.drop();
-    let (reader, writer) = pipe(&rt, alloc, 4, 1)?;
+    let (reader, writer) = pipe(alloc, 4, 1)?;
     mark_and_meet(&rt, reader, writer);
-    let (reader, writer) = pipe(&rt, alloc, 4, 1)?;
+    let (reader, writer) = pipe(alloc, 4, 1)?;
     owners(&rt, reader, writer);
-    task.enter(|cx| slot(&rt, cx));
-    assert!(rt; task.is_woken());
     Ok(())
 }

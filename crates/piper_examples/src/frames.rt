@@ -63,7 +63,7 @@ fn poll_all<R: AsyncBufRead>(
 fn frames_are_written_and_read(rt: HostRuntime) -> Result<(), Fail> {
     let alloc = rt.alloc();
     let task = MockTask::new(&rt)?;
-    let (reader, mut writer) = owned_pipe(&rt, 32)?;
+    let (reader, mut writer) = owned_pipe(rt.alloc(), 32)?;
     tell(&rt);
     task.enter(|cx| write_frame(&rt, cx, &mut writer));
     let mut frames = Frames::new(alloc, reader);

@@ -5,14 +5,10 @@ use futures::test::MockTask;
 use piper::like::{ReadBytes, ReadLike, WriteBytes, WriteLike};
 use piper::{Reader, Writer, owned_pipe};
 use std::process::Abort;
-use std::sync::Wait;
 use std::test::Fail;
 
 /// Bytes move as far as there is room, and as many as there are.
-fn try_fill_and_try_drain<H>(rt: &impl Abort, reader: &mut Reader<H>, writer: &mut Writer<H>)
-where
-    H: Wait + Clone + Drop,
-{
+fn try_fill_and_try_drain(rt: &impl Abort, reader: &mut Reader, writer: &mut Writer) {
     assert_eq!(rt; writer.try_fill(b"hello"), 4);
     let mut place = [0; 3];
     assert_eq!(rt; (reader.try_drain(&mut place), &place), (3, b"hel"));
@@ -20,10 +16,7 @@ where
 }
 
 /// Both sides can ask how the pipe stands.
-fn len_and_capacity<H>(rt: &impl Abort, reader: &mut Reader<H>, writer: &mut Writer<H>)
-where
-    H: Wait + Clone + Drop,
-{
+fn len_and_capacity(rt: &impl Abort, reader: &mut Reader, writer: &mut Writer) {
     writer.try_fill(b"abcd");
     assert_eq!(rt;
         (writer.len(), writer.is_full(), writer.is_empty()),
@@ -39,15 +32,12 @@ where
 }
 
 /// Bytes are written and read where they lie.
-fn write_buf_and_peek_buf<H>(
+fn write_buf_and_peek_buf(
     rt: &impl Abort,
     cx: &mut Context<'_>,
-    reader: &mut Reader<H>,
-    writer: &mut Writer<H>,
-)
-where
-    H: Wait + Clone + Drop,
-{
+    reader: &mut Reader,
+    writer: &mut Writer,
+) {
     let _has_room = writer.poll(cx);
     let lent = writer.write_buf(1);
     let count = lent.len();
@@ -60,10 +50,7 @@ where
 }
 
 /// A poll waits for a byte or for room, and leaves the task's waker where it is pending.
-fn poll<H>(rt: &impl Abort, cx: &mut Context<'_>, reader: &mut Reader<H>, writer: &mut Writer<H>)
-where
-    H: Wait + Clone + Drop,
-{
+fn poll(rt: &impl Abort, cx: &mut Context<'_>, reader: &mut Reader, writer: &mut Writer) {
     assert!(rt; matches!(reader.poll(cx), Poll::Pending));
     writer.try_fill(b"abcd");
     assert!(rt; matches!(writer.poll(cx), Poll::Pending));
@@ -73,15 +60,12 @@ where
 }
 
 /// Slices move by polls: a count of 0 would be the end.
-fn poll_fill_bytes_and_poll_drain_bytes<H>(
+fn poll_fill_bytes_and_poll_drain_bytes(
     rt: &impl Abort,
     cx: &mut Context<'_>,
-    reader: &mut Reader<H>,
-    writer: &mut Writer<H>,
-)
-where
-    H: Wait + Clone + Drop,
-{
+    reader: &mut Reader,
+    writer: &mut Writer,
+) {
     let mut place = [0; 4];
     assert!(rt; matches!(writer.poll_fill_bytes(cx, b"ab"), Poll::Ready(Ok(2))));
     assert!(rt; matches!(reader.poll_drain_bytes(cx, &mut place), Poll::Ready(Ok(2))));
@@ -89,15 +73,12 @@ where
 }
 
 /// Bytes come from a reader of std, and go to a writer of std, with no buffer between.
-fn poll_fill_and_poll_drain<H>(
+fn poll_fill_and_poll_drain(
     rt: &impl Abort,
     cx: &mut Context<'_>,
-    reader: &mut Reader<H>,
-    writer: &mut Writer<H>,
-)
-where
-    H: Wait + Clone + Drop,
-{
+    reader: &mut Reader,
+    writer: &mut Writer,
+) {
     let mut source = b"ab".as_slice();
     let mut place = [0; 4];
     let mut dest = place.as_mut_slice();
@@ -107,10 +88,7 @@ where
 }
 
 /// The same over any source and destination. With no task it moves what can be moved now.
-fn fill_inner_and_drain_inner<H>(rt: &impl Abort, reader: &mut Reader<H>, writer: &mut Writer<H>)
-where
-    H: Wait + Clone + Drop,
-{
+fn fill_inner_and_drain_inner(rt: &impl Abort, reader: &mut Reader, writer: &mut Writer) {
     let mut source = ReadBytes::new(b"abc");
     let mut place = [0; 3];
     let mut dest = WriteBytes::new(&mut place);
@@ -130,7 +108,7 @@ fn read_and_write(rt: &impl Abort) {
 
 #[test]
 fn what_both_handles_do(rt: HostRuntime) -> Result<(), Fail> {
-    let (mut reader, mut writer) = owned_pipe(&rt, 4)?;
+    let (mut reader, mut writer) = owned_pipe(rt.alloc(), 4)?;
     let (reader, writer) = (reader.get_mut(), writer.get_mut());
     let task = MockTask::new(&rt)?;
     task.enter(|cx| poll(&rt, cx, reader, writer));

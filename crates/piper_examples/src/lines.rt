@@ -58,7 +58,7 @@ where
 fn lines_are_written_and_read(rt: HostRuntime) -> Result<(), Fail> {
     let alloc = rt.alloc();
     let task = MockTask::new(&rt)?;
-    let (reader, mut writer) = owned_pipe(&rt, 32)?;
+    let (reader, mut writer) = owned_pipe(rt.alloc(), 32)?;
     let mut line = Vec::new(alloc);
     task.enter(|cx| write_line(&rt, cx, &mut writer));
     let mut lines = Lines::new(alloc, reader);

@@ -69,8 +69,8 @@ fn of_std(rt: &impl Abort) {
 
 #[test]
 fn what_readers_and_writers_do(rt: HostRuntime) -> Result<(), Fail> {
-    let (mut reader, mut writer) = owned_pipe(&rt, 8)?;
-    let (mut last, mut second) = owned_pipe(&rt, 8)?;
+    let (mut reader, mut writer) = owned_pipe(rt.alloc(), 8)?;
+    let (mut last, mut second) = owned_pipe(rt.alloc(), 8)?;
     let task = MockTask::new(&rt)?;
     task.enter(|cx| {
         poll_write_and_poll_read(&rt, cx, &mut reader, &mut writer);

@@ -15,7 +15,6 @@ use piper::io::{AsyncWrite, Copied};
 use piper::{OwnedWriter, PipeError, Writer};
 use std::fmt::{self, Debug, Formatter};
 use std::io::Read;
-use std::sync::Wait;
 
 /// A writer that readers of std can read into, with no bytes held in between.
 pub trait AsyncFill: AsyncWrite {
@@ -40,7 +39,7 @@ pub trait AsyncFill: AsyncWrite {
         ensures kept { Keeps cx.old cx.new };
 }
 
-impl<H: Wait + Clone + Drop> AsyncFill for Writer<H> {
+impl AsyncFill for Writer {
     fn poll_fill_from<S: Read>(
         &mut self,
         cx: &mut Context<'_>,
@@ -57,7 +56,7 @@ impl<H: Wait + Clone + Drop> AsyncFill for Writer<H> {
 
 // Why a fill moved nothing: the pipe is closed, or else its source gave none. A pipe that is closed
 // is so for good, so the poll does not wait.
-fn why_none<H: Wait + Clone + Drop>(writer: &mut Writer<H>, cx: &mut Context<'_>) -> Copied
+fn why_none(writer: &mut Writer, cx: &mut Context<'_>) -> Copied
     ensures ended { result ≡ Copied.ToTheEnd → writer.old.end.saw ≡ false }
     ensures closed { result ≡ Copied.UntilClosed → writer.new.end.saw ≡ true }
     ensures sent { writer.new.end.sent ≡ writer.old.end.sent }
@@ -73,7 +72,7 @@ fn why_none<H: Wait + Clone + Drop>(writer: &mut Writer<H>, cx: &mut Context<'_>
     }
 }
 
-impl<H: Wait + Clone + Drop> AsyncFill for OwnedWriter<H> {
+impl AsyncFill for OwnedWriter {
     fn poll_fill_from<S: Read>(
         &mut self,
         cx: &mut Context<'_>,

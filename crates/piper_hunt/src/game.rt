@@ -29,7 +29,7 @@ where
     let watch = Arc::new(rt.alloc(), Watch::new())?;
     let (readers_watch, writers_watch) = (Arc::try_clone(&watch)?, Arc::try_clone(&watch)?);
     let (readers_rt, writers_rt) = (rt.clone()?, rt.clone()?);
-    let Ok((reader, writer)) = pipe(rt, rt.alloc(), plan.capacity, plan.seed) else {
+    let Ok((reader, writer)) = pipe(rt.alloc(), plan.capacity, plan.seed) else {
         return Err(io::ErrorKind::OutOfMemory.into());
     };
     let (mut reader, mut writer) = (OwnedReader::new(reader), OwnedWriter::new(writer));
@@ -50,9 +50,9 @@ where
     Ok(gave.and(took))
 }
 
-fn read<R>(rt: &R, mut reader: OwnedReader<R>, watch: &Watch, plan: Plan) -> Result<u64, Fault>
+fn read<R>(rt: &R, mut reader: OwnedReader, watch: &Watch, plan: Plan) -> Result<u64, Fault>
 where
-    R: Wait + RandomSource + AllocGlobal + Clone + Drop,
+    R: Wait + RandomSource + AllocGlobal,
 {
     play_side(
         rt,
@@ -60,9 +60,9 @@ where
     )
 }
 
-fn write<R>(rt: &R, mut writer: OwnedWriter<R>, watch: &Watch, plan: Plan) -> Result<u64, Fault>
+fn write<R>(rt: &R, mut writer: OwnedWriter, watch: &Watch, plan: Plan) -> Result<u64, Fault>
 where
-    R: Wait + RandomSource + AllocGlobal + Clone + Drop,
+    R: Wait + RandomSource + AllocGlobal,
 {
     play_side(rt, &mut Writing::new(writer.get_mut(), watch, plan))
 }

@@ -23,8 +23,8 @@ enum Taken {
 /// The side that reads: it takes bytes by all calls of the reader, and holds each against what the
 /// writer gives there.
 #[derive(Drop)]
-pub struct Reading<'a, H: Wait + Clone + Drop> {
-    reader: &'a mut Reader<H>,
+pub struct Reading<'a> {
+    reader: &'a mut Reader,
     alloc: Global,
     watch: &'a Watch,
     rng: Pcg32,
@@ -32,13 +32,8 @@ pub struct Reading<'a, H: Wait + Clone + Drop> {
     taken: u64,
 }
 
-impl<'a, H: Wait + Clone + Drop> Reading<'a, H> {
-    pub fn new(
-        reader: &'a mut Reader<H>,
-        alloc: Global,
-        watch: &'a Watch,
-        plan: Plan,
-    ) -> Reading<'a, H> {
+impl<'a> Reading<'a> {
+    pub fn new(reader: &'a mut Reader, alloc: Global, watch: &'a Watch, plan: Plan) -> Reading<'a> {
         Reading {
             reader,
             alloc,
@@ -198,7 +193,7 @@ impl<'a, H: Wait + Clone + Drop> Reading<'a, H> {
     }
 }
 
-impl<H: Wait + Clone + Drop> Side for Reading<'_, H> {
+impl Side for Reading<'_> {
     fn turn<R: Wait>(&mut self, rt: &R, cx: &mut Context<'_>) -> Poll<Result<u64, Fault>> {
         for _ in rt.forever() {
             if self.has_enough() {

@@ -21,16 +21,16 @@ enum Given {
 
 /// The side that writes: it gives bytes by all calls of the writer.
 #[derive(Drop)]
-pub struct Writing<'a, H: Wait + Clone + Drop> {
-    writer: &'a mut Writer<H>,
+pub struct Writing<'a> {
+    writer: &'a mut Writer,
     watch: &'a Watch,
     rng: Pcg32,
     plan: Plan,
     given: u64,
 }
 
-impl<'a, H: Wait + Clone + Drop> Writing<'a, H> {
-    pub fn new(writer: &'a mut Writer<H>, watch: &'a Watch, plan: Plan) -> Writing<'a, H> {
+impl<'a> Writing<'a> {
+    pub fn new(writer: &'a mut Writer, watch: &'a Watch, plan: Plan) -> Writing<'a> {
         Writing {
             writer,
             watch,
@@ -109,7 +109,7 @@ impl<'a, H: Wait + Clone + Drop> Writing<'a, H> {
     }
 }
 
-impl<H: Wait + Clone + Drop> Side for Writing<'_, H> {
+impl Side for Writing<'_> {
     fn turn<R: Wait>(&mut self, rt: &R, cx: &mut Context<'_>) -> Poll<Result<u64, Fault>> {
         for _ in rt.forever() {
             if self.given >= self.plan.total {

@@ -6,7 +6,6 @@ use piper::{PipeError, Reader, Writer};
 use piper_lines::{FrameAnswer, Frames, LineAnswer, Lines, WriteFrame, WriteLine, Written};
 use std::fmt::Debug;
 use std::process::Abort;
-use std::sync::Wait;
 
 /// What a poll is to a test.
 #[derive(Clone, Copy, Debug, PartialEq, Eq)]
@@ -37,21 +36,16 @@ pub(crate) fn same_bytes(rt: &impl Abort, seen: &[u8], wanted: &[u8]) {
 }
 
 /// Fills the pipe with what is left of the text, as far as there is room, up to `most` bytes.
-pub(crate) fn feed<H: Wait + Clone + Drop>(
-    writer: &mut Writer<H>,
-    text: &[u8],
-    sent: &mut usize,
-    most: usize,
-) {
+pub(crate) fn feed(writer: &mut Writer, text: &[u8], sent: &mut usize, most: usize) {
     let rest = &text[(*sent).min(text.len())..];
     let taken = writer.try_fill(&rest[..most.min(rest.len())]);
     *sent = sent.saturating_add(taken);
 }
 
 /// Polls once for a line, as a task, and again where memory is refused.
-pub(crate) fn poll_line<H: Wait + Clone + Drop>(
+pub(crate) fn poll_line(
     task: &MockTask,
-    lines: &mut Lines<Reader<H>>,
+    lines: &mut Lines<Reader>,
     line: &mut Vec<u8>,
     limit: usize,
 ) -> Polled<LineAnswer> {
@@ -63,9 +57,9 @@ pub(crate) fn poll_line<H: Wait + Clone + Drop>(
 }
 
 /// Polls once for a frame, as a task, and again where memory is refused.
-pub(crate) fn poll_frame<H: Wait + Clone + Drop>(
+pub(crate) fn poll_frame(
     task: &MockTask,
-    frames: &mut Frames<Reader<H>>,
+    frames: &mut Frames<Reader>,
     frame: &mut Vec<u8>,
     limit: usize,
 ) -> Polled<FrameAnswer> {
@@ -76,19 +70,19 @@ pub(crate) fn poll_frame<H: Wait + Clone + Drop>(
 }
 
 /// Polls a line once that is being written, as a task.
-pub(crate) fn write_line<H: Wait + Clone + Drop>(
+pub(crate) fn write_line(
     task: &MockTask,
     line: &mut WriteLine<'_>,
-    writer: &mut Writer<H>,
+    writer: &mut Writer,
 ) -> Polled<Written> {
     told(task.enter(|cx| line.poll(cx, writer)))
 }
 
 /// Polls a frame once that is being written, as a task.
-pub(crate) fn write_frame<H: Wait + Clone + Drop>(
+pub(crate) fn write_frame(
     task: &MockTask,
     frame: &mut WriteFrame<'_>,
-    writer: &mut Writer<H>,
+    writer: &mut Writer,
 ) -> Polled<Written> {
     told(task.enter(|cx| frame.poll(cx, writer)))
 }

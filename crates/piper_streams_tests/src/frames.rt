@@ -7,17 +7,16 @@ use rand_core::{Rng, SeedableRng};
 use rand_pcg::Pcg32;
 use std::alloc::{AllocError, Global};
 use std::process::Abort;
-use std::sync::Wait;
 use std::test::Fail;
 
 /// The most turns that a frame may take.
 const MOST_TURNS: u32 = 1_000;
 
 /// Takes the next frame.
-fn expect_frame<H: Wait + Clone + Drop>(
+fn expect_frame(
     rt: &impl Abort,
     task: &MockTask,
-    frames: &mut Frames<Reader<H>>,
+    frames: &mut Frames<Reader>,
     limit: usize,
     answer: Polled<FrameAnswer>,
     bytes: &[u8],
@@ -38,11 +37,11 @@ fn random_body(alloc: Global, rng: &mut Pcg32) -> Result<Vec<u8>, AllocError> {
 }
 
 /// Writes a frame and reads it at the other end, in turns, and answers what came.
-fn frame_through<H: Wait + Clone + Drop>(
+fn frame_through(
     task: &MockTask,
     alloc: Global,
-    writer: &mut Writer<H>,
-    frames: &mut Frames<Reader<H>>,
+    writer: &mut Writer,
+    frames: &mut Frames<Reader>,
     body: &[u8],
 ) -> Vec<u8> {
     let mut frame = Vec::new(alloc);
@@ -67,7 +66,7 @@ fn random_frames_come_whole_and_in_order(rt: HostRuntime) -> Result<(), Fail> {
     let task = MockTask::new(&rt)?;
     let alloc = rt.alloc();
     let mut rng = Pcg32::seed_from_u64(4);
-    let (reader, mut writer) = pipe(&rt, alloc, 7, 1)?;
+    let (reader, mut writer) = pipe(alloc, 7, 1)?;
     let mut frames = Frames::new(alloc, reader);
     for _ in 0..50 {
         let body = random_body(alloc, &mut rng);
@@ -93,7 +92,7 @@ fn random_frames_come_whole_and_in_order(rt: HostRuntime) -> Result<(), Fail> {
 fn the_end_inside_a_frame_is_told_apart(rt: HostRuntime) -> Result<(), Fail> {
     let task = MockTask::new(&rt)?;
     let alloc = rt.alloc();
-    let (reader, mut writer) = pipe(&rt, alloc, 16, 1)?;
+    let (reader, mut writer) = pipe(alloc, 16, 1)?;
     let mut frames = Frames::new(alloc, reader);
     let mut sent = 0;
     feed(&mut writer, &[0, 0, 0, 1, 7, 0, 0, 0, 2, 8], &mut sent, 100);
@@ -124,7 +123,7 @@ fn the_end_inside_a_frame_is_told_apart(rt: HostRuntime) -> Result<(), Fail> {
 fn a_frame_past_the_limit_can_be_skipped(rt: HostRuntime) -> Result<(), Fail> {
     let task = MockTask::new(&rt)?;
     let alloc = rt.alloc();
-    let (reader, mut writer) = pipe(&rt, alloc, 16, 1)?;
+    let (reader, mut writer) = pipe(alloc, 16, 1)?;
     let mut frames = Frames::new(alloc, reader);
     let mut frame = Vec::new(alloc);
     let mut sent = 0;
@@ -157,11 +156,11 @@ fn a_frame_past_the_limit_can_be_skipped(rt: HostRuntime) -> Result<(), Fail> {
 
 /// Writes a frame with a header of this kind, holds what came against the bytes that are wanted,
 /// and reads it.
-fn header_through<H: Wait + Clone + Drop>(
+fn header_through(
     rt: &impl Abort,
     task: &MockTask,
     alloc: Global,
-    pipe: (Reader<H>, Writer<H>),
+    pipe: (Reader, Writer),
     format: FrameHeader,
     wanted: &[u8],
 ) {
@@ -205,7 +204,7 @@ fn a_header_has_its_bytes_in_its_order(rt: HostRuntime) -> Result<(), Fail> {
             &[2, 0, 0, 0, 0, 0, 0, 0, 7, 8],
         ),
     ] {
-        let handles = pipe(&rt, alloc, 32, 1)?;
+        let handles = pipe(alloc, 32, 1)?;
         header_through(&rt, &task, alloc, handles, format, wanted);
     }
     Ok(())

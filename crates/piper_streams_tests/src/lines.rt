@@ -10,7 +10,6 @@ use rand_core::{Rng, SeedableRng};
 use rand_pcg::Pcg32;
 use std::alloc::{AllocError, Global};
 use std::process::Abort;
-use std::sync::Wait;
 use std::test::Fail;
 
 /// The most turns that a text may take.
@@ -20,10 +19,10 @@ const MOST_TURNS: u32 = 10_000;
 const TEXT_BYTES: usize = 60;
 
 /// Takes the next line of a text that is sent through the pipe as there is room.
-fn expect_line<H: Wait + Clone + Drop>(
+fn expect_line(
     rt: &impl Abort,
     task: &MockTask,
-    lines: &mut Lines<Reader<H>>,
+    lines: &mut Lines<Reader>,
     limit: usize,
     answer: Polled<LineAnswer>,
     text: &[u8],
@@ -38,7 +37,7 @@ fn expect_line<H: Wait + Clone + Drop>(
 fn a_text_comes_line_by_line(rt: HostRuntime) -> Result<(), Fail> {
     let task = MockTask::new(&rt)?;
     let alloc = rt.alloc();
-    let (reader, mut writer) = pipe(&rt, alloc, 8, 1)?;
+    let (reader, mut writer) = pipe(alloc, 8, 1)?;
     let mut lines = Lines::new(alloc, reader);
     let text = b"hello world\nline2\nline3";
     let mut sent = 0;
@@ -92,7 +91,7 @@ fn a_text_comes_line_by_line(rt: HostRuntime) -> Result<(), Fail> {
 fn what_is_kept_comes_at_a_smaller_limit(rt: HostRuntime) -> Result<(), Fail> {
     let task = MockTask::new(&rt)?;
     let alloc = rt.alloc();
-    let (reader, mut writer) = pipe(&rt, alloc, 8, 1)?;
+    let (reader, mut writer) = pipe(alloc, 8, 1)?;
     let mut lines = Lines::new(alloc, reader);
     let mut sent = 0;
     feed(&mut writer, b"abcdef", &mut sent, 100);
@@ -150,11 +149,11 @@ fn random_text(alloc: Global, rng: &mut Pcg32) -> Result<Vec<u8>, AllocError> {
 
 /// Sends the text in random pieces, closes, and collects the lines: the last is what stands behind
 /// the last LF. Where memory is refused it polls again.
-fn lines_through<H: Wait + Clone + Drop>(
+fn lines_through(
     task: &MockTask,
     alloc: Global,
-    writer: &mut Writer<H>,
-    lines: &mut Lines<Reader<H>>,
+    writer: &mut Writer,
+    lines: &mut Lines<Reader>,
     text: &[u8],
     limit: usize,
     rng: &mut Pcg32,
@@ -183,7 +182,7 @@ fn random_texts_come_as_a_plain_split_gives_them(rt: HostRuntime) -> Result<(), 
     for limit in 1..10 {
         let text = random_text(alloc, &mut rng)?;
         let wanted = plain_split(alloc, &text, limit)?;
-        let (reader, mut writer) = pipe(&rt, alloc, 8, limit as u64)?;
+        let (reader, mut writer) = pipe(alloc, 8, limit as u64)?;
         let mut lines = Lines::new(alloc, reader);
         let found = lines_through(
             &task,
@@ -205,7 +204,7 @@ fn random_texts_come_as_a_plain_split_gives_them(rt: HostRuntime) -> Result<(), 
 fn a_line_is_written_whole(rt: HostRuntime) -> Result<(), Fail> {
     let task = MockTask::new(&rt)?;
     let alloc = rt.alloc();
-    let (reader, mut writer) = pipe(&rt, alloc, 4, 1)?;
+    let (reader, mut writer) = pipe(alloc, 4, 1)?;
     let mut lines = Lines::new(alloc, reader);
     let text = b"hello";
     if is_one_line(text) {
@@ -240,7 +239,7 @@ fn a_line_is_written_whole(rt: HostRuntime) -> Result<(), Fail> {
 fn lines_end_at_the_byte_that_is_chosen(rt: HostRuntime) -> Result<(), Fail> {
     let task = MockTask::new(&rt)?;
     let alloc = rt.alloc();
-    let (reader, mut writer) = pipe(&rt, alloc, 16, 1)?;
+    let (reader, mut writer) = pipe(alloc, 16, 1)?;
     let mut lines = Lines::split(alloc, reader, b',');
     let text = b"one\ntwo";
     if lacks(text, b',') {

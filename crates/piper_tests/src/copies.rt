@@ -73,9 +73,9 @@ fn error_at(fails: bool, last: usize) -> Option<ErrorKind> {
 }
 
 /// A copy over an end answers as is wanted, and so many bytes were moved, each in its turn.
-fn copies<H: Wait + Clone + Drop>(
+fn copies(
     rt: &impl Abort,
-    pair: &mut Pair<H>,
+    pair: &mut Pair,
     through: Through,
     end: &mut End,
     want: Moved<usize>,
@@ -89,7 +89,7 @@ fn copies<H: Wait + Clone + Drop>(
 /// published.
 fn fill_ends_at<H>(rt: &H, through: Through, capacity: usize, last: usize, error: Option<ErrorKind>)
 where
-    H: Abort + Wait + RandomSource + AllocGlobal + Clone + Drop,
+    H: Abort + Wait + RandomSource + AllocGlobal,
     requires { (0 < capacity) × (2 * capacity < 2 ^ 64) × (0 < last) }
 {
     let given = (last - 1).min(capacity);
@@ -115,7 +115,7 @@ where
 /// that is not.
 fn fills_end<H>(rt: &H, fails: bool)
 where
-    H: Abort + Wait + RandomSource + AllocGlobal + Clone + Drop,
+    H: Abort + Wait + RandomSource + AllocGlobal,
 {
     for last in 1..9usize {
         let error = error_at(fails, last);
@@ -140,7 +140,7 @@ fn a_source_that_gives_none_ends_a_fill(rt: HostRuntime) {
 /// takes none. What it took before is gone from the pipe.
 fn drain_ends_at<H>(rt: &H, through: Through, last: usize, error: Option<ErrorKind>)
 where
-    H: Abort + Wait + RandomSource + AllocGlobal + Clone + Drop,
+    H: Abort + Wait + RandomSource + AllocGlobal,
     requires { 0 < last }
 {
     let taken = (last - 1).min(8);
@@ -170,7 +170,7 @@ where
 /// Through either call.
 fn drains_end<H>(rt: &H, fails: bool)
 where
-    H: Abort + Wait + RandomSource + AllocGlobal + Clone + Drop,
+    H: Abort + Wait + RandomSource + AllocGlobal,
 {
     for last in 1..10usize {
         let error = error_at(fails, last);
@@ -193,7 +193,7 @@ fn a_destination_that_takes_none_ends_a_drain(rt: HostRuntime) {
 /// copy's handle knew of bytes or room before; and a call behind it goes on.
 fn tells_error<H>(rt: &H, through: Through, kind: ErrorKind)
 where
-    H: Abort + Wait + RandomSource + AllocGlobal + Clone + Drop,
+    H: Abort + Wait + RandomSource + AllocGlobal,
 {
     let mut end = End::new(1, 2, Some(kind));
     let mut pair = Pair::new(rt, 4);
@@ -219,7 +219,7 @@ fn an_error_of_each_kind_is_told_as_it_is(rt: HostRuntime) {
 /// Both copies call the ends on slices as long as they can be.
 fn moves_whole_slices<H>(rt: &H)
 where
-    H: Abort + Wait + RandomSource + AllocGlobal + Clone + Drop,
+    H: Abort + Wait + RandomSource + AllocGlobal,
 {
     let mut pair = Pair::new(rt, 200_000);
     let (mut source, mut dest) = (End::willing(), End::willing());
@@ -259,7 +259,7 @@ struct Turn<'a> {
 /// Of the turns one in a hundred yields, and moves nothing.
 fn one_in_a_hundred_yields<H>(rt: &H, turns: u32, turn: &Turn<'_>)
 where
-    H: Abort + Wait + RandomSource + AllocGlobal + Clone + Drop,
+    H: Abort + Wait + RandomSource + AllocGlobal,
 {
     let mut pair = Pair::new(rt, 1);
     let mut yielded = 0u32;

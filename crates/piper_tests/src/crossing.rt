@@ -47,9 +47,9 @@ fn bytes_to_cross() -> [u8; TOTAL] {
 }
 
 /// Gives all of this, one after another, and lets the writer go.
-fn gives<H>(rt: &H, owned: OwnedWriter<H>, given: &[Give<'_>])
+fn gives<H>(rt: &H, owned: OwnedWriter, given: &[Give<'_>])
 where
-    H: Abort + Wait + RandomSource + AllocGlobal + Clone + Drop,
+    H: Abort + Wait + RandomSource + AllocGlobal,
 {
     let mut writer = owned;
     for give in given {
@@ -62,9 +62,9 @@ where
 }
 
 /// Takes what is wanted, one after another, and lets the reader go.
-fn takes<H>(rt: &H, owned: OwnedReader<H>, wanted: &[Take<'_>])
+fn takes<H>(rt: &H, owned: OwnedReader, wanted: &[Take<'_>])
 where
-    H: Abort + Wait + RandomSource + AllocGlobal + Clone + Drop,
+    H: Abort + Wait + RandomSource + AllocGlobal,
 {
     let mut reader = owned;
     for take in wanted {
@@ -86,10 +86,10 @@ where
 /// One thread gives bytes and lets the writer go, while another takes them.
 fn crosses<H>(rt: &H, capacity: usize, given: &[Give<'_>], wanted: &[Take<'_>])
 where
-    H: Abort + Threads + Wait + RandomSource + AllocGlobal + Clone + Drop + Send + Sync,
+    H: Abort + Threads + Wait + RandomSource + AllocGlobal + Send + Sync,
     requires { (0 < capacity) × (2 * capacity < 2 ^ 64) }
 {
-    let (reader, writer) = owned_pipe(rt, capacity).expect(rt, "a pipe");
+    let (reader, writer) = owned_pipe(rt.alloc(), capacity).expect(rt, "a pipe");
     thread::join(
         rt,
         move || takes(rt, reader, wanted),
@@ -142,9 +142,9 @@ fn dropping_writer_does_not_lose_writes(rt: HostRuntime) {
 }
 
 /// Gives all bytes to the first pipe, on a thread beside the one that drains the second.
-fn gives_and_drains<H>(rt: &H, first: OwnedWriter<H>, last: OwnedReader<H>, bytes: &[u8])
+fn gives_and_drains<H>(rt: &H, first: OwnedWriter, last: OwnedReader, bytes: &[u8])
 where
-    H: Abort + Threads + Wait + RandomSource + AllocGlobal + Clone + Drop + Send + Sync,
+    H: Abort + Threads + Wait + RandomSource + AllocGlobal + Send + Sync,
 {
     thread::join(
         rt,
@@ -156,10 +156,10 @@ where
 /// One thread fills the first pipe, one copies to the second, and one drains that.
 fn cross_two_pipes<H>(rt: &H, bytes: &[u8])
 where
-    H: Abort + Threads + Wait + RandomSource + AllocGlobal + Clone + Drop + Send + Sync,
+    H: Abort + Threads + Wait + RandomSource + AllocGlobal + Send + Sync,
 {
-    let (from, first) = owned_pipe(rt, 20).expect(rt, "a pipe");
-    let (last, to) = owned_pipe(rt, 7).expect(rt, "a pipe");
+    let (from, first) = owned_pipe(rt.alloc(), 20).expect(rt, "a pipe");
+    let (last, to) = owned_pipe(rt.alloc(), 7).expect(rt, "a pipe");
     let (copied, _) = thread::join(
         rt,
         move || ends(rt, copy(from, to)).2,

@@ -11,7 +11,7 @@ use std::sync::Wait;
 /// they meet. The answer is how many bytes the writer then takes.
 fn taken_after<H>(rt: &H, they_meet: bool) -> usize
 where
-    H: Abort + Wait + AllocGlobal + Clone + Drop,
+    H: Abort + Wait + AllocGlobal,
 {
     let (mut reader, mut writer) = pipe_at_last(rt, 8);
     let mut dest = [0; 4];
@@ -42,7 +42,7 @@ fn without_a_meeting_the_writer_takes_one_byte(rt: HostRuntime) {
 /// A poll behind a heeded mark finds the bytes that were published before it.
 fn finds_what_was_marked<H>(rt: &H)
 where
-    H: Abort + Wait + RandomSource + AllocGlobal + Clone + Drop,
+    H: Abort + Wait + RandomSource + AllocGlobal,
 {
     let task = task_at_last(rt);
     let (mut reader, mut writer) = pipe_at_last(rt, 8);

@@ -9,20 +9,20 @@ use std::process::Abort;
 use std::sync::Wait;
 
 /// A new pipe of so many bytes, with these in it.
-pub(crate) fn holding<H>(rt: &H, capacity: usize, bytes: &[u8]) -> (OwnedReader<H>, OwnedWriter<H>)
+pub(crate) fn holding<H>(rt: &H, capacity: usize, bytes: &[u8]) -> (OwnedReader, OwnedWriter)
 where
-    H: Abort + Wait + AllocGlobal + Clone + Drop,
+    H: Abort + Wait + AllocGlobal,
     requires { (0 < capacity) × (2 * capacity < 2 ^ 64) }
     ensures { ArePair result.0.reader result.1.writer }
 {
-    let (reader, mut writer) = owned_pipe(rt, capacity).expect(rt, "a pipe");
+    let (reader, mut writer) = owned_pipe(rt.alloc(), capacity).expect(rt, "a pipe");
     same(rt, &"taken", writer.try_fill(bytes), bytes.len());
     (reader, writer)
 }
 
 fn calls_as_its_handle<H>(rt: &H)
 where
-    H: Abort + Wait + AllocGlobal + Clone + Drop,
+    H: Abort + Wait + AllocGlobal,
 {
     let (mut reader, mut writer) = holding(rt, 8, b"abc");
     let mut place = [0; 2];
@@ -40,7 +40,7 @@ fn the_calls_of_a_handle_are_those_of_its_owner(rt: HostRuntime) {
 
 fn gives_its_handle_back<H>(rt: &H)
 where
-    H: Abort + Wait + AllocGlobal + Clone + Drop,
+    H: Abort + Wait + AllocGlobal,
 {
     let (reader, writer) = holding(rt, 8, b"");
     let reader = OwnedReader::new(reader.into_inner());
@@ -58,7 +58,7 @@ fn an_owner_gives_its_handle_back_and_leaves_the_pipe_open(rt: HostRuntime) {
 
 fn is_printed<H>(rt: &H)
 where
-    H: Abort + Wait + AllocGlobal + Clone + Drop,
+    H: Abort + Wait + AllocGlobal,
 {
     let (mut reader, writer) = holding(rt, 8, b"abc");
     reader.try_drain(&mut [0; 2]);

@@ -17,7 +17,7 @@ use std::sync::Wait;
 
 fn ends_what_was_written<H>(rt: &H)
 where
-    H: Abort + Wait + RandomSource + AllocGlobal + Clone + Drop,
+    H: Abort + Wait + RandomSource + AllocGlobal,
 {
     let (reader, writer) = holding(rt, 64, b"");
     let (writer, count) = ends(rt, write_all(writer, b"hello world"));
@@ -34,9 +34,9 @@ fn a_close_is_the_end_of_what_was_written(rt: HostRuntime) {
 }
 
 /// Copies what is left in the one pipe to the other: how it ends, and how much is left.
-fn copies<H>(rt: &H, from: OwnedReader<H>, to: OwnedWriter<H>, want: (Copied, usize))
+fn copies<H>(rt: &H, from: OwnedReader, to: OwnedWriter, want: (Copied, usize))
 where
-    H: Abort + Wait + RandomSource + AllocGlobal + Clone + Drop,
+    H: Abort + Wait + RandomSource + AllocGlobal,
 {
     let (from, _to, why) = ends(rt, copy(from, to));
     same(rt, &"copied", (why, from.len()), want);
@@ -44,7 +44,7 @@ where
 
 fn copies_to_the_end<H>(rt: &H)
 where
-    H: Abort + Wait + RandomSource + AllocGlobal + Clone + Drop,
+    H: Abort + Wait + RandomSource + AllocGlobal,
 {
     let (from, writer) = holding(rt, 8, b"abc");
     let (mut last, to) = holding(rt, 8, b"");
@@ -62,7 +62,7 @@ fn a_copy_ends_with_the_reader(rt: HostRuntime) {
 
 fn copies_until_closed<H>(rt: &H)
 where
-    H: Abort + Wait + RandomSource + AllocGlobal + Clone + Drop,
+    H: Abort + Wait + RandomSource + AllocGlobal,
 {
     let (from, _writer) = holding(rt, 8, b"d");
     let (last, to) = holding(rt, 8, b"");
@@ -77,7 +77,7 @@ fn a_copy_ends_with_the_other_pipe(rt: HostRuntime) {
 
 fn lines_pass<H>(rt: &H)
 where
-    H: Abort + Wait + RandomSource + AllocGlobal + Clone + Drop,
+    H: Abort + Wait + RandomSource + AllocGlobal,
 {
     let (reader, writer) = holding(rt, 64, b"");
     let sink = sends(rt, LineSink::new(rt.alloc(), writer), &[b"one", b"two"]);
@@ -95,7 +95,7 @@ fn lines_of_a_sink_come_out_of_a_stream_in_order(rt: HostRuntime) {
 
 fn frames_pass<H>(rt: &H)
 where
-    H: Abort + Wait + RandomSource + AllocGlobal + Clone + Drop,
+    H: Abort + Wait + RandomSource + AllocGlobal,
 {
     let (reader, writer) = holding(rt, 64, b"");
     let sink = FrameSink::new(rt.alloc(), writer);
@@ -119,7 +119,7 @@ fn frames_of_a_sink_come_out_of_a_stream_up_to_one_too_long(rt: HostRuntime) {
 
 fn texts_pass<H>(rt: &H)
 where
-    H: Abort + Wait + RandomSource + AllocGlobal + Clone + Drop,
+    H: Abort + Wait + RandomSource + AllocGlobal,
 {
     let (reader, writer) = holding(rt, 64, b"one\r\ntwo\n");
     let sink = LineSink::ended_by(rt.alloc(), writer, b';');
@@ -136,7 +136,7 @@ fn texts_come_without_what_ends_their_lines(rt: HostRuntime) {
 
 fn bodies_pass<H>(rt: &H)
 where
-    H: Abort + Wait + RandomSource + AllocGlobal + Clone + Drop,
+    H: Abort + Wait + RandomSource + AllocGlobal,
 {
     let (reader, writer) = holding(rt, 64, b"");
     let format = FrameHeader::TwoBytes(ByteOrder::LittleEndian);
@@ -153,7 +153,7 @@ fn bodies_come_by_the_header_that_both_ends_chose(rt: HostRuntime) {
 
 fn leaves_what_was_not_moved<H>(rt: &H)
 where
-    H: Abort + Wait + RandomSource + AllocGlobal + Clone + Drop,
+    H: Abort + Wait + RandomSource + AllocGlobal,
 {
     let (reader, writer) = holding(rt, 8, b"abcde");
     drop(writer);
@@ -176,9 +176,9 @@ fn a_failure_leaves_what_was_not_moved(rt: HostRuntime) {
 }
 
 /// Fills a pipe from this source: how it ends, and what is left of the source.
-fn fills<H>(rt: &H, writer: OwnedWriter<H>, want: (Copied, usize)) -> OwnedWriter<H>
+fn fills<H>(rt: &H, writer: OwnedWriter, want: (Copied, usize)) -> OwnedWriter
 where
-    H: Abort + Wait + RandomSource + AllocGlobal + Clone + Drop,
+    H: Abort + Wait + RandomSource + AllocGlobal,
 {
     let source = b"one, two, three".as_slice();
     let (writer, rest, why) = ends(rt, fill_from(writer, source));
@@ -188,7 +188,7 @@ where
 
 fn fills_to_the_end_and_until_closed<H>(rt: &H)
 where
-    H: Abort + Wait + RandomSource + AllocGlobal + Clone + Drop,
+    H: Abort + Wait + RandomSource + AllocGlobal,
 {
     let (reader, writer) = holding(rt, 64, b"");
     let writer = fills(rt, writer, (Copied::ToTheEnd, 0));
@@ -205,7 +205,7 @@ fn a_fill_ends_with_its_source_or_with_the_pipe(rt: HostRuntime) {
 
 fn is_printed<H>(rt: &H)
 where
-    H: Abort + Wait + AllocGlobal + Clone + Drop,
+    H: Abort + Wait + AllocGlobal,
 {
     let alloc = rt.alloc();
     let (reader, writer) = holding(rt, 8, b"ab");

@@ -14,7 +14,6 @@ use std::io::{ErrorKind, Read, Write};
 use std::marker::{Send, Sync};
 use std::process::Abort;
 use std::random::RandomSource;
-use std::sync::Wait;
 use std::thread;
 use std::thread::Threads;
 
@@ -88,9 +87,9 @@ pub(crate) enum Through {
 
 /// A pipe with a task for each of its sides.
 #[derive(Drop)]
-pub(crate) struct Pair<H: Wait + Clone + Drop> {
-    reader: Option<OwnedReader<H>>,
-    writer: Option<OwnedWriter<H>>,
+pub(crate) struct Pair {
+    reader: Option<OwnedReader>,
+    writer: Option<OwnedWriter>,
     reading: MockTask,
     writing: MockTask,
     capacity: usize,
@@ -98,15 +97,13 @@ pub(crate) struct Pair<H: Wait + Clone + Drop> {
 
 /// A pipe. Where memory is refused, it is asked for again: so the tests pass whichever allocation
 /// fails.
-pub(crate) fn pipe_at_last<H>(rt: &H, capacity: usize) -> (Reader<H>, Writer<H>)
-where
-    H: Abort + Wait + AllocGlobal + Clone + Drop,
+pub(crate) fn pipe_at_last(rt: &(impl Abort + AllocGlobal), capacity: usize) -> (Reader, Writer)
     requires { (0 < capacity) × (2 * capacity < 2 ^ 64) }
     ensures { ArePair result.0 result.1 }
 {
-    match pipe(rt, rt.alloc(), capacity, 1) {
+    match pipe(rt.alloc(), capacity, 1) {
         Ok(handles) => handles,
-        Err(OutOfMemory) => pipe(rt, rt.alloc(), capacity, 1).expect(rt, "a pipe"),
+        Err(OutOfMemory) => pipe(rt.alloc(), capacity, 1).expect(rt, "a pipe"),
     }
 }
 
@@ -166,7 +163,7 @@ pub(crate) fn copied<T: Drop>(polled: Poll<Result<T, PipeError>>) -> Moved<T> {
 
 /// Writes the bytes into lent slices and publishes them, until all are in or nothing is lent. The
 /// answer is how many are in.
-fn produce<H: Wait + Clone + Drop>(writer: &mut Writer<H>, bytes: &[u8]) -> usize {
+fn produce(writer: &mut Writer, bytes: &[u8]) -> usize {
     let mut rest = bytes;
     for _ in 0..bytes.len() {
         let buf = writer.write_buf(rest.len());
@@ -179,7 +176,7 @@ fn produce<H: Wait + Clone + Drop>(writer: &mut Writer<H>, bytes: &[u8]) -> usiz
 }
 
 /// Consumes so many bytes, if they are peeked.
-fn consume<H: Wait + Clone + Drop>(reader: &mut Reader<H>, amount: usize) -> bool {
+fn consume(reader: &mut Reader, amount: usize) -> bool {
     let is_peeked = amount <= reader.peek_buf().len();
     if is_peeked {
         reader.consume(amount);
@@ -188,23 +185,14 @@ fn consume<H: Wait + Clone + Drop>(reader: &mut Reader<H>, amount: usize) -> boo
 }
 
 /// Drains into so many places, of 16.
-fn drain<H: Wait + Clone + Drop>(
-    rt: &impl Abort,
-    index: usize,
-    reader: &mut Reader<H>,
-    most: usize,
-    want: &[u8],
-) {
+fn drain(rt: &impl Abort, index: usize, reader: &mut Reader, most: usize, want: &[u8]) {
     let mut dest = [0; 16];
     let n = reader.try_drain(&mut dest[..most.min(16)]);
     same(rt, &index, &dest[..n.min(16)], want);
 }
 
 /// The reader, if it is not dropped.
-fn reader_of<'a, H: Wait + Clone + Drop>(
-    rt: &impl Abort,
-    owned: &'a mut Option<OwnedReader<H>>,
-) -> &'a mut Reader<H> {
+fn reader_of<'a>(rt: &impl Abort, owned: &'a mut Option<OwnedReader>) -> &'a mut Reader {
     match owned {
         Some(owned) => owned.get_mut(),
         None => rt.panic("the reader is dropped"),
@@ -212,10 +200,7 @@ fn reader_of<'a, H: Wait + Clone + Drop>(
 }
 
 /// The writer, if it is not dropped.
-fn writer_of<'a, H: Wait + Clone + Drop>(
-    rt: &impl Abort,
-    owned: &'a mut Option<OwnedWriter<H>>,
-) -> &'a mut Writer<H> {
+fn writer_of<'a>(rt: &impl Abort, owned: &'a mut Option<OwnedWriter>) -> &'a mut Writer {
     match owned {
         Some(owned) => owned.get_mut(),
         None => rt.panic("the writer is dropped"),
@@ -223,19 +208,19 @@ fn writer_of<'a, H: Wait + Clone + Drop>(
 }
 
 /// Makes these acts with a new pipe.
-pub(crate) fn plays<H>(rt: &H, capacity: usize, acts: &[Act<'_>])
-where
-    H: Abort + Wait + RandomSource + AllocGlobal + Clone + Drop,
+pub(crate) fn plays(
+    rt: &(impl Abort + RandomSource + AllocGlobal),
+    capacity: usize,
+    acts: &[Act<'_>],
+)
     requires { (0 < capacity) × (2 * capacity < 2 ^ 64) }
 {
     Pair::new(rt, capacity).play(rt, acts);
 }
 
-impl<H: Wait + Clone + Drop> Pair<H> {
+impl Pair {
     /// A pipe of which nothing is known.
-    pub(crate) fn new(rt: &H, capacity: usize) -> Pair<H>
-    where
-        H: Abort + RandomSource + AllocGlobal,
+    pub(crate) fn new(rt: &(impl Abort + RandomSource + AllocGlobal), capacity: usize) -> Pair
         requires { (0 < capacity) × (2 * capacity < 2 ^ 64) }
     {
         let (reader, writer) = pipe_at_last(rt, capacity);
@@ -259,7 +244,6 @@ impl<H: Wait + Clone + Drop> Pair<H> {
     pub(crate) fn play_elsewhere<R>(&mut self, rt: &R, acts: &[Act<'_>])
     where
         R: Abort + Threads + Sync,
-        H: Send,
     {
         thread::join(rt, || self.play(rt, acts), || ());
     }

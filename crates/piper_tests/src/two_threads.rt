@@ -18,11 +18,7 @@ const MOST_TURNS: u32 = 50_000_000;
 
 /// Writes bytes in pieces until `total` are in, or the other thread says stop. The answer is how
 /// many are in.
-fn write_until<H: Wait + Clone + Drop>(
-    writer: &mut Writer<H>,
-    total: usize,
-    stop: &AtomicBool,
-) -> usize
+fn write_until(writer: &mut Writer, total: usize, stop: &AtomicBool) -> usize
     ensures { writer.new.end.ring ≡ writer.old.end.ring }
 {
     let mut sent = 0usize;
@@ -46,11 +42,7 @@ fn write_until<H: Wait + Clone + Drop>(
 
 /// Reads bytes until at least `total` came, and says stop. The answer is how many came, or none
 /// where one was wrong.
-fn read_until<H: Wait + Clone + Drop>(
-    reader: &mut Reader<H>,
-    total: usize,
-    stop: &AtomicBool,
-) -> Option<usize>
+fn read_until(reader: &mut Reader, total: usize, stop: &AtomicBool) -> Option<usize>
     ensures { reader.new.end.ring ≡ reader.old.end.ring }
 {
     let mut came = 0usize;
@@ -77,7 +69,7 @@ fn read_until<H: Wait + Clone + Drop>(
 /// Ten thousand bytes go through a pipe of one place.
 fn carries_by_single_bytes<H>(rt: &H)
 where
-    H: Abort + Threads + Wait + AllocGlobal + Clone + Drop + Send + Sync,
+    H: Abort + Threads + Wait + AllocGlobal + Send + Sync,
 {
     let (mut reader, mut writer) = pipe_at_last(rt, 1);
     let stop = AtomicBool::new(false);
@@ -99,7 +91,7 @@ fn a_pipe_of_one_place_carries_all_bytes(rt: HostRuntime) {
 
 /// Drains what is left, at most 64 bytes, and tells how many came if each is the one that is due
 /// behind `came`.
-fn drain_rest<H: Wait + Clone + Drop>(reader: &mut Reader<H>, came: usize) -> Option<usize> {
+fn drain_rest(reader: &mut Reader, came: usize) -> Option<usize> {
     let mut rest = [0; 64];
     let left = reader.try_drain(&mut rest);
     for (i, byte) in rest[..left].iter().enumerate() {
@@ -139,7 +131,7 @@ fn waits_for(flag: &AtomicBool) -> bool {
 }
 
 /// Holds what is peeked until four bytes are unread, and tells whether it stayed.
-fn holds_peeked<H: Wait + Clone + Drop>(reader: &Reader<H>, is_held: &AtomicBool) -> bool {
+fn holds_peeked(reader: &Reader, is_held: &AtomicBool) -> bool {
     let piece = reader.peek_buf();
     is_held.store(true, Ordering::SeqCst);
     for _ in 0..MOST_TURNS {
@@ -152,7 +144,7 @@ fn holds_peeked<H: Wait + Clone + Drop>(reader: &Reader<H>, is_held: &AtomicBool
 }
 
 /// Drains once: these bytes must come.
-fn drains<H: Wait + Clone + Drop>(rt: &impl Abort, reader: &mut Reader<H>, want: &[u8]) {
+fn drains(rt: &impl Abort, reader: &mut Reader, want: &[u8]) {
     let mut dest = [0; 8];
     let n = reader.try_drain(&mut dest);
     same(rt, &"drained", &dest[..n], want);
@@ -161,7 +153,7 @@ fn drains<H: Wait + Clone + Drop>(rt: &impl Abort, reader: &mut Reader<H>, want:
 /// The writer publishes while the reader holds a peeked slice.
 fn publishes_beside_a_peeked_slice<H>(rt: &H)
 where
-    H: Abort + Threads + Wait + AllocGlobal + Clone + Drop + Send + Sync,
+    H: Abort + Threads + Wait + AllocGlobal + Send + Sync,
 {
     let (mut reader, mut writer) = pipe_at_last(rt, 8);
     same(rt, &"taken", writer.try_fill(b"ab"), 2);
@@ -185,11 +177,7 @@ fn a_peeked_slice_stays_while_the_writer_publishes(rt: HostRuntime) {
 }
 
 /// Holds a lent slice until the reader drained, then writes to it and publishes.
-fn holds_lent<H: Wait + Clone + Drop>(
-    writer: &mut Writer<H>,
-    is_held: &AtomicBool,
-    is_drained: &AtomicBool,
-) -> bool {
+fn holds_lent(writer: &mut Writer, is_held: &AtomicBool, is_drained: &AtomicBool) -> bool {
     let buf = writer.write_buf(4);
     is_held.store(true, Ordering::SeqCst);
     let goes_on = waits_for(is_drained) && buf.len() == 4;
@@ -201,11 +189,7 @@ fn holds_lent<H: Wait + Clone + Drop>(
 }
 
 /// Drains two bytes while the writer holds a lent slice, and the four that are written to it then.
-fn drains_twice<H: Wait + Clone + Drop>(
-    reader: &mut Reader<H>,
-    is_held: &AtomicBool,
-    is_drained: &AtomicBool,
-) -> [u8; 6] {
+fn drains_twice(reader: &mut Reader, is_held: &AtomicBool, is_drained: &AtomicBool) -> [u8; 6] {
     let mut dest = [0; 6];
     if waits_for(is_held) && reader.try_drain(&mut dest[..2]) == 2 {
         is_drained.store(true, Ordering::SeqCst);
@@ -222,7 +206,7 @@ fn drains_twice<H: Wait + Clone + Drop>(
 /// The reader drains while the writer holds a lent slice.
 fn drains_beside_a_lent_slice<H>(rt: &H)
 where
-    H: Abort + Threads + Wait + AllocGlobal + Clone + Drop + Send + Sync,
+    H: Abort + Threads + Wait + AllocGlobal + Send + Sync,
 {
     let (mut reader, mut writer) = pipe_at_last(rt, 8);
     same(rt, &"taken", writer.try_fill(b"ab"), 2);

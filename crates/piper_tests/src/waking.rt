@@ -1,13 +1,11 @@
 //! Polls, lent slices, and who is woken. A task is woken where a call of the other side changed
 //! what it waits for.
-use crate::pair::{Act, Pair, Polled, plays, same, task_at_last};
-use piper::Slot;
+use crate::pair::{Act, Pair, Polled, plays};
 use std::alloc::AllocGlobal;
 use std::marker::{Send, Sync};
 use std::process::Abort;
 use std::random::RandomSource;
 use std::sync::Wait;
-use std::thread;
 use std::thread::Threads;
 
 /// Two polls of the reader that wait. Neither wakes its task.
@@ -56,7 +54,7 @@ const WRITER_ENDS: &[Act<'static>] = &[
 /// A side waits, is woken by the acts of another thread, and goes on.
 fn is_woken_by<H>(rt: &H, waits: &[Act<'_>], acts: &[Act<'_>], goes_on: &[Act<'_>])
 where
-    H: Abort + Threads + Wait + RandomSource + AllocGlobal + Clone + Drop + Send + Sync,
+    H: Abort + Threads + Wait + RandomSource + AllocGlobal + Send + Sync,
 {
     let mut pair = Pair::new(rt, 1);
     pair.play(rt, waits);
@@ -101,31 +99,4 @@ fn a_writer_is_woken(rt: HostRuntime) {
 fn a_writer_that_closes_wakes_its_own_task(rt: HostRuntime) {
     let acts = &[Act::CloseElsewhere, Act::WriterIsWoken(true)];
     is_woken_by(&rt, WRITER_WAITS, acts, WRITER_ENDS);
-}
-
-/// Whether a waker stood in the slot when it was emptied.
-fn takes(rt: &impl Wait, slot: &Slot) -> bool {
-    let taken = slot.take(rt, ());
-    let is_found = taken.is_found();
-    taken.let_go();
-    is_found
-}
-
-/// Two threads empty a slot with a waker: one of them gets it.
-fn two_threads_take<H>(rt: &H)
-where
-    H: Abort + Threads + Wait + RandomSource + AllocGlobal + Sync,
-{
-    let task = task_at_last(rt);
-    let slot = Slot::new();
-    let is_granted = task.enter(|cx| slot.register(rt, cx).is_ok());
-    same(rt, &"a waker was made", is_granted, true);
-    let (here, there) = thread::join(rt, || takes(rt, &slot), || takes(rt, &slot));
-    same(rt, &"one of them got it", here != there, true);
-    same(rt, &"the task is woken", task.is_woken(), true);
-}
-
-#[test]
-fn one_of_two_threads_gets_the_waker(rt: HostRuntime) {
-    two_threads_take(&rt);
 }

@@ -13,7 +13,7 @@ none_lost n m xs same =
     let few : length (take n xs) ≤ m = omega (arith, length-take n xs) in
     drop_of_length-le (take n xs) few
 
-pub gave_front : {H : Type 0} (a b : Writer H) (n m : ℕ) (xs : List ℕ) → m ≤ n → b.end.sent ≡ a.end.sent ++ take m xs → (b.end.saw ≡ false → m ≡ n) → (a.end.saw ≡ true → n ≡ 0) → WriterFilled a.end b.end → b.slots ≡ a.slots → Gave a (take n xs) b
+pub gave_front : (a b : Writer) (n m : ℕ) (xs : List ℕ) → m ≤ n → b.end.sent ≡ a.end.sent ++ take m xs → (b.end.saw ≡ false → m ≡ n) → (a.end.saw ≡ true → n ≡ 0) → WriterFilled a.end b.end → b.slots ≡ a.slots → Gave a (take n xs) b
 gave_front a b n m xs le sent all over filled slots =
     record {
       published = take m xs;

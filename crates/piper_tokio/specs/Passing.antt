@@ -9,20 +9,20 @@ use Rattle.piper.specs.declared.handles.Writer.{Writer}
 
 -- the reader a took the bytes xs, in this order, and is b now:
 -- an end of the same pipe, and what it saw of closed it keeps
-pub record Took {H : Type 0} (a : Reader H) (xs : List ℕ) (b : Reader H) : Type 0 where
+pub record Took (a : Reader) (xs : List ℕ) (b : Reader) : Type 0 where
   pub taken : b.end.taken ≡ a.end.taken ++ xs
   pub saw : flag a.end.saw ≤ flag b.end.saw
   pub end : SameReadEnd a.end b.end
   pub slots : b.slots ≡ a.slots
 
 -- the reader saw the pipe closed, and took all that was ever published
-abbrev pub AtEnd : {H : Type 0} → Reader H → Type 0
+abbrev pub AtEnd : Reader → Type 0
 AtEnd reader = IsEnded reader.end
 
 -- the writer a was given the bytes xs, in this order, and is b now:
 -- an end of the same pipe. What it published of them is their front,
 -- and all of them unless it saw the pipe closed; and none once it saw that
-pub record Gave {H : Type 0} (a : Writer H) (xs : List ℕ) (b : Writer H) : Type 0 where
+pub record Gave (a : Writer) (xs : List ℕ) (b : Writer) : Type 0 where
   pub published : List ℕ
   pub lost : List ℕ
   pub given : xs ≡ published ++ lost

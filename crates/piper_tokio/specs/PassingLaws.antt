@@ -41,7 +41,7 @@ same_write_end a b c p q =
 pub joined_on : (us vs ws xs ys : List ℕ) → vs ≡ us ++ xs → ws ≡ vs ++ ys → ws ≡ us ++ (xs ++ ys)
 joined_on us vs ws xs ys p q = q ∙ ap (λ zs. zs ++ ys) p ∙ append_assoc us xs ys
 
-pub took_nothing : {H : Type 0} (a : Reader H) → Took a [] a
+pub took_nothing : (a : Reader) → Took a [] a
 took_nothing a =
     record {
       taken = sym (append-nil a.end.taken);
@@ -50,8 +50,7 @@ took_nothing a =
       slots = refl;
     }
 
-pub took_in_order : {H : Type 0}
-    (a : Reader H) (xs : List ℕ) (b : Reader H) (ys : List ℕ) (c : Reader H)
+pub took_in_order : (a : Reader) (xs : List ℕ) (b : Reader) (ys : List ℕ) (c : Reader)
     → Took a xs b → Took b ys c → Took a (xs ++ ys) c
 took_in_order a xs b ys c p q =
     record {
@@ -61,7 +60,7 @@ took_in_order a xs b ys c p q =
       slots = q.slots ∙ p.slots;
     }
 
-pub gave_nothing : {H : Type 0} (a : Writer H) → Gave a [] a
+pub gave_nothing : (a : Writer) → Gave a [] a
 gave_nothing a =
     record {
       published = [];
@@ -94,8 +93,7 @@ given_on true xs ys us vs ws zs p q all over =
 pub both_nil : (xs ys : List ℕ) → xs ≡ [] → ys ≡ [] → xs ++ ys ≡ []
 both_nil xs ys p q = ap₂ (λ ks ls. ks ++ ls) p q
 
-pub gave_in_order : {H : Type 0}
-    (a : Writer H) (xs : List ℕ) (b : Writer H) (ys : List ℕ) (c : Writer H)
+pub gave_in_order : (a : Writer) (xs : List ℕ) (b : Writer) (ys : List ℕ) (c : Writer)
     → Gave a xs b → Gave b ys c → Gave a (xs ++ ys) c
 gave_in_order a xs b ys c p q =
     record {

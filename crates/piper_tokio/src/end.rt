@@ -21,7 +21,6 @@ use crate::writer::CompatWriter;
 use futures::task::{Context, Poll};
 use piper_duplex::End;
 use std::io;
-use std::sync::Wait;
 use tokio::io::{AsyncBufRead, AsyncRead, AsyncWrite};
 
 /// An end of a duplex stream, as a reader and a writer of `tokio`. Where it is let go it closes
@@ -29,13 +28,13 @@ use tokio::io::{AsyncBufRead, AsyncRead, AsyncWrite};
 ///
 /// In clauses, `reader` and `writer` are what `into_halves` gives.
 #[derive(Drop)]
-pub struct CompatEnd<H: Wait + Clone + Drop> {
-    writer: CompatWriter<H>,
-    reader: CompatReader<H>,
+pub struct CompatEnd {
+    writer: CompatWriter,
+    reader: CompatReader,
 }
 
-impl<H: Wait + Clone + Drop> CompatEnd<H> {
-    pub fn new(end: End<H>) -> CompatEnd<H>
+impl CompatEnd {
+    pub fn new(end: End) -> CompatEnd
         ensures reader { result.reader.reader ≡ end.reader }
         ensures shown { shown_by result.reader ≡ [] }
         ensures writer { result.writer.writer ≡ end.writer }
@@ -48,7 +47,7 @@ impl<H: Wait + Clone + Drop> CompatEnd<H> {
     }
 
     /// Both halves, each for itself: for two tasks.
-    pub fn into_halves(self) -> (CompatReader<H>, CompatWriter<H>)
+    pub fn into_halves(self) -> (CompatReader, CompatWriter)
         ensures reader { result.0 ≡ self.reader }
         ensures writer { result.1 ≡ self.writer }
     {
@@ -57,7 +56,7 @@ impl<H: Wait + Clone + Drop> CompatEnd<H> {
     }
 }
 
-impl<H: Wait + Clone + Drop> AsyncRead for CompatEnd<H> {
+impl AsyncRead for CompatEnd {
     ghost needs = { λ compat s. s ≡ read_source compat.reader.reader };
 
     ghost reads = { λ a xs b. Took a.reader.reader xs b.reader.reader × (b.writer ≡ a.writer) };
@@ -100,7 +99,7 @@ impl<H: Wait + Clone + Drop> AsyncRead for CompatEnd<H> {
     }
 }
 
-impl<H: Wait + Clone + Drop> AsyncBufRead for CompatEnd<H> {
+impl AsyncBufRead for CompatEnd {
     ghost buffered = { λ compat. shown_by compat.reader };
 
     fn poll_fill_buf(&mut self, cx: &mut Context<'_>) -> Poll<io::Result<()>>
@@ -137,7 +136,7 @@ impl<H: Wait + Clone + Drop> AsyncBufRead for CompatEnd<H> {
     }
 }
 
-impl<H: Wait + Clone + Drop> AsyncWrite for CompatEnd<H> {
+impl AsyncWrite for CompatEnd {
     ghost needs = { λ compat s. s ≡ write_source compat.writer.writer };
 
     ghost writes = { λ a xs b. Gave a.writer.writer xs b.writer.writer × (b.reader ≡ a.reader) };

@@ -5,21 +5,20 @@ ghost use Rattle.piper.specs.ReadView.{in_one_piece};
 mod streams;
 
 use piper::Reader;
-use std::sync::Wait;
 
 /// The reading side of a pipe, as a reader of `tokio`. Where it is let go it closes the pipe and
 /// wakes the writer.
 ///
 /// In clauses, `reader` is the handle that the call of this name lends, and `shown_by` tells the
 /// bytes that `buffer` shows.
-pub struct CompatReader<H: Wait + Clone + Drop> {
-    reader: Reader<H>,
+pub struct CompatReader {
+    reader: Reader,
     // `tokio` asks that `buffer` shows what is left of one piece and no more, until the next fill.
     shown: usize,
     ghost within: { shown ≤ in_one_piece reader.end },
 }
 
-impl<H: Wait + Clone + Drop> Drop for CompatReader<H> {
+impl Drop for CompatReader {
     fn drop(self) {
         let CompatReader { reader, shown: _ } = self;
         reader.drop();

@@ -7,40 +7,40 @@ ghost use Rattle.futures.specs.Task.{Covers, Keeps};
 ghost use Rattle.tokio.specs.Io.Moved.{bytes_moved, count_moved, IfReadyErr};
 ghost use Rattle.piper.specs.Ends.{WriterShut};
 ghost use Rattle.piper.specs.Fills.{FillYields, LosesOneRound, OnNoCount};
-ghost use Rattle.piper.specs.Handles.{NotifiesReader, SameWriterButWoke, write_source};
+ghost use Rattle.piper.specs.Handles.{NotifiesReader, SameWriterButSlots, write_source};
 ghost use Rattle.piper.specs.Polls.{IfReadyOk};
+ghost use Rattle.piper.specs.Waits.{WriterStands};
 ghost use Rattle.piper_tokio.specs.Passing.{Gave};
 ghost use Rattle.piper_tokio.specs.PassingLaws.{gave_nothing, gave_in_order};
 
 use futures::task::{Context, Poll};
 use piper::{OutOfMemory, Writer};
 use std::io;
-use std::sync::Wait;
 
 /// The writing side of a pipe, as a writer of `tokio`. Where it is let go it closes the pipe and
 /// wakes the reader.
 ///
 /// In clauses, `writer` is the handle that the call of this name lends.
-pub struct CompatWriter<H: Wait + Clone + Drop> {
-    writer: Writer<H>,
+pub struct CompatWriter {
+    writer: Writer,
 }
 
-impl<H: Wait + Clone + Drop> CompatWriter<H> {
-    pub fn new(writer: Writer<H>) -> CompatWriter<H>
+impl CompatWriter {
+    pub fn new(writer: Writer) -> CompatWriter
         ensures { result.writer ≡ writer }
     {
         CompatWriter { writer }
     }
 
     /// The handle.
-    pub fn writer(&self) -> &Writer<H>
+    pub fn writer(&self) -> &Writer
         ensures { result.now ≡ self.now.writer }
     {
         &self.writer
     }
 
     /// The handle, which has to be spent now.
-    pub fn into_inner(self) -> Writer<H>
+    pub fn into_inner(self) -> Writer
         ensures { result ≡ self.writer }
     {
         let CompatWriter { writer } = self;
@@ -48,14 +48,14 @@ impl<H: Wait + Clone + Drop> CompatWriter<H> {
     }
 }
 
-impl<H: Wait + Clone + Drop> Drop for CompatWriter<H> {
+impl Drop for CompatWriter {
     fn drop(self) {
         let CompatWriter { writer } = self;
         writer.drop();
     }
 }
 
-impl<H: Wait + Clone + Drop> tokio::io::AsyncWrite for CompatWriter<H> {
+impl tokio::io::AsyncWrite for CompatWriter {
     ghost needs = { λ compat s. s ≡ write_source compat.writer };
 
     ghost writes = { λ a xs b. Gave a.writer xs b.writer };
@@ -85,8 +85,11 @@ impl<H: Wait + Clone + Drop> tokio::io::AsyncWrite for CompatWriter<H> {
         ensures yields { FillYields result self.new.writer.end cx.new }
         ensures failed { IfReadyErr result (λ e. error_kind e ≡ OutOfMemoryKind) }
         ensures refused { IfReadyErr result (λ _. cx.new.lacks_waker ≡ true) }
+        ensures woke { NotifiesReader self.old.writer → NotifiesReader self.new.writer }
         ensures registered { OnPending result
             (Covers cx.new (λ s. s ≡ write_source self.new.writer)) }
+        ensures stands { OnPending result
+            (WriterStands self.old.writer self.new.writer cx.new) }
         ensures kept { Keeps cx.old cx.new }
     {
         match self.writer.poll_fill_bytes(cx, buf) {
@@ -111,7 +114,7 @@ impl<H: Wait + Clone + Drop> tokio::io::AsyncWrite for CompatWriter<H> {
         ensures answer { result ≡ Poll.Ready (Ok (record {})) }
         ensures shut { WriterShut self.old.writer.end self.new.writer.end }
         ensures woke { NotifiesReader self.new.writer }
-        ensures handle { SameWriterButWoke self.old.writer self.new.writer }
+        ensures handle { SameWriterButSlots self.old.writer self.new.writer }
         ensures bytes { Gave self.old.writer [] self.new.writer }
         ensures kept { Keeps cx.old cx.new }
     {

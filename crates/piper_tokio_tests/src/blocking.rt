@@ -62,14 +62,14 @@ impl<'a, W: AsyncWrite> Future for WriteSome<'a, W> {
 
 /// Both handles of an end, and what their thread sleeps with.
 #[derive(Drop)]
-pub(crate) struct Blocking<H: Wait + Clone + Drop> {
+pub(crate) struct Blocking<H: Wait> {
     rt: H,
-    writer: OwnedWriter<H>,
-    reader: OwnedReader<H>,
+    writer: OwnedWriter,
+    reader: OwnedReader,
 }
 
-impl<H: Wait + Clone + Drop> Blocking<H> {
-    pub(crate) fn new(rt: H, end: End<H>) -> Blocking<H> {
+impl<H: Wait> Blocking<H> {
+    pub(crate) fn new(rt: H, end: End) -> Blocking<H> {
         let (reader, writer) = end.into_halves();
         Blocking {
             rt,
@@ -79,7 +79,7 @@ impl<H: Wait + Clone + Drop> Blocking<H> {
     }
 }
 
-impl<H: Wait + RandomSource + AllocGlobal + Clone + Drop> Read for Blocking<H> {
+impl<H: Wait + RandomSource + AllocGlobal> Read for Blocking<H> {
     fn read(&mut self, buf: &mut [u8]) -> io::Result<usize> {
         let reading = ReadSome {
             reader: &mut self.reader,
@@ -89,7 +89,7 @@ impl<H: Wait + RandomSource + AllocGlobal + Clone + Drop> Read for Blocking<H> {
     }
 }
 
-impl<H: Wait + RandomSource + AllocGlobal + Clone + Drop> Write for Blocking<H> {
+impl<H: Wait + RandomSource + AllocGlobal> Write for Blocking<H> {
     fn write(&mut self, buf: &[u8]) -> io::Result<usize> {
         let writing = WriteSome {
             writer: &mut self.writer,

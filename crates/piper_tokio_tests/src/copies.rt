@@ -18,13 +18,13 @@ use tokio::io::{AsyncBufRead, AsyncRead, AsyncWrite, copy, read_until};
 const TEXT: &[u8] = b"one\ntwo and three\n\nfour, without an end of line";
 
 /// A pipe of so many bytes, into which a thread copies the input.
-fn told<R, I>(rt: &R, capacity: usize, input: I) -> (Reader<R>, JoinHandle<io::Result<u64>>)
+fn told<R, I>(rt: &R, capacity: usize, input: I) -> (Reader, JoinHandle<io::Result<u64>>)
 where
     R: Abort + Wait + Threads + RandomSource + AllocGlobal + Clone + Drop + Send + Sync + 'static,
     I: AsyncRead + Send + 'static,
     requires { (0 < capacity) × (2 * capacity < 2 ^ 64) }
 {
-    let (reader, writer) = pipe(rt, rt.alloc(), capacity, 1).expect(rt, "memory");
+    let (reader, writer) = pipe(rt.alloc(), capacity, 1).expect(rt, "memory");
     let theirs = rt.clone().expect(rt, "memory");
     let copying = copy(rt.alloc(), input, CompatWriter::new(writer)).expect(rt, "memory");
     let child = thread::spawn(rt, move || {
@@ -109,7 +109,7 @@ where
 
 #[test]
 fn a_copy_into_a_closed_pipe_fails(rt: HostRuntime) {
-    let (reader, writer) = pipe(&rt, rt.alloc(), 7, 1).expect(&rt, "memory");
+    let (reader, writer) = pipe(rt.alloc(), 7, 1).expect(&rt, "memory");
     reader.drop();
     confirm(&rt, finds_full(&rt, CompatWriter::new(writer)));
 }

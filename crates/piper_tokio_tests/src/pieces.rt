@@ -6,11 +6,10 @@ use futures::test::MockTask;
 use piper::{Writer, pipe};
 use piper_tokio::CompatReader;
 use std::process::Abort;
-use std::sync::Wait;
 use tokio::io::AsyncBufRead;
 
 /// All of these bytes go in.
-fn fill<H: Wait + Clone + Drop>(rt: &impl Abort, writer: &mut Writer<H>, bytes: &[u8]) {
+fn fill(rt: &impl Abort, writer: &mut Writer, bytes: &[u8]) {
     confirm(rt, writer.try_fill(bytes) == bytes.len());
 }
 
@@ -34,7 +33,7 @@ fn leaves<I: AsyncBufRead>(rt: &impl Abort, reader: &mut I, count: usize, wanted
 
 #[test]
 fn a_reader_shows_what_is_left_of_one_piece(rt: HostRuntime) {
-    let (reader, mut writer) = pipe(&rt, rt.alloc(), 4, 1).expect(&rt, "memory");
+    let (reader, mut writer) = pipe(rt.alloc(), 4, 1).expect(&rt, "memory");
     let mut reader = CompatReader::new(reader);
     let task = MockTask::new(&rt).expect(&rt, "memory");
     confirm(&rt, is_pending(&task, &mut reader));

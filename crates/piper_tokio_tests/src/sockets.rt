@@ -39,7 +39,7 @@ where
 fn a_message_goes_each_way_after_the_handshake(rt: HostRuntime) -> Result<(), Fail> {
     let alloc = rt.alloc();
     let (ours, theirs) = (rt.clone()?, rt.clone()?);
-    let (near, far) = duplex(&rt, alloc, 16, 32, 1).expect(&rt, "memory");
+    let (near, far) = duplex(alloc, 16, 32, 1).expect(&rt, "memory");
     let near = Blocking::new(ours, near);
     let far = Blocking::new(theirs, far);
     let child = thread::spawn(&rt, move || echo(alloc, far))?;

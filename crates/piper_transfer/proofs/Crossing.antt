@@ -14,13 +14,12 @@ use Rattle.piper_transfer.proofs.meter.Meter.TheSendSync as meter
 use Rattle.piper_transfer.proofs.start.Start.TheSendSync as start
 use Rattle.piper_transfer.proofs.turns.Turns.TheSendSync as turns
 
--- a writer, where its handle may
-pub writer_send : (R : RattleType) → IsSend R → IsSend (Writer.the_row R)
-writer_send R r = search (sendable, crosses, writer.the_send) depth 20
+pub writer_send : IsSend Writer.the_row
+writer_send = search (sendable, crosses, writer.the_send) depth 20
 
 -- each as it is lent, since a search that goes down through all of them at once runs out of steps
-pub writer_lent : (ℓ : NamedLft) (R : RattleType) → IsSend (param 0 R) → IsSend (mut_ref_field ℓ (Writer.the_row (param 0 R)) tt).row
-writer_lent ℓ R r = search (sendable, writer_send)
+pub writer_lent : (ℓ : NamedLft) → IsSend (mut_ref_field ℓ Writer.the_row tt).row
+writer_lent ℓ = search (sendable, writer_send)
 
 pub start_lent : (ℓ : NamedLft) → IsSend (shr_ref_field ℓ Start.the_row tt).row
 start_lent ℓ = search (sendable, start.the_sync)

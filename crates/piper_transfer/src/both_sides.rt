@@ -93,7 +93,7 @@ where
 }
 
 // A pipe, and turns for each of its ends.
-fn open<R>(rt: &R, capacity: usize, level: usize) -> Result<(Input<R>, Output<R>), TransferError>
+fn open<R>(rt: &R, capacity: usize, level: usize) -> Result<(Input, Output), TransferError>
 where
     R: Wait + RandomSource + AllocGlobal + Clone + Drop,
     requires { (0 < capacity) × (2 * capacity < 2 ^ 64) }
@@ -104,7 +104,7 @@ where
 {
     let input_turns = Turns::new(rt).map_err(TransferError::Turns)?;
     let output_turns = Turns::new(rt).map_err(TransferError::Turns)?;
-    let Ok((reader, writer)) = pipe(rt, rt.alloc(), capacity, 1) else {
+    let Ok((reader, writer)) = pipe(rt.alloc(), capacity, 1) else {
         return Err(TransferError::Memory);
     };
     let input = Input {
@@ -135,8 +135,8 @@ where
 fn run_sides<R, S, D>(
     rt: &R,
     source: &mut S,
-    input: &mut Input<R>,
-    output: &mut Output<R>,
+    input: &mut Input,
+    output: &mut Output,
     dest: &mut D,
     chunk: usize,
     meter: &Meter,
@@ -178,8 +178,8 @@ fn on_two_threads<R, S, D>(
     rt: &R,
     source: &mut S,
     turns: &Turns,
-    writer: &mut Writer<R>,
-    output: &mut Output<R>,
+    writer: &mut Writer,
+    output: &mut Output,
     dest: &mut D,
     chunk: usize,
     meter: &Meter,

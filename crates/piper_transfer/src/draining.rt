@@ -23,10 +23,10 @@ const LEVEL_PAUSE: u64 = 2;
 
 /// Empties the pipe as `drain` does, once the other side has begun. Where that one has not, it is
 /// given up; then the answer is `None` and nothing was done.
-pub(crate) fn drain_from<R, D, H>(
+pub(crate) fn drain_from<R, D>(
     rt: &R,
     start: &Start,
-    output: &mut Output<H>,
+    output: &mut Output,
     dest: &mut D,
     chunk: usize,
     meter: &Meter,
@@ -34,7 +34,6 @@ pub(crate) fn drain_from<R, D, H>(
 where
     R: Wait + Clock,
     D: Destination,
-    H: Wait + Clone + Drop,
     requires chunk { 0 < chunk }
     ensures poured { Poured (D.contents dest.old) (D.contents dest.new)
         output.old.reader.end output.new.reader.end }
@@ -56,9 +55,9 @@ where
 ///
 /// Where that fails, the other side is told to end: bytes that it publishes until then stay in the
 /// pipe or are let go.
-pub(crate) fn drain<R, D, H>(
+pub(crate) fn drain<R, D>(
     rt: &R,
-    output: &mut Output<H>,
+    output: &mut Output,
     dest: &mut D,
     chunk: usize,
     meter: &Meter,
@@ -66,7 +65,6 @@ pub(crate) fn drain<R, D, H>(
 where
     R: Wait + Clock,
     D: Destination,
-    H: Wait + Clone + Drop,
     requires chunk { 0 < chunk }
     ensures poured { Poured (D.contents dest.old) (D.contents dest.new)
         output.old.reader.end output.new.reader.end }
@@ -91,7 +89,7 @@ where
 }
 
 // Tells the other side to end, and makes room: it wakes if it waits for some.
-fn give_up<H: Wait + Clone + Drop>(reader: &mut Reader<H>, meter: &Meter)
+fn give_up(reader: &mut Reader, meter: &Meter)
     ensures taken { (lost : List ℕ) × (reader.new.end.taken ≡ reader.old.end.taken ++ lost) }
     ensures ring { reader.new.end.ring ≡ reader.old.end.ring }
 {
@@ -100,11 +98,11 @@ fn give_up<H: Wait + Clone + Drop>(reader: &mut Reader<H>, meter: &Meter)
     reader.consume(known);
 }
 
-fn drain_in_turns<R, D, H>(
+fn drain_in_turns<R, D>(
     rt: &R,
     turns: &Turns,
     level: usize,
-    reader: &mut Reader<H>,
+    reader: &mut Reader,
     dest: &mut D,
     chunk: usize,
     meter: &Meter,
@@ -112,7 +110,6 @@ fn drain_in_turns<R, D, H>(
 where
     R: Wait + Clock,
     D: Destination,
-    H: Wait + Clone + Drop,
     requires chunk { 0 < chunk }
     ensures poured { PouredAll (D.contents dest.old) (D.contents dest.new)
         reader.old.end reader.new.end }
@@ -136,10 +133,9 @@ where
 }
 
 // Waits until the pipe holds so many bytes, or is closed.
-fn await_level<R, H>(rt: &R, reader: &Reader<H>, level: usize)
+fn await_level<R>(rt: &R, reader: &Reader, level: usize)
 where
     R: Wait + Clock,
-    H: Wait + Clone + Drop,
 {
     for _ in rt.forever() {
         if level <= reader.len() || reader.is_closed() {
@@ -151,10 +147,10 @@ where
 }
 
 // Goes on until no byte is known, or the side has ended.
-fn drain_turn<R, D, H>(
+fn drain_turn<R, D>(
     rt: &R,
     cx: &mut Context<'_>,
-    reader: &mut Reader<H>,
+    reader: &mut Reader,
     dest: &mut D,
     chunk: usize,
     meter: &Meter,
@@ -162,7 +158,6 @@ fn drain_turn<R, D, H>(
 where
     R: Wait + Clock,
     D: Destination,
-    H: Wait + Clone + Drop,
     requires chunk { 0 < chunk }
     ensures poured { PouredAll (D.contents dest.old) (D.contents dest.new)
         reader.old.end reader.new.end }
@@ -186,9 +181,9 @@ where
 }
 
 /// Takes as many bytes out of the pipe as one write takes.
-pub(crate) fn write_some<R, D, H>(
+pub(crate) fn write_some<R, D>(
     rt: &R,
-    reader: &mut Reader<H>,
+    reader: &mut Reader,
     dest: &mut D,
     chunk: usize,
     meter: &Meter,
@@ -196,7 +191,6 @@ pub(crate) fn write_some<R, D, H>(
 where
     R: Wait + Clock,
     D: Destination,
-    H: Wait + Clone + Drop,
     requires chunk { 0 < chunk }
     requires some { 0 < length reader.old.end.known }
     ensures poured { PouredAll (D.contents dest.old) (D.contents dest.new)
@@ -216,16 +210,10 @@ where
 }
 
 // Takes as many bytes out of the pipe as one write takes, and answers how many.
-fn write_chunk<R, D, H>(
-    rt: &R,
-    reader: &mut Reader<H>,
-    dest: &mut D,
-    chunk: usize,
-) -> io::Result<usize>
+fn write_chunk<R, D>(rt: &R, reader: &mut Reader, dest: &mut D, chunk: usize) -> io::Result<usize>
 where
     R: Wait + Clock,
     D: Destination,
-    H: Wait + Clone + Drop,
     requires chunk { 0 < chunk }
     requires some { 0 < length reader.old.end.known }
     ensures poured { PouredAll (D.contents dest.old) (D.contents dest.new)

@@ -19,19 +19,18 @@ use std::time::Clock;
 
 /// Fills the pipe as `fill_in_turns` does, once it has told the other side that it begins. Where
 /// that one has given it up, it answers `None` and has done nothing.
-pub(crate) fn fill_from<R, S, H>(
+pub(crate) fn fill_from<R, S>(
     rt: &R,
     start: &Start,
     turns: &Turns,
     source: &mut S,
-    writer: &mut Writer<H>,
+    writer: &mut Writer,
     chunk: usize,
     meter: &Meter,
 ) -> Option<Result<(), TransferError>>
 where
     R: Wait + Clock,
     S: Source,
-    H: Wait + Clone + Drop,
     requires chunk { 0 < chunk }
     requires is_open { IsOpen writer.old.end }
     ensures fed { Fed (S.remaining source.old) (S.remaining source.new)
@@ -48,18 +47,17 @@ where
 
 // Reads the input into the pipe, at most `chunk` bytes at a time, up to its end, and closes the
 // pipe.
-fn fill_in_turns<R, S, H>(
+fn fill_in_turns<R, S>(
     rt: &R,
     turns: &Turns,
     source: &mut S,
-    writer: &mut Writer<H>,
+    writer: &mut Writer,
     chunk: usize,
     meter: &Meter,
 ) -> Result<(), TransferError>
 where
     R: Wait + Clock,
     S: Source,
-    H: Wait + Clone + Drop,
     requires chunk { 0 < chunk }
     requires is_open { IsOpen writer.old.end }
     ensures fed { Fed (S.remaining source.old) (S.remaining source.new)
@@ -83,18 +81,17 @@ where
 }
 
 // Goes on until there is no room, or the side has ended; then the pipe is closed.
-fn fill_turn<R, S, H>(
+fn fill_turn<R, S>(
     rt: &R,
     cx: &mut Context<'_>,
     source: &mut S,
-    writer: &mut Writer<H>,
+    writer: &mut Writer,
     chunk: usize,
     meter: &Meter,
 ) -> Poll<Result<(), TransferError>>
 where
     R: Wait + Clock,
     S: Source,
-    H: Wait + Clone + Drop,
     requires chunk { 0 < chunk }
     requires is_open { IsOpen writer.old.end }
     ensures fed { Fed (S.remaining source.old) (S.remaining source.new)
@@ -126,17 +123,16 @@ where
 
 /// Publishes what one read gives, of at most so many bytes, and answers how many they are; 0 is the
 /// input's end.
-pub(crate) fn read_chunk<R, S, H>(
+pub(crate) fn read_chunk<R, S>(
     rt: &R,
     source: &mut S,
-    writer: &mut Writer<H>,
+    writer: &mut Writer,
     most: usize,
     meter: &Meter,
 ) -> Result<usize, TransferError>
 where
     R: Wait + Clock,
     S: Source,
-    H: Wait + Clone + Drop,
     requires most { 0 < most }
     requires room { 0 < writer.old.end.room }
     requires is_open { IsOpen writer.old.end }
@@ -153,9 +149,9 @@ where
 }
 
 // Closes the pipe, so that the other side ends once it has taken what was published.
-fn close<H: Wait + Clone + Drop>(
+fn close(
     cx: &mut Context<'_>,
-    writer: &mut Writer<H>,
+    writer: &mut Writer,
     ended: Result<(), TransferError>,
 ) -> Poll<Result<(), TransferError>>
     ensures answer { result ≡ Poll.Ready ended }

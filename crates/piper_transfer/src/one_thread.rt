@@ -16,11 +16,11 @@ use std::sync::Wait;
 use std::time::Clock;
 
 /// Reads the input to its end, and writes what each read gave before the next one is made.
-pub(crate) fn take_turns<R, S, D, H>(
+pub(crate) fn take_turns<R, S, D>(
     rt: &R,
     source: &mut S,
-    writer: &mut Writer<H>,
-    reader: &mut Reader<H>,
+    writer: &mut Writer,
+    reader: &mut Reader,
     dest: &mut D,
     chunk: usize,
     meter: &Meter,
@@ -29,7 +29,6 @@ where
     R: Wait + Clock,
     S: Source,
     D: Destination,
-    H: Wait + Clone + Drop,
     requires chunk { 0 < chunk }
     requires is_open { IsOpen writer.old.end }
     requires pair { writer.old.end.ring ≡ reader.old.end.ring }
@@ -64,10 +63,10 @@ where
 }
 
 // Writes all that was published; then the whole pipe is room.
-fn pass_on<R, D, H>(
+fn pass_on<R, D>(
     rt: &R,
-    writer: &mut Writer<H>,
-    reader: &mut Reader<H>,
+    writer: &mut Writer,
+    reader: &mut Reader,
     dest: &mut D,
     chunk: usize,
     meter: &Meter,
@@ -75,7 +74,6 @@ fn pass_on<R, D, H>(
 where
     R: Wait + Clock,
     D: Destination,
-    H: Wait + Clone + Drop,
     requires chunk { 0 < chunk }
     requires pair { writer.old.end.ring ≡ reader.old.end.ring }
     requires some { 0 < reader.old.end.capacity }
@@ -94,9 +92,9 @@ where
 }
 
 // Writes the bytes that the reader knows of to the output.
-fn drain_known<R, D, H>(
+fn drain_known<R, D>(
     rt: &R,
-    reader: &mut Reader<H>,
+    reader: &mut Reader,
     dest: &mut D,
     chunk: usize,
     meter: &Meter,
@@ -104,7 +102,6 @@ fn drain_known<R, D, H>(
 where
     R: Wait + Clock,
     D: Destination,
-    H: Wait + Clone + Drop,
     requires chunk { 0 < chunk }
     ensures poured { PouredAll (D.contents dest.old) (D.contents dest.new)
         reader.old.end reader.new.end }

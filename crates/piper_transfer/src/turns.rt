@@ -27,15 +27,15 @@ impl Turns {
 }
 
 /// What the thread has that reads the input.
-pub(crate) struct Input<H: Wait + Clone + Drop> {
+pub(crate) struct Input {
     pub(crate) turns: Turns,
-    pub(crate) writer: Writer<H>,
+    pub(crate) writer: Writer,
 }
 
 /// What the thread has that writes the output.
-pub(crate) struct Output<H: Wait + Clone + Drop> {
+pub(crate) struct Output {
     pub(crate) turns: Turns,
-    pub(crate) reader: Reader<H>,
+    pub(crate) reader: Reader,
     /// How many bytes the pipe is to hold before one is written, and again once it ran dry.
     pub(crate) level: usize,
 }

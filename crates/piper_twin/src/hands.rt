@@ -10,21 +10,20 @@ use piper_script::reply::Reply;
 use piper_sides::calls::Side;
 use std::alloc::AllocGlobal;
 use std::random::RandomSource;
-use std::sync::Wait;
 
 /// Of so many places a lend has one length.
 const MOST_TO_LEND: usize = 4096;
 
 /// The handles that a script made last, and the room in which bytes come from them.
 #[derive(Drop)]
-pub struct Hands<H: Wait + Clone + Drop> {
+pub struct Hands<H: Drop> {
     rt: H,
     seed: u64,
-    pair: Option<Pair<H>>,
+    pair: Option<Pair>,
     dest: Vec<u8>,
 }
 
-impl<H: Wait + RandomSource + AllocGlobal + Clone + Drop> Hands<H> {
+impl<H: RandomSource + AllocGlobal + Drop> Hands<H> {
     /// No handles yet. Those that are made draw as generators do that begin at the seed.
     pub fn new(rt: H, seed: u64) -> Hands<H> {
         let dest = Vec::new(rt.alloc());

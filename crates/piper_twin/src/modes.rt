@@ -14,7 +14,6 @@ use piper_script::stop::Stop;
 use std::alloc::AllocGlobal;
 use std::io::{Read, Write};
 use std::random::RandomSource;
-use std::sync::Wait;
 
 /// The seed of the generators where a script is read.
 const SEED: u64 = 1;
@@ -34,7 +33,7 @@ pub fn replay<H, I: Read, O: Write>(
     output: &mut O,
 ) -> Ended
 where
-    H: Wait + RandomSource + AllocGlobal + Clone + Drop,
+    H: RandomSource + AllocGlobal + Clone + Drop,
 {
     let mode = words.first().map_or("", |word| word.as_str());
     let played = match (mode, words.get(1), words.get(2), words.len()) {
@@ -68,7 +67,7 @@ where
 // Plays a script on the handles. The answer is whether it was played to its end.
 fn play_handles<H, I: Read, O: Write>(rt: &H, input: &mut I, output: &mut O) -> Result<bool, Stop>
 where
-    H: Wait + RandomSource + AllocGlobal + Clone + Drop,
+    H: RandomSource + AllocGlobal + Clone + Drop,
 {
     let mut lines = Lines::new(rt.alloc(), input)?;
     let mut hands = Hands::new(rt.clone().map_err(|_| Stop::Memory)?, SEED);
@@ -96,7 +95,7 @@ where
 // to its end.
 fn play_twin<H, I: Read, O: Write>(rt: &H, input: &mut I, output: &mut O) -> Result<bool, Stop>
 where
-    H: Wait + RandomSource + AllocGlobal + Clone + Drop,
+    H: RandomSource + AllocGlobal + Clone + Drop,
 {
     let mut lines = Lines::new(rt.alloc(), input)?;
     let mut twin = Twin::new(rt.clone().map_err(|_| Stop::Memory)?, SEED);
@@ -127,7 +126,7 @@ fn write_difference<H, O: Write>(
     output: &mut O,
 ) -> Result<(), Stop>
 where
-    H: Wait + RandomSource + AllocGlobal + Clone + Drop,
+    H: RandomSource + AllocGlobal + Clone + Drop,
 {
     write!(output, "line {number}: ").map_err(|_| Stop::Write)?;
     output.write_all(line).map_err(|_| Stop::Write)?;
@@ -141,7 +140,7 @@ where
 // is none.
 fn draw_twin<H, O: Write>(rt: &H, seed: u64, count: u64, output: &mut O) -> Result<bool, Stop>
 where
-    H: Wait + RandomSource + AllocGlobal + Clone + Drop,
+    H: RandomSource + AllocGlobal + Clone + Drop,
 {
     let mut lines = 0u64;
     for index in 0..count {
@@ -159,7 +158,7 @@ where
 // differs.
 fn play_drawn<H, O: Write>(rt: &H, seed: u64, output: &mut O) -> Result<Option<u64>, Stop>
 where
-    H: Wait + RandomSource + AllocGlobal + Clone + Drop,
+    H: RandomSource + AllocGlobal + Clone + Drop,
 {
     let mut drawn = Drawn::new(seed);
     let mut twin = Twin::new(rt.clone().map_err(|_| Stop::Memory)?, seed);

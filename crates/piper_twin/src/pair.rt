@@ -13,13 +13,12 @@ use piper_sides::events::Answer;
 use piper_sides::polling::{Context, Polled};
 use std::alloc::{AllocError, AllocGlobal, Global};
 use std::random::RandomSource;
-use std::sync::Wait;
 
 /// The handles of a pipe, with tasks for each of them.
 #[derive(Drop)]
-pub struct Pair<H: Wait + Clone + Drop> {
-    reader: Option<OwnedReader<H>>,
-    writer: Option<OwnedWriter<H>>,
+pub struct Pair {
+    reader: Option<OwnedReader>,
+    writer: Option<OwnedWriter>,
     reading: Tasks,
     writing: Tasks,
     /// What the reader draws next, and the writer.
@@ -29,13 +28,13 @@ pub struct Pair<H: Wait + Clone + Drop> {
     alloc: Global,
 }
 
-impl<H: Wait + RandomSource + AllocGlobal + Clone + Drop> Pair<H> {
+impl Pair {
     /// An empty pipe. The handles draw as generators do that begin at the seed.
-    pub fn new(rt: &H, capacity: usize, seed: u64) -> Result<Pair<H>, Stop> {
+    pub fn new(rt: &impl AllocGlobal, capacity: usize, seed: u64) -> Result<Pair, Stop> {
         if capacity == 0 || capacity > MOST {
             return Err(Stop::Refused(Refusal::Limit));
         }
-        let (reader, writer) = pipe(rt, rt.alloc(), capacity, seed)?;
+        let (reader, writer) = pipe(rt.alloc(), capacity, seed)?;
         Ok(Pair {
             reader: Some(OwnedReader::new(reader)),
             writer: Some(OwnedWriter::new(writer)),
@@ -89,7 +88,7 @@ impl<H: Wait + RandomSource + AllocGlobal + Clone + Drop> Pair<H> {
     /// Makes the call, and adds the names of the wakers that it called.
     pub fn make(
         &mut self,
-        rt: &H,
+        rt: &(impl RandomSource + AllocGlobal),
         call: &Call,
         dest: &mut [u8],
         woken: &mut Vec<u32>,
@@ -121,7 +120,7 @@ impl<H: Wait + RandomSource + AllocGlobal + Clone + Drop> Pair<H> {
         Answer::Done
     }
 
-    fn close(&mut self, rt: &H) -> Result<Answer, Halt> {
+    fn close(&mut self, rt: &(impl RandomSource + AllocGlobal)) -> Result<Answer, Halt> {
         let Some(owned) = &mut self.writer else {
             return Err(Refusal::Dropped.into());
         };
@@ -144,7 +143,7 @@ impl<H: Wait + RandomSource + AllocGlobal + Clone + Drop> Pair<H> {
 
     fn as_task(
         &mut self,
-        rt: &H,
+        rt: &(impl RandomSource + AllocGlobal),
         context: Context,
         call: &Call,
         dest: &mut [u8],
@@ -194,7 +193,12 @@ impl<H: Wait + RandomSource + AllocGlobal + Clone + Drop> Pair<H> {
     }
 
     // Copies of no byte, until the handle draws next what the line says.
-    fn steer(&mut self, rt: &H, context: Context, call: &Call) -> Result<(), Stop> {
+    fn steer(
+        &mut self,
+        rt: &(impl RandomSource + AllocGlobal),
+        context: Context,
+        call: &Call,
+    ) -> Result<(), Stop> {
         let yields = context.luck.draw == 0;
         for _ in 0..u64::MAX {
             if (self.next_draw(call.side()) == 0) == yields || !self.will_draw(call) {
@@ -210,7 +214,11 @@ impl<H: Wait + RandomSource + AllocGlobal + Clone + Drop> Pair<H> {
     }
 
     // A copy of no byte out of the pipe.
-    fn draw_as_reader(&mut self, rt: &H, waker: u32) -> Result<(), Stop> {
+    fn draw_as_reader(
+        &mut self,
+        rt: &(impl RandomSource + AllocGlobal),
+        waker: u32,
+    ) -> Result<(), Stop> {
         let Some(owned) = &mut self.reader else {
             return Ok(());
         };
@@ -222,7 +230,11 @@ impl<H: Wait + RandomSource + AllocGlobal + Clone + Drop> Pair<H> {
     }
 
     // A copy of no byte into the pipe.
-    fn draw_as_writer(&mut self, rt: &H, waker: u32) -> Result<(), Stop> {
+    fn draw_as_writer(
+        &mut self,
+        rt: &(impl RandomSource + AllocGlobal),
+        waker: u32,
+    ) -> Result<(), Stop> {
         let Some(owned) = &mut self.writer else {
             return Ok(());
         };

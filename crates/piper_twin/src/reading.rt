@@ -10,15 +10,10 @@ use piper_sides::calls::{Call, Query};
 use piper_sides::events::Answer;
 use piper_sides::polling::Polled;
 use piper_sides::scripted::{DestAct, Failed};
-use std::sync::Wait;
 
 /// Makes a call without a waker, and answers what it answers. Bytes that it takes go to the front
 /// of `dest`.
-pub fn at_once<H: Wait + Clone + Drop>(
-    reader: &mut Reader<H>,
-    call: &Call,
-    dest: &mut [u8],
-) -> Result<Answer, Halt> {
+pub fn at_once(reader: &mut Reader, call: &Call, dest: &mut [u8]) -> Result<Answer, Halt> {
     Ok(match call {
         Call::Query(_, Query::Len) => Answer::Count(reader.len()),
         Call::Query(_, Query::IsEmpty) => Answer::Flag(reader.is_empty()),
@@ -38,8 +33,8 @@ pub fn at_once<H: Wait + Clone + Drop>(
 
 /// Makes a call as this task, and answers what it answers. Bytes that it takes go to the front of
 /// `dest`.
-pub fn as_task<H: Wait + Clone + Drop>(
-    reader: &mut Reader<H>,
+pub fn as_task(
+    reader: &mut Reader,
     task: &MockTask,
     call: &Call,
     dest: &mut [u8],

@@ -8,12 +8,11 @@ use piper_script::reply::Reply;
 use piper_script::stop::Stop;
 use std::alloc::AllocGlobal;
 use std::random::RandomSource;
-use std::sync::Wait;
 
 /// A machine and handles on which the same script is played, and what each answered to the last
 /// line.
 #[derive(Drop)]
-pub struct Twin<H: Wait + Clone + Drop> {
+pub struct Twin<H: Drop> {
     player: Player,
     hands: Hands<H>,
     pub machine: Reply,
@@ -31,7 +30,7 @@ pub enum Compared {
     Differ,
 }
 
-impl<H: Wait + RandomSource + AllocGlobal + Clone + Drop> Twin<H> {
+impl<H: RandomSource + AllocGlobal + Drop> Twin<H> {
     /// Neither has a pipe. What the handles draw goes by the seed, and the machine is told the
     /// same.
     pub fn new(rt: H, seed: u64) -> Twin<H> {

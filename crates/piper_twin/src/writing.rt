@@ -8,15 +8,10 @@ use piper::Writer;
 use piper_script::command::Refusal;
 use piper_sides::calls::{Call, Query};
 use piper_sides::events::Answer;
-use std::sync::Wait;
 
 /// Makes a call without a waker, and answers what it answers. `lent` is how much is left of what is
 /// lent.
-pub fn at_once<H: Wait + Clone + Drop>(
-    writer: &mut Writer<H>,
-    lent: &mut usize,
-    call: &Call,
-) -> Result<Answer, Halt> {
+pub fn at_once(writer: &mut Writer, lent: &mut usize, call: &Call) -> Result<Answer, Halt> {
     Ok(match call {
         Call::Query(_, Query::Len) => Answer::Count(writer.len()),
         Call::Query(_, Query::IsEmpty) => Answer::Flag(writer.is_empty()),
@@ -45,8 +40,8 @@ pub fn at_once<H: Wait + Clone + Drop>(
 }
 
 /// Makes a call as this task, and answers what it answers.
-pub fn as_task<H: Wait + Clone + Drop>(
-    writer: &mut Writer<H>,
+pub fn as_task(
+    writer: &mut Writer,
     lent: &mut usize,
     task: &MockTask,
     call: &Call,

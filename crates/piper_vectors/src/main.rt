@@ -9,7 +9,6 @@ use serde_json::Value;
 use std::alloc::{AllocGlobal, Global};
 use std::process::ExitCode;
 use std::random::RandomSource;
-use std::sync::Wait;
 use std::{fs, io, str};
 
 /// The scripts that the Rust crate answered. Each file lies where the program runs, and has one
@@ -168,7 +167,7 @@ fn replay_line<H>(
     tally: &mut Tally,
 ) -> Result<(), anyhow::Error>
 where
-    H: Wait + RandomSource + AllocGlobal + Clone + Drop,
+    H: RandomSource + AllocGlobal + Clone + Drop,
 {
     let line = Value::from_str(rt.alloc(), line)?;
     let vector = Vector::of(&line).context("a member is missing")?;
@@ -202,7 +201,7 @@ fn answers<H>(
     arguments: &[String],
 ) -> Result<bool, anyhow::Error>
 where
-    H: Wait + RandomSource + AllocGlobal + Clone + Drop,
+    H: RandomSource + AllocGlobal + Clone + Drop,
 {
     let mut output = Vec::new(rt.alloc());
     let mut input = vector.script.as_bytes();
@@ -217,7 +216,7 @@ fn play_on_handles<H>(
     vector: &Vector<'_>,
 ) -> Result<Played, anyhow::Error>
 where
-    H: Wait + RandomSource + AllocGlobal + Clone + Drop,
+    H: RandomSource + AllocGlobal + Clone + Drop,
 {
     let mut arguments = Vec::new(rt.alloc());
     arguments.push(String::from_str(rt.alloc(), "handles")?)?;
@@ -259,7 +258,7 @@ fn replay_file<H>(
     tally: &mut Tally,
 ) -> Result<(), anyhow::Error>
 where
-    H: Wait + RandomSource + AllocGlobal + Clone + Drop,
+    H: RandomSource + AllocGlobal + Clone + Drop,
 {
     let text = fs::read_to_string(rt, file)?;
     replay_lines(rt, hands, file, text.as_str(), tally)
@@ -274,7 +273,7 @@ fn replay_lines<H>(
     tally: &mut Tally,
 ) -> Result<(), anyhow::Error>
 where
-    H: Wait + RandomSource + AllocGlobal + Clone + Drop,
+    H: RandomSource + AllocGlobal + Clone + Drop,
 {
     for (before, script) in text.lines().enumerate() {
         let line = before.saturating_add(1);
@@ -286,7 +285,7 @@ where
 /// Replays the scripts of all these files.
 fn replay_files<H>(rt: &HostRuntime, hands: &H, files: &[&str]) -> Result<Tally, anyhow::Error>
 where
-    H: Wait + RandomSource + AllocGlobal + Clone + Drop,
+    H: RandomSource + AllocGlobal + Clone + Drop,
 {
     let mut tally = Tally {
         alike: 0,

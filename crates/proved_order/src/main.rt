@@ -6,18 +6,15 @@
 ghost use Rattle.std.specs.Prelude.{◌≡◌, ◌<◌, ◌*◌, ◌^◌, ◌≤◌, ◌+◌, take, length, IfOk};
 
 use piper::owned_pipe;
-use std::alloc::AllocGlobal;
+use std::alloc::Global;
 use std::io;
-use std::sync::Wait;
 
 /// Sends what is in `bytes` through a pipe that holds all of it, and answers how many bytes came.
-fn carry<H>(rt: &H, bytes: &[u8], place: &mut [u8]) -> io::Result<usize>
-where
-    H: Wait + Clone + AllocGlobal + Drop,
+fn carry(alloc: Global, bytes: &[u8], place: &mut [u8]) -> io::Result<usize>
     requires { (0 < length bytes.now) × (2 * length bytes.now < 2 ^ 64) }
     ensures { IfOk result (λ n. take n place.new ≡ take n bytes.now) }
 {
-    let (mut reader, mut writer) = owned_pipe(rt, bytes.len())?;
+    let (mut reader, mut writer) = owned_pipe(alloc, bytes.len())?;
     writer.try_fill(bytes);
     let came = reader.try_drain(place);
     reader.meet(&mut writer);
@@ -26,6 +23,6 @@ where
 
 fn main(rt: HostRuntime) -> io::Result<()> {
     let mut place = [0; 16];
-    let came = carry(&rt, b"hello world", &mut place)?;
+    let came = carry(rt.alloc(), b"hello world", &mut place)?;
     println!(&rt; "{}", place[..came].escape_ascii())
 }

@@ -29,7 +29,7 @@ impl Promise<WriteMark> for SendsFront {
 
 /// Publishes `bytes` in order, up to the last or to the pipe's close, and drops the writer. The
 /// answer is its last mark.
-fn send_all<H: Wait + Clone + Drop>(rt: &H, writer: OwnedWriter<H>, bytes: &[u8]) -> WriteMark
+fn send_all<H: Wait>(rt: &H, writer: OwnedWriter, bytes: &[u8]) -> WriteMark
     requires { writer.writer.end.sent ≡ [] }
     ensures { TellsFront writer.writer.end.ring.1.1 result.names
         bytes.now result.bytes result.shut }
@@ -48,11 +48,7 @@ fn send_all<H: Wait + Clone + Drop>(rt: &H, writer: OwnedWriter<H>, bytes: &[u8]
 
 /// Takes bytes to the front of `place` until it is full or the pipe has ended, and answers how
 /// many.
-fn receive_all<H: Wait + Clone + Drop>(
-    rt: &H,
-    reader: &mut OwnedReader<H>,
-    place: &mut [u8],
-) -> usize
+fn receive_all<H: Wait>(rt: &H, reader: &mut OwnedReader, place: &mut [u8]) -> usize
     requires { reader.old.reader.end.taken ≡ [] }
     ensures count { result ≤ length place.new }
     ensures taken { reader.new.reader.end.taken ≡ take result place.new }
@@ -81,7 +77,7 @@ where
     ensures { IfOk result (λ n. take n place.new ≡ take n bytes.now) }
 {
     let theirs = rt.clone()?;
-    let (mut reader, writer) = owned_pipe(rt, CAPACITY)?;
+    let (mut reader, writer) = owned_pipe(rt.alloc(), CAPACITY)?;
     let promise = SendsFront {
         pipe: writer.mark(),
         bytes,

@@ -17,9 +17,9 @@ use std::{io, thread};
 const BYTES: u64 = 100_000;
 
 /// Sends as many bytes as there is room for, until all are sent or the pipe is closed.
-fn send<H: Wait + Clone + Drop>(
+fn send<H: Wait>(
     rt: &H,
-    writer: &mut OwnedWriter<H>,
+    writer: &mut OwnedWriter,
     cx: &mut Context<'_>,
     left: &mut u64,
 ) -> Poll<io::Result<()>>
@@ -43,9 +43,9 @@ fn send<H: Wait + Clone + Drop>(
 }
 
 /// Takes what is there, until the pipe's end.
-fn count<H: Wait + Clone + Drop>(
+fn count<H: Wait>(
     rt: &H,
-    reader: &mut OwnedReader<H>,
+    reader: &mut OwnedReader,
     cx: &mut Context<'_>,
     came: &mut u64,
 ) -> Poll<io::Result<()>>
@@ -66,9 +66,9 @@ fn count<H: Wait + Clone + Drop>(
     unreachable!()
 }
 
-fn send_all<H>(rt: &H, mut writer: OwnedWriter<H>) -> io::Result<()>
+fn send_all<H>(rt: &H, mut writer: OwnedWriter) -> io::Result<()>
 where
-    H: Wait + RandomSource + AllocGlobal + Clone + Drop,
+    H: Wait + RandomSource + AllocGlobal,
 {
     let queue = Queue::new(rt, Doorbell::parking())?;
     queue.add()?.schedule();
@@ -86,9 +86,9 @@ where
     unreachable!()
 }
 
-fn count_all<H>(rt: &H, mut reader: OwnedReader<H>) -> io::Result<u64>
+fn count_all<H>(rt: &H, mut reader: OwnedReader) -> io::Result<u64>
 where
-    H: Wait + RandomSource + AllocGlobal + Clone + Drop,
+    H: Wait + RandomSource + AllocGlobal,
 {
     let queue = Queue::new(rt, Doorbell::parking())?;
     queue.add()?.schedule();
@@ -112,7 +112,7 @@ where
     H: Threads + Wait + RandomSource + AllocGlobal + Clone + Drop + Send + Sync + 'static,
 {
     let theirs = rt.clone()?;
-    let (reader, writer) = owned_pipe(rt, 64)?;
+    let (reader, writer) = owned_pipe(rt.alloc(), 64)?;
     let spawned = thread::spawn(rt, move || send_all(&theirs, writer));
     let child = spawned.map_err(|_| io::Error::other("a second thread is refused"))?;
     let came = count_all(rt, reader);

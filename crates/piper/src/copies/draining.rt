@@ -3,6 +3,7 @@ ghost use Rattle.std.specs.Prelude.{◌≡◌, ◌<◌, ◌≤◌, ◌++◌, ◌
 ghost use Rattle.futures.specs.Task.{Covers, Keeps};
 ghost use Rattle.futures.specs.Poll.{OnPending};
 ghost use Rattle.piper_ring.specs.ReadView.{KnowsEnd, in_one_piece};
+ghost use Rattle.piper_ring.specs.SlotsView.{SameReaderLooks, SameReaderPlace};
 ghost use Rattle.piper_sides.specs.Table.{goes_on, reader_is_true};
 ghost use Rattle.piper.specs.Contexts.{IfGiven, Arms, LacksWaker};
 ghost use Rattle.piper.specs.Copies.{ReaderCopied};
@@ -24,10 +25,10 @@ use piper_sides::read_call::ReadCall;
 use piper_sides::scripted::MOST_A_ROUND;
 use piper_sides::table::{Form, Purpose, ReadPoint};
 use std::io::Write;
-use std::sync::Wait;
 
-impl<H: Wait + Clone + Drop> Reader<H> {
-    ghost use Rattle.piper.specs.Handles.{NotifiesWriter, SameReader, SameReaderButWoke, read_source};
+impl Reader {
+    ghost use Rattle.piper.specs.Waits.{ReaderStands};
+    ghost use Rattle.piper.specs.Handles.{NotifiesWriter, SameReader, SameReaderButWaits, SameReaderButWoke, read_source};
 
     /// Moves known bytes into a writer, and answers how many that took.
     ///
@@ -58,6 +59,7 @@ impl<H: Wait + Clone + Drop> Reader<H> {
         ensures woke { NotifiesWriter self.old → NotifiesWriter self.new }
         ensures slots { self.new.slots ≡ self.old.slots }
         ensures covered { OnPending result (Covers cx.new (λ s. s ≡ read_source self.old)) }
+        ensures stands { OnPending result (ReaderStands self.old self.new cx.new) }
         ensures kept { Keeps cx.old cx.new }
     {
         let mut dest = StdWrite::new(dest);
@@ -99,6 +101,7 @@ impl<H: Wait + Clone + Drop> Reader<H> {
         ensures woke { NotifiesWriter self.old → NotifiesWriter self.new }
         ensures slots { self.new.slots ≡ self.old.slots }
         ensures covered { OnPending result (Covers cx.new (λ s. s ≡ read_source self.old)) }
+        ensures stands { OnPending result (ReaderStands self.old self.new cx.new) }
         ensures kept { Keeps cx.old cx.new }
     {
         let mut bytes = WriteBytes::new(dest);
@@ -160,6 +163,7 @@ impl<H: Wait + Clone + Drop> Reader<H> {
             Draws (0 < found_len self.old.end self.new.end) result self.old.rng self.new.rng }
         ensures undrawn { cx.entry ≡ None →
             Undrawn (0 < found_len self.old.end self.new.end) result self.old.rng self.new.rng }
+        ensures place { cx.entry ≡ None → SameReaderPlace self.old.waiting self.new.waiting }
         ensures granted { cx.entry ≡ None → OnMemory result ⊥ }
         ensures woke { NotifiesWriter self.old → NotifiesWriter self.new }
         ensures slots { self.new.slots ≡ self.old.slots }
@@ -167,6 +171,8 @@ impl<H: Wait + Clone + Drop> Reader<H> {
             DrainYields result self.old.end self.new.end left) }
         ensures refused { IfGiven cx.entry cx.exit (LacksWaker result) }
         ensures covered { IfGiven cx.entry cx.exit (Arms result (read_source self.old)) }
+        ensures stands { IfGiven cx.entry cx.exit (λ _ left.
+            OnPending result (ReaderStands self.old self.new left)) }
         ensures kept { IfGiven cx.entry cx.exit Keeps }
     {
         match cx {
@@ -197,6 +203,7 @@ impl<H: Wait + Clone + Drop> Reader<H> {
         ensures woke { NotifiesWriter self.old → NotifiesWriter self.new }
         ensures slots { self.new.slots ≡ self.old.slots }
         ensures covered { OnPending result (Covers cx.new (λ s. s ≡ read_source self.old)) }
+        ensures stands { OnPending result (ReaderStands self.old self.new cx.new) }
         ensures kept { Keeps cx.old cx.new }
     {
         let call = match self.look_to_drain(cx) {
@@ -220,7 +227,7 @@ impl<H: Wait + Clone + Drop> Reader<H> {
         ensures draw { IsTrue result.1 ↔ DrawsYield self.old.rng }
         ensures rng { self.new.rng ≡ drawn_from self.old.rng }
         ensures slots { self.new.slots ≡ self.old.slots }
-        ensures notified { self.new.notified ≡ self.old.notified }
+        ensures looks { SameReaderLooks self.old.waiting self.new.waiting }
         ensures end { self.new.end ≡ self.old.end }
     {
         let call = match self.skip_own_and_draw(call) {
@@ -273,8 +280,10 @@ impl<H: Wait + Clone + Drop> Reader<H> {
         ensures refused { IfErr result (λ told. OnMemory told (cx.new.lacks_waker ≡ true)) }
         ensures covered { IfErr result (λ told.
             OnPending told (Covers cx.new (λ s. s ≡ read_source self.old))) }
+        ensures stands { IfErr result (λ told.
+            OnPending told (ReaderStands self.old self.new cx.new)) }
         ensures looked { ReaderLooked self.old.end self.new.end }
-        ensures rest { SameReader self.old self.new }
+        ensures rest { SameReaderButWaits self.old self.new }
         ensures kept { Keeps cx.old cx.new }
     {
         let (call, none) = self.look(Purpose::Copy(Form::Polling { is_drawn: false }));

@@ -2,6 +2,7 @@
 ghost use Rattle.std.specs.Prelude.{◌≡◌, ℕ, ◌<◌, ◌≤◌, ◌++◌, ◌⊎◌, [], length, take, IfOk, IfErr, OnOk, IsSome, IsTrue, ◌↔◌, None, Ok, true, false};
 ghost use Rattle.futures.specs.Task.{Covers, Keeps};
 ghost use Rattle.futures.specs.Poll.{OnPending};
+ghost use Rattle.piper_ring.specs.SlotsView.{SameWriterLooks, SameWriterPlace};
 ghost use Rattle.piper_sides.specs.Table.{goes_on, writer_is_true};
 ghost use Rattle.piper.specs.Contexts.{IfGiven, Arms, LacksWaker};
 ghost use Rattle.piper.specs.Copies.{IsReplaced, WriterCopied};
@@ -23,10 +24,10 @@ use piper_sides::scripted::MOST_A_ROUND;
 use piper_sides::table::{Form, Purpose, WritePoint};
 use piper_sides::write_call::WriteCall;
 use std::io::Read;
-use std::sync::Wait;
 
-impl<H: Wait + Clone + Drop> Writer<H> {
-    ghost use Rattle.piper.specs.Handles.{NotifiesReader, SameWriter, SameWriterButWoke, write_source};
+impl Writer {
+    ghost use Rattle.piper.specs.Waits.{WriterStands};
+    ghost use Rattle.piper.specs.Handles.{NotifiesReader, SameWriter, SameWriterButWaits, SameWriterButWoke, write_source};
 
     /// Publishes bytes that a reader gives, and answers how many it gave.
     ///
@@ -55,6 +56,7 @@ impl<H: Wait + Clone + Drop> Writer<H> {
         ensures woke { NotifiesReader self.old → NotifiesReader self.new }
         ensures slots { self.new.slots ≡ self.old.slots }
         ensures covered { OnPending result (Covers cx.new (λ s. s ≡ write_source self.old)) }
+        ensures stands { OnPending result (WriterStands self.old self.new cx.new) }
         ensures kept { Keeps cx.old cx.new }
     {
         let mut source = StdRead::new(source);
@@ -99,6 +101,7 @@ impl<H: Wait + Clone + Drop> Writer<H> {
         ensures woke { NotifiesReader self.old → NotifiesReader self.new }
         ensures slots { self.new.slots ≡ self.old.slots }
         ensures covered { OnPending result (Covers cx.new (λ s. s ≡ write_source self.old)) }
+        ensures stands { OnPending result (WriterStands self.old self.new cx.new) }
         ensures kept { Keeps cx.old cx.new }
     {
         let mut source = ReadBytes::new(bytes);
@@ -163,6 +166,7 @@ impl<H: Wait + Clone + Drop> Writer<H> {
             Draws (FoundRoom result self.new.end) result self.old.rng self.new.rng }
         ensures undrawn { cx.entry ≡ None →
             Undrawn (FoundRoom result self.new.end) result self.old.rng self.new.rng }
+        ensures place { cx.entry ≡ None → SameWriterPlace self.old.waiting self.new.waiting }
         ensures granted { cx.entry ≡ None → OnMemory result ⊥ }
         ensures lent { self.new.end.lent ≡ [] }
         ensures woke { NotifiesReader self.old → NotifiesReader self.new }
@@ -170,6 +174,8 @@ impl<H: Wait + Clone + Drop> Writer<H> {
         ensures yields { IfGiven cx.entry cx.exit (λ _ left. FillYields result self.new.end left) }
         ensures refused { IfGiven cx.entry cx.exit (LacksWaker result) }
         ensures covered { IfGiven cx.entry cx.exit (Arms result (write_source self.old)) }
+        ensures stands { IfGiven cx.entry cx.exit (λ _ left.
+            OnPending result (WriterStands self.old self.new left)) }
         ensures kept { IfGiven cx.entry cx.exit Keeps }
     {
         match cx {
@@ -204,6 +210,7 @@ impl<H: Wait + Clone + Drop> Writer<H> {
         ensures woke { NotifiesReader self.old → NotifiesReader self.new }
         ensures slots { self.new.slots ≡ self.old.slots }
         ensures covered { OnPending result (Covers cx.new (λ s. s ≡ write_source self.old)) }
+        ensures stands { OnPending result (WriterStands self.old self.new cx.new) }
         ensures kept { Keeps cx.old cx.new }
     {
         let call = match self.look_to_fill(cx) {
@@ -227,7 +234,7 @@ impl<H: Wait + Clone + Drop> Writer<H> {
         ensures draw { IsTrue result.1 ↔ DrawsYield self.old.rng }
         ensures rng { self.new.rng ≡ drawn_from self.old.rng }
         ensures slots { self.new.slots ≡ self.old.slots }
-        ensures notified { self.new.notified ≡ self.old.notified }
+        ensures looks { SameWriterLooks self.old.waiting self.new.waiting }
         ensures end { self.new.end ≡ self.old.end }
     {
         let call = match self.skip_own_and_draw(call) {
@@ -275,8 +282,10 @@ impl<H: Wait + Clone + Drop> Writer<H> {
         ensures refused { IfErr result (λ told. OnMemory told (cx.new.lacks_waker ≡ true)) }
         ensures covered { IfErr result (λ told.
             OnPending told (Covers cx.new (λ s. s ≡ write_source self.old))) }
+        ensures stands { IfErr result (λ told.
+            OnPending told (WriterStands self.old self.new cx.new)) }
         ensures looked { WriterLooked self.old.end self.new.end }
-        ensures rest { SameWriter self.old self.new }
+        ensures rest { SameWriterButWaits self.old self.new }
         ensures kept { Keeps cx.old cx.new }
     {
         let call = WriteCall::look(Purpose::Copy(Form::Polling { is_drawn: false }));

@@ -9,9 +9,8 @@ use crate::handles::{Reader, Writer};
 use crate::io::{AsyncBufRead, AsyncRead, AsyncWrite};
 use futures::task::{Context, Poll};
 use piper_ring::OutOfMemory;
-use std::sync::Wait;
 
-impl<H: Wait + Clone + Drop> AsyncRead for Reader<H> {
+impl AsyncRead for Reader {
     ghost use Rattle.piper.specs.Handles.{read_source};
 
     ghost taken = { λ r. r.end.taken };
@@ -39,7 +38,7 @@ impl<H: Wait + Clone + Drop> AsyncRead for Reader<H> {
     }
 }
 
-impl<H: Wait + Clone + Drop> AsyncBufRead for Reader<H> {
+impl AsyncBufRead for Reader {
     ghost use Rattle.piper_ring.specs.ReadView.{in_one_piece};
     ghost use Rattle.piper.specs.Handles.{read_source};
 
@@ -74,8 +73,8 @@ impl<H: Wait + Clone + Drop> AsyncBufRead for Reader<H> {
     }
 }
 
-impl<H: Wait + Clone + Drop> AsyncWrite for Writer<H> {
-    ghost use Rattle.piper.specs.Handles.{NotifiesReader, SameWriterButWoke, write_source};
+impl AsyncWrite for Writer {
+    ghost use Rattle.piper.specs.Handles.{NotifiesReader, SameWriterButSlots, write_source};
 
     ghost sent = { λ w. w.end.sent };
 
@@ -111,7 +110,7 @@ impl<H: Wait + Clone + Drop> AsyncWrite for Writer<H> {
         ensures answer { result ≡ Poll.Ready (Ok (record {})) }
         ensures shut { WriterShut self.old.end self.new.end }
         ensures woke { NotifiesReader self.new }
-        ensures handle { SameWriterButWoke self.old self.new }
+        ensures handle { SameWriterButSlots self.old self.new }
         ensures kept { Keeps cx.old cx.new }
     {
         match Writer::poll_close(self, cx) {

@@ -1,7 +1,7 @@
 //! The draw of a polling copy, which makes it yield once in a hundred calls.
-ghost use Rattle.std.specs.Prelude.{◌≡◌, ◌↔◌, IsTrue, IfOk, IfErr, false};
-ghost use Rattle.std.specs.Arc.{arc_value};
+ghost use Rattle.std.specs.Prelude.{◌≡◌, ◌↔◌, IsTrue, IfOk, IfErr, false, true};
 ghost use Rattle.piper_sides.specs.Table.{reader_is_true, writer_is_true};
+ghost use Rattle.piper_ring.specs.SlotsView.{SameReaderLooks, SameWriterLooks};
 ghost use Rattle.piper.specs.Slots.{IsEmptied};
 ghost use Rattle.piper.specs.Draws.{DrawsYield, drawn_from};
 
@@ -12,24 +12,23 @@ use piper_sides::table::{Form, Purpose, ReadPoint, WritePoint};
 use piper_sides::write_call::WriteCall;
 use rand_core::utils::NextWord;
 use rand_pcg::Pcg32;
-use std::sync::Wait;
 
-impl<H: Wait + Clone + Drop> Reader<H> {
+impl Reader {
     /// Behind the true look of a polling copy, where the reader's slot is known to be empty: draws,
     /// and tells whether the copy yields. Else the call stays where it is, and nothing was drawn.
     #[inline(always)]
     pub(crate) fn skip_own_and_draw(&mut self, call: ReadCall) -> Result<(ReadCall, bool), ReadCall>
         requires next { call.point ≡ ReadPoint.LookTake (Purpose.Copy (Form.Polling false)) }
-        ensures step { IfOk result (λ drawn. (self.old.is_registered ≡ false)
+        ensures step { IfOk result (λ drawn. (self.old.waiting.owns ≡ true)
             × (drawn.0 ≡ reader_is_true (Purpose.Copy (Form.Polling drawn.1)))) }
         ensures draw { IfOk result (λ drawn. (IsTrue drawn.1 ↔ DrawsYield self.old.rng)
             × (self.new.rng ≡ drawn_from self.old.rng)) }
         ensures stays { IfErr result (λ same. (same ≡ call) × (self.new ≡ self.old)) }
         ensures slots { self.new.slots ≡ self.old.slots }
-        ensures notified { self.new.notified ≡ self.old.notified }
+        ensures looks { SameReaderLooks self.old.waiting self.new.waiting }
         ensures end { self.new.end ≡ self.old.end }
     {
-        if self.is_registered {
+        if !self.waiting.has_place() {
             return Err(call);
         }
         let is_drawn = draw(&mut self.rng);
@@ -38,32 +37,28 @@ impl<H: Wait + Clone + Drop> Reader<H> {
 
     /// Empties the reader's slot behind the true look of a polling copy, unless the slot is known
     /// to be empty; then draws, and tells whether the copy yields.
-    pub(crate) fn take_own_and_draw(
-        &mut self,
-        call: ReadCall,
-    ) -> (ReadCall, Option<Taken<()>>, bool)
+    pub(crate) fn take_own_and_draw(&mut self, call: ReadCall) -> (ReadCall, Option<Taken>, bool)
         requires next { call.point ≡ ReadPoint.LookTake (Purpose.Copy (Form.Polling false)) }
         ensures step { result.0 ≡ reader_is_true (Purpose.Copy (Form.Polling result.2)) }
-        ensures emptied { IsEmptied (arc_value self.old.slots).reader
-            self.old.is_registered result.1 }
+        ensures emptied { IsEmptied self.old.waiting.owns result.1 }
         ensures draw { IsTrue result.2 ↔ DrawsYield self.old.rng }
         ensures rng { self.new.rng ≡ drawn_from self.old.rng }
         ensures slots { self.new.slots ≡ self.old.slots }
-        ensures notified { self.new.notified ≡ self.old.notified }
+        ensures looks { SameReaderLooks self.old.waiting self.new.waiting }
         ensures end { self.new.end ≡ self.old.end }
     {
-        let taken = if self.is_registered {
-            Some(self.slots.reader.take(&self.rt, ()))
-        } else {
+        let taken = if self.waiting.has_place() {
             None
+        } else {
+            let waker = self.take_back();
+            Some(Taken::new(waker))
         };
-        self.is_registered = false;
         let is_drawn = draw(&mut self.rng);
         (call.took_own_and_drew(is_drawn), taken, is_drawn)
     }
 }
 
-impl<H: Wait + Clone + Drop> Writer<H> {
+impl Writer {
     /// Behind the true look of a polling copy, where the writer's slot is known to be empty: draws,
     /// and tells whether the copy yields. Else the call stays where it is, and nothing was drawn.
     #[inline(always)]
@@ -72,16 +67,16 @@ impl<H: Wait + Clone + Drop> Writer<H> {
         call: WriteCall,
     ) -> Result<(WriteCall, bool), WriteCall>
         requires next { call.point ≡ WritePoint.LookTake (Purpose.Copy (Form.Polling false)) }
-        ensures step { IfOk result (λ drawn. (self.old.is_registered ≡ false)
+        ensures step { IfOk result (λ drawn. (self.old.waiting.owns ≡ true)
             × (drawn.0 ≡ writer_is_true (Purpose.Copy (Form.Polling drawn.1)))) }
         ensures draw { IfOk result (λ drawn. (IsTrue drawn.1 ↔ DrawsYield self.old.rng)
             × (self.new.rng ≡ drawn_from self.old.rng)) }
         ensures stays { IfErr result (λ same. (same ≡ call) × (self.new ≡ self.old)) }
         ensures slots { self.new.slots ≡ self.old.slots }
-        ensures notified { self.new.notified ≡ self.old.notified }
+        ensures looks { SameWriterLooks self.old.waiting self.new.waiting }
         ensures end { self.new.end ≡ self.old.end }
     {
-        if self.is_registered {
+        if !self.waiting.has_place() {
             return Err(call);
         }
         let is_drawn = draw(&mut self.rng);
@@ -90,26 +85,22 @@ impl<H: Wait + Clone + Drop> Writer<H> {
 
     /// Empties the writer's slot behind the true look of a polling copy, unless the slot is known
     /// to be empty; then draws, and tells whether the copy yields.
-    pub(crate) fn take_own_and_draw(
-        &mut self,
-        call: WriteCall,
-    ) -> (WriteCall, Option<Taken<()>>, bool)
+    pub(crate) fn take_own_and_draw(&mut self, call: WriteCall) -> (WriteCall, Option<Taken>, bool)
         requires next { call.point ≡ WritePoint.LookTake (Purpose.Copy (Form.Polling false)) }
         ensures step { result.0 ≡ writer_is_true (Purpose.Copy (Form.Polling result.2)) }
-        ensures emptied { IsEmptied (arc_value self.old.slots).writer
-            self.old.is_registered result.1 }
+        ensures emptied { IsEmptied self.old.waiting.owns result.1 }
         ensures draw { IsTrue result.2 ↔ DrawsYield self.old.rng }
         ensures rng { self.new.rng ≡ drawn_from self.old.rng }
         ensures slots { self.new.slots ≡ self.old.slots }
-        ensures notified { self.new.notified ≡ self.old.notified }
+        ensures looks { SameWriterLooks self.old.waiting self.new.waiting }
         ensures end { self.new.end ≡ self.old.end }
     {
-        let taken = if self.is_registered {
-            Some(self.slots.writer.take(&self.rt, ()))
-        } else {
+        let taken = if self.waiting.has_place() {
             None
+        } else {
+            let waker = self.take_back();
+            Some(Taken::new(waker))
         };
-        self.is_registered = false;
         let is_drawn = draw(&mut self.rng);
         (call.took_own_and_drew(is_drawn), taken, is_drawn)
     }

@@ -1,26 +1,28 @@
 //! The steps of the reader: one function for each kind, which makes the one access of its end or of
 //! a slot and takes the open call one step on.
-ghost use Rattle.std.specs.Prelude.{◌≡◌, ◌≤◌, ◌++◌, ◌↔◌, length, take, drop, IsTrue, IsFalse, IfOk, IfErr, true, false};
-ghost use Rattle.std.specs.Arc.{arc_value};
+ghost use Rattle.std.specs.Prelude.{◌≡◌, ◌<◌, ◌≤◌, ◌++◌, ◌↔◌, ◌⊎◌, length, take, drop, IsTrue, IsFalse, IfOk, IfErr, true, false};
 ghost use Rattle.futures.specs.Task.{Covers, Keeps};
 ghost use Rattle.piper_sides.specs.Table.{goes_on, read_action, read_step, reader_draws_behind, reader_looks_for};
 ghost use Rattle.piper_ring.specs.ReadView.{KnowsEnd, in_one_piece};
 ghost use Rattle.piper_ring.specs.Shared.{flag};
-ghost use Rattle.piper.specs.Slots.{IsFrom, IsToldOf, IsEmptied, found_in};
+ghost use Rattle.piper_ring.specs.SlotsView.{Registers};
+ghost use Rattle.piper.specs.Contexts.{AsksAgain};
+ghost use Rattle.piper.specs.Slots.{IsEmptied, found_in};
 ghost use Rattle.piper.specs.Ends.{HasAll, IsEnded, ReaderIsUpToDate, ReaderRefreshed, ReaderSaw, ReaderConsumed};
 
-use super::{Reader, Slots};
+use super::Reader;
 use crate::answers::read_wake;
-use crate::slot::{Notified, Taken};
-use futures::task::Context;
-use piper_ring::LastReadMark;
+use crate::left::LeftReader;
+use crate::slot::Taken;
+use futures::task::{Context, Poll, Waker};
+use piper_ring::{LastReadMark, ReadMark};
 use piper_sides::calls::Side;
+use piper_sides::memory::OutOfMemory;
 use piper_sides::read_call::ReadCall;
 use piper_sides::table::{Action, Found, Purpose, ReadPoint};
-use std::sync::{Arc, Wait};
 
-impl<H: Wait + Clone + Drop> Reader<H> {
-    ghost use Rattle.piper.specs.Handles.{NotifiesWriter, SameReader, SameReaderButWoke, read_source};
+impl Reader {
+    ghost use Rattle.piper.specs.Handles.{NotifiesWriter, SameReader, SameReaderButWaits, SameReaderButWoke, read_source};
 
     /// Opens a call that begins with a look, and tells whether no byte is known.
     #[inline(always)]
@@ -39,13 +41,15 @@ impl<H: Wait + Clone + Drop> Reader<H> {
         requires none { length self.old.end.known ≡ 0 }
         ensures step { result.0 ≡ read_step call.point (Found.Refreshed result.1) }
         ensures none { IsTrue result.1 ↔ (length self.new.end.known ≡ 0) }
+        ensures behind { length self.old.waiting.bytes
+            ≤ length (self.new.end.taken ++ self.new.end.known) }
         ensures fresh { ReaderIsUpToDate self.new.end }
         ensures all { KnowsEnd self.old.end → HasAll self.old.end self.new.end }
         ensures stays { IsEnded self.old.end → IsEnded self.new.end }
         ensures end { ReaderRefreshed self.old.end self.new.end }
         ensures rest { SameReader self.old self.new }
     {
-        self.end.reload();
+        self.end.reload_behind(&self.waiting);
         let none = self.end.knows_none();
         (call.refreshed(none), none)
     }
@@ -56,49 +60,78 @@ impl<H: Wait + Clone + Drop> Reader<H> {
         requires next { read_action call.point ≡ Action.LoadClosed }
         ensures step { result.0 ≡ read_step call.point (Found.Flag result.1) }
         ensures saw { result.1 ≡ self.new.end.saw }
+        ensures behind { flag self.old.waiting.shut ≤ flag self.new.end.saw }
         ensures told { flag self.old.end.told_shut ≤ flag self.new.end.saw }
         ensures all { KnowsEnd self.old.end → self.new.end.all ≡ self.old.end.all }
         ensures stays { IsEnded self.old.end → IsEnded self.new.end }
         ensures end { ReaderSaw self.old.end self.new.end }
         ensures rest { SameReader self.old self.new }
     {
-        let is_closed = self.end.look_closed();
+        let is_closed = self.end.look_closed_behind(&self.waiting);
         (call.loaded_closed(is_closed), is_closed)
     }
 
-    /// Registers in the reader's slot, and tells whether a waker was granted.
+    /// Registers in the reader's slot, and tells whether a waker was granted. Where the writer has
+    /// just taken who stood there, the task asks for another poll in place of that.
     pub(crate) fn register(&mut self, call: ReadCall, cx: &mut Context<'_>) -> (ReadCall, bool)
         requires next { read_action call.point ≡ Action.Register }
         ensures step { result.0 ≡ read_step call.point (Found.Granted result.1) }
         ensures covered { Covers cx.new (λ s. s ≡ read_source self.old) }
-        ensures known { self.new.is_registered ≡ result.1 }
+        ensures stands { IsTrue result.1 →
+            Registers self.old.waiting self.new.waiting ⊎ AsksAgain cx.new }
         ensures refused { IsFalse result.1 → cx.new.lacks_waker ≡ true }
         ensures kept { Keeps cx.old cx.new }
         ensures end { self.new.end ≡ self.old.end }
-        ensures rest { SameReader self.old self.new }
+        ensures rest { SameReaderButWaits self.old self.new }
     {
-        self.is_registered = self.slots.reader.register(&self.rt, cx).is_ok();
-        (call.registered(self.is_registered), self.is_registered)
+        let held = self.take_back();
+        if !self.waiting.has_place() {
+            let _pending: Poll<()> = cx.yield_now();
+            return (call.registered(true), true);
+        }
+        let slot = &self.slots.reader;
+        match slot.grant(cx, held) {
+            Ok(waker) => {
+                self.end.hand_over(&mut self.waiting, &slot.place, waker);
+                (call.registered(true), true)
+            }
+            Err(OutOfMemory) => (call.registered(false), false),
+        }
     }
 
-    /// Empties the reader's slot behind the look of a poll, unless the slot is known to be empty.
+    /// Takes the place of the reader's waker back, where the writer doesn't have it just now, and
+    /// the waker that still stands there.
+    pub(crate) fn take_back(&mut self) -> Option<Waker>
+        ensures waiting { self.new.waiting
+            ≡ record self.old.waiting { owns = self.new.waiting.owns } }
+        ensures end { self.new.end ≡ self.old.end }
+        ensures rest { SameReaderButWaits self.old self.new }
+    {
+        let waker = self
+            .end
+            .withdraw(&mut self.waiting, &self.slots.reader.place);
+        if waker.is_none() {
+            self.end.regain(&mut self.waiting);
+        }
+        waker
+    }
+
+    /// Empties the reader's slot behind the look of a poll, unless its place is known to be empty.
     #[inline(always)]
-    pub(crate) fn take_own(&mut self, call: ReadCall) -> (ReadCall, Option<Taken<()>>)
+    pub(crate) fn take_own(&mut self, call: ReadCall) -> (ReadCall, Option<Taken>)
         requires next { read_action call.point ≡ Action.Take Side.Reader }
         requires poll { reader_draws_behind call.point ≡ false }
         ensures step { result.0 ≡ read_step call.point Found.Nothing }
-        ensures emptied { IsEmptied (arc_value self.old.slots).reader
-            self.old.is_registered result.1 }
-        ensures known { self.new.is_registered ≡ false }
+        ensures emptied { IsEmptied self.old.waiting.owns result.1 }
         ensures end { self.new.end ≡ self.old.end }
-        ensures rest { SameReader self.old self.new }
+        ensures rest { SameReaderButWaits self.old self.new }
     {
         let call = call.took_own();
-        if !self.is_registered {
+        if self.waiting.has_place() {
             return (call, None);
         }
-        self.is_registered = false;
-        (call, Some(self.slots.reader.take(&self.rt, ())))
+        let waker = self.take_back();
+        (call, Some(Taken::new(waker)))
     }
 
     /// Stores the head, `n` bytes further on.
@@ -117,24 +150,24 @@ impl<H: Wait + Clone + Drop> Reader<H> {
         call.stored_head(n)
     }
 
-    /// Behind the look of a poll, where the reader's slot is known to be empty: the step is made,
-    /// and no access. Else the call stays where it is.
+    /// Behind the look of a poll, where the reader stands nowhere: the step is made, and no access.
+    /// Else the call stays where it is.
     #[inline(always)]
     pub(crate) fn skip_own(&self, call: ReadCall) -> Result<ReadCall, ReadCall>
         requires next { read_action call.point ≡ Action.Take Side.Reader }
         requires poll { reader_draws_behind call.point ≡ false }
-        ensures skipped { IfOk result (λ after. (self.now.is_registered ≡ false)
+        ensures skipped { IfOk result (λ after. (self.now.waiting.owns ≡ true)
             × (after ≡ read_step call.point Found.Nothing)) }
         ensures stays { IfErr result (λ same. same ≡ call) }
     {
-        if self.is_registered {
+        if !self.waiting.has_place() {
             return Err(call);
         }
         Ok(call.took_own())
     }
 
-    /// Empties the writer's slot where no waker stands in it, which takes no lock. Where one stands
-    /// there, the call stays where it is.
+    /// Looks behind all that was consumed whether the writer stands in its slot. Where it does, the
+    /// call stays where it is.
     #[inline(always)]
     pub(crate) fn find_no_writer(&mut self, call: ReadCall) -> Result<ReadCall, ReadCall>
         requires next { read_action call.point ≡ Action.Take Side.Writer }
@@ -144,17 +177,14 @@ impl<H: Wait + Clone + Drop> Reader<H> {
         ensures end { self.new.end ≡ self.old.end }
         ensures rest { SameReaderButWoke self.old self.new }
     {
-        let told = self.end.mark();
-        match self.slots.writer.find_none(told) {
-            Ok(notified) => {
-                self.notified = notified;
-                Ok(call.took_writer(false))
-            }
-            Err(_told) => Err(call),
+        if self.end.finds_none(&mut self.waiting) {
+            Ok(call.took_writer(false))
+        } else {
+            Err(call)
         }
     }
 
-    /// Empties the writer's slot, and calls the waker that stood in it.
+    /// Takes who stands in the writer's slot, and calls its waker.
     #[inline(always)]
     pub(crate) fn take_and_wake_writer(&mut self, call: ReadCall) -> ReadCall
         requires next { read_action call.point ≡ Action.Take Side.Writer }
@@ -163,59 +193,68 @@ impl<H: Wait + Clone + Drop> Reader<H> {
         ensures end { self.new.end ≡ self.old.end }
         ensures rest { SameReaderButWoke self.old self.new }
     {
-        let told = self.end.mark();
-        let (call, taken) = take_writer(&self.slots, &self.rt, call, told);
-        let (call, notified) = read_wake(call, taken);
-        self.notified = notified;
-        call
+        let (call, taken) = self.take_writer(call);
+        read_wake(call, taken)
     }
 
-    /// Stores closed as it lets the end go, and gives the evidence of that: its last mark. The
-    /// slots are left, and what their locks are waited for with.
-    pub(crate) fn store_closed(self, call: ReadCall) -> (ReadCall, LastReadMark, Arc<Slots>, H)
+    /// Takes who stands in the writer's slot, behind all that was consumed. It stands apart, out of
+    /// the way of a pipe that flows.
+    #[cold]
+    #[inline(never)]
+    fn take_writer(&mut self, call: ReadCall) -> (ReadCall, Taken)
+        requires next { read_action call.point ≡ Action.Take Side.Writer }
+        ensures step { result.0 ≡ read_step call.point (Found.Waker (found_in result.1)) }
+        ensures none { found_in result.1 ≡ false →
+            self.new.waiting.taken ≡ self.old.waiting.taken }
+        ensures some { found_in result.1 ≡ true →
+            self.old.waiting.taken < self.new.waiting.taken }
+        ensures woke { NotifiesWriter self.new }
+        ensures end { self.new.end ≡ self.old.end }
+        ensures rest { SameReaderButWoke self.old self.new }
+    {
+        let place = &self.slots.writer.place;
+        let waker = self.end.take(&mut self.waiting, place);
+        let taken = Taken::new(waker);
+        (call.took_writer(taken.is_found()), taken)
+    }
+
+    /// Stores closed as it lets the end go, and takes who stands in the writer's slot: the two
+    /// steps are made in one, since between them there is no handle. With what was taken comes
+    /// what is left of the reader.
+    pub(crate) fn close_and_take(self, call: ReadCall) -> (ReadCall, Taken, LeftReader)
         requires next { read_action call.point ≡ Action.StoreClosed false }
-        ensures step { result.0 ≡ read_step call.point Found.Nothing }
-        ensures ring { result.1.consumed.names ≡ self.end.ring.1.1 }
-        ensures count { result.1.consumed.count ≡ length self.end.taken }
-        ensures slots { result.2 ≡ self.slots }
+        requires then { read_action (read_step call.point Found.Nothing).point
+            ≡ Action.Take Side.Writer }
+        ensures step { result.0 ≡ read_step (read_step call.point Found.Nothing).point
+            (Found.Waker (found_in result.1)) }
+        ensures ring { result.2.told.consumed.names ≡ self.end.ring.1.1 }
+        ensures count { result.2.told.consumed.count ≡ length self.end.taken }
+        ensures woke { result.2.waiting.count ≡ length self.end.taken }
     {
         let Reader {
             end,
+            mut waiting,
             slots,
-            rt,
             rng: _,
-            is_registered: _,
-            notified: _,
         } = self;
-        let last = end.finish();
-        (call.stored_closed(), last, slots, rt)
+        let call = call.stored_closed();
+        let (last, waker) = end.finish_waking(&mut waiting, &slots.writer.place);
+        let taken = Taken::new(waker);
+        (
+            call.took_writer(taken.is_found()),
+            taken,
+            LeftReader::new(last, waiting),
+        )
     }
-}
-
-/// Empties the writer's slot, behind what `told` tells.
-#[inline(always)]
-pub(crate) fn take_writer<M>(
-    slots: &Slots,
-    rt: &impl Wait,
-    call: ReadCall,
-    told: M,
-) -> (ReadCall, Taken<M>)
-    requires next { read_action call.point ≡ Action.Take Side.Writer }
-    ensures step { result.0 ≡ read_step call.point (Found.Waker (found_in result.1)) }
-    ensures taken { IsFrom slots.now.writer told result.1 }
-{
-    let taken = slots.writer.take(rt, told);
-    (call.took_writer(taken.is_found()), taken)
 }
 
 /// Calls the waker that was taken.
 #[inline(always)]
-pub(crate) fn wake<M>(call: ReadCall, taken: Taken<M>) -> (ReadCall, Notified<M>)
+pub(crate) fn wake(call: ReadCall, taken: Taken) -> ReadCall
     requires next { read_action call.point ≡ Action.Wake }
     requires found { found_in taken ≡ true }
-    ensures step { result.0 ≡ read_step call.point Found.Nothing }
-    ensures told { IsToldOf taken result.1 }
+    ensures step { result ≡ read_step call.point Found.Nothing }
 {
-    let notified = taken.wake();
-    (call.woke(), notified)
+    taken.wake();
+    call.woke()
 }

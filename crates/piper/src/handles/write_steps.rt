@@ -1,25 +1,28 @@
 //! The steps of the writer: one function for each kind, which makes the one access of its end or of
 //! a slot and takes the open call one step on.
-ghost use Rattle.std.specs.Prelude.{◌≡◌, ◌+◌, ◌≤◌, ◌++◌, ◌↔◌, length, take, drop, IsTrue, IsFalse, IfOk, IfErr, true, false};
-ghost use Rattle.std.specs.Arc.{arc_value};
+ghost use Rattle.std.specs.Prelude.{◌≡◌, ◌+◌, ◌<◌, ◌≤◌, ◌++◌, ◌↔◌, ◌⊎◌, length, take, drop, IsTrue, IsFalse, IfOk, IfErr, true, false};
 ghost use Rattle.futures.specs.Task.{Covers, Keeps};
 ghost use Rattle.piper_sides.specs.Table.{begins_look, look_begun, write_action, write_step, writer_draws_behind};
-ghost use Rattle.piper.specs.Slots.{IsFrom, IsToldOf, IsEmptied, found_in};
+ghost use Rattle.piper_ring.specs.Shared.{flag};
+ghost use Rattle.piper_ring.specs.SlotsView.{WriterRegisters};
+ghost use Rattle.piper.specs.Contexts.{AsksAgain};
+ghost use Rattle.piper.specs.Slots.{IsEmptied, found_in};
 ghost use Rattle.piper.specs.Calls.{own_found};
 ghost use Rattle.piper.specs.Ends.{WriterIsUpToDate, WriterRefreshed, WriterSaw, WriterPublished, WriterUnlent, WriterShut};
 
-use super::{Slots, Writer};
+use super::Writer;
 use crate::answers::write_wake;
-use crate::slot::{Notified, Taken};
-use futures::task::Context;
+use crate::left::LeftWriter;
+use crate::slot::Taken;
+use futures::task::{Context, Poll, Waker};
 use piper_ring::WriteMark;
 use piper_sides::calls::Side;
+use piper_sides::memory::OutOfMemory;
 use piper_sides::table::{Action, Found};
 use piper_sides::write_call::WriteCall;
-use std::sync::{Arc, Wait};
 
-impl<H: Wait + Clone + Drop> Writer<H> {
-    ghost use Rattle.piper.specs.Handles.{NotifiesReader, SameWriter, SameWriterButWoke, write_source};
+impl Writer {
+    ghost use Rattle.piper.specs.Handles.{NotifiesReader, SameWriter, SameWriterButWaits, SameWriterButWoke, write_source};
 
     /// Loads closed where a look begins, and tells what the flag was, and whether no room is known.
     /// A pipe that the writer closed is closed.
@@ -46,14 +49,16 @@ impl<H: Wait + Clone + Drop> Writer<H> {
     pub(crate) fn load_closed(&mut self, call: WriteCall) -> (WriteCall, bool)
         requires next { write_action call.point ≡ Action.LoadClosed }
         requires goes_on { begins_look call.point ≡ false }
+        requires open { self.old.end.saw ≡ false }
         ensures step { result.0 ≡ write_step call.point (Found.Flag result.1) }
         ensures saw { result.1 ≡ self.new.end.saw }
+        ensures behind { flag self.old.waiting.over ≤ flag self.new.end.saw }
         ensures shut { self.new.end.shut ≡ true → self.new.end.saw ≡ true }
         ensures end { WriterSaw self.old.end self.new.end }
         ensures rest { SameWriter self.old self.new }
     {
         self.end.learn();
-        let is_closed = self.end.look_closed();
+        let is_closed = self.end.look_closed_behind(&self.waiting);
         (call.loaded_closed(is_closed), is_closed)
     }
 
@@ -64,48 +69,78 @@ impl<H: Wait + Clone + Drop> Writer<H> {
         requires none { self.old.end.room ≡ 0 }
         ensures step { result.0 ≡ write_step call.point (Found.Refreshed result.1) }
         ensures none { IsTrue result.1 ↔ (self.new.end.room ≡ 0) }
+        ensures behind { self.old.waiting.count + self.old.end.capacity
+            ≤ length self.new.end.sent + self.new.end.room }
         ensures fresh { WriterIsUpToDate self.new.end }
         ensures end { WriterRefreshed self.old.end self.new.end }
         ensures rest { SameWriter self.old self.new }
     {
-        self.end.reload();
+        self.end.reload_behind(&self.waiting);
         let none = self.end.knows_none();
         (call.refreshed(none), none)
     }
 
-    /// Registers in the writer's slot, and tells whether a waker was granted.
+    /// Registers in the writer's slot, and tells whether a waker was granted. Where the reader has
+    /// just taken who stood there, the task asks for another poll in place of that.
     pub(crate) fn register(&mut self, call: WriteCall, cx: &mut Context<'_>) -> (WriteCall, bool)
         requires next { write_action call.point ≡ Action.Register }
         ensures step { result.0 ≡ write_step call.point (Found.Granted result.1) }
         ensures covered { Covers cx.new (λ s. s ≡ write_source self.old) }
-        ensures known { self.new.is_registered ≡ result.1 }
+        ensures stands { IsTrue result.1 →
+            WriterRegisters self.old.waiting self.new.waiting ⊎ AsksAgain cx.new }
         ensures refused { IsFalse result.1 → cx.new.lacks_waker ≡ true }
         ensures kept { Keeps cx.old cx.new }
         ensures end { self.new.end ≡ self.old.end }
-        ensures rest { SameWriter self.old self.new }
+        ensures rest { SameWriterButWaits self.old self.new }
     {
-        self.is_registered = self.slots.writer.register(&self.rt, cx).is_ok();
-        (call.registered(self.is_registered), self.is_registered)
+        let held = self.take_back();
+        if !self.waiting.has_place() {
+            let _pending: Poll<()> = cx.yield_now();
+            return (call.registered(true), true);
+        }
+        let slot = &self.slots.writer;
+        match slot.grant(cx, held) {
+            Ok(waker) => {
+                self.end.hand_over(&mut self.waiting, &slot.place, waker);
+                (call.registered(true), true)
+            }
+            Err(OutOfMemory) => (call.registered(false), false),
+        }
     }
 
-    /// Empties the writer's slot behind the look of a poll or in a close, unless the slot is known
+    /// Takes the place of the writer's waker back, where the reader doesn't have it just now, and
+    /// the waker that still stands there.
+    pub(crate) fn take_back(&mut self) -> Option<Waker>
+        ensures waiting { self.new.waiting
+            ≡ record self.old.waiting { owns = self.new.waiting.owns } }
+        ensures end { self.new.end ≡ self.old.end }
+        ensures rest { SameWriterButWaits self.old self.new }
+    {
+        let waker = self
+            .end
+            .withdraw(&mut self.waiting, &self.slots.writer.place);
+        if waker.is_none() {
+            self.end.regain(&mut self.waiting);
+        }
+        waker
+    }
+
+    /// Empties the writer's slot behind the look of a poll or in a close, unless its place is known
     /// to be empty.
     #[inline(always)]
-    pub(crate) fn take_own(&mut self, call: WriteCall) -> (WriteCall, Option<Taken<()>>)
+    pub(crate) fn take_own(&mut self, call: WriteCall) -> (WriteCall, Option<Taken>)
         requires next { write_action call.point ≡ Action.Take Side.Writer }
         requires no_copy { writer_draws_behind call.point ≡ false }
         ensures step { result.0 ≡ write_step call.point (Found.Waker (own_found result.1)) }
-        ensures emptied { IsEmptied (arc_value self.old.slots).writer
-            self.old.is_registered result.1 }
-        ensures known { self.new.is_registered ≡ false }
+        ensures emptied { IsEmptied self.old.waiting.owns result.1 }
         ensures end { self.new.end ≡ self.old.end }
-        ensures rest { SameWriter self.old self.new }
+        ensures rest { SameWriterButWaits self.old self.new }
     {
-        if !self.is_registered {
+        if self.waiting.has_place() {
             return (call.took_own(false), None);
         }
-        self.is_registered = false;
-        let taken = self.slots.writer.take(&self.rt, ());
+        let waker = self.take_back();
+        let taken = Taken::new(waker);
         (call.took_own(taken.is_found()), Some(taken))
     }
 
@@ -145,24 +180,24 @@ impl<H: Wait + Clone + Drop> Writer<H> {
         call.stored_closed(true)
     }
 
-    /// Behind the look of a poll, where the writer's slot is known to be empty: the step is made,
-    /// and no access. Else the call stays where it is.
+    /// Behind the look of a poll, where the writer stands nowhere: the step is made, and no access.
+    /// Else the call stays where it is.
     #[inline(always)]
     pub(crate) fn skip_own(&self, call: WriteCall) -> Result<WriteCall, WriteCall>
         requires next { write_action call.point ≡ Action.Take Side.Writer }
         requires poll { writer_draws_behind call.point ≡ false }
-        ensures skipped { IfOk result (λ after. (self.now.is_registered ≡ false)
+        ensures skipped { IfOk result (λ after. (self.now.waiting.owns ≡ true)
             × (after ≡ write_step call.point (Found.Waker false))) }
         ensures stays { IfErr result (λ same. same ≡ call) }
     {
-        if self.is_registered {
+        if !self.waiting.has_place() {
             return Err(call);
         }
         Ok(call.took_own(false))
     }
 
-    /// Empties the reader's slot where no waker stands in it, which takes no lock. Where one stands
-    /// there, the call stays where it is.
+    /// Looks behind all that was published whether the reader stands in its slot. Where it does, the
+    /// call stays where it is.
     #[inline(always)]
     pub(crate) fn find_no_reader(&mut self, call: WriteCall) -> Result<WriteCall, WriteCall>
         requires next { write_action call.point ≡ Action.Take Side.Reader }
@@ -172,17 +207,14 @@ impl<H: Wait + Clone + Drop> Writer<H> {
         ensures end { self.new.end ≡ self.old.end }
         ensures rest { SameWriterButWoke self.old self.new }
     {
-        let told = self.end.mark();
-        match self.slots.reader.find_none(told) {
-            Ok(notified) => {
-                self.notified = notified;
-                Ok(call.took_reader(false))
-            }
-            Err(_told) => Err(call),
+        if self.end.finds_none(&mut self.waiting) {
+            Ok(call.took_reader(false))
+        } else {
+            Err(call)
         }
     }
 
-    /// Empties the reader's slot, and calls the waker that stood in it.
+    /// Takes who stands in the reader's slot, and calls its waker.
     #[inline(always)]
     pub(crate) fn take_and_wake_reader(&mut self, call: WriteCall) -> WriteCall
         requires next { write_action call.point ≡ Action.Take Side.Reader }
@@ -191,60 +223,69 @@ impl<H: Wait + Clone + Drop> Writer<H> {
         ensures end { self.new.end ≡ self.old.end }
         ensures rest { SameWriterButWoke self.old self.new }
     {
-        let told = self.end.mark();
-        let (call, taken) = take_reader(&self.slots, &self.rt, call, told);
-        let (call, notified) = write_wake(call, taken);
-        self.notified = notified;
-        call
+        let (call, taken) = self.take_reader(call);
+        write_wake(call, taken)
     }
 
-    /// Stores closed as it lets the end go, and gives the evidence of that: its last mark. The
-    /// slots are left, and what their locks are waited for with.
-    pub(crate) fn store_closed(self, call: WriteCall) -> (WriteCall, WriteMark, Arc<Slots>, H)
+    /// Takes who stands in the reader's slot, behind all that was published. It stands apart, out of
+    /// the way of a pipe that flows.
+    #[cold]
+    #[inline(never)]
+    fn take_reader(&mut self, call: WriteCall) -> (WriteCall, Taken)
+        requires next { write_action call.point ≡ Action.Take Side.Reader }
+        ensures step { result.0 ≡ write_step call.point (Found.Waker (found_in result.1)) }
+        ensures none { found_in result.1 ≡ false →
+            self.new.waiting.taken ≡ self.old.waiting.taken }
+        ensures some { found_in result.1 ≡ true →
+            self.old.waiting.taken < self.new.waiting.taken }
+        ensures woke { NotifiesReader self.new }
+        ensures end { self.new.end ≡ self.old.end }
+        ensures rest { SameWriterButWoke self.old self.new }
+    {
+        let place = &self.slots.reader.place;
+        let waker = self.end.take(&mut self.waiting, place);
+        let taken = Taken::new(waker);
+        (call.took_reader(taken.is_found()), taken)
+    }
+
+    /// Stores closed as it lets the end go, and takes who stands in the reader's slot: the two
+    /// steps are made in one, since between them there is no handle. With what was taken comes
+    /// what is left of the writer.
+    pub(crate) fn close_and_take(self, call: WriteCall) -> (WriteCall, Taken, LeftWriter)
         requires next { write_action call.point ≡ Action.StoreClosed false }
-        ensures step { result.0 ≡ write_step call.point Found.Nothing }
-        ensures ring { result.1.names ≡ self.end.ring.1.1 }
-        ensures bytes { result.1.bytes ≡ self.end.sent }
-        ensures shut { result.1.shut ≡ true }
-        ensures slots { result.2 ≡ self.slots }
+        requires then { write_action (write_step call.point Found.Nothing).point
+            ≡ Action.Take Side.Reader }
+        ensures step { result.0 ≡ write_step (write_step call.point Found.Nothing).point
+            (Found.Waker (found_in result.1)) }
+        ensures ring { result.2.told.names ≡ self.end.ring.1.1 }
+        ensures bytes { result.2.told.bytes ≡ self.end.sent }
+        ensures shut { result.2.told.shut ≡ true }
+        ensures woke { result.2.waiting.bytes ≡ self.end.sent }
     {
         let Writer {
             end,
+            mut waiting,
             slots,
-            rt,
             rng: _,
-            is_registered: _,
-            notified: _,
         } = self;
-        let last = end.finish();
-        (call.stored_closed(false), last, slots, rt)
+        let call = call.stored_closed(false);
+        let (last, waker) = end.finish_waking(&mut waiting, &slots.reader.place);
+        let taken = Taken::new(waker);
+        (
+            call.took_reader(taken.is_found()),
+            taken,
+            LeftWriter::new(last, waiting),
+        )
     }
-}
-
-/// Empties the reader's slot, behind what `told` tells.
-#[inline(always)]
-pub(crate) fn take_reader<M>(
-    slots: &Slots,
-    rt: &impl Wait,
-    call: WriteCall,
-    told: M,
-) -> (WriteCall, Taken<M>)
-    requires next { write_action call.point ≡ Action.Take Side.Reader }
-    ensures step { result.0 ≡ write_step call.point (Found.Waker (found_in result.1)) }
-    ensures taken { IsFrom slots.now.reader told result.1 }
-{
-    let taken = slots.reader.take(rt, told);
-    (call.took_reader(taken.is_found()), taken)
 }
 
 /// Calls the waker that was taken.
 #[inline(always)]
-pub(crate) fn wake<M>(call: WriteCall, taken: Taken<M>) -> (WriteCall, Notified<M>)
+pub(crate) fn wake(call: WriteCall, taken: Taken) -> WriteCall
     requires next { write_action call.point ≡ Action.Wake }
     requires found { found_in taken ≡ true }
-    ensures step { result.0 ≡ write_step call.point Found.Nothing }
-    ensures told { IsToldOf taken result.1 }
+    ensures step { result ≡ write_step call.point Found.Nothing }
 {
-    let notified = taken.wake();
-    (call.woke(), notified)
+    taken.wake();
+    call.woke()
 }

@@ -10,19 +10,19 @@ ghost use Rattle.piper.specs.Copies.{IsReplaced};
 ghost use Rattle.piper.specs.Drains.{CountsWhatFits, DrainYields, EndIsSeen, EndIsTrue, EndIsUnseen, StaysKnown};
 ghost use Rattle.piper.specs.Ends.{IsEnded, ReaderIsUpToDate, WriterIsUpToDate, WriterShut};
 ghost use Rattle.piper.specs.Fills.{FillYields, LosesOneRound, OnNoCount, WriterFilled};
-ghost use Rattle.piper.specs.Handles.{read_source, write_source};
+ghost use Rattle.piper.specs.Handles.{NotifiesReader, NotifiesWriter, read_source, write_source};
 ghost use Rattle.piper.specs.Looks.{ReaderLooked};
 ghost use Rattle.piper.specs.Polls.{Reads, TakesNone, Writes, IfReadyOk, IfReadyErr};
 ghost use Rattle.piper.specs.ReadView.{KnowsEnd, in_one_piece};
-ghost use Rattle.piper_duplex.specs.Crosswise.{OnlyReads, OnlyWrites, LendsPiece};
+ghost use Rattle.piper.specs.Waits.{ReaderStands, WriterStands};
+ghost use Rattle.piper_duplex.specs.Crosswise.{OnlyReads, OnlyWrites, LendsPiece, StandsAndWoke};
 
 use super::End;
 use futures::task::{Context, Poll};
 use piper::io::{AsyncBufRead, AsyncRead, AsyncWrite};
 use piper::{OutOfMemory, PipeError};
-use std::sync::Wait;
 
-impl<H: Wait + Clone + Drop> AsyncRead for End<H> {
+impl AsyncRead for End {
     ghost taken = { λ e. e.reader.end.taken };
 
     ghost saw = { λ e. e.reader.end.saw };
@@ -58,7 +58,9 @@ impl<H: Wait + Clone + Drop> AsyncRead for End<H> {
             (self.old.reader.end.told_shut ≡ true → AsksAgain cx.new) }
         ensures error { IfReadyErr result (WantsWaker cx.new) }
         ensures stays { self.old.reader.end.saw ≡ true → self.new.reader.end.saw ≡ true }
+        ensures woke { NotifiesWriter self.old.reader → NotifiesWriter self.new.reader }
         ensures covered { OnPending result (Covers cx.new (λ s. s ≡ read_source self.new.reader)) }
+        ensures stands { OnPending result (ReaderStands self.old.reader self.new.reader cx.new) }
         ensures kept { Keeps cx.old cx.new }
         ensures rest { OnlyReads self.old self.new }
     {
@@ -70,7 +72,7 @@ impl<H: Wait + Clone + Drop> AsyncRead for End<H> {
     }
 }
 
-impl<H: Wait + Clone + Drop> AsyncBufRead for End<H> {
+impl AsyncBufRead for End {
     ghost use Rattle.piper_duplex.specs.contracts.end.End.{the_row};
 
     ghost known = { λ e. e.reader.end.known };
@@ -91,9 +93,9 @@ impl<H: Wait + Clone + Drop> AsyncBufRead for End<H> {
 
     fn poll_fill_buf(&mut self, cx: &mut Context<'_>) -> Poll<Result<&[u8], PipeError>>
         // said of the end as it is once the slice is given back
-        ensures* lent { sem 𝓛 (Rests (the_row H.row) self.entry
+        ensures* lent { sem 𝓛 (Rests the_row self.entry
             (λ new. OnlyReads self.old new × ReaderLooked self.old.reader.end new.reader.end
-            × LendsPiece result self.old new cx.new)) }
+            × StandsAndWoke result self.old new cx.new × LendsPiece result self.old new cx.new)) }
         ensures kept { Keeps cx.old cx.new }
     {
         match self.reader.poll(cx) {
@@ -112,13 +114,14 @@ impl<H: Wait + Clone + Drop> AsyncBufRead for End<H> {
         ensures told { self.new.reader.end.told_shut ≡ self.old.reader.end.told_shut }
         ensures end { IsEnded self.old.reader.end → IsEnded self.new.reader.end }
         ensures all { self.new.reader.end.all ≡ self.old.reader.end.all }
+        ensures woke { NotifiesWriter self.new.reader }
         ensures rest { OnlyReads self.old self.new }
     {
         self.reader.consume(amt);
     }
 }
 
-impl<H: Wait + Clone + Drop> AsyncWrite for End<H> {
+impl AsyncWrite for End {
     ghost sent = { λ e. e.writer.end.sent };
 
     ghost saw = { λ e. e.writer.end.saw };
@@ -147,7 +150,9 @@ impl<H: Wait + Clone + Drop> AsyncWrite for End<H> {
         ensures error { IfReadyErr result (WantsWaker cx.new) }
         ensures over { self.old.writer.end.saw ≡ true → result ≡ Poll.Ready (Ok 0) }
         ensures stays { self.old.writer.end.saw ≡ true → self.new.writer.end.saw ≡ true }
+        ensures woke { NotifiesReader self.old.writer → NotifiesReader self.new.writer }
         ensures covered { OnPending result (Covers cx.new (λ s. s ≡ write_source self.new.writer)) }
+        ensures stands { OnPending result (WriterStands self.old.writer self.new.writer cx.new) }
         ensures kept { Keeps cx.old cx.new }
         ensures rest { OnlyWrites self.old self.new }
     {
@@ -171,6 +176,7 @@ impl<H: Wait + Clone + Drop> AsyncWrite for End<H> {
     fn poll_close(&mut self, cx: &mut Context<'_>) -> Poll<Result<(), PipeError>>
         ensures answer { result ≡ Poll.Ready (Ok (record {})) }
         ensures shut { WriterShut self.old.writer.end self.new.writer.end }
+        ensures woke { NotifiesReader self.new.writer }
         ensures kept { Keeps cx.old cx.new }
         ensures rest { OnlyWrites self.old self.new }
     {

@@ -12,9 +12,9 @@ use std::sync::Wait;
 const MOST_POLLS: u32 = 1_000;
 
 /// Writes until a poll is ready, and holds what it answers against the count that is wanted.
-fn writes<H>(rt: &H, task: &MockTask, end: &mut End<H>, bytes: &[u8], want: usize)
+fn writes<H>(rt: &H, task: &MockTask, end: &mut End, bytes: &[u8], want: usize)
 where
-    H: Abort + Wait + Clone + Drop,
+    H: Abort + Wait,
 {
     let mut answer = Polled::Pending;
     for _ in 0..MOST_POLLS {
@@ -26,9 +26,9 @@ where
 }
 
 /// Reads until a poll is ready, and holds what came against the bytes that are wanted.
-fn reads<H>(rt: &H, task: &MockTask, end: &mut End<H>, want: &[u8])
+fn reads<H>(rt: &H, task: &MockTask, end: &mut End, want: &[u8])
 where
-    H: Abort + Wait + Clone + Drop,
+    H: Abort + Wait,
 {
     let mut place = [0; 16];
     let mut answer = Polled::Pending;
@@ -43,9 +43,9 @@ where
 
 fn go_there_and_back<H>(rt: &H)
 where
-    H: Abort + Wait + RandomSource + AllocGlobal + Clone + Drop,
+    H: Abort + Wait + RandomSource + AllocGlobal,
 {
-    let (mut first, mut second) = duplex(rt, rt.alloc(), 4, 8, 1).expect(rt, "memory");
+    let (mut first, mut second) = duplex(rt.alloc(), 4, 8, 1).expect(rt, "memory");
     let task = MockTask::new(rt).expect(rt, "memory");
     writes(rt, &task, &mut first, b"there and", 4);
     writes(rt, &task, &mut second, b"back again", 8);
@@ -64,7 +64,7 @@ fn what_one_end_writes_the_other_reads(rt: HostRuntime) {
 
 #[test]
 fn fresh_ends_that_meet_know_of_nothing(rt: HostRuntime) {
-    let (mut first, mut second) = duplex(&rt, rt.alloc(), 4, 8, 1).expect(&rt, "memory");
+    let (mut first, mut second) = duplex(rt.alloc(), 4, 8, 1).expect(&rt, "memory");
     first.meet(&mut second);
     let seen = (first.reader().is_empty(), second.reader().is_empty());
     same(&rt, seen, (true, true));
@@ -76,9 +76,9 @@ fn fresh_ends_that_meet_know_of_nothing(rt: HostRuntime) {
 /// dropped.
 fn wakes_both<H>(rt: &H)
 where
-    H: Abort + Wait + RandomSource + AllocGlobal + Clone + Drop,
+    H: Abort + Wait + RandomSource + AllocGlobal,
 {
-    let (first, mut second) = duplex(rt, rt.alloc(), 4, 4, 1).expect(rt, "memory");
+    let (first, mut second) = duplex(rt.alloc(), 4, 4, 1).expect(rt, "memory");
     let reading = MockTask::new(rt).expect(rt, "memory");
     let writing = MockTask::new(rt).expect(rt, "memory");
     let mut place = [0; 4];

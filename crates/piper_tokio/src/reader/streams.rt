@@ -7,9 +7,10 @@ ghost use Rattle.futures.specs.Task.{Covers, Keeps};
 ghost use Rattle.tokio.specs.Io.Moved.{bytes_moved, count_moved, OnReadyOk, IfReadyErr};
 ghost use Rattle.piper.specs.Drains.{CountsWhatFits, DrainYields, EndIsSeen, EndIsUnseen};
 ghost use Rattle.piper.specs.Ends.{ReaderIsUpToDate};
-ghost use Rattle.piper.specs.Handles.{read_source};
+ghost use Rattle.piper.specs.Handles.{NotifiesWriter, read_source};
 ghost use Rattle.piper.specs.Polls.{Behind, TakesNone};
 ghost use Rattle.piper.specs.ReadView.{in_one_piece};
+ghost use Rattle.piper.specs.Waits.{ReaderStands};
 ghost use Rattle.piper_tokio.specs.Passing.{Took, AtEnd};
 ghost use Rattle.piper_tokio.specs.Shown.{shown_by};
 ghost use Rattle.piper_tokio.specs.PassingLaws.{took_nothing, took_in_order};
@@ -18,10 +19,9 @@ use super::CompatReader;
 use futures::task::{Context, Poll};
 use piper::{OutOfMemory, Reader};
 use std::io;
-use std::sync::Wait;
 
-impl<H: Wait + Clone + Drop> CompatReader<H> {
-    pub fn new(reader: Reader<H>) -> CompatReader<H>
+impl CompatReader {
+    pub fn new(reader: Reader) -> CompatReader
         ensures reader { result.reader ≡ reader }
         ensures shown { shown_by result ≡ [] }
     {
@@ -29,14 +29,14 @@ impl<H: Wait + Clone + Drop> CompatReader<H> {
     }
 
     /// The handle.
-    pub fn reader(&self) -> &Reader<H>
+    pub fn reader(&self) -> &Reader
         ensures { result.now ≡ self.now.reader }
     {
         &self.reader
     }
 
     /// The handle, which has to be spent now. What was shown and not consumed is unread still.
-    pub fn into_inner(self) -> Reader<H>
+    pub fn into_inner(self) -> Reader
         ensures { result ≡ self.reader }
     {
         let CompatReader { reader, shown: _ } = self;
@@ -44,7 +44,7 @@ impl<H: Wait + Clone + Drop> CompatReader<H> {
     }
 }
 
-impl<H: Wait + Clone + Drop> tokio::io::AsyncRead for CompatReader<H> {
+impl tokio::io::AsyncRead for CompatReader {
     ghost needs = { λ compat s. s ≡ read_source compat.reader };
 
     ghost reads = { λ a xs b. Took a.reader xs b.reader };
@@ -73,8 +73,11 @@ impl<H: Wait + Clone + Drop> tokio::io::AsyncRead for CompatReader<H> {
         ensures failed { IfReadyErr result (λ e. error_kind e ≡ OutOfMemoryKind) }
         ensures refused { IfReadyErr result (λ _. cx.new.lacks_waker ≡ true) }
         ensures shown { shown_by self.new ≡ [] }
+        ensures woke { NotifiesWriter self.old.reader → NotifiesWriter self.new.reader }
         ensures registered { OnPending result
             (Covers cx.new (λ s. s ≡ read_source self.new.reader)) }
+        ensures stands { OnPending result
+            (ReaderStands self.old.reader self.new.reader cx.new) }
         ensures kept { Keeps cx.old cx.new }
     {
         self.shown = 0;
@@ -86,7 +89,7 @@ impl<H: Wait + Clone + Drop> tokio::io::AsyncRead for CompatReader<H> {
     }
 }
 
-impl<H: Wait + Clone + Drop> tokio::io::AsyncBufRead for CompatReader<H> {
+impl tokio::io::AsyncBufRead for CompatReader {
     ghost buffered = { shown_by };
 
     fn poll_fill_buf(&mut self, cx: &mut Context<'_>) -> Poll<io::Result<()>>
@@ -105,8 +108,11 @@ impl<H: Wait + Clone + Drop> tokio::io::AsyncBufRead for CompatReader<H> {
         ensures fresh { self.old.reader.end.known ≡ [] → ReaderIsUpToDate self.new.reader.end }
         ensures failed { IfReadyErr result (λ e. error_kind e ≡ OutOfMemoryKind) }
         ensures refused { IfReadyErr result (λ _. cx.new.lacks_waker ≡ true) }
+        ensures woke { NotifiesWriter self.old.reader → NotifiesWriter self.new.reader }
         ensures registered { OnPending result
             (Covers cx.new (λ s. s ≡ read_source self.new.reader)) }
+        ensures stands { OnPending result
+            (ReaderStands self.old.reader self.new.reader cx.new) }
         ensures kept { Keeps cx.old cx.new }
     {
         self.shown = 0;
@@ -128,6 +134,7 @@ impl<H: Wait + Clone + Drop> tokio::io::AsyncBufRead for CompatReader<H> {
         requires { amount ≤ length (shown_by self.old) }
         ensures bytes { Took self.old.reader (take amount (shown_by self.old)) self.new.reader }
         ensures known { self.new.reader.end.known ≡ drop amount self.old.reader.end.known }
+        ensures woke { NotifiesWriter self.new.reader }
         ensures rest { shown_by self.new ≡ drop amount (shown_by self.old) }
     {
         self.shown -= amount;

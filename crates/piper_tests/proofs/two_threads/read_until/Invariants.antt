@@ -3,4 +3,4 @@ use Rattle.std.proofs.Common.{◌≡◌}
 use Rattle.piper_tests.proofs.two_threads.read_until.Given as goal
 
 abbrev pub invariant-loop : goal.invariant-loop
-invariant-loop g l = l.reader.end.ring ≡ l.initial.reader.end.ring
+invariant-loop l = l.reader.end.ring ≡ l.initial.reader.end.ring

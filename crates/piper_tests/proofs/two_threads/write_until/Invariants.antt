@@ -3,4 +3,4 @@ use Rattle.std.proofs.Common.{◌≡◌}
 use Rattle.piper_tests.proofs.two_threads.write_until.Given as goal
 
 abbrev pub invariant-loop : goal.invariant-loop
-invariant-loop g l = l.writer.end.ring ≡ l.initial.writer.end.ring
+invariant-loop l = l.writer.end.ring ≡ l.initial.writer.end.ring

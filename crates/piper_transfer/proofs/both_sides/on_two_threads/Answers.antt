@@ -8,10 +8,8 @@ use Rattle.piper_transfer.proofs.both_sides.on_two_threads.Goals as goal
 
 pub join_mut-requires-send-F : goal.join_mut-requires-send-F
 join_mut-requires-send-F g c κs within =
-    let send_R : IsSend (param 0 g.row.R) = c.type_bounds.send-R in
     let send_S : IsSend (param 1 g.row.S) = c.type_bounds.send-S in
     let sync_R : IsSync (param 0 g.row.R) = c.type_bounds.sync-R in
-    let writer = λ (ℓ : NamedLft). writer_lent ℓ g.row.R send_R in
     let handle = λ (ℓ : NamedLft). handle_lent ℓ g.row.R sync_R in
     let source = λ (ℓ : NamedLft). source_lent ℓ g.row.S send_S in
-    search (sendable, crosses, writer, start_lent, turns_lent, meter_lent, count_lent, handle, source) depth 30
+    search (sendable, crosses, writer_lent, start_lent, turns_lent, meter_lent, count_lent, handle, source) depth 30

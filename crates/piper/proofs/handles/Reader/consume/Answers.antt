@@ -3,6 +3,6 @@ use Rattle.piper.proofs.Ended.{ended_consumed}
 use Rattle.piper.proofs.handles.Reader.consume.Goals as goal
 
 pub returns-clause-stays : goal.returns-clause-stays
-returns-clause-stays g c =
+returns-clause-stays c =
     let stored = c.store_head-call.ensures in
     rw c.wake_writer.ensures.end (ended_consumed c.args.amt _ _ stored.taken stored.known stored.all stored.end.saw)

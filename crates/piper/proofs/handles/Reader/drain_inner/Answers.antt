@@ -22,3 +22,6 @@ returns-in-Some-clause-behind g c =
 pub returns-in-None-clause-behind : goal.returns-in-None-clause-behind
 returns-in-None-clause-behind g c =
     let drained = c.drain_at_once.ensures in ended_behind _ _ _ drained.same drained.stays (search rules)
+
+pub returns-in-Some-clause-stands : goal.returns-in-Some-clause-stands
+returns-in-Some-clause-stands g c = rw c.in-Some.is c.drain_waiting.ensures.stands

@@ -3,6 +3,7 @@ use Rattle.std.proofs.Common.{rules, ◌≡◌, ◌∙◌, Ok, ap, refl, length,
 use Rattle.piper_sides.specs.Table.{read_action}
 use Rattle.futures.specs.declared.task.Poll.TheVariants.{Ready}
 use Rattle.piper.proofs.RoundsOut.{drain_round, takes_writer, sum_fits, drain_ended, drain_failed, drained_more, drained_none}
+use Rattle.piper.proofs.SamePlace.{reader_place}
 use Rattle.piper.proofs.handles.Reader.drain_rounds.Goals as goal
 
 pub rounds-init : goal.rounds-init
@@ -12,7 +13,7 @@ rounds-init g c =
       drained = drained_none _ _ _ (g.met.W.WriteLike.takes_nothing c.args.dest.now);
       failures = refl;
       all = refl;
-      rest = record { slots = refl; rng = refl };
+      rest = record { slots = refl; rng = refl; waits = (refl, refl, refl, refl, refl) };
       woke = λ woke. woke;
     }
 
@@ -65,6 +66,7 @@ rounds-preserved g c =
       rest = record {
         slots = woke.rest.slots ∙ stored.rest.slots ∙ c.rounds.invariant.rest.slots;
         rng = woke.rest.rng ∙ stored.rest.rng ∙ c.rounds.invariant.rest.rng;
+        waits = reader_place c.args.self.now.waiting c.rounds.self.waiting c.store_head-round.new.self.waiting c.wake_writer-call.new.self.waiting c.rounds.invariant.rest.waits stored.rest.waiting woke.rest.waits;
       };
       woke = λ _. woke.woke;
     }

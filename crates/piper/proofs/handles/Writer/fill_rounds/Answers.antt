@@ -6,6 +6,7 @@ use Rattle.piper_sides.specs.declared.table.Found.TheVariants.{Failed as failed}
 use Rattle.piper_sides.specs.Table.{Next, write_step}
 use Rattle.piper_sides.specs.declared.table.WritePoint.{WritePoint}
 use Rattle.piper.proofs.Rounds.{counts, told_count, gave_none, told_none, gives, gave_closed, stores, takes, fill_round}
+use Rattle.piper.proofs.SamePlace.{writer_place, writer_stays}
 use Rattle.piper.proofs.StaysNotified.{reader_stays}
 use Rattle.piper.proofs.RoundsIn.{fill_ended, fill_failed, fill_closed, filled_more}
 use Rattle.piper.proofs.handles.Writer.fill_rounds.Goals as goal
@@ -19,8 +20,8 @@ returns-in-Err g c =
       «open» = round.end.saw ∙ before.open_yet;
       found = tt;
       ready = tt;
-      rest = record { slots = round.rest.slots ∙ before.rest.slots; rng = round.rest.rng ∙ before.rest.rng };
-      woke = λ woke. reader_stays _ _ round.rest.slots round.rest.notified round.end.end.ring round.end.sent round.end.shut (before.woke woke);
+      rest = record { slots = round.rest.slots ∙ before.rest.slots; rng = round.rest.rng ∙ before.rest.rng; waits = writer_stays c.args.self.now.waiting c.rounds.self.waiting c.fill_round.new.self.waiting before.rest.waits round.rest.waiting };
+      woke = λ woke. reader_stays c.rounds.self c.fill_round.new.self round.rest.waiting round.end.sent round.end.shut (before.woke woke);
     }
 
 pub returns-then-n-eq0 : goal.returns-then-n-eq0
@@ -39,8 +40,8 @@ returns-then-n-eq0 g c =
       «open» = tt;
       found = inr (round.end.saw ∙ before.open_yet);
       ready = tt;
-      rest = record { slots = round.rest.slots ∙ before.rest.slots; rng = round.rest.rng ∙ before.rest.rng };
-      woke = λ woke. reader_stays _ _ round.rest.slots round.rest.notified round.end.end.ring round.end.sent round.end.shut (before.woke woke);
+      rest = record { slots = round.rest.slots ∙ before.rest.slots; rng = round.rest.rng ∙ before.rest.rng; waits = writer_stays c.args.self.now.waiting c.rounds.self.waiting c.fill_round.new.self.waiting before.rest.waits round.rest.waiting };
+      woke = λ woke. reader_stays c.rounds.self c.fill_round.new.self round.rest.waiting round.end.sent round.end.shut (before.woke woke);
     })
 
 pub returns-then-asks-eq0 : goal.returns-then-asks-eq0
@@ -77,9 +78,8 @@ returns-then-is_closed g c =
       «open» = tt;
       found = inl (omega (arith, c.if-n-eq0.false));
       ready = tt;
-      rest = record { slots = saw.rest.slots ∙ round.rest.slots ∙ before.rest.slots; rng = saw.rest.rng ∙ round.rest.rng ∙ before.rest.rng };
-      woke = λ woke. reader_stays _ _ (saw.rest.slots ∙ round.rest.slots) (saw.rest.notified ∙ round.rest.notified) (saw.end.end.ring ∙ round.end.end.ring)
-          (saw.end.sent ∙ round.end.sent) (saw.end.shut ∙ round.end.shut) (before.woke woke);
+      rest = record { slots = saw.rest.slots ∙ round.rest.slots ∙ before.rest.slots; rng = saw.rest.rng ∙ round.rest.rng ∙ before.rest.rng; waits = writer_stays c.args.self.now.waiting c.rounds.self.waiting c.load_closed-round.new.self.waiting before.rest.waits (saw.rest.waiting ∙ round.rest.waiting) };
+      woke = λ woke. reader_stays c.rounds.self c.load_closed-round.new.self (saw.rest.waiting ∙ round.rest.waiting) (saw.end.sent ∙ round.end.sent) (saw.end.shut ∙ round.end.shut) (before.woke woke);
     })
 
 pub rounds-preserved : goal.rounds-preserved
@@ -101,6 +101,7 @@ rounds-preserved g c =
       rest = record {
         slots = woke.rest.slots ∙ stored.rest.slots ∙ saw.rest.slots ∙ round.rest.slots ∙ before.rest.slots;
         rng = woke.rest.rng ∙ stored.rest.rng ∙ saw.rest.rng ∙ round.rest.rng ∙ before.rest.rng;
+        waits = writer_place c.args.self.now.waiting c.rounds.self.waiting c.store_tail-round.new.self.waiting c.wake_reader-call.new.self.waiting before.rest.waits (stored.rest.waiting ∙ saw.rest.waiting ∙ round.rest.waiting) woke.rest.waits;
       };
       woke = λ _. woke.woke;
     }
@@ -143,7 +144,7 @@ copied-requires-then-n-eq0 g c =
 pub load_closed-round-requires : goal.load_closed-round-requires
 load_closed-round-requires g c =
     let here = c.before_round-call.ensures ∙ c.rounds.invariant.at in
-    rw (gives _ _ _ _ here _ c.source_gave-round.ensures c.if-n-eq0.false) (record { next = refl; goes_on = refl })
+    rw (gives _ _ _ _ here _ c.source_gave-round.ensures c.if-n-eq0.false) (record { next = refl; goes_on = refl; «open» = c.fill_round.ensures.end.saw ∙ c.rounds.invariant.open_yet })
 
 pub end-requires-then-is_closed : goal.end-requires-then-is_closed
 end-requires-then-is_closed g c =

@@ -4,7 +4,7 @@ use Rattle.piper_tokio.proofs.Fronts.{gave_front}
 use Rattle.piper_tokio.proofs.writer.CompatWriterAsyncWrite.poll_write.Goals as goal
 
 pub returns-in-Ready-Ok-clause-bytes : goal.returns-in-Ready-Ok-clause-bytes
-returns-in-Ready-Ok-clause-bytes g c =
+returns-in-Ready-Ok-clause-bytes c =
     let told = c.in-Ready-Ok.ensures in
     let written = rw c.in-Ready-Ok.field-0-is at told.written in
     let over = rw c.in-Ready-Ok.field-0-is at told.over in

@@ -5,7 +5,7 @@ use Rattle.piper_tokio.proofs.Pieces.{rest_in_one_piece}
 use Rattle.piper_tokio.proofs.reader.streams.CompatReaderAsyncBufRead.consume.Goals as goal
 
 pub invariant_of-self : goal.invariant_of-self
-invariant_of-self g c =
+invariant_of-self c =
     let s = c.args.self.now in
     let few : c.args.amount ≤ s.shown = omega (arith, c.requires, length-take s.shown s.reader.end.known) in
     let shown : s.shown ≤ in_one_piece s.reader.end = s.within in
@@ -13,7 +13,7 @@ invariant_of-self g c =
     record { within = omega (arith, rest) }
 
 pub returns-clause-rest : goal.returns-clause-rest
-returns-clause-rest g c =
+returns-clause-rest c =
     let s = c.args.self.now in
     let known = s.reader.end.known in
     let all : c.args.amount + (s.shown - c.args.amount) ≡ s.shown = omega (arith, c.requires, length-take s.shown known) in

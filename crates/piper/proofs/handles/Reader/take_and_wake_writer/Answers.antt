@@ -1,0 +1,10 @@
+use Rattle.std.proofs.Common.{◌∙◌, ap}
+use Rattle.piper.specs.Calls.{read_woken}
+use Rattle.piper.specs.Slots.{found_in}
+use Rattle.piper.proofs.Woken.{read_past}
+use Rattle.piper.proofs.handles.Reader.take_and_wake_writer.Goals as goal
+
+pub returns-clause-step : goal.returns-clause-step
+returns-clause-step c =
+    let found = found_in c.take_writer-call.result.1 in
+    c.read_wake.ensures.step ∙ ap (read_woken found) c.take_writer-call.ensures.step ∙ read_past c.args.call.point found c.requires.next

@@ -1,0 +1,53 @@
+//! A pipe is opened.
+ghost use Rattle.std.specs.Prelude.{◌≡◌, ℕ, ◌*◌, ◌^◌, ◌<◌, IfOk, bit_xor};
+ghost use Rattle.piper_ring.specs.Opened.{FreshReadEnd, FreshWriteEnd};
+ghost use Rattle.piper.specs.Generator.{generator};
+ghost use Rattle.piper.specs.Handles.{ArePair, NotifiesReader, NotifiesWriter};
+
+use super::{Reader, Slots, Writer};
+use crate::slot::Slot;
+use piper_ring::{OutOfMemory, open_with_slots};
+use rand_core::SeedableRng;
+use rand_pcg::Pcg32;
+use std::alloc::Global;
+use std::sync::Arc;
+
+/// Creates a bounded single-producer single-consumer pipe: a ring of `cap` bytes that can be read
+/// and written by two threads.
+///
+/// The reader's generator begins at `seed`, the writer's at `seed` with its lowest bit flipped.
+/// Where memory is refused, all that was got is given back.
+pub fn pipe(alloc: Global, cap: usize, seed: u64) -> Result<(Reader, Writer), OutOfMemory>
+    requires { (0 < cap) × (2 * cap < 2 ^ 64) }
+    ensures pair { IfOk result (λ (reader, writer). ArePair reader writer) }
+    ensures reader { IfOk result (λ (reader, _). FreshReadEnd cap reader.end) }
+    ensures writer { IfOk result (λ (_, writer). FreshWriteEnd cap writer.end) }
+    ensures woke { IfOk result (λ (reader, writer). NotifiesWriter reader × NotifiesReader writer) }
+    ensures reader_rng { IfOk result (λ (reader, _). reader.rng ≡ generator seed) }
+    ensures writer_rng { IfOk result (λ (_, writer). writer.rng ≡ generator (bit_xor seed 1)) }
+{
+    let (reader, reader_right) = Slot::new();
+    let (writer, writer_right) = Slot::new();
+    let slots = Slots { reader, writer };
+    let slots = Arc::new(alloc, slots).map_err(|_| OutOfMemory)?;
+    let reader_slots = Arc::try_clone(&slots).map_err(|_| OutOfMemory)?;
+    let (read_end, write_end, read_slots, write_slots) = open_with_slots(
+        alloc,
+        cap,
+        reader_right,
+        writer_right,
+    )?;
+    let reader = Reader {
+        end: read_end,
+        waiting: read_slots,
+        slots: reader_slots,
+        rng: Pcg32::seed_from_u64(seed),
+    };
+    let writer = Writer {
+        end: write_end,
+        waiting: write_slots,
+        slots,
+        rng: Pcg32::seed_from_u64(seed ^ 1),
+    };
+    Ok((reader, writer))
+}
