@@ -193,20 +193,18 @@ impl Reader {
         ensures end { self.new.end ≡ self.old.end }
         ensures rest { SameReaderButWoke self.old self.new }
     {
-        let (call, taken) = self.take_writer(call);
-        read_wake(call, taken)
+        let taken = self.take_writer();
+        read_wake(call.took_writer(taken.is_found()), taken)
     }
 
     /// Takes who stands in the writer's slot, behind all that was consumed. It stands apart, out of
-    /// the way of a pipe that flows.
+    /// the way of a pipe that flows, and takes no open call, which would then lie in memory.
     #[cold]
     #[inline(never)]
-    fn take_writer(&mut self, call: ReadCall) -> (ReadCall, Taken)
-        requires next { read_action call.point ≡ Action.Take Side.Writer }
-        ensures step { result.0 ≡ read_step call.point (Found.Waker (found_in result.1)) }
-        ensures none { found_in result.1 ≡ false →
+    fn take_writer(&mut self) -> Taken
+        ensures none { found_in result ≡ false →
             self.new.waiting.taken ≡ self.old.waiting.taken }
-        ensures some { found_in result.1 ≡ true →
+        ensures some { found_in result ≡ true →
             self.old.waiting.taken < self.new.waiting.taken }
         ensures woke { NotifiesWriter self.new }
         ensures end { self.new.end ≡ self.old.end }
@@ -214,8 +212,7 @@ impl Reader {
     {
         let place = &self.slots.writer.place;
         let waker = self.end.take(&mut self.waiting, place);
-        let taken = Taken::new(waker);
-        (call.took_writer(taken.is_found()), taken)
+        Taken::new(waker)
     }
 
     /// Stores closed as it lets the end go, and takes who stands in the writer's slot: the two

@@ -223,20 +223,18 @@ impl Writer {
         ensures end { self.new.end ≡ self.old.end }
         ensures rest { SameWriterButWoke self.old self.new }
     {
-        let (call, taken) = self.take_reader(call);
-        write_wake(call, taken)
+        let taken = self.take_reader();
+        write_wake(call.took_reader(taken.is_found()), taken)
     }
 
     /// Takes who stands in the reader's slot, behind all that was published. It stands apart, out of
-    /// the way of a pipe that flows.
+    /// the way of a pipe that flows, and takes no open call, which would then lie in memory.
     #[cold]
     #[inline(never)]
-    fn take_reader(&mut self, call: WriteCall) -> (WriteCall, Taken)
-        requires next { write_action call.point ≡ Action.Take Side.Reader }
-        ensures step { result.0 ≡ write_step call.point (Found.Waker (found_in result.1)) }
-        ensures none { found_in result.1 ≡ false →
+    fn take_reader(&mut self) -> Taken
+        ensures none { found_in result ≡ false →
             self.new.waiting.taken ≡ self.old.waiting.taken }
-        ensures some { found_in result.1 ≡ true →
+        ensures some { found_in result ≡ true →
             self.old.waiting.taken < self.new.waiting.taken }
         ensures woke { NotifiesReader self.new }
         ensures end { self.new.end ≡ self.old.end }
@@ -244,8 +242,7 @@ impl Writer {
     {
         let place = &self.slots.reader.place;
         let waker = self.end.take(&mut self.waiting, place);
-        let taken = Taken::new(waker);
-        (call.took_reader(taken.is_found()), taken)
+        Taken::new(waker)
     }
 
     /// Stores closed as it lets the end go, and takes who stands in the reader's slot: the two
