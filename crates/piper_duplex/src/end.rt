@@ -84,7 +84,7 @@ impl End {
     }
 
     /// Both ends in one hand: then each reader knows of all that the writer at the other end
-    /// published, in its order. It takes no lock and no memory.
+    /// published, in its order. It takes no memory.
     pub fn meet(&mut self, other: &mut End)
         requires there { self.old.writer.end.ring ≡ other.old.reader.end.ring }
         requires back { other.old.writer.end.ring ≡ self.old.reader.end.ring }

@@ -15,7 +15,7 @@ impl Reader {
     ghost use Rattle.piper.specs.Handles.{SameReader, SameWriter};
     ghost use Rattle.piper.specs.Waits.{ReaderIsRemembered, WriterIsRemembered};
 
-    /// The part of it without a lock: its end of the ring.
+    /// Its end of the ring.
     pub fn end(&self) -> &ReadEnd
         ensures { result.now ≡ self.now.end }
     {
@@ -41,7 +41,7 @@ impl Reader {
 
     /// Both handles in one hand: then the reader knows of all that was published, and the writer of
     /// all the free room, and where either saw the pipe closed the writer closed it: what the
-    /// reader took for all bytes is what the writer published. It takes no lock and no memory.
+    /// reader took for all bytes is what the writer published. It takes no memory.
     ///
     /// And nobody who waits is forgotten: of a side that is pending in its slot, the other took and
     /// woke the waker since, or the side has nothing to do.
@@ -93,7 +93,7 @@ impl Writer {
     ghost use Rattle.piper.specs.Handles.{SameWriter, lends_room};
     ghost use Rattle.piper.specs.Ends.{MustLend};
 
-    /// The part of it without a lock: its end of the ring.
+    /// Its end of the ring.
     pub fn end(&self) -> &WriteEnd
         ensures { result.now ≡ self.now.end }
     {
