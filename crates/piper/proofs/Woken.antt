@@ -57,3 +57,9 @@ write_past (on.StoreClosed behind.WakeWriter) true takes = absurd (cc)
 write_past (on.StoreClosed (behind.Round form sum)) true takes = absurd (cc)
 write_past on.TakeWriter true takes = absurd (cc)
 write_past on.WakeWriter true takes = absurd (cc)
+
+-- So also in a close, of the writer's own slot.
+pub own_past : (found : Bool)
+    → write_woken found (write_step on.TakeWriter (waker found)) ≡ write_step on.TakeWriter (waker false)
+own_past false = refl
+own_past true = refl

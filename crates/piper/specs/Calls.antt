@@ -1,5 +1,5 @@
 -- What a call of the table is to the caller of a handle.
-use Rattle.std.specs.Prelude.{Bool, true, false, Option, None, Some, Result, Ok, Err}
+use Rattle.std.specs.Prelude.{Bool, true, false, Result, Ok, Err}
 use Rattle.futures.specs.declared.task.Poll.{Poll}
 use Rattle.futures.specs.declared.task.Poll.TheVariants as polling
 use Rattle.piper_sides.specs.declared.events.Answer.{Answer}
@@ -10,19 +10,12 @@ use Rattle.piper_sides.specs.declared.table.ReadPoint.{ReadPoint}
 use Rattle.piper_sides.specs.declared.table.WritePoint.{WritePoint}
 use Rattle.piper_sides.specs.declared.table.Found.TheVariants.{Nothing as nothing}
 use Rattle.piper_sides.specs.Table.{Next, read_step, write_step}
-use Rattle.piper.specs.Slots.{found_in}
-use Rattle.piper.specs.declared.slot.Taken.{Taken}
 
 -- what a poll of the table answers; nothing else is asked for
 abbrev pub poll_of : Answer → Poll (Result Bool OutOfMemory)
 poll_of (answer.Poll (told.Ready found)) = polling.Ready (Ok found)
 poll_of (answer.Poll told.Memory) = polling.Ready (Err (record {}))
 poll_of other = polling.Pending
-
--- whether a waker stood in the handle's own slot, where that was emptied
-abbrev pub own_found : Option Taken → Bool
-own_found None = false
-own_found (Some taken) = found_in taken
 
 -- the waker that was taken, if there was one, is called
 abbrev pub read_woken : Bool → Next ReadPoint → Next ReadPoint

@@ -1,5 +1,5 @@
 -- The waker's slots of the two sides.
-use Rattle.std.specs.Prelude.{◌≡◌, ℕ, Bool, false, Option, is_some, IsSome}
+use Rattle.std.specs.Prelude.{ℕ, Bool, is_some}
 use Rattle.piper.specs.declared.slot.Slot.{Slot}
 use Rattle.piper.specs.declared.slot.Taken.{Taken}
 
@@ -10,7 +10,3 @@ source_of slot = slot.source.id
 -- whether a waker stood in the slot that was emptied
 abbrev pub found_in : Taken → Bool
 found_in taken = is_some taken.waker
-
--- a slot whose place may hold a waker was emptied; one whose place is known to be empty need not be
-abbrev pub IsEmptied : Bool → Option Taken → Type 0
-IsEmptied is_empty taken = is_empty ≡ false → IsSome taken

@@ -109,16 +109,7 @@ impl Reader {
         ensures end { self.new.end ≡ self.old.end }
         ensures rest { SameReaderButWaits self.old self.new }
     {
-        match self.skip_own(call) {
-            Ok(call) => polled(call.end()),
-            Err(call) => {
-                let (call, taken) = self.take_own(call);
-                if let Some(taken) = taken {
-                    taken.let_go();
-                }
-                polled(call.end())
-            }
-        }
+        polled(self.take_own(call).end())
     }
 
     /// The known bytes that stand in one piece, the next one first; at least one where any is

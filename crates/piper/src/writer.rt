@@ -104,16 +104,7 @@ impl Writer {
         ensures end { self.new.end ≡ self.old.end }
         ensures rest { SameWriterButWaits self.old self.new }
     {
-        match self.skip_own(call) {
-            Ok(call) => polled(call.end()),
-            Err(call) => {
-                let (call, taken) = self.take_own(call);
-                if let Some(taken) = taken {
-                    taken.let_go();
-                }
-                polled(call.end())
-            }
-        }
+        polled(self.take_own(call).end())
     }
 
     /// Publishes the first `n` bytes of what is left of the slice last lent, as they stand, and
@@ -159,11 +150,7 @@ impl Writer {
         let _unused = cx;
         let call = self.shut(WriteCall::close());
         let call = self.take_and_wake_reader(call);
-        let (call, taken) = self.take_own(call);
-        match taken {
-            Some(taken) => write_wake(call, taken).done(),
-            None => call.done(),
-        }
+        self.take_and_wake_own(call).done();
         Poll::Ready(Ok(()))
     }
 

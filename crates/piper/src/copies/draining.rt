@@ -210,35 +210,12 @@ impl Reader {
             Ok(call) => call,
             Err(told) => return told,
         };
-        let (call, yields) = self.empty_own_and_draw(call);
+        let (call, yields) = self.take_own_and_draw(call);
         if yields {
             let _pending: Poll<()> = cx.yield_now();
             return copied(call.yielded(true).end());
         }
         self.drain_rounds(call, Form::Polling { is_drawn: false }, dest)
-    }
-
-    // The draw behind the look, and whether the copy yields. A waker that may stand in the reader's
-    // slot is let go first.
-    #[inline(always)]
-    fn empty_own_and_draw(&mut self, call: ReadCall) -> (ReadCall, bool)
-        requires next { call.point ≡ ReadPoint.LookTake (Purpose.Copy (Form.Polling false)) }
-        ensures step { result.0 ≡ reader_is_true (Purpose.Copy (Form.Polling result.1)) }
-        ensures draw { IsTrue result.1 ↔ DrawsYield self.old.rng }
-        ensures rng { self.new.rng ≡ drawn_from self.old.rng }
-        ensures slots { self.new.slots ≡ self.old.slots }
-        ensures looks { SameReaderLooks self.old.waiting self.new.waiting }
-        ensures end { self.new.end ≡ self.old.end }
-    {
-        let call = match self.skip_own_and_draw(call) {
-            Ok(drawn) => return drawn,
-            Err(call) => call,
-        };
-        let (call, taken, yields) = self.take_own_and_draw(call);
-        if let Some(taken) = taken {
-            taken.let_go();
-        }
-        (call, yields)
     }
 
     // The drain without a context: the look, and the rounds.

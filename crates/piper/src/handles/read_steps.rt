@@ -7,7 +7,7 @@ ghost use Rattle.piper_ring.specs.ReadView.{KnowsEnd, in_one_piece};
 ghost use Rattle.piper_ring.specs.Shared.{flag};
 ghost use Rattle.piper_ring.specs.SlotsView.{Registers};
 ghost use Rattle.piper.specs.Contexts.{AsksAgain};
-ghost use Rattle.piper.specs.Slots.{IsEmptied, found_in};
+ghost use Rattle.piper.specs.Slots.{found_in};
 ghost use Rattle.piper.specs.Ends.{HasAll, IsEnded, ReaderIsUpToDate, ReaderRefreshed, ReaderSaw, ReaderConsumed};
 
 use super::Reader;
@@ -73,6 +73,7 @@ impl Reader {
 
     /// Registers in the reader's slot, and tells whether a waker was granted. Where the writer has
     /// just taken who stood there, the task asks for another poll in place of that.
+    #[inline(always)]
     pub(crate) fn register(&mut self, call: ReadCall, cx: &mut Context<'_>) -> (ReadCall, bool)
         requires next { read_action call.point ≡ Action.Register }
         ensures step { result.0 ≡ read_step call.point (Found.Granted result.1) }
@@ -84,18 +85,34 @@ impl Reader {
         ensures end { self.new.end ≡ self.old.end }
         ensures rest { SameReaderButWaits self.old self.new }
     {
+        let is_granted = self.stand(cx);
+        (call.registered(is_granted), is_granted)
+    }
+
+    /// Stands in the reader's slot, as `register` says. It takes no open call, which would then lie
+    /// in memory.
+    #[inline(never)]
+    fn stand(&mut self, cx: &mut Context<'_>) -> bool
+        ensures covered { Covers cx.new (λ s. s ≡ read_source self.old) }
+        ensures stands { IsTrue result →
+            Registers self.old.waiting self.new.waiting ⊎ AsksAgain cx.new }
+        ensures refused { IsFalse result → cx.new.lacks_waker ≡ true }
+        ensures kept { Keeps cx.old cx.new }
+        ensures end { self.new.end ≡ self.old.end }
+        ensures rest { SameReaderButWaits self.old self.new }
+    {
         let held = self.take_back();
         if !self.waiting.has_place() {
             let _pending: Poll<()> = cx.yield_now();
-            return (call.registered(true), true);
+            return true;
         }
         let slot = &self.slots.reader;
         match slot.grant(cx, held) {
             Ok(waker) => {
                 self.end.hand_over(&mut self.waiting, &slot.place, waker);
-                (call.registered(true), true)
+                true
             }
-            Err(OutOfMemory) => (call.registered(false), false),
+            Err(OutOfMemory) => false,
         }
     }
 
@@ -107,31 +124,47 @@ impl Reader {
         ensures end { self.new.end ≡ self.old.end }
         ensures rest { SameReaderButWaits self.old self.new }
     {
-        let waker = self
-            .end
-            .withdraw(&mut self.waiting, &self.slots.reader.place);
-        if waker.is_none() {
-            self.end.regain(&mut self.waiting);
+        // Who was woken finds the place handed back: so that is asked first.
+        if self.end.regain(&mut self.waiting) {
+            return None;
         }
-        waker
+        self.end
+            .withdraw(&mut self.waiting, &self.slots.reader.place)
     }
 
-    /// Empties the reader's slot behind the look of a poll, unless its place is known to be empty.
+    /// Empties the reader's slot behind the look of a poll.
     #[inline(always)]
-    pub(crate) fn take_own(&mut self, call: ReadCall) -> (ReadCall, Option<Taken>)
+    pub(crate) fn take_own(&mut self, call: ReadCall) -> ReadCall
         requires next { read_action call.point ≡ Action.Take Side.Reader }
         requires poll { reader_draws_behind call.point ≡ false }
-        ensures step { result.0 ≡ read_step call.point Found.Nothing }
-        ensures emptied { IsEmptied self.old.waiting.owns result.1 }
+        ensures step { result ≡ read_step call.point Found.Nothing }
         ensures end { self.new.end ≡ self.old.end }
         ensures rest { SameReaderButWaits self.old self.new }
     {
-        let call = call.took_own();
-        if self.waiting.has_place() {
-            return (call, None);
+        self.empty_own();
+        call.took_own()
+    }
+
+    /// Empties the reader's slot, unless its place is known to be empty. A waker that stands there
+    /// is let go.
+    #[inline(always)]
+    pub(crate) fn empty_own(&mut self)
+        ensures end { self.new.end ≡ self.old.end }
+        ensures rest { SameReaderButWaits self.old self.new }
+    {
+        if !self.waiting.has_place() {
+            self.let_own_go();
         }
-        let waker = self.take_back();
-        (call, Some(Taken::new(waker)))
+    }
+
+    /// The same, out of the way of a pipe that flows.
+    #[cold]
+    #[inline(never)]
+    fn let_own_go(&mut self)
+        ensures end { self.new.end ≡ self.old.end }
+        ensures rest { SameReaderButWaits self.old self.new }
+    {
+        Taken::new(self.take_back()).let_go();
     }
 
     /// Stores the head, `n` bytes further on.
@@ -148,22 +181,6 @@ impl Reader {
     {
         self.end.consume(n);
         call.stored_head(n)
-    }
-
-    /// Behind the look of a poll, where the reader stands nowhere: the step is made, and no access.
-    /// Else the call stays where it is.
-    #[inline(always)]
-    pub(crate) fn skip_own(&self, call: ReadCall) -> Result<ReadCall, ReadCall>
-        requires next { read_action call.point ≡ Action.Take Side.Reader }
-        requires poll { reader_draws_behind call.point ≡ false }
-        ensures skipped { IfOk result (λ after. (self.now.waiting.owns ≡ true)
-            × (after ≡ read_step call.point Found.Nothing)) }
-        ensures stays { IfErr result (λ same. same ≡ call) }
-    {
-        if !self.waiting.has_place() {
-            return Err(call);
-        }
-        Ok(call.took_own())
     }
 
     /// Looks behind all that was consumed whether the writer stands in its slot. Where it does, the

@@ -2,12 +2,11 @@
 //! a slot and takes the open call one step on.
 ghost use Rattle.std.specs.Prelude.{◌≡◌, ◌+◌, ◌<◌, ◌≤◌, ◌++◌, ◌↔◌, ◌⊎◌, length, take, drop, IsTrue, IsFalse, IfOk, IfErr, true, false};
 ghost use Rattle.futures.specs.Task.{Covers, Keeps};
-ghost use Rattle.piper_sides.specs.Table.{begins_look, look_begun, write_action, write_step, writer_draws_behind};
+ghost use Rattle.piper_sides.specs.Table.{begins_look, look_begun, write_action, write_step};
 ghost use Rattle.piper_ring.specs.Shared.{flag};
 ghost use Rattle.piper_ring.specs.SlotsView.{WriterRegisters};
 ghost use Rattle.piper.specs.Contexts.{AsksAgain};
-ghost use Rattle.piper.specs.Slots.{IsEmptied, found_in};
-ghost use Rattle.piper.specs.Calls.{own_found};
+ghost use Rattle.piper.specs.Slots.{found_in};
 ghost use Rattle.piper.specs.Ends.{WriterIsUpToDate, WriterRefreshed, WriterSaw, WriterPublished, WriterUnlent, WriterShut};
 
 use super::Writer;
@@ -18,7 +17,7 @@ use futures::task::{Context, Poll, Waker};
 use piper_ring::WriteMark;
 use piper_sides::calls::Side;
 use piper_sides::memory::OutOfMemory;
-use piper_sides::table::{Action, Found};
+use piper_sides::table::{Action, Found, Purpose, WritePoint};
 use piper_sides::write_call::WriteCall;
 
 impl Writer {
@@ -82,6 +81,7 @@ impl Writer {
 
     /// Registers in the writer's slot, and tells whether a waker was granted. Where the reader has
     /// just taken who stood there, the task asks for another poll in place of that.
+    #[inline(always)]
     pub(crate) fn register(&mut self, call: WriteCall, cx: &mut Context<'_>) -> (WriteCall, bool)
         requires next { write_action call.point ≡ Action.Register }
         ensures step { result.0 ≡ write_step call.point (Found.Granted result.1) }
@@ -93,18 +93,34 @@ impl Writer {
         ensures end { self.new.end ≡ self.old.end }
         ensures rest { SameWriterButWaits self.old self.new }
     {
+        let is_granted = self.stand(cx);
+        (call.registered(is_granted), is_granted)
+    }
+
+    /// Stands in the writer's slot, as `register` says. It takes no open call, which would then lie
+    /// in memory.
+    #[inline(never)]
+    fn stand(&mut self, cx: &mut Context<'_>) -> bool
+        ensures covered { Covers cx.new (λ s. s ≡ write_source self.old) }
+        ensures stands { IsTrue result →
+            WriterRegisters self.old.waiting self.new.waiting ⊎ AsksAgain cx.new }
+        ensures refused { IsFalse result → cx.new.lacks_waker ≡ true }
+        ensures kept { Keeps cx.old cx.new }
+        ensures end { self.new.end ≡ self.old.end }
+        ensures rest { SameWriterButWaits self.old self.new }
+    {
         let held = self.take_back();
         if !self.waiting.has_place() {
             let _pending: Poll<()> = cx.yield_now();
-            return (call.registered(true), true);
+            return true;
         }
         let slot = &self.slots.writer;
         match slot.grant(cx, held) {
             Ok(waker) => {
                 self.end.hand_over(&mut self.waiting, &slot.place, waker);
-                (call.registered(true), true)
+                true
             }
-            Err(OutOfMemory) => (call.registered(false), false),
+            Err(OutOfMemory) => false,
         }
     }
 
@@ -116,32 +132,57 @@ impl Writer {
         ensures end { self.new.end ≡ self.old.end }
         ensures rest { SameWriterButWaits self.old self.new }
     {
-        let waker = self
-            .end
-            .withdraw(&mut self.waiting, &self.slots.writer.place);
-        if waker.is_none() {
-            self.end.regain(&mut self.waiting);
+        // Who was woken finds the place handed back: so that is asked first.
+        if self.end.regain(&mut self.waiting) {
+            return None;
         }
-        waker
+        self.end
+            .withdraw(&mut self.waiting, &self.slots.writer.place)
     }
 
-    /// Empties the writer's slot behind the look of a poll or in a close, unless its place is known
-    /// to be empty.
+    /// Empties the writer's slot behind the look of a poll.
     #[inline(always)]
-    pub(crate) fn take_own(&mut self, call: WriteCall) -> (WriteCall, Option<Taken>)
-        requires next { write_action call.point ≡ Action.Take Side.Writer }
-        requires no_copy { writer_draws_behind call.point ≡ false }
-        ensures step { result.0 ≡ write_step call.point (Found.Waker (own_found result.1)) }
-        ensures emptied { IsEmptied self.old.waiting.owns result.1 }
+    pub(crate) fn take_own(&mut self, call: WriteCall) -> WriteCall
+        requires next { call.point ≡ WritePoint.LookTake Purpose.Poll }
+        ensures step { result ≡ write_step call.point (Found.Waker false) }
         ensures end { self.new.end ≡ self.old.end }
         ensures rest { SameWriterButWaits self.old self.new }
     {
-        if self.waiting.has_place() {
-            return (call.took_own(false), None);
+        self.empty_own();
+        call.took_own(false)
+    }
+
+    /// Empties the writer's slot, unless its place is known to be empty. A waker that stands there
+    /// is let go.
+    #[inline(always)]
+    pub(crate) fn empty_own(&mut self)
+        ensures end { self.new.end ≡ self.old.end }
+        ensures rest { SameWriterButWaits self.old self.new }
+    {
+        if !self.waiting.has_place() {
+            self.let_own_go();
         }
-        let waker = self.take_back();
-        let taken = Taken::new(waker);
-        (call.took_own(taken.is_found()), Some(taken))
+    }
+
+    /// The same, out of the way of a pipe that flows.
+    #[cold]
+    #[inline(never)]
+    fn let_own_go(&mut self)
+        ensures end { self.new.end ≡ self.old.end }
+        ensures rest { SameWriterButWaits self.old self.new }
+    {
+        Taken::new(self.take_back()).let_go();
+    }
+
+    /// Takes who stands in the writer's own slot, in a close, and calls its waker.
+    pub(crate) fn take_and_wake_own(&mut self, call: WriteCall) -> WriteCall
+        requires next { call.point ≡ WritePoint.TakeWriter }
+        ensures step { result ≡ write_step call.point (Found.Waker false) }
+        ensures end { self.new.end ≡ self.old.end }
+        ensures rest { SameWriterButWaits self.old self.new }
+    {
+        let taken = Taken::new(self.take_back());
+        write_wake(call.took_own(taken.is_found()), taken)
     }
 
     /// Takes back what is lent, where a fill ends. It is no step of the table.
@@ -178,22 +219,6 @@ impl Writer {
     {
         self.end.shut();
         call.stored_closed(true)
-    }
-
-    /// Behind the look of a poll, where the writer stands nowhere: the step is made, and no access.
-    /// Else the call stays where it is.
-    #[inline(always)]
-    pub(crate) fn skip_own(&self, call: WriteCall) -> Result<WriteCall, WriteCall>
-        requires next { write_action call.point ≡ Action.Take Side.Writer }
-        requires poll { writer_draws_behind call.point ≡ false }
-        ensures skipped { IfOk result (λ after. (self.now.waiting.owns ≡ true)
-            × (after ≡ write_step call.point (Found.Waker false))) }
-        ensures stays { IfErr result (λ same. same ≡ call) }
-    {
-        if !self.waiting.has_place() {
-            return Err(call);
-        }
-        Ok(call.took_own(false))
     }
 
     /// Looks behind all that was published whether the reader stands in its slot. Where it does, the

@@ -8,7 +8,7 @@ use Rattle.piper.proofs.handles.Reader.drain_waiting.Goals as goal
 pub returns-then-yields-clause-drained : goal.returns-then-yields-clause-drained
 returns-then-yields-clause-drained g c =
     let waits : c.copied.result ≡ Pending = search rules in
-    rw (waits, c.empty_own_and_draw-call.ensures.end) (drains_none _ _ _ Pending _ _ _ c.in-Ok.ensures.looked (refl, refl) tt)
+    rw (waits, c.take_own_and_draw-call.ensures.end) (drains_none _ _ _ Pending _ _ _ c.in-Ok.ensures.looked (refl, refl) tt)
 
 pub returns-in-Err-clause-drained : goal.returns-in-Err-clause-drained
 returns-in-Err-clause-drained g c =
@@ -16,15 +16,15 @@ returns-in-Err-clause-drained g c =
 
 pub returns-clause-drained : goal.returns-clause-drained
 returns-clause-drained g c =
-    drains_rounds _ _ _ _ _ _ _ _ _ _ c.look_to_drain.ensures.looked c.empty_own_and_draw-call.ensures.end c.drain_rounds.ensures.drained
+    drains_rounds _ _ _ _ _ _ _ _ _ _ c.look_to_drain.ensures.looked c.take_own_and_draw-call.ensures.end c.drain_rounds.ensures.drained
 
 pub returns-clause-ended : goal.returns-clause-ended
 returns-clause-ended g c =
     ended_unseen c.drain_rounds.result c.args.self.now.end c.drain_rounds.new.self.end
-    (found_some _ _ _ _ _ _ _ _ _ _ c.look_to_drain.ensures.looked c.empty_own_and_draw-call.ensures.end c.drain_rounds.ensures.drained c.in-Ok.ensures.some)
+    (found_some _ _ _ _ _ _ _ _ _ _ c.look_to_drain.ensures.looked c.take_own_and_draw-call.ensures.end c.drain_rounds.ensures.drained c.in-Ok.ensures.some)
 
 pub returns-clause-draws : goal.returns-clause-draws
 returns-clause-draws g c =
-    let some = found_some _ _ _ _ _ _ _ _ _ _ c.look_to_drain.ensures.looked c.empty_own_and_draw-call.ensures.end c.drain_rounds.ensures.drained c.in-Ok.ensures.some in
-    let drew = c.empty_own_and_draw-call.ensures in
+    let some = found_some _ _ _ _ _ _ _ _ _ _ c.look_to_drain.ensures.looked c.take_own_and_draw-call.ensures.end c.drain_rounds.ensures.drained c.in-Ok.ensures.some in
+    let drew = c.take_own_and_draw-call.ensures in
     draws_at_once _ c.drain_rounds.result _ _ _ _ _ some c.drain_rounds.ensures.ready c.if-yields.false drew.draw drew.rng c.look_to_drain.ensures.rest.rng c.drain_rounds.ensures.rest.rng

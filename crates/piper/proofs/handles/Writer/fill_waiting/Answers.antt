@@ -11,7 +11,7 @@ returns-in-Err-clause-filled g c =
 pub returns-then-yields-clause-filled : goal.returns-then-yields-clause-filled
 returns-then-yields-clause-filled g c =
     let waits : c.copied.result ≡ Pending = search rules in
-    rw (waits, c.empty_own_and_draw-call.ensures.end) (fills_none _ _ _ Pending _ _ _ c.look_to_fill.ensures.looked (refl, refl) tt)
+    rw (waits, c.take_own_and_draw-call.ensures.end) (fills_none _ _ _ Pending _ _ _ c.look_to_fill.ensures.looked (refl, refl) tt)
 
 pub returns-in-Err-clause-over : goal.returns-in-Err-clause-over
 returns-in-Err-clause-over g c = λ seen. unfound_closed c.in-Err.told _ _ c.look_to_fill.ensures.looked c.in-Err.ensures.none seen
