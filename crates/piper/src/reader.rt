@@ -16,7 +16,7 @@ use futures::task::{Context, Poll};
 use piper_ring::{LastReadMark, OutOfMemory, ReadMark};
 use piper_sides::calls::Side;
 use piper_sides::read_call::ReadCall;
-use piper_sides::table::{Action, Found, Purpose, ReadPoint};
+use piper_sides::table::{Action, Found, Purpose};
 
 impl Reader {
     ghost use Rattle.piper.specs.Handles.{NotifiesWriter, SameReaderButWaits, SameReaderButWoke, read_source};
@@ -83,11 +83,11 @@ impl Reader {
     {
         let (call, none) = self.look(Purpose::Poll);
         if !none {
-            return self.found(call);
+            return polled(self.take_own(call).end());
         }
         let (call, none) = self.load_tail(call);
         if !none {
-            return self.found(call);
+            return polled(self.take_own(call).end());
         }
         let (call, is_granted) = self.register(call, cx);
         if !is_granted {
@@ -96,20 +96,9 @@ impl Reader {
         let (call, _is_closed) = self.load_closed(call);
         let (call, none) = self.load_tail(call);
         if !none {
-            return self.found(call);
+            return polled(self.take_own(call).end());
         }
         polled(call.end())
-    }
-
-    // The look of a poll has found a byte.
-    #[inline(always)]
-    fn found(&mut self, call: ReadCall) -> Poll<Result<bool, OutOfMemory>>
-        requires { call.point ≡ ReadPoint.LookTake Purpose.Poll }
-        ensures answer { result ≡ Poll.Ready (Ok true) }
-        ensures end { self.new.end ≡ self.old.end }
-        ensures rest { SameReaderButWaits self.old self.new }
-    {
-        polled(self.take_own(call).end())
     }
 
     /// The known bytes that stand in one piece, the next one first; at least one where any is

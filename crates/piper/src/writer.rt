@@ -14,7 +14,7 @@ use crate::left::LeftWriter;
 use futures::task::{Context, Poll};
 use piper_ring::{OutOfMemory, WriteMark};
 use piper_sides::calls::Side;
-use piper_sides::table::{Action, Found, Purpose, WritePoint};
+use piper_sides::table::{Action, Found, Purpose};
 use piper_sides::write_call::WriteCall;
 
 impl Writer {
@@ -78,11 +78,11 @@ impl Writer {
             return polled(call.end());
         }
         if !none {
-            return self.found(call);
+            return polled(self.take_own(call).end());
         }
         let (call, none) = self.load_head(call);
         if !none {
-            return self.found(call);
+            return polled(self.take_own(call).end());
         }
         let (call, is_granted) = self.register(call, cx);
         if !is_granted {
@@ -90,21 +90,10 @@ impl Writer {
         }
         let (call, none) = self.load_head(call);
         if !none {
-            return self.found(call);
+            return polled(self.take_own(call).end());
         }
         let (call, _) = self.load_closed(call);
         polled(call.end())
-    }
-
-    // The look of a poll has found room.
-    #[inline(always)]
-    fn found(&mut self, call: WriteCall) -> Poll<Result<bool, OutOfMemory>>
-        requires { call.point ≡ WritePoint.LookTake Purpose.Poll }
-        ensures answer { result ≡ Poll.Ready (Ok true) }
-        ensures end { self.new.end ≡ self.old.end }
-        ensures rest { SameWriterButWaits self.old self.new }
-    {
-        polled(self.take_own(call).end())
     }
 
     /// Publishes the first `n` bytes of what is left of the slice last lent, as they stand, and

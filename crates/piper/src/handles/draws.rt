@@ -12,8 +12,8 @@ use rand_core::utils::NextWord;
 use rand_pcg::Pcg32;
 
 impl Reader {
-    /// Empties the reader's slot behind the true look of a polling copy; then draws, and tells
-    /// whether the copy yields.
+    /// Empties the reader's slot behind the true look of a polling copy, unless its place is known
+    /// to be empty; then draws, and tells whether the copy yields.
     #[inline(always)]
     pub(crate) fn take_own_and_draw(&mut self, call: ReadCall) -> (ReadCall, bool)
         requires next { call.point ≡ ReadPoint.LookTake (Purpose.Copy (Form.Polling false)) }
@@ -24,15 +24,17 @@ impl Reader {
         ensures looks { SameReaderLooks self.old.waiting self.new.waiting }
         ensures end { self.new.end ≡ self.old.end }
     {
-        self.empty_own();
+        if !self.waiting.has_place() {
+            self.let_own_go();
+        }
         let yields = draw(&mut self.rng);
         (call.took_own_and_drew(yields), yields)
     }
 }
 
 impl Writer {
-    /// Empties the writer's slot behind the true look of a polling copy; then draws, and tells
-    /// whether the copy yields.
+    /// Empties the writer's slot behind the true look of a polling copy, unless its place is known
+    /// to be empty; then draws, and tells whether the copy yields.
     #[inline(always)]
     pub(crate) fn take_own_and_draw(&mut self, call: WriteCall) -> (WriteCall, bool)
         requires next { call.point ≡ WritePoint.LookTake (Purpose.Copy (Form.Polling false)) }
@@ -43,7 +45,9 @@ impl Writer {
         ensures looks { SameWriterLooks self.old.waiting self.new.waiting }
         ensures end { self.new.end ≡ self.old.end }
     {
-        self.empty_own();
+        if !self.waiting.has_place() {
+            self.let_own_go();
+        }
         let yields = draw(&mut self.rng);
         (call.took_own_and_drew(yields), yields)
     }

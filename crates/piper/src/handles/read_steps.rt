@@ -132,7 +132,7 @@ impl Reader {
             .withdraw(&mut self.waiting, &self.slots.reader.place)
     }
 
-    /// Empties the reader's slot behind the look of a poll.
+    /// Empties the reader's slot behind the look of a poll, unless its place is known to be empty.
     #[inline(always)]
     pub(crate) fn take_own(&mut self, call: ReadCall) -> ReadCall
         requires next { read_action call.point ≡ Action.Take Side.Reader }
@@ -141,26 +141,16 @@ impl Reader {
         ensures end { self.new.end ≡ self.old.end }
         ensures rest { SameReaderButWaits self.old self.new }
     {
-        self.empty_own();
-        call.took_own()
-    }
-
-    /// Empties the reader's slot, unless its place is known to be empty. A waker that stands there
-    /// is let go.
-    #[inline(always)]
-    pub(crate) fn empty_own(&mut self)
-        ensures end { self.new.end ≡ self.old.end }
-        ensures rest { SameReaderButWaits self.old self.new }
-    {
         if !self.waiting.has_place() {
             self.let_own_go();
         }
+        call.took_own()
     }
 
-    /// The same, out of the way of a pipe that flows.
+    /// Lets a waker go that still stands in the reader's slot, out of the way of a pipe that flows.
     #[cold]
     #[inline(never)]
-    fn let_own_go(&mut self)
+    pub(crate) fn let_own_go(&mut self)
         ensures end { self.new.end ≡ self.old.end }
         ensures rest { SameReaderButWaits self.old self.new }
     {

@@ -140,7 +140,7 @@ impl Writer {
             .withdraw(&mut self.waiting, &self.slots.writer.place)
     }
 
-    /// Empties the writer's slot behind the look of a poll.
+    /// Empties the writer's slot behind the look of a poll, unless its place is known to be empty.
     #[inline(always)]
     pub(crate) fn take_own(&mut self, call: WriteCall) -> WriteCall
         requires next { call.point ≡ WritePoint.LookTake Purpose.Poll }
@@ -148,26 +148,16 @@ impl Writer {
         ensures end { self.new.end ≡ self.old.end }
         ensures rest { SameWriterButWaits self.old self.new }
     {
-        self.empty_own();
-        call.took_own(false)
-    }
-
-    /// Empties the writer's slot, unless its place is known to be empty. A waker that stands there
-    /// is let go.
-    #[inline(always)]
-    pub(crate) fn empty_own(&mut self)
-        ensures end { self.new.end ≡ self.old.end }
-        ensures rest { SameWriterButWaits self.old self.new }
-    {
         if !self.waiting.has_place() {
             self.let_own_go();
         }
+        call.took_own(false)
     }
 
-    /// The same, out of the way of a pipe that flows.
+    /// Lets a waker go that still stands in the writer's slot, out of the way of a pipe that flows.
     #[cold]
     #[inline(never)]
-    fn let_own_go(&mut self)
+    pub(crate) fn let_own_go(&mut self)
         ensures end { self.new.end ≡ self.old.end }
         ensures rest { SameWriterButWaits self.old self.new }
     {
