@@ -1,5 +1,6 @@
 //! A duplex stream, and an echo of lines over one.
-use futures::task::{Context, Poll};
+use crate::compare::{ready, same, same_bytes};
+use futures::task::Context;
 use futures::test::MockTask;
 use piper::io::{AsyncBufRead, AsyncWrite};
 use piper::{OwnedReader, OwnedWriter, owned_pipe};
@@ -12,7 +13,8 @@ use std::test::Fail;
 fn halves(rt: &impl Abort, mut reader: OwnedReader, mut writer: OwnedWriter) {
     let mut place = [0; 4];
     writer.try_fill(b"ab");
-    assert_eq!(rt; (reader.try_drain(&mut place), &place), (2, b"ab\0\0"));
+    same(rt, reader.try_drain(&mut place), 2);
+    same_bytes(rt, &place, b"ab\0\0");
 }
 
 /// Each line goes back as it came.
@@ -28,7 +30,7 @@ where
     W: AsyncWrite,
 {
     let echoed = echo.poll(cx, lines, writer, 100);
-    assert!(rt; matches!(echoed, Poll::Ready(Ok(Echoed::ToTheEnd))));
+    ready(rt, echoed, Echoed::ToTheEnd);
 }
 
 #[test]
@@ -36,7 +38,8 @@ fn bytes_go_both_ways(rt: HostRuntime) -> Result<(), Fail> {
     let alloc = rt.alloc();
     let task = MockTask::new(&rt)?;
     let (mut near, mut far) = duplex(alloc, 8, 8, 1)?;
-    assert_eq!(rt; (near.reader().len(), near.writer().capacity()), (0, 8));
+    same(&rt, near.reader().len(), 0);
+    same(&rt, near.writer().capacity(), 8);
     near.meet(&mut far);
     let (reader, back) = far.into_halves();
     let (answers, writer) = near.into_halves();
@@ -53,7 +56,7 @@ fn bytes_go_both_ways(rt: HostRuntime) -> Result<(), Fail> {
     let mut lines = Lines::new(alloc, reader);
     let mut by_line = LineEcho::new(alloc);
     task.enter(|cx| line_echo(&rt, cx, &mut by_line, &mut lines, &mut second));
-    assert_eq!(rt; last.try_drain(&mut [0; 8]), 3);
+    same(&rt, last.try_drain(&mut [0; 8]), 3);
     Ok(())
 }
 
@@ -62,6 +65,6 @@ fn text_comes_back(rt: HostRuntime) {
     let mut input: &[u8] = b"a\nb\n";
     let mut output = Vec::new(rt.alloc());
     let ended = echo(&rt, rt.alloc(), &[], &mut input, &mut output);
-    assert_eq!(rt; ended, Ended::DONE);
-    assert_eq!(rt; output.as_slice(), b"a\nb\n".as_slice());
+    same(&rt, ended, Ended::DONE);
+    same_bytes(&rt, &output, b"a\nb\n");
 }

@@ -1,6 +1,7 @@
 //! How a pipe begins and ends, and what its sides can prove to each other.
 ghost use Rattle.piper.specs.Handles.{ArePair};
 
+use crate::compare::{confirm, same};
 use futures::task::Context;
 use futures::test::MockTask;
 use piper::{OwnedReader, OwnedWriter, Reader, Writer, pipe};
@@ -10,11 +11,9 @@ use std::test::Fail;
 /// The writer closes the pipe; what is unread can still be read.
 fn poll_close(rt: &impl Abort, cx: &mut Context<'_>, reader: &mut Reader, writer: &mut Writer) {
     writer.try_fill(b"ab");
-    assert!(rt; writer.poll_close(cx).is_ready());
-    assert_eq!(rt;
-        (reader.is_closed(), reader.try_drain(&mut [0; 4])),
-        (true, 2)
-    );
+    confirm(rt, writer.poll_close(cx).is_ready());
+    confirm(rt, reader.is_closed());
+    same(rt, reader.try_drain(&mut [0; 4]), 2);
 }
 
 /// What a side did, the other heeds; in one hand both meet.
@@ -27,10 +26,11 @@ fn mark_and_meet(rt: &impl Abort, mut reader: Reader, mut writer: Writer)
     let (consumed, published) = (reader.mark(), writer.mark());
     writer.heed(&consumed);
     reader.heed(&published);
-    assert_eq!(rt; (reader.end().known_len(), writer.end().capacity()), (2, 4));
+    same(rt, reader.end().known_len(), 2);
+    same(rt, writer.end().capacity(), 4);
     let last = reader.drop();
     writer.heed_last(&last.told);
-    assert!(rt; writer.is_closed());
+    confirm(rt, writer.is_closed());
     writer.drop();
 }
 
@@ -39,9 +39,10 @@ fn owners(rt: &impl Abort, reader: Reader, writer: Writer) {
     let (mut reader, mut writer) = (OwnedReader::new(reader), OwnedWriter::new(writer));
     writer.get_mut().try_fill(b"ab");
     reader.get_mut().try_drain(&mut [0; 1]);
-    assert_eq!(rt; (reader.get_ref().len(), writer.get_ref().len()), (1, 1));
+    same(rt, reader.get_ref().len(), 1);
+    same(rt, writer.get_ref().len(), 1);
     reader.into_inner().drop();
-    assert!(rt; writer.is_closed());
+    confirm(rt, writer.is_closed());
     writer.into_inner().drop();
 }
 

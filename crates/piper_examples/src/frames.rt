@@ -1,4 +1,5 @@
 //! Frames, read and written whole, with a header of any kind.
+use crate::compare::{confirm, ready, same, same_bytes};
 use futures::task::{Context, Poll};
 use futures::test::MockTask;
 use piper::io::{AsyncBufRead, AsyncWrite};
@@ -15,16 +16,16 @@ const TWO_BYTES: FrameHeader = FrameHeader::TwoBytes(ByteOrder::LittleEndian);
 /// A body is written behind its length.
 fn write_frame<W: AsyncWrite>(rt: &impl Abort, cx: &mut Context<'_>, writer: &mut W) {
     let mut frame = WriteFrame::new(b"one");
-    assert!(rt; matches!(frame.poll(cx, writer), Poll::Ready(Ok(Written::Whole))));
+    ready(rt, frame.poll(cx, writer), Written::Whole);
     let long = [0; 256];
     let refused = WriteFrame::with_header(FrameHeader::OneByte, &long);
-    assert!(rt; matches!(refused, Err(BodyTooLong)));
+    confirm(rt, matches!(refused, Err(BodyTooLong)));
 }
 
 /// The bytes of a length, to be written by hand.
 fn tell(rt: &impl Abort) {
     if TWO_BYTES.can_tell(258) {
-        assert_eq!(rt; TWO_BYTES.tell(258).as_slice(), [2, 1].as_slice());
+        same_bytes(rt, TWO_BYTES.tell(258).as_slice(), &[2, 1]);
     }
 }
 
@@ -36,11 +37,11 @@ fn poll_frame<R: AsyncBufRead>(
     frame: &mut Vec<u8>,
 ) {
     let answer = frames.poll_frame(cx, frame, 2);
-    assert!(rt; matches!(answer, Poll::Ready(Ok(FrameAnswer::TooLong(3)))));
+    ready(rt, answer, FrameAnswer::TooLong(3));
     let answer = frames.poll_frame(cx, frame, 3);
-    assert!(rt; matches!(answer, Poll::Ready(Ok(FrameAnswer::Frame))));
-    assert_eq!(rt; frame.as_slice(), b"one".as_slice());
-    assert!(rt; frames.reader_mut().poll_fill_buf(cx).is_pending());
+    ready(rt, answer, FrameAnswer::Frame);
+    same_bytes(rt, frame, b"one");
+    confirm(rt, frames.reader_mut().poll_fill_buf(cx).is_pending());
 }
 
 /// All frames up to the end; one that is too long is skipped.
@@ -55,8 +56,8 @@ fn poll_all<R: AsyncBufRead>(
         _ => {}
     }
     let ended = poll_frames(frames, cx, bodies, 2);
-    assert!(rt; matches!(ended, Poll::Ready(Ok(Collected::ToTheEnd))));
-    assert_eq!(rt; bodies.len(), 1);
+    ready(rt, ended, Collected::ToTheEnd);
+    same(rt, bodies.len(), 1);
 }
 
 #[test]

@@ -1,6 +1,7 @@
 //! What both handles of a pipe do. An owner, as `owned_pipe` gives it, has all of it, too. Each
 //! example leaves the pipe empty.
-use futures::task::{Context, Poll};
+use crate::compare::{confirm, ready, same, same_bytes};
+use futures::task::Context;
 use futures::test::MockTask;
 use piper::like::{ReadBytes, ReadLike, WriteBytes, WriteLike};
 use piper::{Reader, Writer, owned_pipe};
@@ -9,25 +10,21 @@ use std::test::Fail;
 
 /// Bytes move as far as there is room, and as many as there are.
 fn try_fill_and_try_drain(rt: &impl Abort, reader: &mut Reader, writer: &mut Writer) {
-    assert_eq!(rt; writer.try_fill(b"hello"), 4);
+    same(rt, writer.try_fill(b"hello"), 4);
     let mut place = [0; 3];
-    assert_eq!(rt; (reader.try_drain(&mut place), &place), (3, b"hel"));
-    assert_eq!(rt; reader.try_drain(&mut place), 1);
+    same(rt, reader.try_drain(&mut place), 3);
+    same_bytes(rt, &place, b"hel");
+    same(rt, reader.try_drain(&mut place), 1);
 }
 
 /// Both sides can ask how the pipe stands.
 fn len_and_capacity(rt: &impl Abort, reader: &mut Reader, writer: &mut Writer) {
     writer.try_fill(b"abcd");
-    assert_eq!(rt;
-        (writer.len(), writer.is_full(), writer.is_empty()),
-        (4, true, false)
-    );
-    assert_eq!(rt;
-        (reader.len(), reader.is_full(), reader.is_empty()),
-        (4, true, false)
-    );
-    assert_eq!(rt; (reader.capacity(), writer.capacity()), (4, 4));
-    assert_eq!(rt; (reader.is_closed(), writer.is_closed()), (false, false));
+    same(rt, [writer.len(), reader.len()], [4, 4]);
+    same(rt, [writer.is_full(), reader.is_full()], [true, true]);
+    same(rt, [writer.is_empty(), reader.is_empty()], [false, false]);
+    same(rt, [writer.capacity(), reader.capacity()], [4, 4]);
+    same(rt, [writer.is_closed(), reader.is_closed()], [false, false]);
     reader.try_drain(&mut [0; 4]);
 }
 
@@ -45,18 +42,19 @@ fn write_buf_and_peek_buf(
     writer.produced(count);
     let _has_bytes = reader.poll(cx);
     let known = reader.peek_buf().len();
-    assert_eq!(rt; (count > 0, known), (true, count));
+    confirm(rt, count > 0);
+    same(rt, known, count);
     reader.consume(known);
 }
 
 /// A poll waits for a byte or for room, and leaves the task's waker where it is pending.
 fn poll(rt: &impl Abort, cx: &mut Context<'_>, reader: &mut Reader, writer: &mut Writer) {
-    assert!(rt; matches!(reader.poll(cx), Poll::Pending));
+    confirm(rt, reader.poll(cx).is_pending());
     writer.try_fill(b"abcd");
-    assert!(rt; matches!(writer.poll(cx), Poll::Pending));
-    assert!(rt; matches!(reader.poll(cx), Poll::Ready(Ok(true))));
+    confirm(rt, writer.poll(cx).is_pending());
+    ready(rt, reader.poll(cx), true);
     reader.try_drain(&mut [0; 4]);
-    assert!(rt; matches!(writer.poll(cx), Poll::Ready(Ok(true))));
+    ready(rt, writer.poll(cx), true);
 }
 
 /// Slices move by polls: a count of 0 would be the end.
@@ -67,9 +65,9 @@ fn poll_fill_bytes_and_poll_drain_bytes(
     writer: &mut Writer,
 ) {
     let mut place = [0; 4];
-    assert!(rt; matches!(writer.poll_fill_bytes(cx, b"ab"), Poll::Ready(Ok(2))));
-    assert!(rt; matches!(reader.poll_drain_bytes(cx, &mut place), Poll::Ready(Ok(2))));
-    assert_eq!(rt; &place, b"ab\0\0");
+    ready(rt, writer.poll_fill_bytes(cx, b"ab"), 2);
+    ready(rt, reader.poll_drain_bytes(cx, &mut place), 2);
+    same_bytes(rt, &place, b"ab\0\0");
 }
 
 /// Bytes come from a reader of std, and go to a writer of std, with no buffer between.
@@ -82,9 +80,9 @@ fn poll_fill_and_poll_drain(
     let mut source = b"ab".as_slice();
     let mut place = [0; 4];
     let mut dest = place.as_mut_slice();
-    assert!(rt; matches!(writer.poll_fill(cx, &mut source), Poll::Ready(Ok(2))));
-    assert!(rt; matches!(reader.poll_drain(cx, &mut dest), Poll::Ready(Ok(2))));
-    assert_eq!(rt; &place, b"ab\0\0");
+    ready(rt, writer.poll_fill(cx, &mut source), 2);
+    ready(rt, reader.poll_drain(cx, &mut dest), 2);
+    same_bytes(rt, &place, b"ab\0\0");
 }
 
 /// The same over any source and destination. With no task it moves what can be moved now.
@@ -92,18 +90,19 @@ fn fill_inner_and_drain_inner(rt: &impl Abort, reader: &mut Reader, writer: &mut
     let mut source = ReadBytes::new(b"abc");
     let mut place = [0; 3];
     let mut dest = WriteBytes::new(&mut place);
-    assert_eq!(rt; (source.asks(), dest.asks()), (3, 3));
-    assert!(rt; matches!(writer.fill_inner(None, &mut source), Poll::Ready(Ok(3))));
-    assert!(rt; matches!(reader.drain_inner(None, &mut dest), Poll::Ready(Ok(3))));
-    assert_eq!(rt; &place, b"abc");
+    same(rt, source.asks(), 3);
+    same(rt, dest.asks(), 3);
+    ready(rt, writer.fill_inner(None, &mut source), 3);
+    ready(rt, reader.drain_inner(None, &mut dest), 3);
+    same_bytes(rt, &place, b"abc");
 }
 
 /// A source and a destination of slices, called by hand.
 fn read_and_write(rt: &impl Abort) {
     let (mut from, mut to) = ([0; 2], [0; 2]);
-    assert!(rt; matches!(ReadBytes::new(b"abc").read(&mut from), Ok(2)));
-    assert!(rt; matches!(WriteBytes::new(&mut to).write(&from), Ok(2)));
-    assert_eq!(rt; &to, b"ab");
+    confirm(rt, matches!(ReadBytes::new(b"abc").read(&mut from), Ok(2)));
+    confirm(rt, matches!(WriteBytes::new(&mut to).write(&from), Ok(2)));
+    same_bytes(rt, &to, b"ab");
 }
 
 #[test]

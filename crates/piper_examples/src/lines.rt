@@ -1,4 +1,5 @@
 //! Lines, read and written whole.
+use crate::compare::{confirm, ready, same, same_bytes};
 use futures::task::{Context, Poll};
 use futures::test::MockTask;
 use piper::io::{AsyncBufRead, AsyncWrite};
@@ -15,9 +16,9 @@ fn write_line<W: AsyncWrite>(rt: &impl Abort, cx: &mut Context<'_>, writer: &mut
     let (text, list) = (b"one".as_slice(), b"two, three".as_slice());
     if is_one_line(text) && lacks(list, b';') {
         let mut line = WriteLine::new(text);
-        assert!(rt; matches!(line.poll(cx, writer), Poll::Ready(Ok(Written::Whole))));
+        ready(rt, line.poll(cx, writer), Written::Whole);
         let mut line = WriteLine::ended_by(list, b';');
-        assert!(rt; matches!(line.poll(cx, writer), Poll::Ready(Ok(Written::Whole))));
+        ready(rt, line.poll(cx, writer), Written::Whole);
     }
 }
 
@@ -29,10 +30,13 @@ fn poll_line<R: AsyncBufRead>(
     line: &mut Vec<u8>,
 ) {
     let answer = lines.poll_line(cx, line, 100);
-    assert!(rt; matches!(&answer, Poll::Ready(Ok(LineAnswer::Line))));
-    assert!(rt; matches!(answer, Poll::Ready(Ok(answer)) if !answer.is_end()));
-    assert_eq!(rt; line_text(line), b"one".as_slice());
-    assert!(rt; lines.reader_mut().poll_fill_buf(cx).is_ready());
+    confirm(
+        rt,
+        matches!(&answer, Poll::Ready(Ok(told)) if !told.is_end()),
+    );
+    ready(rt, answer, LineAnswer::Line);
+    same_bytes(rt, line_text(line), b"one");
+    confirm(rt, lines.reader_mut().poll_fill_buf(cx).is_ready());
 }
 
 /// So many bytes are gathered, and so many are written.
@@ -48,10 +52,10 @@ where
 {
     let mut written = 0;
     let answer = poll_write_all(writer, cx, b"abcdef", &mut written);
-    assert!(rt; matches!(answer, Poll::Ready(Ok(Written::Whole))));
+    ready(rt, answer, Written::Whole);
     gathered.clear();
-    assert!(rt; matches!(fill_up(reader, cx, gathered, 5), Poll::Ready(Ok(true))));
-    assert_eq!(rt; gathered.as_slice(), b"abcde".as_slice());
+    ready(rt, fill_up(reader, cx, gathered, 5), true);
+    same_bytes(rt, gathered, b"abcde");
 }
 
 #[test]
@@ -63,12 +67,12 @@ fn lines_are_written_and_read(rt: HostRuntime) -> Result<(), Fail> {
     task.enter(|cx| write_line(&rt, cx, &mut writer));
     let mut lines = Lines::new(alloc, reader);
     task.enter(|cx| poll_line(&rt, cx, &mut lines, &mut line));
-    assert_eq!(rt; into_line_text(line).as_slice(), b"one".as_slice());
+    same_bytes(&rt, &into_line_text(line), b"one");
     let mut lists = Lines::split(alloc, lines.into_reader(), b';');
     let mut found = Vec::new(alloc);
     let rest = task.enter(|cx| poll_lines(&mut lists, cx, &mut found, 100));
-    assert!(rt; matches!(rest, Poll::Pending));
-    assert_eq!(rt; found.len(), 1);
+    confirm(&rt, rest.is_pending());
+    same(&rt, found.len(), 1);
     let mut reader = lists.into_reader();
     let mut gathered = Vec::new(alloc);
     task.enter(|cx| { fill_up_and_write_all(&rt, cx, (&mut reader, &mut writer), &mut gathered) });

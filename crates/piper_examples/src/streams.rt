@@ -1,4 +1,5 @@
 //! The traits of readers and writers that may be pending, and the copy between two of them.
+use crate::compare::{confirm, ready, same, same_bytes};
 use futures::task::{Context, Poll};
 use futures::test::MockTask;
 use piper::io::{AsyncBufRead, AsyncRead, AsyncWrite, Copied, poll_copy};
@@ -19,10 +20,10 @@ where
     W: AsyncWrite,
 {
     let mut place = [0; 4];
-    assert!(rt; matches!(writer.poll_write(cx, b"ab"), Poll::Ready(Ok(2))));
-    assert!(rt; matches!(writer.poll_flush(cx), Poll::Ready(Ok(()))));
-    assert!(rt; matches!(reader.poll_read(cx, &mut place), Poll::Ready(Ok(2))));
-    assert_eq!(rt; &place, b"ab\0\0");
+    ready(rt, writer.poll_write(cx, b"ab"), 2);
+    ready(rt, writer.poll_flush(cx), ());
+    ready(rt, reader.poll_read(cx, &mut place), 2);
+    same_bytes(rt, &place, b"ab\0\0");
 }
 
 /// A reader that lends shows what it has, and takes what was used.
@@ -31,12 +32,12 @@ where
     R: AsyncBufRead,
     W: AsyncWrite,
 {
-    assert!(rt; writer.poll_write(cx, b"ab").is_ready());
+    confirm(rt, writer.poll_write(cx, b"ab").is_ready());
     let lent = match reader.poll_fill_buf(cx) {
         Poll::Ready(Ok(lent)) => lent,
         _ => return,
     };
-    assert_eq!(rt; lent, b"ab".as_slice());
+    same_bytes(rt, lent, b"ab");
     let count = lent.len().min(1);
     reader.consume(count);
 }
@@ -47,24 +48,21 @@ where
     R: AsyncBufRead,
     W: AsyncWrite,
 {
-    assert!(rt;
-        matches!(
-            poll_copy(cx, reader, writer),
-            Poll::Ready(Ok(Copied::ToTheEnd))
-        )
-    );
-    assert!(rt; matches!(writer.poll_close(cx), Poll::Ready(Ok(()))));
+    ready(rt, poll_copy(cx, reader, writer), Copied::ToTheEnd);
+    ready(rt, writer.poll_close(cx), ());
 }
 
 /// Readers and writers of std as sources and destinations of copies.
 fn of_std(rt: &impl Abort) {
     let mut source = b"abc".as_slice();
     let mut place = [0; 2];
-    assert!(rt; matches!(StdRead::new(&mut source).read(&mut place), Ok(2)));
+    let read = StdRead::new(&mut source).read(&mut place);
+    confirm(rt, matches!(read, Ok(2)));
     let mut kept = [0; 2];
     let mut dest = kept.as_mut_slice();
-    assert!(rt; matches!(StdWrite::new(&mut dest).write(&place), Ok(2)));
-    assert_eq!(rt; &kept, b"ab");
+    let written = StdWrite::new(&mut dest).write(&place);
+    confirm(rt, matches!(written, Ok(2)));
+    same_bytes(rt, &kept, b"ab");
 }
 
 #[test]
@@ -79,7 +77,8 @@ fn what_readers_and_writers_do(rt: HostRuntime) -> Result<(), Fail> {
     drop(writer);
     task.enter(|cx| poll_copies(&rt, cx, &mut reader, &mut second));
     let mut place = [0; 4];
-    assert_eq!(rt; (last.try_drain(&mut place), &place), (1, b"b\0\0\0"));
+    same(&rt, last.try_drain(&mut place), 1);
+    same_bytes(&rt, &place, b"b\0\0\0");
     of_std(&rt);
     Ok(())
 }
