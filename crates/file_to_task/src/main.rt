@@ -1,5 +1,4 @@
-//! A thread reads a file into a pipe, and a task counts its lines as they come. The thread may wait
-//! for the file; the task is only polled, and sleeps while nothing is there.
+//! A thread, which may wait, reads a file into a pipe; a task, which is only polled, counts lines.
 #![tactic(auto)]
 
 use futures::executor::block_on;

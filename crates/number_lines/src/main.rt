@@ -1,5 +1,4 @@
-//! Numbers the lines of standard input. A thread pumps the input into a pipe, and a task takes
-//! whole lines out of it, whatever pieces they came in.
+//! Numbers the lines of standard input: a thread pumps it into a pipe, of which a task takes lines.
 #![tactic(auto)]
 
 use futures::executor::block_on;
