@@ -108,10 +108,10 @@ where
     let (mut reader, mut writer) = first.into_halves();
     let sent = talk(rt, alloc, &mut reader, &mut writer, input, output);
     writer.drop();
-    let printed = sent.and_then(|()| print_rest(rt, &mut reader, output));
+    let printed = sent.and_then(|()| print(rt, &mut reader, usize::MAX, output));
     reader.drop();
     child.join(rt);
-    printed
+    printed.map(|_| ())
 }
 
 // Sends the input line by line, and prints each line that was sent whole once it comes back.
@@ -145,7 +145,11 @@ where
         }
         send(rt, writer, &line)?;
         if line.last() == Some(&b'\n') || line.len() == MOST_OF_A_LINE {
-            print_answer(rt, reader, line.len(), output)?;
+            let count = print(rt, reader, line.len(), output)?;
+            if count < line.len() {
+                // The thread that answers was refused memory.
+                return Err(Ended::OUT_OF_MEMORY);
+            }
         }
     }
     Ok(())
@@ -186,38 +190,22 @@ where
     }
 }
 
-// Prints the next `total` bytes that come. Where the end comes first, the thread that answers was
-// refused memory.
-fn print_answer<R, A, O>(rt: &R, reader: &mut A, total: usize, output: &mut O) -> Result<(), Ended>
+// Prints what comes, `most` bytes or all up to the end, and answers how many bytes that were.
+fn print<R, A, O>(rt: &R, reader: &mut A, most: usize, output: &mut O) -> Result<usize, Ended>
 where
     R: Wait + RandomSource + AllocGlobal,
     A: AsyncRead,
     O: Write,
     ensures { IfErr result (λ e. e.status ≡ 2) }
 {
-    let mut left = total;
-    while left > 0 {
-        let count = print_some(rt, reader, left, output)?;
-        if count == 0 {
-            return Err(Ended::OUT_OF_MEMORY);
-        }
-        left -= count;
-    }
-    output.flush().map_err(|_| Ended::WRITE_FAILED)
-}
-
-// Prints all that comes up to the end.
-fn print_rest<R, A, O>(rt: &R, reader: &mut A, output: &mut O) -> Result<(), Ended>
-where
-    R: Wait + RandomSource + AllocGlobal,
-    A: AsyncRead,
-    O: Write,
-    ensures { IfErr result (λ e. e.status ≡ 2) }
-{
-    for _ in 0..u64::MAX {
-        if print_some(rt, reader, PIECE, output)? == 0 {
+    let mut count = 0;
+    while count < most {
+        let more = print_some(rt, reader, most - count, output)?;
+        if more == 0 {
             break;
         }
+        count += more;
     }
-    output.flush().map_err(|_| Ended::WRITE_FAILED)
+    output.flush().map_err(|_| Ended::WRITE_FAILED)?;
+    Ok(count)
 }
