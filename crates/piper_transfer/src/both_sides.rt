@@ -71,15 +71,7 @@ where
     let (mut input, mut output) = open(rt, sizes.capacity, sizes.level)?;
     let chunk = sizes.chunk.min(sizes.capacity);
     let (filled, drained) = run_sides(rt, source, &mut input, &mut output, dest, chunk, meter);
-    let Input {
-        turns: _,
-        mut writer,
-    } = input;
-    let Output {
-        turns: _,
-        mut reader,
-        level: _,
-    } = output;
+    let (mut reader, mut writer) = (output.into_reader(), input.into_writer());
     // Now that both handles are in one hand, what is left where the output failed is known; else
     // nothing is.
     reader.meet(&mut writer);

@@ -1,4 +1,6 @@
 //! A thread that polls a pipe and sleeps until its waker is called.
+ghost use Rattle.std.specs.Prelude.{◌≡◌};
+
 use futures::task::{Context, Doorbell, Queue};
 use piper::{Reader, Writer};
 use std::alloc::AllocGlobal;
@@ -32,10 +34,34 @@ pub(crate) struct Input {
     pub(crate) writer: Writer,
 }
 
+impl Input {
+    /// The writer, once the thread has ended.
+    pub(crate) fn into_writer(self) -> Writer
+        ensures { result ≡ self.writer }
+    {
+        let Input { turns: _, writer } = self;
+        writer
+    }
+}
+
 /// What the thread has that writes the output.
 pub(crate) struct Output {
     pub(crate) turns: Turns,
     pub(crate) reader: Reader,
     /// How many bytes the pipe is to hold before one is written, and again once it ran dry.
     pub(crate) level: usize,
+}
+
+impl Output {
+    /// The reader, once the thread has ended.
+    pub(crate) fn into_reader(self) -> Reader
+        ensures { result ≡ self.reader }
+    {
+        let Output {
+            turns: _,
+            reader,
+            level: _,
+        } = self;
+        reader
+    }
 }

@@ -1,6 +1,11 @@
-use Rattle.std.proofs.Common.{rules, ◌≡◌, [], OnOk, IfErr, ◌∙◌}
+use Rattle.std.proofs.Common.{rules, ◌≡◌, [], OnOk, IfErr, ◌∙◌, ap, subst}
 use Rattle.std.specs.Result.{result_and}
 use Rattle.std.specs.Io.KnownBytes.{IsAtEnd}
+use Rattle.piper.specs.Ends.{ReaderRefreshed}
+use Rattle.piper.specs.ReadView.{ReadView, KnowsEnd}
+use Rattle.piper.specs.WriteView.{WriteView}
+use Rattle.piper.specs.declared.handles.Reader.{Reader}
+use Rattle.piper.specs.declared.handles.Writer.{Writer}
 use Rattle.piper_transfer.specs.Transfer.{IsDrained, IsOfDestination, IsOfMemory, PouredAll, WritesAll}
 use Rattle.piper_transfer.proofs.Sides.{poured_kept, poured_same}
 use Rattle.piper_transfer.proofs.Told.{refused_writes_none, refused_is_told, flushed_first, flush_is_told, failed_writes_not, failure_is_told}
@@ -35,14 +40,19 @@ returns g c =
     let s = g.S.Source.fails both.new.source in
     let new_writer = c.in_ok-input.ensures.input.sent in
     let new_reader = c.in_ok-input.ensures.output.taken in
-    let fifo = c.meet.ensures.fifo ∙ c.meet.ensures.writer.sent in
+    let reads : c.into_reader-reader.result.end ≡ r1 = ap (λ (r : Reader). r.end) c.into_reader-reader.ensures in
+    let writes : c.into_writer-writer.result.end ≡ w1 = ap (λ (w : Writer). w.end) c.into_writer-writer.ensures in
+    let met : ReaderRefreshed r1 r2 = subst (λ (r : ReadView). ReaderRefreshed r r2) reads c.meet.ensures.reader in
+    let sent : c.meet.new.other.end.sent ≡ w1.sent = c.meet.ensures.writer.sent ∙ ap (λ (w : WriteView). w.sent) writes in
+    let fifo = c.meet.ensures.fifo ∙ sent in
     elim c.match-drained.branch [
       | in-Ok w ↦
           let q = contents w.flush.new.dest in
           let drained : PouredAll o p r0 r1 = search rules in
-          let poured : PouredAll o q r0 r2 = poured_kept o p q r0 r2 (poured_same o p r0 r1 r2 drained c.meet.ensures.reader.taken c.meet.ensures.reader.end.ring) w.flush.ensures.kept in
+          let poured : PouredAll o q r0 r2 = poured_kept o p q r0 r2 (poured_same o p r0 r1 r2 drained met.taken met.end.ring) w.flush.ensures.kept in
           let whole : IsDrained r1 w1 = search rules in
-          let none : r2.known ≡ [] = none_known r1 r2 w1 c.meet.new.other.end whole c.meet.ensures.reader c.meet.ensures.fifo c.meet.ensures.writer.sent c.meet.ensures.all c.meet.ensures.same in
+          let none : r2.known ≡ [] = none_known r1 r2 w1 c.meet.new.other.end whole met c.meet.ensures.fifo sent c.meet.ensures.all
+          (subst (λ (r : ReadView). KnowsEnd r → r2.all ≡ r.all) reads c.meet.ensures.same) in
           let ended : OnOk c.match-drained.ended (IsAtEnd j) = search rules in
           let same : c.match-drained.ended ≡ result_and w.flush.result both.result.0 = search rules in
           let d = g.D.Destination.fails w.flush.new.dest in
@@ -59,7 +69,7 @@ returns g c =
           let failed : ¬ WritesAll c.match-drained.ended = failed_writes_not c.match-drained.ended w.in-Err.error d full w.ended-is told in
           let ended : OnOk c.match-drained.ended (IsAtEnd j) = rw w.ended-is tt in
           rw w.dest-is (record {
-            moved = output_failed c.match-drained.ended i j o p w0 w1 r0 r1 r2 new_writer new_reader both.ensures.fed both.ensures.poured c.meet.ensures.reader.taken fifo failed ended;
+            moved = output_failed c.match-drained.ended i j o p w0 w1 r0 r1 r2 new_writer new_reader both.ensures.fed both.ensures.poured met.taken fifo failed ended;
             flushed = λ writes. absurd (failed writes);
             told = failure_is_told c.match-drained.ended w.in-Err.error s d full w.ended-is told;
           })
