@@ -222,21 +222,21 @@ module _ {M : Type 1} {𝓤 : Ura M} (𝓛 : Logic 𝓤) (w p : Ptr) (z : Names)
         move ! (3 ∷ []) $ fsplit ! $ rewrite ! 0 (λ (y : Wakes X). ‵ (shows y.1.1)) {x = b} {y = s.1.0} (sym e) refl $ move ! (8 ∷ 0 ∷ []) $ use2 𝓛 (‵ (shows b'.1.1)) (one_shows b'.1.1 x b.1.1 r.5) $
         move ! (1 ∷ 8 ∷ []) $ use2 𝓛 (‵ (Right (held_at at')) ⊛ ‵ (Right u')) (passes ι u (held_at at) u' (held_at at') r.7) $ split ! $ move ! (2 ∷ 0 ∷ []) $ fjoin ! $ move ! (2 ∷ 1 ∷ []) $ fjoin ! $ move ! (1 ∷ 0 ∷ []) $
         move ! (4 ∷ []) $ fsplit ! $ show ! (Holding far f after) n $ frame ! $ assume ! (‵ (word w far (f n))) $ suffices ! _ (upd_i 𝓤 (⟦ I ⟧ ∗ ⟦ after n ⟧)) $
-        rewrite ! 0 (λ (m : ℕ). ‵ (word w far m)) {x = flag_of at'} {y = f n} r.3.0 refl $ rewrite ! 1 (λ (m : ℕ). ‵ (word w (128 + far) m)) {x = back_of at'} {y = back_of at} r.3.1 refl $ fjoin ! $
+        rewrite ! 0 (λ (m : ℕ). ‵ (word w far m)) {x = flag_of at'} {y = f n} r.3.0 refl $ rewrite ! 1 (λ (m : ℕ). ‵ (word w (8 + far) m)) {x = back_of at'} {y = back_of at} r.3.1 refl $ fjoin ! $
         move ! (4 ∷ 3 ∷ []) $ fjoin ! $ move ! (1 ∷ 0 ∷ 2 ∷ []) $ fjoin3 ! $ nothing ! $ fpack ! (Stands X at' a b') (λ _. ftrue) r.4 $ fjoin ! $ fpack ! (Slot X) (slot_at w far γ δ ι c shows) (a, (b', at')) $
         move ! (0 ∷ 3 ∷ []) $ use2 𝓛 (‵ I) (apply∗ 𝓤 ⟦ F ⟧ ⟦ I ⟧) $ frame ! $ fjoin ! $ nothing ! $ fpack ! (then n b' u') (λ _. ftrue) r.6 $ fjoin ! $ fpack ! (Wakes X × Held) (OneAfter then n) (b', u') $ done !))))
 
     wakes_back : Lent K F → (u : Held) (b : Wakes X) (x : X) (f : ℕ → ℕ) (then : ℕ → Wakes X → Held → Type 0) → ((a : Waits X) (at : Where) → Stands X at a b → WakesTo (OnBack f) then (back_of at) x u a b at)
-        → ⟦ C ⟧ ∗ ⟦ K ⟧ ∗ ⟦ fsep (fobs δ (code b)) (Right u) ⟧ ∗ ⟦ shows x ⟧ ⊢ access (128 + far) f (WakeAfter then)
-    wakes_back lends u b x f then can = let after : ℕ → Fml = WakeAfter then in let Z : Pr = ex 𝓤 (Holding (128 + far) f after) in
-        inside 𝓛 w p z (128 + far) f after (⟦ K ⟧ ∗ ⟦ fsep (fobs δ (code b)) (Right u) ⟧ ∗ ⟦ shows x ⟧) (qed 𝓛 (‵ I ∷ ‵ K ∷ ‵ (fsep (fobs δ (code b)) (Right u)) ∷ ‵ (shows x) ∷ []) ∵ move ! (2 ∷ []) $ fsplit ! $ move ! (2 ∷ 3 ∷ 0 ∷ 4 ∷ []) $ use2 𝓛 (‵ K ⊛ ‵ F ⊛ ‵ (fwand F I)) lends $ split3 ! $ move ! (1 ∷ []) $
+        → ⟦ C ⟧ ∗ ⟦ K ⟧ ∗ ⟦ fsep (fobs δ (code b)) (Right u) ⟧ ∗ ⟦ shows x ⟧ ⊢ access (8 + far) f (WakeAfter then)
+    wakes_back lends u b x f then can = let after : ℕ → Fml = WakeAfter then in let Z : Pr = ex 𝓤 (Holding (8 + far) f after) in
+        inside 𝓛 w p z (8 + far) f after (⟦ K ⟧ ∗ ⟦ fsep (fobs δ (code b)) (Right u) ⟧ ∗ ⟦ shows x ⟧) (qed 𝓛 (‵ I ∷ ‵ K ∷ ‵ (fsep (fobs δ (code b)) (Right u)) ∷ ‵ (shows x) ∷ []) ∵ move ! (2 ∷ []) $ fsplit ! $ move ! (2 ∷ 3 ∷ 0 ∷ 4 ∷ []) $ use2 𝓛 (‵ K ⊛ ‵ F ⊛ ‵ (fwand F I)) lends $ split3 ! $ move ! (1 ∷ []) $
         fpick ! (λ s. fsplit3 ! $ fpick ! (λ stands. forget ! $ move ! (1 ∷ []) $ fsplit ! $ fsplit ! $ move ! (6 ∷ 1 ∷ []) $ name_agree ! (code_of X c) (λ e.
         let a : Waits X = s.0 in let at : Where = s.1.1 in let r = can a at (subst (λ (y : Wakes X). Stands X at a y) (sym e) stands) in let b' : Wakes X = r.0 in let at' : Where = r.1 in let u' : Held = r.2 in let n : ℕ = back_of at in
         use2 𝓛 (raw (upd 𝓤 (⟦ fobs δ (code b') ⟧ ∗ ⟦ fauth δ (code b') ⟧))) (𝓛.names.name_set_upd δ (code b) (code s.1.0) (code b')) $ settle 𝓛 Z (‵ (fobs δ (code b')) ⊛ ‵ (fauth δ (code b'))) $ suffices ! _ (upd_i 𝓤 Z) $ split ! $
         move ! (3 ∷ []) $ fsplit ! $ rewrite ! 0 (λ (y : Wakes X). ‵ (shows y.1.1)) {x = b} {y = s.1.0} (sym e) refl $ move ! (8 ∷ 0 ∷ []) $ use2 𝓛 (‵ (shows b'.1.1)) (one_shows b'.1.1 x b.1.1 r.5) $
         move ! (1 ∷ 8 ∷ []) $ use2 𝓛 (‵ (Right (held_at at')) ⊛ ‵ (Right u')) (passes ι u (held_at at) u' (held_at at') r.7) $ split ! $ move ! (2 ∷ 0 ∷ []) $ fjoin ! $ move ! (2 ∷ 1 ∷ []) $ fjoin ! $ move ! (1 ∷ 0 ∷ []) $
-        move ! (4 ∷ []) $ fsplit ! $ move ! (1 ∷ []) $ show ! (Holding (128 + far) f after) n $ frame ! $ assume ! (‵ (word w (128 + far) (f n))) $ suffices ! _ (upd_i 𝓤 (⟦ I ⟧ ∗ ⟦ after n ⟧)) $ move ! (1 ∷ 0 ∷ []) $
-        rewrite ! 0 (λ (m : ℕ). ‵ (word w far m)) {x = flag_of at'} {y = flag_of at} r.3.1 refl $ rewrite ! 1 (λ (m : ℕ). ‵ (word w (128 + far) m)) {x = back_of at'} {y = f n} r.3.0 refl $ fjoin ! $
+        move ! (4 ∷ []) $ fsplit ! $ move ! (1 ∷ []) $ show ! (Holding (8 + far) f after) n $ frame ! $ assume ! (‵ (word w (8 + far) (f n))) $ suffices ! _ (upd_i 𝓤 (⟦ I ⟧ ∗ ⟦ after n ⟧)) $ move ! (1 ∷ 0 ∷ []) $
+        rewrite ! 0 (λ (m : ℕ). ‵ (word w far m)) {x = flag_of at'} {y = flag_of at} r.3.1 refl $ rewrite ! 1 (λ (m : ℕ). ‵ (word w (8 + far) m)) {x = back_of at'} {y = f n} r.3.0 refl $ fjoin ! $
         move ! (4 ∷ 3 ∷ []) $ fjoin ! $ move ! (1 ∷ 0 ∷ 2 ∷ []) $ fjoin3 ! $ nothing ! $ fpack ! (Stands X at' a b') (λ _. ftrue) r.4 $ fjoin ! $ fpack ! (Slot X) (slot_at w far γ δ ι c shows) (a, (b', at')) $
         move ! (0 ∷ 3 ∷ []) $ use2 𝓛 (‵ I) (apply∗ 𝓤 ⟦ F ⟧ ⟦ I ⟧) $ frame ! $ fjoin ! $ nothing ! $ fpack ! (then n b' u') (λ _. ftrue) r.6 $ fjoin ! $ fpack ! (Wakes X × Held) (OneAfter then n) (b', u') $ done !))))
 
@@ -254,21 +254,21 @@ module _ {M : Type 1} {𝓤 : Ura M} (𝓛 : Logic 𝓤) (w p : Ptr) (z : Names)
         move ! (3 ∷ []) $ fsplit ! $ use1 𝓛 (‵ (shows x) ⊛ ‵ (shows x)) (twice x) $ split ! $
         move ! (2 ∷ 9 ∷ []) $ use2 𝓛 (‵ (Right (held_at at')) ⊛ ‵ (Right u')) (passes ι u (held_at at) u' (held_at at') r.6) $ split ! $ move ! (2 ∷ 0 ∷ []) $ fjoin ! $ move ! (3 ∷ 1 ∷ []) $ fjoin ! $ move ! (1 ∷ 2 ∷ 0 ∷ []) $
         move ! (5 ∷ []) $ fsplit ! $ show ! (Holding far f after) n $ frame ! $ assume ! (‵ (word w far (f n))) $ suffices ! _ (upd_i 𝓤 (⟦ I ⟧ ∗ ⟦ after n ⟧)) $
-        rewrite ! 0 (λ (m : ℕ). ‵ (word w far m)) {x = flag_of at'} {y = f n} r.3.0 refl $ rewrite ! 1 (λ (m : ℕ). ‵ (word w (128 + far) m)) {x = back_of at'} {y = back_of at} r.3.1 refl $ fjoin ! $
+        rewrite ! 0 (λ (m : ℕ). ‵ (word w far m)) {x = flag_of at'} {y = f n} r.3.0 refl $ rewrite ! 1 (λ (m : ℕ). ‵ (word w (8 + far) m)) {x = back_of at'} {y = back_of at} r.3.1 refl $ fjoin ! $
         move ! (4 ∷ 5 ∷ []) $ fjoin ! $ move ! (1 ∷ 0 ∷ 2 ∷ []) $ fjoin3 ! $ nothing ! $ fpack ! (Stands X at' a' b) (λ _. ftrue) r.4 $ fjoin ! $ fpack ! (Slot X) (slot_at w far γ δ ι c shows) (a', (b, at')) $
         move ! (0 ∷ 4 ∷ []) $ use2 𝓛 (‵ I) (apply∗ 𝓤 ⟦ F ⟧ ⟦ I ⟧) $ frame ! $ fjoin3 ! $ nothing ! $ fpack ! (then n x a' u') (λ _. ftrue) r.5 $ fjoin ! $ fpack ! (X × (Waits X × Held)) (TwoAfter then n) (x, (a', u')) $ done !))))
 
     waits_back : Lent K F → Twice → (u : Held) (a : Waits X) (f : ℕ → ℕ) (then : ℕ → X → Waits X → Held → Type 0) → ((b : Wakes X) (at : Where) → Stands X at a b → WaitsTo (OnBack f) then (back_of at) u a b at)
-        → ⟦ C ⟧ ∗ ⟦ K ⟧ ∗ ⟦ fsep (fobs γ (code a)) (Right u) ⟧ ⊢ access (128 + far) f (WaitAfter then)
-    waits_back lends twice u a f then can = let after : ℕ → Fml = WaitAfter then in let Z : Pr = ex 𝓤 (Holding (128 + far) f after) in
-        inside 𝓛 w p z (128 + far) f after (⟦ K ⟧ ∗ ⟦ fsep (fobs γ (code a)) (Right u) ⟧) (qed 𝓛 (‵ I ∷ ‵ K ∷ ‵ (fsep (fobs γ (code a)) (Right u)) ∷ []) ∵ move ! (2 ∷ []) $ fsplit ! $ move ! (2 ∷ 3 ∷ 0 ∷ []) $ use2 𝓛 (‵ K ⊛ ‵ F ⊛ ‵ (fwand F I)) lends $ split3 ! $ move ! (1 ∷ []) $
+        → ⟦ C ⟧ ∗ ⟦ K ⟧ ∗ ⟦ fsep (fobs γ (code a)) (Right u) ⟧ ⊢ access (8 + far) f (WaitAfter then)
+    waits_back lends twice u a f then can = let after : ℕ → Fml = WaitAfter then in let Z : Pr = ex 𝓤 (Holding (8 + far) f after) in
+        inside 𝓛 w p z (8 + far) f after (⟦ K ⟧ ∗ ⟦ fsep (fobs γ (code a)) (Right u) ⟧) (qed 𝓛 (‵ I ∷ ‵ K ∷ ‵ (fsep (fobs γ (code a)) (Right u)) ∷ []) ∵ move ! (2 ∷ []) $ fsplit ! $ move ! (2 ∷ 3 ∷ 0 ∷ []) $ use2 𝓛 (‵ K ⊛ ‵ F ⊛ ‵ (fwand F I)) lends $ split3 ! $ move ! (1 ∷ []) $
         fpick ! (λ s. fsplit3 ! $ fpick ! (λ stands. forget ! $ move ! (1 ∷ []) $ fsplit ! $ fsplit ! $ move ! (6 ∷ 0 ∷ []) $ name_agree ! (code_of X c) (λ e.
         let b : Wakes X = s.1.0 in let at : Where = s.1.1 in let r = can b at (subst (λ (y : Waits X). Stands X at y b) (sym e) stands) in let a' : Waits X = r.0 in let at' : Where = r.1 in let u' : Held = r.2 in let n : ℕ = back_of at in let x : X = b.1.1 in
         use2 𝓛 (raw (upd 𝓤 (⟦ fobs γ (code a') ⟧ ∗ ⟦ fauth γ (code a') ⟧))) (𝓛.names.name_set_upd γ (code a) (code s.0) (code a')) $ settle 𝓛 Z (‵ (fobs γ (code a')) ⊛ ‵ (fauth γ (code a'))) $ suffices ! _ (upd_i 𝓤 Z) $ split ! $
         move ! (3 ∷ []) $ fsplit ! $ use1 𝓛 (‵ (shows x) ⊛ ‵ (shows x)) (twice x) $ split ! $
         move ! (2 ∷ 9 ∷ []) $ use2 𝓛 (‵ (Right (held_at at')) ⊛ ‵ (Right u')) (passes ι u (held_at at) u' (held_at at') r.6) $ split ! $ move ! (2 ∷ 0 ∷ []) $ fjoin ! $ move ! (3 ∷ 1 ∷ []) $ fjoin ! $ move ! (1 ∷ 2 ∷ 0 ∷ []) $
-        move ! (5 ∷ []) $ fsplit ! $ move ! (1 ∷ []) $ show ! (Holding (128 + far) f after) n $ frame ! $ assume ! (‵ (word w (128 + far) (f n))) $ suffices ! _ (upd_i 𝓤 (⟦ I ⟧ ∗ ⟦ after n ⟧)) $ move ! (1 ∷ 0 ∷ []) $
-        rewrite ! 0 (λ (m : ℕ). ‵ (word w far m)) {x = flag_of at'} {y = flag_of at} r.3.1 refl $ rewrite ! 1 (λ (m : ℕ). ‵ (word w (128 + far) m)) {x = back_of at'} {y = f n} r.3.0 refl $ fjoin ! $
+        move ! (5 ∷ []) $ fsplit ! $ move ! (1 ∷ []) $ show ! (Holding (8 + far) f after) n $ frame ! $ assume ! (‵ (word w (8 + far) (f n))) $ suffices ! _ (upd_i 𝓤 (⟦ I ⟧ ∗ ⟦ after n ⟧)) $ move ! (1 ∷ 0 ∷ []) $
+        rewrite ! 0 (λ (m : ℕ). ‵ (word w far m)) {x = flag_of at'} {y = flag_of at} r.3.1 refl $ rewrite ! 1 (λ (m : ℕ). ‵ (word w (8 + far) m)) {x = back_of at'} {y = f n} r.3.0 refl $ fjoin ! $
         move ! (4 ∷ 5 ∷ []) $ fjoin ! $ move ! (1 ∷ 0 ∷ 2 ∷ []) $ fjoin3 ! $ nothing ! $ fpack ! (Stands X at' a' b) (λ _. ftrue) r.4 $ fjoin ! $ fpack ! (Slot X) (slot_at w far γ δ ι c shows) (a', (b, at')) $
         move ! (0 ∷ 4 ∷ []) $ use2 𝓛 (‵ I) (apply∗ 𝓤 ⟦ F ⟧ ⟦ I ⟧) $ frame ! $ fjoin3 ! $ nothing ! $ fpack ! (then n x a' u') (λ _. ftrue) r.5 $ fjoin ! $ fpack ! (X × (Waits X × Held)) (TwoAfter then n) (x, (a', u')) $ done !))))
 
@@ -302,19 +302,19 @@ module _ {M : Type 1} {𝓤 : Ura M} (𝓛 : Logic 𝓤) (w p : Ptr) (z : Names)
     lent = readers_own KW (writer_lent q sent limit shut i le)
 
     abbrev pub WriterWoke : (ℕ → Wakes Stream → Held → Type 0) → ℕ → Fml
-    WriterWoke = WakeAfter 512 z.reader_waits z.writer_wakes z.reader_place coded_stream (published z) KW
+    WriterWoke = WakeAfter 264 z.reader_waits z.writer_wakes z.reader_place coded_stream (published z) KW
 
-    pub writer_looks_flag : b.0 ≡ false → ⟦ C ⟧ ∗ ⟦ KW ⟧ ∗ ⟦ BW ⟧ ⊢ access 512 (λ n. n) (WriterWoke (λ n b' _. Looks Stream b (sent, shut) n b'))
+    pub writer_looks_flag : b.0 ≡ false → ⟦ C ⟧ ∗ ⟦ KW ⟧ ∗ ⟦ BW ⟧ ⊢ access 264 (λ n. n) (WriterWoke (λ n b' _. Looks Stream b (sent, shut) n b'))
     writer_looks_flag rests = let x : Stream = (sent, shut) in qed 𝓛 (‵ C ∷ ‵ KW ∷ ‵ BW ∷ []) ∵ move ! (2 ∷ []) $ nothing ! $ move ! (1 ∷ 0 ∷ []) $ fjoin ! $ move ! (2 ∷ []) $ use1 𝓛 (‵ KW ⊛ ‵ (published z x)) (wk_shows q sent limit shut i) $ split ! $ move ! (3 ∷ 0 ∷ 2 ∷ 1 ∷ []) $
-        by ! (wakes_flag 512 z.reader_waits z.writer_wakes z.reader_place coded_stream (published z) KW lent none b x (λ n. n) (λ n b' _. Looks Stream b x n b') (looks b x rests))
+        by ! (wakes_flag 264 z.reader_waits z.writer_wakes z.reader_place coded_stream (published z) KW lent none b x (λ n. n) (λ n b' _. Looks Stream b x n b') (looks b x rests))
 
-    pub writer_takes : b.0 ≡ false → ⟦ C ⟧ ∗ ⟦ KW ⟧ ∗ ⟦ BW ⟧ ⊢ access 512 (λ _. 0) (WriterWoke (TakesHeld b (sent, shut)))
+    pub writer_takes : b.0 ≡ false → ⟦ C ⟧ ∗ ⟦ KW ⟧ ∗ ⟦ BW ⟧ ⊢ access 264 (λ _. 0) (WriterWoke (TakesHeld b (sent, shut)))
     writer_takes rests = let x : Stream = (sent, shut) in qed 𝓛 (‵ C ∷ ‵ KW ∷ ‵ BW ∷ []) ∵ move ! (2 ∷ []) $ nothing ! $ move ! (1 ∷ 0 ∷ []) $ fjoin ! $ move ! (2 ∷ []) $ use1 𝓛 (‵ KW ⊛ ‵ (published z x)) (wk_shows q sent limit shut i) $ split ! $ move ! (3 ∷ 0 ∷ 2 ∷ 1 ∷ []) $
-        by ! (wakes_flag 512 z.reader_waits z.writer_wakes z.reader_place coded_stream (published z) KW lent none b x (λ _. 0) (TakesHeld b x) (takes b x rests))
+        by ! (wakes_flag 264 z.reader_waits z.writer_wakes z.reader_place coded_stream (published z) KW lent none b x (λ _. 0) (TakesHeld b x) (takes b x rests))
 
-    pub writer_gives_back : b.0 ≡ true → ⟦ C ⟧ ∗ ⟦ KW ⟧ ∗ ⟦ fsep BW (held z.reader_place emptied) ⟧ ⊢ access 640 (λ _. 1) (WriterWoke (λ n b' _. GivesBack Stream b (sent, shut) n b'))
+    pub writer_gives_back : b.0 ≡ true → ⟦ C ⟧ ∗ ⟦ KW ⟧ ∗ ⟦ fsep BW (held z.reader_place emptied) ⟧ ⊢ access 272 (λ _. 1) (WriterWoke (λ n b' _. GivesBack Stream b (sent, shut) n b'))
     writer_gives_back holds = let x : Stream = (sent, shut) in qed 𝓛 (‵ C ∷ ‵ KW ∷ ‵ (fsep BW (held z.reader_place emptied)) ∷ []) ∵ move ! (1 ∷ []) $ use1 𝓛 (‵ KW ⊛ ‵ (published z x)) (wk_shows q sent limit shut i) $ split ! $ move ! (2 ∷ 0 ∷ 3 ∷ 1 ∷ []) $
-        by ! (wakes_back 512 z.reader_waits z.writer_wakes z.reader_place coded_stream (published z) KW lent emptied b x (λ _. 1) (λ n b' _. GivesBack Stream b x n b') (gives_back b x holds))
+        by ! (wakes_back 264 z.reader_waits z.writer_wakes z.reader_place coded_stream (published z) KW lent emptied b x (λ _. 1) (λ n b' _. GivesBack Stream b x n b') (gives_back b x holds))
 
   -- the reader's steps on its own slot
   module _ (q : Share) (head seen i : ℕ) (le : i ≤ 1) (a : Waits Stream) where
@@ -328,25 +328,25 @@ module _ {M : Type 1} {𝓤 : Ura M} (𝓛 : Logic 𝓤) (w p : Ptr) (z : Names)
     lent_too = readers_own KR (reader_lent q head seen i le)
 
     abbrev pub ReaderWaited : (ℕ → Stream → Waits Stream → Held → Type 0) → ℕ → Fml
-    ReaderWaited = WaitAfter 512 z.reader_waits z.writer_wakes z.reader_place coded_stream (published z) KR
+    ReaderWaited = WaitAfter 264 z.reader_waits z.writer_wakes z.reader_place coded_stream (published z) KR
 
-    pub reader_hands_over : a.0 ≡ true → ⟦ C ⟧ ∗ ⟦ KR ⟧ ∗ ⟦ fsep AR (held z.reader_place filled) ⟧ ⊢ access 512 (λ _. 1) (ReaderWaited (λ n x a' _. HandsOver Stream a x n a'))
-    reader_hands_over owns = waits_flag 512 z.reader_waits z.writer_wakes z.reader_place coded_stream (published z) KR lent_too (λ s. announced_twice 𝓛 z s.0 s.1) filled a (λ _. 1) (λ n x a' _. HandsOver Stream a x n a') (hands_over a owns)
+    pub reader_hands_over : a.0 ≡ true → ⟦ C ⟧ ∗ ⟦ KR ⟧ ∗ ⟦ fsep AR (held z.reader_place filled) ⟧ ⊢ access 264 (λ _. 1) (ReaderWaited (λ n x a' _. HandsOver Stream a x n a'))
+    reader_hands_over owns = waits_flag 264 z.reader_waits z.writer_wakes z.reader_place coded_stream (published z) KR lent_too (λ s. announced_twice 𝓛 z s.0 s.1) filled a (λ _. 1) (λ n x a' _. HandsOver Stream a x n a') (hands_over a owns)
 
-    pub reader_withdraws : a.0 ≡ false → ⟦ C ⟧ ∗ ⟦ KR ⟧ ∗ ⟦ AR ⟧ ⊢ access 512 (λ _. 0) (ReaderWaited (Withdraws a))
+    pub reader_withdraws : a.0 ≡ false → ⟦ C ⟧ ∗ ⟦ KR ⟧ ∗ ⟦ AR ⟧ ⊢ access 264 (λ _. 0) (ReaderWaited (Withdraws a))
     reader_withdraws gave = qed 𝓛 (‵ C ∷ ‵ KR ∷ ‵ AR ∷ []) ∵ move ! (2 ∷ []) $ nothing ! $ move ! (1 ∷ 0 ∷ []) $ fjoin ! $ move ! (1 ∷ 2 ∷ 0 ∷ []) $
-        by ! (waits_flag 512 z.reader_waits z.writer_wakes z.reader_place coded_stream (published z) KR lent_too (λ s. announced_twice 𝓛 z s.0 s.1) none a (λ _. 0) (Withdraws a) (withdraws a gave))
+        by ! (waits_flag 264 z.reader_waits z.writer_wakes z.reader_place coded_stream (published z) KR lent_too (λ s. announced_twice 𝓛 z s.0 s.1) none a (λ _. 0) (Withdraws a) (withdraws a gave))
 
-    pub reader_regains : a.0 ≡ false → ⟦ C ⟧ ∗ ⟦ KR ⟧ ∗ ⟦ AR ⟧ ⊢ access 640 (λ _. 0) (ReaderWaited (RegainsHeld a))
+    pub reader_regains : a.0 ≡ false → ⟦ C ⟧ ∗ ⟦ KR ⟧ ∗ ⟦ AR ⟧ ⊢ access 272 (λ _. 0) (ReaderWaited (RegainsHeld a))
     reader_regains gave = qed 𝓛 (‵ C ∷ ‵ KR ∷ ‵ AR ∷ []) ∵ move ! (2 ∷ []) $ nothing ! $ move ! (1 ∷ 0 ∷ []) $ fjoin ! $ move ! (1 ∷ 2 ∷ 0 ∷ []) $
-        by ! (waits_back 512 z.reader_waits z.writer_wakes z.reader_place coded_stream (published z) KR lent_too (λ s. announced_twice 𝓛 z s.0 s.1) none a (λ _. 0) (RegainsHeld a) (regains a gave))
+        by ! (waits_back 264 z.reader_waits z.writer_wakes z.reader_place coded_stream (published z) KR lent_too (λ s. announced_twice 𝓛 z s.0 s.1) none a (λ _. 0) (RegainsHeld a) (regains a gave))
 
     abbrev pub BothMet : Wakes Stream → Pr
-    BothMet = Met 512 z.reader_waits z.writer_wakes z.reader_place coded_stream (published z) KR a
+    BothMet = Met 264 z.reader_waits z.writer_wakes z.reader_place coded_stream (published z) KR a
 
     -- the reader and what the writer knows of its slot, in one hand
     pub reader_meets : (b : Wakes Stream) → ⟦ C ⟧ ∗ ⟦ KR ⟧ ∗ ⟦ AR ⟧ ∗ ⟦ fobs z.writer_wakes ((code_of Stream coded_stream).code b) ⟧ ⊢ H.⇛ (BothMet b)
-    reader_meets b = meets 512 z.reader_waits z.writer_wakes z.reader_place coded_stream (published z) KR lent_too a b
+    reader_meets b = meets 264 z.reader_waits z.writer_wakes z.reader_place coded_stream (published z) KR lent_too a b
 
   -- what the reader's right to the head shows
   rk_shows : (q : Share) (head seen i : ℕ) → ⟦ RK q head seen i ⟧ ⊢ ⟦ RK q head seen i ⟧ ∗ ⟦ took z head ⟧
@@ -369,19 +369,19 @@ module _ {M : Type 1} {𝓤 : Ura M} (𝓛 : Logic 𝓤) (w p : Ptr) (z : Names)
     lent_back = writers_own KR' (reader_lent q head seen i le)
 
     abbrev pub ReaderWoke : (ℕ → Wakes Consumed → Held → Type 0) → ℕ → Fml
-    ReaderWoke = WakeAfter 768 z.writer_waits z.reader_wakes z.writer_place coded_consumed (consumed z) KR'
+    ReaderWoke = WakeAfter 136 z.writer_waits z.reader_wakes z.writer_place coded_consumed (consumed z) KR'
 
-    pub reader_looks_flag : (over : Bool) → b.0 ≡ false → ⟦ C ⟧ ∗ ⟦ KR' ⟧ ∗ ⟦ BR ⟧ ∗ ⟦ raised z.closed over ⟧ ⊢ access 768 (λ n. n) (ReaderWoke (λ n b' _. Looks Consumed b (head, over) n b'))
+    pub reader_looks_flag : (over : Bool) → b.0 ≡ false → ⟦ C ⟧ ∗ ⟦ KR' ⟧ ∗ ⟦ BR ⟧ ∗ ⟦ raised z.closed over ⟧ ⊢ access 136 (λ n. n) (ReaderWoke (λ n b' _. Looks Consumed b (head, over) n b'))
     reader_looks_flag over rests = let x : Consumed = (head, over) in qed 𝓛 (‵ C ∷ ‵ KR' ∷ ‵ BR ∷ ‵ (raised z.closed over) ∷ []) ∵ move ! (2 ∷ []) $ nothing ! $ move ! (1 ∷ 0 ∷ []) $ fjoin ! $ move ! (2 ∷ []) $ use1 𝓛 (‵ KR' ⊛ ‵ (took z head)) (rk_shows q head seen i) $ split ! $ move ! (1 ∷ 4 ∷ []) $ fjoin ! $ move ! (3 ∷ 1 ∷ 2 ∷ 0 ∷ []) $
-        by ! (wakes_flag 768 z.writer_waits z.reader_wakes z.writer_place coded_consumed (consumed z) KR' lent_back none b x (λ n. n) (λ n b' _. Looks Consumed b x n b') (looks b x rests))
+        by ! (wakes_flag 136 z.writer_waits z.reader_wakes z.writer_place coded_consumed (consumed z) KR' lent_back none b x (λ n. n) (λ n b' _. Looks Consumed b x n b') (looks b x rests))
 
-    pub reader_takes : (over : Bool) → b.0 ≡ false → ⟦ C ⟧ ∗ ⟦ KR' ⟧ ∗ ⟦ BR ⟧ ∗ ⟦ raised z.closed over ⟧ ⊢ access 768 (λ _. 0) (ReaderWoke (TakesHeld b (head, over)))
+    pub reader_takes : (over : Bool) → b.0 ≡ false → ⟦ C ⟧ ∗ ⟦ KR' ⟧ ∗ ⟦ BR ⟧ ∗ ⟦ raised z.closed over ⟧ ⊢ access 136 (λ _. 0) (ReaderWoke (TakesHeld b (head, over)))
     reader_takes over rests = let x : Consumed = (head, over) in qed 𝓛 (‵ C ∷ ‵ KR' ∷ ‵ BR ∷ ‵ (raised z.closed over) ∷ []) ∵ move ! (2 ∷ []) $ nothing ! $ move ! (1 ∷ 0 ∷ []) $ fjoin ! $ move ! (2 ∷ []) $ use1 𝓛 (‵ KR' ⊛ ‵ (took z head)) (rk_shows q head seen i) $ split ! $ move ! (1 ∷ 4 ∷ []) $ fjoin ! $ move ! (3 ∷ 1 ∷ 2 ∷ 0 ∷ []) $
-        by ! (wakes_flag 768 z.writer_waits z.reader_wakes z.writer_place coded_consumed (consumed z) KR' lent_back none b x (λ _. 0) (TakesHeld b x) (takes b x rests))
+        by ! (wakes_flag 136 z.writer_waits z.reader_wakes z.writer_place coded_consumed (consumed z) KR' lent_back none b x (λ _. 0) (TakesHeld b x) (takes b x rests))
 
-    pub reader_gives_back : b.0 ≡ true → ⟦ C ⟧ ∗ ⟦ KR' ⟧ ∗ ⟦ fsep BR (held z.writer_place emptied) ⟧ ⊢ access 896 (λ _. 1) (ReaderWoke (λ n b' _. GivesBack Consumed b (head, false) n b'))
+    pub reader_gives_back : b.0 ≡ true → ⟦ C ⟧ ∗ ⟦ KR' ⟧ ∗ ⟦ fsep BR (held z.writer_place emptied) ⟧ ⊢ access 144 (λ _. 1) (ReaderWoke (λ n b' _. GivesBack Consumed b (head, false) n b'))
     reader_gives_back holds = let x : Consumed = (head, false) in qed 𝓛 (‵ C ∷ ‵ KR' ∷ ‵ (fsep BR (held z.writer_place emptied)) ∷ []) ∵ move ! (1 ∷ []) $ use1 𝓛 (‵ KR' ⊛ ‵ (took z head)) (rk_shows q head seen i) $ split ! $ move ! (1 ∷ []) $ nothing ! $ move ! (1 ∷ 0 ∷ []) $ fjoin ! $ move ! (2 ∷ 1 ∷ 3 ∷ 0 ∷ []) $
-        by ! (wakes_back 768 z.writer_waits z.reader_wakes z.writer_place coded_consumed (consumed z) KR' lent_back emptied b x (λ _. 1) (λ n b' _. GivesBack Consumed b x n b') (gives_back b x holds))
+        by ! (wakes_back 136 z.writer_waits z.reader_wakes z.writer_place coded_consumed (consumed z) KR' lent_back emptied b x (λ _. 1) (λ n b' _. GivesBack Consumed b x n b') (gives_back b x holds))
 
   -- the writer's steps on its own slot
   module _ (q : Share) (sent : List ℕ) (limit : ℕ) (shut : Bool) (i : ℕ) (le : i ≤ 1) (a : Waits Consumed) where
@@ -395,22 +395,22 @@ module _ {M : Type 1} {𝓤 : Ura M} (𝓛 : Logic 𝓤) (w p : Ptr) (z : Names)
     lent_own = writers_own KW' (writer_lent q sent limit shut i le)
 
     abbrev pub WriterWaited : (ℕ → Consumed → Waits Consumed → Held → Type 0) → ℕ → Fml
-    WriterWaited = WaitAfter 768 z.writer_waits z.reader_wakes z.writer_place coded_consumed (consumed z) KW'
+    WriterWaited = WaitAfter 136 z.writer_waits z.reader_wakes z.writer_place coded_consumed (consumed z) KW'
 
-    pub writer_hands_over : a.0 ≡ true → ⟦ C ⟧ ∗ ⟦ KW' ⟧ ∗ ⟦ fsep AW (held z.writer_place filled) ⟧ ⊢ access 768 (λ _. 1) (WriterWaited (λ n x a' _. HandsOver Consumed a x n a'))
-    writer_hands_over owns = waits_flag 768 z.writer_waits z.reader_wakes z.writer_place coded_consumed (consumed z) KW' lent_own consumed_twice filled a (λ _. 1) (λ n x a' _. HandsOver Consumed a x n a') (hands_over a owns)
+    pub writer_hands_over : a.0 ≡ true → ⟦ C ⟧ ∗ ⟦ KW' ⟧ ∗ ⟦ fsep AW (held z.writer_place filled) ⟧ ⊢ access 136 (λ _. 1) (WriterWaited (λ n x a' _. HandsOver Consumed a x n a'))
+    writer_hands_over owns = waits_flag 136 z.writer_waits z.reader_wakes z.writer_place coded_consumed (consumed z) KW' lent_own consumed_twice filled a (λ _. 1) (λ n x a' _. HandsOver Consumed a x n a') (hands_over a owns)
 
-    pub writer_withdraws : a.0 ≡ false → ⟦ C ⟧ ∗ ⟦ KW' ⟧ ∗ ⟦ AW ⟧ ⊢ access 768 (λ _. 0) (WriterWaited (Withdraws a))
+    pub writer_withdraws : a.0 ≡ false → ⟦ C ⟧ ∗ ⟦ KW' ⟧ ∗ ⟦ AW ⟧ ⊢ access 136 (λ _. 0) (WriterWaited (Withdraws a))
     writer_withdraws gave = qed 𝓛 (‵ C ∷ ‵ KW' ∷ ‵ AW ∷ []) ∵ move ! (2 ∷ []) $ nothing ! $ move ! (1 ∷ 0 ∷ []) $ fjoin ! $ move ! (1 ∷ 2 ∷ 0 ∷ []) $
-        by ! (waits_flag 768 z.writer_waits z.reader_wakes z.writer_place coded_consumed (consumed z) KW' lent_own consumed_twice none a (λ _. 0) (Withdraws a) (withdraws a gave))
+        by ! (waits_flag 136 z.writer_waits z.reader_wakes z.writer_place coded_consumed (consumed z) KW' lent_own consumed_twice none a (λ _. 0) (Withdraws a) (withdraws a gave))
 
-    pub writer_regains : a.0 ≡ false → ⟦ C ⟧ ∗ ⟦ KW' ⟧ ∗ ⟦ AW ⟧ ⊢ access 896 (λ _. 0) (WriterWaited (RegainsHeld a))
+    pub writer_regains : a.0 ≡ false → ⟦ C ⟧ ∗ ⟦ KW' ⟧ ∗ ⟦ AW ⟧ ⊢ access 144 (λ _. 0) (WriterWaited (RegainsHeld a))
     writer_regains gave = qed 𝓛 (‵ C ∷ ‵ KW' ∷ ‵ AW ∷ []) ∵ move ! (2 ∷ []) $ nothing ! $ move ! (1 ∷ 0 ∷ []) $ fjoin ! $ move ! (1 ∷ 2 ∷ 0 ∷ []) $
-        by ! (waits_back 768 z.writer_waits z.reader_wakes z.writer_place coded_consumed (consumed z) KW' lent_own consumed_twice none a (λ _. 0) (RegainsHeld a) (regains a gave))
+        by ! (waits_back 136 z.writer_waits z.reader_wakes z.writer_place coded_consumed (consumed z) KW' lent_own consumed_twice none a (λ _. 0) (RegainsHeld a) (regains a gave))
 
     abbrev pub BothMetBack : Wakes Consumed → Pr
-    BothMetBack = Met 768 z.writer_waits z.reader_wakes z.writer_place coded_consumed (consumed z) KW' a
+    BothMetBack = Met 136 z.writer_waits z.reader_wakes z.writer_place coded_consumed (consumed z) KW' a
 
     -- the writer and what the reader knows of its slot, in one hand
     pub writer_meets : (b : Wakes Consumed) → ⟦ C ⟧ ∗ ⟦ KW' ⟧ ∗ ⟦ AW ⟧ ∗ ⟦ fobs z.reader_wakes ((code_of Consumed coded_consumed).code b) ⟧ ⊢ H.⇛ (BothMetBack b)
-    writer_meets b = meets 768 z.writer_waits z.reader_wakes z.writer_place coded_consumed (consumed z) KW' lent_own a b
+    writer_meets b = meets 136 z.writer_waits z.reader_wakes z.writer_place coded_consumed (consumed z) KW' lent_own a b

@@ -94,13 +94,13 @@ module _ (X : Type 0) where
   abbrev pub Slot : Type 0
   Slot = Waits × (Wakes × Where)
 
--- the words lie `far` bytes after w and 128 more; the ghost names are those
+-- the words lie `far` bytes after w and 8 more; the ghost names are those
 -- of the side that waits and of the side that wakes; `shows` is evidence of what was stored
 module _ {X : Type 0} (w : Ptr) (far : ℕ) (waits wakes place : ℕ) (c : Coded X) (shows : X → Fml) where
   abbrev pub slot_at : Slot X → Fml
   slot_at s =
       fsep (fact (Stands X s.1.1 s.0 s.1.0))
-      (fsep (fsep (word w far (flag_of s.1.1)) (word w (128 + far) (back_of s.1.1)))
+      (fsep (fsep (word w far (flag_of s.1.1)) (word w (8 + far) (back_of s.1.1)))
       (fsep (fsep (fauth waits ((code_of X c).code s.0)) (fauth wakes ((code_of X c).code s.1.0)))
       (fsep (shows s.1.0.1.1) (held place (held_at s.1.1)))))
 
