@@ -3,17 +3,97 @@
 ghost use Rattle.futures.specs.Poll.{OnPending};
 ghost use Rattle.futures.specs.Task.{Covers, Keeps};
 
-use crate::rings::{BYTE, add_piece};
+use crate::pipes::{Drain, Fill, InPlace};
+use crate::rings::{BYTE, ByLibrary, add_piece};
 use crate::work::Work;
 use futures::Future;
 use futures::executor::block_on;
 use futures::task::{Context, Poll};
+use piper::{OutOfMemory, OwnedReader, OwnedWriter};
 use std::marker::Send;
 use std::random::RandomSource;
 use std::sync::Wait;
 use std::thread::Threads;
 use std::{io, thread};
 use tokio::io::{AsyncRead, AsyncWrite};
+
+/// The ends of both means that one of the threads has. Of an error it hands its kind on, as `Writing`
+/// of peers.rt does.
+pub trait Ends: Drop {
+    /// Sends bytes from the front of the piece, and answers how many: none where the other thread
+    /// is gone.
+    fn send(&mut self, cx: &mut Context<'_>, piece: &[u8]) -> Poll<Result<usize, io::ErrorKind>>
+        ensures armed { OnPending result (Covers cx.new (λ _. ⊥)) }
+        ensures kept { Keeps cx.old cx.new };
+
+    /// Receives bytes to the front of the place, and answers how many: none where the other thread
+    /// is gone.
+    fn receive(
+        &mut self,
+        cx: &mut Context<'_>,
+        place: &mut [u8],
+    ) -> Poll<Result<usize, io::ErrorKind>>
+        ensures armed { OnPending result (Covers cx.new (λ _. ⊥)) }
+        ensures kept { Keeps cx.old cx.new };
+}
+
+/// Handles of two pipes, by the slices that they lend.
+#[derive(Drop)]
+pub struct Handles {
+    pub reader: OwnedReader,
+    pub writer: OwnedWriter,
+}
+
+impl Ends for Handles {
+    fn send(&mut self, cx: &mut Context<'_>, piece: &[u8]) -> Poll<Result<usize, io::ErrorKind>> {
+        match InPlace.fill::<ByLibrary>(self.writer.get_mut(), cx, piece) {
+            Poll::Pending => Poll::Pending,
+            Poll::Ready(Ok(n)) => Poll::Ready(Ok(n)),
+            Poll::Ready(Err(OutOfMemory)) => Poll::Ready(Err(io::ErrorKind::OutOfMemory)),
+        }
+    }
+
+    fn receive(
+        &mut self,
+        cx: &mut Context<'_>,
+        place: &mut [u8],
+    ) -> Poll<Result<usize, io::ErrorKind>> {
+        match InPlace.drain::<ByLibrary>(self.reader.get_mut(), cx, place) {
+            Poll::Pending => Poll::Pending,
+            Poll::Ready(Ok(n)) => Poll::Ready(Ok(n)),
+            Poll::Ready(Err(OutOfMemory)) => Poll::Ready(Err(io::ErrorKind::OutOfMemory)),
+        }
+    }
+}
+
+/// What reads and what writes by the traits of `tokio`.
+#[derive(Drop)]
+pub struct Streams<I, O> {
+    pub reader: I,
+    pub writer: O,
+}
+
+impl<I: AsyncRead, O: AsyncWrite> Ends for Streams<I, O> {
+    fn send(&mut self, cx: &mut Context<'_>, piece: &[u8]) -> Poll<Result<usize, io::ErrorKind>> {
+        match self.writer.poll_write(cx, piece) {
+            Poll::Pending => Poll::Pending,
+            Poll::Ready(Ok(n)) => Poll::Ready(Ok(n)),
+            Poll::Ready(Err(error)) => Poll::Ready(Err(error.kind())),
+        }
+    }
+
+    fn receive(
+        &mut self,
+        cx: &mut Context<'_>,
+        place: &mut [u8],
+    ) -> Poll<Result<usize, io::ErrorKind>> {
+        match self.reader.poll_read(cx, place) {
+            Poll::Pending => Poll::Pending,
+            Poll::Ready(Ok(n)) => Poll::Ready(Ok(n)),
+            Poll::Ready(Err(error)) => Poll::Ready(Err(error.kind())),
+        }
+    }
+}
 
 /// What a thread does next.
 #[derive(Clone, Copy)]
@@ -24,10 +104,9 @@ enum Turn {
 
 /// One of the two threads.
 #[derive(Drop)]
-struct Partner<'a, R, I, O> {
+struct Partner<'a, R, E: Drop> {
     rt: &'a R,
-    reader: I,
-    writer: O,
+    ends: E,
     piece: Vec<u8>,
     turn: Turn,
     /// How many bytes of the piece are still to be moved in this turn.
@@ -36,22 +115,22 @@ struct Partner<'a, R, I, O> {
     checksum: u64,
 }
 
-impl<R, I: AsyncRead, O: AsyncWrite> Partner<'_, R, I, O> {
+impl<R, E: Ends> Partner<'_, R, E> {
     /// Moves what is missing of the piece, or some of it, and answers how many bytes.
-    fn move_bytes(&mut self, cx: &mut Context<'_>) -> Poll<io::Result<usize>>
+    fn move_bytes(&mut self, cx: &mut Context<'_>) -> Poll<Result<usize, io::ErrorKind>>
         ensures armed { OnPending result (Covers cx.new (λ _. ⊥)) }
         ensures kept { Keeps cx.old cx.new }
     {
         let begin = self.piece.len().saturating_sub(self.missing);
         let rest = &mut self.piece.as_mut_slice()[begin..];
         match self.turn {
-            Turn::Sends => self.writer.poll_write(cx, rest),
+            Turn::Sends => self.ends.send(cx, rest),
             Turn::Receives => {
-                let read = self.reader.poll_read(cx, rest);
-                if let Poll::Ready(Ok(n)) = &read {
+                let received = self.ends.receive(cx, rest);
+                if let Poll::Ready(Ok(n)) = &received {
                     self.checksum = add_piece(self.checksum, rest, *n);
                 }
-                read
+                received
             }
         }
     }
@@ -71,7 +150,7 @@ impl<R, I: AsyncRead, O: AsyncWrite> Partner<'_, R, I, O> {
 }
 
 // It waits for the one or the other, so it names no source.
-impl<R: Wait, I: AsyncRead, O: AsyncWrite> Future for Partner<'_, R, I, O> {
+impl<R: Wait, E: Ends> Future for Partner<'_, R, E> {
     type Output = io::Result<u64>;
 
     fn poll(&mut self, cx: &mut Context<'_>) -> Poll<io::Result<u64>> {
@@ -81,7 +160,7 @@ impl<R: Wait, I: AsyncRead, O: AsyncWrite> Future for Partner<'_, R, I, O> {
             }
             match self.move_bytes(cx) {
                 Poll::Pending => return Poll::Pending,
-                Poll::Ready(Err(error)) => return Poll::Ready(Err(error)),
+                Poll::Ready(Err(kind)) => return Poll::Ready(Err(kind.into())),
                 // The other thread is gone.
                 Poll::Ready(Ok(0)) => return Poll::Ready(Ok(self.checksum)),
                 Poll::Ready(Ok(moved)) => self.count(moved),
@@ -92,16 +171,14 @@ impl<R: Wait, I: AsyncRead, O: AsyncWrite> Future for Partner<'_, R, I, O> {
 }
 
 // Plays one of the two parts, on this thread, and answers the checksum of what came.
-fn play<R, I, O>(rt: &R, (reader, writer): (I, O), turn: Turn, work: Work) -> io::Result<u64>
+fn play<R, E>(rt: &R, ends: E, turn: Turn, work: Work) -> io::Result<u64>
 where
     R: Wait + RandomSource + AllocGlobal,
-    I: AsyncRead,
-    O: AsyncWrite,
+    E: Ends,
 {
     let partner = Partner {
         rt,
-        reader,
-        writer,
+        ends,
         piece: vec![in rt.alloc(); BYTE; work.chunk]?,
         turn,
         missing: work.chunk,
@@ -113,21 +190,15 @@ where
 
 /// Sends pieces through the one means and back through the other, and answers the checksum of what
 /// came back.
-pub fn to_and_fro<R, I, O>(
-    rt: &R,
-    (there_reader, there_writer): (I, O),
-    (back_reader, back_writer): (I, O),
-    work: Work,
-) -> io::Result<u64>
+pub fn to_and_fro<R, E>(rt: &R, first: E, second: E, work: Work) -> io::Result<u64>
 where
     R: Wait + Threads + RandomSource + AllocGlobal + Sync,
-    I: AsyncRead + Send,
-    O: AsyncWrite + Send,
+    E: Ends + Send,
 {
     let (came_back, came) = thread::join(
         rt,
-        move || play(rt, (back_reader, there_writer), Turn::Sends, work),
-        move || play(rt, (there_reader, back_writer), Turn::Receives, work),
+        move || play(rt, first, Turn::Sends, work),
+        move || play(rt, second, Turn::Receives, work),
     );
     came?;
     came_back

@@ -6,7 +6,7 @@ use crate::means::{Peer, Way, What};
 use crate::peers::{through_channel, through_stream};
 use crate::pipes::{Copies, InPlace, TryForms, through_pipe};
 use crate::rings::{BYTE, Input, Output, get_all, in_turn, put_all, yields};
-use crate::to_and_fro::to_and_fro;
+use crate::to_and_fro::{Ends, Handles, Streams, to_and_fro};
 use crossbeam_channel::{Receiver, Sender, bounded};
 use futures::test::MockTask;
 use piper::{OutOfMemory, OwnedReader, OwnedWriter, ReadEnd, WriteEnd, open_ring, pipe};
@@ -112,14 +112,7 @@ where
         What::Pipe { way, is_shared: _ } => through_way(rt, way, work, source, place),
         What::Lines => lines_through_pipe(rt, work),
         What::Peer(peer) => through_peer(rt, peer, work, source, place),
-        What::ToAndFro { is_stream: false } => {
-            timed_exchange(rt, compat_of(rt, work)?, compat_of(rt, work)?, work)
-        }
-        What::ToAndFro { is_stream: true } => {
-            let there = tokio::io::duplex(rt.alloc(), work.capacity)?;
-            let back = tokio::io::duplex(rt.alloc(), work.capacity)?;
-            timed_exchange(rt, there, back, work)
-        }
+        What::ToAndFro { is_stream } => through_both_ways(rt, is_stream, work),
     }
 }
 
@@ -205,19 +198,45 @@ where
     Ok((start.elapsed(rt)?, checksum))
 }
 
-fn timed_exchange<R, I, O>(
-    rt: &R,
-    there: (I, O),
-    back: (I, O),
-    work: Work,
-) -> io::Result<(Duration, u64)>
+/// Moves the pieces to and fro, and answers how long it took and the checksum.
+fn through_both_ways<R>(rt: &R, is_stream: bool, work: Work) -> io::Result<(Duration, u64)>
+where
+    R: Wait + Threads + Clock + RandomSource + AllocGlobal + Clone + Drop + Sync,
+{
+    if is_stream {
+        let (there_reader, there_writer) = tokio::io::duplex(rt.alloc(), work.capacity)?;
+        let (back_reader, back_writer) = tokio::io::duplex(rt.alloc(), work.capacity)?;
+        let first = Streams {
+            reader: back_reader,
+            writer: there_writer,
+        };
+        let second = Streams {
+            reader: there_reader,
+            writer: back_writer,
+        };
+        timed_exchange(rt, first, second, work)
+    } else {
+        let (there_reader, there_writer) = pipe_of(rt, work)?;
+        let (back_reader, back_writer) = pipe_of(rt, work)?;
+        let first = Handles {
+            reader: back_reader,
+            writer: there_writer,
+        };
+        let second = Handles {
+            reader: there_reader,
+            writer: back_writer,
+        };
+        timed_exchange(rt, first, second, work)
+    }
+}
+
+fn timed_exchange<R, E>(rt: &R, first: E, second: E, work: Work) -> io::Result<(Duration, u64)>
 where
     R: Wait + Threads + Clock + RandomSource + AllocGlobal + Sync,
-    I: AsyncRead + Send,
-    O: AsyncWrite + Send,
+    E: Ends + Send,
 {
     let start = Instant::now(rt)?;
-    let checksum = to_and_fro(rt, there, back, work)?;
+    let checksum = to_and_fro(rt, first, second, work)?;
     Ok((start.elapsed(rt)?, checksum))
 }
 
