@@ -1,5 +1,6 @@
-//! Tests of the pipe, of the ring below it, and of the futures, streams and sinks over it, by their
-//! public calls. They stand apart, so that these crates are proved once.
+//! Examples of the public calls of `piper`, `piper_lines` and `piper_duplex`; and tests of the pipe, of
+//! the ring below it, and of the futures, streams and sinks over it. They stand apart, so that these
+//! crates are proved once.
 #![tactic(auto)]
 
 #[cfg(test)]
@@ -10,6 +11,8 @@ mod copies;
 mod crossing;
 #[cfg(test)]
 mod ends;
+#[cfg(test)]
+mod examples;
 #[cfg(test)]
 mod marks;
 #[cfg(test)]

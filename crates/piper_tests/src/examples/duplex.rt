@@ -1,5 +1,6 @@
 //! A duplex stream, and an echo of lines over one.
-use crate::compare::{ready, same, same_bytes};
+use crate::examples::compare::{ready, same};
+use crate::running::same_bytes;
 use futures::task::Context;
 use futures::test::MockTask;
 use piper::io::{AsyncBufRead, AsyncWrite};

@@ -9,11 +9,6 @@ pub(crate) fn same<T: Debug + Drop + PartialEq>(rt: &impl Abort, seen: T, wanted
     assert!(rt; seen == wanted, "{seen:?} in place of {wanted:?}");
 }
 
-/// Holds bytes against those that are wanted.
-pub(crate) fn same_bytes(rt: &impl Abort, seen: &[u8], wanted: &[u8]) {
-    assert!(rt; seen == wanted, "{seen:?} in place of {wanted:?}");
-}
-
 /// Holds what is so.
 pub(crate) fn confirm(rt: &impl Abort, is_so: bool) {
     assert!(rt; is_so);

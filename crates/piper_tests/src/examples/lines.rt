@@ -1,5 +1,6 @@
 //! Lines, read and written whole.
-use crate::compare::{confirm, ready, same, same_bytes};
+use crate::examples::compare::{confirm, ready, same};
+use crate::running::same_bytes;
 use futures::task::{Context, Poll};
 use futures::test::MockTask;
 use piper::io::{AsyncBufRead, AsyncWrite};
