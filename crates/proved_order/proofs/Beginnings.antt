@@ -1,17 +1,34 @@
--- Two beginnings of the same bytes.
-use Rattle.std.proofs.Common.{◌≡◌, ◌∙◌, ◌≤◌, sym, ap, ℕ, List, [], ◌++◌, take, length, length-append, length-take, take_at, take-take, arith}
+-- Beginnings of the same bytes: what was given, and what was published.
+use Rattle.std.proofs.Common.{◌≡◌, ◌∙◌, ◌≤◌, ◌+◌, ◌-◌, sym, ap, refl, ℕ, Bool, true, false, List, ◌++◌, take, drop, length, append-nil, length-drop, arith}
+use Rattle.std.proofs.Math.Seq.{take-add}
+use Rattle.std.proofs.lemmas.List.{take_all}
 
--- what was taken of what was sent is a beginning of the bytes, if what was sent is one
-pub taken_in_order : (taken known sent bytes : List ℕ) (n m : ℕ) → taken ++ known ≡ sent → sent ≡ take m bytes → length taken ≡ n → taken ≡ take n bytes
-taken_in_order taken known sent bytes n m all front count =
-    let within : n ≤ m = omega (arith, count, ap length (all ∙ front), length-append taken known, length-take m bytes) in
-    sym (take_at taken known n count) ∙ ap (λ xs. take n xs) (all ∙ front) ∙ take-take n m bytes within
+-- what is left of the bytes behind the first k
+abbrev pub left_behind : List ℕ → ℕ → List ℕ
+left_behind bytes k = take (length bytes - k) (drop k bytes)
 
--- the same, where the front of a place is all that was taken
-pub came_in_order : (t0 t1 t2 known s0 s1 s2 bytes place : List ℕ) (n m : ℕ) → t0 ≡ [] → t1 ≡ t0 ++ take n place → t2 ≡ t1 → s0 ≡ [] → s1 ≡ s0 ++ take m bytes → s2 ≡ s1
-    → t2 ++ known ≡ s2 → n ≤ length place → take n place ≡ take n bytes
-came_in_order t0 t1 t2 known s0 s1 s2 bytes place n m begun taken kept unsent sent stays fifo within =
-    let came : t2 ≡ take n place = kept ∙ taken ∙ ap (λ xs. xs ++ take n place) begun in
-    let front : s2 ≡ take m bytes = stays ∙ sent ∙ ap (λ xs. xs ++ take m bytes) unsent in
-    let count : length (take n place) ≡ n = omega (arith, within, length-take n place) in
-    taken_in_order (take n place) known s2 bytes n m (ap (λ xs. xs ++ known) (sym came) ∙ fifo) front count
+-- the first k bytes, and then the first m of those that are left
+pub first_and_next : (bytes : List ℕ) (k m : ℕ) → k ≤ length bytes
+    → take k bytes ++ take m (left_behind bytes k) ≡ take (k + m) bytes
+first_and_next bytes k m within =
+    let all : left_behind bytes k ≡ drop k bytes =
+    take_all (length bytes - k) (drop k bytes) (omega (arith, length-drop k bytes)) in
+    ap (λ xs. take k bytes ++ take m xs) all ∙ sym (take-add k m bytes)
+
+-- a fill publishes some of what is left, or none once the pipe was seen closed:
+-- what was published stays a beginning of the bytes
+pub front_grows : (bytes before after : List ℕ) (k n : ℕ) (saw : Bool) → k ≤ length bytes
+    → ((m : ℕ) × (before ≡ take m bytes)) → (saw ≡ false → before ≡ take k bytes)
+    → (saw ≡ true → n ≡ 0)
+    → ((m : ℕ) × (m ≤ n) × (after ≡ before ++ take m (left_behind bytes k)))
+    → (m : ℕ) × (after ≡ take m bytes)
+front_grows bytes before after k n true within front unseen over more =
+    let none : more.0 ≡ 0 = omega (arith, more.1, over refl) in (
+      front.0,
+      more.2 ∙ ap (λ m. before ++ take m (left_behind bytes k)) none ∙ append-nil before ∙ front.1,
+    )
+front_grows bytes before after k n false within front unseen over more = (
+  k + more.0,
+  more.2 ∙ ap (λ xs. xs ++ take more.0 (left_behind bytes k)) (unseen refl)
+      ∙ first_and_next bytes k more.0 within,
+)

@@ -1,1 +1,2 @@
 mod Beginnings
+mod Front

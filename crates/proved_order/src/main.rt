@@ -1,14 +1,20 @@
-//! A client that proves of itself that all bytes arrive in order: what came is a beginning of what
-//! was sent. Its proof is a lemma on beginnings of lists; the rest follows from what the calls of
-//! the pipe promise.
+//! Clients that prove of themselves that all bytes arrive in order: what came is a beginning of what
+//! was sent. `carry` has both sides of the pipe in one hand, those of threads.rt run on two threads;
+//! and in sleeping.rt two threads poll by hand, of which nothing of the kind is proved.
 #![tactic(auto)]
+
+mod sleeping;
+mod threads;
 
 ghost use Rattle.std.specs.Prelude.{◌≡◌, ◌<◌, ◌*◌, ◌^◌, ◌≤◌, ◌+◌, take, length, IfOk};
 
+use crate::sleeping::send_and_count;
+use crate::threads::carry_across;
 use piper::owned_pipe;
 use std::alloc::Global;
 use std::io;
 
+#[tactic(auto, using(crate::proofs::Front::came_first))]
 /// Sends what is in `bytes` through a pipe that holds all of it, and answers how many bytes came.
 fn carry(alloc: Global, bytes: &[u8], place: &mut [u8]) -> io::Result<usize>
     requires { (0 < length bytes.now) × (2 * length bytes.now < 2 ^ 64) }
@@ -24,5 +30,9 @@ fn carry(alloc: Global, bytes: &[u8], place: &mut [u8]) -> io::Result<usize>
 fn main(rt: HostRuntime) -> io::Result<()> {
     let mut place = [0; 16];
     let came = carry(rt.alloc(), b"hello world", &mut place)?;
-    println!(&rt; "{}", place[..came].escape_ascii())
+    println!(&rt; "{}", place[..came].escape_ascii())?;
+    let came = carry_across(&rt, b"hello, threads", &mut place)?;
+    println!(&rt; "{}", place[..came].escape_ascii())?;
+    let came = send_and_count(&rt)?;
+    println!(&rt; "{came} bytes came")
 }

@@ -1,7 +1,7 @@
 -- What was published is a beginning of the bytes: all that were given, until the pipe is seen
 -- closed.
 use Rattle.std.proofs.Common.{◌≡◌, ℕ, ◌≤◌, length, take, false}
-use Rattle.two_threads.proofs.proved.send_all.Given as goal
+use Rattle.proved_order.proofs.threads.send_all.Given as goal
 
 abbrev pub invariant-loop : goal.invariant-loop
 invariant-loop g l = record {

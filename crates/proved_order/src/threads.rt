@@ -2,7 +2,7 @@
 //! writes hands its last mark back, and by that alone, with no more than the reader in hand, what
 //! came is a beginning of what was sent.
 ghost use Rattle.std.specs.Prelude.{◌≡◌, ℕ, ◌≤◌, ◌<◌, [], length, take, IfOk, true};
-ghost use Rattle.two_threads.specs.LastMark.{TellsFront};
+ghost use Rattle.proved_order.specs.LastMark.{TellsFront};
 
 use piper::{OwnedReader, OwnedWriter, WriteMark, owned_pipe};
 use std::alloc::AllocGlobal;
@@ -70,7 +70,7 @@ fn receive_all<H: Wait>(rt: &H, reader: &mut OwnedReader, place: &mut [u8]) -> u
 }
 
 /// Sends `bytes` from one thread to another, and answers how many came to the front of `place`.
-pub fn carry<H>(rt: &H, bytes: &'static [u8], place: &mut [u8]) -> io::Result<usize>
+pub(crate) fn carry_across<H>(rt: &H, bytes: &'static [u8], place: &mut [u8]) -> io::Result<usize>
 where
     H: Threads + Wait + Clone + AllocGlobal + Drop + Send + Sync + 'static,
     requires { length bytes.now ≤ length place.old }

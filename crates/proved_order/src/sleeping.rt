@@ -107,7 +107,7 @@ where
 }
 
 /// Sends all bytes from one thread to another, and answers how many came.
-pub fn carry<H>(rt: &H) -> io::Result<u64>
+pub(crate) fn send_and_count<H>(rt: &H) -> io::Result<u64>
 where
     H: Threads + Wait + RandomSource + AllocGlobal + Clone + Drop + Send + Sync + 'static,
 {

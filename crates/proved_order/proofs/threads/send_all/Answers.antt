@@ -1,7 +1,7 @@
 use Rattle.std.proofs.Common.{rules, ◌≡◌, ◌∙◌, ap, ◌++◌, take, false}
-use Rattle.two_threads.proofs.Beginnings.{first_and_next, front_grows, left_behind}
-use Rattle.two_threads.proofs.proved.send_all.Goals.{in-None, in-Some+then-given-bytes}
-use Rattle.two_threads.proofs.proved.send_all.Goals as goal
+use Rattle.proved_order.proofs.Beginnings.{first_and_next, front_grows, left_behind}
+use Rattle.proved_order.proofs.threads.send_all.Goals.{in-None, in-Some+then-given-bytes}
+use Rattle.proved_order.proofs.threads.send_all.Goals as goal
 
 pub loop-preserved : goal.loop-preserved
 loop-preserved g c =

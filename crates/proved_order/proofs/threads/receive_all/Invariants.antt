@@ -1,6 +1,6 @@
 -- What was taken stands at the front of the place.
 use Rattle.std.proofs.Common.{◌≡◌, ◌≤◌, length, take}
-use Rattle.two_threads.proofs.proved.receive_all.Given as goal
+use Rattle.proved_order.proofs.threads.receive_all.Given as goal
 
 abbrev pub invariant-loop : goal.invariant-loop
 invariant-loop g l =
