@@ -32,9 +32,9 @@ impl<H: Wait> Blocking<H> {
 impl<H: Wait + RandomSource + AllocGlobal> Read for Blocking<H> {
     fn read(&mut self, buf: &mut [u8]) -> io::Result<usize> {
         let places = vec![in self.rt.alloc(); 0; buf.len()]?;
-        let (_, places, count) = block_on(&self.rt, read(&mut self.reader, places))??;
-        buf[..count].copy_from_slice(&places[..count]);
-        Ok(count)
+        let (_, mut places, count) = block_on(&self.rt, read(&mut self.reader, places))??;
+        places.truncate(count);
+        places.as_slice().read(buf)
     }
 }
 
