@@ -71,6 +71,13 @@ module _ {X : Type 0} where
   abbrev pub RegainsHeld : Waits X → ℕ → X → Waits X → Held → Type 0
   RegainsHeld a n x a' u = Regains X a x n a' × (u ≡ (a'.0, false))
 
+  -- a load leaves the side that waits as it was
+  abbrev pub StaysSo : Waits X → ℕ → X → Waits X → Held → Type 0
+  StaysSo a n x a' u = a' ≡ a
+
+  stays_so : (a : Waits X) (b : Wakes X) (at : Where) → Stands X at a b → WaitsTo (OnFlag (λ n. n)) (StaysSo a) (flag_of at) none a b at
+  stays_so a b at h = (a, at, none, (refl, refl), h, refl, inl (refl, refl))
+
   looks : (b : Wakes X) (x : X) → b.0 ≡ false → (a : Waits X) (at : Where) → Stands X at a b → WakesTo (OnFlag (λ n. n)) (λ n b' _. Looks X b x n b') (flag_of at) x none a b at
   looks b x rests a with_waiter h = ((b.0, (b.1.0, x)), with_waiter, none, (refl, refl), h, inl refl, (omega arith, (λ _. refl), λ n. absurd (n refl)), inl (refl, refl))
   looks b x rests a in_slot h = (b, in_slot, none, (refl, refl), h, inr refl, (omega arith, (λ (e : 1 ≡ 0). absurd (omega arith)), λ _. refl), inl (refl, refl))
@@ -337,6 +344,10 @@ module _ {M : Type 1} {𝓤 : Ura M} (𝓛 : Logic 𝓤) (w p : Ptr) (z : Names)
     reader_withdraws gave = qed 𝓛 (‵ C ∷ ‵ KR ∷ ‵ AR ∷ []) ∵ move ! (2 ∷ []) $ nothing ! $ move ! (1 ∷ 0 ∷ []) $ fjoin ! $ move ! (1 ∷ 2 ∷ 0 ∷ []) $
         by ! (waits_flag 264 z.reader_waits z.writer_wakes z.reader_place coded_stream (published z) KR lent_too (λ s. announced_twice 𝓛 z s.0 s.1) none a (λ _. 0) (Withdraws a) (withdraws a gave))
 
+    pub reader_stands : ⟦ C ⟧ ∗ ⟦ KR ⟧ ∗ ⟦ AR ⟧ ⊢ access 264 (λ n. n) (ReaderWaited (StaysSo a))
+    reader_stands = qed 𝓛 (‵ C ∷ ‵ KR ∷ ‵ AR ∷ []) ∵ move ! (2 ∷ []) $ nothing ! $ move ! (1 ∷ 0 ∷ []) $ fjoin ! $ move ! (1 ∷ 2 ∷ 0 ∷ []) $
+        by ! (waits_flag 264 z.reader_waits z.writer_wakes z.reader_place coded_stream (published z) KR lent_too (λ s. announced_twice 𝓛 z s.0 s.1) none a (λ n. n) (StaysSo a) (stays_so a))
+
     pub reader_regains : a.0 ≡ false → ⟦ C ⟧ ∗ ⟦ KR ⟧ ∗ ⟦ AR ⟧ ⊢ access 272 (λ _. 0) (ReaderWaited (RegainsHeld a))
     reader_regains gave = qed 𝓛 (‵ C ∷ ‵ KR ∷ ‵ AR ∷ []) ∵ move ! (2 ∷ []) $ nothing ! $ move ! (1 ∷ 0 ∷ []) $ fjoin ! $ move ! (1 ∷ 2 ∷ 0 ∷ []) $
         by ! (waits_back 264 z.reader_waits z.writer_wakes z.reader_place coded_stream (published z) KR lent_too (λ s. announced_twice 𝓛 z s.0 s.1) none a (λ _. 0) (RegainsHeld a) (regains a gave))
@@ -403,6 +414,10 @@ module _ {M : Type 1} {𝓤 : Ura M} (𝓛 : Logic 𝓤) (w p : Ptr) (z : Names)
     pub writer_withdraws : a.0 ≡ false → ⟦ C ⟧ ∗ ⟦ KW' ⟧ ∗ ⟦ AW ⟧ ⊢ access 136 (λ _. 0) (WriterWaited (Withdraws a))
     writer_withdraws gave = qed 𝓛 (‵ C ∷ ‵ KW' ∷ ‵ AW ∷ []) ∵ move ! (2 ∷ []) $ nothing ! $ move ! (1 ∷ 0 ∷ []) $ fjoin ! $ move ! (1 ∷ 2 ∷ 0 ∷ []) $
         by ! (waits_flag 136 z.writer_waits z.reader_wakes z.writer_place coded_consumed (consumed z) KW' lent_own consumed_twice none a (λ _. 0) (Withdraws a) (withdraws a gave))
+
+    pub writer_stands : ⟦ C ⟧ ∗ ⟦ KW' ⟧ ∗ ⟦ AW ⟧ ⊢ access 136 (λ n. n) (WriterWaited (StaysSo a))
+    writer_stands = qed 𝓛 (‵ C ∷ ‵ KW' ∷ ‵ AW ∷ []) ∵ move ! (2 ∷ []) $ nothing ! $ move ! (1 ∷ 0 ∷ []) $ fjoin ! $ move ! (1 ∷ 2 ∷ 0 ∷ []) $
+        by ! (waits_flag 136 z.writer_waits z.reader_wakes z.writer_place coded_consumed (consumed z) KW' lent_own consumed_twice none a (λ n. n) (StaysSo a) (stays_so a))
 
     pub writer_regains : a.0 ≡ false → ⟦ C ⟧ ∗ ⟦ KW' ⟧ ∗ ⟦ AW ⟧ ⊢ access 144 (λ _. 0) (WriterWaited (RegainsHeld a))
     writer_regains gave = qed 𝓛 (‵ C ∷ ‵ KW' ∷ ‵ AW ∷ []) ∵ move ! (2 ∷ []) $ nothing ! $ move ! (1 ∷ 0 ∷ []) $ fjoin ! $ move ! (1 ∷ 2 ∷ 0 ∷ []) $

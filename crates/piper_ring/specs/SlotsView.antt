@@ -54,6 +54,7 @@ read_slots_view s =
 pub record IsReadSlots (s : ReadSlotParts) : Type 0 where
   pub there : is_some s.right ≡ s.waits.owns
   pub right : IfSome s.right (IsRightTo s.waits.names.reader_place true false)
+  pub stands : s.may_stand ≡ true → s.waits.owns ≡ false
   pub heard : (s.heard.bytes ≡ s.waits.bytes) × (s.heard.shut ≡ s.waits.shut)
   pub rests : s.wakes.holds ≡ false
   pub of_one_ring : (s.wakes.names ≡ s.waits.names) × (s.heard.names ≡ s.waits.names)
@@ -104,6 +105,7 @@ write_slots_view s =
 pub record IsWriteSlots (s : WriteSlotParts) : Type 0 where
   pub there : is_some s.right ≡ s.waits.owns
   pub right : IfSome s.right (IsRightTo s.waits.names.writer_place true false)
+  pub stands : s.may_stand ≡ true → s.waits.owns ≡ false
   pub heard : (s.heard.count ≡ s.waits.count) × (s.saw.seen ≡ s.waits.over)
   pub rests : s.wakes.holds ≡ false
   pub of_one_ring :

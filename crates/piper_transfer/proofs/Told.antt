@@ -66,6 +66,11 @@ flush_is_told (Ok u) (Ok v) r s d full is told fills = subst (λ x. IfErr x (IsO
 flush_is_told (Ok u) (Err e) r s d full is told fills = subst (λ x. IfErr x (IsOfSide s d full)) (sym is) (of_source s d full e fills)
 flush_is_told (Err e) filled r s d full is told fills = subst (λ x. IfErr x (IsOfSide s d full)) (sym is) (of_destination s d full e told)
 
+-- it ends well only where the input's side does
+pub ends_with_both : (flush filled r : Result Unit TransferError) (ended : Type 0) → r ≡ result_and flush filled → OnOk filled ended → OnOk r ended
+ends_with_both (Ok u) filled r ended is fills = subst (λ x. OnOk x ended) (sym is) fills
+ends_with_both (Err e) filled r ended is fills = subst (λ x. OnOk x ended) (sym is) tt
+
 -- an output that failed
 pub failed_writes_not : (r : Result Unit TransferError) (e : TransferError) (fails : Error → Type 0) (full : Type 0) → r ≡ Err e → IsOfDestination fails full e → ¬ WritesAll r
 failed_writes_not r e fails full is told = λ writes. not_of_input fails full e told (subst WritesAll is writes)

@@ -24,7 +24,7 @@ impl Reader {
         ensures looks { SameReaderLooks self.old.waiting self.new.waiting }
         ensures end { self.new.end ≡ self.old.end }
     {
-        if !self.waiting.has_place() {
+        if self.waiting.may_stand() {
             self.let_own_go();
         }
         let yields = draw(&mut self.rng);
@@ -45,7 +45,7 @@ impl Writer {
         ensures looks { SameWriterLooks self.old.waiting self.new.waiting }
         ensures end { self.new.end ≡ self.old.end }
     {
-        if !self.waiting.has_place() {
+        if self.waiting.may_stand() {
             self.let_own_go();
         }
         let yields = draw(&mut self.rng);

@@ -141,7 +141,7 @@ impl Reader {
         ensures end { self.new.end ≡ self.old.end }
         ensures rest { SameReaderButWaits self.old self.new }
     {
-        if !self.waiting.has_place() {
+        if self.waiting.may_stand() {
             self.let_own_go();
         }
         call.took_own()
@@ -154,7 +154,9 @@ impl Reader {
         ensures end { self.new.end ≡ self.old.end }
         ensures rest { SameReaderButWaits self.old self.new }
     {
-        Taken::new(self.take_back()).let_go();
+        if self.end.stands(&mut self.waiting) {
+            Taken::new(self.take_back()).let_go();
+        }
     }
 
     /// Stores the head, `n` bytes further on.

@@ -148,7 +148,7 @@ impl Writer {
         ensures end { self.new.end ≡ self.old.end }
         ensures rest { SameWriterButWaits self.old self.new }
     {
-        if !self.waiting.has_place() {
+        if self.waiting.may_stand() {
             self.let_own_go();
         }
         call.took_own(false)
@@ -161,7 +161,9 @@ impl Writer {
         ensures end { self.new.end ≡ self.old.end }
         ensures rest { SameWriterButWaits self.old self.new }
     {
-        Taken::new(self.take_back()).let_go();
+        if self.end.stands(&mut self.waiting) {
+            Taken::new(self.take_back()).let_go();
+        }
     }
 
     /// Takes who stands in the writer's own slot, in a close, and calls its waker.

@@ -67,12 +67,14 @@ pub fn open_with_slots(
     let read_slots = ReadSlotParts {
         waits: reader_waits,
         right: Some(reader_right),
+        may_stand: false,
         heard: told_reader.again(),
         wakes: reader_wakes,
     };
     let write_slots = WriteSlotParts {
         waits: writer_waits,
         right: Some(writer_right),
+        may_stand: false,
         heard: told_writer.again(),
         saw: read_seat.unseen(),
         wakes: writer_wakes,

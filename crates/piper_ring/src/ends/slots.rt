@@ -1,7 +1,7 @@
 //! What each end has of the two slots, at which a side waits for the other. A side that waits puts
 //! its waker, of any type, into its place, and whoever takes its ticket gets it out. Both share the
 //! place, and the right to it is one side's at each moment, or the slot's.
-ghost use Rattle.std.specs.Prelude.{◌≡◌};
+ghost use Rattle.std.specs.Prelude.{◌≡◌, true, IsFalse};
 
 mod reader;
 mod writer;
@@ -17,6 +17,8 @@ pub(crate) struct ReadSlotParts {
     /// The right to the place of its waker, where it is not in the slot or with the writer: then
     /// nothing lies there.
     pub(crate) right: Option<Right>,
+    /// Whether its waker may stand in the slot: since it registered, no look found it gone.
+    pub(crate) may_stand: bool,
     /// What the writer had looked behind when this end registered last.
     pub(crate) heard: WriteMark,
     pub(crate) wakes: ReaderWakes,
@@ -46,6 +48,8 @@ pub(crate) struct WriteSlotParts {
     /// The right to the place of its waker, where it is not in the slot or with the reader: then
     /// nothing lies there.
     pub(crate) right: Option<Right>,
+    /// Whether its waker may stand in the slot: since it registered, no look found it gone.
+    pub(crate) may_stand: bool,
     /// What the reader had looked behind when this end registered last.
     pub(crate) heard: ReadMark,
     pub(crate) saw: Saw,
@@ -76,6 +80,7 @@ impl Drop for ReadSlots {
         let ReadSlotParts {
             waits: _,
             right: _,
+            may_stand: _,
             heard: _,
             wakes: _,
         } = parts;
@@ -88,6 +93,7 @@ impl Drop for WriteSlots {
         let WriteSlotParts {
             waits: _,
             right: _,
+            may_stand: _,
             heard: _,
             saw: _,
             wakes: _,
@@ -103,6 +109,15 @@ impl ReadSlots {
     {
         self.parts.right.is_some()
     }
+
+    /// Whether the reader's waker may stand in its slot, as far as is known without a look there:
+    /// `stands` looks.
+    #[inline(always)]
+    pub fn may_stand(&self) -> bool
+        ensures { self.now.owns ≡ true → IsFalse result }
+    {
+        self.parts.may_stand
+    }
 }
 
 impl WriteSlots {
@@ -112,5 +127,14 @@ impl WriteSlots {
         ensures { result ≡ self.now.owns }
     {
         self.parts.right.is_some()
+    }
+
+    /// Whether the writer's waker may stand in its slot, as far as is known without a look there:
+    /// `stands` looks.
+    #[inline(always)]
+    pub fn may_stand(&self) -> bool
+        ensures { self.now.owns ≡ true → IsFalse result }
+    {
+        self.parts.may_stand
     }
 }

@@ -196,6 +196,14 @@ impl WriteSeat {
         (ReadMark { mark: PhantomData }, Saw { mark: PhantomData })
     }
 
+    /// 1 where the writer's waker stands in its slot, else 0.
+    pub(crate) fn stands(&self, slot: &mut WriterWaits) -> u64
+        requires { slot.old.names ≡ self.now.names }
+        ensures { slot.new ≡ slot.old }
+    {
+        unsafe { raw::load::<Brand>(self.words.add(WRITER_FLAG), SeqCst) }
+    }
+
     /// 1 where the writer's waker stood in its slot and is the writer's again, with the right to
     /// its place, else 0.
     pub(crate) fn withdraw(&self, slot: &mut WriterWaits) -> (u64, Right)
@@ -249,6 +257,14 @@ impl ReadSeat {
         let Right { mark: _ } = right;
         unsafe { raw::store::<Brand>(self.words.add(READER_FLAG), 1, SeqCst) };
         WriteMark { mark: PhantomData }
+    }
+
+    /// 1 where the reader's waker stands in its slot, else 0.
+    pub(crate) fn stands(&self, slot: &mut ReaderWaits) -> u64
+        requires { slot.old.names ≡ self.now.names }
+        ensures { slot.new ≡ slot.old }
+    {
+        unsafe { raw::load::<Brand>(self.words.add(READER_FLAG), SeqCst) }
     }
 
     /// 1 where the reader's waker stood in its slot and is the reader's again, with the right to

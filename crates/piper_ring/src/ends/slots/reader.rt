@@ -30,6 +30,7 @@ impl ReadEnd {
         }
         let waker = place.take(&mut right);
         parts.right = Some(right);
+        parts.may_stand = false;
         Some(waker)
     }
 
@@ -51,7 +52,22 @@ impl ReadEnd {
             return false;
         }
         parts.right = Some(right);
+        parts.may_stand = false;
         true
+    }
+
+    /// Whether this end's waker still stands at its slot. A waker that the writer took is not asked
+    /// for again until this end registers anew.
+    pub fn stands(&self, slots: &mut ReadSlots) -> bool
+        requires { slots.old.names ≡ self.now.ring.1.1 }
+        ensures nowhere { slots.old.owns ≡ true → IsFalse result }
+        ensures kept { slots.new ≡ slots.old }
+    {
+        let parts = &mut slots.parts;
+        if parts.may_stand {
+            parts.may_stand = self.parts.seat.stands(&mut parts.waits) != 0;
+        }
+        parts.may_stand
     }
 
     /// Stands at this end's slot, where the writer's next look finds it, with `waker` in its place.
@@ -66,6 +82,7 @@ impl ReadEnd {
             unreachable!()
         };
         place.put(&mut right, waker);
+        parts.may_stand = true;
         parts.heard = self.parts.seat.hand_over(&mut parts.waits, right);
     }
 

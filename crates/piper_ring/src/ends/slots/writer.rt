@@ -29,6 +29,7 @@ impl WriteEnd {
         }
         let waker = place.take(&mut right);
         parts.right = Some(right);
+        parts.may_stand = false;
         Some(waker)
     }
 
@@ -50,7 +51,22 @@ impl WriteEnd {
             return false;
         }
         parts.right = Some(right);
+        parts.may_stand = false;
         true
+    }
+
+    /// Whether this end's waker still stands at its slot. A waker that the reader took is not asked
+    /// for again until this end registers anew.
+    pub fn stands(&self, slots: &mut WriteSlots) -> bool
+        requires { slots.old.names ≡ self.now.ring.1.1 }
+        ensures nowhere { slots.old.owns ≡ true → IsFalse result }
+        ensures kept { slots.new ≡ slots.old }
+    {
+        let parts = &mut slots.parts;
+        if parts.may_stand {
+            parts.may_stand = self.parts.seat.stands(&mut parts.waits) != 0;
+        }
+        parts.may_stand
     }
 
     /// Stands at this end's slot, where the reader's next look finds it, with `waker` in its place.
@@ -65,6 +81,7 @@ impl WriteEnd {
             unreachable!()
         };
         place.put(&mut right, waker);
+        parts.may_stand = true;
         let (heard, saw) = self.parts.seat.hand_over(&mut parts.waits, right);
         parts.heard = heard;
         parts.saw = saw;

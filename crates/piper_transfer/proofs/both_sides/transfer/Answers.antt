@@ -8,7 +8,7 @@ use Rattle.piper.specs.declared.handles.Reader.{Reader}
 use Rattle.piper.specs.declared.handles.Writer.{Writer}
 use Rattle.piper_transfer.specs.Transfer.{IsDrained, IsOfDestination, IsOfMemory, PouredAll, WritesAll}
 use Rattle.piper_transfer.proofs.Sides.{poured_kept, poured_same}
-use Rattle.piper_transfer.proofs.Told.{refused_writes_none, refused_is_told, flushed_first, flush_is_told, failed_writes_not, failure_is_told}
+use Rattle.piper_transfer.proofs.Told.{refused_writes_none, refused_is_told, flushed_first, flush_is_told, ends_with_both, failed_writes_not, failure_is_told}
 use Rattle.piper_transfer.proofs.Whole.{nothing_moved, none_known, output_failed, nothing_lost}
 use Rattle.piper_transfer.proofs.both_sides.transfer.Goals.{in-Ok, in-Err}
 use Rattle.piper_transfer.proofs.both_sides.transfer.Goals as goal
@@ -53,8 +53,8 @@ returns g c =
           let whole : IsDrained r1 w1 = search rules in
           let none : r2.known ≡ [] = none_known r1 r2 w1 c.meet.new.other.end whole met c.meet.ensures.fifo sent c.meet.ensures.all
           (subst (λ (r : ReadView). KnowsEnd r → r2.all ≡ r.all) reads c.meet.ensures.same) in
-          let ended : OnOk c.match-drained.ended (IsAtEnd j) = search rules in
           let same : c.match-drained.ended ≡ result_and w.flush.result both.result.0 = search rules in
+          let ended = ends_with_both w.flush.result both.result.0 c.match-drained.ended (IsAtEnd j) same both.ensures.input_ended in
           let d = g.D.Destination.fails w.flush.new.dest in
           let full = g.D.Destination.full w.flush.new.dest in
           rw w.dest-is (record {
