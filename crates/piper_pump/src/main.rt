@@ -2,20 +2,11 @@
 //! it to standard output.
 #![tactic(auto)]
 
-mod arguments;
-mod copies;
-mod ended;
-mod ends;
-mod pace;
-mod plan;
-mod progress;
-mod running;
-
-use arguments::words;
-use copies::Copies;
-use ends::{Drain, Inlet, Outlet};
+use piper_pumping::arguments::words;
+use piper_pumping::copies::Copies;
+use piper_pumping::ends::{Drain, Inlet, Outlet};
+use piper_pumping::running::run;
 use piper_transfer::Plain;
-use running::run;
 use std::io::IsTerminal;
 use std::process::ExitCode;
 

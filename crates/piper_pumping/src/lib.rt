@@ -1,0 +1,12 @@
+//! What the program `piper_pump` does: its words, the files that they name, the transfer between
+//! them, and what it tells of that.
+#![tactic(auto)]
+
+pub mod arguments;
+pub mod copies;
+pub mod ended;
+pub mod ends;
+mod pace;
+mod plan;
+mod progress;
+pub mod running;
