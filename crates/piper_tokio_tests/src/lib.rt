@@ -1,5 +1,5 @@
-//! Tests of `tokio`, its codecs and `tungstenite` over pipes. They stand apart, so that the crate
-//! is proved once.
+//! Tests of `tokio`, its codecs, `tungstenite` and `hyper` over pipes. They stand apart, so that the
+//! crate is proved once.
 #![tactic(auto)]
 
 #[cfg(test)]
@@ -10,6 +10,8 @@ mod codecs;
 mod compare;
 #[cfg(test)]
 mod copies;
+#[cfg(test)]
+mod http_over_duplex;
 #[cfg(test)]
 mod pattern;
 #[cfg(test)]

@@ -26,9 +26,10 @@ where
     R: RandomSource + Drop,
     S: Read + Write + Drop,
 {
+    let message = Message::text(alloc, text)?;
     let request = request_of(alloc, "ws://localhost/echo")?;
     let (mut socket, _answer) = client(alloc, random, request, stream)?;
-    socket.send(Message::text(alloc, text)?)?;
+    socket.send(message)?;
     match socket.read()? {
         Message::Text(text) => Ok(text),
         _ => Err("no text".into()),

@@ -1,8 +1,7 @@
-//! A client and a server of HTTP speak through a duplex stream in place of a socket, so that a
-//! service can be tried with no network. Each line of standard input is a path that the client asks
-//! for.
-#![tactic(auto)]
+//! A client and a server of HTTP over a duplex stream in place of a socket, so that a service is
+//! tried with no network.
 
+use crate::compare::{confirm, same};
 use bytes::Bytes;
 use futures::executor::block_on;
 use futures::future::{Ready, join};
@@ -16,10 +15,10 @@ use piper_tokio::CompatEnd;
 use std::alloc::{AllocGlobal, Global};
 use std::convert::Infallible;
 use std::hash::RandomState;
-use std::io::{BufRead, BufReader};
 use std::random::RandomSource;
 use std::sync::Wait;
-use std::thread;
+use std::test::Fail;
+use std::{io, thread};
 use tokio::io::{AsyncRead, AsyncWrite};
 
 /// The service that is tried: two pages, and 404 for all other paths.
@@ -50,59 +49,68 @@ impl<I: Drop> Service<Request<Incoming<I>>> for Pages {
 /// Serves until the client is done.
 ///
 /// It takes any reader and writer of `tokio`, so the same function serves a socket.
-fn serve<R, I>(rt: &R, io: I) -> anyhow::Result<()>
+fn serve<R, I>(rt: &R, io: I) -> io::Result<()>
 where
     R: Wait + RandomSource + AllocGlobal,
     I: AsyncRead + AsyncWrite,
 {
     let http = server::conn::http1::Builder::new(rt.alloc(), RandomState::new(rt)?);
-    Ok(block_on(rt, http.serve_connection(io, Pages(rt.alloc())))??)
+    block_on(rt, http.serve_connection(io, Pages(rt.alloc())))?.map_err(|_| io::Error::other(
+        "the server failed",
+    ))
+}
+
+/// The request for one page.
+fn request_for(alloc: Global, path: &str) -> Result<Request<Full<Bytes>>, Fail> {
+    let request = Request::get(alloc, path).header(header::HOST, "pages");
+    Ok(request.body(Full::<Bytes>::new(Bytes::new()))?)
 }
 
 /// Asks for one page: its status and its bytes.
 ///
 /// The connection has to be polled beside the request, since it carries the bytes of both; so
 /// `join` waits for the two of them.
-fn fetch<R, I>(rt: &R, io: I, path: &str) -> anyhow::Result<(StatusCode, Bytes)>
+fn fetch<R, I>(rt: &R, io: I, path: &str) -> Result<(StatusCode, Bytes), Fail>
 where
     R: Wait + RandomSource + AllocGlobal,
     I: AsyncRead + AsyncWrite,
 {
     let alloc = rt.alloc();
-    let (mut sender, connection) = client::conn::http1::handshake(
-        alloc,
-        RandomState::new(rt)?,
-        io,
-    )?;
-    let request = Request::get(alloc, path).header(header::HOST, "pages");
-    let page = sender
-        .send_request(request.body(Full::<Bytes>::new(Bytes::new()))?)
-        .and_then(move |response| {
-            let status = response.status();
-            response
-                .into_body()
-                .collect(alloc)
-                .map_ok(move |body| (status, body))
-        });
+    let hasher = RandomState::new(rt)?;
+    let request = request_for(alloc, path)?;
+    let (mut sender, connection) = client::conn::http1::handshake(alloc, hasher, io)?;
+    let page = sender.send_request(request).and_then(move |response| {
+        let status = response.status();
+        response
+            .into_body()
+            .collect(alloc)
+            .map_ok(move |body| (status, body))
+    });
     // With no sender left the connection ends behind this request, and `join` with it.
     drop(sender);
     let (status, body) = block_on(rt, join(page, connection))?.0?;
     Ok((status, body.to_bytes()?))
 }
 
-fn main(rt: HostRuntime) -> anyhow::Result<()> {
-    for path in BufReader::new(rt.alloc(), rt.stdin())?.lines(rt.alloc()) {
-        let path = path?;
+#[test]
+fn a_service_answers_each_path(rt: HostRuntime) -> Result<(), Fail> {
+    let pages = [
+        ("/", StatusCode::OK, b"the first page".as_slice()),
+        ("/next", StatusCode::OK, b"the next page"),
+        ("/lost", StatusCode::NOT_FOUND, b"no such page"),
+    ];
+    for (path, status, page) in pages {
         let theirs = rt.clone()?;
         // Each path has a stream of its own, as it would have a connection of its own to a server.
-        let (near, far) = duplex(rt.alloc(), 64, 64, 1)?;
+        let (near, far) = duplex(rt.alloc(), 64, 64, 1).expect(&rt, "memory");
         let (near, far) = (CompatEnd::new(near), CompatEnd::new(far));
         // The service owns its end: where it returns, the end is let go, which closes both pipes
         // and wakes a client that waits.
         let child = thread::spawn(&rt, move || serve(&theirs, far))?;
-        let (status, page) = fetch(&rt, near, path.as_str())?;
+        let (came_status, came_page) = fetch(&rt, near, path)?;
         child.join(&rt)?;
-        println!(&rt; "{path}: {status}, {}", page.as_slice().escape_ascii())?;
+        confirm(&rt, came_status == status);
+        same(&rt, came_page.as_slice(), page);
     }
     Ok(())
 }
