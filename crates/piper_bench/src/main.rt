@@ -2,8 +2,7 @@
 //! or by other means of the toolchain.
 #![tactic(auto)]
 
-use comparison::{Failed, print_comparison, short_rounds};
-use many::{Means, run_each, timed_run};
+use many::{run_each, timed_run};
 use means::{WORDS, What};
 use request::Request;
 use std::marker::Send;
@@ -15,7 +14,6 @@ use std::thread::Threads;
 use std::{env, io};
 use work::{Work, run};
 
-mod comparison;
 mod lines;
 mod many;
 mod means;
@@ -28,7 +26,6 @@ mod to_and_fro;
 mod work;
 
 const USAGE: &str = "usage: piper_bench WHAT CAP CHUNK TOTAL
-       piper_bench peers [TOTAL]
        piper_bench many tasks|pipes|tokio COUNT
        piper_bench
 The first moves TOTAL bytes in pieces of CHUNK through a ring of CAP bytes, and prints bytes, nanoseconds, nanoseconds a piece and a checksum.
@@ -37,9 +34,8 @@ Or it is through the handles of a pipe: pipe (by try forms) and inplace (by lent
 Or it is one of its peers, between two threads that wait as those of a pipe do: tokio2 (a pipe by the traits of tokio), stream2 (the stream in memory of tokio, by the same) and channel2 (a bounded channel of pieces, each in memory of its own, whose ends wait as it will).
 Or a piece goes to and fro between two threads, each of which sleeps until the other has answered: pingpong (through two pipes, by lent slices) and pingpong_stream (through two streams in memory, by the traits of tokio).
 CAP is at least 1 and at most half of the greatest usize, CHUNK is 1 to 16777216.
-The second moves TOTAL bytes (67108864, where it is left out) through each of rtrb2, inplace2, pipe2, stream2, tokio2 and channel2 in pieces of 64, 4096 and 65536 bytes, with a CAP of 65536, or of 4 pieces where these are more, and prints one table: nanoseconds a piece and their ratio to rtrb2, each the median of 25 runs that are made in turn. A run whose checksum is not what its bytes come to ends it with status 2.
-The third makes COUNT pipes of 64 bytes, moves 64 bytes through each, and lets them go: with a task for each reader in one pool, by the calls that never wait, or by as many streams of tokio in place of the pipes. It prints how many bytes came, and nanoseconds a pipe.
-Without arguments it makes a short run of each, a short round of the second, and 1,000 pipes by each means.";
+The second makes COUNT pipes of 64 bytes, moves 64 bytes through each, and lets them go: with a task for each reader in one pool, by the calls that never wait, or by as many streams of tokio in place of the pipes. It prints how many bytes came, and nanoseconds a pipe.
+Without arguments it makes a short run of each, and 1,000 pipes by each means.";
 
 /// How many bytes a short run moves.
 const SHORT: usize = 1_000_000;
@@ -49,28 +45,20 @@ fn main(rt: HostRuntime) -> io::Result<ExitCode> {
     for word in env::args(&rt)?.skip(1) {
         words.push(word)?;
     }
-    let done = match Request::of(words.as_slice()) {
-        Some(Request::ShortRuns) => short_runs(&rt),
-        Some(Request::Comparison { total }) => print_comparison(&rt, total),
-        Some(Request::Many(means, count)) => timed_many(&rt, means, count),
-        Some(Request::Run(work)) => told_run(&rt, work),
+    match Request::of(words.as_slice()) {
+        Some(Request::ShortRuns) => short_runs(&rt)?,
+        Some(Request::Many(means, count)) => timed_run(&rt, means, count)?,
+        Some(Request::Run(work)) => told_run(&rt, work)?,
         None => {
             eprintln!(&rt; "{USAGE}")?;
             return Ok(ExitCode::from(1));
         }
-    };
-    match done {
-        Ok(()) => Ok(ExitCode::SUCCESS),
-        Err(Failed::Io(error)) => Err(error),
-        Err(Failed::Differs(differs)) => {
-            eprintln!(&rt; "{differs}")?;
-            Ok(ExitCode::from(2))
-        }
     }
+    Ok(ExitCode::SUCCESS)
 }
 
 /// One run, told with its time.
-fn told_run<R>(rt: &R, work: Work) -> Result<(), Failed>
+fn told_run<R>(rt: &R, work: Work) -> io::Result<()>
 where
     R: Wait + Threads + Clock + Print + RandomSource + AllocGlobal + Clone + Drop + Send + Sync,
 {
@@ -80,29 +68,18 @@ where
         "bytes={} ns={nanoseconds} ns/piece={} checksum={checksum}",
         work.total,
         nanoseconds / work.pieces() as u128
-    )?;
-    Ok(())
+    )
 }
 
-/// So many pipes at once, told with their time.
-fn timed_many<R>(rt: &R, means: Means, count: usize) -> Result<(), Failed>
-where
-    R: Wait + Clock + Print + RandomSource + AllocGlobal + Clone + Drop,
-{
-    Ok(timed_run(rt, means, count)?)
-}
-
-/// A run of a million bytes by each means, and then rounds of so many by those that are compared,
-/// told without their times.
-fn short_runs<R>(rt: &R) -> Result<(), Failed>
+/// A run of a million bytes by each means, told without its time; and then many pipes.
+fn short_runs<R>(rt: &R) -> io::Result<()>
 where
     R: Wait + Threads + Clock + Print + RandomSource + AllocGlobal + Clone + Drop + Send + Sync,
 {
     for (word, what) in WORDS {
         short_run(rt, word, what)?;
     }
-    short_rounds(rt, SHORT)?;
-    Ok(run_each(rt)?)
+    run_each(rt)
 }
 
 fn short_run<R>(rt: &R, word: &str, what: What) -> io::Result<()>

@@ -273,10 +273,3 @@ pub fn add_piece(checksum: u64, place: &[u8], n: usize) -> u64
         None => checksum,
     }
 }
-
-/// What so many bytes come to, however they are cut.
-pub fn checksum_of(total: usize) -> u64
-    ensures { result ≡ total * BYTE % 2 ^ 64 }
-{
-    add_piece(0, &[BYTE], total)
-}
