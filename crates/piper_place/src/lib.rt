@@ -9,9 +9,6 @@ ghost use Rattle.piper_place.specs.Place.{place_owns, place_shares, right};
 
 use std::marker::{Model, Move, Owns, PhantomData, Send, Sync};
 
-#[cfg(test)]
-mod tests;
-
 /// What a place can hold: it tells of each content whether the place is filled.
 pub trait Content {
     ghost is_full: { Self → Bool };

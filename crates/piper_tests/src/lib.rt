@@ -1,6 +1,6 @@
 //! Examples of the public calls of `piper`, `piper_lines` and `piper_duplex`; and tests of the pipe, of
-//! the ring below it, and of the futures, streams and sinks over it. They stand apart, so that these
-//! crates are proved once.
+//! the ring below it, of the futures, streams and sinks over it, and of the machine. They stand apart,
+//! so that these crates are proved once.
 #![tactic(auto)]
 
 #[cfg(test)]
@@ -14,6 +14,8 @@ mod ends;
 #[cfg(test)]
 mod examples;
 #[cfg(test)]
+mod machine;
+#[cfg(test)]
 mod marks;
 #[cfg(test)]
 mod meeting;
@@ -23,6 +25,8 @@ mod owners;
 mod owning;
 #[cfg(test)]
 mod pair;
+#[cfg(test)]
+mod place;
 #[cfg(test)]
 mod ring;
 #[cfg(test)]

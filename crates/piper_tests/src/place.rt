@@ -1,5 +1,5 @@
 //! A place is filled and emptied, and lets go what lies there at last.
-use crate::Place;
+use piper_place::Place;
 use std::sync::Arc;
 use std::test::Fail;
 
