@@ -131,33 +131,27 @@ impl AsyncWrite for Keeper {
 const BYTES: &[u8] = b"abcdefghijklmnopqrstuvwxyzabcdefghijklmnopqrstuvwxyz\
     abcdefghijklmnopqrstuvwxyzabcdefghijklmnopqrstuvwxyz";
 
-/// A copy of so many bytes, between ends of which each fails at a call, and what each poll of it
-/// must answer.
-#[derive(Clone, Copy)]
-struct Copying<'a> {
+/// Makes the polls of a copy of so many bytes: what each must answer, and how many bytes were
+/// carried by then. The reader fails at the first of the two calls, and the writer at the second;
+/// none has the number 0. What was carried stands in the writer, and none is lost; who is pending
+/// asked for another poll.
+fn carries<R>(
+    rt: &R,
     len: usize,
-    /// The call at which the reader fails, and the one at which the writer does. None has the
-    /// number 0.
     fails: (usize, usize),
     is_closed: bool,
-    /// What each poll answers, and how many bytes were carried by then.
-    polls: &'a [(Moved<Copied>, usize)],
-}
-
-/// Makes the polls of a copy. What was carried stands in the writer, and none is lost; who is
-/// pending asked for another poll.
-fn carries<R>(rt: &R, copying: Copying<'_>)
+    polls: &[(Moved<Copied>, usize)],
+)
 where
     R: Abort + RandomSource + AllocGlobal,
 {
-    let (read, write) = copying.fails;
     let task = task_at_last(rt);
-    let mut lender = Lender::new(&BYTES[..copying.len.min(BYTES.len())], read);
-    let mut keeper = Keeper::new(rt, write);
-    keeper.is_closed = copying.is_closed;
-    for (want, carried) in copying.polls {
+    let mut lender = Lender::new(&BYTES[..len.min(BYTES.len())], fails.0);
+    let mut keeper = Keeper::new(rt, fails.1);
+    keeper.is_closed = is_closed;
+    for (want, carried) in polls {
         let ended = copied(task.enter(|cx| poll_copy(cx, &mut lender, &mut keeper)));
-        let what = (copying.fails, *carried);
+        let what = (fails, *carried);
         same(rt, &what, ended, *want);
         same(rt, &what, task.is_woken(), ended == Moved::Pending);
         same(rt, &what, lender.taken, *carried);
@@ -172,53 +166,40 @@ fn fails_at<R>(rt: &R, read: usize, write: usize, kind: ErrorKind, carried: usiz
 where
     R: Abort + RandomSource + AllocGlobal,
 {
-    let copying = Copying {
-        len: 8,
-        fails: (read, write),
-        is_closed: false,
-        polls: &[(Moved::Failed(kind), carried)],
-    };
-    carries(rt, copying);
+    let polls = [(Moved::Failed(kind), carried)];
+    carries(rt, 8, (read, write), false, &polls);
 }
 
-#[test]
-fn a_copy_ends_at_the_first_error(rt: HostRuntime) {
+fn ends_at_the_first_error<R>(rt: &R)
+where
+    R: Abort + RandomSource + AllocGlobal,
+{
     for k in 1..9usize {
-        fails_at(&rt, k, k + 1, ErrorKind::TimedOut, k - 1);
-        fails_at(&rt, k, k, ErrorKind::TimedOut, k - 1);
-        fails_at(&rt, k + 1, k, ErrorKind::WriteZero, k - 1);
+        fails_at(rt, k, k + 1, ErrorKind::TimedOut, k - 1);
+        fails_at(rt, k, k, ErrorKind::TimedOut, k - 1);
+        fails_at(rt, k + 1, k, ErrorKind::WriteZero, k - 1);
     }
 }
 
 #[test]
+fn a_copy_ends_at_the_first_error(rt: HostRuntime) {
+    ends_at_the_first_error(&rt);
+}
+
+#[test]
 fn a_copy_ends_before_an_error_that_it_does_not_meet(rt: HostRuntime) {
-    let copying = Copying {
-        len: 8,
-        fails: (10, 9),
-        is_closed: false,
-        polls: &[(Moved::Done(Copied::ToTheEnd), 8)],
-    };
-    carries(&rt, copying);
+    let polls = [(Moved::Done(Copied::ToTheEnd), 8)];
+    carries(&rt, 8, (10, 9), false, &polls);
 }
 
 #[test]
 fn a_long_copy_asks_for_another_poll_after_64_pieces(rt: HostRuntime) {
-    let copying = Copying {
-        len: 100,
-        fails: (0, 0),
-        is_closed: false,
-        polls: &[(Moved::Pending, 64), (Moved::Done(Copied::ToTheEnd), 100)],
-    };
-    carries(&rt, copying);
+    let polls = [(Moved::Pending, 64), (Moved::Done(Copied::ToTheEnd), 100)];
+    carries(&rt, 100, (0, 0), false, &polls);
 }
 
 #[test]
 fn a_copy_to_a_closed_writer_takes_nothing(rt: HostRuntime) {
-    let copying = Copying {
-        len: 1,
-        fails: (0, 0),
-        is_closed: true,
-        polls: &[(Moved::Done(Copied::UntilClosed), 0)],
-    };
-    carries(&rt, copying);
+    let polls = [(Moved::Done(Copied::UntilClosed), 0)];
+    carries(&rt, 1, (0, 0), true, &polls);
 }

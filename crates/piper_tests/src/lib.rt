@@ -32,8 +32,6 @@ mod ring;
 #[cfg(test)]
 mod running;
 #[cfg(test)]
-mod two_threads;
-#[cfg(test)]
 mod upstream;
 #[cfg(test)]
 mod waking;

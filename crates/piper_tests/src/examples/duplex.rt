@@ -1,13 +1,13 @@
 //! A duplex stream, and an echo of lines over one.
 use crate::examples::compare::{ready, same};
 use crate::running::same_bytes;
-use futures::task::Context;
 use futures::test::MockTask;
-use piper::io::{AsyncBufRead, AsyncWrite};
 use piper::{OwnedReader, OwnedWriter, owned_pipe};
 use piper_duplex::{Echoed, Ended, LineEcho, duplex, echo};
 use piper_lines::Lines;
+use std::alloc::AllocGlobal;
 use std::process::Abort;
+use std::random::RandomSource;
 use std::test::Fail;
 
 /// What the one end writes the other reads.
@@ -18,26 +18,9 @@ fn halves(rt: &impl Abort, mut reader: OwnedReader, mut writer: OwnedWriter) {
     same_bytes(rt, &place, b"ab\0\0");
 }
 
-/// Each line goes back as it came.
-fn line_echo<R, W>(
-    rt: &impl Abort,
-    cx: &mut Context<'_>,
-    echo: &mut LineEcho,
-    lines: &mut Lines<R>,
-    writer: &mut W,
-)
-where
-    R: AsyncBufRead,
-    W: AsyncWrite,
-{
-    let echoed = echo.poll(cx, lines, writer, 100);
-    ready(rt, echoed, Echoed::ToTheEnd);
-}
-
 #[test]
 fn bytes_go_both_ways(rt: HostRuntime) -> Result<(), Fail> {
     let alloc = rt.alloc();
-    let task = MockTask::new(&rt)?;
     let (mut near, mut far) = duplex(alloc, 8, 8, 1)?;
     same(&rt, near.reader().len(), 0);
     same(&rt, near.writer().capacity(), 8);
@@ -50,13 +33,29 @@ fn bytes_go_both_ways(rt: HostRuntime) -> Result<(), Fail> {
     let (near, far) = duplex(alloc, 8, 8, 1)?;
     near.drop();
     far.drop();
+    Ok(())
+}
+
+/// Each line of the reader goes to the writer as it came.
+fn echo_lines<H>(rt: &H, reader: OwnedReader, mut writer: OwnedWriter) -> Result<(), Fail>
+where
+    H: Abort + RandomSource + AllocGlobal,
+{
+    let task = MockTask::new(rt)?;
+    let mut lines = Lines::new(rt.alloc(), reader);
+    let mut by_line = LineEcho::new(rt.alloc());
+    let echoed = task.enter(|cx| by_line.poll(cx, &mut lines, &mut writer, 100));
+    ready(rt, echoed, Echoed::ToTheEnd);
+    Ok(())
+}
+
+#[test]
+fn lines_go_back_as_they_came(rt: HostRuntime) -> Result<(), Fail> {
     let (reader, mut writer) = owned_pipe(rt.alloc(), 8)?;
-    let (mut last, mut second) = owned_pipe(rt.alloc(), 8)?;
+    let (mut last, second) = owned_pipe(rt.alloc(), 8)?;
     writer.try_fill(b"a\nb");
     drop(writer);
-    let mut lines = Lines::new(alloc, reader);
-    let mut by_line = LineEcho::new(alloc);
-    task.enter(|cx| line_echo(&rt, cx, &mut by_line, &mut lines, &mut second));
+    echo_lines(&rt, reader, second)?;
     same(&rt, last.try_drain(&mut [0; 8]), 3);
     Ok(())
 }

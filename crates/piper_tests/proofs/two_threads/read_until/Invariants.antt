@@ -1,6 +1,0 @@
--- It is still the handle of the same pipe.
-use Rattle.std.proofs.Common.{◌≡◌}
-use Rattle.piper_tests.proofs.two_threads.read_until.Given as goal
-
-abbrev pub invariant-loop : goal.invariant-loop
-invariant-loop l = l.reader.end.ring ≡ l.initial.reader.end.ring
