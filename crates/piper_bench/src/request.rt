@@ -15,8 +15,8 @@ pub enum Request {
 }
 
 /// The number that a word is.
-fn number(word: &String) -> Option<usize> {
-    word.as_str().parse::<usize>().ok()
+fn number(word: &str) -> Option<usize> {
+    word.parse::<usize>().ok()
 }
 
 impl Request {
@@ -25,11 +25,17 @@ impl Request {
             [] => Some(Request::ShortRuns),
             [word, means, count] if word.as_str() == "many" => Some(Request::Many(
                 Means::of(means.as_str())?,
-                number(count)?,
+                number(count.as_str())?,
             )),
             [what, capacity, chunk, total] => {
                 let what = What::of(what.as_str())?;
-                Work::new(what, number(capacity)?, number(chunk)?, number(total)?).map(Request::Run)
+                Work::new(
+                    what,
+                    number(capacity.as_str())?,
+                    number(chunk.as_str())?,
+                    number(total.as_str())?,
+                )
+                .map(Request::Run)
             }
             _ => None,
         }

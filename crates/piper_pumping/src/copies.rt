@@ -36,7 +36,7 @@ impl<'a, R: Clock> Copies<'a, R> {
     }
 
     /// Their files, whether their sum is wanted, and how many may pass in a second.
-    pub fn ask(&mut self, tees: Vec<File>, wants_sum: bool, rate: Option<usize>) {
+    pub(crate) fn ask(&mut self, tees: Vec<File>, wants_sum: bool, rate: Option<usize>) {
         self.tees = tees;
         if wants_sum {
             self.sum = Some(Sha256::new());
@@ -45,7 +45,7 @@ impl<'a, R: Clock> Copies<'a, R> {
     }
 
     /// The sum of all that passed, if it was wanted.
-    pub fn sum(&mut self) -> Option<[u8; 32]>
+    pub(crate) fn sum(&mut self) -> Option<[u8; 32]>
         ensures { self.new.has_failed ≡ self.old.has_failed }
     {
         let sum = self.sum.take()?;
@@ -53,7 +53,7 @@ impl<'a, R: Clock> Copies<'a, R> {
     }
 
     /// Tells why a file did not get what passed, once.
-    pub fn tell(&mut self) -> io::Result<()>
+    pub(crate) fn tell(&mut self) -> io::Result<()>
         ensures { IfErr result (λ _. self.new.has_failed ≡ true) }
     {
         match self.error.take() {
@@ -66,7 +66,7 @@ impl<'a, R: Clock> Copies<'a, R> {
     }
 
     /// So many bytes are about to pass. It answers how many of them may.
-    pub fn begin(&mut self, count: usize) -> usize
+    pub(crate) fn begin(&mut self, count: usize) -> usize
         ensures most { result ≤ count }
         ensures some { 0 < count → 0 < result }
     {
@@ -80,7 +80,7 @@ impl<'a, R: Clock> Copies<'a, R> {
     }
 
     /// These bytes have passed.
-    pub fn keep(&mut self, passed: &[u8]) {
+    pub(crate) fn keep(&mut self, passed: &[u8]) {
         let mut failed = None;
         for tee in self.tees.iter_mut() {
             if let Err(error) = tee.write_all(passed) {
@@ -99,7 +99,7 @@ impl<'a, R: Clock> Copies<'a, R> {
     }
 
     /// Flushes the files, and tells why one did not get what passed.
-    pub fn flush(&mut self) -> io::Result<()>
+    pub(crate) fn flush(&mut self) -> io::Result<()>
         ensures { IfErr result (λ _. self.new.has_failed ≡ true) }
     {
         let mut failed = None;
