@@ -1,20 +1,20 @@
 //! The steps of a reader's open call by their names, for code that makes one behind the other.
 //!
-//! Each is a row or two of `ReadPoint::step`, and says `unreachable!()` of the points that its
+//! Each is a row or two of the call table, and says `unreachable!()` of the points that its
 //! condition rules out. So the compiler knows where a call stands, and leaves nothing of it at run
-//! time.
+//! time. `ReadPoint::after` chooses among them by what a step found.
 ghost use Rattle.std.specs.Prelude.{◌≡◌, ◌+◌, ◌^◌, ◌<◌, false};
-ghost use Rattle.piper_sides.specs.Table.{goes_on, read_action, read_step, reader_draws_behind, reader_is_true, reader_looks_for};
+ghost use Rattle.piper_sides.specs.Table.{ends, goes_on, read_action, read_done, read_step, reader_draws_behind, reader_is_true, reader_looks_for};
 ghost use Rattle.piper_sides.specs.Side.{read_sum};
 
 use crate::calls::Side;
 use crate::events::Answer;
 use crate::open_call::{CallAt, goes_on};
 use crate::polling::Polled;
-use crate::read_point::{found_none, found_some, move_past_true_look, move_past_wake};
+use crate::read_point::{found_none, found_some};
 use crate::table::ReadPoint::{
-    CallDestination, Idle, LookClosed, LookRegister, LookTail, LookTailAgain, LookTake,
-    QueryClosed, StoreClosed, StoreHead, TakeWriter, WakeWriter, Yield,
+    CallDestination, Dropped, Idle, LookClosed, LookRegister, LookTail, LookTailAgain, LookTake,
+    QueryClosed, QueryHead, QueryTail, StoreClosed, StoreHead, TakeWriter, WakeWriter, Yield,
 };
 use crate::table::{
     Action, AfterRead, Form, Found, Purpose, ReadPoint, end_or_pending, failed_answer, yield_answer,
@@ -24,6 +24,44 @@ use crate::table::{
 pub type ReadCall = CallAt<ReadPoint>;
 
 impl CallAt<ReadPoint> {
+    // The call ends, and the reader has none open.
+    #[inline(always)]
+    fn ends(&mut self, answer: Answer)
+        ensures { self.new ≡ ends ReadPoint.Idle answer }
+    {
+        self.point = Idle;
+        self.answer = Some(answer);
+    }
+
+    // The call has woken the writer.
+    #[inline(always)]
+    fn passes_wake(&mut self, next: AfterRead)
+        ensures { self.new ≡ read_done next }
+    {
+        self.answer = None;
+        match next {
+            AfterRead::Answer => self.ends(Answer::Done),
+            AfterRead::Drop => {
+                self.point = Dropped;
+                self.answer = Some(Answer::Done);
+            }
+            AfterRead::Round(form, sum) => self.point = CallDestination(form, sum),
+        }
+    }
+
+    // The call's look is true: a copy moves bytes, or yields.
+    #[inline(always)]
+    fn passes_look(&mut self, purpose: Purpose)
+        ensures { self.new ≡ reader_is_true purpose }
+    {
+        self.answer = None;
+        match purpose {
+            Purpose::Poll => self.ends(Answer::Poll(Polled::Ready(true))),
+            Purpose::Copy(Form::Polling { is_drawn: true }) => self.point = Yield,
+            Purpose::Copy(form) => self.point = CallDestination(form, 0),
+        }
+    }
+
     /// A call that begins with a look, where no byte is known (`none`) or some are.
     ///
     /// A polling copy is opened as one that has not drawn: `Form::Polling { is_drawn: false }`.
@@ -60,80 +98,66 @@ impl CallAt<ReadPoint> {
         goes_on(CallDestination(form, sum))
     }
 
+    // The head was loaded, in a query.
+    #[inline(always)]
+    pub(crate) fn loaded_head(mut self) -> CallAt<ReadPoint>
+        requires { read_action self.point ≡ Action.LoadHead }
+        ensures { result ≡ read_step self.point Found.Nothing }
+    {
+        self.answer = None;
+        match self.point {
+            QueryHead(query) => self.point = QueryTail(query),
+            _ => unreachable!(),
+        }
+        self
+    }
+
     /// The tail was loaded in a look, and no byte is known even now (`none`), or some is.
     #[inline(always)]
-    pub fn refreshed(self, none: bool) -> CallAt<ReadPoint>
+    pub fn refreshed(mut self, none: bool) -> CallAt<ReadPoint>
         requires next { read_action self.point ≡ Action.Refresh }
         ensures { result ≡ read_step self.point (Found.Refreshed none) }
     {
-        let CallAt {
-            mut point,
-            answer: _,
-        } = self;
-        let answer = match point {
-            LookTail(purpose) if none => {
-                point = found_none(purpose);
-                None
-            }
-            LookTailAgain(purpose, was_closed) if none => {
-                point = Idle;
-                Some(purpose.look_answer(end_or_pending(was_closed)))
-            }
-            LookTail(purpose) | LookTailAgain(purpose, _) => {
-                point = found_some(purpose);
-                None
-            }
+        self.answer = None;
+        match self.point {
+            LookTail(purpose) if none => self.point = found_none(purpose),
+            LookTailAgain(purpose, was_closed) if none => self.ends(purpose.look_answer(
+                end_or_pending(was_closed),
+            )),
+            LookTail(purpose) | LookTailAgain(purpose, _) => self.point = found_some(purpose),
             _ => unreachable!(),
-        };
-        CallAt { point, answer }
+        }
+        self
     }
 
     /// Closed was loaded in a look, and the flag was this.
     #[inline(always)]
-    pub fn loaded_closed(self, is_closed: bool) -> CallAt<ReadPoint>
+    pub fn loaded_closed(mut self, is_closed: bool) -> CallAt<ReadPoint>
         requires next { read_action self.point ≡ Action.LoadClosed }
         ensures { result ≡ read_step self.point (Found.Flag is_closed) }
     {
-        let CallAt {
-            mut point,
-            answer: _,
-        } = self;
-        let answer = match point {
-            LookClosed(purpose) => {
-                point = LookTailAgain(purpose, is_closed);
-                None
-            }
-            QueryClosed => {
-                point = Idle;
-                Some(Answer::Flag(is_closed))
-            }
+        self.answer = None;
+        match self.point {
+            LookClosed(purpose) => self.point = LookTailAgain(purpose, is_closed),
+            QueryClosed => self.ends(Answer::Flag(is_closed)),
             _ => unreachable!(),
-        };
-        CallAt { point, answer }
+        }
+        self
     }
 
     /// The call's waker was registered, or its clone was refused.
     #[inline(always)]
-    pub fn registered(self, is_granted: bool) -> CallAt<ReadPoint>
+    pub fn registered(mut self, is_granted: bool) -> CallAt<ReadPoint>
         requires next { read_action self.point ≡ Action.Register }
         ensures { result ≡ read_step self.point (Found.Granted is_granted) }
     {
-        let CallAt {
-            mut point,
-            answer: _,
-        } = self;
-        let answer = match point {
-            LookRegister(purpose) if is_granted => {
-                point = LookClosed(purpose);
-                None
-            }
-            LookRegister(purpose) => {
-                point = Idle;
-                Some(purpose.look_answer(Polled::Memory))
-            }
+        self.answer = None;
+        match self.point {
+            LookRegister(purpose) if is_granted => self.point = LookClosed(purpose),
+            LookRegister(purpose) => self.ends(purpose.look_answer(Polled::Memory)),
             _ => unreachable!(),
-        };
-        CallAt { point, answer }
+        }
+        self
     }
 
     /// The reader's own slot was emptied, behind the look of a poll.
@@ -143,172 +167,133 @@ impl CallAt<ReadPoint> {
         requires poll { reader_draws_behind self.point ≡ false }
         ensures { result ≡ read_step self.point Found.Nothing }
     {
-        let CallAt {
-            mut point,
-            answer: _,
-        } = self;
-        let answer = match point {
-            LookTake(purpose) => move_past_true_look(&mut point, purpose),
+        self.took_own_having_drawn()
+    }
+
+    // The reader's own slot was emptied. A copy goes on as its point says that it drew.
+    #[inline(always)]
+    pub(crate) fn took_own_having_drawn(mut self) -> CallAt<ReadPoint>
+        requires { read_action self.point ≡ Action.Take Side.Reader }
+        ensures { result ≡ read_step self.point Found.Nothing }
+    {
+        match self.point {
+            LookTake(purpose) => self.passes_look(purpose),
             _ => unreachable!(),
-        };
-        CallAt { point, answer }
+        }
+        self
     }
 
     /// The caller's own waker was called in place of the rounds, or its clone was refused.
     #[inline(always)]
-    pub fn yielded(self, is_granted: bool) -> CallAt<ReadPoint>
+    pub fn yielded(mut self, is_granted: bool) -> CallAt<ReadPoint>
         requires next { read_action self.point ≡ Action.Yield }
         ensures { result ≡ read_step self.point (Found.Granted is_granted) }
     {
-        let CallAt {
-            mut point,
-            answer: _,
-        } = self;
-        let answer = match point {
-            Yield => {
-                point = Idle;
-                Some(yield_answer(is_granted))
-            }
+        self.answer = None;
+        match self.point {
+            Yield => self.ends(yield_answer(is_granted)),
             _ => unreachable!(),
-        };
-        CallAt { point, answer }
+        }
+        self
     }
 
     /// The destination took the first `n` bytes of the peeked slice.
     #[inline(always)]
-    pub fn destination_took(self, n: usize) -> CallAt<ReadPoint>
+    pub fn destination_took(mut self, n: usize) -> CallAt<ReadPoint>
         requires next { read_action self.point ≡ Action.CallDestination }
         requires fits { read_sum self.point + n < 2 ^ 64 }
         ensures { result ≡ read_step self.point (Found.Moved n) }
     {
-        let CallAt {
-            mut point,
-            answer: _,
-        } = self;
-        let answer = match point {
-            CallDestination(form, sum) if n == 0 => {
-                point = Idle;
-                Some(form.count_answer(sum))
-            }
-            CallDestination(form, sum) => {
-                point = StoreHead(n, AfterRead::Round(form, sum + n));
-                None
-            }
+        self.answer = None;
+        match self.point {
+            CallDestination(form, sum) if n == 0 => self.ends(form.count_answer(sum)),
+            CallDestination(form, sum) => self.point = StoreHead(
+                n,
+                AfterRead::Round(form, sum + n),
+            ),
             _ => unreachable!(),
-        };
-        CallAt { point, answer }
+        }
+        self
     }
 
     /// The destination failed, and took nothing.
     #[inline(always)]
-    pub fn destination_failed(self) -> CallAt<ReadPoint>
+    pub fn destination_failed(mut self) -> CallAt<ReadPoint>
         requires next { read_action self.point ≡ Action.CallDestination }
         ensures { result ≡ read_step self.point Found.Failed }
     {
-        let CallAt {
-            mut point,
-            answer: _,
-        } = self;
-        let answer = match point {
-            CallDestination(_, _) => {
-                point = Idle;
-                Some(failed_answer())
-            }
+        self.answer = None;
+        match self.point {
+            CallDestination(_, _) => self.ends(failed_answer()),
             _ => unreachable!(),
-        };
-        CallAt { point, answer }
+        }
+        self
     }
 
     /// The head was stored, past `n` bytes.
     #[inline(always)]
-    pub fn stored_head(self, n: usize) -> CallAt<ReadPoint>
+    pub fn stored_head(mut self, n: usize) -> CallAt<ReadPoint>
         requires next { read_action self.point ≡ Action.StoreHead n }
         ensures { result ≡ read_step self.point Found.Nothing }
     {
-        let CallAt {
-            mut point,
-            answer: _,
-        } = self;
-        let answer = match point {
-            StoreHead(_, next) => {
-                point = TakeWriter(next);
-                None
-            }
+        self.answer = None;
+        match self.point {
+            StoreHead(_, next) => self.point = TakeWriter(next),
             _ => unreachable!(),
-        };
-        CallAt { point, answer }
+        }
+        self
     }
 
     /// The writer's slot was emptied, and a waker stood in it or not.
     #[inline(always)]
-    pub fn took_writer(self, is_found: bool) -> CallAt<ReadPoint>
+    pub fn took_writer(mut self, is_found: bool) -> CallAt<ReadPoint>
         requires next { read_action self.point ≡ Action.Take Side.Writer }
         ensures { result ≡ read_step self.point (Found.Waker is_found) }
     {
-        let CallAt {
-            mut point,
-            answer: _,
-        } = self;
-        let answer = match point {
-            TakeWriter(next) if is_found => {
-                point = WakeWriter(next);
-                None
-            }
-            TakeWriter(next) => move_past_wake(&mut point, next),
+        self.answer = None;
+        match self.point {
+            TakeWriter(next) if is_found => self.point = WakeWriter(next),
+            TakeWriter(next) => self.passes_wake(next),
             _ => unreachable!(),
-        };
-        CallAt { point, answer }
+        }
+        self
     }
 
     /// The waker that was taken was called.
     #[inline(always)]
-    pub fn woke(self) -> CallAt<ReadPoint>
+    pub fn woke(mut self) -> CallAt<ReadPoint>
         requires next { read_action self.point ≡ Action.Wake }
         ensures { result ≡ read_step self.point Found.Nothing }
     {
-        let CallAt {
-            mut point,
-            answer: _,
-        } = self;
-        let answer = match point {
-            WakeWriter(next) => move_past_wake(&mut point, next),
+        match self.point {
+            WakeWriter(next) => self.passes_wake(next),
             _ => unreachable!(),
-        };
-        CallAt { point, answer }
+        }
+        self
     }
 
     /// The closed flag was set.
     #[inline(always)]
-    pub fn stored_closed(self) -> CallAt<ReadPoint>
+    pub fn stored_closed(mut self) -> CallAt<ReadPoint>
         requires next { read_action self.point ≡ Action.StoreClosed false }
         ensures { result ≡ read_step self.point Found.Nothing }
     {
-        let CallAt {
-            mut point,
-            answer: _,
-        } = self;
-        let answer = match point {
-            StoreClosed => {
-                point = TakeWriter(AfterRead::Drop);
-                None
-            }
+        self.answer = None;
+        match self.point {
+            StoreClosed => self.point = TakeWriter(AfterRead::Drop),
             _ => unreachable!(),
-        };
-        CallAt { point, answer }
+        }
+        self
     }
 
     /// The reader's own slot was emptied behind the true look of a polling copy, which then drew
     /// whether to yield.
     #[inline(always)]
-    pub fn took_own_and_drew(self, is_drawn: bool) -> CallAt<ReadPoint>
+    pub fn took_own_and_drew(mut self, is_drawn: bool) -> CallAt<ReadPoint>
         requires next { self.point ≡ ReadPoint.LookTake (Purpose.Copy (Form.Polling false)) }
         ensures { result ≡ reader_is_true (Purpose.Copy (Form.Polling is_drawn)) }
     {
-        let CallAt {
-            mut point,
-            answer: _,
-        } = self;
-        let answer = move_past_true_look(&mut point, Purpose::Copy(Form::Polling { is_drawn }));
-        CallAt { point, answer }
+        self.passes_look(Purpose::Copy(Form::Polling { is_drawn }));
+        self
     }
 }

@@ -1,10 +1,10 @@
 //! The steps of a writer's open call by their names, for code that makes one behind the other.
 //!
-//! Each is a row or two of `WritePoint::step`, and says `unreachable!()` of the points that its
+//! Each is a row or two of the call table, and says `unreachable!()` of the points that its
 //! condition rules out. So the compiler knows where a call stands, and leaves nothing of it at run
-//! time.
+//! time. `WritePoint::after` chooses among them by what a step found.
 ghost use Rattle.std.specs.Prelude.{◌≡◌, ◌+◌, ◌^◌, ◌<◌, true, false};
-ghost use Rattle.piper_sides.specs.Table.{begins_look, goes_on, look_begun, write_action, write_step, writer_draws_behind, writer_is_true};
+ghost use Rattle.piper_sides.specs.Table.{begins_look, ends, goes_on, look_begun, write_action, write_done, write_step, writer_draws_behind, writer_is_true};
 ghost use Rattle.piper_sides.specs.Side.{write_sum};
 
 use crate::calls::Side;
@@ -12,20 +12,59 @@ use crate::events::Answer;
 use crate::open_call::{CallAt, goes_on};
 use crate::polling::Polled;
 use crate::table::WritePoint::{
-    CallSource, Idle, LookClosedAgain, LookHead, LookHeadAgain, LookRegister, LookTake,
-    QueryClosed, RoundClosed, StoreClosed, StoreTail, TakeReader, TakeWriter, WakeReader,
-    WakeWriter, Yield,
+    CallSource, Dropped, Idle, LookClosedAgain, LookHead, LookHeadAgain, LookRegister, LookTake,
+    QueryClosed, QueryHead, QueryTail, RoundClosed, StoreClosed, StoreTail, TakeReader, TakeWriter,
+    WakeReader, WakeWriter, Yield,
 };
 use crate::table::{
     Action, AfterWrite, Form, Found, Purpose, WritePoint, end_or_pending, failed_answer,
     yield_answer,
 };
-use crate::write_point::{found_none, found_some, move_past_true_look, move_past_wake};
+use crate::write_point::{found_none, found_some};
 
 /// A writer's open call.
 pub type WriteCall = CallAt<WritePoint>;
 
 impl CallAt<WritePoint> {
+    // The call ends, and the writer has none open.
+    #[inline(always)]
+    fn ends(&mut self, answer: Answer)
+        ensures { self.new ≡ ends WritePoint.Idle answer }
+    {
+        self.point = Idle;
+        self.answer = Some(answer);
+    }
+
+    // The call has woken the reader.
+    #[inline(always)]
+    fn passes_wake(&mut self, next: AfterWrite)
+        ensures { self.new ≡ write_done next }
+    {
+        self.answer = None;
+        match next {
+            AfterWrite::Answer => self.ends(Answer::Done),
+            AfterWrite::Drop => {
+                self.point = Dropped;
+                self.answer = Some(Answer::Done);
+            }
+            AfterWrite::WakeWriter => self.point = TakeWriter,
+            AfterWrite::Round(form, sum) => self.point = CallSource(form, sum),
+        }
+    }
+
+    // The call's look is true: a copy moves bytes, or yields.
+    #[inline(always)]
+    fn passes_look(&mut self, purpose: Purpose)
+        ensures { self.new ≡ writer_is_true purpose }
+    {
+        self.answer = None;
+        match purpose {
+            Purpose::Poll => self.ends(Answer::Poll(Polled::Ready(true))),
+            Purpose::Copy(Form::Polling { is_drawn: true }) => self.point = Yield,
+            Purpose::Copy(form) => self.point = CallSource(form, 0),
+        }
+    }
+
     /// A call that begins with a look, and so with a load of closed.
     ///
     /// A polling copy is opened as one that has not drawn: `Form::Polling { is_drawn: false }`.
@@ -82,87 +121,65 @@ impl CallAt<WritePoint> {
 
     /// Closed was loaded in a query, at the end of a look or in a round, and the flag was this.
     #[inline(always)]
-    pub fn loaded_closed(self, is_closed: bool) -> CallAt<WritePoint>
+    pub fn loaded_closed(mut self, is_closed: bool) -> CallAt<WritePoint>
         requires next { write_action self.point ≡ Action.LoadClosed }
         requires goes_on { begins_look self.point ≡ false }
         ensures { result ≡ write_step self.point (Found.Flag is_closed) }
     {
-        let CallAt {
-            mut point,
-            answer: _,
-        } = self;
-        let answer = match point {
-            QueryClosed => {
-                point = Idle;
-                Some(Answer::Flag(is_closed))
-            }
-            LookClosedAgain(purpose) => {
-                point = Idle;
-                Some(purpose.look_answer(end_or_pending(is_closed)))
-            }
-            RoundClosed(_, form, sum) if is_closed => {
-                point = Idle;
-                Some(form.count_answer(sum))
-            }
-            RoundClosed(n, form, sum) => {
-                point = StoreTail(n, AfterWrite::Round(form, sum));
-                None
-            }
+        self.answer = None;
+        match self.point {
+            QueryClosed => self.ends(Answer::Flag(is_closed)),
+            LookClosedAgain(purpose) => self.ends(purpose.look_answer(end_or_pending(is_closed))),
+            RoundClosed(_, form, sum) if is_closed => self.ends(form.count_answer(sum)),
+            RoundClosed(n, form, sum) => self.point = StoreTail(n, AfterWrite::Round(form, sum)),
             _ => unreachable!(),
-        };
-        CallAt { point, answer }
+        }
+        self
+    }
+
+    // The head was loaded in a query, which found so many bytes unread.
+    #[inline(always)]
+    pub(crate) fn counted(mut self, count: usize) -> CallAt<WritePoint>
+        requires { write_action self.point ≡ Action.LoadHead }
+        ensures { result ≡ write_step self.point (Found.Unread count) }
+    {
+        self.answer = None;
+        match self.point {
+            QueryHead(query) => self.point = QueryTail(query, count),
+            _ => unreachable!(),
+        }
+        self
     }
 
     /// The head was loaded in a look, and no room is known even now (`none`), or some is.
     #[inline(always)]
-    pub fn refreshed(self, none: bool) -> CallAt<WritePoint>
+    pub fn refreshed(mut self, none: bool) -> CallAt<WritePoint>
         requires next { write_action self.point ≡ Action.Refresh }
         ensures { result ≡ write_step self.point (Found.Refreshed none) }
     {
-        let CallAt {
-            mut point,
-            answer: _,
-        } = self;
-        let answer = match point {
-            LookHead(purpose) if none => {
-                point = found_none(purpose);
-                None
-            }
-            LookHeadAgain(purpose) if none => {
-                point = LookClosedAgain(purpose);
-                None
-            }
-            LookHead(purpose) | LookHeadAgain(purpose) => {
-                point = found_some(purpose);
-                None
-            }
+        self.answer = None;
+        match self.point {
+            LookHead(purpose) if none => self.point = found_none(purpose),
+            LookHeadAgain(purpose) if none => self.point = LookClosedAgain(purpose),
+            LookHead(purpose) | LookHeadAgain(purpose) => self.point = found_some(purpose),
             _ => unreachable!(),
-        };
-        CallAt { point, answer }
+        }
+        self
     }
 
     /// The call's waker was registered, or its clone was refused.
     #[inline(always)]
-    pub fn registered(self, is_granted: bool) -> CallAt<WritePoint>
+    pub fn registered(mut self, is_granted: bool) -> CallAt<WritePoint>
         requires next { write_action self.point ≡ Action.Register }
         ensures { result ≡ write_step self.point (Found.Granted is_granted) }
     {
-        let CallAt {
-            mut point,
-            answer: _,
-        } = self;
-        let answer = match point {
-            LookRegister(purpose) if is_granted => {
-                point = LookHeadAgain(purpose);
-                None
-            }
-            LookRegister(purpose) => {
-                point = Idle;
-                Some(purpose.look_answer(Polled::Memory))
-            }
+        self.answer = None;
+        match self.point {
+            LookRegister(purpose) if is_granted => self.point = LookHeadAgain(purpose),
+            LookRegister(purpose) => self.ends(purpose.look_answer(Polled::Memory)),
             _ => unreachable!(),
-        };
-        CallAt { point, answer }
+        }
+        self
     }
 
     /// The writer's own slot was emptied, behind the look of a poll or in a close, and a waker
@@ -173,184 +190,135 @@ impl CallAt<WritePoint> {
         requires no_copy { writer_draws_behind self.point ≡ false }
         ensures { result ≡ write_step self.point (Found.Waker is_found) }
     {
-        let CallAt {
-            mut point,
-            answer: _,
-        } = self;
-        let answer = match point {
-            LookTake(purpose) => move_past_true_look(&mut point, purpose),
-            TakeWriter if is_found => {
-                point = WakeWriter;
-                None
-            }
-            TakeWriter => {
-                point = Idle;
-                Some(Answer::Done)
-            }
+        self.took_own_having_drawn(is_found)
+    }
+
+    // The writer's own slot was emptied. A copy goes on as its point says that it drew.
+    #[inline(always)]
+    pub(crate) fn took_own_having_drawn(mut self, is_found: bool) -> CallAt<WritePoint>
+        requires { write_action self.point ≡ Action.Take Side.Writer }
+        ensures { result ≡ write_step self.point (Found.Waker is_found) }
+    {
+        self.answer = None;
+        match self.point {
+            LookTake(purpose) => self.passes_look(purpose),
+            TakeWriter if is_found => self.point = WakeWriter,
+            TakeWriter => self.ends(Answer::Done),
             _ => unreachable!(),
-        };
-        CallAt { point, answer }
+        }
+        self
     }
 
     /// The caller's own waker was called in place of the rounds, or its clone was refused.
     #[inline(always)]
-    pub fn yielded(self, is_granted: bool) -> CallAt<WritePoint>
+    pub fn yielded(mut self, is_granted: bool) -> CallAt<WritePoint>
         requires next { write_action self.point ≡ Action.Yield }
         ensures { result ≡ write_step self.point (Found.Granted is_granted) }
     {
-        let CallAt {
-            mut point,
-            answer: _,
-        } = self;
-        let answer = match point {
-            Yield => {
-                point = Idle;
-                Some(yield_answer(is_granted))
-            }
+        self.answer = None;
+        match self.point {
+            Yield => self.ends(yield_answer(is_granted)),
             _ => unreachable!(),
-        };
-        CallAt { point, answer }
+        }
+        self
     }
 
     /// The source gave `n` bytes, which stand at the front of what is lent.
     #[inline(always)]
-    pub fn source_gave(self, n: usize) -> CallAt<WritePoint>
+    pub fn source_gave(mut self, n: usize) -> CallAt<WritePoint>
         requires next { write_action self.point ≡ Action.CallSource }
         requires fits { write_sum self.point + n < 2 ^ 64 }
         ensures { result ≡ write_step self.point (Found.Moved n) }
     {
-        let CallAt {
-            mut point,
-            answer: _,
-        } = self;
-        let answer = match point {
-            CallSource(form, sum) if n == 0 => {
-                point = Idle;
-                Some(form.count_answer(sum))
-            }
-            CallSource(form, sum) => {
-                point = RoundClosed(n, form, sum + n);
-                None
-            }
+        self.answer = None;
+        match self.point {
+            CallSource(form, sum) if n == 0 => self.ends(form.count_answer(sum)),
+            CallSource(form, sum) => self.point = RoundClosed(n, form, sum + n),
             _ => unreachable!(),
-        };
-        CallAt { point, answer }
+        }
+        self
     }
 
     /// The source failed, and gave nothing.
     #[inline(always)]
-    pub fn source_failed(self) -> CallAt<WritePoint>
+    pub fn source_failed(mut self) -> CallAt<WritePoint>
         requires next { write_action self.point ≡ Action.CallSource }
         ensures { result ≡ write_step self.point Found.Failed }
     {
-        let CallAt {
-            mut point,
-            answer: _,
-        } = self;
-        let answer = match point {
-            CallSource(_, _) => {
-                point = Idle;
-                Some(failed_answer())
-            }
+        self.answer = None;
+        match self.point {
+            CallSource(_, _) => self.ends(failed_answer()),
             _ => unreachable!(),
-        };
-        CallAt { point, answer }
+        }
+        self
     }
 
     /// The tail was stored, past `n` bytes.
     #[inline(always)]
-    pub fn stored_tail(self, n: usize) -> CallAt<WritePoint>
+    pub fn stored_tail(mut self, n: usize) -> CallAt<WritePoint>
         requires next { write_action self.point ≡ Action.StoreTail n }
         ensures { result ≡ write_step self.point Found.Nothing }
     {
-        let CallAt {
-            mut point,
-            answer: _,
-        } = self;
-        let answer = match point {
-            StoreTail(_, next) => {
-                point = TakeReader(next);
-                None
-            }
+        self.answer = None;
+        match self.point {
+            StoreTail(_, next) => self.point = TakeReader(next),
             _ => unreachable!(),
-        };
-        CallAt { point, answer }
+        }
+        self
     }
 
     /// The reader's slot was emptied, and a waker stood in it or not.
     #[inline(always)]
-    pub fn took_reader(self, is_found: bool) -> CallAt<WritePoint>
+    pub fn took_reader(mut self, is_found: bool) -> CallAt<WritePoint>
         requires next { write_action self.point ≡ Action.Take Side.Reader }
         ensures { result ≡ write_step self.point (Found.Waker is_found) }
     {
-        let CallAt {
-            mut point,
-            answer: _,
-        } = self;
-        let answer = match point {
-            TakeReader(next) if is_found => {
-                point = WakeReader(next);
-                None
-            }
-            TakeReader(next) => move_past_wake(&mut point, next),
+        self.answer = None;
+        match self.point {
+            TakeReader(next) if is_found => self.point = WakeReader(next),
+            TakeReader(next) => self.passes_wake(next),
             _ => unreachable!(),
-        };
-        CallAt { point, answer }
+        }
+        self
     }
 
     /// The waker that was taken was called.
     #[inline(always)]
-    pub fn woke(self) -> CallAt<WritePoint>
+    pub fn woke(mut self) -> CallAt<WritePoint>
         requires next { write_action self.point ≡ Action.Wake }
         ensures { result ≡ write_step self.point Found.Nothing }
     {
-        let CallAt {
-            mut point,
-            answer: _,
-        } = self;
-        let answer = match point {
-            WakeReader(next) => move_past_wake(&mut point, next),
-            WakeWriter => {
-                point = Idle;
-                Some(Answer::Done)
-            }
+        self.answer = None;
+        match self.point {
+            WakeReader(next) => self.passes_wake(next),
+            WakeWriter => self.ends(Answer::Done),
             _ => unreachable!(),
-        };
-        CallAt { point, answer }
+        }
+        self
     }
 
     /// The closed flag was set, by a close (`is_shut`) or by a drop.
     #[inline(always)]
-    pub fn stored_closed(self, is_shut: bool) -> CallAt<WritePoint>
+    pub fn stored_closed(mut self, is_shut: bool) -> CallAt<WritePoint>
         requires next { write_action self.point ≡ Action.StoreClosed is_shut }
         ensures { result ≡ write_step self.point Found.Nothing }
     {
-        let CallAt {
-            mut point,
-            answer: _,
-        } = self;
-        let answer = match point {
-            StoreClosed(next) => {
-                point = TakeReader(next);
-                None
-            }
+        self.answer = None;
+        match self.point {
+            StoreClosed(next) => self.point = TakeReader(next),
             _ => unreachable!(),
-        };
-        CallAt { point, answer }
+        }
+        self
     }
 
     /// The writer's own slot was emptied behind the true look of a polling copy, which then drew
     /// whether to yield.
     #[inline(always)]
-    pub fn took_own_and_drew(self, is_drawn: bool) -> CallAt<WritePoint>
+    pub fn took_own_and_drew(mut self, is_drawn: bool) -> CallAt<WritePoint>
         requires next { self.point ≡ WritePoint.LookTake (Purpose.Copy (Form.Polling false)) }
         ensures { result ≡ writer_is_true (Purpose.Copy (Form.Polling is_drawn)) }
     {
-        let CallAt {
-            mut point,
-            answer: _,
-        } = self;
-        let answer = move_past_true_look(&mut point, Purpose::Copy(Form::Polling { is_drawn }));
-        CallAt { point, answer }
+        self.passes_look(Purpose::Copy(Form::Polling { is_drawn }));
+        self
     }
 }

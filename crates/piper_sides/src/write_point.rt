@@ -1,13 +1,12 @@
-//! The rows of the writer's calls: which step a point puts next, and where what that step found
-//! leads.
+//! Which step a point of the writer's calls puts next, and which row of `WriteCall` takes in what
+//! that step found.
 //!
 //! They are inlined, so that a call whose point is known keeps none at run time.
 ghost use Rattle.std.specs.Prelude.{IsSome, ◌≡◌, ◌≢◌, ℕ, ◌+◌, ◌≤◌, ◌==◌, false, true};
-ghost use Rattle.piper_sides.specs.Table.{SumFits, ends_fill, look_begun, moved_in, reader_taken, write_action, write_after, write_done, write_step, writer_draws, writer_found, writer_found_none, writer_is_true};
+ghost use Rattle.piper_sides.specs.Table.{SumFits, ends_fill, look_begun, moved_in, write_action, write_after, writer_found, writer_found_none};
 ghost use Rattle.piper_sides.specs.Side.{publishes, tail_store, write_sum};
 
 use crate::calls::Side;
-use crate::events::Answer;
 use crate::open_call::{CallAt, ends, goes_on};
 use crate::polling::Polled;
 use crate::table::WritePoint::{
@@ -15,10 +14,7 @@ use crate::table::WritePoint::{
     LookTake, QueryClosed, QueryHead, QueryTail, RoundClosed, StoreClosed, StoreTail, TakeReader,
     TakeWriter, WakeReader, WakeWriter, Yield,
 };
-use crate::table::{
-    Action, AfterWrite, Form, Found, Purpose, WritePoint, end_or_pending, failed_answer,
-    yield_answer,
-};
+use crate::table::{Action, AfterWrite, Form, Found, Purpose, WritePoint};
 
 // Where a look leads that finds room.
 #[inline(always)]
@@ -40,83 +36,6 @@ pub(crate) fn found_none(purpose: Purpose) -> WritePoint
         Purpose::Copy(Form::Try) => LookHeadAgain(purpose),
         _ => LookRegister(purpose),
     }
-}
-
-// Where a copy goes on whose look is true.
-#[inline(always)]
-fn draws(form: Form) -> WritePoint
-    ensures { result ≡ writer_draws form }
-{
-    match form {
-        Form::Polling { is_drawn: true } => Yield,
-        _ => CallSource(form, 0),
-    }
-}
-
-// Moves the point to where a call goes on that has woken the reader, and answers what the call
-// does, if it ends there.
-#[inline(always)]
-pub(crate) fn move_past_wake(point: &mut WritePoint, next: AfterWrite) -> Option<Answer>
-    ensures point { point.new ≡ (write_done next).point }
-    ensures answer { result ≡ (write_done next).answer }
-{
-    match next {
-        AfterWrite::Answer => {
-            *point = Idle;
-            Some(Answer::Done)
-        }
-        AfterWrite::Drop => {
-            *point = Dropped;
-            Some(Answer::Done)
-        }
-        AfterWrite::WakeWriter => {
-            *point = TakeWriter;
-            None
-        }
-        AfterWrite::Round(form, sum) => {
-            *point = CallSource(form, sum);
-            None
-        }
-    }
-}
-
-// Moves the point to where a call goes on whose look is true, and answers what the call does, if it
-// ends there.
-#[inline(always)]
-pub(crate) fn move_past_true_look(point: &mut WritePoint, purpose: Purpose) -> Option<Answer>
-    ensures point { point.new ≡ (writer_is_true purpose).point }
-    ensures answer { result ≡ (writer_is_true purpose).answer }
-{
-    match purpose {
-        Purpose::Poll => {
-            *point = Idle;
-            Some(Answer::Poll(Polled::Ready(true)))
-        }
-        Purpose::Copy(form) => {
-            *point = draws(form);
-            None
-        }
-    }
-}
-
-// Where a call goes on that has woken the reader.
-#[inline(always)]
-fn done(next: AfterWrite) -> CallAt<WritePoint>
-    ensures { result ≡ write_done next }
-{
-    let mut point = WakeReader(next);
-    let answer = move_past_wake(&mut point, next);
-    CallAt { point, answer }
-}
-
-// Where a call goes on whose look is true.
-#[inline(always)]
-fn is_true(purpose: Purpose) -> CallAt<WritePoint>
-    ensures { result ≡ writer_is_true purpose }
-{
-    let mut point = LookTake(purpose);
-    let answer = move_past_true_look(&mut point, purpose);
-    CallAt { point, answer }
 }
 
 impl WritePoint {
@@ -174,61 +93,6 @@ impl WritePoint {
         }
     }
 
-    /// Where the step leads that comes next, by what it found; whatever the capacity and the known
-    /// room.
-    #[inline(always)]
-    pub(crate) fn step(self, found: Found) -> CallAt<WritePoint>
-        requires fits { SumFits (write_sum self) found }
-        ensures step { result ≡ write_step self found }
-        ensures open { write_action self ≢ Action.Rest → result.point ≡ WritePoint.Idle
-            → IsSome result.answer }
-        ensures rests { IsSome result.answer → tail_store result.point ≡ 0 }
-        ensures store { (most : ℕ) → tail_store self ≤ most → moved_in found ≤ most
-            → tail_store result.point ≤ most }
-        ensures sum { (most : ℕ) → publishes self ≡ false → write_sum self ≤ most + tail_store self
-            → write_sum result.point ≤ most + tail_store result.point }
-        ensures published { publishes self ≡ true → (tail_store result.point ≡ 0)
-            × (write_sum result.point ≡ write_sum self) }
-    {
-        match (self, found) {
-            (QueryHead(query), Found::Unread(count)) => goes_on(QueryTail(query, count)),
-            (QueryClosed, Found::Flag(is_closed)) => ends(Idle, Answer::Flag(is_closed)),
-            (LookHead(purpose), Found::Refreshed { none: true }) => goes_on(found_none(purpose)),
-            (LookHeadAgain(purpose), Found::Refreshed { none: true }) => goes_on(LookClosedAgain(
-                purpose,
-            )),
-            (LookHead(purpose), Found::Refreshed { none: false })
-            | (LookHeadAgain(purpose), Found::Refreshed { none: false }) => goes_on(found_some(
-                purpose,
-            )),
-            (LookRegister(purpose), Found::Granted(true)) => goes_on(LookHeadAgain(purpose)),
-            (LookRegister(purpose), Found::Granted(false)) => ends(
-                Idle,
-                purpose.look_answer(Polled::Memory),
-            ),
-            (LookClosedAgain(purpose), Found::Flag(is_closed)) => ends(
-                Idle,
-                purpose.look_answer(end_or_pending(is_closed)),
-            ),
-            (LookTake(purpose), _) => is_true(purpose),
-            (Yield, Found::Granted(is_granted)) => ends(Idle, yield_answer(is_granted)),
-            (CallSource(form, sum), Found::Moved(0)) => ends(Idle, form.count_answer(sum)),
-            (CallSource(form, sum), Found::Moved(n)) => goes_on(RoundClosed(n, form, sum + n)),
-            (CallSource(_, _), Found::Failed) => ends(Idle, failed_answer()),
-            (RoundClosed(_, form, sum), Found::Flag(true)) => ends(Idle, form.count_answer(sum)),
-            (RoundClosed(n, form, sum), Found::Flag(false)) => goes_on(StoreTail(
-                n,
-                AfterWrite::Round(form, sum),
-            )),
-            (StoreTail(_, next), _) | (StoreClosed(next), _) => goes_on(TakeReader(next)),
-            (TakeReader(next), Found::Waker(true)) => goes_on(WakeReader(next)),
-            (TakeReader(next), Found::Waker(false)) | (WakeReader(next), _) => done(next),
-            (TakeWriter, Found::Waker(true)) => goes_on(WakeWriter),
-            (TakeWriter, Found::Waker(false)) | (WakeWriter, _) => ends(Idle, Answer::Done),
-            _ => goes_on(self),
-        }
-    }
-
     /// Where the step leads that comes next in a pipe of this capacity, by what it found; no room
     /// is known (`none`), or some is.
     pub(crate) fn after(self, capacity: usize, none: bool, found: Found) -> CallAt<WritePoint>
@@ -245,13 +109,30 @@ impl WritePoint {
         ensures published { publishes self ≡ true → (tail_store result.point ≡ 0)
             × (write_sum result.point ≡ write_sum self) }
     {
-        match self {
-            QueryTail(query, count) => ends(Idle, query.answer(capacity, count)),
-            LookClosed(_) => match found {
-                Found::Flag(is_closed) => self.look_begun(none, is_closed),
-                _ => self.step(found),
-            },
-            _ => self.step(found),
+        match (self, found) {
+            (QueryHead(_), Found::Unread(count)) => goes_on(self).counted(count),
+            (QueryTail(query, count), _) => ends(Idle, query.answer(capacity, count)),
+            (QueryClosed, Found::Flag(is_closed)) => goes_on(self).loaded_closed(is_closed),
+            (LookClosedAgain(_), Found::Flag(is_closed)) => goes_on(self).loaded_closed(is_closed),
+            (RoundClosed(_, _, _), Found::Flag(is_closed)) => goes_on(self).loaded_closed(
+                is_closed,
+            ),
+            (LookClosed(_), Found::Flag(is_closed)) => self.look_begun(none, is_closed),
+            (LookHead(_), Found::Refreshed { none }) => goes_on(self).refreshed(none),
+            (LookHeadAgain(_), Found::Refreshed { none }) => goes_on(self).refreshed(none),
+            (LookRegister(_), Found::Granted(is_granted)) => goes_on(self).registered(is_granted),
+            (LookTake(_), _) => goes_on(self).took_own_having_drawn(false),
+            (TakeWriter, Found::Waker(is_found)) => goes_on(self).took_own_having_drawn(is_found),
+            (Yield, Found::Granted(is_granted)) => goes_on(self).yielded(is_granted),
+            (CallSource(_, _), Found::Moved(n)) => goes_on(self).source_gave(n),
+            (CallSource(_, _), Found::Failed) => goes_on(self).source_failed(),
+            (StoreTail(n, _), _) => goes_on(self).stored_tail(n),
+            (TakeReader(_), Found::Waker(is_found)) => goes_on(self).took_reader(is_found),
+            (WakeReader(_), _) => goes_on(self).woke(),
+            (WakeWriter, _) => goes_on(self).woke(),
+            (StoreClosed(AfterWrite::WakeWriter), _) => goes_on(self).stored_closed(true),
+            (StoreClosed(_), _) => goes_on(self).stored_closed(false),
+            _ => goes_on(self),
         }
     }
 }

@@ -170,7 +170,9 @@ impl WriteSide {
     {
         self.indices.sees(head);
         let none = self.indices.knows_none();
-        let CallAt { point, answer } = self.point.step(Found::Refreshed { none });
+        let CallAt { point, answer } = self
+            .point
+            .after(self.indices.capacity(), none, Found::Refreshed { none });
         self.point = point;
         answer
     }
@@ -188,7 +190,10 @@ impl WriteSide {
         ensures sound { IsWriting self.new }
     {
         self.indices.publishes(n);
-        let CallAt { point, answer } = self.point.step(Found::Nothing);
+        let none = self.indices.knows_none();
+        let CallAt { point, answer } = self
+            .point
+            .after(self.indices.capacity(), none, Found::Nothing);
         self.point = point;
         answer
     }
@@ -205,7 +210,10 @@ impl WriteSide {
         ensures sound { IsWriting self.new }
     {
         self.indices.shut();
-        let CallAt { point, answer } = self.point.step(Found::Nothing);
+        let none = self.indices.knows_none();
+        let CallAt { point, answer } = self
+            .point
+            .after(self.indices.capacity(), none, Found::Nothing);
         self.point = point;
         answer
     }
