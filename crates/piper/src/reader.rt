@@ -2,7 +2,6 @@
 ghost use Rattle.std.specs.Prelude.{◌≡◌, ◌<◌, ◌≤◌, ◌++◌, length, take, drop, IsTrue, Ok, true, false};
 ghost use Rattle.futures.specs.Task.{Covers, Keeps};
 ghost use Rattle.futures.specs.Poll.{OnPending};
-ghost use Rattle.piper_sides.specs.Table.{read_action, read_step};
 ghost use Rattle.piper_ring.specs.ReadView.{MayBeUnread, KnowsEnd, in_one_piece};
 ghost use Rattle.piper.specs.Counts.{ReaderCompares};
 ghost use Rattle.piper.specs.Ends.{IsEnded, ReaderConsumed};
@@ -14,9 +13,8 @@ use crate::handles::Reader;
 use crate::left::LeftReader;
 use futures::task::{Context, Poll};
 use piper_ring::{LastReadMark, OutOfMemory, ReadMark};
-use piper_sides::calls::Side;
 use piper_sides::read_call::ReadCall;
-use piper_sides::table::{Action, Found, Purpose};
+use piper_sides::table::Purpose;
 
 impl Reader {
     ghost use Rattle.piper.specs.Handles.{NotifiesWriter, SameReaderButWaits, SameReaderButWoke, read_source};
@@ -127,21 +125,6 @@ impl Reader {
     {
         let call = self.store_head(ReadCall::consume(amt), amt);
         self.wake_writer(call).done();
-    }
-
-    /// Takes who stands in the writer's slot, and calls its waker.
-    #[inline(always)]
-    pub(crate) fn wake_writer(&mut self, call: ReadCall) -> ReadCall
-        requires next { read_action call.point ≡ Action.Take Side.Writer }
-        ensures step { result ≡ read_step call.point (Found.Waker false) }
-        ensures woke { NotifiesWriter self.new }
-        ensures end { self.new.end ≡ self.old.end }
-        ensures rest { SameReaderButWoke self.old self.new }
-    {
-        match self.find_no_writer(call) {
-            Ok(call) => call,
-            Err(call) => self.take_and_wake_writer(call),
-        }
     }
 
     /// Evidence of what was consumed, for the writer to heed.

@@ -2,7 +2,6 @@
 ghost use Rattle.std.specs.Prelude.{◌≡◌, ◌+◌, ◌-◌, ◌<◌, ◌≤◌, ◌++◌, length, take, drop, IsTrue, Ok, true, false};
 ghost use Rattle.futures.specs.Task.{Covers, Keeps};
 ghost use Rattle.futures.specs.Poll.{OnPending};
-ghost use Rattle.piper_sides.specs.Table.{write_action, write_step};
 ghost use Rattle.piper_ring.specs.WriteView.{MayBeUnread};
 ghost use Rattle.piper.specs.Counts.{WriterCompares};
 ghost use Rattle.piper.specs.Ends.{WriterPublished, WriterShut};
@@ -13,8 +12,7 @@ use crate::handles::Writer;
 use crate::left::LeftWriter;
 use futures::task::{Context, Poll};
 use piper_ring::{OutOfMemory, WriteMark};
-use piper_sides::calls::Side;
-use piper_sides::table::{Action, Found, Purpose};
+use piper_sides::table::Purpose;
 use piper_sides::write_call::WriteCall;
 
 impl Writer {
@@ -110,21 +108,6 @@ impl Writer {
     {
         let call = self.store_tail(WriteCall::produced(n), n);
         self.wake_reader(call).done();
-    }
-
-    /// Takes who stands in the reader's slot, and calls its waker.
-    #[inline(always)]
-    pub(crate) fn wake_reader(&mut self, call: WriteCall) -> WriteCall
-        requires next { write_action call.point ≡ Action.Take Side.Reader }
-        ensures step { result ≡ write_step call.point (Found.Waker false) }
-        ensures woke { NotifiesReader self.new }
-        ensures end { self.new.end ≡ self.old.end }
-        ensures rest { SameWriterButWoke self.old self.new }
-    {
-        match self.find_no_reader(call) {
-            Ok(call) => call,
-            Err(call) => self.take_and_wake_reader(call),
-        }
     }
 
     /// Closes the pipe for good, and wakes both sides. Nothing is lent any more, and what was lent

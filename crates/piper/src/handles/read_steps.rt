@@ -1,6 +1,6 @@
 //! The steps of the reader: one function for each kind, which makes the one access of its end or of
 //! a slot and takes the open call one step on.
-ghost use Rattle.std.specs.Prelude.{◌≡◌, ◌<◌, ◌≤◌, ◌++◌, ◌↔◌, ◌⊎◌, length, take, drop, IsTrue, IsFalse, IfOk, IfErr, true, false};
+ghost use Rattle.std.specs.Prelude.{◌≡◌, ◌<◌, ◌≤◌, ◌++◌, ◌↔◌, ◌⊎◌, length, take, drop, IsTrue, IsFalse, true, false};
 ghost use Rattle.futures.specs.Task.{Covers, Keeps};
 ghost use Rattle.piper_sides.specs.Table.{goes_on, read_action, read_step, reader_draws_behind, reader_looks_for};
 ghost use Rattle.piper_ring.specs.ReadView.{KnowsEnd, in_one_piece};
@@ -175,22 +175,20 @@ impl Reader {
         call.stored_head(n)
     }
 
-    /// Looks behind all that was consumed whether the writer stands in its slot. Where it does, the
-    /// call stays where it is.
+    /// Looks behind the store whether the writer stands in its slot, and takes it and calls its waker
+    /// where it does.
     #[inline(always)]
-    pub(crate) fn find_no_writer(&mut self, call: ReadCall) -> Result<ReadCall, ReadCall>
+    pub(crate) fn wake_writer(&mut self, call: ReadCall) -> ReadCall
         requires next { read_action call.point ≡ Action.Take Side.Writer }
-        ensures none { IfOk result (λ after. after ≡ read_step call.point (Found.Waker false)) }
-        ensures woke { IfOk result (λ _. NotifiesWriter self.new) }
-        ensures stays { IfErr result (λ same. (same ≡ call) × (self.new ≡ self.old)) }
+        ensures step { result ≡ read_step call.point (Found.Waker false) }
+        ensures woke { NotifiesWriter self.new }
         ensures end { self.new.end ≡ self.old.end }
         ensures rest { SameReaderButWoke self.old self.new }
     {
         if self.end.finds_none(&mut self.waiting) {
-            Ok(call.took_writer(false))
-        } else {
-            Err(call)
+            return call.took_writer(false);
         }
+        self.take_and_wake_writer(call)
     }
 
     /// Takes who stands in the writer's slot, and calls its waker.

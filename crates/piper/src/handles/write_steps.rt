@@ -1,6 +1,6 @@
 //! The steps of the writer: one function for each kind, which makes the one access of its end or of
 //! a slot and takes the open call one step on.
-ghost use Rattle.std.specs.Prelude.{◌≡◌, ◌+◌, ◌<◌, ◌≤◌, ◌++◌, ◌↔◌, ◌⊎◌, length, take, drop, IsTrue, IsFalse, IfOk, IfErr, true, false};
+ghost use Rattle.std.specs.Prelude.{◌≡◌, ◌+◌, ◌<◌, ◌≤◌, ◌++◌, ◌↔◌, ◌⊎◌, length, take, drop, IsTrue, IsFalse, true, false};
 ghost use Rattle.futures.specs.Task.{Covers, Keeps};
 ghost use Rattle.piper_sides.specs.Table.{begins_look, look_begun, write_action, write_step};
 ghost use Rattle.piper_ring.specs.Shared.{flag};
@@ -213,22 +213,20 @@ impl Writer {
         call.stored_closed(true)
     }
 
-    /// Looks behind all that was published whether the reader stands in its slot. Where it does, the
-    /// call stays where it is.
+    /// Looks behind the store whether the reader stands in its slot, and takes it and calls its waker
+    /// where it does.
     #[inline(always)]
-    pub(crate) fn find_no_reader(&mut self, call: WriteCall) -> Result<WriteCall, WriteCall>
+    pub(crate) fn wake_reader(&mut self, call: WriteCall) -> WriteCall
         requires next { write_action call.point ≡ Action.Take Side.Reader }
-        ensures none { IfOk result (λ after. after ≡ write_step call.point (Found.Waker false)) }
-        ensures woke { IfOk result (λ _. NotifiesReader self.new) }
-        ensures stays { IfErr result (λ same. (same ≡ call) × (self.new ≡ self.old)) }
+        ensures step { result ≡ write_step call.point (Found.Waker false) }
+        ensures woke { NotifiesReader self.new }
         ensures end { self.new.end ≡ self.old.end }
         ensures rest { SameWriterButWoke self.old self.new }
     {
         if self.end.finds_none(&mut self.waiting) {
-            Ok(call.took_reader(false))
-        } else {
-            Err(call)
+            return call.took_reader(false);
         }
+        self.take_and_wake_reader(call)
     }
 
     /// Takes who stands in the reader's slot, and calls its waker.
