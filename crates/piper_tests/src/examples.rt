@@ -1,6 +1,5 @@
 //! An example of each public call of `piper`, `piper_lines` and `piper_duplex`. A test in each file
 //! runs all of it.
-mod compare;
 mod duplex;
 mod ends;
 mod frames;

@@ -6,6 +6,8 @@
 #[cfg(test)]
 mod carries;
 #[cfg(test)]
+mod compare;
+#[cfg(test)]
 mod copies;
 #[cfg(test)]
 mod crossing;

@@ -1,5 +1,5 @@
 //! A duplex stream, and an echo of lines over one.
-use crate::examples::compare::{ready, same};
+use crate::compare::{ready, same};
 use crate::running::same_bytes;
 use futures::test::MockTask;
 use piper::{OwnedReader, OwnedWriter, owned_pipe};

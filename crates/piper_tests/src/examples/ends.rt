@@ -1,7 +1,7 @@
 //! How a pipe begins and ends, and what its sides can prove to each other.
 ghost use Rattle.piper.specs.Handles.{ArePair};
 
-use crate::examples::compare::{confirm, same};
+use crate::compare::{confirm, same};
 use futures::task::Context;
 use futures::test::MockTask;
 use piper::{OwnedReader, OwnedWriter, Reader, Writer, pipe};

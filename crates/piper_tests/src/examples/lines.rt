@@ -1,5 +1,5 @@
 //! Lines, read and written whole.
-use crate::examples::compare::{confirm, ready, same};
+use crate::compare::{confirm, ready, same};
 use crate::running::same_bytes;
 use futures::task::{Context, Poll};
 use futures::test::MockTask;

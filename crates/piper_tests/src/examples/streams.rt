@@ -1,5 +1,5 @@
 //! The traits of readers and writers that may be pending, and the copy between two of them.
-use crate::examples::compare::{confirm, ready, same};
+use crate::compare::{confirm, ready, same};
 use crate::running::same_bytes;
 use futures::task::{Context, Poll};
 use futures::test::MockTask;

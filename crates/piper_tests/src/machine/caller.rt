@@ -1,5 +1,5 @@
 //! What the contracts leave open: that there is memory, and that a list of steps is accepted.
-use super::same;
+use crate::compare::same;
 use piper_caller::{len_alone, made_by_the_laws, through};
 use piper_machine::calls::{Call, Query, Side, SideState, Step};
 use std::test::Fail;

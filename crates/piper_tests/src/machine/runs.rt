@@ -3,7 +3,7 @@ ghost use Rattle.std.specs.Prelude.{◌≡◌};
 ghost use Rattle.piper_sides.specs.Index.{IsCapacity};
 ghost use Rattle.piper_machine.specs.Pipe.{fresh};
 
-use super::same;
+use crate::compare::same;
 use piper_machine::machine::{Machine, run};
 use piper_sides::bytes::Bytes;
 use piper_sides::calls::{Call, Side, Step};

@@ -1,5 +1,5 @@
 //! What no contract says: that memory is granted, and what an error prints.
-use super::same;
+use crate::compare::same;
 use piper_sides::bytes::Bytes;
 use piper_sides::calls::Side;
 use piper_sides::events::{Answer, Event, Log, answered};
