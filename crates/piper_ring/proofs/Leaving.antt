@@ -103,8 +103,8 @@ module _ {M : Type 1} {𝓤 : Ura M} (𝓛 : Logic 𝓤) (w p : Ptr) (z : Names)
   slots_end : ⟦ slots w p z ⟧ ⊢ ⟦ slot_rooms w ⟧
   slots_end = let b : ℕ = block_of w in let o : ℕ = count_of w in qed 𝓛 (‵ (slots w p z) ∷ []) ∵ fsplit ! $
       fpick ! (λ s. fsplit3 ! $ move ! (1 ∷ []) $ fsplit ! $ move ! (4 ∷ []) $ fpick ! (λ t. fsplit3 ! $ move ! (1 ∷ []) $ fsplit ! $
-      use1 𝓛 (‵ (word_room w 136)) (𝓛.laws.at_room u b (136 + o) _) $ move ! (1 ∷ []) $ use1 𝓛 (‵ (word_room w 144)) (𝓛.laws.at_room u b (144 + o) _) $
-      move ! (4 ∷ []) $ use1 𝓛 (‵ (word_room w 264)) (𝓛.laws.at_room u b (264 + o) _) $ move ! (5 ∷ []) $ use1 𝓛 (‵ (word_room w 272)) (𝓛.laws.at_room u b (272 + o) _) $
+      use1 𝓛 (‵ (word_room w 640)) (𝓛.laws.at_room u b (640 + o) _) $ move ! (1 ∷ []) $ use1 𝓛 (‵ (word_room w 648)) (𝓛.laws.at_room u b (648 + o) _) $
+      move ! (4 ∷ []) $ use1 𝓛 (‵ (word_room w 512)) (𝓛.laws.at_room u b (512 + o) _) $ move ! (5 ∷ []) $ use1 𝓛 (‵ (word_room w 520)) (𝓛.laws.at_room u b (520 + o) _) $
       move ! (3 ∷ 2 ∷ []) $ fjoin ! $ move ! (2 ∷ 1 ∷ 0 ∷ []) $ fjoin3 ! $ keep ! (0 ∷ []) $ done !))
 
   -- once both ends are gone, the words and the places that each gave up are all of the memory

@@ -144,10 +144,9 @@ pub record Holds (capacity : ℕ) (s : State) : Type 0 where
   pub shutting : flag s.shut ≤ flag s.closed
   pub stages : (s.reader_stage ≤ 2) × (s.writer_stage ≤ 2)
 
--- four lines of 128 bytes: with the word that the other side loads lie the two of the slot in which
--- that side waits
+-- six lines of 128 bytes: the two words of a slot share one, and else no two words do
 abbrev pub words_type : Ty
-words_type = array_of u64 64
+words_type = array_of u64 96
 
 abbrev pub four_rooms : Ptr → Fml
 four_rooms w =
@@ -156,7 +155,7 @@ four_rooms w =
 -- the words of both slots
 abbrev pub slot_rooms : Ptr → Fml
 slot_rooms w =
-    fsep (word_room w 264) (fsep (word_room w 272) (fsep (word_room w 136) (word_room w 144)))
+    fsep (word_room w 512) (fsep (word_room w 520) (fsep (word_room w 640) (word_room w 648)))
 
 abbrev pub all_rooms : Ptr → Fml
 all_rooms w = fsep (four_rooms w) (slot_rooms w)
@@ -219,11 +218,11 @@ wakes_back z holds taken count over =
 module _ (w p : Ptr) (z : Names) where
   -- in the reader's slot the reader waits for what the writer publishes
   abbrev pub reader_slot : Fml
-  reader_slot = slot w 264 z.reader_waits z.writer_wakes z.reader_place coded_stream (published z)
+  reader_slot = slot w 512 z.reader_waits z.writer_wakes z.reader_place coded_stream (published z)
 
   -- in the writer's slot the writer waits for what the reader consumes
   abbrev pub writer_slot : Fml
-  writer_slot = slot w 136 z.writer_waits z.reader_wakes z.writer_place coded_consumed (consumed z)
+  writer_slot = slot w 640 z.writer_waits z.reader_wakes z.writer_place coded_consumed (consumed z)
 
   abbrev pub words : State → Fml
   words s =

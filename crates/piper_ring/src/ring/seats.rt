@@ -15,11 +15,10 @@ use std::marker::{Brand, Model, PhantomData, Send, Sync};
 use std::sync::atomic::Ordering::SeqCst;
 use std::sync::atomic::raw;
 
-/// The words lie in four lines of 128 bytes. A side that waits does so for the other's index, and
-/// that side looks for it behind each store of the index: so the two words of a slot lie in the line
-/// of that index, and else no two words share a cache line. What lies in front of this memory can
+/// The words lie in six lines of 128 bytes. The two words of a slot, which nobody stores while bytes
+/// flow, share one, and else no two words share a cache line. What lies in front of this memory can
 /// share one with the first alone, which each end uses once, on leaving.
-pub(crate) const WORDS_SIZE: usize = 512;
+pub(crate) const WORDS_SIZE: usize = 768;
 
 pub(crate) const WORDS_ALIGN: usize = 8;
 
@@ -31,13 +30,13 @@ const TAIL_WORD: usize = 32;
 
 const CLOSED_WORD: usize = 48;
 
-pub(crate) const READER_FLAG: usize = 33;
+pub(crate) const READER_FLAG: usize = 64;
 
-pub(crate) const READER_BACK: usize = 34;
+pub(crate) const READER_BACK: usize = 65;
 
-pub(crate) const WRITER_FLAG: usize = 17;
+pub(crate) const WRITER_FLAG: usize = 80;
 
-pub(crate) const WRITER_BACK: usize = 18;
+pub(crate) const WRITER_BACK: usize = 81;
 
 /// The reader's side of the words. `have` is all that it consumed, followed by all that it knows
 /// of.
@@ -104,7 +103,7 @@ impl Remains {
     /// The memory as the heap gave it: that of the words, and that of the bytes.
     pub(crate) fn into_memory(self, base: Base) -> (Memory, Memory)
         requires { (self.last ≡ true) × (base.ptr ≡ self.at) }
-        ensures words { (result.0.size ≡ 512) × (result.0.align ≡ 8) }
+        ensures words { (result.0.size ≡ 768) × (result.0.align ≡ 8) }
         ensures bytes { (result.1.size ≡ self.names.capacity) × (result.1.align ≡ 1) }
     {
         let Remains { words } = self;
