@@ -10,7 +10,7 @@ use Rattle.futures.specs.declared.task.Poll.TheVariants.{Ready, Pending}
 use Rattle.piper.specs.Drains.{EndIsUnseen}
 use Rattle.piper.specs.Ends.{IsEnded}
 use Rattle.piper.specs.Looks.{ReaderFound}
-use Rattle.piper.specs.Polls.{Behind, TakesNone}
+use Rattle.piper.specs.Polls.{After, TakesNone}
 
 -- who saw the end knows where it is
 knows : (told saw : Bool) → saw ≡ true → either told saw ≡ true
@@ -57,16 +57,16 @@ ended_takes : (a b : ReadView) → (KnowsEnd a → b.all ≡ a.all) → IsEnded 
 ended_takes a b same before now = now.all ∙ same (ended_knows a before) ∙ sym before.all
 
 -- a drain behind the end takes none, and doesn't wait
-pub ended_behind : {E : Type 0} (r : Poll (Result ℕ E)) (a b : ReadView) → (KnowsEnd a → b.all ≡ a.all) → (IsEnded a → IsEnded b) → EndIsUnseen r a b → IsEnded a → TakesNone r (IsEnded b) a.taken b.taken
-ended_behind (Ready (Ok n)) a b same stays unseen ended = (stays ended, ended_takes a b same ended (stays ended), tt)
-ended_behind (Ready (Err e)) a b same stays unseen ended = (stays ended, ended_takes a b same ended (stays ended), tt)
-ended_behind Pending a b same stays unseen ended =
+pub ended_after : {E : Type 0} (r : Poll (Result ℕ E)) (a b : ReadView) → (KnowsEnd a → b.all ≡ a.all) → (IsEnded a → IsEnded b) → EndIsUnseen r a b → IsEnded a → TakesNone r (IsEnded b) a.taken b.taken
+ended_after (Ready (Ok n)) a b same stays unseen ended = (stays ended, ended_takes a b same ended (stays ended), tt)
+ended_after (Ready (Err e)) a b same stays unseen ended = (stays ended, ended_takes a b same ended (stays ended), tt)
+ended_after Pending a b same stays unseen ended =
     let now = stays ended in
     let taken : b.taken ≡ a.taken = ended_takes a b same ended now in
     (now, taken, absurd (true≢false (sym now.saw ∙ (unseen (omega (arith, ap length taken, ap length now.known))).0)))
 
 -- and so does a poll
-pub ended_poll : {E : Type 0} (r : Poll (Result Bool E)) (b : ReadView) → ReaderFound r b → IsEnded b → Behind r (IsEnded b) b.known
+pub ended_poll : {E : Type 0} (r : Poll (Result Bool E)) (b : ReadView) → ReaderFound r b → IsEnded b → After r (IsEnded b) b.known
 ended_poll (Ready (Ok found)) b answer ended = (ended, ended.known, tt)
 ended_poll (Ready (Err e)) b answer ended = (ended, ended.known, tt)
 ended_poll Pending b answer ended = (ended, ended.known, absurd (true≢false (sym ended.saw ∙ answer.1)))

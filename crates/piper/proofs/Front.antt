@@ -8,8 +8,8 @@ use Rattle.piper.specs.Written.{written}
 module _ (old before now new moved : List ℕ) (place n : ℕ) (same : before ≡ old) (first : place ≡ 0) (count : length moved ≡ n) (is : now ≡ written before place moved) (back : new ≡ now) where
   whole : new ≡ moved ++ drop n old
   whole =
-      let behind : 0 + length moved ≡ n = omega (arith, count) in
-      back ∙ is ∙ ap (λ k. written before k moved) first ∙ ap (λ xs. written xs 0 moved) same ∙ ap (λ k. moved ++ drop k old) behind
+      let after : 0 + length moved ≡ n = omega (arith, count) in
+      back ∙ is ∙ ap (λ k. written before k moved) first ∙ ap (λ xs. written xs 0 moved) same ∙ ap (λ k. moved ++ drop k old) after
 
   pub front_is : take n new ≡ moved
   front_is = ap (λ xs. take n xs) whole ∙ take_at moved (drop n old) n count

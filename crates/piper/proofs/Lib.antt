@@ -12,5 +12,5 @@ mod Wrote
 mod StaysNotified
 mod SamePlace
 mod RoomOrNone
-mod StandsStill
+mod StaysRegistered
 mod Woken

@@ -2,9 +2,9 @@
 use Rattle.std.proofs.Common.{◌≡◌, Bool, true, false, ℕ, ◌<◌, ◌≤◌, ◌⊎◌, [], ◌++◌, length, Result, Ok, Err, refl, sym, ap, ◌∙◌, subst, append-nil, length-append, inl, arith}
 use Rattle.futures.specs.declared.task.Poll.{Poll}
 use Rattle.futures.specs.declared.task.Poll.TheVariants.{Ready, Pending}
-use Rattle.piper_sides.specs.Table.{look_answer, end_or_pending}
-use Rattle.piper_sides.specs.declared.table.Form.TheVariants.{Polling}
-use Rattle.piper_sides.specs.declared.table.Purpose.TheVariants as purpose
+use Rattle.piper_protocol.specs.Table.{look_answer, end_or_pending}
+use Rattle.piper_protocol.specs.declared.table.Form.TheVariants.{Polling}
+use Rattle.piper_protocol.specs.declared.table.Purpose.TheVariants as purpose
 use Rattle.piper_ring.specs.Shared.{flag}
 use Rattle.piper_ring.specs.ReadView.{ReadView}
 use Rattle.piper.specs.CopyAnswers.{Copies, copied_of}
@@ -72,13 +72,13 @@ ended_unseen (Ready (Err e)) a b some = tt
 ended_unseen Pending a b some = tt
 
 -- who saw no close was told of none
-untold : (told saw : Bool) → flag told ≤ flag saw → saw ≡ false → told ≡ false
-untold false saw le unseen = refl
-untold true false le unseen = absurd (omega (arith, le))
-untold true true le unseen = absurd (cc)
+unnoted : (told saw : Bool) → flag told ≤ flag saw → saw ≡ false → told ≡ false
+unnoted false saw le unseen = refl
+unnoted true false le unseen = absurd (omega (arith, le))
+unnoted true true le unseen = absurd (cc)
 
 -- the table ended a look, which found no byte
 pub looked_in_vain : {E : Type 0} (is_closed : Bool) (r : Poll (Result ℕ (Inner E))) (w : ReadView) → r ≡ copied_of (look_answer (purpose.Copy (Polling false)) (end_or_pending is_closed))
     → w.known ≡ [] → w.saw ≡ is_closed → flag w.told_shut ≤ flag w.saw → FoundNoByte r w
 looked_in_vain true r w told none saw heeds = rw told (refl, none, saw)
-looked_in_vain false r w told none saw heeds = rw told (none, saw, untold w.told_shut w.saw heeds saw)
+looked_in_vain false r w told none saw heeds = rw told (none, saw, unnoted w.told_shut w.saw heeds saw)

@@ -3,14 +3,14 @@ use Rattle.std.proofs.Common.{◌≡◌, ◌==◌, ℕ, ◌+◌, ◌∙◌, refl
 use Rattle.std.proofs.lemmas.Bool.Decides.{nat_tests}
 use Rattle.futures.specs.declared.task.Poll.{Poll}
 use Rattle.futures.specs.declared.task.Poll.TheVariants.{Ready}
-use Rattle.piper_sides.specs.declared.table.Found.TheVariants.{Nothing as nothing, Moved as moved, Waker as waker, Flag as flag}
-use Rattle.piper_sides.specs.Table.{Next, goes_on, ends, count_answer, write_step, writer_moved, writer_rounds}
-use Rattle.piper_sides.specs.declared.events.Answer.{Answer}
-use Rattle.piper_sides.specs.declared.table.Form.{Form}
-use Rattle.piper_sides.specs.declared.table.Form.TheVariants.{Try, Polling}
-use Rattle.piper_sides.specs.declared.table.AfterWrite.TheVariants as behind
-use Rattle.piper_sides.specs.declared.table.WritePoint.{WritePoint}
-use Rattle.piper_sides.specs.declared.table.WritePoint.TheVariants as on
+use Rattle.piper_protocol.specs.declared.table.Found.TheVariants.{Nothing as nothing, Moved as moved, Waker as waker, Flag as flag}
+use Rattle.piper_protocol.specs.Table.{Next, goes_on, ends, count_answer, write_step, writer_moved, writer_rounds}
+use Rattle.piper_protocol.specs.declared.events.Answer.{Answer}
+use Rattle.piper_protocol.specs.declared.table.Form.{Form}
+use Rattle.piper_protocol.specs.declared.table.Form.TheVariants.{Try, Polling}
+use Rattle.piper_protocol.specs.declared.table.AfterWrite.TheVariants as after_write
+use Rattle.piper_protocol.specs.declared.table.WritePoint.{WritePoint}
+use Rattle.piper_protocol.specs.declared.table.WritePoint.TheVariants as on
 use Rattle.piper.specs.CopyAnswers.{IsCopied, copied_of}
 use Rattle.piper.specs.declared.error.Inner.{Inner}
 
@@ -64,11 +64,11 @@ module _ (call : Next WritePoint) (form : Form) (s n : ℕ) (here : call ≡ goe
 
       -- they are published, and it is called again
       module _ (is_open : is_closed ≡ false) where
-        pub stores : looked.point ≡ on.StoreTail n (behind.Round form (s + n))
+        pub stores : looked.point ≡ on.StoreTail n (after_write.Round form (s + n))
         stores = ap (λ (c : Next WritePoint). c.point) (looks ∙ ap (λ (b : Bool). writer_rounds b n form (s + n)) is_open)
 
         module _ (stored : Next WritePoint) (stored_is : stored ≡ write_step looked.point nothing) where
-          pub takes : stored.point ≡ on.TakeReader (behind.Round form (s + n))
+          pub takes : stored.point ≡ on.TakeReader (after_write.Round form (s + n))
           takes = ap (λ (c : Next WritePoint). c.point) (stored_is ∙ ap (λ (p : WritePoint). write_step p nothing) stores)
 
           pub fill_round : (woken : Next WritePoint) → woken ≡ write_step stored.point (waker false) → woken ≡ goes_on (on.CallSource form (s + n))

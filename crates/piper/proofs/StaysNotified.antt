@@ -3,8 +3,8 @@ use Rattle.std.proofs.Common.{◌≡◌}
 use Rattle.piper.specs.declared.handles.Writer.{Writer}
 use Rattle.piper.specs.Handles.{NotifiesReader}
 
-pub reader_stays : (a b : Writer) → b.waiting ≡ a.waiting → b.end.sent ≡ a.end.sent → b.end.shut ≡ a.end.shut → NotifiesReader a → NotifiesReader b
-reader_stays a b waiting sent shut woke = record {
-  bytes = rw (sent, waiting) woke.bytes;
-  shut = rw (shut, waiting) woke.shut;
+pub reader_stays : (a b : Writer) → b.registrations ≡ a.registrations → b.end.sent ≡ a.end.sent → b.end.shut ≡ a.end.shut → NotifiesReader a → NotifiesReader b
+reader_stays a b registrations sent shut woke = record {
+  bytes = rw (sent, registrations) woke.bytes;
+  shut = rw (shut, registrations) woke.shut;
 }

@@ -1,14 +1,14 @@
 -- Once the waker that was taken is called, the call goes on as where none stood in the slot.
 use Rattle.std.proofs.Common.{◌≡◌, Bool, true, false, refl}
-use Rattle.piper_sides.specs.declared.calls.Side.TheVariants.{Reader, Writer}
-use Rattle.piper_sides.specs.declared.table.Action.TheVariants as does
-use Rattle.piper_sides.specs.declared.table.AfterWrite.TheVariants as behind
-use Rattle.piper_sides.specs.declared.table.Found.TheVariants.{Waker as waker}
-use Rattle.piper_sides.specs.declared.table.ReadPoint.{ReadPoint}
-use Rattle.piper_sides.specs.declared.table.ReadPoint.TheVariants as at
-use Rattle.piper_sides.specs.declared.table.WritePoint.{WritePoint}
-use Rattle.piper_sides.specs.declared.table.WritePoint.TheVariants as on
-use Rattle.piper_sides.specs.Table.{read_action, read_step, write_action, write_step}
+use Rattle.piper_protocol.specs.declared.calls.Side.TheVariants.{Reader, Writer}
+use Rattle.piper_protocol.specs.declared.table.Action.TheVariants as does
+use Rattle.piper_protocol.specs.declared.table.AfterWrite.TheVariants as after_write
+use Rattle.piper_protocol.specs.declared.table.Found.TheVariants.{Waker as waker}
+use Rattle.piper_protocol.specs.declared.table.ReadPoint.{ReadPoint}
+use Rattle.piper_protocol.specs.declared.table.ReadPoint.TheVariants as at
+use Rattle.piper_protocol.specs.declared.table.WritePoint.{WritePoint}
+use Rattle.piper_protocol.specs.declared.table.WritePoint.TheVariants as on
+use Rattle.piper_protocol.specs.Table.{read_action, read_step, write_action, write_step}
 use Rattle.piper.specs.Calls.{read_woken, write_woken}
 
 pub read_past : (point : ReadPoint) (found : Bool) → read_action point ≡ does.Take Writer
@@ -51,10 +51,10 @@ write_past (on.CallSource form sum) true takes = absurd (cc)
 write_past (on.RoundClosed n form sum) true takes = absurd (cc)
 write_past (on.StoreTail n next) true takes = absurd (cc)
 write_past (on.WakeReader next) true takes = absurd (cc)
-write_past (on.StoreClosed behind.Answer) true takes = absurd (cc)
-write_past (on.StoreClosed behind.Drop) true takes = absurd (cc)
-write_past (on.StoreClosed behind.WakeWriter) true takes = absurd (cc)
-write_past (on.StoreClosed (behind.Round form sum)) true takes = absurd (cc)
+write_past (on.StoreClosed after_write.Answer) true takes = absurd (cc)
+write_past (on.StoreClosed after_write.Drop) true takes = absurd (cc)
+write_past (on.StoreClosed after_write.WakeWriter) true takes = absurd (cc)
+write_past (on.StoreClosed (after_write.Round form sum)) true takes = absurd (cc)
 write_past on.TakeWriter true takes = absurd (cc)
 write_past on.WakeWriter true takes = absurd (cc)
 

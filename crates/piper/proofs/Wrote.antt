@@ -1,7 +1,7 @@
 -- Bytes that were published of a slice.
 use Rattle.std.proofs.Common.{◌≡◌, ℕ, ◌+◌, ◌≤◌, Bool, false, List, [], ◌++◌, take, length, min, refl, sym, ap, ◌∙◌, append_assoc, length-append, arith}
 use Rattle.std.proofs.lemmas.List.{take_at}
-use Rattle.piper_sides.specs.declared.scripted.TheConstants.{MOST_A_ROUND}
+use Rattle.piper_protocol.specs.declared.scripted.TheConstants.{MOST_A_ROUND}
 
 -- of the first n bytes some were lost: those that were published are the front of the slice
 pub wrote : (bytes published lost rest before after : List ℕ) (n : ℕ) (saw : Bool) (most : ℕ) → bytes ≡ (published ++ lost) ++ rest → length (published ++ lost) ≡ n

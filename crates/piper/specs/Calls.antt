@@ -2,14 +2,14 @@
 use Rattle.std.specs.Prelude.{Bool, true, false, Result, Ok, Err}
 use Rattle.futures.specs.declared.task.Poll.{Poll}
 use Rattle.futures.specs.declared.task.Poll.TheVariants as polling
-use Rattle.piper_sides.specs.declared.events.Answer.{Answer}
-use Rattle.piper_sides.specs.declared.events.Answer.TheVariants as answer
-use Rattle.piper_sides.specs.declared.memory.OutOfMemory.{OutOfMemory}
-use Rattle.piper_sides.specs.declared.polling.Polled.TheVariants as told
-use Rattle.piper_sides.specs.declared.table.ReadPoint.{ReadPoint}
-use Rattle.piper_sides.specs.declared.table.WritePoint.{WritePoint}
-use Rattle.piper_sides.specs.declared.table.Found.TheVariants.{Nothing as nothing}
-use Rattle.piper_sides.specs.Table.{Next, read_step, write_step}
+use Rattle.piper_protocol.specs.declared.events.Answer.{Answer}
+use Rattle.piper_protocol.specs.declared.events.Answer.TheVariants as answer
+use Rattle.piper_protocol.specs.declared.memory.OutOfMemory.{OutOfMemory}
+use Rattle.piper_protocol.specs.declared.polling.Polled.TheVariants as told
+use Rattle.piper_protocol.specs.declared.table.ReadPoint.{ReadPoint}
+use Rattle.piper_protocol.specs.declared.table.WritePoint.{WritePoint}
+use Rattle.piper_protocol.specs.declared.table.Found.TheVariants.{Nothing as nothing}
+use Rattle.piper_protocol.specs.Table.{Next, read_step, write_step}
 
 -- what a poll of the table answers; nothing else is asked for
 abbrev pub poll_of : Answer → Poll (Result Bool OutOfMemory)

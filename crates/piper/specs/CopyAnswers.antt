@@ -2,13 +2,13 @@
 use Rattle.std.specs.Prelude.{◌≡◌, ℕ, ◌+◌, ◌%◌, ◌^◌, List, [], length, Result, Ok, Err, ⊤}
 use Rattle.futures.specs.declared.task.Poll.{Poll}
 use Rattle.futures.specs.declared.task.Poll.TheVariants.{Ready, Pending}
-use Rattle.piper_sides.specs.declared.events.Answer.{Answer}
-use Rattle.piper_sides.specs.declared.events.Answer.TheVariants as answer
-use Rattle.piper_sides.specs.declared.polling.Polled.TheVariants as told
+use Rattle.piper_protocol.specs.declared.events.Answer.{Answer}
+use Rattle.piper_protocol.specs.declared.events.Answer.TheVariants as answer
+use Rattle.piper_protocol.specs.declared.polling.Polled.TheVariants as told
 use Rattle.piper.specs.Like.{Passes}
 use Rattle.std.specs.declared.convert.Infallible.{Infallible}
 use Rattle.std.specs.declared.io.Error.{Error}
-use Rattle.piper_sides.specs.declared.memory.OutOfMemory.{OutOfMemory}
+use Rattle.piper_protocol.specs.declared.memory.OutOfMemory.{OutOfMemory}
 use Rattle.piper.specs.declared.error.PipeError.{PipeError}
 use Rattle.piper.specs.declared.error.PipeError.TheVariants as pipe
 use Rattle.piper.specs.declared.error.Inner.{Inner}

@@ -7,6 +7,6 @@ use Rattle.piper.specs.declared.error.PipeError.{PipeError}
 use Rattle.piper.specs.declared.error.PipeError.TheVariants.{Memory, Io}
 
 -- want of memory is told by its kind, and the error of a source or destination as it is
-abbrev pub TellsFailure : PipeError → Error → Type 0
-TellsFailure Memory error = error_kind error ≡ OutOfMemory
-TellsFailure (Io own) error = error ≡ own
+abbrev pub ReportsFailure : PipeError → Error → Type 0
+ReportsFailure Memory error = error_kind error ≡ OutOfMemory
+ReportsFailure (Io own) error = error ≡ own

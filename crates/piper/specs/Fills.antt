@@ -7,7 +7,7 @@ use Rattle.futures.specs.Poll.{OnPending}
 use Rattle.std.specs.Io.KnownBytes.{IsAtEnd}
 use Rattle.piper_ring.specs.Shared.{flag}
 use Rattle.piper_ring.specs.WriteView.{WriteView, SameWriteEnd, room_in_one_piece}
-use Rattle.piper_sides.specs.declared.scripted.TheConstants.{MOST_A_ROUND}
+use Rattle.piper_protocol.specs.declared.scripted.TheConstants.{MOST_A_ROUND}
 use Rattle.piper.specs.Copies.{IsReplaced}
 use Rattle.piper.specs.CopyAnswers.{Copies}
 use Rattle.piper.specs.Contexts.{AsksAgain}

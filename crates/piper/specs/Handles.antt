@@ -25,34 +25,34 @@ write_source writer = source_of (arc_value writer.slots).writer
 
 -- the reader looked at the writer's slot behind all that it consumed, and took who waited there
 abbrev pub NotifiesWriter : Reader → Type 0
-NotifiesWriter reader = IsReaderAtRest reader.end reader.waiting
+NotifiesWriter reader = IsReaderAtRest reader.end reader.registrations
 
 -- the writer looked at the reader's slot behind all that it published,
 -- and behind its close where it closed the pipe, and took who waited there
 abbrev pub NotifiesReader : Writer → Type 0
-NotifiesReader writer = IsAtRest writer.end writer.waiting
+NotifiesReader writer = IsAtRest writer.end writer.registrations
 
 -- b waits as a does and wakes at the slots of a, and draws the same numbers next
 pub record SameReaderButWoke (a b : Reader) : Type 0 where
   pub slots : b.slots ≡ a.slots
   pub rng : b.rng ≡ a.rng
-  pub waits : SameReaderPlace a.waiting b.waiting
+  pub waits : SameReaderPlace a.registrations b.registrations
 
 pub record SameWriterButWoke (a b : Writer) : Type 0 where
   pub slots : b.slots ≡ a.slots
   pub rng : b.rng ≡ a.rng
-  pub waits : SameWriterPlace a.waiting b.waiting
+  pub waits : SameWriterPlace a.registrations b.registrations
 
 -- b woke the other side behind what a had woken it, and may wait otherwise
 pub record SameReaderButWaits (a b : Reader) : Type 0 where
   pub slots : b.slots ≡ a.slots
   pub rng : b.rng ≡ a.rng
-  pub looks : SameReaderLooks a.waiting b.waiting
+  pub looks : SameReaderLooks a.registrations b.registrations
 
 pub record SameWriterButWaits (a b : Writer) : Type 0 where
   pub slots : b.slots ≡ a.slots
   pub rng : b.rng ≡ a.rng
-  pub looks : SameWriterLooks a.waiting b.waiting
+  pub looks : SameWriterLooks a.registrations b.registrations
 
 -- b may wait otherwise, and have woken the other side since
 pub record SameWriterButSlots (a b : Writer) : Type 0 where
@@ -63,12 +63,12 @@ pub record SameWriterButSlots (a b : Writer) : Type 0 where
 pub record SameReader (a b : Reader) : Type 0 where
   pub slots : b.slots ≡ a.slots
   pub rng : b.rng ≡ a.rng
-  pub waiting : b.waiting ≡ a.waiting
+  pub registrations : b.registrations ≡ a.registrations
 
 pub record SameWriter (a b : Writer) : Type 0 where
   pub slots : b.slots ≡ a.slots
   pub rng : b.rng ≡ a.rng
-  pub waiting : b.waiting ≡ a.waiting
+  pub registrations : b.registrations ≡ a.registrations
 
 -- the handle that writes, once a `&mut` into the slice that
 -- it lent has ended: what is lent holds what was written there

@@ -4,7 +4,7 @@ use Rattle.futures.specs.Poll.{OnPending}
 use Rattle.futures.specs.declared.task.Poll.{Poll}
 use Rattle.futures.specs.declared.task.Poll.TheVariants.{Ready, Pending}
 use denote.Ref.{Bor}
-use Rattle.piper_sides.specs.declared.scripted.TheConstants.{MOST_A_ROUND}
+use Rattle.piper_protocol.specs.declared.scripted.TheConstants.{MOST_A_ROUND}
 
 -- P holds where the poll was ready and nothing failed
 abbrev pub OnReadyOk : {A E : Type 0} → Poll (Result A E) → Type 0 → Type 0
@@ -25,8 +25,8 @@ IfReadyErr (Ready (Err e)) P = P e
 IfReadyErr Pending P = ⊤
 
 -- what holds behind a told end: it is the end still, no byte becomes known, and no call waits
-abbrev pub Behind : {A E : Type 0} → Poll (Result A E) → Type 0 → List ℕ → Type 0
-Behind r ended known = ended × (known ≡ []) × OnPending r ⊥
+abbrev pub After : {A E : Type 0} → Poll (Result A E) → Type 0 → List ℕ → Type 0
+After r ended known = ended × (known ≡ []) × OnPending r ⊥
 
 -- and of a reader that doesn't tell what it knows: it takes no byte
 abbrev pub TakesNone : {A E : Type 0}

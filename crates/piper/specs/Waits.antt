@@ -7,47 +7,47 @@ use Rattle.piper_ring.specs.WriteView.{WriteView}
 use Rattle.piper.specs.Contexts.{AsksAgain}
 use Rattle.piper.specs.declared.handles.Reader.{Reader}
 use Rattle.piper.specs.declared.handles.Writer.{Writer}
-use Rattle.piper.specs.declared.left.LeftReader.{LeftReader}
-use Rattle.piper.specs.declared.left.LeftWriter.{LeftWriter}
+use Rattle.piper.specs.declared.finished.FinishedReader.{FinishedReader}
+use Rattle.piper.specs.declared.finished.FinishedWriter.{FinishedWriter}
 
 -- the reader waits: since a it has registered in its slot, under a new ticket,
 -- and its look behind that found nothing to do
 pub record ReaderWaits (a b : Reader) : Type 0 where
-  pub ticket : b.waiting.tickets ≡ a.waiting.tickets + 1
-  pub pending : IsPending b.end b.waiting
+  pub ticket : b.registrations.tickets ≡ a.registrations.tickets + 1
+  pub pending : IsPending b.end b.registrations
 
 -- the writer waits
 pub record WriterWaits (a b : Writer) : Type 0 where
-  pub ticket : b.waiting.tickets ≡ a.waiting.tickets + 1
-  pub pending : IsWriterPending b.end b.waiting
+  pub ticket : b.registrations.tickets ≡ a.registrations.tickets + 1
+  pub pending : IsWriterPending b.end b.registrations
 
 -- a reader that is pending waits in its slot, or its task asked for another poll itself
-abbrev pub ReaderStands : Reader → Reader → Context → Type 0
-ReaderStands a b cx = ReaderWaits a b ⊎ AsksAgain cx
+abbrev pub ReaderRegistered : Reader → Reader → Context → Type 0
+ReaderRegistered a b cx = ReaderWaits a b ⊎ AsksAgain cx
 
-abbrev pub WriterStands : Writer → Writer → Context → Type 0
-WriterStands a b cx = WriterWaits a b ⊎ AsksAgain cx
+abbrev pub WriterRegistered : Writer → Writer → Context → Type 0
+WriterRegistered a b cx = WriterWaits a b ⊎ AsksAgain cx
 
 -- once a reader met its writer as b: the writer took its last ticket,
 -- or the reader has nothing to do, since no byte is unread and the pipe is open
 abbrev pub ReaderIsRemembered : Reader → Reader → Writer → Type 0
 ReaderIsRemembered a b writer =
-    (writer.waiting.taken ≡ a.waiting.tickets)
+    (writer.registrations.taken ≡ a.registrations.tickets)
     ⊎ ((b.end.known ≡ []) × (writer.end.shut ≡ false))
 
 -- once a writer met its reader as b: the reader took its last ticket,
 -- or the writer has nothing to do, since there is no room and the pipe is open
 abbrev pub WriterIsRemembered : Writer → Writer → Reader → Type 0
 WriterIsRemembered a b reader =
-    (reader.waiting.taken ≡ a.waiting.tickets)
+    (reader.registrations.taken ≡ a.registrations.tickets)
     ⊎ ((b.end.room ≡ 0) × (b.end.shut ≡ false))
 
 -- behind the close by which it left, the reader looked at the writer's slot
-pub record ReaderWokeLast (end : ReadView) (left : LeftReader) : Type 0 where
-  pub count : left.waiting.count ≡ length end.taken
-  pub over : left.waiting.over ≡ true
+pub record ReaderWokeLast (end : ReadView) (left : FinishedReader) : Type 0 where
+  pub count : left.registrations.count ≡ length end.taken
+  pub over : left.registrations.over ≡ true
 
 -- behind the close by which it left, the writer looked at the reader's slot
-pub record WriterWokeLast (end : WriteView) (left : LeftWriter) : Type 0 where
-  pub bytes : left.waiting.bytes ≡ end.sent
-  pub shut : left.waiting.shut ≡ true
+pub record WriterWokeLast (end : WriteView) (left : FinishedWriter) : Type 0 where
+  pub bytes : left.registrations.bytes ≡ end.sent
+  pub shut : left.registrations.shut ≡ true

@@ -1,19 +1,19 @@
 //! What the call table answers, as the calls of the handles answer it; and the wake at the end of a
 //! round or a call.
 ghost use Rattle.std.specs.Prelude.{◌≡◌, Bool, true};
-ghost use Rattle.piper_sides.specs.Table.{read_action, write_action};
+ghost use Rattle.piper_protocol.specs.Table.{read_action, write_action};
 ghost use Rattle.piper.specs.Slots.{found_in};
 ghost use Rattle.piper.specs.Calls.{poll_of, read_woken, write_woken};
 
 use crate::handles::{read_steps, write_steps};
 use crate::slot::Taken;
 use futures::task::Poll;
-use piper_sides::events::Answer;
-use piper_sides::memory::OutOfMemory;
-use piper_sides::polling::Polled;
-use piper_sides::read_call::ReadCall;
-use piper_sides::table::Action;
-use piper_sides::write_call::WriteCall;
+use piper_protocol::events::Answer;
+use piper_protocol::memory::OutOfMemory;
+use piper_protocol::polling::Polled;
+use piper_protocol::read_call::ReadCall;
+use piper_protocol::table::Action;
+use piper_protocol::write_call::WriteCall;
 
 /// What a poll answers.
 #[inline(always)]
@@ -38,7 +38,7 @@ pub(crate) fn read_wake(call: ReadCall, taken: Taken) -> ReadCall
     if taken.is_found() {
         return read_steps::wake(call, taken);
     }
-    taken.let_go();
+    taken.discard();
     call
 }
 
@@ -51,6 +51,6 @@ pub(crate) fn write_wake(call: WriteCall, taken: Taken) -> WriteCall
     if taken.is_found() {
         return write_steps::wake(call, taken);
     }
-    taken.let_go();
+    taken.discard();
     call
 }

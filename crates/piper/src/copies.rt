@@ -8,8 +8,8 @@ mod polling;
 
 use crate::error::Inner;
 use futures::task::Poll;
-use piper_sides::events::Answer;
-use piper_sides::polling::Polled;
+use piper_protocol::events::Answer;
+use piper_protocol::polling::Polled;
 
 /// What a copy answers that did not fail.
 #[inline(always)]

@@ -50,9 +50,9 @@ impl From<AllocError> for PipeError {
 /// So that `?` takes a failed call of the pipe to an `io::Result`: want of memory by its kind, and
 /// the error of a source or destination as it is.
 impl From<PipeError> for io::Error {
-    ghost use Rattle.piper.specs.Failed.{TellsFailure};
+    ghost use Rattle.piper.specs.Failed.{ReportsFailure};
 
-    ghost from_gives = { λ failed error. TellsFailure failed error };
+    ghost from_gives = { λ failed error. ReportsFailure failed error };
 
     fn from(failed: PipeError) -> io::Error {
         match failed {

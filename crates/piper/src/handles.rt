@@ -12,7 +12,7 @@ pub(crate) mod write_steps;
 
 use crate::slot::Slot;
 pub use opening::pipe;
-use piper_ring::{ReadEnd, ReadSlots, WriteEnd, WriteSlots};
+use piper_ring::{ReadEnd, ReadRegistrations, WriteEnd, WriteRegistrations};
 use rand_pcg::Pcg32;
 use std::sync::Arc;
 
@@ -30,11 +30,11 @@ pub(crate) struct Slots {
 pub struct Reader {
     end: ReadEnd,
     /// How it waits in its slot, and behind what it looked at the writer's.
-    waiting: ReadSlots,
+    registrations: ReadRegistrations,
     slots: Arc<Slots>,
     rng: Pcg32,
-    ghost of_one_ring: { waiting.names ≡ end.ring.1.1 },
-    ghost places: { HoldPlaces (arc_value slots) waiting.names },
+    ghost of_one_ring: { registrations.names ≡ end.ring.1.1 },
+    ghost places: { HoldPlaces (arc_value slots) registrations.names },
 }
 
 /// The writing side of a pipe.
@@ -44,9 +44,9 @@ pub struct Reader {
 pub struct Writer {
     end: WriteEnd,
     /// How it waits in its slot, and behind what it looked at the reader's.
-    waiting: WriteSlots,
+    registrations: WriteRegistrations,
     slots: Arc<Slots>,
     rng: Pcg32,
-    ghost of_one_ring: { waiting.names ≡ end.ring.1.1 },
-    ghost places: { HoldPlaces (arc_value slots) waiting.names },
+    ghost of_one_ring: { registrations.names ≡ end.ring.1.1 },
+    ghost places: { HoldPlaces (arc_value slots) registrations.names },
 }

@@ -6,7 +6,7 @@ ghost use Rattle.std.specs.Io.BufRead.{Rests};
 ghost use Rattle.futures.specs.Task.{Covers, Keeps};
 ghost use Rattle.futures.specs.Poll.{OnPending};
 ghost use Rattle.piper.specs.Contexts.{AsksAgain};
-ghost use Rattle.piper.specs.Polls.{Behind, Lends, Reads, TakesNone, Writes, OnReadyOk, IfReadyOk, IfReadyErr};
+ghost use Rattle.piper.specs.Polls.{After, Lends, Reads, TakesNone, Writes, OnReadyOk, IfReadyOk, IfReadyErr};
 
 mod by_ref;
 mod copy;
@@ -45,7 +45,7 @@ pub trait AsyncRead {
         ensures read { Reads result dest.old dest.new
             (taken self.old) (taken self.new) (saw self.new) }
         ensures end { result ≡ Poll.Ready (Ok 0) → 0 < length dest.old → ended self.new }
-        ensures behind { ended self.old →
+        ensures after { ended self.old →
             TakesNone result (ended self.new) (taken self.old) (taken self.new) }
         ensures told { told self.new ≡ told self.old }
         ensures heeded { OnPending result (told self.old ≡ true → AsksAgain cx.new) }
@@ -92,7 +92,7 @@ pub trait AsyncBufRead {
         ensures* lent { sem 𝓛 (Rests Self.row self.entry (λ new.
             Lends result (known new) (piece new) (saw new)
             × IfReadyOk result (λ lent. length lent.now ≡ 0 → ended new)
-            × (ended self.old → Behind result (ended new) (known new))
+            × (ended self.old → After result (ended new) (known new))
             × StartsWith (known new) (known self.old)
             × (taken new ≡ taken self.old)
             × (saw self.old ≡ true → saw new ≡ true)

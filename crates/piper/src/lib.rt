@@ -5,9 +5,9 @@ mod answers;
 mod copies;
 mod debug;
 mod error;
+mod finished;
 mod handles;
 pub mod io;
-mod left;
 pub mod like;
 mod owned;
 mod reader;
@@ -15,8 +15,8 @@ mod slot;
 mod writer;
 
 pub use error::{Inner, PipeError};
+pub use finished::{FinishedReader, FinishedWriter};
 pub use handles::{Reader, Writer, pipe};
-pub use left::{LeftReader, LeftWriter};
 pub use owned::{DEFAULT_SEED, OwnedReader, OwnedWriter, owned_pipe};
 pub use piper_ring::{
     LastReadMark, OutOfMemory, ReadEnd, ReadMark, WriteEnd, WriteMark, open_ring,

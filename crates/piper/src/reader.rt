@@ -6,19 +6,19 @@ ghost use Rattle.piper_ring.specs.ReadView.{MayBeUnread, KnowsEnd, in_one_piece}
 ghost use Rattle.piper.specs.Counts.{ReaderCompares};
 ghost use Rattle.piper.specs.Ends.{IsEnded, ReaderConsumed};
 ghost use Rattle.piper.specs.Looks.{ReaderFound, ReaderLooked, OnRefused};
-ghost use Rattle.piper.specs.Polls.{Behind};
+ghost use Rattle.piper.specs.Polls.{After};
 
 use crate::answers::{polled, read_wake};
+use crate::finished::FinishedReader;
 use crate::handles::Reader;
-use crate::left::LeftReader;
 use futures::task::{Context, Poll};
+use piper_protocol::read_call::ReadCall;
+use piper_protocol::table::Purpose;
 use piper_ring::{LastReadMark, OutOfMemory, ReadMark};
-use piper_sides::read_call::ReadCall;
-use piper_sides::table::Purpose;
 
 impl Reader {
     ghost use Rattle.piper.specs.Handles.{NotifiesWriter, SameReaderButWaits, SameReaderButWoke, read_source};
-    ghost use Rattle.piper.specs.Waits.{ReaderStands, ReaderWokeLast};
+    ghost use Rattle.piper.specs.Waits.{ReaderRegistered, ReaderWokeLast};
 
     /// How many bytes are unread now: at least those that the reader knows of or was told of. The
     /// writer may publish more at any time.
@@ -70,13 +70,13 @@ impl Reader {
         ensures looked { ReaderLooked self.old.end self.new.end }
         ensures told { OnPending result (self.old.end.told_shut ≡ false) }
         ensures end { result ≡ Poll.Ready (Ok false) → IsEnded self.new.end }
-        ensures behind { IsEnded self.old.end →
-            Behind result (IsEnded self.new.end) self.new.end.known }
+        ensures after { IsEnded self.old.end →
+            After result (IsEnded self.new.end) self.new.end.known }
         ensures all { KnowsEnd self.old.end → self.new.end.all ≡ self.old.end.all }
         ensures refused { OnRefused result (cx.new.lacks_waker ≡ true) }
         ensures rest { SameReaderButWaits self.old self.new }
         ensures covered { OnPending result (Covers cx.new (λ s. s ≡ read_source self.old)) }
-        ensures waits { OnPending result (ReaderStands self.old self.new cx.new) }
+        ensures waits { OnPending result (ReaderRegistered self.old self.new cx.new) }
         ensures kept { Keeps cx.old cx.new }
     {
         let (call, none) = self.look(Purpose::Poll);
@@ -137,10 +137,10 @@ impl Reader {
 
     /// Closes the pipe and wakes the writer. The memory is freed if the writer is gone.
     ///
-    /// The answer is evidence, for the writer to take in (`meet_left`): all that was ever consumed,
+    /// The answer is evidence, for the writer to take in (`meet_finished`): all that was ever consumed,
     /// that the pipe is closed, and that behind the store that closed, who stood in the writer's
     /// slot was taken, and its waker called.
-    pub fn drop(self) -> LeftReader
+    pub fn drop(self) -> FinishedReader
         ensures ring { result.told.consumed.names ≡ self.end.ring.1.1 }
         ensures count { result.told.consumed.count ≡ length self.end.taken }
         ensures woke { ReaderWokeLast self.end result }

@@ -3,8 +3,8 @@ ghost use Rattle.std.specs.Prelude.{◌≡◌, ℕ, OnErr, is_some, true, false}
 ghost use Rattle.futures.specs.Task.{Covers, Keeps};
 
 use futures::task::{Context, Poll, Source, Waker};
-use piper_place::{Place, Right};
-use piper_sides::memory::OutOfMemory;
+use piper_protocol::memory::OutOfMemory;
+use token_cell::{Token, TokenCell};
 
 /// Where a side waits: the place of its waker, and the source that it waits at. A waker is called
 /// when it lies there no more.
@@ -13,7 +13,7 @@ use piper_sides::memory::OutOfMemory;
 /// goes from side to side. So nobody is there when it is used, and no use waits.
 #[derive(Drop)]
 pub(crate) struct Slot {
-    pub(crate) place: Place<Option<Waker>>,
+    pub(crate) place: TokenCell<Option<Waker>>,
     source: Source,
 }
 
@@ -27,11 +27,11 @@ impl Slot {
     ghost use Rattle.piper.specs.Slots.{source_of};
 
     /// An empty slot, and the right to its place.
-    pub(crate) fn new() -> (Slot, Right)
+    pub(crate) fn new() -> (Slot, Token)
         ensures { (result.1.name ≡ result.0.place) × (result.1.there ≡ true)
             × (result.1.filled ≡ false) }
     {
-        let (place, right) = Place::empty();
+        let (place, right) = TokenCell::empty();
         let source = Source::new();
         (Slot { place, source }, right)
     }
@@ -83,7 +83,7 @@ impl Taken {
 
     /// Lets the waker go, if there was one. A waker that is let go wakes its task, too: it polls
     /// once too often, never once too seldom.
-    pub(crate) fn let_go(self) {
+    pub(crate) fn discard(self) {
         let Taken { waker } = self;
         drop(waker);
     }

@@ -8,16 +8,16 @@ ghost use Rattle.piper.specs.Ends.{WriterPublished, WriterShut};
 ghost use Rattle.piper.specs.Looks.{WriterFound, WriterLooked, OnRefused};
 
 use crate::answers::{polled, write_wake};
+use crate::finished::FinishedWriter;
 use crate::handles::Writer;
-use crate::left::LeftWriter;
 use futures::task::{Context, Poll};
+use piper_protocol::table::Purpose;
+use piper_protocol::write_call::WriteCall;
 use piper_ring::{OutOfMemory, WriteMark};
-use piper_sides::table::Purpose;
-use piper_sides::write_call::WriteCall;
 
 impl Writer {
     ghost use Rattle.piper.specs.Handles.{NotifiesReader, SameWriterButSlots, SameWriterButWaits, SameWriterButWoke, write_source};
-    ghost use Rattle.piper.specs.Waits.{WriterStands, WriterWokeLast};
+    ghost use Rattle.piper.specs.Waits.{WriterRegistered, WriterWokeLast};
 
     /// How many bytes are unread now: none of those that the writer was told are consumed. The
     /// reader may consume more at any time.
@@ -68,7 +68,7 @@ impl Writer {
         ensures refused { OnRefused result (cx.new.lacks_waker ≡ true) }
         ensures rest { SameWriterButWaits self.old self.new }
         ensures covered { OnPending result (Covers cx.new (λ s. s ≡ write_source self.old)) }
-        ensures waits { OnPending result (WriterStands self.old self.new cx.new) }
+        ensures waits { OnPending result (WriterRegistered self.old self.new cx.new) }
         ensures kept { Keeps cx.old cx.new }
     {
         let (call, is_closed, none) = self.look_closed(WriteCall::look(Purpose::Poll));
@@ -138,10 +138,10 @@ impl Writer {
     /// Closes the pipe and wakes the reader, who can still read what is unread. The memory is freed
     /// if the reader is gone.
     ///
-    /// The answer is evidence, for the reader to take in (`meet_left`): all that was ever published,
+    /// The answer is evidence, for the reader to take in (`meet_finished`): all that was ever published,
     /// that the pipe is closed, and that behind the store that closed, who stood in the reader's
     /// slot was taken, and its waker called.
-    pub fn drop(self) -> LeftWriter
+    pub fn drop(self) -> FinishedWriter
         ensures ring { result.told.names ≡ self.end.ring.1.1 }
         ensures bytes { result.told.bytes ≡ self.end.sent }
         ensures shut { result.told.shut ≡ true }

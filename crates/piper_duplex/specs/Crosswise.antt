@@ -14,8 +14,8 @@ use Rattle.piper.specs.Generator.{generator}
 use Rattle.piper.specs.Ends.{IsEnded, ReaderRefreshed, WriterRefreshed}
 use Rattle.piper.specs.Handles.{ArePair, NotifiesReader, NotifiesWriter, SameReader, SameWriter, read_source}
 use Rattle.piper.specs.SlotsView.{IsPending, IsWriterPending}
-use Rattle.piper.specs.Waits.{ReaderIsRemembered, ReaderStands, WriterIsRemembered}
-use Rattle.piper.specs.Polls.{Behind, Lends, IfReadyOk, IfReadyErr}
+use Rattle.piper.specs.Waits.{ReaderIsRemembered, ReaderRegistered, WriterIsRemembered}
+use Rattle.piper.specs.Polls.{After, Lends, IfReadyOk, IfReadyErr}
 use Rattle.piper.specs.declared.error.PipeError.{PipeError}
 use Rattle.piper.specs.declared.handles.Reader.{Reader}
 use Rattle.piper.specs.declared.handles.Writer.{Writer}
@@ -52,10 +52,10 @@ pub record HaveMet (reader0 reader1 : Reader) (writer0 writer1 : Writer) : Type 
   pub reader : ReaderRefreshed reader0.end reader1.end × SameReader reader0 reader1
   pub writer : WriterRefreshed writer0.end writer1.end × SameWriter writer0 writer1
   pub reader_woken :
-      IsPending reader0.end reader0.waiting → NotifiesReader writer0
+      IsPending reader0.end reader0.registrations → NotifiesReader writer0
       → ReaderIsRemembered reader0 reader1 writer0
   pub writer_woken :
-      IsWriterPending writer0.end writer0.waiting → NotifiesWriter reader0
+      IsWriterPending writer0.end writer0.registrations → NotifiesWriter reader0
       → WriterIsRemembered writer0 writer1 reader0
 
 -- a poll of the end a lent the first piece of the known bytes, and left the end as b:
@@ -66,7 +66,7 @@ abbrev pub LendsPiece : Poll (Result (Bor (List ℕ)) PipeError)
 LendsPiece r a b cx =
     Lends r b.reader.end.known (in_one_piece b.reader.end) b.reader.end.saw
     × IfReadyOk r (λ lent. length lent.now ≡ 0 → IsEnded b.reader.end)
-    × (IsEnded a.reader.end → Behind r (IsEnded b.reader.end) b.reader.end.known)
+    × (IsEnded a.reader.end → After r (IsEnded b.reader.end) b.reader.end.known)
     × StartsWith b.reader.end.known a.reader.end.known
     × (b.reader.end.taken ≡ a.reader.end.taken)
     × (a.reader.end.saw ≡ true → b.reader.end.saw ≡ true)
@@ -77,7 +77,7 @@ LendsPiece r a b cx =
 
 -- the same poll: pending it waits in its slot, or asked for another poll itself,
 -- and the writer at the other end is woken as far as before
-abbrev pub StandsAndWoke : Poll (Result (Bor (List ℕ)) PipeError) → End → End → Context → Type 0
-StandsAndWoke r a b cx =
-    OnPending r (ReaderStands a.reader b.reader cx)
+abbrev pub RegisteredAndWoke : Poll (Result (Bor (List ℕ)) PipeError) → End → End → Context → Type 0
+RegisteredAndWoke r a b cx =
+    OnPending r (ReaderRegistered a.reader b.reader cx)
     × (NotifiesWriter a.reader → NotifiesWriter b.reader)

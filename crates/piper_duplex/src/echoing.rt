@@ -6,7 +6,7 @@ ghost use Rattle.piper_lines.specs.LineReader.{IsSpent, reader_of, kept_of};
 ghost use Rattle.piper.specs.Contexts.{AsksAgain};
 ghost use Rattle.piper.specs.Polls.{IfReadyErr};
 ghost use Rattle.piper_lines.specs.AtEnd.{AtEnd};
-ghost use Rattle.piper_lines.specs.Refusals.{IsTold, LacksRoom};
+ghost use Rattle.piper_lines.specs.Refusals.{IsReported, LacksRoom};
 
 use futures::task::{Context, Poll};
 use piper::PipeError;
@@ -74,7 +74,7 @@ impl LineEcho {
         ensures spent { result ≡ Poll.Ready (Ok Echoed.ToTheEnd) → IsSpent R.ended lines.new }
         ensures closed { result ≡ Poll.Ready (Ok Echoed.UntilClosed) → W.saw writer.new ≡ true }
         ensures error { IfReadyErr result (λ e. W.fails writer.new cx.new e
-            ⊎ IsTold e (R.fails (reader_of lines.new) cx.new)
+            ⊎ IsReported e (R.fails (reader_of lines.new) cx.new)
             (LacksRoom limit 0 (kept_of lines.new) (R.known (reader_of lines.new)))) }
         ensures stays { W.saw writer.old ≡ true → W.saw writer.new ≡ true }
         ensures told { R.told (reader_of lines.new) ≡ R.told (reader_of lines.old) }

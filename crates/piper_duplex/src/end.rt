@@ -5,7 +5,7 @@ ghost use Rattle.piper_duplex.specs.Crosswise.{IsNewPipe};
 
 mod streams;
 
-use piper::{LeftReader, LeftWriter, OutOfMemory, Reader, Writer, pipe};
+use piper::{FinishedReader, FinishedWriter, OutOfMemory, Reader, Writer, pipe};
 use std::alloc::Global;
 use std::fmt::{self, Debug, Formatter};
 
@@ -98,7 +98,7 @@ impl End {
     /// Closes both pipes, first the one that it writes into, and wakes who waits at the other end.
     /// What is unread there can still be read. The answer is what is left of both handles, for those
     /// of the other end to take in.
-    pub fn drop(self) -> (LeftReader, LeftWriter)
+    pub fn drop(self) -> (FinishedReader, FinishedWriter)
         ensures ring { (result.0.told.consumed.names ≡ self.reader.end.ring.1.1)
             × (result.1.told.names ≡ self.writer.end.ring.1.1) }
         ensures taken { result.0.told.consumed.count ≡ length self.reader.end.taken }

@@ -9,7 +9,7 @@ use Rattle.futures.specs.declared.task.Poll.TheVariants.{Ready}
 use Rattle.piper.specs.Polls.{Reads}
 use Rattle.piper_futures.specs.Reading.{ReadsOn, ReadAll, ReadUpTo, ReadSome}
 use Rattle.piper_futures.specs.Writing.{FailsOnce}
-use Rattle.piper_lines.specs.Refusals.{IsTold}
+use Rattle.piper_lines.specs.Refusals.{IsReported}
 use Rattle.piper_futures.specs.declared.failed.Failed.{Failed}
 
 pub grows_then : (t0 t1 t2 g0 g1 g2 : List ℕ) → Grows t0 t1 g0 g1 → Grows t1 t2 g1 g2 → Grows t0 t2 g0 g2
@@ -42,6 +42,6 @@ read_some_then taken saw fails r0 r1 p0 p1 same kept (Err failed) gave = (gave.0
 
 -- an error of the reader's own in this poll, or want of memory where more was known
 pub told_once : {R : Type 0} (fails : R → Context → PipeError → Type 0) (cx : Context) (r : R) (e : PipeError) (Lacks Known : Type 0) → (Lacks → Known)
-    → IsTold e (fails r cx) Lacks → IsTold e (FailsOnce fails r) Known
+    → IsReported e (fails r cx) Lacks → IsReported e (FailsOnce fails r) Known
 told_once fails cx r e Lacks Known f (inl own) = inl (cx, own)
 told_once fails cx r e Lacks Known f (inr lacks) = inr (lacks.0, f lacks.1)

@@ -7,7 +7,7 @@ use Rattle.futures.specs.declared.task.Poll.TheVariants.{Ready}
 use Rattle.piper.specs.Polls.{Reads}
 use Rattle.piper_lines.specs.AtEnd.{AtEnd}
 use Rattle.piper_lines.specs.Moves.{Grows}
-use Rattle.piper_lines.specs.Refusals.{IsTold}
+use Rattle.piper_lines.specs.Refusals.{IsReported}
 use Rattle.piper_futures.specs.Writing.{FailsOnce}
 use Rattle.piper_futures.specs.declared.failed.Failed.{Failed}
 use Rattle.piper_futures.specs.declared.read_all.ReadToEnd.{ReadToEnd}
@@ -39,7 +39,7 @@ module _ {R : Type 0} (taken known : R → List ℕ) (saw : R → Bool) where
       ReadsOn r bytes.items done.0 done.1.items × AtEnd (known done.0) (saw done.0)
   ReadAll fails r bytes (Err failed) =
       ReadsOn r bytes.items failed.left.0 failed.left.1.items
-      × IsTold failed.error (FailsOnce fails failed.left.0) (0 < length (known failed.left.0))
+      × IsReported failed.error (FailsOnce fails failed.left.0) (0 < length (known failed.left.0))
 
   -- as many came as were asked for, or all up to the end; or it failed as above
   abbrev pub ReadUpTo : ℕ → (R → Context → PipeError → Type 0) → R → Vec ℕ Global
@@ -49,7 +49,7 @@ module _ {R : Type 0} (taken known : R → List ℕ) (saw : R → Bool) where
       × (length done.1.items < size → AtEnd (known done.0) (saw done.0))
   ReadUpTo size fails r bytes (Err failed) =
       ReadsOn r bytes.items failed.left.0 failed.left.1.items
-      × IsTold failed.error (FailsOnce fails failed.left.0) (0 < length (known failed.left.0))
+      × IsReported failed.error (FailsOnce fails failed.left.0) (0 < length (known failed.left.0))
 
 -- what was read at once stands at the front of the places, and the rest of them stays;
 -- or the reader failed, and gave nothing

@@ -6,7 +6,7 @@ use Rattle.futures.specs.declared.task.Poll.{Poll}
 use Rattle.futures.specs.declared.task.Poll.TheVariants.{Ready, Pending}
 use Rattle.piper.specs.declared.error.PipeError.{PipeError}
 use Rattle.piper_lines.specs.AtEnd.{AtEnd}
-use Rattle.piper_lines.specs.Refusals.{IsTold}
+use Rattle.piper_lines.specs.Refusals.{IsReported}
 use Rattle.piper_futures.specs.Writing.{FailsOnce}
 use Rattle.piper_futures.specs.declared.failed.Failed.{Failed}
 use Rattle.piper_futures.specs.declared.read_through.ReadUntil.{ReadUntil}
@@ -52,4 +52,4 @@ module _ {R : Type 0} (taken known : R → List ℕ) (saw : R → Bool)
       IsThrough byte more ⊎ (Lacks byte more × AtEnd (known done.0) (saw done.0)))
   ReadThrough r bytes (Err failed) =
       GrowsBy (taken r) (taken failed.left.0) bytes.items failed.left.1.items (Lacks byte)
-      × IsTold failed.error (FailsOnce fails failed.left.0) (0 < length (known failed.left.0))
+      × IsReported failed.error (FailsOnce fails failed.left.0) (0 < length (known failed.left.0))

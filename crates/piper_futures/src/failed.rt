@@ -40,9 +40,9 @@ impl<T: Drop> From<Failed<T>> for PipeError {
 
 /// So that `?` passes the error on to an `io::Result`, and lets the rest go.
 impl<T: Drop> From<Failed<T>> for io::Error {
-    ghost use Rattle.piper.specs.Failed.{TellsFailure};
+    ghost use Rattle.piper.specs.Failed.{ReportsFailure};
 
-    ghost from_gives = { λ failed error. TellsFailure failed.error error };
+    ghost from_gives = { λ failed error. ReportsFailure failed.error error };
 
     fn from(failed: Failed<T>) -> io::Error {
         let Failed { left: _, error } = failed;

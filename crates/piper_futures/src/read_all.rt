@@ -6,7 +6,7 @@ ghost use Rattle.piper.specs.Contexts.{AsksAgain};
 ghost use Rattle.piper.specs.Polls.{IfReadyErr};
 ghost use Rattle.piper_lines.specs.AtEnd.{AtEnd};
 ghost use Rattle.piper_lines.specs.Moves.{Grows};
-ghost use Rattle.piper_lines.specs.Refusals.{IsTold};
+ghost use Rattle.piper_lines.specs.Refusals.{IsReported};
 ghost use Rattle.piper_futures.specs.Reading.{ReadAll, StartsReadingAll};
 
 use crate::debug::gathering;
@@ -77,7 +77,7 @@ pub fn poll_read_to_end<R: AsyncBufRead>(
     ensures ended { result ≡ Poll.Ready (Ok (record {})) →
         AtEnd (R.known reader.new) (R.saw reader.new) }
     ensures ends { result ≡ Poll.Ready (Ok (record {})) → R.ended reader.new }
-    ensures error { IfReadyErr result (λ e. IsTold e (R.fails reader.new cx.new)
+    ensures error { IfReadyErr result (λ e. IsReported e (R.fails reader.new cx.new)
         (0 < length (R.known reader.new))) }
     ensures told { R.told reader.new ≡ R.told reader.old }
     ensures heeded { OnPending result (R.told reader.new ≡ true → AsksAgain cx.new) }

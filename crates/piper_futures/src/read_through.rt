@@ -4,7 +4,7 @@ ghost use Rattle.futures.specs.Task.{Covers, Keeps};
 ghost use Rattle.futures.specs.Poll.{OnPending};
 ghost use Rattle.piper.specs.Contexts.{AsksAgain};
 ghost use Rattle.piper.specs.Polls.{IfReadyErr};
-ghost use Rattle.piper_lines.specs.Refusals.{IsTold};
+ghost use Rattle.piper_lines.specs.Refusals.{IsReported};
 ghost use Rattle.piper_futures.specs.Until.{IsThrough, Lacks, ReadThrough, Reaches, StartsReadingThrough};
 
 use crate::debug::gathering;
@@ -80,7 +80,7 @@ pub fn poll_read_until<R: AsyncBufRead>(
     ensures reaches { Reaches result byte (R.taken reader.old) (R.taken reader.new)
         bytes.old.items bytes.new.items (R.known reader.new) (R.saw reader.new) }
     ensures ends { result ≡ Poll.Ready (Ok false) → R.ended reader.new }
-    ensures error { IfReadyErr result (λ e. IsTold e (R.fails reader.new cx.new)
+    ensures error { IfReadyErr result (λ e. IsReported e (R.fails reader.new cx.new)
         (0 < length (R.known reader.new))) }
     ensures told { R.told reader.new ≡ R.told reader.old }
     ensures heeded { OnPending result (R.told reader.new ≡ true → AsksAgain cx.new) }

@@ -7,7 +7,7 @@ use Rattle.piper_lines.specs.FrameAnswers.{OnEnd}
 use Rattle.piper_lines.specs.declared.frame_reader.FrameAnswer.{FrameAnswer}
 use Rattle.piper_lines.specs.declared.frame_reader.FrameAnswer.TheVariants.{Frame, TooLong, Truncated, End}
 use Rattle.piper_lines.specs.Frame.{frame_bytes}
-use Rattle.piper_lines.specs.Header.{header_size, length_bytes, told_length}
+use Rattle.piper_lines.specs.Header.{header_size, length_bytes, encoded_length}
 use Rattle.piper_lines.specs.declared.header.FrameHeader.{FrameHeader}
 use Rattle.piper_lines.specs.Moves.{Grows, Passes, PassesMoves}
 use Rattle.piper_lines.proofs.Moving.{moves_none, moves_then}
@@ -20,33 +20,33 @@ no_body size header (x ∷ more) body first within =
     subst (λ ws. ws ++ (x ∷ more) ≡ (x ∷ more) ++ ws) (sym none) (sym (append-nil (x ∷ more)))
 
 still_fits : (format : FrameHeader) (header more body : List ℕ) → (length header < header_size format → body ≡ []) → length (header ++ more) ≤ header_size format
-    → length body ≤ told_length format header → length body ≤ told_length format (header ++ more)
-still_fits format header [] body first within fits = subst (λ ws. length body ≤ told_length format ws) (sym (append-nil header)) fits
+    → length body ≤ encoded_length format header → length body ≤ encoded_length format (header ++ more)
+still_fits format header [] body first within fits = subst (λ ws. length body ≤ encoded_length format ws) (sym (append-nil header)) fits
 still_fits format header (x ∷ more) body first within fits =
     let none : body ≡ [] = first (omega (arith, length-append header (x ∷ more))) in
-    subst (λ ws. length ws ≤ told_length format (header ++ x ∷ more)) (sym none) (omega arith)
+    subst (λ ws. length ws ≤ encoded_length format (header ++ x ∷ more)) (sym none) (omega arith)
 
 -- while its header grows, what is kept of a frame stays one
 pub header_grows : (format : FrameHeader) (t0 t1 h0 h1 body : List ℕ) → Grows t0 t1 h0 h1 → (length h0 < header_size format → body ≡ []) → length h1 ≤ header_size format
-    → length body ≤ told_length format h0 → (length h1 < header_size format → body ≡ []) × (length body ≤ told_length format h1)
+    → length body ≤ encoded_length format h0 → (length h1 < header_size format → body ≡ []) × (length body ≤ encoded_length format h1)
 header_grows format t0 t1 h0 h1 body grows first within fits = (
   λ short. first (omega (arith, ap length grows.2, length-append h0 grows.0)),
-  subst (λ ws. length body ≤ told_length format ws) (sym grows.2)
+  subst (λ ws. length body ≤ encoded_length format ws) (sym grows.2)
       (still_fits format h0 grows.0 body first (subst (λ ws. length ws ≤ header_size format) grows.2 within) fits),
 )
 
 -- so what holds of every reader of frames holds then
 pub holding_header : (format : FrameHeader) (t0 t1 h0 h1 body : List ℕ) (skips : ℕ) → Grows t0 t1 h0 h1 → (length h0 < header_size format → body ≡ [])
-    → length h1 ≤ header_size format → length body ≤ told_length format h0 → skips ≡ 0
-    → record { header_first : length h1 < header_size format → body ≡ []; fits : length body ≤ told_length format h1; short : length h1 ≤ header_size format; skips_first : 0 < skips → h1 ≡ [] }
+    → length h1 ≤ header_size format → length body ≤ encoded_length format h0 → skips ≡ 0
+    → record { header_first : length h1 < header_size format → body ≡ []; fits : length body ≤ encoded_length format h1; short : length h1 ≤ header_size format; skips_first : 0 < skips → h1 ≡ [] }
 holding_header format t0 t1 h0 h1 body skips grows first within fits none =
     let header = header_grows format t0 t1 h0 h1 body grows first within fits in
     record { header_first = header.0; fits = header.1; short = within; skips_first = λ some. absurd (omega arith) }
 
 -- and so it does where the header is whole, whatever was taken behind it
-pub holding_body : (format : FrameHeader) (header body : List ℕ) (size skips : ℕ) → length header ≡ header_size format → size ≡ told_length format header → length body ≤ size
+pub holding_body : (format : FrameHeader) (header body : List ℕ) (size skips : ℕ) → length header ≡ header_size format → size ≡ encoded_length format header → length body ≤ size
     → skips ≡ 0
-    → record { header_first : length header < header_size format → body ≡ []; fits : length body ≤ told_length format header; short : length header ≤ header_size format; skips_first : 0 < skips → header ≡ [] }
+    → record { header_first : length header < header_size format → body ≡ []; fits : length body ≤ encoded_length format header; short : length header ≤ header_size format; skips_first : 0 < skips → header ≡ [] }
 holding_body format header body size skips whole told within none = record {
   header_first = λ short. absurd (omega arith);
   fits = omega (arith, told, within);

@@ -4,7 +4,7 @@ use Rattle.std.specs.declared.alloc.Global.{Global}
 use Rattle.futures.specs.declared.task.Poll.{Poll}
 use Rattle.futures.specs.declared.task.Poll.TheVariants.{Ready, Pending}
 use Rattle.piper_lines.specs.AtEnd.{AtEnd}
-use Rattle.piper_lines.specs.Frame.{TellsLength, IsBetweenFrames, IsInsideFrame}
+use Rattle.piper_lines.specs.Frame.{EncodesLength, IsBetweenFrames, IsInsideFrame}
 use Rattle.piper_lines.specs.declared.collect.Collected.{Collected}
 use Rattle.piper_lines.specs.declared.header.FrameHeader.{FrameHeader}
 use Rattle.piper_lines.specs.declared.collect.Collected.TheVariants.{ToTheEnd, Truncated, UntilTooLong}
@@ -24,6 +24,6 @@ EndsFrames format (Ready (Ok ToTheEnd)) limit header before body skips known saw
 EndsFrames format (Ready (Ok Truncated)) limit header before body skips known saw =
     IsInsideFrame header skips × AtEnd known saw
 EndsFrames format (Ready (Ok (UntilTooLong n))) limit header before body skips known saw =
-    (limit < n) × TellsLength format header n × ((body ≡ before) ⊎ (body ≡ [])) × (skips ≡ 0)
+    (limit < n) × EncodesLength format header n × ((body ≡ before) ⊎ (body ≡ [])) × (skips ≡ 0)
 EndsFrames format (Ready (Err e)) limit header before body skips known saw = ⊤
 EndsFrames format Pending limit header before body skips known saw = ⊤

@@ -1,11 +1,11 @@
 -- A frame: a piece of bytes with its length before it.
 use Rattle.std.specs.Prelude.{◌≡◌, ℕ, ◌<◌, ◌⊎◌, List, [], ◌++◌, length}
-use Rattle.piper_lines.specs.Header.{header_size, length_bytes, told_length}
+use Rattle.piper_lines.specs.Header.{header_size, length_bytes, encoded_length}
 use Rattle.piper_lines.specs.declared.header.FrameHeader.{FrameHeader}
 
 -- the whole header of a frame, which tells n
-abbrev pub TellsLength : FrameHeader → List ℕ → ℕ → Type 0
-TellsLength format header n = (length header ≡ header_size format) × (told_length format header ≡ n)
+abbrev pub EncodesLength : FrameHeader → List ℕ → ℕ → Type 0
+EncodesLength format header n = (length header ≡ header_size format) × (encoded_length format header ≡ n)
 
 -- nothing of a frame is kept, and none of a skipped one has still to pass
 abbrev pub IsBetweenFrames : List ℕ → List ℕ → ℕ → Type 0

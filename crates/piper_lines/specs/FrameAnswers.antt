@@ -3,7 +3,7 @@ use Rattle.std.specs.Prelude.{◌≡◌, ℕ, ◌<◌, ◌≤◌, Bool, List, []
 use Rattle.futures.specs.declared.task.Poll.{Poll}
 use Rattle.futures.specs.declared.task.Poll.TheVariants.{Ready, Pending}
 use Rattle.piper_lines.specs.AtEnd.{AtEnd}
-use Rattle.piper_lines.specs.Frame.{frame_bytes, TellsLength, IsBetweenFrames, IsInsideFrame}
+use Rattle.piper_lines.specs.Frame.{frame_bytes, EncodesLength, IsBetweenFrames, IsInsideFrame}
 use Rattle.piper_lines.specs.declared.frame_reader.FrameAnswer.{FrameAnswer}
 use Rattle.piper_lines.specs.declared.header.FrameHeader.{FrameHeader}
 use Rattle.piper_lines.specs.declared.frame_reader.FrameAnswer.TheVariants.{Frame, TooLong, Truncated, End}
@@ -39,7 +39,7 @@ abbrev pub HandsFrame : {E : Type 0} → FrameHeader → Poll (Result FrameAnswe
 HandsFrame format (Ready (Ok Frame)) limit frame header before body skips known saw =
     (length frame ≤ limit) × IsBetweenFrames header body skips
 HandsFrame format (Ready (Ok (TooLong n))) limit frame header before body skips known saw =
-    (frame ≡ []) × (limit < n) × TellsLength format header n × (body ≡ before) × (skips ≡ 0)
+    (frame ≡ []) × (limit < n) × EncodesLength format header n × (body ≡ before) × (skips ≡ 0)
 HandsFrame format (Ready (Ok Truncated)) limit frame header before body skips known saw =
     (frame ≡ []) × IsInsideFrame header skips × AtEnd known saw
 HandsFrame format (Ready (Ok End)) limit frame header before body skips known saw =

@@ -18,11 +18,11 @@ header_size (FourBytes order) = 4
 header_size (EightBytes order) = 8
 
 -- a length that these bytes can tell
-abbrev pub CanTell : FrameHeader → ℕ → Type 0
-CanTell OneByte n = n < 2 ^ 8
-CanTell (TwoBytes order) n = n < 2 ^ 16
-CanTell (FourBytes order) n = n < 2 ^ 32
-CanTell (EightBytes order) n = n < 2 ^ 64
+abbrev pub CanEncode : FrameHeader → ℕ → Type 0
+CanEncode OneByte n = n < 2 ^ 8
+CanEncode (TwoBytes order) n = n < 2 ^ 16
+CanEncode (FourBytes order) n = n < 2 ^ 32
+CanEncode (EightBytes order) n = n < 2 ^ 64
 
 -- the order of its bytes; one alone stands in either
 abbrev pub order_of : FrameHeader → ByteOrder
@@ -49,8 +49,8 @@ length_bytes (FourBytes order) n = ordered_bytes order w32 n
 length_bytes (EightBytes order) n = ordered_bytes order w64 n
 
 -- the length that the bytes of a header tell
-abbrev pub told_length : FrameHeader → List ℕ → ℕ
-told_length OneByte bytes = from_be_bytes w8 bytes
-told_length (TwoBytes order) bytes = ordered_number order w16 bytes
-told_length (FourBytes order) bytes = ordered_number order w32 bytes
-told_length (EightBytes order) bytes = ordered_number order w64 bytes
+abbrev pub encoded_length : FrameHeader → List ℕ → ℕ
+encoded_length OneByte bytes = from_be_bytes w8 bytes
+encoded_length (TwoBytes order) bytes = ordered_number order w16 bytes
+encoded_length (FourBytes order) bytes = ordered_number order w32 bytes
+encoded_length (EightBytes order) bytes = ordered_number order w64 bytes

@@ -2,7 +2,7 @@
 use Rattle.std.specs.Prelude.{◌≡◌, ℕ, ◌+◌, ◌<◌, ◌≤◌, ◌⊎◌, List, length}
 use Rattle.piper.specs.declared.error.PipeError.{PipeError}
 use Rattle.piper.specs.declared.error.PipeError.TheVariants.{Memory}
-use Rattle.piper_lines.specs.Header.{header_size, told_length}
+use Rattle.piper_lines.specs.Header.{header_size, encoded_length}
 use Rattle.piper_lines.specs.declared.header.FrameHeader.{FrameHeader}
 
 -- fewer than `size` bytes are gathered and more are known, and
@@ -16,9 +16,9 @@ LacksRoom size room gathered known =
 abbrev pub LacksFrameRoom : FrameHeader → ℕ → ℕ → ℕ → List ℕ → List ℕ → List ℕ → Type 0
 LacksFrameRoom format limit header_room body_room header body known =
     LacksRoom (header_size format) header_room header known
-    ⊎ ((told_length format header ≤ limit)
-    × LacksRoom (told_length format header) body_room body known)
+    ⊎ ((encoded_length format header ≤ limit)
+    × LacksRoom (encoded_length format header) body_room body known)
 
 -- an error is the reader's own, or memory was asked for and refused
-abbrev pub IsTold : PipeError → (PipeError → Type 0) → Type 0 → Type 0
-IsTold e Own Lacks = Own e ⊎ ((e ≡ Memory) × Lacks)
+abbrev pub IsReported : PipeError → (PipeError → Type 0) → Type 0 → Type 0
+IsReported e Own Lacks = Own e ⊎ ((e ≡ Memory) × Lacks)

@@ -5,7 +5,7 @@ ghost use Rattle.futures.specs.Task.{Covers, Keeps};
 ghost use Rattle.futures.specs.Poll.{OnPending};
 ghost use Rattle.piper.specs.Contexts.{AsksAgain};
 ghost use Rattle.piper.specs.Polls.{IfReadyErr};
-ghost use Rattle.piper_lines.specs.Header.{header_size, told_length, usual_header};
+ghost use Rattle.piper_lines.specs.Header.{header_size, encoded_length, usual_header};
 
 use crate::gather::{fill_up, pass_over};
 use crate::header::{ByteOrder, FrameHeader};
@@ -44,14 +44,14 @@ pub struct Frames<R> {
     to_skip: usize,
     format: FrameHeader,
     ghost header_first: { length header.items < header_size format → body.items ≡ [] },
-    ghost fits: { length body.items ≤ told_length format header.items },
+    ghost fits: { length body.items ≤ encoded_length format header.items },
     ghost short: { length header.items ≤ header_size format },
     ghost skips_first: { 0 < to_skip → header.items ≡ [] },
 }
 
 impl<R: AsyncBufRead> Frames<R> {
     ghost use Rattle.piper_lines.specs.FrameReader.{reader_of, format_of, kept_of, header_of, body_of, skips_of, header_room_of, body_room_of, lends_reader, IsSpent};
-    ghost use Rattle.piper_lines.specs.Refusals.{IsTold, LacksFrameRoom};
+    ghost use Rattle.piper_lines.specs.Refusals.{IsReported, LacksFrameRoom};
     ghost use Rattle.piper_lines.specs.FrameAnswers.{EndsAgain, HandsFrame, OnEnd, handed};
     ghost use Rattle.piper_lines.specs.Moves.{PassesMoves};
 
@@ -114,7 +114,7 @@ impl<R: AsyncBufRead> Frames<R> {
         ensures format { format_of self.new ≡ format_of self.old }
         ensures kept { kept_of self.new ≡ [] }
         ensures skips { skips_of self.new + length (body_of self.old)
-            ≡ told_length (format_of self.old) (header_of self.old) }
+            ≡ encoded_length (format_of self.old) (header_of self.old) }
     {
         self.to_skip = self.format.told(&self.header) - self.body.len();
         self.body.clear();
@@ -141,8 +141,8 @@ impl<R: AsyncBufRead> Frames<R> {
             (header_of self.new) (body_of self.old) (body_of self.new) (skips_of self.new)
             (R.known (reader_of self.new)) (R.saw (reader_of self.new)) }
         ensures ended { OnEnd result (R.ended (reader_of self.new)) }
-        ensures behind { IsSpent R.ended self.old → IsSpent R.ended self.new × EndsAgain result }
-        ensures error { IfReadyErr result (λ e. IsTold e (R.fails (reader_of self.new) cx.new)
+        ensures after { IsSpent R.ended self.old → IsSpent R.ended self.new × EndsAgain result }
+        ensures error { IfReadyErr result (λ e. IsReported e (R.fails (reader_of self.new) cx.new)
             (LacksFrameRoom (format_of self.old) limit (header_room_of self.old)
             (body_room_of self.old) (header_of self.new) (body_of self.new)
             (R.known (reader_of self.new)))) }

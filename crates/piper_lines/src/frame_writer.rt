@@ -3,7 +3,7 @@ ghost use Rattle.std.specs.Prelude.{◌≡◌, ◌↔◌, ◌^◌, ◌<◌, ◌�
 ghost use Rattle.futures.specs.Task.{Covers, Keeps};
 ghost use Rattle.futures.specs.Poll.{OnPending};
 ghost use Rattle.piper_lines.specs.Frame.{frame_bytes};
-ghost use Rattle.piper_lines.specs.Header.{usual_header, CanTell};
+ghost use Rattle.piper_lines.specs.Header.{usual_header, CanEncode};
 ghost use Rattle.piper_lines.specs.Shown.{shown_of};
 ghost use Rattle.piper.specs.Polls.{IfReadyErr};
 ghost use Rattle.piper_lines.specs.Sends.{Sends};
@@ -19,7 +19,7 @@ use thiserror::Error;
 
 /// The body has more bytes than the header of its frame can tell.
 #[derive(Clone, Copy, Debug, PartialEq, Eq, Error)]
-#[error("a body of more bytes than the header of its frame can tell")]
+#[error("a body of more bytes than the header of its frame can encode")]
 pub struct BodyTooLong;
 
 /// What is left of a frame that is being written: the length of a body, and the body.
@@ -49,10 +49,10 @@ impl<'a> WriteFrame<'a> {
 
     /// The frame with this body, whose length is told in this way, unless it can't be told so.
     pub fn with_header(format: FrameHeader, body: &'a [u8]) -> Result<WriteFrame<'a>, BodyTooLong>
-        ensures fits { IsOk result ↔ CanTell format (length body.now) }
+        ensures fits { IsOk result ↔ CanEncode format (length body.now) }
         ensures whole { IfOk result (λ frame. left_of frame ≡ frame_bytes format body.now) }
     {
-        if format.can_tell(body.len()) {
+        if format.can_encode(body.len()) {
             Ok(WriteFrame::begin(format, body))
         } else {
             Err(BodyTooLong)
@@ -60,11 +60,11 @@ impl<'a> WriteFrame<'a> {
     }
 
     fn begin(format: FrameHeader, body: &'a [u8]) -> WriteFrame<'a>
-        requires { CanTell format (length body.now) }
+        requires { CanEncode format (length body.now) }
         ensures { left_of result ≡ frame_bytes format body.now }
     {
         WriteFrame {
-            header: format.tell(body.len()),
+            header: format.encode(body.len()),
             header_written: 0,
             body,
             body_written: 0,

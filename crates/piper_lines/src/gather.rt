@@ -4,7 +4,7 @@ ghost use Rattle.futures.specs.Task.{Covers, Keeps};
 ghost use Rattle.futures.specs.Poll.{OnPending};
 ghost use Rattle.piper_lines.specs.AtEnd.{AtEnd};
 ghost use Rattle.piper_lines.specs.Moves.{Grows, Passes};
-ghost use Rattle.piper_lines.specs.Refusals.{IsTold, LacksRoom};
+ghost use Rattle.piper_lines.specs.Refusals.{IsReported, LacksRoom};
 ghost use Rattle.piper.specs.Contexts.{AsksAgain};
 ghost use Rattle.piper.specs.Polls.{IfReadyErr};
 
@@ -34,9 +34,9 @@ pub fn fill_up<R: AsyncBufRead>(
     ensures ended { result ≡ Poll.Ready (Ok false) →
         (length gathered.new.items < size) × AtEnd (R.known reader.new) (R.saw reader.new) }
     ensures ends { result ≡ Poll.Ready (Ok false) → R.ended reader.new }
-    ensures behind { R.ended reader.old → R.ended reader.new
+    ensures after { R.ended reader.old → R.ended reader.new
         × (gathered.new.items ≡ gathered.old.items) × OnPending result ⊥ }
-    ensures error { IfReadyErr result (λ e. IsTold e (R.fails reader.new cx.new)
+    ensures error { IfReadyErr result (λ e. IsReported e (R.fails reader.new cx.new)
         (LacksRoom size (vec_capacity gathered.old) gathered.new.items (R.known reader.new))) }
     ensures told { R.told reader.new ≡ R.told reader.old }
     ensures heeded { OnPending result (R.told reader.new ≡ false) }

@@ -1,7 +1,7 @@
 //! The bytes that tell how long a frame is.
 ghost use Rattle.std.specs.Prelude.{◌≡◌, ◌↔◌, ◌<◌, ◌≤◌, IsTrue, length};
 ghost use Rattle.std.specs.Int.{w16, w32, w64};
-ghost use Rattle.piper_lines.specs.Header.{header_size, order_of, length_bytes, told_length, ordered_bytes, ordered_number, CanTell};
+ghost use Rattle.piper_lines.specs.Header.{header_size, order_of, length_bytes, encoded_length, ordered_bytes, ordered_number, CanEncode};
 
 use crate::length_bytes::LengthBytes;
 
@@ -57,8 +57,8 @@ impl FrameHeader {
     }
 
     /// Whether it can tell this length.
-    pub fn can_tell(self, size: usize) -> bool
-        ensures { IsTrue result ↔ CanTell self size }
+    pub fn can_encode(self, size: usize) -> bool
+        ensures { IsTrue result ↔ CanEncode self size }
     {
         match self {
             FrameHeader::OneByte => size < 1 << 8,
@@ -69,8 +69,8 @@ impl FrameHeader {
     }
 
     /// The bytes that tell this length.
-    pub fn tell(self, size: usize) -> LengthBytes
-        requires { CanTell self size }
+    pub fn encode(self, size: usize) -> LengthBytes
+        requires { CanEncode self size }
         ensures { shown_of result ≡ length_bytes self size }
     {
         match self.order() {
@@ -90,7 +90,7 @@ impl FrameHeader {
     // The length that these bytes tell.
     pub(crate) fn told(self, b: &[u8]) -> usize
         requires { length b.now ≡ header_size self }
-        ensures told { result ≡ told_length self b.now }
+        ensures told { result ≡ encoded_length self b.now }
         ensures spelled { length_bytes self result ≡ b.now }
     {
         match self {

@@ -6,7 +6,7 @@ ghost use Rattle.futures.specs.Poll.{OnPending};
 ghost use Rattle.piper_lines.specs.Line.{Lacks, IsLine, line_feed};
 ghost use Rattle.piper_lines.specs.Moves.{Moves, Grows};
 ghost use Rattle.piper_lines.specs.LineAnswers.{EndsAgain, Gathers, Hands, OnEnd};
-ghost use Rattle.piper_lines.specs.Refusals.{IsTold, LacksRoom};
+ghost use Rattle.piper_lines.specs.Refusals.{IsReported, LacksRoom};
 ghost use Rattle.piper.specs.Polls.{IfReadyErr};
 
 use futures::task::{Context, Poll};
@@ -119,8 +119,8 @@ impl<R: AsyncBufRead> Lines<R> {
             (kept_of self.old) line.new.items (kept_of self.new)
             (R.known (reader_of self.new)) (R.saw (reader_of self.new)) }
         ensures ended { OnEnd result (IsSpent R.ended self.new) }
-        ensures behind { IsSpent R.ended self.old → IsSpent R.ended self.new × EndsAgain result }
-        ensures error { IfReadyErr result (λ e. IsTold e (R.fails (reader_of self.new) cx.new)
+        ensures after { IsSpent R.ended self.old → IsSpent R.ended self.new × EndsAgain result }
+        ensures error { IfReadyErr result (λ e. IsReported e (R.fails (reader_of self.new) cx.new)
             (LacksRoom limit (room_of self.old) (kept_of self.new) (R.known (reader_of self.new)))) }
         ensures end { end_of self.new ≡ end_of self.old }
         ensures told { R.told (reader_of self.new) ≡ R.told (reader_of self.old) }
@@ -153,9 +153,9 @@ fn gather<R: AsyncBufRead>(
     ensures gathers { Gathers result end limit line.old.items line.new.items
         (R.known reader.new) (R.saw reader.new) }
     ensures ended { OnEnd result (R.ended reader.new) }
-    ensures behind { 0 < limit → R.ended reader.old → line.old.items ≡ [] →
+    ensures after { 0 < limit → R.ended reader.old → line.old.items ≡ [] →
         R.ended reader.new × (line.new.items ≡ []) × EndsAgain result }
-    ensures error { IfReadyErr result (λ e. IsTold e (R.fails reader.new cx.new)
+    ensures error { IfReadyErr result (λ e. IsReported e (R.fails reader.new cx.new)
         (LacksRoom limit (vec_capacity line.old) line.new.items (R.known reader.new))) }
     ensures told { R.told reader.new ≡ R.told reader.old }
     ensures heeded { OnPending result (R.told reader.new ≡ false) }

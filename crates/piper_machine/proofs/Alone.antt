@@ -1,26 +1,26 @@
 -- A step of a side leaves what remains of its call, and it brings the answer nearer.
 use Rattle.std.proofs.Common.{◌≡◌, ℕ, ◌+◌, ◌-◌, ◌<◌, ◌≤◌, List, length, Bool, true, false, Option, None, Some, if◌then◌else◌, ◌==◌, is_some, lit<, lit≤, refl, ap, ◌∙◌, arith, length-append}
-use Rattle.piper_sides.specs.declared.calls.Side.TheVariants.{Reader, Writer}
-use Rattle.piper_sides.specs.declared.calls.SideState.TheVariants.{Busy}
-use Rattle.piper_sides.specs.declared.events.Answer.{Answer}
-use Rattle.piper_sides.specs.declared.events.Answer.TheVariants.{Done}
-use Rattle.piper_sides.specs.declared.table.Purpose.TheVariants as purpose
-use Rattle.piper_sides.specs.declared.table.AfterRead.{AfterRead}
-use Rattle.piper_sides.specs.declared.table.AfterRead.TheVariants as afterward
-use Rattle.piper_sides.specs.declared.table.AfterWrite.{AfterWrite}
-use Rattle.piper_sides.specs.declared.table.AfterWrite.TheVariants as behind
-use Rattle.piper_sides.specs.declared.table.ReadPoint.{ReadPoint}
-use Rattle.piper_sides.specs.declared.table.ReadPoint.TheVariants as at
-use Rattle.piper_sides.specs.declared.table.WritePoint.{WritePoint}
-use Rattle.piper_sides.specs.declared.table.WritePoint.TheVariants as on
-use Rattle.piper_sides.specs.Open.{is_granted}
+use Rattle.piper_protocol.specs.declared.calls.Side.TheVariants.{Reader, Writer}
+use Rattle.piper_protocol.specs.declared.calls.SideState.TheVariants.{Busy}
+use Rattle.piper_protocol.specs.declared.events.Answer.{Answer}
+use Rattle.piper_protocol.specs.declared.events.Answer.TheVariants.{Done}
+use Rattle.piper_protocol.specs.declared.table.Purpose.TheVariants as purpose
+use Rattle.piper_protocol.specs.declared.table.AfterRead.{AfterRead}
+use Rattle.piper_protocol.specs.declared.table.AfterRead.TheVariants as after_read
+use Rattle.piper_protocol.specs.declared.table.AfterWrite.{AfterWrite}
+use Rattle.piper_protocol.specs.declared.table.AfterWrite.TheVariants as after_write
+use Rattle.piper_protocol.specs.declared.table.ReadPoint.{ReadPoint}
+use Rattle.piper_protocol.specs.declared.table.ReadPoint.TheVariants as at
+use Rattle.piper_protocol.specs.declared.table.WritePoint.{WritePoint}
+use Rattle.piper_protocol.specs.declared.table.WritePoint.TheVariants as on
+use Rattle.piper_protocol.specs.Open.{is_granted}
 use Rattle.piper_machine.specs.Pipe.{Pipe}
 use Rattle.piper_machine.specs.Move.{with_waker}
 use Rattle.piper_machine.specs.Refusal.{reader_state, writer_state}
-use Rattle.piper_sides.specs.Table.{Next, goes_on, read_action, write_action, reader_looked, reader_looked_again, reader_registered, writer_taken, writer_is_open, writer_looked, writer_looked_again, writer_registered, reader_taken, own_taken}
+use Rattle.piper_protocol.specs.Table.{Next, goes_on, read_action, write_action, reader_looked, reader_looked_again, reader_registered, writer_taken, writer_is_open, writer_looked, writer_looked_again, writer_registered, reader_taken, own_taken}
 use Rattle.piper_machine.specs.Action.{refreshed_by, registered_in}
 use Rattle.piper_machine.specs.Step.{Stepped, went, call_after, source_after, destination_after, stepped}
-use Rattle.piper_sides.specs.declared.calls.Step.TheVariants.{Go}
+use Rattle.piper_protocol.specs.declared.calls.Step.TheVariants.{Go}
 use Rattle.piper_machine.specs.Alone.{Ended, heard, reader_alone, read_steps, read_wakes, is_draining, is_drain_round, is_filling, is_fill_round, writer_alone, write_steps, write_wakes, reader_looks_alone, reader_again_alone, reader_granted_alone, reader_done_alone, writer_ended, writer_open_alone, writer_looks_alone, writer_granted_alone, writer_again_alone, writer_done_alone, steps_after, wakes_after}
 
 -- what remains after a step of the reader: all that is left, or the answer that the step gave
@@ -52,11 +52,11 @@ again-rest true was_closed p = refl
 again-rest false was_closed p = refl
 
 take-rest : (next : AfterRead) (name : Option ℕ) (p : Pipe) → is_drain_round next ≡ false → reader_done_alone next (record p { reader = at.Idle; writer_waker = None; woken = with_waker p.woken name }) ≡ reader_rest_at (writer_taken next (is_some name)) (record p { writer_waker = None; reader_call = record p.reader_call { taken = name } })
-take-rest afterward.Answer None p plain = refl
-take-rest afterward.Drop None p plain = refl
-take-rest afterward.Answer (Some name) p plain = refl
-take-rest afterward.Drop (Some name) p plain = refl
-take-rest (afterward.Round form sum) name p plain = absurd (cc)
+take-rest after_read.Answer None p plain = refl
+take-rest after_read.Drop None p plain = refl
+take-rest after_read.Answer (Some name) p plain = refl
+take-rest after_read.Drop (Some name) p plain = refl
+take-rest (after_read.Round form sum) name p plain = absurd (cc)
 
 pub reader-rest : (point : ReadPoint) (p : Pipe) → reader_state point ≡ Busy → is_draining point ≡ false → let s = read_step point p in reader_alone point p ≡ reader_rest s.answer s.pipe
 reader-rest at.Idle p busy plain = absurd (cc)
@@ -69,11 +69,11 @@ reader-rest (at.LookRegister purpose.Poll) p busy plain = registers-rest (is_gra
 reader-rest (at.LookClosed purpose.Poll) p busy plain = refl
 reader-rest (at.LookTailAgain purpose.Poll was_closed) p busy plain = again-rest (length p.unread == 0) was_closed (refreshed_by Reader p)
 reader-rest (at.LookTake purpose.Poll) p busy plain = refl
-reader-rest (at.StoreHead n afterward.Answer) p busy plain = refl
-reader-rest (at.StoreHead n afterward.Drop) p busy plain = refl
+reader-rest (at.StoreHead n after_read.Answer) p busy plain = refl
+reader-rest (at.StoreHead n after_read.Drop) p busy plain = refl
 reader-rest (at.TakeWriter next) p busy plain = take-rest next p.writer_waker p plain
-reader-rest (at.WakeWriter afterward.Answer) p busy plain = refl
-reader-rest (at.WakeWriter afterward.Drop) p busy plain = refl
+reader-rest (at.WakeWriter after_read.Answer) p busy plain = refl
+reader-rest (at.WakeWriter after_read.Drop) p busy plain = refl
 reader-rest at.StoreClosed p busy plain = refl
 reader-rest point p busy plain = absurd (cc)
 
@@ -113,11 +113,11 @@ again-near true was_closed p q same goes = absurd (cc)
 again-near false was_closed p q same goes = (refl, refl, rw same (near 2 1 0 0 (length p.woken) (lit< tt) (lit≤ tt)))
 
 take-near : (next : AfterRead) (is_found : Bool) (p q : Pipe) → is_drain_round next ≡ false → q.woken ≡ p.woken → IsNearer (at.TakeWriter next) p (writer_taken next is_found) q
-take-near afterward.Answer false p q plain same goes = absurd (cc)
-take-near afterward.Drop false p q plain same goes = absurd (cc)
-take-near afterward.Answer true p q plain same goes = (refl, refl, rw same (near 2 1 1 1 (length p.woken) (lit< tt) (lit≤ tt)))
-take-near afterward.Drop true p q plain same goes = (refl, refl, rw same (near 2 1 1 1 (length p.woken) (lit< tt) (lit≤ tt)))
-take-near (afterward.Round form sum) is_found p q plain same goes = absurd (cc)
+take-near after_read.Answer false p q plain same goes = absurd (cc)
+take-near after_read.Drop false p q plain same goes = absurd (cc)
+take-near after_read.Answer true p q plain same goes = (refl, refl, rw same (near 2 1 1 1 (length p.woken) (lit< tt) (lit≤ tt)))
+take-near after_read.Drop true p q plain same goes = (refl, refl, rw same (near 2 1 1 1 (length p.woken) (lit< tt) (lit≤ tt)))
+take-near (after_read.Round form sum) is_found p q plain same goes = absurd (cc)
 
 pub reader-nearer : (point : ReadPoint) (p : Pipe) → reader_state point ≡ Busy → is_draining point ≡ false → let s = read_step point p in s.answer ≡ None → (reader_state s.pipe.reader ≡ Busy) × (is_draining s.pipe.reader ≡ false) × Nearer (reads_left point p) (reads_left s.pipe.reader s.pipe) (read_wakes point) (read_wakes s.pipe.reader) (length p.woken) (length s.pipe.woken)
 reader-nearer at.Idle p busy plain goes = absurd (cc)
@@ -130,11 +130,11 @@ reader-nearer (at.LookRegister purpose.Poll) p busy plain goes = registers-near 
 reader-nearer (at.LookClosed purpose.Poll) p busy plain goes = (refl, refl, near 3 2 0 0 (length p.woken) (lit< tt) (lit≤ tt))
 reader-nearer (at.LookTailAgain purpose.Poll was_closed) p busy plain goes = again-near (length p.unread == 0) was_closed p (refreshed_by Reader p) refl goes
 reader-nearer (at.LookTake purpose.Poll) p busy plain goes = absurd (cc)
-reader-nearer (at.StoreHead n afterward.Answer) p busy plain goes = (refl, refl, near 3 2 1 1 (length p.woken) (lit< tt) (lit≤ tt))
-reader-nearer (at.StoreHead n afterward.Drop) p busy plain goes = (refl, refl, near 3 2 1 1 (length p.woken) (lit< tt) (lit≤ tt))
+reader-nearer (at.StoreHead n after_read.Answer) p busy plain goes = (refl, refl, near 3 2 1 1 (length p.woken) (lit< tt) (lit≤ tt))
+reader-nearer (at.StoreHead n after_read.Drop) p busy plain goes = (refl, refl, near 3 2 1 1 (length p.woken) (lit< tt) (lit≤ tt))
 reader-nearer (at.TakeWriter next) p busy plain goes = take-near next (is_some p.writer_waker) p p plain refl goes
-reader-nearer (at.WakeWriter afterward.Answer) p busy plain goes = absurd (cc)
-reader-nearer (at.WakeWriter afterward.Drop) p busy plain goes = absurd (cc)
+reader-nearer (at.WakeWriter after_read.Answer) p busy plain goes = absurd (cc)
+reader-nearer (at.WakeWriter after_read.Drop) p busy plain goes = absurd (cc)
 reader-nearer at.StoreClosed p busy plain goes = (refl, refl, near 3 2 1 1 (length p.woken) (lit< tt) (lit≤ tt))
 reader-nearer point p busy plain goes = absurd (cc)
 
@@ -171,13 +171,13 @@ writer_again-rest true p = refl
 writer_again-rest false p = refl
 
 reader_take-rest : (next : AfterWrite) (name : Option ℕ) (p : Pipe) → is_fill_round next ≡ false → writer_done_alone next (record p { writer = on.Idle; reader_waker = None; woken = with_waker p.woken name }) ≡ writer_rest_at (reader_taken next (is_some name)) (record p { reader_waker = None; writer_call = record p.writer_call { taken = name } })
-reader_take-rest behind.Answer None p plain = refl
-reader_take-rest behind.Drop None p plain = refl
-reader_take-rest behind.WakeWriter None p plain = refl
-reader_take-rest behind.Answer (Some name) p plain = refl
-reader_take-rest behind.Drop (Some name) p plain = refl
-reader_take-rest behind.WakeWriter (Some name) p plain = refl
-reader_take-rest (behind.Round form sum) name p plain = absurd (cc)
+reader_take-rest after_write.Answer None p plain = refl
+reader_take-rest after_write.Drop None p plain = refl
+reader_take-rest after_write.WakeWriter None p plain = refl
+reader_take-rest after_write.Answer (Some name) p plain = refl
+reader_take-rest after_write.Drop (Some name) p plain = refl
+reader_take-rest after_write.WakeWriter (Some name) p plain = refl
+reader_take-rest (after_write.Round form sum) name p plain = absurd (cc)
 
 own_take-rest : (name : Option ℕ) (p : Pipe) → writer_ended on.Idle Done (record p { writer = on.Idle; writer_waker = None; woken = with_waker p.woken name }) ≡ writer_rest_at (own_taken (is_some name)) (record p { writer_waker = None; writer_call = record p.writer_call { taken = name } })
 own_take-rest None p = refl
@@ -195,16 +195,16 @@ writer-rest (on.LookRegister purpose.Poll) p busy plain = writer_registers-rest 
 writer-rest (on.LookHeadAgain purpose.Poll) p busy plain = writer_again-rest (p.capacity - length p.unread == 0) (refreshed_by Writer p)
 writer-rest (on.LookClosedAgain purpose.Poll) p busy plain = refl
 writer-rest (on.LookTake purpose.Poll) p busy plain = refl
-writer-rest (on.StoreTail n behind.Answer) p busy plain = refl
-writer-rest (on.StoreTail n behind.Drop) p busy plain = refl
-writer-rest (on.StoreTail n behind.WakeWriter) p busy plain = refl
+writer-rest (on.StoreTail n after_write.Answer) p busy plain = refl
+writer-rest (on.StoreTail n after_write.Drop) p busy plain = refl
+writer-rest (on.StoreTail n after_write.WakeWriter) p busy plain = refl
 writer-rest (on.TakeReader next) p busy plain = reader_take-rest next p.reader_waker p plain
-writer-rest (on.WakeReader behind.Answer) p busy plain = refl
-writer-rest (on.WakeReader behind.Drop) p busy plain = refl
-writer-rest (on.WakeReader behind.WakeWriter) p busy plain = refl
-writer-rest (on.StoreClosed behind.Answer) p busy plain = refl
-writer-rest (on.StoreClosed behind.Drop) p busy plain = refl
-writer-rest (on.StoreClosed behind.WakeWriter) p busy plain = refl
+writer-rest (on.WakeReader after_write.Answer) p busy plain = refl
+writer-rest (on.WakeReader after_write.Drop) p busy plain = refl
+writer-rest (on.WakeReader after_write.WakeWriter) p busy plain = refl
+writer-rest (on.StoreClosed after_write.Answer) p busy plain = refl
+writer-rest (on.StoreClosed after_write.Drop) p busy plain = refl
+writer-rest (on.StoreClosed after_write.WakeWriter) p busy plain = refl
 writer-rest on.TakeWriter p busy plain = own_take-rest p.writer_waker p
 writer-rest on.WakeWriter p busy plain = refl
 writer-rest point p busy plain = absurd (cc)
@@ -220,18 +220,18 @@ plain-step (on.LookRegister purpose.Poll) lent p plain = refl
 plain-step (on.LookHeadAgain purpose.Poll) lent p plain = refl
 plain-step (on.LookClosedAgain purpose.Poll) lent p plain = refl
 plain-step (on.LookTake purpose.Poll) lent p plain = refl
-plain-step (on.StoreTail n behind.Answer) lent p plain = refl
-plain-step (on.StoreTail n behind.Drop) lent p plain = refl
-plain-step (on.StoreTail n behind.WakeWriter) lent p plain = refl
-plain-step (on.TakeReader behind.Answer) lent p plain = refl
-plain-step (on.TakeReader behind.Drop) lent p plain = refl
-plain-step (on.TakeReader behind.WakeWriter) lent p plain = refl
-plain-step (on.WakeReader behind.Answer) lent p plain = refl
-plain-step (on.WakeReader behind.Drop) lent p plain = refl
-plain-step (on.WakeReader behind.WakeWriter) lent p plain = refl
-plain-step (on.StoreClosed behind.Answer) lent p plain = refl
-plain-step (on.StoreClosed behind.Drop) lent p plain = refl
-plain-step (on.StoreClosed behind.WakeWriter) lent p plain = refl
+plain-step (on.StoreTail n after_write.Answer) lent p plain = refl
+plain-step (on.StoreTail n after_write.Drop) lent p plain = refl
+plain-step (on.StoreTail n after_write.WakeWriter) lent p plain = refl
+plain-step (on.TakeReader after_write.Answer) lent p plain = refl
+plain-step (on.TakeReader after_write.Drop) lent p plain = refl
+plain-step (on.TakeReader after_write.WakeWriter) lent p plain = refl
+plain-step (on.WakeReader after_write.Answer) lent p plain = refl
+plain-step (on.WakeReader after_write.Drop) lent p plain = refl
+plain-step (on.WakeReader after_write.WakeWriter) lent p plain = refl
+plain-step (on.StoreClosed after_write.Answer) lent p plain = refl
+plain-step (on.StoreClosed after_write.Drop) lent p plain = refl
+plain-step (on.StoreClosed after_write.WakeWriter) lent p plain = refl
 plain-step on.TakeWriter lent p plain = refl
 plain-step on.WakeWriter lent p plain = refl
 plain-step on.Idle lent p plain = refl
@@ -268,13 +268,13 @@ writer_again-near true p goes = (refl, refl, near 2 1 0 0 (length p.woken) (lit<
 writer_again-near false p goes = (refl, refl, near 2 1 0 0 (length p.woken) (lit< tt) (lit≤ tt))
 
 reader_take-near : (next : AfterWrite) (is_found : Bool) (p : Pipe) → is_fill_round next ≡ false → IsWriterNearer (on.TakeReader next) p (reader_taken next is_found) p
-reader_take-near behind.Answer false p plain goes = absurd (cc)
-reader_take-near behind.Drop false p plain goes = absurd (cc)
-reader_take-near behind.WakeWriter false p plain goes = (refl, refl, near 4 2 2 1 (length p.woken) (lit< tt) (lit≤ tt))
-reader_take-near behind.Answer true p plain goes = (refl, refl, near 2 1 1 1 (length p.woken) (lit< tt) (lit≤ tt))
-reader_take-near behind.Drop true p plain goes = (refl, refl, near 2 1 1 1 (length p.woken) (lit< tt) (lit≤ tt))
-reader_take-near behind.WakeWriter true p plain goes = (refl, refl, near 4 3 2 2 (length p.woken) (lit< tt) (lit≤ tt))
-reader_take-near (behind.Round form sum) is_found p plain goes = absurd (cc)
+reader_take-near after_write.Answer false p plain goes = absurd (cc)
+reader_take-near after_write.Drop false p plain goes = absurd (cc)
+reader_take-near after_write.WakeWriter false p plain goes = (refl, refl, near 4 2 2 1 (length p.woken) (lit< tt) (lit≤ tt))
+reader_take-near after_write.Answer true p plain goes = (refl, refl, near 2 1 1 1 (length p.woken) (lit< tt) (lit≤ tt))
+reader_take-near after_write.Drop true p plain goes = (refl, refl, near 2 1 1 1 (length p.woken) (lit< tt) (lit≤ tt))
+reader_take-near after_write.WakeWriter true p plain goes = (refl, refl, near 4 3 2 2 (length p.woken) (lit< tt) (lit≤ tt))
+reader_take-near (after_write.Round form sum) is_found p plain goes = absurd (cc)
 
 own_take-near : (is_found : Bool) (p : Pipe) → IsWriterNearer on.TakeWriter p (own_taken is_found) p
 own_take-near false p goes = absurd (cc)
@@ -296,16 +296,16 @@ writer-nearer (on.LookRegister purpose.Poll) p busy plain goes = writer_register
 writer-nearer (on.LookHeadAgain purpose.Poll) p busy plain goes = writer_again-near (p.capacity - length p.unread == 0) p goes
 writer-nearer (on.LookClosedAgain purpose.Poll) p busy plain goes = absurd (cc)
 writer-nearer (on.LookTake purpose.Poll) p busy plain goes = absurd (cc)
-writer-nearer (on.StoreTail n behind.Answer) p busy plain goes = (refl, refl, near 3 2 1 1 (length p.woken) (lit< tt) (lit≤ tt))
-writer-nearer (on.StoreTail n behind.Drop) p busy plain goes = (refl, refl, near 3 2 1 1 (length p.woken) (lit< tt) (lit≤ tt))
-writer-nearer (on.StoreTail n behind.WakeWriter) p busy plain goes = (refl, refl, near 5 4 2 2 (length p.woken) (lit< tt) (lit≤ tt))
+writer-nearer (on.StoreTail n after_write.Answer) p busy plain goes = (refl, refl, near 3 2 1 1 (length p.woken) (lit< tt) (lit≤ tt))
+writer-nearer (on.StoreTail n after_write.Drop) p busy plain goes = (refl, refl, near 3 2 1 1 (length p.woken) (lit< tt) (lit≤ tt))
+writer-nearer (on.StoreTail n after_write.WakeWriter) p busy plain goes = (refl, refl, near 5 4 2 2 (length p.woken) (lit< tt) (lit≤ tt))
 writer-nearer (on.TakeReader next) p busy plain goes = reader_take-near next (is_some p.reader_waker) p plain goes
-writer-nearer (on.WakeReader behind.Answer) p busy plain goes = absurd (cc)
-writer-nearer (on.WakeReader behind.Drop) p busy plain goes = absurd (cc)
-writer-nearer (on.WakeReader behind.WakeWriter) p busy plain goes = (refl, refl, record { steps = lit< tt; wakes = let more = length-with_waker p.woken p.writer_call.taken in omega arith })
-writer-nearer (on.StoreClosed behind.Answer) p busy plain goes = (refl, refl, near 3 2 1 1 (length p.woken) (lit< tt) (lit≤ tt))
-writer-nearer (on.StoreClosed behind.Drop) p busy plain goes = (refl, refl, near 3 2 1 1 (length p.woken) (lit< tt) (lit≤ tt))
-writer-nearer (on.StoreClosed behind.WakeWriter) p busy plain goes = (refl, refl, near 5 4 2 2 (length p.woken) (lit< tt) (lit≤ tt))
+writer-nearer (on.WakeReader after_write.Answer) p busy plain goes = absurd (cc)
+writer-nearer (on.WakeReader after_write.Drop) p busy plain goes = absurd (cc)
+writer-nearer (on.WakeReader after_write.WakeWriter) p busy plain goes = (refl, refl, record { steps = lit< tt; wakes = let more = length-with_waker p.woken p.writer_call.taken in omega arith })
+writer-nearer (on.StoreClosed after_write.Answer) p busy plain goes = (refl, refl, near 3 2 1 1 (length p.woken) (lit< tt) (lit≤ tt))
+writer-nearer (on.StoreClosed after_write.Drop) p busy plain goes = (refl, refl, near 3 2 1 1 (length p.woken) (lit< tt) (lit≤ tt))
+writer-nearer (on.StoreClosed after_write.WakeWriter) p busy plain goes = (refl, refl, near 5 4 2 2 (length p.woken) (lit< tt) (lit≤ tt))
 writer-nearer on.TakeWriter p busy plain goes = own_take-near (is_some p.writer_waker) p goes
 writer-nearer on.WakeWriter p busy plain goes = absurd (cc)
 writer-nearer point p busy plain goes = absurd (cc)

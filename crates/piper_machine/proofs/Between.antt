@@ -3,7 +3,7 @@
 use Rattle.std.proofs.Common.{◌≡◌, ℕ, ◌+◌, ◌-◌, ◌*◌, ◌<◌, ◌≤◌, List, [], ◌++◌, length, take, drop, min, ap, sym, ◌∙◌, arith}
 use Rattle.std.proofs.lemmas.Bool.Decides.{nat_tests}
 use Rattle.std.proofs.Math.ListN.{set}
-use Rattle.piper_sides.specs.Index.{distance, place_of, advanced}
+use Rattle.piper_protocol.specs.Index.{distance, place_of, advanced}
 use Rattle.piper_machine.specs.Buffer.{between, written}
 use Rattle.piper_machine.proofs.Indices.{distance-advanced_to, distance-advanced_from, place_of-distance, place_of-advanced, place_below}
 use Rattle.piper_machine.proofs.Ring.{ring, length-ring, ring-longer, ring-drop, ring-take, ring-pieces, ring-written, ring-set}

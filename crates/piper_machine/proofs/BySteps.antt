@@ -1,23 +1,23 @@
 -- Steps of one side alone, from any point up to the answer, give what remains of the call.
 use Rattle.std.proofs.Common.{◌≡◌, ℕ, zero, suc, ◌<◌, ◌≤◌, List, [], ◌∷◌, ◌++◌, Bool, true, false, Option, None, Some, replicate, refl, sym, ap, ◌∙◌, subst, append_assoc, append-nil, arith}
-use Rattle.piper_sides.specs.declared.calls.Side.{Side}
-use Rattle.piper_sides.specs.declared.calls.Side.TheVariants.{Reader, Writer}
-use Rattle.piper_sides.specs.declared.calls.SideState.{SideState}
-use Rattle.piper_sides.specs.declared.calls.SideState.TheVariants.{Busy}
-use Rattle.piper_sides.specs.declared.calls.Step.TheVariants.{Go}
-use Rattle.piper_sides.specs.declared.events.Answer.{Answer}
-use Rattle.piper_sides.specs.declared.events.Event.{Event}
-use Rattle.piper_sides.specs.declared.events.Event.TheVariants.{Answered}
-use Rattle.piper_sides.specs.declared.polling.Context.{Context}
-use Rattle.piper_sides.specs.declared.scripted.SourceAct.{SourceAct}
-use Rattle.piper_sides.specs.declared.scripted.SourceAct.TheVariants as source
-use Rattle.piper_sides.specs.declared.table.ReadPoint.{ReadPoint}
-use Rattle.piper_sides.specs.declared.table.ReadPoint.TheVariants as at
-use Rattle.piper_sides.specs.declared.table.WritePoint.{WritePoint}
-use Rattle.piper_sides.specs.declared.table.WritePoint.TheVariants as on
-use Rattle.piper_sides.specs.declared.table.AfterWrite.TheVariants as behind
-use Rattle.piper_sides.specs.Log.{answer_event}
-use Rattle.piper_sides.specs.Table.{read_action, write_action}
+use Rattle.piper_protocol.specs.declared.calls.Side.{Side}
+use Rattle.piper_protocol.specs.declared.calls.Side.TheVariants.{Reader, Writer}
+use Rattle.piper_protocol.specs.declared.calls.SideState.{SideState}
+use Rattle.piper_protocol.specs.declared.calls.SideState.TheVariants.{Busy}
+use Rattle.piper_protocol.specs.declared.calls.Step.TheVariants.{Go}
+use Rattle.piper_protocol.specs.declared.events.Answer.{Answer}
+use Rattle.piper_protocol.specs.declared.events.Event.{Event}
+use Rattle.piper_protocol.specs.declared.events.Event.TheVariants.{Answered}
+use Rattle.piper_protocol.specs.declared.polling.Context.{Context}
+use Rattle.piper_protocol.specs.declared.scripted.SourceAct.{SourceAct}
+use Rattle.piper_protocol.specs.declared.scripted.SourceAct.TheVariants as source
+use Rattle.piper_protocol.specs.declared.table.ReadPoint.{ReadPoint}
+use Rattle.piper_protocol.specs.declared.table.ReadPoint.TheVariants as at
+use Rattle.piper_protocol.specs.declared.table.WritePoint.{WritePoint}
+use Rattle.piper_protocol.specs.declared.table.WritePoint.TheVariants as on
+use Rattle.piper_protocol.specs.declared.table.AfterWrite.TheVariants as after_write
+use Rattle.piper_protocol.specs.Log.{answer_event}
+use Rattle.piper_protocol.specs.Table.{read_action, write_action}
 use Rattle.piper_machine.specs.Pipe.{Pipe}
 use Rattle.piper_machine.specs.Move.{with_waker}
 use Rattle.piper_machine.specs.Refusal.{reader_state, writer_state, state_of, cannot_go}
@@ -27,9 +27,9 @@ use Rattle.piper_machine.specs.Run.{Runs}
 use Rattle.piper_machine.specs.Alone.{Ended, reader_alone, writer_alone, is_draining, is_filling, yield_waker, waker_if}
 use Rattle.piper_machine.specs.BySteps.{named_by, names_of}
 use Rattle.piper_machine.proofs.Alone.{reads_left, writes_left, reader_rest, read_step, reader-rest, reader-nearer, writer-nearer, writer_rest, writer-rest, plain-step}
-use Rattle.piper_machine.proofs.Copies.{drain-rest, WriterStands, fill_step, fill-rest}
+use Rattle.piper_machine.proofs.Copies.{drain-rest, WriterValid, fill_step, fill-rest}
 use Rattle.piper_machine.proofs.Falling.{drain-falls, reads-some, fill-falls, writes-some}
-use Rattle.piper_machine.proofs.Standing.{IsSettled, ReaderStands, reader-settled, reader-stands, closes_round, writer-settled, writer-stands}
+use Rattle.piper_machine.proofs.Validity.{IsSettled, ReaderValid, reader-settled, reader-valid, closes_round, writer-settled, writer-valid}
 
 abbrev pub named : List ℕ → Pipe → Pipe
 named names p = record p { woken = names }
@@ -42,9 +42,9 @@ abbrev pub rest_of : Side → Option Answer → Pipe → Ended
 rest_of side None p = alone_of side p
 rest_of side (Some answer) p = record { answer = answer; pipe = p }
 
-abbrev pub Stands : Side → Pipe → Type 0
-Stands Reader p = ReaderStands p.reader p
-Stands Writer p = WriterStands p.writer p × (closes_round p.writer ≡ false)
+abbrev pub IsValid : Side → Pipe → Type 0
+IsValid Reader p = ReaderValid p.reader p
+IsValid Writer p = WriterValid p.writer p × (closes_round p.writer ≡ false)
 
 -- the most steps that remain
 abbrev pub left_of : Side → Pipe → ℕ
@@ -59,7 +59,7 @@ pub record IsHeard (side : Side) (p : Pipe) (names : List ℕ) (made : Stepped) 
   pub events : made.events ≡ logged ++ answer_event side answer
   pub woken : after.woken ≡ p.woken ++ names_of logged
   pub rest : alone_of side p ≡ rest_of side answer after
-  pub stands : Stands side after
+  pub valid : IsValid side after
   pub settled : IsSettled answer (state_of side after)
   pub some : 1 ≤ left_of side p
   pub falls : answer ≡ None → left_of side after < left_of side p
@@ -101,20 +101,20 @@ reader-hears (at.WakeWriter next) p names = record { pipe = refl; answer = refl;
 reader-hears at.Yield p names = record { pipe = refl; answer = refl; events = refl; woken = yield-names p.reader_call.context p.woken }
 reader-hears point p names = record { pipe = refl; answer = refl; events = refl; woken = quiet p.woken }
 
-read-rest : (point : ReadPoint) (p : Pipe) (drains : Bool) → is_draining point ≡ drains → reader_state point ≡ Busy → ReaderStands point p → let s = read_step point p in reader_alone point p ≡ reader_rest s.answer s.pipe
-read-rest point p true is busy stands = drain-rest point p is stands.start (omega (arith, stands.unread, stands.known))
-read-rest point p false is busy stands = reader-rest point p busy is
+read-rest : (point : ReadPoint) (p : Pipe) (drains : Bool) → is_draining point ≡ drains → reader_state point ≡ Busy → ReaderValid point p → let s = read_step point p in reader_alone point p ≡ reader_rest s.answer s.pipe
+read-rest point p true is busy valid = drain-rest point p is valid.start (omega (arith, valid.unread, valid.known))
+read-rest point p false is busy valid = reader-rest point p busy is
 
-read-falls : (point : ReadPoint) (p : Pipe) (drains : Bool) → is_draining point ≡ drains → reader_state point ≡ Busy → ReaderStands point p → let s = read_step point p in s.answer ≡ None → reads_left s.pipe.reader s.pipe < reads_left point p
-read-falls point p true is busy stands goes = drain-falls point p is stands goes
-read-falls point p false is busy stands goes = let nearer = reader-nearer point p busy is goes in nearer.2.steps
+read-falls : (point : ReadPoint) (p : Pipe) (drains : Bool) → is_draining point ≡ drains → reader_state point ≡ Busy → ReaderValid point p → let s = read_step point p in s.answer ≡ None → reads_left s.pipe.reader s.pipe < reads_left point p
+read-falls point p true is busy valid goes = drain-falls point p is valid goes
+read-falls point p false is busy valid goes = let nearer = reader-nearer point p busy is goes in nearer.2.steps
 
 reader-rest_of : (answer : Option Answer) (p : Pipe) → reader_rest answer p ≡ rest_of Reader answer p
 reader-rest_of None p = refl
 reader-rest_of (Some answer) p = refl
 
-reader_step : (p : Pipe) (names : List ℕ) → state_of Reader p ≡ Busy → Stands Reader p → let made = stepped [] (Go Reader) (named names p) in IsHeard Reader p names made made.answer
-reader_step p names busy stands =
+reader_step : (p : Pipe) (names : List ℕ) → state_of Reader p ≡ Busy → IsValid Reader p → let made = stepped [] (Go Reader) (named names p) in IsHeard Reader p names made made.answer
+reader_step p names busy valid =
     let s = read_step p.reader p in
     let hears = reader-hears p.reader p names in
     let made = stepped [] (Go Reader) (named names p) in
@@ -124,11 +124,11 @@ reader_step p names busy stands =
       pipe = hears.pipe;
       events = hears.events;
       woken = hears.woken;
-      rest = read-rest p.reader p (is_draining p.reader) refl busy stands ∙ reader-rest_of s.answer s.pipe;
-      stands = reader-stands p.reader p busy stands;
+      rest = read-rest p.reader p (is_draining p.reader) refl busy valid ∙ reader-rest_of s.answer s.pipe;
+      valid = reader-valid p.reader p busy valid;
       settled = reader-settled p.reader p busy;
       some = reads-some p.reader p busy;
-      falls = read-falls p.reader p (is_draining p.reader) refl busy stands;
+      falls = read-falls p.reader p (is_draining p.reader) refl busy valid;
     })
 
 -- the writer
@@ -144,21 +144,21 @@ writer-hears (on.LookRegister l) lent p names = record { pipe = refl; answer = r
 writer-hears (on.WakeReader next) lent p names = record { pipe = refl; answer = refl; events = refl; woken = wake-names p.writer_call.taken p.woken }
 writer-hears on.WakeWriter lent p names = record { pipe = refl; answer = refl; events = refl; woken = wake-names p.writer_call.taken p.woken }
 writer-hears on.Yield lent p names = record { pipe = refl; answer = refl; events = refl; woken = yield-names p.writer_call.context p.woken }
-writer-hears (on.StoreClosed behind.Answer) lent p names = record { pipe = refl; answer = refl; events = refl; woken = quiet p.woken }
-writer-hears (on.StoreClosed behind.Drop) lent p names = record { pipe = refl; answer = refl; events = refl; woken = quiet p.woken }
-writer-hears (on.StoreClosed behind.WakeWriter) lent p names = record { pipe = refl; answer = refl; events = refl; woken = quiet p.woken }
-writer-hears (on.StoreClosed (behind.Round form sum)) lent p names = record { pipe = refl; answer = refl; events = refl; woken = quiet p.woken }
+writer-hears (on.StoreClosed after_write.Answer) lent p names = record { pipe = refl; answer = refl; events = refl; woken = quiet p.woken }
+writer-hears (on.StoreClosed after_write.Drop) lent p names = record { pipe = refl; answer = refl; events = refl; woken = quiet p.woken }
+writer-hears (on.StoreClosed after_write.WakeWriter) lent p names = record { pipe = refl; answer = refl; events = refl; woken = quiet p.woken }
+writer-hears (on.StoreClosed (after_write.Round form sum)) lent p names = record { pipe = refl; answer = refl; events = refl; woken = quiet p.woken }
 writer-hears point lent p names = record { pipe = refl; answer = refl; events = refl; woken = quiet p.woken }
 
-write-rest : (point : WritePoint) (lent : List ℕ) (p : Pipe) (fills : Bool) → is_filling point ≡ fills → writer_state point ≡ Busy → WriterStands point p → MayOffer point p.source lent (record p { writer = point })
+write-rest : (point : WritePoint) (lent : List ℕ) (p : Pipe) (fills : Bool) → is_filling point ≡ fills → writer_state point ≡ Busy → WriterValid point p → MayOffer point p.source lent (record p { writer = point })
     → let s = fill_step point lent p in writer_alone point p ≡ writer_rest s.answer s.pipe
-write-rest point lent p true is busy stands may = fill-rest point lent p is stands may
-write-rest point lent p false is busy stands may = writer-rest point p busy is ∙ ap (λ (s : Stepped). writer_rest s.answer s.pipe) (sym (plain-step point lent p is))
+write-rest point lent p true is busy valid may = fill-rest point lent p is valid may
+write-rest point lent p false is busy valid may = writer-rest point p busy is ∙ ap (λ (s : Stepped). writer_rest s.answer s.pipe) (sym (plain-step point lent p is))
 
-write-falls : (point : WritePoint) (lent : List ℕ) (p : Pipe) (fills : Bool) → is_filling point ≡ fills → writer_state point ≡ Busy → WriterStands point p → MayOffer point p.source lent (record p { writer = point })
+write-falls : (point : WritePoint) (lent : List ℕ) (p : Pipe) (fills : Bool) → is_filling point ≡ fills → writer_state point ≡ Busy → WriterValid point p → MayOffer point p.source lent (record p { writer = point })
     → let s = fill_step point lent p in s.answer ≡ None → writes_left s.pipe.writer s.pipe < writes_left point p
-write-falls point lent p true is busy stands may = fill-falls point lent p is stands may
-write-falls point lent p false is busy stands may =
+write-falls point lent p true is busy valid may = fill-falls point lent p is valid may
+write-falls point lent p false is busy valid may =
     subst (λ (s : Stepped). s.answer ≡ None → writes_left s.pipe.writer s.pipe < writes_left point p) (sym (plain-step point lent p is)) (λ goes. (writer-nearer point p busy is goes).2.steps)
 
 writer-rest_of : (answer : Option Answer) (p : Pipe) → writer_rest answer p ≡ rest_of Writer answer p
@@ -175,8 +175,8 @@ may-unnamed (on.CallSource form sum) lent names p may = offers p.source may
     offers (source.Bytes (byte ∷ bytes) ∷ acts) may = record { at_most = may.at_most; at_least = may.at_least; some = may.some; shut = may.shut }
 may-unnamed point lent names p may = tt
 
-writer_step : (lent : List ℕ) (p : Pipe) (names : List ℕ) → state_of Writer p ≡ Busy → Stands Writer p → MayOffer p.writer p.source lent (named names p) → let made = stepped lent (Go Writer) (named names p) in IsHeard Writer p names made made.answer
-writer_step lent p names busy stands may =
+writer_step : (lent : List ℕ) (p : Pipe) (names : List ℕ) → state_of Writer p ≡ Busy → IsValid Writer p → MayOffer p.writer p.source lent (named names p) → let made = stepped lent (Go Writer) (named names p) in IsHeard Writer p names made made.answer
+writer_step lent p names busy valid may =
     let s = fill_step p.writer lent p in
     let hears = writer-hears p.writer lent p names in
     let made = stepped lent (Go Writer) (named names p) in
@@ -187,18 +187,18 @@ writer_step lent p names busy stands may =
       pipe = hears.pipe;
       events = hears.events;
       woken = hears.woken;
-      rest = write-rest p.writer lent p (is_filling p.writer) refl busy stands.0 may_offer ∙ writer-rest_of s.answer s.pipe;
-      stands = writer-stands p.writer lent p busy stands.1 stands.0 may_offer;
-      settled = writer-settled p.writer lent p busy stands.1;
+      rest = write-rest p.writer lent p (is_filling p.writer) refl busy valid.0 may_offer ∙ writer-rest_of s.answer s.pipe;
+      valid = writer-valid p.writer lent p busy valid.1 valid.0 may_offer;
+      settled = writer-settled p.writer lent p busy valid.1;
       some = writes-some p.writer p busy;
-      falls = write-falls p.writer lent p (is_filling p.writer) refl busy stands.0 may_offer;
+      falls = write-falls p.writer lent p (is_filling p.writer) refl busy valid.0 may_offer;
     })
 
 -- either side
 
-one_step : (side : Side) (lent : List ℕ) (p : Pipe) (names : List ℕ) → state_of side p ≡ Busy → Stands side p → MayLend lent (Go side) (named names p) → let made = stepped lent (Go side) (named names p) in IsHeard side p names made made.answer
-one_step Reader lent p names busy stands may = reader_step p names busy stands
-one_step Writer lent p names busy stands may = writer_step lent p names busy stands may
+one_step : (side : Side) (lent : List ℕ) (p : Pipe) (names : List ℕ) → state_of side p ≡ Busy → IsValid side p → MayLend lent (Go side) (named names p) → let made = stepped lent (Go side) (named names p) in IsHeard side p names made made.answer
+one_step Reader lent p names busy valid may = reader_step p names busy valid
+one_step Writer lent p names busy valid may = writer_step lent p names busy valid may
 
 state-named : (side : Side) (names : List ℕ) (p : Pipe) → state_of side (named names p) ≡ state_of side p
 state-named Reader names p = refl
@@ -223,20 +223,20 @@ no_more (suc k) side p q before after rests run = absurd (rests run.2.accepted)
 
 finish_on : (k : ℕ) (side : Side) (p : Pipe) (names : List ℕ) (before mid_log after : List Event) (mid q : Pipe) (made : Stepped) (answer : Option Answer)
     → IsHeard side p names made answer → mid ≡ made.pipe → mid_log ≡ before ++ made.events → Runs mid mid_log (replicate k (Go side)) q after
-    → ((u : Pipe) → state_of side u ≡ Busy → Stands side u → Runs (named names u) mid_log (replicate k (Go side)) q after → IsFinished k side u names mid_log q after)
+    → ((u : Pipe) → state_of side u ≡ Busy → IsValid side u → Runs (named names u) mid_log (replicate k (Go side)) q after → IsFinished k side u names mid_log q after)
     → IsFinished (suc k) side p names before q after
 finish_on k side p names before mid_log after mid q made None heard mid_is log_is run later =
     let u = heard.after in
-    let rest = later u heard.settled heard.stands (subst (λ (r : Pipe). Runs r mid_log (replicate k (Go side)) q after) (mid_is ∙ heard.pipe) run) in
+    let rest = later u heard.settled heard.valid (subst (λ (r : Pipe). Runs r mid_log (replicate k (Go side)) q after) (mid_is ∙ heard.pipe) run) in
     let few = rest.steps in
     let falls = heard.falls refl in
-    let told : mid_log ≡ before ++ heard.logged = log_is ∙ ap (λ (es : List Event). before ++ es) (heard.events ∙ append-nil heard.logged) in
+    let noted : mid_log ≡ before ++ heard.logged = log_is ∙ ap (λ (es : List Event). before ++ es) (heard.events ∙ append-nil heard.logged) in
     let answered = Answered side (alone_of side u).answer ∷ [] in
     record {
       log = heard.logged ++ rest.log;
       events =
           rest.events
-          ∙ ap (λ (es : List Event). es ++ (rest.log ++ answered)) told
+          ∙ ap (λ (es : List Event). es ++ (rest.log ++ answered)) noted
           ∙ append_assoc before heard.logged (rest.log ++ answered)
           ∙ ap (λ (es : List Event). before ++ es) (sym (append_assoc heard.logged rest.log answered))
           ∙ ap (λ (e : Ended). before ++ ((heard.logged ++ rest.log) ++ Answered side e.answer ∷ [])) (sym heard.rest);
@@ -262,12 +262,12 @@ finish_on k side p names before mid_log after mid q made (Some answer) heard mid
       steps = omega arith;
     }
 
-pub finish : (k : ℕ) (side : Side) (p : Pipe) (names : List ℕ) (before after : List Event) (q : Pipe) → state_of side p ≡ Busy → Stands side p → Runs (named names p) before (replicate k (Go side)) q after
+pub finish : (k : ℕ) (side : Side) (p : Pipe) (names : List ℕ) (before after : List Event) (q : Pipe) → state_of side p ≡ Busy → IsValid side p → Runs (named names p) before (replicate k (Go side)) q after
     → (state_of side q ≡ Busy → ⊥) → IsFinished k side p names before q after
-finish zero side p names before after q busy stands run ends = absurd (ends (ap (state_of side) run.0 ∙ state-named side names p ∙ busy))
-finish (suc k) side p names before after q busy stands run ends =
+finish zero side p names before after q busy valid run ends = absurd (ends (ap (state_of side) run.0 ∙ state-named side names p ∙ busy))
+finish (suc k) side p names before after q busy valid run ends =
     let mid = run.0 in
     let made = run.2.made in
     let step = stepped mid.lent (Go side) (named names p) in
-    finish_on k side p names before run.1 after mid q step step.answer (one_step side mid.lent p names busy stands made.lent) made.pipe made.events run.3
-    (λ u busy_after stands_after rest. finish k side u names run.1 after q busy_after stands_after rest ends)
+    finish_on k side p names before run.1 after mid q step step.answer (one_step side mid.lent p names busy valid made.lent) made.pipe made.events run.3
+    (λ u busy_after valid_after rest. finish k side u names run.1 after q busy_after valid_after rest ends)

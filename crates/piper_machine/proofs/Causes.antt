@@ -1,36 +1,36 @@
 -- Who has closed: the reader by its drop; or the writer, by its drop or its close, and then it
 -- publishes nothing more.
 use Rattle.std.proofs.Common.{◌≡◌, ◌⊎◌, inl, inr, ℕ, ◌-◌, List, length, Bool, true, false, ◌==◌, is_some, Result, Ok, Err, refl}
-use Rattle.piper_sides.specs.declared.calls.Side.TheVariants.{Reader, Writer}
-use Rattle.piper_sides.specs.declared.scripted.Failed.{Failed}
-use Rattle.piper_sides.specs.declared.table.Form.{Form}
-use Rattle.piper_sides.specs.declared.table.Form.TheVariants.{Try, Polling}
-use Rattle.piper_sides.specs.declared.table.Purpose.{Purpose}
-use Rattle.piper_sides.specs.declared.table.Purpose.TheVariants as purpose
-use Rattle.piper_sides.specs.declared.table.AfterRead.{AfterRead}
-use Rattle.piper_sides.specs.declared.table.AfterRead.TheVariants as afterward
-use Rattle.piper_sides.specs.declared.table.AfterWrite.{AfterWrite}
-use Rattle.piper_sides.specs.declared.table.AfterWrite.TheVariants as behind
-use Rattle.piper_sides.specs.declared.table.ReadPoint.{ReadPoint}
-use Rattle.piper_sides.specs.declared.table.ReadPoint.TheVariants as at
-use Rattle.piper_sides.specs.declared.table.WritePoint.{WritePoint}
-use Rattle.piper_sides.specs.declared.table.WritePoint.TheVariants as on
-use Rattle.piper_sides.specs.Open.{is_granted}
-use Rattle.piper_sides.specs.Table.{writer_taken, read_done, writer_is_open, writer_looked, writer_looked_again, writer_registered, reader_taken, own_taken, write_done, write_after, writer_moved, writer_rounds, writer_draws}
+use Rattle.piper_protocol.specs.declared.calls.Side.TheVariants.{Reader, Writer}
+use Rattle.piper_protocol.specs.declared.scripted.Failed.{Failed}
+use Rattle.piper_protocol.specs.declared.table.Form.{Form}
+use Rattle.piper_protocol.specs.declared.table.Form.TheVariants.{Try, Polling}
+use Rattle.piper_protocol.specs.declared.table.Purpose.{Purpose}
+use Rattle.piper_protocol.specs.declared.table.Purpose.TheVariants as purpose
+use Rattle.piper_protocol.specs.declared.table.AfterRead.{AfterRead}
+use Rattle.piper_protocol.specs.declared.table.AfterRead.TheVariants as after_read
+use Rattle.piper_protocol.specs.declared.table.AfterWrite.{AfterWrite}
+use Rattle.piper_protocol.specs.declared.table.AfterWrite.TheVariants as after_write
+use Rattle.piper_protocol.specs.declared.table.ReadPoint.{ReadPoint}
+use Rattle.piper_protocol.specs.declared.table.ReadPoint.TheVariants as at
+use Rattle.piper_protocol.specs.declared.table.WritePoint.{WritePoint}
+use Rattle.piper_protocol.specs.declared.table.WritePoint.TheVariants as on
+use Rattle.piper_protocol.specs.Open.{is_granted}
+use Rattle.piper_protocol.specs.Table.{writer_taken, read_done, writer_is_open, writer_looked, writer_looked_again, writer_registered, reader_taken, own_taken, write_done, write_after, writer_moved, writer_rounds, writer_draws}
 use Rattle.piper_machine.specs.Pipe.{Pipe}
 use Rattle.piper_machine.specs.Step.{went, offering}
 use Rattle.piper_machine.specs.Round.{given, found_of}
 
 abbrev pub read_leaves : ReadPoint → Bool
 read_leaves at.Dropped = true
-read_leaves (at.TakeWriter afterward.Drop) = true
-read_leaves (at.WakeWriter afterward.Drop) = true
+read_leaves (at.TakeWriter after_read.Drop) = true
+read_leaves (at.WakeWriter after_read.Drop) = true
 read_leaves point = false
 
 abbrev pub write_leaves : WritePoint → Bool
 write_leaves on.Dropped = true
-write_leaves (on.TakeReader behind.Drop) = true
-write_leaves (on.WakeReader behind.Drop) = true
+write_leaves (on.TakeReader after_write.Drop) = true
+write_leaves (on.WakeReader after_write.Drop) = true
 write_leaves point = false
 
 abbrev pub IsEnded : Pipe → Type 0
@@ -41,8 +41,8 @@ IsCaused p = (read_leaves p.reader ≡ true) ⊎ IsEnded p
 
 -- the writer stores closed only as it is dropped or closes
 abbrev pub is_known : WritePoint → Bool
-is_known (on.StoreClosed behind.Answer) = false
-is_known (on.StoreClosed (behind.Round form sum)) = false
+is_known (on.StoreClosed after_write.Answer) = false
+is_known (on.StoreClosed (after_write.Round form sum)) = false
 is_known point = true
 
 -- the reader's own steps
@@ -57,18 +57,18 @@ reader-caused (at.StoreHead n next) p caused closed = elim (caused closed) [ inl
 reader-caused (at.TakeWriter next) p caused closed = take-caused next (is_some p.writer_waker) (caused closed)
   where
     done-caused : (next : AfterRead) → (read_leaves (at.TakeWriter next) ≡ true) ⊎ IsEnded p → (read_leaves (read_done next).point ≡ true) ⊎ IsEnded p
-    done-caused afterward.Answer caused = elim caused [ inl leaves ↦ absurd (cc) | inr ended ↦ inr ended ]
-    done-caused afterward.Drop caused = inl refl
-    done-caused (afterward.Round form sum) caused = elim caused [ inl leaves ↦ absurd (cc) | inr ended ↦ inr ended ]
+    done-caused after_read.Answer caused = elim caused [ inl leaves ↦ absurd (cc) | inr ended ↦ inr ended ]
+    done-caused after_read.Drop caused = inl refl
+    done-caused (after_read.Round form sum) caused = elim caused [ inl leaves ↦ absurd (cc) | inr ended ↦ inr ended ]
 
     take-caused : (next : AfterRead) (is_found : Bool) → (read_leaves (at.TakeWriter next) ≡ true) ⊎ IsEnded p → (read_leaves (writer_taken next is_found).point ≡ true) ⊎ IsEnded p
     take-caused next false caused = done-caused next caused
-    take-caused afterward.Answer true caused = elim caused [ inl leaves ↦ absurd (cc) | inr ended ↦ inr ended ]
-    take-caused afterward.Drop true caused = inl refl
-    take-caused (afterward.Round form sum) true caused = elim caused [ inl leaves ↦ absurd (cc) | inr ended ↦ inr ended ]
-reader-caused (at.WakeWriter afterward.Answer) p caused closed = elim (caused closed) [ inl leaves ↦ absurd (cc) | inr ended ↦ inr ended ]
-reader-caused (at.WakeWriter afterward.Drop) p caused closed = inl refl
-reader-caused (at.WakeWriter (afterward.Round form sum)) p caused closed = elim (caused closed) [ inl leaves ↦ absurd (cc) | inr ended ↦ inr ended ]
+    take-caused after_read.Answer true caused = elim caused [ inl leaves ↦ absurd (cc) | inr ended ↦ inr ended ]
+    take-caused after_read.Drop true caused = inl refl
+    take-caused (after_read.Round form sum) true caused = elim caused [ inl leaves ↦ absurd (cc) | inr ended ↦ inr ended ]
+reader-caused (at.WakeWriter after_read.Answer) p caused closed = elim (caused closed) [ inl leaves ↦ absurd (cc) | inr ended ↦ inr ended ]
+reader-caused (at.WakeWriter after_read.Drop) p caused closed = inl refl
+reader-caused (at.WakeWriter (after_read.Round form sum)) p caused closed = elim (caused closed) [ inl leaves ↦ absurd (cc) | inr ended ↦ inr ended ]
 reader-caused point p caused closed = elim (caused closed) [ inl leaves ↦ absurd (cc) | inr ended ↦ inr ended ]
 
 -- the writer's own steps
@@ -80,29 +80,29 @@ writer_after offered point p = (went Writer (offering offered (record p { writer
 -- once the writer has closed it stays so
 module _ (p : Pipe) where
   done-leaves : (next : AfterWrite) → (write_leaves (on.TakeReader next) ≡ true) ⊎ (p.is_shut ≡ true) → (write_leaves (write_done next).point ≡ true) ⊎ (p.is_shut ≡ true)
-  done-leaves behind.Answer h = elim h [ inl leaves ↦ absurd (cc) | inr shut ↦ inr shut ]
-  done-leaves behind.Drop h = inl refl
-  done-leaves behind.WakeWriter h = elim h [ inl leaves ↦ absurd (cc) | inr shut ↦ inr shut ]
-  done-leaves (behind.Round form sum) h = elim h [ inl leaves ↦ absurd (cc) | inr shut ↦ inr shut ]
+  done-leaves after_write.Answer h = elim h [ inl leaves ↦ absurd (cc) | inr shut ↦ inr shut ]
+  done-leaves after_write.Drop h = inl refl
+  done-leaves after_write.WakeWriter h = elim h [ inl leaves ↦ absurd (cc) | inr shut ↦ inr shut ]
+  done-leaves (after_write.Round form sum) h = elim h [ inl leaves ↦ absurd (cc) | inr shut ↦ inr shut ]
 
   take-leaves : (next : AfterWrite) (is_found : Bool) → (write_leaves (on.TakeReader next) ≡ true) ⊎ (p.is_shut ≡ true) → (write_leaves (reader_taken next is_found).point ≡ true) ⊎ (p.is_shut ≡ true)
   take-leaves next false h = done-leaves next h
-  take-leaves behind.Answer true h = elim h [ inl leaves ↦ absurd (cc) | inr shut ↦ inr shut ]
-  take-leaves behind.Drop true h = inl refl
-  take-leaves behind.WakeWriter true h = elim h [ inl leaves ↦ absurd (cc) | inr shut ↦ inr shut ]
-  take-leaves (behind.Round form sum) true h = elim h [ inl leaves ↦ absurd (cc) | inr shut ↦ inr shut ]
+  take-leaves after_write.Answer true h = elim h [ inl leaves ↦ absurd (cc) | inr shut ↦ inr shut ]
+  take-leaves after_write.Drop true h = inl refl
+  take-leaves after_write.WakeWriter true h = elim h [ inl leaves ↦ absurd (cc) | inr shut ↦ inr shut ]
+  take-leaves (after_write.Round form sum) true h = elim h [ inl leaves ↦ absurd (cc) | inr shut ↦ inr shut ]
 
 pub writer-ended : (offered : List ℕ) (point : WritePoint) (p : Pipe) → IsEnded (record p { writer = point }) → IsEnded (writer_after offered point p)
 writer-ended offered on.Dropped p h = inl refl
 writer-ended offered (on.TakeReader next) p h = take-leaves p next (is_some p.reader_waker) h
-writer-ended offered (on.WakeReader behind.Answer) p h = elim h [ inl leaves ↦ absurd (cc) | inr shut ↦ inr shut ]
-writer-ended offered (on.WakeReader behind.Drop) p h = inl refl
-writer-ended offered (on.WakeReader behind.WakeWriter) p h = elim h [ inl leaves ↦ absurd (cc) | inr shut ↦ inr shut ]
-writer-ended offered (on.WakeReader (behind.Round form sum)) p h = elim h [ inl leaves ↦ absurd (cc) | inr shut ↦ inr shut ]
-writer-ended offered (on.StoreClosed (behind.Round form sum)) p h = elim h [ inl leaves ↦ absurd (cc) | inr shut ↦ inr shut ]
-writer-ended offered (on.StoreClosed behind.Answer) p h = elim h [ inl leaves ↦ absurd (cc) | inr shut ↦ inr shut ]
-writer-ended offered (on.StoreClosed behind.Drop) p h = inl refl
-writer-ended offered (on.StoreClosed behind.WakeWriter) p h = inr refl
+writer-ended offered (on.WakeReader after_write.Answer) p h = elim h [ inl leaves ↦ absurd (cc) | inr shut ↦ inr shut ]
+writer-ended offered (on.WakeReader after_write.Drop) p h = inl refl
+writer-ended offered (on.WakeReader after_write.WakeWriter) p h = elim h [ inl leaves ↦ absurd (cc) | inr shut ↦ inr shut ]
+writer-ended offered (on.WakeReader (after_write.Round form sum)) p h = elim h [ inl leaves ↦ absurd (cc) | inr shut ↦ inr shut ]
+writer-ended offered (on.StoreClosed (after_write.Round form sum)) p h = elim h [ inl leaves ↦ absurd (cc) | inr shut ↦ inr shut ]
+writer-ended offered (on.StoreClosed after_write.Answer) p h = elim h [ inl leaves ↦ absurd (cc) | inr shut ↦ inr shut ]
+writer-ended offered (on.StoreClosed after_write.Drop) p h = inl refl
+writer-ended offered (on.StoreClosed after_write.WakeWriter) p h = inr refl
 writer-ended offered point p h = elim h [ inl leaves ↦ absurd (cc) | inr shut ↦ inr shut ]
 
 -- a step leads to a point that stores nothing, but for a round's
@@ -150,10 +150,10 @@ round-ordinary (Ok n) capacity room form sum = moved-ordinary (n == 0) n form su
 round-ordinary (Err fails) capacity room form sum = refl
 
 pub done-ordinary : (next : AfterWrite) → is_ordinary (write_done next).point ≡ true
-done-ordinary behind.Answer = refl
-done-ordinary behind.Drop = refl
-done-ordinary behind.WakeWriter = refl
-done-ordinary (behind.Round form sum) = refl
+done-ordinary after_write.Answer = refl
+done-ordinary after_write.Drop = refl
+done-ordinary after_write.WakeWriter = refl
+done-ordinary (after_write.Round form sum) = refl
 
 pub take-ordinary : (next : AfterWrite) (is_found : Bool) → is_ordinary (reader_taken next is_found).point ≡ true
 take-ordinary next false = done-ordinary next
@@ -164,10 +164,10 @@ own-ordinary false = refl
 own-ordinary true = refl
 
 ordinary-known : (point : WritePoint) → is_ordinary point ≡ true → is_known point ≡ true
-ordinary-known (on.StoreClosed behind.Answer) ordinary = absurd (cc)
-ordinary-known (on.StoreClosed (behind.Round form sum)) ordinary = absurd (cc)
-ordinary-known (on.StoreClosed behind.Drop) ordinary = refl
-ordinary-known (on.StoreClosed behind.WakeWriter) ordinary = refl
+ordinary-known (on.StoreClosed after_write.Answer) ordinary = absurd (cc)
+ordinary-known (on.StoreClosed (after_write.Round form sum)) ordinary = absurd (cc)
+ordinary-known (on.StoreClosed after_write.Drop) ordinary = refl
+ordinary-known (on.StoreClosed after_write.WakeWriter) ordinary = refl
 ordinary-known point ordinary = refl
 
 rounds-known : (is_closed : Bool) (n : ℕ) (form : Form) (sum : ℕ) → is_known (writer_rounds is_closed n form sum).point ≡ true
@@ -189,8 +189,8 @@ writer-known offered on.TakeWriter p = ordinary-known (own_taken (is_some p.writ
 writer-known offered point p = refl
 
 pub writer-caused : (offered : List ℕ) (point : WritePoint) (p : Pipe) → is_known point ≡ true → (p.is_closed ≡ true → IsCaused (record p { writer = point })) → (writer_after offered point p).is_closed ≡ true → IsCaused (writer_after offered point p)
-writer-caused offered (on.StoreClosed behind.Answer) p known caused closed = absurd (cc)
-writer-caused offered (on.StoreClosed (behind.Round form sum)) p known caused closed = absurd (cc)
-writer-caused offered (on.StoreClosed behind.Drop) p known caused closed = inr (inl refl)
-writer-caused offered (on.StoreClosed behind.WakeWriter) p known caused closed = inr (inr refl)
+writer-caused offered (on.StoreClosed after_write.Answer) p known caused closed = absurd (cc)
+writer-caused offered (on.StoreClosed (after_write.Round form sum)) p known caused closed = absurd (cc)
+writer-caused offered (on.StoreClosed after_write.Drop) p known caused closed = inr (inl refl)
+writer-caused offered (on.StoreClosed after_write.WakeWriter) p known caused closed = inr (inr refl)
 writer-caused offered point p known caused closed = elim (caused closed) [ inl leaves ↦ inl leaves | inr ended ↦ inr (writer-ended offered point p ended) ]

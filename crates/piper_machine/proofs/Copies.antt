@@ -2,26 +2,26 @@
 use Rattle.std.proofs.Common.{◌≡◌, ℕ, ◌+◌, ◌-◌, ◌<◌, ◌≤◌, min, List, [], ◌∷◌, ◌++◌, take, drop, length, Bool, true, false, Option, None, Some, ◌==◌, is_some, refl, sym, ap, ◌∙◌, arith, Result, Ok, Err, length-take-le}
 use Rattle.std.proofs.lemmas.Bool.Decides.{nat_tests}
 use Rattle.std.proofs.lemmas.List.{drop-drop, take_at}
-use Rattle.piper_sides.specs.declared.calls.Side.TheVariants.{Reader, Writer}
-use Rattle.piper_sides.specs.declared.polling.Polled.TheVariants.{Ready}
-use Rattle.piper_sides.specs.declared.scripted.Failed.{Failed}
-use Rattle.piper_sides.specs.declared.scripted.DestAct.{DestAct}
-use Rattle.piper_sides.specs.declared.scripted.DestAct.TheVariants as dest
-use Rattle.piper_sides.specs.declared.scripted.SourceAct.{SourceAct}
-use Rattle.piper_sides.specs.declared.scripted.SourceAct.TheVariants as source
-use Rattle.piper_sides.specs.declared.scripted.TheConstants.{MOST_A_ROUND}
-use Rattle.piper_sides.specs.declared.table.Form.{Form}
-use Rattle.piper_sides.specs.declared.table.Form.TheVariants.{Try, Polling}
-use Rattle.piper_sides.specs.declared.table.Purpose.TheVariants as purpose
-use Rattle.piper_sides.specs.declared.table.AfterRead.TheVariants as afterward
-use Rattle.piper_sides.specs.declared.table.AfterWrite.TheVariants as behind
-use Rattle.piper_sides.specs.declared.table.ReadPoint.{ReadPoint}
-use Rattle.piper_sides.specs.declared.table.ReadPoint.TheVariants as at
-use Rattle.piper_sides.specs.declared.table.WritePoint.{WritePoint}
-use Rattle.piper_sides.specs.declared.table.WritePoint.TheVariants as on
-use Rattle.piper_sides.specs.Index.{place_of}
-use Rattle.piper_sides.specs.Open.{is_granted}
-use Rattle.piper_sides.specs.Table.{Next, goes_on, count_answer, failed_answer, write_action, reader_looked, reader_looked_again, reader_registered, reader_is_true, reader_moved, writer_taken, read_after, writer_is_open, writer_looked, writer_looked_again, writer_registered, writer_is_true, writer_moved, writer_rounds, reader_taken}
+use Rattle.piper_protocol.specs.declared.calls.Side.TheVariants.{Reader, Writer}
+use Rattle.piper_protocol.specs.declared.polling.Polled.TheVariants.{Ready}
+use Rattle.piper_protocol.specs.declared.scripted.Failed.{Failed}
+use Rattle.piper_protocol.specs.declared.scripted.DestAct.{DestAct}
+use Rattle.piper_protocol.specs.declared.scripted.DestAct.TheVariants as dest
+use Rattle.piper_protocol.specs.declared.scripted.SourceAct.{SourceAct}
+use Rattle.piper_protocol.specs.declared.scripted.SourceAct.TheVariants as source
+use Rattle.piper_protocol.specs.declared.scripted.TheConstants.{MOST_A_ROUND}
+use Rattle.piper_protocol.specs.declared.table.Form.{Form}
+use Rattle.piper_protocol.specs.declared.table.Form.TheVariants.{Try, Polling}
+use Rattle.piper_protocol.specs.declared.table.Purpose.TheVariants as purpose
+use Rattle.piper_protocol.specs.declared.table.AfterRead.TheVariants as after_read
+use Rattle.piper_protocol.specs.declared.table.AfterWrite.TheVariants as after_write
+use Rattle.piper_protocol.specs.declared.table.ReadPoint.{ReadPoint}
+use Rattle.piper_protocol.specs.declared.table.ReadPoint.TheVariants as at
+use Rattle.piper_protocol.specs.declared.table.WritePoint.{WritePoint}
+use Rattle.piper_protocol.specs.declared.table.WritePoint.TheVariants as on
+use Rattle.piper_protocol.specs.Index.{place_of}
+use Rattle.piper_protocol.specs.Open.{is_granted}
+use Rattle.piper_protocol.specs.Table.{Next, goes_on, count_answer, failed_answer, write_action, reader_looked, reader_looked_again, reader_registered, reader_is_true, reader_moved, writer_taken, read_after, writer_is_open, writer_looked, writer_looked_again, writer_registered, writer_is_true, writer_moved, writer_rounds, reader_taken}
 use Rattle.piper_machine.specs.declared.destination.Destination.{Destination}
 use Rattle.piper_machine.specs.declared.destination.Destination.TheVariants.{Slice, Acts}
 use Rattle.piper_machine.specs.Pipe.{Pipe}
@@ -32,8 +32,8 @@ use Rattle.piper_machine.specs.Round.{taken, found_of, unspent}
 use Rattle.piper_machine.specs.Action.{refreshed_by, registered_in, round_count, destination_called}
 use Rattle.piper_machine.specs.Lend.{Lendable}
 use Rattle.piper_machine.specs.Step.{Stepped, stepped, filled_out, MayOffer}
-use Rattle.piper_sides.specs.declared.calls.Step.TheVariants.{Go}
-use Rattle.piper_sides.specs.Side.{tail_store}
+use Rattle.piper_protocol.specs.declared.calls.Step.TheVariants.{Go}
+use Rattle.piper_protocol.specs.Side.{tail_store}
 use Rattle.piper_machine.specs.Alone.{Ended, heard, moved_answer, reader_left, reader_ended, reader_alone, reader_moves_alone, is_draining, reader_looks_alone, reader_again_alone, reader_granted_alone, reader_done_alone, reader_takes_alone, writer_ended, writer_filled, writer_open_alone, writer_looks_alone, writer_granted_alone, writer_again_alone, writer_takes_alone, writer_done_alone, writer_rounds_alone, writer_alone, writer_moves_alone, is_filling}
 use Rattle.piper_machine.proofs.Indices.{place_below}
 use Rattle.piper_machine.proofs.Alone.{reader_rest, read_step, reader_rest_at, writer_rest, writer_rest_at}
@@ -63,7 +63,7 @@ takes-rest (Polling true) p = refl
 takes-rest (Polling false) p = refl
 
 -- the wake of a round
-wakes-rest : (form : Form) (sum : ℕ) (name : Option ℕ) (p : Pipe) → reader_done_alone (afterward.Round form sum) (record p { reader = at.Idle; writer_waker = None; woken = with_waker p.woken name }) ≡ reader_rest_at (writer_taken (afterward.Round form sum) (is_some name)) (record p { writer_waker = None; reader_call = record p.reader_call { taken = name } })
+wakes-rest : (form : Form) (sum : ℕ) (name : Option ℕ) (p : Pipe) → reader_done_alone (after_read.Round form sum) (record p { reader = at.Idle; writer_waker = None; woken = with_waker p.woken name }) ≡ reader_rest_at (writer_taken (after_read.Round form sum) (is_some name)) (record p { writer_waker = None; reader_call = record p.reader_call { taken = name } })
 wakes-rest form sum None p = refl
 wakes-rest form sum (Some name) p = refl
 
@@ -152,9 +152,9 @@ drain-rest (at.LookTailAgain (purpose.Copy form) was_closed) p drains start know
 drain-rest (at.LookTake (purpose.Copy form)) p drains start known = takes-rest form p
 drain-rest at.Yield p drains start known = refl
 drain-rest (at.CallDestination form sum) p drains start known = calls-rest p.destination form sum p start known
-drain-rest (at.StoreHead n (afterward.Round form sum)) p drains start known = refl
-drain-rest (at.TakeWriter (afterward.Round form sum)) p drains start known = wakes-rest form sum p.writer_waker p
-drain-rest (at.WakeWriter (afterward.Round form sum)) p drains start known = refl
+drain-rest (at.StoreHead n (after_read.Round form sum)) p drains start known = refl
+drain-rest (at.TakeWriter (after_read.Round form sum)) p drains start known = wakes-rest form sum p.writer_waker p
+drain-rest (at.WakeWriter (after_read.Round form sum)) p drains start known = refl
 drain-rest point p drains start known = absurd (cc)
 
 -- the writer
@@ -189,7 +189,7 @@ writer_takes-rest Try p = refl
 writer_takes-rest (Polling true) p = refl
 writer_takes-rest (Polling false) p = refl
 
-reader_wakes-rest : (form : Form) (sum : ℕ) (name : Option ℕ) (p : Pipe) → writer_done_alone (behind.Round form sum) (record p { writer = on.Idle; reader_waker = None; woken = with_waker p.woken name }) ≡ writer_rest_at (reader_taken (behind.Round form sum) (is_some name)) (record p { reader_waker = None; writer_call = record p.writer_call { taken = name } })
+reader_wakes-rest : (form : Form) (sum : ℕ) (name : Option ℕ) (p : Pipe) → writer_done_alone (after_write.Round form sum) (record p { writer = on.Idle; reader_waker = None; woken = with_waker p.woken name }) ≡ writer_rest_at (reader_taken (after_write.Round form sum) (is_some name)) (record p { reader_waker = None; writer_call = record p.writer_call { taken = name } })
 reader_wakes-rest form sum None p = refl
 reader_wakes-rest form sum (Some name) p = refl
 
@@ -245,7 +245,7 @@ abbrev pub saw_open : WritePoint → Bool
 saw_open (on.LookClosed l) = false
 saw_open point = is_filling point
 
-pub record WriterStands (point : WritePoint) (p : Pipe) : Type 0 where
+pub record WriterValid (point : WritePoint) (p : Pipe) : Type 0 where
   pub unread : length p.unread ≤ p.capacity
   pub start : p.start < p.capacity
   pub room : p.room ≤ p.capacity - length p.unread
@@ -268,37 +268,37 @@ failed-answer : (form : Form) (p : Pipe) → writer_ended on.Idle (moved_answer 
 failed-answer Try p = refl
 failed-answer (Polling drawn) p = refl
 
-source-rest : (form : Form) (sum : ℕ) (acts : List SourceAct) (lent : List ℕ) (p : Pipe) → WriterStands (on.CallSource form sum) p → let asked = record p { writer = on.CallSource form sum; source = acts } in MayOffer (on.CallSource form sum) acts lent asked
+source-rest : (form : Form) (sum : ℕ) (acts : List SourceAct) (lent : List ℕ) (p : Pipe) → WriterValid (on.CallSource form sum) p → let asked = record p { writer = on.CallSource form sum; source = acts } in MayOffer (on.CallSource form sum) acts lent asked
     → let s = stepped lent (Go Writer) asked in writer_moves_alone form sum (record p { writer = on.Idle; source = acts }) ≡ writer_rest s.answer s.pipe
-source-rest form sum [] lent p stands may = ap (writer_moving form sum p (stands.unclosed refl)) (give-none sum (record p { writer = on.Idle; lent = [] }) refl) ∙ writer_counted form sum p (stands.unclosed refl)
-source-rest form sum (source.Fail ∷ acts) lent p stands may = ap (writer_moving form sum p (stands.unclosed refl)) (give-fails sum acts (record p { writer = on.Idle; lent = [] }) refl) ∙ failed-answer form (record p { lent = [] })
-source-rest form sum (source.Bytes [] ∷ acts) lent p stands may =
+source-rest form sum [] lent p valid may = ap (writer_moving form sum p (valid.unclosed refl)) (give-none sum (record p { writer = on.Idle; lent = [] }) refl) ∙ writer_counted form sum p (valid.unclosed refl)
+source-rest form sum (source.Fail ∷ acts) lent p valid may = ap (writer_moving form sum p (valid.unclosed refl)) (give-fails sum acts (record p { writer = on.Idle; lent = [] }) refl) ∙ failed-answer form (record p { lent = [] })
+source-rest form sum (source.Bytes [] ∷ acts) lent p valid may =
     let none : (min (length lent) 0 == 0) ≡ true = grind (arith, nat_tests) in
-    ap (writer_moving form sum p (stands.unclosed refl)) (give-nothing sum acts (record p { writer = on.Idle; lent = [] }) refl)
-    ∙ writer_counted form sum p (stands.unclosed refl)
+    ap (writer_moving form sum p (valid.unclosed refl)) (give-nothing sum acts (record p { writer = on.Idle; lent = [] }) refl)
+    ∙ writer_counted form sum p (valid.unclosed refl)
     ∙ ap (λ (b : Bool). fill_rest_at (writer_moved b (min (length lent) 0) form sum) (record p { lent = take (min (length lent) 0) [] ++ drop (min (length lent) 0) lent; source = unspent (drop (min (length lent) 0) []) acts })) (sym none)
-source-rest form sum (source.Bytes (byte ∷ bytes) ∷ acts) lent p stands may =
+source-rest form sum (source.Bytes (byte ∷ bytes) ∷ acts) lent p valid may =
     let most = may.at_most in
-    gives form sum p (stands.unclosed refl) byte bytes acts lent (min (length lent) (length (byte ∷ bytes)) == 0) refl (omega arith)
-    (lends_some (record p { writer = on.CallSource form sum; source = source.Bytes (byte ∷ bytes) ∷ acts }) (length lent) stands.unread stands.start (not_shut p.is_shut p.is_closed stands.shut (stands.unclosed refl)) may)
+    gives form sum p (valid.unclosed refl) byte bytes acts lent (min (length lent) (length (byte ∷ bytes)) == 0) refl (omega arith)
+    (lends_some (record p { writer = on.CallSource form sum; source = source.Bytes (byte ∷ bytes) ∷ acts }) (length lent) valid.unread valid.start (not_shut p.is_shut p.is_closed valid.shut (valid.unclosed refl)) may)
 
 -- the writer's step from a point, with these bytes in what it lends
 abbrev pub fill_step : WritePoint → List ℕ → Pipe → Stepped
 fill_step point lent p = stepped lent (Go Writer) (heard Writer (write_action point) (record p { writer = point }))
 
-pub fill-rest : (point : WritePoint) (lent : List ℕ) (p : Pipe) → is_filling point ≡ true → WriterStands point p → MayOffer point p.source lent (record p { writer = point })
+pub fill-rest : (point : WritePoint) (lent : List ℕ) (p : Pipe) → is_filling point ≡ true → WriterValid point p → MayOffer point p.source lent (record p { writer = point })
     → let s = fill_step point lent p in writer_alone point p ≡ writer_rest s.answer s.pipe
-fill-rest (on.LookClosed (purpose.Copy form)) lent p fills stands may = open-rest p.is_closed (p.room == 0) form p
-fill-rest (on.LookHead (purpose.Copy form)) lent p fills stands may = loads-rest (p.capacity - length p.unread == 0) form (refreshed_by Writer p)
-fill-rest (on.LookRegister (purpose.Copy form)) lent p fills stands may = writer_registers-rest (is_granted p.writer_call.context) form (record p { writer_waker = registered_in p.writer_call.context p.writer_waker })
-fill-rest (on.LookHeadAgain (purpose.Copy form)) lent p fills stands may = writer_again-rest (p.capacity - length p.unread == 0) form (refreshed_by Writer p)
-fill-rest (on.LookClosedAgain (purpose.Copy form)) lent p fills stands may = refl
-fill-rest (on.LookTake (purpose.Copy form)) lent p fills stands may = writer_takes-rest form p
-fill-rest on.Yield lent p fills stands may = refl
-fill-rest (on.CallSource form sum) lent p fills stands may = source-rest form sum p.source lent p stands may
-fill-rest (on.RoundClosed n form sum) lent p fills stands may = rounds-rest p.is_closed n form sum p
-fill-rest (on.StoreTail n (behind.Round form sum)) lent p fills stands may = refl
-fill-rest (on.TakeReader (behind.Round form sum)) lent p fills stands may = reader_wakes-rest form sum p.reader_waker p
-fill-rest (on.WakeReader (behind.Round form sum)) lent p fills stands may = refl
-fill-rest (on.StoreClosed (behind.Round form sum)) lent p fills stands may = refl
-fill-rest point lent p fills stands may = absurd (cc)
+fill-rest (on.LookClosed (purpose.Copy form)) lent p fills valid may = open-rest p.is_closed (p.room == 0) form p
+fill-rest (on.LookHead (purpose.Copy form)) lent p fills valid may = loads-rest (p.capacity - length p.unread == 0) form (refreshed_by Writer p)
+fill-rest (on.LookRegister (purpose.Copy form)) lent p fills valid may = writer_registers-rest (is_granted p.writer_call.context) form (record p { writer_waker = registered_in p.writer_call.context p.writer_waker })
+fill-rest (on.LookHeadAgain (purpose.Copy form)) lent p fills valid may = writer_again-rest (p.capacity - length p.unread == 0) form (refreshed_by Writer p)
+fill-rest (on.LookClosedAgain (purpose.Copy form)) lent p fills valid may = refl
+fill-rest (on.LookTake (purpose.Copy form)) lent p fills valid may = writer_takes-rest form p
+fill-rest on.Yield lent p fills valid may = refl
+fill-rest (on.CallSource form sum) lent p fills valid may = source-rest form sum p.source lent p valid may
+fill-rest (on.RoundClosed n form sum) lent p fills valid may = rounds-rest p.is_closed n form sum p
+fill-rest (on.StoreTail n (after_write.Round form sum)) lent p fills valid may = refl
+fill-rest (on.TakeReader (after_write.Round form sum)) lent p fills valid may = reader_wakes-rest form sum p.reader_waker p
+fill-rest (on.WakeReader (after_write.Round form sum)) lent p fills valid may = refl
+fill-rest (on.StoreClosed (after_write.Round form sum)) lent p fills valid may = refl
+fill-rest point lent p fills valid may = absurd (cc)

@@ -1,27 +1,27 @@
 -- What each side knows, and how many steps its call has made, and calls of its destination or
 -- source: what one step does to them.
 use Rattle.std.proofs.Common.{◌≡◌, ℕ, ◌+◌, ◌*◌, ◌≤◌, List, ◌++◌, Bool, true, false, Option, None, Some, ◌==◌, refl, sym, subst, ◌∙◌, arith}
-use Rattle.piper_sides.specs.declared.calls.Side.{Side}
-use Rattle.piper_sides.specs.declared.calls.Side.TheVariants.{Reader, Writer}
-use Rattle.piper_sides.specs.declared.calls.Call.{Call}
-use Rattle.piper_sides.specs.declared.calls.Call.TheVariants as call
-use Rattle.piper_sides.specs.declared.calls.Step.{Step}
-use Rattle.piper_sides.specs.declared.calls.Step.TheVariants.{Begin, Go, Put}
-use Rattle.piper_sides.specs.declared.events.Answer.{Answer}
-use Rattle.piper_sides.specs.declared.events.Event.{Event}
-use Rattle.piper_sides.specs.declared.table.Form.{Form}
-use Rattle.piper_sides.specs.declared.table.Form.TheVariants.{Try, Polling}
-use Rattle.piper_sides.specs.declared.table.Purpose.TheVariants as purpose
-use Rattle.piper_sides.specs.declared.table.AfterWrite.TheVariants as behind
-use Rattle.piper_sides.specs.declared.table.ReadPoint.{ReadPoint}
-use Rattle.piper_sides.specs.declared.table.ReadPoint.TheVariants as at
-use Rattle.piper_sides.specs.declared.table.WritePoint.{WritePoint}
-use Rattle.piper_sides.specs.declared.table.WritePoint.TheVariants as on
-use Rattle.piper_sides.specs.declared.table.Action.{Action}
-use Rattle.piper_sides.specs.declared.table.Action.TheVariants as does
-use Rattle.piper_sides.specs.declared.refusals.StepRefusal.{StepRefusal}
-use Rattle.piper_sides.specs.Log.{answer_event}
-use Rattle.piper_sides.specs.Table.{read_action, write_action, reader_looks_for}
+use Rattle.piper_protocol.specs.declared.calls.Side.{Side}
+use Rattle.piper_protocol.specs.declared.calls.Side.TheVariants.{Reader, Writer}
+use Rattle.piper_protocol.specs.declared.calls.Call.{Call}
+use Rattle.piper_protocol.specs.declared.calls.Call.TheVariants as call
+use Rattle.piper_protocol.specs.declared.calls.Step.{Step}
+use Rattle.piper_protocol.specs.declared.calls.Step.TheVariants.{Begin, Go, Put}
+use Rattle.piper_protocol.specs.declared.events.Answer.{Answer}
+use Rattle.piper_protocol.specs.declared.events.Event.{Event}
+use Rattle.piper_protocol.specs.declared.table.Form.{Form}
+use Rattle.piper_protocol.specs.declared.table.Form.TheVariants.{Try, Polling}
+use Rattle.piper_protocol.specs.declared.table.Purpose.TheVariants as purpose
+use Rattle.piper_protocol.specs.declared.table.AfterWrite.TheVariants as after_write
+use Rattle.piper_protocol.specs.declared.table.ReadPoint.{ReadPoint}
+use Rattle.piper_protocol.specs.declared.table.ReadPoint.TheVariants as at
+use Rattle.piper_protocol.specs.declared.table.WritePoint.{WritePoint}
+use Rattle.piper_protocol.specs.declared.table.WritePoint.TheVariants as on
+use Rattle.piper_protocol.specs.declared.table.Action.{Action}
+use Rattle.piper_protocol.specs.declared.table.Action.TheVariants as does
+use Rattle.piper_protocol.specs.declared.refusals.StepRefusal.{StepRefusal}
+use Rattle.piper_protocol.specs.Log.{answer_event}
+use Rattle.piper_protocol.specs.Table.{read_action, write_action, reader_looks_for}
 use Rattle.piper_machine.specs.Pipe.{Pipe}
 use Rattle.piper_machine.specs.Action.{performed, logged_of}
 use Rattle.piper_machine.specs.Step.{went, stepped, offering, MayLend}
@@ -30,7 +30,7 @@ use Rattle.piper_machine.specs.Alone.{read_steps, write_steps}
 use Rattle.piper_machine.specs.Known.{Knowledge, knowledge_from}
 use Rattle.piper_machine.specs.Counts.{Tally, most_of, most_steps, tallied}
 use Rattle.piper_machine.specs.Called.{called}
-use Rattle.piper_machine.proofs.Knowing.{knowledge-append, answer-tells, learns, learned, learned-enough, writer-tells, reader-tells}
+use Rattle.piper_machine.proofs.Knowing.{knowledge-append, answer-shows, learns, learned, learned-enough, writer-shows, reader-shows}
 use Rattle.piper_machine.proofs.ReaderCounts.{read_calls, read_least, ReaderSees, reader-fits, reader-goes, reader_next, some-known}
 use Rattle.piper_machine.proofs.WriterCounts.{write_calls, write_least, WriterSees, writer-fits, writer-goes, writer_next}
 
@@ -95,10 +95,10 @@ reader_never-tail at.Idle n e = absurd (cc)
 reader_never-tail point n e = absurd (cc)
 
 pub writer_never-head : (point : WritePoint) (n : ℕ) → write_action point ≡ does.StoreHead n → ⊥
-writer_never-head (on.StoreClosed behind.Answer) n e = absurd (cc)
-writer_never-head (on.StoreClosed behind.Drop) n e = absurd (cc)
-writer_never-head (on.StoreClosed behind.WakeWriter) n e = absurd (cc)
-writer_never-head (on.StoreClosed (behind.Round form sum)) n e = absurd (cc)
+writer_never-head (on.StoreClosed after_write.Answer) n e = absurd (cc)
+writer_never-head (on.StoreClosed after_write.Drop) n e = absurd (cc)
+writer_never-head (on.StoreClosed after_write.WakeWriter) n e = absurd (cc)
+writer_never-head (on.StoreClosed (after_write.Round form sum)) n e = absurd (cc)
 writer_never-head point n e = absurd (cc)
 
 -- how a call begins
@@ -158,8 +158,8 @@ begin-counts Writer cap lent (call.Drop Writer) p k t calls accepted held = reco
 begin-counts Writer cap lent c p k t calls accepted held = held
 
 -- what a step tells a side, with the answer behind it
-pub told : (c : ℕ) (side teller : Side) (k j : Knowledge) (es : List Event) (answer : Option Answer) → knowledge_from c side k es ≡ j → knowledge_from c side k (es ++ answer_event teller answer) ≡ j
-told c side teller k j es answer same = knowledge-append c side k es (answer_event teller answer) ∙ answer-tells c side teller _ answer ∙ same
+pub noted : (c : ℕ) (side actor : Side) (k j : Knowledge) (es : List Event) (answer : Option Answer) → knowledge_from c side k es ≡ j → knowledge_from c side k (es ++ answer_event actor answer) ≡ j
+noted c side actor k j es answer same = knowledge-append c side k es (answer_event actor answer) ∙ answer-shows c side actor _ answer ∙ same
 
 reader-counts : (p : Pipe) (k : Knowledge) (t : Tally) (calls : ℕ) → refusal_of (Go Reader) p ≡ None → Counts Reader p k t calls
     → let new = went Reader p in Counts Reader new.pipe (knowledge_from p.capacity Reader k new.events) (tallied Reader t (Go Reader)) (called Reader p (Go Reader) calls)
@@ -176,7 +176,7 @@ reader-counts p k t calls accepted held =
           record { steps = omega (arith, nearer.steps, within.steps); calls = omega (arith, nearer.calls, within.calls) };
     } in
     subst (λ (i : Knowledge). Counts Reader (went Reader p).pipe i (tallied Reader t (Go Reader)) (called Reader p (Go Reader) calls))
-    (sym (told p.capacity Reader Reader k j (logged_of Reader action p) (went Reader p).answer (learns Reader action p k (reader-fits p.reader p.known k held.sees)))) next
+    (sym (noted p.capacity Reader Reader k j (logged_of Reader action p) (went Reader p).answer (learns Reader action p k (reader-fits p.reader p.known k held.sees)))) next
 
 writer-counts : (lent : List ℕ) (p : Pipe) (k : Knowledge) (t : Tally) (calls : ℕ) → MayLend lent (Go Writer) p → refusal_of (Go Writer) p ≡ None → Counts Writer p k t calls
     → let new = went Writer (offering lent p) in Counts Writer new.pipe (knowledge_from p.capacity Writer k new.events) (tallied Writer t (Go Writer)) (called Writer p (Go Writer) calls)
@@ -194,7 +194,7 @@ writer-counts lent p k t calls may accepted held =
           record { steps = omega (arith, nearer.steps, within.steps); calls = omega (arith, nearer.calls, within.calls) };
     } in
     subst (λ (i : Knowledge). Counts Writer (went Writer q).pipe i (tallied Writer t (Go Writer)) (called Writer p (Go Writer) calls))
-    (sym (told p.capacity Writer Writer k j (logged_of Writer action q) (went Writer q).answer (learns Writer action q k (writer-fits p.writer p.room k held.sees)))) next
+    (sym (noted p.capacity Writer Writer k j (logged_of Writer action q) (went Writer q).answer (learns Writer action q k (writer-fits p.writer p.room k held.sees)))) next
 
 pub counts-step : (side : Side) (s : Step) (lent : List ℕ) (p : Pipe) (k : Knowledge) (t : Tally) (calls : ℕ) → MayLend lent s p → refusal_of s p ≡ None → Counts side p k t calls
     → let new = stepped lent s p in Counts side new.pipe (knowledge_from p.capacity side k new.events) (tallied side t s) (called side p s calls)
@@ -204,13 +204,13 @@ counts-step Writer (Go Writer) lent p k t calls may accepted held = writer-count
 counts-step Writer (Go Reader) lent p k t calls may accepted held =
     let action = read_action p.reader in
     let same = reader_leaves-writer action p (reader_never-tail p.reader) in
-    let quiet = told p.capacity Writer Reader k k (logged_of Reader action p) (went Reader p).answer (reader-tells p.capacity action p k (reader_never-tail p.reader)) in
+    let quiet = noted p.capacity Writer Reader k k (logged_of Reader action p) (went Reader p).answer (reader-shows p.capacity action p k (reader_never-tail p.reader)) in
     rw (quiet, same.0, same.1) held
 counts-step Reader (Go Writer) lent p k t calls may accepted held =
     let action = write_action p.writer in
     let q = offering lent p in
     let same = writer_leaves-reader action q (writer_never-head p.writer) in
-    let quiet = told p.capacity Reader Writer k k (logged_of Writer action q) (went Writer q).answer (writer-tells p.capacity action q k (writer_never-head p.writer)) in
+    let quiet = noted p.capacity Reader Writer k k (logged_of Writer action q) (went Writer q).answer (writer-shows p.capacity action q k (writer_never-head p.writer)) in
     rw (quiet, same.0, same.1) held
 counts-step Reader (Put offset byte) lent p k t calls may accepted held = held
 counts-step Writer (Put offset byte) lent p k t calls may accepted held = held

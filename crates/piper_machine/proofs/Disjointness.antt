@@ -3,15 +3,15 @@
 use Rattle.std.proofs.Common.{◌≡◌, ◌≢◌, ℕ, ◌+◌, ◌-◌, ◌<◌, ◌≤◌, List, length, take, true, false, refl, sym, ap, ◌∙◌, arith}
 use Rattle.std.proofs.lemmas.List.{take-append-le}
 use Rattle.std.proofs.lemmas.Bool.Decides.{nat_tests}
-use Rattle.piper_sides.specs.declared.calls.Side.TheVariants.{Reader, Writer}
-use Rattle.piper_sides.specs.declared.calls.Step.{Step}
-use Rattle.piper_sides.specs.declared.calls.Step.TheVariants.{Begin, Go, Put}
-use Rattle.piper_sides.specs.declared.table.Action.{Action}
-use Rattle.piper_sides.specs.declared.table.Action.TheVariants as does
-use Rattle.piper_sides.specs.Index.{place_of}
+use Rattle.piper_protocol.specs.declared.calls.Side.TheVariants.{Reader, Writer}
+use Rattle.piper_protocol.specs.declared.calls.Step.{Step}
+use Rattle.piper_protocol.specs.declared.calls.Step.TheVariants.{Begin, Go, Put}
+use Rattle.piper_protocol.specs.declared.table.Action.{Action}
+use Rattle.piper_protocol.specs.declared.table.Action.TheVariants as does
+use Rattle.piper_protocol.specs.Index.{place_of}
 use Rattle.piper_machine.specs.Pipe.{Pipe}
 use Rattle.piper_machine.specs.Sound.{IsSound}
-use Rattle.piper_sides.specs.Table.{write_action}
+use Rattle.piper_protocol.specs.Table.{write_action}
 use Rattle.piper_machine.specs.Action.{performed}
 use Rattle.piper_machine.specs.Step.{stepped, offering}
 use Rattle.piper_machine.proofs.Opened.{opened-leaves}
@@ -25,7 +25,7 @@ pub disjoint : (p : Pipe) → IsSound p → IsDisjoint p
 disjoint p sound place reads writes =
     apart p.capacity p.start (length p.unread) p.known p.room reads.number writes.number sound.start sound.unread sound.known sound.room reads.is_known
     (let h = writes.is_lent in omega (arith, sound.lent_room)) (let h = writes.is_lent in omega (arith, sound.lent_place))
-    (sym reads.stands ∙ writes.stands)
+    (sym reads.valid ∙ writes.valid)
 
 keeps_all : (p q : Pipe) → q.capacity ≡ p.capacity → q.start ≡ p.start → q.known ≡ p.known → q.unread ≡ p.unread → KeepsKnown p q
 keeps_all p q capacity start known unread = record { capacity = capacity; start = start; known = known; bytes = ap (take p.known) unread }

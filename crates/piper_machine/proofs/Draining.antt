@@ -4,25 +4,25 @@ use Rattle.std.proofs.Common.{◌≡◌, ℕ, ◌+◌, ◌-◌, ◌<◌, ◌≤�
 use Rattle.std.proofs.lemmas.Bool.Decides.{nat_tests}
 use Rattle.std.proofs.lemmas.List.{drop-drop}
 use borrow.Rule.Slice.PartMut.{put_mid}
-use Rattle.piper_sides.specs.declared.calls.Side.TheVariants.{Reader}
-use Rattle.piper_sides.specs.declared.calls.OpenCall.{OpenCall}
-use Rattle.piper_sides.specs.declared.calls.SideState.TheVariants.{Busy}
-use Rattle.piper_sides.specs.declared.events.Answer.{Answer}
-use Rattle.piper_sides.specs.declared.polling.Context.{Context}
-use Rattle.piper_sides.specs.declared.scripted.DestAct.TheVariants as dest
-use Rattle.piper_sides.specs.declared.table.Action.{Action}
-use Rattle.piper_sides.specs.declared.table.Action.TheVariants as does
-use Rattle.piper_sides.specs.declared.table.Form.{Form}
-use Rattle.piper_sides.specs.declared.table.Form.TheVariants.{Try, Polling}
-use Rattle.piper_sides.specs.declared.table.Purpose.TheVariants as purpose
-use Rattle.piper_sides.specs.declared.table.AfterRead.TheVariants as afterward
-use Rattle.piper_sides.specs.declared.table.ReadPoint.{ReadPoint}
-use Rattle.piper_sides.specs.declared.table.ReadPoint.TheVariants as at
-use Rattle.piper_sides.specs.Open.{is_granted}
-use Rattle.piper_sides.specs.Side.{head_store}
-use Rattle.piper_sides.specs.declared.table.Found.{Found}
-use Rattle.piper_sides.specs.declared.table.Found.TheVariants.{Nothing as nothing, Refreshed as refreshed, Granted as granted, Waker as waker}
-use Rattle.piper_sides.specs.Table.{moved_in, Next, goes_on, read_action, read_after, reader_looks_for, reader_looked, reader_looked_again, reader_registered, reader_is_true, reader_moved, writer_taken}
+use Rattle.piper_protocol.specs.declared.calls.Side.TheVariants.{Reader}
+use Rattle.piper_protocol.specs.declared.calls.OpenCall.{OpenCall}
+use Rattle.piper_protocol.specs.declared.calls.SideState.TheVariants.{Busy}
+use Rattle.piper_protocol.specs.declared.events.Answer.{Answer}
+use Rattle.piper_protocol.specs.declared.polling.Context.{Context}
+use Rattle.piper_protocol.specs.declared.scripted.DestAct.TheVariants as dest
+use Rattle.piper_protocol.specs.declared.table.Action.{Action}
+use Rattle.piper_protocol.specs.declared.table.Action.TheVariants as does
+use Rattle.piper_protocol.specs.declared.table.Form.{Form}
+use Rattle.piper_protocol.specs.declared.table.Form.TheVariants.{Try, Polling}
+use Rattle.piper_protocol.specs.declared.table.Purpose.TheVariants as purpose
+use Rattle.piper_protocol.specs.declared.table.AfterRead.TheVariants as after_read
+use Rattle.piper_protocol.specs.declared.table.ReadPoint.{ReadPoint}
+use Rattle.piper_protocol.specs.declared.table.ReadPoint.TheVariants as at
+use Rattle.piper_protocol.specs.Open.{is_granted}
+use Rattle.piper_protocol.specs.Side.{head_store}
+use Rattle.piper_protocol.specs.declared.table.Found.{Found}
+use Rattle.piper_protocol.specs.declared.table.Found.TheVariants.{Nothing as nothing, Refreshed as refreshed, Granted as granted, Waker as waker}
+use Rattle.piper_protocol.specs.Table.{moved_in, Next, goes_on, read_action, read_after, reader_looks_for, reader_looked, reader_looked_again, reader_registered, reader_is_true, reader_moved, writer_taken}
 use Rattle.piper_machine.specs.declared.destination.Destination.{Destination}
 use Rattle.piper_machine.specs.declared.destination.Destination.TheVariants.{Slice, Acts}
 use Rattle.piper_machine.specs.Pipe.{Pipe, begun}
@@ -31,9 +31,9 @@ use Rattle.piper_machine.specs.Move.{with_waker}
 use Rattle.piper_machine.specs.Copy.{Copied, count_of, copied_after, drawn, drain_moves, drain}
 use Rattle.piper_machine.specs.Look.{reader_look, reader_looks, reader_registers}
 use Rattle.piper_machine.specs.Refresh.{reader_refreshed}
-use Rattle.piper_sides.specs.declared.polling.Polled.{Polled}
-use Rattle.piper_sides.specs.declared.polling.Polled.TheVariants.{Ready, Pending, Memory}
-use Rattle.piper_sides.specs.declared.scripted.DestAct.{DestAct}
+use Rattle.piper_protocol.specs.declared.polling.Polled.{Polled}
+use Rattle.piper_protocol.specs.declared.polling.Polled.TheVariants.{Ready, Pending, Memory}
+use Rattle.piper_protocol.specs.declared.scripted.DestAct.{DestAct}
 use Rattle.piper_machine.specs.Round.{taken, found_of, left_of_acts, left_of_destination}
 use Rattle.piper_machine.specs.Refusal.{reader_state}
 use Rattle.piper_machine.specs.Action.{round_count, destination_called}
@@ -42,7 +42,7 @@ use Rattle.piper_machine.specs.Alone.{Ended, heard, is_draining, reader_alone}
 use Rattle.piper_machine.proofs.Alone.{reader_rest, reads_left, read_step}
 use Rattle.piper_machine.proofs.Copies.{drain-rest}
 use Rattle.piper_machine.proofs.Falling.{drain-falls}
-use Rattle.piper_machine.proofs.Standing.{IsSettled, ReaderStands, reads-on, reader-settled, reader-stands}
+use Rattle.piper_machine.proofs.Validity.{IsSettled, ReaderValid, reads-on, reader-settled, reader-valid}
 use Rattle.piper_machine.proofs.Rounds.{next_part, HasOneWake, one_wake-room, one_wake-none}
 
 -- the pipe of a call that holds this destination
@@ -102,7 +102,7 @@ module _ (woken : List ℕ) (name : Option ℕ) (c : OpenCall) (one : HasOneWake
   calls-kept (Acts (dest.Fail ∷ acts)) most form sum capacity = λ goes. absurd (cc)
   calls-kept (Acts (dest.Take size ∷ acts)) most form sum capacity = moves-kept (min size most) (min size most == 0) form sum
 
-wakes-kept : (name : Option ℕ) (form : Form) (sum : ℕ) (woken : List ℕ) (c : OpenCall) → HasOneWake woken name → IsKept woken None (writer_taken (afterward.Round form sum) (is_some name)) (record c { taken = name })
+wakes-kept : (name : Option ℕ) (form : Form) (sum : ℕ) (woken : List ℕ) (c : OpenCall) → HasOneWake woken name → IsKept woken None (writer_taken (after_read.Round form sum) (is_some name)) (record c { taken = name })
 wakes-kept None form sum woken c one goes = (refl, one)
 wakes-kept (Some name) form sum woken c one goes = (refl, one)
 
@@ -114,16 +114,16 @@ drain-kept (at.LookTailAgain (purpose.Copy form) was_closed) p drains one goes =
 drain-kept (at.LookTake (purpose.Copy form)) p drains one goes = takes-kept p.woken p.writer_waker (record p.reader_call { taken = p.reader_waker }) one form goes
 drain-kept at.Yield p drains one goes = absurd (cc)
 drain-kept (at.CallDestination form sum) p drains one goes = calls-kept p.woken p.writer_waker p.reader_call one p.destination (round_count p) form sum p.capacity goes
-drain-kept (at.StoreHead n (afterward.Round form sum)) p drains one goes = (refl, one)
-drain-kept (at.TakeWriter (afterward.Round form sum)) p drains one goes = wakes-kept p.writer_waker form sum p.woken p.reader_call one goes
-drain-kept (at.WakeWriter (afterward.Round form sum)) p drains one goes = (refl, one)
+drain-kept (at.StoreHead n (after_read.Round form sum)) p drains one goes = (refl, one)
+drain-kept (at.TakeWriter (after_read.Round form sum)) p drains one goes = wakes-kept p.writer_waker form sum p.woken p.reader_call one goes
+drain-kept (at.WakeWriter (after_read.Round form sum)) p drains one goes = (refl, one)
 drain-kept point p drains one goes = absurd (cc)
 
 -- a drain that was opened at p has come to u
 pub record Draining (p u : Pipe) : Type 0 where
   pub drains : is_draining u.reader ≡ true
   pub busy : reader_state u.reader ≡ Busy
-  pub stands : ReaderStands u.reader u
+  pub valid : ReaderValid u.reader u
   pub wakes : WakesOne u.reader u
   pub rest : reader_alone p.reader p ≡ reader_alone u.reader u
 
@@ -139,20 +139,20 @@ drained-by : (p u : Pipe) (answer : Option Answer) → Draining p u → (read_st
 drained-by p u None draining is =
     let s = read_step u.reader u in
     let kept = drain-kept u.reader u draining.drains draining.wakes is in
-    let stands = draining.stands in (
+    let valid = draining.valid in (
       record {
         drains = kept.0;
         busy = subst (λ (a : Option Answer). IsSettled a (reader_state s.pipe.reader)) is (reader-settled u.reader u draining.busy);
-        stands = reader-stands u.reader u draining.busy stands;
+        valid = reader-valid u.reader u draining.busy valid;
         wakes = kept.1;
-        rest = draining.rest ∙ drain-rest u.reader u draining.drains stands.start (omega (arith, stands.unread, stands.known)) ∙ ap (λ (a : Option Answer). reader_rest a s.pipe) is;
+        rest = draining.rest ∙ drain-rest u.reader u draining.drains valid.start (omega (arith, valid.unread, valid.known)) ∙ ap (λ (a : Option Answer). reader_rest a s.pipe) is;
       },
-      drain-falls u.reader u draining.drains stands is,
+      drain-falls u.reader u draining.drains valid is,
     )
 drained-by p u (Some answer) draining is =
     let s = read_step u.reader u in
-    let stands = draining.stands in
-    draining.rest ∙ drain-rest u.reader u draining.drains stands.start (omega (arith, stands.unread, stands.known)) ∙ ap (λ (a : Option Answer). reader_rest a s.pipe) is
+    let valid = draining.valid in
+    draining.rest ∙ drain-rest u.reader u draining.drains valid.start (omega (arith, valid.unread, valid.known)) ∙ ap (λ (a : Option Answer). reader_rest a s.pipe) is
 
 -- a step that does not call the destination leaves it as it is
 pub record IsApart (point : ReadPoint) (destination : Destination) (p : Pipe) : Type 0 where
@@ -284,9 +284,9 @@ reads (at.CallDestination form sum) size p drains =
     let n = min size (round_count p) in
     let moved = moves-read n (n == 0) form sum p.unread refl in
     record { unread_is = moved.0; ends = moved.1; destination = refl }
-reads (at.StoreHead n (afterward.Round form sum)) size p drains = reads-none n size p.unread (read_step (at.StoreHead n (afterward.Round form sum)) (placing (Slice size) p)) refl refl refl
-reads (at.TakeWriter (afterward.Round form sum)) size p drains = reads-none 0 size p.unread (read_step (at.TakeWriter (afterward.Round form sum)) (placing (Slice size) p)) (no-store p.capacity (at.TakeWriter (afterward.Round form sum)) (waker (is_some p.writer_waker)) refl refl) refl refl
-reads (at.WakeWriter (afterward.Round form sum)) size p drains = reads-none 0 size p.unread (read_step (at.WakeWriter (afterward.Round form sum)) (placing (Slice size) p)) refl refl refl
+reads (at.StoreHead n (after_read.Round form sum)) size p drains = reads-none n size p.unread (read_step (at.StoreHead n (after_read.Round form sum)) (placing (Slice size) p)) refl refl refl
+reads (at.TakeWriter (after_read.Round form sum)) size p drains = reads-none 0 size p.unread (read_step (at.TakeWriter (after_read.Round form sum)) (placing (Slice size) p)) (no-store p.capacity (at.TakeWriter (after_read.Round form sum)) (waker (is_some p.writer_waker)) refl refl) refl refl
+reads (at.WakeWriter (after_read.Round form sum)) size p drains = reads-none 0 size p.unread (read_step (at.WakeWriter (after_read.Round form sum)) (placing (Slice size) p)) refl refl refl
 reads point size p drains = absurd (cc)
 
 -- so many bytes have left the pipe, or leave it by the store that is next
@@ -383,7 +383,7 @@ opened cx destination p q sound unwoken is =
     subst (λ (v : Pipe). Draining o (placing destination v)) (sym is) (record {
       drains = looks-drain none form;
       busy = looks-busy none form;
-      stands = record { unread = sound.unread; start = sound.start; known = sound.known; store = omega arith };
+      valid = record { unread = sound.unread; start = sound.start; known = sound.known; store = omega arith };
       wakes = subst (λ (names : List ℕ). HasOneWake (with_waker names (errand o.reader o.reader_call)) p.writer_waker) (sym unwoken) (subst (λ (name : Option ℕ). HasOneWake (with_waker [] name) p.writer_waker) (sym (looks-errand none form o.reader_call)) (one_wake-none p.writer_waker));
       rest = refl;
     })

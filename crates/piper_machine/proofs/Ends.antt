@@ -3,14 +3,14 @@ use Rattle.std.proofs.Common.{◌≡◌, ◌⊎◌, inl, inr, ℕ, zero, suc, Li
 use Rattle.std.specs.Bool.{⊤}
 use Rattle.std.specs.List.{All}
 use Rattle.std.proofs.lemmas.List.Elements.{All-nil, All-cons}
-use Rattle.piper_sides.specs.declared.calls.Side.TheVariants.{Reader}
-use Rattle.piper_sides.specs.declared.events.Answer.TheVariants.{Poll}
-use Rattle.piper_sides.specs.declared.events.Event.{Event}
-use Rattle.piper_sides.specs.declared.events.Event.TheVariants.{Looked, Answered}
-use Rattle.piper_sides.specs.declared.events.Seen.TheVariants.{Tail}
-use Rattle.piper_sides.specs.declared.polling.Polled.TheVariants.{Ready}
+use Rattle.piper_protocol.specs.declared.calls.Side.TheVariants.{Reader}
+use Rattle.piper_protocol.specs.declared.events.Answer.TheVariants.{Poll}
+use Rattle.piper_protocol.specs.declared.events.Event.{Event}
+use Rattle.piper_protocol.specs.declared.events.Event.TheVariants.{Looked, Answered}
+use Rattle.piper_protocol.specs.declared.events.Seen.TheVariants.{Tail}
+use Rattle.piper_protocol.specs.declared.polling.Polled.TheVariants.{Ready}
 use Rattle.piper_machine.specs.End.{saw_closed_after, saw_closed_from, found_none}
-use Rattle.piper_machine.specs.Final.{IsBehindEnd}
+use Rattle.piper_machine.specs.Final.{IsAfterEnd}
 
 -- whether an end was found, by a look at the tail behind one that saw the pipe closed, or was told
 -- by a poll
@@ -30,7 +30,7 @@ ended_from saw ended (e ∷ es) = ended_from (saw_closed_after Reader saw e) (en
 
 abbrev pub IsFinalFrom : Bool → Bool → List Event → Type 0
 IsFinalFrom saw ended [] = ⊤
-IsFinalFrom saw ended (e ∷ es) = (ended ≡ true → IsBehindEnd e) × IsFinalFrom (saw_closed_after Reader saw e) (ended_after saw ended e) es
+IsFinalFrom saw ended (e ∷ es) = (ended ≡ true → IsAfterEnd e) × IsFinalFrom (saw_closed_after Reader saw e) (ended_after saw ended e) es
 
 pub saw-append : (saw : Bool) (es fs : List Event) → saw_closed_from Reader saw (es ++ fs) ≡ saw_closed_from Reader (saw_closed_from Reader saw es) fs
 saw-append saw [] fs = refl
@@ -56,19 +56,19 @@ still-ended saw (Looked Reader (Tail unread)) = still-at-tail saw unread
 still-ended saw (Answered Reader (Poll (Ready false))) = refl
 still-ended saw e = refl
 
-behind-end : (saw : Bool) (es : List Event) → IsFinalFrom saw true es → All IsBehindEnd es × (ended_from saw true es ≡ true)
-behind-end saw [] h = (All-nil IsBehindEnd, refl)
-behind-end saw (e ∷ es) h =
-    let on = behind-end (saw_closed_after Reader saw e) es (subst (λ (b : Bool). IsFinalFrom (saw_closed_after Reader saw e) b es) (still-ended saw e) h.1) in
-    (All-cons IsBehindEnd e es (h.0 refl) on.0, ap (λ (b : Bool). ended_from (saw_closed_after Reader saw e) b es) (still-ended saw e) ∙ on.1)
+after-end : (saw : Bool) (es : List Event) → IsFinalFrom saw true es → All IsAfterEnd es × (ended_from saw true es ≡ true)
+after-end saw [] h = (All-nil IsAfterEnd, refl)
+after-end saw (e ∷ es) h =
+    let on = after-end (saw_closed_after Reader saw e) es (subst (λ (b : Bool). IsFinalFrom (saw_closed_after Reader saw e) b es) (still-ended saw e) h.1) in
+    (All-cons IsAfterEnd e es (h.0 refl) on.0, ap (λ (b : Bool). ended_from (saw_closed_after Reader saw e) b es) (still-ended saw e) ∙ on.1)
 
 -- behind an event with which an end was found
-pub final-behind : (saw ended : Bool) (before after : List Event) (e : Event) → ended_after (saw_closed_from Reader saw before) (ended_from saw ended before) e ≡ true
-    → IsFinalFrom saw ended (before ++ e ∷ after) → All IsBehindEnd after × (ended_from saw ended (before ++ e ∷ after) ≡ true)
-final-behind saw ended [] after e here h =
-    let on = behind-end (saw_closed_after Reader saw e) after (subst (λ (b : Bool). IsFinalFrom (saw_closed_after Reader saw e) b after) here h.1) in
+pub final-after : (saw ended : Bool) (before after : List Event) (e : Event) → ended_after (saw_closed_from Reader saw before) (ended_from saw ended before) e ≡ true
+    → IsFinalFrom saw ended (before ++ e ∷ after) → All IsAfterEnd after × (ended_from saw ended (before ++ e ∷ after) ≡ true)
+final-after saw ended [] after e here h =
+    let on = after-end (saw_closed_after Reader saw e) after (subst (λ (b : Bool). IsFinalFrom (saw_closed_after Reader saw e) b after) here h.1) in
     (on.0, ap (λ (b : Bool). ended_from (saw_closed_after Reader saw e) b after) here ∙ on.1)
-final-behind saw ended (first ∷ before) after e here h = final-behind (saw_closed_after Reader saw first) (ended_after saw ended first) before after e here h.1
+final-after saw ended (first ∷ before) after e here h = final-after (saw_closed_after Reader saw first) (ended_after saw ended first) before after e here h.1
 
 -- a look that finds none behind one that saw the pipe closed is such an event
 pub found-here : (saw ended : Bool) → saw ≡ true → ended_after saw ended found_none ≡ true

@@ -1,21 +1,21 @@
 -- Every step of a call brings its answer nearer: fewer steps remain.
 use Rattle.std.proofs.Common.{◌≡◌, ℕ, ◌+◌, ◌-◌, ◌<◌, ◌≤◌, min, List, [], ◌∷◌, length, Bool, true, false, None, ◌==◌, is_some, if◌then◌else◌, refl, ap, arith}
 use Rattle.std.proofs.lemmas.Bool.Decides.{nat_tests}
-use Rattle.piper_sides.specs.declared.calls.SideState.TheVariants.{Busy}
-use Rattle.piper_sides.specs.declared.scripted.DestAct.TheVariants as dest
-use Rattle.piper_sides.specs.declared.scripted.SourceAct.{SourceAct}
-use Rattle.piper_sides.specs.declared.scripted.SourceAct.TheVariants as source
-use Rattle.piper_sides.specs.declared.table.Form.{Form}
-use Rattle.piper_sides.specs.declared.table.Form.TheVariants.{Try, Polling}
-use Rattle.piper_sides.specs.declared.table.Purpose.TheVariants as purpose
-use Rattle.piper_sides.specs.declared.table.AfterRead.TheVariants as afterward
-use Rattle.piper_sides.specs.declared.table.AfterWrite.TheVariants as behind
-use Rattle.piper_sides.specs.declared.table.ReadPoint.{ReadPoint}
-use Rattle.piper_sides.specs.declared.table.ReadPoint.TheVariants as at
-use Rattle.piper_sides.specs.declared.table.WritePoint.{WritePoint}
-use Rattle.piper_sides.specs.declared.table.WritePoint.TheVariants as on
-use Rattle.piper_sides.specs.Open.{is_granted}
-use Rattle.piper_sides.specs.Table.{Next, goes_on, reader_looked, reader_looked_again, reader_registered, reader_is_true, reader_moved, writer_taken, read_after, write_after, writer_is_open, writer_looked, writer_looked_again, writer_registered, writer_is_true, writer_moved, writer_rounds, reader_taken}
+use Rattle.piper_protocol.specs.declared.calls.SideState.TheVariants.{Busy}
+use Rattle.piper_protocol.specs.declared.scripted.DestAct.TheVariants as dest
+use Rattle.piper_protocol.specs.declared.scripted.SourceAct.{SourceAct}
+use Rattle.piper_protocol.specs.declared.scripted.SourceAct.TheVariants as source
+use Rattle.piper_protocol.specs.declared.table.Form.{Form}
+use Rattle.piper_protocol.specs.declared.table.Form.TheVariants.{Try, Polling}
+use Rattle.piper_protocol.specs.declared.table.Purpose.TheVariants as purpose
+use Rattle.piper_protocol.specs.declared.table.AfterRead.TheVariants as after_read
+use Rattle.piper_protocol.specs.declared.table.AfterWrite.TheVariants as after_write
+use Rattle.piper_protocol.specs.declared.table.ReadPoint.{ReadPoint}
+use Rattle.piper_protocol.specs.declared.table.ReadPoint.TheVariants as at
+use Rattle.piper_protocol.specs.declared.table.WritePoint.{WritePoint}
+use Rattle.piper_protocol.specs.declared.table.WritePoint.TheVariants as on
+use Rattle.piper_protocol.specs.Open.{is_granted}
+use Rattle.piper_protocol.specs.Table.{Next, goes_on, reader_looked, reader_looked_again, reader_registered, reader_is_true, reader_moved, writer_taken, read_after, write_after, writer_is_open, writer_looked, writer_looked_again, writer_registered, writer_is_true, writer_moved, writer_rounds, reader_taken}
 use Rattle.piper_machine.specs.declared.destination.Destination.{Destination}
 use Rattle.piper_machine.specs.declared.destination.Destination.TheVariants.{Slice, Acts}
 use Rattle.piper_machine.specs.Pipe.{Pipe}
@@ -25,8 +25,8 @@ use Rattle.piper_machine.specs.Action.{round_count}
 use Rattle.piper_machine.specs.Step.{MayOffer}
 use Rattle.piper_machine.specs.Alone.{is_draining, is_filling, drain_steps, fill_steps, read_steps, write_steps}
 use Rattle.piper_machine.proofs.Alone.{read_step, reads_left, write_found, writes_left}
-use Rattle.piper_machine.proofs.Copies.{WriterStands, fill_step}
-use Rattle.piper_machine.proofs.Standing.{ReaderStands}
+use Rattle.piper_machine.proofs.Copies.{WriterValid, fill_step}
+use Rattle.piper_machine.proofs.Validity.{ReaderValid}
 
 -- where a step leads that gave no answer, fewer steps remain than before
 abbrev IsFalling : ℕ → ℕ → ℕ → Next ReadPoint → Type 0
@@ -62,22 +62,22 @@ calls-fall (Acts []) most form sum capacity found known within = λ goes. absurd
 calls-fall (Acts (dest.Fail ∷ acts)) most form sum capacity found known within = λ goes. absurd (cc)
 calls-fall (Acts (dest.Take size ∷ acts)) most form sum capacity found known within = moves-fall (min size most) (min size most == 0) form sum found known refl (omega arith)
 
-wakes-fall : (is_found : Bool) (form : Form) (sum found known : ℕ) → IsFalling (2 + drain_steps known) found known (writer_taken (afterward.Round form sum) is_found)
+wakes-fall : (is_found : Bool) (form : Form) (sum found known : ℕ) → IsFalling (2 + drain_steps known) found known (writer_taken (after_read.Round form sum) is_found)
 wakes-fall true form sum found known goes = omega arith
 wakes-fall false form sum found known goes = omega arith
 
-pub drain-falls : (point : ReadPoint) (p : Pipe) → is_draining point ≡ true → ReaderStands point p → let s = read_step point p in s.answer ≡ None → reads_left s.pipe.reader s.pipe < reads_left point p
-drain-falls (at.LookTail (purpose.Copy form)) p drains stands goes = looks-fall (length p.unread == 0) form (length p.unread) (length p.unread) (omega arith) goes
-drain-falls (at.LookRegister (purpose.Copy form)) p drains stands goes = registers-fall (is_granted p.reader_call.context) form (length p.unread) p.known goes
-drain-falls (at.LookClosed (purpose.Copy form)) p drains stands goes = omega arith
-drain-falls (at.LookTailAgain (purpose.Copy form) was_closed) p drains stands goes = again-fall (length p.unread == 0) was_closed form (length p.unread) (length p.unread) (omega arith) goes
-drain-falls (at.LookTake (purpose.Copy form)) p drains stands goes = takes-fall form (length p.unread) p.known goes
-drain-falls at.Yield p drains stands goes = absurd (cc)
-drain-falls (at.CallDestination form sum) p drains stands goes = calls-fall p.destination (round_count p) form sum p.capacity (length p.unread) p.known (omega arith) goes
-drain-falls (at.StoreHead n (afterward.Round form sum)) p drains stands goes = omega arith
-drain-falls (at.TakeWriter (afterward.Round form sum)) p drains stands goes = wakes-fall (is_some p.writer_waker) form sum (length p.unread) p.known goes
-drain-falls (at.WakeWriter (afterward.Round form sum)) p drains stands goes = omega arith
-drain-falls point p drains stands goes = absurd (cc)
+pub drain-falls : (point : ReadPoint) (p : Pipe) → is_draining point ≡ true → ReaderValid point p → let s = read_step point p in s.answer ≡ None → reads_left s.pipe.reader s.pipe < reads_left point p
+drain-falls (at.LookTail (purpose.Copy form)) p drains valid goes = looks-fall (length p.unread == 0) form (length p.unread) (length p.unread) (omega arith) goes
+drain-falls (at.LookRegister (purpose.Copy form)) p drains valid goes = registers-fall (is_granted p.reader_call.context) form (length p.unread) p.known goes
+drain-falls (at.LookClosed (purpose.Copy form)) p drains valid goes = omega arith
+drain-falls (at.LookTailAgain (purpose.Copy form) was_closed) p drains valid goes = again-fall (length p.unread == 0) was_closed form (length p.unread) (length p.unread) (omega arith) goes
+drain-falls (at.LookTake (purpose.Copy form)) p drains valid goes = takes-fall form (length p.unread) p.known goes
+drain-falls at.Yield p drains valid goes = absurd (cc)
+drain-falls (at.CallDestination form sum) p drains valid goes = calls-fall p.destination (round_count p) form sum p.capacity (length p.unread) p.known (omega arith) goes
+drain-falls (at.StoreHead n (after_read.Round form sum)) p drains valid goes = omega arith
+drain-falls (at.TakeWriter (after_read.Round form sum)) p drains valid goes = wakes-fall (is_some p.writer_waker) form sum (length p.unread) p.known goes
+drain-falls (at.WakeWriter (after_read.Round form sum)) p drains valid goes = omega arith
+drain-falls point p drains valid goes = absurd (cc)
 
 pub reads-some : (point : ReadPoint) (p : Pipe) → reader_state point ≡ Busy → 1 ≤ reads_left point p
 reads-some at.Idle p busy = absurd (cc)
@@ -147,26 +147,26 @@ rounds-fall : (is_closed : Bool) (n : ℕ) (form : Form) (sum room free : ℕ) �
 rounds-fall true n form sum room free goes = absurd (cc)
 rounds-fall false n form sum room free goes = omega arith
 
-reader_wakes-fall : (is_found : Bool) (form : Form) (sum room free : ℕ) → IsWriterFalling (2 + fill_steps room) room free (reader_taken (behind.Round form sum) is_found)
+reader_wakes-fall : (is_found : Bool) (form : Form) (sum room free : ℕ) → IsWriterFalling (2 + fill_steps room) room free (reader_taken (after_write.Round form sum) is_found)
 reader_wakes-fall true form sum room free goes = omega arith
 reader_wakes-fall false form sum room free goes = omega arith
 
-pub fill-falls : (point : WritePoint) (lent : List ℕ) (p : Pipe) → is_filling point ≡ true → WriterStands point p → MayOffer point p.source lent (record p { writer = point })
+pub fill-falls : (point : WritePoint) (lent : List ℕ) (p : Pipe) → is_filling point ≡ true → WriterValid point p → MayOffer point p.source lent (record p { writer = point })
     → let s = fill_step point lent p in s.answer ≡ None → writes_left s.pipe.writer s.pipe < writes_left point p
-fill-falls (on.LookClosed (purpose.Copy form)) lent p fills stands may goes = open-fall p.is_closed (p.room == 0) form p.room (p.capacity - length p.unread) refl goes
-fill-falls (on.LookHead (purpose.Copy form)) lent p fills stands may goes = loads-fall (p.capacity - length p.unread == 0) form (p.capacity - length p.unread) goes
-fill-falls (on.LookRegister (purpose.Copy form)) lent p fills stands may goes = writer_registers-fall (is_granted p.writer_call.context) form p.room (p.capacity - length p.unread) goes
-fill-falls (on.LookHeadAgain (purpose.Copy form)) lent p fills stands may goes = writer_again-fall (p.capacity - length p.unread == 0) form (p.capacity - length p.unread) goes
-fill-falls (on.LookClosedAgain (purpose.Copy form)) lent p fills stands may goes = absurd (cc)
-fill-falls (on.LookTake (purpose.Copy form)) lent p fills stands may goes = writer_takes-fall form p.room (p.capacity - length p.unread) goes
-fill-falls on.Yield lent p fills stands may goes = absurd (cc)
-fill-falls (on.CallSource form sum) lent p fills stands may goes = source-falls p.source lent form sum (p.capacity - length p.unread) (record p { writer = on.CallSource form sum }) may goes
-fill-falls (on.RoundClosed n form sum) lent p fills stands may goes = rounds-fall p.is_closed n form sum p.room (p.capacity - length p.unread) goes
-fill-falls (on.StoreTail n (behind.Round form sum)) lent p fills stands may goes = omega arith
-fill-falls (on.TakeReader (behind.Round form sum)) lent p fills stands may goes = reader_wakes-fall (is_some p.reader_waker) form sum p.room (p.capacity - length p.unread) goes
-fill-falls (on.WakeReader (behind.Round form sum)) lent p fills stands may goes = omega arith
-fill-falls (on.StoreClosed (behind.Round form sum)) lent p fills stands may goes = omega arith
-fill-falls point lent p fills stands may goes = absurd (cc)
+fill-falls (on.LookClosed (purpose.Copy form)) lent p fills valid may goes = open-fall p.is_closed (p.room == 0) form p.room (p.capacity - length p.unread) refl goes
+fill-falls (on.LookHead (purpose.Copy form)) lent p fills valid may goes = loads-fall (p.capacity - length p.unread == 0) form (p.capacity - length p.unread) goes
+fill-falls (on.LookRegister (purpose.Copy form)) lent p fills valid may goes = writer_registers-fall (is_granted p.writer_call.context) form p.room (p.capacity - length p.unread) goes
+fill-falls (on.LookHeadAgain (purpose.Copy form)) lent p fills valid may goes = writer_again-fall (p.capacity - length p.unread == 0) form (p.capacity - length p.unread) goes
+fill-falls (on.LookClosedAgain (purpose.Copy form)) lent p fills valid may goes = absurd (cc)
+fill-falls (on.LookTake (purpose.Copy form)) lent p fills valid may goes = writer_takes-fall form p.room (p.capacity - length p.unread) goes
+fill-falls on.Yield lent p fills valid may goes = absurd (cc)
+fill-falls (on.CallSource form sum) lent p fills valid may goes = source-falls p.source lent form sum (p.capacity - length p.unread) (record p { writer = on.CallSource form sum }) may goes
+fill-falls (on.RoundClosed n form sum) lent p fills valid may goes = rounds-fall p.is_closed n form sum p.room (p.capacity - length p.unread) goes
+fill-falls (on.StoreTail n (after_write.Round form sum)) lent p fills valid may goes = omega arith
+fill-falls (on.TakeReader (after_write.Round form sum)) lent p fills valid may goes = reader_wakes-fall (is_some p.reader_waker) form sum p.room (p.capacity - length p.unread) goes
+fill-falls (on.WakeReader (after_write.Round form sum)) lent p fills valid may goes = omega arith
+fill-falls (on.StoreClosed (after_write.Round form sum)) lent p fills valid may goes = omega arith
+fill-falls point lent p fills valid may goes = absurd (cc)
 
 pub writes-some : (point : WritePoint) (p : Pipe) → writer_state point ≡ Busy → 1 ≤ writes_left point p
 writes-some on.Idle p busy = absurd (cc)

@@ -1,26 +1,26 @@
 -- A fill run whole: its source stays with the caller, and each step is that of a call which holds
 -- this source.
 use Rattle.std.proofs.Common.{◌≡◌, ℕ, ◌-◌, ◌<◌, ◌≤◌, min, List, [], ◌∷◌, take, length, Bool, true, false, Option, None, Some, ◌==◌, is_some, refl, sym, ap, subst, ◌∙◌, arith, Result, Ok, Err, length-append}
-use Rattle.piper_sides.specs.declared.calls.OpenCall.{OpenCall}
-use Rattle.piper_sides.specs.declared.calls.Side.TheVariants.{Writer}
-use Rattle.piper_sides.specs.declared.calls.Step.TheVariants.{Go}
-use Rattle.piper_sides.specs.declared.calls.SideState.TheVariants.{Busy}
-use Rattle.piper_sides.specs.declared.events.Answer.{Answer}
-use Rattle.piper_sides.specs.declared.scripted.Failed.{Failed}
-use Rattle.piper_sides.specs.declared.scripted.SourceAct.{SourceAct}
-use Rattle.piper_sides.specs.declared.scripted.SourceAct.TheVariants as source
-use Rattle.piper_sides.specs.declared.scripted.TheConstants.{MOST_A_ROUND}
-use Rattle.piper_sides.specs.declared.table.Action.TheVariants as does
-use Rattle.piper_sides.specs.declared.table.Form.{Form}
-use Rattle.piper_sides.specs.declared.table.Form.TheVariants.{Try, Polling}
-use Rattle.piper_sides.specs.declared.table.Purpose.TheVariants as purpose
-use Rattle.piper_sides.specs.declared.table.AfterWrite.TheVariants as afterward
-use Rattle.piper_sides.specs.declared.table.WritePoint.{WritePoint}
-use Rattle.piper_sides.specs.declared.table.WritePoint.TheVariants as at
-use Rattle.piper_sides.specs.Open.{is_granted}
-use Rattle.piper_sides.specs.declared.table.Found.{Found}
-use Rattle.piper_sides.specs.Table.{Next, goes_on, write_action, write_after, writer_is_open, writer_looked, writer_looked_again, writer_registered, writer_is_true, writer_moved, writer_rounds, reader_taken}
-use Rattle.piper_sides.specs.declared.polling.Context.{Context}
+use Rattle.piper_protocol.specs.declared.calls.OpenCall.{OpenCall}
+use Rattle.piper_protocol.specs.declared.calls.Side.TheVariants.{Writer}
+use Rattle.piper_protocol.specs.declared.calls.Step.TheVariants.{Go}
+use Rattle.piper_protocol.specs.declared.calls.SideState.TheVariants.{Busy}
+use Rattle.piper_protocol.specs.declared.events.Answer.{Answer}
+use Rattle.piper_protocol.specs.declared.scripted.Failed.{Failed}
+use Rattle.piper_protocol.specs.declared.scripted.SourceAct.{SourceAct}
+use Rattle.piper_protocol.specs.declared.scripted.SourceAct.TheVariants as source
+use Rattle.piper_protocol.specs.declared.scripted.TheConstants.{MOST_A_ROUND}
+use Rattle.piper_protocol.specs.declared.table.Action.TheVariants as does
+use Rattle.piper_protocol.specs.declared.table.Form.{Form}
+use Rattle.piper_protocol.specs.declared.table.Form.TheVariants.{Try, Polling}
+use Rattle.piper_protocol.specs.declared.table.Purpose.TheVariants as purpose
+use Rattle.piper_protocol.specs.declared.table.AfterWrite.TheVariants as after_read
+use Rattle.piper_protocol.specs.declared.table.WritePoint.{WritePoint}
+use Rattle.piper_protocol.specs.declared.table.WritePoint.TheVariants as at
+use Rattle.piper_protocol.specs.Open.{is_granted}
+use Rattle.piper_protocol.specs.declared.table.Found.{Found}
+use Rattle.piper_protocol.specs.Table.{Next, goes_on, write_action, write_after, writer_is_open, writer_looked, writer_looked_again, writer_registered, writer_is_true, writer_moved, writer_rounds, reader_taken}
+use Rattle.piper_protocol.specs.declared.polling.Context.{Context}
 use Rattle.piper_machine.specs.Pipe.{Pipe}
 use Rattle.piper_machine.specs.Sound.{IsSound}
 use Rattle.piper_machine.specs.Lend.{Lendable, lending}
@@ -32,9 +32,9 @@ use Rattle.piper_machine.specs.Action.{source_called}
 use Rattle.piper_machine.specs.Step.{stepped, fill_opened, call_after, source_after, round_left, round_answer, MayOffer}
 use Rattle.piper_machine.specs.Alone.{Ended, heard, is_filling, writer_alone}
 use Rattle.piper_machine.proofs.Alone.{writer_rest, writes_left}
-use Rattle.piper_machine.proofs.Copies.{WriterStands, fill_step, fill-rest}
+use Rattle.piper_machine.proofs.Copies.{WriterValid, fill_step, fill-rest}
 use Rattle.piper_machine.proofs.Falling.{fill-falls}
-use Rattle.piper_machine.proofs.Standing.{IsSettled, closes_round, writer-settled, writer-stands}
+use Rattle.piper_machine.proofs.Validity.{IsSettled, closes_round, writer-settled, writer-valid}
 use Rattle.piper_machine.proofs.Rounds.{HasOneWake, one_wake-room, one_wake-none}
 use Rattle.piper_machine.proofs.Sources.{source-called}
 
@@ -104,7 +104,7 @@ module _ (woken : List ℕ) (waker : Option ℕ) (c : OpenCall) (one : HasOneWak
   rounds-kept true n form sum goes = absurd (cc)
   rounds-kept false n form sum goes = (refl, one)
 
-wakes-kept : (name : Option ℕ) (form : Form) (sum : ℕ) (woken : List ℕ) (c : OpenCall) → HasOneWake woken name → IsKept woken None (reader_taken (afterward.Round form sum) (is_some name)) (record c { taken = name })
+wakes-kept : (name : Option ℕ) (form : Form) (sum : ℕ) (woken : List ℕ) (c : OpenCall) → HasOneWake woken name → IsKept woken None (reader_taken (after_read.Round form sum) (is_some name)) (record c { taken = name })
 wakes-kept None form sum woken c one goes = (refl, one)
 wakes-kept (Some name) form sum woken c one goes = (refl, one)
 
@@ -119,9 +119,9 @@ fill-kept (at.LookTake (purpose.Copy form)) lent p fills plain one goes = takes-
 fill-kept at.Yield lent p fills plain one goes = absurd (cc)
 fill-kept (at.CallSource form sum) lent p fills plain one goes = gives-kept p.woken p.reader_waker p.writer_call one (length lent) p.source form sum p.capacity p.room goes
 fill-kept (at.RoundClosed n form sum) lent p fills plain one goes = rounds-kept p.woken p.reader_waker p.writer_call one p.is_closed n form sum goes
-fill-kept (at.StoreTail n (afterward.Round form sum)) lent p fills plain one goes = (refl, one)
-fill-kept (at.TakeReader (afterward.Round form sum)) lent p fills plain one goes = wakes-kept p.reader_waker form sum p.woken p.writer_call one goes
-fill-kept (at.WakeReader (afterward.Round form sum)) lent p fills plain one goes = (refl, one)
+fill-kept (at.StoreTail n (after_read.Round form sum)) lent p fills plain one goes = (refl, one)
+fill-kept (at.TakeReader (after_read.Round form sum)) lent p fills plain one goes = wakes-kept p.reader_waker form sum p.woken p.writer_call one goes
+fill-kept (at.WakeReader (after_read.Round form sum)) lent p fills plain one goes = (refl, one)
 fill-kept point lent p fills plain one goes = absurd (cc)
 
 -- a fill that was opened at p has come to u
@@ -129,7 +129,7 @@ pub record Filling (p u : Pipe) : Type 0 where
   pub fills : is_filling u.writer ≡ true
   pub busy : writer_state u.writer ≡ Busy
   pub plain : closes_round u.writer ≡ false
-  pub stands : WriterStands u.writer u
+  pub valid : WriterValid u.writer u
   pub wakes : WakesOne u.writer u
   pub rest : writer_alone p.writer p ≡ writer_alone u.writer u
 
@@ -145,20 +145,20 @@ filled-by : (p u : Pipe) (lent : List ℕ) (answer : Option Answer) → Filling 
 filled-by p u lent None filling may is =
     let s = fill_step u.writer lent u in
     let kept = fill-kept u.writer lent u filling.fills filling.plain filling.wakes is in
-    let stands = writer-stands u.writer lent u filling.busy filling.plain filling.stands may in (
+    let valid = writer-valid u.writer lent u filling.busy filling.plain filling.valid may in (
       record {
         fills = kept.0;
         busy = subst (λ (a : Option Answer). IsSettled a (writer_state s.pipe.writer)) is (writer-settled u.writer lent u filling.busy filling.plain);
-        plain = stands.1;
-        stands = stands.0;
+        plain = valid.1;
+        valid = valid.0;
         wakes = kept.1;
-        rest = filling.rest ∙ fill-rest u.writer lent u filling.fills filling.stands may ∙ ap (λ (a : Option Answer). writer_rest a s.pipe) is;
+        rest = filling.rest ∙ fill-rest u.writer lent u filling.fills filling.valid may ∙ ap (λ (a : Option Answer). writer_rest a s.pipe) is;
       },
-      fill-falls u.writer lent u filling.fills filling.stands may is,
+      fill-falls u.writer lent u filling.fills filling.valid may is,
     )
 filled-by p u lent (Some answer) filling may is =
     let s = fill_step u.writer lent u in
-    filling.rest ∙ fill-rest u.writer lent u filling.fills filling.stands may ∙ ap (λ (a : Option Answer). writer_rest a s.pipe) is
+    filling.rest ∙ fill-rest u.writer lent u filling.fills filling.valid may ∙ ap (λ (a : Option Answer). writer_rest a s.pipe) is
 
 -- a step that does not call the source leaves it as it is
 may-go : (point : WritePoint) (acts : List SourceAct) (lent : List ℕ) (p : Pipe) → (write_action point ≡ does.CallSource → ⊥) → MayOffer point acts lent p
@@ -172,10 +172,10 @@ pub record IsApart (point : WritePoint) (lent : List ℕ) (acts : List SourceAct
 
 apart : (point : WritePoint) (lent : List ℕ) (acts : List SourceAct) (p : Pipe) → (write_action point ≡ does.CallSource → ⊥) → IsApart point lent acts p
 apart (at.CallSource form sum) lent acts p other = absurd (other refl)
-apart (at.StoreClosed afterward.Answer) lent acts p other = record { answer = refl; pipe = refl; source = refl }
-apart (at.StoreClosed afterward.Drop) lent acts p other = record { answer = refl; pipe = refl; source = refl }
-apart (at.StoreClosed afterward.WakeWriter) lent acts p other = record { answer = refl; pipe = refl; source = refl }
-apart (at.StoreClosed (afterward.Round form sum)) lent acts p other = record { answer = refl; pipe = refl; source = refl }
+apart (at.StoreClosed after_read.Answer) lent acts p other = record { answer = refl; pipe = refl; source = refl }
+apart (at.StoreClosed after_read.Drop) lent acts p other = record { answer = refl; pipe = refl; source = refl }
+apart (at.StoreClosed after_read.WakeWriter) lent acts p other = record { answer = refl; pipe = refl; source = refl }
+apart (at.StoreClosed (after_read.Round form sum)) lent acts p other = record { answer = refl; pipe = refl; source = refl }
 apart point lent acts p other = record { answer = refl; pipe = refl; source = refl }
 
 -- the same of a pipe whose call holds no source
@@ -237,10 +237,10 @@ pub record IsCalled (point : WritePoint) (lent : List ℕ) (p : Pipe) : Type 0 w
 
 call-step : (point : WritePoint) (lent : List ℕ) (p : Pipe) → write_action point ≡ does.CallSource → IsCalled point lent p
 call-step (at.CallSource form sum) lent p calls = record { answer = refl; pipe = refl }
-call-step (at.StoreClosed afterward.Answer) lent p calls = absurd (cc)
-call-step (at.StoreClosed afterward.Drop) lent p calls = absurd (cc)
-call-step (at.StoreClosed afterward.WakeWriter) lent p calls = absurd (cc)
-call-step (at.StoreClosed (afterward.Round form sum)) lent p calls = absurd (cc)
+call-step (at.StoreClosed after_read.Answer) lent p calls = absurd (cc)
+call-step (at.StoreClosed after_read.Drop) lent p calls = absurd (cc)
+call-step (at.StoreClosed after_read.WakeWriter) lent p calls = absurd (cc)
+call-step (at.StoreClosed (after_read.Round form sum)) lent p calls = absurd (cc)
 call-step point lent p calls = absurd (cc)
 
 -- what a call of the source finds in w, which was lent to it, leads to r
@@ -290,7 +290,7 @@ opened cx acts p q sound unwoken is =
       fills = refl;
       busy = refl;
       plain = refl;
-      stands = record { unread = sound.unread; start = sound.start; room = sound.room; store = omega arith; shut = sound.closed; unclosed = λ saw. absurd (cc) };
+      valid = record { unread = sound.unread; start = sound.start; room = sound.room; store = omega arith; shut = sound.closed; unclosed = λ saw. absurd (cc) };
       wakes = subst (λ (names : List ℕ). HasOneWake names p.reader_waker) (sym unwoken) (one_wake-none p.reader_waker);
       rest = refl;
     })

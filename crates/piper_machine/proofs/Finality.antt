@@ -2,31 +2,31 @@
 -- lent that could still be published.
 use Rattle.std.proofs.Common.{◌≡◌, inl, inr, ℕ, List, [], ◌∷◌, ◌++◌, length, take, Bool, true, false, Option, None, Some, ◌==◌, refl, sym, ap, subst, ◌∙◌, slice_set, arith}
 use Rattle.std.proofs.lemmas.Bool.Decides.{nat_tests}
-use Rattle.piper_sides.specs.declared.calls.Side.TheVariants.{Reader, Writer}
-use Rattle.piper_sides.specs.declared.calls.OpenCall.{OpenCall}
-use Rattle.piper_sides.specs.declared.calls.Call.{Call}
-use Rattle.piper_sides.specs.declared.calls.Call.TheVariants as call
-use Rattle.piper_sides.specs.declared.calls.Step.{Step}
-use Rattle.piper_sides.specs.declared.calls.Step.TheVariants.{Begin, Go, Put}
-use Rattle.piper_sides.specs.declared.events.Answer.{Answer}
-use Rattle.piper_sides.specs.declared.events.Event.{Event}
-use Rattle.piper_sides.specs.declared.polling.Context.{Context}
-use Rattle.piper_sides.specs.declared.table.Action.{Action}
-use Rattle.piper_sides.specs.declared.table.Action.TheVariants as does
-use Rattle.piper_sides.specs.declared.scripted.SourceAct.{SourceAct}
-use Rattle.piper_sides.specs.declared.scripted.SourceAct.TheVariants as source
-use Rattle.piper_sides.specs.declared.table.Form.TheVariants.{Try, Polling}
-use Rattle.piper_sides.specs.declared.table.Purpose.{Purpose}
-use Rattle.piper_sides.specs.declared.table.Purpose.TheVariants as purpose
-use Rattle.piper_sides.specs.declared.table.AfterRead.TheVariants as afterward
-use Rattle.piper_sides.specs.declared.table.AfterWrite.TheVariants as behind
-use Rattle.piper_sides.specs.declared.table.ReadPoint.{ReadPoint}
-use Rattle.piper_sides.specs.declared.table.ReadPoint.TheVariants as at
-use Rattle.piper_sides.specs.declared.table.WritePoint.{WritePoint}
-use Rattle.piper_sides.specs.declared.table.WritePoint.TheVariants as on
-use Rattle.piper_sides.specs.Open.{called_with}
-use Rattle.piper_sides.specs.Table.{read_action, write_action, reader_looks_for}
-use Rattle.piper_sides.specs.Log.{answer_event}
+use Rattle.piper_protocol.specs.declared.calls.Side.TheVariants.{Reader, Writer}
+use Rattle.piper_protocol.specs.declared.calls.OpenCall.{OpenCall}
+use Rattle.piper_protocol.specs.declared.calls.Call.{Call}
+use Rattle.piper_protocol.specs.declared.calls.Call.TheVariants as call
+use Rattle.piper_protocol.specs.declared.calls.Step.{Step}
+use Rattle.piper_protocol.specs.declared.calls.Step.TheVariants.{Begin, Go, Put}
+use Rattle.piper_protocol.specs.declared.events.Answer.{Answer}
+use Rattle.piper_protocol.specs.declared.events.Event.{Event}
+use Rattle.piper_protocol.specs.declared.polling.Context.{Context}
+use Rattle.piper_protocol.specs.declared.table.Action.{Action}
+use Rattle.piper_protocol.specs.declared.table.Action.TheVariants as does
+use Rattle.piper_protocol.specs.declared.scripted.SourceAct.{SourceAct}
+use Rattle.piper_protocol.specs.declared.scripted.SourceAct.TheVariants as source
+use Rattle.piper_protocol.specs.declared.table.Form.TheVariants.{Try, Polling}
+use Rattle.piper_protocol.specs.declared.table.Purpose.{Purpose}
+use Rattle.piper_protocol.specs.declared.table.Purpose.TheVariants as purpose
+use Rattle.piper_protocol.specs.declared.table.AfterRead.TheVariants as after_read
+use Rattle.piper_protocol.specs.declared.table.AfterWrite.TheVariants as after_write
+use Rattle.piper_protocol.specs.declared.table.ReadPoint.{ReadPoint}
+use Rattle.piper_protocol.specs.declared.table.ReadPoint.TheVariants as at
+use Rattle.piper_protocol.specs.declared.table.WritePoint.{WritePoint}
+use Rattle.piper_protocol.specs.declared.table.WritePoint.TheVariants as on
+use Rattle.piper_protocol.specs.Open.{called_with}
+use Rattle.piper_protocol.specs.Table.{read_action, write_action, reader_looks_for}
+use Rattle.piper_protocol.specs.Log.{answer_event}
 use Rattle.piper_machine.specs.Pipe.{Pipe, fresh}
 use Rattle.piper_machine.specs.Sound.{IsSound}
 use Rattle.piper_machine.specs.Action.{logged_of}
@@ -39,12 +39,12 @@ use Rattle.piper_machine.specs.Lend.{lending}
 use Rattle.piper_machine.specs.Run.{Made}
 use Rattle.piper_machine.specs.End.{saw_closed_from, saw_closed, found_none}
 use Rattle.piper_machine.specs.Final.{told_end, IsOver, IsFinal}
-use Rattle.piper_machine.proofs.Ends.{ended_after, ended_from, IsFinalFrom, saw-append, ended-append, final-append, final-behind, found-here}
+use Rattle.piper_machine.proofs.Ends.{ended_after, ended_from, IsFinalFrom, saw-append, ended-append, final-append, final-after, found-here}
 use Rattle.piper_machine.proofs.Causes.{read_leaves, write_leaves, IsEnded, IsCaused, is_known, reader-caused, writer_after, writer-ended, writer-known, writer-caused}
 use Rattle.piper_machine.proofs.Honesty.{loaded, saw_close, writer-flag, opens-unloaded, Honest}
 use Rattle.piper_machine.proofs.Counting.{writer_leaves-reader, writer_never-head}
 use Rattle.piper_machine.proofs.Remembering.{reader_leaves, reader-idle, writer-idle}
-use Rattle.piper_machine.proofs.Behind.{is_over, Over, take_none, Quiet, context-quiet, wake-quiet, yield-quiet, IsLinked, unlinked, Sees, reader-logs, reader-sees, reader-ends}
+use Rattle.piper_machine.proofs.After.{is_over, Over, take_none, Quiet, context-quiet, wake-quiet, yield-quiet, IsLinked, unlinked, Sees, reader-logs, reader-sees, reader-ends}
 
 -- kept by every step
 pub record Lasts (p : Pipe) (saw ended : Bool) : Type 0 where
@@ -63,12 +63,12 @@ stored_none n xs ys h k = rw (h, take_none n ys k) refl
 writer-over : (offered : List ℕ) (point : WritePoint) (p : Pipe) → IsSound (record p { writer = point }) → Over (record p { writer = point }) → Over (writer_after offered point p)
 writer-over offered (on.StoreTail n next) p sound o =
     let lent = none_lent (record p { writer = on.StoreTail n next }) sound refl o.ended in
-    record { closed = o.closed; ended = writer-ended offered (on.StoreTail n next) p o.ended; unread = stored_none n p.unread p.lent o.unread lent; stands = o.stands }
-writer-over offered (on.StoreClosed behind.Answer) p sound o = record { closed = refl; ended = writer-ended offered (on.StoreClosed behind.Answer) p o.ended; unread = o.unread; stands = o.stands }
-writer-over offered (on.StoreClosed (behind.Round form sum)) p sound o = record { closed = refl; ended = writer-ended offered (on.StoreClosed (behind.Round form sum)) p o.ended; unread = o.unread; stands = o.stands }
-writer-over offered (on.StoreClosed behind.Drop) p sound o = record { closed = refl; ended = writer-ended offered (on.StoreClosed behind.Drop) p o.ended; unread = o.unread; stands = o.stands }
-writer-over offered (on.StoreClosed behind.WakeWriter) p sound o = record { closed = refl; ended = writer-ended offered (on.StoreClosed behind.WakeWriter) p o.ended; unread = o.unread; stands = o.stands }
-writer-over offered point p sound o = record { closed = o.closed; ended = writer-ended offered point p o.ended; unread = o.unread; stands = o.stands }
+    record { closed = o.closed; ended = writer-ended offered (on.StoreTail n next) p o.ended; unread = stored_none n p.unread p.lent o.unread lent; valid = o.valid }
+writer-over offered (on.StoreClosed after_write.Answer) p sound o = record { closed = refl; ended = writer-ended offered (on.StoreClosed after_write.Answer) p o.ended; unread = o.unread; valid = o.valid }
+writer-over offered (on.StoreClosed (after_write.Round form sum)) p sound o = record { closed = refl; ended = writer-ended offered (on.StoreClosed (after_write.Round form sum)) p o.ended; unread = o.unread; valid = o.valid }
+writer-over offered (on.StoreClosed after_write.Drop) p sound o = record { closed = refl; ended = writer-ended offered (on.StoreClosed after_write.Drop) p o.ended; unread = o.unread; valid = o.valid }
+writer-over offered (on.StoreClosed after_write.WakeWriter) p sound o = record { closed = refl; ended = writer-ended offered (on.StoreClosed after_write.WakeWriter) p o.ended; unread = o.unread; valid = o.valid }
+writer-over offered point p sound o = record { closed = o.closed; ended = writer-ended offered point p o.ended; unread = o.unread; valid = o.valid }
 
 -- what the writer's step logs, and answers
 
@@ -95,19 +95,19 @@ writer-answers saw ended (Some answer) = ((λ t. tt, tt), refl, refl)
 
 writer-publishes : (point : WritePoint) (n : ℕ) → write_action point ≡ does.StoreTail n → write_leaves point ≡ false
 writer-publishes (on.StoreTail m next) n e = refl
-writer-publishes (on.StoreClosed behind.Answer) n e = absurd (cc)
-writer-publishes (on.StoreClosed (behind.Round form sum)) n e = absurd (cc)
-writer-publishes (on.StoreClosed behind.Drop) n e = absurd (cc)
-writer-publishes (on.StoreClosed behind.WakeWriter) n e = absurd (cc)
+writer-publishes (on.StoreClosed after_write.Answer) n e = absurd (cc)
+writer-publishes (on.StoreClosed (after_write.Round form sum)) n e = absurd (cc)
+writer-publishes (on.StoreClosed after_write.Drop) n e = absurd (cc)
+writer-publishes (on.StoreClosed after_write.WakeWriter) n e = absurd (cc)
 writer-publishes point n e = absurd (cc)
 
 -- a store publishes what was lent before
 publishes-lent : (point : WritePoint) (n : ℕ) (offered lent : List ℕ) → write_action point ≡ does.StoreTail n → lent_at point offered lent ≡ lent
 publishes-lent (on.StoreTail m next) n offered lent e = refl
-publishes-lent (on.StoreClosed behind.Answer) n offered lent e = refl
-publishes-lent (on.StoreClosed (behind.Round form sum)) n offered lent e = refl
-publishes-lent (on.StoreClosed behind.Drop) n offered lent e = refl
-publishes-lent (on.StoreClosed behind.WakeWriter) n offered lent e = refl
+publishes-lent (on.StoreClosed after_write.Answer) n offered lent e = refl
+publishes-lent (on.StoreClosed (after_write.Round form sum)) n offered lent e = refl
+publishes-lent (on.StoreClosed after_write.Drop) n offered lent e = refl
+publishes-lent (on.StoreClosed after_write.WakeWriter) n offered lent e = refl
 publishes-lent (on.CallSource form sum) n offered lent e = absurd (cc)
 publishes-lent point n offered lent e = refl
 
@@ -123,10 +123,10 @@ none_known p sound empty = let zero : length p.unread ≡ 0 = ap (λ (xs : List 
 module _ (p : Pipe) (saw ended : Bool) (h : Lasts p saw ended) where
   reader-opens : (point : ReadPoint) (c : OpenCall) (destination : Destination) → p.reader ≡ at.Idle → (p.unread ≡ [] → is_over point ≡ true) → loaded point ≡ None
       → Lasts (record p { reader = point; reader_call = c; destination = destination }) false ended
-  reader-opens point c destination idle stands unloaded = record {
+  reader-opens point c destination idle valid unloaded = record {
     known = h.known;
     caused = λ closed. elim (h.caused closed) [ inl leaves ↦ absurd (let stays = ap read_leaves idle in cc) | inr is_ended ↦ inr is_ended ];
-    over = λ t. let o = h.over t in record { closed = o.closed; ended = o.ended; unread = o.unread; stands = stands o.unread };
+    over = λ t. let o = h.over t in record { closed = o.closed; ended = o.ended; unread = o.unread; valid = valid o.unread };
     sees = (λ seen. absurd (cc), unlinked _ _ unloaded);
   }
 
@@ -137,12 +137,12 @@ module _ (p : Pipe) (saw ended : Bool) (h : Lasts p saw ended) where
   writer-opens point c source idle known = record {
     known = known;
     caused = λ closed. elim (h.caused closed) [ inl leaves ↦ inl leaves | inr is_ended ↦ inr (stays-ended idle point is_ended) ];
-    over = λ t. let o = h.over t in record { closed = o.closed; ended = stays-ended idle point o.ended; unread = o.unread; stands = o.stands };
+    over = λ t. let o = h.over t in record { closed = o.closed; ended = stays-ended idle point o.ended; unread = o.unread; valid = o.valid };
     sees = h.sees;
   }
 
   lends : (lent : List ℕ) → Lasts (lending lent p) saw ended
-  lends lent = record { known = h.known; caused = h.caused; over = λ t. let o = h.over t in record { closed = o.closed; ended = o.ended; unread = o.unread; stands = o.stands }; sees = h.sees }
+  lends lent = record { known = h.known; caused = h.caused; over = λ t. let o = h.over t in record { closed = o.closed; ended = o.ended; unread = o.unread; valid = o.valid }; sees = h.sees }
 
   looks : (l : Purpose) (context : Option Context) (destination : Destination) → IsSound p → p.reader ≡ at.Idle → Lasts (record p { reader = reader_looks_for (p.known == 0) l; reader_call = called_with context; destination = destination }) false ended
   looks l context destination sound idle = reader-opens (reader_looks_for (p.known == 0) l) (called_with context) destination idle (λ empty. opens-over (p.known == 0) l (none_known p sound empty)) (opens-unloaded (p.known == 0) l)
@@ -160,7 +160,7 @@ begin-lasts lent (call.Poll Reader waker luck) p saw ended sound accepted h = ((
 begin-lasts lent (call.TryDrain size) p saw ended sound accepted h = ((λ t. tt, tt), looks p saw ended h (purpose.Copy Try) None (Slice size) sound (reader-idle p.reader _ accepted))
 begin-lasts lent (call.PollDrainBytes waker luck size) p saw ended sound accepted h = ((λ t. tt, tt), looks p saw ended h (purpose.Copy (Polling (luck.draw == 0))) (Some (context waker luck)) (Slice size) sound (reader-idle p.reader _ accepted))
 begin-lasts lent (call.PollDrain waker luck acts) p saw ended sound accepted h = ((λ t. tt, tt), looks p saw ended h (purpose.Copy (Polling (luck.draw == 0))) (Some (context waker luck)) (Acts acts) sound (reader-idle p.reader _ accepted))
-begin-lasts lent (call.Consume n) p saw ended sound accepted h = ((λ t. tt, tt), reader-opens p saw ended h (at.StoreHead n afterward.Answer) p.reader_call p.destination (reader-idle p.reader _ accepted) (λ empty. refl) refl)
+begin-lasts lent (call.Consume n) p saw ended sound accepted h = ((λ t. tt, tt), reader-opens p saw ended h (at.StoreHead n after_read.Answer) p.reader_call p.destination (reader-idle p.reader _ accepted) (λ empty. refl) refl)
 begin-lasts lent (call.Drop Reader) p saw ended sound accepted h = ((λ t. tt, tt), reader-opens p saw ended h at.StoreClosed p.reader_call p.destination (reader-idle p.reader _ accepted) (λ empty. refl) refl)
 begin-lasts lent (call.Query Writer query) p saw ended sound accepted h = ((λ t. tt, tt), writer-opens p saw ended h (on.QueryHead query) p.writer_call p.source (writer-idle p.writer _ accepted) refl)
 begin-lasts lent (call.IsClosed Writer) p saw ended sound accepted h = ((λ t. tt, tt), writer-opens p saw ended h on.QueryClosed p.writer_call p.source (writer-idle p.writer _ accepted) refl)
@@ -169,9 +169,9 @@ begin-lasts lent (call.TryFill bytes) p saw ended sound accepted h = ((λ t. tt,
 begin-lasts lent (call.PollFillBytes waker luck bytes) p saw ended sound accepted h = ((λ t. tt, tt), fills p saw ended h (purpose.Copy (Polling (luck.draw == 0))) (Some (context waker luck)) (source.Bytes bytes ∷ []) (writer-idle p.writer _ accepted))
 begin-lasts lent (call.PollFill waker luck acts) p saw ended sound accepted h = ((λ t. tt, tt), fills p saw ended h (purpose.Copy (Polling (luck.draw == 0))) (Some (context waker luck)) acts (writer-idle p.writer _ accepted))
 begin-lasts lent (call.WriteBuf most) p saw ended sound accepted h = ((λ t. tt, (λ t. tt, tt)), lends p saw ended h lent)
-begin-lasts lent (call.Produced n) p saw ended sound accepted h = ((λ t. tt, tt), writer-opens p saw ended h (on.StoreTail n behind.Answer) p.writer_call p.source (writer-idle p.writer _ accepted) refl)
-begin-lasts lent call.Close p saw ended sound accepted h = ((λ t. tt, tt), writer-opens p saw ended h (on.StoreClosed behind.WakeWriter) p.writer_call p.source (writer-idle p.writer _ accepted) refl)
-begin-lasts lent (call.Drop Writer) p saw ended sound accepted h = ((λ t. tt, tt), writer-opens p saw ended h (on.StoreClosed behind.Drop) p.writer_call p.source (writer-idle p.writer _ accepted) refl)
+begin-lasts lent (call.Produced n) p saw ended sound accepted h = ((λ t. tt, tt), writer-opens p saw ended h (on.StoreTail n after_write.Answer) p.writer_call p.source (writer-idle p.writer _ accepted) refl)
+begin-lasts lent call.Close p saw ended sound accepted h = ((λ t. tt, tt), writer-opens p saw ended h (on.StoreClosed after_write.WakeWriter) p.writer_call p.source (writer-idle p.writer _ accepted) refl)
+begin-lasts lent (call.Drop Writer) p saw ended sound accepted h = ((λ t. tt, tt), writer-opens p saw ended h (on.StoreClosed after_write.Drop) p.writer_call p.source (writer-idle p.writer _ accepted) refl)
 
 -- the events of the answer behind those of the action
 adds : (saw ended : Bool) (es fs : List Event) (q : Pipe) → IsFinalFrom saw ended es → IsFinalFrom (saw_closed_from Reader saw es) (ended_from saw ended es) fs
@@ -226,18 +226,18 @@ pub record Final (p : Pipe) (events : List Event) : Type 0 where
   pub final : IsFinal p events
 
 final : (p : Pipe) (events : List Event) → Lasts p (saw_closed Reader events) (ended_from false false events) → IsFinalFrom false false events → Final p events
-final p events lasts so_far = record { lasts = lasts; so_far = so_far; final = record { found = found; told = told } }
+final p events lasts so_far = record { lasts = lasts; so_far = so_far; final = record { found = found; noted = noted } }
   where
     over : (before after : List Event) (e : Event) → events ≡ before ++ e ∷ after → ended_after (saw_closed Reader before) (ended_from false false before) e ≡ true → IsOver p after
     over before after e parts here =
-        let behind = final-behind false false before after e here (subst (λ (es : List Event). IsFinalFrom false false es) parts so_far) in
-        (behind.0, (lasts.over (ap (λ (es : List Event). ended_from false false es) parts ∙ behind.1)).unread)
+        let after = final-after false false before after e here (subst (λ (es : List Event). IsFinalFrom false false es) parts so_far) in
+        (following.0, (lasts.over (ap (λ (es : List Event). ended_from false false es) parts ∙ following.1)).unread)
 
     found : (before after : List Event) → events ≡ before ++ found_none ∷ after → saw_closed Reader before ≡ true → IsOver p after
     found before after parts seen = over before after found_none parts (found-here (saw_closed Reader before) (ended_from false false before) seen)
 
-    told : (before after : List Event) → events ≡ before ++ told_end ∷ after → IsOver p after
-    told before after parts = over before after told_end parts refl
+    noted : (before after : List Event) → events ≡ before ++ told_end ∷ after → IsOver p after
+    noted before after parts = over before after told_end parts refl
 
 pub final_none : (capacity : ℕ) → Final (fresh capacity) []
 final_none capacity = final (fresh capacity) [] (record { known = refl; caused = λ closed. absurd (cc); over = λ t. absurd (cc); sees = (λ seen. absurd (cc), tt) }) tt

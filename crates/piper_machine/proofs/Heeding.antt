@@ -2,26 +2,26 @@
 -- pipe closed.
 use Rattle.std.proofs.Common.{◌≡◌, ℕ, ◌-◌, List, [], ◌∷◌, ◌++◌, length, Bool, true, false, Option, None, Some, ◌==◌, is_some, refl, sym, ap, subst, ◌∙◌}
 use Rattle.std.specs.Bool.{⊤}
-use Rattle.piper_sides.specs.declared.calls.Side.{Side}
-use Rattle.piper_sides.specs.declared.calls.Side.TheVariants.{Reader, Writer}
-use Rattle.piper_sides.specs.declared.calls.Call.{Call}
-use Rattle.piper_sides.specs.declared.calls.Call.TheVariants as call
-use Rattle.piper_sides.specs.declared.calls.Step.{Step}
-use Rattle.piper_sides.specs.declared.calls.Step.TheVariants.{Begin, Go, Put}
-use Rattle.piper_sides.specs.declared.events.Answer.{Answer}
-use Rattle.piper_sides.specs.declared.events.Event.{Event}
-use Rattle.piper_sides.specs.declared.events.Event.TheVariants.{Published}
-use Rattle.piper_sides.specs.declared.polling.Context.{Context}
-use Rattle.piper_sides.specs.declared.table.Form.{Form}
-use Rattle.piper_sides.specs.declared.table.Purpose.TheVariants as purpose
-use Rattle.piper_sides.specs.declared.table.AfterWrite.TheVariants as behind
-use Rattle.piper_sides.specs.declared.table.ReadPoint.{ReadPoint}
-use Rattle.piper_sides.specs.declared.table.ReadPoint.TheVariants as at
-use Rattle.piper_sides.specs.declared.table.WritePoint.{WritePoint}
-use Rattle.piper_sides.specs.declared.table.WritePoint.TheVariants as on
-use Rattle.piper_sides.specs.Open.{is_granted}
-use Rattle.piper_sides.specs.Table.{read_action, write_action, writer_is_open, writer_looked, writer_looked_again, writer_registered, writer_draws, writer_rounds, reader_taken, own_taken, write_done, write_after}
-use Rattle.piper_sides.specs.Log.{answer_event}
+use Rattle.piper_protocol.specs.declared.calls.Side.{Side}
+use Rattle.piper_protocol.specs.declared.calls.Side.TheVariants.{Reader, Writer}
+use Rattle.piper_protocol.specs.declared.calls.Call.{Call}
+use Rattle.piper_protocol.specs.declared.calls.Call.TheVariants as call
+use Rattle.piper_protocol.specs.declared.calls.Step.{Step}
+use Rattle.piper_protocol.specs.declared.calls.Step.TheVariants.{Begin, Go, Put}
+use Rattle.piper_protocol.specs.declared.events.Answer.{Answer}
+use Rattle.piper_protocol.specs.declared.events.Event.{Event}
+use Rattle.piper_protocol.specs.declared.events.Event.TheVariants.{Published}
+use Rattle.piper_protocol.specs.declared.polling.Context.{Context}
+use Rattle.piper_protocol.specs.declared.table.Form.{Form}
+use Rattle.piper_protocol.specs.declared.table.Purpose.TheVariants as purpose
+use Rattle.piper_protocol.specs.declared.table.AfterWrite.TheVariants as after_write
+use Rattle.piper_protocol.specs.declared.table.ReadPoint.{ReadPoint}
+use Rattle.piper_protocol.specs.declared.table.ReadPoint.TheVariants as at
+use Rattle.piper_protocol.specs.declared.table.WritePoint.{WritePoint}
+use Rattle.piper_protocol.specs.declared.table.WritePoint.TheVariants as on
+use Rattle.piper_protocol.specs.Open.{is_granted}
+use Rattle.piper_protocol.specs.Table.{read_action, write_action, writer_is_open, writer_looked, writer_looked_again, writer_registered, writer_draws, writer_rounds, reader_taken, own_taken, write_done, write_after}
+use Rattle.piper_protocol.specs.Log.{answer_event}
 use Rattle.piper_machine.specs.Pipe.{Pipe, fresh}
 use Rattle.piper_machine.specs.Action.{logged_of, registration_of, registration, wake_of, woken_if, yield_of}
 use Rattle.piper_machine.specs.Round.{given, found_of}
@@ -133,10 +133,10 @@ writer-heeds saw offered p (on.RoundClosed n form sum) stores = ((tt, tt), round
 writer-heeds saw offered p (on.StoreTail n next) stores = ((stores refl, tt), λ storing. absurd (cc))
 writer-heeds saw offered p (on.TakeReader next) stores = (tt, unstored (reader_taken next (is_some p.reader_waker)).point saw (take-ordinary next (is_some p.reader_waker)))
 writer-heeds saw offered p (on.WakeReader next) stores = ((wake-quiet saw p.writer_call.taken).0, unstored (write_done next).point _ (done-ordinary next))
-writer-heeds saw offered p (on.StoreClosed behind.Answer) stores = ((tt, tt), λ storing. absurd (cc))
-writer-heeds saw offered p (on.StoreClosed behind.Drop) stores = ((tt, tt), λ storing. absurd (cc))
-writer-heeds saw offered p (on.StoreClosed behind.WakeWriter) stores = ((tt, tt), λ storing. absurd (cc))
-writer-heeds saw offered p (on.StoreClosed (behind.Round form sum)) stores = ((tt, tt), λ storing. absurd (cc))
+writer-heeds saw offered p (on.StoreClosed after_write.Answer) stores = ((tt, tt), λ storing. absurd (cc))
+writer-heeds saw offered p (on.StoreClosed after_write.Drop) stores = ((tt, tt), λ storing. absurd (cc))
+writer-heeds saw offered p (on.StoreClosed after_write.WakeWriter) stores = ((tt, tt), λ storing. absurd (cc))
+writer-heeds saw offered p (on.StoreClosed (after_write.Round form sum)) stores = ((tt, tt), λ storing. absurd (cc))
 writer-heeds saw offered p on.TakeWriter stores = (tt, unstored (own_taken (is_some p.writer_waker)).point saw (own-ordinary (is_some p.writer_waker)))
 writer-heeds saw offered p on.WakeWriter stores = ((wake-quiet saw p.writer_call.taken).0, λ storing. absurd (cc))
 writer-heeds saw offered p point stores = ((tt, tt), λ storing. absurd (cc))

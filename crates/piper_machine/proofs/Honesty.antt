@@ -2,37 +2,37 @@
 -- its last look.
 use Rattle.std.proofs.Common.{◌≡◌, ℕ, List, [], ◌∷◌, ◌++◌, length, Bool, true, false, Option, None, Some, Result, Ok, Err, ◌==◌, is_some, refl, sym, ap, subst, ◌∙◌, arith}
 use Rattle.std.proofs.lemmas.Bool.Decides.{nat_tests}
-use Rattle.piper_sides.specs.declared.calls.Side.{Side}
-use Rattle.piper_sides.specs.declared.calls.Side.TheVariants.{Reader, Writer}
-use Rattle.piper_sides.specs.declared.calls.Call.{Call}
-use Rattle.piper_sides.specs.declared.calls.Call.TheVariants as call
-use Rattle.piper_sides.specs.declared.calls.Kind.{Kind}
-use Rattle.piper_sides.specs.declared.calls.Query.{Query}
-use Rattle.piper_sides.specs.declared.calls.Step.{Step}
-use Rattle.piper_sides.specs.declared.calls.Step.TheVariants.{Begin, Go, Put}
-use Rattle.piper_sides.specs.declared.events.Answer.{Answer}
-use Rattle.piper_sides.specs.declared.events.Event.{Event}
-use Rattle.piper_sides.specs.declared.events.Event.TheVariants.{Began, Looked}
-use Rattle.piper_sides.specs.declared.events.Seen.TheVariants.{Tail}
-use Rattle.piper_sides.specs.declared.polling.Context.{Context}
-use Rattle.piper_sides.specs.declared.table.Action.{Action}
-use Rattle.piper_sides.specs.declared.table.Action.TheVariants as does
-use Rattle.piper_sides.specs.declared.table.Purpose.TheVariants as purpose
-use Rattle.piper_sides.specs.declared.table.AfterRead.{AfterRead}
-use Rattle.piper_sides.specs.declared.table.AfterRead.TheVariants as afterward
-use Rattle.piper_sides.specs.declared.table.ReadPoint.{ReadPoint}
-use Rattle.piper_sides.specs.declared.table.ReadPoint.TheVariants as at
-use Rattle.piper_sides.specs.declared.polling.Polled.{Polled}
-use Rattle.piper_sides.specs.declared.polling.Polled.TheVariants.{Memory}
-use Rattle.piper_sides.specs.declared.scripted.Failed.{Failed}
-use Rattle.piper_sides.specs.declared.table.Form.{Form}
-use Rattle.piper_sides.specs.declared.table.Form.TheVariants.{Try, Polling}
-use Rattle.piper_sides.specs.declared.table.Purpose.{Purpose}
-use Rattle.piper_sides.specs.Call.{side_of, kind_of, waker_of}
-use Rattle.piper_sides.specs.Open.{is_granted, is_yield_granted}
+use Rattle.piper_protocol.specs.declared.calls.Side.{Side}
+use Rattle.piper_protocol.specs.declared.calls.Side.TheVariants.{Reader, Writer}
+use Rattle.piper_protocol.specs.declared.calls.Call.{Call}
+use Rattle.piper_protocol.specs.declared.calls.Call.TheVariants as call
+use Rattle.piper_protocol.specs.declared.calls.Kind.{Kind}
+use Rattle.piper_protocol.specs.declared.calls.Query.{Query}
+use Rattle.piper_protocol.specs.declared.calls.Step.{Step}
+use Rattle.piper_protocol.specs.declared.calls.Step.TheVariants.{Begin, Go, Put}
+use Rattle.piper_protocol.specs.declared.events.Answer.{Answer}
+use Rattle.piper_protocol.specs.declared.events.Event.{Event}
+use Rattle.piper_protocol.specs.declared.events.Event.TheVariants.{Began, Looked}
+use Rattle.piper_protocol.specs.declared.events.Seen.TheVariants.{Tail}
+use Rattle.piper_protocol.specs.declared.polling.Context.{Context}
+use Rattle.piper_protocol.specs.declared.table.Action.{Action}
+use Rattle.piper_protocol.specs.declared.table.Action.TheVariants as does
+use Rattle.piper_protocol.specs.declared.table.Purpose.TheVariants as purpose
+use Rattle.piper_protocol.specs.declared.table.AfterRead.{AfterRead}
+use Rattle.piper_protocol.specs.declared.table.AfterRead.TheVariants as after_read
+use Rattle.piper_protocol.specs.declared.table.ReadPoint.{ReadPoint}
+use Rattle.piper_protocol.specs.declared.table.ReadPoint.TheVariants as at
+use Rattle.piper_protocol.specs.declared.polling.Polled.{Polled}
+use Rattle.piper_protocol.specs.declared.polling.Polled.TheVariants.{Memory}
+use Rattle.piper_protocol.specs.declared.scripted.Failed.{Failed}
+use Rattle.piper_protocol.specs.declared.table.Form.{Form}
+use Rattle.piper_protocol.specs.declared.table.Form.TheVariants.{Try, Polling}
+use Rattle.piper_protocol.specs.declared.table.Purpose.{Purpose}
+use Rattle.piper_protocol.specs.Call.{side_of, kind_of, waker_of}
+use Rattle.piper_protocol.specs.Open.{is_granted, is_yield_granted}
 use Rattle.piper_machine.specs.Round.{taken, found_of}
-use Rattle.piper_sides.specs.Table.{read_after, reader_found, reader_is_true, reader_moved, copy_answer, count_answer, yield_answer, end_or_pending, read_action, write_action, query_answer, reader_looks_for, reader_looked, reader_looked_again, reader_registered, writer_taken, read_done}
-use Rattle.piper_sides.specs.Log.{answer_event}
+use Rattle.piper_protocol.specs.Table.{read_after, reader_found, reader_is_true, reader_moved, copy_answer, count_answer, yield_answer, end_or_pending, read_action, write_action, query_answer, reader_looks_for, reader_looked, reader_looked_again, reader_registered, writer_taken, read_done}
+use Rattle.piper_protocol.specs.Log.{answer_event}
 use Rattle.piper_machine.specs.Pipe.{Pipe, fresh}
 use Rattle.piper_machine.specs.Action.{performed, round_count, logged_of, registration_of, registration, wake_of, yield_of, woken_if}
 use Rattle.piper_machine.specs.Step.{went, opened, stepped, offering}
@@ -79,32 +79,32 @@ Tells h events is_closed = IsHonestFrom h events × ((history_from h events).is_
 quietly : (h : History) (events : List Event) (p : Pipe) → h.is_closed ≡ p.is_closed → IsHonestFrom h events × (history_from h events ≡ h) → Tells h events p.is_closed
 quietly h events p same quiet = (quiet.0, ap (λ (k : History). k.is_closed) quiet.1 ∙ same)
 
-action-tells : (h : History) (side : Side) (action : Action) (p : Pipe) → h.is_closed ≡ p.is_closed → Tells h (logged_of side action p) (performed side action p).is_closed
-action-tells h side does.Rest p same = (tt, same)
-action-tells h Reader does.LoadHead p same = ((tt, tt), same)
-action-tells h Writer does.LoadHead p same = ((tt, tt), same)
-action-tells h Reader does.LoadTail p same = ((tt, tt), same)
-action-tells h Writer does.LoadTail p same = ((tt, tt), same)
-action-tells h Reader does.Refresh p same = ((tt, tt), same)
-action-tells h Writer does.Refresh p same = ((tt, tt), same)
-action-tells h Reader does.LoadClosed p same = ((tt, tt), same)
-action-tells h Writer does.LoadClosed p same = ((tt, tt), same)
-action-tells h Reader does.Register p same = quietly h _ p same (context-quiet h Reader p.reader_call.context)
-action-tells h Writer does.Register p same = quietly h _ p same (context-quiet h Writer p.writer_call.context)
-action-tells h side (does.StoreHead n) p same = ((tt, tt), same)
-action-tells h side (does.StoreTail n) p same = ((tt, tt), same)
-action-tells h side (does.StoreClosed true) p same = ((tt, tt), refl)
-action-tells h side (does.StoreClosed false) p same = ((tt, tt), refl)
-action-tells h Reader (does.Take Reader) p same = (tt, same)
-action-tells h Reader (does.Take Writer) p same = (tt, same)
-action-tells h Writer (does.Take Reader) p same = (tt, same)
-action-tells h Writer (does.Take Writer) p same = (tt, same)
-action-tells h Reader does.Yield p same = quietly h _ p same (yield-quiet h p.reader_call.context)
-action-tells h Writer does.Yield p same = quietly h _ p same (yield-quiet h p.writer_call.context)
-action-tells h side does.CallDestination p same = (tt, same)
-action-tells h side does.CallSource p same = (tt, same)
-action-tells h Reader does.Wake p same = quietly h _ p same (wake-quiet h p.reader_call.taken)
-action-tells h Writer does.Wake p same = quietly h _ p same (wake-quiet h p.writer_call.taken)
+action-shows : (h : History) (side : Side) (action : Action) (p : Pipe) → h.is_closed ≡ p.is_closed → Tells h (logged_of side action p) (performed side action p).is_closed
+action-shows h side does.Rest p same = (tt, same)
+action-shows h Reader does.LoadHead p same = ((tt, tt), same)
+action-shows h Writer does.LoadHead p same = ((tt, tt), same)
+action-shows h Reader does.LoadTail p same = ((tt, tt), same)
+action-shows h Writer does.LoadTail p same = ((tt, tt), same)
+action-shows h Reader does.Refresh p same = ((tt, tt), same)
+action-shows h Writer does.Refresh p same = ((tt, tt), same)
+action-shows h Reader does.LoadClosed p same = ((tt, tt), same)
+action-shows h Writer does.LoadClosed p same = ((tt, tt), same)
+action-shows h Reader does.Register p same = quietly h _ p same (context-quiet h Reader p.reader_call.context)
+action-shows h Writer does.Register p same = quietly h _ p same (context-quiet h Writer p.writer_call.context)
+action-shows h side (does.StoreHead n) p same = ((tt, tt), same)
+action-shows h side (does.StoreTail n) p same = ((tt, tt), same)
+action-shows h side (does.StoreClosed true) p same = ((tt, tt), refl)
+action-shows h side (does.StoreClosed false) p same = ((tt, tt), refl)
+action-shows h Reader (does.Take Reader) p same = (tt, same)
+action-shows h Reader (does.Take Writer) p same = (tt, same)
+action-shows h Writer (does.Take Reader) p same = (tt, same)
+action-shows h Writer (does.Take Writer) p same = (tt, same)
+action-shows h Reader does.Yield p same = quietly h _ p same (yield-quiet h p.reader_call.context)
+action-shows h Writer does.Yield p same = quietly h _ p same (yield-quiet h p.writer_call.context)
+action-shows h side does.CallDestination p same = (tt, same)
+action-shows h side does.CallSource p same = (tt, same)
+action-shows h Reader does.Wake p same = quietly h _ p same (wake-quiet h p.reader_call.taken)
+action-shows h Writer does.Wake p same = quietly h _ p same (wake-quiet h p.writer_call.taken)
 
 answer-keeps : (h : History) (side : Side) (answer : Option Answer) → history_from h (answer_event side answer) ≡ h
 answer-keeps h side None = refl
@@ -128,11 +128,11 @@ abbrev pub saw_close : ReadPoint → Bool
 saw_close point = is_set (loaded point)
 
 -- what the reader answers where it stands, behind the events of its step
-abbrev told : History → ReadPoint → Pipe → History
-told h point p = history_from h (logged_of Reader (read_action point) p)
+abbrev noted : History → ReadPoint → Pipe → History
+noted h point p = history_from h (logged_of Reader (read_action point) p)
 
 abbrev HonestAt : History → ReadPoint → Pipe → Type 0
-HonestAt h point p = IsHonestFrom (told h point p) (answer_event Reader (went Reader (record p { reader = point })).answer)
+HonestAt h point p = IsHonestFrom (noted h point p) (answer_event Reader (went Reader (record p { reader = point })).answer)
 
 module _ (h : History) (p : Pipe) where
   query-honest : (k : History) (query : Query) (count : ℕ) → IsHonestFrom k (answer_event Reader (Some (query_answer query p.capacity count)))
@@ -169,9 +169,9 @@ module _ (h : History) (p : Pipe) where
   moved-honest k (Err fails) form sum = (tt, tt)
 
   done-honest : (k : History) (next : AfterRead) → IsHonestFrom k (answer_event Reader (read_done next).answer)
-  done-honest k afterward.Answer = (tt, tt)
-  done-honest k afterward.Drop = (tt, tt)
-  done-honest k (afterward.Round form sum) = tt
+  done-honest k after_read.Answer = (tt, tt)
+  done-honest k after_read.Drop = (tt, tt)
+  done-honest k (after_read.Round form sum) = tt
 
   take-honest : (k : History) (next : AfterRead) (is_found : Bool) → IsHonestFrom k (answer_event Reader (writer_taken next is_found).answer)
   take-honest k next false = done-honest k next
@@ -192,18 +192,18 @@ module _ (h : History) (p : Pipe) where
   point-honest at.Idle same seen = tt
   point-honest at.Dropped same seen = tt
   point-honest (at.QueryHead query) same seen = tt
-  point-honest (at.QueryTail query) same seen = query-honest (told h (at.QueryTail query) p) query (length p.unread)
+  point-honest (at.QueryTail query) same seen = query-honest (noted h (at.QueryTail query) p) query (length p.unread)
   point-honest at.QueryClosed same seen = (tt, tt)
   point-honest (at.LookTail l) same seen = tt
-  point-honest (at.LookRegister l) same seen = registers-honest (told h (at.LookRegister l) p) l (is_granted p.reader_call.context)
+  point-honest (at.LookRegister l) same seen = registers-honest (noted h (at.LookRegister l) p) l (is_granted p.reader_call.context)
   point-honest (at.LookClosed l) same seen = tt
   point-honest (at.LookTailAgain l was_closed) same seen = again-honest l (length p.unread) (length p.unread == 0) was_closed refl same seen
-  point-honest (at.LookTake l) same seen = true-honest (told h (at.LookTake l) p) l
-  point-honest at.Yield same seen = yields-honest (told h at.Yield p) (is_yield_granted p.reader_call.context)
+  point-honest (at.LookTake l) same seen = true-honest (noted h (at.LookTake l) p) l
+  point-honest at.Yield same seen = yields-honest (noted h at.Yield p) (is_yield_granted p.reader_call.context)
   point-honest (at.CallDestination form sum) same seen = moved-honest h (taken (round_count p) p.destination) form sum
   point-honest (at.StoreHead n next) same seen = tt
-  point-honest (at.TakeWriter next) same seen = take-honest (told h (at.TakeWriter next) p) next (is_some p.writer_waker)
-  point-honest (at.WakeWriter next) same seen = done-honest (told h (at.WakeWriter next) p) next
+  point-honest (at.TakeWriter next) same seen = take-honest (noted h (at.TakeWriter next) p) next (is_some p.writer_waker)
+  point-honest (at.WakeWriter next) same seen = done-honest (noted h (at.WakeWriter next) p) next
   point-honest at.StoreClosed same seen = tt
 
 -- where the reader comes to, it has loaded the flag only by the step that loads it
@@ -246,9 +246,9 @@ moved-unloaded capacity (Ok n) form sum = round-unloaded (n == 0) n form sum
 moved-unloaded capacity (Err fails) form sum = refl
 
 pub done-unloaded : (next : AfterRead) → loaded (read_done next).point ≡ None
-done-unloaded afterward.Answer = refl
-done-unloaded afterward.Drop = refl
-done-unloaded (afterward.Round form sum) = refl
+done-unloaded after_read.Answer = refl
+done-unloaded after_read.Drop = refl
+done-unloaded (after_read.Round form sum) = refl
 
 pub take-unloaded : (next : AfterRead) (is_found : Bool) → loaded (writer_taken next is_found).point ≡ None
 take-unloaded next false = done-unloaded next
@@ -293,9 +293,9 @@ began-leaves : (h : History) (side : Side) (kind : Kind) (waker : Option ℕ) �
 began-leaves h Reader kind waker = refl
 began-leaves h Writer kind waker = refl
 
-began-tells : (h : History) (lent : List ℕ) (c : Call) (p : Pipe) → h.is_closed ≡ p.is_closed → Tells h (stepped lent (Begin c) p).events p.is_closed
-began-tells h lent (call.WriteBuf most) p same = ((tt, (tt, tt)), same)
-began-tells h lent c p same = ((tt, tt), began-leaves h (side_of c) (kind_of c) (waker_of c) ∙ same)
+began-shows : (h : History) (lent : List ℕ) (c : Call) (p : Pipe) → h.is_closed ≡ p.is_closed → Tells h (stepped lent (Begin c) p).events p.is_closed
+began-shows h lent (call.WriteBuf most) p same = ((tt, (tt, tt)), same)
+began-shows h lent c p same = ((tt, tt), began-leaves h (side_of c) (kind_of c) (waker_of c) ∙ same)
 
 -- what the log says of the flag is so, and what the reader carries of it, too
 pub record Aware (p : Pipe) (h : History) : Type 0 where
@@ -303,11 +303,11 @@ pub record Aware (p : Pipe) (h : History) : Type 0 where
   pub saw : saw_close p.reader ≡ true → p.is_closed ≡ true
 
 -- an answer behind the events of an action
-answered-tells : (h : History) (es : List Event) (side : Side) (answer : Option Answer) (is_closed : Bool) → Tells h es is_closed
+answered-shows : (h : History) (es : List Event) (side : Side) (answer : Option Answer) (is_closed : Bool) → Tells h es is_closed
     → IsHonestFrom (history_from h es) (answer_event side answer) → Tells h (es ++ answer_event side answer) is_closed
-answered-tells h es side answer is_closed tells honest = (
-  honest-append h es (answer_event side answer) tells.0 honest,
-  ap (λ (k : History). k.is_closed) (history-append h es (answer_event side answer) ∙ answer-keeps (history_from h es) side answer) ∙ tells.1,
+answered-shows h es side answer is_closed shows honest = (
+  honest-append h es (answer_event side answer) shows.0 honest,
+  ap (λ (k : History). k.is_closed) (history-append h es (answer_event side answer) ∙ answer-keeps (history_from h es) side answer) ∙ shows.1,
 )
 
 pub writer-flag : (action : Action) (p : Pipe) → p.is_closed ≡ true → (performed Writer action p).is_closed ≡ true
@@ -331,20 +331,20 @@ writer-flag does.CallSource p closed = closed
 step-honest : (lent : List ℕ) (s : Step) (p : Pipe) (h : History) → Aware p h
     → let new = stepped lent s p in IsHonestFrom h new.events × Aware new.pipe (history_from h new.events)
 step-honest lent (Begin c) p h aware =
-    let tells = began-tells h lent c p aware.flag in
+    let shows = began-shows h lent c p aware.flag in
     let sees = opened-sees lent c p aware.saw in
-    (tells.0, record { flag = tells.1 ∙ sym sees.0; saw = λ saw. sees.0 ∙ sees.1 saw })
+    (shows.0, record { flag = shows.1 ∙ sym sees.0; saw = λ saw. sees.0 ∙ sees.1 saw })
 step-honest lent (Go Reader) p h aware =
     let action = read_action p.reader in
-    let tells = answered-tells h (logged_of Reader action p) Reader (went Reader p).answer _ (action-tells h Reader action p aware.flag) (point-honest h p p.reader aware.flag aware.saw) in
-    (tells.0, record { flag = tells.1; saw = reader-sees p.reader p })
+    let shows = answered-shows h (logged_of Reader action p) Reader (went Reader p).answer _ (action-shows h Reader action p aware.flag) (point-honest h p p.reader aware.flag aware.saw) in
+    (shows.0, record { flag = shows.1; saw = reader-sees p.reader p })
 step-honest lent (Go Writer) p h aware =
     let action = write_action p.writer in
     let q = offering lent p in
-    let tells = answered-tells h (logged_of Writer action q) Writer (went Writer q).answer _ (action-tells h Writer action q aware.flag) (writer-answers _ (went Writer q).answer) in (
-      tells.0,
+    let shows = answered-shows h (logged_of Writer action q) Writer (went Writer q).answer _ (action-shows h Writer action q aware.flag) (writer-answers _ (went Writer q).answer) in (
+      shows.0,
       record {
-        flag = tells.1;
+        flag = shows.1;
         saw = λ saw. writer-flag action q (aware.saw (ap saw_close (sym (writer_leaves-reader action q (writer_never-head p.writer)).0) ∙ saw));
       },
     )
@@ -360,9 +360,9 @@ honest_none capacity = record { honest = tt; aware = record { flag = refl; saw =
 pub honest_more : (p q : Pipe) (s : Step) (before after : List Event) → Honest p before → Made p s q before after → Honest q after
 honest_more p q s before after kept made =
     let new = stepped q.lent s p in
-    let told = step-honest q.lent s p (history_from unwritten before) kept.aware in
+    let noted = step-honest q.lent s p (history_from unwritten before) kept.aware in
     let next : Honest new.pipe (before ++ new.events) = record {
-      honest = honest-append unwritten before new.events kept.honest told.0;
-      aware = subst (λ (k : History). Aware new.pipe k) (sym (history-append unwritten before new.events)) told.1;
+      honest = honest-append unwritten before new.events kept.honest noted.0;
+      aware = subst (λ (k : History). Aware new.pipe k) (sym (history-append unwritten before new.events)) noted.1;
     } in
     subst (λ es. Honest q es) (sym made.made.events) (subst (λ (x : Pipe). Honest x (before ++ new.events)) (sym made.made.pipe) next)

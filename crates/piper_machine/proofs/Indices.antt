@@ -1,7 +1,7 @@
 -- How far apart two indices are, and at which places they stand, after one of them has moved.
 use Rattle.std.proofs.Common.{◌≡◌, ℕ, ◌+◌, ◌-◌, ◌*◌, ◌<◌, ◌≤◌, arith}
 use Rattle.std.proofs.lemmas.Bool.Decides.{nat_tests}
-use Rattle.piper_sides.specs.Index.{distance, place_of, advanced}
+use Rattle.piper_protocol.specs.Index.{distance, place_of, advanced}
 
 pub distance-advanced_to : (c h t n : ℕ) → h < 2 * c → t < 2 * c → distance c h t + n ≤ c → place_of c t + n ≤ c → 1 ≤ c → distance c h (advanced c t n) ≡ distance c h t + n
 distance-advanced_to c h t n head tail fits below some = grind (arith, nat_tests)

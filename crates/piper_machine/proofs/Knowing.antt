@@ -2,22 +2,22 @@
 use Rattle.std.proofs.Common.{◌≡◌, ℕ, ◌-◌, ◌≤◌, List, [], ◌∷◌, ◌++◌, length, take, Bool, true, false, Option, None, Some, refl, ap, arith}
 use Rattle.std.specs.Prelude.{⊤}
 use Rattle.std.proofs.lemmas.List.{length-take, length-take-le}
-use Rattle.piper_sides.specs.declared.calls.Side.{Side}
-use Rattle.piper_sides.specs.declared.calls.Side.TheVariants.{Reader, Writer}
-use Rattle.piper_sides.specs.declared.calls.Query.{Query}
-use Rattle.piper_sides.specs.declared.events.Answer.{Answer}
-use Rattle.piper_sides.specs.declared.events.Answer.TheVariants.{Poll}
-use Rattle.piper_sides.specs.declared.events.Event.TheVariants.{Answered}
-use Rattle.piper_sides.specs.declared.polling.Polled.{Polled}
-use Rattle.piper_sides.specs.declared.table.Form.{Form}
-use Rattle.piper_sides.specs.declared.table.Form.TheVariants.{Try, Polling}
-use Rattle.piper_sides.specs.Table.{query_answer, copy_answer, count_answer, yield_answer, end_or_pending}
+use Rattle.piper_protocol.specs.declared.calls.Side.{Side}
+use Rattle.piper_protocol.specs.declared.calls.Side.TheVariants.{Reader, Writer}
+use Rattle.piper_protocol.specs.declared.calls.Query.{Query}
+use Rattle.piper_protocol.specs.declared.events.Answer.{Answer}
+use Rattle.piper_protocol.specs.declared.events.Answer.TheVariants.{Poll}
+use Rattle.piper_protocol.specs.declared.events.Event.TheVariants.{Answered}
+use Rattle.piper_protocol.specs.declared.polling.Polled.{Polled}
+use Rattle.piper_protocol.specs.declared.table.Form.{Form}
+use Rattle.piper_protocol.specs.declared.table.Form.TheVariants.{Try, Polling}
+use Rattle.piper_protocol.specs.Table.{query_answer, copy_answer, count_answer, yield_answer, end_or_pending}
 use Rattle.piper_machine.specs.Ready.{IsReadyAnswer}
-use Rattle.piper_sides.specs.declared.events.Event.{Event}
-use Rattle.piper_sides.specs.declared.polling.Context.{Context}
-use Rattle.piper_sides.specs.declared.table.Action.{Action}
-use Rattle.piper_sides.specs.declared.table.Action.TheVariants as does
-use Rattle.piper_sides.specs.Log.{answer_event}
+use Rattle.piper_protocol.specs.declared.events.Event.{Event}
+use Rattle.piper_protocol.specs.declared.polling.Context.{Context}
+use Rattle.piper_protocol.specs.declared.table.Action.{Action}
+use Rattle.piper_protocol.specs.declared.table.Action.TheVariants as does
+use Rattle.piper_protocol.specs.Log.{answer_event}
 use Rattle.piper_machine.specs.Pipe.{Pipe}
 use Rattle.piper_machine.specs.Action.{performed, logged_of, registration_of, registration, wake_of, yield_of, woken_if}
 use Rattle.piper_machine.specs.Known.{Knowledge, taken_in, used_up, knowledge_after, knowledge_from}
@@ -29,33 +29,33 @@ knowledge-append c side k (e ∷ es) fs = knowledge-append c side (knowledge_aft
 
 -- events that tell nothing of the other side's index
 
-pub answer-tells : (c : ℕ) (side teller : Side) (k : Knowledge) (answer : Option Answer) → knowledge_from c side k (answer_event teller answer) ≡ k
-answer-tells c side teller k None = refl
-answer-tells c Reader teller k (Some answer) = refl
-answer-tells c Writer teller k (Some answer) = refl
+pub answer-shows : (c : ℕ) (side actor : Side) (k : Knowledge) (answer : Option Answer) → knowledge_from c side k (answer_event actor answer) ≡ k
+answer-shows c side actor k None = refl
+answer-shows c Reader actor k (Some answer) = refl
+answer-shows c Writer actor k (Some answer) = refl
 
-registration-tells : (c : ℕ) (side teller : Side) (k : Knowledge) (b : Bool) (name : ℕ) → knowledge_from c side k (registration teller b name) ≡ k
-registration-tells c side teller k false name = refl
-registration-tells c Reader teller k true name = refl
-registration-tells c Writer teller k true name = refl
+registration-shows : (c : ℕ) (side actor : Side) (k : Knowledge) (b : Bool) (name : ℕ) → knowledge_from c side k (registration actor b name) ≡ k
+registration-shows c side actor k false name = refl
+registration-shows c Reader actor k true name = refl
+registration-shows c Writer actor k true name = refl
 
-context-tells : (c : ℕ) (side teller : Side) (k : Knowledge) (context : Option Context) → knowledge_from c side k (registration_of teller context) ≡ k
-context-tells c side teller k None = refl
-context-tells c side teller k (Some cx) = registration-tells c side teller k cx.luck.register_granted cx.waker
+context-shows : (c : ℕ) (side actor : Side) (k : Knowledge) (context : Option Context) → knowledge_from c side k (registration_of actor context) ≡ k
+context-shows c side actor k None = refl
+context-shows c side actor k (Some cx) = registration-shows c side actor k cx.luck.register_granted cx.waker
 
-wake-tells : (c : ℕ) (side : Side) (k : Knowledge) (name : Option ℕ) → knowledge_from c side k (wake_of name) ≡ k
-wake-tells c side k None = refl
-wake-tells c Reader k (Some name) = refl
-wake-tells c Writer k (Some name) = refl
+wake-shows : (c : ℕ) (side : Side) (k : Knowledge) (name : Option ℕ) → knowledge_from c side k (wake_of name) ≡ k
+wake-shows c side k None = refl
+wake-shows c Reader k (Some name) = refl
+wake-shows c Writer k (Some name) = refl
 
-woken-tells : (c : ℕ) (side : Side) (k : Knowledge) (b : Bool) (name : ℕ) → knowledge_from c side k (woken_if b name) ≡ k
-woken-tells c side k false name = refl
-woken-tells c Reader k true name = refl
-woken-tells c Writer k true name = refl
+woken-shows : (c : ℕ) (side : Side) (k : Knowledge) (b : Bool) (name : ℕ) → knowledge_from c side k (woken_if b name) ≡ k
+woken-shows c side k false name = refl
+woken-shows c Reader k true name = refl
+woken-shows c Writer k true name = refl
 
-yield-tells : (c : ℕ) (side : Side) (k : Knowledge) (context : Option Context) → knowledge_from c side k (yield_of context) ≡ k
-yield-tells c side k None = refl
-yield-tells c side k (Some cx) = woken-tells c side k cx.luck.yield_granted cx.waker
+yield-shows : (c : ℕ) (side : Side) (k : Knowledge) (context : Option Context) → knowledge_from c side k (yield_of context) ≡ k
+yield-shows c side k None = refl
+yield-shows c side k (Some cx) = woken-shows c side k cx.luck.yield_granted cx.waker
 
 -- a side's own step
 
@@ -78,12 +78,12 @@ learns Reader does.LoadTail p k fits = ap (λ (b : Bool). taken_in b (length p.u
 learns Writer does.LoadHead p k fits = ap (λ (b : Bool). taken_in b (p.capacity - length p.unread) k) fits
 learns Reader does.Refresh p k fits = ap (λ (b : Bool). taken_in b (length p.unread) k) fits
 learns Writer does.Refresh p k fits = ap (λ (b : Bool). taken_in b (p.capacity - length p.unread) k) fits
-learns Reader does.Register p k fits = context-tells p.capacity Reader Reader k p.reader_call.context
-learns Writer does.Register p k fits = context-tells p.capacity Writer Writer k p.writer_call.context
-learns Reader does.Wake p k fits = wake-tells p.capacity Reader k p.reader_call.taken
-learns Writer does.Wake p k fits = wake-tells p.capacity Writer k p.writer_call.taken
-learns Reader does.Yield p k fits = yield-tells p.capacity Reader k p.reader_call.context
-learns Writer does.Yield p k fits = yield-tells p.capacity Writer k p.writer_call.context
+learns Reader does.Register p k fits = context-shows p.capacity Reader Reader k p.reader_call.context
+learns Writer does.Register p k fits = context-shows p.capacity Writer Writer k p.writer_call.context
+learns Reader does.Wake p k fits = wake-shows p.capacity Reader k p.reader_call.taken
+learns Writer does.Wake p k fits = wake-shows p.capacity Writer k p.writer_call.taken
+learns Reader does.Yield p k fits = yield-shows p.capacity Reader k p.reader_call.context
+learns Writer does.Yield p k fits = yield-shows p.capacity Writer k p.writer_call.context
 learns Reader action p k fits = refl
 learns Writer action p k fits = refl
 
@@ -122,19 +122,19 @@ learned-exactly side action p k stores same = same
 
 -- the other side's step
 
-pub writer-tells : (c : ℕ) (action : Action) (p : Pipe) (k : Knowledge) → ((n : ℕ) → action ≡ does.StoreHead n → ⊥) → knowledge_from c Reader k (logged_of Writer action p) ≡ k
-writer-tells c (does.StoreHead n) p k never = absurd (never n refl)
-writer-tells c does.Register p k never = context-tells c Reader Writer k p.writer_call.context
-writer-tells c does.Wake p k never = wake-tells c Reader k p.writer_call.taken
-writer-tells c does.Yield p k never = yield-tells c Reader k p.writer_call.context
-writer-tells c action p k never = refl
+pub writer-shows : (c : ℕ) (action : Action) (p : Pipe) (k : Knowledge) → ((n : ℕ) → action ≡ does.StoreHead n → ⊥) → knowledge_from c Reader k (logged_of Writer action p) ≡ k
+writer-shows c (does.StoreHead n) p k never = absurd (never n refl)
+writer-shows c does.Register p k never = context-shows c Reader Writer k p.writer_call.context
+writer-shows c does.Wake p k never = wake-shows c Reader k p.writer_call.taken
+writer-shows c does.Yield p k never = yield-shows c Reader k p.writer_call.context
+writer-shows c action p k never = refl
 
-pub reader-tells : (c : ℕ) (action : Action) (p : Pipe) (k : Knowledge) → ((n : ℕ) → action ≡ does.StoreTail n → ⊥) → knowledge_from c Writer k (logged_of Reader action p) ≡ k
-reader-tells c (does.StoreTail n) p k never = absurd (never n refl)
-reader-tells c does.Register p k never = context-tells c Writer Reader k p.reader_call.context
-reader-tells c does.Wake p k never = wake-tells c Writer k p.reader_call.taken
-reader-tells c does.Yield p k never = yield-tells c Writer k p.reader_call.context
-reader-tells c action p k never = refl
+pub reader-shows : (c : ℕ) (action : Action) (p : Pipe) (k : Knowledge) → ((n : ℕ) → action ≡ does.StoreTail n → ⊥) → knowledge_from c Writer k (logged_of Reader action p) ≡ k
+reader-shows c (does.StoreTail n) p k never = absurd (never n refl)
+reader-shows c does.Register p k never = context-shows c Writer Reader k p.reader_call.context
+reader-shows c does.Wake p k never = wake-shows c Writer k p.reader_call.taken
+reader-shows c does.Yield p k never = yield-shows c Writer k p.reader_call.context
+reader-shows c action p k never = refl
 
 -- what a step answers, if it does
 

@@ -1,27 +1,27 @@
 -- What the laws say of what the sides know, over a run from a fresh pipe.
 use Rattle.std.proofs.Common.{◌≡◌, ℕ, ◌≤◌, List, [], ◌∷◌, ◌++◌, length, Bool, true, false, Option, None, Some, refl, sym, subst, ◌∙◌, arith}
-use Rattle.piper_sides.specs.declared.calls.Side.{Side}
-use Rattle.piper_sides.specs.declared.calls.Side.TheVariants.{Reader, Writer}
-use Rattle.piper_sides.specs.declared.calls.Call.{Call}
-use Rattle.piper_sides.specs.declared.calls.Call.TheVariants as call
-use Rattle.piper_sides.specs.declared.calls.Kind.{Kind}
-use Rattle.piper_sides.specs.declared.calls.Step.{Step}
-use Rattle.piper_sides.specs.declared.calls.Step.TheVariants.{Begin, Go, Put}
-use Rattle.piper_sides.specs.declared.events.Answer.{Answer}
-use Rattle.piper_sides.specs.declared.events.Event.{Event}
-use Rattle.piper_sides.specs.declared.events.Event.TheVariants.{Began}
-use Rattle.piper_sides.specs.declared.polling.Context.{Context}
-use Rattle.piper_sides.specs.declared.table.AfterWrite.TheVariants as behind
-use Rattle.piper_sides.specs.declared.table.ReadPoint.{ReadPoint}
-use Rattle.piper_sides.specs.declared.table.ReadPoint.TheVariants as at
-use Rattle.piper_sides.specs.declared.table.WritePoint.{WritePoint}
-use Rattle.piper_sides.specs.declared.table.WritePoint.TheVariants as on
-use Rattle.piper_sides.specs.declared.table.Action.{Action}
-use Rattle.piper_sides.specs.declared.table.Action.TheVariants as does
-use Rattle.piper_sides.specs.Call.{side_of, kind_of, waker_of}
-use Rattle.piper_sides.specs.Log.{answer_event}
-use Rattle.piper_sides.specs.Side.{head_store, tail_store}
-use Rattle.piper_sides.specs.Table.{read_action, write_action}
+use Rattle.piper_protocol.specs.declared.calls.Side.{Side}
+use Rattle.piper_protocol.specs.declared.calls.Side.TheVariants.{Reader, Writer}
+use Rattle.piper_protocol.specs.declared.calls.Call.{Call}
+use Rattle.piper_protocol.specs.declared.calls.Call.TheVariants as call
+use Rattle.piper_protocol.specs.declared.calls.Kind.{Kind}
+use Rattle.piper_protocol.specs.declared.calls.Step.{Step}
+use Rattle.piper_protocol.specs.declared.calls.Step.TheVariants.{Begin, Go, Put}
+use Rattle.piper_protocol.specs.declared.events.Answer.{Answer}
+use Rattle.piper_protocol.specs.declared.events.Event.{Event}
+use Rattle.piper_protocol.specs.declared.events.Event.TheVariants.{Began}
+use Rattle.piper_protocol.specs.declared.polling.Context.{Context}
+use Rattle.piper_protocol.specs.declared.table.AfterWrite.TheVariants as after_write
+use Rattle.piper_protocol.specs.declared.table.ReadPoint.{ReadPoint}
+use Rattle.piper_protocol.specs.declared.table.ReadPoint.TheVariants as at
+use Rattle.piper_protocol.specs.declared.table.WritePoint.{WritePoint}
+use Rattle.piper_protocol.specs.declared.table.WritePoint.TheVariants as on
+use Rattle.piper_protocol.specs.declared.table.Action.{Action}
+use Rattle.piper_protocol.specs.declared.table.Action.TheVariants as does
+use Rattle.piper_protocol.specs.Call.{side_of, kind_of, waker_of}
+use Rattle.piper_protocol.specs.Log.{answer_event}
+use Rattle.piper_protocol.specs.Side.{head_store, tail_store}
+use Rattle.piper_protocol.specs.Table.{read_action, write_action}
 use Rattle.piper_machine.specs.Pipe.{Pipe, fresh}
 use Rattle.piper_machine.specs.Action.{logged_of, registration_of, registration, wake_of, yield_of, woken_if}
 use Rattle.piper_machine.specs.Sound.{IsSound}
@@ -34,10 +34,10 @@ use Rattle.piper_machine.specs.Counts.{Tally, tallied, tally_from, tally_of, IsC
 use Rattle.piper_machine.specs.Called.{called, calls_from, AreCallsCounted}
 use Rattle.piper_machine.specs.Run.{Made, Runs}
 use Rattle.piper_machine.proofs.Opened.{opened-leaves}
-use Rattle.piper_machine.proofs.Knowing.{knowledge-append, answer-tells, learns, learned, learned-enough, learned-exactly, Stores, knows, writer-tells, reader-tells, IsReadyNext}
+use Rattle.piper_machine.proofs.Knowing.{knowledge-append, answer-shows, learns, learned, learned-enough, learned-exactly, Stores, knows, writer-shows, reader-shows, IsReadyNext}
 use Rattle.piper_machine.proofs.ReaderCounts.{reader-fits, reader-goes}
 use Rattle.piper_machine.proofs.WriterCounts.{writer-fits, writer-goes}
-use Rattle.piper_machine.proofs.Counting.{Counts, told, counts-step, counts-found, reader_leaves-writer, writer_leaves-reader, reader_never-tail, writer_never-head}
+use Rattle.piper_machine.proofs.Counting.{Counts, noted, counts-step, counts-found, reader_leaves-writer, writer_leaves-reader, reader_never-tail, writer_never-head}
 
 -- a poll that is true leaves something to do
 
@@ -45,14 +45,14 @@ ready-append : (c : ℕ) (side : Side) (k : Knowledge) (es fs : List Event) → 
 ready-append c side k [] fs first then = then
 ready-append c side k (e ∷ es) fs first then = (first.0, ready-append c side (knowledge_after c side k e) es fs first.1 then)
 
-registration-ready : (c : ℕ) (side teller : Side) (k : Knowledge) (b : Bool) (name : ℕ) → IsReadyFrom c side k (registration teller b name)
-registration-ready c side teller k false name = tt
-registration-ready c Reader teller k true name = (tt, tt)
-registration-ready c Writer teller k true name = (tt, tt)
+registration-ready : (c : ℕ) (side actor : Side) (k : Knowledge) (b : Bool) (name : ℕ) → IsReadyFrom c side k (registration actor b name)
+registration-ready c side actor k false name = tt
+registration-ready c Reader actor k true name = (tt, tt)
+registration-ready c Writer actor k true name = (tt, tt)
 
-context-ready : (c : ℕ) (side teller : Side) (k : Knowledge) (context : Option Context) → IsReadyFrom c side k (registration_of teller context)
-context-ready c side teller k None = tt
-context-ready c side teller k (Some cx) = registration-ready c side teller k cx.luck.register_granted cx.waker
+context-ready : (c : ℕ) (side actor : Side) (k : Knowledge) (context : Option Context) → IsReadyFrom c side k (registration_of actor context)
+context-ready c side actor k None = tt
+context-ready c side actor k (Some cx) = registration-ready c side actor k cx.luck.register_granted cx.waker
 
 wake-ready : (c : ℕ) (side : Side) (k : Knowledge) (name : Option ℕ) → IsReadyFrom c side k (wake_of name)
 wake-ready c side k None = tt
@@ -69,23 +69,23 @@ yield-ready c side k None = tt
 yield-ready c side k (Some cx) = woken-ready c side k cx.luck.yield_granted cx.waker
 
 -- a step answers only behind what it does
-logged-ready : (c : ℕ) (side teller : Side) (k : Knowledge) (action : Action) (p : Pipe) → IsReadyFrom c side k (logged_of teller action p)
+logged-ready : (c : ℕ) (side actor : Side) (k : Knowledge) (action : Action) (p : Pipe) → IsReadyFrom c side k (logged_of actor action p)
 logged-ready c side Reader k does.Register p = context-ready c side Reader k p.reader_call.context
 logged-ready c side Writer k does.Register p = context-ready c side Writer k p.writer_call.context
 logged-ready c side Reader k does.Wake p = wake-ready c side k p.reader_call.taken
 logged-ready c side Writer k does.Wake p = wake-ready c side k p.writer_call.taken
 logged-ready c side Reader k does.Yield p = yield-ready c side k p.reader_call.context
 logged-ready c side Writer k does.Yield p = yield-ready c side k p.writer_call.context
-logged-ready c side teller k does.Rest p = tt
-logged-ready c side teller k (does.Take slot) p = tt
-logged-ready c side teller k does.CallDestination p = tt
-logged-ready c side teller k does.CallSource p = tt
+logged-ready c side actor k does.Rest p = tt
+logged-ready c side actor k (does.Take slot) p = tt
+logged-ready c side actor k does.CallDestination p = tt
+logged-ready c side actor k does.CallSource p = tt
 logged-ready c Reader Reader k does.Refresh p = (tt, tt)
 logged-ready c Reader Writer k does.Refresh p = (tt, tt)
 logged-ready c Writer Reader k does.Refresh p = (tt, tt)
 logged-ready c Writer Writer k does.Refresh p = (tt, tt)
-logged-ready c Reader teller k action p = (tt, tt)
-logged-ready c Writer teller k action p = (tt, tt)
+logged-ready c Reader actor k action p = (tt, tt)
+logged-ready c Writer actor k action p = (tt, tt)
 
 writer-answers : (c : ℕ) (k : Knowledge) (answer : Option Answer) → IsReadyFrom c Reader k (answer_event Writer answer)
 writer-answers c k None = tt
@@ -204,10 +204,10 @@ reader-stores point p store known = tt
 
 writer-stores : (point : WritePoint) (lent : List ℕ) (p : Pipe) → tail_store point ≤ length p.lent → Stores Writer (write_action point) (offering lent (record p { writer = point }))
 writer-stores (on.StoreTail n next) lent p store = store
-writer-stores (on.StoreClosed behind.Answer) lent p store = tt
-writer-stores (on.StoreClosed behind.Drop) lent p store = tt
-writer-stores (on.StoreClosed behind.WakeWriter) lent p store = tt
-writer-stores (on.StoreClosed (behind.Round form sum)) lent p store = tt
+writer-stores (on.StoreClosed after_write.Answer) lent p store = tt
+writer-stores (on.StoreClosed after_write.Drop) lent p store = tt
+writer-stores (on.StoreClosed after_write.WakeWriter) lent p store = tt
+writer-stores (on.StoreClosed (after_write.Round form sum)) lent p store = tt
 writer-stores point lent p store = tt
 
 -- what the log tells of a side is what the pipe has, and what a look found is no more than the
@@ -224,12 +224,12 @@ began_if : Bool → Kind → Knowledge → Knowledge
 began_if true kind k = opened_with kind k
 began_if false kind k = k
 
-began-tells : (cap : ℕ) (side other : Side) (kind : Kind) (waker : Option ℕ) (k : Knowledge) → knowledge_after cap side k (Began other kind waker) ≡ began_if (is_same side other) kind k
+began-shows : (cap : ℕ) (side other : Side) (kind : Kind) (waker : Option ℕ) (k : Knowledge) → knowledge_after cap side k (Began other kind waker) ≡ began_if (is_same side other) kind k
 unfolding began_if
-began-tells cap Reader Reader kind waker k = refl
-began-tells cap Reader Writer kind waker k = refl
-began-tells cap Writer Reader kind waker k = refl
-began-tells cap Writer Writer kind waker k = refl
+began-shows cap Reader Reader kind waker k = refl
+began-shows cap Reader Writer kind waker k = refl
+began-shows cap Writer Reader kind waker k = refl
+began-shows cap Writer Writer kind waker k = refl
 
 began-known : (side : Side) (b : Bool) (kind : Kind) (p : Pipe) (k : Knowledge) → IsSound p → Known p.capacity side p k → Known p.capacity side p (began_if b kind k)
 unfolding began_if
@@ -247,9 +247,9 @@ known-step : (side : Side) (s : Step) (lent : List ℕ) (p : Pipe) (k : Knowledg
 known-step side (Begin c) lent p k t calls sound held same =
     let answer = answer_at_once lent c in
     let begins = knowledge_after p.capacity side k (Began (side_of c) (kind_of c) (waker_of c)) in
-    let told = answer-tells p.capacity side (side_of c) begins answer ∙ began-tells p.capacity side (side_of c) (kind_of c) (waker_of c) k in
+    let noted = answer-shows p.capacity side (side_of c) begins answer ∙ began-shows p.capacity side (side_of c) (kind_of c) (waker_of c) k in
     let next = began-known side (is_same side (side_of c)) (kind_of c) p k sound same in
-    let here = subst (λ (j : Knowledge). Known p.capacity side p j) (sym told) next in
+    let here = subst (λ (j : Knowledge). Known p.capacity side p j) (sym noted) next in
     record { known = here.known ∙ sym (opened-knows side lent c p); found = here.found }
 known-step Reader (Go Reader) lent p k t calls sound held same =
     let action = read_action p.reader in
@@ -258,7 +258,7 @@ known-step Reader (Go Reader) lent p k t calls sound held same =
       known = learned-exactly Reader action p k (reader-stores p.reader p sound.head_store sound.known) same.known;
       found = learned-within Reader action p k sound.unread same.found;
     } in
-    subst (λ (i : Knowledge). Known p.capacity Reader (went Reader p).pipe i) (sym (told p.capacity Reader Reader k j (logged_of Reader action p) (went Reader p).answer (learns Reader action p k (reader-fits p.reader p.known k held.sees)))) next
+    subst (λ (i : Knowledge). Known p.capacity Reader (went Reader p).pipe i) (sym (noted p.capacity Reader Reader k j (logged_of Reader action p) (went Reader p).answer (learns Reader action p k (reader-fits p.reader p.known k held.sees)))) next
 known-step Writer (Go Writer) lent p k t calls sound held same =
     let action = write_action p.writer in
     let q = offering lent p in
@@ -267,17 +267,17 @@ known-step Writer (Go Writer) lent p k t calls sound held same =
       known = learned-exactly Writer action q k (writer-stores p.writer lent p sound.tail_store) same.known;
       found = learned-within Writer action q k sound.unread same.found;
     } in
-    subst (λ (i : Knowledge). Known p.capacity Writer (went Writer q).pipe i) (sym (told p.capacity Writer Writer k j (logged_of Writer action q) (went Writer q).answer (learns Writer action q k (writer-fits p.writer p.room k held.sees)))) next
+    subst (λ (i : Knowledge). Known p.capacity Writer (went Writer q).pipe i) (sym (noted p.capacity Writer Writer k j (logged_of Writer action q) (went Writer q).answer (learns Writer action q k (writer-fits p.writer p.room k held.sees)))) next
 known-step Writer (Go Reader) lent p k t calls sound held same =
     let action = read_action p.reader in
     let never = reader_never-tail p.reader in
-    let quiet = told p.capacity Writer Reader k k (logged_of Reader action p) (went Reader p).answer (reader-tells p.capacity action p k never) in
+    let quiet = noted p.capacity Writer Reader k k (logged_of Reader action p) (went Reader p).answer (reader-shows p.capacity action p k never) in
     subst (λ (i : Knowledge). Known p.capacity Writer (went Reader p).pipe i) (sym quiet) (record { known = same.known ∙ sym (reader_leaves-writer action p never).1; found = same.found })
 known-step Reader (Go Writer) lent p k t calls sound held same =
     let action = write_action p.writer in
     let q = offering lent p in
     let never = writer_never-head p.writer in
-    let quiet = told p.capacity Reader Writer k k (logged_of Writer action q) (went Writer q).answer (writer-tells p.capacity action q k never) in
+    let quiet = noted p.capacity Reader Writer k k (logged_of Writer action q) (went Writer q).answer (writer-shows p.capacity action q k never) in
     subst (λ (i : Knowledge). Known p.capacity Reader (went Writer q).pipe i) (sym quiet) (record { known = same.known ∙ sym (writer_leaves-reader action q never).1; found = same.found })
 known-step Reader (Put offset byte) lent p k t calls sound held same = record { known = same.known; found = same.found }
 known-step Writer (Put offset byte) lent p k t calls sound held same = record { known = same.known; found = same.found }
@@ -296,15 +296,15 @@ known-made c side s p q before after t calls sound held made same =
 abbrev AreKnown : ℕ → Pipe → List Event → Type 0
 AreKnown c p events = Known c Reader p (knowledge_of c Reader events) × Known c Writer p (knowledge_of c Writer events)
 
-told-known : (p : Pipe) (events : List Event) → AreKnown p.capacity p events → IsKnown p events
-told-known p events both = record { reader = both.0.known; writer = both.1.known; within = within }
+noted-known : (p : Pipe) (events : List Event) → AreKnown p.capacity p events → IsKnown p events
+noted-known p events both = record { reader = both.0.known; writer = both.1.known; within = within }
   where
     within : (side : Side) → (knowledge_of p.capacity side events).found ≤ p.capacity
     within Reader = both.0.found
     within Writer = both.1.found
 
 pub known_none : (c : ℕ) → IsKnown (fresh c) []
-known_none c = told-known (fresh c) [] (record { known = refl; found = omega arith }, record { known = refl; found = omega arith })
+known_none c = noted-known (fresh c) [] (record { known = refl; found = omega arith }, record { known = refl; found = omega arith })
 
 pub known_more : (c : ℕ) (ss : List Step) (s : Step) (p q : Pipe) (before after : List Event) → IsSound p → p.capacity ≡ c → q.capacity ≡ p.capacity → Runs (fresh c) [] ss p before → IsKnown p before → Made p s q before after → IsKnown q after
 known_more c ss s p q before after sound capacity same run held made =
@@ -313,4 +313,4 @@ known_more c ss s p q before after sound capacity same run held made =
     let at_c = subst (λ (d : ℕ). AreKnown d p before) capacity (reader, writer) in
     let reads = known-made c Reader s p q before after _ _ sound (along c Reader ss p before run) made at_c.0 in
     let writes = known-made c Writer s p q before after _ _ sound (along c Writer ss p before run) made at_c.1 in
-    told-known q after (subst (λ (d : ℕ). AreKnown d q after) (sym (same ∙ capacity)) (reads, writes))
+    noted-known q after (subst (λ (d : ℕ). AreKnown d q after) (sym (same ∙ capacity)) (reads, writes))

@@ -21,7 +21,7 @@ pub mod Alone
 pub mod Copies
 pub mod Filling
 pub mod Draining
-pub mod Standing
+pub mod Validity
 pub mod Making
 pub mod Falling
 pub mod BySteps
@@ -36,10 +36,10 @@ pub mod WriterWaits
 pub mod Remembering
 pub mod Ends
 pub mod Causes
-pub mod Behind
+pub mod After
 pub mod Finality
 pub mod Acts
-pub mod Telling
+pub mod Showing
 pub mod ReaderAnswers
 pub mod WriterAnswers
 pub mod Answering

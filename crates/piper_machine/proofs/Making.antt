@@ -1,20 +1,20 @@
 -- A step of a side is its access, and then where the call table leads by what that found.
 use Rattle.std.proofs.Common.{◌≡◌, ◌≤◌, ℕ, List, length, false, true, refl, arith}
-use Rattle.piper_sides.specs.declared.calls.Side.TheVariants.{Reader, Writer}
-use Rattle.piper_sides.specs.declared.table.Action.{Action}
-use Rattle.piper_sides.specs.declared.table.Action.TheVariants as does
-use Rattle.piper_sides.specs.declared.table.AfterWrite.TheVariants as behind
-use Rattle.piper_sides.specs.declared.table.ReadPoint.{ReadPoint}
-use Rattle.piper_sides.specs.declared.table.ReadPoint.TheVariants as at
-use Rattle.piper_sides.specs.declared.table.WritePoint.{WritePoint}
-use Rattle.piper_sides.specs.declared.table.WritePoint.TheVariants as on
-use Rattle.piper_sides.specs.Side.{head_store, publishes}
-use Rattle.piper_sides.specs.Table.{moved_in, read_action, write_action}
+use Rattle.piper_protocol.specs.declared.calls.Side.TheVariants.{Reader, Writer}
+use Rattle.piper_protocol.specs.declared.table.Action.{Action}
+use Rattle.piper_protocol.specs.declared.table.Action.TheVariants as does
+use Rattle.piper_protocol.specs.declared.table.AfterWrite.TheVariants as after_write
+use Rattle.piper_protocol.specs.declared.table.ReadPoint.{ReadPoint}
+use Rattle.piper_protocol.specs.declared.table.ReadPoint.TheVariants as at
+use Rattle.piper_protocol.specs.declared.table.WritePoint.{WritePoint}
+use Rattle.piper_protocol.specs.declared.table.WritePoint.TheVariants as on
+use Rattle.piper_protocol.specs.Side.{head_store, publishes}
+use Rattle.piper_protocol.specs.Table.{moved_in, read_action, write_action}
 use Rattle.piper_machine.specs.Action.{found_by, performed, round_count}
 use Rattle.piper_machine.specs.Pipe.{Pipe}
 use Rattle.piper_machine.specs.Places.{peeked_count}
 use Rattle.piper_machine.specs.Step.{MayOffer, drain_answer, drain_left, offering, reader_stepped, round_answer, round_left, went}
-use Rattle.piper_machine.proofs.Standing.{taken-within}
+use Rattle.piper_machine.proofs.Validity.{taken-within}
 
 pub record ReaderMakes (action : Action) (p : Pipe) : Type 0 where
   pub after : drain_left (found_by Reader action p) (performed Reader action p) ≡ (reader_stepped action p).pipe
@@ -54,10 +54,10 @@ writer_makes (on.LookHead l) p no_refresh no_store no_shut no_source = absurd (n
 writer_makes (on.LookHeadAgain l) p no_refresh no_store no_shut no_source = absurd (no_refresh refl)
 writer_makes (on.StoreTail n next) p no_refresh no_store no_shut no_source = absurd (no_store n refl)
 writer_makes (on.CallSource form sum) p no_refresh no_store no_shut no_source = absurd (no_source refl)
-writer_makes (on.StoreClosed behind.WakeWriter) p no_refresh no_store no_shut no_source = absurd (no_shut refl)
-writer_makes (on.StoreClosed behind.Answer) p no_refresh no_store no_shut no_source = record { after = λ lent. refl; answer_is = λ lent. refl; may = λ lent. tt; stays = refl; publishes_none = refl; within = omega arith }
-writer_makes (on.StoreClosed behind.Drop) p no_refresh no_store no_shut no_source = record { after = λ lent. refl; answer_is = λ lent. refl; may = λ lent. tt; stays = refl; publishes_none = refl; within = omega arith }
-writer_makes (on.StoreClosed (behind.Round form sum)) p no_refresh no_store no_shut no_source = record { after = λ lent. refl; answer_is = λ lent. refl; may = λ lent. tt; stays = refl; publishes_none = refl; within = omega arith }
+writer_makes (on.StoreClosed after_write.WakeWriter) p no_refresh no_store no_shut no_source = absurd (no_shut refl)
+writer_makes (on.StoreClosed after_write.Answer) p no_refresh no_store no_shut no_source = record { after = λ lent. refl; answer_is = λ lent. refl; may = λ lent. tt; stays = refl; publishes_none = refl; within = omega arith }
+writer_makes (on.StoreClosed after_write.Drop) p no_refresh no_store no_shut no_source = record { after = λ lent. refl; answer_is = λ lent. refl; may = λ lent. tt; stays = refl; publishes_none = refl; within = omega arith }
+writer_makes (on.StoreClosed (after_write.Round form sum)) p no_refresh no_store no_shut no_source = record { after = λ lent. refl; answer_is = λ lent. refl; may = λ lent. tt; stays = refl; publishes_none = refl; within = omega arith }
 writer_makes point p no_refresh no_store no_shut no_source = record { after = λ lent. refl; answer_is = λ lent. refl; may = λ lent. tt; stays = refl; publishes_none = refl; within = omega arith }
 
 pub writer-makes : (p : Pipe) → (write_action p.writer ≡ does.Refresh → ⊥) → ((n : ℕ) → write_action p.writer ≡ does.StoreTail n → ⊥) → (write_action p.writer ≡ does.StoreClosed true → ⊥) → (write_action p.writer ≡ does.CallSource → ⊥) → WriterMakes p.writer p

@@ -1,25 +1,25 @@
 -- A call of the source: what it was lent is read back off the pipe that the step leaves.
 use Rattle.std.proofs.Common.{◌≡◌, ℕ, List, [], ◌∷◌, ◌++◌, length, min, Bool, true, false, Option, ◌==◌, refl, sym, ap, subst, ◌∙◌, arith}
 use Rattle.std.proofs.lemmas.Bool.Decides.{nat_tests}
-use Rattle.piper_sides.specs.declared.calls.Side.TheVariants.{Writer}
-use Rattle.piper_sides.specs.declared.calls.Step.TheVariants.{Go}
-use Rattle.piper_sides.specs.declared.events.Answer.{Answer}
-use Rattle.piper_sides.specs.declared.scripted.SourceAct.{SourceAct}
-use Rattle.piper_sides.specs.declared.scripted.SourceAct.TheVariants as source
-use Rattle.piper_sides.specs.declared.scripted.TheConstants.{MOST_A_ROUND}
-use Rattle.piper_sides.specs.declared.table.Action.TheVariants as does
-use Rattle.piper_sides.specs.declared.table.Form.{Form}
-use Rattle.piper_sides.specs.declared.table.WritePoint.{WritePoint}
-use Rattle.piper_sides.specs.declared.table.WritePoint.TheVariants as on
-use Rattle.piper_sides.specs.declared.table.AfterWrite.TheVariants as behind
-use Rattle.piper_sides.specs.declared.table.Found.TheVariants.{Moved as moved}
-use Rattle.piper_sides.specs.Table.{write_action, writer_moved}
+use Rattle.piper_protocol.specs.declared.calls.Side.TheVariants.{Writer}
+use Rattle.piper_protocol.specs.declared.calls.Step.TheVariants.{Go}
+use Rattle.piper_protocol.specs.declared.events.Answer.{Answer}
+use Rattle.piper_protocol.specs.declared.scripted.SourceAct.{SourceAct}
+use Rattle.piper_protocol.specs.declared.scripted.SourceAct.TheVariants as source
+use Rattle.piper_protocol.specs.declared.scripted.TheConstants.{MOST_A_ROUND}
+use Rattle.piper_protocol.specs.declared.table.Action.TheVariants as does
+use Rattle.piper_protocol.specs.declared.table.Form.{Form}
+use Rattle.piper_protocol.specs.declared.table.WritePoint.{WritePoint}
+use Rattle.piper_protocol.specs.declared.table.WritePoint.TheVariants as on
+use Rattle.piper_protocol.specs.declared.table.AfterWrite.TheVariants as after_write
+use Rattle.piper_protocol.specs.declared.table.Found.TheVariants.{Moved as moved}
+use Rattle.piper_protocol.specs.Table.{write_action, writer_moved}
 use Rattle.piper_machine.specs.Pipe.{Pipe}
 use Rattle.piper_machine.specs.Lend.{Lendable, lending}
 use Rattle.piper_machine.specs.Round.{given, found_of}
 use Rattle.piper_machine.specs.Action.{logged_of, source_called}
-use Rattle.piper_sides.specs.declared.events.Event.{Event}
-use Rattle.piper_sides.specs.Log.{answer_event}
+use Rattle.piper_protocol.specs.declared.events.Event.{Event}
+use Rattle.piper_protocol.specs.Log.{answer_event}
 use Rattle.piper_machine.specs.Run.{IsStepped}
 use Rattle.piper_machine.specs.Step.{stepped, offering, call_after, source_after, filled_out, round_left, round_answer, MayOffer}
 
@@ -79,10 +79,10 @@ called : (point : WritePoint) (acts : List SourceAct) (lent : List ℕ) (p : Pip
 called (on.CallSource form sum) [] lent p next lendable whole = record { pipe = refl; answer_is = refl; lent = tt }
 called (on.CallSource form sum) (source.Fail ∷ acts) lent p next lendable whole = record { pipe = refl; answer_is = refl; lent = tt }
 called (on.CallSource form sum) (source.Bytes bytes ∷ acts) lent p next lendable whole = gives form sum bytes acts lent p (min (length lent) (length bytes) == 0) refl lendable whole
-called (on.StoreClosed behind.Answer) acts lent p next lendable whole = absurd (cc)
-called (on.StoreClosed behind.Drop) acts lent p next lendable whole = absurd (cc)
-called (on.StoreClosed behind.WakeWriter) acts lent p next lendable whole = absurd (cc)
-called (on.StoreClosed (behind.Round form sum)) acts lent p next lendable whole = absurd (cc)
+called (on.StoreClosed after_write.Answer) acts lent p next lendable whole = absurd (cc)
+called (on.StoreClosed after_write.Drop) acts lent p next lendable whole = absurd (cc)
+called (on.StoreClosed after_write.WakeWriter) acts lent p next lendable whole = absurd (cc)
+called (on.StoreClosed (after_write.Round form sum)) acts lent p next lendable whole = absurd (cc)
 called point acts lent p next lendable whole = absurd (cc)
 
 pub source-called-step : (p q : Pipe) → write_action p.writer ≡ does.CallSource → Lendable MOST_A_ROUND p (length q.lent) → q ≡ source_called (lending q.lent p)
@@ -94,10 +94,10 @@ source-called-step p q next lendable is =
 
 -- what is logged of the writer's step does not depend on what a source is lent
 logged_at : (point : WritePoint) (lent : List ℕ) (p : Pipe) → let q = record p { writer = point } in logged_of Writer (write_action point) (offering lent q) ≡ logged_of Writer (write_action point) q
-logged_at (on.StoreClosed behind.Answer) lent p = refl
-logged_at (on.StoreClosed behind.Drop) lent p = refl
-logged_at (on.StoreClosed behind.WakeWriter) lent p = refl
-logged_at (on.StoreClosed (behind.Round form sum)) lent p = refl
+logged_at (on.StoreClosed after_write.Answer) lent p = refl
+logged_at (on.StoreClosed after_write.Drop) lent p = refl
+logged_at (on.StoreClosed after_write.WakeWriter) lent p = refl
+logged_at (on.StoreClosed (after_write.Round form sum)) lent p = refl
 logged_at point lent p = refl
 
 pub logged_same : (p : Pipe) (lent : List ℕ) → logged_of Writer (write_action p.writer) (offering lent p) ≡ logged_of Writer (write_action p.writer) p

@@ -1,10 +1,10 @@
 -- What the last load of a query answers, of all queries at once.
 use Rattle.std.proofs.Common.{ℕ, Bool, ◌==◌}
-use Rattle.piper_sides.specs.declared.calls.Query.{Query}
-use Rattle.piper_sides.specs.declared.calls.Query.TheVariants.{Len, IsEmpty, IsFull}
-use Rattle.piper_sides.specs.declared.events.Answer.{Answer}
-use Rattle.piper_sides.specs.declared.events.Answer.TheVariants.{Count, Flag}
-use Rattle.piper_sides.specs.Table.{query_answer}
+use Rattle.piper_protocol.specs.declared.calls.Query.{Query}
+use Rattle.piper_protocol.specs.declared.calls.Query.TheVariants.{Len, IsEmpty, IsFull}
+use Rattle.piper_protocol.specs.declared.events.Answer.{Answer}
+use Rattle.piper_protocol.specs.declared.events.Answer.TheVariants.{Count, Flag}
+use Rattle.piper_protocol.specs.Table.{query_answer}
 
 -- what holds of the count that was found, and of either flag, holds of the answer of each query
 pub query-holds : (Holds : Answer → Type 0) (query : Query) (capacity count : ℕ) → Holds (Count count) → ((is : Bool) → Holds (Flag is)) → Holds (query_answer query capacity count)

@@ -2,40 +2,40 @@
 -- answer what is right.
 use Rattle.std.specs.Prelude.{IsSomeAnd}
 use Rattle.std.proofs.Common.{◌≡◌, ℕ, ◌+◌, ◌≤◌, List, [], ◌∷◌, ◌++◌, take, length, Bool, true, false, Some, ◌==◌, is_some, Result, Ok, Err, refl, sym, ap, subst, ◌∙◌, arith, length-append, length-take-le}
-use Rattle.piper_sides.specs.declared.calls.Side.TheVariants.{Reader}
-use Rattle.piper_sides.specs.declared.calls.Call.{Call}
-use Rattle.piper_sides.specs.declared.calls.Call.TheVariants as call
-use Rattle.piper_sides.specs.declared.events.Event.{Event}
-use Rattle.piper_sides.specs.declared.events.Event.TheVariants.{Looked}
-use Rattle.piper_sides.specs.declared.events.Seen.{Seen}
-use Rattle.piper_sides.specs.declared.events.Seen.TheVariants as seen
-use Rattle.piper_sides.specs.declared.polling.Polled.{Polled}
-use Rattle.piper_sides.specs.declared.polling.Polled.TheVariants.{Ready, Pending, Memory}
-use Rattle.piper_sides.specs.declared.scripted.DestAct.TheVariants as dest
-use Rattle.piper_sides.specs.declared.scripted.Failed.{Failed}
-use Rattle.piper_sides.specs.declared.table.Form.{Form}
-use Rattle.piper_sides.specs.declared.table.Form.TheVariants.{Try, Polling}
-use Rattle.piper_sides.specs.declared.table.Purpose.{Purpose}
-use Rattle.piper_sides.specs.declared.table.Purpose.TheVariants as purpose
-use Rattle.piper_sides.specs.declared.table.AfterRead.{AfterRead}
-use Rattle.piper_sides.specs.declared.table.AfterRead.TheVariants as afterward
-use Rattle.piper_sides.specs.declared.table.ReadPoint.{ReadPoint}
-use Rattle.piper_sides.specs.declared.table.ReadPoint.TheVariants as at
-use Rattle.piper_sides.specs.Open.{is_granted, is_yield_granted}
-use Rattle.piper_sides.specs.Side.{head_store}
-use Rattle.piper_sides.specs.declared.table.Found.TheVariants.{Granted as granted}
-use Rattle.piper_sides.specs.Table.{Next, read_after, query_answer, copy_answer, count_answer, failed_answer, end_or_pending, yield_answer, reader_found, reader_looks_for, reader_looked, reader_looked_again, reader_registered, reader_is_true, reader_moved, writer_taken, read_done}
-use Rattle.piper_sides.specs.Log.{answer_event}
+use Rattle.piper_protocol.specs.declared.calls.Side.TheVariants.{Reader}
+use Rattle.piper_protocol.specs.declared.calls.Call.{Call}
+use Rattle.piper_protocol.specs.declared.calls.Call.TheVariants as call
+use Rattle.piper_protocol.specs.declared.events.Event.{Event}
+use Rattle.piper_protocol.specs.declared.events.Event.TheVariants.{Looked}
+use Rattle.piper_protocol.specs.declared.events.Seen.{Seen}
+use Rattle.piper_protocol.specs.declared.events.Seen.TheVariants as seen
+use Rattle.piper_protocol.specs.declared.polling.Polled.{Polled}
+use Rattle.piper_protocol.specs.declared.polling.Polled.TheVariants.{Ready, Pending, Memory}
+use Rattle.piper_protocol.specs.declared.scripted.DestAct.TheVariants as dest
+use Rattle.piper_protocol.specs.declared.scripted.Failed.{Failed}
+use Rattle.piper_protocol.specs.declared.table.Form.{Form}
+use Rattle.piper_protocol.specs.declared.table.Form.TheVariants.{Try, Polling}
+use Rattle.piper_protocol.specs.declared.table.Purpose.{Purpose}
+use Rattle.piper_protocol.specs.declared.table.Purpose.TheVariants as purpose
+use Rattle.piper_protocol.specs.declared.table.AfterRead.{AfterRead}
+use Rattle.piper_protocol.specs.declared.table.AfterRead.TheVariants as after_read
+use Rattle.piper_protocol.specs.declared.table.ReadPoint.{ReadPoint}
+use Rattle.piper_protocol.specs.declared.table.ReadPoint.TheVariants as at
+use Rattle.piper_protocol.specs.Open.{is_granted, is_yield_granted}
+use Rattle.piper_protocol.specs.Side.{head_store}
+use Rattle.piper_protocol.specs.declared.table.Found.TheVariants.{Granted as granted}
+use Rattle.piper_protocol.specs.Table.{Next, read_after, query_answer, copy_answer, count_answer, failed_answer, end_or_pending, yield_answer, reader_found, reader_looks_for, reader_looked, reader_looked_again, reader_registered, reader_is_true, reader_moved, writer_taken, read_done}
+use Rattle.piper_protocol.specs.Log.{answer_event}
 use Rattle.piper_machine.specs.declared.destination.Destination.{Destination}
 use Rattle.piper_machine.specs.declared.destination.Destination.TheVariants.{Slice, Acts}
 use Rattle.piper_machine.specs.Pipe.{Pipe}
 use Rattle.piper_machine.specs.Round.{taken, found_of, left_of_destination}
 use Rattle.piper_machine.specs.Action.{round_count, registration_of, wake_of, yield_of}
 use Rattle.piper_machine.specs.Step.{went, destination_after}
-use Rattle.piper_machine.specs.Told.{Told, told_from}
+use Rattle.piper_machine.specs.Noted.{Noted, noted_from}
 use Rattle.piper_machine.specs.Outcome.{places_of, may_fail, IsAnswer, MayHaveMoved, number_found}
 use Rattle.piper_machine.specs.Answered.{AreRightFrom}
-use Rattle.piper_machine.proofs.Telling.{told-append, right-append, registers-leaves, wake-leaves, yield-leaves, answers, Polls, poll-answers, none_moved}
+use Rattle.piper_machine.proofs.Showing.{noted-append, right-append, registers-leaves, wake-leaves, yield-leaves, answers, Polls, poll-answers, none_moved}
 
 -- a drain of this form, whose destination has so much left where so many bytes were taken
 abbrev pub IsDrain : Form → Call → Destination → ℕ → Type 0
@@ -45,27 +45,27 @@ IsDrain (Polling is_drawn) (call.PollDrain waker luck acts) (Acts left) sum = (p
 IsDrain form c destination sum = ⊥
 
 -- the drain has taken so many bytes, of which the last n are not consumed yet
-pub record Drains (form : Form) (destination : Destination) (n sum : ℕ) (t : Told) : Type 0 where
+pub record Drains (form : Form) (destination : Destination) (n sum : ℕ) (t : Noted) : Type 0 where
   pub drain : Call
   pub is : t.call ≡ Some drain
   pub drains : IsDrain form drain destination sum
   pub count : length t.moved + n ≡ sum
 
-abbrev pub ReaderLooks : Purpose → Destination → Told → Type 0
+abbrev pub ReaderLooks : Purpose → Destination → Noted → Type 0
 ReaderLooks purpose.Poll destination t = Polls t
 ReaderLooks (purpose.Copy form) destination t = Drains form destination 0 0 t
 
-abbrev pub ReaderBehind : AfterRead → Destination → Told → Type 0
-ReaderBehind afterward.Answer destination t = t.call ≡ Some (call.Consume (length t.moved))
-ReaderBehind afterward.Drop destination t = t.call ≡ Some (call.Drop Reader)
-ReaderBehind (afterward.Round form sum) destination t = Drains form destination 0 sum t
+abbrev pub ReaderAfter : AfterRead → Destination → Noted → Type 0
+ReaderAfter after_read.Answer destination t = t.call ≡ Some (call.Consume (length t.moved))
+ReaderAfter after_read.Drop destination t = t.call ≡ Some (call.Drop Reader)
+ReaderAfter (after_read.Round form sum) destination t = Drains form destination 0 sum t
 
-abbrev pub ReaderStores : ℕ → AfterRead → Destination → Told → Type 0
-ReaderStores n afterward.Answer destination t = (t.call ≡ Some (call.Consume n)) × (t.moved ≡ [])
-ReaderStores n afterward.Drop destination t = ⊥
-ReaderStores n (afterward.Round form sum) destination t = Drains form destination n sum t
+abbrev pub ReaderStores : ℕ → AfterRead → Destination → Noted → Type 0
+ReaderStores n after_read.Answer destination t = (t.call ≡ Some (call.Consume n)) × (t.moved ≡ [])
+ReaderStores n after_read.Drop destination t = ⊥
+ReaderStores n (after_read.Round form sum) destination t = Drains form destination n sum t
 
-abbrev pub ReaderAt : ReadPoint → Destination → Told → Type 0
+abbrev pub ReaderAt : ReadPoint → Destination → Noted → Type 0
 ReaderAt at.Idle destination t = Unit {0}
 ReaderAt at.Dropped destination t = Unit {0}
 ReaderAt (at.QueryHead query) destination t = (t.call ≡ Some (call.Query Reader query)) × (t.looks ≡ [])
@@ -79,26 +79,26 @@ ReaderAt (at.LookTake l) destination t = ReaderLooks l destination t
 ReaderAt at.Yield destination t = Drains (Polling true) destination 0 0 t
 ReaderAt (at.CallDestination form sum) destination t = Drains form destination 0 sum t
 ReaderAt (at.StoreHead n next) destination t = ReaderStores n next destination t
-ReaderAt (at.TakeWriter next) destination t = ReaderBehind next destination t
-ReaderAt (at.WakeWriter next) destination t = ReaderBehind next destination t
+ReaderAt (at.TakeWriter next) destination t = ReaderAfter next destination t
+ReaderAt (at.WakeWriter next) destination t = ReaderAfter next destination t
 ReaderAt at.StoreClosed destination t = t.call ≡ Some (call.Drop Reader)
 
 -- a step that leads there answers what is right, or goes on where this is told
-abbrev Leads : ℕ → Destination → Next ReadPoint → Told → Type 0
-Leads capacity destination next t = AreRightFrom capacity Reader t (answer_event Reader next.answer) × ReaderAt next.point (destination_after next.answer destination) (told_from Reader t (answer_event Reader next.answer))
+abbrev Leads : ℕ → Destination → Next ReadPoint → Noted → Type 0
+Leads capacity destination next t = AreRightFrom capacity Reader t (answer_event Reader next.answer) × ReaderAt next.point (destination_after next.answer destination) (noted_from Reader t (answer_event Reader next.answer))
 
 -- with what the step logs before its answer
-abbrev Steps : ℕ → Destination → Next ReadPoint → Told → List Event → Type 0
+abbrev Steps : ℕ → Destination → Next ReadPoint → Noted → List Event → Type 0
 Steps capacity destination next t es =
     let events = es ++ answer_event Reader next.answer in
-    AreRightFrom capacity Reader t events × ReaderAt next.point (destination_after next.answer destination) (told_from Reader t events)
+    AreRightFrom capacity Reader t events × ReaderAt next.point (destination_after next.answer destination) (noted_from Reader t events)
 
-steps : (capacity : ℕ) (destination : Destination) (next : Next ReadPoint) (t u : Told) (es : List Event) → AreRightFrom capacity Reader t es → told_from Reader t es ≡ u → Leads capacity destination next u → Steps capacity destination next t es
-steps capacity destination next t u es right told leads =
+steps : (capacity : ℕ) (destination : Destination) (next : Next ReadPoint) (t u : Noted) (es : List Event) → AreRightFrom capacity Reader t es → noted_from Reader t es ≡ u → Leads capacity destination next u → Steps capacity destination next t es
+steps capacity destination next t u es right noted leads =
     let fs = answer_event Reader next.answer in
-    let behind = told-append Reader t es fs ∙ ap (λ (v : Told). told_from Reader v fs) told in (
-      right-append capacity Reader t es fs right (subst (λ (v : Told). AreRightFrom capacity Reader v fs) (sym told) leads.0),
-      subst (λ (v : Told). ReaderAt next.point (destination_after next.answer destination) v) (sym behind) leads.1,
+    let after = noted-append Reader t es fs ∙ ap (λ (v : Noted). noted_from Reader v fs) noted in (
+      right-append capacity Reader t es fs right (subst (λ (v : Noted). AreRightFrom capacity Reader v fs) (sym noted) leads.0),
+      subst (λ (v : Noted). ReaderAt next.point (destination_after next.answer destination) v) (sym after) leads.1,
     )
 
 module _ (capacity : ℕ) where
@@ -141,7 +141,7 @@ module _ (capacity : ℕ) where
 
   -- where each step leads
 
-  module _ (t : Told) (destination : Destination) where
+  module _ (t : Noted) (destination : Destination) where
     found-leads : (l : Purpose) → ReaderLooks l destination t → ReaderAt (reader_found l) destination t
     found-leads purpose.Poll looks = looks
     found-leads (purpose.Copy Try) looks = looks
@@ -185,37 +185,37 @@ module _ (capacity : ℕ) where
     moved-leads (Ok n) form sum left held on = round-leads (n == 0) n form sum left held on
     moved-leads (Err fails) form sum left held on = (answers capacity t Reader held.drain _ held.is on, tt)
 
-    done-leads : (next : AfterRead) → ReaderBehind next destination t → Leads capacity destination (read_done next) t
-    done-leads afterward.Answer behind = (answers capacity t Reader _ _ behind refl, tt)
-    done-leads afterward.Drop behind = (answers capacity t Reader _ _ behind tt, tt)
-    done-leads (afterward.Round form sum) behind = (tt, behind)
+    done-leads : (next : AfterRead) → ReaderAfter next destination t → Leads capacity destination (read_done next) t
+    done-leads after_read.Answer after = (answers capacity t Reader _ _ after refl, tt)
+    done-leads after_read.Drop after = (answers capacity t Reader _ _ after tt, tt)
+    done-leads (after_read.Round form sum) after = (tt, after)
 
-    take-leads : (next : AfterRead) (is_found : Bool) → ReaderBehind next destination t → Leads capacity destination (writer_taken next is_found) t
-    take-leads next true behind = (tt, behind)
-    take-leads next false behind = done-leads next behind
+    take-leads : (next : AfterRead) (is_found : Bool) → ReaderAfter next destination t → Leads capacity destination (writer_taken next is_found) t
+    take-leads next true after = (tt, after)
+    take-leads next false after = done-leads next after
 
   -- what is told of a look does not depend on what it found
-  looked : (l : Purpose) (destination : Destination) (t : Told) (look : Seen) → ReaderLooks l destination t → ReaderLooks l destination (record t { looks = look ∷ t.looks })
+  looked : (l : Purpose) (destination : Destination) (t : Noted) (look : Seen) → ReaderLooks l destination t → ReaderLooks l destination (record t { looks = look ∷ t.looks })
   looked purpose.Poll destination t look looks = record { poll = looks.poll; is = looks.is; polls = looks.polls }
   looked (purpose.Copy form) destination t look looks = record { drain = looks.drain; is = looks.is; drains = looks.drains; count = looks.count }
 
   -- a store of head
-  stores : (n : ℕ) (next : AfterRead) (destination : Destination) (t : Told) (bytes : List ℕ) → length bytes ≡ n → ReaderStores n next destination t
-      → let u = record t { moved = t.moved ++ bytes } in IsSomeAnd t.call (λ (c : Call). MayHaveMoved c u.moved) × ReaderBehind next destination u
-  stores n afterward.Answer destination t bytes long held =
+  stores : (n : ℕ) (next : AfterRead) (destination : Destination) (t : Noted) (bytes : List ℕ) → length bytes ≡ n → ReaderStores n next destination t
+      → let u = record t { moved = t.moved ++ bytes } in IsSomeAnd t.call (λ (c : Call). MayHaveMoved c u.moved) × ReaderAfter next destination u
+  stores n after_read.Answer destination t bytes long held =
       let whole : t.moved ++ bytes ≡ bytes = ap (λ (xs : List ℕ). xs ++ bytes) held.1 in
       let count : length (t.moved ++ bytes) ≡ n = ap (λ (xs : List ℕ). length xs) whole ∙ long in
       (rw held.0 count, held.0 ∙ ap (λ (k : ℕ). Some (call.Consume k)) (sym count))
-  stores n afterward.Drop destination t bytes long held = absurd held
-  stores n (afterward.Round form sum) destination t bytes long held =
+  stores n after_read.Drop destination t bytes long held = absurd held
+  stores n (after_read.Round form sum) destination t bytes long held =
       let both = length-append t.moved bytes in
       let before = held.count in
       let count : length (t.moved ++ bytes) ≡ sum = omega arith in
       (rw held.is (drain-moves form held.drain destination sum (t.moved ++ bytes) held.drains count), record { drain = held.drain; is = held.is; drains = held.drains; count = omega arith })
 
 -- the step of each point
-pub reader-point : (point : ReadPoint) (p : Pipe) (t : Told) → length p.unread ≤ p.capacity → head_store point ≤ length p.unread → ReaderAt point p.destination t
-    → let new = went Reader (record p { reader = point }) in AreRightFrom p.capacity Reader t new.events × ReaderAt new.pipe.reader new.pipe.destination (told_from Reader t new.events)
+pub reader-point : (point : ReadPoint) (p : Pipe) (t : Noted) → length p.unread ≤ p.capacity → head_store point ≤ length p.unread → ReaderAt point p.destination t
+    → let new = went Reader (record p { reader = point }) in AreRightFrom p.capacity Reader t new.events × ReaderAt new.pipe.reader new.pipe.destination (noted_from Reader t new.events)
 reader-point at.Idle p t fits within held = (tt, tt)
 reader-point at.Dropped p t fits within held = (tt, tt)
 reader-point (at.QueryHead query) p t fits within held = ((tt, tt), (length p.unread, held.0, ap (λ (looks : List Seen). seen.Head (length p.unread) ∷ looks) held.1))

@@ -3,22 +3,22 @@
 use Rattle.std.proofs.Common.{◌≡◌, ℕ, ◌+◌, ◌-◌, ◌<◌, ◌≤◌, min, [], ◌∷◌, length, Bool, true, false, None, ◌==◌, is_some, Result, Ok, Err, refl, arith}
 use Rattle.std.specs.Prelude.{⊤}
 use Rattle.std.proofs.lemmas.Bool.Decides.{nat_tests}
-use Rattle.piper_sides.specs.declared.calls.Side.TheVariants.{Reader}
-use Rattle.piper_sides.specs.declared.polling.Polled.TheVariants.{Memory}
-use Rattle.piper_sides.specs.declared.scripted.Failed.{Failed}
-use Rattle.piper_sides.specs.declared.table.Form.{Form}
-use Rattle.piper_sides.specs.declared.table.Form.TheVariants.{Try, Polling}
-use Rattle.piper_sides.specs.declared.table.Purpose.{Purpose}
-use Rattle.piper_sides.specs.declared.table.Purpose.TheVariants as purpose
-use Rattle.piper_sides.specs.declared.table.AfterRead.{AfterRead}
-use Rattle.piper_sides.specs.declared.table.AfterRead.TheVariants as afterward
-use Rattle.piper_sides.specs.declared.table.ReadPoint.{ReadPoint}
-use Rattle.piper_sides.specs.declared.table.ReadPoint.TheVariants as at
-use Rattle.piper_sides.specs.Open.{is_granted, is_yield_granted}
-use Rattle.piper_sides.specs.Table.{Next, goes_on, end_or_pending, read_action, read_after, read_done, reader_looked, reader_looked_again, reader_registered, reader_is_true, reader_moved, writer_taken}
+use Rattle.piper_protocol.specs.declared.calls.Side.TheVariants.{Reader}
+use Rattle.piper_protocol.specs.declared.polling.Polled.TheVariants.{Memory}
+use Rattle.piper_protocol.specs.declared.scripted.Failed.{Failed}
+use Rattle.piper_protocol.specs.declared.table.Form.{Form}
+use Rattle.piper_protocol.specs.declared.table.Form.TheVariants.{Try, Polling}
+use Rattle.piper_protocol.specs.declared.table.Purpose.{Purpose}
+use Rattle.piper_protocol.specs.declared.table.Purpose.TheVariants as purpose
+use Rattle.piper_protocol.specs.declared.table.AfterRead.{AfterRead}
+use Rattle.piper_protocol.specs.declared.table.AfterRead.TheVariants as after_read
+use Rattle.piper_protocol.specs.declared.table.ReadPoint.{ReadPoint}
+use Rattle.piper_protocol.specs.declared.table.ReadPoint.TheVariants as at
+use Rattle.piper_protocol.specs.Open.{is_granted, is_yield_granted}
+use Rattle.piper_protocol.specs.Table.{Next, goes_on, end_or_pending, read_action, read_after, read_done, reader_looked, reader_looked_again, reader_registered, reader_is_true, reader_moved, writer_taken}
 use Rattle.piper_machine.specs.declared.destination.Destination.{Destination}
 use Rattle.piper_machine.specs.declared.destination.Destination.TheVariants.{Slice, Acts}
-use Rattle.piper_sides.specs.declared.scripted.DestAct.TheVariants as dest
+use Rattle.piper_protocol.specs.declared.scripted.DestAct.TheVariants as dest
 use Rattle.piper_machine.specs.Pipe.{Pipe}
 use Rattle.piper_machine.specs.Round.{taken, found_of}
 use Rattle.piper_machine.specs.Action.{performed, found_by, round_count}
@@ -34,7 +34,7 @@ look_calls known purpose.Poll = 0
 look_calls known (purpose.Copy form) = 1 + known
 
 abbrev calls_after : ℕ → AfterRead → ℕ
-calls_after known (afterward.Round form sum) = 1 + known
+calls_after known (after_read.Round form sum) = 1 + known
 calls_after known next = 0
 
 abbrev pub read_calls : ℕ → ℕ → ReadPoint → ℕ
@@ -133,14 +133,14 @@ module _ (known : ℕ) (k : Knowledge) where
 
   -- the call of a waker, or none
   wake-goes : (next : AfterRead) → ReaderGoes (at.WakeWriter next) known k (read_done next) known k
-  wake-goes afterward.Answer = record { sees = tt; ready = λ enough. tt; nearer = λ f most. record { from = most; steps = omega arith; calls = omega arith } }
-  wake-goes afterward.Drop = record { sees = tt; ready = λ enough. tt; nearer = λ f most. record { from = most; steps = omega arith; calls = omega arith } }
-  wake-goes (afterward.Round form sum) = record { sees = tt; ready = λ enough. tt; nearer = λ f most. record { from = most; steps = omega arith; calls = omega arith } }
+  wake-goes after_read.Answer = record { sees = tt; ready = λ enough. tt; nearer = λ f most. record { from = most; steps = omega arith; calls = omega arith } }
+  wake-goes after_read.Drop = record { sees = tt; ready = λ enough. tt; nearer = λ f most. record { from = most; steps = omega arith; calls = omega arith } }
+  wake-goes (after_read.Round form sum) = record { sees = tt; ready = λ enough. tt; nearer = λ f most. record { from = most; steps = omega arith; calls = omega arith } }
 
   taken-goes : (next : AfterRead) (is_found : Bool) → ReaderGoes (at.TakeWriter next) known k (writer_taken next is_found) known k
-  taken-goes afterward.Answer false = record { sees = tt; ready = λ enough. tt; nearer = λ f most. record { from = most; steps = omega arith; calls = omega arith } }
-  taken-goes afterward.Drop false = record { sees = tt; ready = λ enough. tt; nearer = λ f most. record { from = most; steps = omega arith; calls = omega arith } }
-  taken-goes (afterward.Round form sum) false = record { sees = tt; ready = λ enough. tt; nearer = λ f most. record { from = most; steps = omega arith; calls = omega arith } }
+  taken-goes after_read.Answer false = record { sees = tt; ready = λ enough. tt; nearer = λ f most. record { from = most; steps = omega arith; calls = omega arith } }
+  taken-goes after_read.Drop false = record { sees = tt; ready = λ enough. tt; nearer = λ f most. record { from = most; steps = omega arith; calls = omega arith } }
+  taken-goes (after_read.Round form sum) false = record { sees = tt; ready = λ enough. tt; nearer = λ f most. record { from = most; steps = omega arith; calls = omega arith } }
   taken-goes next true = record { sees = tt; ready = λ enough. tt; nearer = λ f most. record { from = most; steps = omega arith; calls = omega arith } }
 
 -- a destination takes no more than it is lent

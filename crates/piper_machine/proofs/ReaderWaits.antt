@@ -3,21 +3,21 @@
 use Rattle.std.proofs.Common.{◌≡◌, ℕ, zero, suc, List, [], ◌∷◌, length, drop, Bool, true, false, Option, None, Some, ◌==◌, Result, Ok, Err, refl, sym, ap, subst, ◌∙◌, arith}
 use Rattle.std.specs.Bool.{⊤}
 use Rattle.std.proofs.lemmas.Bool.Decides.{nat_tests}
-use Rattle.piper_sides.specs.declared.calls.Side.TheVariants.{Reader, Writer}
-use Rattle.piper_sides.specs.declared.calls.Query.{Query}
-use Rattle.piper_sides.specs.declared.polling.Context.{Context}
-use Rattle.piper_sides.specs.declared.scripted.Failed.{Failed}
-use Rattle.piper_sides.specs.declared.table.Form.{Form}
-use Rattle.piper_sides.specs.declared.table.Form.TheVariants.{Try, Polling}
-use Rattle.piper_sides.specs.declared.table.Purpose.{Purpose}
-use Rattle.piper_sides.specs.declared.table.Purpose.TheVariants as purpose
-use Rattle.piper_sides.specs.declared.table.AfterRead.{AfterRead}
-use Rattle.piper_sides.specs.declared.table.AfterRead.TheVariants as afterward
-use Rattle.piper_sides.specs.declared.table.ReadPoint.{ReadPoint}
-use Rattle.piper_sides.specs.declared.table.ReadPoint.TheVariants as at
-use Rattle.piper_sides.specs.Table.{Next, read_action, reader_looks_for, reader_looked, reader_looked_again, reader_moved, read_after, yield_answer, read_done}
-use Rattle.piper_sides.specs.Log.{answer_event}
-use Rattle.piper_sides.specs.Open.{is_yield_granted}
+use Rattle.piper_protocol.specs.declared.calls.Side.TheVariants.{Reader, Writer}
+use Rattle.piper_protocol.specs.declared.calls.Query.{Query}
+use Rattle.piper_protocol.specs.declared.polling.Context.{Context}
+use Rattle.piper_protocol.specs.declared.scripted.Failed.{Failed}
+use Rattle.piper_protocol.specs.declared.table.Form.{Form}
+use Rattle.piper_protocol.specs.declared.table.Form.TheVariants.{Try, Polling}
+use Rattle.piper_protocol.specs.declared.table.Purpose.{Purpose}
+use Rattle.piper_protocol.specs.declared.table.Purpose.TheVariants as purpose
+use Rattle.piper_protocol.specs.declared.table.AfterRead.{AfterRead}
+use Rattle.piper_protocol.specs.declared.table.AfterRead.TheVariants as after_read
+use Rattle.piper_protocol.specs.declared.table.ReadPoint.{ReadPoint}
+use Rattle.piper_protocol.specs.declared.table.ReadPoint.TheVariants as at
+use Rattle.piper_protocol.specs.Table.{Next, read_action, reader_looks_for, reader_looked, reader_looked_again, reader_moved, read_after, yield_answer, read_done}
+use Rattle.piper_protocol.specs.Log.{answer_event}
+use Rattle.piper_protocol.specs.Open.{is_yield_granted}
 use Rattle.piper_machine.specs.Pipe.{Pipe}
 use Rattle.piper_machine.specs.Action.{logged_of, registration_of, wake_of, yield_of, refreshed_by, round_count, destination_called}
 use Rattle.piper_machine.specs.Step.{call_after, destination_after, went}
@@ -25,14 +25,14 @@ use Rattle.piper_machine.specs.Round.{taken, found_of}
 use Rattle.piper_machine.specs.declared.destination.Destination.{Destination}
 use Rattle.piper_machine.specs.Waiting.{IsBlocked}
 use Rattle.piper_machine.specs.Wait.{Wait, wait_from}
-use Rattle.piper_machine.proofs.Watching.{Errand, read_errand, Watched, woken, calmly, Same, same, Touch, rests, stores, finds, misses, calls, hears-more, rewatch, touched, touched-pending, IsHanded, HasBegun, Awaits, handed-touched, begun-touched, awaits-touched, awaits-more, has_begun, awaits, refused-told, counted-told, yielded, yield-heard, hears-it, answered-passes, registration-passes, wake-heard, context_of, query-told}
+use Rattle.piper_machine.proofs.Watching.{Errand, read_errand, Watched, woken, calmly, Same, same, Touch, rests, stores, finds, misses, calls, hears-more, rewatch, touched, touched-pending, IsHanded, HasBegun, Awaits, handed-touched, begun-touched, awaits-touched, awaits-more, has_begun, awaits, refused-noted, counted-noted, yielded, yield-heard, hears-it, answered-passes, registration-passes, wake-heard, context_of, query-noted}
 
 -- what holds of the pipe while the waker stands in the slot: nothing any more once the reader
 -- itself has closed
 abbrev pub read_calm : ReadPoint → Pipe → Type 0
 read_calm at.Dropped p = ⊤
-read_calm (at.TakeWriter afterward.Drop) p = ⊤
-read_calm (at.WakeWriter afterward.Drop) p = ⊤
+read_calm (at.TakeWriter after_read.Drop) p = ⊤
+read_calm (at.WakeWriter after_read.Drop) p = ⊤
 read_calm point p = IsBlocked Reader p
 
 -- inside a look: handed over, and behind the registration watched over
@@ -56,8 +56,8 @@ same-blocked same b = (same.unread ∙ b.0, same.closed ∙ b.1)
 
 read_calm-same : {p q : Pipe} (point : ReadPoint) → Same p q → read_calm point p → read_calm point q
 read_calm-same at.Dropped same c = tt
-read_calm-same (at.TakeWriter afterward.Drop) same c = tt
-read_calm-same (at.WakeWriter afterward.Drop) same c = tt
+read_calm-same (at.TakeWriter after_read.Drop) same c = tt
+read_calm-same (at.WakeWriter after_read.Drop) same c = tt
 read_calm-same point same c = same-blocked same c
 
 look-touched : (p q : Pipe) (e e_after : Errand) (w v : Wait) (point : ReadPoint) → q.reader_call ≡ p.reader_call → Touch p q p.reader_waker q.reader_waker e e_after w v → ReadLook point p e w → ReadLook point q e_after v
@@ -109,7 +109,7 @@ abbrev Goes : Pipe → Errand → Wait → Type 0
 Goes p e w = ReadWaits p e w → let to = went Reader p in ReadWaits to.pipe e (wait_from Reader w to.events)
 
 queried : (query : Query) (p : Pipe) (e : Errand) (w : Wait) → Goes (record p { reader = at.QueryTail query }) e w
-queried query p e w h = rw (query-told query p.capacity (length p.unread) w) (record { waiting = h.waiting; look = tt })
+queried query p e w h = rw (query-noted query p.capacity (length p.unread) w) (record { waiting = h.waiting; look = tt })
 
 abbrev with_context : Option Context → Option ℕ → Purpose → Pipe → Pipe
 with_context context taken l p = record p { reader = at.LookRegister l; reader_call = record { context = context; taken = taken } }
@@ -120,20 +120,20 @@ registers l true waker draw yields taken p e w h = record {
   waiting = λ pending. absurd (let never = h.look.0 in cc);
   look = (has_begun l _ _ h.look, awaits l _ _ _ e (calmly (ap (λ (n : ℕ). Some n) (sym h.look.1)) tt));
 }
-registers l false waker draw yields taken p e w h = rw (refused-told l w) (record { waiting = h.waiting; look = tt })
+registers l false waker draw yields taken p e w h = rw (refused-noted l w) (record { waiting = h.waiting; look = tt })
 
 registers-if : (l : Purpose) (context : Option Context) (taken : Option ℕ) (p : Pipe) (e : Errand) (w : Wait) → Goes (with_context context taken l p) e w
-registers-if l None taken p e w h = rw (refused-told l w) (record { waiting = h.waiting; look = tt })
+registers-if l None taken p e w h = rw (refused-noted l w) (record { waiting = h.waiting; look = tt })
 registers-if l (Some cx) taken p e w h = registers l cx.luck.register_granted cx.waker cx.luck.draw cx.luck.yield_granted taken p e w h
 
 -- a call that goes on, or has answered, with this left of its destination
-abbrev Stands : Next ReadPoint → Destination → Pipe → Errand → Wait → Type 0
-Stands next destination p e w =
+abbrev IsValid : Next ReadPoint → Destination → Pipe → Errand → Wait → Type 0
+IsValid next destination p e w =
     ReadWaits (record p { reader = next.point; reader_call = call_after next.answer p.reader_call; destination = destination_after next.answer destination }) e (wait_from Reader w (answer_event Reader next.answer))
 
 -- the last load of tail: without a byte behind an open pipe the reader waits from now on
 looks-again : (l : Purpose) (none was_closed : Bool) (p : Pipe) (e : Errand) (w : Wait) → (none ≡ true → p.unread ≡ []) → ReadWaits (record p { reader = at.LookTailAgain l was_closed }) e w
-    → Stands (reader_looked_again none l was_closed) p.destination p e w
+    → IsValid (reader_looked_again none l was_closed) p.destination p e w
 looks-again purpose.Poll true true p e w empty h = record { waiting = h.waiting; look = tt }
 looks-again purpose.Poll true false p e w empty h = record { waiting = λ pending. rewatch _ _ refl refl refl (λ a. a) (λ c. (empty refl, c refl)) h.look.1; look = tt }
 looks-again purpose.Poll false was_closed p e w empty h = record { waiting = h.waiting; look = h.look.0 }
@@ -160,35 +160,35 @@ yields-if None taken p e w h = record { waiting = h.waiting; look = tt }
 yields-if (Some cx) taken p e w h = yields cx.luck.yield_granted cx.waker cx.luck.draw cx.luck.register_granted taken p e w h
 
 -- a round: it goes on, or the call answers a count or a failure
-moves-on : (none : Bool) (n : ℕ) (form : Form) (sum : ℕ) (destination : Destination) (p : Pipe) (e : Errand) (w : Wait) → ReadWaits (record p { reader = at.CallDestination form sum }) e w → Stands (reader_moved none n form sum) destination p e w
-moves-on true n form sum destination p e w h = rw (counted-told form sum w) (record { waiting = h.waiting; look = tt })
+moves-on : (none : Bool) (n : ℕ) (form : Form) (sum : ℕ) (destination : Destination) (p : Pipe) (e : Errand) (w : Wait) → ReadWaits (record p { reader = at.CallDestination form sum }) e w → IsValid (reader_moved none n form sum) destination p e w
+moves-on true n form sum destination p e w h = rw (counted-noted form sum w) (record { waiting = h.waiting; look = tt })
 moves-on false n form sum destination p e w h = record { waiting = h.waiting; look = tt }
 
 moves : (taken : Result ℕ Failed) (form : Form) (sum : ℕ) (destination : Destination) (p : Pipe) (e : Errand) (w : Wait) → ReadWaits (record p { reader = at.CallDestination form sum }) e w
-    → Stands (read_after p.capacity (at.CallDestination form sum) (found_of taken)) destination p e w
+    → IsValid (read_after p.capacity (at.CallDestination form sum) (found_of taken)) destination p e w
 moves (Ok n) form sum destination p e w h = moves-on (n == 0) n form sum _ p e w h
 moves (Err fails) form sum destination p e w h = record { waiting = h.waiting; look = tt }
 
 gives_up : (next : AfterRead) (n : ℕ) (p : Pipe) (e : Errand) (w : Wait) → Goes (record p { reader = at.StoreHead n next }) e w
-gives_up afterward.Answer n p e w h = record { waiting = λ pending. rewatch _ _ refl refl refl (λ a. a) (λ c. (drop_none n p.unread c.0, c.1)) (h.waiting pending); look = tt }
-gives_up afterward.Drop n p e w h = record { waiting = λ pending. rewatch _ _ refl refl refl (λ a. a) (λ c. tt) (h.waiting pending); look = tt }
-gives_up (afterward.Round form sum) n p e w h = record { waiting = λ pending. rewatch _ _ refl refl refl (λ a. a) (λ c. (drop_none n p.unread c.0, c.1)) (h.waiting pending); look = tt }
+gives_up after_read.Answer n p e w h = record { waiting = λ pending. rewatch _ _ refl refl refl (λ a. a) (λ c. (drop_none n p.unread c.0, c.1)) (h.waiting pending); look = tt }
+gives_up after_read.Drop n p e w h = record { waiting = λ pending. rewatch _ _ refl refl refl (λ a. a) (λ c. tt) (h.waiting pending); look = tt }
+gives_up (after_read.Round form sum) n p e w h = record { waiting = λ pending. rewatch _ _ refl refl refl (λ a. a) (λ c. (drop_none n p.unread c.0, c.1)) (h.waiting pending); look = tt }
 
 takes-writers : (next : AfterRead) (slot : Option ℕ) (p : Pipe) (e : Errand) (w : Wait) → Goes (record p { reader = at.TakeWriter next; writer_waker = slot }) e w
-takes-writers afterward.Answer None p e w h = record { waiting = h.waiting; look = tt }
-takes-writers afterward.Drop None p e w h = record { waiting = h.waiting; look = tt }
-takes-writers afterward.Answer (Some waker) p e w h = record { waiting = h.waiting; look = tt }
-takes-writers afterward.Drop (Some waker) p e w h = record { waiting = h.waiting; look = tt }
-takes-writers (afterward.Round form sum) None p e w h = record { waiting = h.waiting; look = tt }
-takes-writers (afterward.Round form sum) (Some waker) p e w h = record { waiting = h.waiting; look = tt }
+takes-writers after_read.Answer None p e w h = record { waiting = h.waiting; look = tt }
+takes-writers after_read.Drop None p e w h = record { waiting = h.waiting; look = tt }
+takes-writers after_read.Answer (Some waker) p e w h = record { waiting = h.waiting; look = tt }
+takes-writers after_read.Drop (Some waker) p e w h = record { waiting = h.waiting; look = tt }
+takes-writers (after_read.Round form sum) None p e w h = record { waiting = h.waiting; look = tt }
+takes-writers (after_read.Round form sum) (Some waker) p e w h = record { waiting = h.waiting; look = tt }
 
 wakes-writer : (next : AfterRead) (context : Option Context) (name : Option ℕ) (p : Pipe) (e : Errand) (w : Wait) → Goes (record p { reader = at.WakeWriter next; reader_call = record { context = context; taken = name } }) e w
-wakes-writer afterward.Answer context None p e w h = record { waiting = h.waiting; look = tt }
-wakes-writer afterward.Drop context None p e w h = record { waiting = h.waiting; look = tt }
-wakes-writer afterward.Answer context (Some waker) p e w h = record { waiting = λ pending. rewatch _ _ refl refl refl (hears-more (Some waker) w) (λ c. c) (h.waiting pending); look = tt }
-wakes-writer afterward.Drop context (Some waker) p e w h = record { waiting = λ pending. rewatch _ _ refl refl refl (hears-more (Some waker) w) (λ c. c) (h.waiting pending); look = tt }
-wakes-writer (afterward.Round form sum) context None p e w h = record { waiting = h.waiting; look = tt }
-wakes-writer (afterward.Round form sum) context (Some waker) p e w h = record { waiting = λ pending. rewatch _ _ refl refl refl (hears-more (Some waker) w) (λ c. c) (h.waiting pending); look = tt }
+wakes-writer after_read.Answer context None p e w h = record { waiting = h.waiting; look = tt }
+wakes-writer after_read.Drop context None p e w h = record { waiting = h.waiting; look = tt }
+wakes-writer after_read.Answer context (Some waker) p e w h = record { waiting = λ pending. rewatch _ _ refl refl refl (hears-more (Some waker) w) (λ c. c) (h.waiting pending); look = tt }
+wakes-writer after_read.Drop context (Some waker) p e w h = record { waiting = λ pending. rewatch _ _ refl refl refl (hears-more (Some waker) w) (λ c. c) (h.waiting pending); look = tt }
+wakes-writer (after_read.Round form sum) context None p e w h = record { waiting = h.waiting; look = tt }
+wakes-writer (after_read.Round form sum) context (Some waker) p e w h = record { waiting = λ pending. rewatch _ _ refl refl refl (hears-more (Some waker) w) (λ c. c) (h.waiting pending); look = tt }
 
 pub reader-goes : (point : ReadPoint) (p : Pipe) (e : Errand) (w : Wait) → Goes (record p { reader = point }) e w
 reader-goes at.Idle p e w h = record { waiting = h.waiting; look = tt }

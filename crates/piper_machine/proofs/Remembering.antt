@@ -1,30 +1,30 @@
 -- Each step keeps both sides remembered: its own side goes on from point to point, and the other is
 -- touched by it.
 use Rattle.std.proofs.Common.{◌≡◌, inl, inr, ℕ, List, [], ◌∷◌, ◌++◌, Bool, true, false, Option, None, Some, ◌==◌, refl, sym, ap, subst, slice_set}
-use Rattle.piper_sides.specs.declared.calls.Side.TheVariants.{Reader, Writer}
-use Rattle.piper_sides.specs.declared.calls.OpenCall.{OpenCall}
-use Rattle.piper_sides.specs.declared.calls.Call.{Call}
-use Rattle.piper_sides.specs.declared.calls.Call.TheVariants as call
-use Rattle.piper_sides.specs.declared.calls.Step.{Step}
-use Rattle.piper_sides.specs.declared.calls.Step.TheVariants.{Begin, Go, Put}
-use Rattle.piper_sides.specs.declared.events.Event.{Event}
-use Rattle.piper_sides.specs.declared.refusals.StepRefusal.{StepRefusal}
-use Rattle.piper_sides.specs.declared.table.Action.{Action}
-use Rattle.piper_sides.specs.declared.table.Action.TheVariants as does
-use Rattle.piper_sides.specs.declared.polling.Context.{Context}
-use Rattle.piper_sides.specs.declared.scripted.SourceAct.{SourceAct}
-use Rattle.piper_sides.specs.declared.scripted.SourceAct.TheVariants as source
-use Rattle.piper_sides.specs.declared.table.Form.TheVariants.{Try, Polling}
-use Rattle.piper_sides.specs.declared.table.Purpose.{Purpose}
-use Rattle.piper_sides.specs.declared.table.Purpose.TheVariants as purpose
-use Rattle.piper_sides.specs.declared.table.AfterRead.TheVariants as afterward
-use Rattle.piper_sides.specs.declared.table.AfterWrite.TheVariants as behind
-use Rattle.piper_sides.specs.declared.table.ReadPoint.{ReadPoint}
-use Rattle.piper_sides.specs.declared.table.ReadPoint.TheVariants as at
-use Rattle.piper_sides.specs.declared.table.WritePoint.{WritePoint}
-use Rattle.piper_sides.specs.declared.table.WritePoint.TheVariants as on
-use Rattle.piper_sides.specs.Open.{called_with}
-use Rattle.piper_sides.specs.Table.{read_action, write_action, reader_looks_for}
+use Rattle.piper_protocol.specs.declared.calls.Side.TheVariants.{Reader, Writer}
+use Rattle.piper_protocol.specs.declared.calls.OpenCall.{OpenCall}
+use Rattle.piper_protocol.specs.declared.calls.Call.{Call}
+use Rattle.piper_protocol.specs.declared.calls.Call.TheVariants as call
+use Rattle.piper_protocol.specs.declared.calls.Step.{Step}
+use Rattle.piper_protocol.specs.declared.calls.Step.TheVariants.{Begin, Go, Put}
+use Rattle.piper_protocol.specs.declared.events.Event.{Event}
+use Rattle.piper_protocol.specs.declared.refusals.StepRefusal.{StepRefusal}
+use Rattle.piper_protocol.specs.declared.table.Action.{Action}
+use Rattle.piper_protocol.specs.declared.table.Action.TheVariants as does
+use Rattle.piper_protocol.specs.declared.polling.Context.{Context}
+use Rattle.piper_protocol.specs.declared.scripted.SourceAct.{SourceAct}
+use Rattle.piper_protocol.specs.declared.scripted.SourceAct.TheVariants as source
+use Rattle.piper_protocol.specs.declared.table.Form.TheVariants.{Try, Polling}
+use Rattle.piper_protocol.specs.declared.table.Purpose.{Purpose}
+use Rattle.piper_protocol.specs.declared.table.Purpose.TheVariants as purpose
+use Rattle.piper_protocol.specs.declared.table.AfterRead.TheVariants as after_read
+use Rattle.piper_protocol.specs.declared.table.AfterWrite.TheVariants as after_write
+use Rattle.piper_protocol.specs.declared.table.ReadPoint.{ReadPoint}
+use Rattle.piper_protocol.specs.declared.table.ReadPoint.TheVariants as at
+use Rattle.piper_protocol.specs.declared.table.WritePoint.{WritePoint}
+use Rattle.piper_protocol.specs.declared.table.WritePoint.TheVariants as on
+use Rattle.piper_protocol.specs.Open.{called_with}
+use Rattle.piper_protocol.specs.Table.{read_action, write_action, reader_looks_for}
 use Rattle.piper_machine.specs.Pipe.{Pipe, fresh}
 use Rattle.piper_machine.specs.Sound.{IsSound}
 use Rattle.piper_machine.specs.Action.{performed}
@@ -140,7 +140,7 @@ begin-keeps : (lent : List ℕ) (c : Call) (p : Pipe) (reads writes : Wait) → 
     → let new = stepped lent (Begin c) p in Keeps new.pipe (wait_from Reader reads new.events) (wait_from Writer writes new.events)
 begin-keeps lent (call.Query Reader query) p reads writes accepted kept = reads_on p reads writes kept (at.QueryHead query) (reader-idle p.reader _ accepted) refl (λ h. record { waiting = h.waiting; look = tt })
 begin-keeps lent (call.IsClosed Reader) p reads writes accepted kept = reads_on p reads writes kept at.QueryClosed (reader-idle p.reader _ accepted) refl (λ h. record { waiting = h.waiting; look = tt })
-begin-keeps lent (call.Consume n) p reads writes accepted kept = reads_on p reads writes kept (at.StoreHead n afterward.Answer) (reader-idle p.reader _ accepted) refl (λ h. record { waiting = h.waiting; look = tt })
+begin-keeps lent (call.Consume n) p reads writes accepted kept = reads_on p reads writes kept (at.StoreHead n after_read.Answer) (reader-idle p.reader _ accepted) refl (λ h. record { waiting = h.waiting; look = tt })
 begin-keeps lent (call.Drop Reader) p reads writes accepted kept = reads_on p reads writes kept at.StoreClosed (reader-idle p.reader _ accepted) refl (λ h. record { waiting = h.waiting; look = tt })
 begin-keeps lent (call.Poll Reader waker luck) p reads writes accepted kept = reader-polls p reads writes kept (context waker luck) purpose.Poll p.destination (refl, refl) (reader-idle p.reader _ accepted)
 begin-keeps lent (call.PollDrainBytes waker luck size) p reads writes accepted kept = reader-polls p reads writes kept (context waker luck) (purpose.Copy (Polling (luck.draw == 0))) (Slice size) (refl, refl) (reader-idle p.reader _ accepted)
@@ -149,9 +149,9 @@ begin-keeps lent (call.TryDrain size) p reads writes accepted kept = reader-trie
 begin-keeps lent (call.Query Writer query) p reads writes accepted kept = writes_on p reads writes kept (on.QueryHead query) (writer-idle p.writer _ accepted) refl (λ h. record { waiting = h.waiting; look = tt })
 begin-keeps lent (call.IsClosed Writer) p reads writes accepted kept = writes_on p reads writes kept on.QueryClosed (writer-idle p.writer _ accepted) refl (λ h. record { waiting = h.waiting; look = tt })
 begin-keeps lent (call.WriteBuf most) p reads writes accepted kept = lends p reads writes kept lent (writer-idle p.writer _ accepted)
-begin-keeps lent (call.Produced n) p reads writes accepted kept = writes_on p reads writes kept (on.StoreTail n behind.Answer) (writer-idle p.writer _ accepted) refl (λ h. record { waiting = h.waiting; look = tt })
-begin-keeps lent call.Close p reads writes accepted kept = writes_on p reads writes kept (on.StoreClosed behind.WakeWriter) (writer-idle p.writer _ accepted) refl (λ h. record { waiting = h.waiting; look = tt })
-begin-keeps lent (call.Drop Writer) p reads writes accepted kept = writes_on p reads writes kept (on.StoreClosed behind.Drop) (writer-idle p.writer _ accepted) refl (λ h. record { waiting = h.waiting; look = tt })
+begin-keeps lent (call.Produced n) p reads writes accepted kept = writes_on p reads writes kept (on.StoreTail n after_write.Answer) (writer-idle p.writer _ accepted) refl (λ h. record { waiting = h.waiting; look = tt })
+begin-keeps lent call.Close p reads writes accepted kept = writes_on p reads writes kept (on.StoreClosed after_write.WakeWriter) (writer-idle p.writer _ accepted) refl (λ h. record { waiting = h.waiting; look = tt })
+begin-keeps lent (call.Drop Writer) p reads writes accepted kept = writes_on p reads writes kept (on.StoreClosed after_write.Drop) (writer-idle p.writer _ accepted) refl (λ h. record { waiting = h.waiting; look = tt })
 begin-keeps lent (call.Poll Writer waker luck) p reads writes accepted kept = writer-polls p reads writes kept (context waker luck) purpose.Poll p.source (refl, refl) (writer-idle p.writer _ accepted)
 begin-keeps lent (call.PollFillBytes waker luck bytes) p reads writes accepted kept = writer-polls p reads writes kept (context waker luck) (purpose.Copy (Polling (luck.draw == 0))) (source.Bytes bytes ∷ []) (refl, refl) (writer-idle p.writer _ accepted)
 begin-keeps lent (call.PollFill waker luck acts) p reads writes accepted kept = writer-polls p reads writes kept (context waker luck) (purpose.Copy (Polling (luck.draw == 0))) acts (refl, refl) (writer-idle p.writer _ accepted)

@@ -7,7 +7,7 @@ use Rattle.std.proofs.lemmas.Grind.{get_or-set_at}
 use Rattle.std.proofs.lemmas.List.{get_or-set_other, same_lists, take-take, take-append-le, get_or_append_left, get_or-append_right}
 use Rattle.std.proofs.lemmas.Bool.{cases_lt, cases_eq}
 use Rattle.std.proofs.lemmas.Bool.Decides.{nat_tests}
-use Rattle.piper_sides.specs.Index.{place_of}
+use Rattle.piper_protocol.specs.Index.{place_of}
 use Rattle.piper_machine.specs.Buffer.{written}
 use Rattle.piper_machine.proofs.Indices.{place_of-twice, place_of-flat, place_of_low, place_of_high}
 

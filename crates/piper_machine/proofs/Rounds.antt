@@ -5,7 +5,7 @@ use Rattle.std.proofs.lemmas.Bool.Decides.{nat_tests}
 use Rattle.std.proofs.lemmas.List.{drop-drop, drop_all, take_at, drop_at}
 use Rattle.std.proofs.Math.Seq.{take-add}
 use borrow.Rule.Slice.PartMut.{put_mid}
-use Rattle.piper_sides.specs.Index.{place_of}
+use Rattle.piper_protocol.specs.Index.{place_of}
 use Rattle.piper_machine.specs.Pipe.{Pipe}
 use Rattle.piper_machine.specs.Copy.{waker_after, woken_after, filled, drained}
 use Rattle.piper_machine.specs.Move.{with_waker}

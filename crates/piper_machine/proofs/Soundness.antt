@@ -1,6 +1,6 @@
 -- A machine whose invariant holds stands for a sound pipe.
 use Rattle.std.proofs.Common.{◌≡◌, ◌+◌, ◌<◌, ◌≤◌, ◌*◌, ◌-◌, min, ℕ, take, drop, length, sym, ap, ◌∙◌, subst, arith, length-take-le, length-drop}
-use Rattle.piper_sides.specs.Index.{distance, place_of}
+use Rattle.piper_protocol.specs.Index.{distance, place_of}
 use Rattle.piper_machine.specs.Pipe.{Pipe}
 use Rattle.std.proofs.lemmas.Bool.Decides.{nat_tests}
 use Rattle.piper_machine.specs.Lend.{lend_limit}

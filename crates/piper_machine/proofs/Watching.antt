@@ -3,28 +3,28 @@
 use Rattle.std.proofs.Common.{◌≡◌, ℕ, List, [], ◌∷◌, ◌++◌, Bool, true, false, Option, None, Some, refl, sym, ap, ◌∙◌, arith}
 use Rattle.std.specs.Bool.{⊤}
 use Rattle.std.proofs.lemmas.Bool.Decides.{nat_tests}
-use Rattle.piper_sides.specs.declared.calls.Side.{Side}
-use Rattle.piper_sides.specs.declared.calls.Side.TheVariants.{Reader, Writer}
-use Rattle.piper_sides.specs.declared.calls.OpenCall.{OpenCall}
-use Rattle.piper_sides.specs.declared.calls.Query.{Query}
-use Rattle.piper_sides.specs.declared.events.Answer.{Answer}
-use Rattle.piper_sides.specs.declared.events.Event.{Event}
-use Rattle.piper_sides.specs.declared.polling.Context.{Context}
-use Rattle.piper_sides.specs.declared.polling.Polled.TheVariants.{Memory}
-use Rattle.piper_sides.specs.declared.table.Form.{Form}
-use Rattle.piper_sides.specs.declared.table.Form.TheVariants.{Try, Polling}
-use Rattle.piper_sides.specs.declared.table.Purpose.{Purpose}
-use Rattle.piper_sides.specs.declared.table.Purpose.TheVariants as purpose
-use Rattle.piper_sides.specs.declared.table.ReadPoint.{ReadPoint}
-use Rattle.piper_sides.specs.declared.table.ReadPoint.TheVariants as at
-use Rattle.piper_sides.specs.declared.table.WritePoint.{WritePoint}
-use Rattle.piper_sides.specs.declared.table.WritePoint.TheVariants as on
-use Rattle.piper_sides.specs.Log.{answer_event}
-use Rattle.piper_sides.specs.Table.{query_answer, look_answer, count_answer}
+use Rattle.piper_protocol.specs.declared.calls.Side.{Side}
+use Rattle.piper_protocol.specs.declared.calls.Side.TheVariants.{Reader, Writer}
+use Rattle.piper_protocol.specs.declared.calls.OpenCall.{OpenCall}
+use Rattle.piper_protocol.specs.declared.calls.Query.{Query}
+use Rattle.piper_protocol.specs.declared.events.Answer.{Answer}
+use Rattle.piper_protocol.specs.declared.events.Event.{Event}
+use Rattle.piper_protocol.specs.declared.polling.Context.{Context}
+use Rattle.piper_protocol.specs.declared.polling.Polled.TheVariants.{Memory}
+use Rattle.piper_protocol.specs.declared.table.Form.{Form}
+use Rattle.piper_protocol.specs.declared.table.Form.TheVariants.{Try, Polling}
+use Rattle.piper_protocol.specs.declared.table.Purpose.{Purpose}
+use Rattle.piper_protocol.specs.declared.table.Purpose.TheVariants as purpose
+use Rattle.piper_protocol.specs.declared.table.ReadPoint.{ReadPoint}
+use Rattle.piper_protocol.specs.declared.table.ReadPoint.TheVariants as at
+use Rattle.piper_protocol.specs.declared.table.WritePoint.{WritePoint}
+use Rattle.piper_protocol.specs.declared.table.WritePoint.TheVariants as on
+use Rattle.piper_protocol.specs.Log.{answer_event}
+use Rattle.piper_protocol.specs.Table.{query_answer, look_answer, count_answer}
 use Rattle.piper_machine.specs.Pipe.{Pipe}
 use Rattle.piper_machine.specs.Action.{registration, registration_of, wake_of, woken_if, yield_of}
 use Rattle.piper_machine.specs.Counts.{is_same}
-use Rattle.piper_machine.specs.Wait.{Wait, called, if_same, told, wait_after, wait_from}
+use Rattle.piper_machine.specs.Wait.{Wait, called, if_same, noted, wait_after, wait_from}
 use Rattle.piper_machine.proofs.Queries.{query-holds}
 
 -- how far the other side is with the wake that follows its store: away from it, about to empty the
@@ -211,15 +211,15 @@ awaits (purpose.Copy Try) w slot calm e h = tt
 awaits (purpose.Copy (Polling is_drawn)) w slot calm e h = h
 
 -- want of memory tells nobody to wait
-pub refused-told : (l : Purpose) (w : Wait) → told (look_answer l Memory) w ≡ w
-refused-told purpose.Poll w = refl
-refused-told (purpose.Copy Try) w = refl
-refused-told (purpose.Copy (Polling is_drawn)) w = refl
+pub refused-noted : (l : Purpose) (w : Wait) → noted (look_answer l Memory) w ≡ w
+refused-noted purpose.Poll w = refl
+refused-noted (purpose.Copy Try) w = refl
+refused-noted (purpose.Copy (Polling is_drawn)) w = refl
 
 -- nor does a count, or a failure
-pub counted-told : (form : Form) (sum : ℕ) (w : Wait) → told (count_answer form sum) w ≡ w
-counted-told Try sum w = refl
-counted-told (Polling is_drawn) sum w = refl
+pub counted-noted : (form : Form) (sum : ℕ) (w : Wait) → noted (count_answer form sum) w ≡ w
+counted-noted Try sum w = refl
+counted-noted (Polling is_drawn) sum w = refl
 
 -- what one side's events are to the other's wait
 
@@ -235,7 +235,7 @@ wait-append side w (e ∷ es) fs = wait-append side (wait_after side w e) es fs
 
 answer-passes : (side acting : Side) (w : Wait) (answer : Option Answer) → is_same side acting ≡ false → wait_from side w (answer_event acting answer) ≡ w
 answer-passes side acting w None apart = refl
-answer-passes side acting w (Some answer) apart = passed_by side acting (told answer w) w apart
+answer-passes side acting w (Some answer) apart = passed_by side acting (noted answer w) w apart
 
 -- an answer behind what the other side's step logs
 pub answered-passes : (side acting : Side) (w v : Wait) (es : List Event) (answer : Option Answer) → is_same side acting ≡ false → wait_from side w es ≡ v → wait_from side w (es ++ answer_event acting answer) ≡ v
@@ -271,8 +271,8 @@ yield-heard side w None = refl
 yield-heard side w (Some cx) = woken_if-heard side w cx.luck.yield_granted cx.waker
 
 -- a query is told a count or a flag, and no wait
-pub query-told : (query : Query) (capacity count : ℕ) (w : Wait) → told (query_answer query capacity count) w ≡ w
-query-told query capacity count w = query-holds (λ (answer : Answer). told answer w ≡ w) query capacity count refl (λ is. refl)
+pub query-noted : (query : Query) (capacity count : ℕ) (w : Wait) → noted (query_answer query capacity count) w ≡ w
+query-noted query capacity count w = query-holds (λ (answer : Answer). noted answer w ≡ w) query capacity count refl (λ is. refl)
 
 -- a context, part by part
 abbrev pub context_of : Bool → ℕ → ℕ → Bool → Context

@@ -1,37 +1,37 @@
 -- Every call made by steps, none of which is the other side's, is the call run whole.
 use Rattle.std.proofs.Common.{◌≡◌, ℕ, ◌+◌, ◌*◌, ◌≤◌, List, [], ◌∷◌, ◌++◌, length, replicate, Bool, true, false, Option, None, Some, if◌then◌else◌, ◌==◌, nat_le, refl, sym, ap, ◌∙◌, subst, arith, append_assoc}
 use Rattle.std.proofs.lemmas.Bool.Decides.{nat_tests}
-use Rattle.piper_sides.specs.declared.calls.Side.{Side}
-use Rattle.piper_sides.specs.declared.calls.Side.TheVariants.{Reader, Writer}
-use Rattle.piper_sides.specs.declared.calls.SideState.TheVariants.{Busy}
-use Rattle.piper_sides.specs.declared.calls.Call.{Call}
-use Rattle.piper_sides.specs.declared.calls.Call.TheVariants as call
-use Rattle.piper_sides.specs.declared.calls.Step.TheVariants.{Begin, Go}
-use Rattle.piper_sides.specs.declared.events.Answer.{Answer}
-use Rattle.piper_sides.specs.declared.events.Answer.TheVariants.{Lent}
-use Rattle.piper_sides.specs.declared.events.Event.{Event}
-use Rattle.piper_sides.specs.declared.events.Event.TheVariants.{Began, Answered}
-use Rattle.piper_sides.specs.declared.refusals.StepRefusal.{StepRefusal}
-use Rattle.piper_sides.specs.declared.refusals.StepRefusal.TheVariants.{BadDraw}
-use Rattle.piper_sides.specs.declared.table.Form.TheVariants.{Try, Polling}
-use Rattle.piper_sides.specs.declared.table.Form.{Form}
-use Rattle.piper_sides.specs.declared.scripted.SourceAct.TheVariants as source
+use Rattle.piper_protocol.specs.declared.calls.Side.{Side}
+use Rattle.piper_protocol.specs.declared.calls.Side.TheVariants.{Reader, Writer}
+use Rattle.piper_protocol.specs.declared.calls.SideState.TheVariants.{Busy}
+use Rattle.piper_protocol.specs.declared.calls.Call.{Call}
+use Rattle.piper_protocol.specs.declared.calls.Call.TheVariants as call
+use Rattle.piper_protocol.specs.declared.calls.Step.TheVariants.{Begin, Go}
+use Rattle.piper_protocol.specs.declared.events.Answer.{Answer}
+use Rattle.piper_protocol.specs.declared.events.Answer.TheVariants.{Lent}
+use Rattle.piper_protocol.specs.declared.events.Event.{Event}
+use Rattle.piper_protocol.specs.declared.events.Event.TheVariants.{Began, Answered}
+use Rattle.piper_protocol.specs.declared.refusals.StepRefusal.{StepRefusal}
+use Rattle.piper_protocol.specs.declared.refusals.StepRefusal.TheVariants.{BadDraw}
+use Rattle.piper_protocol.specs.declared.table.Form.TheVariants.{Try, Polling}
+use Rattle.piper_protocol.specs.declared.table.Form.{Form}
+use Rattle.piper_protocol.specs.declared.scripted.SourceAct.TheVariants as source
 use Rattle.piper_machine.specs.Counts.{most_steps}
-use Rattle.piper_sides.specs.declared.table.Purpose.{Purpose}
-use Rattle.piper_sides.specs.declared.table.Purpose.TheVariants as purpose
-use Rattle.piper_sides.specs.declared.table.ReadPoint.{ReadPoint}
-use Rattle.piper_sides.specs.declared.table.ReadPoint.TheVariants as at
-use Rattle.piper_sides.specs.declared.table.WritePoint.{WritePoint}
-use Rattle.piper_sides.specs.declared.table.WritePoint.TheVariants as on
-use Rattle.piper_sides.specs.Open.{no_call}
+use Rattle.piper_protocol.specs.declared.table.Purpose.{Purpose}
+use Rattle.piper_protocol.specs.declared.table.Purpose.TheVariants as purpose
+use Rattle.piper_protocol.specs.declared.table.ReadPoint.{ReadPoint}
+use Rattle.piper_protocol.specs.declared.table.ReadPoint.TheVariants as at
+use Rattle.piper_protocol.specs.declared.table.WritePoint.{WritePoint}
+use Rattle.piper_protocol.specs.declared.table.WritePoint.TheVariants as on
+use Rattle.piper_protocol.specs.Open.{no_call}
 use Rattle.piper_machine.specs.declared.destination.Destination.TheVariants.{Slice}
 use Rattle.piper_machine.specs.declared.machine.Machine.TheInside.{Inside}
 use Rattle.piper_machine.specs.Machine.{pipe_of, IsMachine}
 use Rattle.piper_machine.proofs.Soundness.{sound}
-use Rattle.piper_sides.specs.Call.{side_of, kind_of, waker_of, has_good_draw}
-use Rattle.piper_sides.specs.Side.{head_store}
-use Rattle.piper_sides.specs.Log.{answer_event}
-use Rattle.piper_sides.specs.Table.{reader_looks_for}
+use Rattle.piper_protocol.specs.Call.{side_of, kind_of, waker_of, has_good_draw}
+use Rattle.piper_protocol.specs.Side.{head_store}
+use Rattle.piper_protocol.specs.Log.{answer_event}
+use Rattle.piper_protocol.specs.Table.{reader_looks_for}
 use Rattle.piper_machine.specs.Pipe.{Pipe, begun}
 use Rattle.piper_machine.specs.Sound.{IsSound}
 use Rattle.piper_machine.specs.Look.{context}
@@ -41,7 +41,7 @@ use Rattle.piper_machine.specs.Step.{opened, answer_at_once}
 use Rattle.piper_machine.specs.Run.{Runs}
 use Rattle.piper_machine.specs.Alone.{Ended, read_steps}
 use Rattle.piper_machine.specs.BySteps.{names_of, whole, found_alone, IsWholeBySteps, AreWholeBySteps}
-use Rattle.piper_machine.proofs.BySteps.{named, alone_of, left_of, Stands, no_more, finish}
+use Rattle.piper_machine.proofs.BySteps.{named, alone_of, left_of, IsValid, no_more, finish}
 use Rattle.piper_machine.proofs.Whole.{reader_resting, writer_resting, reader-polls, drain-slice, drain-acts, try_drain-whole, writer-polls, given-slice, failure-slice, fill-slice, fill-acts, try_fill-whole}
 
 -- between two calls a side holds nothing of a call
@@ -80,7 +80,7 @@ pub record IsOpened (c : Call) (lent others : List ℕ) (p : Pipe) : Type 0 wher
   pub commutes : opened lent c p ≡ named p.woken (opened lent c (begun p))
   pub at_once : answer_at_once lent c ≡ None
   pub busy : state_of (side_of c) (opened lent c (begun p)) ≡ Busy
-  pub stands : Stands (side_of c) (opened lent c (begun p))
+  pub valid : IsValid (side_of c) (opened lent c (begun p))
   pub rest : alone_of (side_of c) (opened lent c (begun p)) ≡ whole others c p
   pub unwoken : (opened lent c (begun p)).woken ≡ []
   pub few : left_of (side_of c) (opened lent c (begun p)) ≤ most_steps (found_alone (side_of c) p) c
@@ -120,34 +120,34 @@ is_lending c = false
 
 opens : (c : Call) (lent others : List ℕ) (r : Pipe) → is_lending c ≡ false → let p = resting (side_of c) r in IsSound p → past c p ≡ None → IsOpened c lent others p
 unfolding is_lending
-opens (call.Query Reader query) lent others r stepped sound fits = record { commutes = refl; at_once = refl; busy = refl; stands = record { unread = sound.unread; start = sound.start; known = sound.known; store = omega arith }; rest = refl; unwoken = refl; few = omega arith }
-opens (call.IsClosed Reader) lent others r stepped sound fits = record { commutes = refl; at_once = refl; busy = refl; stands = record { unread = sound.unread; start = sound.start; known = sound.known; store = omega arith }; rest = refl; unwoken = refl; few = omega arith }
+opens (call.Query Reader query) lent others r stepped sound fits = record { commutes = refl; at_once = refl; busy = refl; valid = record { unread = sound.unread; start = sound.start; known = sound.known; store = omega arith }; rest = refl; unwoken = refl; few = omega arith }
+opens (call.IsClosed Reader) lent others r stepped sound fits = record { commutes = refl; at_once = refl; busy = refl; valid = record { unread = sound.unread; start = sound.start; known = sound.known; store = omega arith }; rest = refl; unwoken = refl; few = omega arith }
 opens (call.Poll Reader waker luck) lent others r stepped sound fits =
     let none = looks-store (r.known == 0) purpose.Poll in
-    record { commutes = refl; at_once = refl; busy = looks-busy (r.known == 0) purpose.Poll; stands = record { unread = sound.unread; start = sound.start; known = sound.known; store = omega arith }; rest = reader-polls (context waker luck) r; unwoken = refl; few = poll-few (r.known == 0) (length r.unread) r.known }
+    record { commutes = refl; at_once = refl; busy = looks-busy (r.known == 0) purpose.Poll; valid = record { unread = sound.unread; start = sound.start; known = sound.known; store = omega arith }; rest = reader-polls (context waker luck) r; unwoken = refl; few = poll-few (r.known == 0) (length r.unread) r.known }
 opens (call.TryDrain size) lent others r stepped sound fits =
     let none = looks-store (r.known == 0) (purpose.Copy Try) in
-    record { commutes = refl; at_once = refl; busy = looks-busy (r.known == 0) (purpose.Copy Try); stands = record { unread = sound.unread; start = sound.start; known = sound.known; store = omega arith }; rest = try_drain-whole size r; unwoken = refl; few = looks-few (r.known == 0) Try (length r.unread) r.known refl }
+    record { commutes = refl; at_once = refl; busy = looks-busy (r.known == 0) (purpose.Copy Try); valid = record { unread = sound.unread; start = sound.start; known = sound.known; store = omega arith }; rest = try_drain-whole size r; unwoken = refl; few = looks-few (r.known == 0) Try (length r.unread) r.known refl }
 opens (call.PollDrainBytes waker luck size) lent others r stepped sound fits =
     let none = looks-store (r.known == 0) (purpose.Copy (Polling (luck.draw == 0))) in
-    record { commutes = refl; at_once = refl; busy = looks-busy (r.known == 0) (purpose.Copy (Polling (luck.draw == 0))); stands = record { unread = sound.unread; start = sound.start; known = sound.known; store = omega arith }; rest = drain-slice (context waker luck) size r; unwoken = refl; few = looks-few (r.known == 0) (Polling (luck.draw == 0)) (length r.unread) r.known refl }
+    record { commutes = refl; at_once = refl; busy = looks-busy (r.known == 0) (purpose.Copy (Polling (luck.draw == 0))); valid = record { unread = sound.unread; start = sound.start; known = sound.known; store = omega arith }; rest = drain-slice (context waker luck) size r; unwoken = refl; few = looks-few (r.known == 0) (Polling (luck.draw == 0)) (length r.unread) r.known refl }
 opens (call.PollDrain waker luck acts) lent others r stepped sound fits =
     let none = looks-store (r.known == 0) (purpose.Copy (Polling (luck.draw == 0))) in
-    record { commutes = refl; at_once = refl; busy = looks-busy (r.known == 0) (purpose.Copy (Polling (luck.draw == 0))); stands = record { unread = sound.unread; start = sound.start; known = sound.known; store = omega arith }; rest = drain-acts (context waker luck) acts r; unwoken = refl; few = looks-few (r.known == 0) (Polling (luck.draw == 0)) (length r.unread) r.known refl }
+    record { commutes = refl; at_once = refl; busy = looks-busy (r.known == 0) (purpose.Copy (Polling (luck.draw == 0))); valid = record { unread = sound.unread; start = sound.start; known = sound.known; store = omega arith }; rest = drain-acts (context waker luck) acts r; unwoken = refl; few = looks-few (r.known == 0) (Polling (luck.draw == 0)) (length r.unread) r.known refl }
 opens (call.Consume n) lent others r stepped sound fits =
     let within = within-of n _ (test-holds _ _ fits) in
-    record { commutes = refl; at_once = refl; busy = refl; stands = record { unread = sound.unread; start = sound.start; known = sound.known; store = within }; rest = refl; unwoken = refl; few = omega arith }
-opens (call.Drop Reader) lent others r stepped sound fits = record { commutes = refl; at_once = refl; busy = refl; stands = record { unread = sound.unread; start = sound.start; known = sound.known; store = omega arith }; rest = refl; unwoken = refl; few = omega arith }
+    record { commutes = refl; at_once = refl; busy = refl; valid = record { unread = sound.unread; start = sound.start; known = sound.known; store = within }; rest = refl; unwoken = refl; few = omega arith }
+opens (call.Drop Reader) lent others r stepped sound fits = record { commutes = refl; at_once = refl; busy = refl; valid = record { unread = sound.unread; start = sound.start; known = sound.known; store = omega arith }; rest = refl; unwoken = refl; few = omega arith }
 opens (call.WriteBuf most) lent others r stepped sound fits = absurd (cc)
 opens (call.Produced n) lent others r stepped sound fits =
     let within = within-of n _ (test-holds _ _ fits) in
     let room = sound.lent_room in
-    record { commutes = refl; at_once = refl; busy = refl; stands = (record { unread = sound.unread; start = sound.start; room = sound.room; store = omega arith; shut = sound.closed; unclosed = λ saw. absurd (cc) }, refl); rest = refl; unwoken = refl; few = omega arith }
-opens (call.Poll Writer waker luck) lent others r stepped sound fits = record { commutes = refl; at_once = refl; busy = refl; stands = (record { unread = sound.unread; start = sound.start; room = sound.room; store = omega arith; shut = sound.closed; unclosed = λ saw. absurd (cc) }, refl); rest = writer-polls (context waker luck) r; unwoken = refl; few = omega arith }
-opens (call.TryFill bytes) lent others r stepped sound fits = record { commutes = refl; at_once = refl; busy = refl; stands = (record { unread = sound.unread; start = sound.start; room = sound.room; store = omega arith; shut = sound.closed; unclosed = λ saw. absurd (cc) }, refl); rest = try_fill-whole (source.Bytes bytes ∷ []) bytes (given-slice bytes) (failure-slice bytes) r; unwoken = refl; few = omega arith }
-opens (call.PollFillBytes waker luck bytes) lent others r stepped sound fits = record { commutes = refl; at_once = refl; busy = refl; stands = (record { unread = sound.unread; start = sound.start; room = sound.room; store = omega arith; shut = sound.closed; unclosed = λ saw. absurd (cc) }, refl); rest = fill-slice (source.Bytes bytes ∷ []) bytes (given-slice bytes) (failure-slice bytes) (context waker luck) r; unwoken = refl; few = omega arith }
-opens (call.PollFill waker luck acts) lent others r stepped sound fits = record { commutes = refl; at_once = refl; busy = refl; stands = (record { unread = sound.unread; start = sound.start; room = sound.room; store = omega arith; shut = sound.closed; unclosed = λ saw. absurd (cc) }, refl); rest = fill-acts (context waker luck) acts r; unwoken = refl; few = omega arith }
-opens c lent others r stepped sound fits = record { commutes = refl; at_once = refl; busy = refl; stands = (record { unread = sound.unread; start = sound.start; room = sound.room; store = omega arith; shut = sound.closed; unclosed = λ saw. absurd (cc) }, refl); rest = refl; unwoken = refl; few = omega arith }
+    record { commutes = refl; at_once = refl; busy = refl; valid = (record { unread = sound.unread; start = sound.start; room = sound.room; store = omega arith; shut = sound.closed; unclosed = λ saw. absurd (cc) }, refl); rest = refl; unwoken = refl; few = omega arith }
+opens (call.Poll Writer waker luck) lent others r stepped sound fits = record { commutes = refl; at_once = refl; busy = refl; valid = (record { unread = sound.unread; start = sound.start; room = sound.room; store = omega arith; shut = sound.closed; unclosed = λ saw. absurd (cc) }, refl); rest = writer-polls (context waker luck) r; unwoken = refl; few = omega arith }
+opens (call.TryFill bytes) lent others r stepped sound fits = record { commutes = refl; at_once = refl; busy = refl; valid = (record { unread = sound.unread; start = sound.start; room = sound.room; store = omega arith; shut = sound.closed; unclosed = λ saw. absurd (cc) }, refl); rest = try_fill-whole (source.Bytes bytes ∷ []) bytes (given-slice bytes) (failure-slice bytes) r; unwoken = refl; few = omega arith }
+opens (call.PollFillBytes waker luck bytes) lent others r stepped sound fits = record { commutes = refl; at_once = refl; busy = refl; valid = (record { unread = sound.unread; start = sound.start; room = sound.room; store = omega arith; shut = sound.closed; unclosed = λ saw. absurd (cc) }, refl); rest = fill-slice (source.Bytes bytes ∷ []) bytes (given-slice bytes) (failure-slice bytes) (context waker luck) r; unwoken = refl; few = omega arith }
+opens (call.PollFill waker luck acts) lent others r stepped sound fits = record { commutes = refl; at_once = refl; busy = refl; valid = (record { unread = sound.unread; start = sound.start; room = sound.room; store = omega arith; shut = sound.closed; unclosed = λ saw. absurd (cc) }, refl); rest = fill-acts (context waker luck) acts r; unwoken = refl; few = omega arith }
+opens c lent others r stepped sound fits = record { commutes = refl; at_once = refl; busy = refl; valid = (record { unread = sound.unread; start = sound.start; room = sound.room; store = omega arith; shut = sound.closed; unclosed = λ saw. absurd (cc) }, refl); rest = refl; unwoken = refl; few = omega arith }
 
 or_else-second : (first second : Option StepRefusal) → or_else first second ≡ None → second ≡ None
 or_else-second None second none = none
@@ -174,9 +174,9 @@ makes c p stepped sound holds = record {
       let is = rests-is side p holds (begins-idle c p run.2.accepted) in
       let opening = subst (λ (r : Pipe). IsOpened c mid.lent q.lent r) (sym is) (opens c mid.lent q.lent p stepped (subst IsSound is sound) (subst (λ (r : Pipe). past c r ≡ None) is fits)) in
       let begins = subst (λ (r : Pipe). Runs r run.1 (replicate k (Go side)) q after) (made.pipe ∙ opening.commutes) run.3 in
-      let done = finish k side (opened mid.lent c (begun p)) p.woken run.1 after q opening.busy opening.stands begins ends in
+      let done = finish k side (opened mid.lent c (begun p)) p.woken run.1 after q opening.busy opening.valid begins ends in
       let began = Began side (kind_of c) (waker_of c) in
-      let told = done.log ++ Answered side (alone_of side (opened mid.lent c (begun p))).answer ∷ [] in
+      let noted = done.log ++ Answered side (alone_of side (opened mid.lent c (begun p))).answer ∷ [] in
       let steps = done.steps in
       let few = opening.few in (
         omega arith,
@@ -184,8 +184,8 @@ makes c p stepped sound holds = record {
           log = began ∷ done.log;
           events =
               done.events
-              ∙ ap (λ (es : List Event). es ++ told) (made.events ∙ ap (λ (answer : Option Answer). before ++ (began ∷ answer_event side answer)) opening.at_once)
-              ∙ append_assoc before (began ∷ []) told
+              ∙ ap (λ (es : List Event). es ++ noted) (made.events ∙ ap (λ (answer : Option Answer). before ++ (began ∷ answer_event side answer)) opening.at_once)
+              ∙ append_assoc before (began ∷ []) noted
               ∙ ap (λ (e : Ended). before ++ (began ∷ (done.log ++ Answered side e.answer ∷ []))) opening.rest;
           woken = sym (sym (ap (λ (e : Ended). e.pipe.woken) opening.rest) ∙ done.woken ∙ ap (λ (xs : List ℕ). xs ++ names_of done.log) opening.unwoken);
           pipe = done.pipe ∙ ap (λ (e : Ended). named p.woken e.pipe) opening.rest;

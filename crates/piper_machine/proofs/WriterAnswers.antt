@@ -4,44 +4,44 @@ use Rattle.std.specs.Prelude.{IsSomeAnd}
 use Rattle.std.proofs.Common.{◌≡◌, ℕ, ◌+◌, ◌-◌, ◌≤◌, min, List, [], ◌∷◌, ◌++◌, take, drop, length, Bool, true, false, Option, None, Some, ◌==◌, is_some, refl, sym, ap, subst, ◌∙◌, arith, append_assoc, append-nil, length-append, length-take-le, take-append-drop, take_all}
 use Rattle.std.proofs.lemmas.List.{take-append-le}
 use Rattle.std.proofs.lemmas.Bool.Decides.{nat_tests}
-use Rattle.piper_sides.specs.declared.calls.Side.TheVariants.{Writer}
-use Rattle.piper_sides.specs.declared.calls.Call.{Call}
-use Rattle.piper_sides.specs.declared.calls.Call.TheVariants as call
-use Rattle.piper_sides.specs.declared.events.Answer.{Answer}
-use Rattle.piper_sides.specs.declared.events.Answer.TheVariants as answer
-use Rattle.piper_sides.specs.declared.events.Event.{Event}
-use Rattle.piper_sides.specs.declared.events.Event.TheVariants.{Looked}
-use Rattle.piper_sides.specs.declared.events.Seen.{Seen}
-use Rattle.piper_sides.specs.declared.events.Seen.TheVariants as seen
-use Rattle.piper_sides.specs.declared.polling.Polled.{Polled}
-use Rattle.piper_sides.specs.declared.polling.Polled.TheVariants.{Ready, Pending, Memory}
-use Rattle.piper_sides.specs.declared.scripted.SourceAct.{SourceAct}
-use Rattle.piper_sides.specs.declared.scripted.SourceAct.TheVariants as source
-use Rattle.piper_sides.specs.declared.table.Form.{Form}
-use Rattle.piper_sides.specs.declared.table.Form.TheVariants.{Try, Polling}
-use Rattle.piper_sides.specs.declared.table.Purpose.{Purpose}
-use Rattle.piper_sides.specs.declared.table.Purpose.TheVariants as purpose
-use Rattle.piper_sides.specs.declared.table.Action.TheVariants as does
-use Rattle.piper_sides.specs.declared.table.AfterWrite.{AfterWrite}
-use Rattle.piper_sides.specs.declared.table.AfterWrite.TheVariants as afterward
-use Rattle.piper_sides.specs.declared.table.WritePoint.{WritePoint}
-use Rattle.piper_sides.specs.declared.table.WritePoint.TheVariants as at
-use Rattle.piper_sides.specs.Open.{is_granted, is_yield_granted}
-use Rattle.piper_sides.specs.Side.{tail_store}
-use Rattle.piper_sides.specs.declared.table.Found.TheVariants.{Nothing as nothing, Granted as granted}
-use Rattle.piper_sides.specs.Table.{Next, look_answer, write_after, query_answer, copy_answer, count_answer, failed_answer, end_or_pending, yield_answer, writer_found, writer_is_open, writer_looked, writer_looked_again, writer_registered, writer_is_true, writer_moved, writer_rounds, reader_taken, write_done, own_taken}
-use Rattle.piper_sides.specs.Log.{answer_event}
+use Rattle.piper_protocol.specs.declared.calls.Side.TheVariants.{Writer}
+use Rattle.piper_protocol.specs.declared.calls.Call.{Call}
+use Rattle.piper_protocol.specs.declared.calls.Call.TheVariants as call
+use Rattle.piper_protocol.specs.declared.events.Answer.{Answer}
+use Rattle.piper_protocol.specs.declared.events.Answer.TheVariants as answer
+use Rattle.piper_protocol.specs.declared.events.Event.{Event}
+use Rattle.piper_protocol.specs.declared.events.Event.TheVariants.{Looked}
+use Rattle.piper_protocol.specs.declared.events.Seen.{Seen}
+use Rattle.piper_protocol.specs.declared.events.Seen.TheVariants as seen
+use Rattle.piper_protocol.specs.declared.polling.Polled.{Polled}
+use Rattle.piper_protocol.specs.declared.polling.Polled.TheVariants.{Ready, Pending, Memory}
+use Rattle.piper_protocol.specs.declared.scripted.SourceAct.{SourceAct}
+use Rattle.piper_protocol.specs.declared.scripted.SourceAct.TheVariants as source
+use Rattle.piper_protocol.specs.declared.table.Form.{Form}
+use Rattle.piper_protocol.specs.declared.table.Form.TheVariants.{Try, Polling}
+use Rattle.piper_protocol.specs.declared.table.Purpose.{Purpose}
+use Rattle.piper_protocol.specs.declared.table.Purpose.TheVariants as purpose
+use Rattle.piper_protocol.specs.declared.table.Action.TheVariants as does
+use Rattle.piper_protocol.specs.declared.table.AfterWrite.{AfterWrite}
+use Rattle.piper_protocol.specs.declared.table.AfterWrite.TheVariants as after_read
+use Rattle.piper_protocol.specs.declared.table.WritePoint.{WritePoint}
+use Rattle.piper_protocol.specs.declared.table.WritePoint.TheVariants as at
+use Rattle.piper_protocol.specs.Open.{is_granted, is_yield_granted}
+use Rattle.piper_protocol.specs.Side.{tail_store}
+use Rattle.piper_protocol.specs.declared.table.Found.TheVariants.{Nothing as nothing, Granted as granted}
+use Rattle.piper_protocol.specs.Table.{Next, look_answer, write_after, query_answer, copy_answer, count_answer, failed_answer, end_or_pending, yield_answer, writer_found, writer_is_open, writer_looked, writer_looked_again, writer_registered, writer_is_true, writer_moved, writer_rounds, reader_taken, write_done, own_taken}
+use Rattle.piper_protocol.specs.Log.{answer_event}
 use Rattle.piper_machine.specs.Pipe.{Pipe}
 use Rattle.piper_machine.specs.Round.{given, found_of, moved_by, unspent, left_of_source}
 use Rattle.piper_machine.specs.Source.{bytes_of}
 use Rattle.piper_machine.specs.Scripted.{bytes_given, ends_in_failure}
 use Rattle.piper_machine.specs.Action.{registration_of, wake_of, yield_of}
 use Rattle.piper_machine.specs.Step.{went, source_after, filled_out, lent_after, offering}
-use Rattle.piper_machine.specs.Told.{Told, told_from}
+use Rattle.piper_machine.specs.Noted.{Noted, noted_from}
 use Rattle.piper_machine.specs.Outcome.{first_look, number_found, IsAnswer, IsFilled, MayHaveMoved, found_closed}
 use Rattle.piper_machine.specs.Answered.{AreRightFrom}
 use Rattle.piper_machine.proofs.Acts.{bytes_given-cons, ends_in_failure-cons, given-unspent, failure-unspent}
-use Rattle.piper_machine.proofs.Telling.{told-append, right-append, registers-leaves, wake-leaves, yield-leaves, answers, Polls, poll-answers, none_moved}
+use Rattle.piper_machine.proofs.Showing.{noted-append, right-append, registers-leaves, wake-leaves, yield-leaves, answers, Polls, poll-answers, none_moved}
 
 -- a fill of this form that was handed these bytes, and whether its source fails behind them
 abbrev pub IsFill : Form → Call → List ℕ → Bool → Type 0
@@ -55,34 +55,34 @@ abbrev pub found_open : Option Seen
 found_open = Some (seen.Closed false)
 
 -- the source of the fill has given so many bytes, of which these last ones are not published yet
-pub record Fills (first : Option Seen) (form : Form) (held : List SourceAct) (last : List ℕ) (sum : ℕ) (t : Told) : Type 0 where
+pub record Fills (first : Option Seen) (form : Form) (held : List SourceAct) (last : List ℕ) (sum : ℕ) (t : Noted) : Type 0 where
   pub fill : Call
   pub is : t.call ≡ Some fill
   pub fills : IsFill form fill (t.moved ++ (last ++ bytes_given held)) (ends_in_failure held)
   pub count : length t.moved + length last ≡ sum
   pub found : first_look t.looks ≡ first
 
-abbrev pub WriterLooks : Option Seen → Purpose → List SourceAct → Told → Type 0
+abbrev pub WriterLooks : Option Seen → Purpose → List SourceAct → Noted → Type 0
 WriterLooks first purpose.Poll held t = Polls t
 WriterLooks first (purpose.Copy form) held t = Fills first form held [] 0 t
 
-abbrev pub WriterBehind : AfterWrite → List SourceAct → Told → Type 0
-WriterBehind afterward.Answer held t = t.call ≡ Some (call.Produced (length t.moved))
-WriterBehind afterward.Drop held t = t.call ≡ Some (call.Drop Writer)
-WriterBehind afterward.WakeWriter held t = t.call ≡ Some call.Close
-WriterBehind (afterward.Round form sum) held t = Fills found_open form held [] sum t
+abbrev pub WriterAfter : AfterWrite → List SourceAct → Noted → Type 0
+WriterAfter after_read.Answer held t = t.call ≡ Some (call.Produced (length t.moved))
+WriterAfter after_read.Drop held t = t.call ≡ Some (call.Drop Writer)
+WriterAfter after_read.WakeWriter held t = t.call ≡ Some call.Close
+WriterAfter (after_read.Round form sum) held t = Fills found_open form held [] sum t
 
-abbrev pub WriterStores : ℕ → AfterWrite → List SourceAct → List ℕ → Told → Type 0
-WriterStores n afterward.Answer held lent t = (t.call ≡ Some (call.Produced n)) × (t.moved ≡ [])
-WriterStores n (afterward.Round form sum) held lent t = Fills found_open form held (take n lent) sum t
+abbrev pub WriterStores : ℕ → AfterWrite → List SourceAct → List ℕ → Noted → Type 0
+WriterStores n after_read.Answer held lent t = (t.call ≡ Some (call.Produced n)) × (t.moved ≡ [])
+WriterStores n (after_read.Round form sum) held lent t = Fills found_open form held (take n lent) sum t
 WriterStores n next held lent t = ⊥
 
-abbrev pub WriterCloses : AfterWrite → Told → Type 0
-WriterCloses afterward.Drop t = t.call ≡ Some (call.Drop Writer)
-WriterCloses afterward.WakeWriter t = t.call ≡ Some call.Close
+abbrev pub WriterCloses : AfterWrite → Noted → Type 0
+WriterCloses after_read.Drop t = t.call ≡ Some (call.Drop Writer)
+WriterCloses after_read.WakeWriter t = t.call ≡ Some call.Close
 WriterCloses next t = ⊥
 
-abbrev pub WriterAt : ℕ → WritePoint → List SourceAct → List ℕ → Told → Type 0
+abbrev pub WriterAt : ℕ → WritePoint → List SourceAct → List ℕ → Noted → Type 0
 WriterAt capacity at.Idle held lent t = Unit {0}
 WriterAt capacity at.Dropped held lent t = Unit {0}
 WriterAt capacity (at.QueryHead query) held lent t = (t.call ≡ Some (call.Query Writer query)) × (t.looks ≡ [])
@@ -98,28 +98,28 @@ WriterAt capacity at.Yield held lent t = Fills found_open (Polling true) held []
 WriterAt capacity (at.CallSource form sum) held lent t = Fills found_open form held [] sum t
 WriterAt capacity (at.RoundClosed n form sum) held lent t = Fills found_open form held (take n lent) sum t
 WriterAt capacity (at.StoreTail n next) held lent t = WriterStores n next held lent t
-WriterAt capacity (at.TakeReader next) held lent t = WriterBehind next held t
-WriterAt capacity (at.WakeReader next) held lent t = WriterBehind next held t
+WriterAt capacity (at.TakeReader next) held lent t = WriterAfter next held t
+WriterAt capacity (at.WakeReader next) held lent t = WriterAfter next held t
 WriterAt capacity (at.StoreClosed next) held lent t = WriterCloses next t
 WriterAt capacity at.TakeWriter held lent t = t.call ≡ Some call.Close
 WriterAt capacity at.WakeWriter held lent t = t.call ≡ Some call.Close
 
 -- a step that leads there answers what is right, or goes on where this is told
-abbrev Leads : ℕ → List SourceAct → (Option Answer → List ℕ) → Next WritePoint → Told → Type 0
-Leads capacity held lent_then next t = AreRightFrom capacity Writer t (answer_event Writer next.answer) × WriterAt capacity next.point (source_after next.answer held) (lent_then next.answer) (told_from Writer t (answer_event Writer next.answer))
+abbrev Leads : ℕ → List SourceAct → (Option Answer → List ℕ) → Next WritePoint → Noted → Type 0
+Leads capacity held lent_then next t = AreRightFrom capacity Writer t (answer_event Writer next.answer) × WriterAt capacity next.point (source_after next.answer held) (lent_then next.answer) (noted_from Writer t (answer_event Writer next.answer))
 
 -- with what the step logs before its answer
-abbrev Steps : ℕ → List SourceAct → (Option Answer → List ℕ) → Next WritePoint → Told → List Event → Type 0
+abbrev Steps : ℕ → List SourceAct → (Option Answer → List ℕ) → Next WritePoint → Noted → List Event → Type 0
 Steps capacity held lent_then next t es =
     let events = es ++ answer_event Writer next.answer in
-    AreRightFrom capacity Writer t events × WriterAt capacity next.point (source_after next.answer held) (lent_then next.answer) (told_from Writer t events)
+    AreRightFrom capacity Writer t events × WriterAt capacity next.point (source_after next.answer held) (lent_then next.answer) (noted_from Writer t events)
 
-steps : (capacity : ℕ) (held : List SourceAct) (lent_then : Option Answer → List ℕ) (next : Next WritePoint) (t u : Told) (es : List Event) → AreRightFrom capacity Writer t es → told_from Writer t es ≡ u → Leads capacity held lent_then next u → Steps capacity held lent_then next t es
-steps capacity held lent_then next t u es right told leads =
+steps : (capacity : ℕ) (held : List SourceAct) (lent_then : Option Answer → List ℕ) (next : Next WritePoint) (t u : Noted) (es : List Event) → AreRightFrom capacity Writer t es → noted_from Writer t es ≡ u → Leads capacity held lent_then next u → Steps capacity held lent_then next t es
+steps capacity held lent_then next t u es right noted leads =
     let fs = answer_event Writer next.answer in
-    let behind = told-append Writer t es fs ∙ ap (λ (v : Told). told_from Writer v fs) told in (
-      right-append capacity Writer t es fs right (subst (λ (v : Told). AreRightFrom capacity Writer v fs) (sym told) leads.0),
-      subst (λ (v : Told). WriterAt capacity next.point (source_after next.answer held) (lent_then next.answer) v) (sym behind) leads.1,
+    let after = noted-append Writer t es fs ∙ ap (λ (v : Noted). noted_from Writer v fs) noted in (
+      right-append capacity Writer t es fs right (subst (λ (v : Noted). AreRightFrom capacity Writer v fs) (sym noted) leads.0),
+      subst (λ (v : Noted). WriterAt capacity next.point (source_after next.answer held) (lent_then next.answer) v) (sym after) leads.1,
     )
 
 -- the count of a fill is all that its source gave, whether the last bytes are published or found
@@ -185,7 +185,7 @@ module _ (capacity : ℕ) where
 
   -- where each step leads
 
-  module _ (t : Told) (held : List SourceAct) (lent_then : Option Answer → List ℕ) where
+  module _ (t : Noted) (held : List SourceAct) (lent_then : Option Answer → List ℕ) where
     waits : (first : Option Seen) (form : Form) (answer : Polled Bool) → Fills first form held [] 0 t → AreRightFrom capacity Writer t (answer_event Writer (Some (copy_answer form answer)))
     waits first form answer looks = answers capacity t Writer looks.fill _ looks.is (fill-waits form looks.fill t.moved (bytes_given held) (ends_in_failure held) answer t.looks looks.fills looks.count)
 
@@ -229,19 +229,19 @@ module _ (capacity : ℕ) where
     yields-leads true looks = waits found_open (Polling true) Pending looks
     yields-leads false looks = waits found_open (Polling true) Memory looks
 
-    done-leads : (next : AfterWrite) → WriterBehind next held t → Leads capacity held lent_then (write_done next) t
-    done-leads afterward.Answer told = (answers capacity t Writer _ _ told refl, tt)
-    done-leads afterward.Drop told = (answers capacity t Writer _ _ told tt, tt)
-    done-leads afterward.WakeWriter told = (tt, told)
-    done-leads (afterward.Round form sum) told = (tt, told)
+    done-leads : (next : AfterWrite) → WriterAfter next held t → Leads capacity held lent_then (write_done next) t
+    done-leads after_read.Answer noted = (answers capacity t Writer _ _ noted refl, tt)
+    done-leads after_read.Drop noted = (answers capacity t Writer _ _ noted tt, tt)
+    done-leads after_read.WakeWriter noted = (tt, noted)
+    done-leads (after_read.Round form sum) noted = (tt, noted)
 
-    take-leads : (next : AfterWrite) (is_found : Bool) → WriterBehind next held t → Leads capacity held lent_then (reader_taken next is_found) t
-    take-leads next true told = (tt, told)
-    take-leads next false told = done-leads next told
+    take-leads : (next : AfterWrite) (is_found : Bool) → WriterAfter next held t → Leads capacity held lent_then (reader_taken next is_found) t
+    take-leads next true noted = (tt, noted)
+    take-leads next false noted = done-leads next noted
 
     own-leads : (is_found : Bool) → t.call ≡ Some call.Close → Leads capacity held lent_then (own_taken is_found) t
-    own-leads true told = (tt, told)
-    own-leads false told = (answers capacity t Writer _ _ told tt, tt)
+    own-leads true noted = (tt, noted)
+    own-leads false noted = (answers capacity t Writer _ _ noted tt, tt)
 
     rounds-leads : (is_closed : Bool) (n : ℕ) (form : Form) (sum : ℕ) (looks : List Seen) → t.looks ≡ seen.Closed is_closed ∷ looks → Fills found_open form held (take n (lent_then None)) sum t → Leads capacity held lent_then (writer_rounds is_closed n form sum) t
     rounds-leads true n form sum looks is given =
@@ -250,21 +250,21 @@ module _ (capacity : ℕ) where
     rounds-leads false n form sum looks is given = (tt, given)
 
   -- what is told of a look does not depend on what it found, but for the first one
-  looked : (l : Purpose) (held : List SourceAct) (t : Told) (look : Seen) → WriterLooks found_open l held t → WriterLooks found_open l held (record t { looks = look ∷ t.looks })
+  looked : (l : Purpose) (held : List SourceAct) (t : Noted) (look : Seen) → WriterLooks found_open l held t → WriterLooks found_open l held (record t { looks = look ∷ t.looks })
   looked purpose.Poll held t look looks = record { poll = looks.poll; is = looks.is; polls = looks.polls }
   looked (purpose.Copy form) held t look looks = record { fill = looks.fill; is = looks.is; fills = looks.fills; count = looks.count; found = first-stays t.looks look (seen.Closed false) looks.found }
 
-  first-looked : (l : Purpose) (held : List SourceAct) (t : Told) (look : Seen) → WriterLooks None l held t → WriterLooks (Some look) l held (record t { looks = look ∷ t.looks })
+  first-looked : (l : Purpose) (held : List SourceAct) (t : Noted) (look : Seen) → WriterLooks None l held t → WriterLooks (Some look) l held (record t { looks = look ∷ t.looks })
   first-looked purpose.Poll held t look looks = record { poll = looks.poll; is = looks.is; polls = looks.polls }
   first-looked (purpose.Copy form) held t look looks = record { fill = looks.fill; is = looks.is; fills = looks.fills; count = looks.count; found = first-made t.looks look looks.found }
 
   -- one call of the source
 
-  ends-call : (form : Form) (sum : ℕ) (held : List SourceAct) (t : Told) → Fills found_open form held [] sum t → AreRightFrom capacity Writer t (answer_event Writer (Some (count_answer form sum)))
+  ends-call : (form : Form) (sum : ℕ) (held : List SourceAct) (t : Noted) → Fills found_open form held [] sum t → AreRightFrom capacity Writer t (answer_event Writer (Some (count_answer form sum)))
   ends-call form sum held t given = answers capacity t Writer given.fill _ given.is (fill-counts form given.fill t.moved [] (bytes_given held) (ends_in_failure held) sum t.looks given.fills given.count (λ is_open. refl) given.found)
 
   -- some bytes of an act
-  round-leads : (none : Bool) (n : ℕ) (form : Form) (sum : ℕ) (bytes : List ℕ) (acts : List SourceAct) (lent : List ℕ) (t : Told) → (n == 0) ≡ none → n ≤ length bytes → Fills found_open form (source.Bytes bytes ∷ acts) [] sum t
+  round-leads : (none : Bool) (n : ℕ) (form : Form) (sum : ℕ) (bytes : List ℕ) (acts : List SourceAct) (lent : List ℕ) (t : Noted) → (n == 0) ≡ none → n ≤ length bytes → Fills found_open form (source.Bytes bytes ∷ acts) [] sum t
       → Leads capacity (unspent (drop n bytes) acts) (λ answer. filled_out true answer (take n bytes ++ drop n lent)) (writer_moved none n form sum) t
   round-leads true n form sum bytes acts lent t test within given = (ends-call form sum (source.Bytes bytes ∷ acts) t given, tt)
   round-leads false n form sum bytes acts lent t test within given =
@@ -293,7 +293,7 @@ module _ (capacity : ℕ) where
       take-front : (k : ℕ) (xs ys : List ℕ) → length xs ≡ k → take k (xs ++ ys) ≡ xs
       take-front k xs ys is = take-append-le k xs ys (omega arith) ∙ take_all k xs (omega arith)
 
-  source-leads : (held : List SourceAct) (form : Form) (sum : ℕ) (lent : List ℕ) (t : Told) (room : ℕ) → Fills found_open form held [] sum t
+  source-leads : (held : List SourceAct) (form : Form) (sum : ℕ) (lent : List ℕ) (t : Noted) (room : ℕ) → Fills found_open form held [] sum t
       → let n = moved_by (given (length lent) held) in
       Leads capacity (left_of_source n held) (λ answer. filled_out true answer (take n (bytes_of held) ++ drop n lent)) (write_after capacity room (at.CallSource form sum) (found_of (given (length lent) held))) t
   source-leads [] form sum lent t room given = (ends-call form sum [] t given, tt)
@@ -303,68 +303,68 @@ module _ (capacity : ℕ) where
       round-leads (n == 0) n form sum bytes acts lent t refl (omega arith) given
 
   -- a store of tail
-  stores : (n : ℕ) (next : AfterWrite) (held : List SourceAct) (lent : List ℕ) (t : Told) → n ≤ length lent → WriterStores n next held lent t
-      → let u = record t { moved = t.moved ++ take n lent } in IsSomeAnd t.call (λ (c : Call). MayHaveMoved c u.moved) × WriterBehind next held u
-  stores n afterward.Answer held lent t within told =
-      let whole : t.moved ++ take n lent ≡ take n lent = ap (λ (xs : List ℕ). xs ++ take n lent) told.1 in
+  stores : (n : ℕ) (next : AfterWrite) (held : List SourceAct) (lent : List ℕ) (t : Noted) → n ≤ length lent → WriterStores n next held lent t
+      → let u = record t { moved = t.moved ++ take n lent } in IsSomeAnd t.call (λ (c : Call). MayHaveMoved c u.moved) × WriterAfter next held u
+  stores n after_read.Answer held lent t within noted =
+      let whole : t.moved ++ take n lent ≡ take n lent = ap (λ (xs : List ℕ). xs ++ take n lent) noted.1 in
       let count : length (t.moved ++ take n lent) ≡ n = ap (λ (xs : List ℕ). length xs) whole ∙ length-take-le n lent within in
-      (rw told.0 count, told.0 ∙ ap (λ (k : ℕ). Some (call.Produced k)) (sym count))
-  stores n afterward.Drop held lent t within told = absurd told
-  stores n afterward.WakeWriter held lent t within told = absurd told
-  stores n (afterward.Round form sum) held lent t within told =
+      (rw noted.0 count, noted.0 ∙ ap (λ (k : ℕ). Some (call.Produced k)) (sym count))
+  stores n after_read.Drop held lent t within noted = absurd noted
+  stores n after_read.WakeWriter held lent t within noted = absurd noted
+  stores n (after_read.Round form sum) held lent t within noted =
       let both = length-append t.moved (take n lent) in
-      let count = told.count in
-      let fills = subst (λ (xs : List ℕ). IsFill form told.fill xs (ends_in_failure held)) (sym (append_assoc t.moved (take n lent) (bytes_given held))) told.fills in
-      (rw told.is (fill-moves form told.fill (t.moved ++ take n lent) (bytes_given held) (ends_in_failure held) fills), record { fill = told.fill; is = told.is; fills = fills; count = omega arith; found = told.found })
+      let count = noted.count in
+      let fills = subst (λ (xs : List ℕ). IsFill form noted.fill xs (ends_in_failure held)) (sym (append_assoc t.moved (take n lent) (bytes_given held))) noted.fills in
+      (rw noted.is (fill-moves form noted.fill (t.moved ++ take n lent) (bytes_given held) (ends_in_failure held) fills), record { fill = noted.fill; is = noted.is; fills = fills; count = omega arith; found = noted.found })
 
 -- the step of each point
-pub writer-point : (point : WritePoint) (offered : List ℕ) (p : Pipe) (t : Told) → length p.unread ≤ p.capacity → tail_store point ≤ length p.lent → WriterAt p.capacity point p.source p.lent t
-    → let new = went Writer (offering offered (record p { writer = point })) in AreRightFrom p.capacity Writer t new.events × WriterAt p.capacity new.pipe.writer new.pipe.source new.pipe.lent (told_from Writer t new.events)
-writer-point at.Idle offered p t fits within told = (tt, tt)
-writer-point at.Dropped offered p t fits within told = (tt, tt)
-writer-point (at.QueryHead query) offered p t fits within told = ((tt, tt), (fits, told.0, ap (λ (looks : List Seen). seen.Head (length p.unread) ∷ looks) told.1))
-writer-point (at.QueryTail query count) offered p t fits within told =
+pub writer-point : (point : WritePoint) (offered : List ℕ) (p : Pipe) (t : Noted) → length p.unread ≤ p.capacity → tail_store point ≤ length p.lent → WriterAt p.capacity point p.source p.lent t
+    → let new = went Writer (offering offered (record p { writer = point })) in AreRightFrom p.capacity Writer t new.events × WriterAt p.capacity new.pipe.writer new.pipe.source new.pipe.lent (noted_from Writer t new.events)
+writer-point at.Idle offered p t fits within noted = (tt, tt)
+writer-point at.Dropped offered p t fits within noted = (tt, tt)
+writer-point (at.QueryHead query) offered p t fits within noted = ((tt, tt), (fits, noted.0, ap (λ (looks : List Seen). seen.Head (length p.unread) ∷ looks) noted.1))
+writer-point (at.QueryTail query count) offered p t fits within noted =
     let u = record t { looks = seen.Tail (length p.unread) ∷ t.looks } in
-    let looks = ap (λ (before : List Seen). seen.Tail (length p.unread) ∷ before) told.2 in
-    ((tt, answers p.capacity u Writer (call.Query Writer query) (query_answer query p.capacity count) told.1 (record { number = count; is_found = ap (λ (all : List Seen). number_found Writer all) looks; within = told.0; answers = refl })), tt)
-writer-point at.QueryClosed offered p t fits within told =
+    let looks = ap (λ (before : List Seen). seen.Tail (length p.unread) ∷ before) noted.2 in
+    ((tt, answers p.capacity u Writer (call.Query Writer query) (query_answer query p.capacity count) noted.1 (record { number = count; is_found = ap (λ (all : List Seen). number_found Writer all) looks; within = noted.0; answers = refl })), tt)
+writer-point at.QueryClosed offered p t fits within noted =
     let u = record t { looks = seen.Closed p.is_closed ∷ t.looks } in
-    ((tt, answers p.capacity u Writer (call.IsClosed Writer) _ told.0 (ap (λ (before : List Seen). seen.Closed p.is_closed ∷ before) told.1)), tt)
-writer-point (at.LookClosed l) offered p t fits within told =
+    ((tt, answers p.capacity u Writer (call.IsClosed Writer) _ noted.0 (ap (λ (before : List Seen). seen.Closed p.is_closed ∷ before) noted.1)), tt)
+writer-point (at.LookClosed l) offered p t fits within noted =
     let u = record t { looks = seen.Closed p.is_closed ∷ t.looks } in
-    steps p.capacity p.source (λ answer. lent_after does.LoadClosed (at.LookClosed l) answer p.lent) (writer_is_open p.is_closed (p.room == 0) l) t u (Looked Writer (seen.Closed p.is_closed) ∷ []) (tt, tt) refl (open-leads p.capacity u p.source (λ answer. lent_after does.LoadClosed (at.LookClosed l) answer p.lent) p.is_closed (p.room == 0) l (first-looked p.capacity l p.source t (seen.Closed p.is_closed) told))
-writer-point (at.LookHead l) offered p t fits within told = ((tt, tt), looks-leads p.capacity _ p.source (λ answer. p.lent) (p.capacity - length p.unread == 0) l (looked p.capacity l p.source t _ told))
-writer-point (at.LookRegister l) offered p t fits within told =
+    steps p.capacity p.source (λ answer. lent_after does.LoadClosed (at.LookClosed l) answer p.lent) (writer_is_open p.is_closed (p.room == 0) l) t u (Looked Writer (seen.Closed p.is_closed) ∷ []) (tt, tt) refl (open-leads p.capacity u p.source (λ answer. lent_after does.LoadClosed (at.LookClosed l) answer p.lent) p.is_closed (p.room == 0) l (first-looked p.capacity l p.source t (seen.Closed p.is_closed) noted))
+writer-point (at.LookHead l) offered p t fits within noted = ((tt, tt), looks-leads p.capacity _ p.source (λ answer. p.lent) (p.capacity - length p.unread == 0) l (looked p.capacity l p.source t _ noted))
+writer-point (at.LookRegister l) offered p t fits within noted =
     let quiet = registers-leaves p.capacity t Writer Writer p.writer_call.context in
-    steps p.capacity p.source (λ answer. lent_after does.Register (at.LookRegister l) answer p.lent) (writer_registered (is_granted p.writer_call.context) l) t t (registration_of Writer p.writer_call.context) quiet.0 quiet.1 (registers-leads p.capacity t p.source (λ answer. lent_after does.Register (at.LookRegister l) answer p.lent) (is_granted p.writer_call.context) l told)
-writer-point (at.LookHeadAgain l) offered p t fits within told = ((tt, tt), again-leads p.capacity _ p.source (λ answer. p.lent) (p.capacity - length p.unread == 0) l (looked p.capacity l p.source t _ told))
-writer-point (at.LookClosedAgain l) offered p t fits within told =
+    steps p.capacity p.source (λ answer. lent_after does.Register (at.LookRegister l) answer p.lent) (writer_registered (is_granted p.writer_call.context) l) t t (registration_of Writer p.writer_call.context) quiet.0 quiet.1 (registers-leads p.capacity t p.source (λ answer. lent_after does.Register (at.LookRegister l) answer p.lent) (is_granted p.writer_call.context) l noted)
+writer-point (at.LookHeadAgain l) offered p t fits within noted = ((tt, tt), again-leads p.capacity _ p.source (λ answer. p.lent) (p.capacity - length p.unread == 0) l (looked p.capacity l p.source t _ noted))
+writer-point (at.LookClosedAgain l) offered p t fits within noted =
     let u = record t { looks = seen.Closed p.is_closed ∷ t.looks } in
-    ((tt, ends-leads p.capacity u p.source (λ answer. p.lent) p.is_closed l (looked p.capacity l p.source t _ told)), tt)
-writer-point (at.LookTake l) offered p t fits within told = steps p.capacity p.source (λ answer. p.lent) (writer_is_true l) t t [] tt refl (true-leads p.capacity t p.source (λ answer. p.lent) l told)
-writer-point at.Yield offered p t fits within told =
+    ((tt, ends-leads p.capacity u p.source (λ answer. p.lent) p.is_closed l (looked p.capacity l p.source t _ noted)), tt)
+writer-point (at.LookTake l) offered p t fits within noted = steps p.capacity p.source (λ answer. p.lent) (writer_is_true l) t t [] tt refl (true-leads p.capacity t p.source (λ answer. p.lent) l noted)
+writer-point at.Yield offered p t fits within noted =
     let quiet = yield-leaves p.capacity t Writer p.writer_call.context in
-    steps p.capacity p.source (λ answer. lent_after does.Yield at.Yield answer p.lent) (write_after p.capacity p.room at.Yield (granted (is_yield_granted p.writer_call.context))) t t (yield_of p.writer_call.context) quiet.0 quiet.1 (yields-leads p.capacity t p.source (λ answer. p.lent) (is_yield_granted p.writer_call.context) told, tt)
-writer-point (at.CallSource form sum) offered p t fits within told =
+    steps p.capacity p.source (λ answer. lent_after does.Yield at.Yield answer p.lent) (write_after p.capacity p.room at.Yield (granted (is_yield_granted p.writer_call.context))) t t (yield_of p.writer_call.context) quiet.0 quiet.1 (yields-leads p.capacity t p.source (λ answer. p.lent) (is_yield_granted p.writer_call.context) noted, tt)
+writer-point (at.CallSource form sum) offered p t fits within noted =
     let n = moved_by (given (length offered) p.source) in
     steps p.capacity (left_of_source n p.source) (λ answer. filled_out true answer (take n (bytes_of p.source) ++ drop n offered)) (write_after p.capacity p.room (at.CallSource form sum) (found_of (given (length offered) p.source))) t t [] tt refl
-    (source-leads p.capacity p.source form sum offered t p.room told)
-writer-point (at.RoundClosed n form sum) offered p t fits within told =
+    (source-leads p.capacity p.source form sum offered t p.room noted)
+writer-point (at.RoundClosed n form sum) offered p t fits within noted =
     let u = record t { looks = seen.Closed p.is_closed ∷ t.looks } in
-    let given : Fills found_open form p.source (take n p.lent) sum u = record { fill = told.fill; is = told.is; fills = told.fills; count = told.count; found = first-stays t.looks (seen.Closed p.is_closed) (seen.Closed false) told.found } in
+    let given : Fills found_open form p.source (take n p.lent) sum u = record { fill = noted.fill; is = noted.is; fills = noted.fills; count = noted.count; found = first-stays t.looks (seen.Closed p.is_closed) (seen.Closed false) noted.found } in
     steps p.capacity p.source (λ answer. filled_out true answer p.lent) (writer_rounds p.is_closed n form sum) t u (Looked Writer (seen.Closed p.is_closed) ∷ []) (tt, tt) refl (rounds-leads p.capacity u p.source (λ answer. filled_out true answer p.lent) p.is_closed n form sum t.looks refl given)
-writer-point (at.StoreTail n next) offered p t fits within told =
-    let stored = stores p.capacity n next p.source p.lent t within told in
+writer-point (at.StoreTail n next) offered p t fits within noted =
+    let stored = stores p.capacity n next p.source p.lent t within noted in
     ((stored.0, tt), stored.1)
-writer-point (at.TakeReader next) offered p t fits within told = steps p.capacity p.source (λ answer. p.lent) (reader_taken next (is_some p.reader_waker)) t t [] tt refl (take-leads p.capacity t p.source (λ answer. p.lent) next (is_some p.reader_waker) told)
-writer-point (at.WakeReader next) offered p t fits within told =
+writer-point (at.TakeReader next) offered p t fits within noted = steps p.capacity p.source (λ answer. p.lent) (reader_taken next (is_some p.reader_waker)) t t [] tt refl (take-leads p.capacity t p.source (λ answer. p.lent) next (is_some p.reader_waker) noted)
+writer-point (at.WakeReader next) offered p t fits within noted =
     let quiet = wake-leaves p.capacity t Writer p.writer_call.taken in
-    steps p.capacity p.source (λ answer. p.lent) (write_done next) t t (wake_of p.writer_call.taken) quiet.0 quiet.1 (done-leads p.capacity t p.source (λ answer. p.lent) next told)
-writer-point (at.StoreClosed afterward.WakeWriter) offered p t fits within told = ((tt, tt), told)
-writer-point (at.StoreClosed afterward.Drop) offered p t fits within told = ((tt, tt), told)
-writer-point (at.StoreClosed afterward.Answer) offered p t fits within told = absurd told
-writer-point (at.StoreClosed (afterward.Round form sum)) offered p t fits within told = absurd told
-writer-point at.TakeWriter offered p t fits within told = steps p.capacity p.source (λ answer. p.lent) (own_taken (is_some p.writer_waker)) t t [] tt refl (own-leads p.capacity t p.source (λ answer. p.lent) (is_some p.writer_waker) told)
-writer-point at.WakeWriter offered p t fits within told =
+    steps p.capacity p.source (λ answer. p.lent) (write_done next) t t (wake_of p.writer_call.taken) quiet.0 quiet.1 (done-leads p.capacity t p.source (λ answer. p.lent) next noted)
+writer-point (at.StoreClosed after_read.WakeWriter) offered p t fits within noted = ((tt, tt), noted)
+writer-point (at.StoreClosed after_read.Drop) offered p t fits within noted = ((tt, tt), noted)
+writer-point (at.StoreClosed after_read.Answer) offered p t fits within noted = absurd noted
+writer-point (at.StoreClosed (after_read.Round form sum)) offered p t fits within noted = absurd noted
+writer-point at.TakeWriter offered p t fits within noted = steps p.capacity p.source (λ answer. p.lent) (own_taken (is_some p.writer_waker)) t t [] tt refl (own-leads p.capacity t p.source (λ answer. p.lent) (is_some p.writer_waker) noted)
+writer-point at.WakeWriter offered p t fits within noted =
     let quiet = wake-leaves p.capacity t Writer p.writer_call.taken in
-    steps p.capacity p.source (λ answer. p.lent) (write_after p.capacity p.room at.WakeWriter nothing) t t (wake_of p.writer_call.taken) quiet.0 quiet.1 (answers p.capacity t Writer call.Close answer.Done told tt, tt)
+    steps p.capacity p.source (λ answer. p.lent) (write_after p.capacity p.room at.WakeWriter nothing) t t (wake_of p.writer_call.taken) quiet.0 quiet.1 (answers p.capacity t Writer call.Close answer.Done noted tt, tt)

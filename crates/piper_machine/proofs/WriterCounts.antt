@@ -2,21 +2,21 @@
 -- true only where room is known.
 use Rattle.std.proofs.Common.{◌≡◌, ℕ, ◌+◌, ◌-◌, ◌<◌, ◌≤◌, min, List, [], ◌∷◌, length, Bool, true, false, None, ◌==◌, is_some, Result, Ok, Err, refl, arith}
 use Rattle.std.specs.Prelude.{⊤}
-use Rattle.piper_sides.specs.declared.calls.Side.TheVariants.{Writer}
-use Rattle.piper_sides.specs.declared.polling.Polled.TheVariants.{Ready, Memory}
-use Rattle.piper_sides.specs.declared.scripted.Failed.{Failed}
-use Rattle.piper_sides.specs.declared.scripted.SourceAct.{SourceAct}
-use Rattle.piper_sides.specs.declared.scripted.SourceAct.TheVariants as source
-use Rattle.piper_sides.specs.declared.table.Form.{Form}
-use Rattle.piper_sides.specs.declared.table.Form.TheVariants.{Try, Polling}
-use Rattle.piper_sides.specs.declared.table.Purpose.{Purpose}
-use Rattle.piper_sides.specs.declared.table.Purpose.TheVariants as purpose
-use Rattle.piper_sides.specs.declared.table.AfterWrite.{AfterWrite}
-use Rattle.piper_sides.specs.declared.table.AfterWrite.TheVariants as afterward
-use Rattle.piper_sides.specs.declared.table.WritePoint.{WritePoint}
-use Rattle.piper_sides.specs.declared.table.WritePoint.TheVariants as at
-use Rattle.piper_sides.specs.Open.{is_granted, is_yield_granted}
-use Rattle.piper_sides.specs.Table.{Next, goes_on, ends, look_answer, end_or_pending, write_action, write_after, write_done, writer_is_open, writer_looked, writer_looked_again, writer_registered, writer_is_true, writer_moved, writer_rounds, reader_taken, own_taken}
+use Rattle.piper_protocol.specs.declared.calls.Side.TheVariants.{Writer}
+use Rattle.piper_protocol.specs.declared.polling.Polled.TheVariants.{Ready, Memory}
+use Rattle.piper_protocol.specs.declared.scripted.Failed.{Failed}
+use Rattle.piper_protocol.specs.declared.scripted.SourceAct.{SourceAct}
+use Rattle.piper_protocol.specs.declared.scripted.SourceAct.TheVariants as source
+use Rattle.piper_protocol.specs.declared.table.Form.{Form}
+use Rattle.piper_protocol.specs.declared.table.Form.TheVariants.{Try, Polling}
+use Rattle.piper_protocol.specs.declared.table.Purpose.{Purpose}
+use Rattle.piper_protocol.specs.declared.table.Purpose.TheVariants as purpose
+use Rattle.piper_protocol.specs.declared.table.AfterWrite.{AfterWrite}
+use Rattle.piper_protocol.specs.declared.table.AfterWrite.TheVariants as after_read
+use Rattle.piper_protocol.specs.declared.table.WritePoint.{WritePoint}
+use Rattle.piper_protocol.specs.declared.table.WritePoint.TheVariants as at
+use Rattle.piper_protocol.specs.Open.{is_granted, is_yield_granted}
+use Rattle.piper_protocol.specs.Table.{Next, goes_on, ends, look_answer, end_or_pending, write_action, write_after, write_done, writer_is_open, writer_looked, writer_looked_again, writer_registered, writer_is_true, writer_moved, writer_rounds, reader_taken, own_taken}
 use Rattle.piper_machine.specs.Pipe.{Pipe}
 use Rattle.piper_machine.specs.Round.{given, found_of}
 use Rattle.piper_machine.specs.Action.{performed, found_by}
@@ -34,7 +34,7 @@ look_calls room purpose.Poll = 0
 look_calls room (purpose.Copy form) = 1 + room
 
 abbrev calls_after : ℕ → AfterWrite → ℕ
-calls_after room (afterward.Round form sum) = 1 + room
+calls_after room (after_read.Round form sum) = 1 + room
 calls_after room next = 0
 
 abbrev pub write_calls : ℕ → ℕ → WritePoint → ℕ
@@ -74,10 +74,10 @@ pub writer-fits : (point : WritePoint) (room : ℕ) (k : Knowledge) → WriterSe
 writer-fits (at.QueryHead query) room k sees = sees
 writer-fits (at.LookHead l) room k sees = sees
 writer-fits (at.LookHeadAgain l) room k sees = sees
-writer-fits (at.StoreClosed afterward.Answer) room k sees = tt
-writer-fits (at.StoreClosed afterward.Drop) room k sees = tt
-writer-fits (at.StoreClosed afterward.WakeWriter) room k sees = tt
-writer-fits (at.StoreClosed (afterward.Round form sum)) room k sees = tt
+writer-fits (at.StoreClosed after_read.Answer) room k sees = tt
+writer-fits (at.StoreClosed after_read.Drop) room k sees = tt
+writer-fits (at.StoreClosed after_read.WakeWriter) room k sees = tt
+writer-fits (at.StoreClosed (after_read.Round form sum)) room k sees = tt
 writer-fits point room k sees = tt
 
 -- where a look finds so much
@@ -149,16 +149,16 @@ module _ (room : ℕ) (k : Knowledge) where
 
   -- the call of a waker, or none
   wake-goes : (next : AfterWrite) → WriterGoes (at.WakeReader next) room k (write_done next) room k
-  wake-goes afterward.Answer = record { sees = tt; ready = λ enough. tt; nearer = λ f most. record { from = most; steps = omega arith; calls = omega arith } }
-  wake-goes afterward.Drop = record { sees = tt; ready = λ enough. tt; nearer = λ f most. record { from = most; steps = omega arith; calls = omega arith } }
-  wake-goes afterward.WakeWriter = record { sees = tt; ready = λ enough. tt; nearer = λ f most. record { from = most; steps = omega arith; calls = omega arith } }
-  wake-goes (afterward.Round form sum) = record { sees = tt; ready = λ enough. tt; nearer = λ f most. record { from = most; steps = omega arith; calls = omega arith } }
+  wake-goes after_read.Answer = record { sees = tt; ready = λ enough. tt; nearer = λ f most. record { from = most; steps = omega arith; calls = omega arith } }
+  wake-goes after_read.Drop = record { sees = tt; ready = λ enough. tt; nearer = λ f most. record { from = most; steps = omega arith; calls = omega arith } }
+  wake-goes after_read.WakeWriter = record { sees = tt; ready = λ enough. tt; nearer = λ f most. record { from = most; steps = omega arith; calls = omega arith } }
+  wake-goes (after_read.Round form sum) = record { sees = tt; ready = λ enough. tt; nearer = λ f most. record { from = most; steps = omega arith; calls = omega arith } }
 
   taken-goes : (next : AfterWrite) (is_found : Bool) → WriterGoes (at.TakeReader next) room k (reader_taken next is_found) room k
-  taken-goes afterward.Answer false = record { sees = tt; ready = λ enough. tt; nearer = λ f most. record { from = most; steps = omega arith; calls = omega arith } }
-  taken-goes afterward.Drop false = record { sees = tt; ready = λ enough. tt; nearer = λ f most. record { from = most; steps = omega arith; calls = omega arith } }
-  taken-goes afterward.WakeWriter false = record { sees = tt; ready = λ enough. tt; nearer = λ f most. record { from = most; steps = omega arith; calls = omega arith } }
-  taken-goes (afterward.Round form sum) false = record { sees = tt; ready = λ enough. tt; nearer = λ f most. record { from = most; steps = omega arith; calls = omega arith } }
+  taken-goes after_read.Answer false = record { sees = tt; ready = λ enough. tt; nearer = λ f most. record { from = most; steps = omega arith; calls = omega arith } }
+  taken-goes after_read.Drop false = record { sees = tt; ready = λ enough. tt; nearer = λ f most. record { from = most; steps = omega arith; calls = omega arith } }
+  taken-goes after_read.WakeWriter false = record { sees = tt; ready = λ enough. tt; nearer = λ f most. record { from = most; steps = omega arith; calls = omega arith } }
+  taken-goes (after_read.Round form sum) false = record { sees = tt; ready = λ enough. tt; nearer = λ f most. record { from = most; steps = omega arith; calls = omega arith } }
   taken-goes next true = record { sees = tt; ready = λ enough. tt; nearer = λ f most. record { from = most; steps = omega arith; calls = omega arith } }
 
   own-goes : (is_found : Bool) → WriterGoes at.TakeWriter room k (own_taken is_found) room k
@@ -195,9 +195,9 @@ writer-goes (at.RoundClosed n form sum) lent p k sees may busy = rounds-go p.roo
 writer-goes (at.StoreTail n next) lent p k sees may busy = store-goes p.room k n _ next
 writer-goes (at.TakeReader next) lent p k sees may busy = taken-goes p.room k next (is_some p.reader_waker)
 writer-goes (at.WakeReader next) lent p k sees may busy = wake-goes p.room k next
-writer-goes (at.StoreClosed afterward.WakeWriter) lent p k sees may busy = record { sees = tt; ready = λ enough. tt; nearer = λ f most. record { from = most; steps = omega arith; calls = omega arith } }
-writer-goes (at.StoreClosed afterward.Answer) lent p k sees may busy = record { sees = tt; ready = λ enough. tt; nearer = λ f most. record { from = most; steps = omega arith; calls = omega arith } }
-writer-goes (at.StoreClosed afterward.Drop) lent p k sees may busy = record { sees = tt; ready = λ enough. tt; nearer = λ f most. record { from = most; steps = omega arith; calls = omega arith } }
-writer-goes (at.StoreClosed (afterward.Round form sum)) lent p k sees may busy = record { sees = tt; ready = λ enough. tt; nearer = λ f most. record { from = most; steps = omega arith; calls = omega arith } }
+writer-goes (at.StoreClosed after_read.WakeWriter) lent p k sees may busy = record { sees = tt; ready = λ enough. tt; nearer = λ f most. record { from = most; steps = omega arith; calls = omega arith } }
+writer-goes (at.StoreClosed after_read.Answer) lent p k sees may busy = record { sees = tt; ready = λ enough. tt; nearer = λ f most. record { from = most; steps = omega arith; calls = omega arith } }
+writer-goes (at.StoreClosed after_read.Drop) lent p k sees may busy = record { sees = tt; ready = λ enough. tt; nearer = λ f most. record { from = most; steps = omega arith; calls = omega arith } }
+writer-goes (at.StoreClosed (after_read.Round form sum)) lent p k sees may busy = record { sees = tt; ready = λ enough. tt; nearer = λ f most. record { from = most; steps = omega arith; calls = omega arith } }
 writer-goes at.TakeWriter lent p k sees may busy = own-goes p.room k (is_some p.writer_waker)
 writer-goes at.WakeWriter lent p k sees may busy = record { sees = tt; ready = λ enough. tt; nearer = λ f most. record { from = most; steps = omega arith; calls = omega arith } }

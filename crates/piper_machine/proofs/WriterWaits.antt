@@ -3,23 +3,23 @@
 use Rattle.std.proofs.Common.{◌≡◌, ℕ, ◌-◌, ◌≤◌, List, [], ◌++◌, length, take, Bool, true, false, Option, None, Some, ◌==◌, Result, Ok, Err, refl, sym, ap, subst, ◌∙◌, arith, length-append, length-take-le}
 use Rattle.std.specs.Bool.{⊤}
 use Rattle.std.proofs.lemmas.Bool.Decides.{nat_tests}
-use Rattle.piper_sides.specs.declared.calls.Side.TheVariants.{Reader, Writer}
-use Rattle.piper_sides.specs.declared.calls.Query.{Query}
-use Rattle.piper_sides.specs.declared.events.Answer.TheVariants.{Done}
-use Rattle.piper_sides.specs.declared.polling.Context.{Context}
-use Rattle.piper_sides.specs.declared.scripted.Failed.{Failed}
-use Rattle.piper_sides.specs.declared.scripted.SourceAct.{SourceAct}
-use Rattle.piper_sides.specs.declared.table.Form.{Form}
-use Rattle.piper_sides.specs.declared.table.Form.TheVariants.{Try, Polling}
-use Rattle.piper_sides.specs.declared.table.Purpose.{Purpose}
-use Rattle.piper_sides.specs.declared.table.Purpose.TheVariants as purpose
-use Rattle.piper_sides.specs.declared.table.AfterWrite.{AfterWrite}
-use Rattle.piper_sides.specs.declared.table.AfterWrite.TheVariants as afterward
-use Rattle.piper_sides.specs.declared.table.WritePoint.{WritePoint}
-use Rattle.piper_sides.specs.declared.table.WritePoint.TheVariants as at
-use Rattle.piper_sides.specs.Table.{Next, write_action, end_or_pending, look_answer, writer_is_open, writer_looked, writer_looked_again, writer_moved, writer_rounds, write_after, yield_answer, ends, write_done}
-use Rattle.piper_sides.specs.Log.{answer_event}
-use Rattle.piper_sides.specs.Open.{is_yield_granted}
+use Rattle.piper_protocol.specs.declared.calls.Side.TheVariants.{Reader, Writer}
+use Rattle.piper_protocol.specs.declared.calls.Query.{Query}
+use Rattle.piper_protocol.specs.declared.events.Answer.TheVariants.{Done}
+use Rattle.piper_protocol.specs.declared.polling.Context.{Context}
+use Rattle.piper_protocol.specs.declared.scripted.Failed.{Failed}
+use Rattle.piper_protocol.specs.declared.scripted.SourceAct.{SourceAct}
+use Rattle.piper_protocol.specs.declared.table.Form.{Form}
+use Rattle.piper_protocol.specs.declared.table.Form.TheVariants.{Try, Polling}
+use Rattle.piper_protocol.specs.declared.table.Purpose.{Purpose}
+use Rattle.piper_protocol.specs.declared.table.Purpose.TheVariants as purpose
+use Rattle.piper_protocol.specs.declared.table.AfterWrite.{AfterWrite}
+use Rattle.piper_protocol.specs.declared.table.AfterWrite.TheVariants as after_read
+use Rattle.piper_protocol.specs.declared.table.WritePoint.{WritePoint}
+use Rattle.piper_protocol.specs.declared.table.WritePoint.TheVariants as at
+use Rattle.piper_protocol.specs.Table.{Next, write_action, end_or_pending, look_answer, writer_is_open, writer_looked, writer_looked_again, writer_moved, writer_rounds, write_after, yield_answer, ends, write_done}
+use Rattle.piper_protocol.specs.Log.{answer_event}
+use Rattle.piper_protocol.specs.Open.{is_yield_granted}
 use Rattle.piper_machine.specs.Pipe.{Pipe}
 use Rattle.piper_machine.specs.Sound.{IsSound}
 use Rattle.piper_machine.specs.Action.{logged_of, registration_of, wake_of, yield_of, refreshed_by}
@@ -27,21 +27,21 @@ use Rattle.piper_machine.specs.Step.{call_after, went, offering}
 use Rattle.piper_machine.specs.Round.{given, found_of}
 use Rattle.piper_machine.specs.Waiting.{IsBlocked}
 use Rattle.piper_machine.specs.Wait.{Wait, wait_from}
-use Rattle.piper_machine.proofs.Watching.{Errand, wakes, write_errand, Watched, woken, calmly, taking, waking, holding, Same, same, Touch, rests, stores, finds, misses, calls, hears, hears-more, hears-it, hears-handed, rewatch, touched, touched-pending, IsHanded, HasBegun, Awaits, handed-touched, begun-touched, awaits-touched, awaits-more, has_begun, awaits, refused-told, counted-told, yielded, yield-heard, answered-passes, registration-passes, wake-heard, context_of, query-told}
+use Rattle.piper_machine.proofs.Watching.{Errand, wakes, write_errand, Watched, woken, calmly, taking, waking, holding, Same, same, Touch, rests, stores, finds, misses, calls, hears, hears-more, hears-it, hears-handed, rewatch, touched, touched-pending, IsHanded, HasBegun, Awaits, handed-touched, begun-touched, awaits-touched, awaits-more, has_begun, awaits, refused-noted, counted-noted, yielded, yield-heard, answered-passes, registration-passes, wake-heard, context_of, query-noted}
 
 -- what holds of the pipe while the waker stands in the slot: nothing any more once the writer
 -- itself has closed; behind its own take it does not stand there, and a close that wakes the reader
 -- alone does not occur
 abbrev pub write_calm : WritePoint → Pipe → Type 0
 write_calm at.Dropped p = ⊤
-write_calm (at.TakeReader afterward.Drop) p = ⊤
-write_calm (at.TakeReader afterward.WakeWriter) p = ⊤
-write_calm (at.WakeReader afterward.Drop) p = ⊤
-write_calm (at.WakeReader afterward.WakeWriter) p = ⊤
+write_calm (at.TakeReader after_read.Drop) p = ⊤
+write_calm (at.TakeReader after_read.WakeWriter) p = ⊤
+write_calm (at.WakeReader after_read.Drop) p = ⊤
+write_calm (at.WakeReader after_read.WakeWriter) p = ⊤
 write_calm at.TakeWriter p = ⊤
 write_calm at.WakeWriter p = ⊥
-write_calm (at.StoreClosed afterward.Answer) p = ⊥
-write_calm (at.StoreClosed (afterward.Round form sum)) p = ⊥
+write_calm (at.StoreClosed after_read.Answer) p = ⊥
+write_calm (at.StoreClosed (after_read.Round form sum)) p = ⊥
 write_calm point p = IsBlocked Writer p
 
 -- what the writer took from its own slot
@@ -74,14 +74,14 @@ same-blocked same b = (same-full same b.0, same.closed ∙ b.1)
 
 write_calm-same : {p q : Pipe} (point : WritePoint) → Same p q → write_calm point p → write_calm point q
 write_calm-same at.Dropped same c = tt
-write_calm-same (at.TakeReader afterward.Drop) same c = tt
-write_calm-same (at.TakeReader afterward.WakeWriter) same c = tt
-write_calm-same (at.WakeReader afterward.Drop) same c = tt
-write_calm-same (at.WakeReader afterward.WakeWriter) same c = tt
+write_calm-same (at.TakeReader after_read.Drop) same c = tt
+write_calm-same (at.TakeReader after_read.WakeWriter) same c = tt
+write_calm-same (at.WakeReader after_read.Drop) same c = tt
+write_calm-same (at.WakeReader after_read.WakeWriter) same c = tt
 write_calm-same at.TakeWriter same c = tt
 write_calm-same at.WakeWriter same c = c
-write_calm-same (at.StoreClosed afterward.Answer) same c = c
-write_calm-same (at.StoreClosed (afterward.Round form sum)) same c = c
+write_calm-same (at.StoreClosed after_read.Answer) same c = c
+write_calm-same (at.StoreClosed (after_read.Round form sum)) same c = c
 write_calm-same point same c = same-blocked same c
 
 look-touched : (p q : Pipe) (e e_after : Errand) (w v : Wait) (point : WritePoint) → q.writer_call ≡ p.writer_call → Touch p q p.writer_waker q.writer_waker e e_after w v → WriteLook point p e w → WriteLook point q e_after v
@@ -111,14 +111,14 @@ abbrev Goes : Pipe → Errand → Wait → Type 0
 Goes p e w = WriteWaits p e w → let to = went Writer p in WriteWaits to.pipe e (wait_from Writer w to.events)
 
 queried : (query : Query) (count : ℕ) (p : Pipe) (e : Errand) (w : Wait) → Goes (record p { writer = at.QueryTail query count }) e w
-queried query count p e w h = rw (query-told query p.capacity count w) (record { waiting = h.waiting; look = tt })
+queried query count p e w h = rw (query-noted query p.capacity count w) (record { waiting = h.waiting; look = tt })
 
 -- a call that goes on, or has answered, with this left of its source and of what is lent
-abbrev Stands : Next WritePoint → List SourceAct → List ℕ → Pipe → Errand → Wait → Type 0
-Stands next source lent p e w =
+abbrev IsValid : Next WritePoint → List SourceAct → List ℕ → Pipe → Errand → Wait → Type 0
+IsValid next source lent p e w =
     WriteWaits (record p { writer = next.point; writer_call = call_after next.answer p.writer_call; source = source; lent = lent }) e (wait_from Writer w (answer_event Writer next.answer))
 
-opens : (l : Purpose) (is_closed none : Bool) (source : List SourceAct) (lent : List ℕ) (p : Pipe) (e : Errand) (w : Wait) → WriteWaits (record p { writer = at.LookClosed l }) e w → Stands (writer_is_open is_closed none l) source lent p e w
+opens : (l : Purpose) (is_closed none : Bool) (source : List SourceAct) (lent : List ℕ) (p : Pipe) (e : Errand) (w : Wait) → WriteWaits (record p { writer = at.LookClosed l }) e w → IsValid (writer_is_open is_closed none l) source lent p e w
 opens purpose.Poll true none source lent p e w h = record { waiting = h.waiting; look = tt }
 opens (purpose.Copy Try) true none source lent p e w h = record { waiting = h.waiting; look = tt }
 opens (purpose.Copy (Polling is_drawn)) true none source lent p e w h = record { waiting = h.waiting; look = tt }
@@ -144,10 +144,10 @@ registers l true waker draw yields taken p e w h = record {
   waiting = λ pending. absurd (let never = h.look.0 in cc);
   look = (has_begun l _ _ h.look, awaits l _ _ _ e (calmly (ap (λ (n : ℕ). Some n) (sym h.look.1)) tt));
 }
-registers l false waker draw yields taken p e w h = rw (refused-told l w) (record { waiting = h.waiting; look = tt })
+registers l false waker draw yields taken p e w h = rw (refused-noted l w) (record { waiting = h.waiting; look = tt })
 
 registers-if : (l : Purpose) (context : Option Context) (taken : Option ℕ) (p : Pipe) (e : Errand) (w : Wait) → Goes (with_context context taken l p) e w
-registers-if l None taken p e w h = rw (refused-told l w) (record { waiting = h.waiting; look = tt })
+registers-if l None taken p e w h = rw (refused-noted l w) (record { waiting = h.waiting; look = tt })
 registers-if l (Some cx) taken p e w h = registers l cx.luck.register_granted cx.waker cx.luck.draw cx.luck.yield_granted taken p e w h
 
 -- the second load of head
@@ -160,7 +160,7 @@ looked-again (purpose.Copy (Polling is_drawn)) false p e w full h = record { wai
 
 -- the last load of closed: without room in an open pipe the writer waits from now on
 closed-again : (l : Purpose) (is_closed : Bool) (source : List SourceAct) (lent : List ℕ) (p : Pipe) (e : Errand) (w : Wait) → p.is_closed ≡ is_closed → WriteWaits (record p { writer = at.LookClosedAgain l }) e w
-    → Stands (ends at.Idle (look_answer l (end_or_pending is_closed))) source lent p e w
+    → IsValid (ends at.Idle (look_answer l (end_or_pending is_closed))) source lent p e w
 closed-again purpose.Poll true source lent p e w flag h = record { waiting = h.waiting; look = tt }
 closed-again purpose.Poll false source lent p e w flag h = record { waiting = λ pending. rewatch _ _ refl refl refl (λ a. a) (λ full. (full, flag)) h.look.1; look = tt }
 closed-again (purpose.Copy Try) is_closed source lent p e w flag h = record { waiting = h.waiting; look = tt }
@@ -184,17 +184,17 @@ yields-if None taken p e w h = record { waiting = h.waiting; look = tt }
 yields-if (Some cx) taken p e w h = yields cx.luck.yield_granted cx.waker cx.luck.draw cx.luck.register_granted taken p e w h
 
 -- a round: it goes on, or the call answers a count or a failure
-moves-on : (none : Bool) (n : ℕ) (form : Form) (sum : ℕ) (source : List SourceAct) (lent : List ℕ) (p : Pipe) (e : Errand) (w : Wait) → WriteWaits (record p { writer = at.CallSource form sum }) e w → Stands (writer_moved none n form sum) source lent p e w
-moves-on true n form sum source lent p e w h = rw (counted-told form sum w) (record { waiting = h.waiting; look = tt })
+moves-on : (none : Bool) (n : ℕ) (form : Form) (sum : ℕ) (source : List SourceAct) (lent : List ℕ) (p : Pipe) (e : Errand) (w : Wait) → WriteWaits (record p { writer = at.CallSource form sum }) e w → IsValid (writer_moved none n form sum) source lent p e w
+moves-on true n form sum source lent p e w h = rw (counted-noted form sum w) (record { waiting = h.waiting; look = tt })
 moves-on false n form sum source lent p e w h = record { waiting = h.waiting; look = tt }
 
 moves : (given : Result ℕ Failed) (form : Form) (sum : ℕ) (source : List SourceAct) (lent : List ℕ) (p : Pipe) (e : Errand) (w : Wait) → WriteWaits (record p { writer = at.CallSource form sum }) e w
-    → Stands (write_after p.capacity p.room (at.CallSource form sum) (found_of given)) source lent p e w
+    → IsValid (write_after p.capacity p.room (at.CallSource form sum) (found_of given)) source lent p e w
 moves (Ok n) form sum source lent p e w h = moves-on (n == 0) n form sum source lent p e w h
 moves (Err fails) form sum source lent p e w h = record { waiting = h.waiting; look = tt }
 
-rounds : (is_closed : Bool) (n : ℕ) (form : Form) (sum : ℕ) (source : List SourceAct) (lent : List ℕ) (p : Pipe) (e : Errand) (w : Wait) → WriteWaits (record p { writer = at.RoundClosed n form sum }) e w → Stands (writer_rounds is_closed n form sum) source lent p e w
-rounds true n form sum source lent p e w h = rw (counted-told form sum w) (record { waiting = h.waiting; look = tt })
+rounds : (is_closed : Bool) (n : ℕ) (form : Form) (sum : ℕ) (source : List SourceAct) (lent : List ℕ) (p : Pipe) (e : Errand) (w : Wait) → WriteWaits (record p { writer = at.RoundClosed n form sum }) e w → IsValid (writer_rounds is_closed n form sum) source lent p e w
+rounds true n form sum source lent p e w h = rw (counted-noted form sum w) (record { waiting = h.waiting; look = tt })
 rounds false n form sum source lent p e w h = record { waiting = h.waiting; look = tt }
 
 -- a full pipe has no room for a byte
@@ -205,37 +205,37 @@ none_stored p n sound within full =
     omega (arith, sound.room, sound.lent_room)
 
 publishes : (next : AfterWrite) (n : ℕ) (p : Pipe) (e : Errand) (w : Wait) → IsSound (record p { writer = at.StoreTail n next }) → Goes (record p { writer = at.StoreTail n next }) e w
-publishes afterward.Answer n p e w sound h = record { waiting = λ pending. rewatch _ _ refl refl refl (λ a. a) (λ c. (none_stored (record p { writer = at.StoreTail n afterward.Answer }) n sound sound.tail_store c.0, c.1)) (h.waiting pending); look = tt }
-publishes afterward.Drop n p e w sound h = record { waiting = λ pending. rewatch _ _ refl refl refl (λ a. a) (λ c. tt) (h.waiting pending); look = tt }
-publishes afterward.WakeWriter n p e w sound h = record { waiting = λ pending. rewatch _ _ refl refl refl (λ a. a) (λ c. tt) (h.waiting pending); look = tt }
-publishes (afterward.Round form sum) n p e w sound h =
-    record { waiting = λ pending. rewatch _ _ refl refl refl (λ a. a) (λ c. (none_stored (record p { writer = at.StoreTail n (afterward.Round form sum) }) n sound sound.tail_store c.0, c.1)) (h.waiting pending); look = tt }
+publishes after_read.Answer n p e w sound h = record { waiting = λ pending. rewatch _ _ refl refl refl (λ a. a) (λ c. (none_stored (record p { writer = at.StoreTail n after_read.Answer }) n sound sound.tail_store c.0, c.1)) (h.waiting pending); look = tt }
+publishes after_read.Drop n p e w sound h = record { waiting = λ pending. rewatch _ _ refl refl refl (λ a. a) (λ c. tt) (h.waiting pending); look = tt }
+publishes after_read.WakeWriter n p e w sound h = record { waiting = λ pending. rewatch _ _ refl refl refl (λ a. a) (λ c. tt) (h.waiting pending); look = tt }
+publishes (after_read.Round form sum) n p e w sound h =
+    record { waiting = λ pending. rewatch _ _ refl refl refl (λ a. a) (λ c. (none_stored (record p { writer = at.StoreTail n (after_read.Round form sum) }) n sound sound.tail_store c.0, c.1)) (h.waiting pending); look = tt }
 
 takes-readers : (next : AfterWrite) (slot : Option ℕ) (p : Pipe) (e : Errand) (w : Wait) → Goes (record p { writer = at.TakeReader next; reader_waker = slot }) e w
-takes-readers afterward.Answer None p e w h = record { waiting = h.waiting; look = tt }
-takes-readers afterward.Drop None p e w h = record { waiting = h.waiting; look = tt }
-takes-readers afterward.WakeWriter None p e w h = record { waiting = h.waiting; look = tt }
-takes-readers afterward.Answer (Some waker) p e w h = record { waiting = h.waiting; look = tt }
-takes-readers afterward.Drop (Some waker) p e w h = record { waiting = h.waiting; look = tt }
-takes-readers afterward.WakeWriter (Some waker) p e w h = record { waiting = h.waiting; look = tt }
-takes-readers (afterward.Round form sum) None p e w h = record { waiting = h.waiting; look = tt }
-takes-readers (afterward.Round form sum) (Some waker) p e w h = record { waiting = h.waiting; look = tt }
+takes-readers after_read.Answer None p e w h = record { waiting = h.waiting; look = tt }
+takes-readers after_read.Drop None p e w h = record { waiting = h.waiting; look = tt }
+takes-readers after_read.WakeWriter None p e w h = record { waiting = h.waiting; look = tt }
+takes-readers after_read.Answer (Some waker) p e w h = record { waiting = h.waiting; look = tt }
+takes-readers after_read.Drop (Some waker) p e w h = record { waiting = h.waiting; look = tt }
+takes-readers after_read.WakeWriter (Some waker) p e w h = record { waiting = h.waiting; look = tt }
+takes-readers (after_read.Round form sum) None p e w h = record { waiting = h.waiting; look = tt }
+takes-readers (after_read.Round form sum) (Some waker) p e w h = record { waiting = h.waiting; look = tt }
 
 wakes-reader : (next : AfterWrite) (context : Option Context) (name : Option ℕ) (p : Pipe) (e : Errand) (w : Wait) → Goes (record p { writer = at.WakeReader next; writer_call = record { context = context; taken = name } }) e w
-wakes-reader afterward.Answer context None p e w h = record { waiting = h.waiting; look = tt }
-wakes-reader afterward.Drop context None p e w h = record { waiting = h.waiting; look = tt }
-wakes-reader afterward.WakeWriter context None p e w h = record { waiting = h.waiting; look = tt }
-wakes-reader afterward.Answer context (Some waker) p e w h = record { waiting = λ pending. rewatch _ _ refl refl refl (hears-more (Some waker) w) (λ c. c) (h.waiting pending); look = tt }
-wakes-reader afterward.Drop context (Some waker) p e w h = record { waiting = λ pending. rewatch _ _ refl refl refl (hears-more (Some waker) w) (λ c. c) (h.waiting pending); look = tt }
-wakes-reader afterward.WakeWriter context (Some waker) p e w h = record { waiting = λ pending. rewatch _ _ refl refl refl (hears-more (Some waker) w) (λ c. c) (h.waiting pending); look = tt }
-wakes-reader (afterward.Round form sum) context None p e w h = record { waiting = h.waiting; look = tt }
-wakes-reader (afterward.Round form sum) context (Some waker) p e w h = record { waiting = λ pending. rewatch _ _ refl refl refl (hears-more (Some waker) w) (λ c. c) (h.waiting pending); look = tt }
+wakes-reader after_read.Answer context None p e w h = record { waiting = h.waiting; look = tt }
+wakes-reader after_read.Drop context None p e w h = record { waiting = h.waiting; look = tt }
+wakes-reader after_read.WakeWriter context None p e w h = record { waiting = h.waiting; look = tt }
+wakes-reader after_read.Answer context (Some waker) p e w h = record { waiting = λ pending. rewatch _ _ refl refl refl (hears-more (Some waker) w) (λ c. c) (h.waiting pending); look = tt }
+wakes-reader after_read.Drop context (Some waker) p e w h = record { waiting = λ pending. rewatch _ _ refl refl refl (hears-more (Some waker) w) (λ c. c) (h.waiting pending); look = tt }
+wakes-reader after_read.WakeWriter context (Some waker) p e w h = record { waiting = λ pending. rewatch _ _ refl refl refl (hears-more (Some waker) w) (λ c. c) (h.waiting pending); look = tt }
+wakes-reader (after_read.Round form sum) context None p e w h = record { waiting = h.waiting; look = tt }
+wakes-reader (after_read.Round form sum) context (Some waker) p e w h = record { waiting = λ pending. rewatch _ _ refl refl refl (hears-more (Some waker) w) (λ c. c) (h.waiting pending); look = tt }
 
 closes : (next : AfterWrite) (p : Pipe) (e : Errand) (w : Wait) → Goes (record p { writer = at.StoreClosed next }) e w
-closes afterward.Answer p e w h = record { waiting = λ pending. rewatch _ _ refl refl refl (λ a. a) (λ c. absurd c) (h.waiting pending); look = tt }
-closes (afterward.Round form sum) p e w h = record { waiting = λ pending. rewatch _ _ refl refl refl (λ a. a) (λ c. absurd c) (h.waiting pending); look = tt }
-closes afterward.Drop p e w h = record { waiting = λ pending. rewatch _ _ refl refl refl (λ a. a) (λ c. tt) (h.waiting pending); look = tt }
-closes afterward.WakeWriter p e w h = record { waiting = λ pending. rewatch _ _ refl refl refl (λ a. a) (λ c. tt) (h.waiting pending); look = tt }
+closes after_read.Answer p e w h = record { waiting = λ pending. rewatch _ _ refl refl refl (λ a. a) (λ c. absurd c) (h.waiting pending); look = tt }
+closes (after_read.Round form sum) p e w h = record { waiting = λ pending. rewatch _ _ refl refl refl (λ a. a) (λ c. absurd c) (h.waiting pending); look = tt }
+closes after_read.Drop p e w h = record { waiting = λ pending. rewatch _ _ refl refl refl (λ a. a) (λ c. tt) (h.waiting pending); look = tt }
+closes after_read.WakeWriter p e w h = record { waiting = λ pending. rewatch _ _ refl refl refl (λ a. a) (λ c. tt) (h.waiting pending); look = tt }
 
 -- behind a close the writer empties its own slot: what stood there it holds
 empties : {w : Wait} {e : Errand} (slot : Option ℕ) (calm : Type 0) → Watched w slot None calm e → Watched w None slot ⊥ e
@@ -306,10 +306,10 @@ takes-touch next None p w = misses refl refl (answered-passes Reader Writer w w 
 takes-touch next (Some waker) p w = finds waker refl refl refl refl
 
 closes-touch : (next : AfterWrite) (p : Pipe) (w : Wait) → Touches (record p { writer = at.StoreClosed next }) w
-closes-touch afterward.Answer p w = stores refl refl refl refl
-closes-touch (afterward.Round form sum) p w = stores refl refl refl refl
-closes-touch afterward.Drop p w = stores refl refl refl refl
-closes-touch afterward.WakeWriter p w = stores refl refl refl refl
+closes-touch after_read.Answer p w = stores refl refl refl refl
+closes-touch (after_read.Round form sum) p w = stores refl refl refl refl
+closes-touch after_read.Drop p w = stores refl refl refl refl
+closes-touch after_read.WakeWriter p w = stores refl refl refl refl
 
 abbrev pub TouchesOffered : List ℕ → Pipe → Wait → Type 0
 TouchesOffered offered p w =

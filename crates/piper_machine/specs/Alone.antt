@@ -1,33 +1,33 @@
 -- What remains of a call from any point inside it,
 -- if the other side makes no step until it answers.
 use Rattle.std.specs.Prelude.{ℕ, ◌+◌, ◌-◌, ◌*◌, min, [], length, Bool, true, false, Option, None, Some, ◌==◌, Result, Ok}
-use Rattle.piper_sides.specs.declared.calls.Side.{Side}
-use Rattle.piper_sides.specs.declared.calls.Side.TheVariants.{Reader, Writer}
-use Rattle.piper_sides.specs.declared.events.Answer.{Answer}
-use Rattle.piper_sides.specs.declared.events.Answer.TheVariants.{Count, Flag, Poll, Copy, Done}
-use Rattle.piper_sides.specs.declared.polling.Context.{Context}
-use Rattle.piper_sides.specs.declared.polling.Polled.{Polled}
-use Rattle.piper_sides.specs.declared.polling.Polled.TheVariants.{Ready, Memory}
-use Rattle.piper_sides.specs.declared.scripted.Failed.{Failed}
-use Rattle.piper_sides.specs.declared.table.Form.{Form}
-use Rattle.piper_sides.specs.declared.table.Form.TheVariants.{Try, Polling}
-use Rattle.piper_sides.specs.declared.table.Action.{Action}
-use Rattle.piper_sides.specs.declared.table.Action.TheVariants as does
-use Rattle.piper_sides.specs.declared.table.Purpose.{Purpose}
-use Rattle.piper_sides.specs.declared.table.Purpose.TheVariants as purpose
-use Rattle.piper_sides.specs.declared.table.AfterRead.{AfterRead}
-use Rattle.piper_sides.specs.declared.table.AfterRead.TheVariants as afterward
-use Rattle.piper_sides.specs.declared.table.AfterWrite.{AfterWrite}
-use Rattle.piper_sides.specs.declared.table.AfterWrite.TheVariants as behind
-use Rattle.piper_sides.specs.declared.table.ReadPoint.{ReadPoint}
-use Rattle.piper_sides.specs.declared.table.ReadPoint.TheVariants as at
-use Rattle.piper_sides.specs.declared.table.WritePoint.{WritePoint}
-use Rattle.piper_sides.specs.declared.table.WritePoint.TheVariants as on
-use Rattle.piper_sides.specs.Open.{no_call, is_granted, is_yield_granted}
+use Rattle.piper_protocol.specs.declared.calls.Side.{Side}
+use Rattle.piper_protocol.specs.declared.calls.Side.TheVariants.{Reader, Writer}
+use Rattle.piper_protocol.specs.declared.events.Answer.{Answer}
+use Rattle.piper_protocol.specs.declared.events.Answer.TheVariants.{Count, Flag, Poll, Copy, Done}
+use Rattle.piper_protocol.specs.declared.polling.Context.{Context}
+use Rattle.piper_protocol.specs.declared.polling.Polled.{Polled}
+use Rattle.piper_protocol.specs.declared.polling.Polled.TheVariants.{Ready, Memory}
+use Rattle.piper_protocol.specs.declared.scripted.Failed.{Failed}
+use Rattle.piper_protocol.specs.declared.table.Form.{Form}
+use Rattle.piper_protocol.specs.declared.table.Form.TheVariants.{Try, Polling}
+use Rattle.piper_protocol.specs.declared.table.Action.{Action}
+use Rattle.piper_protocol.specs.declared.table.Action.TheVariants as does
+use Rattle.piper_protocol.specs.declared.table.Purpose.{Purpose}
+use Rattle.piper_protocol.specs.declared.table.Purpose.TheVariants as purpose
+use Rattle.piper_protocol.specs.declared.table.AfterRead.{AfterRead}
+use Rattle.piper_protocol.specs.declared.table.AfterRead.TheVariants as after_read
+use Rattle.piper_protocol.specs.declared.table.AfterWrite.{AfterWrite}
+use Rattle.piper_protocol.specs.declared.table.AfterWrite.TheVariants as after_write
+use Rattle.piper_protocol.specs.declared.table.ReadPoint.{ReadPoint}
+use Rattle.piper_protocol.specs.declared.table.ReadPoint.TheVariants as at
+use Rattle.piper_protocol.specs.declared.table.WritePoint.{WritePoint}
+use Rattle.piper_protocol.specs.declared.table.WritePoint.TheVariants as on
+use Rattle.piper_protocol.specs.Open.{no_call, is_granted, is_yield_granted}
 use Rattle.piper_machine.specs.Pipe.{Pipe}
-use Rattle.piper_sides.specs.Table.{end_or_pending}
+use Rattle.piper_protocol.specs.Table.{end_or_pending}
 use Rattle.piper_machine.specs.Move.{with_waker, reader_woken, writer_woken, published, consumed}
-use Rattle.piper_sides.specs.Table.{query_answer, look_answer, yield_answer, count_answer, is_copy}
+use Rattle.piper_protocol.specs.Table.{query_answer, look_answer, yield_answer, count_answer, is_copy}
 use Rattle.piper_machine.specs.declared.destination.Destination.{Destination}
 use Rattle.piper_machine.specs.declared.destination.Destination.TheVariants.{Slice, Acts}
 use Rattle.piper_machine.specs.Copy.{Copied, answered, drained}
@@ -123,21 +123,21 @@ reader_registers_alone l p =
     (record p { reader_waker = registered_in context p.reader_waker })
 
 -- no byte is known
-abbrev pub reader_finds_none_alone : Purpose → Pipe → Ended
-reader_finds_none_alone (purpose.Copy Try) p =
+abbrev pub reader_nobody_waits_alone : Purpose → Pipe → Ended
+reader_nobody_waits_alone (purpose.Copy Try) p =
     reader_looks_again_alone (purpose.Copy Try) p.is_closed p
-reader_finds_none_alone l p = reader_registers_alone l p
+reader_nobody_waits_alone l p = reader_registers_alone l p
 
 -- the first load of tail
 abbrev pub reader_looks_alone : Bool → Purpose → Pipe → Ended
-reader_looks_alone true l p = reader_finds_none_alone l p
+reader_looks_alone true l p = reader_nobody_waits_alone l p
 reader_looks_alone false l p = reader_finds_alone l p
 
 -- the writer was woken
 abbrev pub reader_done_alone : AfterRead → Pipe → Ended
-reader_done_alone afterward.Answer p = reader_ended at.Idle Done p
-reader_done_alone afterward.Drop p = reader_ended at.Dropped Done p
-reader_done_alone (afterward.Round form sum) p = reader_moves_alone form sum p
+reader_done_alone after_read.Answer p = reader_ended at.Idle Done p
+reader_done_alone after_read.Drop p = reader_ended at.Dropped Done p
+reader_done_alone (after_read.Round form sum) p = reader_moves_alone form sum p
 
 abbrev pub reader_remains : ReadPoint → Pipe → Ended
 reader_remains at.Idle p = reader_ended at.Idle Done p
@@ -160,7 +160,7 @@ reader_remains (at.TakeWriter next) p = reader_done_alone next (writer_woken p)
 reader_remains (at.WakeWriter next) p =
     reader_done_alone next (record p { woken = with_waker p.woken p.reader_call.taken })
 reader_remains at.StoreClosed p =
-    reader_done_alone afterward.Drop (writer_woken (closed_by false p))
+    reader_done_alone after_read.Drop (writer_woken (closed_by false p))
 
 -- the point itself is of no more use
 abbrev pub reader_alone : ReadPoint → Pipe → Ended
@@ -176,7 +176,7 @@ read_look_steps own known purpose.Poll = own
 read_look_steps own known (purpose.Copy form) = own + drain_steps known
 
 abbrev pub read_steps_after : ℕ → AfterRead → ℕ
-read_steps_after known (afterward.Round form sum) = drain_steps known
+read_steps_after known (after_read.Round form sum) = drain_steps known
 read_steps_after known next = 0
 
 -- the most steps that remain, where the look finds so many bytes and so many are known
@@ -200,7 +200,7 @@ read_steps found known at.StoreClosed = 3
 
 -- the open call is a drain
 abbrev pub is_drain_round : AfterRead → Bool
-is_drain_round (afterward.Round form sum) = true
+is_drain_round (after_read.Round form sum) = true
 is_drain_round next = false
 
 abbrev pub is_draining : ReadPoint → Bool
@@ -288,13 +288,13 @@ writer_registers_alone l p =
     (record p { writer_waker = registered_in context p.writer_waker })
 
 -- no room is known
-abbrev pub writer_finds_none_alone : Purpose → Pipe → Ended
-writer_finds_none_alone (purpose.Copy Try) p = writer_looks_again_alone (purpose.Copy Try) p
-writer_finds_none_alone l p = writer_registers_alone l p
+abbrev pub writer_nobody_waits_alone : Purpose → Pipe → Ended
+writer_nobody_waits_alone (purpose.Copy Try) p = writer_looks_again_alone (purpose.Copy Try) p
+writer_nobody_waits_alone l p = writer_registers_alone l p
 
 -- the first load of head
 abbrev pub writer_looks_alone : Bool → Purpose → Pipe → Ended
-writer_looks_alone true l p = writer_finds_none_alone l p
+writer_looks_alone true l p = writer_nobody_waits_alone l p
 writer_looks_alone false l p = writer_finds_alone l p
 
 abbrev pub writer_loads_alone : Purpose → Pipe → Ended
@@ -308,10 +308,10 @@ writer_open_alone false false l p = writer_finds_alone l p
 
 -- the reader was woken; a close wakes the writer too
 abbrev pub writer_done_alone : AfterWrite → Pipe → Ended
-writer_done_alone behind.Answer p = writer_ended on.Idle Done p
-writer_done_alone behind.Drop p = writer_ended on.Dropped Done p
-writer_done_alone behind.WakeWriter p = writer_ended on.Idle Done (writer_woken p)
-writer_done_alone (behind.Round form sum) p = writer_moves_alone form sum p
+writer_done_alone after_write.Answer p = writer_ended on.Idle Done p
+writer_done_alone after_write.Drop p = writer_ended on.Dropped Done p
+writer_done_alone after_write.WakeWriter p = writer_ended on.Idle Done (writer_woken p)
+writer_done_alone (after_write.Round form sum) p = writer_moves_alone form sum p
 
 -- a round that was given n bytes
 abbrev pub writer_rounds_alone : Bool → ℕ → Form → ℕ → Pipe → Ended
@@ -320,7 +320,7 @@ writer_rounds_alone false n form sum p = writer_moves_alone form sum (reader_wok
 
 -- only a close shuts
 abbrev pub shuts : AfterWrite → Bool
-shuts behind.WakeWriter = true
+shuts after_write.WakeWriter = true
 shuts next = false
 
 abbrev pub writer_remains : WritePoint → Pipe → Ended
@@ -364,12 +364,12 @@ write_look_steps own room (purpose.Copy form) = own + fill_steps room
 
 -- what a close or the next round adds
 abbrev pub steps_after : ℕ → AfterWrite → ℕ
-steps_after room behind.WakeWriter = 2
-steps_after room (behind.Round form sum) = fill_steps room
+steps_after room after_write.WakeWriter = 2
+steps_after room (after_write.Round form sum) = fill_steps room
 steps_after room next = 0
 
 abbrev pub wakes_after : AfterWrite → ℕ
-wakes_after behind.WakeWriter = 1
+wakes_after after_write.WakeWriter = 1
 wakes_after next = 0
 
 -- the most steps that remain, where the look finds so much room and so much is known
@@ -397,7 +397,7 @@ write_steps found room on.WakeWriter = 1
 
 -- the open call is a fill
 abbrev pub is_fill_round : AfterWrite → Bool
-is_fill_round (behind.Round form sum) = true
+is_fill_round (after_write.Round form sum) = true
 is_fill_round next = false
 
 abbrev pub is_filling : WritePoint → Bool

@@ -1,6 +1,6 @@
 -- The bytes in the buffer of a ring.
 use Rattle.std.specs.Prelude.{ℕ, ◌+◌, List, length, take, drop, ◌++◌}
-use Rattle.piper_sides.specs.Index.{distance, place_of}
+use Rattle.piper_protocol.specs.Index.{distance, place_of}
 
 -- the bytes of a ring from the index `head` to the index `tail`, round the end of the buffer
 unfoldable pub between : ℕ → ℕ → ℕ → List ℕ → List ℕ

@@ -1,8 +1,8 @@
 -- The end: a close by the writer, or a side that is dropped.
 -- The unread bytes stay, and a pipe once closed stays closed.
 use Rattle.std.specs.Prelude.{true, []}
-use Rattle.piper_sides.specs.declared.table.ReadPoint.TheVariants as at
-use Rattle.piper_sides.specs.declared.table.WritePoint.TheVariants as on
+use Rattle.piper_protocol.specs.declared.table.ReadPoint.TheVariants as at
+use Rattle.piper_protocol.specs.declared.table.WritePoint.TheVariants as on
 use Rattle.piper_machine.specs.Pipe.{Pipe}
 use Rattle.piper_machine.specs.Move.{reader_woken, writer_woken}
 

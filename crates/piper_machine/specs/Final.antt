@@ -1,12 +1,12 @@
 -- A told end is final: behind it no byte comes any more.
 use Rattle.std.specs.Prelude.{◌≡◌, ◌⊎◌, List, [], ◌∷◌, ◌++◌, All, true, false, Ok, ⊤}
-use Rattle.piper_sides.specs.declared.calls.Side.TheVariants.{Reader}
-use Rattle.piper_sides.specs.declared.events.Event.{Event}
-use Rattle.piper_sides.specs.declared.events.Event.TheVariants.{Looked, Published, Consumed, Answered}
-use Rattle.piper_sides.specs.declared.events.Seen.TheVariants.{Head, Tail, Closed}
-use Rattle.piper_sides.specs.declared.events.Answer.{Answer}
-use Rattle.piper_sides.specs.declared.events.Answer.TheVariants.{Count, Poll, Copy}
-use Rattle.piper_sides.specs.declared.polling.Polled.TheVariants.{Ready, Memory}
+use Rattle.piper_protocol.specs.declared.calls.Side.TheVariants.{Reader}
+use Rattle.piper_protocol.specs.declared.events.Event.{Event}
+use Rattle.piper_protocol.specs.declared.events.Event.TheVariants.{Looked, Published, Consumed, Answered}
+use Rattle.piper_protocol.specs.declared.events.Seen.TheVariants.{Head, Tail, Closed}
+use Rattle.piper_protocol.specs.declared.events.Answer.{Answer}
+use Rattle.piper_protocol.specs.declared.events.Answer.TheVariants.{Count, Poll, Copy}
+use Rattle.piper_protocol.specs.declared.polling.Polled.TheVariants.{Ready, Memory}
 use Rattle.piper_machine.specs.Pipe.{Pipe}
 use Rattle.piper_machine.specs.End.{saw_closed, found_none}
 
@@ -23,22 +23,22 @@ IsEndAnswer answer = ⊤
 
 -- behind it no byte is published or consumed,
 -- and each look of either side finds a closed pipe and no byte
-abbrev pub IsBehindEnd : Event → Type 0
-IsBehindEnd (Published bytes) = (bytes ≡ [])
-IsBehindEnd (Consumed bytes) = (bytes ≡ [])
-IsBehindEnd (Looked side (Head unread)) = (unread ≡ 0)
-IsBehindEnd (Looked side (Tail unread)) = (unread ≡ 0)
-IsBehindEnd (Looked side (Closed is_closed)) = (is_closed ≡ true)
-IsBehindEnd (Answered Reader answer) = IsEndAnswer answer
-IsBehindEnd event = ⊤
+abbrev pub IsAfterEnd : Event → Type 0
+IsAfterEnd (Published bytes) = (bytes ≡ [])
+IsAfterEnd (Consumed bytes) = (bytes ≡ [])
+IsAfterEnd (Looked side (Head unread)) = (unread ≡ 0)
+IsAfterEnd (Looked side (Tail unread)) = (unread ≡ 0)
+IsAfterEnd (Looked side (Closed is_closed)) = (is_closed ≡ true)
+IsAfterEnd (Answered Reader answer) = IsEndAnswer answer
+IsAfterEnd event = ⊤
 
 -- nothing comes any more, and nothing is left
 abbrev pub IsOver : Pipe → List Event → Type 0
-IsOver p after = All IsBehindEnd after × (p.unread ≡ [])
+IsOver p after = All IsAfterEnd after × (p.unread ≡ [])
 
 pub record IsFinal (p : Pipe) (events : List Event) : Type 0 where
   -- wherever a call of the reader found the end, a poll or a drain
   pub found : (before after : List Event) → events ≡ before ++ found_none ∷ after →
       saw_closed Reader before ≡ true → IsOver p after
   -- and wherever a poll told it
-  pub told : (before after : List Event) → events ≡ before ++ told_end ∷ after → IsOver p after
+  pub noted : (before after : List Event) → events ≡ before ++ told_end ∷ after → IsOver p after

@@ -32,7 +32,7 @@ pub mod Remembered
 pub mod End
 pub mod Final
 pub mod Heed
-pub mod Told
+pub mod Noted
 pub mod Outcome
 pub mod Answered
 pub mod Front

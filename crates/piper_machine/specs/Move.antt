@@ -1,6 +1,6 @@
 -- Bytes go in and out, and a waker is called.
 use Rattle.std.specs.Prelude.{ℕ, ◌+◌, ◌-◌, List, [], ◌∷◌, ◌++◌, take, drop, Option, Some, None}
-use Rattle.piper_sides.specs.Index.{place_of}
+use Rattle.piper_protocol.specs.Index.{place_of}
 use Rattle.piper_machine.specs.Pipe.{Pipe}
 
 -- the names called so far, and that of the waker found in a slot

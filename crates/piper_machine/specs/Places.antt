@@ -1,6 +1,6 @@
 -- Where the bytes stand in the buffer, and who holds which place.
 use Rattle.std.specs.Prelude.{◌≡◌, ℕ, ◌+◌, ◌-◌, ◌<◌, min, List, length, take}
-use Rattle.piper_sides.specs.Index.{place_of}
+use Rattle.piper_protocol.specs.Index.{place_of}
 use Rattle.piper_machine.specs.Pipe.{Pipe}
 
 -- the place of the unread byte number i
@@ -27,13 +27,13 @@ peeked p = take (peeked_count p) p.unread
 pub record HeldByReader (p : Pipe) (place : ℕ) : Type 0 where
   pub number : ℕ
   pub is_known : number < p.known
-  pub stands : place ≡ unread_place p number
+  pub valid : place ≡ unread_place p number
 
 -- the writer holds the places of what it is lent
 pub record HeldByWriter (p : Pipe) (place : ℕ) : Type 0 where
   pub number : ℕ
   pub is_lent : number < length p.lent
-  pub stands : place ≡ end_place p + number
+  pub valid : place ≡ end_place p + number
 
 -- the slices that a side is shown stand in one piece, at places that it holds
 abbrev pub IsPeekHeld : Pipe → Type 0

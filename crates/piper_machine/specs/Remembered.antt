@@ -1,13 +1,13 @@
 -- No forgotten waiter: a side that was told to wait was called since,
 -- or has nothing to do and its waker in its slot, or is about to be called.
 use Rattle.std.specs.Prelude.{◌≡◌, ◌⊎◌, List, true, Some}
-use Rattle.piper_sides.specs.declared.calls.Side.{Side}
-use Rattle.piper_sides.specs.declared.calls.Side.TheVariants.{Reader, Writer}
-use Rattle.piper_sides.specs.declared.events.Event.{Event}
+use Rattle.piper_protocol.specs.declared.calls.Side.{Side}
+use Rattle.piper_protocol.specs.declared.calls.Side.TheVariants.{Reader, Writer}
+use Rattle.piper_protocol.specs.declared.events.Event.{Event}
 use Rattle.piper_machine.specs.Pipe.{Pipe}
 use Rattle.piper_machine.specs.Action.{call_of, waker_in}
 use Rattle.piper_machine.specs.Refusal.{IsIdle}
-use Rattle.piper_machine.specs.Waiting.{IsBlocked, stands_between}
+use Rattle.piper_machine.specs.Waiting.{IsBlocked, is_between}
 use Rattle.piper_machine.specs.Wait.{Wait, wait_of}
 
 abbrev pub other : Side → Side
@@ -18,18 +18,18 @@ abbrev pub WasCalled : Wait → Type 0
 WasCalled w = (w.is_woken ≡ true)
 
 -- there is nothing to do, and the waker stands ready for the other side
-abbrev pub StandsReady : Side → Pipe → Wait → Type 0
-StandsReady side p w = (waker_in side p ≡ Some w.handed) × IsBlocked side p
+abbrev pub WaitsRegistered : Side → Pipe → Wait → Type 0
+WaitsRegistered side p w = (waker_in side p ≡ Some w.handed) × IsBlocked side p
 
 -- the other side stands between a store and its wake:
 -- the waker is in the slot that it empties, or in its hand
 abbrev pub IsAboutToBeCalled : Side → Pipe → Wait → Type 0
 IsAboutToBeCalled side p w =
-    (stands_between side p ≡ true)
+    (is_between side p ≡ true)
     × ((waker_in side p ≡ Some w.handed) ⊎ ((call_of (other side) p).taken ≡ Some w.handed))
 
 abbrev pub IsRemembered : Side → Pipe → Wait → Type 0
-IsRemembered side p w = WasCalled w ⊎ (StandsReady side p w ⊎ IsAboutToBeCalled side p w)
+IsRemembered side p w = WasCalled w ⊎ (WaitsRegistered side p w ⊎ IsAboutToBeCalled side p w)
 
 -- each side outside any call whose last polling call answered pending
 abbrev pub AreRemembered : Pipe → List Event → Type 0

@@ -1,42 +1,42 @@
 -- One step of a run: a call is opened,
 -- a side makes its next step, or a byte is put into what is lent.
 use Rattle.std.specs.Prelude.{ℕ, List, [], ◌∷◌, ◌++◌, length, slice_set, Bool, true, Option, None, Some, ◌==◌, ⊤}
-use Rattle.piper_sides.specs.declared.calls.Side.{Side}
-use Rattle.piper_sides.specs.declared.calls.Side.TheVariants.{Reader, Writer}
-use Rattle.piper_sides.specs.declared.calls.OpenCall.{OpenCall}
-use Rattle.piper_sides.specs.declared.calls.Call.{Call}
-use Rattle.piper_sides.specs.declared.calls.Call.TheVariants as call
-use Rattle.piper_sides.specs.declared.calls.Query.{Query}
-use Rattle.piper_sides.specs.declared.polling.Context.{Context}
-use Rattle.piper_sides.specs.declared.calls.Step.{Step}
-use Rattle.piper_sides.specs.declared.calls.Step.TheVariants.{Begin, Go, Put}
-use Rattle.piper_sides.specs.declared.events.Answer.{Answer}
-use Rattle.piper_sides.specs.declared.events.Answer.TheVariants.{Lent}
-use Rattle.piper_sides.specs.declared.events.Event.{Event}
-use Rattle.piper_sides.specs.declared.events.Event.TheVariants.{Began}
-use Rattle.piper_sides.specs.declared.table.Action.{Action}
-use Rattle.piper_sides.specs.declared.table.Action.TheVariants as does
-use Rattle.piper_sides.specs.declared.table.Form.{Form}
-use Rattle.piper_sides.specs.declared.table.Form.TheVariants.{Try, Polling}
-use Rattle.piper_sides.specs.declared.table.Purpose.TheVariants.{Poll, Copy}
-use Rattle.piper_sides.specs.declared.scripted.SourceAct.{SourceAct}
-use Rattle.piper_sides.specs.declared.scripted.SourceAct.TheVariants as source
-use Rattle.piper_sides.specs.declared.scripted.TheConstants.{MOST_A_ROUND}
+use Rattle.piper_protocol.specs.declared.calls.Side.{Side}
+use Rattle.piper_protocol.specs.declared.calls.Side.TheVariants.{Reader, Writer}
+use Rattle.piper_protocol.specs.declared.calls.OpenCall.{OpenCall}
+use Rattle.piper_protocol.specs.declared.calls.Call.{Call}
+use Rattle.piper_protocol.specs.declared.calls.Call.TheVariants as call
+use Rattle.piper_protocol.specs.declared.calls.Query.{Query}
+use Rattle.piper_protocol.specs.declared.polling.Context.{Context}
+use Rattle.piper_protocol.specs.declared.calls.Step.{Step}
+use Rattle.piper_protocol.specs.declared.calls.Step.TheVariants.{Begin, Go, Put}
+use Rattle.piper_protocol.specs.declared.events.Answer.{Answer}
+use Rattle.piper_protocol.specs.declared.events.Answer.TheVariants.{Lent}
+use Rattle.piper_protocol.specs.declared.events.Event.{Event}
+use Rattle.piper_protocol.specs.declared.events.Event.TheVariants.{Began}
+use Rattle.piper_protocol.specs.declared.table.Action.{Action}
+use Rattle.piper_protocol.specs.declared.table.Action.TheVariants as does
+use Rattle.piper_protocol.specs.declared.table.Form.{Form}
+use Rattle.piper_protocol.specs.declared.table.Form.TheVariants.{Try, Polling}
+use Rattle.piper_protocol.specs.declared.table.Purpose.TheVariants.{Poll, Copy}
+use Rattle.piper_protocol.specs.declared.scripted.SourceAct.{SourceAct}
+use Rattle.piper_protocol.specs.declared.scripted.SourceAct.TheVariants as source
+use Rattle.piper_protocol.specs.declared.scripted.TheConstants.{MOST_A_ROUND}
 use Rattle.piper_machine.specs.declared.destination.Destination.{Destination}
 use Rattle.piper_machine.specs.declared.destination.Destination.TheVariants.{Slice, Acts}
-use Rattle.piper_sides.specs.declared.table.AfterRead.TheVariants as afterward
-use Rattle.piper_sides.specs.declared.table.AfterWrite.TheVariants as behind
-use Rattle.piper_sides.specs.declared.table.ReadPoint.TheVariants as at
-use Rattle.piper_sides.specs.declared.table.WritePoint.{WritePoint}
-use Rattle.piper_sides.specs.declared.table.WritePoint.TheVariants as on
-use Rattle.piper_sides.specs.Open.{no_call, called_with}
-use Rattle.piper_sides.specs.Log.{answer_event}
+use Rattle.piper_protocol.specs.declared.table.AfterRead.TheVariants as after_read
+use Rattle.piper_protocol.specs.declared.table.AfterWrite.TheVariants as after_write
+use Rattle.piper_protocol.specs.declared.table.ReadPoint.TheVariants as at
+use Rattle.piper_protocol.specs.declared.table.WritePoint.{WritePoint}
+use Rattle.piper_protocol.specs.declared.table.WritePoint.TheVariants as on
+use Rattle.piper_protocol.specs.Open.{no_call, called_with}
+use Rattle.piper_protocol.specs.Log.{answer_event}
 use Rattle.piper_machine.specs.Pipe.{Pipe}
-use Rattle.piper_sides.specs.Call.{side_of, kind_of, waker_of}
+use Rattle.piper_protocol.specs.Call.{side_of, kind_of, waker_of}
 use Rattle.piper_machine.specs.Look.{context}
 use Rattle.piper_machine.specs.Lend.{Lendable, lending}
-use Rattle.piper_sides.specs.declared.table.Found.{Found}
-use Rattle.piper_sides.specs.Table.{read_action, read_after, reader_looks_for, write_action, write_after, ends_fill}
+use Rattle.piper_protocol.specs.declared.table.Found.{Found}
+use Rattle.piper_protocol.specs.Table.{read_action, read_after, reader_looks_for, write_action, write_after, ends_fill}
 use Rattle.piper_machine.specs.Action.{performed, found_by, logged_of}
 
 -- the pipe after a step, what the call answers if it was its last, and what is logged
@@ -163,7 +163,7 @@ poll_opened Writer cx p =
 
 abbrev pub drop_opened : Side → Pipe → Pipe
 drop_opened Reader p = record p { reader = at.StoreClosed }
-drop_opened Writer p = record p { writer = on.StoreClosed behind.Drop }
+drop_opened Writer p = record p { writer = on.StoreClosed after_write.Drop }
 
 -- the form of a copying call; where its draw is 0 it yields
 abbrev pub form_of : Option Context → Form
@@ -194,14 +194,14 @@ opened lent (call.PollDrainBytes waker luck size) p =
     drain_opened (Some (context waker luck)) (Slice size) p
 opened lent (call.PollDrain waker luck acts) p =
     drain_opened (Some (context waker luck)) (Acts acts) p
-opened lent (call.Consume n) p = record p { reader = at.StoreHead n afterward.Answer }
+opened lent (call.Consume n) p = record p { reader = at.StoreHead n after_read.Answer }
 opened lent (call.TryFill bytes) p = fill_opened None (source.Bytes bytes ∷ []) p
 opened lent (call.PollFillBytes waker luck bytes) p =
     fill_opened (Some (context waker luck)) (source.Bytes bytes ∷ []) p
 opened lent (call.PollFill waker luck acts) p = fill_opened (Some (context waker luck)) acts p
 opened lent (call.WriteBuf most) p = lending lent p
-opened lent (call.Produced n) p = record p { writer = on.StoreTail n behind.Answer }
-opened lent call.Close p = record p { writer = on.StoreClosed behind.WakeWriter }
+opened lent (call.Produced n) p = record p { writer = on.StoreTail n after_write.Answer }
+opened lent call.Close p = record p { writer = on.StoreClosed after_write.WakeWriter }
 opened lent (call.Drop side) p = drop_opened side p
 
 -- a call without a step answers as it is opened

@@ -1,12 +1,12 @@
 -- What a log tells of a side's last polling call: which waker it was handed,
 -- whether that was called since, and whether the side was told to wait.
 use Rattle.std.specs.Prelude.{ℕ, List, [], ◌∷◌, Bool, true, false, Option, None, Some, if◌then◌else◌, ◌==◌}
-use Rattle.piper_sides.specs.declared.calls.Side.{Side}
-use Rattle.piper_sides.specs.declared.events.Answer.{Answer}
-use Rattle.piper_sides.specs.declared.events.Answer.TheVariants.{Poll, Copy}
-use Rattle.piper_sides.specs.declared.events.Event.{Event}
-use Rattle.piper_sides.specs.declared.events.Event.TheVariants.{Began, Registered, Woken, Answered}
-use Rattle.piper_sides.specs.declared.polling.Polled.TheVariants.{Pending}
+use Rattle.piper_protocol.specs.declared.calls.Side.{Side}
+use Rattle.piper_protocol.specs.declared.events.Answer.{Answer}
+use Rattle.piper_protocol.specs.declared.events.Answer.TheVariants.{Poll, Copy}
+use Rattle.piper_protocol.specs.declared.events.Event.{Event}
+use Rattle.piper_protocol.specs.declared.events.Event.TheVariants.{Began, Registered, Woken, Answered}
+use Rattle.piper_protocol.specs.declared.polling.Polled.TheVariants.{Pending}
 use Rattle.piper_machine.specs.Counts.{is_same}
 
 pub record Wait : Type 0 where
@@ -32,10 +32,10 @@ registered w = record w { is_woken = false }
 abbrev pub called : ℕ → Wait → Wait
 called waker w = record w { is_woken = if waker == w.handed then true else w.is_woken }
 
-abbrev pub told : Answer → Wait → Wait
-told (Poll Pending) w = record w { is_pending = true }
-told (Copy Pending) w = record w { is_pending = true }
-told answer w = w
+abbrev pub noted : Answer → Wait → Wait
+noted (Poll Pending) w = record w { is_pending = true }
+noted (Copy Pending) w = record w { is_pending = true }
+noted answer w = w
 
 abbrev pub if_same : Side → Side → Wait → Wait → Wait
 if_same side other own w = if is_same side other then own else w
@@ -44,7 +44,7 @@ abbrev pub wait_after : Side → Wait → Event → Wait
 wait_after side w (Began other kind waker) = if_same side other (handed_over waker w) w
 wait_after side w (Registered other waker) = if_same side other (registered w) w
 wait_after side w (Woken waker) = called waker w
-wait_after side w (Answered other answer) = if_same side other (told answer w) w
+wait_after side w (Answered other answer) = if_same side other (noted answer w) w
 wait_after side w event = w
 
 -- over a list of events, from a wait on

@@ -1,11 +1,11 @@
 -- When a side has to wait, and when the other side is about to wake it.
 use Rattle.std.specs.Prelude.{◌≡◌, [], length, Bool, true, false}
-use Rattle.piper_sides.specs.declared.calls.Side.{Side}
-use Rattle.piper_sides.specs.declared.calls.Side.TheVariants.{Reader, Writer}
-use Rattle.piper_sides.specs.declared.table.ReadPoint.{ReadPoint}
-use Rattle.piper_sides.specs.declared.table.ReadPoint.TheVariants as at
-use Rattle.piper_sides.specs.declared.table.WritePoint.{WritePoint}
-use Rattle.piper_sides.specs.declared.table.WritePoint.TheVariants as on
+use Rattle.piper_protocol.specs.declared.calls.Side.{Side}
+use Rattle.piper_protocol.specs.declared.calls.Side.TheVariants.{Reader, Writer}
+use Rattle.piper_protocol.specs.declared.table.ReadPoint.{ReadPoint}
+use Rattle.piper_protocol.specs.declared.table.ReadPoint.TheVariants as at
+use Rattle.piper_protocol.specs.declared.table.WritePoint.{WritePoint}
+use Rattle.piper_protocol.specs.declared.table.WritePoint.TheVariants as on
 use Rattle.piper_machine.specs.Pipe.{Pipe}
 
 -- an open pipe with nothing to do for this side
@@ -24,6 +24,6 @@ is_waking_reader (on.WakeReader next) = true
 is_waking_reader point = false
 
 -- for this side, the other stands between a store and the end of the wake that belongs to it
-abbrev pub stands_between : Side → Pipe → Bool
-stands_between Reader p = is_waking_reader p.writer
-stands_between Writer p = is_waking_writer p.reader
+abbrev pub is_between : Side → Pipe → Bool
+is_between Reader p = is_waking_reader p.writer
+is_between Writer p = is_waking_writer p.reader

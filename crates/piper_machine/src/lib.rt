@@ -5,6 +5,6 @@ pub mod destination;
 pub mod machine;
 mod source;
 
-pub use piper_sides::memory::OutOfMemory;
-pub use piper_sides::slot::SlotState;
-pub use piper_sides::{bytes, calls, events, index, memory, polling, refusals, scripted, slot};
+pub use piper_protocol::memory::OutOfMemory;
+pub use piper_protocol::slot::SlotState;
+pub use piper_protocol::{bytes, calls, events, index, memory, polling, refusals, scripted, slot};

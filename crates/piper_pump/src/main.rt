@@ -2,11 +2,11 @@
 //! it to standard output.
 #![tactic(auto)]
 
-use piper_pumping::arguments::words;
-use piper_pumping::copies::Copies;
-use piper_pumping::ends::{Drain, Inlet, Outlet};
-use piper_pumping::running::run;
 use piper_transfer::Plain;
+use pump_engine::arguments::words;
+use pump_engine::copies::Copies;
+use pump_engine::ends::{Drain, Inlet, Outlet};
+use pump_engine::running::run;
 use std::io::IsTerminal;
 use std::process::ExitCode;
 
@@ -21,5 +21,5 @@ fn main(rt: HostRuntime) -> ExitCode {
         Ok(words) => run(&rt, words.as_slice(), &mut input, &mut output, redraws),
         Err(ended) => ended,
     };
-    ended.tell(&rt)
+    ended.report(&rt)
 }

@@ -1,8 +1,8 @@
 //! Replays a script of pipe calls on the pure machine.
 #![tactic(auto)]
 
-use piper_player::replay::Ended;
-use piper_twin::modes::{WRONG_ARGUMENTS, replay};
+use piper_differential::modes::{WRONG_ARGUMENTS, replay};
+use piper_interpreter::replay::Ended;
 use std::env;
 use std::io::ErrorKind;
 use std::process::ExitCode;

@@ -63,11 +63,11 @@ module _ {M : Type 1} {𝓤 : Ura M} (𝓛 : Logic 𝓤) (w p : Ptr) (z : Names)
   S = raised z.closed
 
   -- what was seen of closed, and what closed is
-  pub ends_tell : (m c : Bool) → ⟦ ends w p z c ⟧ ∗ ⟦ S m ⟧ ⊢ guard 𝓤 (flag m ≤ flag c) (⟦ ends w p z c ⟧ ∗ ⟦ S c ⟧)
-  ends_tell false false = qed 𝓛 (‵ (ends w p z false) ∷ ‵ (S false) ∷ []) ∵ check ! (omega arith) $ done !
-  ends_tell false true = qed 𝓛 (‵ (ends w p z true) ∷ ‵ (S false) ∷ []) ∵ keep ! (0 ∷ []) $ use1 𝓛 (‵ (ends w p z true) ⊛ ‵ (S true)) (latest_shows numbers 𝓛 full_share z.closed 1 1 (omega arith)) $ split ! $ check ! (omega arith) $ done !
-  ends_tell true true = qed 𝓛 (‵ (ends w p z true) ∷ ‵ (S true) ∷ []) ∵ check ! (omega arith) $ done !
-  ends_tell true false = qed 𝓛 (‵ (ends w p z false) ∷ ‵ (S true) ∷ []) ∵ use2 𝓛 (given (1 ≤ 0) (‵ (ends w p z false) ⊛ ‵ (S true))) (latest_bounds numbers 𝓛 full_share z.closed 0 1) $ learn ! (λ no. absurd (omega arith))
+  pub ends_show : (m c : Bool) → ⟦ ends w p z c ⟧ ∗ ⟦ S m ⟧ ⊢ guard 𝓤 (flag m ≤ flag c) (⟦ ends w p z c ⟧ ∗ ⟦ S c ⟧)
+  ends_show false false = qed 𝓛 (‵ (ends w p z false) ∷ ‵ (S false) ∷ []) ∵ check ! (omega arith) $ done !
+  ends_show false true = qed 𝓛 (‵ (ends w p z true) ∷ ‵ (S false) ∷ []) ∵ keep ! (0 ∷ []) $ use1 𝓛 (‵ (ends w p z true) ⊛ ‵ (S true)) (latest_shows numbers 𝓛 full_share z.closed 1 1 (omega arith)) $ split ! $ check ! (omega arith) $ done !
+  ends_show true true = qed 𝓛 (‵ (ends w p z true) ∷ ‵ (S true) ∷ []) ∵ check ! (omega arith) $ done !
+  ends_show true false = qed 𝓛 (‵ (ends w p z false) ∷ ‵ (S true) ∷ []) ∵ use2 𝓛 (given (1 ≤ 0) (‵ (ends w p z false) ⊛ ‵ (S true))) (latest_bounds numbers 𝓛 full_share z.closed 0 1) $ learn ! (λ no. absurd (omega arith))
 
   abbrev pub Answer : Bool → Bool → ℕ → Bool → Type 0
   Answer m b n c = (n ≡ flag c) × (flag m ≤ flag c) × (flag b ≤ flag c)
@@ -85,7 +85,7 @@ module _ {M : Type 1} {𝓤 : Ura M} (𝓛 : Logic 𝓤) (w p : Ptr) (z : Names)
   shows_closed : (K : Fml) (m b : Bool) (s : State) → Holds cap s → flag b ≤ flag s.closed → OneStays 𝓛 w p z s → ⟦ WK other s.sent s.limit s.shut s.writer_stage ⟧ ∗ ⟦ RK other s.head s.seen s.reader_stage ⟧ ∗ ⟦ Rest 𝓛 w p z s ⟧ ∗ ⟦ K ⟧ ∗ ⟦ S m ⟧ ⊢ upd 𝓤 (ex 𝓤 (Holding 384 (λ n. n) (AfterClosed K m b)))
   shows_closed K m b s so lb near = let then : ℕ → Fml = AfterClosed K m b in let Z : Pr = ex 𝓤 (Holding 384 (λ n. n) then) in let n : ℕ = flag s.closed in
       qed 𝓛 (‵ (WK other s.sent s.limit s.shut s.writer_stage) ∷ ‵ (RK other s.head s.seen s.reader_stage) ∷ ‵ (Rest 𝓛 w p z s) ∷ ‵ K ∷ ‵ (S m) ∷ []) ∵ move ! (2 ∷ []) $ fsplit ! $ move ! (0 ∷ 5 ∷ []) $
-      use2 𝓛 (given (flag m ≤ n) (‵ (ends w p z s.closed) ⊛ ‵ (S s.closed))) (ends_tell m s.closed) $ learn ! (λ le. split ! $ move ! (2 ∷ []) $ fsplit ! $ fsplit3 ! $ move ! (2 ∷ []) $ fsplit ! $
+      use2 𝓛 (given (flag m ≤ n) (‵ (ends w p z s.closed) ⊛ ‵ (S s.closed))) (ends_show m s.closed) $ learn ! (λ le. split ! $ move ! (2 ∷ []) $ fsplit ! $ fsplit3 ! $ move ! (2 ∷ []) $ fsplit ! $
       suffices ! _ (upd_i 𝓤 Z) $ show ! (Holding 384 (λ n. n) then) n $ frame ! $ assume ! (‵ (word w 384 n)) $ suffices ! _ (upd_i 𝓤 (⟦ I ⟧ ∗ ⟦ then n ⟧)) $
       fjoin ! $ move ! (1 ∷ 2 ∷ 0 ∷ []) $ fjoin3 ! $ fjoin ! $ move ! (1 ∷ 0 ∷ []) $ fjoin ! $ move ! (2 ∷ 3 ∷ 0 ∷ []) $ use3 𝓛 (‵ I) (closes 𝓛 w p z s so near) $ frame ! $
       nothing ! $ fpack ! (Answer m b n s.closed) (λ _. ftrue) (refl, le, lb) $ fjoin ! $ fpack ! Bool (told_one m b n) s.closed $ fjoin ! $ done !)

@@ -11,7 +11,7 @@ use Rattle.std.proofs.Crossing.{frees}
 use Rattle.piper_ring.specs.Shared.{words_type, slots, deeds, Names, State, flag, gone, where_gone, until_both, writer_knows, reader_knows, arrived_first, ends, spare, blanks, memory, Inner, common, reader_owns, reader_lends, writer_owns, writer_lends}
 use Rattle.piper_ring.proofs.Evidence.{announced-Keyless, took-Keyless, raised-Keyless}
 use Rattle.piper_ring.specs.Slots.{held_at}
-use Rattle.piper_place.proofs.Crosses.{right-Keyless}
+use Rattle.token_cell.proofs.Crosses.{right-Keyless}
 use Rattle.piper_ring.proofs.PlacesLaws.{run-Keyless, span-Keyless}
 
 pub where-Keyless : (b : Bool) (F : Fml) → Keyless F → Keyless (where_gone b F)

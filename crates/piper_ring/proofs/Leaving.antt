@@ -28,7 +28,7 @@ use base.Fraction.{full_share}
 use Rattle.piper_ring.proofs.Steps.{flag_small, Rest, OneStays, ReaderSees, WriterSees, reader_opens, writer_opens, closes, inside, raise}
 use denote.Builtin.{u8}
 use Rattle.rtrb.specs.Fifo.{slot_of as offset_of}
-use Rattle.piper_ring.specs.Shared.{one_gone, Names, State, Holds, half, other, flag, gone, until_both, where_gone, word, word_room, words_type, slot_rooms, all_rooms, slots, blanks, memory, whole, writer_knows, reader_knows, ends, raised, standing, Inner, common}
+use Rattle.piper_ring.specs.Shared.{one_gone, Names, State, Holds, half, other, flag, gone, until_both, where_gone, word, word_room, words_type, slot_rooms, all_rooms, slots, blanks, memory, whole, writer_knows, reader_knows, ends, raised, state_holds, Inner, common}
 
 pub here : (i : ℕ) → i ≤ 1 → gone i ≡ false
 here zero le = refl
@@ -138,10 +138,10 @@ module _ {M : Type 1} {𝓤 : Ura M} (𝓛 : Logic 𝓤) (w p : Ptr) (z : Names)
 
   seals : (t : State) → Holds cap (no_reader t) → (b : Bool) → gone t.writer_stage ≡ b → ⟦ WK other t.sent t.limit t.shut t.writer_stage ⟧ ∗ ⟦ RK other t.head t.seen 2 ⟧ ∗ ⟦ ends w p z t.closed ⟧ ∗ ⟦ memory w p z (no_reader t) ⟧ ⊢ ⟦ I ⟧ ∗ ⟦ Left (flag b) ⟧
   seals t so false e = let Mem : Fml = memory w p z (no_reader t) in qed 𝓛 (‵ (WK other t.sent t.limit t.shut t.writer_stage) ∷ ‵ (RK other t.head t.seen 2) ∷ ‵ (ends w p z t.closed) ∷ ‵ Mem ∷ []) ∵ move ! (3 ∷ []) $
-      rewrite ! 0 (λ (c : Bool). ‵ (until_both true c Mem)) {x = gone t.writer_stage} {y = false} (sym e) refl $ move ! (1 ∷ 2 ∷ 3 ∷ []) $ fjoin3 ! $ nothing ! $ fpack ! (Holds cap (no_reader t)) (λ _. ftrue) so $ fjoin3 ! $ fpack ! State (standing w p z) (no_reader t) $
+      rewrite ! 0 (λ (c : Bool). ‵ (until_both true c Mem)) {x = gone t.writer_stage} {y = false} (sym e) refl $ move ! (1 ∷ 2 ∷ 3 ∷ []) $ fjoin3 ! $ nothing ! $ fpack ! (Holds cap (no_reader t)) (λ _. ftrue) so $ fjoin3 ! $ fpack ! State (state_holds w p z) (no_reader t) $
       nothing ! $ nothing ! $ fpack ! (0 ≡ flag false) (λ _. ftrue) refl $ fjoin ! $ fpack ! Bool (left_one 0) false $ move ! (1 ∷ 0 ∷ []) $ done !
   seals t so true e = let Mem : Fml = memory w p z (no_reader t) in qed 𝓛 (‵ (WK other t.sent t.limit t.shut t.writer_stage) ∷ ‵ (RK other t.head t.seen 2) ∷ ‵ (ends w p z t.closed) ∷ ‵ Mem ∷ []) ∵ nothing ! $
-      rewrite ! 0 (λ (c : Bool). ‵ (until_both true c Mem)) {x = gone t.writer_stage} {y = true} (sym e) refl $ move ! (1 ∷ 2 ∷ 3 ∷ []) $ fjoin3 ! $ nothing ! $ fpack ! (Holds cap (no_reader t)) (λ _. ftrue) so $ fjoin3 ! $ fpack ! State (standing w p z) (no_reader t) $
+      rewrite ! 0 (λ (c : Bool). ‵ (until_both true c Mem)) {x = gone t.writer_stage} {y = true} (sym e) refl $ move ! (1 ∷ 2 ∷ 3 ∷ []) $ fjoin3 ! $ nothing ! $ fpack ! (Holds cap (no_reader t)) (λ _. ftrue) so $ fjoin3 ! $ fpack ! State (state_holds w p z) (no_reader t) $
       move ! (1 ∷ []) $ use1 𝓛 (‵ (whole w p z)) (gathers (no_reader t) so refl e) $ nothing ! $ fpack ! (1 ≡ flag true) (λ _. ftrue) refl $ fjoin ! $ fpack ! Bool (left_one 1) true $ move ! (1 ∷ 0 ∷ []) $ done !
 
   -- the reader leaves, and gives up the places of the bytes that it knows of
@@ -188,10 +188,10 @@ module _ {M : Type 1} {𝓤 : Ura M} (𝓛 : Logic 𝓤) (w p : Ptr) (z : Names)
 
   writer_seals : (t : State) → Holds cap (no_writer t) → (b : Bool) → gone t.reader_stage ≡ b → ⟦ WK other t.sent t.limit t.shut 2 ⟧ ∗ ⟦ RK other t.head t.seen t.reader_stage ⟧ ∗ ⟦ ends w p z t.closed ⟧ ∗ ⟦ memory w p z (no_writer t) ⟧ ⊢ ⟦ I ⟧ ∗ ⟦ Left (flag b) ⟧
   writer_seals t so false e = let Mem : Fml = memory w p z (no_writer t) in qed 𝓛 (‵ (WK other t.sent t.limit t.shut 2) ∷ ‵ (RK other t.head t.seen t.reader_stage) ∷ ‵ (ends w p z t.closed) ∷ ‵ Mem ∷ []) ∵ move ! (3 ∷ []) $
-      rewrite ! 0 (λ (c : Bool). ‵ (until_both c true Mem)) {x = gone t.reader_stage} {y = false} (sym e) refl $ move ! (1 ∷ 2 ∷ 3 ∷ []) $ fjoin3 ! $ nothing ! $ fpack ! (Holds cap (no_writer t)) (λ _. ftrue) so $ fjoin3 ! $ fpack ! State (standing w p z) (no_writer t) $
+      rewrite ! 0 (λ (c : Bool). ‵ (until_both c true Mem)) {x = gone t.reader_stage} {y = false} (sym e) refl $ move ! (1 ∷ 2 ∷ 3 ∷ []) $ fjoin3 ! $ nothing ! $ fpack ! (Holds cap (no_writer t)) (λ _. ftrue) so $ fjoin3 ! $ fpack ! State (state_holds w p z) (no_writer t) $
       nothing ! $ nothing ! $ fpack ! (0 ≡ flag false) (λ _. ftrue) refl $ fjoin ! $ fpack ! Bool (left_one 0) false $ move ! (1 ∷ 0 ∷ []) $ done !
   writer_seals t so true e = let Mem : Fml = memory w p z (no_writer t) in qed 𝓛 (‵ (WK other t.sent t.limit t.shut 2) ∷ ‵ (RK other t.head t.seen t.reader_stage) ∷ ‵ (ends w p z t.closed) ∷ ‵ Mem ∷ []) ∵ nothing ! $
-      rewrite ! 0 (λ (c : Bool). ‵ (until_both c true Mem)) {x = gone t.reader_stage} {y = true} (sym e) refl $ move ! (1 ∷ 2 ∷ 3 ∷ []) $ fjoin3 ! $ nothing ! $ fpack ! (Holds cap (no_writer t)) (λ _. ftrue) so $ fjoin3 ! $ fpack ! State (standing w p z) (no_writer t) $
+      rewrite ! 0 (λ (c : Bool). ‵ (until_both c true Mem)) {x = gone t.reader_stage} {y = true} (sym e) refl $ move ! (1 ∷ 2 ∷ 3 ∷ []) $ fjoin3 ! $ nothing ! $ fpack ! (Holds cap (no_writer t)) (λ _. ftrue) so $ fjoin3 ! $ fpack ! State (state_holds w p z) (no_writer t) $
       move ! (1 ∷ []) $ use1 𝓛 (‵ (whole w p z)) (gathers (no_writer t) so e refl) $ nothing ! $ fpack ! (1 ≡ flag true) (λ _. ftrue) refl $ fjoin ! $ fpack ! Bool (left_one 1) true $ move ! (1 ∷ 0 ∷ []) $ done !
 
   -- the writer leaves, and gives up the places of its room

@@ -18,7 +18,7 @@ use types.Kit.{drop as forget}
 use denote.RawPtr.{Ptr}
 use Rattle.piper_ring.specs.Shared.{Names, State, Holds, half, other, idle, flag, gone, where_gone, blanks, deeds, raised, announced, began, writer_knows, reader_knows, ends, Inner, common}
 use Rattle.piper_ring.specs.Streams.{Stream, Reaches, streams, open_reaches}
-use Rattle.piper_ring.proofs.Closing.{ends_tell}
+use Rattle.piper_ring.proofs.Closing.{ends_show}
 use Rattle.piper_ring.proofs.Steps.{flag_small, not_gone, Rest, OneStays, WriterSees, writer_opens, reader_agrees, closes, raise}
 
 module _ {M : Type 1} {𝓤 : Ura M} (𝓛 : Logic 𝓤) (w p : Ptr) (z : Names) (head seen : ℕ) (sent : List ℕ) (limit : ℕ) (shut there : Bool) (have : List ℕ) (heard : Stream) (other_saw : Bool) where
@@ -70,7 +70,7 @@ module _ {M : Type 1} {𝓤 : Ura M} (𝓛 : Logic 𝓤) (w p : Ptr) (z : Names)
       move ! (2 ∷ []) $ split ! $ move ! (4 ∷ 0 ∷ []) $
       use2 𝓛 (given ((head ≡ s.head) × (seen ≡ s.seen) × (flag there ≡ s.reader_stage)) (‵ RK ⊛ ‵ (reader_knows w p z other s.head s.seen s.reader_stage))) (reader_agrees 𝓛 w p z half head seen (flag there) s.head s.seen s.reader_stage) $ learn ! (λ e. split ! $
       move ! (2 ∷ []) $ fsplit ! $ move ! (0 ∷ 8 ∷ []) $
-      use2 𝓛 (given (flag other_saw ≤ flag s.closed) (‵ (ends w p z s.closed) ⊛ ‵ (S s.closed))) (ends_tell 𝓛 w p z other_saw s.closed) $ learn ! (λ l2. split ! $
+      use2 𝓛 (given (flag other_saw ≤ flag s.closed) (‵ (ends w p z s.closed) ⊛ ‵ (S s.closed))) (ends_show 𝓛 w p z other_saw s.closed) $ learn ! (λ l2. split ! $
       keep ! (0 ∷ 2 ∷ 3 ∷ 4 ∷ 5 ∷ 6 ∷ 7 ∷ 8 ∷ []) $ fjoin ! $ move ! (1 ∷ 2 ∷ 0 ∷ []) $
       let known = so.0.known in let arrived = so.0.arrived in let written = so.0.written in let freed = so.0.freed in let esent : length sent ≡ length s.sent = ap length so.1 in let el = so.2 in let eshut : flag shut ≡ flag s.shut = ap flag so.3 in let ewriter = so.4 in let eh = e.0 in let es = e.1 in let ereader = e.2 in
       let closing = so.0.closing in let no_there : flag there ≡ 0 = ap flag is_there in

@@ -29,7 +29,7 @@ use Rattle.piper_ring.specs.Streams.{Stream, streams, reaches_same}
 use Rattle.piper_ring.specs.Shared.{Names, names_of, State, Holds, half, other, word, word_room, words_type, slot_rooms, all_rooms, idle, titles, Inner, Placed, common, reader_owns, writer_owns}
 use types.Tokens.{name_new}
 use Rattle.std.specs.Coded.{Coded}
-use Rattle.piper_ring.specs.Slots.{Waits, Wakes, Stands, Slot, with_waiter, code_of, slot, slot_at}
+use Rattle.piper_ring.specs.Slots.{Waits, Wakes, IsWhere, Slot, with_waiter, code_of, slot, slot_at}
 use Rattle.piper_ring.specs.Shared.{Consumed, coded_stream, coded_consumed, published, consumed, took, waits_for, wakes_for, waits_back, wakes_back}
 use Rattle.piper_ring.proofs.Rights.{common_twice, cut}
 use Rattle.piper_ring.proofs.Steps.{closes}
@@ -166,7 +166,7 @@ module _ {M : Type 1} {𝓤 : Ura M} (𝓛 : Logic 𝓤) (w p : Ptr) (cap : ℕ)
     slot_new far = let a : Waits X = (true, (0, x)) in let b : Wakes X = (false, (0, x)) in let s : Slot X = (a, (b, with_waiter)) in
         qed 𝓛 (‵ (word w far 0) ∷ ‵ (word w (8 + far) 0) ∷ ‵ (shows x) ∷ []) {P = H.⇛ (ex 𝓤 (SlotMade far))} (updating ! $ fjoin ! $ move ! (0 ∷ 1 ∷ []) $
         name_new ! tt ((code_of X c).code a) (λ γ. name_new ! tt ((code_of X c).code b) (λ δ. move ! (3 ∷ 1 ∷ []) $ fjoin ! $ move ! (4 ∷ []) $ nothing ! $ move ! (1 ∷ 0 ∷ []) $ fjoin ! $ move ! (4 ∷ 1 ∷ 0 ∷ []) $ fjoin3 ! $
-        nothing ! $ fpack ! (Stands X with_waiter a b) (λ _. ftrue) (refl, refl, omega arith) $ fjoin ! $ fpack ! (Slot X) (slot_at w far γ δ ι c shows) s $
+        nothing ! $ fpack ! (IsWhere X with_waiter a b) (λ _. ftrue) (refl, refl, omega arith) $ fjoin ! $ fpack ! (Slot X) (slot_at w far γ δ ι c shows) s $
         now ! $ show ! (SlotMade far) (γ, δ) $ move ! (0 ∷ 2 ∷ 1 ∷ []) $ done !)))
 
   abbrev pub zero_words : Fml

@@ -1,6 +1,6 @@
 -- What the parts of a reader's end tell of its indices, and its view of its known bytes.
 use Rattle.std.proofs.Common.{◌≡◌, ℕ, ◌+◌, ◌-◌, ◌≤◌, ◌++◌, Bool, true, false, length, refl, sym, ap, arith}
-use Rattle.piper_sides.specs.ReaderIndices.{known_in}
+use Rattle.piper_protocol.specs.ReaderIndices.{known_in}
 use Rattle.piper_ring.specs.Streams.{Stream, Reaches, either}
 use Rattle.piper_ring.specs.ReadView.{ReadView, read_view_of, IsReadEnd, KnowsEnd, in_one_piece}
 use Rattle.piper_ring.specs.declared.ends.reader.ReadParts.{ReadParts}

@@ -15,7 +15,7 @@ use Rattle.core.specs.Sync.RawAtomic.{asks, always}
 use Rattle.std.specs.Coded.{Coded}
 use Rattle.rtrb.proofs.Asks.{Lies}
 use Rattle.piper_ring.specs.Places.{fact}
-use Rattle.piper_ring.specs.Slots.{Where, with_waiter, in_slot, with_taker, handed_back, Held, held_at, held, flag_of, back_of, Waits, Wakes, Stands, Slot, code_of, slot, slot_at, Looks, Takes, GivesBack, HandsOver, Regains, IsRemembered}
+use Rattle.piper_ring.specs.Slots.{Where, with_waiter, in_slot, with_taker, handed_back, Held, held_at, held, flag_of, back_of, Waits, Wakes, IsWhere, Slot, code_of, slot, slot_at, Looks, Takes, GivesBack, PublishesWaker, Reclaims, IsRemembered}
 use Rattle.piper_ring.specs.Shared.{Names, State, Holds, other, word, reader_knows, writer_knows, slots, reader_slot, writer_slot, Inner, common}
 use base.Growing.{Order, numbers, latest}
 use types.Growing.{latest_shows}
@@ -52,11 +52,11 @@ module _ {X : Type 0} where
   -- it wakes: b becomes b', what it looked behind is x or what it was, and it holds u' and no longer u
   abbrev pub WakesTo : (Where → Where → Type 0) → (ℕ → Wakes X → Held → Type 0) → ℕ → X → Held → Waits X → Wakes X → Where → Type 0
   WakesTo on then n x u a b at =
-      (b' : Wakes X) × (at' : Where) × (u' : Held) × on at at' × Stands X at' a b' × ((b'.1.1 ≡ x) ⊎ (b'.1.1 ≡ b.1.1)) × then n b' u'
+      (b' : Wakes X) × (at' : Where) × (u' : Held) × on at at' × IsWhere X at' a b' × ((b'.1.1 ≡ x) ⊎ (b'.1.1 ≡ b.1.1)) × then n b' u'
       × Passes u (held_at at) u' (held_at at')
 
   abbrev pub WaitsTo : (Where → Where → Type 0) → (ℕ → X → Waits X → Held → Type 0) → ℕ → Held → Waits X → Wakes X → Where → Type 0
-  WaitsTo on then n u a b at = (a' : Waits X) × (at' : Where) × (u' : Held) × on at at' × Stands X at' a' b × then n b.1.1 a' u'
+  WaitsTo on then n u a b at = (a' : Waits X) × (at' : Where) × (u' : Held) × on at at' × IsWhere X at' a' b × then n b.1.1 a' u'
       × Passes u (held_at at) u' (held_at at')
 
   -- it took the waker, and with it the place where it lies; or it took nothing
@@ -64,57 +64,57 @@ module _ {X : Type 0} where
   TakesHeld b x n b' u = Takes X b x n b' × (u ≡ (b'.0, b'.0))
 
   -- the waker came back with its place, or nothing did
-  abbrev pub Withdraws : Waits X → ℕ → X → Waits X → Held → Type 0
-  Withdraws a n x a' u = Regains X a x n a' × (u ≡ (a'.0, a'.0))
+  abbrev pub Cancels : Waits X → ℕ → X → Waits X → Held → Type 0
+  Cancels a n x a' u = Reclaims X a x n a' × (u ≡ (a'.0, a'.0))
 
   -- the place came back, with nothing in it, or it did not
-  abbrev pub RegainsHeld : Waits X → ℕ → X → Waits X → Held → Type 0
-  RegainsHeld a n x a' u = Regains X a x n a' × (u ≡ (a'.0, false))
+  abbrev pub ReclaimsHeld : Waits X → ℕ → X → Waits X → Held → Type 0
+  ReclaimsHeld a n x a' u = Reclaims X a x n a' × (u ≡ (a'.0, false))
 
   -- a load leaves the side that waits as it was
   abbrev pub StaysSo : Waits X → ℕ → X → Waits X → Held → Type 0
   StaysSo a n x a' u = a' ≡ a
 
-  stays_so : (a : Waits X) (b : Wakes X) (at : Where) → Stands X at a b → WaitsTo (OnFlag (λ n. n)) (StaysSo a) (flag_of at) none a b at
+  stays_so : (a : Waits X) (b : Wakes X) (at : Where) → IsWhere X at a b → WaitsTo (OnFlag (λ n. n)) (StaysSo a) (flag_of at) none a b at
   stays_so a b at h = (a, at, none, (refl, refl), h, refl, inl (refl, refl))
 
-  looks : (b : Wakes X) (x : X) → b.0 ≡ false → (a : Waits X) (at : Where) → Stands X at a b → WakesTo (OnFlag (λ n. n)) (λ n b' _. Looks X b x n b') (flag_of at) x none a b at
+  looks : (b : Wakes X) (x : X) → b.0 ≡ false → (a : Waits X) (at : Where) → IsWhere X at a b → WakesTo (OnFlag (λ n. n)) (λ n b' _. Looks X b x n b') (flag_of at) x none a b at
   looks b x rests a with_waiter h = ((b.0, (b.1.0, x)), with_waiter, none, (refl, refl), h, inl refl, (omega arith, (λ _. refl), λ n. absurd (n refl)), inl (refl, refl))
   looks b x rests a in_slot h = (b, in_slot, none, (refl, refl), h, inr refl, (omega arith, (λ (e : 1 ≡ 0). absurd (omega arith)), λ _. refl), inl (refl, refl))
   looks b x rests a with_taker h = absurd (false≢true (sym rests ∙ h.1))
   looks b x rests a handed_back h = ((b.0, (b.1.0, x)), handed_back, none, (refl, refl), h, inl refl, (omega arith, (λ _. refl), λ n. absurd (n refl)), inl (refl, refl))
 
-  takes : (b : Wakes X) (x : X) → b.0 ≡ false → (a : Waits X) (at : Where) → Stands X at a b → WakesTo (OnFlag (λ _. 0)) (TakesHeld b x) (flag_of at) x none a b at
+  takes : (b : Wakes X) (x : X) → b.0 ≡ false → (a : Waits X) (at : Where) → IsWhere X at a b → WakesTo (OnFlag (λ _. 0)) (TakesHeld b x) (flag_of at) x none a b at
   takes b x rests a with_waiter h = ((b.0, (b.1.0, x)), with_waiter, none, (refl, refl), h, inl refl, ((omega arith, (λ _. refl), λ n. absurd (n refl)), holds_none b.0 rests), inl (refl, refl))
   takes b x rests a in_slot h = ((true, (a.1.0, x)), with_taker, filled, (refl, refl), (h.0, refl, refl), inl refl, ((omega arith, (λ (e : 1 ≡ 0). absurd (omega arith)), λ _. (a.1.0, h.3, refl)), refl), inr (refl, refl))
   takes b x rests a with_taker h = absurd (false≢true (sym rests ∙ h.1))
   takes b x rests a handed_back h = ((b.0, (b.1.0, x)), handed_back, none, (refl, refl), h, inl refl, ((omega arith, (λ _. refl), λ n. absurd (n refl)), holds_none b.0 rests), inl (refl, refl))
 
-  gives_back : (b : Wakes X) (x : X) → b.0 ≡ true → (a : Waits X) (at : Where) → Stands X at a b → WakesTo (OnBack (λ _. 1)) (λ n b' _. GivesBack X b x n b') (back_of at) x emptied a b at
+  gives_back : (b : Wakes X) (x : X) → b.0 ≡ true → (a : Waits X) (at : Where) → IsWhere X at a b → WakesTo (OnBack (λ _. 1)) (λ n b' _. GivesBack X b x n b') (back_of at) x emptied a b at
   gives_back b x holds a with_waiter h = absurd (false≢true (sym h.1 ∙ holds))
   gives_back b x holds a in_slot h = absurd (false≢true (sym h.1 ∙ holds))
   gives_back b x holds a with_taker h = ((false, b.1), handed_back, none, (refl, refl), (h.0, refl, h.2), inr refl, refl, inr (refl, refl))
   gives_back b x holds a handed_back h = absurd (false≢true (sym h.1 ∙ holds))
 
-  hands_over : (a : Waits X) → a.0 ≡ true → (b : Wakes X) (at : Where) → Stands X at a b → WaitsTo (OnFlag (λ _. 1)) (λ n x a' _. HandsOver X a x n a') (flag_of at) filled a b at
-  hands_over a owns b with_waiter h = let le = h.2 in ((false, (a.1.0 + 1, b.1.1)), in_slot, none, (refl, refl), (refl, h.1, refl, omega arith), refl, inr (refl, refl))
-  hands_over a owns b in_slot h = absurd (false≢true (sym h.0 ∙ owns))
-  hands_over a owns b with_taker h = absurd (false≢true (sym h.0 ∙ owns))
-  hands_over a owns b handed_back h = absurd (false≢true (sym h.0 ∙ owns))
+  publishes_waker : (a : Waits X) → a.0 ≡ true → (b : Wakes X) (at : Where) → IsWhere X at a b → WaitsTo (OnFlag (λ _. 1)) (λ n x a' _. PublishesWaker X a x n a') (flag_of at) filled a b at
+  publishes_waker a owns b with_waiter h = let le = h.2 in ((false, (a.1.0 + 1, b.1.1)), in_slot, none, (refl, refl), (refl, h.1, refl, omega arith), refl, inr (refl, refl))
+  publishes_waker a owns b in_slot h = absurd (false≢true (sym h.0 ∙ owns))
+  publishes_waker a owns b with_taker h = absurd (false≢true (sym h.0 ∙ owns))
+  publishes_waker a owns b handed_back h = absurd (false≢true (sym h.0 ∙ owns))
 
-  withdraws : (a : Waits X) → a.0 ≡ false → (b : Wakes X) (at : Where) → Stands X at a b → WaitsTo (OnFlag (λ _. 0)) (Withdraws a) (flag_of at) none a b at
-  withdraws a gave b with_waiter h = absurd (false≢true (sym gave ∙ h.0))
-  withdraws a gave b in_slot h = let lt = h.3 in ((true, a.1), with_waiter, filled, (refl, refl), (refl, h.1, omega arith), ((omega arith, (λ (e : 1 ≡ 0). absurd (omega arith)), λ _. refl), refl), inr (refl, refl))
-  withdraws a gave b with_taker h = (a, with_taker, none, (refl, refl), h, ((omega arith, (λ _. refl), λ n. absurd (n refl)), holds_none a.0 gave), inl (refl, refl))
-  withdraws a gave b handed_back h = (a, handed_back, none, (refl, refl), h, ((omega arith, (λ _. refl), λ n. absurd (n refl)), holds_none a.0 gave), inl (refl, refl))
+  cancels : (a : Waits X) → a.0 ≡ false → (b : Wakes X) (at : Where) → IsWhere X at a b → WaitsTo (OnFlag (λ _. 0)) (Cancels a) (flag_of at) none a b at
+  cancels a gave b with_waiter h = absurd (false≢true (sym gave ∙ h.0))
+  cancels a gave b in_slot h = let lt = h.3 in ((true, a.1), with_waiter, filled, (refl, refl), (refl, h.1, omega arith), ((omega arith, (λ (e : 1 ≡ 0). absurd (omega arith)), λ _. refl), refl), inr (refl, refl))
+  cancels a gave b with_taker h = (a, with_taker, none, (refl, refl), h, ((omega arith, (λ _. refl), λ n. absurd (n refl)), holds_none a.0 gave), inl (refl, refl))
+  cancels a gave b handed_back h = (a, handed_back, none, (refl, refl), h, ((omega arith, (λ _. refl), λ n. absurd (n refl)), holds_none a.0 gave), inl (refl, refl))
 
-  regains : (a : Waits X) → a.0 ≡ false → (b : Wakes X) (at : Where) → Stands X at a b → WaitsTo (OnBack (λ _. 0)) (RegainsHeld a) (back_of at) none a b at
-  regains a gave b with_waiter h = absurd (false≢true (sym gave ∙ h.0))
-  regains a gave b in_slot h = (a, in_slot, none, (refl, refl), h, ((omega arith, (λ _. refl), λ n. absurd (n refl)), λ i. (sym gave i, false)), inl (refl, refl))
-  regains a gave b with_taker h = (a, with_taker, none, (refl, refl), h, ((omega arith, (λ _. refl), λ n. absurd (n refl)), λ i. (sym gave i, false)), inl (refl, refl))
-  regains a gave b handed_back h = let same = h.2 in ((true, a.1), with_waiter, emptied, (refl, refl), (refl, h.1, omega arith), ((omega arith, (λ (e : 1 ≡ 0). absurd (omega arith)), λ _. refl), refl), inr (refl, refl))
+  reclaims : (a : Waits X) → a.0 ≡ false → (b : Wakes X) (at : Where) → IsWhere X at a b → WaitsTo (OnBack (λ _. 0)) (ReclaimsHeld a) (back_of at) none a b at
+  reclaims a gave b with_waiter h = absurd (false≢true (sym gave ∙ h.0))
+  reclaims a gave b in_slot h = (a, in_slot, none, (refl, refl), h, ((omega arith, (λ _. refl), λ n. absurd (n refl)), λ i. (sym gave i, false)), inl (refl, refl))
+  reclaims a gave b with_taker h = (a, with_taker, none, (refl, refl), h, ((omega arith, (λ _. refl), λ n. absurd (n refl)), λ i. (sym gave i, false)), inl (refl, refl))
+  reclaims a gave b handed_back h = let same = h.2 in ((true, a.1), with_waiter, emptied, (refl, refl), (refl, h.1, omega arith), ((omega arith, (λ (e : 1 ≡ 0). absurd (omega arith)), λ _. refl), refl), inr (refl, refl))
 
-  pub remembers : (a : Waits X) (b : Wakes X) (at : Where) → Stands X at a b → IsRemembered X a b
+  pub remembers : (a : Waits X) (b : Wakes X) (at : Where) → IsWhere X at a b → IsRemembered X a b
   remembers a b with_waiter h gave rests new = absurd (false≢true (sym gave ∙ h.0))
   remembers a b in_slot h gave rests new = absurd (new h.2)
   remembers a b with_taker h gave rests new = absurd (false≢true (sym rests ∙ h.1))
@@ -195,21 +195,21 @@ module _ {M : Type 1} {𝓤 : Ura M} (𝓛 : Logic 𝓤) (w p : Ptr) (z : Names)
     F = slot w far γ δ ι c shows
 
     -- the right to the place, where it is there
-    abbrev Right : Held → Fml
-    Right u = held ι u
+    abbrev Token : Held → Fml
+    Token u = held ι u
 
     abbrev code : Bool × (ℕ × X) → Gv
     code = (code_of X c).code
 
     abbrev OneAfter : (ℕ → Wakes X → Held → Type 0) → ℕ → Wakes X × Held → Fml
-    OneAfter then n r = fsep (fact (then n r.0 r.1)) (fsep (fsep (fobs δ (code r.0)) (Right r.1)) K)
+    OneAfter then n r = fsep (fact (then n r.0 r.1)) (fsep (fsep (fobs δ (code r.0)) (Token r.1)) K)
 
     -- what the side that wakes has after its step
     abbrev pub WakeAfter : (ℕ → Wakes X → Held → Type 0) → ℕ → Fml
     WakeAfter then n = fex (Wakes X × Held) (OneAfter then n)
 
     abbrev TwoAfter : (ℕ → X → Waits X → Held → Type 0) → ℕ → X × (Waits X × Held) → Fml
-    TwoAfter then n r = fsep (fact (then n r.0 r.1.0 r.1.1)) (fsep (shows r.0) (fsep (fsep (fobs γ (code r.1.0)) (Right r.1.1)) K))
+    TwoAfter then n r = fsep (fact (then n r.0 r.1.0 r.1.1)) (fsep (shows r.0) (fsep (fsep (fobs γ (code r.1.0)) (Token r.1.1)) K))
 
     -- what the side that waits has, with evidence of what the other had looked behind
     abbrev pub WaitAfter : (ℕ → X → Waits X → Held → Type 0) → ℕ → Fml
@@ -219,64 +219,64 @@ module _ {M : Type 1} {𝓤 : Ura M} (𝓛 : Logic 𝓤) (w p : Ptr) (z : Names)
     one_shows y x o (inl e) = qed 𝓛 (‵ (shows x) ∷ ‵ (shows o) ∷ []) ∵ rewrite ! 0 (λ (u : X). ‵ (shows u)) {x = y} {y = x} (sym e) refl $ keep ! (0 ∷ []) $ done !
     one_shows y x o (inr e) = qed 𝓛 (‵ (shows x) ∷ ‵ (shows o) ∷ []) ∵ rewrite ! 1 (λ (u : X). ‵ (shows u)) {x = y} {y = o} (sym e) refl $ keep ! (1 ∷ []) $ done !
 
-    wakes_flag : Lent K F → (u : Held) (b : Wakes X) (x : X) (f : ℕ → ℕ) (then : ℕ → Wakes X → Held → Type 0) → ((a : Waits X) (at : Where) → Stands X at a b → WakesTo (OnFlag f) then (flag_of at) x u a b at)
-        → ⟦ C ⟧ ∗ ⟦ K ⟧ ∗ ⟦ fsep (fobs δ (code b)) (Right u) ⟧ ∗ ⟦ shows x ⟧ ⊢ access far f (WakeAfter then)
+    wakes_flag : Lent K F → (u : Held) (b : Wakes X) (x : X) (f : ℕ → ℕ) (then : ℕ → Wakes X → Held → Type 0) → ((a : Waits X) (at : Where) → IsWhere X at a b → WakesTo (OnFlag f) then (flag_of at) x u a b at)
+        → ⟦ C ⟧ ∗ ⟦ K ⟧ ∗ ⟦ fsep (fobs δ (code b)) (Token u) ⟧ ∗ ⟦ shows x ⟧ ⊢ access far f (WakeAfter then)
     wakes_flag lends u b x f then can = let after : ℕ → Fml = WakeAfter then in let Z : Pr = ex 𝓤 (Holding far f after) in
-        inside 𝓛 w p z far f after (⟦ K ⟧ ∗ ⟦ fsep (fobs δ (code b)) (Right u) ⟧ ∗ ⟦ shows x ⟧) (qed 𝓛 (‵ I ∷ ‵ K ∷ ‵ (fsep (fobs δ (code b)) (Right u)) ∷ ‵ (shows x) ∷ []) ∵ move ! (2 ∷ []) $ fsplit ! $ move ! (2 ∷ 3 ∷ 0 ∷ 4 ∷ []) $ use2 𝓛 (‵ K ⊛ ‵ F ⊛ ‵ (fwand F I)) lends $ split3 ! $ move ! (1 ∷ []) $
-        fpick ! (λ s. fsplit3 ! $ fpick ! (λ stands. forget ! $ move ! (1 ∷ []) $ fsplit ! $ fsplit ! $ move ! (6 ∷ 1 ∷ []) $ name_agree ! (code_of X c) (λ e.
-        let a : Waits X = s.0 in let at : Where = s.1.1 in let r = can a at (subst (λ (y : Wakes X). Stands X at a y) (sym e) stands) in let b' : Wakes X = r.0 in let at' : Where = r.1 in let u' : Held = r.2 in let n : ℕ = flag_of at in
+        inside 𝓛 w p z far f after (⟦ K ⟧ ∗ ⟦ fsep (fobs δ (code b)) (Token u) ⟧ ∗ ⟦ shows x ⟧) (qed 𝓛 (‵ I ∷ ‵ K ∷ ‵ (fsep (fobs δ (code b)) (Token u)) ∷ ‵ (shows x) ∷ []) ∵ move ! (2 ∷ []) $ fsplit ! $ move ! (2 ∷ 3 ∷ 0 ∷ 4 ∷ []) $ use2 𝓛 (‵ K ⊛ ‵ F ⊛ ‵ (fwand F I)) lends $ split3 ! $ move ! (1 ∷ []) $
+        fpick ! (λ s. fsplit3 ! $ fpick ! (λ is_registered. forget ! $ move ! (1 ∷ []) $ fsplit ! $ fsplit ! $ move ! (6 ∷ 1 ∷ []) $ name_agree ! (code_of X c) (λ e.
+        let a : Waits X = s.0 in let at : Where = s.1.1 in let r = can a at (subst (λ (y : Wakes X). IsWhere X at a y) (sym e) is_registered) in let b' : Wakes X = r.0 in let at' : Where = r.1 in let u' : Held = r.2 in let n : ℕ = flag_of at in
         use2 𝓛 (raw (upd 𝓤 (⟦ fobs δ (code b') ⟧ ∗ ⟦ fauth δ (code b') ⟧))) (𝓛.names.name_set_upd δ (code b) (code s.1.0) (code b')) $ settle 𝓛 Z (‵ (fobs δ (code b')) ⊛ ‵ (fauth δ (code b'))) $ suffices ! _ (upd_i 𝓤 Z) $ split ! $
         move ! (3 ∷ []) $ fsplit ! $ rewrite ! 0 (λ (y : Wakes X). ‵ (shows y.1.1)) {x = b} {y = s.1.0} (sym e) refl $ move ! (8 ∷ 0 ∷ []) $ use2 𝓛 (‵ (shows b'.1.1)) (one_shows b'.1.1 x b.1.1 r.5) $
-        move ! (1 ∷ 8 ∷ []) $ use2 𝓛 (‵ (Right (held_at at')) ⊛ ‵ (Right u')) (passes ι u (held_at at) u' (held_at at') r.7) $ split ! $ move ! (2 ∷ 0 ∷ []) $ fjoin ! $ move ! (2 ∷ 1 ∷ []) $ fjoin ! $ move ! (1 ∷ 0 ∷ []) $
+        move ! (1 ∷ 8 ∷ []) $ use2 𝓛 (‵ (Token (held_at at')) ⊛ ‵ (Token u')) (passes ι u (held_at at) u' (held_at at') r.7) $ split ! $ move ! (2 ∷ 0 ∷ []) $ fjoin ! $ move ! (2 ∷ 1 ∷ []) $ fjoin ! $ move ! (1 ∷ 0 ∷ []) $
         move ! (4 ∷ []) $ fsplit ! $ show ! (Holding far f after) n $ frame ! $ assume ! (‵ (word w far (f n))) $ suffices ! _ (upd_i 𝓤 (⟦ I ⟧ ∗ ⟦ after n ⟧)) $
         rewrite ! 0 (λ (m : ℕ). ‵ (word w far m)) {x = flag_of at'} {y = f n} r.3.0 refl $ rewrite ! 1 (λ (m : ℕ). ‵ (word w (8 + far) m)) {x = back_of at'} {y = back_of at} r.3.1 refl $ fjoin ! $
-        move ! (4 ∷ 3 ∷ []) $ fjoin ! $ move ! (1 ∷ 0 ∷ 2 ∷ []) $ fjoin3 ! $ nothing ! $ fpack ! (Stands X at' a b') (λ _. ftrue) r.4 $ fjoin ! $ fpack ! (Slot X) (slot_at w far γ δ ι c shows) (a, (b', at')) $
+        move ! (4 ∷ 3 ∷ []) $ fjoin ! $ move ! (1 ∷ 0 ∷ 2 ∷ []) $ fjoin3 ! $ nothing ! $ fpack ! (IsWhere X at' a b') (λ _. ftrue) r.4 $ fjoin ! $ fpack ! (Slot X) (slot_at w far γ δ ι c shows) (a, (b', at')) $
         move ! (0 ∷ 3 ∷ []) $ use2 𝓛 (‵ I) (apply∗ 𝓤 ⟦ F ⟧ ⟦ I ⟧) $ frame ! $ fjoin ! $ nothing ! $ fpack ! (then n b' u') (λ _. ftrue) r.6 $ fjoin ! $ fpack ! (Wakes X × Held) (OneAfter then n) (b', u') $ done !))))
 
-    wakes_back : Lent K F → (u : Held) (b : Wakes X) (x : X) (f : ℕ → ℕ) (then : ℕ → Wakes X → Held → Type 0) → ((a : Waits X) (at : Where) → Stands X at a b → WakesTo (OnBack f) then (back_of at) x u a b at)
-        → ⟦ C ⟧ ∗ ⟦ K ⟧ ∗ ⟦ fsep (fobs δ (code b)) (Right u) ⟧ ∗ ⟦ shows x ⟧ ⊢ access (8 + far) f (WakeAfter then)
+    wakes_back : Lent K F → (u : Held) (b : Wakes X) (x : X) (f : ℕ → ℕ) (then : ℕ → Wakes X → Held → Type 0) → ((a : Waits X) (at : Where) → IsWhere X at a b → WakesTo (OnBack f) then (back_of at) x u a b at)
+        → ⟦ C ⟧ ∗ ⟦ K ⟧ ∗ ⟦ fsep (fobs δ (code b)) (Token u) ⟧ ∗ ⟦ shows x ⟧ ⊢ access (8 + far) f (WakeAfter then)
     wakes_back lends u b x f then can = let after : ℕ → Fml = WakeAfter then in let Z : Pr = ex 𝓤 (Holding (8 + far) f after) in
-        inside 𝓛 w p z (8 + far) f after (⟦ K ⟧ ∗ ⟦ fsep (fobs δ (code b)) (Right u) ⟧ ∗ ⟦ shows x ⟧) (qed 𝓛 (‵ I ∷ ‵ K ∷ ‵ (fsep (fobs δ (code b)) (Right u)) ∷ ‵ (shows x) ∷ []) ∵ move ! (2 ∷ []) $ fsplit ! $ move ! (2 ∷ 3 ∷ 0 ∷ 4 ∷ []) $ use2 𝓛 (‵ K ⊛ ‵ F ⊛ ‵ (fwand F I)) lends $ split3 ! $ move ! (1 ∷ []) $
-        fpick ! (λ s. fsplit3 ! $ fpick ! (λ stands. forget ! $ move ! (1 ∷ []) $ fsplit ! $ fsplit ! $ move ! (6 ∷ 1 ∷ []) $ name_agree ! (code_of X c) (λ e.
-        let a : Waits X = s.0 in let at : Where = s.1.1 in let r = can a at (subst (λ (y : Wakes X). Stands X at a y) (sym e) stands) in let b' : Wakes X = r.0 in let at' : Where = r.1 in let u' : Held = r.2 in let n : ℕ = back_of at in
+        inside 𝓛 w p z (8 + far) f after (⟦ K ⟧ ∗ ⟦ fsep (fobs δ (code b)) (Token u) ⟧ ∗ ⟦ shows x ⟧) (qed 𝓛 (‵ I ∷ ‵ K ∷ ‵ (fsep (fobs δ (code b)) (Token u)) ∷ ‵ (shows x) ∷ []) ∵ move ! (2 ∷ []) $ fsplit ! $ move ! (2 ∷ 3 ∷ 0 ∷ 4 ∷ []) $ use2 𝓛 (‵ K ⊛ ‵ F ⊛ ‵ (fwand F I)) lends $ split3 ! $ move ! (1 ∷ []) $
+        fpick ! (λ s. fsplit3 ! $ fpick ! (λ is_registered. forget ! $ move ! (1 ∷ []) $ fsplit ! $ fsplit ! $ move ! (6 ∷ 1 ∷ []) $ name_agree ! (code_of X c) (λ e.
+        let a : Waits X = s.0 in let at : Where = s.1.1 in let r = can a at (subst (λ (y : Wakes X). IsWhere X at a y) (sym e) is_registered) in let b' : Wakes X = r.0 in let at' : Where = r.1 in let u' : Held = r.2 in let n : ℕ = back_of at in
         use2 𝓛 (raw (upd 𝓤 (⟦ fobs δ (code b') ⟧ ∗ ⟦ fauth δ (code b') ⟧))) (𝓛.names.name_set_upd δ (code b) (code s.1.0) (code b')) $ settle 𝓛 Z (‵ (fobs δ (code b')) ⊛ ‵ (fauth δ (code b'))) $ suffices ! _ (upd_i 𝓤 Z) $ split ! $
         move ! (3 ∷ []) $ fsplit ! $ rewrite ! 0 (λ (y : Wakes X). ‵ (shows y.1.1)) {x = b} {y = s.1.0} (sym e) refl $ move ! (8 ∷ 0 ∷ []) $ use2 𝓛 (‵ (shows b'.1.1)) (one_shows b'.1.1 x b.1.1 r.5) $
-        move ! (1 ∷ 8 ∷ []) $ use2 𝓛 (‵ (Right (held_at at')) ⊛ ‵ (Right u')) (passes ι u (held_at at) u' (held_at at') r.7) $ split ! $ move ! (2 ∷ 0 ∷ []) $ fjoin ! $ move ! (2 ∷ 1 ∷ []) $ fjoin ! $ move ! (1 ∷ 0 ∷ []) $
+        move ! (1 ∷ 8 ∷ []) $ use2 𝓛 (‵ (Token (held_at at')) ⊛ ‵ (Token u')) (passes ι u (held_at at) u' (held_at at') r.7) $ split ! $ move ! (2 ∷ 0 ∷ []) $ fjoin ! $ move ! (2 ∷ 1 ∷ []) $ fjoin ! $ move ! (1 ∷ 0 ∷ []) $
         move ! (4 ∷ []) $ fsplit ! $ move ! (1 ∷ []) $ show ! (Holding (8 + far) f after) n $ frame ! $ assume ! (‵ (word w (8 + far) (f n))) $ suffices ! _ (upd_i 𝓤 (⟦ I ⟧ ∗ ⟦ after n ⟧)) $ move ! (1 ∷ 0 ∷ []) $
         rewrite ! 0 (λ (m : ℕ). ‵ (word w far m)) {x = flag_of at'} {y = flag_of at} r.3.1 refl $ rewrite ! 1 (λ (m : ℕ). ‵ (word w (8 + far) m)) {x = back_of at'} {y = f n} r.3.0 refl $ fjoin ! $
-        move ! (4 ∷ 3 ∷ []) $ fjoin ! $ move ! (1 ∷ 0 ∷ 2 ∷ []) $ fjoin3 ! $ nothing ! $ fpack ! (Stands X at' a b') (λ _. ftrue) r.4 $ fjoin ! $ fpack ! (Slot X) (slot_at w far γ δ ι c shows) (a, (b', at')) $
+        move ! (4 ∷ 3 ∷ []) $ fjoin ! $ move ! (1 ∷ 0 ∷ 2 ∷ []) $ fjoin3 ! $ nothing ! $ fpack ! (IsWhere X at' a b') (λ _. ftrue) r.4 $ fjoin ! $ fpack ! (Slot X) (slot_at w far γ δ ι c shows) (a, (b', at')) $
         move ! (0 ∷ 3 ∷ []) $ use2 𝓛 (‵ I) (apply∗ 𝓤 ⟦ F ⟧ ⟦ I ⟧) $ frame ! $ fjoin ! $ nothing ! $ fpack ! (then n b' u') (λ _. ftrue) r.6 $ fjoin ! $ fpack ! (Wakes X × Held) (OneAfter then n) (b', u') $ done !))))
 
     -- evidence can be had twice
     abbrev pub Twice : Type 1
     Twice = (x : X) → ⟦ shows x ⟧ ⊢ ⟦ shows x ⟧ ∗ ⟦ shows x ⟧
 
-    waits_flag : Lent K F → Twice → (u : Held) (a : Waits X) (f : ℕ → ℕ) (then : ℕ → X → Waits X → Held → Type 0) → ((b : Wakes X) (at : Where) → Stands X at a b → WaitsTo (OnFlag f) then (flag_of at) u a b at)
-        → ⟦ C ⟧ ∗ ⟦ K ⟧ ∗ ⟦ fsep (fobs γ (code a)) (Right u) ⟧ ⊢ access far f (WaitAfter then)
+    waits_flag : Lent K F → Twice → (u : Held) (a : Waits X) (f : ℕ → ℕ) (then : ℕ → X → Waits X → Held → Type 0) → ((b : Wakes X) (at : Where) → IsWhere X at a b → WaitsTo (OnFlag f) then (flag_of at) u a b at)
+        → ⟦ C ⟧ ∗ ⟦ K ⟧ ∗ ⟦ fsep (fobs γ (code a)) (Token u) ⟧ ⊢ access far f (WaitAfter then)
     waits_flag lends twice u a f then can = let after : ℕ → Fml = WaitAfter then in let Z : Pr = ex 𝓤 (Holding far f after) in
-        inside 𝓛 w p z far f after (⟦ K ⟧ ∗ ⟦ fsep (fobs γ (code a)) (Right u) ⟧) (qed 𝓛 (‵ I ∷ ‵ K ∷ ‵ (fsep (fobs γ (code a)) (Right u)) ∷ []) ∵ move ! (2 ∷ []) $ fsplit ! $ move ! (2 ∷ 3 ∷ 0 ∷ []) $ use2 𝓛 (‵ K ⊛ ‵ F ⊛ ‵ (fwand F I)) lends $ split3 ! $ move ! (1 ∷ []) $
-        fpick ! (λ s. fsplit3 ! $ fpick ! (λ stands. forget ! $ move ! (1 ∷ []) $ fsplit ! $ fsplit ! $ move ! (6 ∷ 0 ∷ []) $ name_agree ! (code_of X c) (λ e.
-        let b : Wakes X = s.1.0 in let at : Where = s.1.1 in let r = can b at (subst (λ (y : Waits X). Stands X at y b) (sym e) stands) in let a' : Waits X = r.0 in let at' : Where = r.1 in let u' : Held = r.2 in let n : ℕ = flag_of at in let x : X = b.1.1 in
+        inside 𝓛 w p z far f after (⟦ K ⟧ ∗ ⟦ fsep (fobs γ (code a)) (Token u) ⟧) (qed 𝓛 (‵ I ∷ ‵ K ∷ ‵ (fsep (fobs γ (code a)) (Token u)) ∷ []) ∵ move ! (2 ∷ []) $ fsplit ! $ move ! (2 ∷ 3 ∷ 0 ∷ []) $ use2 𝓛 (‵ K ⊛ ‵ F ⊛ ‵ (fwand F I)) lends $ split3 ! $ move ! (1 ∷ []) $
+        fpick ! (λ s. fsplit3 ! $ fpick ! (λ is_registered. forget ! $ move ! (1 ∷ []) $ fsplit ! $ fsplit ! $ move ! (6 ∷ 0 ∷ []) $ name_agree ! (code_of X c) (λ e.
+        let b : Wakes X = s.1.0 in let at : Where = s.1.1 in let r = can b at (subst (λ (y : Waits X). IsWhere X at y b) (sym e) is_registered) in let a' : Waits X = r.0 in let at' : Where = r.1 in let u' : Held = r.2 in let n : ℕ = flag_of at in let x : X = b.1.1 in
         use2 𝓛 (raw (upd 𝓤 (⟦ fobs γ (code a') ⟧ ∗ ⟦ fauth γ (code a') ⟧))) (𝓛.names.name_set_upd γ (code a) (code s.0) (code a')) $ settle 𝓛 Z (‵ (fobs γ (code a')) ⊛ ‵ (fauth γ (code a'))) $ suffices ! _ (upd_i 𝓤 Z) $ split ! $
         move ! (3 ∷ []) $ fsplit ! $ use1 𝓛 (‵ (shows x) ⊛ ‵ (shows x)) (twice x) $ split ! $
-        move ! (2 ∷ 9 ∷ []) $ use2 𝓛 (‵ (Right (held_at at')) ⊛ ‵ (Right u')) (passes ι u (held_at at) u' (held_at at') r.6) $ split ! $ move ! (2 ∷ 0 ∷ []) $ fjoin ! $ move ! (3 ∷ 1 ∷ []) $ fjoin ! $ move ! (1 ∷ 2 ∷ 0 ∷ []) $
+        move ! (2 ∷ 9 ∷ []) $ use2 𝓛 (‵ (Token (held_at at')) ⊛ ‵ (Token u')) (passes ι u (held_at at) u' (held_at at') r.6) $ split ! $ move ! (2 ∷ 0 ∷ []) $ fjoin ! $ move ! (3 ∷ 1 ∷ []) $ fjoin ! $ move ! (1 ∷ 2 ∷ 0 ∷ []) $
         move ! (5 ∷ []) $ fsplit ! $ show ! (Holding far f after) n $ frame ! $ assume ! (‵ (word w far (f n))) $ suffices ! _ (upd_i 𝓤 (⟦ I ⟧ ∗ ⟦ after n ⟧)) $
         rewrite ! 0 (λ (m : ℕ). ‵ (word w far m)) {x = flag_of at'} {y = f n} r.3.0 refl $ rewrite ! 1 (λ (m : ℕ). ‵ (word w (8 + far) m)) {x = back_of at'} {y = back_of at} r.3.1 refl $ fjoin ! $
-        move ! (4 ∷ 5 ∷ []) $ fjoin ! $ move ! (1 ∷ 0 ∷ 2 ∷ []) $ fjoin3 ! $ nothing ! $ fpack ! (Stands X at' a' b) (λ _. ftrue) r.4 $ fjoin ! $ fpack ! (Slot X) (slot_at w far γ δ ι c shows) (a', (b, at')) $
+        move ! (4 ∷ 5 ∷ []) $ fjoin ! $ move ! (1 ∷ 0 ∷ 2 ∷ []) $ fjoin3 ! $ nothing ! $ fpack ! (IsWhere X at' a' b) (λ _. ftrue) r.4 $ fjoin ! $ fpack ! (Slot X) (slot_at w far γ δ ι c shows) (a', (b, at')) $
         move ! (0 ∷ 4 ∷ []) $ use2 𝓛 (‵ I) (apply∗ 𝓤 ⟦ F ⟧ ⟦ I ⟧) $ frame ! $ fjoin3 ! $ nothing ! $ fpack ! (then n x a' u') (λ _. ftrue) r.5 $ fjoin ! $ fpack ! (X × (Waits X × Held)) (TwoAfter then n) (x, (a', u')) $ done !))))
 
-    waits_back : Lent K F → Twice → (u : Held) (a : Waits X) (f : ℕ → ℕ) (then : ℕ → X → Waits X → Held → Type 0) → ((b : Wakes X) (at : Where) → Stands X at a b → WaitsTo (OnBack f) then (back_of at) u a b at)
-        → ⟦ C ⟧ ∗ ⟦ K ⟧ ∗ ⟦ fsep (fobs γ (code a)) (Right u) ⟧ ⊢ access (8 + far) f (WaitAfter then)
+    waits_back : Lent K F → Twice → (u : Held) (a : Waits X) (f : ℕ → ℕ) (then : ℕ → X → Waits X → Held → Type 0) → ((b : Wakes X) (at : Where) → IsWhere X at a b → WaitsTo (OnBack f) then (back_of at) u a b at)
+        → ⟦ C ⟧ ∗ ⟦ K ⟧ ∗ ⟦ fsep (fobs γ (code a)) (Token u) ⟧ ⊢ access (8 + far) f (WaitAfter then)
     waits_back lends twice u a f then can = let after : ℕ → Fml = WaitAfter then in let Z : Pr = ex 𝓤 (Holding (8 + far) f after) in
-        inside 𝓛 w p z (8 + far) f after (⟦ K ⟧ ∗ ⟦ fsep (fobs γ (code a)) (Right u) ⟧) (qed 𝓛 (‵ I ∷ ‵ K ∷ ‵ (fsep (fobs γ (code a)) (Right u)) ∷ []) ∵ move ! (2 ∷ []) $ fsplit ! $ move ! (2 ∷ 3 ∷ 0 ∷ []) $ use2 𝓛 (‵ K ⊛ ‵ F ⊛ ‵ (fwand F I)) lends $ split3 ! $ move ! (1 ∷ []) $
-        fpick ! (λ s. fsplit3 ! $ fpick ! (λ stands. forget ! $ move ! (1 ∷ []) $ fsplit ! $ fsplit ! $ move ! (6 ∷ 0 ∷ []) $ name_agree ! (code_of X c) (λ e.
-        let b : Wakes X = s.1.0 in let at : Where = s.1.1 in let r = can b at (subst (λ (y : Waits X). Stands X at y b) (sym e) stands) in let a' : Waits X = r.0 in let at' : Where = r.1 in let u' : Held = r.2 in let n : ℕ = back_of at in let x : X = b.1.1 in
+        inside 𝓛 w p z (8 + far) f after (⟦ K ⟧ ∗ ⟦ fsep (fobs γ (code a)) (Token u) ⟧) (qed 𝓛 (‵ I ∷ ‵ K ∷ ‵ (fsep (fobs γ (code a)) (Token u)) ∷ []) ∵ move ! (2 ∷ []) $ fsplit ! $ move ! (2 ∷ 3 ∷ 0 ∷ []) $ use2 𝓛 (‵ K ⊛ ‵ F ⊛ ‵ (fwand F I)) lends $ split3 ! $ move ! (1 ∷ []) $
+        fpick ! (λ s. fsplit3 ! $ fpick ! (λ is_registered. forget ! $ move ! (1 ∷ []) $ fsplit ! $ fsplit ! $ move ! (6 ∷ 0 ∷ []) $ name_agree ! (code_of X c) (λ e.
+        let b : Wakes X = s.1.0 in let at : Where = s.1.1 in let r = can b at (subst (λ (y : Waits X). IsWhere X at y b) (sym e) is_registered) in let a' : Waits X = r.0 in let at' : Where = r.1 in let u' : Held = r.2 in let n : ℕ = back_of at in let x : X = b.1.1 in
         use2 𝓛 (raw (upd 𝓤 (⟦ fobs γ (code a') ⟧ ∗ ⟦ fauth γ (code a') ⟧))) (𝓛.names.name_set_upd γ (code a) (code s.0) (code a')) $ settle 𝓛 Z (‵ (fobs γ (code a')) ⊛ ‵ (fauth γ (code a'))) $ suffices ! _ (upd_i 𝓤 Z) $ split ! $
         move ! (3 ∷ []) $ fsplit ! $ use1 𝓛 (‵ (shows x) ⊛ ‵ (shows x)) (twice x) $ split ! $
-        move ! (2 ∷ 9 ∷ []) $ use2 𝓛 (‵ (Right (held_at at')) ⊛ ‵ (Right u')) (passes ι u (held_at at) u' (held_at at') r.6) $ split ! $ move ! (2 ∷ 0 ∷ []) $ fjoin ! $ move ! (3 ∷ 1 ∷ []) $ fjoin ! $ move ! (1 ∷ 2 ∷ 0 ∷ []) $
+        move ! (2 ∷ 9 ∷ []) $ use2 𝓛 (‵ (Token (held_at at')) ⊛ ‵ (Token u')) (passes ι u (held_at at) u' (held_at at') r.6) $ split ! $ move ! (2 ∷ 0 ∷ []) $ fjoin ! $ move ! (3 ∷ 1 ∷ []) $ fjoin ! $ move ! (1 ∷ 2 ∷ 0 ∷ []) $
         move ! (5 ∷ []) $ fsplit ! $ move ! (1 ∷ []) $ show ! (Holding (8 + far) f after) n $ frame ! $ assume ! (‵ (word w (8 + far) (f n))) $ suffices ! _ (upd_i 𝓤 (⟦ I ⟧ ∗ ⟦ after n ⟧)) $ move ! (1 ∷ 0 ∷ []) $
         rewrite ! 0 (λ (m : ℕ). ‵ (word w far m)) {x = flag_of at'} {y = flag_of at} r.3.1 refl $ rewrite ! 1 (λ (m : ℕ). ‵ (word w (8 + far) m)) {x = back_of at'} {y = f n} r.3.0 refl $ fjoin ! $
-        move ! (4 ∷ 5 ∷ []) $ fjoin ! $ move ! (1 ∷ 0 ∷ 2 ∷ []) $ fjoin3 ! $ nothing ! $ fpack ! (Stands X at' a' b) (λ _. ftrue) r.4 $ fjoin ! $ fpack ! (Slot X) (slot_at w far γ δ ι c shows) (a', (b, at')) $
+        move ! (4 ∷ 5 ∷ []) $ fjoin ! $ move ! (1 ∷ 0 ∷ 2 ∷ []) $ fjoin3 ! $ nothing ! $ fpack ! (IsWhere X at' a' b) (λ _. ftrue) r.4 $ fjoin ! $ fpack ! (Slot X) (slot_at w far γ δ ι c shows) (a', (b, at')) $
         move ! (0 ∷ 4 ∷ []) $ use2 𝓛 (‵ I) (apply∗ 𝓤 ⟦ F ⟧ ⟦ I ⟧) $ frame ! $ fjoin3 ! $ nothing ! $ fpack ! (then n x a' u') (λ _. ftrue) r.5 $ fjoin ! $ fpack ! (X × (Waits X × Held)) (TwoAfter then n) (x, (a', u')) $ done !))))
 
     abbrev pub Met : Waits X → Wakes X → Pr
@@ -286,11 +286,11 @@ module _ {M : Type 1} {𝓤 : Ura M} (𝓛 : Logic 𝓤) (w p : Ptr) (z : Names)
     meets : Lent K F → (a : Waits X) (b : Wakes X) → ⟦ C ⟧ ∗ ⟦ K ⟧ ∗ ⟦ fobs γ (code a) ⟧ ∗ ⟦ fobs δ (code b) ⟧ ⊢ H.⇛ (Met a b)
     meets lends a b = let Q : Pr = Met a b in let Z : Pr = ⟦ I ⟧ ∗ Q in
         qed 𝓛 (‵ C ∷ ‵ K ∷ ‵ (fobs γ (code a)) ∷ ‵ (fobs δ (code b)) ∷ []) ∵ fsplit ! $ forget ! $ suffices ! _ (𝓛.invs.inv_acc I Q) $ frame ! $ assume ! (‵ I) $
-        use2 𝓛 (‵ K ⊛ ‵ F ⊛ ‵ (fwand F I)) lends $ split3 ! $ move ! (1 ∷ []) $ fpick ! (λ s. fsplit3 ! $ fpick ! (λ stands. forget ! $ move ! (1 ∷ []) $ fsplit ! $ fsplit ! $
+        use2 𝓛 (‵ K ⊛ ‵ F ⊛ ‵ (fwand F I)) lends $ split3 ! $ move ! (1 ∷ []) $ fpick ! (λ s. fsplit3 ! $ fpick ! (λ is_registered. forget ! $ move ! (1 ∷ []) $ fsplit ! $ fsplit ! $
         move ! (6 ∷ 0 ∷ []) $ name_agree ! (code_of X c) (λ ea. move ! (7 ∷ 2 ∷ []) $ name_agree ! (code_of X c) (λ eb.
-        move ! (3 ∷ 1 ∷ []) $ fjoin ! $ move ! (4 ∷ 0 ∷ 3 ∷ []) $ fjoin3 ! $ nothing ! $ fpack ! (Stands X s.1.1 s.0 s.1.0) (λ _. ftrue) stands $ fjoin ! $ fpack ! (Slot X) (slot_at w far γ δ ι c shows) s $
+        move ! (3 ∷ 1 ∷ []) $ fjoin ! $ move ! (4 ∷ 0 ∷ 3 ∷ []) $ fjoin3 ! $ nothing ! $ fpack ! (IsWhere X s.1.1 s.0 s.1.0) (λ _. ftrue) is_registered $ fjoin ! $ fpack ! (Slot X) (slot_at w far γ δ ι c shows) s $
         move ! (0 ∷ 4 ∷ []) $ use2 𝓛 (‵ I) (apply∗ 𝓤 ⟦ F ⟧ ⟦ I ⟧) $ suffices ! _ (upd_i 𝓤 Z) $ frame ! $
-        check ! (subst (λ (r : Waits X × Wakes X). IsRemembered X r.0 r.1) (λ j. (sym ea j, sym eb j)) (remembers s.0 s.1.0 s.1.1 stands)) $ move ! (2 ∷ 1 ∷ 0 ∷ []) $ done !))))
+        check ! (subst (λ (r : Waits X × Wakes X). IsRemembered X r.0 r.1) (λ j. (sym ea j, sym eb j)) (remembers s.0 s.1.0 s.1.1 is_registered)) $ move ! (2 ∷ 1 ∷ 0 ∷ []) $ done !))))
 
   -- what the writer's right to the stream shows
   wk_shows : (q : Share) (sent : List ℕ) (limit : ℕ) (shut : Bool) (i : ℕ) → ⟦ WK q sent limit shut i ⟧ ⊢ ⟦ WK q sent limit shut i ⟧ ∗ ⟦ published z (sent, shut) ⟧
@@ -337,20 +337,20 @@ module _ {M : Type 1} {𝓤 : Ura M} (𝓛 : Logic 𝓤) (w p : Ptr) (z : Names)
     abbrev pub ReaderWaited : (ℕ → Stream → Waits Stream → Held → Type 0) → ℕ → Fml
     ReaderWaited = WaitAfter 512 z.reader_waits z.writer_wakes z.reader_place coded_stream (published z) KR
 
-    pub reader_hands_over : a.0 ≡ true → ⟦ C ⟧ ∗ ⟦ KR ⟧ ∗ ⟦ fsep AR (held z.reader_place filled) ⟧ ⊢ access 512 (λ _. 1) (ReaderWaited (λ n x a' _. HandsOver Stream a x n a'))
-    reader_hands_over owns = waits_flag 512 z.reader_waits z.writer_wakes z.reader_place coded_stream (published z) KR lent_too (λ s. announced_twice 𝓛 z s.0 s.1) filled a (λ _. 1) (λ n x a' _. HandsOver Stream a x n a') (hands_over a owns)
+    pub reader_publishes_waker : a.0 ≡ true → ⟦ C ⟧ ∗ ⟦ KR ⟧ ∗ ⟦ fsep AR (held z.reader_place filled) ⟧ ⊢ access 512 (λ _. 1) (ReaderWaited (λ n x a' _. PublishesWaker Stream a x n a'))
+    reader_publishes_waker owns = waits_flag 512 z.reader_waits z.writer_wakes z.reader_place coded_stream (published z) KR lent_too (λ s. announced_twice 𝓛 z s.0 s.1) filled a (λ _. 1) (λ n x a' _. PublishesWaker Stream a x n a') (publishes_waker a owns)
 
-    pub reader_withdraws : a.0 ≡ false → ⟦ C ⟧ ∗ ⟦ KR ⟧ ∗ ⟦ AR ⟧ ⊢ access 512 (λ _. 0) (ReaderWaited (Withdraws a))
-    reader_withdraws gave = qed 𝓛 (‵ C ∷ ‵ KR ∷ ‵ AR ∷ []) ∵ move ! (2 ∷ []) $ nothing ! $ move ! (1 ∷ 0 ∷ []) $ fjoin ! $ move ! (1 ∷ 2 ∷ 0 ∷ []) $
-        by ! (waits_flag 512 z.reader_waits z.writer_wakes z.reader_place coded_stream (published z) KR lent_too (λ s. announced_twice 𝓛 z s.0 s.1) none a (λ _. 0) (Withdraws a) (withdraws a gave))
+    pub reader_cancels : a.0 ≡ false → ⟦ C ⟧ ∗ ⟦ KR ⟧ ∗ ⟦ AR ⟧ ⊢ access 512 (λ _. 0) (ReaderWaited (Cancels a))
+    reader_cancels gave = qed 𝓛 (‵ C ∷ ‵ KR ∷ ‵ AR ∷ []) ∵ move ! (2 ∷ []) $ nothing ! $ move ! (1 ∷ 0 ∷ []) $ fjoin ! $ move ! (1 ∷ 2 ∷ 0 ∷ []) $
+        by ! (waits_flag 512 z.reader_waits z.writer_wakes z.reader_place coded_stream (published z) KR lent_too (λ s. announced_twice 𝓛 z s.0 s.1) none a (λ _. 0) (Cancels a) (cancels a gave))
 
-    pub reader_stands : ⟦ C ⟧ ∗ ⟦ KR ⟧ ∗ ⟦ AR ⟧ ⊢ access 512 (λ n. n) (ReaderWaited (StaysSo a))
-    reader_stands = qed 𝓛 (‵ C ∷ ‵ KR ∷ ‵ AR ∷ []) ∵ move ! (2 ∷ []) $ nothing ! $ move ! (1 ∷ 0 ∷ []) $ fjoin ! $ move ! (1 ∷ 2 ∷ 0 ∷ []) $
+    pub reader_is_registered : ⟦ C ⟧ ∗ ⟦ KR ⟧ ∗ ⟦ AR ⟧ ⊢ access 512 (λ n. n) (ReaderWaited (StaysSo a))
+    reader_is_registered = qed 𝓛 (‵ C ∷ ‵ KR ∷ ‵ AR ∷ []) ∵ move ! (2 ∷ []) $ nothing ! $ move ! (1 ∷ 0 ∷ []) $ fjoin ! $ move ! (1 ∷ 2 ∷ 0 ∷ []) $
         by ! (waits_flag 512 z.reader_waits z.writer_wakes z.reader_place coded_stream (published z) KR lent_too (λ s. announced_twice 𝓛 z s.0 s.1) none a (λ n. n) (StaysSo a) (stays_so a))
 
-    pub reader_regains : a.0 ≡ false → ⟦ C ⟧ ∗ ⟦ KR ⟧ ∗ ⟦ AR ⟧ ⊢ access 520 (λ _. 0) (ReaderWaited (RegainsHeld a))
-    reader_regains gave = qed 𝓛 (‵ C ∷ ‵ KR ∷ ‵ AR ∷ []) ∵ move ! (2 ∷ []) $ nothing ! $ move ! (1 ∷ 0 ∷ []) $ fjoin ! $ move ! (1 ∷ 2 ∷ 0 ∷ []) $
-        by ! (waits_back 512 z.reader_waits z.writer_wakes z.reader_place coded_stream (published z) KR lent_too (λ s. announced_twice 𝓛 z s.0 s.1) none a (λ _. 0) (RegainsHeld a) (regains a gave))
+    pub reader_reclaims : a.0 ≡ false → ⟦ C ⟧ ∗ ⟦ KR ⟧ ∗ ⟦ AR ⟧ ⊢ access 520 (λ _. 0) (ReaderWaited (ReclaimsHeld a))
+    reader_reclaims gave = qed 𝓛 (‵ C ∷ ‵ KR ∷ ‵ AR ∷ []) ∵ move ! (2 ∷ []) $ nothing ! $ move ! (1 ∷ 0 ∷ []) $ fjoin ! $ move ! (1 ∷ 2 ∷ 0 ∷ []) $
+        by ! (waits_back 512 z.reader_waits z.writer_wakes z.reader_place coded_stream (published z) KR lent_too (λ s. announced_twice 𝓛 z s.0 s.1) none a (λ _. 0) (ReclaimsHeld a) (reclaims a gave))
 
     abbrev pub BothMet : Wakes Stream → Pr
     BothMet = Met 512 z.reader_waits z.writer_wakes z.reader_place coded_stream (published z) KR a
@@ -408,20 +408,20 @@ module _ {M : Type 1} {𝓤 : Ura M} (𝓛 : Logic 𝓤) (w p : Ptr) (z : Names)
     abbrev pub WriterWaited : (ℕ → Consumed → Waits Consumed → Held → Type 0) → ℕ → Fml
     WriterWaited = WaitAfter 640 z.writer_waits z.reader_wakes z.writer_place coded_consumed (consumed z) KW'
 
-    pub writer_hands_over : a.0 ≡ true → ⟦ C ⟧ ∗ ⟦ KW' ⟧ ∗ ⟦ fsep AW (held z.writer_place filled) ⟧ ⊢ access 640 (λ _. 1) (WriterWaited (λ n x a' _. HandsOver Consumed a x n a'))
-    writer_hands_over owns = waits_flag 640 z.writer_waits z.reader_wakes z.writer_place coded_consumed (consumed z) KW' lent_own consumed_twice filled a (λ _. 1) (λ n x a' _. HandsOver Consumed a x n a') (hands_over a owns)
+    pub writer_publishes_waker : a.0 ≡ true → ⟦ C ⟧ ∗ ⟦ KW' ⟧ ∗ ⟦ fsep AW (held z.writer_place filled) ⟧ ⊢ access 640 (λ _. 1) (WriterWaited (λ n x a' _. PublishesWaker Consumed a x n a'))
+    writer_publishes_waker owns = waits_flag 640 z.writer_waits z.reader_wakes z.writer_place coded_consumed (consumed z) KW' lent_own consumed_twice filled a (λ _. 1) (λ n x a' _. PublishesWaker Consumed a x n a') (publishes_waker a owns)
 
-    pub writer_withdraws : a.0 ≡ false → ⟦ C ⟧ ∗ ⟦ KW' ⟧ ∗ ⟦ AW ⟧ ⊢ access 640 (λ _. 0) (WriterWaited (Withdraws a))
-    writer_withdraws gave = qed 𝓛 (‵ C ∷ ‵ KW' ∷ ‵ AW ∷ []) ∵ move ! (2 ∷ []) $ nothing ! $ move ! (1 ∷ 0 ∷ []) $ fjoin ! $ move ! (1 ∷ 2 ∷ 0 ∷ []) $
-        by ! (waits_flag 640 z.writer_waits z.reader_wakes z.writer_place coded_consumed (consumed z) KW' lent_own consumed_twice none a (λ _. 0) (Withdraws a) (withdraws a gave))
+    pub writer_cancels : a.0 ≡ false → ⟦ C ⟧ ∗ ⟦ KW' ⟧ ∗ ⟦ AW ⟧ ⊢ access 640 (λ _. 0) (WriterWaited (Cancels a))
+    writer_cancels gave = qed 𝓛 (‵ C ∷ ‵ KW' ∷ ‵ AW ∷ []) ∵ move ! (2 ∷ []) $ nothing ! $ move ! (1 ∷ 0 ∷ []) $ fjoin ! $ move ! (1 ∷ 2 ∷ 0 ∷ []) $
+        by ! (waits_flag 640 z.writer_waits z.reader_wakes z.writer_place coded_consumed (consumed z) KW' lent_own consumed_twice none a (λ _. 0) (Cancels a) (cancels a gave))
 
-    pub writer_stands : ⟦ C ⟧ ∗ ⟦ KW' ⟧ ∗ ⟦ AW ⟧ ⊢ access 640 (λ n. n) (WriterWaited (StaysSo a))
-    writer_stands = qed 𝓛 (‵ C ∷ ‵ KW' ∷ ‵ AW ∷ []) ∵ move ! (2 ∷ []) $ nothing ! $ move ! (1 ∷ 0 ∷ []) $ fjoin ! $ move ! (1 ∷ 2 ∷ 0 ∷ []) $
+    pub writer_is_registered : ⟦ C ⟧ ∗ ⟦ KW' ⟧ ∗ ⟦ AW ⟧ ⊢ access 640 (λ n. n) (WriterWaited (StaysSo a))
+    writer_is_registered = qed 𝓛 (‵ C ∷ ‵ KW' ∷ ‵ AW ∷ []) ∵ move ! (2 ∷ []) $ nothing ! $ move ! (1 ∷ 0 ∷ []) $ fjoin ! $ move ! (1 ∷ 2 ∷ 0 ∷ []) $
         by ! (waits_flag 640 z.writer_waits z.reader_wakes z.writer_place coded_consumed (consumed z) KW' lent_own consumed_twice none a (λ n. n) (StaysSo a) (stays_so a))
 
-    pub writer_regains : a.0 ≡ false → ⟦ C ⟧ ∗ ⟦ KW' ⟧ ∗ ⟦ AW ⟧ ⊢ access 648 (λ _. 0) (WriterWaited (RegainsHeld a))
-    writer_regains gave = qed 𝓛 (‵ C ∷ ‵ KW' ∷ ‵ AW ∷ []) ∵ move ! (2 ∷ []) $ nothing ! $ move ! (1 ∷ 0 ∷ []) $ fjoin ! $ move ! (1 ∷ 2 ∷ 0 ∷ []) $
-        by ! (waits_back 640 z.writer_waits z.reader_wakes z.writer_place coded_consumed (consumed z) KW' lent_own consumed_twice none a (λ _. 0) (RegainsHeld a) (regains a gave))
+    pub writer_reclaims : a.0 ≡ false → ⟦ C ⟧ ∗ ⟦ KW' ⟧ ∗ ⟦ AW ⟧ ⊢ access 648 (λ _. 0) (WriterWaited (ReclaimsHeld a))
+    writer_reclaims gave = qed 𝓛 (‵ C ∷ ‵ KW' ∷ ‵ AW ∷ []) ∵ move ! (2 ∷ []) $ nothing ! $ move ! (1 ∷ 0 ∷ []) $ fjoin ! $ move ! (1 ∷ 2 ∷ 0 ∷ []) $
+        by ! (waits_back 640 z.writer_waits z.reader_wakes z.writer_place coded_consumed (consumed z) KW' lent_own consumed_twice none a (λ _. 0) (ReclaimsHeld a) (reclaims a gave))
 
     abbrev pub BothMetBack : Wakes Consumed → Pr
     BothMetBack = Met 640 z.writer_waits z.reader_wakes z.writer_place coded_consumed (consumed z) KW' a

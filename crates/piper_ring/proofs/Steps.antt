@@ -20,7 +20,7 @@ use Rattle.std.proofs.lemmas.List.{drop-append-le, length-drop}
 use Rattle.rtrb.proofs.Spans.{run_join}
 use Rattle.piper_ring.specs.Places.{fact, byte}
 use Rattle.piper_ring.specs.Streams.{Stream, Reaches, streams, open_reaches}
-use Rattle.piper_ring.specs.Shared.{Names, State, Holds, half, other, flag, gone, until_both, where_gone, word, blanks, deeds, memory, announced, began, took, writer_knows, reader_knows, ends, standing, Inner, common}
+use Rattle.piper_ring.specs.Shared.{Names, State, Holds, half, other, flag, gone, until_both, where_gone, word, blanks, deeds, memory, announced, began, took, writer_knows, reader_knows, ends, state_holds, Inner, common}
 use Rattle.piper_ring.proofs.Rights.{cut, glue}
 
 pub flag_small : (b : Bool) → flag b ≤ 1
@@ -116,7 +116,7 @@ module _ {M : Type 1} {𝓤 : Ura M} (𝓛 : Logic 𝓤) (w p : Ptr) (z : Names)
   pub closes : (s : State) → Holds cap s → OneStays s → ⟦ WK other s.sent s.limit s.shut s.writer_stage ⟧ ∗ ⟦ RK other s.head s.seen s.reader_stage ⟧ ∗ ⟦ Rest s ⟧ ⊢ ⟦ I ⟧
   closes s so le = qed 𝓛 (‵ (WK other s.sent s.limit s.shut s.writer_stage) ∷ ‵ (RK other s.head s.seen s.reader_stage) ∷ ‵ (Rest s) ∷ []) ∵ move ! (2 ∷ []) $ fsplit ! $
       move ! (1 ∷ []) $ rewrite ! 0 (λ (F : Fml). ‵ F) (sym (stays s.reader_stage s.writer_stage (memory w p z s) le)) refl $ move ! (2 ∷ 3 ∷ 1 ∷ []) $ fjoin3 ! $
-      nothing ! $ fpack ! (Holds cap s) (λ _. ftrue) so $ fjoin3 ! $ fpack ! State (standing w p z) s $ done !
+      nothing ! $ fpack ! (Holds cap s) (λ _. ftrue) so $ fjoin3 ! $ fpack ! State (state_holds w p z) s $ done !
 
   -- xs was published, and n is where its end stands
   abbrev pub SawTail : ℕ → ℕ → Stream → ℕ → List ℕ → Type 0

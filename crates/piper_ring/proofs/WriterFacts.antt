@@ -1,8 +1,8 @@
 -- What the parts of a writer's end tell of its indices.
 use Rattle.std.proofs.Common.{◌≡◌, ℕ, ◌+◌, ◌-◌, ◌≤◌, Bool, true, false, if◌then◌else◌, length, min, arith, sym, subst, ap, ◌∙◌}
-use Rattle.piper_sides.specs.Index.{distance}
-use Rattle.piper_sides.specs.LendBound.{lend_bound}
-use Rattle.piper_sides.specs.WriterIndices.{WriterIndices, room_in, left_in, lendable_in}
+use Rattle.piper_protocol.specs.Index.{distance}
+use Rattle.piper_protocol.specs.LendBound.{lend_bound}
+use Rattle.piper_protocol.specs.WriterIndices.{WriterIndices, room_in, left_in, lendable_in}
 use Rattle.piper_ring.specs.WriteView.{IsWriteEnd}
 use Rattle.piper_ring.specs.declared.ends.writer.WriteParts.{WriteParts}
 use Rattle.piper_ring.proofs.Indices.{apart}

@@ -287,13 +287,13 @@ module _ (w p : Ptr) (z : Names) where
       fsep (writer_knows other s.sent s.limit s.shut s.writer_stage)
       (fsep (reader_knows other s.head s.seen s.reader_stage) (ends s.closed))
 
-  abbrev pub standing : State → Fml
-  standing s =
+  abbrev pub state_holds : State → Fml
+  state_holds s =
       fsep (fact (Holds z.capacity s))
       (fsep (views s) (until_both (gone s.reader_stage) (gone s.writer_stage) (memory s)))
 
   abbrev pub Inner : Fml
-  Inner = fex State standing
+  Inner = fex State state_holds
 
   abbrev pub Placed : Type 0
   Placed = InBlock w × InBlock p × (z.capacity < 2 ^ 63)

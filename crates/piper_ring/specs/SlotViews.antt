@@ -1,6 +1,6 @@
 -- What is known of the slots, as values.
 use Rattle.std.specs.Prelude.{◌≡◌, ℕ, Bool, true, false, []}
-use Rattle.piper_place.specs.declared.Right.{Right}
+use Rattle.token_cell.specs.declared.Token.{Token}
 use Rattle.piper_ring.specs.Shared.{Names, Stream, Consumed}
 use Rattle.piper_ring.specs.Slots.{Waits, Wakes}
 use Rattle.piper_ring.specs.declared.ring.slots.ReaderWaits.{ReaderWaits}
@@ -39,6 +39,6 @@ LooksFirstBack z s =
     (s.names ≡ z) × (s.holds ≡ false) × (s.taken ≡ 0) × (s.count ≡ 0) × (s.over ≡ false)
 
 -- it is the right to the place of that name, if it is there, and tells whether the place is filled
-abbrev pub IsRightTo : ℕ → Bool → Bool → Right → Type 0
-IsRightTo place there filled right =
+abbrev pub IsTokenOf : ℕ → Bool → Bool → Token → Type 0
+IsTokenOf place there filled right =
     (right.name ≡ place) × (right.there ≡ there) × (right.filled ≡ filled)

@@ -7,7 +7,7 @@ use base.Fml.{Fml, fsep, fex, fauth}
 use denote.RawPtr.{Ptr}
 use Rattle.std.specs.Coded.{Coded, coded×, coded_ℕ, coded_bool}
 use Rattle.piper_ring.specs.Places.{fact}
-use Rattle.piper_place.specs.Place.{right}
+use Rattle.token_cell.specs.TokenCell.{right}
 use Rattle.piper_ring.specs.Words.{word}
 
 -- where the place of the waker is
@@ -55,11 +55,11 @@ module _ (X : Type 0) where
   Wakes = Bool × (ℕ × X)
 
   -- how both sides stand
-  abbrev pub Stands : Where → Waits → Wakes → Type 0
-  Stands with_waiter a b = (a.0 ≡ true) × (b.0 ≡ false) × (b.1.0 ≤ a.1.0)
-  Stands in_slot a b = (a.0 ≡ false) × (b.0 ≡ false) × (b.1.1 ≡ a.1.1) × (b.1.0 < a.1.0)
-  Stands with_taker a b = (a.0 ≡ false) × (b.0 ≡ true) × (b.1.0 ≡ a.1.0)
-  Stands handed_back a b = (a.0 ≡ false) × (b.0 ≡ false) × (b.1.0 ≡ a.1.0)
+  abbrev pub IsWhere : Where → Waits → Wakes → Type 0
+  IsWhere with_waiter a b = (a.0 ≡ true) × (b.0 ≡ false) × (b.1.0 ≤ a.1.0)
+  IsWhere in_slot a b = (a.0 ≡ false) × (b.0 ≡ false) × (b.1.1 ≡ a.1.1) × (b.1.0 < a.1.0)
+  IsWhere with_taker a b = (a.0 ≡ false) × (b.0 ≡ true) × (b.1.0 ≡ a.1.0)
+  IsWhere handed_back a b = (a.0 ≡ false) × (b.0 ≡ false) × (b.1.0 ≡ a.1.0)
 
   abbrev pub code_of : Coded X → Coded (Bool × (ℕ × X))
   code_of c = coded× coded_bool (coded× coded_ℕ c)
@@ -79,12 +79,12 @@ module _ (X : Type 0) where
   GivesBack b x n b' = b' ≡ (false, b.1)
 
   -- the place is handed over, with the next ticket
-  abbrev pub HandsOver : Waits → X → ℕ → Waits → Type 0
-  HandsOver a x n a' = a' ≡ (false, (a.1.0 + 1, x))
+  abbrev pub PublishesWaker : Waits → X → ℕ → Waits → Type 0
+  PublishesWaker a x n a' = a' ≡ (false, (a.1.0 + 1, x))
 
   -- the place came back, or it did not
-  abbrev pub Regains : Waits → X → ℕ → Waits → Type 0
-  Regains a x n a' = (n ≤ 1) × (n ≡ 0 → a' ≡ a) × (n ≢ 0 → a' ≡ (true, a.1))
+  abbrev pub Reclaims : Waits → X → ℕ → Waits → Type 0
+  Reclaims a x n a' = (n ≤ 1) × (n ≡ 0 → a' ≡ a) × (n ≢ 0 → a' ≡ (true, a.1))
 
   -- no forgotten waiter: whoever has registered, and had the other side look
   -- behind something new since, was taken
@@ -99,7 +99,7 @@ module _ (X : Type 0) where
 module _ {X : Type 0} (w : Ptr) (far : ℕ) (waits wakes place : ℕ) (c : Coded X) (shows : X → Fml) where
   abbrev pub slot_at : Slot X → Fml
   slot_at s =
-      fsep (fact (Stands X s.1.1 s.0 s.1.0))
+      fsep (fact (IsWhere X s.1.1 s.0 s.1.0))
       (fsep (fsep (word w far (flag_of s.1.1)) (word w (8 + far) (back_of s.1.1)))
       (fsep (fsep (fauth waits ((code_of X c).code s.0)) (fauth wakes ((code_of X c).code s.1.0)))
       (fsep (shows s.1.0.1.1) (held place (held_at s.1.1)))))

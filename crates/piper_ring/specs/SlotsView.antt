@@ -2,7 +2,7 @@
 use Rattle.std.specs.Prelude.{◌≡◌, ◌≢◌, ℕ, ◌+◌, ◌<◌, ◌≤◌, ◌⊎◌, Bool, true, false, List, [], length, refl, is_some, IfSome}
 use Rattle.std.specs.Coded.{Coded, code_by, coded×, coded_list, coded_ℕ, coded_bool}
 use Rattle.piper_ring.specs.Shared.{Names, names_code}
-use Rattle.piper_ring.specs.SlotViews.{IsRightTo}
+use Rattle.piper_ring.specs.SlotViews.{IsTokenOf}
 use Rattle.piper_ring.specs.ReadView.{ReadView}
 use Rattle.piper_ring.specs.WriteView.{WriteView}
 use Rattle.piper_ring.specs.declared.ends.slots.ReadSlotParts.{ReadSlotParts}
@@ -53,8 +53,8 @@ read_slots_view s =
 
 pub record IsReadSlots (s : ReadSlotParts) : Type 0 where
   pub there : is_some s.right ≡ s.waits.owns
-  pub right : IfSome s.right (IsRightTo s.waits.names.reader_place true false)
-  pub stands : s.may_stand ≡ true → s.waits.owns ≡ false
+  pub right : IfSome s.right (IsTokenOf s.waits.names.reader_place true false)
+  pub is_registered : s.maybe_registered ≡ true → s.waits.owns ≡ false
   pub heard : (s.heard.bytes ≡ s.waits.bytes) × (s.heard.shut ≡ s.waits.shut)
   pub rests : s.wakes.holds ≡ false
   pub of_one_ring : (s.wakes.names ≡ s.waits.names) × (s.heard.names ≡ s.waits.names)
@@ -104,8 +104,8 @@ write_slots_view s =
 
 pub record IsWriteSlots (s : WriteSlotParts) : Type 0 where
   pub there : is_some s.right ≡ s.waits.owns
-  pub right : IfSome s.right (IsRightTo s.waits.names.writer_place true false)
-  pub stands : s.may_stand ≡ true → s.waits.owns ≡ false
+  pub right : IfSome s.right (IsTokenOf s.waits.names.writer_place true false)
+  pub is_registered : s.maybe_registered ≡ true → s.waits.owns ≡ false
   pub heard : (s.heard.count ≡ s.waits.count) × (s.saw.seen ≡ s.waits.over)
   pub rests : s.wakes.holds ≡ false
   pub of_one_ring :

@@ -7,7 +7,7 @@ mod ring;
 
 pub use ends::opening::{open_ring, open_with_slots};
 pub use ends::reader::ReadEnd;
-pub use ends::slots::{ReadSlots, WriteSlots};
+pub use ends::slots::{ReadRegistrations, WriteRegistrations};
 pub use ends::writer::WriteEnd;
-pub use piper_sides::memory::OutOfMemory;
+pub use piper_protocol::memory::OutOfMemory;
 pub use ring::marks::{LastReadMark, ReadMark, WriteMark};

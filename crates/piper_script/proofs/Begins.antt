@@ -5,12 +5,12 @@ use Rattle.std.specs.Option.{unwrap_or}
 use Rattle.std.specs.Result.{result_ok, MatchResult}
 use Rattle.std.specs.Str.{IsUtf8}
 use Rattle.std.proofs.lemmas.Bool.{false≢true}
-use Rattle.piper_sides.specs.declared.calls.Side.{Side}
+use Rattle.piper_protocol.specs.declared.calls.Side.{Side}
 use Rattle.piper_script.specs.declared.command.SaidCall.{SaidCall}
 use Rattle.piper_script.specs.declared.command.SaidCall.TheVariants.{Len, IsEmpty, IsFull, IsClosed, Poll, Fill, Drain, PollFill, PollDrain, FillFrom, DrainTo, Consume, Lend, Produced, Close, Drop}
 use Rattle.piper_script.specs.declared.command.Command.{Command}
 use Rattle.piper_script.specs.declared.command.Command.TheVariants.{Pipe, Peek, Whole, Put, Begin, Go}
-use Rattle.piper_script.specs.Command.{Text, side_text, spaced, luck_text, call_name, call_arguments, call_text, command_text, call_side, named_side, begun_side, IsBehind, CallsFor, BeginsFor}
+use Rattle.piper_script.specs.Command.{Text, side_text, spaced, luck_text, call_name, call_arguments, call_text, command_text, call_side, named_side, begun_side, IsAfter, CallsFor, BeginsFor}
 
 -- the text that bytes are
 pub text_of : {E : Type 0} (line : Text) (r : Result (Bor Text) E) (Fails : E → Type 0) (text : Bor Text) → MatchResult r (λ s. (s.now ≡ line) × IsUtf8 line) Fails → Some text ≡ result_ok r → (text.now ≡ line) × IsUtf8 line
@@ -21,11 +21,11 @@ text_of line (Err x) Fails text cases e = absurd (false≢true (sym (ap is_some 
 pub begin_calls : (line : Text) (side : Side) (call : Text) → line ≡ codes "begin " ++ call → BeginsFor line side → CallsFor call side
 begin_calls line side call written begins = subst (λ (t : Text). CallsFor t side) (ap (λ (t : Text). drop 6 t) (sym begins.written ∙ written)) begins.calls
 
-calling : (said : SaidCall) (behind : Text) → call_arguments said ≡ named_side said ++ behind → IsBehind behind → CallsFor (call_text said) (call_side said)
-calling said behind e ends = record {
+calling : (said : SaidCall) (after : Text) → call_arguments said ≡ named_side said ++ after → IsAfter after → CallsFor (call_text said) (call_side said)
+calling said after e ends = record {
   said = said;
-  behind = behind;
-  written = ap (λ (t : Text). call_name said ++ t) e ∙ sym (append_assoc (call_name said) (named_side said) behind);
+  after = after;
+  written = ap (λ (t : Text). call_name said ++ t) e ∙ sym (append_assoc (call_name said) (named_side said) after);
   ends = ends;
   of_side = refl;
 }

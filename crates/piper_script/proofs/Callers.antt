@@ -6,13 +6,13 @@ use Rattle.std.specs.Result.{result_ok}
 use Rattle.std.proofs.lemmas.Bool.{false≢true}
 use lib.Dec.{eqb}
 use lib.Pointwise.{pointwise}
-use Rattle.piper_sides.specs.declared.calls.Side.{Side}
-use Rattle.piper_sides.specs.declared.calls.Side.TheVariants.{Reader, Writer}
+use Rattle.piper_protocol.specs.declared.calls.Side.{Side}
+use Rattle.piper_protocol.specs.declared.calls.Side.TheVariants.{Reader, Writer}
 use Rattle.piper_script.specs.declared.command.Refusal.{Refusal}
 use Rattle.piper_script.specs.declared.command.SaidLuck.{SaidLuck}
 use Rattle.piper_script.specs.declared.command.SaidCall.{SaidCall}
 use Rattle.piper_script.specs.declared.command.SaidCall.TheVariants.{Len, IsEmpty, IsFull, IsClosed, Poll, Fill, Drain, PollFill, PollDrain, FillFrom, DrainTo, Consume, Lend, Produced, Close, Drop}
-use Rattle.piper_script.specs.Command.{Text, side_text, spaced, call_name, call_side, named_side, HasNoSpace, IsBehind, IsFirstWord, CallsFor}
+use Rattle.piper_script.specs.Command.{Text, side_text, spaced, call_name, call_side, named_side, HasNoSpace, IsAfter, IsFirstWord, CallsFor}
 use Rattle.piper_script.proofs.Texts.{word_lacks}
 use Rattle.piper_script.proofs.Spaces.{side_has_no_space}
 
@@ -106,14 +106,14 @@ name_lacks (Produced n) = word_lacks 32 (codes "produced") refl
 name_lacks Close = word_lacks 32 (codes "close") refl
 name_lacks (Drop side) = word_lacks 32 (codes "drop") refl
 
-behind_name : (said : SaidCall) (behind : Text) → IsBehind behind → IsBehind (named_side said ++ behind)
-behind_name (Len side) behind ends = inr (side_text side ++ behind, refl)
-behind_name (IsEmpty side) behind ends = inr (side_text side ++ behind, refl)
-behind_name (IsFull side) behind ends = inr (side_text side ++ behind, refl)
-behind_name (IsClosed side) behind ends = inr (side_text side ++ behind, refl)
-behind_name (Poll side waker luck) behind ends = inr (side_text side ++ behind, refl)
-behind_name (Drop side) behind ends = inr (side_text side ++ behind, refl)
-behind_name said behind ends = ends
+after_name : (said : SaidCall) (after : Text) → IsAfter after → IsAfter (named_side said ++ after)
+after_name (Len side) after ends = inr (side_text side ++ after, refl)
+after_name (IsEmpty side) after ends = inr (side_text side ++ after, refl)
+after_name (IsFull side) after ends = inr (side_text side ++ after, refl)
+after_name (IsClosed side) after ends = inr (side_text side ++ after, refl)
+after_name (Poll side waker luck) after ends = inr (side_text side ++ after, refl)
+after_name (Drop side) after ends = inr (side_text side ++ after, refl)
+after_name said after ends = ends
 
 some_side : (side : Side) → 0 < length (side_text side)
 some_side Reader = omega arith
@@ -121,11 +121,11 @@ some_side Writer = omega arith
 
 -- the first word is found wherever it stands
 abbrev pub CutsWord : Text → Text → Text → Type 0
-CutsWord text word rest = (front behind : Text) → HasNoSpace front → IsBehind behind → text ≡ front ++ behind → (word ≡ front) × (rest ≡ drop 1 behind)
+CutsWord text word rest = (front after : Text) → HasNoSpace front → IsAfter after → text ≡ front ++ after → (word ≡ front) × (rest ≡ drop 1 after)
 
-cut_call : (text word rest : Text) (side : Side) → CutsWord text word rest → (calls : CallsFor text side) → (word ≡ call_name calls.said) × (rest ≡ drop 1 (named_side calls.said ++ calls.behind))
+cut_call : (text word rest : Text) (side : Side) → CutsWord text word rest → (calls : CallsFor text side) → (word ≡ call_name calls.said) × (rest ≡ drop 1 (named_side calls.said ++ calls.after))
 cut_call text word rest side cuts calls =
-    cuts (call_name calls.said) (named_side calls.said ++ calls.behind) (name_lacks calls.said) (behind_name calls.said calls.behind calls.ends) (calls.written ∙ append_assoc (call_name calls.said) (named_side calls.said) calls.behind)
+    cuts (call_name calls.said) (named_side calls.said ++ calls.after) (name_lacks calls.said) (after_name calls.said calls.after calls.ends) (calls.written ∙ append_assoc (call_name calls.said) (named_side calls.said) calls.after)
 
 -- the text names a call that one side alone has
 pub own_call : (text word rest : Text) (said : SaidCall) (s : Side) → CutsWord text word rest → IsFirstWord text word rest → word ≡ call_name said → own_side said ≡ Some s → (side : Side) → (Some s ≡ Some side) ↔ CallsFor text side
@@ -134,14 +134,14 @@ own_call text word rest said s cuts first name own side = (names, called)
     is : (call_side said ≡ s) × (named_side said ≡ [])
     is = own_is said s own
 
-    nothing_more : (call_name said ++ named_side said) ++ first.behind ≡ call_name said ++ first.behind
-    nothing_more = ap (λ (t : Text). (call_name said ++ t) ++ first.behind) is.1 ∙ ap (λ (t : Text). t ++ first.behind) (append-nil (call_name said))
+    nothing_more : (call_name said ++ named_side said) ++ first.after ≡ call_name said ++ first.after
+    nothing_more = ap (λ (t : Text). (call_name said ++ t) ++ first.after) is.1 ∙ ap (λ (t : Text). t ++ first.after) (append-nil (call_name said))
 
     names : Some s ≡ Some side → CallsFor text side
     names e = record {
       said = said;
-      behind = first.behind;
-      written = first.written ∙ ap (λ (t : Text). t ++ first.behind) name ∙ sym nothing_more;
+      after = first.after;
+      written = first.written ∙ ap (λ (t : Text). t ++ first.after) name ∙ sym nothing_more;
       ends = first.ends;
       of_side = is.0 ∙ some_is s side e;
     }
@@ -177,10 +177,10 @@ shared_name word (inr (inr (inr (inr (inl e))))) = record {
 shared_name word (inr (inr (inr (inr (inr e))))) = record { call = Drop; name = λ s. e; shared = λ s. refl; of_side = λ s. refl }
 
 -- the side stands behind the name
-behind_is : (side : Side) (behind rest more : Text) → IsBehind behind → rest ≡ drop 1 behind → rest ≡ side_text side ++ more → behind ≡ spaced (side_text side) ++ more
-behind_is side behind rest more (inl none) is named =
+after_is : (side : Side) (after rest more : Text) → IsAfter after → rest ≡ drop 1 after → rest ≡ side_text side ++ more → after ≡ spaced (side_text side) ++ more
+after_is side after rest more (inl none) is named =
     absurd (omega (arith, some_side side, length-append (side_text side) more, ap length (sym named ∙ is ∙ ap (λ (t : Text). drop 1 t) none)))
-behind_is side behind rest more (inr words) is named =
+after_is side after rest more (inr words) is named =
     words.1 ∙ ap (λ (t : Text). 32 ∷ t) (sym (ap (λ (t : Text). drop 1 t) words.1) ∙ sym is ∙ named)
 
 -- the text names a call that both sides have
@@ -190,16 +190,16 @@ shared_call text word rest next more r shared cuts first cuts_next second reads 
   where
     named : next ≡ side_text side → CallsFor text side
     named e =
-        let behind = behind_is side first.behind rest second.behind first.ends first.rest_is (second.written ∙ ap (λ (t : Text). t ++ second.behind) e) in
+        let after = after_is side first.after rest second.after first.ends first.rest_is (second.written ∙ ap (λ (t : Text). t ++ second.after) e) in
         let its_side = shared_is (shared.call side) (shared.shared side) ∙ ap (λ (s : Side). spaced (side_text s)) (shared.of_side side) in
         record {
           said = shared.call side;
-          behind = second.behind;
+          after = second.after;
           written = first.written
-              ∙ ap (λ (t : Text). t ++ first.behind) (shared.name side)
-              ∙ ap (λ (t : Text). call_name (shared.call side) ++ t) behind
-              ∙ sym (append_assoc (call_name (shared.call side)) (spaced (side_text side)) second.behind)
-              ∙ ap (λ (t : Text). (call_name (shared.call side) ++ t) ++ second.behind) (sym its_side);
+              ∙ ap (λ (t : Text). t ++ first.after) (shared.name side)
+              ∙ ap (λ (t : Text). call_name (shared.call side) ++ t) after
+              ∙ sym (append_assoc (call_name (shared.call side)) (spaced (side_text side)) second.after)
+              ∙ ap (λ (t : Text). (call_name (shared.call side) ++ t) ++ second.after) (sym its_side);
           ends = second.ends;
           of_side = shared.of_side side;
         }
@@ -213,8 +213,8 @@ shared_call text word rest next more r shared cuts first cuts_next second reads 
         let cut = cut_call text word rest side cuts calls in
         let both : own_side calls.said ≡ None = sym (named_by calls.said) ∙ ap side_of_name (sym cut.0 ∙ shared.name side) ∙ named_by (shared.call side) ∙ shared.shared side in
         let its_side = shared_is calls.said both ∙ ap (λ (s : Side). spaced (side_text s)) calls.of_side in
-        let rest_is : rest ≡ side_text side ++ calls.behind = cut.1 ∙ ap (λ (t : Text). drop 1 (t ++ calls.behind)) its_side in
-        ap result_ok (accepts side (cuts_next (side_text side) calls.behind (side_has_no_space side) calls.ends rest_is).0)
+        let rest_is : rest ≡ side_text side ++ calls.after = cut.1 ∙ ap (λ (t : Text). drop 1 (t ++ calls.after)) its_side in
+        ap result_ok (accepts side (cuts_next (side_text side) calls.after (side_has_no_space side) calls.ends rest_is).0)
 
 -- the text names no call
 pub no_call : (text word rest : Text) → CutsWord text word rest → ((said : SaidCall) → word ≡ call_name said → ⊥) → (side : Side) → (None ≡ Some side) ↔ CallsFor text side

@@ -7,8 +7,8 @@ use Rattle.std.proofs.lemmas.Str.{IsAscii-append, IsUtf8-from_ascii}
 use Rattle.std.proofs.lemmas.Str.Ascii.{IsAscii-nil, IsAscii-cons}
 use Rattle.std.proofs.lemmas.Bool.Decides.{nat_tests}
 use Rattle.std.proofs.lemmas.Fmt.{IsAscii-decimal}
-use Rattle.piper_sides.specs.declared.calls.Side.{Side}
-use Rattle.piper_sides.specs.declared.calls.Side.TheVariants.{Reader, Writer}
+use Rattle.piper_protocol.specs.declared.calls.Side.{Side}
+use Rattle.piper_protocol.specs.declared.calls.Side.TheVariants.{Reader, Writer}
 use Rattle.piper_script.specs.declared.command.Steps.{Steps}
 use Rattle.piper_script.specs.declared.command.Steps.TheVariants.{One, Count, ToAnswer}
 use Rattle.piper_script.specs.declared.command.SaidLuck.{SaidLuck}
@@ -39,11 +39,11 @@ ascii : (text : List ℕ) → All IsWordByte text → IsAscii text
 ascii [] bytes = IsAscii-nil
 ascii (b ∷ bs) bytes = IsAscii-cons b bs (omega (arith, All-head IsWordByte b bs bytes)) (ascii bs (All-tail IsWordByte b bs bytes))
 
-behind : (text : List ℕ) → IsAscii text → IsAscii (spaced text)
-behind text rest = IsAscii-cons 32 text (omega arith) rest
+after : (text : List ℕ) → IsAscii text → IsAscii (spaced text)
+after text rest = IsAscii-cons 32 text (omega arith) rest
 
 number : (n : ℕ) → n < 2 ^ 64 → IsAscii (spaced (decimal n))
-number n small = behind (decimal n) (IsAscii-decimal n small)
+number n small = after (decimal n) (IsAscii-decimal n small)
 
 side : (of : Side) → IsAscii (spaced (side_text of))
 side Reader = word (codes " r") refl
@@ -90,15 +90,15 @@ arguments (IsEmpty of) limits = side of
 arguments (IsFull of) limits = side of
 arguments (IsClosed of) limits = side of
 arguments (Poll of waker luck) limits = three (side_text of) (decimal waker) luck (side of) (number waker (omega (arith, limits.0))) limits.1
-arguments (Fill list) limits = behind list.text.now (ascii list.text.now (list_is_word list.text.now list.len limits))
+arguments (Fill list) limits = after list.text.now (ascii list.text.now (list_is_word list.text.now list.len limits))
 arguments (Drain most) limits = number most (omega (arith, limits))
 arguments (PollFill waker list luck) limits =
-    three (decimal waker) list.text.now luck (number waker (omega (arith, limits.0))) (behind list.text.now (ascii list.text.now (list_is_word list.text.now list.len limits.1))) limits.2
+    three (decimal waker) list.text.now luck (number waker (omega (arith, limits.0))) (after list.text.now (ascii list.text.now (list_is_word list.text.now list.len limits.1))) limits.2
 arguments (PollDrain waker most luck) limits = three (decimal waker) (decimal most) luck (number waker (omega (arith, limits.0))) (number most (omega (arith, limits.1))) limits.2
 arguments (FillFrom waker sources luck) limits =
-    three (decimal waker) sources.text.now luck (number waker (omega (arith, limits.0))) (behind sources.text.now (ascii sources.text.now (sources_are_word sources.text.now sources.len limits.1))) limits.2
+    three (decimal waker) sources.text.now luck (number waker (omega (arith, limits.0))) (after sources.text.now (ascii sources.text.now (sources_are_word sources.text.now sources.len limits.1))) limits.2
 arguments (DrainTo waker dests luck) limits =
-    three (decimal waker) dests.text.now luck (number waker (omega (arith, limits.0))) (behind dests.text.now (ascii dests.text.now (dests_are_word dests.text.now limits.1))) limits.2
+    three (decimal waker) dests.text.now luck (number waker (omega (arith, limits.0))) (after dests.text.now (ascii dests.text.now (dests_are_word dests.text.now limits.1))) limits.2
 arguments (Consume n) limits = number n (omega (arith, limits))
 arguments (Lend most) limits = number most (omega (arith, limits))
 arguments (Produced n) limits = number n (omega (arith, limits))
@@ -123,7 +123,7 @@ command Peek limits = word (codes "peek") refl
 command (Whole said) limits = call said limits
 command (Put offset byte) limits =
     text (codes "put") (spaced (decimal offset) ++ spaced (decimal byte)) refl (IsAscii-append (spaced (decimal offset)) (spaced (decimal byte)) (number offset (omega (arith, limits.0))) (number byte (omega (arith, limits.1))))
-command (Begin said) limits = text (codes "begin") (spaced (call_text said)) refl (behind (call_text said) (call said limits))
+command (Begin said) limits = text (codes "begin") (spaced (call_text said)) refl (after (call_text said) (call said limits))
 command (Go of many) limits = text (codes "go") (spaced (side_text of) ++ steps_text many) refl (IsAscii-append (spaced (side_text of)) (steps_text many) (side of) (steps of many limits))
 
 pub command_utf8 : (said : Command) → IsInLimits said → IsUtf8 (command_text said)

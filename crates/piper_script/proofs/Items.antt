@@ -10,7 +10,7 @@ use Rattle.piper_script.specs.declared.list.Item.{Item}
 use Rattle.piper_script.specs.declared.list.Item.TheVariants.{Byte, Range, Repeat}
 use Rattle.piper_script.specs.List.{item_text, IsItem}
 use Rattle.piper_script.proofs.Joined.{Lacks}
-use Rattle.piper_script.proofs.Texts.{number_lacks, dots_stand, byte_stands, cut_at_dots}
+use Rattle.piper_script.proofs.Texts.{number_lacks, dots_are_in, byte_is_in, cut_at_dots}
 
 -- the clause of `split_once` at two dots
 abbrev pub IsCutAtDots : List ℕ → Option (Bor (List ℕ) × Bor (List ℕ)) → Type 0
@@ -31,12 +31,12 @@ repeat_lacks value count valid =
 -- dots stand in a range alone
 pub item_with_dots : (text : List ℕ) (first last : Bor (List ℕ)) (r : Result Item Refusal) → IsCutAtDots text (Some (first, last)) → ((a b : ℕ) → IsItem (Range a b) → first.now ≡ decimal a → last.now ≡ decimal b → r ≡ Ok (Range a b)) → (item : Item) → IsItem item → text ≡ item_text item → r ≡ Ok item
 item_with_dots text first last r cut reads (Byte value) valid e =
-    absurd (dots_stand text first.now last.now (split_text_parts (codes "..") text (Some (first, last)) cut) (All-same (λ b. b ≢ 46) text (decimal value) e (number_lacks 46 value (omega (arith, valid)) (lit< tt))))
+    absurd (dots_are_in text first.now last.now (split_text_parts (codes "..") text (Some (first, last)) cut) (All-same (λ b. b ≢ 46) text (decimal value) e (number_lacks 46 value (omega (arith, valid)) (lit< tt))))
 item_with_dots text first last r cut reads (Range a b) valid e =
     let k = cut_at_dots text (decimal a) (decimal b) (Some (first, last)) cut (range_text text a b e) (number_lacks 46 a (omega (arith, valid)) (lit< tt)) in
     reads a b valid k.0 k.1
 item_with_dots text first last r cut reads (Repeat value count) valid e =
-    absurd (dots_stand text first.now last.now (split_text_parts (codes "..") text (Some (first, last)) cut) (All-same (λ b. b ≢ 46) text (decimal value ++ 42 ∷ decimal count) (repeat_text text value count e) (repeat_lacks value count valid)))
+    absurd (dots_are_in text first.now last.now (split_text_parts (codes "..") text (Some (first, last)) cut) (All-same (λ b. b ≢ 46) text (decimal value ++ 42 ∷ decimal count) (repeat_text text value count e) (repeat_lacks value count valid)))
 
 -- without dots a star stands in a repetition alone
 pub record WithStar (item : Item) (first last : List ℕ) : Type 0 where
@@ -51,7 +51,7 @@ pub record WithStar (item : Item) (first last : List ℕ) : Type 0 where
 pub item_with_star : (text : List ℕ) (first last : Bor (List ℕ)) → IsCutAtDots text None → IsSplitOnceResult 42 text (Some (first, last)) → (item : Item) → IsItem item → text ≡ item_text item → WithStar item first.now last.now
 item_with_star text first last no_dots cut (Byte value) valid e =
     let parts = split_parts 42 text (Some (first, last)) cut (lit< tt) in
-    absurd (byte_stands 42 text first.now last.now parts.0 (All-same (λ b. b ≢ 42) text (decimal value) e (number_lacks 42 value (omega (arith, valid)) (lit< tt))))
+    absurd (byte_is_in 42 text first.now last.now parts.0 (All-same (λ b. b ≢ 42) text (decimal value) e (number_lacks 42 value (omega (arith, valid)) (lit< tt))))
 item_with_star text first last no_dots cut (Range a b) valid e = absurd (split_text_parts (codes "..") text None no_dots (decimal a) (decimal b) (range_text text a b e))
 item_with_star text first last no_dots cut (Repeat value count) valid e =
     let k = split_after 42 text (decimal value) (decimal count) (Some (first, last)) cut (lit< tt) (repeat_text text value count e) (λ i inside. number_lacks 42 value (omega (arith, valid)) (lit< tt) i 0 inside) in

@@ -9,7 +9,7 @@ use Rattle.piper_script.proofs.Joined.{texts_of, texts_of-append, parts_at, join
 use Rattle.piper_script.proofs.Texts.{item_lacks, some_item, dash_is_no_item, dash_is_no_list}
 use Rattle.piper_script.specs.declared.list.Item.{Item}
 use Rattle.piper_script.specs.declared.list.Item.TheVariants.{Range}
-use Rattle.piper_script.specs.List.{numbers_from, item_text, list_text, item_bytes, IsItem, StandsFor, IsListText}
+use Rattle.piper_script.specs.List.{numbers_from, item_text, list_text, item_bytes, IsItem, Denotes, IsListText}
 
 pub length-numbers_from : (first count : ℕ) → length (numbers_from first count) ≡ count
 length-numbers_from first zero = refl
@@ -50,7 +50,7 @@ pub no_items : WritesItems [] []
 no_items = record { items = []; written = refl; valid = All-nil IsItem; meant = refl }
 
 -- the parts between the commas of a text are those of its items
-pub list_of_parts : (text bytes : List ℕ) → WritesItems (parts_at 44 text) bytes → StandsFor text bytes
+pub list_of_parts : (text bytes : List ℕ) → WritesItems (parts_at 44 text) bytes → Denotes text bytes
 list_of_parts text bytes parts = record {
   items = parts.items;
   written = joined_parts (codes "-") 44 item_text text parts.items parts.written;

@@ -6,20 +6,20 @@ use Rattle.std.proofs.lemmas.List.Elements.{All-nil, All-push, All-weaker}
 use Rattle.piper_script.specs.Limits.{greatest_number}
 use Rattle.piper_script.specs.Joined.{joined_or}
 use lib.Dec.{eqb}
-use Rattle.piper_sides.specs.declared.scripted.SourceAct.{SourceAct}
-use Rattle.piper_sides.specs.declared.scripted.SourceAct.TheVariants as source
-use Rattle.piper_sides.specs.declared.scripted.DestAct.{DestAct}
-use Rattle.piper_sides.specs.declared.scripted.DestAct.TheVariants as dest
+use Rattle.piper_protocol.specs.declared.scripted.SourceAct.{SourceAct}
+use Rattle.piper_protocol.specs.declared.scripted.SourceAct.TheVariants as source
+use Rattle.piper_protocol.specs.declared.scripted.DestAct.{DestAct}
+use Rattle.piper_protocol.specs.declared.scripted.DestAct.TheVariants as dest
 use Rattle.piper_script.specs.declared.list.Item.{Item}
 use Rattle.piper_script.specs.declared.list.List.{List as ByteList}
-use Rattle.piper_script.specs.List.{StandsFor, list_text, IsListText}
-use Rattle.piper_script.specs.Acts.{source_text, source_act, source_bytes, WritesSource, StandsForActs, IsSource, IsSourceText, IsSourcesText, dest_text, IsDestInLimits, IsDestsText}
+use Rattle.piper_script.specs.List.{Denotes, list_text, IsListText}
+use Rattle.piper_script.specs.Acts.{source_text, source_act, source_bytes, WritesSource, DenotesActs, IsSource, IsSourceText, IsSourcesText, dest_text, IsDestInLimits, IsDestsText}
 use Rattle.std.proofs.lemmas.Fmt.{decimal_nonempty}
 use Rattle.piper_script.proofs.Joined.{texts_of, texts_of-append, joined_parts, parts_at, Lacks, next_said, Counts, counts_more, counts_all, from_part, sized_more}
 use Rattle.piper_script.proofs.Texts.{IsListByte, list_text-bytes, some_list, number_lacks, word_lacks, digits_in}
 
 -- an act that gives the bytes of a list
-pub giving_source : (text said bytes copy : List ℕ) → said ≡ text → StandsFor said bytes → copy ≡ bytes → WritesSource text (source.Bytes copy)
+pub giving_source : (text said bytes copy : List ℕ) → said ≡ text → Denotes said bytes → copy ≡ bytes → WritesSource text (source.Bytes copy)
 giving_source text said bytes copy same list copied = record {
   said = Some list.items;
   written = sym same ∙ list.written;
@@ -128,7 +128,7 @@ one_act_more parts part acts new act so_far here grown = record {
 }
 
 -- the parts between the slashes of a text are those of its acts
-pub acts_of_parts : (text : List ℕ) (acts : List SourceAct) → WritesActs (slice_split (λ c. eqb c 47) text) acts → StandsForActs text acts
+pub acts_of_parts : (text : List ℕ) (acts : List SourceAct) → WritesActs (slice_split (λ c. eqb c 47) text) acts → DenotesActs text acts
 acts_of_parts text acts parts = record {
   said = parts.said;
   written = joined_parts (codes "none") 47 source_text text parts.said parts.written;

@@ -4,30 +4,30 @@ use Rattle.std.specs.Int.{IsInRange}
 use Rattle.std.specs.Option.{MatchOption, unwrap_or}
 use Rattle.std.proofs.lemmas.List.Elements.{All-nil, All-same, All-weaker, All-append, All-cons, All-head, All-tail}
 use Rattle.std.proofs.lemmas.Str.Pattern.{IsSplitOnceResult, split_after, split_parts}
-use Rattle.piper_sides.specs.declared.calls.Side.{Side}
-use Rattle.piper_sides.specs.declared.calls.Side.TheVariants.{Reader, Writer}
+use Rattle.piper_protocol.specs.declared.calls.Side.{Side}
+use Rattle.piper_protocol.specs.declared.calls.Side.TheVariants.{Reader, Writer}
 use Rattle.piper_script.specs.declared.command.Refusal.{Refusal}
 use Rattle.piper_script.specs.declared.command.SaidLuck.{SaidLuck}
-use Rattle.piper_sides.specs.declared.scripted.DestAct.{DestAct}
-use Rattle.piper_sides.specs.declared.scripted.DestAct.TheVariants as dest
+use Rattle.piper_protocol.specs.declared.scripted.DestAct.{DestAct}
+use Rattle.piper_protocol.specs.declared.scripted.DestAct.TheVariants as dest
 use Rattle.piper_script.specs.declared.list.Item.{Item}
 use Rattle.piper_script.specs.Joined.{joined_or}
 use Rattle.piper_script.specs.List.{list_text, IsItem, IsListText}
 use Rattle.piper_script.specs.Acts.{source_text, dest_text, dests_text, IsSource, IsDestInLimits, IsSourcesText, IsDestsText}
 use Rattle.piper_script.specs.Limits.{greatest_name}
-use Rattle.piper_script.specs.Command.{side_text, draw_text, denials_text, luck_text, HasNoSpace, IsBehind, IsFirstWord, IsLuck}
-use Rattle.piper_script.proofs.Texts.{IsDigit, IsListByte, digits_in, list_text-bytes, number_lacks, byte_stands, word_lacks}
+use Rattle.piper_script.specs.Command.{side_text, draw_text, denials_text, luck_text, HasNoSpace, IsAfter, IsFirstWord, IsLuck}
+use Rattle.piper_script.proofs.Texts.{IsDigit, IsListByte, digits_in, list_text-bytes, number_lacks, byte_is_in, word_lacks}
 
 -- a text is cut at its first space
-pub cut_at_space : (text front behind : List ℕ) (r : Option (Bor (List ℕ) × Bor (List ℕ))) → IsSplitOnceResult 32 text r → text ≡ front ++ behind → HasNoSpace front → IsBehind behind
-    → MatchOption r ((text ≡ front) × (behind ≡ [])) (λ x. (x.0.now ≡ front) × (32 ∷ x.1.now ≡ behind))
-cut_at_space text front behind None cut e lacks (inl none) = (e ∙ ap (λ (b : List ℕ). front ++ b) none ∙ append-nil front, none)
-cut_at_space text front behind (Some x) cut e lacks (inl none) =
+pub cut_at_space : (text front after : List ℕ) (r : Option (Bor (List ℕ) × Bor (List ℕ))) → IsSplitOnceResult 32 text r → text ≡ front ++ after → HasNoSpace front → IsAfter after
+    → MatchOption r ((text ≡ front) × (after ≡ [])) (λ x. (x.0.now ≡ front) × (32 ∷ x.1.now ≡ after))
+cut_at_space text front after None cut e lacks (inl none) = (e ∙ ap (λ (b : List ℕ). front ++ b) none ∙ append-nil front, none)
+cut_at_space text front after (Some x) cut e lacks (inl none) =
     let whole : text ≡ front = e ∙ ap (λ (b : List ℕ). front ++ b) none ∙ append-nil front in
-    absurd (byte_stands 32 text x.0.now x.1.now (split_parts 32 text (Some x) cut (lit< tt)).0 (All-same (λ b. b ≢ 32) text front whole lacks))
-cut_at_space text front behind None cut e lacks (inr more) =
+    absurd (byte_is_in 32 text x.0.now x.1.now (split_parts 32 text (Some x) cut (lit< tt)).0 (All-same (λ b. b ≢ 32) text front whole lacks))
+cut_at_space text front after None cut e lacks (inr more) =
     absurd (split_after 32 text front more.0 None cut (lit< tt) (e ∙ ap (λ (b : List ℕ). front ++ b) more.1) (λ i inside. lacks i 0 inside))
-cut_at_space text front behind (Some x) cut e lacks (inr more) =
+cut_at_space text front after (Some x) cut e lacks (inr more) =
     let parts = split_after 32 text front more.0 (Some x) cut (lit< tt) (e ∙ ap (λ (b : List ℕ). front ++ b) more.1) (λ i inside. lacks i 0 inside) in
     (parts.0, ap (λ (b : List ℕ). 32 ∷ b) parts.1 ∙ sym more.1)
 
@@ -35,38 +35,38 @@ cut_at_space text front behind (Some x) cut e lacks (inr more) =
 pub first_word_of_cut : (text : List ℕ) (whole empty : Bor (List ℕ)) (r : Option (Bor (List ℕ) × Bor (List ℕ))) → IsSplitOnceResult 32 text r → whole.now ≡ text → empty.now ≡ []
     → IsFirstWord text (unwrap_or r (whole, empty)).0.now (unwrap_or r (whole, empty)).1.now
 first_word_of_cut text whole empty None cut same none = record {
-  behind = [];
+  after = [];
   written = sym same ∙ sym (append-nil whole.now);
   ends = inl refl;
   rest_is = none;
 }
 first_word_of_cut text whole empty (Some x) cut same none = record {
-  behind = 32 ∷ x.1.now;
+  after = 32 ∷ x.1.now;
   written = (split_parts 32 text (Some x) cut (lit< tt)).0;
   ends = inr (x.1.now, refl);
   rest_is = refl;
 }
 
-pub first_word_is : (text front behind : List ℕ) (whole empty : Bor (List ℕ)) (r : Option (Bor (List ℕ) × Bor (List ℕ))) → IsSplitOnceResult 32 text r → whole.now ≡ text → empty.now ≡ [] → text ≡ front ++ behind → HasNoSpace front → IsBehind behind
-    → ((unwrap_or r (whole, empty)).0.now ≡ front) × ((unwrap_or r (whole, empty)).1.now ≡ drop 1 behind)
-first_word_is text front behind whole empty None cut same none e lacks ends =
-    let parts = cut_at_space text front behind None cut e lacks ends in
+pub first_word_is : (text front after : List ℕ) (whole empty : Bor (List ℕ)) (r : Option (Bor (List ℕ) × Bor (List ℕ))) → IsSplitOnceResult 32 text r → whole.now ≡ text → empty.now ≡ [] → text ≡ front ++ after → HasNoSpace front → IsAfter after
+    → ((unwrap_or r (whole, empty)).0.now ≡ front) × ((unwrap_or r (whole, empty)).1.now ≡ drop 1 after)
+first_word_is text front after whole empty None cut same none e lacks ends =
+    let parts = cut_at_space text front after None cut e lacks ends in
     (same ∙ parts.0, none ∙ sym (ap (λ (b : List ℕ). drop 1 b) parts.1))
-first_word_is text front behind whole empty (Some x) cut same none e lacks ends =
-    let parts = cut_at_space text front behind (Some x) cut e lacks ends in
+first_word_is text front after whole empty (Some x) cut same none e lacks ends =
+    let parts = cut_at_space text front after (Some x) cut e lacks ends in
     (parts.0, ap (λ (b : List ℕ). drop 1 b) parts.1)
 
-pub denials_behind : (no_register no_yield : Bool) → IsBehind (denials_text no_register no_yield)
-denials_behind true no_yield = inr (_, refl)
-denials_behind false true = inr (_, refl)
-denials_behind false false = inl refl
+pub denials_after : (no_register no_yield : Bool) → IsAfter (denials_text no_register no_yield)
+denials_after true no_yield = inr (_, refl)
+denials_after false true = inr (_, refl)
+denials_after false false = inl refl
 
-pub luck_behind : (luck : SaidLuck) → IsBehind (luck_text luck)
-luck_behind luck = behind luck.draw
+pub luck_after : (luck : SaidLuck) → IsAfter (luck_text luck)
+luck_after luck = after luck.draw
   where
-    behind : (draw : Option ℕ) → IsBehind (draw_text draw ++ denials_text luck.no_register luck.no_yield)
-    behind None = denials_behind luck.no_register luck.no_yield
-    behind (Some draw) = inr (_, refl)
+    after : (draw : Option ℕ) → IsAfter (draw_text draw ++ denials_text luck.no_register luck.no_yield)
+    after None = denials_after luck.no_register luck.no_yield
+    after (Some draw) = inr (_, refl)
 
 pub number_has_no_space : (n : ℕ) → n < 2 ^ 64 → HasNoSpace (decimal n)
 number_has_no_space n small = number_lacks 32 n small (lit< tt)
@@ -115,14 +115,14 @@ no_denials false false e = (refl, refl)
 -- a drawn number alone
 pub draw_alone : (words : List ℕ) (luck : SaidLuck) → IsSplitOnceResult 32 words None → (said : SaysDraw luck words) → (words ≡ decimal said.draw) × (luck.no_register ≡ false) × (luck.no_yield ≡ false)
 draw_alone words luck cut said =
-    let parts = cut_at_space words (decimal said.draw) (denials_text luck.no_register luck.no_yield) None cut said.written (number_has_no_space said.draw (omega (arith, said.small))) (denials_behind luck.no_register luck.no_yield) in
+    let parts = cut_at_space words (decimal said.draw) (denials_text luck.no_register luck.no_yield) None cut said.written (number_has_no_space said.draw (omega (arith, said.small))) (denials_after luck.no_register luck.no_yield) in
     let none = no_denials luck.no_register luck.no_yield parts.1 in
     (parts.0, none.0, none.1)
 
 -- and one with words behind it
-pub draw_first : (words : List ℕ) (luck : SaidLuck) (draw behind : Bor (List ℕ)) → IsSplitOnceResult 32 words (Some (draw, behind)) → (said : SaysDraw luck words) → (draw.now ≡ decimal said.draw) × (32 ∷ behind.now ≡ denials_text luck.no_register luck.no_yield)
-draw_first words luck draw behind cut said =
-    cut_at_space words (decimal said.draw) (denials_text luck.no_register luck.no_yield) (Some (draw, behind)) cut said.written (number_has_no_space said.draw (omega (arith, said.small))) (denials_behind luck.no_register luck.no_yield)
+pub draw_first : (words : List ℕ) (luck : SaidLuck) (draw after : Bor (List ℕ)) → IsSplitOnceResult 32 words (Some (draw, after)) → (said : SaysDraw luck words) → (draw.now ≡ decimal said.draw) × (32 ∷ after.now ≡ denials_text luck.no_register luck.no_yield)
+draw_first words luck draw after cut said =
+    cut_at_space words (decimal said.draw) (denials_text luck.no_register luck.no_yield) (Some (draw, after)) cut said.written (number_has_no_space said.draw (omega (arith, said.small))) (denials_after luck.no_register luck.no_yield)
 
 -- what was read of them is what was said
 pub joined_luck : (first : Result ℕ Refusal) (second : Result (Bool × Bool) Refusal) (luck : SaidLuck) (said draw : ℕ) (no_register no_yield : Bool) → luck.draw ≡ Some said → first ≡ Ok said → second ≡ Ok (luck.no_register, luck.no_yield) → first ≡ Ok draw → second ≡ Ok (no_register, no_yield)

@@ -85,16 +85,16 @@ pub digits_lack : (byte : ℕ) (text : List ℕ) → All IsDigit text → byte <
 digits_lack byte text digits low = All-weaker IsDigit (λ b. b ≢ byte) (λ b digit e. omega (arith, digit, low, e)) text digits
 
 -- a text in which the two dots stand has a dot
-pub dots_stand : (text before behind : List ℕ) → text ≡ before ++ (codes ".." ++ behind) → ¬ (Lacks 46 text)
-dots_stand text before behind e lacks =
-    let inside : length before < length text = omega (arith, ap length e, length-append before (codes ".." ++ behind)) in
-    lacks (length before) 0 inside (ap (λ t. get_or t (length before) 0) e ∙ get_or-append_seam before 46 (46 ∷ behind) 0)
+pub dots_are_in : (text before after : List ℕ) → text ≡ before ++ (codes ".." ++ after) → ¬ (Lacks 46 text)
+dots_are_in text before after e lacks =
+    let inside : length before < length text = omega (arith, ap length e, length-append before (codes ".." ++ after)) in
+    lacks (length before) 0 inside (ap (λ t. get_or t (length before) 0) e ∙ get_or-append_seam before 46 (46 ∷ after) 0)
 
 -- a text in which a byte stands does not lack it
-pub byte_stands : (byte : ℕ) (text before behind : List ℕ) → text ≡ before ++ byte ∷ behind → ¬ (Lacks byte text)
-byte_stands byte text before behind e lacks =
-    let inside : length before < length text = omega (arith, ap length e, length-append before (byte ∷ behind)) in
-    lacks (length before) 0 inside (ap (λ t. get_or t (length before) 0) e ∙ get_or-append_seam before byte behind 0)
+pub byte_is_in : (byte : ℕ) (text before after : List ℕ) → text ≡ before ++ byte ∷ after → ¬ (Lacks byte text)
+byte_is_in byte text before after e lacks =
+    let inside : length before < length text = omega (arith, ap length e, length-append before (byte ∷ after)) in
+    lacks (length before) 0 inside (ap (λ t. get_or t (length before) 0) e ∙ get_or-append_seam before byte after 0)
 
 -- the two dots are found where they first stand
 pub cut_at_dots : (text first last : List ℕ) (r : Option (Bor (List ℕ) × Bor (List ℕ)))

@@ -1,10 +1,10 @@
 -- What scripted sources and destinations do, as a script writes it.
 use Rattle.std.specs.Prelude.{◌≡◌, ℕ, ◌≤◌, List, [], codes, decimal, map, length, All, Option, None, Some}
 use Rattle.std.specs.List.{flat_map}
-use Rattle.piper_sides.specs.declared.scripted.SourceAct.{SourceAct}
-use Rattle.piper_sides.specs.declared.scripted.SourceAct.TheVariants as source
-use Rattle.piper_sides.specs.declared.scripted.DestAct.{DestAct}
-use Rattle.piper_sides.specs.declared.scripted.DestAct.TheVariants as dest
+use Rattle.piper_protocol.specs.declared.scripted.SourceAct.{SourceAct}
+use Rattle.piper_protocol.specs.declared.scripted.SourceAct.TheVariants as source
+use Rattle.piper_protocol.specs.declared.scripted.DestAct.{DestAct}
+use Rattle.piper_protocol.specs.declared.scripted.DestAct.TheVariants as dest
 use Rattle.piper_script.specs.Limits.{greatest_number}
 use Rattle.piper_script.specs.declared.list.Item.{Item}
 use Rattle.piper_script.specs.Joined.{joined_or}
@@ -35,7 +35,7 @@ pub record WritesSource (text : List ℕ) (act : SourceAct) : Type 0 where
   pub meant : act ≡ source_act said
 
 -- the text writes acts with slashes between them, and these are they
-pub record StandsForActs (text : List ℕ) (acts : List SourceAct) : Type 0 where
+pub record DenotesActs (text : List ℕ) (acts : List SourceAct) : Type 0 where
   pub said : List (Option (List Item))
   pub written : text ≡ joined_or (codes "none") 47 source_text said
   pub meant : acts ≡ map source_act said

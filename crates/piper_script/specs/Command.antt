@@ -1,8 +1,8 @@
 -- How commands are written, and their limits.
 use Rattle.std.specs.Prelude.{ℕ, ◌≤◌, List, [], ◌∷◌, ◌++◌, codes, decimal, ◌≡◌, ◌≢◌, ◌⊎◌, All, Bool, true, false, Option, slice_get, Some, None, IfSome, drop}
 use Rattle.std.specs.Str.{IsUtf8}
-use Rattle.piper_sides.specs.declared.calls.Side.{Side}
-use Rattle.piper_sides.specs.declared.calls.Side.TheVariants.{Reader, Writer}
+use Rattle.piper_protocol.specs.declared.calls.Side.{Side}
+use Rattle.piper_protocol.specs.declared.calls.Side.TheVariants.{Reader, Writer}
 use Rattle.piper_script.specs.Limits.{greatest_byte, greatest_number, greatest_name}
 use Rattle.piper_script.specs.declared.command.SaidLuck.{SaidLuck}
 use Rattle.piper_script.specs.declared.command.Steps.{Steps}
@@ -164,15 +164,15 @@ abbrev pub AsksCommand : List ℕ → Command → Type 0
 AsksCommand arguments said = (spaced arguments ≡ command_arguments said) × IsInLimits said
 
 -- nothing, or more words behind a space
-abbrev pub IsBehind : Text → Type 0
-IsBehind text = (text ≡ []) ⊎ ((words : Text) × (text ≡ spaced words))
+abbrev pub IsAfter : Text → Type 0
+IsAfter text = (text ≡ []) ⊎ ((words : Text) × (text ≡ spaced words))
 
 -- the text before its first space, and what stands behind that
 pub record IsFirstWord (text word rest : Text) : Type 0 where
-  pub behind : Text
-  pub written : text ≡ word ++ behind
-  pub ends : IsBehind behind
-  pub rest_is : rest ≡ drop 1 behind
+  pub after : Text
+  pub written : text ≡ word ++ after
+  pub ends : IsAfter after
+  pub rest_is : rest ≡ drop 1 after
 
 -- whose call it is
 abbrev pub call_side : SaidCall → Side
@@ -206,9 +206,9 @@ named_side said = []
 -- the text begins as that of a call of this side does, as far as it tells whose call it is
 pub record CallsFor (text : Text) (side : Side) : Type 0 where
   pub said : SaidCall
-  pub behind : Text
-  pub written : text ≡ call_name said ++ named_side said ++ behind
-  pub ends : IsBehind behind
+  pub after : Text
+  pub written : text ≡ call_name said ++ named_side said ++ after
+  pub ends : IsAfter after
   pub of_side : call_side said ≡ side
 
 -- a line that opens a call of this side, whatever the numbers and lists in it

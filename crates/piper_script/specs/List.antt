@@ -31,7 +31,7 @@ abbrev pub list_text : List Item → List ℕ
 list_text items = joined_or_dash 44 item_text items
 
 -- the text writes items, and the bytes are theirs
-pub record StandsFor (text bytes : List ℕ) : Type 0 where
+pub record Denotes (text bytes : List ℕ) : Type 0 where
   pub items : List Item
   pub written : text ≡ list_text items
   pub meant : bytes ≡ flat_map item_bytes items

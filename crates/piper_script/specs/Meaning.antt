@@ -1,16 +1,16 @@
 -- What the calls of a script ask of the machine.
 use Rattle.std.specs.Prelude.{◌≡◌, ℕ, List, Bool, true, false, unwrap_or}
-use Rattle.piper_sides.specs.declared.calls.Call.{Call}
-use Rattle.piper_sides.specs.declared.calls.Call.TheVariants as machine
-use Rattle.piper_sides.specs.declared.calls.Query.TheVariants as query
-use Rattle.piper_sides.specs.declared.polling.Luck.{Luck}
+use Rattle.piper_protocol.specs.declared.calls.Call.{Call}
+use Rattle.piper_protocol.specs.declared.calls.Call.TheVariants as machine
+use Rattle.piper_protocol.specs.declared.calls.Query.TheVariants as query
+use Rattle.piper_protocol.specs.declared.polling.Luck.{Luck}
 use Rattle.piper_script.specs.declared.command.SaidLuck.{SaidLuck}
 use Rattle.piper_script.specs.declared.command.SaidCall.{SaidCall}
 use Rattle.piper_script.specs.declared.command.SaidCall.TheVariants.{Len, IsEmpty, IsFull, IsClosed, Poll, Fill, Drain, PollFill, PollDrain, FillFrom, DrainTo, Consume, Lend, Produced, Close, Drop}
-use Rattle.piper_sides.specs.declared.scripted.SourceAct.{SourceAct}
-use Rattle.piper_sides.specs.declared.scripted.DestAct.{DestAct}
-use Rattle.piper_script.specs.List.{StandsFor}
-use Rattle.piper_script.specs.Acts.{StandsForActs, dests_text}
+use Rattle.piper_protocol.specs.declared.scripted.SourceAct.{SourceAct}
+use Rattle.piper_protocol.specs.declared.scripted.DestAct.{DestAct}
+use Rattle.piper_script.specs.List.{Denotes}
+use Rattle.piper_script.specs.Acts.{DenotesActs, dests_text}
 
 abbrev pub not : Bool → Bool
 not true = false
@@ -37,13 +37,13 @@ Means (IsEmpty side) call = call ≡ machine.Query side query.IsEmpty
 Means (IsFull side) call = call ≡ machine.Query side query.IsFull
 Means (IsClosed side) call = call ≡ machine.IsClosed side
 Means (Poll side waker luck) call = call ≡ machine.Poll side waker (luck_of luck)
-Means (Fill list) call = MadeWith (List ℕ) (StandsFor list.text.now) machine.TryFill call
+Means (Fill list) call = MadeWith (List ℕ) (Denotes list.text.now) machine.TryFill call
 Means (Drain most) call = call ≡ machine.TryDrain most
 Means (PollFill waker list luck) call =
-    MadeWith (List ℕ) (StandsFor list.text.now) (machine.PollFillBytes waker (luck_of luck)) call
+    MadeWith (List ℕ) (Denotes list.text.now) (machine.PollFillBytes waker (luck_of luck)) call
 Means (PollDrain waker most luck) call = call ≡ machine.PollDrainBytes waker (luck_of luck) most
 Means (FillFrom waker sources luck) call =
-    MadeWith (List SourceAct) (StandsForActs sources.text.now)
+    MadeWith (List SourceAct) (DenotesActs sources.text.now)
     (machine.PollFill waker (luck_of luck)) call
 Means (DrainTo waker dests luck) call =
     MadeWith (List DestAct) (λ acts. dests.text.now ≡ dests_text acts)

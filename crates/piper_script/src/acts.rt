@@ -9,7 +9,7 @@ use crate::command::{MOST, Refusal};
 use crate::list::List;
 use crate::number::number;
 use crate::stop::Stop;
-use piper_sides::scripted::{ActList, DestAct, SourceAct};
+use piper_protocol::scripted::{ActList, DestAct, SourceAct};
 use std::alloc::Global;
 
 /// The acts of a source: their text, and how many bytes their lists stand for.
@@ -20,7 +20,7 @@ pub struct Sources<'line> {
 }
 
 impl<'line> Sources<'line> {
-    ghost use Rattle.piper_script.specs.Acts.{IsSourcesText, StandsForActs};
+    ghost use Rattle.piper_script.specs.Acts.{IsSourcesText, DenotesActs};
 
     /// The acts that the text writes, if their lists have at most [`MOST`] bytes together.
     pub fn parse(text: &'line str) -> Result<Sources<'line>, Refusal>
@@ -50,7 +50,7 @@ impl<'line> Sources<'line> {
     /// The acts, with bytes of their own. Acts whose text was accepted are refused for want of
     /// memory alone.
     pub fn acts(self, alloc: Global) -> Result<ActList<SourceAct>, Stop>
-        ensures acts { IfOk result (λ acts. StandsForActs self.entry.text.now acts) }
+        ensures acts { IfOk result (λ acts. DenotesActs self.entry.text.now acts) }
         ensures memory { IsSourcesText self.entry.text.now self.entry.len →
             IfErr result (λ stop. stop ≡ Stop.Memory) }
     {
@@ -61,7 +61,7 @@ impl<'line> Sources<'line> {
 
     fn add_to(self, alloc: Global, acts: &mut ActList<SourceAct>) -> Result<(), Stop>
         requires { acts.old ≡ [] }
-        ensures acts { OnOk result (StandsForActs self.entry.text.now acts.new) }
+        ensures acts { OnOk result (DenotesActs self.entry.text.now acts.new) }
         ensures memory { IsSourcesText self.entry.text.now self.entry.len →
             IfErr result (λ stop. stop ≡ Stop.Memory) }
     {

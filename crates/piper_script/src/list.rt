@@ -8,7 +8,7 @@ ghost use Rattle.piper_script.specs.List.{item_text, item_bytes, IsItem};
 use crate::command::{MOST, Refusal};
 use crate::number::{is_at_most, number};
 use crate::stop::Stop;
-use piper_sides::bytes::Bytes;
+use piper_protocol::bytes::Bytes;
 use std::alloc::{AllocError, Global};
 
 /// One item of a list.
@@ -103,7 +103,7 @@ pub struct List<'line> {
 }
 
 impl<'line> List<'line> {
-    ghost use Rattle.piper_script.specs.List.{IsListText, StandsFor};
+    ghost use Rattle.piper_script.specs.List.{IsListText, Denotes};
 
     /// The list that the text writes, if it has at most [`MOST`] bytes.
     pub fn parse(text: &'line str) -> Result<List<'line>, Refusal>
@@ -133,7 +133,7 @@ impl<'line> List<'line> {
 
     /// The list's bytes. A list whose text was accepted is refused for want of memory alone.
     pub fn bytes(self, alloc: Global) -> Result<Bytes, Stop>
-        ensures bytes { IfOk result (StandsFor self.entry.text.now) }
+        ensures bytes { IfOk result (Denotes self.entry.text.now) }
         ensures memory { IsListText self.entry.text.now self.entry.len →
             IfErr result (λ stop. stop ≡ Stop.Memory) }
     {
@@ -144,7 +144,7 @@ impl<'line> List<'line> {
 
     // Puts the list's bytes in place of what `bytes` holds.
     fn write_to(self, bytes: &mut Vec<u8>) -> Result<(), Stop>
-        ensures bytes { OnOk result (StandsFor self.entry.text.now bytes.new.items) }
+        ensures bytes { OnOk result (Denotes self.entry.text.now bytes.new.items) }
         ensures memory { IsListText self.entry.text.now self.entry.len →
             IfErr result (λ stop. stop ≡ Stop.Memory) }
     {

@@ -1,7 +1,7 @@
 //! From the bytes of a line to what they say.
 
 ghost use Rattle.std.specs.Prelude.{◌≡◌, ℕ, Bool, IsOk, IsOkAnd, ◌≤◌, ◌<◌, ◌++◌, ◌∷◌, length, codes, decimal, IsTrue, ◌↔◌, IfOk, IfErr, IfSome, IfNone, drop};
-ghost use Rattle.piper_sides.specs.declared.calls.Side.{Side};
+ghost use Rattle.piper_protocol.specs.declared.calls.Side.{Side};
 ghost use Rattle.piper_script.specs.declared.acts.Dests.{Dests};
 ghost use Rattle.piper_script.specs.declared.acts.Sources.{Sources};
 ghost use Rattle.piper_script.specs.declared.command.Command.{Command};
@@ -11,13 +11,13 @@ ghost use Rattle.piper_script.specs.declared.command.Steps.{Steps};
 ghost use Rattle.piper_script.specs.declared.list.List.{List as ByteList};
 ghost use Rattle.piper_script.specs.Limits.{longest_line};
 ghost use Rattle.piper_script.specs.Refusal.{IsTextRefusal};
-ghost use Rattle.piper_script.specs.Command.{Text, side_text, spaced, denials_text, luck_text, call_name, call_text, command_name, command_text, IsLuck, IsCallInLimits, IsInLimits, Asks, AsksCommand, TakesNumber, TakesSide, HasNoSpace, IsSilent, IsBehind, CallsFor, BeginsFor, IsFirstWord, begun_side};
+ghost use Rattle.piper_script.specs.Command.{Text, side_text, spaced, denials_text, luck_text, call_name, call_text, command_name, command_text, IsLuck, IsCallInLimits, IsInLimits, Asks, AsksCommand, TakesNumber, TakesSide, HasNoSpace, IsSilent, IsAfter, CallsFor, BeginsFor, IsFirstWord, begun_side};
 
 use crate::acts::{Dests, Sources};
 use crate::command::{Command, MOST, Refusal, SaidCall, SaidLuck, Steps};
 use crate::list::{List, both, byte};
 use crate::number::{name, number};
-use piper_sides::calls::Side;
+use piper_protocol::calls::Side;
 use std::str;
 
 /// The most bytes of a line, without the LF that ends it.
@@ -77,9 +77,9 @@ fn side_of_call(text: &str) -> Option<Side>
 
 // The text before the first space, and what stands behind that.
 fn first_word(text: &str) -> (&str, &str)
-    ensures cut { (front behind : Text) → HasNoSpace front → IsBehind behind →
-        text.now ≡ front ++ behind → (result.0.now ≡ front) × (result.1.now ≡ drop 1 behind) }
-    ensures stands { IsFirstWord text.now result.0.now result.1.now }
+    ensures cut { (front after : Text) → HasNoSpace front → IsAfter after →
+        text.now ≡ front ++ after → (result.0.now ≡ front) × (result.1.now ≡ drop 1 after) }
+    ensures split { IsFirstWord text.now result.0.now result.1.now }
 {
     text.split_once(' ').unwrap_or((text, ""))
 }

@@ -127,7 +127,7 @@ where
 }
 
 #[test]
-fn a_source_that_fails_is_told_and_its_earlier_bytes_stay(rt: HostRuntime) {
+fn a_source_that_fails_is_reported_and_its_earlier_bytes_stay(rt: HostRuntime) {
     fills_end(&rt, true);
 }
 
@@ -180,7 +180,7 @@ where
 }
 
 #[test]
-fn a_destination_that_fails_is_told_and_what_it_took_is_gone(rt: HostRuntime) {
+fn a_destination_that_fails_is_reported_and_what_it_took_is_gone(rt: HostRuntime) {
     drains_end(&rt, true);
 }
 
@@ -191,7 +191,7 @@ fn a_destination_that_takes_none_ends_a_drain(rt: HostRuntime) {
 
 /// The second call of an end fails with an error of this kind, which comes out as it is, though the
 /// copy's handle knew of bytes or room before; and a call behind it goes on.
-fn tells_error<H>(rt: &H, through: Through, kind: ErrorKind)
+fn reports_error<H>(rt: &H, through: Through, kind: ErrorKind)
 where
     H: Abort + Wait + RandomSource + AllocGlobal,
 {
@@ -209,10 +209,10 @@ where
 }
 
 #[test]
-fn an_error_of_each_kind_is_told_as_it_is(rt: HostRuntime) {
+fn an_error_of_each_kind_is_reported_as_it_is(rt: HostRuntime) {
     for kind in KINDS {
-        tells_error(&rt, Through::Fill, kind);
-        tells_error(&rt, Through::Drain, kind);
+        reports_error(&rt, Through::Fill, kind);
+        reports_error(&rt, Through::Drain, kind);
     }
 }
 
@@ -252,8 +252,8 @@ struct Turn<'a> {
     /// The most bytes that its end moves in a call.
     most: usize,
     before: &'a [Act<'a>],
-    behind_a_yield: &'a [Act<'a>],
-    behind_a_copy: &'a [Act<'a>],
+    after_a_yield: &'a [Act<'a>],
+    after_a_copy: &'a [Act<'a>],
 }
 
 /// Of the turns one in a hundred yields, and moves nothing.
@@ -266,17 +266,17 @@ where
     for _ in 0..turns {
         pair.play(rt, turn.before);
         let mut end = End::new(turn.most, usize::MAX, None);
-        let behind = match pair.copy(rt, turn.through, &mut end) {
+        let after = match pair.copy(rt, turn.through, &mut end) {
             Moved::Pending => {
                 yielded = yielded.saturating_add(1);
-                turn.behind_a_yield
+                turn.after_a_yield
             }
             moved => {
                 same(rt, &turn.through, moved, Moved::Done(turn.most.min(1)));
-                turn.behind_a_copy
+                turn.after_a_copy
             }
         };
-        pair.play(rt, behind);
+        pair.play(rt, after);
     }
     same(rt, &yielded, yielded > 0 && yielded < turns / 33, true);
 }
@@ -287,12 +287,12 @@ fn one_drain_in_a_hundred_yields_and_moves_nothing(rt: HostRuntime) {
         through: Through::Drain,
         most: 1,
         before: &[Act::Fill(b"a", 1)],
-        behind_a_yield: &[
+        after_a_yield: &[
             Act::ReaderIsWoken(true),
             Act::Unread(1),
             Act::Drain(1, b"a"),
         ],
-        behind_a_copy: &[Act::Unread(0)],
+        after_a_copy: &[Act::Unread(0)],
     };
     one_in_a_hundred_yields(&rt, 2_000, &turn);
 }
@@ -303,13 +303,13 @@ fn one_fill_in_a_hundred_yields_and_moves_nothing(rt: HostRuntime) {
         through: Through::Fill,
         most: 1,
         before: &[],
-        behind_a_yield: &[
+        after_a_yield: &[
             Act::WriterIsWoken(true),
             Act::Unread(0),
             Act::Fill(&[0], 1),
             Act::Drain(1, &[0]),
         ],
-        behind_a_copy: &[Act::Drain(1, &[0])],
+        after_a_copy: &[Act::Drain(1, &[0])],
     };
     one_in_a_hundred_yields(&rt, 2_000, &turn);
 }
@@ -320,8 +320,8 @@ fn a_drain_into_nothing_is_no_end(rt: HostRuntime) {
         through: Through::Drain,
         most: 0,
         before: &[Act::Fill(b"a", 1)],
-        behind_a_yield: &[Act::ReaderIsWoken(true), Act::Drain(1, b"a")],
-        behind_a_copy: &[Act::Drain(1, b"a")],
+        after_a_yield: &[Act::ReaderIsWoken(true), Act::Drain(1, b"a")],
+        after_a_copy: &[Act::Drain(1, b"a")],
     };
     one_in_a_hundred_yields(&rt, 1_000, &turn);
 }

@@ -34,7 +34,7 @@ fn reader_is_taken(rt: &impl Abort, cx: &mut Context<'_>, reader: OwnedReader, w
     same(rt, &"waits", reader.poll(cx).is_pending(), true);
     same(rt, &"taken", writer.try_fill(b"ab"), 2);
     let mut left = writer.drop();
-    reader.meet_left(&mut left);
+    reader.meet_finished(&mut left);
     same(rt, &"to come", reader.len(), 2);
     reader.drop();
 }
@@ -56,7 +56,7 @@ fn writer_is_taken(rt: &impl Abort, cx: &mut Context<'_>, reader: OwnedReader, w
     same(rt, &"taken", writer.try_fill(b"ab"), 2);
     same(rt, &"waits", writer.poll(cx).is_pending(), true);
     let mut left = reader.drop();
-    writer.meet_left(&mut left);
+    writer.meet_finished(&mut left);
     same(rt, &"closed", writer.is_closed(), true);
     writer.drop();
 }

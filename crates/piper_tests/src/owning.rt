@@ -219,6 +219,6 @@ where
 }
 
 #[test]
-fn what_is_printed_tells_of_ends_and_counts_and_no_byte(rt: HostRuntime) {
+fn what_is_printed_reports_of_ends_and_counts_and_no_byte(rt: HostRuntime) {
     is_printed(&rt);
 }

@@ -10,7 +10,7 @@ ghost use Rattle.piper.specs.Drains.{CountsWhatFits, DrainYields, EndIsSeen, End
 ghost use Rattle.piper.specs.Ends.{ReaderIsUpToDate, WriterShut};
 ghost use Rattle.piper.specs.Fills.{FillYields, LosesOneRound, OnNoCount};
 ghost use Rattle.piper.specs.Handles.{read_source, write_source};
-ghost use Rattle.piper.specs.Polls.{Behind, IfReadyOk, TakesNone};
+ghost use Rattle.piper.specs.Polls.{After, IfReadyOk, TakesNone};
 ghost use Rattle.piper.specs.ReadView.{in_one_piece};
 ghost use Rattle.piper_tokio.specs.Passing.{Took, AtEnd, Gave};
 ghost use Rattle.piper_tokio.specs.Shown.{shown_by};
@@ -78,7 +78,7 @@ impl AsyncRead for CompatEnd {
             self.old.reader.reader.end self.new.reader.reader.end }
         ensures end { result ≡ Poll.Ready (Ok 0) → 0 < length buf.old →
             AtEnd self.new.reader.reader }
-        ensures behind { AtEnd self.old.reader.reader → TakesNone result
+        ensures after { AtEnd self.old.reader.reader → TakesNone result
             (AtEnd self.new.reader.reader)
             self.old.reader.reader.end.taken self.new.reader.reader.end.taken }
         ensures ended { EndIsSeen result self.old.reader.reader.end self.new.reader.reader.end }
@@ -91,7 +91,7 @@ impl AsyncRead for CompatEnd {
         ensures shown { shown_by self.new.reader ≡ [] }
         ensures failed { IfReadyErr result (λ e. error_kind e ≡ OutOfMemoryKind) }
         ensures refused { IfReadyErr result (λ _. cx.new.lacks_waker ≡ true) }
-        ensures registered { OnPending result
+        ensures covered { OnPending result
             (Covers cx.new (λ s. s ≡ read_source self.new.reader.reader)) }
         ensures kept { Keeps cx.old cx.new }
     {
@@ -111,8 +111,8 @@ impl AsyncBufRead for CompatEnd {
             ≡ take (in_one_piece self.new.reader.reader.end) self.new.reader.reader.end.known) }
         ensures end { OnReadyOk result
             (length (shown_by self.new.reader) ≡ 0 → AtEnd self.new.reader.reader) }
-        ensures behind { AtEnd self.old.reader.reader →
-            Behind result (AtEnd self.new.reader.reader) self.new.reader.reader.end.known }
+        ensures after { AtEnd self.old.reader.reader →
+            After result (AtEnd self.new.reader.reader) self.new.reader.reader.end.known }
         ensures waits { OnPending result ((self.new.reader.reader.end.known ≡ [])
             × (self.new.reader.reader.end.saw ≡ false)) }
         ensures told { OnPending result (self.old.reader.reader.end.told_shut ≡ false) }
@@ -120,7 +120,7 @@ impl AsyncBufRead for CompatEnd {
             ReaderIsUpToDate self.new.reader.reader.end }
         ensures failed { IfReadyErr result (λ e. error_kind e ≡ OutOfMemoryKind) }
         ensures refused { IfReadyErr result (λ _. cx.new.lacks_waker ≡ true) }
-        ensures registered { OnPending result
+        ensures covered { OnPending result
             (Covers cx.new (λ s. s ≡ read_source self.new.reader.reader)) }
         ensures kept { Keeps cx.old cx.new }
     {
@@ -167,7 +167,7 @@ impl AsyncWrite for CompatEnd {
         ensures yields { FillYields result self.new.writer.writer.end cx.new }
         ensures failed { IfReadyErr result (λ e. error_kind e ≡ OutOfMemoryKind) }
         ensures refused { IfReadyErr result (λ _. cx.new.lacks_waker ≡ true) }
-        ensures registered { OnPending result
+        ensures covered { OnPending result
             (Covers cx.new (λ s. s ≡ write_source self.new.writer.writer)) }
         ensures kept { Keeps cx.old cx.new }
     {

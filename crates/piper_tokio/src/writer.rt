@@ -9,7 +9,7 @@ ghost use Rattle.piper.specs.Ends.{WriterShut};
 ghost use Rattle.piper.specs.Fills.{FillYields, LosesOneRound, OnNoCount};
 ghost use Rattle.piper.specs.Handles.{NotifiesReader, SameWriterButSlots, write_source};
 ghost use Rattle.piper.specs.Polls.{IfReadyOk};
-ghost use Rattle.piper.specs.Waits.{WriterStands};
+ghost use Rattle.piper.specs.Waits.{WriterRegistered};
 ghost use Rattle.piper_tokio.specs.Passing.{Gave};
 ghost use Rattle.piper_tokio.specs.PassingLaws.{gave_nothing, gave_in_order};
 
@@ -86,10 +86,10 @@ impl tokio::io::AsyncWrite for CompatWriter {
         ensures failed { IfReadyErr result (λ e. error_kind e ≡ OutOfMemoryKind) }
         ensures refused { IfReadyErr result (λ _. cx.new.lacks_waker ≡ true) }
         ensures woke { NotifiesReader self.old.writer → NotifiesReader self.new.writer }
-        ensures registered { OnPending result
+        ensures covered { OnPending result
             (Covers cx.new (λ s. s ≡ write_source self.new.writer)) }
-        ensures stands { OnPending result
-            (WriterStands self.old.writer self.new.writer cx.new) }
+        ensures registered { OnPending result
+            (WriterRegistered self.old.writer self.new.writer cx.new) }
         ensures kept { Keeps cx.old cx.new }
     {
         match self.writer.poll_fill_bytes(cx, buf) {

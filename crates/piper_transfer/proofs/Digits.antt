@@ -13,8 +13,8 @@ grows n [] = omega arith
 grows n (d ∷ ds) = let more = grows (n * 10 + digit_value d) ds in omega (arith, more)
 
 -- where one more digit makes it so great, the whole is
-pub too_great : (most n d : ℕ) (rest behind digits : List ℕ) → digits_value_after 10 n rest ≡ digits_value 10 digits → rest ≡ d ∷ behind → most ≤ n * 10 + digit_value d → most ≤ digits_value 10 digits
-too_great most n d rest behind digits value first great =
-    let more : n * 10 + digit_value d ≤ digits_value_after 10 (n * 10 + digit_value d) behind = grows (n * 10 + digit_value d) behind in
-    let same : digits_value_after 10 (n * 10 + digit_value d) behind ≡ digits_value 10 digits = rw first at value in
+pub too_great : (most n d : ℕ) (rest after digits : List ℕ) → digits_value_after 10 n rest ≡ digits_value 10 digits → rest ≡ d ∷ after → most ≤ n * 10 + digit_value d → most ≤ digits_value 10 digits
+too_great most n d rest after digits value first great =
+    let more : n * 10 + digit_value d ≤ digits_value_after 10 (n * 10 + digit_value d) after = grows (n * 10 + digit_value d) after in
+    let same : digits_value_after 10 (n * 10 + digit_value d) after ≡ digits_value 10 digits = rw first at value in
     omega (arith, more, same, great)

@@ -9,40 +9,40 @@ use Rattle.piper_transfer.specs.declared.error.TransferError.TheVariants.{Read, 
 
 -- the output's side tells no failure of the input
 pub not_of_input : (fails : Error → Type 0) (full : Type 0) (e : TransferError) → IsOfDestination fails full e → ¬ IsOfInput e
-not_of_input fails full (Read x) told = λ _. told
-not_of_input fails full (Write x) told = λ input. input
-not_of_input fails full Full told = λ input. input
-not_of_input fails full Memory told = λ input. input
-not_of_input fails full (Turns x) told = λ input. input
+not_of_input fails full (Read x) reported = λ _. reported
+not_of_input fails full (Write x) reported = λ input. input
+not_of_input fails full Full reported = λ input. input
+not_of_input fails full Memory reported = λ input. input
+not_of_input fails full (Turns x) reported = λ input. input
 
 -- nor does want of memory
 memory_is_not_of_input : (e : TransferError) → IsOfMemory e → ¬ IsOfInput e
-memory_is_not_of_input (Read x) told = λ _. told
-memory_is_not_of_input (Write x) told = λ input. input
-memory_is_not_of_input Full told = λ input. input
-memory_is_not_of_input Memory told = λ input. input
-memory_is_not_of_input (Turns x) told = λ input. input
+memory_is_not_of_input (Read x) reported = λ _. reported
+memory_is_not_of_input (Write x) reported = λ input. input
+memory_is_not_of_input Full reported = λ input. input
+memory_is_not_of_input Memory reported = λ input. input
+memory_is_not_of_input (Turns x) reported = λ input. input
 
 of_memory : (s d : Error → Type 0) (full : Type 0) (e : TransferError) → IsOfMemory e → IsOfSide s d full e
-of_memory s d full (Read x) told = absurd told
-of_memory s d full (Write x) told = absurd told
-of_memory s d full Full told = absurd told
-of_memory s d full Memory told = tt
-of_memory s d full (Turns x) told = tt
+of_memory s d full (Read x) reported = absurd reported
+of_memory s d full (Write x) reported = absurd reported
+of_memory s d full Full reported = absurd reported
+of_memory s d full Memory reported = tt
+of_memory s d full (Turns x) reported = tt
 
 pub of_destination : (s d : Error → Type 0) (full : Type 0) (e : TransferError) → IsOfDestination d full e → IsOfSide s d full e
-of_destination s d full (Read x) told = absurd told
-of_destination s d full (Write x) told = told
-of_destination s d full Full told = told
-of_destination s d full Memory told = tt
-of_destination s d full (Turns x) told = tt
+of_destination s d full (Read x) reported = absurd reported
+of_destination s d full (Write x) reported = reported
+of_destination s d full Full reported = reported
+of_destination s d full Memory reported = tt
+of_destination s d full (Turns x) reported = tt
 
 of_source : (s d : Error → Type 0) (full : Type 0) (e : TransferError) → IsOfSource s e → IsOfSide s d full e
-of_source s d full (Read x) told = told
-of_source s d full (Write x) told = absurd told
-of_source s d full Full told = absurd told
-of_source s d full Memory told = tt
-of_source s d full (Turns x) told = tt
+of_source s d full (Read x) reported = reported
+of_source s d full (Write x) reported = absurd reported
+of_source s d full Full reported = absurd reported
+of_source s d full Memory reported = tt
+of_source s d full (Turns x) reported = tt
 
 -- a pipe that was refused: nothing is written
 pub refused_writes_none : (r : Result Unit TransferError) → OnOk r ⊥ → IfErr r IsOfMemory → ¬ WritesAll r
@@ -56,15 +56,15 @@ refused_is_told (Err e) s d full memory = of_memory s d full e memory
 -- a flush, and then the answer of the input's side: where that wrote all, the flush has succeeded
 pub flushed_first : (flush filled r : Result Unit TransferError) (fails : Error → Type 0) (full done : Type 0) → r ≡ result_and flush filled
     → OnOk flush done → IfErr flush (IsOfDestination fails full) → WritesAll r → done
-flushed_first (Ok u) filled r fails full done is flushed told writes = flushed
-flushed_first (Err e) filled r fails full done is flushed told writes =
-    absurd (not_of_input fails full e told (subst WritesAll is writes))
+flushed_first (Ok u) filled r fails full done is flushed reported writes = flushed
+flushed_first (Err e) filled r fails full done is flushed reported writes =
+    absurd (not_of_input fails full e reported (subst WritesAll is writes))
 
 pub flush_is_told : (flush filled r : Result Unit TransferError) (s d : Error → Type 0) (full : Type 0) → r ≡ result_and flush filled
     → IfErr flush (IsOfDestination d full) → IfErr filled (IsOfSource s) → IfErr r (IsOfSide s d full)
-flush_is_told (Ok u) (Ok v) r s d full is told fills = subst (λ x. IfErr x (IsOfSide s d full)) (sym is) tt
-flush_is_told (Ok u) (Err e) r s d full is told fills = subst (λ x. IfErr x (IsOfSide s d full)) (sym is) (of_source s d full e fills)
-flush_is_told (Err e) filled r s d full is told fills = subst (λ x. IfErr x (IsOfSide s d full)) (sym is) (of_destination s d full e told)
+flush_is_told (Ok u) (Ok v) r s d full is reported fills = subst (λ x. IfErr x (IsOfSide s d full)) (sym is) tt
+flush_is_told (Ok u) (Err e) r s d full is reported fills = subst (λ x. IfErr x (IsOfSide s d full)) (sym is) (of_source s d full e fills)
+flush_is_told (Err e) filled r s d full is reported fills = subst (λ x. IfErr x (IsOfSide s d full)) (sym is) (of_destination s d full e reported)
 
 -- it ends well only where the input's side does
 pub ends_with_both : (flush filled r : Result Unit TransferError) (ended : Type 0) → r ≡ result_and flush filled → OnOk filled ended → OnOk r ended
@@ -73,7 +73,7 @@ ends_with_both (Err e) filled r ended is fills = subst (λ x. OnOk x ended) (sym
 
 -- an output that failed
 pub failed_writes_not : (r : Result Unit TransferError) (e : TransferError) (fails : Error → Type 0) (full : Type 0) → r ≡ Err e → IsOfDestination fails full e → ¬ WritesAll r
-failed_writes_not r e fails full is told = λ writes. not_of_input fails full e told (subst WritesAll is writes)
+failed_writes_not r e fails full is reported = λ writes. not_of_input fails full e reported (subst WritesAll is writes)
 
 pub failure_is_told : (r : Result Unit TransferError) (e : TransferError) (s d : Error → Type 0) (full : Type 0) → r ≡ Err e → IsOfDestination d full e → IfErr r (IsOfSide s d full)
-failure_is_told r e s d full is told = subst (λ x. IfErr x (IsOfSide s d full)) (sym is) (of_destination s d full e told)
+failure_is_told r e s d full is reported = subst (λ x. IfErr x (IsOfSide s d full)) (sym is) (of_destination s d full e reported)

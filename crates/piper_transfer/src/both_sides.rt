@@ -65,7 +65,7 @@ where
     ensures moved { Transfers result (S.remaining source.old) (S.remaining source.new)
         (D.contents dest.old) (D.contents dest.new) }
     ensures flushed { WritesAll result → D.flushed dest.new }
-    ensures told { IfErr result
+    ensures reported { IfErr result
         (IsOfSide (S.fails source.new) (D.fails dest.new) (D.full dest.new)) }
 {
     let (mut input, mut output) = open(rt, sizes.capacity, sizes.level)?;
@@ -118,7 +118,7 @@ where
     D: Destination,
     ensures kept { Keeps (D.contents dest.old) (D.contents dest.new) }
     ensures flushed { OnOk result (D.flushed dest.new) }
-    ensures told { IfErr result (IsOfDestination (D.fails dest.new) (D.full dest.new)) }
+    ensures reported { IfErr result (IsOfDestination (D.fails dest.new) (D.full dest.new)) }
 {
     flush_patiently(rt, dest).map_err(TransferError::Write)
 }
@@ -150,7 +150,7 @@ where
         output.old.reader.end output.new.reader.end) }
     ensures drained { OnOk result.1 (IsDrained output.new.reader.end input.new.writer.end) }
     ensures input_told { IfErr result.0 (IsOfSource (S.fails source.new)) }
-    ensures told { IfErr result.1 (IsOfDestination (D.fails dest.new) (D.full dest.new)) }
+    ensures reported { IfErr result.1 (IsOfDestination (D.fails dest.new) (D.full dest.new)) }
 {
     let (turns, writer) = (&input.turns, &mut input.writer);
     match on_two_threads(rt, source, turns, writer, output, dest, chunk, meter) {
@@ -195,7 +195,7 @@ where
         (D.contents dest.new) output.old.reader.end output.new.reader.end)) }
     ensures drained { IfSome result.1 (λ r. OnOk r (IsEnded output.new.reader.end)) }
     ensures input_told { IfSome result.0 (λ r. IfErr r (IsOfSource (S.fails source.new))) }
-    ensures told { IfSome result.1 (λ r. IfErr r
+    ensures reported { IfSome result.1 (λ r. IfErr r
         (IsOfDestination (D.fails dest.new) (D.full dest.new))) }
     ensures drain_given_up { IfNone result.1
         ((output.new ≡ output.old) × (dest.new ≡ dest.old)) }

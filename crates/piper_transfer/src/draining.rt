@@ -40,7 +40,7 @@ where
     ensures all { IfSome result (λ r. OnOk r (PouredAll (D.contents dest.old) (D.contents dest.new)
         output.old.reader.end output.new.reader.end)) }
     ensures ended { IfSome result (λ r. OnOk r (IsEnded output.new.reader.end)) }
-    ensures told { IfSome result (λ r. IfErr r
+    ensures reported { IfSome result (λ r. IfErr r
         (IsOfDestination (D.fails dest.new) (D.full dest.new))) }
     ensures given_up { IfNone result
         ((output.new ≡ output.old) × (dest.new ≡ dest.old)) }
@@ -71,7 +71,7 @@ where
     ensures all { OnOk result (PouredAll (D.contents dest.old) (D.contents dest.new)
         output.old.reader.end output.new.reader.end) }
     ensures ended { OnOk result (IsEnded output.new.reader.end) }
-    ensures told { IfErr result (IsOfDestination (D.fails dest.new) (D.full dest.new)) }
+    ensures reported { IfErr result (IsOfDestination (D.fails dest.new) (D.full dest.new)) }
 {
     let ended = drain_in_turns(
         rt,
@@ -114,7 +114,7 @@ where
     ensures poured { PouredAll (D.contents dest.old) (D.contents dest.new)
         reader.old.end reader.new.end }
     ensures ended { OnOk result (IsEnded reader.new.end) }
-    ensures told { IfErr result (IsOfDestination (D.fails dest.new) (D.full dest.new)) }
+    ensures reported { IfErr result (IsOfDestination (D.fails dest.new) (D.full dest.new)) }
 {
     for _ in rt.forever() {
         meter.output.begin_wait(rt);
@@ -162,7 +162,7 @@ where
     ensures poured { PouredAll (D.contents dest.old) (D.contents dest.new)
         reader.old.end reader.new.end }
     ensures ended { IfReady result (λ r. OnOk r (IsEnded reader.new.end)) }
-    ensures told { IfReady result (λ r. IfErr r
+    ensures reported { IfReady result (λ r. IfErr r
         (IsOfDestination (D.fails dest.new) (D.full dest.new))) }
     ensures armed { OnPending result (IsArmed cx.new) }
 {
@@ -197,7 +197,7 @@ where
         reader.old.end reader.new.end }
     ensures known { StaysKnown reader.old.end reader.new.end }
     ensures capacity { reader.new.end.capacity ≡ reader.old.end.capacity }
-    ensures told { IfErr result (IsOfDestination (D.fails dest.new) (D.full dest.new)) }
+    ensures reported { IfErr result (IsOfDestination (D.fails dest.new) (D.full dest.new)) }
 {
     match write_chunk(rt, reader, dest, chunk) {
         Ok(0) => Err(TransferError::Full),

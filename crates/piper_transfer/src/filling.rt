@@ -36,7 +36,7 @@ where
     ensures fed { Fed (S.remaining source.old) (S.remaining source.new)
         writer.old.end writer.new.end }
     ensures ended { IfSome result (λ r. OnOk r (IsAtEnd (S.remaining source.new))) }
-    ensures told { IfSome result (λ r. IfErr r (IsOfSource (S.fails source.new))) }
+    ensures reported { IfSome result (λ r. IfErr r (IsOfSource (S.fails source.new))) }
     ensures given_up { IfNone result (IsOpen writer.new.end) }
 {
     if !start.begin(rt) {
@@ -63,7 +63,7 @@ where
     ensures fed { Fed (S.remaining source.old) (S.remaining source.new)
         writer.old.end writer.new.end }
     ensures ended { OnOk result (IsAtEnd (S.remaining source.new)) }
-    ensures told { IfErr result (IsOfSource (S.fails source.new)) }
+    ensures reported { IfErr result (IsOfSource (S.fails source.new)) }
 {
     for _ in rt.forever() {
         meter.input.begin_wait(rt);
@@ -97,7 +97,7 @@ where
     ensures fed { Fed (S.remaining source.old) (S.remaining source.new)
         writer.old.end writer.new.end }
     ensures ended { IfReady result (λ r. OnOk r (IsAtEnd (S.remaining source.new))) }
-    ensures told { IfReady result (λ r. IfErr r (IsOfSource (S.fails source.new))) }
+    ensures reported { IfReady result (λ r. IfErr r (IsOfSource (S.fails source.new))) }
     ensures is_open { OnPending result (IsOpen writer.new.end) }
     ensures armed { OnPending result (IsArmed cx.new) }
 {
@@ -114,7 +114,7 @@ where
         }
         match read_chunk(rt, source, writer, piece.len(), meter) {
             Ok(0) => return close(cx, writer, Ok(())),
-            Ok(count) => piece = piece.behind(count),
+            Ok(count) => piece = piece.after(count),
             Err(error) => return close(cx, writer, Err(error)),
         }
     }
@@ -139,7 +139,7 @@ where
     ensures fed { Fed (S.remaining source.old) (S.remaining source.new)
         writer.old.end writer.new.end }
     ensures ended { result ≡ Ok 0 → IsAtEnd (S.remaining source.new) }
-    ensures told { IfErr result (IsOfSource (S.fails source.new)) }
+    ensures reported { IfErr result (IsOfSource (S.fails source.new)) }
     ensures is_open { IsOpen writer.new.end }
 {
     let count = read_patiently(rt, source, writer.write_buf(most), meter)?;

@@ -40,7 +40,7 @@ where
         reader.old.end reader.new.end }
     ensures all { OnOk result.1 (reader.new.end.taken ≡ writer.new.end.sent) }
     ensures input_told { IfErr result.0 (IsOfSource (S.fails source.new)) }
-    ensures told { IfErr result.1 (IsOfDestination (D.fails dest.new) (D.full dest.new)) }
+    ensures reported { IfErr result.1 (IsOfDestination (D.fails dest.new) (D.full dest.new)) }
 {
     let mut piece = Piece::first(chunk);
     for _ in rt.forever() {
@@ -52,7 +52,7 @@ where
                 let written = pass_on(rt, writer, reader, dest, chunk, meter);
                 return (Ok(()), written);
             }
-            Ok(count) => piece = piece.behind(count),
+            Ok(count) => piece = piece.after(count),
             Err(error) => {
                 let written = pass_on(rt, writer, reader, dest, chunk, meter);
                 return (Err(error), written);
@@ -83,7 +83,7 @@ where
     ensures capacity { reader.new.end.capacity ≡ reader.old.end.capacity }
     ensures all { OnOk result (reader.new.end.taken ≡ writer.new.end.sent) }
     ensures room { OnOk result (0 < writer.new.end.room) }
-    ensures told { IfErr result (IsOfDestination (D.fails dest.new) (D.full dest.new)) }
+    ensures reported { IfErr result (IsOfDestination (D.fails dest.new) (D.full dest.new)) }
 {
     reader.meet(writer);
     drain_known(rt, reader, dest, chunk, meter)?;
@@ -108,7 +108,7 @@ where
     ensures known { StaysKnown reader.old.end reader.new.end }
     ensures capacity { reader.new.end.capacity ≡ reader.old.end.capacity }
     ensures all { OnOk result (reader.new.end.known ≡ []) }
-    ensures told { IfErr result (IsOfDestination (D.fails dest.new) (D.full dest.new)) }
+    ensures reported { IfErr result (IsOfDestination (D.fails dest.new) (D.full dest.new)) }
 {
     for _ in rt.forever() {
         if reader.peek_buf().is_empty() {

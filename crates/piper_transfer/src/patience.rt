@@ -63,7 +63,7 @@ where
     S: Source,
     ensures bound { ReadsAtMost result buf.new }
     ensures bytes { ReadConsumes (S.remaining source.old) (S.remaining source.new) result buf.new }
-    ensures told { IfErr result (IsOfSource (S.fails source.new)) }
+    ensures reported { IfErr result (IsOfSource (S.fails source.new)) }
 {
     let mut patience = Patience::new();
     for _ in rt.forever() {

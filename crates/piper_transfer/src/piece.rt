@@ -25,7 +25,7 @@ impl Piece {
     }
 
     /// What a read is asked for behind one that gave so many bytes.
-    pub(crate) fn behind(self, count: usize) -> Piece {
+    pub(crate) fn after(self, count: usize) -> Piece {
         let len = count.saturating_mul(2).max(FIRST).min(self.chunk);
         Piece {
             chunk: self.chunk,

@@ -80,10 +80,10 @@ fn number(digits: &[u8]) -> Option<usize>
     }
     let mut value = 0usize;
     let mut rest = digits;
-    'digits: while let Some((digit, behind)) = rest.split_first() {
+    'digits: while let Some((digit, after)) = rest.split_first() {
         let digit = char::from(*digit).to_digit(10)?;
         value = value.checked_mul(10)?.checked_add(digit as usize)?;
-        rest = behind;
+        rest = after;
     }
     Some(value)
 }

@@ -2,7 +2,7 @@
 //! writes hands its last mark back, and by that alone, with no more than the reader in hand, what
 //! came is a beginning of what was sent.
 ghost use Rattle.std.specs.Prelude.{◌≡◌, ℕ, ◌≤◌, ◌<◌, [], length, take, IfOk, true};
-ghost use Rattle.proved_order.specs.LastMark.{TellsFront};
+ghost use Rattle.proved_order.specs.LastMark.{ReportsFront};
 
 use piper::{OwnedReader, OwnedWriter, WriteMark, owned_pipe};
 use std::alloc::AllocGlobal;
@@ -24,14 +24,14 @@ struct SendsFront {
 
 impl Promise<WriteMark> for SendsFront {
     ghost kept_by = { λ promise last.
-        TellsFront promise.pipe.names last.names promise.bytes.now last.bytes last.shut };
+        ReportsFront promise.pipe.names last.names promise.bytes.now last.bytes last.shut };
 }
 
 /// Publishes `bytes` in order, up to the last or to the pipe's close, and drops the writer. The
 /// answer is its last mark.
 fn send_all<H: Wait>(rt: &H, writer: OwnedWriter, bytes: &[u8]) -> WriteMark
     requires { writer.writer.end.sent ≡ [] }
-    ensures { TellsFront writer.writer.end.ring.1.1 result.names
+    ensures { ReportsFront writer.writer.end.ring.1.1 result.names
         bytes.now result.bytes result.shut }
 {
     let mut writer = writer.into_inner();

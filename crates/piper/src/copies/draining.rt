@@ -4,7 +4,7 @@ ghost use Rattle.futures.specs.Task.{Covers, Keeps};
 ghost use Rattle.futures.specs.Poll.{OnPending};
 ghost use Rattle.piper_ring.specs.ReadView.{KnowsEnd, in_one_piece};
 ghost use Rattle.piper_ring.specs.SlotsView.{SameReaderLooks, SameReaderPlace};
-ghost use Rattle.piper_sides.specs.Table.{goes_on, reader_is_true};
+ghost use Rattle.piper_protocol.specs.Table.{goes_on, reader_is_true};
 ghost use Rattle.piper.specs.Contexts.{IfGiven, Arms, LacksWaker};
 ghost use Rattle.piper.specs.Copies.{ReaderCopied};
 ghost use Rattle.piper.specs.CopyAnswers.{OnMemory, CountsFailure, IsAtOnce, inner_of};
@@ -20,14 +20,14 @@ use crate::error::{Inner, PipeError};
 use crate::handles::Reader;
 use crate::like::{StdWrite, WriteBytes, WriteLike};
 use futures::task::{Context, Poll};
+use piper_protocol::read_call::ReadCall;
+use piper_protocol::scripted::MOST_A_ROUND;
+use piper_protocol::table::{Form, Purpose, ReadPoint};
 use piper_ring::OutOfMemory;
-use piper_sides::read_call::ReadCall;
-use piper_sides::scripted::MOST_A_ROUND;
-use piper_sides::table::{Form, Purpose, ReadPoint};
 use std::io::Write;
 
 impl Reader {
-    ghost use Rattle.piper.specs.Waits.{ReaderStands};
+    ghost use Rattle.piper.specs.Waits.{ReaderRegistered};
     ghost use Rattle.piper.specs.Handles.{NotifiesWriter, SameReader, SameReaderButWaits, SameReaderButWoke, read_source};
 
     /// Moves known bytes into a writer, and answers how many that took.
@@ -49,7 +49,7 @@ impl Reader {
         ensures ended { EndIsSeen result self.old.end self.new.end }
         ensures all { EndIsTrue result self.old.end self.new.end }
         ensures same { KnowsEnd self.old.end → self.new.end.all ≡ self.old.end.all }
-        ensures behind { IsEnded self.old.end →
+        ensures after { IsEnded self.old.end →
             TakesNone result (IsEnded self.new.end) self.old.end.taken self.new.end.taken }
         ensures waits { EndIsUnseen result self.old.end self.new.end }
         ensures draws { Draws (0 < found_len self.old.end self.new.end) result
@@ -59,7 +59,7 @@ impl Reader {
         ensures woke { NotifiesWriter self.old → NotifiesWriter self.new }
         ensures slots { self.new.slots ≡ self.old.slots }
         ensures covered { OnPending result (Covers cx.new (λ s. s ≡ read_source self.old)) }
-        ensures stands { OnPending result (ReaderStands self.old self.new cx.new) }
+        ensures registered { OnPending result (ReaderRegistered self.old self.new cx.new) }
         ensures kept { Keeps cx.old cx.new }
     {
         let mut dest = StdWrite::new(dest);
@@ -90,7 +90,7 @@ impl Reader {
         ensures ended { EndIsSeen result self.old.end self.new.end }
         ensures all { EndIsTrue result self.old.end self.new.end }
         ensures same { KnowsEnd self.old.end → self.new.end.all ≡ self.old.end.all }
-        ensures behind { IsEnded self.old.end →
+        ensures after { IsEnded self.old.end →
             TakesNone result (IsEnded self.new.end) self.old.end.taken self.new.end.taken }
         ensures waits { EndIsUnseen result self.old.end self.new.end }
         ensures draws { Draws (0 < found_len self.old.end self.new.end) result
@@ -101,7 +101,7 @@ impl Reader {
         ensures woke { NotifiesWriter self.old → NotifiesWriter self.new }
         ensures slots { self.new.slots ≡ self.old.slots }
         ensures covered { OnPending result (Covers cx.new (λ s. s ≡ read_source self.old)) }
-        ensures stands { OnPending result (ReaderStands self.old self.new cx.new) }
+        ensures registered { OnPending result (ReaderRegistered self.old self.new cx.new) }
         ensures kept { Keeps cx.old cx.new }
     {
         let mut bytes = WriteBytes::new(dest);
@@ -156,14 +156,14 @@ impl Reader {
         ensures ended { EndIsSeen result self.old.end self.new.end }
         ensures all { EndIsTrue result self.old.end self.new.end }
         ensures same { KnowsEnd self.old.end → self.new.end.all ≡ self.old.end.all }
-        ensures behind { IsEnded self.old.end →
+        ensures after { IsEnded self.old.end →
             TakesNone result (IsEnded self.new.end) self.old.end.taken self.new.end.taken }
         ensures waits { EndIsUnseen result self.old.end self.new.end }
         ensures draws { IsSome cx.entry →
             Draws (0 < found_len self.old.end self.new.end) result self.old.rng self.new.rng }
         ensures undrawn { cx.entry ≡ None →
             Undrawn (0 < found_len self.old.end self.new.end) result self.old.rng self.new.rng }
-        ensures place { cx.entry ≡ None → SameReaderPlace self.old.waiting self.new.waiting }
+        ensures place { cx.entry ≡ None → SameReaderPlace self.old.registrations self.new.registrations }
         ensures granted { cx.entry ≡ None → OnMemory result ⊥ }
         ensures woke { NotifiesWriter self.old → NotifiesWriter self.new }
         ensures slots { self.new.slots ≡ self.old.slots }
@@ -171,8 +171,8 @@ impl Reader {
             DrainYields result self.old.end self.new.end left) }
         ensures refused { IfGiven cx.entry cx.exit (LacksWaker result) }
         ensures covered { IfGiven cx.entry cx.exit (Arms result (read_source self.old)) }
-        ensures stands { IfGiven cx.entry cx.exit (λ _ left.
-            OnPending result (ReaderStands self.old self.new left)) }
+        ensures registered { IfGiven cx.entry cx.exit (λ _ left.
+            OnPending result (ReaderRegistered self.old self.new left)) }
         ensures kept { IfGiven cx.entry cx.exit Keeps }
     {
         match cx {
@@ -203,7 +203,7 @@ impl Reader {
         ensures woke { NotifiesWriter self.old → NotifiesWriter self.new }
         ensures slots { self.new.slots ≡ self.old.slots }
         ensures covered { OnPending result (Covers cx.new (λ s. s ≡ read_source self.old)) }
-        ensures stands { OnPending result (ReaderStands self.old self.new cx.new) }
+        ensures registered { OnPending result (ReaderRegistered self.old self.new cx.new) }
         ensures kept { Keeps cx.old cx.new }
     {
         let call = match self.look_to_drain(cx) {
@@ -257,8 +257,8 @@ impl Reader {
         ensures refused { IfErr result (λ told. OnMemory told (cx.new.lacks_waker ≡ true)) }
         ensures covered { IfErr result (λ told.
             OnPending told (Covers cx.new (λ s. s ≡ read_source self.old))) }
-        ensures stands { IfErr result (λ told.
-            OnPending told (ReaderStands self.old self.new cx.new)) }
+        ensures registered { IfErr result (λ told.
+            OnPending told (ReaderRegistered self.old self.new cx.new)) }
         ensures looked { ReaderLooked self.old.end self.new.end }
         ensures rest { SameReaderButWaits self.old self.new }
         ensures kept { Keeps cx.old cx.new }

@@ -3,7 +3,7 @@ ghost use Rattle.std.specs.Prelude.{◌≡◌, ℕ, ◌<◌, ◌≤◌, ◌++◌
 ghost use Rattle.futures.specs.Task.{Covers, Keeps};
 ghost use Rattle.futures.specs.Poll.{OnPending};
 ghost use Rattle.piper_ring.specs.SlotsView.{SameWriterLooks, SameWriterPlace};
-ghost use Rattle.piper_sides.specs.Table.{goes_on, writer_is_true};
+ghost use Rattle.piper_protocol.specs.Table.{goes_on, writer_is_true};
 ghost use Rattle.piper.specs.Contexts.{IfGiven, Arms, LacksWaker};
 ghost use Rattle.piper.specs.Copies.{IsReplaced, WriterCopied};
 ghost use Rattle.piper.specs.CopyAnswers.{OnMemory, CountsFailure, IsAtOnce, inner_of, inner_of_bytes};
@@ -19,14 +19,14 @@ use crate::error::{Inner, PipeError};
 use crate::handles::Writer;
 use crate::like::{ReadBytes, ReadLike, StdRead};
 use futures::task::{Context, Poll};
+use piper_protocol::scripted::MOST_A_ROUND;
+use piper_protocol::table::{Form, Purpose, WritePoint};
+use piper_protocol::write_call::WriteCall;
 use piper_ring::OutOfMemory;
-use piper_sides::scripted::MOST_A_ROUND;
-use piper_sides::table::{Form, Purpose, WritePoint};
-use piper_sides::write_call::WriteCall;
 use std::io::Read;
 
 impl Writer {
-    ghost use Rattle.piper.specs.Waits.{WriterStands};
+    ghost use Rattle.piper.specs.Waits.{WriterRegistered};
     ghost use Rattle.piper.specs.Handles.{NotifiesReader, SameWriter, SameWriterButWaits, SameWriterButWoke, write_source};
 
     /// Publishes bytes that a reader gives, and answers how many it gave.
@@ -56,7 +56,7 @@ impl Writer {
         ensures woke { NotifiesReader self.old → NotifiesReader self.new }
         ensures slots { self.new.slots ≡ self.old.slots }
         ensures covered { OnPending result (Covers cx.new (λ s. s ≡ write_source self.old)) }
-        ensures stands { OnPending result (WriterStands self.old self.new cx.new) }
+        ensures registered { OnPending result (WriterRegistered self.old self.new cx.new) }
         ensures kept { Keeps cx.old cx.new }
     {
         let mut source = StdRead::new(source);
@@ -101,7 +101,7 @@ impl Writer {
         ensures woke { NotifiesReader self.old → NotifiesReader self.new }
         ensures slots { self.new.slots ≡ self.old.slots }
         ensures covered { OnPending result (Covers cx.new (λ s. s ≡ write_source self.old)) }
-        ensures stands { OnPending result (WriterStands self.old self.new cx.new) }
+        ensures registered { OnPending result (WriterRegistered self.old self.new cx.new) }
         ensures kept { Keeps cx.old cx.new }
     {
         let mut source = ReadBytes::new(bytes);
@@ -166,7 +166,7 @@ impl Writer {
             Draws (FoundRoom result self.new.end) result self.old.rng self.new.rng }
         ensures undrawn { cx.entry ≡ None →
             Undrawn (FoundRoom result self.new.end) result self.old.rng self.new.rng }
-        ensures place { cx.entry ≡ None → SameWriterPlace self.old.waiting self.new.waiting }
+        ensures place { cx.entry ≡ None → SameWriterPlace self.old.registrations self.new.registrations }
         ensures granted { cx.entry ≡ None → OnMemory result ⊥ }
         ensures lent { self.new.end.lent ≡ [] }
         ensures woke { NotifiesReader self.old → NotifiesReader self.new }
@@ -174,8 +174,8 @@ impl Writer {
         ensures yields { IfGiven cx.entry cx.exit (λ _ left. FillYields result self.new.end left) }
         ensures refused { IfGiven cx.entry cx.exit (LacksWaker result) }
         ensures covered { IfGiven cx.entry cx.exit (Arms result (write_source self.old)) }
-        ensures stands { IfGiven cx.entry cx.exit (λ _ left.
-            OnPending result (WriterStands self.old self.new left)) }
+        ensures registered { IfGiven cx.entry cx.exit (λ _ left.
+            OnPending result (WriterRegistered self.old self.new left)) }
         ensures kept { IfGiven cx.entry cx.exit Keeps }
     {
         match cx {
@@ -210,7 +210,7 @@ impl Writer {
         ensures woke { NotifiesReader self.old → NotifiesReader self.new }
         ensures slots { self.new.slots ≡ self.old.slots }
         ensures covered { OnPending result (Covers cx.new (λ s. s ≡ write_source self.old)) }
-        ensures stands { OnPending result (WriterStands self.old self.new cx.new) }
+        ensures registered { OnPending result (WriterRegistered self.old self.new cx.new) }
         ensures kept { Keeps cx.old cx.new }
     {
         let call = match self.look_to_fill(cx) {
@@ -259,8 +259,8 @@ impl Writer {
         ensures refused { IfErr result (λ told. OnMemory told (cx.new.lacks_waker ≡ true)) }
         ensures covered { IfErr result (λ told.
             OnPending told (Covers cx.new (λ s. s ≡ write_source self.old))) }
-        ensures stands { IfErr result (λ told.
-            OnPending told (WriterStands self.old self.new cx.new)) }
+        ensures registered { IfErr result (λ told.
+            OnPending told (WriterRegistered self.old self.new cx.new)) }
         ensures looked { WriterLooked self.old.end self.new.end }
         ensures rest { SameWriterButWaits self.old self.new }
         ensures kept { Keeps cx.old cx.new }

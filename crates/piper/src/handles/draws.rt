@@ -1,13 +1,13 @@
 //! The draw of a polling copy, which makes it yield once in a hundred calls.
 ghost use Rattle.std.specs.Prelude.{◌≡◌, ◌↔◌, IsTrue, false};
-ghost use Rattle.piper_sides.specs.Table.{reader_is_true, writer_is_true};
+ghost use Rattle.piper_protocol.specs.Table.{reader_is_true, writer_is_true};
 ghost use Rattle.piper_ring.specs.SlotsView.{SameReaderLooks, SameWriterLooks};
 ghost use Rattle.piper.specs.Draws.{DrawsYield, drawn_from};
 
 use super::{Reader, Writer};
-use piper_sides::read_call::ReadCall;
-use piper_sides::table::{Form, Purpose, ReadPoint, WritePoint};
-use piper_sides::write_call::WriteCall;
+use piper_protocol::read_call::ReadCall;
+use piper_protocol::table::{Form, Purpose, ReadPoint, WritePoint};
+use piper_protocol::write_call::WriteCall;
 use rand_core::utils::NextWord;
 use rand_pcg::Pcg32;
 
@@ -21,10 +21,10 @@ impl Reader {
         ensures draw { IsTrue result.1 ↔ DrawsYield self.old.rng }
         ensures rng { self.new.rng ≡ drawn_from self.old.rng }
         ensures slots { self.new.slots ≡ self.old.slots }
-        ensures looks { SameReaderLooks self.old.waiting self.new.waiting }
+        ensures looks { SameReaderLooks self.old.registrations self.new.registrations }
         ensures end { self.new.end ≡ self.old.end }
     {
-        if self.waiting.may_stand() {
+        if self.registrations.maybe_registered() {
             self.let_own_go();
         }
         let yields = draw(&mut self.rng);
@@ -42,10 +42,10 @@ impl Writer {
         ensures draw { IsTrue result.1 ↔ DrawsYield self.old.rng }
         ensures rng { self.new.rng ≡ drawn_from self.old.rng }
         ensures slots { self.new.slots ≡ self.old.slots }
-        ensures looks { SameWriterLooks self.old.waiting self.new.waiting }
+        ensures looks { SameWriterLooks self.old.registrations self.new.registrations }
         ensures end { self.new.end ≡ self.old.end }
     {
-        if self.waiting.may_stand() {
+        if self.registrations.maybe_registered() {
             self.let_own_go();
         }
         let yields = draw(&mut self.rng);

@@ -7,7 +7,7 @@ ghost use Rattle.piper.specs.Ends.{ReaderRefreshed, ReaderHeeded, WriterRefreshe
 ghost use Rattle.piper.specs.Handles.{NotifiesReader, NotifiesWriter};
 
 use super::{Reader, Writer};
-use crate::left::{LeftReader, LeftWriter};
+use crate::finished::{FinishedReader, FinishedWriter};
 use piper_ring::{LastReadMark, ReadEnd, ReadMark, WriteEnd, WriteMark};
 
 impl Reader {
@@ -57,24 +57,27 @@ impl Reader {
         ensures same { KnowsEnd self.old.end → self.new.end.all ≡ self.old.end.all }
         ensures reader { ReaderRefreshed self.old.end self.new.end }
         ensures writer { WriterRefreshed other.old.end other.new.end }
-        ensures reader_woken { IsPending self.old.end self.old.waiting → NotifiesReader other.old
+        ensures reader_woken { IsPending self.old.end self.old.registrations → NotifiesReader other.old
             → ReaderIsRemembered self.old self.new other.old }
-        ensures writer_woken { IsWriterPending other.old.end other.old.waiting
+        ensures writer_woken { IsWriterPending other.old.end other.old.registrations
             → NotifiesWriter self.old → WriterIsRemembered other.old other.new self.old }
         ensures rest { SameReader self.old self.new × SameWriter other.old other.new }
     {
         other.end.learn();
-        self.end
-            .meet_slots(&mut self.waiting, &other.end, &mut other.waiting);
+        self.end.meet_slots(
+            &mut self.registrations,
+            &other.end,
+            &mut other.registrations,
+        );
         self.end.meet(&mut other.end);
     }
 
     /// Takes in what is left of the writer that was dropped: `heed` of its last mark. And it was not
     /// forgotten: where it waits in its slot, the writer took and woke its waker as it left.
-    pub fn meet_left(&mut self, left: &mut LeftWriter)
+    pub fn meet_finished(&mut self, left: &mut FinishedWriter)
         requires { left.old.told.names ≡ self.old.end.ring.1.1 }
-        ensures woken { IsPending self.old.end self.old.waiting
-            → left.old.waiting.taken ≡ self.old.waiting.tickets }
+        ensures woken { IsPending self.old.end self.old.registrations
+            → left.old.registrations.taken ≡ self.old.registrations.tickets }
         ensures told { self.new.end.told ≡ max self.old.end.told (length left.old.told.bytes) }
         ensures shut { self.new.end.told_shut ≡ true }
         ensures agree { Agree (self.new.end.taken ++ self.new.end.known) left.old.told.bytes }
@@ -83,7 +86,8 @@ impl Reader {
         ensures rest { SameReader self.old self.new }
         ensures kept { left.new ≡ left.old }
     {
-        self.end.meet_left(&mut self.waiting, &mut left.waiting);
+        self.end
+            .meet_finished(&mut self.registrations, &mut left.registrations);
         self.end.heed(&left.told);
     }
 }
@@ -125,17 +129,18 @@ impl Writer {
 
     /// Takes in what is left of the reader that was dropped: `heed_last` of its last mark. And it
     /// was not forgotten: where it waits in its slot, the reader took and woke its waker as it left.
-    pub fn meet_left(&mut self, left: &mut LeftReader)
+    pub fn meet_finished(&mut self, left: &mut FinishedReader)
         requires { left.old.told.consumed.names ≡ self.old.end.ring.1.1 }
-        ensures woken { IsWriterPending self.old.end self.old.waiting
-            → left.old.waiting.taken ≡ self.old.waiting.tickets }
+        ensures woken { IsWriterPending self.old.end self.old.registrations
+            → left.old.registrations.taken ≡ self.old.registrations.tickets }
         ensures saw { self.new.end.saw ≡ true }
         ensures told { self.new.end.told ≡ max self.old.end.told left.old.told.consumed.count }
         ensures end { SameButHeard self.old.end self.new.end }
         ensures rest { SameWriter self.old self.new }
         ensures kept { left.new ≡ left.old }
     {
-        self.end.meet_left(&mut self.waiting, &mut left.waiting);
+        self.end
+            .meet_finished(&mut self.registrations, &mut left.registrations);
         self.end.heed_last(&left.told);
     }
 

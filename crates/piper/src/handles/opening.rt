@@ -39,13 +39,13 @@ pub fn pipe(alloc: Global, cap: usize, seed: u64) -> Result<(Reader, Writer), Ou
     )?;
     let reader = Reader {
         end: read_end,
-        waiting: read_slots,
+        registrations: read_slots,
         slots: reader_slots,
         rng: Pcg32::seed_from_u64(seed),
     };
     let writer = Writer {
         end: write_end,
-        waiting: write_slots,
+        registrations: write_slots,
         slots,
         rng: Pcg32::seed_from_u64(seed ^ 1),
     };

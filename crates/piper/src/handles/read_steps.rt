@@ -2,7 +2,7 @@
 //! a slot and takes the open call one step on.
 ghost use Rattle.std.specs.Prelude.{◌≡◌, ◌<◌, ◌≤◌, ◌++◌, ◌↔◌, ◌⊎◌, length, take, drop, IsTrue, IsFalse, true, false};
 ghost use Rattle.futures.specs.Task.{Covers, Keeps};
-ghost use Rattle.piper_sides.specs.Table.{goes_on, read_action, read_step, reader_draws_behind, reader_looks_for};
+ghost use Rattle.piper_protocol.specs.Table.{goes_on, read_action, read_step, reader_draws_after, reader_looks_for};
 ghost use Rattle.piper_ring.specs.ReadView.{KnowsEnd, in_one_piece};
 ghost use Rattle.piper_ring.specs.Shared.{flag};
 ghost use Rattle.piper_ring.specs.SlotsView.{Registers};
@@ -12,14 +12,14 @@ ghost use Rattle.piper.specs.Ends.{HasAll, IsEnded, ReaderIsUpToDate, ReaderRefr
 
 use super::Reader;
 use crate::answers::read_wake;
-use crate::left::LeftReader;
+use crate::finished::FinishedReader;
 use crate::slot::Taken;
 use futures::task::{Context, Poll, Waker};
+use piper_protocol::calls::Side;
+use piper_protocol::memory::OutOfMemory;
+use piper_protocol::read_call::ReadCall;
+use piper_protocol::table::{Action, Found, Purpose, ReadPoint};
 use piper_ring::{LastReadMark, ReadMark};
-use piper_sides::calls::Side;
-use piper_sides::memory::OutOfMemory;
-use piper_sides::read_call::ReadCall;
-use piper_sides::table::{Action, Found, Purpose, ReadPoint};
 
 impl Reader {
     ghost use Rattle.piper.specs.Handles.{NotifiesWriter, SameReader, SameReaderButWaits, SameReaderButWoke, read_source};
@@ -41,7 +41,7 @@ impl Reader {
         requires none { length self.old.end.known ≡ 0 }
         ensures step { result.0 ≡ read_step call.point (Found.Refreshed result.1) }
         ensures none { IsTrue result.1 ↔ (length self.new.end.known ≡ 0) }
-        ensures behind { length self.old.waiting.bytes
+        ensures after { length self.old.registrations.bytes
             ≤ length (self.new.end.taken ++ self.new.end.known) }
         ensures fresh { ReaderIsUpToDate self.new.end }
         ensures all { KnowsEnd self.old.end → HasAll self.old.end self.new.end }
@@ -49,7 +49,7 @@ impl Reader {
         ensures end { ReaderRefreshed self.old.end self.new.end }
         ensures rest { SameReader self.old self.new }
     {
-        self.end.reload_behind(&self.waiting);
+        self.end.reload_after(&self.registrations);
         let none = self.end.knows_none();
         (call.refreshed(none), none)
     }
@@ -60,14 +60,14 @@ impl Reader {
         requires next { read_action call.point ≡ Action.LoadClosed }
         ensures step { result.0 ≡ read_step call.point (Found.Flag result.1) }
         ensures saw { result.1 ≡ self.new.end.saw }
-        ensures behind { flag self.old.waiting.shut ≤ flag self.new.end.saw }
+        ensures after { flag self.old.registrations.shut ≤ flag self.new.end.saw }
         ensures told { flag self.old.end.told_shut ≤ flag self.new.end.saw }
         ensures all { KnowsEnd self.old.end → self.new.end.all ≡ self.old.end.all }
         ensures stays { IsEnded self.old.end → IsEnded self.new.end }
         ensures end { ReaderSaw self.old.end self.new.end }
         ensures rest { SameReader self.old self.new }
     {
-        let is_closed = self.end.look_closed_behind(&self.waiting);
+        let is_closed = self.end.look_closed_after(&self.registrations);
         (call.loaded_closed(is_closed), is_closed)
     }
 
@@ -78,38 +78,39 @@ impl Reader {
         requires next { read_action call.point ≡ Action.Register }
         ensures step { result.0 ≡ read_step call.point (Found.Granted result.1) }
         ensures covered { Covers cx.new (λ s. s ≡ read_source self.old) }
-        ensures stands { IsTrue result.1 →
-            Registers self.old.waiting self.new.waiting ⊎ AsksAgain cx.new }
+        ensures registered { IsTrue result.1 →
+            Registers self.old.registrations self.new.registrations ⊎ AsksAgain cx.new }
         ensures refused { IsFalse result.1 → cx.new.lacks_waker ≡ true }
         ensures kept { Keeps cx.old cx.new }
         ensures end { self.new.end ≡ self.old.end }
         ensures rest { SameReaderButWaits self.old self.new }
     {
-        let is_granted = self.stand(cx);
+        let is_granted = self.register_or_yield(cx);
         (call.registered(is_granted), is_granted)
     }
 
     /// Stands in the reader's slot, as `register` says. It takes no open call, which would then lie
     /// in memory.
     #[inline(never)]
-    fn stand(&mut self, cx: &mut Context<'_>) -> bool
+    fn register_or_yield(&mut self, cx: &mut Context<'_>) -> bool
         ensures covered { Covers cx.new (λ s. s ≡ read_source self.old) }
-        ensures stands { IsTrue result →
-            Registers self.old.waiting self.new.waiting ⊎ AsksAgain cx.new }
+        ensures registered { IsTrue result →
+            Registers self.old.registrations self.new.registrations ⊎ AsksAgain cx.new }
         ensures refused { IsFalse result → cx.new.lacks_waker ≡ true }
         ensures kept { Keeps cx.old cx.new }
         ensures end { self.new.end ≡ self.old.end }
         ensures rest { SameReaderButWaits self.old self.new }
     {
-        let held = self.take_back();
-        if !self.waiting.has_place() {
+        let held = self.reclaim_waker();
+        if !self.registrations.has_place() {
             let _pending: Poll<()> = cx.yield_now();
             return true;
         }
         let slot = &self.slots.reader;
         match slot.grant(cx, held) {
             Ok(waker) => {
-                self.end.hand_over(&mut self.waiting, &slot.place, waker);
+                self.end
+                    .publish_waker(&mut self.registrations, &slot.place, waker);
                 true
             }
             Err(OutOfMemory) => false,
@@ -118,30 +119,30 @@ impl Reader {
 
     /// Takes the place of the reader's waker back, where the writer doesn't have it just now, and
     /// the waker that still stands there.
-    pub(crate) fn take_back(&mut self) -> Option<Waker>
-        ensures waiting { self.new.waiting
-            ≡ record self.old.waiting { owns = self.new.waiting.owns } }
+    pub(crate) fn reclaim_waker(&mut self) -> Option<Waker>
+        ensures registrations { self.new.registrations
+            ≡ record self.old.registrations { owns = self.new.registrations.owns } }
         ensures end { self.new.end ≡ self.old.end }
         ensures rest { SameReaderButWaits self.old self.new }
     {
         // Who was woken finds the place handed back: so that is asked first.
-        if self.end.regain(&mut self.waiting) {
+        if self.end.reclaim(&mut self.registrations) {
             return None;
         }
         self.end
-            .withdraw(&mut self.waiting, &self.slots.reader.place)
+            .cancel(&mut self.registrations, &self.slots.reader.place)
     }
 
     /// Empties the reader's slot behind the look of a poll, unless its place is known to be empty.
     #[inline(always)]
     pub(crate) fn take_own(&mut self, call: ReadCall) -> ReadCall
         requires next { read_action call.point ≡ Action.Take Side.Reader }
-        requires poll { reader_draws_behind call.point ≡ false }
+        requires poll { reader_draws_after call.point ≡ false }
         ensures step { result ≡ read_step call.point Found.Nothing }
         ensures end { self.new.end ≡ self.old.end }
         ensures rest { SameReaderButWaits self.old self.new }
     {
-        if self.waiting.may_stand() {
+        if self.registrations.maybe_registered() {
             self.let_own_go();
         }
         call.took_own()
@@ -154,8 +155,8 @@ impl Reader {
         ensures end { self.new.end ≡ self.old.end }
         ensures rest { SameReaderButWaits self.old self.new }
     {
-        if self.end.stands(&mut self.waiting) {
-            Taken::new(self.take_back()).let_go();
+        if self.end.registered(&mut self.registrations) {
+            Taken::new(self.reclaim_waker()).discard();
         }
     }
 
@@ -185,7 +186,7 @@ impl Reader {
         ensures end { self.new.end ≡ self.old.end }
         ensures rest { SameReaderButWoke self.old self.new }
     {
-        if self.end.finds_none(&mut self.waiting) {
+        if self.end.nobody_waits(&mut self.registrations) {
             return call.took_writer(false);
         }
         self.take_and_wake_writer(call)
@@ -210,22 +211,22 @@ impl Reader {
     #[inline(never)]
     fn take_writer(&mut self) -> Taken
         ensures none { found_in result ≡ false →
-            self.new.waiting.taken ≡ self.old.waiting.taken }
+            self.new.registrations.taken ≡ self.old.registrations.taken }
         ensures some { found_in result ≡ true →
-            self.old.waiting.taken < self.new.waiting.taken }
+            self.old.registrations.taken < self.new.registrations.taken }
         ensures woke { NotifiesWriter self.new }
         ensures end { self.new.end ≡ self.old.end }
         ensures rest { SameReaderButWoke self.old self.new }
     {
         let place = &self.slots.writer.place;
-        let waker = self.end.take(&mut self.waiting, place);
+        let waker = self.end.take(&mut self.registrations, place);
         Taken::new(waker)
     }
 
     /// Stores closed as it lets the end go, and takes who stands in the writer's slot: the two
     /// steps are made in one, since between them there is no handle. With what was taken comes
     /// what is left of the reader.
-    pub(crate) fn close_and_take(self, call: ReadCall) -> (ReadCall, Taken, LeftReader)
+    pub(crate) fn close_and_take(self, call: ReadCall) -> (ReadCall, Taken, FinishedReader)
         requires next { read_action call.point ≡ Action.StoreClosed false }
         requires then { read_action (read_step call.point Found.Nothing).point
             ≡ Action.Take Side.Writer }
@@ -233,21 +234,21 @@ impl Reader {
             (Found.Waker (found_in result.1)) }
         ensures ring { result.2.told.consumed.names ≡ self.end.ring.1.1 }
         ensures count { result.2.told.consumed.count ≡ length self.end.taken }
-        ensures woke { result.2.waiting.count ≡ length self.end.taken }
+        ensures woke { result.2.registrations.count ≡ length self.end.taken }
     {
         let Reader {
             end,
-            mut waiting,
+            mut registrations,
             slots,
             rng: _,
         } = self;
         let call = call.stored_closed();
-        let (last, waker) = end.finish_waking(&mut waiting, &slots.writer.place);
+        let (last, waker) = end.finish_waking(&mut registrations, &slots.writer.place);
         let taken = Taken::new(waker);
         (
             call.took_writer(taken.is_found()),
             taken,
-            LeftReader::new(last, waiting),
+            FinishedReader::new(last, registrations),
         )
     }
 }

@@ -2,7 +2,7 @@
 //! a slot and takes the open call one step on.
 ghost use Rattle.std.specs.Prelude.{◌≡◌, ◌+◌, ◌<◌, ◌≤◌, ◌++◌, ◌↔◌, ◌⊎◌, length, take, drop, IsTrue, IsFalse, true, false};
 ghost use Rattle.futures.specs.Task.{Covers, Keeps};
-ghost use Rattle.piper_sides.specs.Table.{begins_look, look_begun, write_action, write_step};
+ghost use Rattle.piper_protocol.specs.Table.{begins_look, look_begun, write_action, write_step};
 ghost use Rattle.piper_ring.specs.Shared.{flag};
 ghost use Rattle.piper_ring.specs.SlotsView.{WriterRegisters};
 ghost use Rattle.piper.specs.Contexts.{AsksAgain};
@@ -11,14 +11,14 @@ ghost use Rattle.piper.specs.Ends.{WriterIsUpToDate, WriterRefreshed, WriterSaw,
 
 use super::Writer;
 use crate::answers::write_wake;
-use crate::left::LeftWriter;
+use crate::finished::FinishedWriter;
 use crate::slot::Taken;
 use futures::task::{Context, Poll, Waker};
+use piper_protocol::calls::Side;
+use piper_protocol::memory::OutOfMemory;
+use piper_protocol::table::{Action, Found, Purpose, WritePoint};
+use piper_protocol::write_call::WriteCall;
 use piper_ring::WriteMark;
-use piper_sides::calls::Side;
-use piper_sides::memory::OutOfMemory;
-use piper_sides::table::{Action, Found, Purpose, WritePoint};
-use piper_sides::write_call::WriteCall;
 
 impl Writer {
     ghost use Rattle.piper.specs.Handles.{NotifiesReader, SameWriter, SameWriterButWaits, SameWriterButWoke, write_source};
@@ -51,13 +51,13 @@ impl Writer {
         requires open { self.old.end.saw ≡ false }
         ensures step { result.0 ≡ write_step call.point (Found.Flag result.1) }
         ensures saw { result.1 ≡ self.new.end.saw }
-        ensures behind { flag self.old.waiting.over ≤ flag self.new.end.saw }
+        ensures after { flag self.old.registrations.over ≤ flag self.new.end.saw }
         ensures shut { self.new.end.shut ≡ true → self.new.end.saw ≡ true }
         ensures end { WriterSaw self.old.end self.new.end }
         ensures rest { SameWriter self.old self.new }
     {
         self.end.learn();
-        let is_closed = self.end.look_closed_behind(&self.waiting);
+        let is_closed = self.end.look_closed_after(&self.registrations);
         (call.loaded_closed(is_closed), is_closed)
     }
 
@@ -68,13 +68,13 @@ impl Writer {
         requires none { self.old.end.room ≡ 0 }
         ensures step { result.0 ≡ write_step call.point (Found.Refreshed result.1) }
         ensures none { IsTrue result.1 ↔ (self.new.end.room ≡ 0) }
-        ensures behind { self.old.waiting.count + self.old.end.capacity
+        ensures after { self.old.registrations.count + self.old.end.capacity
             ≤ length self.new.end.sent + self.new.end.room }
         ensures fresh { WriterIsUpToDate self.new.end }
         ensures end { WriterRefreshed self.old.end self.new.end }
         ensures rest { SameWriter self.old self.new }
     {
-        self.end.reload_behind(&self.waiting);
+        self.end.reload_after(&self.registrations);
         let none = self.end.knows_none();
         (call.refreshed(none), none)
     }
@@ -86,38 +86,39 @@ impl Writer {
         requires next { write_action call.point ≡ Action.Register }
         ensures step { result.0 ≡ write_step call.point (Found.Granted result.1) }
         ensures covered { Covers cx.new (λ s. s ≡ write_source self.old) }
-        ensures stands { IsTrue result.1 →
-            WriterRegisters self.old.waiting self.new.waiting ⊎ AsksAgain cx.new }
+        ensures registered { IsTrue result.1 →
+            WriterRegisters self.old.registrations self.new.registrations ⊎ AsksAgain cx.new }
         ensures refused { IsFalse result.1 → cx.new.lacks_waker ≡ true }
         ensures kept { Keeps cx.old cx.new }
         ensures end { self.new.end ≡ self.old.end }
         ensures rest { SameWriterButWaits self.old self.new }
     {
-        let is_granted = self.stand(cx);
+        let is_granted = self.register_or_yield(cx);
         (call.registered(is_granted), is_granted)
     }
 
     /// Stands in the writer's slot, as `register` says. It takes no open call, which would then lie
     /// in memory.
     #[inline(never)]
-    fn stand(&mut self, cx: &mut Context<'_>) -> bool
+    fn register_or_yield(&mut self, cx: &mut Context<'_>) -> bool
         ensures covered { Covers cx.new (λ s. s ≡ write_source self.old) }
-        ensures stands { IsTrue result →
-            WriterRegisters self.old.waiting self.new.waiting ⊎ AsksAgain cx.new }
+        ensures registered { IsTrue result →
+            WriterRegisters self.old.registrations self.new.registrations ⊎ AsksAgain cx.new }
         ensures refused { IsFalse result → cx.new.lacks_waker ≡ true }
         ensures kept { Keeps cx.old cx.new }
         ensures end { self.new.end ≡ self.old.end }
         ensures rest { SameWriterButWaits self.old self.new }
     {
-        let held = self.take_back();
-        if !self.waiting.has_place() {
+        let held = self.reclaim_waker();
+        if !self.registrations.has_place() {
             let _pending: Poll<()> = cx.yield_now();
             return true;
         }
         let slot = &self.slots.writer;
         match slot.grant(cx, held) {
             Ok(waker) => {
-                self.end.hand_over(&mut self.waiting, &slot.place, waker);
+                self.end
+                    .publish_waker(&mut self.registrations, &slot.place, waker);
                 true
             }
             Err(OutOfMemory) => false,
@@ -126,18 +127,18 @@ impl Writer {
 
     /// Takes the place of the writer's waker back, where the reader doesn't have it just now, and
     /// the waker that still stands there.
-    pub(crate) fn take_back(&mut self) -> Option<Waker>
-        ensures waiting { self.new.waiting
-            ≡ record self.old.waiting { owns = self.new.waiting.owns } }
+    pub(crate) fn reclaim_waker(&mut self) -> Option<Waker>
+        ensures registrations { self.new.registrations
+            ≡ record self.old.registrations { owns = self.new.registrations.owns } }
         ensures end { self.new.end ≡ self.old.end }
         ensures rest { SameWriterButWaits self.old self.new }
     {
         // Who was woken finds the place handed back: so that is asked first.
-        if self.end.regain(&mut self.waiting) {
+        if self.end.reclaim(&mut self.registrations) {
             return None;
         }
         self.end
-            .withdraw(&mut self.waiting, &self.slots.writer.place)
+            .cancel(&mut self.registrations, &self.slots.writer.place)
     }
 
     /// Empties the writer's slot behind the look of a poll, unless its place is known to be empty.
@@ -148,7 +149,7 @@ impl Writer {
         ensures end { self.new.end ≡ self.old.end }
         ensures rest { SameWriterButWaits self.old self.new }
     {
-        if self.waiting.may_stand() {
+        if self.registrations.maybe_registered() {
             self.let_own_go();
         }
         call.took_own(false)
@@ -161,8 +162,8 @@ impl Writer {
         ensures end { self.new.end ≡ self.old.end }
         ensures rest { SameWriterButWaits self.old self.new }
     {
-        if self.end.stands(&mut self.waiting) {
-            Taken::new(self.take_back()).let_go();
+        if self.end.registered(&mut self.registrations) {
+            Taken::new(self.reclaim_waker()).discard();
         }
     }
 
@@ -173,7 +174,7 @@ impl Writer {
         ensures end { self.new.end ≡ self.old.end }
         ensures rest { SameWriterButWaits self.old self.new }
     {
-        let taken = Taken::new(self.take_back());
+        let taken = Taken::new(self.reclaim_waker());
         write_wake(call.took_own(taken.is_found()), taken)
     }
 
@@ -223,7 +224,7 @@ impl Writer {
         ensures end { self.new.end ≡ self.old.end }
         ensures rest { SameWriterButWoke self.old self.new }
     {
-        if self.end.finds_none(&mut self.waiting) {
+        if self.end.nobody_waits(&mut self.registrations) {
             return call.took_reader(false);
         }
         self.take_and_wake_reader(call)
@@ -248,22 +249,22 @@ impl Writer {
     #[inline(never)]
     fn take_reader(&mut self) -> Taken
         ensures none { found_in result ≡ false →
-            self.new.waiting.taken ≡ self.old.waiting.taken }
+            self.new.registrations.taken ≡ self.old.registrations.taken }
         ensures some { found_in result ≡ true →
-            self.old.waiting.taken < self.new.waiting.taken }
+            self.old.registrations.taken < self.new.registrations.taken }
         ensures woke { NotifiesReader self.new }
         ensures end { self.new.end ≡ self.old.end }
         ensures rest { SameWriterButWoke self.old self.new }
     {
         let place = &self.slots.reader.place;
-        let waker = self.end.take(&mut self.waiting, place);
+        let waker = self.end.take(&mut self.registrations, place);
         Taken::new(waker)
     }
 
     /// Stores closed as it lets the end go, and takes who stands in the reader's slot: the two
     /// steps are made in one, since between them there is no handle. With what was taken comes
     /// what is left of the writer.
-    pub(crate) fn close_and_take(self, call: WriteCall) -> (WriteCall, Taken, LeftWriter)
+    pub(crate) fn close_and_take(self, call: WriteCall) -> (WriteCall, Taken, FinishedWriter)
         requires next { write_action call.point ≡ Action.StoreClosed false }
         requires then { write_action (write_step call.point Found.Nothing).point
             ≡ Action.Take Side.Reader }
@@ -272,21 +273,21 @@ impl Writer {
         ensures ring { result.2.told.names ≡ self.end.ring.1.1 }
         ensures bytes { result.2.told.bytes ≡ self.end.sent }
         ensures shut { result.2.told.shut ≡ true }
-        ensures woke { result.2.waiting.bytes ≡ self.end.sent }
+        ensures woke { result.2.registrations.bytes ≡ self.end.sent }
     {
         let Writer {
             end,
-            mut waiting,
+            mut registrations,
             slots,
             rng: _,
         } = self;
         let call = call.stored_closed(false);
-        let (last, waker) = end.finish_waking(&mut waiting, &slots.reader.place);
+        let (last, waker) = end.finish_waking(&mut registrations, &slots.reader.place);
         let taken = Taken::new(waker);
         (
             call.took_reader(taken.is_found()),
             taken,
-            LeftWriter::new(last, waiting),
+            FinishedWriter::new(last, registrations),
         )
     }
 }

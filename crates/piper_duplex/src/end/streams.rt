@@ -14,8 +14,8 @@ ghost use Rattle.piper.specs.Handles.{NotifiesReader, NotifiesWriter, read_sourc
 ghost use Rattle.piper.specs.Looks.{ReaderLooked};
 ghost use Rattle.piper.specs.Polls.{Reads, TakesNone, Writes, IfReadyOk, IfReadyErr};
 ghost use Rattle.piper.specs.ReadView.{KnowsEnd, in_one_piece};
-ghost use Rattle.piper.specs.Waits.{ReaderStands, WriterStands};
-ghost use Rattle.piper_duplex.specs.Crosswise.{OnlyReads, OnlyWrites, LendsPiece, StandsAndWoke};
+ghost use Rattle.piper.specs.Waits.{ReaderRegistered, WriterRegistered};
+ghost use Rattle.piper_duplex.specs.Crosswise.{OnlyReads, OnlyWrites, LendsPiece, RegisteredAndWoke};
 
 use super::End;
 use futures::task::{Context, Poll};
@@ -40,7 +40,7 @@ impl AsyncRead for End {
             self.old.reader.end.taken self.new.reader.end.taken self.new.reader.end.saw }
         ensures end { result ≡ Poll.Ready (Ok 0) → 0 < length dest.old →
             IsEnded self.new.reader.end }
-        ensures behind { IsEnded self.old.reader.end → TakesNone result
+        ensures after { IsEnded self.old.reader.end → TakesNone result
             (IsEnded self.new.reader.end) self.old.reader.end.taken self.new.reader.end.taken }
         ensures all { EndIsTrue result self.old.reader.end self.new.reader.end }
         ensures same { KnowsEnd self.old.reader.end →
@@ -60,7 +60,7 @@ impl AsyncRead for End {
         ensures stays { self.old.reader.end.saw ≡ true → self.new.reader.end.saw ≡ true }
         ensures woke { NotifiesWriter self.old.reader → NotifiesWriter self.new.reader }
         ensures covered { OnPending result (Covers cx.new (λ s. s ≡ read_source self.new.reader)) }
-        ensures stands { OnPending result (ReaderStands self.old.reader self.new.reader cx.new) }
+        ensures registered { OnPending result (ReaderRegistered self.old.reader self.new.reader cx.new) }
         ensures kept { Keeps cx.old cx.new }
         ensures rest { OnlyReads self.old self.new }
     {
@@ -95,7 +95,7 @@ impl AsyncBufRead for End {
         // said of the end as it is once the slice is given back
         ensures* lent { sem 𝓛 (Rests the_row self.entry
             (λ new. OnlyReads self.old new × ReaderLooked self.old.reader.end new.reader.end
-            × StandsAndWoke result self.old new cx.new × LendsPiece result self.old new cx.new)) }
+            × RegisteredAndWoke result self.old new cx.new × LendsPiece result self.old new cx.new)) }
         ensures kept { Keeps cx.old cx.new }
     {
         match self.reader.poll(cx) {
@@ -152,7 +152,7 @@ impl AsyncWrite for End {
         ensures stays { self.old.writer.end.saw ≡ true → self.new.writer.end.saw ≡ true }
         ensures woke { NotifiesReader self.old.writer → NotifiesReader self.new.writer }
         ensures covered { OnPending result (Covers cx.new (λ s. s ≡ write_source self.new.writer)) }
-        ensures stands { OnPending result (WriterStands self.old.writer self.new.writer cx.new) }
+        ensures registered { OnPending result (WriterRegistered self.old.writer self.new.writer cx.new) }
         ensures kept { Keeps cx.old cx.new }
         ensures rest { OnlyWrites self.old self.new }
     {

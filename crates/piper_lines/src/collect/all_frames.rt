@@ -6,7 +6,7 @@ ghost use Rattle.piper_lines.specs.Split.{joined_frames, Adds};
 ghost use Rattle.piper_lines.specs.FrameReader.{reader_of, format_of, kept_of, header_of, body_of, skips_of};
 ghost use Rattle.piper_lines.specs.Moves.{PassesMoves};
 ghost use Rattle.piper_lines.specs.Collected.{EndsFrames};
-ghost use Rattle.piper_lines.specs.Refusals.{IsTold, LacksFrameRoom};
+ghost use Rattle.piper_lines.specs.Refusals.{IsReported, LacksFrameRoom};
 ghost use Rattle.piper.specs.Contexts.{AsksAgain};
 ghost use Rattle.piper.specs.Polls.{IfReadyErr};
 
@@ -37,7 +37,7 @@ pub fn poll_frames<R: AsyncBufRead>(
     ensures ended { EndsFrames (format_of frames.old) result limit
         (header_of frames.new) (body_of frames.old) (body_of frames.new) (skips_of frames.new)
         (R.known (reader_of frames.new)) (R.saw (reader_of frames.new)) }
-    ensures error { IfReadyErr result (λ e. IsTold e (R.fails (reader_of frames.new) cx.new)
+    ensures error { IfReadyErr result (λ e. IsReported e (R.fails (reader_of frames.new) cx.new)
         (LacksFrameRoom (format_of frames.old) limit 0 0 (header_of frames.new) (body_of frames.new)
         (R.known (reader_of frames.new)) ⊎ (vec_capacity out.old ≤ vec_len out.new))) }
     ensures format { format_of frames.new ≡ format_of frames.old }

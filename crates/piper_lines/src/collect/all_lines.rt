@@ -8,7 +8,7 @@ ghost use Rattle.piper_lines.specs.AtEnd.{AtEnd};
 ghost use Rattle.piper_lines.specs.Split.{joined, Adds, IsPiece};
 ghost use Rattle.piper_lines.specs.LineReader.{IsSpent, reader_of, end_of, kept_of};
 ghost use Rattle.piper_lines.specs.Moves.{Moves};
-ghost use Rattle.piper_lines.specs.Refusals.{IsTold, LacksRoom};
+ghost use Rattle.piper_lines.specs.Refusals.{IsReported, LacksRoom};
 ghost use Rattle.piper_lines.specs.Collected.{rest_of};
 
 use super::{MOST_PIECES, push};
@@ -38,7 +38,7 @@ pub fn poll_lines<R: AsyncBufRead>(
     ensures ended { IfReadyOk result (λ _. (kept_of lines.new ≡ [])
         × AtEnd (R.known (reader_of lines.new)) (R.saw (reader_of lines.new))) }
     ensures spent { IfReadyOk result (λ _. IsSpent R.ended lines.new) }
-    ensures error { IfReadyErr result (λ e. IsTold e (R.fails (reader_of lines.new) cx.new)
+    ensures error { IfReadyErr result (λ e. IsReported e (R.fails (reader_of lines.new) cx.new)
         (LacksRoom limit 0 (kept_of lines.new) (R.known (reader_of lines.new))
         ⊎ (vec_capacity out.old ≤ vec_len out.new))) }
     ensures end { end_of lines.new ≡ end_of lines.old }

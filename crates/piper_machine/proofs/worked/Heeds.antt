@@ -1,11 +1,11 @@
 -- A fill whose pipe is closed between its round and its look: what its source gave is counted, and
 -- not published.
 use Rattle.std.specs.Prelude.{◌≡◌, List, [], ◌∷◌, ◌++◌, true, false, None, refl}
-use Rattle.piper_sides.specs.declared.calls.Side.TheVariants.{Reader, Writer}
-use Rattle.piper_sides.specs.declared.calls.Kind.TheVariants as kind
-use Rattle.piper_sides.specs.declared.events.Event.{Event}
-use Rattle.piper_sides.specs.declared.events.Event.TheVariants.{Began, Looked, Published, Closed}
-use Rattle.piper_sides.specs.declared.events.Seen.TheVariants as seen
+use Rattle.piper_protocol.specs.declared.calls.Side.TheVariants.{Reader, Writer}
+use Rattle.piper_protocol.specs.declared.calls.Kind.TheVariants as kind
+use Rattle.piper_protocol.specs.declared.events.Event.{Event}
+use Rattle.piper_protocol.specs.declared.events.Event.TheVariants.{Began, Looked, Published, Closed}
+use Rattle.piper_protocol.specs.declared.events.Seen.TheVariants as seen
 use Rattle.piper_machine.specs.End.{saw_closed}
 use Rattle.piper_machine.specs.Heed.{IsHeeded}
 
@@ -18,8 +18,8 @@ up_to_its_look =
 its_last_look_found_it : saw_closed Writer up_to_its_look ≡ true
 its_last_look_found_it = refl
 
-published_behind_it : IsHeeded (up_to_its_look ++ Published (7 ∷ []) ∷ []) → ⊥
-published_behind_it heeded = absurd (let never : true ≡ false = heeded up_to_its_look [] (7 ∷ []) refl in cc)
+published_after_it : IsHeeded (up_to_its_look ++ Published (7 ∷ []) ∷ []) → ⊥
+published_after_it heeded = absurd (let never : true ≡ false = heeded up_to_its_look [] (7 ∷ []) refl in cc)
 
 -- the close alone stops nobody who has not looked: what was lent before it can be published, and a
 -- new call looks afresh

@@ -1,19 +1,19 @@
 -- A poll that tells the reader false, what the log says of its last look, and who stands where on
 -- the way.
 use Rattle.std.specs.Prelude.{◌≡◌, List, [], ◌∷◌, ◌++◌, take, true, false, None, Some, refl}
-use Rattle.piper_sides.specs.declared.calls.Side.TheVariants.{Reader, Writer}
-use Rattle.piper_sides.specs.declared.calls.Call.TheVariants as call
-use Rattle.piper_sides.specs.declared.calls.Kind.TheVariants as kind
-use Rattle.piper_sides.specs.declared.calls.Step.{Step}
-use Rattle.piper_sides.specs.declared.calls.Step.TheVariants.{Begin, Go}
-use Rattle.piper_sides.specs.declared.events.Event.{Event}
-use Rattle.piper_sides.specs.declared.events.Event.TheVariants.{Began, Looked, Closed, Registered, Woken, Answered}
-use Rattle.piper_sides.specs.declared.events.Seen.TheVariants as seen
-use Rattle.piper_sides.specs.declared.events.Answer.TheVariants as answer
-use Rattle.piper_sides.specs.declared.polling.Polled.TheVariants as polled
+use Rattle.piper_protocol.specs.declared.calls.Side.TheVariants.{Reader, Writer}
+use Rattle.piper_protocol.specs.declared.calls.Call.TheVariants as call
+use Rattle.piper_protocol.specs.declared.calls.Kind.TheVariants as kind
+use Rattle.piper_protocol.specs.declared.calls.Step.{Step}
+use Rattle.piper_protocol.specs.declared.calls.Step.TheVariants.{Begin, Go}
+use Rattle.piper_protocol.specs.declared.events.Event.{Event}
+use Rattle.piper_protocol.specs.declared.events.Event.TheVariants.{Began, Looked, Closed, Registered, Woken, Answered}
+use Rattle.piper_protocol.specs.declared.events.Seen.TheVariants as seen
+use Rattle.piper_protocol.specs.declared.events.Answer.TheVariants as answer
+use Rattle.piper_protocol.specs.declared.polling.Polled.TheVariants as polled
 use Rattle.piper_machine.specs.Pipe.{Pipe, fresh}
 use Rattle.piper_machine.specs.History.{unwritten, history_from}
-use Rattle.piper_machine.specs.Waiting.{IsBlocked, stands_between}
+use Rattle.piper_machine.specs.Waiting.{IsBlocked, is_between}
 use Rattle.piper_machine.proofs.worked.Script.{by}
 use Rattle.piper_machine.proofs.worked.StepScript.{gone}
 
@@ -34,10 +34,10 @@ logged_up_to_the_end =
     ∷ Began Writer kind.Drop None ∷ Closed Writer ∷ Woken 1 ∷ Answered Writer answer.Done
     ∷ Looked Reader (seen.Closed true) ∷ Looked Reader (seen.Tail 0) ∷ []
 
-told_behind_the_last_look :
+told_after_the_last_look :
     ((gone dropped_while_it_looks (fresh 4)).events ≡ logged_up_to_the_end ++ told_the_end ∷ [])
     × ((history_from unwritten logged_up_to_the_end).last_look ≡ Some (record { count = 0; is_after_close = true }))
-told_behind_the_last_look = (refl, refl)
+told_after_the_last_look = (refl, refl)
 
 -- Behind each of these the reader may not be told false: the close came after the look, a byte was
 -- found, or the call has not looked yet.
@@ -65,8 +65,8 @@ abbrev after : List Step → Pipe
 after steps = (gone steps (fresh 4)).pipe
 
 between_store_and_wake :
-    (stands_between Reader (after (take 4 dropped_while_it_looks)) ≡ false)
-    × (stands_between Reader (after (take 5 dropped_while_it_looks)) ≡ true)
-    × (stands_between Reader (after (take 6 dropped_while_it_looks)) ≡ true)
-    × (stands_between Reader (after (take 7 dropped_while_it_looks)) ≡ false)
+    (is_between Reader (after (take 4 dropped_while_it_looks)) ≡ false)
+    × (is_between Reader (after (take 5 dropped_while_it_looks)) ≡ true)
+    × (is_between Reader (after (take 6 dropped_while_it_looks)) ≡ true)
+    × (is_between Reader (after (take 7 dropped_while_it_looks)) ≡ false)
 between_store_and_wake = (refl, refl, refl, refl)

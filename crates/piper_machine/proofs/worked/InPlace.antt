@@ -1,9 +1,9 @@
 -- Bytes that are read in a peeked slice and written in a lent one.
 use Rattle.std.specs.Prelude.{◌≡◌, ℕ, List, [], ◌∷◌, true, refl}
-use Rattle.piper_sides.specs.declared.calls.Side.TheVariants.{Reader, Writer}
-use Rattle.piper_sides.specs.declared.calls.Call.TheVariants as call
-use Rattle.piper_sides.specs.declared.calls.Step.TheVariants as step
-use Rattle.piper_sides.specs.declared.refusals.StepRefusal.TheVariants.{PastLent}
+use Rattle.piper_protocol.specs.declared.calls.Side.TheVariants.{Reader, Writer}
+use Rattle.piper_protocol.specs.declared.calls.Call.TheVariants as call
+use Rattle.piper_protocol.specs.declared.calls.Step.TheVariants as step
+use Rattle.piper_protocol.specs.declared.refusals.StepRefusal.TheVariants.{PastLent}
 use Rattle.piper_machine.specs.Pipe.{fresh}
 use Rattle.piper_machine.proofs.worked.Script.{◌to◌, Fill, Drain, Poll, by, Peek, Consume, Lend, Put, Produced, Done, Count, Bytes, Flag, Ready, Pending, ◌woken◌, answers, after, IsRefused}
 
@@ -35,11 +35,11 @@ consumed_round_the_end :
 consumed_round_the_end = refl
 
 -- What is lent is published as it stands at that moment, from its beginning on, and takes room.
-published_as_it_stands :
+published_as_it_is :
     answers (fresh 4)
     (Lend 3 ∷ Put 0 5 ∷ Put 1 6 ∷ Put 2 7 ∷ Produced 1 ∷ Put 1 9 ∷ Produced 2 ∷ Fill (1 to 4) ∷ Drain 4 ∷ [])
     ≡ (Count 3 ∷ Done ∷ Done ∷ Done ∷ Done ∷ Done ∷ Done ∷ Count 1 ∷ Bytes 4 (5 ∷ 6 ∷ 9 ∷ 1 ∷ []) ∷ [])
-published_as_it_stands = refl
+published_as_it_is = refl
 
 published_by_one :
     (after (fresh 2) (Lend 2 ∷ Put 0 5 ∷ Produced 1 ∷ [])).unread ≡ 5 ∷ []

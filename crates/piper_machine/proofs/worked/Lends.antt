@@ -3,14 +3,14 @@
 use Rattle.std.specs.Prelude.{◌≡◌, ℕ, ◌-◌, ◌≤◌, min, List, [], ◌∷◌, length, take, Bool, true, false, if◌then◌else◌, refl}
 use Rattle.std.proofs.Common.{◌∙◌, sym, arith}
 use Rattle.std.proofs.lemmas.List.{length-take}
-use Rattle.piper_sides.specs.Index.{advanced}
+use Rattle.piper_protocol.specs.Index.{advanced}
 use Rattle.piper_machine.specs.Pipe.{Pipe, fresh}
 use Rattle.piper_machine.specs.Sound.{IsSound}
 use Rattle.piper_machine.specs.Lend.{Lendable, lend_limit, lending}
 use Rattle.piper_machine.specs.Places.{places_left}
 use Rattle.piper_machine.specs.Move.{produce}
-use Rattle.piper_sides.specs.Side.{fresh_writing, Writing, room_of, left_of, lend_length, lent_out}
-use Rattle.piper_sides.specs.LendBound.{lend_bound}
+use Rattle.piper_protocol.specs.Side.{fresh_writing, Writing, room_of, left_of, lend_length, lent_out}
+use Rattle.piper_protocol.specs.LendBound.{lend_bound}
 use Rattle.piper_machine.proofs.Soundness.{some_lent}
 use Rattle.piper_machine.proofs.worked.Script.{Call, Lend, Produced, lent_count}
 
@@ -51,8 +51,8 @@ rounds_of_a_fill = refl
 
 -- The round of a fill whose source fails at once lends as any first round does: the lend behind it
 -- finds 4096 places set.
-lend_behind_a_failure : lengths (writer 200000) (Lend 131072 ∷ Lend 131072 ∷ []) ≡ (4096 ∷ 12288 ∷ [])
-lend_behind_a_failure = refl
+lend_after_a_failure : lengths (writer 200000) (Lend 131072 ∷ Lend 131072 ∷ []) ≡ (4096 ∷ 12288 ∷ [])
+lend_after_a_failure = refl
 
 -- What the pipe says of the first of these: of 10,000 free places at least 4096 are lent, and then
 -- at least 4096 of 5904.

@@ -1,14 +1,14 @@
 -- Sources and destinations that end or fail: earlier rounds stay done, and the refused one moves
 -- nothing.
 use Rattle.std.specs.Prelude.{◌≡◌, ℕ, List, [], ◌∷◌, Ok, refl}
-use Rattle.piper_sides.specs.declared.calls.Side.TheVariants.{Reader, Writer}
-use Rattle.piper_sides.specs.declared.calls.Query.TheVariants.{Len}
-use Rattle.piper_sides.specs.declared.calls.Call.TheVariants as call
-use Rattle.piper_sides.specs.declared.calls.Step.TheVariants as step
-use Rattle.piper_sides.specs.declared.refusals.StepRefusal.TheVariants.{PastLent}
-use Rattle.piper_sides.specs.declared.polling.Polled.TheVariants as polled
-use Rattle.piper_sides.specs.declared.scripted.SourceAct.TheVariants as source
-use Rattle.piper_sides.specs.declared.scripted.DestAct.TheVariants as dest
+use Rattle.piper_protocol.specs.declared.calls.Side.TheVariants.{Reader, Writer}
+use Rattle.piper_protocol.specs.declared.calls.Query.TheVariants.{Len}
+use Rattle.piper_protocol.specs.declared.calls.Call.TheVariants as call
+use Rattle.piper_protocol.specs.declared.calls.Step.TheVariants as step
+use Rattle.piper_protocol.specs.declared.refusals.StepRefusal.TheVariants.{PastLent}
+use Rattle.piper_protocol.specs.declared.polling.Polled.TheVariants as polled
+use Rattle.piper_protocol.specs.declared.scripted.SourceAct.TheVariants as source
+use Rattle.piper_protocol.specs.declared.scripted.DestAct.TheVariants as dest
 use Rattle.piper_machine.specs.Pipe.{Pipe, fresh}
 use Rattle.piper_machine.specs.Copy.{drained}
 use Rattle.piper_machine.specs.Scripted.{taken_by, drain_moves_to}
@@ -58,13 +58,13 @@ ends_of_every_kind :
 ends_of_every_kind = refl
 
 -- nothing is given past a failure or an act of no bytes, and what ends a source first decides
-what_stands_past_an_end :
+what_lies_past_an_end :
     answers (fresh 8)
     (FillFrom (by 1) (source.Bytes (1 to 2) ∷ source.Fail ∷ source.Bytes (3 ∷ []) ∷ [])
     ∷ FillFrom (by 1) (source.Bytes (4 ∷ []) ∷ source.Bytes [] ∷ source.Fail ∷ [])
     ∷ Drain 8 ∷ [])
     ≡ (Failed ∷ Ready (Count 1) ∷ Bytes 3 (1 ∷ 2 ∷ 4 ∷ []) ∷ [])
-what_stands_past_an_end = refl
+what_lies_past_an_end = refl
 
 -- two known bytes stand before the end of the buffer, and four after it
 one_piece_a_round :

@@ -11,10 +11,10 @@ fill_by_known_room = refl
 
 -- three bytes are unread, and the reader knows of one; five places are free, and the writer knows
 -- of one
-both_sides_behind :
+both_sides_after :
     answers (fresh 8) (Fill (1 to 5) ∷ Drain 4 ∷ Fill (6 to 7) ∷ Peek ∷ Fill (8 to 13) ∷ [])
     ≡ (Count 5 ∷ Bytes 4 (1 to 4) ∷ Count 2 ∷ Bytes 1 (5 ∷ []) ∷ Count 1 ∷ [])
-both_sides_behind = refl
+both_sides_after = refl
 
 -- and so it drains one
 drain_by_known_bytes :

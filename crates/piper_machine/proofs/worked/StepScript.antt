@@ -2,16 +2,16 @@
 -- of a side. Its lines, and what each prints, are those of the replayer; a line that is refused is
 -- the last.
 use Rattle.std.specs.Prelude.{ℕ, suc, zero, List, [], ◌∷◌, ◌++◌, replicate, Option, None, Some, nat_lt, Bool, true, false, is_some}
-use Rattle.piper_sides.specs.declared.calls.Side.{Side}
-use Rattle.piper_sides.specs.declared.calls.Side.TheVariants.{Reader, Writer}
-use Rattle.piper_sides.specs.declared.calls.Call as calls
-use Rattle.piper_sides.specs.declared.calls.Call.TheVariants as call
-use Rattle.piper_sides.specs.declared.calls.Step.{Step}
-use Rattle.piper_sides.specs.declared.calls.Step.TheVariants as step
-use Rattle.piper_sides.specs.declared.events.Event.{Event}
-use Rattle.piper_sides.specs.declared.refusals.StepRefusal.{StepRefusal}
-use Rattle.piper_sides.specs.declared.refusals.StepRefusal.TheVariants.{BadDraw}
-use Rattle.piper_sides.specs.declared.polling.Context.{Context}
+use Rattle.piper_protocol.specs.declared.calls.Side.{Side}
+use Rattle.piper_protocol.specs.declared.calls.Side.TheVariants.{Reader, Writer}
+use Rattle.piper_protocol.specs.declared.calls.Call as calls
+use Rattle.piper_protocol.specs.declared.calls.Call.TheVariants as call
+use Rattle.piper_protocol.specs.declared.calls.Step.{Step}
+use Rattle.piper_protocol.specs.declared.calls.Step.TheVariants as step
+use Rattle.piper_protocol.specs.declared.events.Event.{Event}
+use Rattle.piper_protocol.specs.declared.refusals.StepRefusal.{StepRefusal}
+use Rattle.piper_protocol.specs.declared.refusals.StepRefusal.TheVariants.{BadDraw}
+use Rattle.piper_protocol.specs.declared.polling.Context.{Context}
 use Rattle.piper_machine.specs.Pipe.{Pipe}
 use Rattle.piper_machine.specs.Step.{Stepped, stepped, went}
 use Rattle.piper_machine.specs.Refusal.{refusal_of, cannot_begin, state_of, unless, or_else}
@@ -42,8 +42,8 @@ abbrev pub stopped : StepRefusal → Pipe → Gone
 stopped refusal p = record { pipe = p; events = []; refusal = Some refusal }
 
 -- events that came before
-abbrev pub behind : List Event → Gone → Gone
-behind events g = record g { events = events ++ g.events }
+abbrev pub after : List Event → Gone → Gone
+after events g = record g { events = events ++ g.events }
 
 -- what is lent stands as zeros, as many as the bounds allow where they meet
 abbrev pub lent_by : Step → Pipe → List ℕ
@@ -53,7 +53,7 @@ lent_by s p = []
 -- a list of steps, up to the first that is refused
 abbrev pub gone_unless : Option StepRefusal → Stepped → (Pipe → Gone) → Pipe → Gone
 gone_unless (Some refusal) out rest p = stopped refusal p
-gone_unless None out rest p = behind out.events (rest out.pipe)
+gone_unless None out rest p = after out.events (rest out.pipe)
 
 abbrev pub gone : List Step → Pipe → Gone
 gone [] p = record { pipe = p; events = []; refusal = None }

@@ -1,20 +1,20 @@
 -- A told end, and what may be logged behind it.
 use Rattle.std.specs.Prelude.{◌≡◌, List, [], ◌∷◌, ◌++◌, true, false, None, Some, Ok, refl}
 use Rattle.std.proofs.Common.{inl, inr}
-use Rattle.piper_sides.specs.declared.calls.Side.TheVariants.{Reader, Writer}
-use Rattle.piper_sides.specs.declared.calls.Query.TheVariants.{Len}
-use Rattle.piper_sides.specs.declared.calls.Call.TheVariants as call
-use Rattle.piper_sides.specs.declared.calls.Kind.TheVariants as kind
-use Rattle.piper_sides.specs.declared.calls.Step.{Step}
-use Rattle.piper_sides.specs.declared.calls.Step.TheVariants.{Begin, Go}
-use Rattle.piper_sides.specs.declared.events.Event.{Event}
-use Rattle.piper_sides.specs.declared.events.Event.TheVariants.{Began, Looked, Published, Closed, Registered, Answered}
-use Rattle.piper_sides.specs.declared.events.Seen.TheVariants as seen
-use Rattle.piper_sides.specs.declared.events.Answer.TheVariants as answer
-use Rattle.piper_sides.specs.declared.polling.Polled.TheVariants as polled
+use Rattle.piper_protocol.specs.declared.calls.Side.TheVariants.{Reader, Writer}
+use Rattle.piper_protocol.specs.declared.calls.Query.TheVariants.{Len}
+use Rattle.piper_protocol.specs.declared.calls.Call.TheVariants as call
+use Rattle.piper_protocol.specs.declared.calls.Kind.TheVariants as kind
+use Rattle.piper_protocol.specs.declared.calls.Step.{Step}
+use Rattle.piper_protocol.specs.declared.calls.Step.TheVariants.{Begin, Go}
+use Rattle.piper_protocol.specs.declared.events.Event.{Event}
+use Rattle.piper_protocol.specs.declared.events.Event.TheVariants.{Began, Looked, Published, Closed, Registered, Answered}
+use Rattle.piper_protocol.specs.declared.events.Seen.TheVariants as seen
+use Rattle.piper_protocol.specs.declared.events.Answer.TheVariants as answer
+use Rattle.piper_protocol.specs.declared.polling.Polled.TheVariants as polled
 use Rattle.piper_machine.specs.Pipe.{fresh}
 use Rattle.piper_machine.specs.End.{saw_closed, found_none}
-use Rattle.piper_machine.specs.Final.{told_end, IsBehindEnd}
+use Rattle.piper_machine.specs.Final.{told_end, IsAfterEnd}
 use Rattle.piper_machine.proofs.worked.Script.{by}
 use Rattle.piper_machine.proofs.worked.StepScript.{gone}
 
@@ -31,11 +31,11 @@ before_the_end =
     Began Writer kind.WriteBuf None ∷ Answered Writer (answer.Lent 2) ∷ Began Writer kind.Close None ∷ Closed Writer ∷ Answered Writer answer.Done
     ∷ Began Reader kind.Poll (Some 1) ∷ Looked Reader (seen.Tail 0) ∷ Registered Reader 1 ∷ Looked Reader (seen.Closed true) ∷ Looked Reader (seen.Tail 0) ∷ []
 
-abbrev behind_the_end : List Event
-behind_the_end = Began Writer kind.Produced None ∷ Published [] ∷ []
+abbrev after_the_end : List Event
+after_the_end = Began Writer kind.Produced None ∷ Published [] ∷ []
 
 told_and_empty :
-    ((gone asked_twice (fresh 4)).events ≡ before_the_end ++ told_end ∷ behind_the_end)
+    ((gone asked_twice (fresh 4)).events ≡ before_the_end ++ told_end ∷ after_the_end)
     × ((gone asked_twice (fresh 4)).pipe.unread ≡ [])
 told_and_empty = (refl, refl)
 
@@ -52,11 +52,11 @@ before_it_is_found =
     Began Writer kind.Close None ∷ Closed Writer ∷ Answered Writer answer.Done
     ∷ Began Reader kind.TryDrain None ∷ Looked Reader (seen.Tail 0) ∷ Looked Reader (seen.Closed true) ∷ []
 
-abbrev behind_what_is_found : List Event
-behind_what_is_found = Answered Reader (answer.Count 0) ∷ Began Writer (kind.Query Len) None ∷ Looked Writer (seen.Head 0) ∷ []
+abbrev after_what_is_found : List Event
+after_what_is_found = Answered Reader (answer.Count 0) ∷ Began Writer (kind.Query Len) None ∷ Looked Writer (seen.Head 0) ∷ []
 
 found_by_a_drain :
-    ((gone drained_to_the_end (fresh 4)).events ≡ before_it_is_found ++ found_none ∷ behind_what_is_found)
+    ((gone drained_to_the_end (fresh 4)).events ≡ before_it_is_found ++ found_none ∷ after_what_is_found)
     × (saw_closed Reader before_it_is_found ≡ true)
 found_by_a_drain = (refl, refl)
 
@@ -88,26 +88,26 @@ drop_is_no_end : (gone published_after_a_drop (fresh 4)).pipe.unread ≡ 0 ∷ [
 drop_is_no_end = refl
 
 -- what may stand behind it, and what may not
-allowed : IsBehindEnd told_end × IsBehindEnd (Answered Reader (answer.Poll polled.Memory)) × IsBehindEnd (Published [])
+allowed : IsAfterEnd told_end × IsAfterEnd (Answered Reader (answer.Poll polled.Memory)) × IsAfterEnd (Published [])
 allowed = (inl refl, inr refl, refl)
 
-byte_refused : IsBehindEnd (Published (7 ∷ [])) → ⊥
+byte_refused : IsAfterEnd (Published (7 ∷ [])) → ⊥
 byte_refused none = absurd (cc)
 
-true_refused : IsBehindEnd (Answered Reader (answer.Poll (polled.Ready true))) → ⊥
+true_refused : IsAfterEnd (Answered Reader (answer.Poll (polled.Ready true))) → ⊥
 true_refused (inl same) = absurd (cc)
 true_refused (inr same) = absurd (cc)
 
-pending_refused : IsBehindEnd (Answered Reader (answer.Poll polled.Pending)) → ⊥
+pending_refused : IsAfterEnd (Answered Reader (answer.Poll polled.Pending)) → ⊥
 pending_refused (inl same) = absurd (cc)
 pending_refused (inr same) = absurd (cc)
 
-drains_allowed : IsBehindEnd (Answered Reader (answer.Count 0)) × IsBehindEnd (Answered Reader (answer.Copy (polled.Ready (Ok 0)))) × IsBehindEnd (Answered Reader (answer.Copy polled.Memory))
+drains_allowed : IsAfterEnd (Answered Reader (answer.Count 0)) × IsAfterEnd (Answered Reader (answer.Copy (polled.Ready (Ok 0)))) × IsAfterEnd (Answered Reader (answer.Copy polled.Memory))
 drains_allowed = (refl, inl refl, inr refl)
 
-waiting_drain_refused : IsBehindEnd (Answered Reader (answer.Copy polled.Pending)) → ⊥
+waiting_drain_refused : IsAfterEnd (Answered Reader (answer.Copy polled.Pending)) → ⊥
 waiting_drain_refused (inl same) = absurd (cc)
 waiting_drain_refused (inr same) = absurd (cc)
 
-open_pipe_refused : IsBehindEnd (Looked Reader (seen.Closed false)) → ⊥
+open_pipe_refused : IsAfterEnd (Looked Reader (seen.Closed false)) → ⊥
 open_pipe_refused same = absurd (cc)

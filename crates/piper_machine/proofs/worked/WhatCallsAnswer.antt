@@ -1,23 +1,23 @@
 -- What the log tells of calls of both sides, and what they answer.
 use Rattle.std.specs.Prelude.{◌≡◌, List, [], ◌∷◌, ◌++◌, drop, true, false, None, Some, Err, refl}
 use Rattle.std.proofs.Common.{arith}
-use Rattle.piper_sides.specs.declared.calls.Side.{Side}
-use Rattle.piper_sides.specs.declared.calls.Side.TheVariants.{Reader, Writer}
-use Rattle.piper_sides.specs.declared.calls.Query.TheVariants.{Len}
-use Rattle.piper_sides.specs.declared.calls.Call.TheVariants as call
-use Rattle.piper_sides.specs.declared.calls.Kind.TheVariants as kind
-use Rattle.piper_sides.specs.declared.calls.Step.{Step}
-use Rattle.piper_sides.specs.declared.calls.Step.TheVariants.{Begin, Go}
-use Rattle.piper_sides.specs.declared.events.Event.{Event}
-use Rattle.piper_sides.specs.declared.events.Event.TheVariants.{Began, Looked, Published, Consumed, Closed, Answered}
-use Rattle.piper_sides.specs.declared.events.Seen.TheVariants as seen
-use Rattle.piper_sides.specs.declared.events.Answer.TheVariants as answer
-use Rattle.piper_sides.specs.declared.polling.Polled.TheVariants as polled
-use Rattle.piper_sides.specs.declared.scripted.SourceAct.TheVariants as source
-use Rattle.piper_sides.specs.declared.scripted.DestAct.TheVariants as dest
+use Rattle.piper_protocol.specs.declared.calls.Side.{Side}
+use Rattle.piper_protocol.specs.declared.calls.Side.TheVariants.{Reader, Writer}
+use Rattle.piper_protocol.specs.declared.calls.Query.TheVariants.{Len}
+use Rattle.piper_protocol.specs.declared.calls.Call.TheVariants as call
+use Rattle.piper_protocol.specs.declared.calls.Kind.TheVariants as kind
+use Rattle.piper_protocol.specs.declared.calls.Step.{Step}
+use Rattle.piper_protocol.specs.declared.calls.Step.TheVariants.{Begin, Go}
+use Rattle.piper_protocol.specs.declared.events.Event.{Event}
+use Rattle.piper_protocol.specs.declared.events.Event.TheVariants.{Began, Looked, Published, Consumed, Closed, Answered}
+use Rattle.piper_protocol.specs.declared.events.Seen.TheVariants as seen
+use Rattle.piper_protocol.specs.declared.events.Answer.TheVariants as answer
+use Rattle.piper_protocol.specs.declared.polling.Polled.TheVariants as polled
+use Rattle.piper_protocol.specs.declared.scripted.SourceAct.TheVariants as source
+use Rattle.piper_protocol.specs.declared.scripted.DestAct.TheVariants as dest
 use Rattle.piper_machine.specs.Pipe.{Pipe, fresh}
 use Rattle.piper_machine.specs.Step.{stepped}
-use Rattle.piper_machine.specs.Told.{Told, untold, calls_of, told_from}
+use Rattle.piper_machine.specs.Noted.{Noted, unnoted, calls_of, noted_from}
 use Rattle.piper_machine.proofs.worked.Script.{by}
 use Rattle.piper_machine.specs.Outcome.{places_of, may_fail, HasFailed, IsFilled, number_found}
 
@@ -27,16 +27,16 @@ logged [] p = []
 logged (s ∷ ss) p = let out = stepped (0 ∷ 0 ∷ []) s p in out.events ++ logged ss out.pipe
 
 -- what they tell of a side of which these steps are made
-abbrev told_by : Side → List Step → List Event → Told
-told_by side steps events = told_from side (untold (calls_of side steps)) events
+abbrev told_by : Side → List Step → List Event → Noted
+told_by side steps events = noted_from side (unnoted (calls_of side steps)) events
 
 abbrev reader_drops : List Step
 reader_drops = Begin (call.Drop Reader) ∷ Go Reader ∷ Go Reader ∷ []
 
 -- A fill of two bytes has found the pipe open before the reader drops: it publishes them, and
 -- counts them.
-abbrev dropped_behind_the_look : List Step
-dropped_behind_the_look = Begin (call.TryFill (1 ∷ 2 ∷ [])) ∷ Go Writer ∷ Go Writer ∷ Go Writer ∷ reader_drops ++ Go Writer ∷ Go Writer ∷ Go Writer ∷ []
+abbrev dropped_after_the_look : List Step
+dropped_after_the_look = Begin (call.TryFill (1 ∷ 2 ∷ [])) ∷ Go Writer ∷ Go Writer ∷ Go Writer ∷ reader_drops ++ Go Writer ∷ Go Writer ∷ Go Writer ∷ []
 
 abbrev logged_of_the_published : List Event
 logged_of_the_published =
@@ -44,15 +44,15 @@ logged_of_the_published =
     ∷ Began Reader kind.Drop None ∷ Closed Reader ∷ Answered Reader answer.Done
     ∷ Published (1 ∷ 2 ∷ []) ∷ []
 
-told_of_the_published :
-    (logged dropped_behind_the_look (fresh 4) ≡ logged_of_the_published ++ Answered Writer (answer.Count 2) ∷ [])
-    × (told_by Writer dropped_behind_the_look logged_of_the_published ≡ record {
+reported_of_the_published :
+    (logged dropped_after_the_look (fresh 4) ≡ logged_of_the_published ++ Answered Writer (answer.Count 2) ∷ [])
+    × (told_by Writer dropped_after_the_look logged_of_the_published ≡ record {
       coming = [];
       call = Some (call.TryFill (1 ∷ 2 ∷ []));
       looks = seen.Closed false ∷ seen.Closed false ∷ [];
       moved = 1 ∷ 2 ∷ [];
     })
-told_of_the_published = (refl, refl)
+reported_of_the_published = (refl, refl)
 
 -- Its source has given them, and then it finds the pipe closed: it counts them, and publishes none.
 abbrev dropped_before_the_look : List Step
@@ -64,7 +64,7 @@ logged_of_the_counted =
     ∷ Began Reader kind.Drop None ∷ Closed Reader ∷ Answered Reader answer.Done
     ∷ Looked Writer (seen.Closed true) ∷ []
 
-told_of_the_counted :
+reported_of_the_counted :
     (logged dropped_before_the_look (fresh 4) ≡ logged_of_the_counted ++ Answered Writer (answer.Count 2) ∷ [])
     × (told_by Writer dropped_before_the_look logged_of_the_counted ≡ record {
       coming = [];
@@ -72,7 +72,7 @@ told_of_the_counted :
       looks = seen.Closed true ∷ seen.Closed false ∷ [];
       moved = [];
     })
-told_of_the_counted = (refl, refl)
+reported_of_the_counted = (refl, refl)
 
 -- Both counts are right. A count of 2 is wrong of a fill that found the pipe open and published
 -- nothing.
@@ -104,17 +104,17 @@ counts_of_a_closed_pipe = (
 )
 
 -- A source fails behind its first byte: the fill has published that byte, and answers the failure.
-abbrev fails_behind_a_byte : List Step
-fails_behind_a_byte = Begin (call.PollFill 1 (by 1).luck (source.Bytes (9 ∷ []) ∷ source.Fail ∷ [])) ∷ Go Writer ∷ Go Writer ∷ Go Writer ∷ Go Writer ∷ Go Writer ∷ Go Writer ∷ Go Writer ∷ []
+abbrev fails_after_a_byte : List Step
+fails_after_a_byte = Begin (call.PollFill 1 (by 1).luck (source.Bytes (9 ∷ []) ∷ source.Fail ∷ [])) ∷ Go Writer ∷ Go Writer ∷ Go Writer ∷ Go Writer ∷ Go Writer ∷ Go Writer ∷ Go Writer ∷ []
 
 abbrev logged_of_the_failure : List Event
 logged_of_the_failure =
     Began Writer kind.PollFill (Some 1) ∷ Looked Writer (seen.Closed false) ∷ Looked Writer (seen.Closed false) ∷ Published (9 ∷ []) ∷ []
 
-told_of_the_failure :
-    (logged fails_behind_a_byte (fresh 4) ≡ logged_of_the_failure ++ Answered Writer (answer.Copy (polled.Ready (Err (record {})))) ∷ [])
-    × HasFailed (source.Bytes (9 ∷ []) ∷ source.Fail ∷ []) (told_by Writer fails_behind_a_byte logged_of_the_failure).moved
-told_of_the_failure = (refl, record { fails = refl; published = refl })
+reported_of_the_failure :
+    (logged fails_after_a_byte (fresh 4) ≡ logged_of_the_failure ++ Answered Writer (answer.Copy (polled.Ready (Err (record {})))) ∷ [])
+    × HasFailed (source.Bytes (9 ∷ []) ∷ source.Fail ∷ []) (told_by Writer fails_after_a_byte logged_of_the_failure).moved
+reported_of_the_failure = (refl, record { fails = refl; published = refl })
 
 -- A drain of at most three bytes of a pipe that holds two, between the two looks of the writer's
 -- query.
@@ -134,7 +134,7 @@ logged_of_the_drained =
 abbrev logged_of_the_length : List Event
 logged_of_the_length = logged_of_the_drained ++ Answered Reader (answer.Count 2) ∷ Looked Writer (seen.Tail 0) ∷ []
 
-told_of_the_drained :
+reported_of_the_drained :
     (logged drained_between_the_looks (fresh 4) ≡ logged_of_the_length ++ Answered Writer (answer.Count 2) ∷ [])
     × (told_by Reader drained_between_the_looks logged_of_the_drained ≡ record {
       coming = [];
@@ -148,7 +148,7 @@ told_of_the_drained :
       looks = seen.Tail 0 ∷ seen.Head 2 ∷ [];
       moved = [];
     })
-told_of_the_drained = (refl, refl, refl)
+reported_of_the_drained = (refl, refl, refl)
 
 -- A destination that takes one byte and then fails: it has places for one, and that byte stays
 -- consumed.

@@ -1,12 +1,12 @@
 //! Runs: steps of both sides in any order, and the log of what happened.
 ghost use Rattle.std.specs.Prelude.{◌≡◌, ◌<◌, ◌≤◌, ℕ, [], length, OnOk, OnErr, IfOk, IfErr, slice_set};
-ghost use Rattle.piper_sides.specs.Index.{IsCapacity};
-ghost use Rattle.piper_sides.specs.Log.{events, listed, HasRoom};
+ghost use Rattle.piper_protocol.specs.Index.{IsCapacity};
+ghost use Rattle.piper_protocol.specs.Log.{events, listed, HasRoom};
 ghost use Rattle.piper_machine.specs.Lend.{lending};
 ghost use Rattle.piper_machine.specs.Places.{peeked_count};
 ghost use Rattle.piper_machine.specs.Action.{logged_of};
 ghost use Rattle.piper_machine.specs.Step.{action_of};
-ghost use Rattle.piper_sides.specs.Table.{read_action, write_action};
+ghost use Rattle.piper_protocol.specs.Table.{read_action, write_action};
 ghost use Rattle.piper_machine.specs.Pipe.{fresh};
 ghost use Rattle.piper_machine.specs.Known.{IsKnown};
 ghost use Rattle.piper_machine.specs.Ready.{IsReady};
@@ -24,10 +24,10 @@ ghost use Rattle.piper_machine.specs.Front.{Front};
 ghost use Rattle.piper_machine.specs.Run.{Made, IsStepped, Runs, IsRefusal, IsRunRefusal};
 
 use super::Machine;
-use piper_sides::calls::{Side, Step};
-use piper_sides::events::{Event, Log, answered};
-use piper_sides::refusals::{RunRefusal, StepRefusal};
-use piper_sides::table::{Action, WritePoint};
+use piper_protocol::calls::{Side, Step};
+use piper_protocol::events::{Event, Log, answered};
+use piper_protocol::refusals::{RunRefusal, StepRefusal};
+use piper_protocol::table::{Action, WritePoint};
 use std::alloc::Global;
 
 impl Machine {

@@ -1,7 +1,7 @@
 //! Calls run whole: the side is driven to its answer while the other side makes no step.
 ghost use Rattle.std.specs.Prelude.{◌≡◌, ◌<◌, ◌≤◌, ◌+◌, ◌↔◌, [], length, IsTrue, true, false, Some};
 ghost use Rattle.piper_machine.specs.Pipe.{begun};
-ghost use Rattle.piper_sides.specs.Open.{no_call};
+ghost use Rattle.piper_protocol.specs.Open.{no_call};
 ghost use Rattle.piper_machine.specs.Query.{unread_count, is_empty, is_full, is_closed};
 ghost use Rattle.piper_machine.specs.Buffer.{written};
 ghost use Rattle.piper_machine.specs.Lend.{Lendable, lending};
@@ -9,19 +9,19 @@ ghost use Rattle.piper_machine.specs.Places.{peeked_count};
 ghost use Rattle.piper_machine.specs.Look.{context, reader_look, writer_look};
 ghost use Rattle.piper_machine.specs.Move.{produce, consume};
 ghost use Rattle.piper_machine.specs.Close.{close, drop_reader, drop_writer};
-ghost use Rattle.piper_sides.specs.Table.{read_action, write_action};
+ghost use Rattle.piper_protocol.specs.Table.{read_action, write_action};
 ghost use Rattle.piper_machine.specs.Step.{went};
 ghost use Rattle.piper_machine.specs.Refusal.{reader_state, writer_state};
-ghost use Rattle.piper_sides.specs.Answer.{count_in, flag_in, polled_in};
+ghost use Rattle.piper_protocol.specs.Answer.{count_in, flag_in, polled_in};
 ghost use Rattle.piper_machine.specs.BySteps.{IsWholeBySteps};
 ghost use Rattle.piper_machine.specs.Alone.{heard, yield_waker, reader_alone, writer_alone, is_draining, is_filling, read_wakes, write_wakes};
 
 use super::{Machine, write_at};
 use crate::destination::Destination;
-use piper_sides::calls::{Call, Query, Side, SideState};
-use piper_sides::events::Answer;
-use piper_sides::polling::{Context, Luck, Polled};
-use piper_sides::table::{Action, AfterRead, AfterWrite, ReadPoint, WritePoint};
+use piper_protocol::calls::{Call, Query, Side, SideState};
+use piper_protocol::events::Answer;
+use piper_protocol::polling::{Context, Luck, Polled};
+use piper_protocol::table::{Action, AfterRead, AfterWrite, ReadPoint, WritePoint};
 
 // The waker that a yield of this call calls.
 fn yield_waker(context: Option<Context>) -> Option<u32>

@@ -4,15 +4,15 @@ ghost use Rattle.piper_ring.specs.Opened.{FreshReadEnd, FreshReadSlots, FreshWri
 
 use crate::ends::reader::{ReadEnd, ReadParts};
 use crate::ends::room::Room;
-use crate::ends::slots::{ReadSlotParts, ReadSlots, WriteSlotParts, WriteSlots};
+use crate::ends::slots::{ReadRegistrations, ReadSlotParts, WriteRegistrations, WriteSlotParts};
 use crate::ends::writer::{WriteEnd, WriteParts};
 use crate::ring::memory::Memory;
 use crate::ring::seats::{WORDS_ALIGN, WORDS_SIZE, open};
-use piper_place::{Place, Right};
-use piper_sides::memory::OutOfMemory;
-use piper_sides::read_indices::ReadIndices;
-use piper_sides::write_indices::WriteIndices;
+use piper_protocol::memory::OutOfMemory;
+use piper_protocol::read_indices::ReadIndices;
+use piper_protocol::write_indices::WriteIndices;
 use std::alloc::Global;
+use token_cell::{Token, TokenCell};
 
 /// The two ends of a new ring for `capacity` bytes. Where memory is refused, all that was got is
 /// given back.
@@ -22,31 +22,31 @@ pub fn open_ring(alloc: Global, capacity: usize) -> Result<(ReadEnd, WriteEnd), 
     ensures reader { IfOk result (λ r. FreshReadEnd capacity r.0) }
     ensures writer { IfOk result (λ r. FreshWriteEnd capacity r.1) }
 {
-    let (_, reader_right) = Place::<Option<()>>::empty();
-    let (_, writer_right) = Place::<Option<()>>::empty();
-    let (reader, writer, _, _) = open_with_slots(alloc, capacity, reader_right, writer_right)?;
+    let (_, reader_token) = TokenCell::<Option<()>>::empty();
+    let (_, writer_token) = TokenCell::<Option<()>>::empty();
+    let (reader, writer, _, _) = open_with_slots(alloc, capacity, reader_token, writer_token)?;
     Ok((reader, writer))
 }
 
 /// The two ends of a new ring for `capacity` bytes, and what each has of its slots, in which nobody
-/// waits yet. The wakers lie in the places to which `reader_right` and `writer_right` are the
+/// waits yet. The wakers lie in the places to which `reader_token` and `writer_token` are the
 /// rights: each side's in its own. Where memory is refused, all that was got is given back.
 pub fn open_with_slots(
     alloc: Global,
     capacity: usize,
-    reader_right: Right,
-    writer_right: Right,
-) -> Result<(ReadEnd, WriteEnd, ReadSlots, WriteSlots), OutOfMemory>
+    reader_token: Token,
+    writer_token: Token,
+) -> Result<(ReadEnd, WriteEnd, ReadRegistrations, WriteRegistrations), OutOfMemory>
     requires capacity { (0 < capacity) × (2 * capacity < 2 ^ 64) }
-    requires reader_right { (reader_right.there ≡ true) × (reader_right.filled ≡ false) }
-    requires writer_right { (writer_right.there ≡ true) × (writer_right.filled ≡ false) }
+    requires reader_token { (reader_token.there ≡ true) × (reader_token.filled ≡ false) }
+    requires writer_token { (writer_token.there ≡ true) × (writer_token.filled ≡ false) }
     ensures pair { IfOk result (λ r. r.1.ring ≡ r.0.ring) }
     ensures reader { IfOk result (λ r. FreshReadEnd capacity r.0) }
     ensures writer { IfOk result (λ r. FreshWriteEnd capacity r.1) }
     ensures read_slots { IfOk result (λ r. FreshReadSlots r.0.ring.1.1 r.2) }
     ensures write_slots { IfOk result (λ r. FreshWriteSlots r.0.ring.1.1 r.3) }
-    ensures places { IfOk result (λ r. (r.0.ring.1.1.reader_place ≡ reader_right.name)
-        × (r.0.ring.1.1.writer_place ≡ writer_right.name)) }
+    ensures places { IfOk result (λ r. (r.0.ring.1.1.reader_place ≡ reader_token.name)
+        × (r.0.ring.1.1.writer_place ≡ writer_token.name)) }
 {
     let (words, bytes) = claim(&alloc, capacity)?;
     let (
@@ -58,7 +58,7 @@ pub fn open_with_slots(
         writer_wakes,
         writer_waits,
         reader_wakes,
-    ) = open(words, bytes, &reader_right, &writer_right);
+    ) = open(words, bytes, &reader_token, &writer_token);
     let told_reader = write_seat.mark();
     let told_writer = read_seat.mark();
     let read_saw = told_reader.again();
@@ -66,15 +66,15 @@ pub fn open_with_slots(
     let write_saw = read_seat.unseen();
     let read_slots = ReadSlotParts {
         waits: reader_waits,
-        right: Some(reader_right),
-        may_stand: false,
+        right: Some(reader_token),
+        maybe_registered: false,
         heard: told_reader.again(),
         wakes: reader_wakes,
     };
     let write_slots = WriteSlotParts {
         waits: writer_waits,
-        right: Some(writer_right),
-        may_stand: false,
+        right: Some(writer_token),
+        maybe_registered: false,
         heard: told_writer.again(),
         saw: read_seat.unseen(),
         wakes: writer_wakes,
@@ -101,8 +101,8 @@ pub fn open_with_slots(
     Ok((
         ReadEnd { parts: reader },
         WriteEnd { parts: writer },
-        ReadSlots { parts: read_slots },
-        WriteSlots { parts: write_slots },
+        ReadRegistrations { parts: read_slots },
+        WriteRegistrations { parts: write_slots },
     ))
 }
 

@@ -6,7 +6,7 @@ use crate::ends::writer::WriteEnd;
 use crate::ring::marks::{LastReadMark, ReadMark, Saw, WriteMark};
 use crate::ring::places::{Base, Places};
 use crate::ring::seats::ReadSeat;
-use piper_sides::read_indices::ReadIndices;
+use piper_protocol::read_indices::ReadIndices;
 use std::alloc::Global;
 use std::marker::Model;
 

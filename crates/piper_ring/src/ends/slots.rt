@@ -8,17 +8,17 @@ mod writer;
 
 use crate::ring::marks::{ReadMark, Saw, WriteMark};
 use crate::ring::slots::{ReaderWaits, ReaderWakes, WriterWaits, WriterWakes};
-use piper_place::Right;
 use std::marker::Model;
+use token_cell::Token;
 
 /// The parts of what the reader's end has of both slots.
 pub(crate) struct ReadSlotParts {
     pub(crate) waits: ReaderWaits,
     /// The right to the place of its waker, where it is not in the slot or with the writer: then
     /// nothing lies there.
-    pub(crate) right: Option<Right>,
+    pub(crate) right: Option<Token>,
     /// Whether its waker may stand in the slot: since it registered, no look found it gone.
-    pub(crate) may_stand: bool,
+    pub(crate) maybe_registered: bool,
     /// What the writer had looked behind when this end registered last.
     pub(crate) heard: WriteMark,
     pub(crate) wakes: ReaderWakes,
@@ -26,11 +26,11 @@ pub(crate) struct ReadSlotParts {
 
 /// What the reader's end has of both slots: it waits in its own, and wakes whoever waits in the
 /// writer's.
-pub struct ReadSlots {
+pub struct ReadRegistrations {
     pub(crate) parts: ReadSlotParts,
 }
 
-impl Model for ReadSlots {
+impl Model for ReadRegistrations {
     ghost use Rattle.piper_ring.specs.SlotsView.{ReadSlotsView, read_slots_view, read_slots_code, IsReadSlots};
 
     ghost Value = { ReadSlotsView };
@@ -47,9 +47,9 @@ pub(crate) struct WriteSlotParts {
     pub(crate) waits: WriterWaits,
     /// The right to the place of its waker, where it is not in the slot or with the reader: then
     /// nothing lies there.
-    pub(crate) right: Option<Right>,
+    pub(crate) right: Option<Token>,
     /// Whether its waker may stand in the slot: since it registered, no look found it gone.
-    pub(crate) may_stand: bool,
+    pub(crate) maybe_registered: bool,
     /// What the reader had looked behind when this end registered last.
     pub(crate) heard: ReadMark,
     pub(crate) saw: Saw,
@@ -58,11 +58,11 @@ pub(crate) struct WriteSlotParts {
 
 /// What the writer's end has of both slots: it waits in its own, and wakes whoever waits in the
 /// reader's.
-pub struct WriteSlots {
+pub struct WriteRegistrations {
     pub(crate) parts: WriteSlotParts,
 }
 
-impl Model for WriteSlots {
+impl Model for WriteRegistrations {
     ghost use Rattle.piper_ring.specs.SlotsView.{WriteSlotsView, write_slots_view, write_slots_code, IsWriteSlots};
 
     ghost Value = { WriteSlotsView };
@@ -74,26 +74,26 @@ impl Model for WriteSlots {
     ghost invariant = { λ s. IsWriteSlots s.parts };
 }
 
-impl Drop for ReadSlots {
+impl Drop for ReadRegistrations {
     fn drop(self) {
         let Self { parts } = self;
         let ReadSlotParts {
             waits: _,
             right: _,
-            may_stand: _,
+            maybe_registered: _,
             heard: _,
             wakes: _,
         } = parts;
     }
 }
 
-impl Drop for WriteSlots {
+impl Drop for WriteRegistrations {
     fn drop(self) {
         let Self { parts } = self;
         let WriteSlotParts {
             waits: _,
             right: _,
-            may_stand: _,
+            maybe_registered: _,
             heard: _,
             saw: _,
             wakes: _,
@@ -101,7 +101,7 @@ impl Drop for WriteSlots {
     }
 }
 
-impl ReadSlots {
+impl ReadRegistrations {
     /// Whether the place of the reader's waker is with its end: then it stands nowhere.
     #[inline(always)]
     pub fn has_place(&self) -> bool
@@ -111,16 +111,16 @@ impl ReadSlots {
     }
 
     /// Whether the reader's waker may stand in its slot, as far as is known without a look there:
-    /// `stands` looks.
+    /// `is_registered` looks.
     #[inline(always)]
-    pub fn may_stand(&self) -> bool
+    pub fn maybe_registered(&self) -> bool
         ensures { self.now.owns ≡ true → IsFalse result }
     {
-        self.parts.may_stand
+        self.parts.maybe_registered
     }
 }
 
-impl WriteSlots {
+impl WriteRegistrations {
     /// Whether the place of the writer's waker is with its end: then it stands nowhere.
     #[inline(always)]
     pub fn has_place(&self) -> bool
@@ -130,11 +130,11 @@ impl WriteSlots {
     }
 
     /// Whether the writer's waker may stand in its slot, as far as is known without a look there:
-    /// `stands` looks.
+    /// `is_registered` looks.
     #[inline(always)]
-    pub fn may_stand(&self) -> bool
+    pub fn maybe_registered(&self) -> bool
         ensures { self.now.owns ≡ true → IsFalse result }
     {
-        self.parts.may_stand
+        self.parts.maybe_registered
     }
 }

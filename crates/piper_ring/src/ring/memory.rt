@@ -2,7 +2,7 @@
 ghost use Rattle.std.specs.Prelude.{◌≡◌, ℕ, IfOk};
 ghost use Rattle.piper_ring.specs.Memory.{IsClaim, unused};
 
-use piper_sides::memory::OutOfMemory;
+use piper_protocol::memory::OutOfMemory;
 use std::alloc::{Allocator, Global};
 use std::marker::Model;
 

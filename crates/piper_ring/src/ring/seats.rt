@@ -10,10 +10,10 @@ use crate::ring::marks::{ReadMark, Saw, WriteMark};
 use crate::ring::memory::Memory;
 use crate::ring::places::{Base, Blank, Places};
 use crate::ring::slots::{ReaderWaits, ReaderWakes, WriterWaits, WriterWakes};
-use piper_place::Right;
 use std::marker::{Brand, Model, PhantomData, Send, Sync};
 use std::sync::atomic::Ordering::SeqCst;
 use std::sync::atomic::raw;
+use token_cell::Token;
 
 /// The words lie in six lines of 128 bytes. The two words of a slot, which nobody stores while bytes
 /// flow, share one, and else no two words share a cache line. What lies in front of this memory can
@@ -121,8 +121,8 @@ impl Remains {
 pub(crate) fn open(
     words: Memory,
     bytes: Memory,
-    reader_right: &Right,
-    writer_right: &Right,
+    reader_token: &Token,
+    writer_token: &Token,
 ) -> (
     ReadSeat,
     WriteSeat,
@@ -136,8 +136,8 @@ pub(crate) fn open(
     requires { (words.align ≡ 8) × (bytes.align ≡ 1) }
     ensures ring { (result.0.words ≡ words.start) × (result.0.at ≡ bytes.start)
         × (result.0.names.capacity ≡ bytes.size) }
-    ensures places { (result.0.names.reader_place ≡ reader_right.now.name)
-        × (result.0.names.writer_place ≡ writer_right.now.name) }
+    ensures places { (result.0.names.reader_place ≡ reader_token.now.name)
+        × (result.0.names.writer_place ≡ writer_token.now.name) }
     ensures reader { (result.0.head ≡ 0) × (result.0.seen ≡ 0) × (result.0.have ≡ [])
         × (result.0.leaving ≡ false) }
     ensures pair { (result.1.words ≡ result.0.words) × (result.1.at ≡ bytes.start)

@@ -6,10 +6,10 @@ ghost use Rattle.piper_ring.specs.Shared.{Consumed, Names, Stream, names_code, w
 
 use crate::ring::marks::{ReadMark, Saw, WriteMark};
 use crate::ring::seats::{READER_BACK, READER_FLAG, ReadSeat, WRITER_BACK, WRITER_FLAG, WriteSeat};
-use piper_place::{Place, Right};
 use std::marker::{Brand, Model, PhantomData, Send, Sync};
 use std::sync::atomic::Ordering::SeqCst;
 use std::sync::atomic::raw;
+use token_cell::{Token, TokenCell};
 
 /// The reader, at its own slot. `owns` is whether it has the place of the waker, `tickets` how
 /// often it registered, and the rest what the writer had published when it looked last before that.
@@ -122,8 +122,8 @@ impl Drop for ReaderWakes {
 }
 
 impl WriteSeat {
-    ghost use Rattle.piper_ring.specs.Slots.{GivesBack, HandsOver, IsRemembered, Looks, Regains, Takes};
-    ghost use Rattle.piper_ring.specs.SlotViews.{IsRightTo, of_reader_wakes, of_writer_waits, of_writer_wakes};
+    ghost use Rattle.piper_ring.specs.Slots.{GivesBack, PublishesWaker, IsRemembered, Looks, Reclaims, Takes};
+    ghost use Rattle.piper_ring.specs.SlotViews.{IsTokenOf, of_reader_wakes, of_writer_waits, of_writer_wakes};
 
     /// 1 where a waker stands in the reader's slot, else 0: then all that was published so far was
     /// looked behind.
@@ -138,33 +138,33 @@ impl WriteSeat {
 
     /// 1 where it took the waker that stood in the reader's slot, with the right to its place, else
     /// 0: then all that was published so far was looked behind.
-    pub(crate) fn take_waker(&self, slot: &mut WriterWakes) -> (u64, Right)
+    pub(crate) fn take_waker(&self, slot: &mut WriterWakes) -> (u64, Token)
         requires { (slot.old.names ≡ self.now.names) × (slot.old.holds ≡ false) }
         ensures ring { slot.new.names ≡ slot.old.names }
         ensures taken { Takes Stream (of_writer_wakes slot.old) (self.now.sent, self.now.shut)
             result.0 (of_writer_wakes slot.new) }
-        ensures right { IsRightTo self.now.names.reader_place slot.new.holds slot.new.holds
+        ensures right { IsTokenOf self.now.names.reader_place slot.new.holds slot.new.holds
             result.1 }
     {
         let found = unsafe { raw::swap::<Brand>(self.words.add(READER_FLAG), 0, SeqCst) };
-        (found, Right { mark: PhantomData })
+        (found, Token { mark: PhantomData })
     }
 
     /// Hands the place of the reader's waker back, with nothing in it.
-    pub(crate) fn give_back(&self, slot: &mut WriterWakes, right: Right)
+    pub(crate) fn give_back(&self, slot: &mut WriterWakes, right: Token)
         requires { (slot.old.names ≡ self.now.names) × (slot.old.holds ≡ true)
-            × IsRightTo self.now.names.reader_place true false right }
+            × IsTokenOf self.now.names.reader_place true false right }
         ensures ring { slot.new.names ≡ slot.old.names }
         ensures gave { GivesBack Stream (of_writer_wakes slot.old) (self.now.sent, self.now.shut)
             0 (of_writer_wakes slot.new) }
     {
-        let Right { mark: _ } = right;
+        let Token { mark: _ } = right;
         unsafe { raw::store::<Brand>(self.words.add(READER_BACK), 1, SeqCst) }
     }
 
     /// Takes the waker that stands in the reader's slot, if one does, out of its place, and hands
     /// the place back.
-    pub(crate) fn take<T>(&self, slot: &mut WriterWakes, place: &Place<Option<T>>) -> Option<T>
+    pub(crate) fn take<T>(&self, slot: &mut WriterWakes, place: &TokenCell<Option<T>>) -> Option<T>
         requires slot { (slot.old.names ≡ self.now.names) × (slot.old.holds ≡ false) }
         requires place { place.now ≡ self.now.names.reader_place }
         ensures ring { (slot.new.names ≡ slot.old.names) × (slot.new.holds ≡ false) }
@@ -183,21 +183,21 @@ impl WriteSeat {
 
     /// The writer's waker, which lies in its place, stands in its slot, under the next ticket. With
     /// it comes evidence of what the reader had looked behind.
-    pub(crate) fn hand_over(&self, slot: &mut WriterWaits, right: Right) -> (ReadMark, Saw)
+    pub(crate) fn publish_waker(&self, slot: &mut WriterWaits, right: Token) -> (ReadMark, Saw)
         requires { (slot.old.names ≡ self.now.names) × (slot.old.owns ≡ true)
-            × IsRightTo self.now.names.writer_place true true right }
+            × IsTokenOf self.now.names.writer_place true true right }
         ensures ring { slot.new.names ≡ slot.old.names }
         ensures marks { (result.0.names ≡ self.now.names) × (result.1.names ≡ self.now.names) }
-        ensures stands { HandsOver Consumed (of_writer_waits slot.old)
+        ensures is_registered { PublishesWaker Consumed (of_writer_waits slot.old)
             (result.0.count, result.1.seen) 0 (of_writer_waits slot.new) }
     {
-        let Right { mark: _ } = right;
+        let Token { mark: _ } = right;
         unsafe { raw::store::<Brand>(self.words.add(WRITER_FLAG), 1, SeqCst) };
         (ReadMark { mark: PhantomData }, Saw { mark: PhantomData })
     }
 
     /// 1 where the writer's waker stands in its slot, else 0.
-    pub(crate) fn stands(&self, slot: &mut WriterWaits) -> u64
+    pub(crate) fn is_registered(&self, slot: &mut WriterWaits) -> u64
         requires { slot.old.names ≡ self.now.names }
         ensures { slot.new ≡ slot.old }
     {
@@ -206,28 +206,28 @@ impl WriteSeat {
 
     /// 1 where the writer's waker stood in its slot and is the writer's again, with the right to
     /// its place, else 0.
-    pub(crate) fn withdraw(&self, slot: &mut WriterWaits) -> (u64, Right)
+    pub(crate) fn cancel(&self, slot: &mut WriterWaits) -> (u64, Token)
         requires { (slot.old.names ≡ self.now.names) × (slot.old.owns ≡ false) }
         ensures ring { slot.new.names ≡ slot.old.names }
-        ensures back { Regains Consumed (of_writer_waits slot.old) (slot.old.count, slot.old.over)
+        ensures back { Reclaims Consumed (of_writer_waits slot.old) (slot.old.count, slot.old.over)
             result.0 (of_writer_waits slot.new) }
-        ensures right { IsRightTo self.now.names.writer_place slot.new.owns slot.new.owns result.1 }
+        ensures right { IsTokenOf self.now.names.writer_place slot.new.owns slot.new.owns result.1 }
     {
         let found = unsafe { raw::swap::<Brand>(self.words.add(WRITER_FLAG), 0, SeqCst) };
-        (found, Right { mark: PhantomData })
+        (found, Token { mark: PhantomData })
     }
 
     /// 1 where the reader had handed the place of the writer's waker back, with nothing in it, else
     /// 0.
-    pub(crate) fn regain(&self, slot: &mut WriterWaits) -> (u64, Right)
+    pub(crate) fn reclaim(&self, slot: &mut WriterWaits) -> (u64, Token)
         requires { (slot.old.names ≡ self.now.names) × (slot.old.owns ≡ false) }
         ensures ring { slot.new.names ≡ slot.old.names }
-        ensures back { Regains Consumed (of_writer_waits slot.old) (slot.old.count, slot.old.over)
+        ensures back { Reclaims Consumed (of_writer_waits slot.old) (slot.old.count, slot.old.over)
             result.0 (of_writer_waits slot.new) }
-        ensures right { IsRightTo self.now.names.writer_place slot.new.owns false result.1 }
+        ensures right { IsTokenOf self.now.names.writer_place slot.new.owns false result.1 }
     {
         let found = unsafe { raw::swap::<Brand>(self.words.add(WRITER_BACK), 0, SeqCst) };
-        (found, Right { mark: PhantomData })
+        (found, Token { mark: PhantomData })
     }
 
     /// Both sides of the writer's slot in one hand: a writer that has registered, and since which
@@ -241,26 +241,26 @@ impl WriteSeat {
 }
 
 impl ReadSeat {
-    ghost use Rattle.piper_ring.specs.Slots.{GivesBack, HandsOver, IsRemembered, Looks, Regains, Takes};
-    ghost use Rattle.piper_ring.specs.SlotViews.{IsRightTo, of_reader_waits, of_reader_wakes, of_writer_wakes};
+    ghost use Rattle.piper_ring.specs.Slots.{GivesBack, PublishesWaker, IsRemembered, Looks, Reclaims, Takes};
+    ghost use Rattle.piper_ring.specs.SlotViews.{IsTokenOf, of_reader_waits, of_reader_wakes, of_writer_wakes};
 
     /// The reader's waker, which lies in its place, stands in its slot, under the next ticket. With
     /// it comes evidence of what the writer had looked behind.
-    pub(crate) fn hand_over(&self, slot: &mut ReaderWaits, right: Right) -> WriteMark
+    pub(crate) fn publish_waker(&self, slot: &mut ReaderWaits, right: Token) -> WriteMark
         requires { (slot.old.names ≡ self.now.names) × (slot.old.owns ≡ true)
-            × IsRightTo self.now.names.reader_place true true right }
+            × IsTokenOf self.now.names.reader_place true true right }
         ensures ring { slot.new.names ≡ slot.old.names }
         ensures mark { result.names ≡ self.now.names }
-        ensures stands { HandsOver Stream (of_reader_waits slot.old) (result.bytes, result.shut)
+        ensures is_registered { PublishesWaker Stream (of_reader_waits slot.old) (result.bytes, result.shut)
             0 (of_reader_waits slot.new) }
     {
-        let Right { mark: _ } = right;
+        let Token { mark: _ } = right;
         unsafe { raw::store::<Brand>(self.words.add(READER_FLAG), 1, SeqCst) };
         WriteMark { mark: PhantomData }
     }
 
     /// 1 where the reader's waker stands in its slot, else 0.
-    pub(crate) fn stands(&self, slot: &mut ReaderWaits) -> u64
+    pub(crate) fn is_registered(&self, slot: &mut ReaderWaits) -> u64
         requires { slot.old.names ≡ self.now.names }
         ensures { slot.new ≡ slot.old }
     {
@@ -269,28 +269,28 @@ impl ReadSeat {
 
     /// 1 where the reader's waker stood in its slot and is the reader's again, with the right to
     /// its place, else 0.
-    pub(crate) fn withdraw(&self, slot: &mut ReaderWaits) -> (u64, Right)
+    pub(crate) fn cancel(&self, slot: &mut ReaderWaits) -> (u64, Token)
         requires { (slot.old.names ≡ self.now.names) × (slot.old.owns ≡ false) }
         ensures ring { slot.new.names ≡ slot.old.names }
-        ensures back { Regains Stream (of_reader_waits slot.old) (slot.old.bytes, slot.old.shut)
+        ensures back { Reclaims Stream (of_reader_waits slot.old) (slot.old.bytes, slot.old.shut)
             result.0 (of_reader_waits slot.new) }
-        ensures right { IsRightTo self.now.names.reader_place slot.new.owns slot.new.owns result.1 }
+        ensures right { IsTokenOf self.now.names.reader_place slot.new.owns slot.new.owns result.1 }
     {
         let found = unsafe { raw::swap::<Brand>(self.words.add(READER_FLAG), 0, SeqCst) };
-        (found, Right { mark: PhantomData })
+        (found, Token { mark: PhantomData })
     }
 
     /// 1 where the writer had handed the place of the reader's waker back, with nothing in it, else
     /// 0.
-    pub(crate) fn regain(&self, slot: &mut ReaderWaits) -> (u64, Right)
+    pub(crate) fn reclaim(&self, slot: &mut ReaderWaits) -> (u64, Token)
         requires { (slot.old.names ≡ self.now.names) × (slot.old.owns ≡ false) }
         ensures ring { slot.new.names ≡ slot.old.names }
-        ensures back { Regains Stream (of_reader_waits slot.old) (slot.old.bytes, slot.old.shut)
+        ensures back { Reclaims Stream (of_reader_waits slot.old) (slot.old.bytes, slot.old.shut)
             result.0 (of_reader_waits slot.new) }
-        ensures right { IsRightTo self.now.names.reader_place slot.new.owns false result.1 }
+        ensures right { IsTokenOf self.now.names.reader_place slot.new.owns false result.1 }
     {
         let found = unsafe { raw::swap::<Brand>(self.words.add(READER_BACK), 0, SeqCst) };
-        (found, Right { mark: PhantomData })
+        (found, Token { mark: PhantomData })
     }
 
     /// Both sides of the reader's slot in one hand: a reader that has registered, and since which
@@ -317,28 +317,28 @@ impl ReadSeat {
     /// 1 where it took the waker that stood in the writer's slot, with the right to its place, else
     /// 0: then all that was consumed so far was looked behind, and that the ring is closed where
     /// `saw` tells so.
-    pub(crate) fn take_waker(&self, slot: &mut ReaderWakes, saw: &Saw) -> (u64, Right)
+    pub(crate) fn take_waker(&self, slot: &mut ReaderWakes, saw: &Saw) -> (u64, Token)
         requires { (slot.old.names ≡ self.now.names) × (slot.old.holds ≡ false)
             × (saw.now.names ≡ self.now.names) }
         ensures ring { slot.new.names ≡ slot.old.names }
         ensures taken { Takes Consumed (of_reader_wakes slot.old) (self.now.head, saw.now.seen)
             result.0 (of_reader_wakes slot.new) }
-        ensures right { IsRightTo self.now.names.writer_place slot.new.holds slot.new.holds
+        ensures right { IsTokenOf self.now.names.writer_place slot.new.holds slot.new.holds
             result.1 }
     {
         let found = unsafe { raw::swap::<Brand>(self.words.add(WRITER_FLAG), 0, SeqCst) };
-        (found, Right { mark: PhantomData })
+        (found, Token { mark: PhantomData })
     }
 
     /// Hands the place of the writer's waker back, with nothing in it.
-    pub(crate) fn give_back(&self, slot: &mut ReaderWakes, right: Right)
+    pub(crate) fn give_back(&self, slot: &mut ReaderWakes, right: Token)
         requires { (slot.old.names ≡ self.now.names) × (slot.old.holds ≡ true)
-            × IsRightTo self.now.names.writer_place true false right }
+            × IsTokenOf self.now.names.writer_place true false right }
         ensures ring { slot.new.names ≡ slot.old.names }
         ensures gave { GivesBack Consumed (of_reader_wakes slot.old) (self.now.head, false)
             0 (of_reader_wakes slot.new) }
     {
-        let Right { mark: _ } = right;
+        let Token { mark: _ } = right;
         unsafe { raw::store::<Brand>(self.words.add(WRITER_BACK), 1, SeqCst) }
     }
 
@@ -348,7 +348,7 @@ impl ReadSeat {
         &self,
         slot: &mut ReaderWakes,
         saw: &Saw,
-        place: &Place<Option<T>>,
+        place: &TokenCell<Option<T>>,
     ) -> Option<T>
         requires slot { (slot.old.names ≡ self.now.names) × (slot.old.holds ≡ false)
             × (saw.now.names ≡ self.now.names) }

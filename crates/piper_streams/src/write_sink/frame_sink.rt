@@ -85,10 +85,10 @@ impl<W: AsyncWrite + Drop> Sink<Vec<u8>> for FrameSink<W> {
     }
 
     fn start_send(&mut self, item: Vec<u8>) -> Result<(), PipeError> {
-        if !self.format.can_tell(item.len()) {
+        if !self.format.can_encode(item.len()) {
             return Err(PipeError::Io(ErrorKind::InvalidInput.into()));
         }
-        let header = self.format.tell(item.len());
+        let header = self.format.encode(item.len());
         let mut frame = Vec::new(self.alloc);
         if frame.extend_from_slice(header.as_slice()).is_err() {
             return Err(PipeError::Memory);

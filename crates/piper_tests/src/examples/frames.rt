@@ -24,9 +24,9 @@ fn write_frame<W: AsyncWrite>(rt: &impl Abort, cx: &mut Context<'_>, writer: &mu
 }
 
 /// The bytes of a length, to be written by hand.
-fn tell(rt: &impl Abort) {
-    if TWO_BYTES.can_tell(258) {
-        same_bytes(rt, TWO_BYTES.tell(258).as_slice(), &[2, 1]);
+fn encode(rt: &impl Abort) {
+    if TWO_BYTES.can_encode(258) {
+        same_bytes(rt, TWO_BYTES.encode(258).as_slice(), &[2, 1]);
     }
 }
 
@@ -66,7 +66,7 @@ fn frames_are_written_and_read(rt: HostRuntime) -> Result<(), Fail> {
     let alloc = rt.alloc();
     let task = MockTask::new(&rt)?;
     let (reader, mut writer) = owned_pipe(rt.alloc(), 32)?;
-    tell(&rt);
+    encode(&rt);
     task.enter(|cx| write_frame(&rt, cx, &mut writer));
     let mut frames = Frames::new(alloc, reader);
     let mut frame = Vec::new(alloc);

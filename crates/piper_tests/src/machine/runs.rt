@@ -1,17 +1,17 @@
 //! What no contract says: that memory is granted, and that want of memory changes nothing.
 ghost use Rattle.std.specs.Prelude.{◌≡◌};
-ghost use Rattle.piper_sides.specs.Index.{IsCapacity};
+ghost use Rattle.piper_protocol.specs.Index.{IsCapacity};
 ghost use Rattle.piper_machine.specs.Pipe.{fresh};
 
 use crate::compare::same;
 use piper_machine::machine::{Machine, run};
-use piper_sides::bytes::Bytes;
-use piper_sides::calls::{Call, Side, Step};
-use piper_sides::events::{Event, Log};
-use piper_sides::memory::OutOfMemory;
-use piper_sides::polling::Luck;
-use piper_sides::refusals::{RunRefusal, StepRefusal};
-use piper_sides::scripted::{ActList, SourceAct};
+use piper_protocol::bytes::Bytes;
+use piper_protocol::calls::{Call, Side, Step};
+use piper_protocol::events::{Event, Log};
+use piper_protocol::memory::OutOfMemory;
+use piper_protocol::polling::Luck;
+use piper_protocol::refusals::{RunRefusal, StepRefusal};
+use piper_protocol::scripted::{ActList, SourceAct};
 use std::alloc::Global;
 use std::process::Abort;
 

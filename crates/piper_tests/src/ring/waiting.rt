@@ -5,13 +5,13 @@ ghost use Rattle.std.specs.Arc.{arc_value};
 
 use crate::pair::same;
 use crate::ring::acts::{receive_due, send, send_due};
-use piper_place::Place;
-use piper_ring::{ReadEnd, ReadSlots, WriteEnd, WriteSlots, open_with_slots};
+use piper_ring::{ReadEnd, ReadRegistrations, WriteEnd, WriteRegistrations, open_with_slots};
 use std::alloc::AllocGlobal;
 use std::process::Abort;
 use std::sync::atomic::{AtomicU64, Ordering};
 use std::sync::{Arc, Wait};
 use std::thread;
+use token_cell::TokenCell;
 
 /// The most turns that a reader makes for one wake.
 const MOST_TURNS: u32 = 20_000_000;
@@ -19,15 +19,15 @@ const MOST_TURNS: u32 = 20_000_000;
 /// Where each side leaves a number while it waits.
 #[derive(Drop)]
 struct Places {
-    reader: Place<Option<u64>>,
-    writer: Place<Option<u64>>,
+    reader: TokenCell<Option<u64>>,
+    writer: TokenCell<Option<u64>>,
 }
 
 /// An end that reads, with what it has of the slots.
 #[derive(Drop)]
 struct Reading {
     end: ReadEnd,
-    slots: ReadSlots,
+    slots: ReadRegistrations,
     places: Arc<Places>,
     ghost of_one_ring: { slots.names ≡ end.ring.1.1 },
     ghost reader: { (arc_value places).reader ≡ slots.names.reader_place },
@@ -38,7 +38,7 @@ struct Reading {
 #[derive(Drop)]
 struct Writing {
     end: WriteEnd,
-    slots: WriteSlots,
+    slots: WriteRegistrations,
     places: Arc<Places>,
     ghost of_one_ring: { slots.names ≡ end.ring.1.1 },
     ghost reader: { (arc_value places).reader ≡ slots.names.reader_place },
@@ -48,8 +48,8 @@ struct Writing {
 fn both(rt: &(impl Abort + AllocGlobal), capacity: usize) -> (Reading, Writing)
     requires { (0 < capacity) × (2 * capacity < 2 ^ 64) }
 {
-    let (reader, reader_right) = Place::empty();
-    let (writer, writer_right) = Place::empty();
+    let (reader, reader_right) = TokenCell::empty();
+    let (writer, writer_right) = TokenCell::empty();
     let places = Arc::new(rt.alloc(), Places { reader, writer }).expect(rt, "two places");
     let others = Arc::try_clone(&places).expect(rt, "one more count");
     let (reader, writer, read_slots, write_slots) = open_with_slots(

@@ -8,9 +8,9 @@ ghost use Rattle.tokio.specs.Io.Moved.{bytes_moved, count_moved, OnReadyOk, IfRe
 ghost use Rattle.piper.specs.Drains.{CountsWhatFits, DrainYields, EndIsSeen, EndIsUnseen};
 ghost use Rattle.piper.specs.Ends.{ReaderIsUpToDate};
 ghost use Rattle.piper.specs.Handles.{NotifiesWriter, read_source};
-ghost use Rattle.piper.specs.Polls.{Behind, TakesNone};
+ghost use Rattle.piper.specs.Polls.{After, TakesNone};
 ghost use Rattle.piper.specs.ReadView.{in_one_piece};
-ghost use Rattle.piper.specs.Waits.{ReaderStands};
+ghost use Rattle.piper.specs.Waits.{ReaderRegistered};
 ghost use Rattle.piper_tokio.specs.Passing.{Took, AtEnd};
 ghost use Rattle.piper_tokio.specs.Shown.{shown_by};
 ghost use Rattle.piper_tokio.specs.PassingLaws.{took_nothing, took_in_order};
@@ -64,7 +64,7 @@ impl tokio::io::AsyncRead for CompatReader {
         ensures count { CountsWhatFits result (length buf.old)
             self.old.reader.end self.new.reader.end }
         ensures end { result ≡ Poll.Ready (Ok 0) → 0 < length buf.old → AtEnd self.new.reader }
-        ensures behind { AtEnd self.old.reader → TakesNone result
+        ensures after { AtEnd self.old.reader → TakesNone result
             (AtEnd self.new.reader) self.old.reader.end.taken self.new.reader.end.taken }
         ensures ended { EndIsSeen result self.old.reader.end self.new.reader.end }
         ensures waits { EndIsUnseen result self.old.reader.end self.new.reader.end }
@@ -74,10 +74,10 @@ impl tokio::io::AsyncRead for CompatReader {
         ensures refused { IfReadyErr result (λ _. cx.new.lacks_waker ≡ true) }
         ensures shown { shown_by self.new ≡ [] }
         ensures woke { NotifiesWriter self.old.reader → NotifiesWriter self.new.reader }
-        ensures registered { OnPending result
+        ensures covered { OnPending result
             (Covers cx.new (λ s. s ≡ read_source self.new.reader)) }
-        ensures stands { OnPending result
-            (ReaderStands self.old.reader self.new.reader cx.new) }
+        ensures registered { OnPending result
+            (ReaderRegistered self.old.reader self.new.reader cx.new) }
         ensures kept { Keeps cx.old cx.new }
     {
         self.shown = 0;
@@ -100,8 +100,8 @@ impl tokio::io::AsyncBufRead for CompatReader {
             ≡ take (in_one_piece self.new.reader.end) self.new.reader.end.known) }
         ensures end { OnReadyOk result
             (length (shown_by self.new) ≡ 0 → AtEnd self.new.reader) }
-        ensures behind { AtEnd self.old.reader →
-            Behind result (AtEnd self.new.reader) self.new.reader.end.known }
+        ensures after { AtEnd self.old.reader →
+            After result (AtEnd self.new.reader) self.new.reader.end.known }
         ensures waits { OnPending result
             ((self.new.reader.end.known ≡ []) × (self.new.reader.end.saw ≡ false)) }
         ensures told { OnPending result (self.old.reader.end.told_shut ≡ false) }
@@ -109,10 +109,10 @@ impl tokio::io::AsyncBufRead for CompatReader {
         ensures failed { IfReadyErr result (λ e. error_kind e ≡ OutOfMemoryKind) }
         ensures refused { IfReadyErr result (λ _. cx.new.lacks_waker ≡ true) }
         ensures woke { NotifiesWriter self.old.reader → NotifiesWriter self.new.reader }
-        ensures registered { OnPending result
+        ensures covered { OnPending result
             (Covers cx.new (λ s. s ≡ read_source self.new.reader)) }
-        ensures stands { OnPending result
-            (ReaderStands self.old.reader self.new.reader cx.new) }
+        ensures registered { OnPending result
+            (ReaderRegistered self.old.reader self.new.reader cx.new) }
         ensures kept { Keeps cx.old cx.new }
     {
         self.shown = 0;

@@ -2,10 +2,10 @@
 ghost use Rattle.std.specs.Prelude.{◌≡◌, ◌+◌, ◌<◌, ◌≤◌, ◌++◌, length, None, IsSome, IsOk, IfOk, IfErr, true, false, IsTrue, IsFalse};
 
 use crate::ends::reader::ReadEnd;
-use crate::ends::slots::{ReadSlots, WriteSlots};
+use crate::ends::slots::{ReadRegistrations, WriteRegistrations};
 use crate::ends::writer::WriteEnd;
 use crate::ring::marks::LastReadMark;
-use piper_place::Place;
+use token_cell::TokenCell;
 
 impl ReadEnd {
     ghost use Rattle.piper_ring.specs.ReadView.{KnowsEnd, KnowsMore, SameButSaw};
@@ -13,7 +13,11 @@ impl ReadEnd {
     ghost use Rattle.piper_ring.specs.SlotsView.{Registers, HasToDo, IsPending, HasNews, IsReaderAtRest, SameReaderPlace, IsWriterPending, HasRoomNews};
 
     /// Takes its waker back, where it still stands in this end's slot.
-    pub fn withdraw<T>(&self, slots: &mut ReadSlots, place: &Place<Option<T>>) -> Option<T>
+    pub fn cancel<T>(
+        &self,
+        slots: &mut ReadRegistrations,
+        place: &TokenCell<Option<T>>,
+    ) -> Option<T>
         requires ring { slots.old.names ≡ self.now.ring.1.1 }
         requires place { place.now ≡ slots.old.names.reader_place }
         ensures back { IsSome result → (slots.old.owns ≡ false) × (slots.new.owns ≡ true) }
@@ -24,19 +28,19 @@ impl ReadEnd {
         if parts.right.is_some() {
             return None;
         }
-        let (found, mut right) = self.parts.seat.withdraw(&mut parts.waits);
+        let (found, mut right) = self.parts.seat.cancel(&mut parts.waits);
         if found == 0 {
             return None;
         }
         let waker = place.take(&mut right);
         parts.right = Some(right);
-        parts.may_stand = false;
+        parts.maybe_registered = false;
         Some(waker)
     }
 
     /// Whether the place of this end's waker is with it: it takes back a place that the writer
     /// handed back.
-    pub fn regain(&self, slots: &mut ReadSlots) -> bool
+    pub fn reclaim(&self, slots: &mut ReadRegistrations) -> bool
         requires { slots.old.names ≡ self.now.ring.1.1 }
         ensures owns { result ≡ slots.new.owns }
         ensures stays { slots.old.owns ≡ true → IsTrue result }
@@ -47,31 +51,36 @@ impl ReadEnd {
         if parts.right.is_some() {
             return true;
         }
-        let (found, right) = self.parts.seat.regain(&mut parts.waits);
+        let (found, right) = self.parts.seat.reclaim(&mut parts.waits);
         if found == 0 {
             return false;
         }
         parts.right = Some(right);
-        parts.may_stand = false;
+        parts.maybe_registered = false;
         true
     }
 
     /// Whether this end's waker still stands at its slot. A waker that the writer took is not asked
     /// for again until this end registers anew.
-    pub fn stands(&self, slots: &mut ReadSlots) -> bool
+    pub fn is_registered(&self, slots: &mut ReadRegistrations) -> bool
         requires { slots.old.names ≡ self.now.ring.1.1 }
         ensures nowhere { slots.old.owns ≡ true → IsFalse result }
         ensures kept { slots.new ≡ slots.old }
     {
         let parts = &mut slots.parts;
-        if parts.may_stand {
-            parts.may_stand = self.parts.seat.stands(&mut parts.waits) != 0;
+        if parts.maybe_registered {
+            parts.maybe_registered = self.parts.seat.is_registered(&mut parts.waits) != 0;
         }
-        parts.may_stand
+        parts.maybe_registered
     }
 
     /// Stands at this end's slot, where the writer's next look finds it, with `waker` in its place.
-    pub fn hand_over<T>(&self, slots: &mut ReadSlots, place: &Place<Option<T>>, waker: T)
+    pub fn publish_waker<T>(
+        &self,
+        slots: &mut ReadRegistrations,
+        place: &TokenCell<Option<T>>,
+        waker: T,
+    )
         requires ring { slots.old.names ≡ self.now.ring.1.1 }
         requires place { place.now ≡ slots.old.names.reader_place }
         requires owned { slots.old.owns ≡ true }
@@ -82,17 +91,17 @@ impl ReadEnd {
             unreachable!()
         };
         place.put(&mut right, waker);
-        parts.may_stand = true;
-        parts.heard = self.parts.seat.hand_over(&mut parts.waits, right);
+        parts.maybe_registered = true;
+        parts.heard = self.parts.seat.publish_waker(&mut parts.waits, right);
     }
 
-    /// `hand_over`, where the place can be had: the answer is the waker that still stood there, if
+    /// `publish_waker`, where the place can be had: the answer is the waker that still stood there, if
     /// one did. It is `Err`, and this end stands nowhere, where the writer has stored something and
     /// has not handed the place back yet.
     pub fn register<T>(
         &self,
-        slots: &mut ReadSlots,
-        place: &Place<Option<T>>,
+        slots: &mut ReadRegistrations,
+        place: &TokenCell<Option<T>>,
         waker: T,
     ) -> Result<Option<T>, T>
         requires ring { slots.old.names ≡ self.now.ring.1.1 }
@@ -101,26 +110,26 @@ impl ReadEnd {
         ensures refused { IfErr result (λ _. slots.new ≡ slots.old) }
         ensures owned { slots.old.owns ≡ true → IsOk result }
     {
-        let before = match self.withdraw(slots, place) {
+        let before = match self.cancel(slots, place) {
             Some(before) => Some(before),
             None => {
-                if !self.regain(slots) {
+                if !self.reclaim(slots) {
                     return Err(waker);
                 }
                 None
             }
         };
-        self.hand_over(slots, place, waker);
+        self.publish_waker(slots, place, waker);
         Ok(before)
     }
 
     /// `reload`, by an end that has registered: it finds all that the writer had looked behind
     /// before that.
     #[inline(always)]
-    pub fn reload_behind(&mut self, slots: &ReadSlots)
+    pub fn reload_after(&mut self, slots: &ReadRegistrations)
         requires ring { slots.now.names ≡ self.old.ring.1.1 }
         requires none { length self.old.known ≡ 0 }
-        ensures behind { length slots.now.bytes ≤ length (self.new.taken ++ self.new.known) }
+        ensures after { length slots.now.bytes ≤ length (self.new.taken ++ self.new.known) }
         ensures fresh { self.old.told ≤ length (self.new.taken ++ self.new.known) }
         ensures end { KnowsEnd self.old → self.new.taken ++ self.new.known ≡ self.new.all }
         ensures kept { KnowsMore self.old self.new }
@@ -132,9 +141,9 @@ impl ReadEnd {
     /// `look_closed`, by an end that has registered: it finds a close that the writer had looked
     /// behind before that.
     #[inline(always)]
-    pub fn look_closed_behind(&mut self, slots: &ReadSlots) -> bool
+    pub fn look_closed_after(&mut self, slots: &ReadRegistrations) -> bool
         requires { slots.now.names ≡ self.old.ring.1.1 }
-        ensures behind { flag slots.now.shut ≤ flag self.new.saw }
+        ensures after { flag slots.now.shut ≤ flag self.new.saw }
         ensures saw { result ≡ self.new.saw }
         ensures stays { flag self.old.saw ≤ flag self.new.saw }
         ensures told { flag self.old.told_shut ≤ flag self.new.saw }
@@ -148,8 +157,8 @@ impl ReadEnd {
     /// whatever the writer stores from now on finds it.
     pub fn wait<T: Drop>(
         &mut self,
-        slots: &mut ReadSlots,
-        place: &Place<Option<T>>,
+        slots: &mut ReadRegistrations,
+        place: &TokenCell<Option<T>>,
         waker: T,
     ) -> bool
         requires ring { slots.old.names ≡ self.old.ring.1.1 }
@@ -164,14 +173,14 @@ impl ReadEnd {
         if self.register(slots, place, waker).is_err() {
             return false;
         }
-        self.reload_behind(slots);
-        !self.look_closed_behind(slots) && self.knows_none()
+        self.reload_after(slots);
+        !self.look_closed_after(slots) && self.knows_none()
     }
 
     /// Looks behind all that this end consumed whether the writer stands at its slot. The answer is
     /// `true` where it doesn't.
     #[inline(always)]
-    pub fn finds_none(&self, slots: &mut ReadSlots) -> bool
+    pub fn nobody_waits(&self, slots: &mut ReadRegistrations) -> bool
         requires { slots.old.names ≡ self.now.ring.1.1 }
         ensures rests { IsTrue result → IsReaderAtRest self.now slots.new }
         ensures found { IsFalse result → slots.new ≡ slots.old }
@@ -184,7 +193,7 @@ impl ReadEnd {
 
     /// Behind all that this end consumed, takes the writer's ticket where it stands at its slot.
     /// The answer is the waker that it put there, and its place is handed back.
-    pub fn take<T>(&self, slots: &mut ReadSlots, place: &Place<Option<T>>) -> Option<T>
+    pub fn take<T>(&self, slots: &mut ReadRegistrations, place: &TokenCell<Option<T>>) -> Option<T>
         requires ring { slots.old.names ≡ self.now.ring.1.1 }
         requires place { place.now ≡ slots.old.names.writer_place }
         ensures rests { IsReaderAtRest self.now slots.new }
@@ -198,7 +207,7 @@ impl ReadEnd {
 
     /// Looks behind all that this end consumed whether the writer stands at its slot, and takes its
     /// ticket. The answer is whether it did.
-    pub fn wake<T: Drop>(&self, slots: &mut ReadSlots, place: &Place<Option<T>>) -> bool
+    pub fn wake<T: Drop>(&self, slots: &mut ReadRegistrations, place: &TokenCell<Option<T>>) -> bool
         requires ring { slots.old.names ≡ self.now.ring.1.1 }
         requires place { place.now ≡ slots.old.names.writer_place }
         ensures rests { IsReaderAtRest self.now slots.new }
@@ -206,7 +215,7 @@ impl ReadEnd {
         ensures some { IsTrue result → slots.old.taken < slots.new.taken }
         ensures own { SameReaderPlace slots.old slots.new }
     {
-        if self.finds_none(slots) {
+        if self.nobody_waits(slots) {
             return false;
         }
         self.take(slots, place).is_some()
@@ -215,8 +224,8 @@ impl ReadEnd {
     /// `finish`, and `take` behind its close.
     pub fn finish_waking<T>(
         self,
-        slots: &mut ReadSlots,
-        place: &Place<Option<T>>,
+        slots: &mut ReadRegistrations,
+        place: &TokenCell<Option<T>>,
     ) -> (LastReadMark, Option<T>)
         requires ring { slots.old.names ≡ self.ring.1.1 }
         requires place { place.now ≡ slots.old.names.writer_place }
@@ -238,9 +247,9 @@ impl ReadEnd {
     /// since and looked, the last ticket was taken.
     pub fn meet_slots(
         &self,
-        slots: &mut ReadSlots,
+        slots: &mut ReadRegistrations,
         writer: &WriteEnd,
-        writer_slots: &mut WriteSlots,
+        writer_slots: &mut WriteRegistrations,
     )
         requires { (writer.now.ring ≡ self.now.ring) × (slots.old.names ≡ self.now.ring.1.1)
             × (writer_slots.old.names ≡ self.now.ring.1.1) }
@@ -251,14 +260,14 @@ impl ReadEnd {
         ensures capacity { writer.now.capacity ≡ self.now.capacity }
         ensures kept { (slots.new ≡ slots.old) × (writer_slots.new ≡ writer_slots.old) }
     {
-        self.meet_left(slots, writer_slots);
-        writer.meet_left(writer_slots, slots);
+        self.meet_finished(slots, writer_slots);
+        writer.meet_finished(writer_slots, slots);
     }
 
     /// With what is left of the writer's slots once its end is gone, and also before: where this
     /// end waits, and behind its back the writer stored something since and looked, its last ticket
     /// was taken.
-    pub fn meet_left(&self, slots: &mut ReadSlots, left: &mut WriteSlots)
+    pub fn meet_finished(&self, slots: &mut ReadRegistrations, left: &mut WriteRegistrations)
         requires { (slots.old.names ≡ self.now.ring.1.1) × (left.old.names ≡ self.now.ring.1.1) }
         ensures reader { IsPending self.now slots.old → HasNews self.now left.old
             → left.old.taken ≡ slots.old.tickets }

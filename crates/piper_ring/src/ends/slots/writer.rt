@@ -1,10 +1,10 @@
 //! How the writer's end waits in its slot, and wakes whoever waits in the reader's.
 ghost use Rattle.std.specs.Prelude.{◌≡◌, ◌+◌, ◌<◌, ◌≤◌, length, None, IsSome, IsOk, IfOk, IfErr, true, false, IsTrue, IsFalse};
 
-use crate::ends::slots::{ReadSlots, WriteSlots};
+use crate::ends::slots::{ReadRegistrations, WriteRegistrations};
 use crate::ends::writer::WriteEnd;
 use crate::ring::marks::WriteMark;
-use piper_place::Place;
+use token_cell::TokenCell;
 
 impl WriteEnd {
     ghost use Rattle.piper_ring.specs.Shared.{flag};
@@ -12,7 +12,11 @@ impl WriteEnd {
     ghost use Rattle.piper_ring.specs.SlotsView.{WriterRegisters, WriterHasToDo, IsWriterPending, IsAtRest, SameWriterPlace, HasRoomNews};
 
     /// Takes its waker back, where it still stands in this end's slot.
-    pub fn withdraw<T>(&self, slots: &mut WriteSlots, place: &Place<Option<T>>) -> Option<T>
+    pub fn cancel<T>(
+        &self,
+        slots: &mut WriteRegistrations,
+        place: &TokenCell<Option<T>>,
+    ) -> Option<T>
         requires ring { slots.old.names ≡ self.now.ring.1.1 }
         requires place { place.now ≡ slots.old.names.writer_place }
         ensures back { IsSome result → (slots.old.owns ≡ false) × (slots.new.owns ≡ true) }
@@ -23,19 +27,19 @@ impl WriteEnd {
         if parts.right.is_some() {
             return None;
         }
-        let (found, mut right) = self.parts.seat.withdraw(&mut parts.waits);
+        let (found, mut right) = self.parts.seat.cancel(&mut parts.waits);
         if found == 0 {
             return None;
         }
         let waker = place.take(&mut right);
         parts.right = Some(right);
-        parts.may_stand = false;
+        parts.maybe_registered = false;
         Some(waker)
     }
 
     /// Whether the place of this end's waker is with it: it takes back a place that the reader
     /// handed back.
-    pub fn regain(&self, slots: &mut WriteSlots) -> bool
+    pub fn reclaim(&self, slots: &mut WriteRegistrations) -> bool
         requires { slots.old.names ≡ self.now.ring.1.1 }
         ensures owns { result ≡ slots.new.owns }
         ensures stays { slots.old.owns ≡ true → IsTrue result }
@@ -46,31 +50,36 @@ impl WriteEnd {
         if parts.right.is_some() {
             return true;
         }
-        let (found, right) = self.parts.seat.regain(&mut parts.waits);
+        let (found, right) = self.parts.seat.reclaim(&mut parts.waits);
         if found == 0 {
             return false;
         }
         parts.right = Some(right);
-        parts.may_stand = false;
+        parts.maybe_registered = false;
         true
     }
 
     /// Whether this end's waker still stands at its slot. A waker that the reader took is not asked
     /// for again until this end registers anew.
-    pub fn stands(&self, slots: &mut WriteSlots) -> bool
+    pub fn is_registered(&self, slots: &mut WriteRegistrations) -> bool
         requires { slots.old.names ≡ self.now.ring.1.1 }
         ensures nowhere { slots.old.owns ≡ true → IsFalse result }
         ensures kept { slots.new ≡ slots.old }
     {
         let parts = &mut slots.parts;
-        if parts.may_stand {
-            parts.may_stand = self.parts.seat.stands(&mut parts.waits) != 0;
+        if parts.maybe_registered {
+            parts.maybe_registered = self.parts.seat.is_registered(&mut parts.waits) != 0;
         }
-        parts.may_stand
+        parts.maybe_registered
     }
 
     /// Stands at this end's slot, where the reader's next look finds it, with `waker` in its place.
-    pub fn hand_over<T>(&self, slots: &mut WriteSlots, place: &Place<Option<T>>, waker: T)
+    pub fn publish_waker<T>(
+        &self,
+        slots: &mut WriteRegistrations,
+        place: &TokenCell<Option<T>>,
+        waker: T,
+    )
         requires ring { slots.old.names ≡ self.now.ring.1.1 }
         requires place { place.now ≡ slots.old.names.writer_place }
         requires owned { slots.old.owns ≡ true }
@@ -81,19 +90,19 @@ impl WriteEnd {
             unreachable!()
         };
         place.put(&mut right, waker);
-        parts.may_stand = true;
-        let (heard, saw) = self.parts.seat.hand_over(&mut parts.waits, right);
+        parts.maybe_registered = true;
+        let (heard, saw) = self.parts.seat.publish_waker(&mut parts.waits, right);
         parts.heard = heard;
         parts.saw = saw;
     }
 
-    /// `hand_over`, where the place can be had: the answer is the waker that still stood there, if
+    /// `publish_waker`, where the place can be had: the answer is the waker that still stood there, if
     /// one did. It is `Err`, and this end stands nowhere, where the reader has consumed something and
     /// has not handed the place back yet.
     pub fn register<T>(
         &self,
-        slots: &mut WriteSlots,
-        place: &Place<Option<T>>,
+        slots: &mut WriteRegistrations,
+        place: &TokenCell<Option<T>>,
         waker: T,
     ) -> Result<Option<T>, T>
         requires ring { slots.old.names ≡ self.now.ring.1.1 }
@@ -102,26 +111,26 @@ impl WriteEnd {
         ensures refused { IfErr result (λ _. slots.new ≡ slots.old) }
         ensures owned { slots.old.owns ≡ true → IsOk result }
     {
-        let before = match self.withdraw(slots, place) {
+        let before = match self.cancel(slots, place) {
             Some(before) => Some(before),
             None => {
-                if !self.regain(slots) {
+                if !self.reclaim(slots) {
                     return Err(waker);
                 }
                 None
             }
         };
-        self.hand_over(slots, place, waker);
+        self.publish_waker(slots, place, waker);
         Ok(before)
     }
 
     /// `reload`, by an end that has registered: it finds all the room that the reader had looked
     /// behind before that.
     #[inline(always)]
-    pub fn reload_behind(&mut self, slots: &WriteSlots)
+    pub fn reload_after(&mut self, slots: &WriteRegistrations)
         requires ring { slots.now.names ≡ self.old.ring.1.1 }
         requires none { self.old.room ≡ 0 }
-        ensures behind { slots.now.count + self.old.capacity
+        ensures after { slots.now.count + self.old.capacity
             ≤ length self.new.sent + self.new.room }
         ensures fresh { self.old.told + self.old.capacity ≤ length self.new.sent + self.new.room }
         ensures kept { HasMoreRoom self.old self.new }
@@ -132,10 +141,10 @@ impl WriteEnd {
     /// `look_closed`, by an end that has registered and has not seen the pipe closed: it finds a
     /// close that the reader had looked behind before that.
     #[inline(always)]
-    pub fn look_closed_behind(&mut self, slots: &WriteSlots) -> bool
+    pub fn look_closed_after(&mut self, slots: &WriteRegistrations) -> bool
         requires ring { slots.now.names ≡ self.old.ring.1.1 }
         requires open { self.old.saw ≡ false }
-        ensures behind { flag slots.now.over ≤ flag self.new.saw }
+        ensures after { flag slots.now.over ≤ flag self.new.saw }
         ensures saw { result ≡ self.new.saw }
         ensures kept { SameButSaw self.old self.new }
     {
@@ -147,8 +156,8 @@ impl WriteEnd {
     /// reader stores from now on finds it.
     pub fn wait<T: Drop>(
         &mut self,
-        slots: &mut WriteSlots,
-        place: &Place<Option<T>>,
+        slots: &mut WriteRegistrations,
+        place: &TokenCell<Option<T>>,
         waker: T,
     ) -> bool
         requires ring { slots.old.names ≡ self.old.ring.1.1 }
@@ -164,14 +173,14 @@ impl WriteEnd {
         if self.register(slots, place, waker).is_err() {
             return false;
         }
-        self.reload_behind(slots);
-        !self.look_closed_behind(slots) && self.knows_none()
+        self.reload_after(slots);
+        !self.look_closed_after(slots) && self.knows_none()
     }
 
     /// Looks behind all that this end stored whether the reader stands at its slot. The answer is
     /// `true` where it doesn't.
     #[inline(always)]
-    pub fn finds_none(&self, slots: &mut WriteSlots) -> bool
+    pub fn nobody_waits(&self, slots: &mut WriteRegistrations) -> bool
         requires { slots.old.names ≡ self.now.ring.1.1 }
         ensures rests { IsTrue result → IsAtRest self.now slots.new }
         ensures found { IsFalse result → slots.new ≡ slots.old }
@@ -183,7 +192,7 @@ impl WriteEnd {
 
     /// Behind all that this end stored, takes the reader's ticket where it stands at its slot. The
     /// answer is the waker that it put there, and its place is handed back.
-    pub fn take<T>(&self, slots: &mut WriteSlots, place: &Place<Option<T>>) -> Option<T>
+    pub fn take<T>(&self, slots: &mut WriteRegistrations, place: &TokenCell<Option<T>>) -> Option<T>
         requires ring { slots.old.names ≡ self.now.ring.1.1 }
         requires place { place.now ≡ slots.old.names.reader_place }
         ensures rests { IsAtRest self.now slots.new }
@@ -196,7 +205,11 @@ impl WriteEnd {
 
     /// Looks behind all that this end stored whether the reader stands at its slot, and takes its
     /// ticket. The answer is whether it did.
-    pub fn wake<T: Drop>(&self, slots: &mut WriteSlots, place: &Place<Option<T>>) -> bool
+    pub fn wake<T: Drop>(
+        &self,
+        slots: &mut WriteRegistrations,
+        place: &TokenCell<Option<T>>,
+    ) -> bool
         requires ring { slots.old.names ≡ self.now.ring.1.1 }
         requires place { place.now ≡ slots.old.names.reader_place }
         ensures rests { IsAtRest self.now slots.new }
@@ -204,7 +217,7 @@ impl WriteEnd {
         ensures some { IsTrue result → slots.old.taken < slots.new.taken }
         ensures own { SameWriterPlace slots.old slots.new }
     {
-        if self.finds_none(slots) {
+        if self.nobody_waits(slots) {
             return false;
         }
         self.take(slots, place).is_some()
@@ -213,8 +226,8 @@ impl WriteEnd {
     /// `finish`, and `take` behind its close.
     pub fn finish_waking<T>(
         self,
-        slots: &mut WriteSlots,
-        place: &Place<Option<T>>,
+        slots: &mut WriteRegistrations,
+        place: &TokenCell<Option<T>>,
     ) -> (WriteMark, Option<T>)
         requires ring { slots.old.names ≡ self.ring.1.1 }
         requires place { place.now ≡ slots.old.names.reader_place }
@@ -236,7 +249,7 @@ impl WriteEnd {
     /// With what is left of the reader's slots once its end is gone, and also before: where this
     /// end waits, and behind its back the reader stored something since and looked, its last ticket
     /// was taken.
-    pub fn meet_left(&self, slots: &mut WriteSlots, left: &mut ReadSlots)
+    pub fn meet_finished(&self, slots: &mut WriteRegistrations, left: &mut ReadRegistrations)
         requires { (slots.old.names ≡ self.now.ring.1.1) × (left.old.names ≡ self.now.ring.1.1) }
         ensures writer { IsWriterPending self.now slots.old → HasRoomNews self.now left.old
             → left.old.taken ≡ slots.old.tickets }

@@ -20,7 +20,7 @@ returns-in_err-input g c =
     record {
       moved = nothing_moved c.from_residual.result _ _ (search rules);
       flushed = λ writes. absurd (refused_writes_none c.from_residual.result never memory writes);
-      told = refused_is_told c.from_residual.result _ _ _ memory;
+      reported = refused_is_told c.from_residual.result _ _ _ memory;
     }
 
 pub returns : goal.returns
@@ -59,18 +59,18 @@ returns g c =
           let full = g.D.Destination.full w.flush.new.dest in
           rw w.dest-is (record {
             moved = nothing_lost c.match-drained.ended i j o q w0 w1 r0 r2 new_writer new_reader both.ensures.fed poured fifo (λ _. none) ended;
-            flushed = flushed_first w.flush.result both.result.0 c.match-drained.ended d full _ same w.flush.ensures.flushed w.flush.ensures.told;
-            told = flush_is_told w.flush.result both.result.0 c.match-drained.ended s d full same w.flush.ensures.told both.ensures.input_told;
+            flushed = flushed_first w.flush.result both.result.0 c.match-drained.ended d full _ same w.flush.ensures.flushed w.flush.ensures.reported;
+            reported = flush_is_told w.flush.result both.result.0 c.match-drained.ended s d full same w.flush.ensures.reported both.ensures.input_told;
           })
       | in-Err w ↦
           let d = g.D.Destination.fails both.new.dest in
           let full = g.D.Destination.full both.new.dest in
-          let told : IsOfDestination d full w.in-Err.error = search rules in
-          let failed : ¬ WritesAll c.match-drained.ended = failed_writes_not c.match-drained.ended w.in-Err.error d full w.ended-is told in
+          let reported : IsOfDestination d full w.in-Err.error = search rules in
+          let failed : ¬ WritesAll c.match-drained.ended = failed_writes_not c.match-drained.ended w.in-Err.error d full w.ended-is reported in
           let ended : OnOk c.match-drained.ended (IsAtEnd j) = rw w.ended-is tt in
           rw w.dest-is (record {
             moved = output_failed c.match-drained.ended i j o p w0 w1 r0 r1 r2 new_writer new_reader both.ensures.fed both.ensures.poured met.taken fifo failed ended;
             flushed = λ writes. absurd (failed writes);
-            told = failure_is_told c.match-drained.ended w.in-Err.error s d full w.ended-is told;
+            reported = failure_is_told c.match-drained.ended w.in-Err.error s d full w.ended-is reported;
           })
     ]

@@ -1,5 +1,5 @@
 use Rattle.std.proofs.Common.{rules, ◌≡◌, ◌∙◌, ap, ◌++◌, take, false}
-use Rattle.proved_order.proofs.Beginnings.{first_and_next, front_grows, left_behind}
+use Rattle.proved_order.proofs.Beginnings.{first_and_next, front_grows, left_after}
 use Rattle.proved_order.proofs.threads.send_all.Goals.{in-None, in-Some+then-given-bytes}
 use Rattle.proved_order.proofs.threads.send_all.Goals as goal
 
@@ -15,7 +15,7 @@ loop-preserved g c =
       front = front_grows bytes c.loop.writer.end.sent c.try_fill-given.new.self.end.sent c.loop.given n c.loop.writer.end.saw was.within was.front was.all fill.closed fill.front;
       all = λ unseen.
           let before : c.loop.writer.end.saw ≡ false = search rules in
-          fill.sent unseen ∙ ap (λ xs. xs ++ take n (left_behind bytes c.loop.given)) (was.all before) ∙ first_and_next bytes c.loop.given n was.within;
+          fill.sent unseen ∙ ap (λ xs. xs ++ take n (left_after bytes c.loop.given)) (was.all before) ∙ first_and_next bytes c.loop.given n was.within;
     }
 
 pub returns : goal.returns

@@ -1,6 +1,6 @@
 -- A round adds to the rounds before it, or ends them.
 use Rattle.std.proofs.Common.{rules, ◌≡◌, ◌∙◌, Ok, ap, refl, length, length-drop, inr, arith}
-use Rattle.piper_sides.specs.Table.{read_action}
+use Rattle.piper_protocol.specs.Table.{read_action}
 use Rattle.futures.specs.declared.task.Poll.TheVariants.{Ready}
 use Rattle.piper.proofs.RoundsOut.{drain_round, takes_writer, sum_fits, drain_ended, drain_failed, drained_more, drained_none}
 use Rattle.piper.proofs.SamePlace.{reader_place}
@@ -66,7 +66,7 @@ rounds-preserved g c =
       rest = record {
         slots = woke.rest.slots ∙ stored.rest.slots ∙ c.rounds.invariant.rest.slots;
         rng = woke.rest.rng ∙ stored.rest.rng ∙ c.rounds.invariant.rest.rng;
-        waits = reader_place c.args.self.now.waiting c.rounds.self.waiting c.store_head-round.new.self.waiting c.wake_writer-call.new.self.waiting c.rounds.invariant.rest.waits stored.rest.waiting woke.rest.waits;
+        waits = reader_place c.args.self.now.registrations c.rounds.self.registrations c.store_head-round.new.self.registrations c.wake_writer-call.new.self.registrations c.rounds.invariant.rest.waits stored.rest.registrations woke.rest.waits;
       };
       woke = λ _. woke.woke;
     }

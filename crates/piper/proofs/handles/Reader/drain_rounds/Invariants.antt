@@ -1,7 +1,7 @@
 -- The bytes of the rounds so far were given to the destination.
 use Rattle.std.proofs.Common.{◌≡◌, length}
-use Rattle.piper_sides.specs.Table.{goes_on}
-use Rattle.piper_sides.specs.declared.table.ReadPoint.TheVariants.{CallDestination}
+use Rattle.piper_protocol.specs.Table.{goes_on}
+use Rattle.piper_protocol.specs.declared.table.ReadPoint.TheVariants.{CallDestination}
 use Rattle.piper.specs.Handles.{NotifiesWriter, SameReaderButWoke}
 use Rattle.piper.proofs.RoundsOut.{Drained}
 use Rattle.piper.proofs.handles.Reader.drain_rounds.Given as goal

@@ -10,7 +10,7 @@ returns-clause-writer_woken c = λ waits rests.
     let shut = c.learn.ensures.shut in
     let is_open = met.writer.shut ∙ not_shut c.args.other.now.end.shut c.args.other.now.end.saw (λ shut'. (shut shut').1) waits.stays_open in
     and_open _ _ _
-    (room_or_none _ (length c.args.other.now.end.sent) c.args.self.now.waiting.count _ _ _ met.room
+    (room_or_none _ (length c.args.other.now.end.sent) c.args.self.now.registrations.count _ _ _ met.room
     (omega (arith, ap length met.fifo, length-append c.meet.new.self.taken c.meet.new.self.known, rests.count, ap length met.reader.taken, ap length met.writer.sent))
     (λ less. slots.writer waits (inl (omega (arith, less, slots.capacity, met.reader.end.capacity)))))
     is_open

@@ -1,5 +1,5 @@
 -- The context of a fill that waits is left as the fill leaves it.
-use Rattle.piper.proofs.StandsStill.{stands_still}
+use Rattle.piper.proofs.StaysRegistered.{stays_registered}
 use Rattle.piper.proofs.handles.Writer.fill_inner.Goals as goal
 
 pub returns-in-Some-clause-refused : goal.returns-in-Some-clause-refused
@@ -14,6 +14,6 @@ returns-in-Some-clause-kept g c = rw c.in-Some.is c.fill_waiting-told.ensures.ke
 pub returns-in-Some-clause-yields : goal.returns-in-Some-clause-yields
 returns-in-Some-clause-yields g c = rw (c.in-Some.is, c.unlend.ensures.end.room) c.fill_waiting-told.ensures.yields
 
-pub returns-in-Some-clause-stands : goal.returns-in-Some-clause-stands
-returns-in-Some-clause-stands g c =
-    rw c.in-Some.is (stands_still c.fill_waiting-told.result c.args.self.now c.fill_waiting-told.new.self c.unlend.new.self c.fill_waiting-told.new.cx c.unlend.ensures.end c.unlend.ensures.rest.waiting c.fill_waiting-told.ensures.stands)
+pub returns-in-Some-clause-registered : goal.returns-in-Some-clause-registered
+returns-in-Some-clause-registered g c =
+    rw c.in-Some.is (stays_registered c.fill_waiting-told.result c.args.self.now c.fill_waiting-told.new.self c.unlend.new.self c.fill_waiting-told.new.cx c.unlend.ensures.end c.unlend.ensures.rest.registrations c.fill_waiting-told.ensures.registered)

@@ -2,9 +2,9 @@
 use Rattle.std.proofs.Common.{◌≡◌, ◌+◌, ◌%◌, ◌^◌, ◌∙◌, ℕ, [], Ok, take, refl, sym, ap, subst, inl, inr, arith}
 use Rattle.futures.specs.declared.task.Poll.TheVariants.{Ready}
 use Rattle.piper_ring.specs.WriteView.{WriteView}
-use Rattle.piper_sides.specs.declared.table.Found.TheVariants.{Failed as failed}
-use Rattle.piper_sides.specs.Table.{Next, write_step}
-use Rattle.piper_sides.specs.declared.table.WritePoint.{WritePoint}
+use Rattle.piper_protocol.specs.declared.table.Found.TheVariants.{Failed as failed}
+use Rattle.piper_protocol.specs.Table.{Next, write_step}
+use Rattle.piper_protocol.specs.declared.table.WritePoint.{WritePoint}
 use Rattle.piper.proofs.Rounds.{counts, told_count, gave_none, told_none, gives, gave_closed, stores, takes, fill_round}
 use Rattle.piper.proofs.SamePlace.{writer_place, writer_stays}
 use Rattle.piper.proofs.StaysNotified.{reader_stays}
@@ -20,8 +20,8 @@ returns-in-Err g c =
       «open» = round.end.saw ∙ before.open_yet;
       found = tt;
       ready = tt;
-      rest = record { slots = round.rest.slots ∙ before.rest.slots; rng = round.rest.rng ∙ before.rest.rng; waits = writer_stays c.args.self.now.waiting c.rounds.self.waiting c.fill_round.new.self.waiting before.rest.waits round.rest.waiting };
-      woke = λ woke. reader_stays c.rounds.self c.fill_round.new.self round.rest.waiting round.end.sent round.end.shut (before.woke woke);
+      rest = record { slots = round.rest.slots ∙ before.rest.slots; rng = round.rest.rng ∙ before.rest.rng; waits = writer_stays c.args.self.now.registrations c.rounds.self.registrations c.fill_round.new.self.registrations before.rest.waits round.rest.registrations };
+      woke = λ woke. reader_stays c.rounds.self c.fill_round.new.self round.rest.registrations round.end.sent round.end.shut (before.woke woke);
     }
 
 pub returns-then-n-eq0 : goal.returns-then-n-eq0
@@ -40,8 +40,8 @@ returns-then-n-eq0 g c =
       «open» = tt;
       found = inr (round.end.saw ∙ before.open_yet);
       ready = tt;
-      rest = record { slots = round.rest.slots ∙ before.rest.slots; rng = round.rest.rng ∙ before.rest.rng; waits = writer_stays c.args.self.now.waiting c.rounds.self.waiting c.fill_round.new.self.waiting before.rest.waits round.rest.waiting };
-      woke = λ woke. reader_stays c.rounds.self c.fill_round.new.self round.rest.waiting round.end.sent round.end.shut (before.woke woke);
+      rest = record { slots = round.rest.slots ∙ before.rest.slots; rng = round.rest.rng ∙ before.rest.rng; waits = writer_stays c.args.self.now.registrations c.rounds.self.registrations c.fill_round.new.self.registrations before.rest.waits round.rest.registrations };
+      woke = λ woke. reader_stays c.rounds.self c.fill_round.new.self round.rest.registrations round.end.sent round.end.shut (before.woke woke);
     })
 
 pub returns-then-asks-eq0 : goal.returns-then-asks-eq0
@@ -78,8 +78,8 @@ returns-then-is_closed g c =
       «open» = tt;
       found = inl (omega (arith, c.if-n-eq0.false));
       ready = tt;
-      rest = record { slots = saw.rest.slots ∙ round.rest.slots ∙ before.rest.slots; rng = saw.rest.rng ∙ round.rest.rng ∙ before.rest.rng; waits = writer_stays c.args.self.now.waiting c.rounds.self.waiting c.load_closed-round.new.self.waiting before.rest.waits (saw.rest.waiting ∙ round.rest.waiting) };
-      woke = λ woke. reader_stays c.rounds.self c.load_closed-round.new.self (saw.rest.waiting ∙ round.rest.waiting) (saw.end.sent ∙ round.end.sent) (saw.end.shut ∙ round.end.shut) (before.woke woke);
+      rest = record { slots = saw.rest.slots ∙ round.rest.slots ∙ before.rest.slots; rng = saw.rest.rng ∙ round.rest.rng ∙ before.rest.rng; waits = writer_stays c.args.self.now.registrations c.rounds.self.registrations c.load_closed-round.new.self.registrations before.rest.waits (saw.rest.registrations ∙ round.rest.registrations) };
+      woke = λ woke. reader_stays c.rounds.self c.load_closed-round.new.self (saw.rest.registrations ∙ round.rest.registrations) (saw.end.sent ∙ round.end.sent) (saw.end.shut ∙ round.end.shut) (before.woke woke);
     })
 
 pub rounds-preserved : goal.rounds-preserved
@@ -101,7 +101,7 @@ rounds-preserved g c =
       rest = record {
         slots = woke.rest.slots ∙ stored.rest.slots ∙ saw.rest.slots ∙ round.rest.slots ∙ before.rest.slots;
         rng = woke.rest.rng ∙ stored.rest.rng ∙ saw.rest.rng ∙ round.rest.rng ∙ before.rest.rng;
-        waits = writer_place c.args.self.now.waiting c.rounds.self.waiting c.store_tail-round.new.self.waiting c.wake_reader-call.new.self.waiting before.rest.waits (stored.rest.waiting ∙ saw.rest.waiting ∙ round.rest.waiting) woke.rest.waits;
+        waits = writer_place c.args.self.now.registrations c.rounds.self.registrations c.store_tail-round.new.self.registrations c.wake_reader-call.new.self.registrations before.rest.waits (stored.rest.registrations ∙ saw.rest.registrations ∙ round.rest.registrations) woke.rest.waits;
       };
       woke = λ _. woke.woke;
     }

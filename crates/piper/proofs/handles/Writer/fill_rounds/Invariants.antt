@@ -1,7 +1,7 @@
 -- The bytes of the rounds so far were published.
 use Rattle.std.proofs.Common.{◌≡◌, ◌+◌, false}
-use Rattle.piper_sides.specs.Table.{goes_on}
-use Rattle.piper_sides.specs.declared.table.WritePoint.TheVariants.{CallSource}
+use Rattle.piper_protocol.specs.Table.{goes_on}
+use Rattle.piper_protocol.specs.declared.table.WritePoint.TheVariants.{CallSource}
 use Rattle.piper.specs.Handles.{NotifiesReader, SameWriterButWoke}
 use Rattle.piper.proofs.RoundsIn.{Filled}
 use Rattle.piper.proofs.handles.Writer.fill_rounds.Given as goal

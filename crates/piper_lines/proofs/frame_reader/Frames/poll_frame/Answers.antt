@@ -1,6 +1,6 @@
 use Rattle.std.proofs.Common.{rules, ◌≡◌, length, true, false, Ok, ap, ◌∙◌, arith}
 use Rattle.futures.specs.declared.task.Poll.TheVariants.{Ready}
-use Rattle.piper_lines.specs.Header.{header_size, length_bytes, told_length}
+use Rattle.piper_lines.specs.Header.{header_size, length_bytes, encoded_length}
 use Rattle.piper_lines.specs.FrameReader.{kept_of}
 use Rattle.piper_lines.proofs.Framing.{on_end, holding_header, holding_body, keeping_none, keeping_header, keeping_body, keeping_frame}
 use Rattle.piper_lines.proofs.frame_reader.Frames.poll_frame.Goals as goal
@@ -97,14 +97,14 @@ invariant_of-self-in-Pending-fill_up-2 g c =
     let passed : c.pass_over.result ≡ Ready (Ok true) = cc in
     let is_whole : c.fill_up.result ≡ Ready (Ok true) = cc in
     holding_body c.args.self.now.format c.fill_up.new.gathered.items c.fill_up-2.new.gathered.items _ _ (c.fill_up.ensures.full is_whole ∙ c.size-header_size.ensures.size)
-    (c.told-size.ensures.told ∙ ap (λ ws. told_length c.args.self.now.format ws) c.deref-2.ensures.value) c.fill_up-2.ensures.within (c.pass_over.ensures.done passed)
+    (c.told-size.ensures.told ∙ ap (λ ws. encoded_length c.args.self.now.format ws) c.deref-2.ensures.value) c.fill_up-2.ensures.within (c.pass_over.ensures.done passed)
 
 pub invariant_of-self-in-Ready-Ok-false-fill_up-2 : goal.invariant_of-self-in-Ready-Ok-false-fill_up-2
 invariant_of-self-in-Ready-Ok-false-fill_up-2 g c =
     let passed : c.pass_over.result ≡ Ready (Ok true) = cc in
     let is_whole : c.fill_up.result ≡ Ready (Ok true) = cc in
     holding_body c.args.self.now.format c.fill_up.new.gathered.items c.fill_up-2.new.gathered.items _ _ (c.fill_up.ensures.full is_whole ∙ c.size-header_size.ensures.size)
-    (c.told-size.ensures.told ∙ ap (λ ws. told_length c.args.self.now.format ws) c.deref-2.ensures.value) c.fill_up-2.ensures.within (c.pass_over.ensures.done passed)
+    (c.told-size.ensures.told ∙ ap (λ ws. encoded_length c.args.self.now.format ws) c.deref-2.ensures.value) c.fill_up-2.ensures.within (c.pass_over.ensures.done passed)
 
 pub returns-in-Ready-Ok-false-fill_up-clause-ended : goal.returns-in-Ready-Ok-false-fill_up-clause-ended
 returns-in-Ready-Ok-false-fill_up-clause-ended g c =

@@ -1,9 +1,9 @@
 use Rattle.std.proofs.Common.{◌≡◌, ◌∙◌, ◌+◌, ◌-◌, ◌++◌, List, ℕ, min, length, take, drop, Option, refl, sym, ap, subst, arith, is_some, length-drop}
 use Rattle.std.proofs.lemmas.List.{take_rest}
-use Rattle.piper_sides.specs.declared.events.Answer.{Answer}
-use Rattle.piper_sides.specs.declared.table.Action.{Action}
-use Rattle.piper_sides.specs.declared.table.Action.TheVariants as does
-use Rattle.piper_sides.specs.Table.{read_action}
+use Rattle.piper_protocol.specs.declared.events.Answer.{Answer}
+use Rattle.piper_protocol.specs.declared.table.Action.{Action}
+use Rattle.piper_protocol.specs.declared.table.Action.TheVariants as does
+use Rattle.piper_protocol.specs.Table.{read_action}
 use Rattle.piper_machine.specs.declared.destination.Destination.TheVariants.{Slice}
 use Rattle.piper_machine.specs.Action.{round_count}
 use Rattle.piper_machine.specs.Step.{drain_opened}
@@ -47,7 +47,7 @@ copied c =
           let left = ap (λ (zs : List ℕ). length zs) unread in
           rw (w.done-is, w.dest-is)
           (copies before dest xs w.read_round-done.new.dest d n (d + took (read_action q.reader) (length dest - d) q) inv.known inv.bytes long (omega (arith, inv.within, count, long, length-drop d xs))
-          (omega (arith, inv.known, count, left, length-drop d before, inv.draining.stands.known)) (bytes ∙ ap (λ (zs : List ℕ). take n zs ++ drop n (drop d xs)) unread) (omega (arith, count, taken, long, length-drop d xs)))
+          (omega (arith, inv.known, count, left, length-drop d before, inv.draining.valid.known)) (bytes ∙ ap (λ (zs : List ℕ). take n zs ++ drop n (drop d xs)) unread) (omega (arith, count, taken, long, length-drop d xs)))
       | in_default w ↦
           let none = took-none (read_action q.reader) (length dest - d) q (λ calls. w.in_default.not-CallDestination (c.reader_next-action.ensures.step ∙ calls)) in
           rw (w.done-is, w.dest-is) (record { count = omega (arith, none); within = inv.within; known = inv.known; bytes = inv.bytes })

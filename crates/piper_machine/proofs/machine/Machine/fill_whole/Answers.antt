@@ -1,6 +1,6 @@
 use Rattle.std.proofs.Common.{◌≡◌, ◌∙◌, ℕ, List, length, take, min, sym, ap}
 use Rattle.std.proofs.lemmas.List.{take_rest}
-use Rattle.piper_sides.specs.declared.scripted.SourceAct.{SourceAct}
+use Rattle.piper_protocol.specs.declared.scripted.SourceAct.{SourceAct}
 use Rattle.piper_machine.specs.Round.{given, unspent}
 use Rattle.piper_machine.specs.Step.{fill_opened}
 use Rattle.piper_machine.proofs.Sources.{lent-anew}
@@ -21,14 +21,14 @@ gone c =
                 let n = w.write_round-count.result in
                 let front = w.next-is_failing.ensures.front in
                 let count = w.write_round-count.ensures.count ∙ ap (λ (xs : List ℕ). min (length lent) (length xs)) front in
-                let told : w.if-is_failing.source_called ≡ given (length lent) acts =
+                let noted : w.if-is_failing.source_called ≡ given (length lent) acts =
                 elim w.if-is_failing.branch [
                   | then-is_failing v ↦ v.source_called-is ∙ fails (length lent) acts (sym w.next-is_failing.ensures.fails ∙ v.if-is_failing.true)
                   | else-is_failing v ↦ v.source_called-is ∙ gives (length lent) n acts (sym w.next-is_failing.ensures.fails ∙ v.if-is_failing.false) count
                 ] in
                 rw (w.self-is, w.answer-is, w.bytes-is, w.acts-is, take_rest w.next-is_failing.result.0.now n)
                 (gave acts _ n w.if-is_failing.source_called p c.steps.self w.write_round-count.new.self w.source_called-answer.new.self w.source_called-answer.result (sym c.writer_next-action.ensures.step ∙ w.in-CallSource.is)
-                c.steps.invariant.filling w.write_round-count.ensures.lent w.write_round-count.ensures.after count (w.write_round-count.ensures.front ∙ ap (take n) front) (w.next-is_failing.ensures.rest n) told
+                c.steps.invariant.filling w.write_round-count.ensures.lent w.write_round-count.ensures.after count (w.write_round-count.ensures.front ∙ ap (take n) front) (w.next-is_failing.ensures.rest n) noted
                 (record { answer_is = w.source_called-answer.ensures.answer; after = w.source_called-answer.ensures.after }))
             | in_default w ↦
                 rw (w.self-is, w.answer-is, w.bytes-is, w.acts-is)

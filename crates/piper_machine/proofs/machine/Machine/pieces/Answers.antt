@@ -1,5 +1,5 @@
 use Rattle.std.proofs.Common.{◌≡◌, ◌+◌, ◌-◌, min, ap, sym, ◌∙◌, arith, length}
-use Rattle.piper_sides.specs.Index.{distance, place_of}
+use Rattle.piper_protocol.specs.Index.{distance, place_of}
 use Rattle.piper_machine.specs.Pipe.{Pipe}
 use Rattle.piper_machine.proofs.Between.{between-pieces}
 use Rattle.piper_machine.proofs.Soundness.{length-unread}

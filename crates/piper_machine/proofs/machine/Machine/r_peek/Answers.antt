@@ -26,7 +26,7 @@ returns-clause-held c i within =
     record {
       number = i;
       is_known = omega arith;
-      stands = sym (place_of_low p.capacity (p.start + i) (omega (arith, c.learn.ensures.start)));
+      valid = sym (place_of_low p.capacity (p.start + i) (omega (arith, c.learn.ensures.start)));
     }
 
 pub returns-clause-disjoint : goal.returns-clause-disjoint

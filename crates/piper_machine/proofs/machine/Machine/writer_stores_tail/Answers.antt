@@ -1,9 +1,9 @@
 use Rattle.std.proofs.Common.{ap, ◌∙◌, arith, length}
-use Rattle.piper_sides.specs.declared.table.WritePoint.{WritePoint}
+use Rattle.piper_protocol.specs.declared.table.WritePoint.{WritePoint}
 use Rattle.piper_machine.specs.Pipe.{Pipe}
 use Rattle.piper_machine.specs.Move.{published}
-use Rattle.piper_sides.specs.declared.table.Found.TheVariants.{Nothing as nothing}
-use Rattle.piper_sides.specs.Table.{Next}
+use Rattle.piper_protocol.specs.declared.table.Found.TheVariants.{Nothing as nothing}
+use Rattle.piper_protocol.specs.Table.{Next}
 use Rattle.piper_machine.specs.Step.{call_after, source_after}
 use Rattle.piper_machine.specs.Machine.{pipe_of}
 use Rattle.piper_machine.proofs.Soundness.{length-lent}

@@ -6,8 +6,8 @@ use mathlib.Core.List.{IsPrefix}
 use Rattle.piper_ring.specs.declared.ring.marks.WriteMark.{WriteMark}
 use Rattle.piper_ring.specs.Streams.{Reaches, reaches_same}
 use Rattle.piper_ring.specs.declared.ring.places.Blank.{Blank}
-use Rattle.piper_sides.specs.ReaderIndices.{ReaderIndices}
-use Rattle.piper_sides.specs.WriterIndices.{WriterIndices}
+use Rattle.piper_protocol.specs.ReaderIndices.{ReaderIndices}
+use Rattle.piper_protocol.specs.WriterIndices.{WriterIndices}
 use Rattle.piper_ring.proofs.ends.opening.open_with_slots.Goals as goal
 
 -- a copy of a mark tells what it tells

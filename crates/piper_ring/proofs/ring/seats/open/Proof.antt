@@ -36,7 +36,7 @@ use Rattle.piper_ring.specs.contracts.ring.slots.ReaderWakes as ReaderWakes
 use Rattle.piper_ring.proofs.Opening.{words_out, Rejoin, as_places, begins, Slotted, IsNamed}
 use Rattle.piper_ring.specs.Memory.{unused}
 use denote.Ref.{shr_vals, shr_Tells}
-use Rattle.piper_place.specs.contracts.Right as Token
+use Rattle.token_cell.specs.contracts.Token as Token
 use Rattle.piper_ring.specs.contracts.ring.memory.Memory as Memory
 use Rattle.piper_ring.specs.contracts.ring.places.Base as Base
 use Rattle.piper_ring.specs.contracts.ring.places.Blank as Blank

@@ -2,7 +2,7 @@
 use contract.Monad.{fact}
 use Rattle.futures.specs.Task.{Keeps}
 use Rattle.piper.specs.Looks.{ReaderLooked}
-use Rattle.piper_duplex.specs.Crosswise.{OnlyReads, LendsPiece, StandsAndWoke}
+use Rattle.piper_duplex.specs.Crosswise.{OnlyReads, LendsPiece, RegisteredAndWoke}
 use Rattle.piper_duplex.specs.contracts.end.End.{the_row}
 use Rattle.piper_duplex.proofs.Lending.{meets_less}
 use Rattle.piper_duplex.proofs.end.streams.EndAsyncBufRead.TheImpl.Goals as goal
@@ -10,7 +10,7 @@ use Rattle.piper_duplex.proofs.end.streams.EndAsyncBufRead.TheImpl.Goals as goal
 pub poll_fill_buf-meets : goal.poll_fill_buf-meets
 poll_fill_buf-meets g c =
     meets_less g.world.𝓛 the_row c.args.self _ _
-    (λ r e new. OnlyReads c.args.self.now new × ReaderLooked c.args.self.now.reader.end new.reader.end × StandsAndWoke r c.args.self.now new e.1.0.now × LendsPiece r c.args.self.now new e.1.0.now)
+    (λ r e new. OnlyReads c.args.self.now new × ReaderLooked c.args.self.now.reader.end new.reader.end × RegisteredAndWoke r c.args.self.now new e.1.0.now × LendsPiece r c.args.self.now new e.1.0.now)
     (λ r e new. LendsPiece r c.args.self.now new e.1.0.now)
     (λ r e. fact g.world.𝓤 (Keeps c.args.cx.now e.1.0.now))
     (λ r e new said. said.3)

@@ -3,7 +3,7 @@ use Rattle.std.proofs.Common.{◌≡◌, ℕ, ◌+◌, ◌-◌, ◌≤◌, ◌<�
 use Rattle.std.proofs.lemmas.List.{length-take-le, length-drop}
 use mathlib.Core.List.{IsPrefix}
 use Rattle.rtrb.specs.Fifo.{position_of}
-use Rattle.piper_sides.specs.ReaderIndices.{ReaderIndices}
+use Rattle.piper_protocol.specs.ReaderIndices.{ReaderIndices}
 use Rattle.piper_ring.specs.Shared.{Names}
 use Rattle.piper_ring.specs.ReadView.{ReadView, read_view_of, in_one_piece}
 use Rattle.piper_ring.proofs.Indices.{further}

@@ -4,9 +4,9 @@
 use Rattle.std.proofs.Common.{◌≡◌, ℕ, ◌+◌, ◌-◌, ◌^◌, ◌<◌, ◌≤◌, ◌++◌, List, length, take, arith, refl, sym, subst, ap, ◌∙◌, length-append}
 use mathlib.Core.List.{IsPrefix}
 use Rattle.rtrb.specs.Fifo.{position_of}
-use Rattle.piper_sides.specs.Index.{distance}
-use Rattle.piper_sides.specs.ReaderIndices.{ReaderIndices}
-use Rattle.piper_sides.specs.WriterIndices.{WriterIndices}
+use Rattle.piper_protocol.specs.Index.{distance}
+use Rattle.piper_protocol.specs.ReaderIndices.{ReaderIndices}
+use Rattle.piper_protocol.specs.WriterIndices.{WriterIndices}
 use Rattle.piper_ring.specs.Shared.{Names, Ring}
 use Rattle.piper_ring.specs.Streams.{Stream, reaches_trans}
 use Rattle.piper_ring.specs.ReadView.{ReadView, read_view, KnowsMore}

@@ -2,8 +2,8 @@
 use Rattle.std.proofs.Common.{◌≡◌, ℕ, ◌+◌, ◌-◌, ◌<◌, ◌≤◌, length, min, arith, sym, refl, ap, subst, ◌∙◌}
 use Rattle.rtrb.specs.Fifo.{slot_of as offset_of}
 use Rattle.rtrb.proofs.Positions.{slot_small}
-use Rattle.piper_sides.specs.LendBound.{lend_bound}
-use Rattle.piper_sides.specs.WriterIndices.{WriterIndices, room_in, left_in}
+use Rattle.piper_protocol.specs.LendBound.{lend_bound}
+use Rattle.piper_protocol.specs.WriterIndices.{WriterIndices, room_in, left_in}
 use Rattle.piper_ring.specs.Lends.{written}
 use Rattle.piper_ring.specs.LendsBuffer.{with_lent}
 use Rattle.piper_ring.specs.WriteView.{WriteView, Lendable, either, write_view, write_view_of}

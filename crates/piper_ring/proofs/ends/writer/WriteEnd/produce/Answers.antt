@@ -3,7 +3,7 @@ use Rattle.std.proofs.Common.{◌≡◌, ℕ, ◌+◌, ◌-◌, ◌^◌, ◌<◌
 use Rattle.std.proofs.lemmas.List.{length-take-le, length-drop}
 use Rattle.std.proofs.Math.Seq.{take-nil, drop-nil}
 use Rattle.rtrb.specs.Fifo.{position_of}
-use Rattle.piper_sides.specs.WriterIndices.{WriterIndices}
+use Rattle.piper_protocol.specs.WriterIndices.{WriterIndices}
 use Rattle.piper_ring.specs.Shared.{Names}
 use Rattle.piper_ring.specs.WriteView.{WriteView}
 use Rattle.piper_ring.proofs.Indices.{further}

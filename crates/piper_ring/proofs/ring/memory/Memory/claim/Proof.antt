@@ -34,7 +34,7 @@ use Rattle.std_heap.proofs.GlobalAllocator.allocate.Met as allocates
 use Rattle.rtrb.proofs.Calls.{fm}
 use Rattle.rtrb.proofs.Values.{ok_of, err_of}
 use Rattle.rtrb.proofs.Walks.{proved, leaves}
-use Rattle.piper_sides.specs.contracts.memory.OutOfMemory as Want
+use Rattle.piper_protocol.specs.contracts.memory.OutOfMemory as Want
 use Rattle.piper_ring.specs.Memory.{IsClaim, purpose}
 use Rattle.piper_ring.specs.Shared.{heap_token}
 use Rattle.piper_ring.proofs.Fields.{seat_val, MemoryData, memory_made}

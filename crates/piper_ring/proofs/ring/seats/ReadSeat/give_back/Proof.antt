@@ -34,9 +34,9 @@ use Rattle.piper_ring.specs.Shared.{Names, Consumed, flag, Placed, common, reade
 use Rattle.piper_ring.proofs.Rights.{reader_halves}
 use Rattle.piper_ring.proofs.Steps.{flag_small}
 use Rattle.piper_ring.specs.Shared.{wakes_back}
-use Rattle.piper_place.specs.Place.{right}
-use Rattle.piper_place.specs.contracts.Right as Token
-use Rattle.piper_place.proofs.Fields.{right_val, right_told}
+use Rattle.token_cell.specs.TokenCell.{right}
+use Rattle.token_cell.specs.contracts.Token as Token
+use Rattle.token_cell.proofs.Fields.{right_val, right_told}
 use Rattle.piper_ring.proofs.Slots.{ReaderWoke, reader_gives_back}
 use Rattle.piper_ring.specs.contracts.ring.slots.ReaderWakes as Slot
 use Rattle.piper_ring.specs.contracts.ring.seats.ReadSeat as Seat

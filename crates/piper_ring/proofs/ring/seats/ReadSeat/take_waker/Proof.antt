@@ -35,8 +35,8 @@ use Rattle.piper_ring.specs.Shared.{Names, Consumed, flag, Placed, common, reade
 use Rattle.piper_ring.proofs.Rights.{reader_halves}
 use Rattle.piper_ring.proofs.Steps.{flag_small}
 use Rattle.piper_ring.specs.Shared.{wakes_back}
-use Rattle.piper_place.specs.contracts.Right as Token
-use Rattle.piper_place.proofs.Fields.{right_val, RightData, right_made}
+use Rattle.token_cell.specs.contracts.Token as Token
+use Rattle.token_cell.proofs.Fields.{right_val, RightData, right_made}
 use Rattle.piper_ring.proofs.Slots.{ReaderWoke, reader_takes, TakesHeld}
 use Rattle.core.specs.contracts.marker.PhantomData as marker
 use denote.RawPtr.{RawPtr}

@@ -36,8 +36,8 @@ use Rattle.piper_ring.specs.Shared.{Names, Placed, common, writer_knows, writer_
 use Rattle.piper_ring.proofs.Rights.{writer_halves}
 use Rattle.piper_ring.proofs.Steps.{flag_small}
 use Rattle.piper_ring.specs.Shared.{wakes_for}
-use Rattle.piper_place.specs.contracts.Right as Token
-use Rattle.piper_place.proofs.Fields.{right_val, RightData, right_made}
+use Rattle.token_cell.specs.contracts.Token as Token
+use Rattle.token_cell.proofs.Fields.{right_val, RightData, right_made}
 use Rattle.piper_ring.proofs.Slots.{WriterWoke, writer_takes, TakesHeld}
 use Rattle.piper_ring.specs.contracts.ring.slots.WriterWakes as Slot
 use Rattle.piper_ring.specs.contracts.ring.seats.WriteSeat as Seat

@@ -1,0 +1,181 @@
+//! The modes `handles` and `twin`.
+
+use crate::halt::{Halt, finish};
+use crate::hands::Hands;
+use crate::random::Drawn;
+use crate::twin::{Compared, Twin};
+use piper_interpreter::replay::{self, Ended, end_of};
+use piper_interpreter::stream::{Lines, write_reply};
+use piper_script::command::MOST;
+use piper_script::number::number;
+use piper_script::parser::parse;
+use piper_script::reply::Reply;
+use piper_script::stop::Stop;
+use std::alloc::AllocGlobal;
+use std::io::{Read, Write};
+use std::random::RandomSource;
+
+/// The seed of the generators where a script is read.
+const SEED: u64 = 1;
+
+/// Words that are none of the modes, in place of what the player says, which has two of them.
+pub const WRONG_ARGUMENTS: Ended = Ended {
+    status: 1,
+    text: "usage: piper_replay [run|all|handles|twin [SEED COUNT]]",
+};
+
+/// Runs the script that `input` gives, and writes what it prints to `output`. `words` are the
+/// arguments of the command line.
+pub fn replay<H, I: Read, O: Write>(
+    rt: &H,
+    words: &[String],
+    input: &mut I,
+    output: &mut O,
+) -> Ended
+where
+    H: RandomSource + AllocGlobal + Clone + Drop,
+{
+    let mode = words.first().map_or("", |word| word.as_str());
+    let played = match (mode, words.get(1), words.get(2), words.len()) {
+        ("handles", None, None, 1) => play_handles(rt, input, output),
+        ("twin", None, None, 1) => play_twin(rt, input, output),
+        ("twin", Some(seed), Some(count), 3) => {
+            match (
+                number(seed.as_str(), 0, MOST),
+                number(count.as_str(), 0, MOST),
+            ) {
+                (Ok(seed), Ok(count)) => draw_twin(rt, seed as u64, count as u64, output),
+                _ => return WRONG_ARGUMENTS,
+            }
+        }
+        _ => {
+            let ended = replay::replay(rt.alloc(), words, input, output);
+            return if ended == Ended::WRONG_ARGUMENTS {
+                WRONG_ARGUMENTS
+            } else {
+                ended
+            };
+        }
+    };
+    match played {
+        Ok(true) => Ended::DONE,
+        Ok(false) => Ended::REFUSED,
+        Err(stop) => Ended::from(stop),
+    }
+}
+
+// Plays a script on the handles. The answer is whether it was played to its end.
+fn play_handles<H, I: Read, O: Write>(rt: &H, input: &mut I, output: &mut O) -> Result<bool, Stop>
+where
+    H: RandomSource + AllocGlobal + Clone + Drop,
+{
+    let mut lines = Lines::new(rt.alloc(), input)?;
+    let mut hands = Hands::new(rt.clone().map_err(|_| Stop::Memory)?, SEED);
+    let mut reply = Reply::new(rt.alloc());
+    for number in 1..u64::MAX {
+        let Some(line) = lines.next()? else {
+            break;
+        };
+        reply.clear();
+        let played = match parse(line) {
+            Ok(None) => continue,
+            Ok(Some(command)) => hands.play(command, &mut reply),
+            Err(refusal) => Err(Halt::from(refusal)),
+        };
+        let is_refused = finish(played, number, &mut reply)?;
+        write_reply(&reply, output)?;
+        if is_refused {
+            return Ok(false);
+        }
+    }
+    Ok(true)
+}
+
+// Plays a script on both, and tells where the answers differ. The answer is whether it was played
+// to its end.
+fn play_twin<H, I: Read, O: Write>(rt: &H, input: &mut I, output: &mut O) -> Result<bool, Stop>
+where
+    H: RandomSource + AllocGlobal + Clone + Drop,
+{
+    let mut lines = Lines::new(rt.alloc(), input)?;
+    let mut twin = Twin::new(rt.clone().map_err(|_| Stop::Memory)?, SEED);
+    for number in 1..u64::MAX {
+        let Some(line) = lines.next()? else {
+            break;
+        };
+        match twin.play(number, line)? {
+            Compared::Silent => {}
+            Compared::Alike => write_reply(&twin.handles, output)?,
+            Compared::Refused => {
+                write_reply(&twin.handles, output)?;
+                return Ok(false);
+            }
+            Compared::Differ => {
+                write_difference(&twin, number, line, output)?;
+                return Ok(false);
+            }
+        }
+    }
+    Ok(true)
+}
+
+fn write_difference<H, O: Write>(
+    twin: &Twin<H>,
+    number: u64,
+    line: &[u8],
+    output: &mut O,
+) -> Result<(), Stop>
+where
+    H: RandomSource + AllocGlobal + Clone + Drop,
+{
+    write!(output, "line {number}: ").map_err(|_| Stop::Write)?;
+    output.write_all(line).map_err(|_| Stop::Write)?;
+    write!(output, "\nmachine: ").map_err(|_| Stop::Write)?;
+    write_reply(&twin.machine, output)?;
+    write!(output, "handles: ").map_err(|_| Stop::Write)?;
+    write_reply(&twin.handles, output)
+}
+
+// Plays so many drawn scripts on both, and tells the first difference. The answer is whether there
+// is none.
+fn draw_twin<H, O: Write>(rt: &H, seed: u64, count: u64, output: &mut O) -> Result<bool, Stop>
+where
+    H: RandomSource + AllocGlobal + Clone + Drop,
+{
+    let mut lines = 0u64;
+    for index in 0..count {
+        let seed = seed.wrapping_add(index);
+        match play_drawn(rt, seed, output)? {
+            Some(played) => lines = lines.saturating_add(played),
+            None => return Ok(false),
+        }
+    }
+    writeln!(output, "{count} scripts, {lines} lines: no difference").map_err(|_| Stop::Write)?;
+    Ok(true)
+}
+
+// Plays the script that is drawn from the seed. The answer is how many lines it has, if none
+// differs.
+fn play_drawn<H, O: Write>(rt: &H, seed: u64, output: &mut O) -> Result<Option<u64>, Stop>
+where
+    H: RandomSource + AllocGlobal + Clone + Drop,
+{
+    let mut drawn = Drawn::new(seed);
+    let mut twin = Twin::new(rt.clone().map_err(|_| Stop::Memory)?, seed);
+    let mut line = String::new(rt.alloc());
+    let count = 20 + u64::from(drawn.below(60));
+    for number in 1..count + 1 {
+        line.clear();
+        if number == 1 {
+            drawn.write_pipe(&mut line)?;
+        } else {
+            drawn.write_line(&mut line)?;
+        }
+        if let Compared::Differ = twin.play(number, line.as_bytes())? {
+            write!(output, "seed {seed}, ").map_err(|_| Stop::Write)?;
+            write_difference(&twin, number, line.as_bytes(), output)?;
+            return Ok(None);
+        }
+    }
+    Ok(Some(count))
+}

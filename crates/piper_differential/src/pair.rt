@@ -1,0 +1,299 @@
+//! Both handles of a pipe in one hand, and who is woken by their calls.
+
+use crate::draws::Draws;
+use crate::halt::Halt;
+use crate::tasks::{Tasks, rest};
+use crate::{reading, writing};
+use futures::test::MockTask;
+use piper::{OwnedReader, OwnedWriter, pipe};
+use piper_protocol::calls::{Call, Side};
+use piper_protocol::events::Answer;
+use piper_protocol::polling::{Context, Polled};
+use piper_script::command::{MOST, Refusal};
+use piper_script::stop::Stop;
+use std::alloc::{AllocError, AllocGlobal, Global};
+use std::random::RandomSource;
+
+/// The handles of a pipe, with tasks for each of them.
+#[derive(Drop)]
+pub struct Pair {
+    reader: Option<OwnedReader>,
+    writer: Option<OwnedWriter>,
+    reading: Tasks,
+    writing: Tasks,
+    /// What the reader draws next, and the writer.
+    draws: [Draws; 2],
+    /// How much is left of what the writer was lent last.
+    lent: usize,
+    alloc: Global,
+}
+
+impl Pair {
+    /// An empty pipe. The handles draw as generators do that begin at the seed.
+    pub fn new(rt: &impl AllocGlobal, capacity: usize, seed: u64) -> Result<Pair, Stop> {
+        if capacity == 0 || capacity > MOST {
+            return Err(Stop::Refused(Refusal::Limit));
+        }
+        let (reader, writer) = pipe(rt.alloc(), capacity, seed)?;
+        Ok(Pair {
+            reader: Some(OwnedReader::new(reader)),
+            writer: Some(OwnedWriter::new(writer)),
+            reading: Tasks::new(rt.alloc()),
+            writing: Tasks::new(rt.alloc()),
+            draws: [Draws::new(seed), Draws::new(seed ^ 1)],
+            lent: 0,
+            alloc: rt.alloc(),
+        })
+    }
+
+    pub fn is_dropped(&self, side: Side) -> bool {
+        match side {
+            Side::Reader => self.reader.is_none(),
+            Side::Writer => self.writer.is_none(),
+        }
+    }
+
+    /// The number that a copy of this side draws next.
+    pub fn next_draw(&self, side: Side) -> u32 {
+        match side {
+            Side::Reader => self.draws[0].next(),
+            Side::Writer => self.draws[1].next(),
+        }
+    }
+
+    /// The bytes that the reader knows of and that stand in one piece.
+    pub fn peek(&mut self) -> Result<&[u8], Halt> {
+        let Some(owned) = &mut self.reader else {
+            return Err(Halt::OnlyMachine);
+        };
+        Ok(owned.get_mut().peek_buf())
+    }
+
+    /// Writes a byte at this offset of what is lent.
+    pub fn put(&mut self, offset: usize, byte: u8) -> Result<(), Halt> {
+        let Some(owned) = &mut self.writer else {
+            return Err(Refusal::Dropped.into());
+        };
+        if offset >= self.lent {
+            return Err(Refusal::PastLent.into());
+        }
+        // What is lent is lent again: the same places, with what stands there.
+        let places = owned.get_mut().write_buf(self.lent);
+        if let Some(place) = places.get_mut(offset) {
+            *place = byte;
+        }
+        Ok(())
+    }
+
+    /// Makes the call, and adds the names of the wakers that it called.
+    pub fn make(
+        &mut self,
+        rt: &(impl RandomSource + AllocGlobal),
+        call: &Call,
+        dest: &mut [u8],
+        woken: &mut Vec<u32>,
+    ) -> Result<Answer, Halt> {
+        if self.is_dropped(call.side()) {
+            return Err(Refusal::Dropped.into());
+        }
+        if !call.has_good_draw() {
+            return Err(Refusal::BadDraw.into());
+        }
+        let answer = match (call.context(), call) {
+            (Some(context), _) => self.as_task(rt, context, call, dest)?,
+            (None, Call::Close) => self.close(rt)?,
+            (None, Call::Drop(side)) => self.drop_side(*side),
+            (None, _) => self.at_once(call, dest)?,
+        };
+        self.take_woken(call, answer, woken)?;
+        Ok(answer)
+    }
+
+    fn drop_side(&mut self, side: Side) -> Answer {
+        match side {
+            Side::Reader => self.reader = None,
+            Side::Writer => {
+                self.writer = None;
+                self.lent = 0;
+            }
+        }
+        Answer::Done
+    }
+
+    fn close(&mut self, rt: &(impl RandomSource + AllocGlobal)) -> Result<Answer, Halt> {
+        let Some(owned) = &mut self.writer else {
+            return Err(Refusal::Dropped.into());
+        };
+        let writer = owned.get_mut();
+        let task = MockTask::new(rt).map_err(|_| Stop::Memory)?;
+        task.enter(|cx| writer.poll_close(cx));
+        self.lent = 0;
+        Ok(Answer::Done)
+    }
+
+    fn at_once(&mut self, call: &Call, dest: &mut [u8]) -> Result<Answer, Halt> {
+        match (call.side(), &mut self.reader, &mut self.writer) {
+            (Side::Reader, Some(owned), _) => reading::at_once(owned.get_mut(), call, dest),
+            (Side::Writer, _, Some(owned)) => {
+                writing::at_once(owned.get_mut(), &mut self.lent, call)
+            }
+            _ => Err(Refusal::Dropped.into()),
+        }
+    }
+
+    fn as_task(
+        &mut self,
+        rt: &(impl RandomSource + AllocGlobal),
+        context: Context,
+        call: &Call,
+        dest: &mut [u8],
+    ) -> Result<Answer, Halt> {
+        self.steer(rt, context, call)?;
+        let draws = self.will_draw(call);
+        let answer = match (call.side(), &mut self.reader, &mut self.writer) {
+            (Side::Reader, Some(owned), _) => {
+                let task = self.reading.of(rt, context.waker)?;
+                reading::as_task(owned.get_mut(), task, call, dest)?
+            }
+            (Side::Writer, _, Some(owned)) => {
+                let task = self.writing.of(rt, context.waker)?;
+                writing::as_task(owned.get_mut(), &mut self.lent, task, call)?
+            }
+            _ => return Err(Refusal::Dropped.into()),
+        };
+        if draws {
+            self.pass(call.side());
+        }
+        Ok(answer)
+    }
+
+    // Whether the call will draw: a copy does whose look finds something.
+    fn will_draw(&mut self, call: &Call) -> bool {
+        match call {
+            Call::PollFillBytes(..) | Call::PollFill(..) => match &mut self.writer {
+                Some(owned) => {
+                    let writer = owned.get_mut();
+                    !writer.is_closed() && !writer.is_full()
+                }
+                None => false,
+            },
+            Call::PollDrainBytes(..) | Call::PollDrain(..) => match &mut self.reader {
+                Some(owned) => !owned.get_mut().is_empty(),
+                None => false,
+            },
+            _ => false,
+        }
+    }
+
+    fn pass(&mut self, side: Side) {
+        match side {
+            Side::Reader => self.draws[0].pass(),
+            Side::Writer => self.draws[1].pass(),
+        }
+    }
+
+    // Copies of no byte, until the handle draws next what the line says.
+    fn steer(
+        &mut self,
+        rt: &(impl RandomSource + AllocGlobal),
+        context: Context,
+        call: &Call,
+    ) -> Result<(), Stop> {
+        let yields = context.luck.draw == 0;
+        for _ in 0..u64::MAX {
+            if (self.next_draw(call.side()) == 0) == yields || !self.will_draw(call) {
+                break;
+            }
+            match call.side() {
+                Side::Reader => self.draw_as_reader(rt, context.waker)?,
+                Side::Writer => self.draw_as_writer(rt, context.waker)?,
+            }
+            self.pass(call.side());
+        }
+        Ok(())
+    }
+
+    // A copy of no byte out of the pipe.
+    fn draw_as_reader(
+        &mut self,
+        rt: &(impl RandomSource + AllocGlobal),
+        waker: u32,
+    ) -> Result<(), Stop> {
+        let Some(owned) = &mut self.reader else {
+            return Ok(());
+        };
+        let reader = owned.get_mut();
+        let task = self.reading.of(rt, waker)?;
+        task.enter(|cx| reader.poll_drain_bytes(cx, &mut []));
+        rest(task);
+        Ok(())
+    }
+
+    // A copy of no byte into the pipe.
+    fn draw_as_writer(
+        &mut self,
+        rt: &(impl RandomSource + AllocGlobal),
+        waker: u32,
+    ) -> Result<(), Stop> {
+        let Some(owned) = &mut self.writer else {
+            return Ok(());
+        };
+        let writer = owned.get_mut();
+        let task = self.writing.of(rt, waker)?;
+        task.enter(|cx| writer.poll_fill_bytes(cx, &[]));
+        rest(task);
+        Ok(())
+    }
+
+    // Adds whom the call woke, the reader's tasks first.
+    fn take_woken(
+        &self,
+        call: &Call,
+        answer: Answer,
+        woken: &mut Vec<u32>,
+    ) -> Result<(), AllocError> {
+        let mut own = Vec::new(self.alloc);
+        match call.side() {
+            Side::Reader => {
+                self.reading.take_woken(&mut own)?;
+                add_called(call, answer, &own, woken)?;
+                self.writing.take_woken(woken)
+            }
+            Side::Writer => {
+                self.reading.take_woken(woken)?;
+                self.writing.take_woken(&mut own)?;
+                add_called(call, answer, &own, woken)
+            }
+        }
+    }
+}
+
+// Adds those of the call's own side that it called, and did not only let go.
+fn add_called(
+    call: &Call,
+    answer: Answer,
+    own: &[u32],
+    woken: &mut Vec<u32>,
+) -> Result<(), AllocError> {
+    for name in own {
+        if is_called(call, answer, *name) {
+            woken.push(*name)?;
+        }
+    }
+    Ok(())
+}
+
+// A polling call calls a waker of its own side only where it yields; a drop calls none.
+fn is_called(call: &Call, answer: Answer, name: u32) -> bool {
+    match call.context() {
+        Some(context) => context.waker == name && is_pending(answer),
+        None => !matches!(call, Call::Drop(_)),
+    }
+}
+
+fn is_pending(answer: Answer) -> bool {
+    matches!(
+        answer,
+        Answer::Poll(Polled::Pending) | Answer::Copy(Polled::Pending)
+    )
+}

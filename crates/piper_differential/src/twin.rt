@@ -1,0 +1,75 @@
+//! Plays commands on the handles and on the machine, and holds the answers against each other.
+
+use crate::halt::{Halt, finish};
+use crate::hands::Hands;
+use piper_interpreter::player::Player;
+use piper_script::parser::parse;
+use piper_script::reply::Reply;
+use piper_script::stop::Stop;
+use std::alloc::AllocGlobal;
+use std::random::RandomSource;
+
+/// A machine and handles on which the same script is played, and what each answered to the last
+/// line.
+#[derive(Drop)]
+pub struct Twin<H: Drop> {
+    player: Player,
+    hands: Hands<H>,
+    pub machine: Reply,
+    pub handles: Reply,
+}
+
+/// What came of a line that both answered.
+#[derive(Clone, Copy)]
+pub enum Compared {
+    /// It is no command.
+    Silent,
+    Alike,
+    /// Both refused it.
+    Refused,
+    Differ,
+}
+
+impl<H: RandomSource + AllocGlobal + Drop> Twin<H> {
+    /// Neither has a pipe. What the handles draw goes by the seed, and the machine is told the
+    /// same.
+    pub fn new(rt: H, seed: u64) -> Twin<H> {
+        let alloc = rt.alloc();
+        Twin {
+            player: Player::new(alloc),
+            hands: Hands::new(rt, seed),
+            machine: Reply::new(alloc),
+            handles: Reply::new(alloc),
+        }
+    }
+
+    /// Plays a line on both.
+    pub fn play(&mut self, number: u64, line: &[u8]) -> Result<Compared, Stop> {
+        self.machine.clear();
+        self.handles.clear();
+        let command = match parse(line) {
+            Ok(None) => return Ok(Compared::Silent),
+            Ok(Some(command)) if self.hands.is_only_machine(&command) => Err(Halt::OnlyMachine),
+            Ok(Some(command)) => Ok(command),
+            Err(refusal) => Err(Halt::from(refusal)),
+        };
+        let command = match command {
+            Ok(command) => self.hands.with_draw(command),
+            Err(halt) => {
+                finish(Err(halt), number, &mut self.handles)?;
+                return Ok(Compared::Refused);
+            }
+        };
+        let played = self.player.play(command, &mut self.machine);
+        let is_refused = finish(played.map_err(Halt::from), number, &mut self.machine)?;
+        let played = self.hands.play(command, &mut self.handles);
+        finish(played, number, &mut self.handles)?;
+        Ok(if self.machine.as_bytes() != self.handles.as_bytes() {
+            Compared::Differ
+        } else if is_refused {
+            Compared::Refused
+        } else {
+            Compared::Alike
+        })
+    }
+}

@@ -1,0 +1,76 @@
+-- What a replay writes to its output.
+use Rattle.std.specs.Prelude.{◌≡◌, ℕ, ◌⊎◌, List, [], ◌++◌, codes, Option, ⊤}
+use Rattle.std.specs.List.{flat_map}
+use Rattle.std.specs.Io.KnownBytes.{Appends, Keeps}
+use Rattle.piper_protocol.specs.declared.calls.Step.{Step}
+use Rattle.piper_protocol.specs.declared.events.Event.{Event}
+use Rattle.piper_protocol.specs.declared.refusals.StepRefusal.{StepRefusal}
+use Rattle.piper_machine.specs.Pipe.{Pipe, fresh}
+use Rattle.piper_machine.specs.Run.{Runs, RefusedAt}
+use Rattle.piper_script.specs.declared.command.Refusal.{Refusal}
+use Rattle.piper_script.specs.declared.stop.Stop.{Stop}
+use Rattle.piper_script.specs.declared.stop.Stop.TheVariants.{Refused, Memory, Write}
+use Rattle.piper_script.specs.Event.{event_line}
+use Rattle.piper_script.specs.Reply.{printed_list, printed_refusal}
+use Rattle.piper_script.specs.Stop.{stop_of}
+use Rattle.piper_interpreter.specs.Played.{PlaysLine}
+use Rattle.piper_interpreter.specs.StepsToRun.{SaysStep}
+
+-- what a run leaves unread
+abbrev pub unread_line : List ℕ → List ℕ
+unread_line unread = codes "unread " ++ printed_list unread ++ codes "\n"
+
+-- each event on a line of its own, in their order
+abbrev pub event_lines : List Event → List ℕ
+event_lines events = flat_map event_line events
+
+-- what happened in a run, and what it leaves unread
+abbrev pub run_text : List Event → List ℕ → List ℕ
+run_text events unread = event_lines events ++ unread_line unread
+
+-- where a replay stops at a line that is refused, that was written
+abbrev pub Reports : ℕ → Stop → Option (List ℕ) → Option (List ℕ) → Type 0
+Reports line (Refused refusal) old new = Appends old new (printed_refusal line refusal)
+Reports line stop old new = ⊤
+
+-- a step was refused, and the line that says it was written with its refusal
+pub record ReportsStep (capacity : ℕ) (steps : List Step) (lines : List (ℕ × ℕ))
+    (refusal : Refusal) (old new : Option (List ℕ)) : Type 0 where
+  pub index : ℕ
+  pub line : ℕ
+  pub reason : StepRefusal
+  pub refused : RefusedAt capacity steps index reason
+  pub says : SaysStep index line lines
+  pub same : Refused refusal ≡ stop_of reason
+  pub written : Appends old new (printed_refusal line refusal)
+
+-- where a run stops at a line that is refused, that is the line of the refused step
+abbrev pub ReportsRun : Stop → ℕ → List Step → List (ℕ × ℕ) →
+    Option (List ℕ) → Option (List ℕ) → Type 0
+ReportsRun (Refused refusal) capacity steps lines old new =
+    ReportsStep capacity steps lines refusal old new
+ReportsRun stop capacity steps lines old new = ⊤
+
+-- why a replay ends that stops: for that reason, or since that could not be told
+abbrev pub EndsAs : Stop → Stop → Type 0
+EndsAs stop end = (end ≡ stop) ⊎ ((end ≡ Memory) ⊎ (end ≡ Write))
+
+-- these steps were run, and what happened was written
+pub record WritesRun (capacity : ℕ) (steps : List Step)
+    (old new : Option (List ℕ)) : Type 0 where
+  pub pipe : Pipe
+  pub events : List Event
+  pub runs : Runs (fresh capacity) [] steps pipe events
+  pub written : Appends old new (run_text events pipe.unread)
+
+-- what happened in some run was written, or nothing
+abbrev pub WritesRunAtMost : Option (List ℕ) → Option (List ℕ) → Type 0
+WritesRunAtMost old new =
+    Keeps old new ⊎ ((capacity : ℕ) × (steps : List Step) × WritesRun capacity steps old new)
+
+-- the line was played, and all that it prints was written
+pub record AnswersLine (line : List ℕ) (old new : Option Pipe)
+    (before after : Option (List ℕ)) : Type 0 where
+  pub text : List ℕ
+  pub plays : PlaysLine line old new [] text
+  pub written : Appends before after text

@@ -1,0 +1,120 @@
+//! Calls made whole: when a line may make one, and what it answers.
+
+ghost use Rattle.std.specs.Prelude.{◌≡◌, ◌≤◌, ◌++◌, length, take, drop, IfOk, IfErr};
+ghost use Rattle.piper_machine.specs.Refusal.{IsIdle, state_of, refusal_of};
+ghost use Rattle.piper_interpreter.specs.Makes.{Makes, room_for, slice_copied, drained_by, IsSilent};
+ghost use Rattle.piper_interpreter.specs.Whole.{IsReady};
+
+use piper_machine::calls::{Call, Query, Side, SideState, Step};
+use piper_machine::events::Answer;
+use piper_machine::machine::Machine;
+use piper_machine::polling::Polled;
+use piper_machine::refusals::StepRefusal;
+use piper_machine::scripted::Failed;
+
+/// What the side is about.
+pub fn state(machine: &Machine, side: Side) -> SideState
+    ensures { result ≡ state_of side machine.now }
+{
+    match side {
+        Side::Reader => machine.r_state(),
+        Side::Writer => machine.w_state(),
+    }
+}
+
+/// Gives the call back if it may be made, and refuses it as the step that begins it is refused.
+pub fn check(machine: &Machine, call: Call) -> Result<Call, StepRefusal>
+    ensures same { IfOk result (λ checked. checked ≡ call) }
+    ensures ready { IfOk result (λ checked. IsReady checked machine.now) }
+    ensures refused { IfErr result (λ refusal.
+        refusal_of (Step.Begin call) machine.now ≡ Some refusal) }
+{
+    let begin = Step::Begin(call);
+    match machine.refusal(&begin) {
+        Some(refusal) => return Err(refusal),
+        None => {}
+    }
+    match begin {
+        Step::Begin(call) => Ok(call),
+        _ => unreachable!(),
+    }
+}
+
+/// How many places the bytes need that the call moves out of the pipe.
+pub fn room_for(call: &Call) -> usize
+    ensures { result ≡ room_for call.now }
+{
+    match call {
+        Call::TryDrain(most) | Call::PollDrainBytes(_, _, most) => *most,
+        _ => 0,
+    }
+}
+
+// A copy over a slice never fails.
+fn slice_copied(polled: Polled<usize>) -> Polled<Result<usize, Failed>>
+    ensures { result ≡ slice_copied polled }
+{
+    match polled {
+        Polled::Pending => Polled::Pending,
+        Polled::Ready(count) => Polled::Ready(Ok(count)),
+        Polled::Memory => Polled::Memory,
+    }
+}
+
+/// Makes the call, and answers what it answers. Bytes that it moves out of the pipe go to the front
+/// of `dest`.
+pub fn answer(machine: &mut Machine, call: &Call, dest: &mut [u8]) -> Answer
+    requires ready { IsReady call.now machine.old }
+    requires room { length dest.old ≡ room_for call.now }
+    ensures made { Makes call.now machine.old result machine.new }
+    ensures bytes { let n = drained_by call.now result in
+        dest.new ≡ take n machine.old.unread ++ drop n dest.old }
+{
+    match call {
+        Call::Query(Side::Reader, Query::Len) => Answer::Count(machine.r_len()),
+        Call::Query(Side::Writer, Query::Len) => Answer::Count(machine.w_len()),
+        Call::Query(Side::Reader, Query::IsEmpty) => Answer::Flag(machine.r_is_empty()),
+        Call::Query(Side::Writer, Query::IsEmpty) => Answer::Flag(machine.w_is_empty()),
+        Call::Query(Side::Reader, Query::IsFull) => Answer::Flag(machine.r_is_full()),
+        Call::Query(Side::Writer, Query::IsFull) => Answer::Flag(machine.w_is_full()),
+        Call::IsClosed(Side::Reader) => Answer::Flag(machine.r_is_closed()),
+        Call::IsClosed(Side::Writer) => Answer::Flag(machine.w_is_closed()),
+        Call::Poll(Side::Reader, waker, luck) => Answer::Poll(machine.r_poll(*waker, *luck)),
+        Call::Poll(Side::Writer, waker, luck) => Answer::Poll(machine.w_poll(*waker, *luck)),
+        Call::WriteBuf(most) => Answer::Lent(machine.w_write_buf(*most)),
+        Call::TryFill(bytes) => Answer::Count(machine.w_try_fill(bytes.as_slice())),
+        Call::TryDrain(_) => Answer::Count(machine.r_try_drain(dest)),
+        Call::PollFillBytes(waker, luck, bytes) => {
+            let polled = machine.w_poll_fill_bytes(*waker, *luck, bytes.as_slice());
+            Answer::Copy(slice_copied(polled))
+        }
+        Call::PollDrainBytes(waker, luck, _) => {
+            Answer::Copy(slice_copied(machine.r_poll_drain_bytes(*waker, *luck, dest)))
+        }
+        Call::PollFill(waker, luck, acts) => {
+            Answer::Copy(machine.w_poll_fill(*waker, *luck, acts.as_slice()))
+        }
+        Call::PollDrain(waker, luck, acts) => {
+            Answer::Copy(machine.r_poll_drain(*waker, *luck, acts.as_slice()))
+        }
+        Call::Consume(_) | Call::Produced(_) | Call::Close | Call::Drop(_) => {
+            make(machine, call);
+            Answer::Done
+        }
+    }
+}
+
+// Makes a call that has nothing to answer.
+fn make(machine: &mut Machine, call: &Call)
+    requires { IsReady call.now machine.old }
+    ensures { IsSilent call.now → Makes call.now machine.old Answer.Done machine.new }
+{
+    match call {
+        Call::Consume(n) => machine.r_consume(*n),
+        Call::Produced(n) => machine.w_produced(*n),
+        Call::Close => machine.w_close(),
+        Call::Drop(Side::Reader) => machine.r_drop(),
+        Call::Drop(Side::Writer) => machine.w_drop(),
+        _ => {}
+    }
+}

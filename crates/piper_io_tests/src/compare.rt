@@ -1,0 +1,104 @@
+//! How the tests poll, and compare what they see.
+use futures::task::{Context, Poll};
+use futures::test::MockTask;
+use piper::io::AsyncBufRead;
+use piper::{PipeError, Reader, Writer};
+use piper_lines::{FrameAnswer, Frames, LineAnswer, Lines, WriteFrame, WriteLine, Written};
+use std::fmt::Debug;
+use std::process::Abort;
+
+/// What a poll is to a test.
+#[derive(Clone, Copy, Debug, PartialEq, Eq)]
+pub(crate) enum Polled<A> {
+    Pending,
+    Told(A),
+    Refused,
+    Failed,
+}
+
+pub(crate) fn reported<A: Drop>(polled: Poll<Result<A, PipeError>>) -> Polled<A> {
+    match polled {
+        Poll::Pending => Polled::Pending,
+        Poll::Ready(Ok(answer)) => Polled::Told(answer),
+        Poll::Ready(Err(PipeError::Memory)) => Polled::Refused,
+        Poll::Ready(Err(PipeError::Io(_))) => Polled::Failed,
+    }
+}
+
+/// Holds what was seen against what is wanted.
+pub(crate) fn same<T: Debug + Drop + PartialEq>(rt: &impl Abort, seen: T, wanted: T) {
+    assert!(rt; seen == wanted, "{seen:?} in place of {wanted:?}");
+}
+
+/// Holds bytes against those that are wanted.
+pub(crate) fn same_bytes(rt: &impl Abort, seen: &[u8], wanted: &[u8]) {
+    assert!(rt; seen == wanted, "{seen:?} in place of {wanted:?}");
+}
+
+/// Fills the pipe with what is left of the text, as far as there is room, up to `most` bytes.
+pub(crate) fn feed(writer: &mut Writer, text: &[u8], sent: &mut usize, most: usize) {
+    let rest = &text[(*sent).min(text.len())..];
+    let taken = writer.try_fill(&rest[..most.min(rest.len())]);
+    *sent = sent.saturating_add(taken);
+}
+
+/// Polls once for a line, as a task, and again where memory is refused.
+pub(crate) fn poll_line(
+    task: &MockTask,
+    lines: &mut Lines<Reader>,
+    line: &mut Vec<u8>,
+    limit: usize,
+) -> Polled<LineAnswer> {
+    let limit = limit.max(1);
+    match reported(task.enter(|cx| lines.poll_line(cx, line, limit))) {
+        Polled::Refused => reported(task.enter(|cx| lines.poll_line(cx, line, limit))),
+        answer => answer,
+    }
+}
+
+/// Polls once for a frame, as a task, and again where memory is refused.
+pub(crate) fn poll_frame(
+    task: &MockTask,
+    frames: &mut Frames<Reader>,
+    frame: &mut Vec<u8>,
+    limit: usize,
+) -> Polled<FrameAnswer> {
+    match reported(task.enter(|cx| frames.poll_frame(cx, frame, limit))) {
+        Polled::Refused => reported(task.enter(|cx| frames.poll_frame(cx, frame, limit))),
+        answer => answer,
+    }
+}
+
+/// Polls a line once that is being written, as a task.
+pub(crate) fn write_line(
+    task: &MockTask,
+    line: &mut WriteLine<'_>,
+    writer: &mut Writer,
+) -> Polled<Written> {
+    reported(task.enter(|cx| line.poll(cx, writer)))
+}
+
+/// Polls a frame once that is being written, as a task.
+pub(crate) fn write_frame(
+    task: &MockTask,
+    frame: &mut WriteFrame<'_>,
+    writer: &mut Writer,
+) -> Polled<Written> {
+    reported(task.enter(|cx| frame.poll(cx, writer)))
+}
+
+/// Polls once for a frame, and skips it where it is past the limit: how many bytes it has.
+pub(crate) fn skip_long<R: AsyncBufRead>(
+    frames: &mut Frames<R>,
+    cx: &mut Context<'_>,
+    frame: &mut Vec<u8>,
+    limit: usize,
+) -> Option<usize> {
+    match frames.poll_frame(cx, frame, limit) {
+        Poll::Ready(Ok(FrameAnswer::TooLong(size))) => {
+            frames.skip();
+            Some(size)
+        }
+        _ => None,
+    }
+}

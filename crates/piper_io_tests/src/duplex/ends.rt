@@ -1,0 +1,98 @@
+//! The ends of a duplex stream on one thread.
+use crate::compare::{Polled, reported, same};
+use futures::test::MockTask;
+use piper::io::{AsyncRead, AsyncWrite};
+use piper_duplex::{End, duplex};
+use std::alloc::AllocGlobal;
+use std::process::Abort;
+use std::random::RandomSource;
+use std::sync::Wait;
+
+/// How often a poll that yields is made again.
+const MOST_POLLS: u32 = 1_000;
+
+/// Writes until a poll is ready, and holds what it answers against the count that is wanted.
+fn writes<H>(rt: &H, task: &MockTask, end: &mut End, bytes: &[u8], want: usize)
+where
+    H: Abort + Wait,
+{
+    let mut answer = Polled::Pending;
+    for _ in 0..MOST_POLLS {
+        if answer == Polled::Pending {
+            answer = reported(task.enter(|cx| end.poll_write(cx, bytes)));
+        }
+    }
+    same(rt, answer, Polled::Told(want));
+}
+
+/// Reads until a poll is ready, and holds what came against the bytes that are wanted.
+fn reads<H>(rt: &H, task: &MockTask, end: &mut End, want: &[u8])
+where
+    H: Abort + Wait,
+{
+    let mut place = [0; 16];
+    let mut answer = Polled::Pending;
+    for _ in 0..MOST_POLLS {
+        if answer == Polled::Pending {
+            answer = reported(task.enter(|cx| end.poll_read(cx, &mut place)));
+        }
+    }
+    same(rt, answer, Polled::Told(want.len()));
+    same(rt, &place[..want.len().min(16)], want);
+}
+
+fn go_there_and_back<H>(rt: &H)
+where
+    H: Abort + Wait + RandomSource + AllocGlobal,
+{
+    let (mut first, mut second) = duplex(rt.alloc(), 4, 8, 1).expect(rt, "memory");
+    let task = MockTask::new(rt).expect(rt, "memory");
+    writes(rt, &task, &mut first, b"there and", 4);
+    writes(rt, &task, &mut second, b"back again", 8);
+    reads(rt, &task, &mut second, b"ther");
+    reads(rt, &task, &mut first, b"back aga");
+    first.drop();
+    reads(rt, &task, &mut second, b"");
+    writes(rt, &task, &mut second, b"more", 0);
+    second.drop();
+}
+
+#[test]
+fn what_one_end_writes_the_other_reads(rt: HostRuntime) {
+    go_there_and_back(&rt);
+}
+
+#[test]
+fn fresh_ends_that_meet_know_of_nothing(rt: HostRuntime) {
+    let (mut first, mut second) = duplex(rt.alloc(), 4, 8, 1).expect(&rt, "memory");
+    first.meet(&mut second);
+    let seen = (first.reader().is_empty(), second.reader().is_empty());
+    same(&rt, seen, (true, true));
+    first.drop();
+    second.drop();
+}
+
+/// One task waits to read from an end and another one to write to it, until the other end is
+/// dropped.
+fn wakes_both<H>(rt: &H)
+where
+    H: Abort + Wait + RandomSource + AllocGlobal,
+{
+    let (first, mut second) = duplex(rt.alloc(), 4, 4, 1).expect(rt, "memory");
+    let reading = MockTask::new(rt).expect(rt, "memory");
+    let writing = MockTask::new(rt).expect(rt, "memory");
+    let mut place = [0; 4];
+    writes(rt, &writing, &mut second, b"full", 4);
+    let read = reported(reading.enter(|cx| second.poll_read(cx, &mut place)));
+    let written = reported(writing.enter(|cx| second.poll_write(cx, b"more")));
+    same(rt, (read, written), (Polled::Pending, Polled::Pending));
+    same(rt, (reading.is_woken(), writing.is_woken()), (false, false));
+    first.drop();
+    same(rt, (reading.is_woken(), writing.is_woken()), (true, true));
+    second.drop();
+}
+
+#[test]
+fn a_dropped_end_wakes_who_reads_and_who_writes(rt: HostRuntime) {
+    wakes_both(&rt);
+}

@@ -1,0 +1,170 @@
+//! Lines and frames of a reader that is pending or fails at any one of its looks: nothing is lost,
+//! and the next poll goes on. So it does where memory is refused.
+use crate::compare::{same, same_bytes};
+use crate::halting::{Halt, Halting};
+use futures::task::{Context, Poll};
+use futures::test::MockTask;
+use piper::PipeError;
+use piper_lines::{Collected, Frames, Lines, poll_frames, poll_lines};
+use std::alloc::{AllocError, Global};
+use std::process::Abort;
+use std::test::Fail;
+
+/// The most polls that a text takes.
+const MOST_POLLS: u32 = 8;
+
+/// How often a reader was told to be pending, and how often to have failed.
+#[derive(Clone, Copy, Debug, PartialEq, Eq)]
+struct Halts {
+    pending: u32,
+    failed: u32,
+}
+
+impl Halts {
+    const NONE: Halts = Halts {
+        pending: 0,
+        failed: 0,
+    };
+
+    /// One halt of this kind.
+    fn once(how: Halt) -> Halts {
+        match how {
+            Halt::Pending => Halts {
+                pending: 1,
+                failed: 0,
+            },
+            Halt::Fails => Halts {
+                pending: 0,
+                failed: 1,
+            },
+        }
+    }
+}
+
+/// What a poll answered, if it did, and else one more halt. Where memory was refused it is none:
+/// the poll is made again.
+fn reported<A: Drop>(polled: Poll<Result<A, PipeError>>, halts: &mut Halts) -> Option<A> {
+    match polled {
+        Poll::Ready(Ok(answer)) => return Some(answer),
+        Poll::Ready(Err(PipeError::Memory)) => {}
+        Poll::Pending => halts.pending = halts.pending.saturating_add(1),
+        Poll::Ready(Err(PipeError::Io(_))) => halts.failed = halts.failed.saturating_add(1),
+    }
+    None
+}
+
+/// Collects the lines, and what stands behind the last LF.
+fn lines_of(
+    task: &MockTask,
+    alloc: Global,
+    reader: Halting<'_>,
+    halts: &mut Halts,
+) -> Result<Vec<Vec<u8>>, AllocError> {
+    let mut lines = Lines::new(alloc, reader);
+    let mut found = Vec::new(alloc);
+    for _ in 0..MOST_POLLS {
+        let polled = task.enter(|cx| poll_lines(&mut lines, cx, &mut found, 100));
+        if let Some(rest) = reported(polled, halts) {
+            found.push(rest)?;
+            break;
+        }
+    }
+    Ok(found)
+}
+
+/// Collects the frames of at most two bytes, and answers why it ended.
+fn frames_of(
+    task: &MockTask,
+    frames: &mut Frames<Halting<'_>>,
+    found: &mut Vec<Vec<u8>>,
+    halts: &mut Halts,
+) -> Option<Collected> {
+    for _ in 0..MOST_POLLS {
+        let polled = task.enter(|cx| poll_frames(frames, cx, found, 2));
+        if let Some(ended) = reported(polled, halts) {
+            return Some(ended);
+        }
+    }
+    None
+}
+
+/// Holds what was collected against the pieces that are wanted.
+fn same_pieces(rt: &impl Abort, seen: &[Vec<u8>], wanted: &[&[u8]]) {
+    same(rt, seen.len(), wanted.len());
+    for (piece, bytes) in seen.iter().zip(wanted) {
+        same_bytes(rt, piece, bytes);
+    }
+}
+
+#[test]
+fn a_line_goes_on_after_each_look(rt: HostRuntime) -> Result<(), Fail> {
+    let task = MockTask::new(&rt)?;
+    for how in [Halt::Pending, Halt::Fails] {
+        // Ten bytes one by one, and then the end.
+        for last in 1..12 {
+            let reader = Halting::new(b"ab\ncd\n\nefg", 1, how, last);
+            let mut halts = Halts::NONE;
+            let found = lines_of(&task, rt.alloc(), reader, &mut halts)?;
+            same_pieces(&rt, &found, &[b"ab\n", b"cd\n", b"\n", b"efg"]);
+            same(&rt, halts, Halts::once(how));
+        }
+    }
+    Ok(())
+}
+
+#[test]
+fn a_frame_goes_on_after_each_look(rt: HostRuntime) -> Result<(), Fail> {
+    let task = MockTask::new(&rt)?;
+    for how in [Halt::Pending, Halt::Fails] {
+        // Fifteen bytes one by one, so that each look inside a body is one of them, and then the
+        // end.
+        for last in 1..17 {
+            let bytes = [0, 0, 0, 1, 7, 0, 0, 0, 0, 0, 0, 0, 2, 8, 9];
+            let mut frames = Frames::new(rt.alloc(), Halting::new(&bytes, 1, how, last));
+            let mut found = Vec::new(rt.alloc());
+            let mut halts = Halts::NONE;
+            let ended = frames_of(&task, &mut frames, &mut found, &mut halts);
+            same(&rt, ended, Some(Collected::ToTheEnd));
+            same_pieces(&rt, &found, &[&[7], &[], &[8, 9]]);
+            same(&rt, halts, Halts::once(how));
+        }
+    }
+    Ok(())
+}
+
+/// Polls for all frames once, and skips the one that is past the limit: how many bytes it has.
+fn skip_too_long(
+    frames: &mut Frames<Halting<'_>>,
+    cx: &mut Context<'_>,
+    found: &mut Vec<Vec<u8>>,
+) -> Option<usize> {
+    match poll_frames(frames, cx, found, 2) {
+        Poll::Ready(Ok(Collected::UntilTooLong(size))) => {
+            frames.skip();
+            Some(size)
+        }
+        _ => None,
+    }
+}
+
+#[test]
+fn frames_go_on_after_a_long_one_and_end_where_they_are_cut_off(
+    rt: HostRuntime,
+) -> Result<(), Fail> {
+    let task = MockTask::new(&rt)?;
+    let bytes = [
+        0, 0, 0, 1, 7, 0, 0, 0, 3, 1, 2, 3, 0, 0, 0, 1, 9, 0, 0, 0, 2, 8,
+    ];
+    let mut frames = Frames::new(rt.alloc(), Halting::new(&bytes, 3, Halt::Pending, 0));
+    let mut found = Vec::new(rt.alloc());
+    let mut halts = Halts::NONE;
+    let ended = frames_of(&task, &mut frames, &mut found, &mut halts);
+    same(&rt, ended, Some(Collected::UntilTooLong(3)));
+    same_pieces(&rt, &found, &[&[7]]);
+    let skipped = task.enter(|cx| skip_too_long(&mut frames, cx, &mut found));
+    same(&rt, skipped, Some(3));
+    let ended = frames_of(&task, &mut frames, &mut found, &mut halts);
+    same(&rt, ended, Some(Collected::Truncated));
+    same_pieces(&rt, &found, &[&[7], &[9]]);
+    Ok(())
+}

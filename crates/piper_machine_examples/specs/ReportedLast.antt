@@ -1,0 +1,10 @@
+-- A call that has just answered so: the answer is what the log tells last.
+use Rattle.std.specs.Prelude.{◌≡◌, List, [], ◌∷◌, ◌++◌}
+use Rattle.piper_protocol.specs.declared.calls.Side.TheVariants.{Reader}
+use Rattle.piper_protocol.specs.declared.events.Answer.{Answer}
+use Rattle.piper_protocol.specs.declared.events.Event.{Event}
+use Rattle.piper_protocol.specs.declared.events.Event.TheVariants.{Answered}
+
+pub record IsReportedLast (answer : Answer) (before after : List Event) : Type 0 where
+  pub log : List Event
+  pub events : after ≡ before ++ (log ++ Answered Reader answer ∷ [])

@@ -1,0 +1,138 @@
+-- What each side keeps: its own index,
+-- the other's as it last saw it, and its point inside the open call.
+use Rattle.std.specs.Prelude.{◌≡◌, ℕ, ◌+◌, ◌-◌, ◌*◌, ◌<◌, ◌≤◌, min, max, Bool, true, false, if◌then◌else◌}
+use Rattle.piper_protocol.specs.declared.table.ReadPoint.{ReadPoint}
+use Rattle.piper_protocol.specs.declared.table.ReadPoint.TheVariants as at
+use Rattle.piper_protocol.specs.declared.table.WritePoint.{WritePoint}
+use Rattle.piper_protocol.specs.declared.table.WritePoint.TheVariants as on
+use Rattle.piper_protocol.specs.declared.table.AfterRead.{AfterRead}
+use Rattle.piper_protocol.specs.declared.table.AfterRead.TheVariants as after_read
+use Rattle.piper_protocol.specs.declared.table.AfterWrite.{AfterWrite}
+use Rattle.piper_protocol.specs.declared.table.AfterWrite.TheVariants as after_write
+use Rattle.piper_protocol.specs.Index.{IsCapacity, distance, place_of}
+use Rattle.piper_protocol.specs.LendBound.{lend_bound}
+
+pub record Reading : Type 0 where
+  pub capacity : ℕ
+  -- the reader's own index
+  pub head : ℕ
+  -- the writer's index, as last seen
+  pub tail : ℕ
+  pub point : ReadPoint
+
+pub record Writing : Type 0 where
+  pub capacity : ℕ
+  -- the writer's own index
+  pub tail : ℕ
+  -- the reader's index, as last seen
+  pub head : ℕ
+  -- how many places at the buffer's beginning were set
+  pub zeroed : ℕ
+  -- how many places are lent, from the writer's own place on
+  pub lent : ℕ
+  pub is_shut : Bool
+  pub point : WritePoint
+
+-- the bytes that the reader knows of
+abbrev pub known_of : Reading → ℕ
+known_of r = distance r.capacity r.head r.tail
+
+-- those of them that stand in one piece
+abbrev pub peekable_of : Reading → ℕ
+peekable_of r = min (known_of r) (r.capacity - place_of r.capacity r.head)
+
+-- the free places that the writer knows of
+abbrev pub room_of : Writing → ℕ
+room_of w = w.capacity - distance w.capacity w.head w.tail
+
+-- the places from the writer's own up to the end of the buffer
+abbrev pub left_of : Writing → ℕ
+left_of w = w.capacity - place_of w.capacity w.tail
+
+abbrev pub lend_length : ℕ → Writing → ℕ
+lend_length most w =
+    if w.is_shut then 0 else min (min most (lend_bound w.zeroed)) (min (room_of w) (left_of w))
+
+-- lent from the writer's place on, and set up to the end of that
+abbrev pub lent_out : ℕ → Writing → Writing
+lent_out count w =
+    record w { lent = count; zeroed = max w.zeroed (place_of w.capacity w.tail + count) }
+
+-- the sides of an empty pipe
+abbrev pub fresh_reading : ℕ → Reading
+fresh_reading capacity = record { capacity = capacity; head = 0; tail = 0; point = at.Idle }
+
+abbrev pub fresh_writing : ℕ → Writing
+fresh_writing capacity = record {
+  capacity = capacity;
+  tail = 0;
+  head = 0;
+  zeroed = 0;
+  lent = 0;
+  is_shut = false;
+  point = on.Idle;
+}
+
+-- how many bytes a store gives up that is next
+abbrev pub head_store : ReadPoint → ℕ
+head_store (at.StoreHead n next) = n
+head_store point = 0
+
+-- how many bytes a store publishes that is next
+abbrev pub tail_store : WritePoint → ℕ
+tail_store (on.RoundClosed n form sum) = n
+tail_store (on.StoreTail n next) = n
+tail_store point = 0
+
+-- whether the step that comes next publishes bytes
+abbrev pub publishes : WritePoint → Bool
+publishes (on.StoreTail n next) = true
+publishes point = false
+
+-- how many bytes the open copy has moved, with those of a store that is next
+abbrev pub read_round : AfterRead → ℕ
+read_round (after_read.Round form sum) = sum
+read_round next = 0
+
+abbrev pub read_sum : ReadPoint → ℕ
+read_sum (at.CallDestination form sum) = sum
+read_sum (at.StoreHead n next) = read_round next
+read_sum (at.TakeWriter next) = read_round next
+read_sum (at.WakeWriter next) = read_round next
+read_sum point = 0
+
+abbrev pub write_round : AfterWrite → ℕ
+write_round (after_write.Round form sum) = sum
+write_round next = 0
+
+abbrev pub write_sum : WritePoint → ℕ
+write_sum (on.CallSource form sum) = sum
+write_sum (on.RoundClosed n form sum) = sum
+write_sum (on.StoreTail n next) = write_round next
+write_sum (on.TakeReader next) = write_round next
+write_sum (on.WakeReader next) = write_round next
+write_sum (on.StoreClosed next) = write_round next
+write_sum point = 0
+
+pub record IsReading (r : Reading) : Type 0 where
+  pub capacity : IsCapacity r.capacity
+  pub head : r.head < 2 * r.capacity
+  pub tail : r.tail < 2 * r.capacity
+  pub known : known_of r ≤ r.capacity
+  pub store : head_store r.point ≤ peekable_of r
+  -- a copy moves no more than its look left known
+  pub sum : read_sum r.point + known_of r ≤ r.capacity + head_store r.point
+
+pub record IsWriting (w : Writing) : Type 0 where
+  pub capacity : IsCapacity w.capacity
+  pub tail : w.tail < 2 * w.capacity
+  pub head : w.head < 2 * w.capacity
+  pub within : distance w.capacity w.head w.tail ≤ w.capacity
+  pub lent_room : w.lent ≤ room_of w
+  pub lent_place : w.lent ≤ left_of w
+  pub zeroed : w.zeroed ≤ w.capacity
+  pub lent_zeroed : place_of w.capacity w.tail + w.lent ≤ w.zeroed
+  pub shut : w.is_shut ≡ true → w.lent ≡ 0
+  pub store : tail_store w.point ≤ w.lent
+  -- a copy moves no more than its look left room for
+  pub sum : write_sum w.point + room_of w ≤ w.capacity + tail_store w.point

@@ -1,0 +1,233 @@
+//! The call table: where a side can stand inside a call, and the steps that it makes there.
+ghost use Rattle.std.specs.Prelude.{◌≡◌};
+ghost use Rattle.piper_protocol.specs.Table.{query_answer, copy_answer, count_answer, end_or_pending, failed_answer, look_answer, yield_answer};
+
+use crate::calls::{Query, Side};
+use crate::events::Answer;
+use crate::polling::Polled;
+use crate::scripted::Failed;
+
+/// The step that a side makes next.
+#[derive(Clone, Copy, Debug, PartialEq, Eq)]
+pub enum Action {
+    /// None: no call is open.
+    Rest,
+    LoadHead,
+    LoadTail,
+    /// Loads the other side's index in a look, and takes it in.
+    Refresh,
+    LoadClosed,
+    /// Puts the call's waker into the side's own slot, if its clone is granted.
+    Register,
+    /// Gives up the first unread bytes.
+    StoreHead(usize),
+    /// Publishes the first lent bytes.
+    StoreTail(usize),
+    /// Closes; a close by the writer's own call also shuts the pipe.
+    StoreClosed { is_shut: bool },
+    /// Empties the slot of this side.
+    Take(Side),
+    /// Calls the waker that was taken.
+    Wake,
+    /// Calls the caller's own waker in place of the rounds of a copy, if its clone is granted.
+    Yield,
+    /// Lends known bytes to the destination of a copy.
+    CallDestination,
+    /// Lends free places to the source of a copy.
+    CallSource,
+}
+
+/// In which form a copying call is made.
+#[derive(Clone, Copy)]
+pub enum Form {
+    /// Without a context: it registers nothing, and answers a count.
+    Try,
+    /// With a context. Where its draw is 0 it yields in place of its rounds.
+    Polling { is_drawn: bool },
+}
+
+/// What a look is for.
+#[derive(Clone, Copy)]
+pub enum Purpose {
+    /// A poll answers what the look finds.
+    Poll,
+    /// A copying call moves bytes where the look is true.
+    Copy(Form),
+}
+
+/// What follows the reader's wake of the writer.
+#[derive(Clone, Copy)]
+pub enum AfterRead {
+    Answer,
+    Drop,
+    /// The next round of a copy that has moved so many bytes.
+    Round(Form, usize),
+}
+
+/// What follows the writer's wake of the reader.
+#[derive(Clone, Copy)]
+pub enum AfterWrite {
+    Answer,
+    Drop,
+    /// A close wakes the writer too.
+    WakeWriter,
+    /// The next round of a copy that has moved so many bytes.
+    Round(Form, usize),
+}
+
+/// Where the reader stands: named after the step that comes next.
+#[derive(Clone, Copy)]
+pub enum ReadPoint {
+    Idle,
+    Dropped,
+    QueryHead(Query),
+    QueryTail(Query),
+    QueryClosed,
+    LookTail(Purpose),
+    LookRegister(Purpose),
+    LookClosed(Purpose),
+    LookTailAgain(Purpose, bool),
+    LookTake(Purpose),
+    Yield,
+    /// With the count of bytes moved so far.
+    CallDestination(Form, usize),
+    StoreHead(usize, AfterRead),
+    TakeWriter(AfterRead),
+    WakeWriter(AfterRead),
+    StoreClosed,
+}
+
+/// Where the writer stands: named after the step that comes next.
+#[derive(Clone, Copy)]
+pub enum WritePoint {
+    Idle,
+    Dropped,
+    QueryHead(Query),
+    QueryTail(Query, usize),
+    QueryClosed,
+    LookClosed(Purpose),
+    LookHead(Purpose),
+    LookRegister(Purpose),
+    LookHeadAgain(Purpose),
+    LookClosedAgain(Purpose),
+    LookTake(Purpose),
+    Yield,
+    /// With the count of bytes moved so far.
+    CallSource(Form, usize),
+    /// With the count of bytes that this round was given, and of all that the source gave.
+    RoundClosed(usize, Form, usize),
+    StoreTail(usize, AfterWrite),
+    TakeReader(AfterWrite),
+    WakeReader(AfterWrite),
+    StoreClosed(AfterWrite),
+    TakeWriter,
+    WakeWriter,
+}
+
+/// What a step found.
+#[derive(Clone, Copy)]
+pub enum Found {
+    /// Nothing that decides where the call goes on.
+    Nothing,
+    /// So many unread bytes.
+    Unread(usize),
+    /// The other side's index: whether the side knows of nothing even now.
+    Refreshed { none: bool },
+    /// The closed flag.
+    Flag(bool),
+    /// Whether a waker's clone was granted.
+    Granted(bool),
+    /// Whether a waker stood in the slot that was emptied.
+    Waker(bool),
+    /// So many bytes were given by the source, or taken by the destination.
+    Moved(usize),
+    /// The source or destination failed.
+    Failed,
+}
+
+impl Query {
+    /// What a query answers where so many bytes are unread.
+    #[inline(always)]
+    pub fn answer(self, capacity: usize, unread: usize) -> Answer
+        ensures { result ≡ query_answer self capacity unread }
+    {
+        match self {
+            Query::Len => Answer::Count(unread),
+            Query::IsEmpty => Answer::Flag(unread == 0),
+            Query::IsFull => Answer::Flag(unread == capacity),
+        }
+    }
+}
+
+impl Form {
+    /// What a copying call answers whose look was not true.
+    #[inline(always)]
+    pub fn copy_answer(self, answer: Polled<bool>) -> Answer
+        ensures { result ≡ copy_answer self answer }
+    {
+        match self {
+            Form::Try => Answer::Count(0),
+            Form::Polling { is_drawn: _ } => Answer::Copy(match answer {
+                Polled::Ready(_) => Polled::Ready(Ok(0)),
+                Polled::Pending => Polled::Pending,
+                Polled::Memory => Polled::Memory,
+            }),
+        }
+    }
+
+    /// What a copying call answers that ends with a count.
+    #[inline(always)]
+    pub fn count_answer(self, count: usize) -> Answer
+        ensures { result ≡ count_answer self count }
+    {
+        match self {
+            Form::Try => Answer::Count(count),
+            Form::Polling { is_drawn: _ } => Answer::Copy(Polled::Ready(Ok(count))),
+        }
+    }
+}
+
+impl Purpose {
+    /// What the call answers where its look is not true.
+    #[inline(always)]
+    pub fn look_answer(self, answer: Polled<bool>) -> Answer
+        ensures { result ≡ look_answer self answer }
+    {
+        match self {
+            Purpose::Poll => Answer::Poll(answer),
+            Purpose::Copy(form) => form.copy_answer(answer),
+        }
+    }
+}
+
+/// What a look that is not true finds behind the closed flag that it loaded.
+#[inline(always)]
+pub fn end_or_pending(was_closed: bool) -> Polled<bool>
+    ensures { result ≡ end_or_pending was_closed }
+{
+    if was_closed {
+        Polled::Ready(false)
+    } else {
+        Polled::Pending
+    }
+}
+
+/// What a copying call answers after its yield.
+#[inline(always)]
+pub fn yield_answer(is_granted: bool) -> Answer
+    ensures { result ≡ yield_answer is_granted }
+{
+    Answer::Copy(if is_granted {
+        Polled::Pending
+    } else {
+        Polled::Memory
+    })
+}
+
+/// What a copying call answers whose source or destination failed.
+#[inline(always)]
+pub fn failed_answer() -> Answer
+    ensures { result ≡ failed_answer }
+{
+    Answer::Copy(Polled::Ready(Err(Failed)))
+}

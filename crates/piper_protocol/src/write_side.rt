@@ -1,0 +1,220 @@
+//! The writer's side: its own index, the reader's as it last saw it, what is lent, and its point
+//! inside the open call.
+ghost use Rattle.std.specs.Prelude.{IsSome, ◌≡◌, ◌≢◌, ℕ, ◌+◌, ◌-◌, ◌*◌, ◌<◌, ◌≤◌, true, false, ◌==◌};
+ghost use Rattle.piper_protocol.specs.Table.{moved_in, write_action};
+ghost use Rattle.piper_protocol.specs.Index.{IsCapacity, distance, place_of, advanced};
+
+use crate::events::Answer;
+use crate::open_call::CallAt;
+use crate::table::{Action, Found, WritePoint};
+use crate::write_indices::WriteIndices;
+use std::marker::Model;
+
+/// What the writer keeps. It knows no buffer, no slot, no waker and no runtime.
+///
+/// A call is opened by `begin`. `next` then says which step the call table puts next, and `step`
+/// takes in what that step found; it answers where the call ends. A step that moves an index or
+/// shuts the pipe is told by `refreshed`, `stored_tail` or `shut`.
+#[derive(Drop)]
+pub struct WriteSide {
+    indices: WriteIndices,
+    point: WritePoint,
+}
+
+impl Model for WriteSide {
+    ghost use Rattle.piper_protocol.specs.Side.{Writing, IsWriting};
+    ghost use Rattle.piper_protocol.specs.SideSteps.{writing_of};
+
+    ghost Value = { Writing };
+
+    ghost view = { λ side. writing_of side.indices side.point };
+
+    ghost invariant = { λ side. IsWriting (writing_of side.indices side.point) };
+}
+
+impl WriteSide {
+    ghost use Rattle.piper_protocol.specs.Side.{IsWriting, fresh_writing, room_of, left_of, lend_length, lent_out, publishes, tail_store, write_sum};
+    ghost use Rattle.piper_protocol.specs.SideSteps.{writing_after, writing_answer, head_found};
+
+    /// The writer of an empty pipe.
+    pub fn new(capacity: usize) -> Self
+        requires { IsCapacity capacity }
+        ensures fresh { result ≡ fresh_writing capacity }
+        ensures sound { IsWriting result }
+    {
+        WriteSide {
+            indices: WriteIndices::new(capacity),
+            point: WritePoint::Idle,
+        }
+    }
+
+    /// The writer's own index.
+    pub fn tail(&self) -> usize
+        ensures { result ≡ self.now.tail }
+    {
+        self.indices.tail()
+    }
+
+    /// The place from which on the writer is lent.
+    pub fn front(&self) -> usize
+        ensures value { result ≡ place_of self.now.capacity self.now.tail }
+        ensures below { result < self.now.capacity }
+    {
+        self.indices.front()
+    }
+
+    /// How many free places the writer knows of.
+    pub fn room(&self) -> usize
+        ensures value { result ≡ room_of self.now }
+        ensures within { result ≤ self.now.capacity }
+    {
+        self.indices.room()
+    }
+
+    /// How many places are lent.
+    pub fn lent(&self) -> usize
+        ensures { result ≡ self.now.lent }
+    {
+        self.indices.lent()
+    }
+
+    /// Where the writer stands inside its open call.
+    pub fn point(&self) -> WritePoint
+        ensures { result ≡ self.now.point }
+    {
+        self.point
+    }
+
+    /// How many places are lent where `most` are asked for.
+    pub fn lendable(&self, most: usize) -> usize
+        ensures value { result ≡ lend_length most self.now }
+        ensures room { result ≤ room_of self.now }
+        ensures place { result ≤ left_of self.now }
+        ensures shut { self.now.is_shut ≡ true → result ≡ 0 }
+    {
+        self.indices.lendable(most)
+    }
+
+    /// Lends up to `most` free places in one piece, in place of what was lent before, and answers
+    /// how many.
+    ///
+    /// Places beyond those that were set already are to be set to zero before they are handed out.
+    pub fn lend(&mut self, most: usize) -> usize
+        requires { tail_store self.old.point ≡ 0 }
+        ensures count { result ≡ lend_length most self.old }
+        ensures after { self.new ≡ lent_out result self.old }
+        ensures sound { IsWriting self.new }
+    {
+        self.indices.lend(most)
+    }
+
+    /// Takes back what is lent.
+    pub fn unlend(&mut self)
+        requires { tail_store self.old.point ≡ 0 }
+        ensures after { self.new ≡ record self.old { lent = 0 } }
+        ensures sound { IsWriting self.new }
+    {
+        self.indices.unlend();
+    }
+
+    /// Opens a call at its first point. One that publishes bytes publishes lent ones.
+    pub fn begin(&mut self, point: WritePoint)
+        requires idle { self.old.point ≡ WritePoint.Idle }
+        requires within { tail_store point ≤ self.old.lent }
+        requires new { write_sum point ≡ 0 }
+        ensures after { self.new ≡ record self.old { point = point } }
+        ensures sound { IsWriting self.new }
+    {
+        self.point = point;
+    }
+
+    /// The step that the call table puts next.
+    pub fn next(&self) -> Action
+        ensures step { result ≡ write_action self.now.point }
+        ensures within { (n : ℕ) → result ≡ Action.StoreTail n → n ≤ self.now.lent }
+        ensures no_head { (n : ℕ) → result ≢ Action.StoreHead n }
+    {
+        self.point.action()
+    }
+
+    /// The step that comes next was made and found this, and no index moved with it.
+    pub fn step(&mut self, found: Found) -> Option<Answer>
+        requires next { write_action self.old.point ≢ Action.Rest }
+        requires no_store { publishes self.old.point ≡ false }
+        requires within { moved_in found ≤ self.old.lent }
+        ensures after { self.new ≡ writing_after found self.old }
+        ensures answer { result ≡ writing_answer found self.old }
+        ensures open { self.new.point ≡ WritePoint.Idle → IsSome result }
+        ensures rests { IsSome result → tail_store self.new.point ≡ 0 }
+        ensures sound { IsWriting self.new }
+    {
+        let none = self.indices.knows_none();
+        let CallAt { point, answer } = self.point.after(self.indices.capacity(), none, found);
+        self.point = point;
+        answer
+    }
+
+    /// The head was loaded in a look, and stood at this index.
+    pub fn refreshed(&mut self, head: usize) -> Option<Answer>
+        requires next { write_action self.old.point ≡ Action.Refresh }
+        requires index { head < 2 * self.old.capacity }
+        requires within { distance self.old.capacity head self.old.tail ≤ self.old.capacity }
+        requires lent { self.old.lent
+            ≤ self.old.capacity - distance self.old.capacity head self.old.tail }
+        ensures after { self.new ≡ record (writing_after (head_found head self.old) self.old) {
+          head = head;
+        } }
+        ensures answer { result ≡ writing_answer (head_found head self.old) self.old }
+        ensures open { self.new.point ≡ WritePoint.Idle → IsSome result }
+        ensures sound { IsWriting self.new }
+    {
+        self.indices.sees(head);
+        let none = self.indices.knows_none();
+        let CallAt { point, answer } = self
+            .point
+            .after(self.indices.capacity(), none, Found::Refreshed { none });
+        self.point = point;
+        answer
+    }
+
+    /// The tail was stored, past the first `n` bytes of what is lent.
+    pub fn stored_tail(&mut self, n: usize) -> Option<Answer>
+        requires next { write_action self.old.point ≡ Action.StoreTail n }
+        requires within { n ≤ self.old.lent }
+        ensures after { self.new ≡ record (writing_after Found.Nothing self.old) {
+          tail = advanced self.old.capacity self.old.tail n;
+          lent = self.old.lent - n;
+        } }
+        ensures answer { result ≡ writing_answer Found.Nothing self.old }
+        ensures open { self.new.point ≡ WritePoint.Idle → IsSome result }
+        ensures sound { IsWriting self.new }
+    {
+        self.indices.publishes(n);
+        let none = self.indices.knows_none();
+        let CallAt { point, answer } = self
+            .point
+            .after(self.indices.capacity(), none, Found::Nothing);
+        self.point = point;
+        answer
+    }
+
+    /// The closed flag was set, by a close: nothing is lent from now on.
+    pub fn shut(&mut self) -> Option<Answer>
+        requires next { write_action self.old.point ≡ Action.StoreClosed true }
+        ensures after { self.new ≡ record (writing_after Found.Nothing self.old) {
+          lent = 0;
+          is_shut = true;
+        } }
+        ensures answer { result ≡ writing_answer Found.Nothing self.old }
+        ensures open { self.new.point ≡ WritePoint.Idle → IsSome result }
+        ensures sound { IsWriting self.new }
+    {
+        self.indices.shut();
+        let none = self.indices.knows_none();
+        let CallAt { point, answer } = self
+            .point
+            .after(self.indices.capacity(), none, Found::Nothing);
+        self.point = point;
+        answer
+    }
+}

@@ -1,0 +1,90 @@
+-- `reclaim` is one swap, beside a share of what the reader knows. Assumes `Logic`.
+use Rattle.std.proofs.Common.{false, lit<, ◌≡◌, ℕ, ◌+◌, ◌^◌, List, [], ◌∷◌, sym, refl, w64}
+use mir.Syntax.{named}
+use mir.Val.{Val, vint, vptr}
+use base.Logic.{SProp, emp, via}
+use base.Fml.{Share, Fml, ftrue, flft, fhide}
+use types.Kit.{‵, raw, ◌⊛◌, given, mean, at_ret, ◌$◌, ◌∵◌, !, qed, by, move, keep, drop, split, split3, join, fsplit, fsplit3, fjoin, fjoin3, fpick, fpack, learn, use0, use1, use3, rewrite, feq_i, flt_i, use2}
+use types.Run.{stop, fld, load, look, lit, of_opd, bin, no_more, and_then, first, blocks, exec, Calls-last, returns, enter}
+use types.ByLocal.{alloc_all, pass_all, free_all, look_at, get, through, sets, lands_last, env}
+use types.Part.{agg}
+use types.Tokens.{shr_bor-open, obor_close}
+use contract.Monad.{fact, fact_i}
+use contract.Running.{tables}
+use denote.Exit.{yes}
+use denote.RattleType.{RattleType, owns}
+use denote.Signature.{types_at, plain}
+use denote.RawPtr.{Ptr, block_ptr, block_of, count_of, at_block}
+use denote.Builtin.{RefOf, u64}
+use denote.Ref.{shr_vals, shr_Tells, mut_vals, mut_Tells}
+use denote.Memory.{hidden_shr}
+use denote.Opens.{hide, unhide}
+use denote.Steps.{nothing, opens, closes}
+use denote.Struct.Struct.{Struct}
+use denote.Struct.Owning.{shape}
+use denote.Struct.Lending.{lent_out}
+use denote.Triple.Walked.{Stays, stay_dropped, stay_ref, walk_of, Goes-dropped, Goes-ref}
+use Rattle.core.proofs.atomic.Steps.{tail}
+use Rattle.core.proofs.slots.Lent.{pointer_in, pointer_out}
+use Rattle.rtrb.proofs.Walks.{proved, leaves}
+use Rattle.rtrb.proofs.Calls.{seq_cst, fm, found, finds, swaps}
+use Rattle.piper_ring.specs.Streams.{Stream}
+use Rattle.piper_ring.specs.Slots.{Waits, Reclaims}
+use Rattle.piper_ring.specs.SlotViews.{of_reader_waits}
+use Rattle.rtrb.proofs.Values.{pair_val, pair_of}
+use Rattle.piper_ring.specs.Shared.{Names, flag, Placed, common, reader_knows, reader_lends}
+use Rattle.piper_ring.proofs.Rights.{reader_halves}
+use Rattle.piper_ring.proofs.Steps.{flag_small}
+use Rattle.piper_ring.specs.Shared.{waits_for}
+use Rattle.token_cell.specs.contracts.Token as Token
+use Rattle.token_cell.proofs.Fields.{right_val, RightData, right_made}
+use Rattle.piper_ring.proofs.Slots.{ReaderWaited, reader_reclaims, ReclaimsHeld}
+use Rattle.piper_ring.specs.contracts.ring.slots.ReaderWaits as Slot
+use Rattle.piper_ring.specs.contracts.ring.seats.ReadSeat as Seat
+use Rattle.piper_ring.specs.contracts.ring.seats.ReadSeat.reclaim.{ended, clauses}
+use Rattle.piper_ring.specs.contracts.ring.seats.ReadSeat.reclaim.Key.{name as #self}
+use Rattle.piper_ring.proofs.ring.seats.ReadSeat.reclaim.Statement.{statement}
+use Rattle.piper_ring.proofs.ring.seats.ReadSeat.reclaim.Code as code
+
+abbrev Data : RattleType
+Data = Struct (shape Seat.the_type)
+
+pub reclaim_spec : {M : Type 1} → statement M
+reclaim_spec 𝓤 𝓛 𝓜 𝓡 wired =
+    let H = 𝓛.H in let 𝓣 = tables 𝓤 H 𝓜 𝓡 𝓡.env in let En = ended in let fn = code.function in let c = clauses 𝓛 𝓜.mem 𝓡.returns in
+    let self = RefOf (0 ∷ []) tt (plain (λ _. Seat.the_row)) (λ _. tt) in let SRow : RattleType = Slot.the_row in let slot_ref = plain (λ _. SRow) in
+    let hs : Stays En.signature.params En.kept = (stay_dropped self yes, (stay_ref (1 ∷ []) tt slot_ref, tt)) in
+    proved 𝓛 En hs c 𝓜 𝓡 (Goes-dropped 𝓛 2 self yes (λ κs x f. refl), (Goes-ref 𝓛 2 1 tt slot_ref, tt)) #self fn (code.unfolded 𝓤 H 𝓜 𝓡 wired)
+    (λ κs. (shr_vals, (mut_vals, tt))) (λ κs. (shr_Tells (named 0) κs.0 Seat.the_row, (mut_Tells (named 1) κs.1.0 SRow, tt))) (λ κs qs bounds a gh are.
+    let b : ℕ = a.0.ref_ptr.0 in let o : ℕ = a.0.ref_ptr.1 in let h = a.0.now in let w : Ptr = h.words in let p : Ptr = h.at in let z : Names = h.names in let κ = κs.0 in let q : Share = qs.0 in
+    let b' : ℕ = a.1.0.ref_ptr.0 in let o' : ℕ = a.1.0.ref_ptr.1 in let k = a.1.0.now in let view : Waits Stream = of_reader_waits k in
+    let C : Fml = common w p z in let Φ : Share → Fml = λ s. reader_knows w p z s h.head h.seen (flag h.leaving) in
+    let y : (walk_of 𝓛 En hs c).Ghost = ((κs, qs, bounds, a, (vptr b o ∷ [], (vptr b' o' ∷ [], tt))), gh) in let Post : Val → SProp 𝓤 = (walk_of 𝓛 En hs c).post y in
+    qed 𝓛 (((‵ (flft κ q) ⊛ ‵ (flft κs.1.0 qs.1.0) ⊛ ‵ ftrue) ⊛ ‵ (owns (types_at En.signature.params κs) a y.0.4)) ∷ given ((k.names ≡ z) × (k.owns ≡ false)) (‵ ftrue) ∷ []) ∵
+    keep ! (1 ∷ 0 ∷ []) $ learn ! (λ asked. drop ! $ split ! $ split3 ! $ move ! (3 ∷ []) $ fsplit3 ! $ move ! (1 ∷ []) $ fsplit3 ! $ keep ! (3 ∷ 5 ∷ 1 ∷ 2 ∷ 6 ∷ []) $ fsplit ! $ drop ! $
+    use1 𝓛 (‵ (hidden_shr Data κ (w, tt) b o) ⊛ ‵ (fhide (reader_lends w p z h.head h.seen h.leaving κ))) (lent_out 𝓛 Seat.struct Seat.the_codes Seat.the_heap Seat.the_lent κ h b o) $
+    split ! $ unhide ! $ fsplit ! $ fsplit ! $ keep ! (0 ∷ 3 ∷ 4 ∷ 5 ∷ 6 ∷ 7 ∷ []) $ hide ! $ move ! (1 ∷ []) $ unhide ! $ fsplit ! $ fsplit ! $ fpick ! (λ at. drop ! $ nothing ! $ fpack ! (Placed w p z) (λ _. ftrue) at $ fjoin ! $
+    let bw : ℕ = block_of w in let ow : ℕ = count_of w in let e : ℕ = 520 + ow in let isw : w ≡ block_ptr bw ow = at_block w at.0 in
+    enter ! 𝓣.C 𝓣.Λ fn (vptr b o ∷ vptr b' o' ∷ []) Post $ alloc_all ! (λ l. pass_all ! refl ((tt, tt), ((tt, tt), tt)) $ let Ev = env fn.locals l in
+    move ! (4 ∷ 5 ∷ 6 ∷ []) $ opens ! tt SRow b' o' (λ vs'. move ! (1 ∷ []) $ fsplit ! $ move ! (8 ∷ 9 ∷ 6 ∷ 7 ∷ []) $ first ! $ blocks ! $
+    pointer_in ! tt w bw ow isw b (o + 0) (λ r.
+    sets ! (of_opd ! (load ! (through ! refl (fld ! refl (stop !))) (look ! 0 refl))) refl (tt, tt) $ pointer_out ! tt w bw ow isw b (o + 0) $
+    sets ! (bin ! (get ! refl) (lit ! tt) tt) refl (tt, tt) $ move ! (2 ∷ 0 ∷ []) $ shr_bor-open ! tt (reader_halves 𝓛 w p z h.head h.seen (flag h.leaving)) (λ s. move ! (2 ∷ 1 ∷ 4 ∷ []) $
+    rewrite ! 2 (λ (m : Names). ‵ (waits_for m view.0 view.1.0 view.1.1.0 view.1.1.1)) {x = z} {y = k.names} asked.0 refl $
+    let out : ℕ → Fml = ReaderWaited 𝓛 w p z s h.head h.seen (flag h.leaving) (flag_small h.leaving) view (ReclaimsHeld view) in
+    use3 𝓛 (raw (𝓣.C _ (vptr bw e ∷ vint w64 0 ∷ seq_cst ∷ []) (λ u. mean 𝓛 (found out u))))
+    (via 𝓤 _ (reader_reclaims 𝓛 w p z s h.head h.seen (flag h.leaving) (flag_small h.leaving) view asked.1) (swaps 𝓛 𝓜 𝓡 (code.calls-core::raw_atomic::swap 𝓡.env wired) (block_ptr bw e) 0 (lit< tt) out)) $
+    sets ! (agg ! (and_then ! (lit ! tt) (no_more !))) refl (tt, (record { fits = lit< tt }, tt)) $
+    Calls-last ! (fm 𝓛 𝓜 𝓡) (found out) (and_then ! (get ! refl) (and_then ! (lit ! tt) (and_then ! (get ! refl) (no_more !)))) (λ u. finds ! out (λ n fits.
+    lands_last ! refl (tt, record { fits = fits }) $ exec ! 𝓣.C 𝓣.Λ Ev (tail fn.body) (at_ret Ev Post) $ sets ! (of_opd ! (get ! refl)) refl (tt, record { fits = fits }) $ sets ! (agg ! (no_more !)) refl (tt, tt) $
+    sets ! (agg ! (and_then ! (get ! refl) (no_more !))) refl (tt, (tt, tt)) $ sets ! (agg ! (and_then ! (get ! refl) (and_then ! (get ! refl) (no_more !)))) refl (tt, (record { fits = fits }, ((tt, tt), tt))) $
+    fpick ! (λ r. let v : Waits Stream = r.1.0 in fsplit3 ! $ fpick ! (λ told. drop ! $ drop ! $ fsplit ! $ move ! (2 ∷ 1 ∷ []) $ obor_close ! tt $ drop ! $ move ! (1 ∷ []) $ fsplit ! $ move ! (2 ∷ 0 ∷ []) $
+    let k' : SRow.Denot = record k { owns = v.0; tickets = v.1.0; bytes = v.1.1.0; shut = v.1.1.1 } in
+    rewrite ! 1 (λ (m : Names). ‵ (waits_for m v.0 v.1.0 v.1.1.0 v.1.1.1)) {x = k.names} {y = z} (sym asked.0) refl $ move ! (3 ∷ 1 ∷ []) $ fjoin ! $ move ! (3 ∷ 0 ∷ 4 ∷ 5 ∷ 6 ∷ []) $ closes ! tt SRow k' vs' b' o' $
+    feq_i ! (List Val) (vptr b' o' ∷ []) (vptr b' o' ∷ []) refl $ fjoin3 ! $ nothing ! $ move ! (1 ∷ 0 ∷ []) $ fjoin ! $ nothing ! $ fjoin ! $ nothing ! $ move ! (2 ∷ 0 ∷ []) $ join ! $ move ! (2 ∷ 0 ∷ []) $ join ! $
+    let token : Token.the_row.Denot = record { mark = record {}; name = z.reader_place; there = r.1.1.0; filled = r.1.1.1 } in let Righted : Type 0 = (z.reader_place ≡ z.reader_place) × (r.1.1.0 ≡ v.0) × (r.1.1.1 ≡ false) in
+    move ! (2 ∷ []) $ use0 𝓛 (‵ (RightData.own_val (record {}, tt) (right_val ∷ []))) (right_made 𝓛) $ fjoin ! $ flt_i ! n (2 ^ 64) fits $ feq_i ! (List Val) (vint w64 n ∷ []) (vint w64 n ∷ []) refl $ fjoin ! $
+    use2 𝓛 (‵ ((denote.Struct.Tuple.Tuple (u64 ∷ Token.the_row ∷ [])).own_val (n, token) (pair_val (vint w64 n) right_val ∷ []))) (pair_of 𝓛 u64 Token.the_row n token (vint w64 n) right_val) $
+    use0 𝓛 (raw (fact 𝓤 Righted)) (fact_i 𝓤 Righted (emp 𝓤) (refl, (λ i. (told.1 i).0), λ i. (told.1 i).1)) $
+    use0 𝓛 (raw (fact 𝓤 (Reclaims Stream view (k.bytes, k.shut) n v))) (fact_i 𝓤 (Reclaims Stream view (k.bytes, k.shut) n v) (emp 𝓤) told.0) $ join ! $ use0 𝓛 (raw (fact 𝓤 (k.names ≡ k.names))) (fact_i 𝓤 (k.names ≡ k.names) (emp 𝓤) refl) $ join ! $
+    returns ! (look_at ! 0 refl) $ free_all ! refl $ keep ! (2 ∷ 3 ∷ 1 ∷ 0 ∷ []) $ by ! (leaves 𝓛 En hs c y (pair_val (vint w64 n) right_val) (n, token) (tt, (k', tt)) (tt, (tt, tt))))))))))))))

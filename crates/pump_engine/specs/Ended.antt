@@ -1,0 +1,59 @@
+-- How the pump ends after a transfer, and the exit status that tells it.
+use Rattle.std.specs.Prelude.{◌≡◌, ◌≢◌, ◌⊎◌, ℕ, Result, Ok, Err, ⊤}
+use Rattle.std.specs.IoError.{error_kind}
+use Rattle.std.specs.declared.io.ErrorKind.TheVariants.{BrokenPipe}
+use Rattle.clap.specs.Words.{kind_of}
+use Rattle.clap.specs.declared.error.kind.ErrorKind.TheVariants.{DisplayHelp, DisplayVersion}
+use Rattle.clap.specs.declared.error.Error.{Error}
+use Rattle.piper_transfer.specs.declared.error.TransferError.{TransferError}
+use Rattle.piper_transfer.specs.declared.error.TransferError.TheVariants.{Read, Write, Full, Memory, Turns}
+use Rattle.pump_engine.specs.declared.ended.Ended.{Ended}
+use Rattle.pump_engine.specs.declared.ended.Ended.TheVariants as ended
+
+-- a transfer with this answer ends the program so. A write that fails
+-- with a broken pipe says that the program which read the output has ended
+abbrev pub EndsAs : {A : Type 0} → Result A TransferError → Ended → Type 0
+EndsAs (Ok moved) e = e ≡ ended.Moved
+EndsAs (Err (Read failed)) e = e ≡ ended.Input (Read failed)
+EndsAs (Err (Write failed)) e =
+    (error_kind failed ≡ BrokenPipe → e ≡ ended.Closed)
+    × (error_kind failed ≢ BrokenPipe → e ≡ ended.Output (Write failed))
+EndsAs (Err Full) e = e ≡ ended.Output Full
+EndsAs (Err Memory) e = e ≡ ended.Memory
+EndsAs (Err (Turns failed)) e = e ≡ ended.Memory
+
+-- the program ends before it moves a byte: for its words, or for want of memory
+abbrev pub IsOfWords : Ended → Type 0
+IsOfWords (ended.Words error) = ⊤
+IsOfWords ended.NotText = ⊤
+IsOfWords ended.Memory = ⊤
+IsOfWords other = ⊥
+
+-- the program ends before the first byte: for its words, a file that can't be opened, or memory
+abbrev pub IsEarly : Ended → Type 0
+IsEarly (ended.Words error) = ⊤
+IsEarly ended.NotText = ⊤
+IsEarly (ended.Value option) = ⊤
+IsEarly (ended.NoInput file) = ⊤
+IsEarly (ended.NoOutput file) = ⊤
+IsEarly ended.Memory = ⊤
+IsEarly other = ⊥
+
+-- the words on the command line ask for the help or the version
+abbrev pub IsShown : Error → Type 0
+IsShown error = (kind_of error ≡ DisplayHelp) ⊎ (kind_of error ≡ DisplayVersion)
+
+-- the exit status that tells it: of words on the command line 0
+-- where they ask for the help or the version, or 4 where that could not be printed; and else 2
+abbrev pub HasStatus : Ended → ℕ → Type 0
+HasStatus ended.Moved n = n ≡ 0
+HasStatus (ended.Words error) n =
+    (IsShown error → (n ≡ 0) ⊎ (n ≡ 4)) × (¬ IsShown error → n ≡ 2)
+HasStatus ended.NotText n = n ≡ 2
+HasStatus (ended.Value option) n = n ≡ 2
+HasStatus (ended.NoInput file) n = n ≡ 3
+HasStatus (ended.NoOutput file) n = n ≡ 4
+HasStatus (ended.Input failed) n = n ≡ 3
+HasStatus (ended.Output failed) n = n ≡ 4
+HasStatus ended.Closed n = n ≡ 5
+HasStatus ended.Memory n = n ≡ 6

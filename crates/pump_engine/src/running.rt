@@ -1,0 +1,156 @@
+//! The whole run, from the words on the command line to how it ends.
+ghost use Rattle.std.specs.Prelude.{◌≡◌, ◌≢◌, [], OnErr, IfOk, IfErr, map, string_bytes};
+ghost use Rattle.clap.specs.Words.{fault_of};
+ghost use Rattle.piper_transfer.specs.Transfer.{IsOfSide, Transfers, WritesAll};
+ghost use Rattle.pump_engine.specs.Arguments.{NamesNoFile, ShowsAsAsked, pump_command};
+ghost use Rattle.pump_engine.specs.Ended.{IsEarly};
+ghost use Rattle.pump_engine.specs.Ends.{drain_bytes, inlet_bytes, InletFails, IsFlushed};
+ghost use Rattle.pump_engine.specs.Ends.{IsFull, OutletFails};
+ghost use Rattle.pump_engine.specs.Running.{Runs};
+
+use crate::arguments::read_words;
+use crate::ended::Ended;
+use crate::ends::{Inlet, Outlet};
+use crate::plan::{numbers_of, open_files, size_of};
+use crate::progress::{Over, Watched, watch};
+use piper_transfer::{Destination, Meter, Sizes, Source, TransferError, transfer};
+use std::alloc::AllocGlobal;
+use std::fs::{File, Files};
+use std::marker::Send;
+use std::random::RandomSource;
+use std::sync::Wait;
+use std::thread::{Threads, join_mut};
+use std::time::Clock;
+
+/// What the words ask for, once the files that they name are opened.
+#[derive(Clone, Copy)]
+struct Task {
+    sizes: Sizes,
+    /// What is told of the transfer, if progress is asked for.
+    asked: Option<Watched>,
+}
+
+/// Does what the words ask for, between an input and an output that stand for files that are not
+/// named. `redraws` says that standard error is a terminal.
+///
+/// Words that are refused end it before a byte is moved. Else it ends as the transfer does: with
+/// success only where all that the input gave was written and flushed. Progress, told or not,
+/// changes neither.
+pub fn run<R, S, D>(
+    rt: &R,
+    words: &[String],
+    input: &mut Inlet<S>,
+    output: &mut Outlet<'_, R, D>,
+    redraws: bool,
+) -> Ended
+where
+    R: Wait + Threads + Clock + RandomSource + AllocGlobal + Files<File = File>,
+    R: Eprint + Clone + Drop + Send + Sync,
+    S: Source + Send + Drop,
+    D: Destination + Drop,
+    ensures refused { fault_of pump_command (map string_bytes words.now) ≢ [] →
+        IsEarly result × (input.new ≡ input.old) × (output.new.drain ≡ output.old.drain) }
+    ensures runs { NamesNoFile (map string_bytes words.now) →
+        Runs (inlet_bytes S.remaining input.old) (inlet_bytes S.remaining input.new)
+        (drain_bytes D.contents output.old.drain) (drain_bytes D.contents output.new.drain)
+        (IsFlushed D.flushed output.new.drain)
+        (IsOfSide (InletFails S.fails input.new)
+        (OutletFails D.fails output.new.drain output.new.copies.has_failed)
+        (IsFull D.full output.new.drain)) result }
+{
+    let task = match prepare(rt, words, input, output, redraws) {
+        Ok(task) => task,
+        Err(ended) => return ended,
+    };
+    let moved = pump(rt, input, output, task.sizes, task.asked);
+    if let Some(sum) = output.copies.sum() {
+        report_sum(rt, sum);
+    }
+    Ended::of(moved)
+}
+
+// Reads the words, and opens the files that they name.
+fn prepare<R, S, D>(
+    rt: &R,
+    words: &[String],
+    input: &mut Inlet<S>,
+    output: &mut Outlet<'_, R, D>,
+    redraws: bool,
+) -> Result<Task, Ended>
+where
+    R: Clock + AllocGlobal + Files<File = File>,
+    S: Source + Drop,
+    D: Destination + Drop,
+    ensures early { IfErr result IsEarly }
+    ensures stays { OnErr result
+        ((input.new ≡ input.old) × (output.new.drain ≡ output.old.drain)) }
+    ensures taken { IfOk result (λ _. fault_of pump_command (map string_bytes words.now) ≡ []) }
+    ensures unnamed { NamesNoFile (map string_bytes words.now) →
+        (input.new ≡ input.old) × (output.new.drain ≡ output.old.drain) }
+    ensures shown { IfOk result (λ task.
+        ShowsAsAsked (map string_bytes words.now) task.asked) }
+{
+    let arguments = match read_words(rt.alloc(), words) {
+        Ok(arguments) => arguments,
+        Err(error) => return Err(Ended::Words(error)),
+    };
+    let numbers = numbers_of(arguments.sizes, arguments.texts)?;
+    open_files(rt, &arguments, numbers.rate, input, output)?;
+    let watched = Watched {
+        capacity: numbers.sizes.capacity,
+        total: numbers.total.or(size_of(input)),
+        redraws,
+    };
+    let shows_progress = arguments.shows_progress && !arguments.is_quiet;
+    Ok(Task {
+        sizes: numbers.sizes,
+        asked: if shows_progress { Some(watched) } else { None },
+    })
+}
+
+/// Moves all bytes, and tells meanwhile how far it is where that is asked for. Told or not, the
+/// bytes and the answer are those of the transfer.
+pub(crate) fn pump<R, S, D>(
+    rt: &R,
+    source: &mut S,
+    dest: &mut D,
+    sizes: Sizes,
+    watched: Option<Watched>,
+) -> Result<(), TransferError>
+where
+    R: Wait + Threads + Clock + RandomSource + AllocGlobal + Eprint + Clone + Drop + Send + Sync,
+    S: Source + Send,
+    D: Destination,
+    ensures moved { Transfers result (S.remaining source.old) (S.remaining source.new)
+        (D.contents dest.old) (D.contents dest.new) }
+    ensures flushed { WritesAll result → D.flushed dest.new }
+    ensures reported { IfErr result
+        (IsOfSide (S.fails source.new) (D.fails dest.new) (D.full dest.new)) }
+{
+    let meter = Meter::new();
+    let Some(watched) = watched else {
+        return transfer(rt, source, dest, sizes, &meter);
+    };
+    let over = Over::new();
+    let (seen, done) = (&meter, &over);
+    let (_, moved) = join_mut(
+        rt,
+        &mut || watch(rt, seen, watched, done),
+        &mut || {
+            let moved = transfer(rt, source, dest, sizes, seen);
+            done.report(rt);
+            moved
+        },
+    );
+    moved
+}
+
+// Tells the sum of what passed.
+fn report_sum(rt: &impl Eprint, digest: [u8; 32]) {
+    // There is nowhere left to say that standard error is closed.
+    let _ = eprint!(rt; "SHA-256: ");
+    for byte in &digest {
+        let _ = eprint!(rt; "{:02x}", byte);
+    }
+    let _ = eprintln!(rt; "");
+}
