@@ -1,5 +1,5 @@
 #!/usr/bin/env bash
-# Tries the built pump where it is hard: limits, failing ends, signals, sizes, and what it tells.
+# Tries the built pump where it is hard: limits, failing ends, signals, sizes, and what it reports.
 #
 #     tests/pump.sh [PROGRAM]
 #
@@ -31,7 +31,7 @@ note() { # NAME, and a command that tells
     fi
 }
 
-# Runs a command line of the shell, and compares its exit status and what it tells on standard error.
+# Runs a command line of the shell, and compares its exit status and what it reports on standard error.
 try() { # NAME SECONDS STATUS PATTERN COMMAND
     timeout "$2" bash -c "$5" 2> told > out
     local status=$?
@@ -42,7 +42,7 @@ try() { # NAME SECONDS STATUS PATTERN COMMAND
     fi
 }
 
-# The same, where nothing is told.
+# The same, where nothing is reported.
 try_silent() { # NAME SECONDS STATUS COMMAND
     try "$1" "$2" "$3" '' "$4"
     note "$1, silently" test ! -s told
@@ -113,7 +113,7 @@ try_silent 'a rate' 20 0 'lines 100000 | $pump --rate 100k > /dev/null'
 took=$((($(date +%s%N) - begun) / 1000000))
 note "100,000 bytes at 100 KiB a second took $took ms" test "$took" -ge 900 -a "$took" -le 5000
 
-# What is told.
+# What is reported.
 try_silent 'nothing is told unasked' 10 0 '(lines 1000; sleep 1; lines 1000) | $pump > /dev/null'
 try_silent 'nothing is told quietly' 10 0 '(lines 1000; sleep 1; lines 1000) | $pump --progress --quiet > /dev/null'
 try 'four lines a second' 20 0 '^1.9 KiB' '(lines 1000; sleep 2; lines 1000) | $pump --progress > /dev/null'

@@ -1,7 +1,7 @@
 #!/usr/bin/env bash
 # Takes crates into a repository of one's own: tools/take.sh CRATE.. FOLDER copies the crates and those of this repository
-# that they stand on into FOLDER/crates, adds their lines to FOLDER/crates.txt, writes HANDLES there if it has none,
-# and says what was copied. A crate that stands there already, as it is here, is passed over. FOLDER is made where
+# that they depend on into FOLDER/crates, adds their lines to FOLDER/crates.txt, writes HANDLES there if it has none,
+# and says what was copied. A crate that is there already, as it is here, is passed over. FOLDER is made where
 # there is none. What is refused is named, and nothing is written then.
 set -eu
 here=$(cd "$(dirname "$0")/.." && pwd)
@@ -28,7 +28,7 @@ done
 folder=$(realpath -m "$folder")
 [ "$folder" != "$here" ] || refuse "$folder is the repository that is copied from"
 
-# The crates of this repository that it stands on, each behind those that it stands on itself.
+# The crates of this repository that it builds on, each after those that it builds on itself.
 crates=()
 visit() {
     local below
@@ -40,13 +40,13 @@ visit() {
 }
 for crate in "${wanted[@]}"; do visit "$crate"; done
 
-# Whether the crate stands in the folder as it does here.
+# Whether the crate is in the folder as it does here.
 is_there() {
     [ -d "$folder/crates/$1" ] && diff -rq --exclude=out "$here/crates/$1" "$folder/crates/$1" > /dev/null &&
         [ "$(line_of "$1" "$here/crates.txt")" = "$(line_of "$1" "$folder/crates.txt")" ]
 }
 
-# Everything that could refuse is looked at before the first file is written.
+# Everything that could refuse is checked before the first file is written.
 missing=()
 for name in "${crates[@]}"; do
     ! is_there "$name" || continue

@@ -32,7 +32,7 @@ for folder in "$copy"/crates/*/; do
     fi
 done
 
-# What they stand on is built first, one library after another: two crates that build the same one at once would
+# What they depend on is built first, one library after another: two crates that build the same one at once would
 # each read what the other has half written.
 for name in "${names[@]}"; do
     for library in $(sed -n "s/^$name://p" crates.txt); do

@@ -14,7 +14,7 @@ use std::{io, thread};
 /// A longer line comes, and counts, in pieces of so many bytes.
 const MOST_OF_A_LINE: usize = 65_536;
 
-/// Answers how many lines the file has.
+/// Returns how many lines the file has.
 pub(crate) fn count_lines<H, R>(rt: &H, file: R) -> io::Result<u64>
 where
     H: Threads + Wait + RandomSource + AllocGlobal + Clone + Drop + Send + Sync + 'static,
@@ -23,7 +23,7 @@ where
     let theirs = rt.clone()?;
     let (reader, writer) = owned_pipe(rt.alloc(), 64)?;
     let child = thread::spawn(rt, move || -> io::Result<()> {
-        // The writer comes back and is let go here, which closes the pipe.
+        // The writer comes back and is dropped here, which closes the pipe.
         drop(block_on(&theirs, fill_from(writer, file))??);
         Ok(())
     })?;

@@ -1,4 +1,4 @@
-//! A task takes lines from a reader, and prints each behind its number.
+//! A task takes lines from a reader, and prints each after its number.
 use futures::executor::block_on;
 use futures::{StreamExt, TryStreamExt, future};
 use piper::io::AsyncBufRead;
@@ -8,7 +8,7 @@ use std::io;
 use std::random::RandomSource;
 use std::sync::Wait;
 
-/// A line longer than this many bytes is cut, and told as cut.
+/// A line longer than this many bytes is cut, and reported as cut.
 const MOST_OF_A_LINE: usize = 80;
 
 // Prints a line with its number.

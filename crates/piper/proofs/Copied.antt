@@ -2,8 +2,7 @@
 use Rattle.std.specs.Prelude.{◌≡◌, ℕ, ◌+◌, ◌≤◌, List, ◌++◌, take, drop, length}
 use Rattle.std.proofs.Common.{sym, ap, ◌∙◌, append_assoc, take-add, take_at, length-take-le}
 
--- the first n bytes of xs stand at the front: k of them stood there, and the next ones were put
--- behind
+-- the first n bytes of xs are at the front: k of them were there, and the next ones were put after
 pub copied_on : (xs front more after : List ℕ) (k m n : ℕ) → n ≤ length xs → n ≡ k + m
     → front ≡ take k xs → more ≡ take m (drop k xs)
     → take n (front ++ (more ++ after)) ≡ take n xs

@@ -12,7 +12,7 @@ not_pending : {E : Type 0} (r : Poll (Result ℕ (Inner E))) → IsAtOnce r → 
 not_pending (Ready x) ready pending = pending
 not_pending Pending ready pending = ready
 
--- it drew no yield behind a true look, and so didn't wait
+-- it drew no yield after a true look, and so didn't wait
 pub draws_at_once : {E : Type 0} (looked_true : Type 0) (r : Poll (Result ℕ (Inner E))) (yields : Bool) (old looked drew new : Lcg) → looked_true → IsAtOnce r → yields ≡ false
     → (IsTrue yields ↔ DrawsYield looked) → drew ≡ drawn_from looked → looked ≡ old → new ≡ drew → Draws looked_true r old new
 draws_at_once looked_true r yields old looked drew new found ready goes_on draw word same rest = record {

@@ -1,4 +1,4 @@
--- What stays behind a told end.
+-- What stays after the end was reported.
 use Rattle.std.proofs.Common.{◌≡◌, ℕ, ◌≤◌, ◌++◌, Bool, true, false, [], take, drop, refl, sym, ap, ◌∙◌, append-nil, Result, Ok, Err, length, true≢false, arith}
 use Rattle.std.proofs.lemmas.List.{append_cancel_left}
 use Rattle.std.proofs.Math.Seq.{take-nil, drop-nil}
@@ -56,7 +56,7 @@ ended_consumed n a b taken known all saw ended = record {
 ended_takes : (a b : ReadView) → (KnowsEnd a → b.all ≡ a.all) → IsEnded a → IsEnded b → b.taken ≡ a.taken
 ended_takes a b same before now = now.all ∙ same (ended_knows a before) ∙ sym before.all
 
--- a drain behind the end takes none, and doesn't wait
+-- a drain after the end takes none, and doesn't wait
 pub ended_after : {E : Type 0} (r : Poll (Result ℕ E)) (a b : ReadView) → (KnowsEnd a → b.all ≡ a.all) → (IsEnded a → IsEnded b) → EndIsUnseen r a b → IsEnded a → TakesNone r (IsEnded b) a.taken b.taken
 ended_after (Ready (Ok n)) a b same stays unseen ended = (stays ended, ended_takes a b same ended (stays ended), tt)
 ended_after (Ready (Err e)) a b same stays unseen ended = (stays ended, ended_takes a b same ended (stays ended), tt)

@@ -1,4 +1,4 @@
--- A fill's look, behind which nothing was moved.
+-- A fill's look, after which nothing was moved.
 use Rattle.std.proofs.Common.{◌≡◌, ℕ, ◌<◌, ◌⊎◌, [], length, true, false, Result, Ok, Err, refl, sym, ap, ◌∙◌, append-nil, inr, arith}
 use Rattle.futures.specs.declared.task.Poll.{Poll}
 use Rattle.futures.specs.declared.task.Poll.TheVariants.{Ready, Pending}
@@ -13,7 +13,7 @@ use Rattle.piper.specs.declared.error.Inner.{Inner}
 use Rattle.piper.specs.declared.error.Inner.TheVariants.{Memory, Like}
 
 module _ {S E : Type 0} (gives : Passes S) (is_dry : S → Type 0) (fails : S → E → S → Type 0) where
-  -- nothing was moved behind the look
+  -- nothing was moved after the look
   pub fills_none : (r : Poll (Result ℕ (Inner E))) (a w : WriteView) (s : S) → WriterLooked a w → Copies gives fails r s s [] → IfReadyOk r (λ n. (((0 < n) × (w.room ≡ 0)) ⊎ is_dry s) ⊎ (w.saw ≡ true))
       → Fills gives is_dry fails r a w s s
   fills_none r a w s looked copied most = record {

@@ -1,4 +1,4 @@
--- A drain's look, behind which nothing was moved, or rounds moved what it found.
+-- A drain's look, after which nothing was moved, or rounds moved what it found.
 use Rattle.std.proofs.Common.{◌≡◌, Bool, true, false, ℕ, ◌<◌, ◌≤◌, ◌⊎◌, [], ◌++◌, length, Result, Ok, Err, refl, sym, ap, ◌∙◌, subst, append-nil, length-append, inl, arith}
 use Rattle.futures.specs.declared.task.Poll.{Poll}
 use Rattle.futures.specs.declared.task.Poll.TheVariants.{Ready, Pending}
@@ -16,7 +16,7 @@ use Rattle.piper.specs.declared.error.Inner.{Inner}
 use Rattle.piper.specs.declared.error.Inner.TheVariants.{Memory, Like}
 
 module _ {S E : Type 0} (takes : Passes S) (is_full : S → Type 0) (fails : S → E → S → Type 0) where
-  -- nothing was moved behind the look
+  -- nothing was moved after the look
   pub drains_none : (r : Poll (Result ℕ (Inner E))) (a w : ReadView) (s : S) → ReaderLooked a w → Copies takes fails r s s [] → OnReadyOk r ((w.known ≡ []) ⊎ is_full s)
       → Drains takes is_full fails r a w s s
   drains_none r a w s looked copied most = record {
@@ -36,7 +36,7 @@ module _ {S E : Type 0} (takes : Passes S) (is_full : S → Type 0) (fails : S �
   drains_unfound (Ready (Err (Like e))) a w s nothing looked found = absurd found
   drains_unfound Pending a w s nothing looked found = drains_none Pending a w s looked (refl, refl) tt
 
-  -- rounds moved bytes behind the look
+  -- rounds moved bytes after the look
   module _ (r : Poll (Result ℕ (Inner E))) (a w m b : ReadView) (s t : S) (looked : ReaderLooked a w) (same : m ≡ w) (rounds : DrainRounds takes is_full fails r m b s t) where
     d : DrainRounds takes is_full fails r w b s t
     d = subst (λ v. DrainRounds takes is_full fails r v b s t) same rounds

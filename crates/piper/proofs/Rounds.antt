@@ -36,7 +36,7 @@ module _ (call : Next WritePoint) (form : Form) (n : ℕ) (ended : call ≡ ends
   pub told_count : {E : Type 0} (r : Poll (Result ℕ (Inner E))) → r ≡ copied_of answer → r ≡ Ready (Ok n)
   told_count r told = told ∙ ap copied_of (sym same) ∙ counted form n
 
--- the writer stands before a call of its source, which gave s bytes so far
+-- the writer comes before a call of its source, which gave s bytes so far
 module _ (call : Next WritePoint) (form : Form) (s n : ℕ) (here : call ≡ goes_on (on.CallSource form s)) (gave : Next WritePoint) (gave_is : gave ≡ write_step call.point (moved n)) where
   gave_here : gave ≡ writer_moved (n == 0) n form s
   gave_here = gave_is ∙ ap (λ (c : Next WritePoint). write_step c.point (moved n)) here
@@ -45,7 +45,7 @@ module _ (call : Next WritePoint) (form : Form) (s n : ℕ) (here : call ≡ goe
   pub gave_none : n ≡ 0 → gave ≡ ends on.Idle (count_answer form s)
   gave_none none = gave_here ∙ ap (λ (m : ℕ). writer_moved (m == 0) m form s) none
 
-  -- and the copy answers what it gave before
+  -- and the copy returns what it gave before
   pub told_none : {E : Type 0} → n ≡ 0 → (answer : Answer) → gave.answer ≡ Some answer → (r : Poll (Result ℕ (Inner E))) → r ≡ copied_of answer → r ≡ Ready (Ok s)
   told_none none answer is_told r told = told_count gave form s (gave_none none) answer is_told r told
 

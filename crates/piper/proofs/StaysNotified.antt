@@ -1,4 +1,4 @@
--- Who was woken behind all that was stored stays so while nothing more is stored.
+-- Who was woken after all that was stored stays so while nothing more is stored.
 use Rattle.std.proofs.Common.{◌≡◌}
 use Rattle.piper.specs.declared.handles.Writer.{Writer}
 use Rattle.piper.specs.Handles.{NotifiesReader}

@@ -1,4 +1,4 @@
--- What a copy of the handles answers.
+-- What a copy of the handles returns.
 use Rattle.std.specs.Prelude.{◌≡◌, ℕ, ◌+◌, ◌%◌, ◌^◌, List, [], length, Result, Ok, Err, ⊤}
 use Rattle.futures.specs.declared.task.Poll.{Poll}
 use Rattle.futures.specs.declared.task.Poll.TheVariants.{Ready, Pending}
@@ -22,7 +22,7 @@ IsCopied (answer.Copy told.Pending) = ⊤
 IsCopied (answer.Copy told.Memory) = ⊤
 IsCopied other = ⊥
 
--- what the handle's copy then answers
+-- what the handle's copy then returns
 abbrev pub copied_of : {E : Type 0} → Answer → Poll (Result ℕ (Inner E))
 copied_of (answer.Count n) = Ready (Ok n)
 copied_of (answer.Copy (told.Ready (Ok n))) = Ready (Ok n)
@@ -49,15 +49,15 @@ OnMemory (Ready (Err Memory)) P = P
 OnMemory (Ready (Err (Like e))) P = ⊤
 OnMemory Pending P = ⊤
 
--- the copy did not wait: it answers a count, or that its source or destination failed
+-- the copy did not wait: it returns a count, or that its source or destination failed
 abbrev pub IsAtOnce : {E : Type 0} → Poll (Result ℕ (Inner E)) → Type 0
 IsAtOnce (Ready (Ok n)) = ⊤
 IsAtOnce (Ready (Err Memory)) = ⊥
 IsAtOnce (Ready (Err (Like e))) = ⊤
 IsAtOnce Pending = ⊥
 
--- xs passed between two states of a source or destination. A count is that of xs; pending and
--- want of memory leave it as it was; and a failure is one of its own, behind the bytes that passed
+-- xs passed between two states of a source or destination. A count is that of xs; pending and want
+-- of memory leave it as it was; and a failure is one of its own, after the bytes that passed
 abbrev pub Copies : {S E : Type 0} → Passes S → (S → E → S → Type 0)
     → Poll (Result ℕ (Inner E)) → S → S → List ℕ → Type 0
 Copies passes fails (Ready (Ok n)) s t xs = passes s xs t × (length xs ≡ n)
@@ -66,7 +66,7 @@ Copies {S} passes fails (Ready (Err (Like e))) s t xs =
     passes s xs t × ((u : S) × passes s xs u × fails u e t)
 Copies passes fails Pending s t xs = (t ≡ s) × (xs ≡ [])
 
--- the count of failures differs exactly where a failure is answered
+-- the count of failures differs exactly where a failure is returned
 abbrev pub CountsFailure : {E : Type 0} → Poll (Result ℕ (Inner E)) → ℕ → ℕ → Type 0
 CountsFailure (Ready (Ok n)) old new = new ≡ old
 CountsFailure (Ready (Err Memory)) old new = new ≡ old

@@ -19,11 +19,11 @@ use Rattle.piper.specs.declared.error.Inner.TheVariants.{Memory, Like}
 abbrev pub found_len : ReadView → ReadView → ℕ
 found_len a b = length b.taken + length b.known - length a.taken
 
--- a drain that answers a count found a byte, or saw the pipe closed
+-- a drain that returns a count found a byte, or saw the pipe closed
 abbrev pub EndIsSeen : {E : Type 0} → Poll (Result ℕ E) → ReadView → ReadView → Type 0
 EndIsSeen r a b = OnReadyOk r (found_len a b ≡ 0 → b.saw ≡ true)
 
--- a drain that answers a count found a byte, or the end: all that was ever published has been taken
+-- a drain that returns a count found a byte, or the end: all that was ever published has been taken
 abbrev pub EndIsTrue : {E : Type 0} → Poll (Result ℕ E) → ReadView → ReadView → Type 0
 EndIsTrue r a b = OnReadyOk r (found_len a b ≡ 0 → IsEnded b)
 

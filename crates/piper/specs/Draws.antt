@@ -9,7 +9,7 @@ use Rattle.futures.specs.declared.task.Poll.TheVariants.{Ready, Pending}
 abbrev pub DrawsYield : Lcg → Type 0
 DrawsYield rng = (pcg32 rng).0 % 100 ≡ 0
 
--- the generator behind that word
+-- the generator after that word
 abbrev pub drawn_from : Lcg → Lcg
 drawn_from rng = (pcg32 rng).1
 

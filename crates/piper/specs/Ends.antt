@@ -36,7 +36,7 @@ pub record IsEnded (r : ReadView) : Type 0 where
   pub saw : r.saw ≡ true
   pub all : r.taken ≡ r.all
 
--- behind the pipe's end, b knows of all that was ever published, which is what it was for a
+-- after the pipe's end, b knows of all that was ever published, which is what it was for a
 pub record HasAll (a b : ReadView) : Type 0 where
   pub now : b.taken ++ b.known ≡ b.all
   pub same : b.all ≡ a.all
@@ -58,7 +58,7 @@ pub record WriterSaw (a b : WriteView) : Type 0 where
   pub shut : b.shut ≡ a.shut
   pub saw : flag a.saw ≤ flag b.saw
 
--- the writer, but for the bytes that it published, and the room and the slice that they stood in
+-- the writer, but for the bytes that it published, and the room and the slice that they were in
 pub record WriterPublished (a b : WriteView) : Type 0 where
   pub end : SameWriteEnd a b
   pub shut : b.shut ≡ a.shut

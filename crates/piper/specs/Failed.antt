@@ -6,7 +6,7 @@ use Rattle.std.specs.declared.io.ErrorKind.TheVariants.{OutOfMemory}
 use Rattle.piper.specs.declared.error.PipeError.{PipeError}
 use Rattle.piper.specs.declared.error.PipeError.TheVariants.{Memory, Io}
 
--- want of memory is told by its kind, and the error of a source or destination as it is
+-- want of memory is reported by its kind, and the error of a source or destination as it is
 abbrev pub ReportsFailure : PipeError → Error → Type 0
 ReportsFailure Memory error = error_kind error ≡ OutOfMemory
 ReportsFailure (Io own) error = error ≡ own

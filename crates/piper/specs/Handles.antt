@@ -23,12 +23,12 @@ read_source reader = source_of (arc_value reader.slots).reader
 abbrev pub write_source : Writer → ℕ
 write_source writer = source_of (arc_value writer.slots).writer
 
--- the reader looked at the writer's slot behind all that it consumed, and took who waited there
+-- the reader checked the writer's slot after all that it consumed, and took who waited there
 abbrev pub NotifiesWriter : Reader → Type 0
 NotifiesWriter reader = IsReaderAtRest reader.end reader.registrations
 
--- the writer looked at the reader's slot behind all that it published,
--- and behind its close where it closed the pipe, and took who waited there
+-- the writer checked the reader's slot after all that it published, and after its close where it
+-- closed the pipe, and took who waited there
 abbrev pub NotifiesReader : Writer → Type 0
 NotifiesReader writer = IsAtRest writer.end writer.registrations
 
@@ -43,7 +43,7 @@ pub record SameWriterButWoke (a b : Writer) : Type 0 where
   pub rng : b.rng ≡ a.rng
   pub waits : SameWriterPlace a.registrations b.registrations
 
--- b woke the other side behind what a had woken it, and may wait otherwise
+-- since a, b may have woken the other side again, and may wait otherwise
 pub record SameReaderButWaits (a b : Reader) : Type 0 where
   pub slots : b.slots ≡ a.slots
   pub rng : b.rng ≡ a.rng
@@ -59,7 +59,7 @@ pub record SameWriterButSlots (a b : Writer) : Type 0 where
   pub slots : b.slots ≡ a.slots
   pub rng : b.rng ≡ a.rng
 
--- b waits as a does, and has woken the other side behind what a had woken it
+-- b waits as a does, and since a may have woken the other side again
 pub record SameReader (a b : Reader) : Type 0 where
   pub slots : b.slots ≡ a.slots
   pub rng : b.rng ≡ a.rng

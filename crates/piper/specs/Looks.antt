@@ -1,4 +1,4 @@
--- Looks of the two handles: what they answer, and what they leave of their end.
+-- Looks of the two handles: what they return, and what they leave of their end.
 use Rattle.std.specs.Prelude.{◌≡◌, ◌<◌, ◌≤◌, Bool, true, false, [], length, Result, Ok, Err, ⊤}
 use Rattle.futures.specs.declared.task.Poll.{Poll}
 use Rattle.futures.specs.declared.task.Poll.TheVariants.{Ready, Pending}
@@ -7,16 +7,16 @@ use Rattle.piper_ring.specs.ReadView.{ReadView, SameReadEnd}
 use Rattle.piper_ring.specs.WriteView.{WriteView, SameWriteEnd}
 use Rattle.piper.specs.Ends.{ReaderIsUpToDate, WriterIsUpToDate}
 
--- what a look of the reader answers: true with a byte known; false with none
--- known and closed seen; else none is known, and a pending one didn't see closed
+-- what a look of the reader returns: true with a byte known; false with none known and closed seen;
+-- else none is known, and a pending one didn't see closed
 abbrev pub ReaderFound : {E : Type 0} → Poll (Result Bool E) → ReadView → Type 0
 ReaderFound (Ready (Ok true)) r = 0 < length r.known
 ReaderFound (Ready (Ok false)) r = (r.known ≡ []) × (r.saw ≡ true)
 ReaderFound (Ready (Err e)) r = r.known ≡ []
 ReaderFound Pending r = (r.known ≡ []) × (r.saw ≡ false)
 
--- a look of the reader takes no byte, and what it saw of closed it keeps.
--- It looks only where no byte is known, and then finds at least what the reader was told of
+-- a look of the reader takes no byte, and what it saw of closed it keeps. It checks only where no
+-- byte is known, and then finds at least what the reader was told of
 pub record ReaderLooked (a b : ReadView) : Type 0 where
   pub end : SameReadEnd a b
   pub taken : b.taken ≡ a.taken
@@ -24,17 +24,17 @@ pub record ReaderLooked (a b : ReadView) : Type 0 where
   pub fresh : a.known ≡ [] → ReaderIsUpToDate b
   pub saw : flag a.saw ≤ flag b.saw
 
--- what a look of the writer answers: true with room known and closed not seen;
--- false with closed seen; else no room is known, and closed not seen
+-- what a look of the writer returns: true with room known and closed not seen; false with closed
+-- seen; else no room is known, and closed not seen
 abbrev pub WriterFound : {E : Type 0} → Poll (Result Bool E) → WriteView → Type 0
 WriterFound (Ready (Ok true)) w = (0 < w.room) × (w.saw ≡ false)
 WriterFound (Ready (Ok false)) w = w.saw ≡ true
 WriterFound (Ready (Err e)) w = (w.room ≡ 0) × (w.saw ≡ false)
 WriterFound Pending w = (w.room ≡ 0) × (w.saw ≡ false)
 
--- a look of the writer publishes and takes back nothing,
--- and what it saw of closed it keeps. It looks for room only where none is known,
--- and then, unless it saw closed, finds at least what the writer was told of
+-- a look of the writer publishes and takes back nothing, and what it saw of closed it keeps. It
+-- checks for room only where none is known, and then, unless it saw closed, finds at least what the
+-- writer was told of
 pub record WriterLooked (a b : WriteView) : Type 0 where
   pub end : SameWriteEnd a b
   pub sent : b.sent ≡ a.sent

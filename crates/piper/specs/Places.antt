@@ -3,7 +3,7 @@ use Rattle.std.specs.Prelude.{◌≡◌}
 use Rattle.piper_ring.specs.Shared.{Names}
 use Rattle.piper.specs.declared.handles.Slots.{Slots}
 
--- the slots have the places of whose rights the ring tells
+-- the slots have the cells whose tokens the ring holds
 abbrev pub HoldPlaces : Slots → Names → Type 0
 HoldPlaces slots names =
     (slots.reader.place ≡ names.reader_place) × (slots.writer.place ≡ names.writer_place)

@@ -24,11 +24,11 @@ IfReadyErr (Ready (Ok x)) P = ⊤
 IfReadyErr (Ready (Err e)) P = P e
 IfReadyErr Pending P = ⊤
 
--- what holds behind a told end: it is the end still, no byte becomes known, and no call waits
+-- what holds after a reported end: it is the end still, no byte becomes known, and no call waits
 abbrev pub After : {A E : Type 0} → Poll (Result A E) → Type 0 → List ℕ → Type 0
 After r ended known = ended × (known ≡ []) × OnPending r ⊥
 
--- and of a reader that doesn't tell what it knows: it takes no byte
+-- and of a reader that doesn't say what it knows: it takes no byte
 abbrev pub TakesNone : {A E : Type 0}
     → Poll (Result A E) → Type 0 → List ℕ → List ℕ → Type 0
 TakesNone r ended before after = ended × (after ≡ before) × OnPending r ⊥
@@ -42,8 +42,8 @@ Lends (Ready (Ok s)) known piece saw =
 Lends (Ready (Err e)) known piece saw = ⊤
 Lends Pending known piece saw = known ≡ []
 
--- a slice that was read into: n bytes were taken, which stand at its front, and the rest of
--- it stays; none, where it had room, only at an end that was seen. Else nothing was taken
+-- a slice that was read into: n bytes were taken, which are at its front, and the rest of it stays;
+-- none, where it had room, only at an end that was seen. Else nothing was taken
 abbrev pub Reads : {E : Type 0} → Poll (Result ℕ E)
     → List ℕ → List ℕ → List ℕ → List ℕ → Bool → Type 0
 Reads (Ready (Ok n)) old new before after saw =

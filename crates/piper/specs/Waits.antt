@@ -10,8 +10,8 @@ use Rattle.piper.specs.declared.handles.Writer.{Writer}
 use Rattle.piper.specs.declared.finished.FinishedReader.{FinishedReader}
 use Rattle.piper.specs.declared.finished.FinishedWriter.{FinishedWriter}
 
--- the reader waits: since a it has registered in its slot, under a new ticket,
--- and its look behind that found nothing to do
+-- the reader waits: since a it has registered in its slot, under a new ticket, and its look after
+-- that found nothing to do
 pub record ReaderWaits (a b : Reader) : Type 0 where
   pub ticket : b.registrations.tickets ≡ a.registrations.tickets + 1
   pub pending : IsPending b.end b.registrations
@@ -42,12 +42,12 @@ WriterIsRemembered a b reader =
     (reader.registrations.taken ≡ a.registrations.tickets)
     ⊎ ((b.end.room ≡ 0) × (b.end.shut ≡ false))
 
--- behind the close by which it left, the reader looked at the writer's slot
+-- after the close by which it left, the reader checked the writer's slot
 pub record ReaderWokeLast (end : ReadView) (left : FinishedReader) : Type 0 where
   pub count : left.registrations.count ≡ length end.taken
   pub over : left.registrations.over ≡ true
 
--- behind the close by which it left, the writer looked at the reader's slot
+-- after the close by which it left, the writer checked the reader's slot
 pub record WriterWokeLast (end : WriteView) (left : FinishedWriter) : Type 0 where
   pub bytes : left.registrations.bytes ≡ end.sent
   pub shut : left.registrations.shut ≡ true

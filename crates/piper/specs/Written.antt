@@ -1,4 +1,4 @@
--- Bytes that are written into a slice, one run behind the other, and read off the front of one.
+-- Bytes that are written into a slice, one run after the other, and read off the front of one.
 use Rattle.std.specs.Prelude.{◌≡◌, ℕ, ◌+◌, ◌≤◌, List, ◌++◌, [], take, drop, length, refl}
 use Rattle.std.proofs.Common.{sym, ap, ◌∙◌, append_assoc, drop-drop, drop_at, take_at, take-append-drop, length-append, length-take-le, add_assoc, add-zero}
 
@@ -22,7 +22,7 @@ place_same k = sym (add-zero k)
 pub written_nothing : (xs : List ℕ) (k : ℕ) → xs ≡ written xs k []
 written_nothing xs k = sym (ap (λ n. take k xs ++ drop n xs) (add-zero k) ∙ take-append-drop k xs)
 
--- what is written behind ys is written with it
+-- what is written after ys is written with it
 pub written_twice : (xs : List ℕ) (k : ℕ) (ys zs : List ℕ) → k ≤ length xs
     → written (written xs k ys) (k + length ys) zs ≡ written xs k (ys ++ zs)
 written_twice xs k ys zs within =

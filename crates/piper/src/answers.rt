@@ -15,7 +15,7 @@ use piper_protocol::read_call::ReadCall;
 use piper_protocol::table::Action;
 use piper_protocol::write_call::WriteCall;
 
-/// What a poll answers.
+/// What a poll returns.
 #[inline(always)]
 pub(crate) fn polled(answer: Answer) -> Poll<Result<bool, OutOfMemory>>
     requires { (p : Polled Bool) × (answer ≡ Answer.Poll p) }

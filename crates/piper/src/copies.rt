@@ -11,7 +11,7 @@ use futures::task::Poll;
 use piper_protocol::events::Answer;
 use piper_protocol::polling::Polled;
 
-/// What a copy answers that did not fail.
+/// What a copy returns that did not fail.
 #[inline(always)]
 fn copied<E>(answer: Answer) -> Poll<Result<usize, Inner<E>>>
     requires { IsCopied answer }

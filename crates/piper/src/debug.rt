@@ -1,4 +1,4 @@
-//! What `{:?}` prints of handles and owners: how they stand, and no byte.
+//! What `{:?}` prints of handles and owners: their state, and no byte.
 use crate::handles::{Reader, Writer};
 use crate::owned::{OwnedReader, OwnedWriter};
 use std::fmt::{self, Debug, Formatter};

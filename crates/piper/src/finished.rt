@@ -3,8 +3,8 @@ ghost use Rattle.std.specs.Prelude.{◌≡◌, true};
 
 use piper_ring::{LastReadMark, ReadRegistrations, WriteMark, WriteRegistrations};
 
-/// What is left of a reader that was dropped: evidence that it closed the pipe, and that behind
-/// that it took who stood in the writer's slot.
+/// What is left of a reader that was dropped: evidence that it closed the pipe, and that after that
+/// it took whoever was registered in the writer's slot.
 #[derive(Drop)]
 pub struct FinishedReader {
     /// All that was ever consumed, and that the reader left.
@@ -14,8 +14,8 @@ pub struct FinishedReader {
     ghost after_its_close: { registrations.over ≡ true },
 }
 
-/// What is left of a writer that was dropped: evidence that it closed the pipe, and that behind
-/// that it took who stood in the reader's slot.
+/// What is left of a writer that was dropped: evidence that it closed the pipe, and that after that
+/// it took whoever was registered in the reader's slot.
 #[derive(Drop)]
 pub struct FinishedWriter {
     /// All that was ever published, and that the pipe is closed.

@@ -29,7 +29,7 @@ pub(crate) struct Slots {
 /// is the view of the end that `end()` lends.
 pub struct Reader {
     end: ReadEnd,
-    /// How it waits in its slot, and behind what it looked at the writer's.
+    /// How it waits in its slot, and what it had stored when it last checked the writer's.
     registrations: ReadRegistrations,
     slots: Arc<Slots>,
     rng: Pcg32,
@@ -43,7 +43,7 @@ pub struct Reader {
 /// is the view of the end that `end()` lends.
 pub struct Writer {
     end: WriteEnd,
-    /// How it waits in its slot, and behind what it looked at the reader's.
+    /// How it waits in its slot, and what it had stored when it last checked the reader's.
     registrations: WriteRegistrations,
     slots: Arc<Slots>,
     rng: Pcg32,

@@ -29,7 +29,7 @@ pub trait AsyncRead {
     // whether it was told of the end
     ghost told: { Self → Bool } = { λ _. false };
 
-    // a call of its own has told the end: it took all that ever comes
+    // a call of its own has reported the end: it took all that ever comes
     ghost ended: { Self → Type 0 };
 
     // holds of each source that a pending read waits for
@@ -38,8 +38,8 @@ pub trait AsyncRead {
     // a call with this context has failed with this error, and left it so
     ghost fails: { Self → Context → PipeError → Type 0 } = { λ _ _ _. ⊤ };
 
-    /// Takes bytes, puts them at the front of `dest`, and answers how many; 0 where `dest` has room
-    /// is the end, behind which no byte comes and no call waits. A reader that was told of the end
+    /// Takes bytes, puts them at the front of `dest`, and returns how many; 0 where `dest` has room
+    /// is the end, after which no byte comes and no call waits. A reader that was told of the end
     /// is pending only where it asked for another poll itself.
     fn poll_read(&mut self, cx: &mut Context<'_>, dest: &mut [u8]) -> Poll<Result<usize, PipeError>>
         ensures read { Reads result dest.old dest.new
@@ -63,7 +63,7 @@ pub trait AsyncBufRead {
     // the bytes that it knows, the next one first
     ghost known: { Self → List ℕ };
 
-    // how many of the first of them stand in one piece
+    // how many of the first of them are contiguous
     ghost piece: { Self → ℕ };
 
     // all bytes that were taken
@@ -75,7 +75,7 @@ pub trait AsyncBufRead {
     // whether it was told of the end
     ghost told: { Self → Bool } = { λ _. false };
 
-    // a call of its own has told the end: it took all that ever comes
+    // a call of its own has reported the end: it took all that ever comes
     ghost ended: { Self → Type 0 };
 
     // holds of each source that a pending call waits for
@@ -84,7 +84,7 @@ pub trait AsyncBufRead {
     // a call with this context has failed with this error, and left it so
     ghost fails: { Self → Context → PipeError → Type 0 } = { λ _ _ _. ⊤ };
 
-    /// Lends the first piece of the bytes that it knows; an empty slice is the end, behind which no
+    /// Lends the first piece of the bytes that it knows; an empty slice is the end, after which no
     /// byte comes and no call waits. Bytes that were known stay known, and none is taken. A reader
     /// that was told of the end is not pending.
     fn poll_fill_buf(&mut self, cx: &mut Context<'_>) -> Poll<Result<&[u8], PipeError>>
@@ -129,7 +129,7 @@ pub trait AsyncWrite {
     // a call with this context has failed with this error, and left it so
     ghost fails: { Self → Context → PipeError → Type 0 } = { λ _ _ _. ⊤ };
 
-    /// Publishes bytes from the front of `source`, and answers how many; 0 where there are some
+    /// Publishes bytes from the front of `source`, and returns how many; 0 where there are some
     /// says that the pipe is closed, and so does each later answer. Bytes that were counted in the
     /// call that sees the pipe closed may be lost.
     fn poll_write(&mut self, cx: &mut Context<'_>, source: &[u8]) -> Poll<Result<usize, PipeError>>

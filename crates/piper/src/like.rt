@@ -26,7 +26,7 @@ pub trait ReadLike {
     // how many reads failed, modulo 2^64
     ghost failures: { Self → ℕ };
 
-    /// Reads bytes to the front of `dest`, and answers how many. A read that fails gives none,
+    /// Reads bytes to the front of `dest`, and returns how many. A read that fails gives none,
     /// though `dest` may be changed.
     fn read(&mut self, dest: &mut [u8]) -> Result<usize, Self::Error>
         ensures bound { IfOk result (λ n. n ≤ length dest.new) }
@@ -36,7 +36,7 @@ pub trait ReadLike {
         ensures failures { Counts result (failures self.old) (failures self.new) };
 
     /// For how many bytes it asks next: for 0 only where it has none left to give. One that can't
-    /// tell asks for any number of them.
+    /// say asks for any number of them.
     #[inline(always)]
     fn asks(&self) -> usize
         ensures { result ≡ 0 → is_dry self.now }
@@ -66,7 +66,7 @@ pub trait WriteLike {
     // how many writes failed, modulo 2^64
     ghost failures: { Self → ℕ };
 
-    /// Writes bytes from the front of `source`, and answers how many. A write that fails takes
+    /// Writes bytes from the front of `source`, and returns how many. A write that fails takes
     /// none.
     fn write(&mut self, source: &[u8]) -> Result<usize, Self::Error>
         ensures bound { IfOk result (λ n. n ≤ length source.now) }
@@ -75,7 +75,7 @@ pub trait WriteLike {
         ensures error { IfErr result (λ e. fails self.old e self.new) }
         ensures failures { Counts result (failures self.old) (failures self.new) };
 
-    /// For how many bytes it asks next: for 0 only where it takes no more. One that can't tell asks
+    /// For how many bytes it asks next: for 0 only where it takes no more. One that can't say asks
     /// for any number of them.
     #[inline(always)]
     fn asks(&self) -> usize

@@ -1,4 +1,4 @@
-//! Handles that are let go by themselves, for a thread or a task that takes one with it.
+//! Handles that are dropped automatically, for a thread or a task that takes one with it.
 ghost use Rattle.std.specs.Prelude.{◌≡◌, ◌*◌, ◌^◌, ◌<◌, IfOk, Ok, bit_xor};
 ghost use Rattle.std.specs.Borrow.{sem};
 ghost use Rattle.futures.specs.Task.{Keeps};
@@ -19,21 +19,21 @@ use std::ops::{Deref, DerefMut};
 /// Where the generators of a pipe begin for which no seed is chosen.
 pub const DEFAULT_SEED: u64 = 0;
 
-/// A reader that is dropped where it is let go: it closes the pipe and wakes the writer.
+/// A reader that is dropped automatically: it closes the pipe and wakes the writer.
 ///
 /// Each call of [`Reader`] can be made on it, with the same contract.
 pub struct OwnedReader {
     reader: Reader,
 }
 
-/// A writer that is dropped where it is let go: it closes the pipe and wakes the reader.
+/// A writer that is dropped automatically: it closes the pipe and wakes the reader.
 ///
 /// Each call of [`Writer`] can be made on it, with the same contract.
 pub struct OwnedWriter {
     writer: Writer,
 }
 
-/// Creates a pipe of `cap` bytes whose handles are let go by themselves.
+/// Creates a pipe of `cap` bytes whose handles are dropped automatically.
 ///
 /// It is `pipe` from the seed `DEFAULT_SEED`. Where memory is refused, all that was got is given
 /// back.
@@ -66,7 +66,7 @@ impl OwnedReader {
         &mut self.reader
     }
 
-    /// The reader, to be looked at.
+    /// The reader, to be checked.
     pub fn get_ref(&self) -> &Reader
         ensures { result.now ≡ self.now.reader }
     {
@@ -100,7 +100,7 @@ impl OwnedWriter {
         &mut self.writer
     }
 
-    /// The writer, to be looked at.
+    /// The writer, to be checked.
     pub fn get_ref(&self) -> &Writer
         ensures { result.now ≡ self.now.writer }
     {

@@ -50,7 +50,8 @@ impl Reader {
     }
 
     /// Whether the pipe is closed now: a handle was dropped, or the writer closed the pipe. Once
-    /// the reader saw it closed, or was told that the writer closed it, the answer is `true`.
+    /// the reader saw it closed, or learned from a mark that the writer closed it, the result is
+    /// `true`.
     pub fn is_closed(&self) -> bool
         ensures saw { self.now.end.saw ≡ true → IsTrue result }
         ensures told { self.now.end.told_shut ≡ true → IsTrue result }
@@ -60,11 +61,11 @@ impl Reader {
 
     /// Waits for a byte, or for the end.
     ///
-    /// The answer is `true` once a byte is known, which `peek_buf` then lends; and `false` once the
-    /// pipe is closed and all that was ever published has been taken: this is final. Until then the
-    /// call is pending, and the task is woken when bytes are published or the pipe is closed. It
-    /// looks for more bytes only where none is known. Where no waker can be made the answer is want
-    /// of memory.
+    /// Returns `true` once a byte is known, which `peek_buf` then lends; and `false` once the pipe
+    /// is closed and all that was ever published has been taken: this is final. Until then the call
+    /// is pending, and the task is woken when bytes are published or the pipe is closed. It checks
+    /// for more bytes only where none is known. Where no waker can be made the answer is want of
+    /// memory.
     pub fn poll(&mut self, cx: &mut Context<'_>) -> Poll<Result<bool, OutOfMemory>>
         ensures answer { ReaderFound result self.new.end }
         ensures looked { ReaderLooked self.old.end self.new.end }
@@ -99,9 +100,9 @@ impl Reader {
         polled(call.end())
     }
 
-    /// The known bytes that stand in one piece, the next one first; at least one where any is
-    /// known. The slice stays as it is while the writer writes and publishes. More bytes become
-    /// known by a look, as by `poll`.
+    /// The known bytes that are contiguous, the next one first; at least one where any is known.
+    /// The slice stays as it is while the writer writes and publishes. More bytes become known by a
+    /// look, as by `poll`.
     pub fn peek_buf(&self) -> &[u8]
         ensures bytes { result.now ≡ take (in_one_piece self.now.end) self.now.end.known }
         ensures length { length result.now ≡ in_one_piece self.now.end }
@@ -137,9 +138,9 @@ impl Reader {
 
     /// Closes the pipe and wakes the writer. The memory is freed if the writer is gone.
     ///
-    /// The answer is evidence, for the writer to take in (`meet_finished`): all that was ever consumed,
-    /// that the pipe is closed, and that behind the store that closed, who stood in the writer's
-    /// slot was taken, and its waker called.
+    /// The answer is evidence, for the writer to take in (`meet_finished`): all that was ever
+    /// consumed, that the pipe is closed, and that after the store that closed, whoever was
+    /// registered in the writer's slot was taken, and its waker called.
     pub fn drop(self) -> FinishedReader
         ensures ring { result.told.consumed.names ≡ self.end.ring.1.1 }
         ensures count { result.told.consumed.count ≡ length self.end.taken }

@@ -9,7 +9,7 @@ use token_cell::{Token, TokenCell};
 /// Where a side waits: the place of its waker, and the source that it waits at. A waker is called
 /// when it lies there no more.
 ///
-/// It doesn't tell who waits: the words of the ring's slots do, with which the right to the place
+/// It doesn't say who waits: the words of the ring's slots do, with which the right to the place
 /// goes from side to side. So nobody is there when it is used, and no use waits.
 #[derive(Drop)]
 pub(crate) struct Slot {
@@ -17,8 +17,8 @@ pub(crate) struct Slot {
     source: Source,
 }
 
-/// What stood in a slot when it was emptied. It is not let go by itself: one of its calls has to
-/// take it.
+/// What was registered in a slot when it was emptied. It is not dropped automatically: one of its
+/// calls has to take it.
 pub(crate) struct Taken {
     waker: Option<Waker>,
 }
@@ -64,7 +64,7 @@ impl Taken {
         Taken { waker }
     }
 
-    /// Whether a waker stood in the slot.
+    /// Whether a waker was registered in the slot.
     #[inline(always)]
     pub(crate) fn is_found(&self) -> bool
         ensures { result ≡ found_in self.now }
@@ -81,7 +81,7 @@ impl Taken {
         }
     }
 
-    /// Lets the waker go, if there was one. A waker that is let go wakes its task, too: it polls
+    /// Drops the waker, if there was one. A waker that is dropped wakes its task, too: it polls
     /// once too often, never once too seldom.
     pub(crate) fn discard(self) {
         let Taken { waker } = self;

@@ -19,8 +19,8 @@ impl Writer {
     ghost use Rattle.piper.specs.Handles.{NotifiesReader, SameWriterButSlots, SameWriterButWaits, SameWriterButWoke, write_source};
     ghost use Rattle.piper.specs.Waits.{WriterRegistered, WriterWokeLast};
 
-    /// How many bytes are unread now: none of those that the writer was told are consumed. The
-    /// reader may consume more at any time.
+    /// How many bytes are unread now: it counts all of those that the writer learned of from marks
+    /// as consumed. The reader may consume more at any time.
     pub fn len(&self) -> usize
         ensures { MayBeUnread self.now.end result }
     {
@@ -58,9 +58,9 @@ impl Writer {
 
     /// Waits for room, or for the end.
     ///
-    /// The answer is `false` once the pipe is closed; and else `true` once there is room, which
+    /// Returns `false` once the pipe is closed; and else `true` once there is room, which
     /// `write_buf` then lends. Until then the call is pending, and the task is woken when bytes are
-    /// consumed or the pipe is closed. It looks for more room only where none is known. Where no
+    /// consumed or the pipe is closed. It checks for more room only where none is known. Where no
     /// waker can be made the answer is want of memory.
     pub fn poll(&mut self, cx: &mut Context<'_>) -> Poll<Result<bool, OutOfMemory>>
         ensures answer { WriterFound result self.new.end }
@@ -94,8 +94,8 @@ impl Writer {
         polled(call.end())
     }
 
-    /// Publishes the first `n` bytes of what is left of the slice last lent, as they stand, and
-    /// wakes the reader.
+    /// Publishes the first `n` bytes of what is left of the slice last lent, as they are, and wakes
+    /// the reader.
     #[inline(always)]
     pub fn produced(&mut self, n: usize)
         requires { n ≤ length self.old.end.lent }
@@ -138,9 +138,9 @@ impl Writer {
     /// Closes the pipe and wakes the reader, who can still read what is unread. The memory is freed
     /// if the reader is gone.
     ///
-    /// The answer is evidence, for the reader to take in (`meet_finished`): all that was ever published,
-    /// that the pipe is closed, and that behind the store that closed, who stood in the reader's
-    /// slot was taken, and its waker called.
+    /// The answer is evidence, for the reader to take in (`meet_finished`): all that was ever
+    /// published, that the pipe is closed, and that after the store that closed, whoever was
+    /// registered in the reader's slot was taken, and its waker called.
     pub fn drop(self) -> FinishedWriter
         ensures ring { result.told.names ≡ self.end.ring.1.1 }
         ensures bytes { result.told.bytes ≡ self.end.sent }

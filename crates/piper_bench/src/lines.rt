@@ -42,7 +42,7 @@ fn in_turn(
     unreachable!()
 }
 
-/// Moves lines of `length` bytes through a pipe, the LF with them, and answers the checksum.
+/// Moves lines of `length` bytes through a pipe, the LF with them, and returns the checksum.
 pub fn through_lines<R>(
     rt: &R,
     (reader, mut writer): (OwnedReader, OwnedWriter),

@@ -1,5 +1,5 @@
-//! Moves bytes through a ring or a pipe and tells how long it took, beside the same work on `rtrb`
-//! or by other means of the toolchain.
+//! Moves bytes through a ring or a pipe and reports how long it took, beside the same work on
+//! `rtrb` or by other means of the toolchain.
 #![tactic(auto)]
 
 use many::{run_each, timed_run};
@@ -57,7 +57,7 @@ fn main(rt: HostRuntime) -> io::Result<ExitCode> {
     Ok(ExitCode::SUCCESS)
 }
 
-/// One run, told with its time.
+/// One run, printed with its time.
 fn told_run<R>(rt: &R, work: Work) -> io::Result<()>
 where
     R: Wait + Threads + Clock + Print + RandomSource + AllocGlobal + Clone + Drop + Send + Sync,
@@ -71,7 +71,7 @@ where
     )
 }
 
-/// A run of a million bytes by each means, told without its time; and then many pipes.
+/// A run of a million bytes by each means, printed without its time; and then many pipes.
 fn short_runs<R>(rt: &R) -> io::Result<()>
 where
     R: Wait + Threads + Clock + Print + RandomSource + AllocGlobal + Clone + Drop + Send + Sync,

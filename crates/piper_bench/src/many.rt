@@ -1,4 +1,4 @@
-//! Many pipes at once: all are made, then each is filled and emptied, and then all are let go. By
+//! Many pipes at once: all are made, then each is filled and emptied, and then all are dropped. By
 //! tasks of one pool, by the calls that never wait, or, to compare, by streams in memory of
 //! `tokio`.
 ghost use Rattle.std.specs.Prelude.{◌≡◌};

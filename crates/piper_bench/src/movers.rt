@@ -1,5 +1,5 @@
 //! What a thread does at its end of a pipe or a stream: it moves one piece after another, and where
-//! it has to wait it looks again a few times, as at the end of a ring, and then sleeps.
+//! it has to wait it checks again a few times, as at the end of a ring, and then sleeps.
 ghost use Rattle.std.specs.Prelude.{ℕ};
 ghost use Rattle.futures.specs.Poll.{OnPending};
 ghost use Rattle.futures.specs.Task.{Covers, Keeps};
@@ -12,7 +12,7 @@ use std::io;
 use std::random::RandomSource;
 use std::sync::Wait;
 
-/// So often an end that has to wait looks again before it sleeps. To fall asleep and to be woken
+/// So often an end that has to wait checks again before it sleeps. To fall asleep and to be woken
 /// takes as long as many short pieces.
 const LOOKS: usize = 8;
 
@@ -24,21 +24,21 @@ pub trait Mover: Drop {
     /// Holds of each source that a pending move waits for.
     ghost needs: { Self → ℕ → Type 0 };
 
-    /// Moves a piece where this end need not wait, and answers of how many bytes. An end that can
-    /// do nothing without a task moves none.
+    /// Moves a piece where this end need not wait, and returns how many bytes that were. An end
+    /// that can do nothing without a task moves none.
     #[inline(always)]
     fn move_at_once(&mut self) -> usize {
         0
     }
 
-    /// Whether the other end has to move first, as far as a look tells that leaves no waker. An end
-    /// that can't be looked at so says no.
+    /// Whether the other end has to move first, as far as a look reports that leaves no waker. An
+    /// end that can't be checked so says no.
     #[inline(always)]
     fn is_held_up(&self) -> bool {
         false
     }
 
-    /// Moves a piece, and answers of how many bytes: of none where all are moved.
+    /// Moves a piece, and returns how many bytes that were: none where all are moved.
     fn move_piece(&mut self, cx: &mut Context<'_>) -> Poll<Result<usize, Self::Error>>
         ensures covered { OnPending result (Covers cx.new (needs self.new)) }
         ensures kept { Keeps cx.old cx.new };
@@ -47,7 +47,7 @@ pub trait Mover: Drop {
     fn checksum(&self) -> u64;
 }
 
-/// Moves all pieces, on this thread. Before it looks again it lets the other thread go on so many
+/// Moves all pieces, on this thread. Before it checks again it lets the other thread go on so many
 /// times. It answers the checksum.
 pub fn move_all<R, M>(rt: &R, mover: M, yields: usize) -> io::Result<Result<u64, M::Error>>
 where

@@ -20,7 +20,7 @@ use std::{io, thread};
 
 /// How pieces go into a pipe.
 pub trait Fill {
-    /// Puts bytes from the front of the piece in where the writer need not wait, and answers how
+    /// Puts bytes from the front of the piece in where the writer need not wait, and returns how
     /// many. A way that can do nothing without a task puts none in.
     #[inline(always)]
     fn fill_at_once<C: Copying>(&self, writer: &mut Writer, bytes: &[u8]) -> usize
@@ -29,7 +29,7 @@ pub trait Fill {
         0
     }
 
-    /// Puts bytes from the front of the piece in, and answers how many. Of a piece that isn't empty
+    /// Puts bytes from the front of the piece in, and returns how many. Of a piece that isn't empty
     /// it puts none only where the pipe is closed, and it is pending where there is no room.
     fn fill<C: Copying>(
         &self,
@@ -44,7 +44,7 @@ pub trait Fill {
 
 /// How pieces come out of a pipe.
 pub trait Drain {
-    /// Copies bytes out to the front of the place where the reader need not wait, and answers how
+    /// Copies bytes out to the front of the place where the reader need not wait, and returns how
     /// many. A way that can do nothing without a task copies none out.
     #[inline(always)]
     fn drain_at_once<C: Copying>(&self, reader: &mut Reader, place: &mut [u8]) -> usize
@@ -53,7 +53,7 @@ pub trait Drain {
         0
     }
 
-    /// Copies bytes out to the front of the place, and answers how many. Into a place that has room
+    /// Copies bytes out to the front of the place, and returns how many. Into a place that has room
     /// it copies none only at the end of the pipe, and it is pending where none is there.
     fn drain<C: Copying>(
         &self,
@@ -379,7 +379,7 @@ fn drain_all<D: Drain + Drop, R: Wait + RandomSource + AllocGlobal>(
     move_all(rt, mover, work.yields())
 }
 
-/// Moves the bytes through a pipe, and answers the checksum: on one thread under this task, between
+/// Moves the bytes through a pipe, and returns the checksum: on one thread under this task, between
 /// two under a task each.
 pub fn through_pipe<F, D, R>(
     rt: &R,

@@ -106,14 +106,14 @@ fn copy_many(to: &mut [u8], from: &[u8])
 /// Where bytes are put in. `put` and `get` are inlined for both rings, so that neither pays for a
 /// call.
 pub trait Input {
-    /// Puts as many of the bytes in as fit in one piece, and answers how many.
+    /// Puts as many of the bytes in as fit in one piece, and returns how many.
     fn put<C: Copying>(&mut self, bytes: &[u8]) -> usize
         ensures { result ≤ length bytes.now };
 }
 
 /// Where bytes come out.
 pub trait Output {
-    /// Copies as many bytes out as stand in one piece and fit, and answers how many.
+    /// Copies as many bytes out as are contiguous and fit, and returns how many.
     fn get<C: Copying>(&mut self, place: &mut [u8]) -> usize
         ensures { result ≤ length place.old };
 }
@@ -172,7 +172,7 @@ impl Output for Consumer<u8> {
 }
 
 /// Puts `total` bytes in and takes them out again, in turn, on one thread. It answers the checksum.
-/// It stands apart, so that for either ring the compiler keeps its values in registers.
+/// It is a function of its own, so that for either ring the compiler keeps its values in registers.
 #[inline(never)]
 pub fn in_turn<I: Input + Drop, O: Output + Drop>(
     rt: &impl Wait,
@@ -241,9 +241,9 @@ pub fn get_all<O: Output + Drop>(
     unreachable!()
 }
 
-/// How often an end that finds nothing to do lets the other thread go on before it looks again: the
-/// more often the shorter pieces are, as far as the ring has room. An end that came back at once
-/// would stand at the other's heels, and then both wait for the same cache line at each piece.
+/// How often an end that finds nothing to do lets the other thread go on before it checks again:
+/// the more often the shorter pieces are, as far as the ring has room. An end that came back at
+/// once would be at the other's heels, and then both wait for the same cache line at each piece.
 pub fn yields(capacity: usize, chunk: usize) -> usize
     requires { 0 < chunk }
     ensures { let by_length = AHEAD / chunk in let by_room = capacity / chunk / PIECES_A_YIELD in

@@ -1,5 +1,5 @@
 //! Pieces go to and fro between two threads, through a means each way: each thread sleeps until the
-//! other has answered.
+//! other has returned.
 ghost use Rattle.futures.specs.Poll.{OnPending};
 ghost use Rattle.futures.specs.Task.{Covers, Keeps};
 
@@ -20,13 +20,13 @@ use tokio::io::{AsyncRead, AsyncWrite};
 /// The ends of both means that one of the threads has. Of an error it hands its kind on, as `Writing`
 /// of peers.rt does.
 pub trait Ends: Drop {
-    /// Sends bytes from the front of the piece, and answers how many: none where the other thread
+    /// Sends bytes from the front of the piece, and returns how many: none where the other thread
     /// is gone.
     fn send(&mut self, cx: &mut Context<'_>, piece: &[u8]) -> Poll<Result<usize, io::ErrorKind>>
         ensures armed { OnPending result (Covers cx.new (λ _. ⊥)) }
         ensures kept { Keeps cx.old cx.new };
 
-    /// Receives bytes to the front of the place, and answers how many: none where the other thread
+    /// Receives bytes to the front of the place, and returns how many: none where the other thread
     /// is gone.
     fn receive(
         &mut self,
@@ -116,7 +116,7 @@ struct Partner<'a, R, E: Drop> {
 }
 
 impl<R, E: Ends> Partner<'_, R, E> {
-    /// Moves what is missing of the piece, or some of it, and answers how many bytes.
+    /// Moves what is missing of the piece, or some of it, and returns how many bytes.
     fn move_bytes(&mut self, cx: &mut Context<'_>) -> Poll<Result<usize, io::ErrorKind>>
         ensures armed { OnPending result (Covers cx.new (λ _. ⊥)) }
         ensures kept { Keeps cx.old cx.new }
@@ -170,7 +170,7 @@ impl<R: Wait, E: Ends> Future for Partner<'_, R, E> {
     }
 }
 
-// Plays one of the two parts, on this thread, and answers the checksum of what came.
+// Plays one of the two parts, on this thread, and returns the checksum of what came.
 fn play<R, E>(rt: &R, ends: E, turn: Turn, work: Work) -> io::Result<u64>
 where
     R: Wait + RandomSource + AllocGlobal,
@@ -188,7 +188,7 @@ where
     block_on(rt, partner)?
 }
 
-/// Sends pieces through the one means and back through the other, and answers the checksum of what
+/// Sends pieces through the one means and back through the other, and returns the checksum of what
 /// came back.
 pub fn to_and_fro<R, E>(rt: &R, first: E, second: E, work: Work) -> io::Result<u64>
 where

@@ -1,4 +1,4 @@
-//! One run: the bytes go through one means, and the clock tells how long that took.
+//! One run: the bytes go through one means, and the clock reports how long that took.
 ghost use Rattle.std.specs.Prelude.{IfSome, IsSome, ◌≡◌, ◌<◌, ◌≤◌, ◌^◌};
 
 use crate::lines::through_lines;
@@ -67,7 +67,8 @@ impl Work {
         }
     }
 
-    /// How often an end that finds nothing to do lets the other thread go on before it looks again.
+    /// How often an end that finds nothing to do lets the other thread go on before it checks
+    /// again.
     pub fn yields(&self) -> usize {
         yields(self.capacity, self.chunk)
     }
@@ -80,7 +81,7 @@ impl Work {
     }
 }
 
-/// Does the work, and answers how long it took and the checksum.
+/// Does the work, and returns how long it took and the checksum.
 pub fn run<R>(rt: &R, work: Work) -> io::Result<(Duration, u64)>
 where
     R: Wait + Threads + Clock + Print + RandomSource + AllocGlobal + Clone + Drop + Send + Sync,
@@ -116,7 +117,7 @@ where
     }
 }
 
-/// Moves lines through the handles of a pipe, and answers how long it took and the checksum.
+/// Moves lines through the handles of a pipe, and returns how long it took and the checksum.
 fn lines_through_pipe<R>(rt: &R, work: Work) -> io::Result<(Duration, u64)>
 where
     R: Wait + Clock + RandomSource + AllocGlobal + Clone + Drop,
@@ -127,7 +128,7 @@ where
     Ok((start.elapsed(rt)?, checksum))
 }
 
-/// Moves the bytes through the handles of a pipe, and answers how long it took and the checksum.
+/// Moves the bytes through the handles of a pipe, and returns how long it took and the checksum.
 fn through_way<R>(
     rt: &R,
     way: Way,
@@ -157,7 +158,7 @@ where
     Ok((start.elapsed(rt)?, checksum))
 }
 
-/// Moves the bytes through a peer, and answers how long it took and the checksum.
+/// Moves the bytes through a peer, and returns how long it took and the checksum.
 fn through_peer<R>(
     rt: &R,
     peer: Peer,
@@ -198,7 +199,7 @@ where
     Ok((start.elapsed(rt)?, checksum))
 }
 
-/// Moves the pieces to and fro, and answers how long it took and the checksum.
+/// Moves the pieces to and fro, and returns how long it took and the checksum.
 fn through_both_ways<R>(rt: &R, is_stream: bool, work: Work) -> io::Result<(Duration, u64)>
 where
     R: Wait + Threads + Clock + RandomSource + AllocGlobal + Clone + Drop + Sync,
@@ -285,7 +286,7 @@ where
     }
 }
 
-/// Moves the bytes through a ring, and answers how long it took and the checksum.
+/// Moves the bytes through a ring, and returns how long it took and the checksum.
 fn move_bytes<I: Input + Drop + Send, O: Output + Drop + Send>(
     rt: &(impl Wait + Threads + Clock + Print + AllocGlobal + Sync),
     is_shared: bool,

@@ -1,5 +1,5 @@
-//! Replays scripts to which the answers are known, on the machine and on the handles, and tells how
-//! many are answered alike.
+//! Replays scripts to which the answers are known, on the machine and on the handles, and reports
+//! how many give the same answers.
 #![tactic(auto)]
 
 use anyhow::Context;
@@ -37,7 +37,7 @@ struct Vector<'json> {
     script: &'json str,
     output: &'json str,
     status: u64,
-    /// What is told on standard error, without its LF.
+    /// What is reported on standard error, without its LF.
     told: &'json str,
 }
 
@@ -71,21 +71,21 @@ fn arguments_of(alloc: Global, line: &Value) -> Result<Vec<String>, anyhow::Erro
     Ok(arguments)
 }
 
-/// Where a script stands.
+/// Where a script is.
 #[derive(Clone, Copy)]
 struct Place<'name> {
     file: &'name str,
     line: usize,
 }
 
-/// How many scripts were replayed, and how many of them were answered as they should be.
+/// How many scripts were replayed, and how many of them gave the answers that they should.
 #[derive(Clone, Copy)]
 struct Tally {
     alike: usize,
     all: usize,
     /// Those that the handles answered as the machine does, to their end.
     on_handles: usize,
-    /// Those that they answered so up to a line that only the machine plays.
+    /// Those that gave the same answers up to a line that only the machine plays.
     begun_on_handles: usize,
 }
 
@@ -129,7 +129,7 @@ fn first_difference<'text>(wanted: &'text str, given: &'text str) -> Option<Diff
     None
 }
 
-/// Whether a script was answered as it should be; if not, tells what differs.
+/// Whether a script gave the answers that it should; if not, reports what differs.
 fn is_alike(
     rt: &HostRuntime,
     vector: &Vector<'_>,
@@ -158,7 +158,7 @@ fn report_difference(rt: &HostRuntime, difference: &Difference<'_>) -> io::Resul
     )
 }
 
-/// Replays the script of a line of a file on both, and tells where an answer differs.
+/// Replays the script of a line of a file on both, and reports where an answer differs.
 fn replay_line<H>(
     rt: &HostRuntime,
     hands: &H,
@@ -193,7 +193,7 @@ where
     Ok(())
 }
 
-/// Whether a script is answered as it should be.
+/// Whether a script gives the answers that it should.
 fn answers<H>(
     rt: &HostRuntime,
     hands: &H,
@@ -209,7 +209,7 @@ where
     Ok(is_alike(rt, vector, ended, &output)?)
 }
 
-/// Replays a script on the handles, and tells where they do not answer as the machine.
+/// Replays a script on the handles, and reports where they give other answers than the machine.
 fn play_on_handles<H>(
     rt: &HostRuntime,
     hands: &H,
@@ -245,12 +245,12 @@ where
     })
 }
 
-/// Tells which script differs.
+/// Reports which script differs.
 fn report_place(rt: &HostRuntime, place: &Place<'_>, what: &str) -> io::Result<()> {
     println!(rt; "  in line {} of {}: {what}", place.line, place.file)
 }
 
-/// Replays the scripts of a file, and tells which of them are answered otherwise.
+/// Replays the scripts of a file, and reports which of them give other answers.
 fn replay_file<H>(
     rt: &HostRuntime,
     hands: &H,

@@ -7,7 +7,7 @@ use piper_protocol::scripted::{DestAct, Failed, SourceAct};
 use std::io;
 use std::io::{ErrorKind, Read, Write};
 
-/// A source: what is left of the bytes of the act that it gives now, and the acts behind it.
+/// A source: what is left of the bytes of the act that it gives now, and the acts after it.
 #[derive(Drop)]
 pub struct Source<'a> {
     bytes: &'a [u8],

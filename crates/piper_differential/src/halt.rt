@@ -44,7 +44,8 @@ impl From<AllocError> for Halt {
     }
 }
 
-/// Ends the text of a line: as it is, or as that of a refusal. Tells whether the line was refused.
+/// Ends the text of a line: as it is, or as that of a refusal. Reports whether the line was
+/// refused.
 pub fn finish(played: Result<(), Halt>, number: u64, reply: &mut Reply) -> Result<bool, Stop> {
     match played {
         Ok(()) => {

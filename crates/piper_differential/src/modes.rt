@@ -91,8 +91,8 @@ where
     Ok(true)
 }
 
-// Plays a script on both, and tells where the answers differ. The answer is whether it was played
-// to its end.
+// Plays a script on both, and reports where the answers differ. Returns whether it was played to
+// its end.
 fn play_twin<H, I: Read, O: Write>(rt: &H, input: &mut I, output: &mut O) -> Result<bool, Stop>
 where
     H: RandomSource + AllocGlobal + Clone + Drop,
@@ -136,8 +136,8 @@ where
     write_reply(&twin.handles, output)
 }
 
-// Plays so many drawn scripts on both, and tells the first difference. The answer is whether there
-// is none.
+// Plays so many drawn scripts on both, and reports the first difference. Returns whether there is
+// none.
 fn draw_twin<H, O: Write>(rt: &H, seed: u64, count: u64, output: &mut O) -> Result<bool, Stop>
 where
     H: RandomSource + AllocGlobal + Clone + Drop,

@@ -1,4 +1,4 @@
-//! Both handles of a pipe in one hand, and who is woken by their calls.
+//! Both handles of a pipe held by one thread, and who is woken by their calls.
 
 use crate::draws::Draws;
 use crate::halt::Halt;
@@ -61,7 +61,7 @@ impl Pair {
         }
     }
 
-    /// The bytes that the reader knows of and that stand in one piece.
+    /// The bytes that the reader knows of and that are contiguous.
     pub fn peek(&mut self) -> Result<&[u8], Halt> {
         let Some(owned) = &mut self.reader else {
             return Err(Halt::OnlyMachine);
@@ -77,7 +77,7 @@ impl Pair {
         if offset >= self.lent {
             return Err(Refusal::PastLent.into());
         }
-        // What is lent is lent again: the same places, with what stands there.
+        // What is lent is lent again: the same places, with what is there.
         let places = owned.get_mut().write_buf(self.lent);
         if let Some(place) = places.get_mut(offset) {
             *place = byte;
@@ -268,7 +268,7 @@ impl Pair {
     }
 }
 
-// Adds those of the call's own side that it called, and did not only let go.
+// Adds those of the call's own side that it called and did not only drop.
 fn add_called(
     call: &Call,
     answer: Answer,

@@ -11,7 +11,7 @@ use piper_protocol::polling::Polled;
 use piper_protocol::scripted::{DestAct, Failed};
 use piper_script::command::Refusal;
 
-/// Makes a call without a waker, and answers what it answers. Bytes that it takes go to the front
+/// Makes a call without a waker, and returns what it returns. Bytes that it takes go to the front
 /// of `dest`.
 pub fn at_once(reader: &mut Reader, call: &Call, dest: &mut [u8]) -> Result<Answer, Halt> {
     Ok(match call {
@@ -31,7 +31,7 @@ pub fn at_once(reader: &mut Reader, call: &Call, dest: &mut [u8]) -> Result<Answ
     })
 }
 
-/// Makes a call as this task, and answers what it answers. Bytes that it takes go to the front of
+/// Makes a call as this task, and returns what it returns. Bytes that it takes go to the front of
 /// `dest`.
 pub fn as_task(
     reader: &mut Reader,
@@ -58,7 +58,7 @@ pub fn as_task(
     })
 }
 
-/// What a poll answers.
+/// What a poll returns.
 pub fn reported(polled: Poll<Result<bool, OutOfMemory>>) -> Polled<bool> {
     match polled {
         Poll::Pending => Polled::Pending,
@@ -76,7 +76,7 @@ pub fn copied_slice(polled: Poll<Result<usize, OutOfMemory>>) -> Polled<Result<u
     }
 }
 
-/// What a copy over a reader or a writer answers.
+/// What a copy over a reader or a writer returns.
 pub fn copied(polled: Poll<Result<usize, PipeError>>) -> Polled<Result<usize, Failed>> {
     match polled {
         Poll::Pending => Polled::Pending,

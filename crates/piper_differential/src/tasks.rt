@@ -5,7 +5,7 @@ use piper_script::stop::Stop;
 use std::alloc::{AllocError, AllocGlobal, Global};
 use std::random::RandomSource;
 
-/// A task, and the name of the waker that stands for it.
+/// A task, and the name of the waker that represents it.
 #[derive(Drop)]
 struct Named {
     name: u32,

@@ -31,7 +31,7 @@ pub enum Compared {
 }
 
 impl<H: RandomSource + AllocGlobal + Drop> Twin<H> {
-    /// Neither has a pipe. What the handles draw goes by the seed, and the machine is told the
+    /// Neither has a pipe. What the handles draw goes by the seed, and the machine is handed the
     /// same.
     pub fn new(rt: H, seed: u64) -> Twin<H> {
         let alloc = rt.alloc();

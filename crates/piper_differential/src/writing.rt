@@ -9,7 +9,7 @@ use piper_protocol::calls::{Call, Query};
 use piper_protocol::events::Answer;
 use piper_script::command::Refusal;
 
-/// Makes a call without a waker, and answers what it answers. `lent` is how much is left of what is
+/// Makes a call without a waker, and returns what it returns. `lent` is how much is left of what is
 /// lent.
 pub fn at_once(writer: &mut Writer, lent: &mut usize, call: &Call) -> Result<Answer, Halt> {
     Ok(match call {
@@ -26,7 +26,7 @@ pub fn at_once(writer: &mut Writer, lent: &mut usize, call: &Call) -> Result<Ans
             Answer::Lent(*lent)
         }
         Call::Produced(n) => {
-            // What is left of it is lent again: the same places, with what stands there.
+            // What is left of it is lent again: the same places, with what is there.
             let left = writer.write_buf(*lent).len();
             if *n > left {
                 return Err(Refusal::PastLent.into());
@@ -39,7 +39,7 @@ pub fn at_once(writer: &mut Writer, lent: &mut usize, call: &Call) -> Result<Ans
     })
 }
 
-/// Makes a call as this task, and answers what it answers.
+/// Makes a call as this task, and returns what it returns.
 pub fn as_task(
     writer: &mut Writer,
     lent: &mut usize,

@@ -41,11 +41,10 @@ pub record OnlyWrites (a b : End) : Type 0 where
   pub end : SameWriteEnd a.writer.end b.writer.end
   pub slots : b.writer.slots ≡ a.writer.slots
 
--- the handles of one pipe, once they were in one hand:
--- what was taken and what is known make up what was published, first in, first out,
--- room and known bytes make up the capacity, nothing else has changed,
--- and of each side that waits, behind all that the other stored, the other took and woke
--- the waker, or the side has nothing to do
+-- the handles of one pipe, once they were held by one thread: what was taken and what is known make
+-- up what was published, first in, first out, room and known bytes make up the capacity, nothing
+-- else has changed, and of each side that waits, after all that the other stored, the other took
+-- and woke the waker, or the side has nothing to do
 pub record HaveMet (reader0 reader1 : Reader) (writer0 writer1 : Writer) : Type 0 where
   pub fifo : reader1.end.taken ++ reader1.end.known ≡ writer1.end.sent
   pub room : writer1.end.room + length reader1.end.known ≡ reader1.end.capacity

@@ -53,8 +53,8 @@ impl LineEcho {
     /// Reads lines of at most `limit` bytes, and writes each back once it is whole, up to the
     /// reader's end, the close of the writer's pipe, or the first error.
     ///
-    /// A longer line goes back in pieces of `limit` bytes, and what stands behind the last LF goes
-    /// back too. Where it is pending, or on an error, the next poll goes on from there and loses
+    /// A longer line goes back in pieces of `limit` bytes, and what follows the last LF goes back
+    /// too. Where it is pending, or on an error, the next poll goes on from there and loses
     /// nothing. It is woken by the writer while a line is on its way back, and else by the reader;
     /// after 64 lines it asks for another poll. It doesn't wait for a reader that was told of the
     /// end.

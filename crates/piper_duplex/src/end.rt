@@ -74,7 +74,7 @@ impl End {
     }
 
     /// Both handles, each for itself: for two tasks, or for a reader of lines over the one and
-    /// answers through the other.
+    /// sends it back through the other.
     pub fn into_halves(self) -> (Reader, Writer)
         ensures reader { result.0 ≡ self.reader }
         ensures writer { result.1 ≡ self.writer }
@@ -83,7 +83,7 @@ impl End {
         (reader, writer)
     }
 
-    /// Both ends in one hand: then each reader knows of all that the writer at the other end
+    /// Both ends held by one thread: then each reader knows of all that the writer at the other end
     /// published, in its order. It takes no memory.
     pub fn meet(&mut self, other: &mut End)
         requires there { self.old.writer.end.ring ≡ other.old.reader.end.ring }

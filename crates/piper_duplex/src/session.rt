@@ -86,7 +86,7 @@ where
     }
 }
 
-// Makes the stream, starts the thread that answers, and talks to it.
+// Makes the stream, starts the thread that echoes, and talks to it.
 fn echo_through<R, I, O>(rt: &R, alloc: Global, input: &mut I, output: &mut O) -> Result<(), Ended>
 where
     R: Wait + Threads + RandomSource + AllocGlobal + Clone + Drop + Send + 'static,
@@ -147,7 +147,7 @@ where
         if line.last() == Some(&b'\n') || line.len() == MOST_OF_A_LINE {
             let count = print(rt, reader, line.len(), output)?;
             if count < line.len() {
-                // The thread that answers was refused memory.
+                // The thread that echoes was refused memory.
                 return Err(Ended::OUT_OF_MEMORY);
             }
         }
@@ -190,7 +190,7 @@ where
     }
 }
 
-// Prints what comes, `most` bytes or all up to the end, and answers how many bytes that were.
+// Prints what comes, `most` bytes or all up to the end, and returns how many bytes that were.
 fn print<R, A, O>(rt: &R, reader: &mut A, most: usize, output: &mut O) -> Result<usize, Ended>
 where
     R: Wait + RandomSource + AllocGlobal,

@@ -1,4 +1,4 @@
--- What comes in two polls stands in order.
+-- What comes in two polls is in order.
 use Rattle.std.proofs.Common.{◌≡◌, ◌∙◌, inl, inr, subst, ℕ, Bool, List, Result, Ok, Err, Vec}
 use Rattle.std.specs.declared.alloc.Global.{Global}
 use Rattle.futures.specs.declared.task.context.Context.{Context}

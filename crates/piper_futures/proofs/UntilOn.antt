@@ -1,4 +1,4 @@
--- What comes in two polls before a delimiter stands in order.
+-- What comes in two polls before a delimiter is in order.
 use Rattle.std.proofs.Common.{◌≡◌, ◌≢◌, ◌∙◌, ◌+◌, ◌<◌, ◌⊎◌, inl, inr, sym, ap, subst, ℕ, Bool, List, [], ◌∷◌, ◌++◌, take, length, get_or, append_assoc, length-take, arith, Result, Ok, Err, Vec}
 use Rattle.std.proofs.lemmas.List.{take_more, get_or-take}
 use Rattle.std.proofs.lemmas.List.Elements.{All-append, All-from_get_or}

@@ -28,7 +28,7 @@ abbrev pub StartsReadingAll : {R : Type 0} → ReadToEnd R → R → Vec ℕ Glo
 StartsReadingAll future reader bytes = future.state ≡ Some (reader, bytes)
 
 module _ {R : Type 0} (taken known : R → List ℕ) (saw : R → Bool) where
-  -- what the reader gave between two of its states stands at the end of the bytes
+  -- what the reader gave between two of its states is at the end of the bytes
   abbrev pub ReadsOn : R → List ℕ → R → List ℕ → Type 0
   ReadsOn r0 b0 r1 b1 = Grows (taken r0) (taken r1) b0 b1
 
@@ -51,8 +51,8 @@ module _ {R : Type 0} (taken known : R → List ℕ) (saw : R → Bool) where
       ReadsOn r bytes.items failed.left.0 failed.left.1.items
       × IsReported failed.error (FailsOnce fails failed.left.0) (0 < length (known failed.left.0))
 
--- what was read at once stands at the front of the places, and the rest of them stays;
--- or the reader failed, and gave nothing
+-- what was read at once is at the front of the places, and the rest of them stays; or the reader
+-- failed, and gave nothing
 abbrev pub ReadSome : {R : Type 0} → (R → List ℕ) → (R → Bool) → (R → Context → PipeError → Type 0)
     → R → List ℕ → Result (R × Vec ℕ Global × ℕ) (Failed (R × Vec ℕ Global)) → Type 0
 ReadSome taken saw fails r places (Ok done) =

@@ -24,7 +24,7 @@ Lacks byte bytes = All (λ b. b ≢ byte) bytes
 abbrev pub IsThrough : ℕ → List ℕ → Type 0
 IsThrough byte bytes = (front : List ℕ) × Lacks byte front × (bytes ≡ front ++ byte ∷ [])
 
--- what was taken since stands at the end of the bytes, and P holds of it
+-- what was taken since is at the end of the bytes, and P holds of it
 abbrev pub GrowsBy : List ℕ → List ℕ → List ℕ → List ℕ → (List ℕ → Type 0) → Type 0
 GrowsBy taken_before taken_after before after P =
     (more : List ℕ) × (taken_after ≡ taken_before ++ more) × (after ≡ before ++ more) × P more

@@ -26,7 +26,7 @@ abbrev pub FailsOnce : {E : Type 0} → (E → Context → PipeError → Type 0)
 FailsOnce fails end error = (cx : Context) × fails end cx error
 
 module _ {W : Type 0} (sent : W → List ℕ) (saw : W → Bool) where
-  -- from one state of the writer to another the bytes were sent that stand between these two counts
+  -- from one state of the writer to another the bytes were sent that are between these two counts
   abbrev pub WritesOn : List ℕ → W → ℕ → W → ℕ → Type 0
   WritesOn bytes w0 n0 w1 n1 =
       (n1 ≤ length bytes) × Sends (drop n0 bytes) (drop n1 bytes) (sent w0) (sent w1) (saw w0) (saw w1)

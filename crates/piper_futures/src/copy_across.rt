@@ -17,7 +17,7 @@ pub struct Copying<R, W> {
 /// Copies all bytes from the reader to the writer, in order, up to the end of the one or the close
 /// of the other, and gives both back with why it ended.
 ///
-/// It holds no bytes of its own: where it fails, as where it is let go, all that was taken is
+/// It holds no bytes of its own: where it fails, as where it is dropped, all that was taken is
 /// written, but for what is lost where the writer's pipe is closed.
 pub fn copy<R: AsyncBufRead + Drop, W: AsyncWrite + Drop>(reader: R, writer: W) -> Copying<R, W>
     ensures { StartsCopy result reader writer }

@@ -29,9 +29,9 @@ pub struct Draining<R, D> {
 /// Moves all bytes of the reader, in order, into a writer of std, up to the reader's end, and gives
 /// both back.
 ///
-/// Each write blocks the thread. It holds no bytes of its own: where it fails, as where it is let
-/// go, all that was taken is written. A writer that takes none of some bytes fails with the kind
-/// `WriteZero`. What the writer holds back is not flushed.
+/// Each write blocks the thread. It holds no bytes of its own: where it fails, as where it is
+/// dropped, all that was taken is written. A writer that takes none of some bytes fails with the
+/// kind `WriteZero`. What the writer holds back is not flushed.
 pub fn drain_into<R: AsyncBufRead + Drop, D: Write + Drop>(reader: R, dest: D) -> Draining<R, D>
     ensures { StartsDraining result reader dest }
 {

@@ -18,7 +18,7 @@ use std::io::Read;
 
 /// A writer that readers of std can read into, with no bytes held in between.
 pub trait AsyncFill: AsyncWrite {
-    /// Publishes what `source` gives, up to its end or the close of the pipe, and answers which it
+    /// Publishes what `source` gives, up to its end or the close of the pipe, and returns which it
     /// was; where both hold, it may be either.
     ///
     /// It asks for another poll where bytes came. After an answer other than that the pipe is
@@ -102,7 +102,7 @@ pub struct Filling<W, S> {
 /// close of the pipe, and gives both back with why it ended.
 ///
 /// Each read blocks the thread, so it belongs on a thread of its own. It holds no bytes of its own:
-/// where it fails, as where it is let go, all that was read is published, but for what is lost
+/// where it fails, as where it is dropped, all that was read is published, but for what is lost
 /// where the pipe is closed.
 pub fn fill_from<W: AsyncFill + Drop, S: Read + Drop>(writer: W, source: S) -> Filling<W, S>
     ensures { StartsFilling result writer source }

@@ -1,7 +1,8 @@
 //! Futures over any reader that lends, and over any writer, by the names of `futures` and `tokio`.
 //!
 //! Each owns its ends and gives them back, also where it fails: pass `&mut` to keep one. One that
-//! is let go before it gives lets go what it owns, and the bytes that it gathered with it.
+//! is dropped before it gives its result drops what it owns, and the bytes that it gathered with
+//! it.
 #![tactic(auto)]
 
 mod copy_across;

@@ -66,8 +66,8 @@ impl<R: AsyncBufRead + Drop> Future for ReadUntil<R> {
     }
 }
 
-/// Appends bytes of the reader to `bytes`, through the first that is `byte`, which answers true, or
-/// up to the reader's end, which answers false.
+/// Appends bytes of the reader to `bytes`, through the first that is `byte`, and then returns true,
+/// or up to the reader's end, and then returns false.
 ///
 /// Memory is asked for before bytes are taken: after an error, as where it is pending, the next
 /// poll goes on from there. After 64 pieces it asks for another poll.

@@ -7,7 +7,7 @@ pub last_end_more : (before number end : ℕ) (lines : List (ℕ × ℕ)) → la
 last_end_more before number end [] = refl
 last_end_more before number end (line ∷ lines) = last_end_more line.1 number end lines
 
--- a step behind the end of each line is none of theirs
+-- a step after the end of each line is none of theirs
 pub said_by_none : (before index : ℕ) (lines : List (ℕ × ℕ)) → before ≤ index → AllWithin (λ line. line.1 ≤ index) lines 0 (length lines) → last_end before lines ≤ index
 said_by_none before index [] after none = after
 said_by_none before index (line ∷ lines) after none =

@@ -1,4 +1,4 @@
--- What a log tells one event further on, and the places of the steps that have another.
+-- What a log reports one event further on, and the places of the steps that have another.
 use Rattle.std.proofs.Common.{◌≡◌, ℕ, suc, ◌+◌, ◌-◌, ◌<◌, ◌≤◌, Option, None, Some, true, false, List, [], ◌∷◌, ◌++◌, length, get_or, take, drop, All, map, min, refl, ap, ◌∙◌, sym, subst, append_assoc, drop-cons, arith}
 use Rattle.std.specs.Option.{unwrap_or}
 use Rattle.std.specs.List.{filter_map, cons_option, last_or}

@@ -18,7 +18,7 @@ use Rattle.piper_machine.specs.Close.{close, drop_reader, drop_writer}
 use Rattle.piper_machine.specs.Copy.{Copied, count_of, try_fill, try_drain, fill, drain}
 use Rattle.piper_machine.specs.Scripted.{fill_from, drain_to}
 
--- it answers this, and leaves this pipe
+-- it returns this, and leaves this pipe
 pub record Gives (answer wanted : Answer) (new pipe : Pipe) : Type 0 where
   pub answered : answer ≡ wanted
   pub left : new ≡ pipe
@@ -38,7 +38,7 @@ slice_copied Memory = Memory
 abbrev pub GivesLook : Look → Answer → Pipe → Type 0
 GivesLook look answer new = Gives answer (Poll look.answer) new look.pipe
 
--- the try forms answer a count, and the polling forms what they were told
+-- the try forms return a count, and the polling forms what they were handed
 abbrev pub GivesCount : Copied ℕ → Answer → Pipe → Type 0
 GivesCount copied answer new = Gives answer (Count (count_of copied.answer)) new copied.pipe
 

@@ -51,7 +51,7 @@ ReportsRun (Refused refusal) capacity steps lines old new =
     ReportsStep capacity steps lines refusal old new
 ReportsRun stop capacity steps lines old new = ⊤
 
--- why a replay ends that stops: for that reason, or since that could not be told
+-- why a replay ends that stops: for that reason, or since that could not be reported
 abbrev pub EndsAs : Stop → Stop → Type 0
 EndsAs stop end = (end ≡ stop) ⊎ ((end ≡ Memory) ⊎ (end ≡ Write))
 

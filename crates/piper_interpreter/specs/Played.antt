@@ -1,5 +1,5 @@
--- What a command does to the pipe that is played on,
--- and what it prints behind what was printed before.
+-- What a command does to the pipe that is played on, and what it prints after what was printed
+-- before.
 use Rattle.std.specs.Prelude.{◌≡◌, ℕ, List, [], ◌++◌, codes, take, Option, None, Some, Ok}
 use Rattle.piper_protocol.specs.declared.calls.Side.{Side}
 use Rattle.piper_protocol.specs.declared.calls.Call.{Call}
@@ -26,7 +26,7 @@ use Rattle.piper_interpreter.specs.Makes.{Makes}
 use Rattle.piper_interpreter.specs.Steps.{GoesAs}
 use Rattle.piper_interpreter.specs.Whole.{IsReady}
 
--- how many bytes are shown behind the answer of a call that moved bytes out of the pipe
+-- how many bytes are shown after the answer of a call that moved bytes out of the pipe
 abbrev pub shown : Call → Answer → Option ℕ
 shown (TryDrain most) (Count n) = Some n
 shown (PollDrainBytes waker luck most) (Copy (Ready (Ok n))) = Some n
@@ -55,7 +55,7 @@ pub record MakesWhole (said : SaidCall) (old new : Pipe) (before after : List �
   pub ready : IsReady call old
   pub shown_whole : ShowsWhole call old new before after
 
--- nothing changes, and the bytes that stand in one piece are shown
+-- nothing changes, and the bytes that are contiguous are shown
 pub record ShowsPeek (old new : Pipe) (before after : List ℕ) : Type 0 where
   pub same : new ≡ old
   pub printed : after ≡ before ++ list_with_length (peeked old)
@@ -84,7 +84,7 @@ pub record ShowsSteps (steps : Steps) (side : Side) (old new : Pipe)
   pub gone : GoesAs steps side old [] new events
   pub printed : after ≡ before ++ printed_events events
 
--- a pipe stands there, and stands there afterwards
+-- a pipe is there, and is there afterwards
 pub record OnPipe (Acts : Pipe → Pipe → Type 0) (old new : Option Pipe) : Type 0 where
   pub from : Pipe
   pub to : Pipe
@@ -92,7 +92,7 @@ pub record OnPipe (Acts : Pipe → Pipe → Type 0) (old new : Option Pipe) : Ty
   pub is : new ≡ Some to
   pub acts : Acts from to
 
--- a new, empty pipe stands there, whatever did before
+-- a new, empty pipe is there, whatever was there before
 pub record PutsPipe (capacity : ℕ) (new : Option Pipe) (before after : List ℕ) : Type 0 where
   pub is : new ≡ Some (fresh capacity)
   pub printed : after ≡ before ++ codes "ok"

@@ -47,7 +47,7 @@ Refuses (Put offset byte) old new stop = RefusesStep (step.Put offset byte) old 
 Refuses (Begin call) old new stop = RefusesCall call old stop
 Refuses (Go side steps) old new stop = RefusesGo steps side old new stop
 
--- for want of the pipe that the command needs, or by the pipe that stands there
+-- for want of the pipe that the command needs, or by the pipe that is there
 abbrev pub RefusesLine : Command → Option Pipe → Option Pipe → Stop → Type 0
 RefusesLine command None new stop = NeedsPipe command × (stop ≡ Refused NoPipe)
 RefusesLine command (Some p) new stop =

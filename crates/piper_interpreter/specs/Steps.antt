@@ -25,8 +25,8 @@ GoesAs ToAnswer side old before new after =
 abbrev pub GoesFewer : ℕ → Side → Pipe → List Event → Pipe → List Event → Type 0
 GoesFewer most side old before new after = (n : ℕ) × (n < most) × Goes n side old before new after
 
--- fewer than the line says, so that it says another one;
--- up to the answer, behind the first one, only an open call is to make another
+-- fewer than the line says, so that it says another one; up to the answer, after the first one,
+-- only an open call is to make another
 abbrev pub GoesBefore : Steps → Side → Pipe → List Event → Pipe → List Event → Type 0
 GoesBefore One side old before new after = GoesFewer 1 side old before new after
 GoesBefore (Count n) side old before new after = GoesFewer n side old before new after

@@ -22,7 +22,7 @@ SaysSteps (Go side One) steps = steps ≡ step.Go side ∷ []
 SaysSteps (Go side (Count n)) steps = steps ≡ replicate n (step.Go side)
 SaysSteps command steps = ⊥
 
--- the capacity stays, and the steps of the command come behind those before
+-- the capacity stays, and the steps of the command come after those before
 pub record AddsSteps (command : Command) (capacity now : Option ℕ)
     (before after : List Step) : Type 0 where
   pub steps : List Step
@@ -47,7 +47,7 @@ abbrev pub last_end : ℕ → List (ℕ × ℕ) → ℕ
 last_end before [] = before
 last_end before (line ∷ lines) = last_end line.1 lines
 
--- the line of this number says the step of this index: it is the first one that ends behind it
+-- the line of this number says the step of this index: it is the first one that ends after it
 pub record SaysStep (index number : ℕ) (lines : List (ℕ × ℕ)) : Type 0 where
   pub place : ℕ
   pub within : place < length lines

@@ -52,7 +52,7 @@ answer_in Reader (Answered Reader answer) = Some answer
 answer_in Writer (Answered Writer answer) = Some answer
 answer_in side event = None
 
--- what the side answered last
+-- what the side returned last
 abbrev pub answer_of : Side → List Event → Answer
 answer_of side events = unwrap_or (last_or None (filter_map (answer_in side) events)) Done
 
@@ -65,7 +65,7 @@ pub record IsLastOther (index : ℕ) (moves : List Move) : Type 0 where
   pub has_other : HoldsAt (λ next. next.has_other ≡ true) moves index
   pub last : All HasNoOther (drop (index + 1) moves)
 
--- there the writer makes it, and nothing is said of the steps behind it
+-- there the writer makes it, and nothing is said of the steps after it
 pub record IsNext (old new : List Move) : Type 0 where
   pub index : ℕ
   pub other : IsLastOther index old
@@ -84,7 +84,7 @@ GoesMoves moves old new =
 abbrev pub HasEnded : Tried → Type 0
 HasEnded t = (¬ IsOpen Reader t) × (¬ IsOpen Writer t)
 
--- all moves were made, until both calls had answered; or those up to one which is too many
+-- all moves were made, until both calls had returned; or those up to one which is too many
 abbrev pub GoesAsLong : Length → Side → List Move → Tried → Tried → Type 0
 GoesAsLong Within first moves old new =
     GoesMoves moves old new × HasEnded new × (¬ IsLong (other_of first) new)

@@ -89,7 +89,7 @@ impl CallsToOrder {
         self.keep(alloc, line)
     }
 
-    // Whether a command of this name may stand here, whatever its numbers.
+    // Whether a command of this name is allowed here, whatever its numbers.
     fn takes(&self, line: &[u8]) -> bool {
         if is_silent(line) {
             return true;
@@ -137,7 +137,7 @@ impl CallsToOrder {
     }
 }
 
-// Makes what a line says. What it prints is let go, and what happens in an open call is logged.
+// Makes what a line says. What it prints is dropped, and what happens in an open call is logged.
 fn make(alloc: Global, player: &mut Player, line: &[u8], log: &mut Log) -> Result<(), Stop>
     ensures { OnOk result
         (LogsLine line.now player.old player.new (events log.old) (events log.new)) }
@@ -175,7 +175,7 @@ fn make_order(
     Ok(length)
 }
 
-// Adds the outcome of an order, unless it stands there.
+// Adds the outcome of an order, unless it is there.
 fn keep_outcome(
     alloc: Global,
     trial: &Trial,
@@ -202,7 +202,7 @@ fn explore(
         match make_order(alloc, script, first.side, &mut moves, &mut outcomes)? {
             Length::Within => {}
             Length::FirstIsLong => return Ok(Explored::PastLimit(first.line)),
-            // The first may still be too long in another order, which is told before.
+            // The first may still be too long in another order, which is reported before.
             Length::SecondIsLong => is_second_long = true,
         }
         if !turn_to_next(&mut moves) {

@@ -86,7 +86,7 @@ impl StepsToRun {
         Ok(())
     }
 
-    // Whether a command of this name may stand here, whatever its numbers.
+    // Whether a command of this name is allowed here, whatever its numbers.
     fn takes(&self, line: &[u8]) -> bool {
         is_silent(line)
             || match self.capacity {

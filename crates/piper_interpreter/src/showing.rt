@@ -10,7 +10,7 @@ use piper_machine::polling::Polled;
 use piper_script::reply::Reply;
 use std::alloc::AllocError;
 
-/// Writes what the call answered, the bytes that it moved out of the pipe, which stand in front in
+/// Writes what the call returned, the bytes that it moved out of the pipe, which are in front in
 /// `dest`, and whom it woke.
 pub fn write_made(
     call: &Call,
@@ -37,7 +37,7 @@ pub fn room_of(most: usize, room: &mut Vec<u8>) -> Result<&mut [u8], AllocError>
     Ok(&mut room[..most])
 }
 
-// How many bytes are shown behind the answer of a call that moved bytes out of the pipe.
+// How many bytes are shown after the answer of a call that moved bytes out of the pipe.
 fn shown(call: &Call, answer: Answer) -> Option<usize>
     ensures { result ≡ shown call.now answer }
 {

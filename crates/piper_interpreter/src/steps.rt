@@ -62,7 +62,7 @@ fn go(machine: &mut Machine, side: Side, log: &mut Log) -> Result<(), StepRefusa
     machine.step(&Step::Go(side), log)
 }
 
-// Makes steps of the side until its open call answers.
+// Makes steps of the side until its open call returns.
 #[tactic(auto, using(crate::proofs::Going::goes_more))]
 fn make_to_answer(machine: &mut Machine, side: Side, log: &mut Log) -> Result<(), StepRefusal>
     ensures goes { OnOk result

@@ -178,7 +178,7 @@ impl Trial {
         }
     }
 
-    /// The line that tells what both calls answered, whom they woke, and what is left unread.
+    /// The line that reports what both calls returned, whom they woke, and what is left unread.
     pub fn outcome(&self, alloc: Global) -> Result<Reply, Stop>
         ensures { let log = self.now.events in IfOk result (λ reply. reply
             ≡ outcome_line (answer_of Side.Reader log) (answer_of Side.Writer log)
@@ -193,7 +193,7 @@ impl Trial {
         Ok(reply)
     }
 
-    // What the side's call answered.
+    // What the side's call returned.
     #[tactic(auto, using(crate::proofs::Trials::answer_more))]
     fn answer_of(&self, side: Side) -> Answer
         ensures { result ≡ answer_of side self.now.events }

@@ -1,4 +1,4 @@
-//! Calls made whole: when a line may make one, and what it answers.
+//! Calls made whole: when a line may make one, and what it returns.
 
 ghost use Rattle.std.specs.Prelude.{◌≡◌, ◌≤◌, ◌++◌, length, take, drop, IfOk, IfErr};
 ghost use Rattle.piper_machine.specs.Refusal.{IsIdle, state_of, refusal_of};
@@ -61,7 +61,7 @@ fn slice_copied(polled: Polled<usize>) -> Polled<Result<usize, Failed>>
     }
 }
 
-/// Makes the call, and answers what it answers. Bytes that it moves out of the pipe go to the front
+/// Makes the call, and returns what it returns. Bytes that it moves out of the pipe go to the front
 /// of `dest`.
 pub fn answer(machine: &mut Machine, call: &Call, dest: &mut [u8]) -> Answer
     requires ready { IsReady call.now machine.old }

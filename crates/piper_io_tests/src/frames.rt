@@ -36,7 +36,7 @@ fn random_body(alloc: Global, rng: &mut Pcg32) -> Result<Vec<u8>, AllocError> {
     Ok(body)
 }
 
-/// Writes a frame and reads it at the other end, in turns, and answers what came.
+/// Writes a frame and reads it at the other end, in turns, and returns what came.
 fn frame_through(
     task: &MockTask,
     alloc: Global,

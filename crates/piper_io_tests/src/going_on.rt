@@ -13,7 +13,7 @@ use std::test::Fail;
 /// The most polls that a text takes.
 const MOST_POLLS: u32 = 8;
 
-/// How often a reader was told to be pending, and how often to have failed.
+/// How often a reader was asked to be pending, and how often to have failed.
 #[derive(Clone, Copy, Debug, PartialEq, Eq)]
 struct Halts {
     pending: u32,
@@ -41,7 +41,7 @@ impl Halts {
     }
 }
 
-/// What a poll answered, if it did, and else one more halt. Where memory was refused it is none:
+/// What a poll returned, if it did, and else one more halt. Where memory was refused it is none:
 /// the poll is made again.
 fn reported<A: Drop>(polled: Poll<Result<A, PipeError>>, halts: &mut Halts) -> Option<A> {
     match polled {
@@ -53,7 +53,7 @@ fn reported<A: Drop>(polled: Poll<Result<A, PipeError>>, halts: &mut Halts) -> O
     None
 }
 
-/// Collects the lines, and what stands behind the last LF.
+/// Collects the lines, and what follows the last LF.
 fn lines_of(
     task: &MockTask,
     alloc: Global,
@@ -72,7 +72,7 @@ fn lines_of(
     Ok(found)
 }
 
-/// Collects the frames of at most two bytes, and answers why it ended.
+/// Collects the frames of at most two bytes, and returns why it ended.
 fn frames_of(
     task: &MockTask,
     frames: &mut Frames<Halting<'_>>,

@@ -16,7 +16,7 @@ pub(crate) enum Halt {
     Fails,
 }
 
-/// A reader that looks for at most `most` bytes at once, and stops at its look `last`, counted from
+/// A reader that looks at most at `most` bytes at once, and stops at its look `last`, counted from
 /// 1.
 #[derive(Drop)]
 pub(crate) struct Halting<'a> {

@@ -119,7 +119,7 @@ fn what_is_kept_comes_at_a_smaller_limit(rt: HostRuntime) -> Result<(), Fail> {
     Ok(())
 }
 
-/// The text cut behind each LF, and wherever a piece has `limit` bytes; what is left comes last.
+/// The text cut after each LF, and wherever a piece has `limit` bytes; what is left comes last.
 fn plain_split(alloc: Global, text: &[u8], limit: usize) -> Result<Vec<Vec<u8>>, AllocError> {
     let mut pieces = Vec::new(alloc);
     let mut piece = Vec::new(alloc);
@@ -147,8 +147,8 @@ fn random_text(alloc: Global, rng: &mut Pcg32) -> Result<Vec<u8>, AllocError> {
     Ok(text)
 }
 
-/// Sends the text in random pieces, closes, and collects the lines: the last is what stands behind
-/// the last LF. Where memory is refused it polls again.
+/// Sends the text in random pieces, closes, and collects the lines: the last is what follows the
+/// last LF. Where memory is refused it polls again.
 fn lines_through(
     task: &MockTask,
     alloc: Global,

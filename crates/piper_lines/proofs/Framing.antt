@@ -12,7 +12,7 @@ use Rattle.piper_lines.specs.declared.header.FrameHeader.{FrameHeader}
 use Rattle.piper_lines.specs.Moves.{Grows, Passes, PassesMoves}
 use Rattle.piper_lines.proofs.Moving.{moves_none, moves_then}
 
--- while the header is not whole nothing is behind it
+-- while the header is not whole nothing is after it
 no_body : (size : ℕ) (header more body : List ℕ) → (length header < size → body ≡ []) → length (header ++ more) ≤ size → body ++ more ≡ more ++ body
 no_body size header [] body first within = append-nil body
 no_body size header (x ∷ more) body first within =
@@ -43,7 +43,7 @@ holding_header format t0 t1 h0 h1 body skips grows first within fits none =
     let header = header_grows format t0 t1 h0 h1 body grows first within fits in
     record { header_first = header.0; fits = header.1; short = within; skips_first = λ some. absurd (omega arith) }
 
--- and so it does where the header is whole, whatever was taken behind it
+-- and so it does where the header is whole, whatever was taken after it
 pub holding_body : (format : FrameHeader) (header body : List ℕ) (size skips : ℕ) → length header ≡ header_size format → size ≡ encoded_length format header → length body ≤ size
     → skips ≡ 0
     → record { header_first : length header < header_size format → body ≡ []; fits : length body ≤ encoded_length format header; short : length header ≤ header_size format; skips_first : 0 < skips → header ≡ [] }
@@ -100,7 +100,7 @@ keeping_frame format t0 t1 header body frame header' body' kept0 skips0 skips1 k
       keeping.3,
     )
 
--- whatever is answered, the reader ended
+-- whatever is returned, the reader ended
 pub on_end : (answer : FrameAnswer) (P : Type 0) → P → OnEnd {E = PipeError} (Ready (Ok answer)) P
 on_end Frame P ended = tt
 on_end (TooLong n) P ended = tt

@@ -1,4 +1,4 @@
--- Bytes that were taken stand behind those that were gathered before.
+-- Bytes that were taken follow those that were gathered before.
 use Rattle.std.proofs.Common.{◌≡◌, ℕ, ◌<◌, List, [], ◌++◌, length, take, arith, append_assoc, append-nil, ap, ◌∙◌, sym}
 use Rattle.std.proofs.Math.Seq.{take-nil}
 use Rattle.piper_lines.specs.Moves.{Grows}

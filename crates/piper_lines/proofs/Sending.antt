@@ -40,7 +40,7 @@ sends_more l0 l1 s0 s1 s2 m n saw0 false saw2 sends stays not_seen within sent a
       λ seen. absurd (not_seen (stays seen)),
     )
 
--- more bytes are left behind those that were sent
+-- more bytes are left after those that were sent
 pub sends_front : (l0 l1 rest s0 s1 : List ℕ) (saw0 saw1 : Bool) → Sends l0 l1 s0 s1 saw0 saw1 → Sends (l0 ++ rest) (l1 ++ rest) s0 s1 saw0 saw1
 sends_front l0 l1 rest s0 s1 saw0 saw1 sends =
     (sends.0, ap (λ ws. ws ++ rest) sends.1 ∙ append_assoc sends.0 l1 rest, sends.2, sends.3)
@@ -71,7 +71,7 @@ sends_then l0 l1 l2 s0 s1 s2 saw0 false saw2 first second stays0 stays1 =
       λ seen. let later = stays0 seen in cc,
     )
 
--- the front and then what stands behind it
+-- the front and then what follows it
 pub sends_both : (front0 front1 back0 back1 s0 s1 s2 : List ℕ) (saw0 saw1 saw2 : Bool) → Sends front0 front1 s0 s1 saw0 saw1
     → front1 ≡ [] → Sends back0 back1 s1 s2 saw1 saw2 → (saw0 ≡ true → saw1 ≡ true) → (saw1 ≡ true → saw2 ≡ true)
     → Sends (front0 ++ back0) (front1 ++ back1) s0 s2 saw0 saw2

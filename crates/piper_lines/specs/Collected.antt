@@ -9,7 +9,7 @@ use Rattle.piper_lines.specs.declared.collect.Collected.{Collected}
 use Rattle.piper_lines.specs.declared.header.FrameHeader.{FrameHeader}
 use Rattle.piper_lines.specs.declared.collect.Collected.TheVariants.{ToTheEnd, Truncated, UntilTooLong}
 
--- the bytes behind the last line, once the reader ended
+-- the bytes after the last line, once the reader ended
 abbrev pub rest_of : {E : Type 0} → Poll (Result (Vec ℕ Global) E) → List ℕ
 rest_of (Ready (Ok rest)) = rest.items
 rest_of (Ready (Err e)) = []

@@ -3,7 +3,7 @@ use Rattle.std.specs.Prelude.{◌≡◌, ℕ, ◌<◌, ◌⊎◌, List, [], ◌+
 use Rattle.piper_lines.specs.Header.{header_size, length_bytes, encoded_length}
 use Rattle.piper_lines.specs.declared.header.FrameHeader.{FrameHeader}
 
--- the whole header of a frame, which tells n
+-- the whole header of a frame, which reports n
 abbrev pub EncodesLength : FrameHeader → List ℕ → ℕ → Type 0
 EncodesLength format header n = (length header ≡ header_size format) × (encoded_length format header ≡ n)
 

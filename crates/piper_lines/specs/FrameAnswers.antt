@@ -17,7 +17,7 @@ handed format (Ready (Ok End)) frame = []
 handed format (Ready (Err e)) frame = []
 handed format Pending frame = []
 
--- P holds where the answer tells that the reader ended
+-- P holds where the answer reports that the reader ended
 abbrev pub OnEnd : {E : Type 0} → Poll (Result FrameAnswer E) → Type 0 → Type 0
 OnEnd (Ready (Ok Frame)) P = ⊤
 OnEnd (Ready (Ok (TooLong n))) P = ⊤
@@ -26,7 +26,7 @@ OnEnd (Ready (Ok End)) P = P
 OnEnd (Ready (Err e)) P = ⊤
 OnEnd Pending P = ⊤
 
--- the poll tells the end, or fails: it hands out no frame, and doesn't wait
+-- the poll reports the end, or fails: it hands out no frame, and doesn't wait
 abbrev pub EndsAgain : {E : Type 0} → Poll (Result FrameAnswer E) → Type 0
 EndsAgain (Ready (Ok answer)) = answer ≡ End
 EndsAgain (Ready (Err e)) = ⊤

@@ -10,7 +10,7 @@ use Rattle.piper_lines.specs.contracts.frame_reader.Frames.{the_row}
 abbrev pub reader_of : {R : Type 0} → Frames R → R
 reader_of frames = frames.reader
 
--- how the length of a frame is told
+-- how the length of a frame is reported
 abbrev pub format_of : {R : Type 0} → Frames R → FrameHeader
 format_of frames = frames.format
 
@@ -18,7 +18,7 @@ format_of frames = frames.format
 abbrev pub header_of : {R : Type 0} → Frames R → List ℕ
 header_of frames = frames.header.items
 
--- what was taken of the frame behind its header
+-- what was taken of the frame after its header
 abbrev pub body_of : {R : Type 0} → Frames R → List ℕ
 body_of frames = frames.body.items
 
@@ -37,8 +37,8 @@ body_room_of frames = vec_capacity frames.body
 abbrev pub skips_of : {R : Type 0} → Frames R → ℕ
 skips_of frames = frames.to_skip
 
--- nothing more comes: the reader below has told its end, and no byte of a frame is kept or has to
--- pass
+-- nothing more comes: the reader below has reported its end, and no byte of a frame is kept or has
+-- to pass
 abbrev pub IsSpent : {R : Type 0} → (R → Type 0) → Frames R → Type 0
 IsSpent ended frames =
     ended (reader_of frames)

@@ -1,4 +1,4 @@
--- The bytes that tell how long a frame is.
+-- The bytes that report how long a frame is.
 use Rattle.std.specs.Prelude.{ℕ, ◌<◌, ◌^◌, List}
 use Rattle.std.specs.Int.{Width, w8, w16, w32, w64, to_be_bytes, to_le_bytes, from_be_bytes, from_le_bytes}
 use Rattle.piper_lines.specs.declared.header.ByteOrder.{ByteOrder}
@@ -17,14 +17,14 @@ header_size (TwoBytes order) = 2
 header_size (FourBytes order) = 4
 header_size (EightBytes order) = 8
 
--- a length that these bytes can tell
+-- a length that these bytes can report
 abbrev pub CanEncode : FrameHeader → ℕ → Type 0
 CanEncode OneByte n = n < 2 ^ 8
 CanEncode (TwoBytes order) n = n < 2 ^ 16
 CanEncode (FourBytes order) n = n < 2 ^ 32
 CanEncode (EightBytes order) n = n < 2 ^ 64
 
--- the order of its bytes; one alone stands in either
+-- the order of its bytes; one alone is in either
 abbrev pub order_of : FrameHeader → ByteOrder
 order_of OneByte = BigEndian
 order_of (TwoBytes order) = order
@@ -36,7 +36,7 @@ abbrev pub ordered_bytes : ByteOrder → Width → ℕ → List ℕ
 ordered_bytes BigEndian w n = to_be_bytes w n
 ordered_bytes LittleEndian w n = to_le_bytes w n
 
--- the number that bytes in this order tell
+-- the number that bytes in this order make
 abbrev pub ordered_number : ByteOrder → Width → List ℕ → ℕ
 ordered_number BigEndian w bytes = from_be_bytes w bytes
 ordered_number LittleEndian w bytes = from_le_bytes w bytes
@@ -48,7 +48,7 @@ length_bytes (TwoBytes order) n = ordered_bytes order w16 n
 length_bytes (FourBytes order) n = ordered_bytes order w32 n
 length_bytes (EightBytes order) n = ordered_bytes order w64 n
 
--- the length that the bytes of a header tell
+-- the length that the bytes of a header give
 abbrev pub encoded_length : FrameHeader → List ℕ → ℕ
 encoded_length OneByte bytes = from_be_bytes w8 bytes
 encoded_length (TwoBytes order) bytes = ordered_number order w16 bytes

@@ -5,7 +5,7 @@ use Rattle.std.specs.Prelude.{◌≡◌, ◌≢◌, ℕ, List, [], ◌∷◌, �
 abbrev pub line_feed : ℕ
 line_feed = 10
 
--- the byte CR (carriage return), which may stand before an LF
+-- the byte CR (carriage return), which may come before an LF
 abbrev pub carriage_return : ℕ
 carriage_return = 13
 

@@ -19,13 +19,13 @@ at_end TooLong = false
 at_end Last = true
 at_end End = true
 
--- P holds where the answer tells that the reader ended
+-- P holds where the answer reports that the reader ended
 abbrev pub OnEnd : {E : Type 0} → Poll (Result LineAnswer E) → Type 0 → Type 0
 OnEnd (Ready (Ok answer)) P = at_end answer ≡ true → P
 OnEnd (Ready (Err e)) P = ⊤
 OnEnd Pending P = ⊤
 
--- the poll tells the end, or fails: it hands out no line, and doesn't wait
+-- the poll reports the end, or fails: it hands out no line, and doesn't wait
 abbrev pub EndsAgain : {E : Type 0} → Poll (Result LineAnswer E) → Type 0
 EndsAgain (Ready (Ok answer)) = answer ≡ End
 EndsAgain (Ready (Err e)) = ⊤

@@ -20,7 +20,7 @@ kept_of lines = lines.kept.items
 abbrev pub room_of : {R : Type 0} → Lines R → ℕ
 room_of lines = vec_capacity lines.kept
 
--- nothing more comes: the reader below has told its end, and no byte is kept
+-- nothing more comes: the reader below has reported its end, and no byte is kept
 abbrev pub IsSpent : {R : Type 0} → (R → Type 0) → Lines R → Type 0
 IsSpent ended lines = ended (reader_of lines) × (kept_of lines ≡ [])
 

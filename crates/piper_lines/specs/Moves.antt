@@ -8,7 +8,7 @@ Moves taken_before taken_after kept_before handed kept_after =
     (more : List ℕ) × (taken_after ≡ taken_before ++ more)
     × (kept_before ++ more ≡ handed ++ kept_after)
 
--- the bytes that were taken since stand behind what was gathered before
+-- the bytes that were taken since follow what was gathered before
 abbrev pub Grows : List ℕ → List ℕ → List ℕ → List ℕ → Type 0
 Grows taken_before taken_after before after =
     (more : List ℕ) × (taken_after ≡ taken_before ++ more) × (after ≡ before ++ more)

@@ -1,4 +1,4 @@
--- What is shown of the bytes that tell a length.
+-- What is shown of the bytes that report a length.
 use Rattle.std.specs.Prelude.{ℕ, List, drop, take}
 use Rattle.piper_lines.specs.declared.length_bytes.LengthBytes.{LengthBytes}
 

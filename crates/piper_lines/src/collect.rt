@@ -13,7 +13,7 @@ const MOST_PIECES: u32 = 64;
 /// Why a poll for all frames ended.
 #[derive(Clone, Copy, Debug, PartialEq, Eq)]
 pub enum Collected {
-    /// The end of the reader, behind a whole frame.
+    /// The end of the reader, after a whole frame.
     ToTheEnd,
     /// The end of the reader, inside a frame.
     Truncated,

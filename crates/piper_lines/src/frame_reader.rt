@@ -26,16 +26,16 @@ pub enum FrameAnswer {
     TooLong(usize),
     /// The end of the reader, inside a frame.
     Truncated,
-    /// The end of the reader, behind a whole frame.
+    /// The end of the reader, after a whole frame.
     End,
 }
 
 /// The frames of a reader: pieces of bytes with their length before them.
 ///
 /// What was taken of a frame that has not come to its end is kept from poll to poll. In clauses,
-/// `reader_of` is the reader, `format_of` says how the length is told, `header_of` and `body_of`
-/// the bytes that are kept of the length and of the frame itself, `kept_of` all of them, and
-/// `skips_of` how many bytes of a skipped frame have still to pass.
+/// `reader_of` is the reader, `format_of` says how the length is reported, `header_of` and
+/// `body_of` the bytes that are kept of the length and of the frame itself, `kept_of` all of them,
+/// and `skips_of` how many bytes of a skipped frame have still to pass.
 #[derive(Drop)]
 pub struct Frames<R> {
     reader: R,
@@ -55,8 +55,8 @@ impl<R: AsyncBufRead> Frames<R> {
     ghost use Rattle.piper_lines.specs.FrameAnswers.{EndsAgain, HandsFrame, OnEnd, handed};
     ghost use Rattle.piper_lines.specs.Moves.{PassesMoves};
 
-    /// The frames whose length is told in four bytes, the most significant first. Nothing is kept
-    /// yet, and no memory is asked for.
+    /// The frames whose length is reported in four bytes, the most significant first. Nothing is
+    /// kept yet, and no memory is asked for.
     pub fn new(alloc: Global, reader: R) -> Frames<R>
         ensures reader { reader_of result ≡ reader }
         ensures format { format_of result ≡ usual_header }
@@ -66,7 +66,7 @@ impl<R: AsyncBufRead> Frames<R> {
         Frames::with_header(alloc, reader, FrameHeader::FourBytes(ByteOrder::BigEndian))
     }
 
-    /// The frames whose length is told in this way.
+    /// The frames whose length is reported in this way.
     pub fn with_header(alloc: Global, reader: R, format: FrameHeader) -> Frames<R>
         ensures reader { reader_of result ≡ reader }
         ensures format { format_of result ≡ format }
@@ -92,7 +92,7 @@ impl<R: AsyncBufRead> Frames<R> {
         &mut self.reader
     }
 
-    /// Gives the reader back. What is kept of a frame is let go.
+    /// Gives the reader back. What is kept of a frame is dropped.
     pub fn into_reader(self) -> R
         ensures { result ≡ reader_of self }
     {
@@ -106,8 +106,8 @@ impl<R: AsyncBufRead> Frames<R> {
         reader
     }
 
-    /// Gives up the frame whose length was told: the next polls pass over its bytes, and then take
-    /// the frame behind it.
+    /// Gives up the frame whose length was reported: the next polls pass over its bytes, and then
+    /// take the frame after it.
     pub fn skip(&mut self)
         requires { length (header_of self.old) ≡ header_size (format_of self.old) }
         ensures reader { reader_of self.new ≡ reader_of self.old }
@@ -184,7 +184,7 @@ impl<R: AsyncBufRead> Frames<R> {
     }
 }
 
-// What the end of the reader says behind these bytes of a length.
+// What the end of the reader says after these bytes of a length.
 fn ended(header: &[u8]) -> FrameAnswer
     ensures clean { header.now ≡ [] → result ≡ FrameAnswer.End }
     ensures inside { 0 < length header.now → result ≡ FrameAnswer.Truncated }

@@ -17,7 +17,7 @@ use piper::io::AsyncWrite;
 use std::fmt::{self, Debug, Formatter};
 use thiserror::Error;
 
-/// The body has more bytes than the header of its frame can tell.
+/// The body has more bytes than the header of its frame can report.
 #[derive(Clone, Copy, Debug, PartialEq, Eq, Error)]
 #[error("a body of more bytes than the header of its frame can encode")]
 pub struct BodyTooLong;
@@ -47,7 +47,8 @@ impl<'a> WriteFrame<'a> {
         WriteFrame::begin(FrameHeader::FourBytes(ByteOrder::BigEndian), body)
     }
 
-    /// The frame with this body, whose length is told in this way, unless it can't be told so.
+    /// The frame with this body, whose length is reported in this way, unless that form can't hold
+    /// the length.
     pub fn with_header(format: FrameHeader, body: &'a [u8]) -> Result<WriteFrame<'a>, BodyTooLong>
         ensures fits { IsOk result ↔ CanEncode format (length body.now) }
         ensures whole { IfOk result (λ frame. left_of frame ≡ frame_bytes format body.now) }

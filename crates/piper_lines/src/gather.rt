@@ -61,7 +61,7 @@ pub fn fill_up<R: AsyncBufRead>(
     Poll::Ready(Ok(true))
 }
 
-// Takes `left` bytes from the reader and lets them go; false at the end of the reader. After many
+// Takes `left` bytes from the reader and drops them; false at the end of the reader. After many
 // pieces it asks for another poll.
 pub(crate) fn pass_over<R: AsyncBufRead>(
     reader: &mut R,

@@ -1,4 +1,4 @@
-//! The bytes that tell how long a frame is.
+//! The bytes that report how long a frame is.
 ghost use Rattle.std.specs.Prelude.{◌≡◌, ◌↔◌, ◌<◌, ◌≤◌, IsTrue, length};
 ghost use Rattle.std.specs.Int.{w16, w32, w64};
 ghost use Rattle.piper_lines.specs.Header.{header_size, order_of, length_bytes, encoded_length, ordered_bytes, ordered_number, CanEncode};
@@ -14,7 +14,7 @@ pub enum ByteOrder {
     LittleEndian,
 }
 
-/// How many bytes before a frame tell the length of its body, and in which order.
+/// How many bytes before a frame give the length of its body, and in which order.
 #[derive(Clone, Copy, Debug, PartialEq, Eq)]
 pub enum FrameHeader {
     /// One byte: bodies of up to 255 bytes.
@@ -44,7 +44,7 @@ impl FrameHeader {
         }
     }
 
-    // The order of its bytes; one alone stands in either.
+    // The order of its bytes; one alone is in either.
     pub(crate) fn order(self) -> ByteOrder
         ensures { result ≡ order_of self }
     {
@@ -56,7 +56,7 @@ impl FrameHeader {
         }
     }
 
-    /// Whether it can tell this length.
+    /// Whether it can report this length.
     pub fn can_encode(self, size: usize) -> bool
         ensures { IsTrue result ↔ CanEncode self size }
     {
@@ -68,7 +68,7 @@ impl FrameHeader {
         }
     }
 
-    /// The bytes that tell this length.
+    /// The bytes that report this length.
     pub fn encode(self, size: usize) -> LengthBytes
         requires { CanEncode self size }
         ensures { shown_of result ≡ length_bytes self size }
@@ -87,7 +87,7 @@ impl FrameHeader {
         }
     }
 
-    // The length that these bytes tell.
+    // The length that these bytes give.
     pub(crate) fn told(self, b: &[u8]) -> usize
         requires { length b.now ≡ header_size self }
         ensures told { result ≡ encoded_length self b.now }
@@ -104,7 +104,7 @@ impl FrameHeader {
     }
 }
 
-// The number that two bytes tell in this order.
+// The number that two bytes make in this order.
 fn number_of_two(order: ByteOrder, bytes: [u8; 2]) -> usize
     ensures told { result ≡ ordered_number order w16 bytes }
     ensures spelled { ordered_bytes order w16 result ≡ bytes }
@@ -115,7 +115,7 @@ fn number_of_two(order: ByteOrder, bytes: [u8; 2]) -> usize
     }
 }
 
-// The number that four bytes tell in this order.
+// The number that four bytes make in this order.
 fn number_of_four(order: ByteOrder, bytes: [u8; 4]) -> usize
     ensures told { result ≡ ordered_number order w32 bytes }
     ensures spelled { ordered_bytes order w32 result ≡ bytes }
@@ -126,7 +126,7 @@ fn number_of_four(order: ByteOrder, bytes: [u8; 4]) -> usize
     }
 }
 
-// The number that eight bytes tell in this order.
+// The number that eight bytes make in this order.
 fn number_of_eight(order: ByteOrder, bytes: [u8; 8]) -> usize
     ensures told { result ≡ ordered_number order w64 bytes }
     ensures spelled { ordered_bytes order w64 result ≡ bytes }

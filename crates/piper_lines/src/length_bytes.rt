@@ -1,7 +1,7 @@
 //! The bytes of a length, on their way.
 ghost use Rattle.std.specs.Prelude.{◌≡◌, ◌≤◌};
 
-/// The bytes that tell a length.
+/// The bytes that report a length.
 ///
 /// In clauses, `shown_of` are these bytes.
 #[derive(Debug, Drop)]
@@ -16,7 +16,7 @@ pub struct LengthBytes {
 impl LengthBytes {
     ghost use Rattle.piper_lines.specs.Shown.{shown_of};
 
-    /// The bytes, as they stand before a body.
+    /// The bytes, as they come before a body.
     pub fn as_slice(&self) -> &[u8]
         ensures { result.now ≡ shown_of self.now }
     {

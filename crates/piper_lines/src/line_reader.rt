@@ -25,17 +25,17 @@ pub enum LineAnswer {
     /// As many bytes as the limit, or all that was kept where that is more, none of which ends a
     /// line.
     TooLong,
-    /// What stands behind the last line, at the end of the reader.
+    /// What follows the last line, at the end of the reader.
     Last,
-    /// The end of the reader, with nothing left of a line. Behind it, and behind `Last`, each poll
-    /// answers it again.
+    /// The end of the reader, with nothing left of a line. After it, and after `Last`, each poll
+    /// returns it again.
     End,
 }
 
 impl LineAnswer {
     ghost use Rattle.piper_lines.specs.LineAnswers.{at_end};
 
-    /// Whether the reader ended, so that no line comes behind this answer.
+    /// Whether the reader ended, so that no line comes after this answer.
     pub fn is_end(self) -> bool
         ensures { result ≡ at_end self }
     {
@@ -89,7 +89,7 @@ impl<R: AsyncBufRead> Lines<R> {
         &mut self.reader
     }
 
-    /// Gives the reader back. What is kept of a line is let go.
+    /// Gives the reader back. What is kept of a line is dropped.
     pub fn into_reader(self) -> R
         ensures { result ≡ reader_of self }
     {

@@ -26,14 +26,14 @@ pub struct WriteLine<'a> {
     ghost within_end: { end_written ≤ 1 },
 }
 
-/// Whether the text has no LF, so that with an LF behind it it is one line.
+/// Whether the text has no LF, so that with an LF after it it is one line.
 pub fn is_one_line(text: &[u8]) -> bool
     ensures { IsTrue result ↔ Lacks line_feed text.now }
 {
     lacks(text, b'\n')
 }
 
-/// Whether the text has no such byte, so that with one behind it it is one line of those that end
+/// Whether the text has no such byte, so that with one after it it is one line of those that end
 /// with it.
 pub fn lacks(text: &[u8], end: u8) -> bool
     ensures { IsTrue result ↔ Lacks end text.now }
@@ -44,7 +44,7 @@ pub fn lacks(text: &[u8], end: u8) -> bool
 impl<'a> WriteLine<'a> {
     ghost use Rattle.piper_lines.specs.LineWriter.{left_of};
 
-    /// The text with an LF behind it, none of which is written yet.
+    /// The text with an LF after it, none of which is written yet.
     pub fn new(text: &'a [u8]) -> WriteLine<'a>
         requires { Lacks line_feed text.now }
         ensures { left_of result ≡ text.now ++ line_feed ∷ [] }
@@ -52,7 +52,7 @@ impl<'a> WriteLine<'a> {
         WriteLine::ended_by(text, b'\n')
     }
 
-    /// The text with this byte behind it, none of which is written yet.
+    /// The text with this byte after it, none of which is written yet.
     pub fn ended_by(text: &'a [u8], end: u8) -> WriteLine<'a>
         requires { Lacks end text.now }
         ensures { left_of result ≡ text.now ++ end ∷ [] }

@@ -1,5 +1,5 @@
--- Behind an end that was found: where the reader can stand, what its steps log and answer, and what
--- it has seen of the close.
+-- After an end that was found: where the reader can be, what its steps log and answer, and what it
+-- has seen of the close.
 use Rattle.std.proofs.Common.{◌≡◌, inl, inr, ℕ, zero, suc, List, [], length, take, Bool, true, false, Option, None, Some, ◌==◌, is_some, Result, Ok, Err, refl, sym, ◌∙◌}
 use Rattle.std.specs.Bool.{⊤}
 use Rattle.piper_protocol.specs.declared.calls.Side.{Side}
@@ -36,7 +36,7 @@ abbrev pub is_last : AfterRead → Bool
 is_last (after_read.Round form sum) = false
 is_last next = true
 
--- where the reader can stand once an end was found
+-- where the reader can be once an end was found
 abbrev pub is_over : ReadPoint → Bool
 is_over (at.LookTailAgain l was_closed) = was_closed
 is_over (at.LookTake l) = false
@@ -66,7 +66,7 @@ no_length xs h = rw h refl
 no_byte : (xs : List ℕ) → length xs ≡ 0 → xs ≡ []
 no_byte xs h = none_left xs (rw h refl)
 
--- what tells nothing of an end
+-- what reports nothing of an end
 
 abbrev pub Quiet : Bool → Bool → List Event → Type 0
 Quiet saw ended es = IsFinalFrom saw ended es × (ended_from saw ended es ≡ ended) × (saw_closed_from Reader saw es ≡ saw)
@@ -94,7 +94,7 @@ module _ (saw ended : Bool) where
 
 -- what the reader's step logs before its answer
 
--- what it has seen of the close is so, and stands in its point where it looks again
+-- what it has seen of the close is so, and is in its point where it checks again
 abbrev pub IsLinked : Option Bool → Bool → Type 0
 IsLinked None saw = ⊤
 IsLinked (Some was_closed) saw = saw ≡ was_closed
@@ -109,7 +109,7 @@ module _ (saw ended : Bool) (p : Pipe) (closed : saw ≡ true → p.is_closed �
   quietly : (point : ReadPoint) → (ended ≡ true → Over (record p { reader = point })) → Quiet saw ended (logged_at point p) → Logs point
   quietly point over quiet = (quiet.0, λ t. over (sym quiet.1 ∙ t))
 
-  -- the close that was seen is the writer's, since the reader stands in its call
+  -- the close that was seen is the writer's, since the reader is in its call
   tail-logs : (point : ReadPoint) → read_leaves point ≡ false → (saw ≡ true → is_over point ≡ true) → (p.is_closed ≡ true → IsCaused (record p { reader = point })) → (ended ≡ true → Over (record p { reader = point }))
       → (ended ≡ true → length p.unread ≡ 0) × (found_at_tail saw (length p.unread) ended ≡ true → Over (record p { reader = point }))
   tail-logs point stays valid caused over = (
@@ -171,7 +171,7 @@ reader-sees saw p closed (at.TakeWriter next) link = (closed, unlinked _ _ (take
 reader-sees saw p closed (at.WakeWriter next) link = (λ seen. closed (sym (wake-quiet saw false p.reader_call.taken).2 ∙ seen), unlinked _ _ (done-unloaded next))
 reader-sees saw p closed at.StoreClosed link = (λ seen. refl, tt)
 
--- what the reader answers, and where it stands behind the answer
+-- what the reader returns, and where it follows the answer
 
 abbrev pub Ends : Bool → Bool → ReadPoint → Pipe → Type 0
 Ends saw ended point p =
@@ -202,7 +202,7 @@ module _ (saw ended : Bool) (p : Pipe) where
   registers-final false (purpose.Copy Try) = (((λ t. refl, tt), refl), refl)
   registers-final false (purpose.Copy (Polling is_drawn)) = (((λ t. inr refl, tt), refl), refl)
 
-  -- the answers that tell an end: nothing was found behind a close that was seen
+  -- the answers that report an end: nothing was found after a close that was seen
   again-final : (none was_closed : Bool) (l : Purpose) → (ended ≡ true → (none ≡ true) × (was_closed ≡ true)) → let next = reader_looked_again none l was_closed in
       IsFinalFrom saw ended (answer_event Reader next.answer) × (ended_from saw ended (answer_event Reader next.answer) ≡ true → (none ≡ true) × (was_closed ≡ true) × (is_over next.point ≡ true))
   again-final true true purpose.Poll over = ((λ t. inl refl, tt), λ t. (refl, refl, refl))

@@ -81,7 +81,7 @@ reader-rest point p busy plain = absurd (cc)
 abbrev pub reads_left : ReadPoint → Pipe → ℕ
 reads_left point p = read_steps (length p.unread) p.known point
 
--- and the writer, where so many places are free, looks for them only where it knows of no room
+-- and the writer, where so many places are free, checks for them only where it knows of no room
 abbrev pub write_found : WritePoint → ℕ → ℕ → ℕ
 write_found (on.LookClosed l) room free = if room == 0 then free else room
 write_found point room free = free

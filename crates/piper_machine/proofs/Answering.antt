@@ -1,4 +1,4 @@
--- Each step keeps what is told of both sides' calls, and what they move and answer is right.
+-- Each step keeps what the log says of both sides' calls, and what they move and answer is right.
 use Rattle.std.proofs.Common.{◌≡◌, ℕ, ◌≤◌, List, [], ◌∷◌, ◌++◌, length, None, Some, ◌==◌, refl, sym, ap, subst, ◌∙◌, arith}
 use Rattle.piper_protocol.specs.declared.calls.Side.{Side}
 use Rattle.piper_protocol.specs.declared.calls.Side.TheVariants.{Reader, Writer}
@@ -36,7 +36,7 @@ use Rattle.piper_machine.proofs.Showing.{noted-append, right-append, leaves-appe
 use Rattle.piper_machine.proofs.ReaderAnswers.{ReaderAt, opens-leads, reader-point}
 use Rattle.piper_machine.proofs.WriterAnswers.{WriterAt, writer-point}
 
--- what is told of a side where it stands
+-- what the log says of a side at its point
 abbrev pub IsValid : ℕ → Side → Pipe → Noted → Type 0
 IsValid capacity Reader p t = ReaderAt p.reader p.destination t
 IsValid capacity Writer p t = WriterAt capacity p.writer p.source p.lent t

@@ -204,7 +204,7 @@ state-named : (side : Side) (names : List ℕ) (p : Pipe) → state_of side (nam
 state-named Reader names p = refl
 state-named Writer names p = refl
 
--- steps that have answered
+-- steps that have returned
 pub record IsFinished (k : ℕ) (side : Side) (p : Pipe) (names : List ℕ) (before : List Event) (q : Pipe) (after : List Event) : Type 0 where
   pub log : List Event
   pub events : after ≡ before ++ (log ++ Answered side (alone_of side p).answer ∷ [])
@@ -216,7 +216,7 @@ names_of-joined : (es fs : List Event) → names_of (es ++ fs) ≡ names_of es +
 names_of-joined [] fs = refl
 names_of-joined (e ∷ es) fs = ap (λ (xs : List ℕ). named_by e ++ xs) (names_of-joined es fs) ∙ sym (append_assoc (named_by e) (names_of es) (names_of fs))
 
--- a side that has answered makes no step
+-- a side that has returned makes no step
 pub no_more : (k : ℕ) (side : Side) (p q : Pipe) (before after : List Event) → (cannot_go (state_of side p) ≡ None → ⊥) → Runs p before (replicate k (Go side)) q after → (k ≡ 0) × (q ≡ p) × (after ≡ before)
 no_more zero side p q before after rests run = (refl, run.0, run.1)
 no_more (suc k) side p q before after rests run = absurd (rests run.2.accepted)

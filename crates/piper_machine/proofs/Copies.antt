@@ -159,7 +159,7 @@ drain-rest point p drains start known = absurd (cc)
 
 -- the writer
 
--- a fill that has answered leaves nothing lent
+-- a fill that has returned leaves nothing lent
 abbrev pub fill_rest_at : Next WritePoint → Pipe → Ended
 fill_rest_at next p = writer_rest_at next (record p { lent = filled_out true next.answer p.lent })
 
@@ -240,7 +240,7 @@ module _ (form : Form) (sum : ℕ) (p : Pipe) (unclosed : p.is_closed ≡ false)
       ∙ ap (λ (r : Pipe). writer_moving (fill_moves_more (sum + n) (unspent (drop n xs) acts) r)) (woken-filled n xs lent q some (omega arith) refl)
       ∙ rw unclosed refl
 
--- what a fill that runs alone stands on: it has seen the pipe open, and nobody else closes it
+-- what a fill that runs alone depends on: it has seen the pipe open, and nobody else closes it
 abbrev pub saw_open : WritePoint → Bool
 saw_open (on.LookClosed l) = false
 saw_open point = is_filling point

@@ -73,7 +73,7 @@ pub counts-found : (side : Side) (p : Pipe) (k : Knowledge) (t : Tally) (calls :
 counts-found Reader p k t calls held = let within = held.within k.found (read_least-found k.found p.reader) in (omega (arith, within.steps), omega (arith, within.calls))
 counts-found Writer p k t calls held = let within = held.within k.found (write_least-found k.found p.writer) in (omega (arith, within.steps), omega (arith, within.calls))
 
--- a side's step leaves where the other stands, and what it knows
+-- a side's step leaves where the other is, and what it knows
 pub reader_leaves-writer : (action : Action) (p : Pipe) → ((n : ℕ) → action ≡ does.StoreTail n → ⊥) → let q = performed Reader action p in (q.writer ≡ p.writer) × (q.room ≡ p.room) × (q.capacity ≡ p.capacity)
 reader_leaves-writer (does.StoreTail n) p never = absurd (never n refl)
 reader_leaves-writer (does.StoreClosed true) p never = (refl, refl, refl)
@@ -157,7 +157,7 @@ begin-counts Writer cap lent call.Close p k t calls accepted held = record { see
 begin-counts Writer cap lent (call.Drop Writer) p k t calls accepted held = record { sees = tt; enough = held.enough; within = λ f least. plain f 3 (call.Drop Writer) (omega arith) }
 begin-counts Writer cap lent c p k t calls accepted held = held
 
--- what a step tells a side, with the answer behind it
+-- what a step reports to a side, with the answer after it
 pub noted : (c : ℕ) (side actor : Side) (k j : Knowledge) (es : List Event) (answer : Option Answer) → knowledge_from c side k es ≡ j → knowledge_from c side k (es ++ answer_event actor answer) ≡ j
 noted c side actor k j es answer same = knowledge-append c side k es (answer_event actor answer) ∙ answer-shows c side actor _ answer ∙ same
 

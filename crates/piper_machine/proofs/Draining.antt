@@ -346,7 +346,7 @@ copies before dest so_far part done n sum known is long fits more part_is same =
       bytes = whole;
     }
 
--- as many bytes stand in the slice as have left the pipe
+-- as many bytes are in the slice as have left the pipe
 pub drained-bytes : (n : ℕ) (before after dest filled_so_far : List ℕ) → n ≤ length before → after ≡ drop n before → filled_so_far ≡ take n before ++ drop n dest
     → let count = length before - length after in filled_so_far ≡ take count before ++ drop count dest
 drained-bytes n before after dest so_far known left is =

@@ -12,8 +12,8 @@ use Rattle.piper_protocol.specs.declared.polling.Polled.TheVariants.{Ready}
 use Rattle.piper_machine.specs.End.{saw_closed_after, saw_closed_from, found_none}
 use Rattle.piper_machine.specs.Final.{IsAfterEnd}
 
--- whether an end was found, by a look at the tail behind one that saw the pipe closed, or was told
--- by a poll
+-- whether an end was found, by a look at the tail after one that saw the pipe closed, or was
+-- reported by a poll
 
 abbrev pub found_at_tail : Bool → ℕ → Bool → Bool
 found_at_tail true zero ended = true
@@ -62,7 +62,7 @@ after-end saw (e ∷ es) h =
     let on = after-end (saw_closed_after Reader saw e) es (subst (λ (b : Bool). IsFinalFrom (saw_closed_after Reader saw e) b es) (still-ended saw e) h.1) in
     (All-cons IsAfterEnd e es (h.0 refl) on.0, ap (λ (b : Bool). ended_from (saw_closed_after Reader saw e) b es) (still-ended saw e) ∙ on.1)
 
--- behind an event with which an end was found
+-- after an event with which an end was found
 pub final-after : (saw ended : Bool) (before after : List Event) (e : Event) → ended_after (saw_closed_from Reader saw before) (ended_from saw ended before) e ≡ true
     → IsFinalFrom saw ended (before ++ e ∷ after) → All IsAfterEnd after × (ended_from saw ended (before ++ e ∷ after) ≡ true)
 final-after saw ended [] after e here h =
@@ -70,7 +70,7 @@ final-after saw ended [] after e here h =
     (on.0, ap (λ (b : Bool). ended_from (saw_closed_after Reader saw e) b after) here ∙ on.1)
 final-after saw ended (first ∷ before) after e here h = final-after (saw_closed_after Reader saw first) (ended_after saw ended first) before after e here h.1
 
--- a look that finds none behind one that saw the pipe closed is such an event
+-- a look that finds none after one that saw the pipe closed is such an event
 pub found-here : (saw ended : Bool) → saw ≡ true → ended_after saw ended found_none ≡ true
 found-here true ended seen = refl
 found-here false ended seen = absurd (cc)

@@ -1,5 +1,5 @@
--- Each step keeps a told end final: the pipe is closed for good, with nothing unread and nothing
--- lent that could still be published.
+-- Each step keeps a reported end final: the pipe is closed for good, with nothing unread and
+-- nothing lent that could still be published.
 use Rattle.std.proofs.Common.{◌≡◌, inl, inr, ℕ, List, [], ◌∷◌, ◌++◌, length, take, Bool, true, false, Option, None, Some, ◌==◌, refl, sym, ap, subst, ◌∙◌, slice_set, arith}
 use Rattle.std.proofs.lemmas.Bool.Decides.{nat_tests}
 use Rattle.piper_protocol.specs.declared.calls.Side.TheVariants.{Reader, Writer}
@@ -53,7 +53,7 @@ pub record Lasts (p : Pipe) (saw ended : Bool) : Type 0 where
   pub over : ended ≡ true → Over p
   pub sees : Sees saw p
 
--- once an end was told nothing is lent that could be stored
+-- once an end was reported nothing is lent that could be stored
 none_lent : (p : Pipe) → IsSound p → write_leaves p.writer ≡ false → IsEnded p → p.lent ≡ []
 none_lent p sound stays ended = elim ended [ inl leaves ↦ absurd (cc) | inr shut ↦ sound.shut shut ]
 
@@ -70,7 +70,7 @@ writer-over offered (on.StoreClosed after_write.Drop) p sound o = record { close
 writer-over offered (on.StoreClosed after_write.WakeWriter) p sound o = record { closed = refl; ended = writer-ended offered (on.StoreClosed after_write.WakeWriter) p o.ended; unread = o.unread; valid = o.valid }
 writer-over offered point p sound o = record { closed = o.closed; ended = writer-ended offered point p o.ended; unread = o.unread; valid = o.valid }
 
--- what the writer's step logs, and answers
+-- what the writer's step logs, and returns
 
 module _ (saw ended : Bool) (q : Pipe) (unread : ended ≡ true → q.unread ≡ []) (closed : ended ≡ true → q.is_closed ≡ true) where
   writer-logs : (action : Action) → ((n : ℕ) → action ≡ does.StoreTail n → ended ≡ true → q.lent ≡ []) → Quiet saw ended (logged_of Writer action q)
@@ -173,7 +173,7 @@ begin-lasts lent (call.Produced n) p saw ended sound accepted h = ((λ t. tt, tt
 begin-lasts lent call.Close p saw ended sound accepted h = ((λ t. tt, tt), writer-opens p saw ended h (on.StoreClosed after_write.WakeWriter) p.writer_call p.source (writer-idle p.writer _ accepted) refl)
 begin-lasts lent (call.Drop Writer) p saw ended sound accepted h = ((λ t. tt, tt), writer-opens p saw ended h (on.StoreClosed after_write.Drop) p.writer_call p.source (writer-idle p.writer _ accepted) refl)
 
--- the events of the answer behind those of the action
+-- the events of the answer after those of the action
 adds : (saw ended : Bool) (es fs : List Event) (q : Pipe) → IsFinalFrom saw ended es → IsFinalFrom (saw_closed_from Reader saw es) (ended_from saw ended es) fs
     → Lasts q (saw_closed_from Reader (saw_closed_from Reader saw es) fs) (ended_from (saw_closed_from Reader saw es) (ended_from saw ended es) fs)
     → IsFinalFrom saw ended (es ++ fs) × Lasts q (saw_closed_from Reader saw (es ++ fs)) (ended_from saw ended (es ++ fs))

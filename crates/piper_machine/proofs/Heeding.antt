@@ -52,7 +52,7 @@ heeded-from : (saw : Bool) (before after : List Event) (bytes : List ℕ) → He
 heeded-from saw [] after bytes heeds = heeds.0
 heeded-from saw (e ∷ before) after bytes heeds = heeded-from (saw_closed_after Writer saw e) before after bytes heeds.1
 
--- what tells nothing of closed
+-- what reports nothing of closed
 
 abbrev Quiet : Bool → List Event → Type 0
 Quiet saw es = HeedsFrom saw es × (saw_closed_from Writer saw es ≡ saw)
@@ -94,7 +94,7 @@ reader-quiet saw p (at.TakeWriter next) = (tt, refl)
 reader-quiet saw p (at.WakeWriter next) = wake-quiet saw p.reader_call.taken
 reader-quiet saw p point = ((tt, tt), refl)
 
--- where the writer stands before a publication
+-- where the writer comes before a publication
 abbrev is_storing : WritePoint → Bool
 is_storing (on.StoreTail n next) = true
 is_storing point = false

@@ -72,7 +72,7 @@ yield-quiet h (Some cx) = woken-quiet cx.luck.yield_granted cx.waker
     woken-quiet true name = ((tt, tt), refl)
     woken-quiet false name = (tt, refl)
 
--- events that answer nobody, and what they tell of the flag
+-- events that answer nobody, and what they report of the flag
 abbrev Tells : History → List Event → Bool → Type 0
 Tells h events is_closed = IsHonestFrom h events × ((history_from h events).is_closed ≡ is_closed)
 
@@ -119,7 +119,7 @@ abbrev pub loaded : ReadPoint → Option Bool
 loaded (at.LookTailAgain l was_closed) = Some was_closed
 loaded point = None
 
--- it stands there, and the flag was set
+-- it is there, and the flag was set
 abbrev pub is_set : Option Bool → Bool
 is_set (Some is_closed) = is_closed
 is_set None = false
@@ -127,7 +127,7 @@ is_set None = false
 abbrev pub saw_close : ReadPoint → Bool
 saw_close point = is_set (loaded point)
 
--- what the reader answers where it stands, behind the events of its step
+-- what the reader returns where it is, after the events of its step
 abbrev noted : History → ReadPoint → Pipe → History
 noted h point p = history_from h (logged_of Reader (read_action point) p)
 
@@ -138,7 +138,7 @@ module _ (h : History) (p : Pipe) where
   query-honest : (k : History) (query : Query) (count : ℕ) → IsHonestFrom k (answer_event Reader (Some (query_answer query p.capacity count)))
   query-honest k query count = query-holds (λ (answer : Answer). IsHonestFrom k (answer_event Reader (Some answer))) query p.capacity count (tt, tt) (λ is. (tt, tt))
 
-  -- a copy never answers as a poll does
+  -- a copy never returns as a poll does
   copy-honest : (k : History) (form : Form) (answer : Polled Bool) → IsHonestFrom k (answer_event Reader (Some (copy_answer form answer)))
   copy-honest k Try answer = (tt, tt)
   copy-honest k (Polling is_drawn) answer = (tt, tt)
@@ -177,7 +177,7 @@ module _ (h : History) (p : Pipe) where
   take-honest k next false = done-honest k next
   take-honest k next true = tt
 
-  -- the one answer that is false: this look found nothing, behind a close
+  -- the one answer that is false: this look found nothing, after a close
   again-honest : (l : Purpose) (count : ℕ) (none was_closed : Bool) → (count == 0) ≡ none → h.is_closed ≡ p.is_closed → (was_closed ≡ true → p.is_closed ≡ true)
       → IsHonestFrom (history_after h (Looked Reader (Tail count))) (answer_event Reader (reader_looked_again none l was_closed).answer)
   again-honest l count false was_closed test same seen = tt
@@ -302,7 +302,7 @@ pub record Aware (p : Pipe) (h : History) : Type 0 where
   pub flag : h.is_closed ≡ p.is_closed
   pub saw : saw_close p.reader ≡ true → p.is_closed ≡ true
 
--- an answer behind the events of an action
+-- an answer after the events of an action
 answered-shows : (h : History) (es : List Event) (side : Side) (answer : Option Answer) (is_closed : Bool) → Tells h es is_closed
     → IsHonestFrom (history_from h es) (answer_event side answer) → Tells h (es ++ answer_event side answer) is_closed
 answered-shows h es side answer is_closed shows honest = (

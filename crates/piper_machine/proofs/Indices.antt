@@ -1,4 +1,4 @@
--- How far apart two indices are, and at which places they stand, after one of them has moved.
+-- How far apart two indices are, and at which places they are, after one of them has moved.
 use Rattle.std.proofs.Common.{◌≡◌, ℕ, ◌+◌, ◌-◌, ◌*◌, ◌<◌, ◌≤◌, arith}
 use Rattle.std.proofs.lemmas.Bool.Decides.{nat_tests}
 use Rattle.piper_protocol.specs.Index.{distance, place_of, advanced}
@@ -9,7 +9,7 @@ distance-advanced_to c h t n head tail fits below some = grind (arith, nat_tests
 pub distance-advanced_from : (c h t n : ℕ) → h < 2 * c → t < 2 * c → n ≤ distance c h t → distance c h t ≤ c → place_of c h + n ≤ c → 1 ≤ c → distance c (advanced c h n) t ≡ distance c h t - n
 distance-advanced_from c h t n head tail within fits below some = grind (arith, nat_tests)
 
--- the index t stands as far behind the place of h as it is past h
+-- the index t is as far past the place of h as it is past h
 pub place_of-distance : (c h t : ℕ) → h < 2 * c → t < 2 * c → distance c h t ≤ c → place_of c t ≡ place_of c (place_of c h + distance c h t)
 place_of-distance c h t head tail fits = grind (arith, nat_tests)
 

@@ -1,4 +1,4 @@
--- What a step tells a side of the other is what the step leaves it knowing.
+-- What a step reports to a side about the other is what the step leaves it knowing.
 use Rattle.std.proofs.Common.{◌≡◌, ℕ, ◌-◌, ◌≤◌, List, [], ◌∷◌, ◌++◌, length, take, Bool, true, false, Option, None, Some, refl, ap, arith}
 use Rattle.std.specs.Prelude.{⊤}
 use Rattle.std.proofs.lemmas.List.{length-take, length-take-le}
@@ -27,7 +27,7 @@ pub knowledge-append : (c : ℕ) (side : Side) (k : Knowledge) (es fs : List Eve
 knowledge-append c side k [] fs = refl
 knowledge-append c side k (e ∷ es) fs = knowledge-append c side (knowledge_after c side k e) es fs
 
--- events that tell nothing of the other side's index
+-- events that report nothing of the other side's index
 
 pub answer-shows : (c : ℕ) (side actor : Side) (k : Knowledge) (answer : Option Answer) → knowledge_from c side k (answer_event actor answer) ≡ k
 answer-shows c side actor k None = refl
@@ -91,7 +91,7 @@ abbrev pub knows : Side → Pipe → ℕ
 knows Reader p = p.known
 knows Writer p = p.room
 
--- the log never tells less than the side knows
+-- the log never reports less than the side knows
 pub learned-enough : (side : Side) (action : Action) (p : Pipe) (k : Knowledge) → knows side p ≤ k.known → knows side (performed side action p) ≤ (learned side action p k).known
 learned-enough Reader does.Refresh p k enough = omega arith
 learned-enough Writer does.Refresh p k enough = omega arith
@@ -136,7 +136,7 @@ reader-shows c does.Wake p k never = wake-shows c Writer k p.reader_call.taken
 reader-shows c does.Yield p k never = yield-shows c Writer k p.reader_call.context
 reader-shows c action p k never = refl
 
--- what a step answers, if it does
+-- what a step returns, if it does
 
 abbrev pub IsReadyNext : Side → Knowledge → Option Answer → Type 0
 IsReadyNext side k None = ⊤

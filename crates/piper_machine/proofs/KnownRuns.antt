@@ -68,7 +68,7 @@ yield-ready : (c : ℕ) (side : Side) (k : Knowledge) (context : Option Context)
 yield-ready c side k None = tt
 yield-ready c side k (Some cx) = woken-ready c side k cx.luck.yield_granted cx.waker
 
--- a step answers only behind what it does
+-- a step returns only after what it does
 logged-ready : (c : ℕ) (side actor : Side) (k : Knowledge) (action : Action) (p : Pipe) → IsReadyFrom c side k (logged_of actor action p)
 logged-ready c side Reader k does.Register p = context-ready c side Reader k p.reader_call.context
 logged-ready c side Writer k does.Register p = context-ready c side Writer k p.writer_call.context
@@ -95,7 +95,7 @@ reader-answers : (c : ℕ) (k : Knowledge) (answer : Option Answer) → IsReadyF
 reader-answers c k None = tt
 reader-answers c k (Some answer) = (tt, tt)
 
--- a call that answers as it is opened lends
+-- a call that returns as it is opened lends
 begin-answers : (cap : ℕ) (side : Side) (k : Knowledge) (lent : List ℕ) (c : Call) → IsReadyFrom cap side k (answer_event (side_of c) (answer_at_once lent c))
 begin-answers cap Reader k lent (call.WriteBuf most) = (tt, tt)
 begin-answers cap Writer k lent (call.WriteBuf most) = (tt, tt)
@@ -196,7 +196,7 @@ calls-counted c ss p events side run = (counts-found side p _ _ _ (along c side 
 pub ready-run : (c : ℕ) (ss : List Step) (p : Pipe) (events : List Event) → Runs (fresh c) [] ss p events → IsReady c events
 ready-run c ss p events run side = (along c side ss p events run).ready
 
--- what the log tells is what is known: a store stays within what there is
+-- what the log reports is what is known: a store stays within what there is
 
 reader-stores : (point : ReadPoint) (p : Pipe) → head_store point ≤ peeked_count p → p.known ≤ length p.unread → Stores Reader (read_action point) p
 reader-stores (at.StoreHead n next) p store known = omega arith
@@ -210,7 +210,7 @@ writer-stores (on.StoreClosed after_write.WakeWriter) lent p store = tt
 writer-stores (on.StoreClosed (after_write.Round form sum)) lent p store = tt
 writer-stores point lent p store = tt
 
--- what the log tells of a side is what the pipe has, and what a look found is no more than the
+-- what the log reports of a side is what the pipe has, and what a look found is no more than the
 -- capacity
 record Known (c : ℕ) (side : Side) (p : Pipe) (k : Knowledge) : Type 0 where
   known : k.known ≡ knows side p

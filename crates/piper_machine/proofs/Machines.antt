@@ -1,4 +1,4 @@
--- A machine after a step of one of its sides: it is a machine again, and which pipe it stands for.
+-- A machine after a step of one of its sides: it is a machine again, and which pipe it represents.
 use Rattle.std.proofs.Common.{◌≡◌, ◌+◌, ◌-◌, ◌≤◌, ℕ, Bool, true, false, List, [], take, Option, None, Some, IsSome, refl, ap, ◌∙◌, arith}
 use Rattle.piper_protocol.specs.declared.calls.OpenCall.{OpenCall}
 use Rattle.piper_protocol.specs.declared.events.Answer.{Answer}
@@ -93,7 +93,7 @@ next-of m i found = ap (λ capacity. write_after capacity (room_of m.write) m.wr
 pub answer-of : (m : Inside) (i : IsMachine m) (p : Pipe) (found : Found) → pipe_of m ≡ p → writing_answer found m.write ≡ round_answer found p
 answer-of m i p found is = ap (λ (next : Next WritePoint). next.answer) (next-of m i found) ∙ ap (round_answer found) is
 
--- what is left lent of the bytes where the writer's call has answered
+-- what is left lent of the bytes where the writer's call has returned
 pub lent-settled : (fills : Bool) (answer : Option Answer) (count : ℕ) (bytes : List ℕ) → take (lent_count_after fills answer count) bytes ≡ filled_out fills answer (take count bytes)
 lent-settled true (Some answer) count bytes = refl
 lent-settled true None count bytes = refl

@@ -1,5 +1,5 @@
 -- A machine after one of its sides has moved, or a lent place was written: it is a machine again,
--- and which pipe it stands for.
+-- and which pipe it represents.
 use Rattle.std.proofs.Common.{◌≡◌, ◌==◌, ◌+◌, ◌-◌, ◌*◌, ◌<◌, ◌≤◌, ℕ, List, ◌++◌, take, drop, length, min, false, inl, inr, refl, sym, ap, ◌∙◌, arith, length-take-le}
 use Rattle.std.proofs.lemmas.List.{drop-take, drop-drop, take-take, drop_at}
 use Rattle.std.proofs.lemmas.Bool.{cases_lt}
@@ -26,12 +26,12 @@ use Rattle.piper_machine.proofs.Ring.{slice-set, slice-written}
 use Rattle.std.proofs.Math.ListN.{set}
 use Rattle.piper_machine.proofs.Soundness.{sound, some_lent, tail_below, length-unread, end_place-of, place-same}
 
--- the reader has seen where the tail stands
+-- the reader has seen where the tail is
 module _ (m : Inside) (i : IsMachine m) (r : Reading) (point : ReadPoint) (call : OpenCall) (destination : Destination) (is : r ≡ record m.read { tail = m.write.tail; point = point }) where
   pub tail_seen-view : let p = pipe_of m in pipe_of (record m { read = r; reader_call = call; destination = destination }) ≡ record p { known = length p.unread; reader = point; reader_call = call; destination = destination }
   tail_seen-view = rw is (let long = length-unread m i in cc)
 
--- the writer has seen where the head stands
+-- the writer has seen where the head is
 module _ (m : Inside) (i : IsMachine m) (w : Writing) (point : WritePoint) (call : OpenCall) (acts : List SourceAct) (is : w ≡ record m.write { head = m.read.head; point = point }) where
   pub head_seen-view : let p = pipe_of m in pipe_of (record m { write = w; writer_call = call; source = acts }) ≡ record p { room = p.capacity - length p.unread; writer = point; writer_call = call; source = acts }
   head_seen-view = rw is (let long = length-unread m i in let same = i.capacity in cc)
@@ -70,7 +70,7 @@ lend_length-Lendable m i most =
       shut = λ is_shut. rw is_shut refl;
     }
 
--- what is left of a slice behind its first n bytes
+-- what is left of a slice after its first n bytes
 rest_at : (c t l n : ℕ) (xs : List ℕ) → t < 2 * c → 1 ≤ c → place_of c t + l ≤ c → n ≤ l → take (l - n) (drop (place_of c (advanced c t n)) xs) ≡ drop n (take l (drop (place_of c t) xs))
 rest_at c t l n xs tail some fits within =
     let k = place_of c t in
@@ -82,7 +82,7 @@ rest_at c t l n xs tail some fits within =
       | inr high ↦ ap (λ j. take j (drop (place_of c (advanced c t n)) xs)) (let none : l - n ≡ 0 = omega arith in none) ∙ sym (rest ∙ ap (λ j. take j (drop (k + n) xs)) (let none : l - n ≡ 0 = omega arith in none))
     ]
 
--- what stands in a slice whose front was written
+-- what is in a slice whose front was written
 front_written : (k l : ℕ) (xs ys : List ℕ) → k + l ≤ length xs → length ys ≤ l → take l (drop k (written xs k ys)) ≡ ys ++ drop (length ys) (take l (drop k xs))
 front_written k l xs ys fits within =
     let long = length-take-le k xs (omega arith) in

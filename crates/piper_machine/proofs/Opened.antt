@@ -6,7 +6,7 @@ use Rattle.piper_protocol.specs.declared.calls.Call.TheVariants as call
 use Rattle.piper_machine.specs.Pipe.{Pipe}
 use Rattle.piper_machine.specs.Step.{opened}
 
--- all but where a side stands, what its call holds and is handed, and what is lent
+-- all but where a side is, what its call holds and is handed, and what is lent
 pub record LeavesRest (p q : Pipe) : Type 0 where
   pub capacity : q.capacity ≡ p.capacity
   pub unread : q.unread ≡ p.unread

@@ -1,4 +1,4 @@
--- What the last load of a query answers, of all queries at once.
+-- What the last load of a query returns, of all queries at once.
 use Rattle.std.proofs.Common.{ℕ, Bool, ◌==◌}
 use Rattle.piper_protocol.specs.declared.calls.Query.{Query}
 use Rattle.piper_protocol.specs.declared.calls.Query.TheVariants.{Len, IsEmpty, IsFull}

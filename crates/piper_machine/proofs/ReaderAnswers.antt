@@ -1,5 +1,5 @@
--- What is told of the reader's open call where the reader stands, and that its steps keep it and
--- answer what is right.
+-- What the log says of the reader's open call at each point, and that its steps keep this and give
+-- right answers.
 use Rattle.std.specs.Prelude.{IsSomeAnd}
 use Rattle.std.proofs.Common.{◌≡◌, ℕ, ◌+◌, ◌≤◌, List, [], ◌∷◌, ◌++◌, take, length, Bool, true, false, Some, ◌==◌, is_some, Result, Ok, Err, refl, sym, ap, subst, ◌∙◌, arith, length-append, length-take-le}
 use Rattle.piper_protocol.specs.declared.calls.Side.TheVariants.{Reader}
@@ -83,7 +83,7 @@ ReaderAt (at.TakeWriter next) destination t = ReaderAfter next destination t
 ReaderAt (at.WakeWriter next) destination t = ReaderAfter next destination t
 ReaderAt at.StoreClosed destination t = t.call ≡ Some (call.Drop Reader)
 
--- a step that leads there answers what is right, or goes on where this is told
+-- a step that leads there gives a right answer, or goes on where this holds
 abbrev Leads : ℕ → Destination → Next ReadPoint → Noted → Type 0
 Leads capacity destination next t = AreRightFrom capacity Reader t (answer_event Reader next.answer) × ReaderAt next.point (destination_after next.answer destination) (noted_from Reader t (answer_event Reader next.answer))
 
@@ -194,7 +194,7 @@ module _ (capacity : ℕ) where
     take-leads next true after = (tt, after)
     take-leads next false after = done-leads next after
 
-  -- what is told of a look does not depend on what it found
+  -- what the log says of a look does not depend on what it found
   looked : (l : Purpose) (destination : Destination) (t : Noted) (look : Seen) → ReaderLooks l destination t → ReaderLooks l destination (record t { looks = look ∷ t.looks })
   looked purpose.Poll destination t look looks = record { poll = looks.poll; is = looks.is; polls = looks.polls }
   looked (purpose.Copy form) destination t look looks = record { drain = looks.drain; is = looks.is; drains = looks.drains; count = looks.count }

@@ -57,7 +57,7 @@ read_least found (at.LookClosed l) = 0
 read_least found (at.LookTailAgain l was_closed) = 0
 read_least found point = found
 
--- what the reader's point tells of what it knows
+-- what the reader's point reports of what it knows
 abbrev pub ReaderSees : ReadPoint → ℕ → Knowledge → Type 0
 ReaderSees (at.QueryHead query) known k = (k.is_query ≡ true)
 ReaderSees (at.QueryTail query) known k = (k.is_query ≡ true)

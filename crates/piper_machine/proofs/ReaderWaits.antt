@@ -27,15 +27,15 @@ use Rattle.piper_machine.specs.Waiting.{IsBlocked}
 use Rattle.piper_machine.specs.Wait.{Wait, wait_from}
 use Rattle.piper_machine.proofs.Watching.{Errand, read_errand, Watched, woken, calmly, Same, same, Touch, rests, stores, finds, misses, calls, hears-more, rewatch, touched, touched-pending, IsHanded, HasBegun, Awaits, handed-touched, begun-touched, awaits-touched, awaits-more, has_begun, awaits, refused-noted, counted-noted, yielded, yield-heard, hears-it, answered-passes, registration-passes, wake-heard, context_of, query-noted}
 
--- what holds of the pipe while the waker stands in the slot: nothing any more once the reader
--- itself has closed
+-- what holds of the pipe while the waker is registered in the slot: nothing any more once the
+-- reader itself has closed
 abbrev pub read_calm : ReadPoint → Pipe → Type 0
 read_calm at.Dropped p = ⊤
 read_calm (at.TakeWriter after_read.Drop) p = ⊤
 read_calm (at.WakeWriter after_read.Drop) p = ⊤
 read_calm point p = IsBlocked Reader p
 
--- inside a look: handed over, and behind the registration watched over
+-- inside a look: handed over, and after the registration watched over
 abbrev pub ReadLook : ReadPoint → Pipe → Errand → Wait → Type 0
 ReadLook (at.LookTail l) p e w = HasBegun l p.reader_call.context w
 ReadLook (at.LookRegister l) p e w = IsHanded p.reader_call.context w
@@ -126,12 +126,12 @@ registers-if : (l : Purpose) (context : Option Context) (taken : Option ℕ) (p 
 registers-if l None taken p e w h = rw (refused-noted l w) (record { waiting = h.waiting; look = tt })
 registers-if l (Some cx) taken p e w h = registers l cx.luck.register_granted cx.waker cx.luck.draw cx.luck.yield_granted taken p e w h
 
--- a call that goes on, or has answered, with this left of its destination
+-- a call that goes on, or has returned, with this left of its destination
 abbrev IsValid : Next ReadPoint → Destination → Pipe → Errand → Wait → Type 0
 IsValid next destination p e w =
     ReadWaits (record p { reader = next.point; reader_call = call_after next.answer p.reader_call; destination = destination_after next.answer destination }) e (wait_from Reader w (answer_event Reader next.answer))
 
--- the last load of tail: without a byte behind an open pipe the reader waits from now on
+-- the last load of tail: without a byte after an open pipe the reader waits from now on
 looks-again : (l : Purpose) (none was_closed : Bool) (p : Pipe) (e : Errand) (w : Wait) → (none ≡ true → p.unread ≡ []) → ReadWaits (record p { reader = at.LookTailAgain l was_closed }) e w
     → IsValid (reader_looked_again none l was_closed) p.destination p e w
 looks-again purpose.Poll true true p e w empty h = record { waiting = h.waiting; look = tt }
@@ -149,7 +149,7 @@ takes-own (purpose.Copy Try) p e w h = record { waiting = λ pending. absurd (le
 takes-own (purpose.Copy (Polling true)) p e w h = record { waiting = λ pending. absurd (let never = h.look.0 in cc); look = h.look }
 takes-own (purpose.Copy (Polling false)) p e w h = record { waiting = λ pending. absurd (let never = h.look.0 in cc); look = tt }
 
--- a yield: the call answers pending, and its waker was called
+-- a yield: the call returns pending, and its waker was called
 yields : (granted : Bool) (waker draw : ℕ) (registers : Bool) (taken : Option ℕ) (p : Pipe) (e : Errand) (w : Wait)
     → Goes (record p { reader = at.Yield; reader_call = record { context = Some (record { waker = waker; luck = record { draw = draw; register_granted = registers; yield_granted = granted } }); taken = taken } }) e w
 yields true waker draw registers taken p e w h = record { waiting = λ pending. woken (hears-it (Some waker) w (ap (λ (n : ℕ). Some n) (sym h.look.1))); look = tt }
@@ -159,7 +159,7 @@ yields-if : (context : Option Context) (taken : Option ℕ) (p : Pipe) (e : Erra
 yields-if None taken p e w h = record { waiting = h.waiting; look = tt }
 yields-if (Some cx) taken p e w h = yields cx.luck.yield_granted cx.waker cx.luck.draw cx.luck.register_granted taken p e w h
 
--- a round: it goes on, or the call answers a count or a failure
+-- a round: it goes on, or the call returns a count or a failure
 moves-on : (none : Bool) (n : ℕ) (form : Form) (sum : ℕ) (destination : Destination) (p : Pipe) (e : Errand) (w : Wait) → ReadWaits (record p { reader = at.CallDestination form sum }) e w → IsValid (reader_moved none n form sum) destination p e w
 moves-on true n form sum destination p e w h = rw (counted-noted form sum w) (record { waiting = h.waiting; look = tt })
 moves-on false n form sum destination p e w h = record { waiting = h.waiting; look = tt }

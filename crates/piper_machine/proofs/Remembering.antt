@@ -47,7 +47,7 @@ pub record Keeps (p : Pipe) (reads writes : Wait) : Type 0 where
   pub reader : ReadWaits p (write_errand p.writer p.writer_call) reads
   pub writer : WriteWaits p (read_errand p.reader p.reader_call) writes
 
--- a side's step leaves where the other stands, and what its call holds
+-- a side's step leaves where the other is, and what its call holds
 
 pub reader_leaves : (action : Action) (p : Pipe) → let q = performed Reader action p in (q.writer ≡ p.writer) × (q.writer_call ≡ p.writer_call)
 reader_leaves (does.StoreClosed true) p = (refl, refl)

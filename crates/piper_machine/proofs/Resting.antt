@@ -64,7 +64,7 @@ drains cx size p q rests = from-reader (λ v. alone_of Reader (drain_opened (Som
 pub drains-to : (cx : Context) (acts : List DestAct) (p q : Pipe) → ReaderRests p q → alone_of Reader (drain_opened (Some cx) (Acts acts) q) ≡ copied_acts (drain_to (Some cx) acts p)
 drains-to cx acts p q rests = from-reader (λ v. alone_of Reader (drain_opened (Some cx) (Acts acts) v)) (λ v. copied_acts (drain_to (Some cx) acts v)) p q rests (drain-acts cx acts p)
 
--- bytes of the caller's stand in the place of an act of them
+-- bytes of the caller's replace an act of them
 given-bytes : (bytes : List ℕ) → bytes_given (unspent bytes []) ≡ bytes
 given-bytes [] = refl
 given-bytes (byte ∷ bytes) = given-slice (byte ∷ bytes)

@@ -1,5 +1,4 @@
--- The bytes of a ring, one by one: number i of those from the place h on stands at the place of h +
--- i.
+-- The bytes of a ring, one by one: number i of those from the place h on is at the place of h + i.
 use Rattle.std.proofs.Common.{◌≡◌, ◌≢◌, ℕ, ◌+◌, ◌-◌, ◌<◌, ◌≤◌, ◌⊎◌, List, ◌++◌, length, get_or, take, drop, refl, sym, ap, ◌∙◌, inl, inr, arith, length-append, length-drop, length-take-le, get_or-drop, get_or-take, append-nil, min}
 use Rattle.std.proofs.Math.Seq.{take-append-add, take-length}
 use Rattle.std.proofs.Math.ListN.{set, length-set}
@@ -43,7 +42,7 @@ module _ (xs : List ℕ) (k : ℕ) (ys : List ℕ) (fits : k + length ys ≤ len
   get_or-written_inside i e from to = get_or-append_right _ _ k i e (length-take-le k xs (omega arith)) from ∙ get_or_append_left _ _ e (i - k) (omega arith)
 
 module _ (c h d : ℕ) (xs : List ℕ) (long : length xs ≡ c) (start : h < c) where
-  -- behind its last byte stand the next ones, up to the end of the buffer
+  -- after its last byte are the next ones, up to the end of the buffer
   pub ring-longer : (n : ℕ) → d + n ≤ c → place_of c (h + d) + n ≤ c → ring h (d + n) xs ≡ ring h d xs ++ take n (drop (place_of c (h + d)) xs)
   ring-longer n fits below =
       let k = place_of c (h + d) in
@@ -70,11 +69,11 @@ module _ (c h d : ℕ) (xs : List ℕ) (long : length xs ≡ c) (start : h < c) 
       ∙ ap (λ j. get_or xs j e) (place_of-twice c h n i start (omega arith))
       ∙ sym (get_or-drop n (ring h d xs) i e ∙ get_or-ring c h d xs long start fits (n + i) e (omega arith)))
 
-  -- its first n bytes stand in one piece
+  -- its first n bytes are contiguous
   pub ring-take : (n : ℕ) → n ≤ d → h + n ≤ c → take n (drop h xs) ≡ take n (ring h d xs)
   ring-take n within flat = sym (take-take n d (drop h xs ++ take h xs) within ∙ take-append-le n (drop h xs) (take h xs) (simp length-drop (omega arith)))
 
-  -- it stands in two pieces: up to the end of the buffer, and from its beginning
+  -- it is in two pieces: up to the end of the buffer, and from its beginning
   pub ring-pieces : (n : ℕ) → d ≤ c → n ≡ min d (c - h) → ring h d xs ≡ take n (drop h xs) ++ take (d - n) xs
   ring-pieces n fits is = elim (cases_lt d (c - h)) [
     | inl low ↦ (
@@ -98,7 +97,7 @@ apart : (c h d i o : ℕ) → h < c → i < d → d + o + 1 ≤ c → place_of c
 apart c h d i o start within free flat = grind (arith, nat_tests)
 
 module _ (c h d o : ℕ) (xs ys : List ℕ) (long : length xs ≡ c) (start : h < c) (free : d + o + length ys ≤ c) (flat : place_of c (h + d) + o + length ys ≤ c) where
-  -- a write behind its last byte leaves it as it was
+  -- a write after its last byte leaves it as it was
   pub ring-written : ring h d (written xs (place_of c (h + d) + o) ys) ≡ ring h d xs
   ring-written =
       let k = place_of c (h + d) + o in
@@ -112,7 +111,7 @@ module _ (c h d o : ℕ) (xs ys : List ℕ) (long : length xs ≡ c) (start : h 
       ∙ sym (get_or-ring c h d xs long start (omega arith) i e (omega arith)))
 
 module _ (c h d o : ℕ) (xs : List ℕ) (b : ℕ) (long : length xs ≡ c) (start : h < c) (free : d + o + 1 ≤ c) (flat : place_of c (h + d) + o + 1 ≤ c) where
-  -- nor does a byte put behind its last one change it
+  -- nor does a byte put after its last one change it
   pub ring-set : ring h d (set xs (place_of c (h + d) + o) b) ≡ ring h d xs
   ring-set =
       let k = place_of c (h + d) + o in

@@ -42,7 +42,7 @@ drained_nothing p start =
     let place : place_of p.capacity (p.start + 0) ≡ p.start = grind (arith, nat_tests) in
     λ j. record p { known = known j; start = place j }
 
--- a slice that is filled part by part: the next n bytes behind the first d
+-- a slice that is filled part by part: the next n bytes after the first d
 pub next_part : (d n : ℕ) (bytes dest filled_so_far : List ℕ) → d ≤ length bytes → d + n ≤ length dest → filled_so_far ≡ take d bytes ++ drop d dest → length filled_so_far ≡ length dest
     → put_mid d (length filled_so_far - d) filled_so_far (take n (drop d bytes) ++ drop n (drop d filled_so_far)) ≡ take (d + n) bytes ++ drop (d + n) dest
 next_part d n bytes dest so_far known fits is long =

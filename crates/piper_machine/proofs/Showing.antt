@@ -1,5 +1,5 @@
--- How what is told of a side's calls grows with the log: the events that leave it, and those of the
--- other side.
+-- How what the log says of a side's calls grows with the log: the events that leave it, and those
+-- of the other side.
 use Rattle.std.proofs.Common.{◌≡◌, ℕ, ◌+◌, length, arith, List, [], ◌∷◌, ◌++◌, Bool, true, false, Option, None, Some, refl, sym, ap, subst, ◌∙◌}
 use Rattle.piper_protocol.specs.declared.calls.Side.{Side}
 use Rattle.piper_protocol.specs.declared.calls.Side.TheVariants.{Reader, Writer}
@@ -28,7 +28,7 @@ pub right-append : (capacity : ℕ) (side : Side) (t : Noted) (es fs : List Even
 right-append capacity side t [] fs first then = then
 right-append capacity side t (e ∷ es) fs first then = (first.0, right-append capacity side (noted_after side t e) es fs first.1 then)
 
--- events that leave all that was told
+-- events that leave all that was reported
 abbrev pub Leaves : ℕ → Side → Noted → List Event → Type 0
 Leaves capacity side t events = AreRightFrom capacity side t events × (noted_from side t events ≡ t)
 
@@ -62,7 +62,7 @@ module _ (capacity : ℕ) (t : Noted) where
   yield-leaves side None = (tt, refl)
   yield-leaves side (Some cx) = woken-leaves side cx.luck.yield_granted cx.waker
 
-  -- the steps of one side leave what is told of the other
+  -- the steps of one side leave what the log says of the other
 
   pub writer-logs : (action : Action) (p : Pipe) → ((n : ℕ) → action ≡ does.StoreHead n → ⊥) → Leaves capacity Reader t (logged_of Writer action p)
   writer-logs does.Rest p never = (tt, refl)

@@ -1,4 +1,4 @@
--- A machine whose invariant holds stands for a sound pipe.
+-- A machine whose invariant holds represents a sound pipe.
 use Rattle.std.proofs.Common.{◌≡◌, ◌+◌, ◌<◌, ◌≤◌, ◌*◌, ◌-◌, min, ℕ, take, drop, length, sym, ap, ◌∙◌, subst, arith, length-take-le, length-drop}
 use Rattle.piper_protocol.specs.Index.{distance, place_of}
 use Rattle.piper_machine.specs.Pipe.{Pipe}

@@ -46,7 +46,7 @@ moved-given most [] = omega arith
 moved-given most (source.Fail ∷ acts) = omega arith
 moved-given most (source.Bytes bytes ∷ acts) = refl
 
--- what the source gave stands at the front of what it was lent
+-- what the source gave is at the front of what it was lent
 pub source-called : (p q : Pipe) (n : ℕ) (held rest : List SourceAct) → q ≡ lending q.lent (record p { source = held }) → n ≡ min (length q.lent) (length (bytes_of p.source))
     → take n q.lent ≡ take n (bytes_of p.source) → rest ≡ left_of_source n p.source → record q { source = rest } ≡ source_called (lending q.lent p)
 source-called p q n held rest is count front left =

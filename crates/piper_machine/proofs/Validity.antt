@@ -1,4 +1,4 @@
--- What a side that runs alone stands on, and that its steps keep it.
+-- What a side that runs alone depends on, and that its steps keep it.
 use Rattle.std.proofs.Common.{◌≡◌, ℕ, ◌+◌, ◌-◌, ◌<◌, ◌≤◌, List, [], ◌∷◌, take, length, Bool, true, false, Option, None, Some, ◌==◌, refl, arith, length-append, length-drop, length-take}
 use Rattle.piper_protocol.specs.declared.calls.Side.TheVariants.{Reader, Writer}
 use Rattle.piper_protocol.specs.declared.calls.SideState.{SideState}

@@ -47,7 +47,7 @@ write_errand (on.WakeReader next) c = wakes c.taken
 write_errand point c = away
 
 -- of a side with this wait and slot, that holds what it took from its own slot: its waker was
--- called; or stands in the slot while all is calm; or stands there and the other side takes it
+-- called; or is registered in the slot while all is calm; or is there and the other side takes it
 -- next; or is in the other side's hand; or in its own
 pub data Watched (w : Wait) (slot held : Option ℕ) (calm : Type 0) (e : Errand) : Type 0 where
   woken : w.is_woken ≡ true → Watched w slot held calm e
@@ -65,7 +65,7 @@ pub record Same (p q : Pipe) : Type 0 where
 pub same : (p q : Pipe) → q.unread ≡ p.unread → q.capacity ≡ p.capacity → q.is_closed ≡ p.is_closed → Same p q
 same p q unread capacity closed = record { unread = unread; capacity = capacity; closed = closed }
 
--- a wait, behind the call of a waker if there is one
+-- a wait, after the call of a waker if there is one
 abbrev pub hears : Option ℕ → Wait → Wait
 hears None w = w
 hears (Some waker) w = called waker w
@@ -171,7 +171,7 @@ HasBegun purpose.Poll context w = IsHanded context w
 HasBegun (purpose.Copy Try) context w = ⊤
 HasBegun (purpose.Copy (Polling is_drawn)) context w = IsHanded context w
 
--- behind its registration a look that can answer pending is watched over
+-- after its registration a look that can return pending is watched over
 abbrev pub Awaits : Purpose → Wait → Option ℕ → Type 0 → Errand → Type 0
 Awaits purpose.Poll w slot calm e = Watched w slot None calm e
 Awaits (purpose.Copy Try) w slot calm e = ⊤
@@ -210,7 +210,7 @@ awaits purpose.Poll w slot calm e h = h
 awaits (purpose.Copy Try) w slot calm e h = tt
 awaits (purpose.Copy (Polling is_drawn)) w slot calm e h = h
 
--- want of memory tells nobody to wait
+-- want of memory makes nobody wait
 pub refused-noted : (l : Purpose) (w : Wait) → noted (look_answer l Memory) w ≡ w
 refused-noted purpose.Poll w = refl
 refused-noted (purpose.Copy Try) w = refl
@@ -237,7 +237,7 @@ answer-passes : (side acting : Side) (w : Wait) (answer : Option Answer) → is_
 answer-passes side acting w None apart = refl
 answer-passes side acting w (Some answer) apart = passed_by side acting (noted answer w) w apart
 
--- an answer behind what the other side's step logs
+-- an answer after what the other side's step logs
 pub answered-passes : (side acting : Side) (w v : Wait) (es : List Event) (answer : Option Answer) → is_same side acting ≡ false → wait_from side w es ≡ v → wait_from side w (es ++ answer_event acting answer) ≡ v
 answered-passes side acting w v es answer apart e = wait-append side w es (answer_event acting answer) ∙ answer-passes side acting _ answer apart ∙ e
 
@@ -270,7 +270,7 @@ pub yield-heard : (side : Side) (w : Wait) (context : Option Context) → wait_f
 yield-heard side w None = refl
 yield-heard side w (Some cx) = woken_if-heard side w cx.luck.yield_granted cx.waker
 
--- a query is told a count or a flag, and no wait
+-- a query returns a count or a flag, and does not wait
 pub query-noted : (query : Query) (capacity count : ℕ) (w : Wait) → noted (query_answer query capacity count) w ≡ w
 query-noted query capacity count w = query-holds (λ (answer : Answer). noted answer w ≡ w) query capacity count refl (λ is. refl)
 

@@ -1,4 +1,4 @@
--- What remains of a call right behind its opening is the call run whole.
+-- What remains of a call right after its opening is the call run whole.
 use Rattle.std.proofs.Common.{◌≡◌, ℕ, ◌+◌, ◌-◌, min, nat_lt, List, [], ◌∷◌, length, take, Bool, true, false, None, Some, ◌==◌, Result, Ok, refl, sym, ap, ◌∙◌, arith, append-nil}
 use Rattle.piper_protocol.specs.declared.calls.Side.TheVariants.{Reader, Writer}
 use Rattle.piper_protocol.specs.declared.polling.Context.{Context}

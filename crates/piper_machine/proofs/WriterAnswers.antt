@@ -1,5 +1,5 @@
--- What is told of the writer's open call where the writer stands, and that its steps keep it and
--- answer what is right.
+-- What the log says of the writer's open call at each point, and that its steps keep this and give
+-- right answers.
 use Rattle.std.specs.Prelude.{IsSomeAnd}
 use Rattle.std.proofs.Common.{◌≡◌, ℕ, ◌+◌, ◌-◌, ◌≤◌, min, List, [], ◌∷◌, ◌++◌, take, drop, length, Bool, true, false, Option, None, Some, ◌==◌, is_some, refl, sym, ap, subst, ◌∙◌, arith, append_assoc, append-nil, length-append, length-take-le, take-append-drop, take_all}
 use Rattle.std.proofs.lemmas.List.{take-append-le}
@@ -43,7 +43,7 @@ use Rattle.piper_machine.specs.Answered.{AreRightFrom}
 use Rattle.piper_machine.proofs.Acts.{bytes_given-cons, ends_in_failure-cons, given-unspent, failure-unspent}
 use Rattle.piper_machine.proofs.Showing.{noted-append, right-append, registers-leaves, wake-leaves, yield-leaves, answers, Polls, poll-answers, none_moved}
 
--- a fill of this form that was handed these bytes, and whether its source fails behind them
+-- a fill of this form that was handed these bytes, and whether its source fails after them
 abbrev pub IsFill : Form → Call → List ℕ → Bool → Type 0
 IsFill Try (call.TryFill bytes) handed fails = (handed ≡ bytes) × (fails ≡ false)
 IsFill (Polling is_drawn) (call.PollFillBytes waker luck bytes) handed fails = (handed ≡ bytes) × (fails ≡ false)
@@ -104,7 +104,7 @@ WriterAt capacity (at.StoreClosed next) held lent t = WriterCloses next t
 WriterAt capacity at.TakeWriter held lent t = t.call ≡ Some call.Close
 WriterAt capacity at.WakeWriter held lent t = t.call ≡ Some call.Close
 
--- a step that leads there answers what is right, or goes on where this is told
+-- a step that leads there gives a right answer, or goes on where this holds
 abbrev Leads : ℕ → List SourceAct → (Option Answer → List ℕ) → Next WritePoint → Noted → Type 0
 Leads capacity held lent_then next t = AreRightFrom capacity Writer t (answer_event Writer next.answer) × WriterAt capacity next.point (source_after next.answer held) (lent_then next.answer) (noted_from Writer t (answer_event Writer next.answer))
 
@@ -249,7 +249,7 @@ module _ (capacity : ℕ) where
         (answers capacity t Writer given.fill _ given.is (fill-counts form given.fill t.moved (take n (lent_then None)) (bytes_given held) (ends_in_failure held) sum t.looks given.fills given.count (λ is_open. absurd (cc)) given.found), tt)
     rounds-leads false n form sum looks is given = (tt, given)
 
-  -- what is told of a look does not depend on what it found, but for the first one
+  -- what the log says of a look does not depend on what it found, but for the first one
   looked : (l : Purpose) (held : List SourceAct) (t : Noted) (look : Seen) → WriterLooks found_open l held t → WriterLooks found_open l held (record t { looks = look ∷ t.looks })
   looked purpose.Poll held t look looks = record { poll = looks.poll; is = looks.is; polls = looks.polls }
   looked (purpose.Copy form) held t look looks = record { fill = looks.fill; is = looks.is; fills = looks.fills; count = looks.count; found = first-stays t.looks look (seen.Closed false) looks.found }

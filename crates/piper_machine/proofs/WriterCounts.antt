@@ -60,7 +60,7 @@ write_least found (at.LookHeadAgain l) = 0
 write_least found (at.LookClosedAgain l) = 0
 write_least found point = found
 
--- what the writer's point tells of what it knows
+-- what the writer's point reports of what it knows
 abbrev pub WriterSees : WritePoint → ℕ → Knowledge → Type 0
 WriterSees (at.QueryHead query) room k = (k.is_query ≡ true)
 WriterSees (at.LookClosed l) room k = (k.is_query ≡ false) × (room ≤ k.found)

@@ -29,8 +29,8 @@ use Rattle.piper_machine.specs.Waiting.{IsBlocked}
 use Rattle.piper_machine.specs.Wait.{Wait, wait_from}
 use Rattle.piper_machine.proofs.Watching.{Errand, wakes, write_errand, Watched, woken, calmly, taking, waking, holding, Same, same, Touch, rests, stores, finds, misses, calls, hears, hears-more, hears-it, hears-handed, rewatch, touched, touched-pending, IsHanded, HasBegun, Awaits, handed-touched, begun-touched, awaits-touched, awaits-more, has_begun, awaits, refused-noted, counted-noted, yielded, yield-heard, answered-passes, registration-passes, wake-heard, context_of, query-noted}
 
--- what holds of the pipe while the waker stands in the slot: nothing any more once the writer
--- itself has closed; behind its own take it does not stand there, and a close that wakes the reader
+-- what holds of the pipe while the waker is registered in the slot: nothing any more once the
+-- writer itself has closed; after its own take it is not there, and a close that wakes the reader
 -- alone does not occur
 abbrev pub write_calm : WritePoint → Pipe → Type 0
 write_calm at.Dropped p = ⊤
@@ -49,7 +49,7 @@ abbrev pub write_held : WritePoint → Option ℕ → Option ℕ
 write_held at.WakeWriter taken = taken
 write_held point taken = None
 
--- inside a look: handed over, and behind the registration watched over
+-- inside a look: handed over, and after the registration watched over
 abbrev pub WriteLook : WritePoint → Pipe → Errand → Wait → Type 0
 WriteLook (at.LookClosed l) p e w = HasBegun l p.writer_call.context w
 WriteLook (at.LookHead l) p e w = HasBegun l p.writer_call.context w
@@ -113,7 +113,7 @@ Goes p e w = WriteWaits p e w → let to = went Writer p in WriteWaits to.pipe e
 queried : (query : Query) (count : ℕ) (p : Pipe) (e : Errand) (w : Wait) → Goes (record p { writer = at.QueryTail query count }) e w
 queried query count p e w h = rw (query-noted query p.capacity count w) (record { waiting = h.waiting; look = tt })
 
--- a call that goes on, or has answered, with this left of its source and of what is lent
+-- a call that goes on, or has returned, with this left of its source and of what is lent
 abbrev IsValid : Next WritePoint → List SourceAct → List ℕ → Pipe → Errand → Wait → Type 0
 IsValid next source lent p e w =
     WriteWaits (record p { writer = next.point; writer_call = call_after next.answer p.writer_call; source = source; lent = lent }) e (wait_from Writer w (answer_event Writer next.answer))
@@ -173,7 +173,7 @@ takes-own-room (purpose.Copy Try) p e w h = record { waiting = λ pending. absur
 takes-own-room (purpose.Copy (Polling true)) p e w h = record { waiting = λ pending. absurd (let never = h.look.0 in cc); look = h.look }
 takes-own-room (purpose.Copy (Polling false)) p e w h = record { waiting = λ pending. absurd (let never = h.look.0 in cc); look = tt }
 
--- a yield: the call answers pending, and its waker was called
+-- a yield: the call returns pending, and its waker was called
 yields : (granted : Bool) (waker draw : ℕ) (registers : Bool) (taken : Option ℕ) (p : Pipe) (e : Errand) (w : Wait)
     → Goes (record p { writer = at.Yield; writer_call = record { context = Some (record { waker = waker; luck = record { draw = draw; register_granted = registers; yield_granted = granted } }); taken = taken } }) e w
 yields true waker draw registers taken p e w h = record { waiting = λ pending. woken (hears-it (Some waker) w (ap (λ (n : ℕ). Some n) (sym h.look.1))); look = tt }
@@ -183,7 +183,7 @@ yields-if : (context : Option Context) (taken : Option ℕ) (p : Pipe) (e : Erra
 yields-if None taken p e w h = record { waiting = h.waiting; look = tt }
 yields-if (Some cx) taken p e w h = yields cx.luck.yield_granted cx.waker cx.luck.draw cx.luck.register_granted taken p e w h
 
--- a round: it goes on, or the call answers a count or a failure
+-- a round: it goes on, or the call returns a count or a failure
 moves-on : (none : Bool) (n : ℕ) (form : Form) (sum : ℕ) (source : List SourceAct) (lent : List ℕ) (p : Pipe) (e : Errand) (w : Wait) → WriteWaits (record p { writer = at.CallSource form sum }) e w → IsValid (writer_moved none n form sum) source lent p e w
 moves-on true n form sum source lent p e w h = rw (counted-noted form sum w) (record { waiting = h.waiting; look = tt })
 moves-on false n form sum source lent p e w h = record { waiting = h.waiting; look = tt }
@@ -237,7 +237,7 @@ closes (after_read.Round form sum) p e w h = record { waiting = λ pending. rewa
 closes after_read.Drop p e w h = record { waiting = λ pending. rewatch _ _ refl refl refl (λ a. a) (λ c. tt) (h.waiting pending); look = tt }
 closes after_read.WakeWriter p e w h = record { waiting = λ pending. rewatch _ _ refl refl refl (λ a. a) (λ c. tt) (h.waiting pending); look = tt }
 
--- behind a close the writer empties its own slot: what stood there it holds
+-- after a close the writer empties its own slot: what was there it holds
 empties : {w : Wait} {e : Errand} (slot : Option ℕ) (calm : Type 0) → Watched w slot None calm e → Watched w None slot ⊥ e
 empties slot calm (woken h) = woken h
 empties slot calm (calmly h c) = holding h

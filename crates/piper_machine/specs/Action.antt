@@ -52,7 +52,7 @@ abbrev pub registered_in : Option Context → Option ℕ → Option ℕ
 registered_in None slot = slot
 registered_in (Some cx) slot = registered_if cx.luck.register_granted cx.waker slot
 
--- a slot is emptied, and the call holds what stood there
+-- a slot is emptied, and the call holds what was there
 abbrev pub taken_by : Side → Side → Pipe → Pipe
 taken_by side slot p =
     with_call side (record (call_of side p) { taken = waker_in slot p }) (with_waker_in slot None p)
@@ -68,7 +68,7 @@ round_count p = min (peeked_count p) MOST_A_ROUND
 abbrev pub destination_called : Pipe → Pipe
 destination_called p = record p { destination = left_of_destination (round_count p) p.destination }
 
--- what the source gives stands at the front of what it was lent
+-- what the source gives is at the front of what it was lent
 abbrev pub source_called : Pipe → Pipe
 source_called p = let n = moved_by (given (length p.lent) p.source) in
     record p {

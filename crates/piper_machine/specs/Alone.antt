@@ -1,5 +1,5 @@
--- What remains of a call from any point inside it,
--- if the other side makes no step until it answers.
+-- What remains of a call from any point inside it, if the other side makes no step until it
+-- returns.
 use Rattle.std.specs.Prelude.{ℕ, ◌+◌, ◌-◌, ◌*◌, min, [], length, Bool, true, false, Option, None, Some, ◌==◌, Result, Ok}
 use Rattle.piper_protocol.specs.declared.calls.Side.{Side}
 use Rattle.piper_protocol.specs.declared.calls.Side.TheVariants.{Reader, Writer}
@@ -62,7 +62,7 @@ moved_answer form copied = Copy copied
 
 -- the reader
 
--- a call that has answered holds nothing
+-- a call that has returned holds nothing
 abbrev pub reader_left : ReadPoint → Pipe → Pipe
 reader_left point p = record p { reader = point; reader_call = no_call; destination = Slice 0 }
 

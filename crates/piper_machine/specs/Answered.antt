@@ -12,12 +12,12 @@ use Rattle.piper_protocol.specs.Call.{kind_of, waker_of}
 use Rattle.piper_machine.specs.Noted.{Noted, unnoted, calls_of, noted_after}
 use Rattle.piper_machine.specs.Outcome.{MayHaveMoved, IsAnswer}
 
--- the log tells the call that comes next in the list of steps
+-- the log reports the call that comes next in the list of steps
 abbrev pub IsNext : List Call → Kind → Option ℕ → Type 0
 IsNext [] kind waker = ⊥
 IsNext (c ∷ cs) kind waker = (kind ≡ kind_of c) × (waker ≡ waker_of c)
 
--- what a side does next is right behind what was told of it
+-- what a side does next is right by what the log says of it
 abbrev pub IsRight : ℕ → Side → Noted → Event → Type 0
 IsRight capacity Reader t (Began Reader kind waker) = IsNext t.coming kind waker
 IsRight capacity Writer t (Began Writer kind waker) = IsNext t.coming kind waker

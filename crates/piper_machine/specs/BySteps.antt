@@ -42,7 +42,7 @@ unfailing (Ready n) = Ready (Ok n)
 unfailing Pending = Pending
 unfailing Memory = Memory
 
--- the count that such a copy answers
+-- the count that such a copy returns
 abbrev pub without_failure : Polled (Result ℕ Failed) → Polled ℕ
 without_failure (Ready (Ok n)) = Ready n
 without_failure (Ready (Err fails)) = Ready 0
@@ -66,8 +66,8 @@ abbrev pub dropped_whole : Side → Pipe → Ended
 dropped_whole Reader p = answering Done (drop_reader (begun p))
 dropped_whole Writer p = answering Done (drop_writer (begun p))
 
--- what a call answers and leaves that is run whole,
--- with these bytes in what a call of write_buf lends
+-- what a call returns and leaves that is run whole, with these bytes in what a call of write_buf
+-- lends
 abbrev pub whole : List ℕ → Call → Pipe → Ended
 whole lent (call.Query side query) p =
     answering (query_answer query p.capacity (unread_count p)) (begun p)
@@ -98,7 +98,7 @@ abbrev pub names_of : List Event → List ℕ
 names_of [] = []
 names_of (e ∷ es) = named_by e ++ names_of es
 
--- the log tells the answer last, and before it the wakers that the whole call keeps the names of
+-- the log reports the answer last, and before it the wakers that the whole call keeps the names of
 pub record IsMadeWhole (side : Side) (p : Pipe) (before : List Event) (q : Pipe)
     (after : List Event) (run_whole : Ended) : Type 0 where
   pub log : List Event
@@ -106,8 +106,8 @@ pub record IsMadeWhole (side : Side) (p : Pipe) (before : List Event) (q : Pipe)
   pub woken : names_of log ≡ run_whole.pipe.woken
   pub pipe : q ≡ record run_whole.pipe { woken = p.woken }
 
--- what a side knows behind the look of a call that is run alone:
--- what it knew, or else all that there is
+-- what a side knows after the look of a call that is run alone: what it knew, or else all that
+-- there is
 abbrev pub found_alone : Side → Pipe → ℕ
 found_alone Reader p = (reader_refreshed p).known
 found_alone Writer p = (writer_refreshed p).room

@@ -25,5 +25,5 @@ pub record IsConserved (p : Pipe) (events : List Event) : Type 0 where
   pub bytes : consumed_of events ++ p.unread ≡ published_of events
   -- never more than the capacity unread
   pub within : length p.unread ≤ p.capacity
-  -- the first unread byte stands at the place that the count of consumed bytes says
+  -- the first unread byte is at the place that the count of consumed bytes says
   pub start : p.start ≡ length (consumed_of events) % p.capacity

@@ -8,7 +8,7 @@ use Rattle.piper_protocol.specs.declared.polling.Context.{Context}
 use Rattle.piper_machine.specs.Look.{reader_look, writer_look}
 use Rattle.piper_machine.specs.Move.{with_waker}
 
--- what a copying call answers, and the pipe that it leaves
+-- what a copying call returns, and the pipe that it leaves
 pub record Copied (A : Type 0) : Type 0 where
   pub answer : Polled A
   pub pipe : Pipe
@@ -83,7 +83,7 @@ fill_moves bytes p =
 abbrev pub drain_moves : ℕ → Pipe → Copied ℕ
 drain_moves size p = let n = min size p.known in answered (Ready n) (drained n p)
 
--- a fill ends with nothing lent, whatever it answers
+-- a fill ends with nothing lent, whatever it returns
 abbrev pub unlent : Pipe → Pipe
 unlent p = record p { lent = [] }
 

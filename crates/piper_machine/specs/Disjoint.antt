@@ -11,7 +11,7 @@ use Rattle.piper_machine.specs.Places.{HeldByReader, HeldByWriter}
 abbrev pub IsDisjoint : Pipe → Type 0
 IsDisjoint p = (place : ℕ) → HeldByReader p place → HeldByWriter p place → ⊥
 
--- the known bytes stand as they stood, at the same places
+-- the known bytes are as they were, at the same places
 pub record KeepsKnown (old new : Pipe) : Type 0 where
   pub capacity : new.capacity ≡ old.capacity
   pub start : new.start ≡ old.start

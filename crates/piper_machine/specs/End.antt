@@ -1,5 +1,5 @@
--- What a call saw of the close, and where a call of the reader finds the end:
--- it looks at closed and finds it, and behind that it finds no byte.
+-- What a call saw of the close, and where a call of the reader finds the end: it checks closed and
+-- finds it, and after that it finds no byte.
 use Rattle.std.specs.Prelude.{List, [], ◌∷◌, Bool, false}
 use Rattle.piper_protocol.specs.declared.calls.Side.{Side}
 use Rattle.piper_protocol.specs.declared.calls.Side.TheVariants.{Reader, Writer}
@@ -7,7 +7,7 @@ use Rattle.piper_protocol.specs.declared.events.Event.{Event}
 use Rattle.piper_protocol.specs.declared.events.Event.TheVariants.{Began, Looked}
 use Rattle.piper_protocol.specs.declared.events.Seen.TheVariants.{Tail, Closed}
 
--- whether a side's last call looked at closed and found it
+-- whether a side's last call checked closed and found it
 abbrev pub saw_closed_after : Side → Bool → Event → Bool
 saw_closed_after Reader saw (Began Reader kind waker) = false
 saw_closed_after Writer saw (Began Writer kind waker) = false

@@ -1,4 +1,4 @@
--- A told end is final: behind it no byte comes any more.
+-- A reported end is final: after it no byte comes any more.
 use Rattle.std.specs.Prelude.{◌≡◌, ◌⊎◌, List, [], ◌∷◌, ◌++◌, All, true, false, Ok, ⊤}
 use Rattle.piper_protocol.specs.declared.calls.Side.TheVariants.{Reader}
 use Rattle.piper_protocol.specs.declared.events.Event.{Event}
@@ -10,19 +10,19 @@ use Rattle.piper_protocol.specs.declared.polling.Polled.TheVariants.{Ready, Memo
 use Rattle.piper_machine.specs.Pipe.{Pipe}
 use Rattle.piper_machine.specs.End.{saw_closed, found_none}
 
--- a poll tells the reader false
+-- a poll returns false to the reader
 abbrev pub told_end : Event
 told_end = Answered Reader (Poll (Ready false))
 
--- what the reader is answered behind an end: false, no byte, or want of memory
+-- what the reader gets after an end: false, no byte, or want of memory
 abbrev pub IsEndAnswer : Answer → Type 0
 IsEndAnswer (Poll answer) = (answer ≡ Ready false) ⊎ (answer ≡ Memory)
 IsEndAnswer (Copy answer) = (answer ≡ Ready (Ok 0)) ⊎ (answer ≡ Memory)
 IsEndAnswer (Count number) = (number ≡ 0)
 IsEndAnswer answer = ⊤
 
--- behind it no byte is published or consumed,
--- and each look of either side finds a closed pipe and no byte
+-- after it no byte is published or consumed, and each look of either side finds a closed pipe and
+-- no byte
 abbrev pub IsAfterEnd : Event → Type 0
 IsAfterEnd (Published bytes) = (bytes ≡ [])
 IsAfterEnd (Consumed bytes) = (bytes ≡ [])
@@ -40,5 +40,5 @@ pub record IsFinal (p : Pipe) (events : List Event) : Type 0 where
   -- wherever a call of the reader found the end, a poll or a drain
   pub found : (before after : List Event) → events ≡ before ++ found_none ∷ after →
       saw_closed Reader before ≡ true → IsOver p after
-  -- and wherever a poll told it
+  -- and wherever a poll reported it
   pub noted : (before after : List Event) → events ≡ before ++ told_end ∷ after → IsOver p after

@@ -25,7 +25,7 @@ pub record IsLawful (capacity : ℕ) (steps : List Step) (p : Pipe)
   pub called : AreCallsCounted capacity steps p events
   pub remembered : AreRemembered p events
 
--- the moment behind the first i steps, from which the others lead on to this pipe and log
+-- the moment after the first i steps, from which the others lead on to this pipe and log
 pub record Front (capacity : ℕ) (steps : List Step) (i : ℕ) (p : Pipe)
     (events : List Event) : Type 0 where
   pub pipe : Pipe

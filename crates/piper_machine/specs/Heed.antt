@@ -1,5 +1,5 @@
--- A close that is seen is heeded: a call of the writer that
--- looked at closed and found it publishes nothing behind that.
+-- A close that is seen is heeded: a call of the writer that checked closed and found it publishes
+-- nothing after that.
 use Rattle.std.specs.Prelude.{◌≡◌, ℕ, List, ◌∷◌, ◌++◌, false}
 use Rattle.piper_protocol.specs.declared.calls.Side.TheVariants.{Writer}
 use Rattle.piper_protocol.specs.declared.events.Event.{Event}

@@ -9,11 +9,11 @@ use Rattle.piper_protocol.specs.declared.events.Seen.TheVariants.{Tail}
 pub record Look : Type 0 where
   -- how many unread bytes it found
   pub count : ℕ
-  -- an event Closed stands before it
+  -- an event Closed comes before it
   pub is_after_close : Bool
 
 pub record History : Type 0 where
-  -- an event Closed stands in the log
+  -- an event Closed is in the log
   pub is_closed : Bool
   -- the last look of the reader's last call
   pub last_look : Option Look

@@ -1,4 +1,4 @@
--- The honest end: a poll tells the reader false only of a closed pipe with nothing unread.
+-- The honest end: a poll returns false to the reader only of a closed pipe with nothing unread.
 use Rattle.std.specs.Prelude.{◌≡◌, List, [], ◌∷◌, true, false, Some, ⊤}
 use Rattle.piper_protocol.specs.declared.calls.Side.TheVariants.{Reader}
 use Rattle.piper_protocol.specs.declared.events.Event.{Event}

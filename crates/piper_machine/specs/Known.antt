@@ -1,5 +1,5 @@
--- What a side knows of the other, as its own events tell:
--- the reader how many bytes are unread, the writer how much room there is.
+-- What a side knows of the other, as its own events show: the reader how many bytes are unread, the
+-- writer how much room there is.
 use Rattle.std.specs.Prelude.{◌≡◌, ℕ, ◌-◌, ◌≤◌, List, [], ◌∷◌, length, Bool, true, false}
 use Rattle.piper_protocol.specs.declared.calls.Side.{Side}
 use Rattle.piper_protocol.specs.declared.calls.Side.TheVariants.{Reader, Writer}
@@ -64,7 +64,7 @@ abbrev pub knowledge_of : ℕ → Side → List Event → Knowledge
 knowledge_of capacity side events =
     knowledge_from capacity side (knowledge_first capacity side) events
 
--- the log tells what each side knows, and no look finds more than the capacity
+-- the log reports what each side knows, and no look finds more than the capacity
 pub record IsKnown (p : Pipe) (events : List Event) : Type 0 where
   pub reader : (knowledge_of p.capacity Reader events).known ≡ p.known
   pub writer : (knowledge_of p.capacity Writer events).known ≡ p.room

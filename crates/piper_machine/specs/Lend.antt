@@ -16,6 +16,6 @@ pub record Lendable (most : ℕ) (p : Pipe) (count : ℕ) : Type 0 where
   pub some : p.is_shut ≡ false → 1 ≤ most → 1 ≤ p.room → 1 ≤ count
   pub shut : p.is_shut ≡ true → count ≡ 0
 
--- these bytes stand in what is lent
+-- these bytes are in what is lent
 abbrev pub lending : List ℕ → Pipe → Pipe
 lending bytes p = record p { lent = bytes }

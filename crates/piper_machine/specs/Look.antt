@@ -63,7 +63,7 @@ abbrev pub writer_looks : Bool → Option Context → Pipe → Look
 writer_looks true cx p = writer_waits cx p
 writer_looks false cx p = writer_finds cx p
 
--- a closed pipe is the end before anything else is looked at
+-- a closed pipe is the end before anything else is checked
 abbrev pub writer_looks_if_closed : Bool → Option Context → Pipe → Look
 writer_looks_if_closed true cx p = looked (Ready false) p
 writer_looks_if_closed false cx p =

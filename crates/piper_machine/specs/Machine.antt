@@ -1,4 +1,4 @@
--- How the fields of a machine stand for a pipe.
+-- How the fields of a machine represent a pipe.
 use Rattle.std.specs.Prelude.{◌≡◌, ◌≤◌, [], length, take, drop, true}
 use Rattle.piper_protocol.specs.declared.table.ReadPoint.TheVariants as at
 use Rattle.piper_protocol.specs.declared.table.WritePoint.TheVariants as on

@@ -15,7 +15,7 @@ reader_woken p = record p { reader_waker = None; woken = with_waker p.woken p.re
 abbrev pub writer_woken : Pipe → Pipe
 writer_woken p = record p { writer_waker = None; woken = with_waker p.woken p.writer_waker }
 
--- the first n bytes of what is lent, as they stand now, become unread bytes
+-- the first n bytes of what is lent, as they are now, become unread bytes
 abbrev pub published : ℕ → Pipe → Pipe
 published n p =
     record p { unread = p.unread ++ take n p.lent; room = p.room - n; lent = drop n p.lent }

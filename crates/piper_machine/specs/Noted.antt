@@ -1,5 +1,5 @@
--- What the log tells of a side's open call: which call it is,
--- what it looked at, and the bytes that it moved.
+-- What the log reports of a side's open call: which call it is, what it checked, and the bytes that
+-- it moved.
 use Rattle.std.specs.Prelude.{ℕ, List, [], ◌∷◌, ◌++◌, Bool, true, false, Option, None, Some}
 use Rattle.piper_protocol.specs.declared.calls.Side.{Side}
 use Rattle.piper_protocol.specs.declared.calls.Side.TheVariants.{Reader, Writer}
@@ -13,12 +13,12 @@ use Rattle.piper_protocol.specs.Call.{side_of}
 use Rattle.piper_machine.specs.Counts.{is_same}
 
 pub record Noted : Type 0 where
-  -- the calls that the side has still to open, in order:
-  -- the log tells kind and waker of a call, the list of steps its arguments
+  -- the calls that the side has still to open, in order: the log reports kind and waker of a call,
+  -- the list of steps its arguments
   pub coming : List Call
   -- the open call, if there is one
   pub call : Option Call
-  -- what the call opened last looked at, newest first
+  -- what the call opened last checked, newest first
   pub looks : List Seen
   -- the bytes that it consumed, of the reader, or published, of the writer
   pub moved : List ℕ
@@ -33,7 +33,7 @@ calls_of side [] = []
 calls_of side (Begin c ∷ ss) = call_if (is_same side (side_of c)) c (calls_of side ss)
 calls_of side (s ∷ ss) = calls_of side ss
 
--- nothing was told yet
+-- nothing was reported yet
 abbrev pub unnoted : List Call → Noted
 unnoted coming = record { coming = coming; call = None; looks = []; moved = [] }
 
@@ -54,7 +54,7 @@ noted_after Reader t (Answered Reader answer) = record t { call = None }
 noted_after Writer t (Answered Writer answer) = record t { call = None }
 noted_after side t event = t
 
--- over a list of events, from what was told before
+-- over a list of events, from what was reported before
 abbrev pub noted_from : Side → Noted → List Event → Noted
 noted_from side t [] = t
 noted_from side t (e ∷ es) = noted_from side (noted_after side t e) es

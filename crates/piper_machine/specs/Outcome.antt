@@ -1,5 +1,5 @@
--- What a call of each kind may move, and what it may answer:
--- a query by what it looked at, a copy by the bytes that it moved.
+-- What a call of each kind may move, and what it may return: a query by what it checked, a copy by
+-- the bytes that it moved.
 use Rattle.std.specs.Prelude.{◌≡◌, ℕ, ◌+◌, ◌≤◌, List, [], ◌∷◌, ◌++◌, length, Bool, true, false, Option, None, Some, Result, Ok, Err, ⊤}
 use Rattle.piper_protocol.specs.declared.calls.Side.{Side}
 use Rattle.piper_protocol.specs.declared.calls.Side.TheVariants.{Reader, Writer}
@@ -46,8 +46,8 @@ MayHaveMoved (call.PollFill waker luck acts) moved = IsBeginning moved (bytes_gi
 MayHaveMoved (call.Produced n) moved = length moved ≡ n
 MayHaveMoved c moved = ⊥
 
--- A query looks at the head and then at the tail.
--- The reader answers what it found last, the writer what it found first.
+-- A query loads the head and then the tail. The reader returns what it found last, the writer what
+-- it found first.
 abbrev pub number_found : Side → List Seen → Option ℕ
 number_found Reader (Tail number ∷ Head before ∷ []) = Some number
 number_found Writer (Tail later ∷ Head number ∷ []) = Some number
@@ -72,13 +72,13 @@ found_closed [] = false
 found_closed (Closed is_closed ∷ looks) = is_closed
 found_closed (look ∷ looks) = found_closed looks
 
--- the look that was made first: the newest stands in front
+-- the look that was made first: the newest is in front
 abbrev pub first_look : List Seen → Option Seen
 first_look [] = None
 first_look (look ∷ []) = Some look
 first_look (later ∷ look ∷ looks) = first_look (look ∷ looks)
 
--- A fill counts the bytes that it published. Where it found the pipe closed behind a round, it
+-- A fill counts the bytes that it published. Where it found the pipe closed after a round, it
 -- counts what its source gave in that round too; where it found it closed at first, it counts none.
 pub record IsFilled (handed : List ℕ) (looks : List Seen) (moved : List ℕ)
     (count : ℕ) : Type 0 where
@@ -87,7 +87,7 @@ pub record IsFilled (handed : List ℕ) (looks : List Seen) (moved : List ℕ)
   pub at_least : length moved ≤ count
   pub at_most : count ≤ length handed
 
--- a source fails only where its script does, and behind all that it gave
+-- a source fails only where its script does, and after all that it gave
 pub record HasFailed (acts : List SourceAct) (moved : List ℕ) : Type 0 where
   pub fails : ends_in_failure acts ≡ true
   pub published : moved ≡ bytes_given acts

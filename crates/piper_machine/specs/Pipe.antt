@@ -30,7 +30,7 @@ pub record Pipe : Type 0 where
   pub writer_waker : Option ℕ
   -- the wakers called by the last whole call, oldest first
   pub woken : List ℕ
-  -- where each side stands inside its open call, and what that call holds
+  -- where each side is inside its open call, and what that call holds
   pub reader : ReadPoint
   pub reader_call : OpenCall
   pub writer : WritePoint

@@ -1,4 +1,4 @@
--- Where the bytes stand in the buffer, and who holds which place.
+-- Where the bytes are in the buffer, and who holds which place.
 use Rattle.std.specs.Prelude.{◌≡◌, ℕ, ◌+◌, ◌-◌, ◌<◌, min, List, length, take}
 use Rattle.piper_protocol.specs.Index.{place_of}
 use Rattle.piper_machine.specs.Pipe.{Pipe}
@@ -7,7 +7,7 @@ use Rattle.piper_machine.specs.Pipe.{Pipe}
 abbrev pub unread_place : Pipe → ℕ → ℕ
 unread_place p i = place_of p.capacity (p.start + i)
 
--- the place behind the last unread byte, from which on is lent
+-- the place after the last unread byte, from which on is lent
 abbrev pub end_place : Pipe → ℕ
 end_place p = unread_place p (length p.unread)
 
@@ -15,7 +15,7 @@ end_place p = unread_place p (length p.unread)
 abbrev pub places_left : Pipe → ℕ
 places_left p = p.capacity - end_place p
 
--- how many known bytes stand in one piece
+-- how many known bytes are contiguous
 abbrev pub peeked_count : Pipe → ℕ
 peeked_count p = min p.known (p.capacity - p.start)
 
@@ -35,7 +35,7 @@ pub record HeldByWriter (p : Pipe) (place : ℕ) : Type 0 where
   pub is_lent : number < length p.lent
   pub valid : place ≡ end_place p + number
 
--- the slices that a side is shown stand in one piece, at places that it holds
+-- the slices that a side is shown are contiguous, at places that it holds
 abbrev pub IsPeekHeld : Pipe → Type 0
 IsPeekHeld p = (i : ℕ) → i < peeked_count p → HeldByReader p (p.start + i)
 

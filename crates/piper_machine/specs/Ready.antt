@@ -1,5 +1,5 @@
--- A poll that answers true leaves its side something to do:
--- a byte that the reader knows of, or room that the writer knows of.
+-- A poll that returns true leaves its side something to do: a byte that the reader knows of, or
+-- room that the writer knows of.
 use Rattle.std.specs.Prelude.{ℕ, ◌≤◌, List, [], ◌∷◌, true, ⊤}
 use Rattle.piper_protocol.specs.declared.calls.Side.{Side}
 use Rattle.piper_protocol.specs.declared.calls.Side.TheVariants.{Reader, Writer}
@@ -19,7 +19,7 @@ IsReadyFrom capacity side k [] = ⊤
 IsReadyFrom capacity side k (e ∷ es) =
     IsReadyAnswer side k e × IsReadyFrom capacity side (knowledge_after capacity side k e) es
 
--- at each such answer of the log, by what the log tells before it
+-- at each such answer of the log, by what the log reports before it
 abbrev pub IsReady : ℕ → List Event → Type 0
 IsReady capacity events =
     (side : Side) → IsReadyFrom capacity side (knowledge_first capacity side) events

@@ -1,4 +1,4 @@
--- A side looks at the other's index only where it knows nothing: no byte to read, or no room.
+-- A side checks the other's index only where it knows nothing: no byte to read, or no room.
 use Rattle.std.specs.Prelude.{◌-◌, length, if◌then◌else◌, ◌==◌}
 use Rattle.piper_machine.specs.Pipe.{Pipe}
 

@@ -1,5 +1,5 @@
--- Why a step is refused. Where several reasons hold,
--- the first in the order of the lines is answered; want of memory comes last.
+-- Why a step is refused. Where several reasons hold, the first in the order of the lines is
+-- returned; want of memory comes last.
 use Rattle.std.specs.Prelude.{◌≡◌, length, Bool, true, false, Option, None, Some, nat_le, nat_lt}
 use Rattle.piper_protocol.specs.declared.calls.Side.{Side}
 use Rattle.piper_protocol.specs.declared.calls.Side.TheVariants.{Reader, Writer}

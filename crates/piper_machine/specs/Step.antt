@@ -39,13 +39,13 @@ use Rattle.piper_protocol.specs.declared.table.Found.{Found}
 use Rattle.piper_protocol.specs.Table.{read_action, read_after, reader_looks_for, write_action, write_after, ends_fill}
 use Rattle.piper_machine.specs.Action.{performed, found_by, logged_of}
 
--- the pipe after a step, what the call answers if it was its last, and what is logged
+-- the pipe after a step, what the call returns if it was its last, and what is logged
 pub record Stepped : Type 0 where
   pub pipe : Pipe
   pub answer : Option Answer
   pub events : List Event
 
--- a call that has answered holds nothing
+-- a call that has returned holds nothing
 abbrev pub call_after : Option Answer → OpenCall → OpenCall
 call_after None c = c
 call_after (Some answer) c = no_call
@@ -58,7 +58,7 @@ abbrev pub destination_after : Option Answer → Destination → Destination
 destination_after None destination = destination
 destination_after (Some answer) destination = Slice 0
 
--- a fill that has answered leaves nothing lent
+-- a fill that has returned leaves nothing lent
 abbrev pub filled_out : Bool → Option Answer → List ℕ → List ℕ
 filled_out true (Some answer) lent = []
 filled_out fills answer lent = lent
@@ -204,7 +204,7 @@ opened lent (call.Produced n) p = record p { writer = on.StoreTail n after_write
 opened lent call.Close p = record p { writer = on.StoreClosed after_write.WakeWriter }
 opened lent (call.Drop side) p = drop_opened side p
 
--- a call without a step answers as it is opened
+-- a call without a step returns as it is opened
 abbrev pub answer_at_once : List ℕ → Call → Option Answer
 answer_at_once lent (call.WriteBuf most) = Some (Lent (length lent))
 answer_at_once lent c = None

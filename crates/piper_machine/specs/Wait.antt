@@ -1,5 +1,5 @@
--- What a log tells of a side's last polling call: which waker it was handed,
--- whether that was called since, and whether the side was told to wait.
+-- What a log reports of a side's last polling call: which waker it was handed, whether that was
+-- called since, and whether the side was left pending.
 use Rattle.std.specs.Prelude.{ℕ, List, [], ◌∷◌, Bool, true, false, Option, None, Some, if◌then◌else◌, ◌==◌}
 use Rattle.piper_protocol.specs.declared.calls.Side.{Side}
 use Rattle.piper_protocol.specs.declared.events.Answer.{Answer}
@@ -14,7 +14,7 @@ pub record Wait : Type 0 where
   pub handed : ℕ
   -- it was called since the call registered it, or, where the call did not, since the call began
   pub is_woken : Bool
-  -- the call answered pending
+  -- the call returned pending
   pub is_pending : Bool
 
 -- no polling call was made yet

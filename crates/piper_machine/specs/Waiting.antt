@@ -23,7 +23,7 @@ is_waking_reader (on.TakeReader next) = true
 is_waking_reader (on.WakeReader next) = true
 is_waking_reader point = false
 
--- for this side, the other stands between a store and the end of the wake that belongs to it
+-- for this side, the other is between a store and the end of the wake that belongs to it
 abbrev pub is_between : Side → Pipe → Bool
 is_between Reader p = is_waking_reader p.writer
 is_between Writer p = is_waking_writer p.reader

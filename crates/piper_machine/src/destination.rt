@@ -31,7 +31,7 @@ pub enum Destination {
     Acts(Acts),
 }
 
-/// What the act in front takes, or that it fails, and the acts behind it.
+/// What the act in front takes, or that it fails, and the acts after it.
 pub fn next<'a>(acts: &'a [DestAct], most: usize) -> (Result<usize, Failed>, &'a [DestAct])
     ensures taken { result.0 ≡ taken_by_acts most acts.now }
     ensures rest { result.1.now ≡ left_of_acts acts.now }

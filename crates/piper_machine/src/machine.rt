@@ -135,8 +135,7 @@ impl Machine {
         index::distance(self.read.capacity(), self.read.head(), self.write.tail())
     }
 
-    /// The known bytes that stand in one piece, oldest first: from the first unread byte's place
-    /// on.
+    /// The known bytes that are contiguous, oldest first: from the first unread byte's place on.
     pub fn r_peek(&self) -> &[u8]
         ensures bytes { result.now ≡ peeked self.now }
         ensures count { length result.now ≡ peeked_count self.now }
@@ -149,7 +148,7 @@ impl Machine {
         &self.bytes[place..place + self.read.peekable()]
     }
 
-    // How many known bytes stand in one piece.
+    // How many known bytes are contiguous.
     fn peekable(&self) -> usize
         ensures { result ≡ peeked_count self.now }
     {
@@ -163,7 +162,7 @@ impl Machine {
         self.write.lent()
     }
 
-    /// Lends free places in place of what was lent before, and answers how many.
+    /// Lends free places in place of what was lent before, and returns how many.
     fn lend(&mut self, most: usize) -> usize
         requires { tail_store self.old.writer ≡ 0 }
         ensures bounds { Lendable most self.old result }
@@ -195,8 +194,8 @@ impl Machine {
         count
     }
 
-    /// The unread bytes in the two pieces in which they stand: up to the end of the buffer, and
-    /// from its beginning.
+    /// The unread bytes in the two pieces in which they are: up to the end of the buffer, and from
+    /// its beginning.
     fn pieces(&self) -> (&[u8], &[u8])
         ensures { result.0.now ++ result.1.now ≡ self.now.unread }
     {
@@ -206,7 +205,7 @@ impl Machine {
         (&self.bytes[head..head + first], &self.bytes[..len - first])
     }
 
-    /// What is left of the slice last lent: it stands behind the last unread byte, in one piece.
+    /// What is left of the slice last lent: it follows the last unread byte, in one piece.
     pub fn w_lent(&self) -> &[u8]
         ensures bytes { result.now ≡ self.now.lent }
         ensures held { IsLentHeld self.now }

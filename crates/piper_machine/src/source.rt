@@ -29,8 +29,8 @@ impl Model for Source {
     ghost invariant = { λ source. IsSource source.given source.spent source.script };
 }
 
-/// What a source gives next that has these bytes left of an act, and these acts behind it: the
-/// bytes or those of the next act, the acts behind them, and whether it fails in their place.
+/// What a source gives next that has these bytes left of an act, and these acts after it: the bytes
+/// or those of the next act, the acts after them, and whether it fails in their place.
 pub fn next<'a>(bytes: &'a [u8], acts: &'a [SourceAct]) -> (&'a [u8], &'a [SourceAct], bool)
     ensures front { result.0.now ≡ bytes_of (unspent bytes.now acts.now) }
     ensures rest { (n : ℕ) → unspent (drop n result.0.now) result.1.now

@@ -1,4 +1,4 @@
--- A call that has just answered so: the answer is what the log tells last.
+-- A call that has just answered so: the answer is what the log reports last.
 use Rattle.std.specs.Prelude.{◌≡◌, List, [], ◌∷◌, ◌++◌}
 use Rattle.piper_protocol.specs.declared.calls.Side.TheVariants.{Reader}
 use Rattle.piper_protocol.specs.declared.events.Answer.{Answer}

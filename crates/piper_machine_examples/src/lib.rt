@@ -81,7 +81,7 @@ pub fn made_by_the_laws(
 }
 
 /// Counts the unread bytes; and whoever makes this call by steps, while the writer makes none, is
-/// told the same number last.
+/// was told the same number last.
 pub fn len_alone(machine: &mut Machine) -> usize
     requires { machine.old.reader ≡ ReadPoint.Idle }
     ensures value { result ≡ unread_count machine.old }

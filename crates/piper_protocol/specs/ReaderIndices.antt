@@ -13,7 +13,7 @@ pub record ReaderIndices : Type 0 where
 abbrev pub known_in : ReaderIndices → ℕ
 known_in r = distance r.capacity r.head r.tail
 
--- those of them that stand in one piece
+-- those of them that are contiguous
 abbrev pub peekable_in : ReaderIndices → ℕ
 peekable_in r = min (known_in r) (r.capacity - place_of r.capacity r.head)
 

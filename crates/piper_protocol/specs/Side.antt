@@ -37,7 +37,7 @@ pub record Writing : Type 0 where
 abbrev pub known_of : Reading → ℕ
 known_of r = distance r.capacity r.head r.tail
 
--- those of them that stand in one piece
+-- those of them that are contiguous
 abbrev pub peekable_of : Reading → ℕ
 peekable_of r = min (known_of r) (r.capacity - place_of r.capacity r.head)
 

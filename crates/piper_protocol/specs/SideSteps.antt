@@ -1,4 +1,4 @@
--- What a step leaves of a side, by what it found, and what the call answers with it.
+-- What a step leaves of a side, by what it found, and what the call returns with it.
 use Rattle.std.specs.Prelude.{ℕ, ◌-◌, ◌==◌, Option}
 use Rattle.piper_protocol.specs.declared.events.Answer.{Answer}
 use Rattle.piper_protocol.specs.declared.table.ReadPoint.{ReadPoint}
@@ -30,7 +30,7 @@ writing_of w point = record {
 abbrev pub reading_after : Found → Reading → Reading
 reading_after found r = record r { point = (read_after r.capacity r.point found).point }
 
--- what its call answers, if this was the last step
+-- what its call returns, if this was the last step
 abbrev pub reading_answer : Found → Reading → Option Answer
 reading_answer found r = (read_after r.capacity r.point found).answer
 

@@ -25,7 +25,7 @@ use Rattle.piper_protocol.specs.declared.table.ReadPoint.TheVariants as at
 use Rattle.piper_protocol.specs.declared.table.WritePoint.{WritePoint}
 use Rattle.piper_protocol.specs.declared.table.WritePoint.TheVariants as on
 
--- where a step leads, and what the call answers if that was its last step
+-- where a step leads, and what the call returns if that was its last step
 pub record Next (P : Type 0) : Type 0 where
   pub point : P
   pub answer : Option Answer
@@ -56,7 +56,7 @@ abbrev pub end_or_pending : Bool → Polled Bool
 end_or_pending true = Ready false
 end_or_pending false = Pending
 
--- what a copying call answers: one without a context a count, 0 where it would wait
+-- what a copying call returns: one without a context a count, 0 where it would wait
 abbrev pub count_answer : Form → ℕ → Answer
 count_answer Try count = Count count
 count_answer (Polling is_drawn) count = Copy (Ready (Ok count))
@@ -79,7 +79,7 @@ abbrev pub copy_answer : Form → Polled Bool → Answer
 copy_answer Try answer = Count 0
 copy_answer (Polling is_drawn) answer = Copy (none_moved answer)
 
--- what the call answers where its look is not true
+-- what the call returns where its look is not true
 abbrev pub look_answer : Purpose → Polled Bool → Answer
 look_answer purpose.Poll answer = Poll answer
 look_answer (purpose.Copy form) answer = copy_answer form answer
@@ -157,8 +157,8 @@ abbrev pub writer_taken : AfterRead → Bool → Next ReadPoint
 writer_taken next false = read_done next
 writer_taken next true = goes_on (at.WakeWriter next)
 
--- where the reader comes to from a point, by what its step found, whatever the capacity;
--- a query's last load, which compares with the capacity, stands in read_after
+-- where the reader comes to from a point, by what its step found, whatever the capacity; a query's
+-- last load, which compares with the capacity, is in read_after
 abbrev pub read_step : ReadPoint → Found → Next ReadPoint
 read_step (at.QueryHead query) found = goes_on (at.QueryTail query)
 read_step at.QueryClosed (flag is_closed) = ends at.Idle (Flag is_closed)
@@ -176,7 +176,7 @@ read_step (at.WakeWriter next) found = read_done next
 read_step at.StoreClosed found = goes_on (at.TakeWriter after_read.Drop)
 read_step point found = goes_on point
 
--- whether a copy draws behind the step that comes next
+-- whether a copy draws after the step that comes next
 abbrev pub reader_draws_after : ReadPoint → Bool
 reader_draws_after (at.LookTake (purpose.Copy form)) = true
 reader_draws_after point = false
@@ -276,9 +276,9 @@ abbrev pub own_taken : Bool → Next WritePoint
 own_taken false = ends on.Idle Done
 own_taken true = goes_on on.WakeWriter
 
--- where the writer comes to from a point, by what its step found, whatever the capacity
--- and the known room; a query's last load, which compares with the capacity, and the load
--- of closed that a look begins with, which goes on by the known room, stand in write_after
+-- where the writer comes to from a point, by what its step found, whatever the capacity and the
+-- known room; a query's last load, which compares with the capacity, and the load of closed that a
+-- look begins with, which goes on by the known room, are in write_after
 abbrev pub write_step : WritePoint → Found → Next WritePoint
 write_step (on.QueryHead query) (unread count) = goes_on (on.QueryTail query count)
 write_step on.QueryClosed (flag is_closed) = ends on.Idle (Flag is_closed)
@@ -305,13 +305,13 @@ abbrev pub begins_look : WritePoint → Bool
 begins_look (on.LookClosed l) = true
 begins_look point = false
 
--- where a look goes on behind the load of closed that it begins with:
--- `none` is whether no room is known
+-- where a look goes on after the load of closed that it begins with: `none` is whether no room is
+-- known
 abbrev pub look_begun : Bool → WritePoint → Bool → Next WritePoint
 look_begun none (on.LookClosed l) is_closed = writer_is_open is_closed none l
 look_begun none point is_closed = goes_on point
 
--- whether a copy draws behind the step that comes next
+-- whether a copy draws after the step that comes next
 abbrev pub writer_draws_after : WritePoint → Bool
 writer_draws_after (on.LookTake (purpose.Copy form)) = true
 writer_draws_after point = false

@@ -18,7 +18,7 @@ pub enum Side {
 pub enum SideState {
     /// It has no open call.
     Idle,
-    /// It stands inside a call.
+    /// It is inside a call.
     Busy,
     /// It was dropped.
     Dropped,

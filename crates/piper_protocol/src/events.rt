@@ -20,7 +20,7 @@ pub enum Seen {
     Closed(bool),
 }
 
-/// What a call answers.
+/// What a call returns.
 #[derive(Clone, Copy, Debug, PartialEq, Eq)]
 pub enum Answer {
     Count(usize),
@@ -35,7 +35,7 @@ pub enum Answer {
 impl Answer {
     ghost use Rattle.piper_protocol.specs.Answer.{count_in, flag_in, polled_in, copied_in};
 
-    /// The count that is answered, or 0.
+    /// The count that is returned, or 0.
     pub fn count(self) -> usize
         ensures { result ≡ count_in self }
     {
@@ -45,7 +45,7 @@ impl Answer {
         }
     }
 
-    /// The flag that is answered, or false.
+    /// The flag that is returned, or false.
     pub fn flag(self) -> bool
         ensures { result ≡ flag_in self }
     {
@@ -55,7 +55,7 @@ impl Answer {
         }
     }
 
-    /// What a poll answers, or want of memory.
+    /// What a poll returns, or want of memory.
     pub fn polled(self) -> Polled<bool>
         ensures { result ≡ polled_in self }
     {

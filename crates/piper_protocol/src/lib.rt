@@ -1,4 +1,4 @@
-//! The two sides of a bounded pipe of bytes, and the words in which their calls and steps are told.
+//! The two sides of a bounded pipe of bytes, and the types that describe their calls and steps.
 #![tactic(auto)]
 
 pub mod bytes;

@@ -4,7 +4,7 @@ ghost use Rattle.std.specs.Prelude.{◌≡◌};
 use std::io;
 use thiserror::Error;
 
-/// An allocation was refused. Nothing was changed by the call that answers it.
+/// An allocation was refused. Nothing was changed by the call that returns it.
 #[derive(Clone, Copy, Debug, PartialEq, Eq, Error)]
 #[error("out of memory")]
 pub struct OutOfMemory;

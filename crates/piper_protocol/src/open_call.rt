@@ -8,7 +8,7 @@ use std::marker::Model;
 /// A side's open call: its point in the call table, and its answer once it has one.
 ///
 /// Each step that was made takes it and gives it back, and is allowed only where the table puts
-/// that step next. It is neither copied nor let go: it ends by `end` or `done`, and so only where
+/// that step next. It is neither copied nor dropped: it ends by `end` or `done`, and so only where
 /// the table ends it.
 pub struct CallAt<P> {
     pub(crate) point: P,
@@ -46,7 +46,7 @@ pub(crate) fn ends<P>(point: P, answer: Answer) -> CallAt<P>
 }
 
 impl<P: Drop> CallAt<P> {
-    // Where the call stands.
+    // The point inside the call.
     #[inline(always)]
     pub(crate) fn place(self) -> P
         ensures { result ≡ self.point }
@@ -68,7 +68,7 @@ impl<P: Drop> CallAt<P> {
         }
     }
 
-    /// Ends a call that answers no more than that it is done.
+    /// Ends a call that returns no more than that it is done.
     #[inline(always)]
     pub fn done(self)
         requires { self.answer ≡ Some Answer.Done }

@@ -1,7 +1,7 @@
-//! The steps of a reader's open call by their names, for code that makes one behind the other.
+//! The steps of a reader's open call by their names, for code that makes one after the other.
 //!
 //! Each is a row or two of the call table, and says `unreachable!()` of the points that its
-//! condition rules out. So the compiler knows where a call stands, and leaves nothing of it at run
+//! condition rules out. So the compiler knows where a call is, and leaves nothing of it at run
 //! time. `ReadPoint::after` chooses among them by what a step found.
 ghost use Rattle.std.specs.Prelude.{◌≡◌, ◌+◌, ◌^◌, ◌<◌, false};
 ghost use Rattle.piper_protocol.specs.Table.{ends, goes_on, read_action, read_done, read_step, reader_draws_after, reader_is_true, reader_looks_for};
@@ -88,7 +88,7 @@ impl CallAt<ReadPoint> {
         goes_on(StoreClosed)
     }
 
-    /// The same call, told anew where it stands before a round of a copy.
+    /// The same call, placed anew before a round of a copy.
     #[inline(always)]
     pub fn before_round(self, form: Form, sum: usize) -> CallAt<ReadPoint>
         requires { self ≡ goes_on (ReadPoint.CallDestination form sum) }
@@ -160,7 +160,7 @@ impl CallAt<ReadPoint> {
         self
     }
 
-    /// The reader's own slot was emptied, behind the look of a poll.
+    /// The reader's own slot was emptied, after the look of a poll.
     #[inline(always)]
     pub fn took_own(self) -> CallAt<ReadPoint>
         requires next { read_action self.point ≡ Action.Take Side.Reader }
@@ -244,7 +244,7 @@ impl CallAt<ReadPoint> {
         self
     }
 
-    /// The writer's slot was emptied, and a waker stood in it or not.
+    /// The writer's slot was emptied, and a waker was in it or not.
     #[inline(always)]
     pub fn took_writer(mut self, is_found: bool) -> CallAt<ReadPoint>
         requires next { read_action self.point ≡ Action.Take Side.Writer }
@@ -286,7 +286,7 @@ impl CallAt<ReadPoint> {
         self
     }
 
-    /// The reader's own slot was emptied behind the true look of a polling copy, which then drew
+    /// The reader's own slot was emptied after the true look of a polling copy, which then drew
     /// whether to yield.
     #[inline(always)]
     pub fn took_own_and_drew(mut self, is_drawn: bool) -> CallAt<ReadPoint>

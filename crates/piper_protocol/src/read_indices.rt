@@ -85,14 +85,14 @@ impl ReadIndices {
         self.head == self.tail
     }
 
-    /// How many known bytes stand in one piece.
+    /// How many known bytes are contiguous.
     pub fn peekable(&self) -> usize
         ensures { result ≡ peekable_in self.now }
     {
         self.known().min(self.capacity - self.front())
     }
 
-    /// How many bytes are unread where the writer's index stands here.
+    /// How many bytes are unread where the writer's index is here.
     pub fn unread_to(&self, tail: usize) -> usize
         requires { tail < 2 * self.now.capacity }
         ensures value { result ≡ distance self.now.capacity self.now.head tail }
@@ -101,7 +101,7 @@ impl ReadIndices {
         index::distance(self.capacity, self.head, tail)
     }
 
-    /// The writer's index was seen to stand here.
+    /// The writer's index was seen to be here.
     pub fn sees(&mut self, tail: usize)
         requires index { tail < 2 * self.old.capacity }
         requires within { known_in (tail_seen tail self.old) ≤ self.old.capacity }

@@ -13,8 +13,8 @@ use std::marker::Model;
 /// What the reader keeps. It knows no buffer, no slot, no waker and no runtime.
 ///
 /// A call is opened by `begin`. `next` then says which step the call table puts next, and `step`
-/// takes in what that step found; it answers where the call ends. A step that moves an index is
-/// told by `refreshed` or `stored_head`.
+/// takes in what that step found; it returns where the call ends. A step that moves an index is
+/// reported by `refreshed` or `stored_head`.
 #[derive(Drop)]
 pub struct ReadSide {
     indices: ReadIndices,
@@ -78,14 +78,14 @@ impl ReadSide {
         self.indices.known()
     }
 
-    /// How many known bytes stand in one piece.
+    /// How many known bytes are contiguous.
     pub fn peekable(&self) -> usize
         ensures { result ≡ peekable_of self.now }
     {
         self.indices.peekable()
     }
 
-    /// Where the reader stands inside its open call.
+    /// Where the reader is inside its open call.
     pub fn point(&self) -> ReadPoint
         ensures { result ≡ self.now.point }
     {
@@ -139,7 +139,7 @@ impl ReadSide {
         answer
     }
 
-    /// The tail was loaded in a look, and stood at this index.
+    /// The tail was loaded in a look, and was at this index.
     pub fn refreshed(&mut self, tail: usize) -> Option<Answer>
         requires next { read_action self.old.point ≡ Action.Refresh }
         requires index { tail < 2 * self.old.capacity }

@@ -1,4 +1,4 @@
-//! The call table: where a side can stand inside a call, and the steps that it makes there.
+//! The call table: where a side can be inside a call, and the steps that it makes there.
 ghost use Rattle.std.specs.Prelude.{◌≡◌};
 ghost use Rattle.piper_protocol.specs.Table.{query_answer, copy_answer, count_answer, end_or_pending, failed_answer, look_answer, yield_answer};
 
@@ -40,7 +40,7 @@ pub enum Action {
 /// In which form a copying call is made.
 #[derive(Clone, Copy)]
 pub enum Form {
-    /// Without a context: it registers nothing, and answers a count.
+    /// Without a context: it registers nothing, and returns a count.
     Try,
     /// With a context. Where its draw is 0 it yields in place of its rounds.
     Polling { is_drawn: bool },
@@ -49,7 +49,7 @@ pub enum Form {
 /// What a look is for.
 #[derive(Clone, Copy)]
 pub enum Purpose {
-    /// A poll answers what the look finds.
+    /// A poll returns what the look finds.
     Poll,
     /// A copying call moves bytes where the look is true.
     Copy(Form),
@@ -75,7 +75,7 @@ pub enum AfterWrite {
     Round(Form, usize),
 }
 
-/// Where the reader stands: named after the step that comes next.
+/// Where the reader is: named after the step that comes next.
 #[derive(Clone, Copy)]
 pub enum ReadPoint {
     Idle,
@@ -97,7 +97,7 @@ pub enum ReadPoint {
     StoreClosed,
 }
 
-/// Where the writer stands: named after the step that comes next.
+/// Where the writer is: named after the step that comes next.
 #[derive(Clone, Copy)]
 pub enum WritePoint {
     Idle,
@@ -137,7 +137,7 @@ pub enum Found {
     Flag(bool),
     /// Whether a waker's clone was granted.
     Granted(bool),
-    /// Whether a waker stood in the slot that was emptied.
+    /// Whether a waker was registered in the slot that was emptied.
     Waker(bool),
     /// So many bytes were given by the source, or taken by the destination.
     Moved(usize),
@@ -146,7 +146,7 @@ pub enum Found {
 }
 
 impl Query {
-    /// What a query answers where so many bytes are unread.
+    /// What a query returns where so many bytes are unread.
     #[inline(always)]
     pub fn answer(self, capacity: usize, unread: usize) -> Answer
         ensures { result ≡ query_answer self capacity unread }
@@ -160,7 +160,7 @@ impl Query {
 }
 
 impl Form {
-    /// What a copying call answers whose look was not true.
+    /// What a copying call returns whose look was not true.
     #[inline(always)]
     pub fn copy_answer(self, answer: Polled<bool>) -> Answer
         ensures { result ≡ copy_answer self answer }
@@ -175,7 +175,7 @@ impl Form {
         }
     }
 
-    /// What a copying call answers that ends with a count.
+    /// What a copying call returns that ends with a count.
     #[inline(always)]
     pub fn count_answer(self, count: usize) -> Answer
         ensures { result ≡ count_answer self count }
@@ -188,7 +188,7 @@ impl Form {
 }
 
 impl Purpose {
-    /// What the call answers where its look is not true.
+    /// What the call returns where its look is not true.
     #[inline(always)]
     pub fn look_answer(self, answer: Polled<bool>) -> Answer
         ensures { result ≡ look_answer self answer }
@@ -200,7 +200,7 @@ impl Purpose {
     }
 }
 
-/// What a look that is not true finds behind the closed flag that it loaded.
+/// What a look that is not true finds after the closed flag that it loaded.
 #[inline(always)]
 pub fn end_or_pending(was_closed: bool) -> Polled<bool>
     ensures { result ≡ end_or_pending was_closed }
@@ -212,7 +212,7 @@ pub fn end_or_pending(was_closed: bool) -> Polled<bool>
     }
 }
 
-/// What a copying call answers after its yield.
+/// What a copying call returns after its yield.
 #[inline(always)]
 pub fn yield_answer(is_granted: bool) -> Answer
     ensures { result ≡ yield_answer is_granted }
@@ -224,7 +224,7 @@ pub fn yield_answer(is_granted: bool) -> Answer
     })
 }
 
-/// What a copying call answers whose source or destination failed.
+/// What a copying call returns whose source or destination failed.
 #[inline(always)]
 pub fn failed_answer() -> Answer
     ensures { result ≡ failed_answer }

@@ -1,7 +1,7 @@
-//! The steps of a writer's open call by their names, for code that makes one behind the other.
+//! The steps of a writer's open call by their names, for code that makes one after the other.
 //!
 //! Each is a row or two of the call table, and says `unreachable!()` of the points that its
-//! condition rules out. So the compiler knows where a call stands, and leaves nothing of it at run
+//! condition rules out. So the compiler knows where a call is, and leaves nothing of it at run
 //! time. `WritePoint::after` chooses among them by what a step found.
 ghost use Rattle.std.specs.Prelude.{◌≡◌, ◌+◌, ◌^◌, ◌<◌, true, false};
 ghost use Rattle.piper_protocol.specs.Table.{begins_look, ends, goes_on, look_begun, write_action, write_done, write_step, writer_draws_after, writer_is_true};
@@ -99,7 +99,7 @@ impl CallAt<WritePoint> {
         goes_on(StoreClosed(AfterWrite::Drop))
     }
 
-    /// The same call, told anew where it stands before a round of a copy.
+    /// The same call, placed anew before a round of a copy.
     #[inline(always)]
     pub fn before_round(self, form: Form, sum: usize) -> CallAt<WritePoint>
         requires { self ≡ goes_on (WritePoint.CallSource form sum) }
@@ -182,8 +182,8 @@ impl CallAt<WritePoint> {
         self
     }
 
-    /// The writer's own slot was emptied, behind the look of a poll or in a close, and a waker
-    /// stood in it or not.
+    /// The writer's own slot was emptied, after the look of a poll or in a close, and a waker was
+    /// in it or not.
     #[inline(always)]
     pub fn took_own(self, is_found: bool) -> CallAt<WritePoint>
         requires next { write_action self.point ≡ Action.Take Side.Writer }
@@ -223,7 +223,7 @@ impl CallAt<WritePoint> {
         self
     }
 
-    /// The source gave `n` bytes, which stand at the front of what is lent.
+    /// The source gave `n` bytes, which are at the front of what is lent.
     #[inline(always)]
     pub fn source_gave(mut self, n: usize) -> CallAt<WritePoint>
         requires next { write_action self.point ≡ Action.CallSource }
@@ -267,7 +267,7 @@ impl CallAt<WritePoint> {
         self
     }
 
-    /// The reader's slot was emptied, and a waker stood in it or not.
+    /// The reader's slot was emptied, and a waker was in it or not.
     #[inline(always)]
     pub fn took_reader(mut self, is_found: bool) -> CallAt<WritePoint>
         requires next { write_action self.point ≡ Action.Take Side.Reader }
@@ -311,7 +311,7 @@ impl CallAt<WritePoint> {
         self
     }
 
-    /// The writer's own slot was emptied behind the true look of a polling copy, which then drew
+    /// The writer's own slot was emptied after the true look of a polling copy, which then drew
     /// whether to yield.
     #[inline(always)]
     pub fn took_own_and_drew(mut self, is_drawn: bool) -> CallAt<WritePoint>

@@ -107,7 +107,7 @@ impl WriteIndices {
         self.tail == self.limit
     }
 
-    /// How many bytes are unread where the reader's index stands here.
+    /// How many bytes are unread where the reader's index is here.
     pub fn unread_from(&self, head: usize) -> usize
         requires { head < 2 * self.now.capacity }
         ensures value { result ≡ distance self.now.capacity head self.now.tail }
@@ -164,7 +164,7 @@ impl WriteIndices {
         }
     }
 
-    /// Lends up to `most` free places in one piece, in place of what was lent before, and answers
+    /// Lends up to `most` free places in one piece, in place of what was lent before, and returns
     /// how many.
     ///
     /// Places beyond those that were set already are to be set to zero before they are handed out.
@@ -198,7 +198,7 @@ impl WriteIndices {
         self.is_shut = true;
     }
 
-    /// The reader's index was seen to stand here.
+    /// The reader's index was seen to be here.
     pub fn sees(&mut self, head: usize)
         requires index { head < 2 * self.old.capacity }
         requires within { distance self.old.capacity head self.old.tail ≤ self.old.capacity }

@@ -76,7 +76,7 @@ impl WritePoint {
         }
     }
 
-    /// Where a look goes on behind the load of closed that it begins with: no room is known
+    /// Where a look goes on after the load of closed that it begins with: no room is known
     /// (`none`), or some is.
     #[inline(always)]
     pub(crate) fn look_begun(self, none: bool, is_closed: bool) -> CallAt<WritePoint>

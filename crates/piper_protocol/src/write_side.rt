@@ -13,8 +13,8 @@ use std::marker::Model;
 /// What the writer keeps. It knows no buffer, no slot, no waker and no runtime.
 ///
 /// A call is opened by `begin`. `next` then says which step the call table puts next, and `step`
-/// takes in what that step found; it answers where the call ends. A step that moves an index or
-/// shuts the pipe is told by `refreshed`, `stored_tail` or `shut`.
+/// takes in what that step found; it returns where the call ends. A step that moves an index or
+/// shuts the pipe is reported by `refreshed`, `stored_tail` or `shut`.
 #[derive(Drop)]
 pub struct WriteSide {
     indices: WriteIndices,
@@ -78,7 +78,7 @@ impl WriteSide {
         self.indices.lent()
     }
 
-    /// Where the writer stands inside its open call.
+    /// Where the writer is inside its open call.
     pub fn point(&self) -> WritePoint
         ensures { result ≡ self.now.point }
     {
@@ -95,7 +95,7 @@ impl WriteSide {
         self.indices.lendable(most)
     }
 
-    /// Lends up to `most` free places in one piece, in place of what was lent before, and answers
+    /// Lends up to `most` free places in one piece, in place of what was lent before, and returns
     /// how many.
     ///
     /// Places beyond those that were set already are to be set to zero before they are handed out.
@@ -154,7 +154,7 @@ impl WriteSide {
         answer
     }
 
-    /// The head was loaded in a look, and stood at this index.
+    /// The head was loaded in a look, and was at this index.
     pub fn refreshed(&mut self, head: usize) -> Option<Answer>
         requires next { write_action self.old.point ≡ Action.Refresh }
         requires index { head < 2 * self.old.capacity }

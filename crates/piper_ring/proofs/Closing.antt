@@ -78,7 +78,8 @@ module _ {M : Type 1} {𝓤 : Ura M} (𝓛 : Logic 𝓤) (w p : Ptr) (z : Names)
   abbrev pub ToldClosed : Bool → Bool → ℕ → Fml
   ToldClosed m b n = base.Fml.fex Bool (told_one m b n)
 
-  -- n was loaded: it is at least what was seen and told before, and what it tells is known for good
+  -- n was loaded: it is at least what was seen or learned from marks before, and it is known for
+  -- good
   abbrev pub AfterClosed : Fml → Bool → Bool → ℕ → Fml
   AfterClosed K m b n = fsep (ToldClosed m b n) K
 

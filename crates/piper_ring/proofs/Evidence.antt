@@ -1,4 +1,4 @@
--- What a mark tells can be had twice, and two marks give one that tells what either told. Assumes
+-- What a mark reports can be had twice, and two marks give one that says what either says. Assumes
 -- `Logic`.
 use Rattle.std.proofs.Common.{◌≡◌, ℕ, ◌<◌, ◌≤◌, ◌⊎◌, inl, inr, Bool, true, false, List, [], ◌∷◌, max, leb, arith}
 use Rattle.std.proofs.lemmas.Bool.Decides.{leb_tells}

@@ -1,5 +1,5 @@
--- Both ends in one hand open the invariant with no step of the program: the reader gets all that
--- was published, the writer all that is free, and a ring that was seen closed is shut. Assumes
+-- Both ends held by one thread open the invariant with no step of the program: the reader gets all
+-- that was published, the writer all that is free, and a ring that was seen closed is shut. Assumes
 -- `Logic`.
 use Rattle.std.proofs.Common.{◌≡◌, ℕ, ◌+◌, ◌-◌, ◌≤◌, Bool, false, List, [], ◌∷◌, ◌++◌, length, drop, sym, refl, ap, subst, ◌∙◌, arith}
 use Rattle.std.proofs.Math.Seq.{drop-length}
@@ -55,8 +55,8 @@ module _ {M : Type 1} {𝓤 : Ura M} (𝓛 : Logic 𝓤) (w p : Ptr) (z : Names)
   abbrev WK : Fml
   WK = writer_knows w p z half sent limit shut 0
 
-  -- the bytes that the reader did not know of, and those that stand in the places that the writer
-  -- did not know of
+  -- the bytes that the reader did not know of, and those that are in the places that the writer did
+  -- not know of
   abbrev pub Apart : List ℕ × List ℕ → Type 0
   Apart r = (have ++ r.0 ≡ sent) × (limit + length r.1 ≡ head + cap) × Reaches heard (sent, shut) × (flag other_saw ≤ flag shut)
 

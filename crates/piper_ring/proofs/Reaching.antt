@@ -48,6 +48,6 @@ not_ended true f = absurd (false≢true (f refl))
 pub open_before : (a : Stream) (xs : List ℕ) → Reaches a (xs, false) → a.1 ≡ false
 open_before a xs h = not_ended a.1 (ended_still a (xs, false) h)
 
--- r tells what either of the two tells, and no more
+-- r reports what either of the two reports, and no more
 abbrev pub Joined : Stream → Stream → Stream → Type 0
 Joined a b r = (length r.0 ≡ max (length a.0) (length b.0)) × (flag r.1 ≡ max (flag a.1) (flag b.1)) × Reaches a r × Reaches b r × ((all : Stream) → Reaches a all → Reaches b all → Reaches r all)

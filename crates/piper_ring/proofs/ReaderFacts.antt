@@ -1,4 +1,4 @@
--- What the parts of a reader's end tell of its indices, and its view of its known bytes.
+-- What the parts of a reader's end say of its indices, and its view of its known bytes.
 use Rattle.std.proofs.Common.{◌≡◌, ℕ, ◌+◌, ◌-◌, ◌≤◌, ◌++◌, Bool, true, false, length, refl, sym, ap, arith}
 use Rattle.piper_protocol.specs.ReaderIndices.{known_in}
 use Rattle.piper_ring.specs.Streams.{Stream, Reaches, either}
@@ -7,7 +7,7 @@ use Rattle.piper_ring.specs.declared.ends.reader.ReadParts.{ReadParts}
 use Rattle.piper_ring.proofs.Indices.{apart}
 use Rattle.piper_ring.proofs.Reaching.{ended_still}
 
--- what stands in one piece is known
+-- what is contiguous is known
 pub within_known : (r : ReadView) (n : ℕ) → n ≤ in_one_piece r → n ≤ length r.known
 within_known r n piece = omega arith
 
@@ -28,6 +28,6 @@ one_of false b P e f g = g e
 pub heard_end : (e : ReadParts) → IsReadEnd e → KnowsEnd (read_view_of e) → e.heard.shut ≡ true
 heard_end e i k = one_of e.told.shut e.saw.shut (e.heard.shut ≡ true) k (ended_still (e.told.bytes, e.told.shut) (e.heard.bytes, e.heard.shut) i.stream.1) (ended_still (e.saw.bytes, e.saw.shut) (e.heard.bytes, e.heard.shut) i.stream.2)
 
--- what it has heard of does not change behind the pipe's end
+-- what it has heard of does not change after the pipe's end
 pub all_stays : (e : ReadParts) → IsReadEnd e → KnowsEnd (read_view_of e) → (now : Stream) → Reaches (e.heard.bytes, e.heard.shut) now → now.0 ≡ e.heard.bytes
 all_stays e i k now h = ap (λ (a : Stream). a.0) (h.1 (heard_end e i k))

@@ -40,7 +40,7 @@ module _ {M : Type 1} {𝓤 : Ura M} (𝓛 : Logic 𝓤) (w p : Ptr) (z : Names)
   abbrev WK : ℕ → Fml
   WK m = writer_knows w p z half sent m shut 0
 
-  -- the bytes that stand in the places gained
+  -- the bytes that are in the places gained
   abbrev pub Accepted : List ℕ → SProp 𝓤
   Accepted xs = guard 𝓤 (full ≡ limit + length xs) (⟦ run B limit xs ⟧ ∗ ⟦ WK full ⟧)
 

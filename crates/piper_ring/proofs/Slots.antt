@@ -24,7 +24,7 @@ use Rattle.piper_ring.specs.Shared.{took, raised, published, consumed, coded_str
 use Rattle.piper_ring.proofs.Evidence.{announced_twice, took_twice, raised_twice}
 use Rattle.piper_ring.proofs.Steps.{inside, Rest, OneStays, ReaderSees, WriterSees, reader_opens, writer_opens, closes}
 
--- a step on a word makes f of what stands there, and leaves the other word
+-- a step on a word makes f of what is there, and leaves the other word
 abbrev pub OnFlag : (ℕ → ℕ) → Where → Where → Type 0
 OnFlag f at at' = (f (flag_of at) ≡ flag_of at') × (back_of at ≡ back_of at')
 
@@ -44,12 +44,13 @@ filled = (true, true)
 abbrev pub emptied : Held
 emptied = (true, false)
 
--- nothing is held, as the side's own state tells
+-- nothing is held, as the side's own state says
 holds_none : (y : Bool) → y ≡ false → none ≡ (y, y)
 holds_none y e i = (sym e i, sym e i)
 
 module _ {X : Type 0} where
-  -- it wakes: b becomes b', what it looked behind is x or what it was, and it holds u' and no longer u
+  -- it wakes: b becomes b', what it had stored at its last check is x or what it was, and it holds
+  -- u' and no longer u
   abbrev pub WakesTo : (Where → Where → Type 0) → (ℕ → Wakes X → Held → Type 0) → ℕ → X → Held → Waits X → Wakes X → Where → Type 0
   WakesTo on then n x u a b at =
       (b' : Wakes X) × (at' : Where) × (u' : Held) × on at at' × IsWhere X at' a b' × ((b'.1.1 ≡ x) ⊎ (b'.1.1 ≡ b.1.1)) × then n b' u'
@@ -211,7 +212,7 @@ module _ {M : Type 1} {𝓤 : Ura M} (𝓛 : Logic 𝓤) (w p : Ptr) (z : Names)
     abbrev TwoAfter : (ℕ → X → Waits X → Held → Type 0) → ℕ → X × (Waits X × Held) → Fml
     TwoAfter then n r = fsep (fact (then n r.0 r.1.0 r.1.1)) (fsep (shows r.0) (fsep (fsep (fobs γ (code r.1.0)) (Token r.1.1)) K))
 
-    -- what the side that waits has, with evidence of what the other had looked behind
+    -- what the side that waits has, with evidence of what the other had stored when it last checked
     abbrev pub WaitAfter : (ℕ → X → Waits X → Held → Type 0) → ℕ → Fml
     WaitAfter then n = fex (X × (Waits X × Held)) (TwoAfter then n)
 
@@ -282,7 +283,7 @@ module _ {M : Type 1} {𝓤 : Ura M} (𝓛 : Logic 𝓤) (w p : Ptr) (z : Names)
     abbrev pub Met : Waits X → Wakes X → Pr
     Met a b = guard 𝓤 (IsRemembered X a b) (⟦ K ⟧ ∗ ⟦ fobs γ (code a) ⟧ ∗ ⟦ fobs δ (code b) ⟧)
 
-    -- both sides in one hand: it is no step
+    -- both sides held by one thread: it is no step
     meets : Lent K F → (a : Waits X) (b : Wakes X) → ⟦ C ⟧ ∗ ⟦ K ⟧ ∗ ⟦ fobs γ (code a) ⟧ ∗ ⟦ fobs δ (code b) ⟧ ⊢ H.⇛ (Met a b)
     meets lends a b = let Q : Pr = Met a b in let Z : Pr = ⟦ I ⟧ ∗ Q in
         qed 𝓛 (‵ C ∷ ‵ K ∷ ‵ (fobs γ (code a)) ∷ ‵ (fobs δ (code b)) ∷ []) ∵ fsplit ! $ forget ! $ suffices ! _ (𝓛.invs.inv_acc I Q) $ frame ! $ assume ! (‵ I) $
@@ -355,7 +356,7 @@ module _ {M : Type 1} {𝓤 : Ura M} (𝓛 : Logic 𝓤) (w p : Ptr) (z : Names)
     abbrev pub BothMet : Wakes Stream → Pr
     BothMet = Met 512 z.reader_waits z.writer_wakes z.reader_place coded_stream (published z) KR a
 
-    -- the reader and what the writer knows of its slot, in one hand
+    -- the reader and what the writer knows of its slot, held by one thread
     pub reader_meets : (b : Wakes Stream) → ⟦ C ⟧ ∗ ⟦ KR ⟧ ∗ ⟦ AR ⟧ ∗ ⟦ fobs z.writer_wakes ((code_of Stream coded_stream).code b) ⟧ ⊢ H.⇛ (BothMet b)
     reader_meets b = meets 512 z.reader_waits z.writer_wakes z.reader_place coded_stream (published z) KR lent_too a b
 
@@ -426,6 +427,6 @@ module _ {M : Type 1} {𝓤 : Ura M} (𝓛 : Logic 𝓤) (w p : Ptr) (z : Names)
     abbrev pub BothMetBack : Wakes Consumed → Pr
     BothMetBack = Met 640 z.writer_waits z.reader_wakes z.writer_place coded_consumed (consumed z) KW' a
 
-    -- the writer and what the reader knows of its slot, in one hand
+    -- the writer and what the reader knows of its slot, held by one thread
     pub writer_meets : (b : Wakes Consumed) → ⟦ C ⟧ ∗ ⟦ KW' ⟧ ∗ ⟦ AW ⟧ ∗ ⟦ fobs z.reader_wakes ((code_of Consumed coded_consumed).code b) ⟧ ⊢ H.⇛ (BothMetBack b)
     writer_meets b = meets 640 z.writer_waits z.reader_wakes z.writer_place coded_consumed (consumed z) KW' lent_own a b

@@ -118,7 +118,7 @@ module _ {M : Type 1} {𝓤 : Ura M} (𝓛 : Logic 𝓤) (w p : Ptr) (z : Names)
       move ! (1 ∷ []) $ rewrite ! 0 (λ (F : Fml). ‵ F) (sym (stays s.reader_stage s.writer_stage (memory w p z s) le)) refl $ move ! (2 ∷ 3 ∷ 1 ∷ []) $ fjoin3 ! $
       nothing ! $ fpack ! (Holds cap s) (λ _. ftrue) so $ fjoin3 ! $ fpack ! State (state_holds w p z) s $ done !
 
-  -- xs was published, and n is where its end stands
+  -- xs was published, and n is where its end is
   abbrev pub SawTail : ℕ → ℕ → Stream → ℕ → List ℕ → Type 0
   SawTail head seen told n xs = (n ≡ position_of cap (length xs)) × (seen ≤ length xs) × (length xs ≤ head + cap) × (length told.0 ≤ length xs) × (told.1 ≡ true → xs ≡ told.0)
 
@@ -171,7 +171,7 @@ module _ {M : Type 1} {𝓤 : Ura M} (𝓛 : Logic 𝓤) (w p : Ptr) (z : Names)
       let ei = e.3 in let top = so.stages.0 in move ! (4 ∷ []) $ rewrite ! 0 (λ (F : Fml). ‵ F) {x = memory w p z s} {y = until_both (gone s.reader_stage) (gone s.writer_stage) (memory w p z s)} (stays s.reader_stage s.writer_stage (memory w p z s) (omega arith)) refl $
       move ! (4 ∷ 0 ∷ []) $ fjoin ! $ show ! (ForWriter q sent limit shut i) s $ check ! (so, e.0, e.1, e.2, e.3) $ move ! (1 ∷ 2 ∷ 3 ∷ []) $ done !)))
 
-  -- h bytes were consumed, and n is where the next one stands
+  -- h bytes were consumed, and n is where the next one is
   abbrev pub SawHead : List ℕ → ℕ → ℕ → ℕ → ℕ → Type 0
   SawHead sent limit told n h = (n ≡ position_of cap h) × (h ≤ length sent) × (limit ≤ h + cap) × (told ≤ h)
 

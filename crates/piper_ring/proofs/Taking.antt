@@ -13,7 +13,7 @@ module _ (have known : List ℕ) (head n : ℕ) (le : head ≤ length have) (who
   pub all_counted : length have ≡ head + length known
   all_counted = ap length whole ∙ length-append (take head have) known ∙ ap (λ (m : ℕ). m + length known) (length-take-le head have le)
 
--- what the reader took stays, as more behind all of it becomes known
+-- what the reader took stays, as more after all of it becomes known
 module _ (have known more : List ℕ) (head : ℕ) (le : head ≤ length have) (whole : have ≡ take head have ++ known) where
   pub taken_stays : take head (have ++ more) ≡ take head have
   taken_stays = take-append-le head have more le

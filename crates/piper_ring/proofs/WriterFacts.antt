@@ -1,4 +1,4 @@
--- What the parts of a writer's end tell of its indices.
+-- What the parts of a writer's end say of its indices.
 use Rattle.std.proofs.Common.{◌≡◌, ℕ, ◌+◌, ◌-◌, ◌≤◌, Bool, true, false, if◌then◌else◌, length, min, arith, sym, subst, ap, ◌∙◌}
 use Rattle.piper_protocol.specs.Index.{distance}
 use Rattle.piper_protocol.specs.LendBound.{lend_bound}
@@ -23,7 +23,7 @@ pub lends_all : (most : ℕ) (w : WriterIndices) (n : ℕ) → n ≡ lendable_in
 lends_all most w n is open_still = is ∙ ap (λ (b : Bool). if b then 0 else min (min most (lend_bound w.zeroed)) (min (room_in w) (left_in w))) open_still
 
 module _ (e : WriteParts) (i : IsWriteEnd e) where
-  -- all that was published stands below the limit of the room
+  -- all that was published is below the limit of the room
   pub sent_below : length e.seat.sent ≤ e.seat.limit
   sent_below = let r = e.room in let a : r.lent.first ≡ length e.seat.sent = i.placed.3 in let b : r.ready.first ≡ r.lent.first + length r.lent.bytes = i.room.0.chain.0 in let c : r.ready.first + length r.ready.bytes + r.blank.count ≡ r.later.first = i.room.0.chain.1 in
       let d : r.later.first + length r.later.bytes ≡ e.seat.limit = i.placed.4 in omega arith

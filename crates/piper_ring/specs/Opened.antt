@@ -5,7 +5,7 @@ use Rattle.piper_ring.specs.WriteView.{WriteView}
 use Rattle.piper_ring.specs.Shared.{Names}
 use Rattle.piper_ring.specs.SlotsView.{ReadSlotsView, WriteSlotsView}
 
--- nothing was consumed, nothing is known, nothing was told and nothing was seen
+-- nothing was consumed, nothing is known, no mark was heeded and nothing was seen
 pub record FreshReadEnd (cap : ℕ) (r : ReadView) : Type 0 where
   pub capacity : r.capacity ≡ cap
   pub taken : r.taken ≡ []
@@ -13,8 +13,8 @@ pub record FreshReadEnd (cap : ℕ) (r : ReadView) : Type 0 where
   pub told : (r.told ≡ 0) × (r.told_shut ≡ false)
   pub saw : r.saw ≡ false
 
--- nothing was published, all places are its room and nothing is lent,
--- nothing was told and nothing was seen
+-- nothing was published, all places are its room and nothing is lent, no mark was heeded and
+-- nothing was seen
 pub record FreshWriteEnd (cap : ℕ) (w : WriteView) : Type 0 where
   pub capacity : w.capacity ≡ cap
   pub sent : w.sent ≡ []
@@ -24,7 +24,7 @@ pub record FreshWriteEnd (cap : ℕ) (w : WriteView) : Type 0 where
   pub told : w.told ≡ 0
   pub saw : w.saw ≡ false
 
--- nobody has waited, and nothing was looked behind
+-- nobody has waited, and no check followed a store
 pub record FreshReadSlots (z : Names) (s : ReadSlotsView) : Type 0 where
   pub names : s.names ≡ z
   pub waits : (s.owns ≡ true) × (s.tickets ≡ 0)

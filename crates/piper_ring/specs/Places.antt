@@ -1,6 +1,6 @@
--- What the owners of a stretch of the ring's places own and lend. Places are counted from
--- the first byte ever sent, and the k-th stands at the offset `offset_of capacity k`:
--- so a stretch that goes round the end of the memory is cut and joined like any other.
+-- What the owners of a stretch of the ring's places own and lend. Places are counted from the first
+-- byte ever sent, and the k-th is at the offset `offset_of capacity k`: so a stretch that goes
+-- round the end of the memory is cut and joined like any other.
 use Rattle.std.specs.Prelude.{ℕ, suc, ◌+◌, ◌^◌, ◌<◌, List, [], ◌∷◌}
 use mir.Raw.{raw}
 use base.Fraction.{full_share}

@@ -15,8 +15,8 @@ pub record ReadView : Type 0 where
   pub taken : List ℕ
   -- the bytes that it knows of, the next one first
   pub known : List ℕ
-  -- how many published bytes it was told of,
-  -- and whether it was told that the writer closed the pipe
+  -- how many published bytes it was told of, and whether a mark said that the writer closed the
+  -- pipe
   pub told : ℕ
   pub told_shut : Bool
   -- whether a call of its own saw the pipe closed
@@ -55,11 +55,11 @@ read_view_of e =
 abbrev pub read_place : ReadView → ℕ
 read_place r = offset_of r.capacity (length r.taken)
 
--- how many known bytes stand in one piece
+-- how many known bytes are contiguous
 abbrev pub in_one_piece : ReadView → ℕ
 in_one_piece r = min (length r.known) (r.capacity - read_place r)
 
--- the end was told that the pipe is closed, or saw it
+-- the end learned from a mark that the pipe is closed, or saw it
 abbrev pub KnowsEnd : ReadView → Type 0
 KnowsEnd r = either r.told_shut r.saw ≡ true
 

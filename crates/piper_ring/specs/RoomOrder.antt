@@ -4,7 +4,7 @@ use Rattle.std.specs.Prelude.{◌≡◌, ℕ, ◌+◌, ◌-◌, ◌<◌, ◌≤�
 use Rattle.piper_ring.specs.declared.ring.places.Places.{Places}
 use Rattle.piper_ring.specs.declared.ends.room.Room.{Room}
 
--- the number of the first place behind a stretch
+-- the number of the first place after a stretch
 abbrev pub end_of : Places → ℕ
 end_of p = p.first + length p.bytes
 

@@ -39,7 +39,8 @@ pub record Names : Type 0 where
   -- how far each end has gone in leaving
   pub reader_stage : ℕ
   pub writer_stage : ℕ
-  -- how each side stands at the reader's slot, in which the reader waits, and at the writer's
+  -- how each side is registered in the reader's slot, in which the reader waits, and in the
+  -- writer's
   pub reader_waits : ℕ
   pub writer_wakes : ℕ
   pub writer_waits : ℕ
@@ -164,7 +165,7 @@ all_rooms w = fsep (four_rooms w) (slot_rooms w)
 abbrev pub heap_token : Ty → Ptr → Fml
 heap_token = ghosts.dealloc_token (record { memory = record { seal = tt } })
 
--- the bytes sent begin with xs, and where `shut`, the writer closed the ring behind them
+-- the bytes sent begin with xs, and where `shut`, the writer closed the ring after them
 abbrev pub announced : Names → List ℕ → Bool → Fml
 announced z xs shut = at_least streams z.sent (xs, shut)
 

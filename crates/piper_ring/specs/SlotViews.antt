@@ -25,7 +25,7 @@ abbrev pub IsUnused : Names → ReaderWaits → Type 0
 IsUnused z s =
     (s.names ≡ z) × (s.owns ≡ true) × (s.tickets ≡ 0) × (s.bytes ≡ []) × (s.shut ≡ false)
 
--- nothing has been looked behind yet
+-- no check has followed a store yet
 abbrev pub LooksFirst : Names → WriterWakes → Type 0
 LooksFirst z s =
     (s.names ≡ z) × (s.holds ≡ false) × (s.taken ≡ 0) × (s.bytes ≡ []) × (s.shut ≡ false)
@@ -38,7 +38,7 @@ abbrev pub LooksFirstBack : Names → ReaderWakes → Type 0
 LooksFirstBack z s =
     (s.names ≡ z) × (s.holds ≡ false) × (s.taken ≡ 0) × (s.count ≡ 0) × (s.over ≡ false)
 
--- it is the right to the place of that name, if it is there, and tells whether the place is filled
+-- it is the token of the cell of that name, if it is there, and says whether the cell is filled
 abbrev pub IsTokenOf : ℕ → Bool → Bool → Token → Type 0
 IsTokenOf place there filled right =
     (right.name ≡ place) × (right.there ≡ there) × (right.filled ≡ filled)

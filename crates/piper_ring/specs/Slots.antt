@@ -1,7 +1,8 @@
 -- The slot in which a side that waits leaves its waker, as two words that both sides share: `flag`
--- is 1 while a waker stands there, and `back` is 1 once the side that took it has handed its place
+-- is 1 while a waker is there, and `back` is 1 once the side that took it has handed its place
 -- back. The right to the place of the waker belongs to one side at each moment, or moves with the
--- words: a waker lies there while it stands in the slot, and none once the place was handed back.
+-- words: a waker lies there while it is registered in the slot, and none once the place was handed
+-- back.
 use Rattle.std.specs.Prelude.{◌≡◌, ◌≢◌, ℕ, ◌+◌, ◌<◌, ◌≤◌, Bool, true, false}
 use base.Fml.{Fml, fsep, fex, fauth}
 use denote.RawPtr.{Ptr}
@@ -44,17 +45,17 @@ abbrev pub held : ℕ → Held → Fml
 held place u = right u.0 place u.1
 
 module _ (X : Type 0) where
-  -- of the side that waits: whether it has the place, how often it registered,
-  -- and what the other side had looked behind when it registered last
+  -- of the side that waits: whether it has the place, how often it registered, and what the other
+  -- side had stored when it last checked before that registration
   abbrev pub Waits : Type 0
   Waits = Bool × (ℕ × X)
 
-  -- of the side that wakes: whether it has the place, whose ticket it took last,
-  -- and what it had stored when it looked last
+  -- of the side that wakes: whether it has the place, whose ticket it took last, and what it had
+  -- stored when it checked last
   abbrev pub Wakes : Type 0
   Wakes = Bool × (ℕ × X)
 
-  -- how both sides stand
+  -- how both sides are registered
   abbrev pub IsWhere : Where → Waits → Wakes → Type 0
   IsWhere with_waiter a b = (a.0 ≡ true) × (b.0 ≡ false) × (b.1.0 ≤ a.1.0)
   IsWhere in_slot a b = (a.0 ≡ false) × (b.0 ≡ false) × (b.1.1 ≡ a.1.1) × (b.1.0 < a.1.0)
@@ -64,12 +65,12 @@ module _ (X : Type 0) where
   abbrev pub code_of : Coded X → Coded (Bool × (ℕ × X))
   code_of c = coded× coded_bool (coded× coded_ℕ c)
 
-  -- a waker stands in the slot, and nobody has looked since, or none does:
-  -- then all that was stored was looked behind
+  -- a waker is registered in the slot, and nobody has checked since, or none is: then this check
+  -- came after all that was stored
   abbrev pub Looks : Wakes → X → ℕ → Wakes → Type 0
   Looks b x n b' = (n ≤ 1) × (n ≡ 0 → b' ≡ (b.0, (b.1.0, x))) × (n ≢ 0 → b' ≡ b)
 
-  -- the waker was taken, with the place and a ticket that was not taken before, or none stood there
+  -- the waker was taken, with the place and a ticket that was not taken before, or none was there
   abbrev pub Takes : Wakes → X → ℕ → Wakes → Type 0
   Takes b x n b' =
       (n ≤ 1) × (n ≡ 0 → b' ≡ (b.0, (b.1.0, x)))
@@ -86,8 +87,8 @@ module _ (X : Type 0) where
   abbrev pub Reclaims : Waits → X → ℕ → Waits → Type 0
   Reclaims a x n a' = (n ≤ 1) × (n ≡ 0 → a' ≡ a) × (n ≢ 0 → a' ≡ (true, a.1))
 
-  -- no forgotten waiter: whoever has registered, and had the other side look
-  -- behind something new since, was taken
+  -- no forgotten waiter: whoever has registered, and had the other side check after something new
+  -- since, was taken
   abbrev pub IsRemembered : Waits → Wakes → Type 0
   IsRemembered a b = a.0 ≡ false → b.0 ≡ false → b.1.1 ≢ a.1.1 → b.1.0 ≡ a.1.0
 

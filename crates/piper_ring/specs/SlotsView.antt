@@ -15,13 +15,14 @@ pub record ReadSlotsView : Type 0 where
   pub owns : Bool
   -- how often it registered
   pub tickets : ℕ
-  -- what the writer had looked behind before: what it had published, and whether it had closed the
-  -- pipe
+  -- what the writer had stored when it last checked the slot before that: what it had published,
+  -- and whether it had closed the pipe
   pub bytes : List ℕ
   pub shut : Bool
   -- the ticket of the writer's that it took last
   pub taken : ℕ
-  -- what it looked behind last: what it had consumed, and whether it had closed the pipe
+  -- what it had stored when it checked last: what it had consumed, and whether it had closed the
+  -- pipe
   pub count : ℕ
   pub over : Bool
 
@@ -66,13 +67,14 @@ pub record WriteSlotsView : Type 0 where
   pub owns : Bool
   -- how often it registered
   pub tickets : ℕ
-  -- what the reader had looked behind before: what it had consumed, and whether it had closed the
-  -- pipe
+  -- what the reader had stored when it last checked the slot before that: what it had consumed, and
+  -- whether it had closed the pipe
   pub count : ℕ
   pub over : Bool
   -- the ticket of the reader's that it took last
   pub taken : ℕ
-  -- what it looked behind last: what it had published, and whether it had closed the pipe
+  -- what it had stored when it checked last: what it had published, and whether it had closed the
+  -- pipe
   pub bytes : List ℕ
   pub shut : Bool
 
@@ -118,12 +120,12 @@ SameReaderPlace a b =
     (b.names ≡ a.names) × (b.owns ≡ a.owns) × (b.tickets ≡ a.tickets) × (b.bytes ≡ a.bytes)
     × (b.shut ≡ a.shut)
 
--- nothing changed of whom the side took, and of what it looked behind
+-- whom the side took stays the same, and so does what it had stored when it last checked
 abbrev pub SameReaderLooks : ReadSlotsView → ReadSlotsView → Type 0
 SameReaderLooks a b =
     (b.names ≡ a.names) × (b.taken ≡ a.taken) × (b.count ≡ a.count) × (b.over ≡ a.over)
 
--- the reader stands at its slot
+-- the reader is registered in its slot
 pub record Registers (old new : ReadSlotsView) : Type 0 where
   pub place : new.owns ≡ false
   pub ticket : new.tickets ≡ old.tickets + 1
@@ -133,7 +135,7 @@ pub record Registers (old new : ReadSlotsView) : Type 0 where
 abbrev pub HasToDo : ReadView → Type 0
 HasToDo r = (r.known ≢ []) ⊎ (r.saw ≡ true)
 
--- the reader waits: it has registered, and its look behind that found nothing to do
+-- the reader waits: it has registered, and its look after that found nothing to do
 pub record IsPending (r : ReadView) (s : ReadSlotsView) : Type 0 where
   pub registered : s.owns ≡ false
   pub none : r.known ≡ []
@@ -141,12 +143,12 @@ pub record IsPending (r : ReadView) (s : ReadSlotsView) : Type 0 where
   pub looked : length s.bytes ≤ length r.taken
   pub goes_on : s.shut ≡ false
 
--- the writer is between its calls: it has looked behind all that it stored
+-- the writer is between its calls: it has checked after all that it stored
 pub record IsAtRest (w : WriteView) (s : WriteSlotsView) : Type 0 where
   pub bytes : s.bytes ≡ w.sent
   pub shut : s.shut ≡ w.shut
 
--- when the writer looked last it had stored something that the reader has not seen
+-- when the writer checked last it had stored something that the reader has not seen
 abbrev pub HasNews : ReadView → WriteSlotsView → Type 0
 HasNews r s = (length r.taken < length s.bytes) ⊎ (s.shut ≡ true)
 
@@ -159,7 +161,7 @@ abbrev pub SameWriterLooks : WriteSlotsView → WriteSlotsView → Type 0
 SameWriterLooks a b =
     (b.names ≡ a.names) × (b.taken ≡ a.taken) × (b.bytes ≡ a.bytes) × (b.shut ≡ a.shut)
 
--- the writer stands at its slot
+-- the writer is registered in its slot
 pub record WriterRegisters (old new : WriteSlotsView) : Type 0 where
   pub place : new.owns ≡ false
   pub ticket : new.tickets ≡ old.tickets + 1
@@ -169,7 +171,7 @@ pub record WriterRegisters (old new : WriteSlotsView) : Type 0 where
 abbrev pub WriterHasToDo : WriteView → Type 0
 WriterHasToDo w = (w.room ≢ 0) ⊎ (w.saw ≡ true)
 
--- the writer waits: it has registered, and its look behind that found no room
+-- the writer waits: it has registered, and its look after that found no room
 pub record IsWriterPending (w : WriteView) (s : WriteSlotsView) : Type 0 where
   pub registered : s.owns ≡ false
   pub none : w.room ≡ 0
@@ -177,12 +179,12 @@ pub record IsWriterPending (w : WriteView) (s : WriteSlotsView) : Type 0 where
   pub looked : s.count + w.capacity ≤ length w.sent
   pub goes_on : s.over ≡ false
 
--- the reader is between its calls: it has looked behind all that it consumed
+-- the reader is between its calls: it has checked after all that it consumed
 pub record IsReaderAtRest (r : ReadView) (s : ReadSlotsView) : Type 0 where
   pub count : s.count ≡ length r.taken
   pub stays_open : s.over ≡ false
 
--- when the reader looked last it had given room back that the writer has not seen, or had closed
+-- when the reader checked last it had given room back that the writer has not seen, or had closed
 -- the ring
 abbrev pub HasRoomNews : WriteView → ReadSlotsView → Type 0
 HasRoomNews w s = (length w.sent < s.count + w.capacity) ⊎ (s.over ≡ true)

@@ -7,7 +7,7 @@ use Rattle.piper_ring.specs.declared.ring.places.Blank.{Blank}
 use Rattle.piper_ring.specs.declared.ring.seats.ReadSeat.{ReadSeat}
 use Rattle.piper_ring.specs.declared.ring.seats.WriteSeat.{WriteSeat}
 
--- the stretch stands in the memory at `at`, which has so many places, and begins at the k-th
+-- the stretch is in the memory at `at`, which has so many places, and begins at the k-th
 abbrev pub BeginsAt : Ptr → ℕ → ℕ → Places → Type 0
 BeginsAt at capacity k p = (p.at ≡ at) × (p.capacity ≡ capacity) × (p.first ≡ k)
 
@@ -16,7 +16,7 @@ abbrev pub IsBlankFrom : Ptr → ℕ → ℕ → ℕ → Blank → Type 0
 IsBlankFrom at capacity k end b =
     (b.at ≡ at) × (b.capacity ≡ capacity) × (b.first ≡ k) × (b.first + b.count ≡ end)
 
--- the first `len` places of p stand in one piece, from the offset `from` of the memory at `base` on
+-- the first `len` places of p are contiguous, from the offset `from` of the memory at `base` on
 abbrev pub IsPiece : Ptr → ℕ → ℕ → Places → Type 0
 IsPiece base from len p =
     (base ≡ p.at) × (len ≤ length p.bytes) × (from ≡ offset_of p.capacity p.first)
@@ -51,7 +51,7 @@ places_from b first bytes = record {
   bytes = bytes;
 }
 
--- the reader came to know of these bytes, with the places in which they stand
+-- the reader came to know of these bytes, with the places in which they are
 pub record ReadGains (old new : ReadSeat) (known more : Places) (published : List ℕ) : Type 0 where
   pub bytes : List ℕ
   pub places : more ≡ record known { bytes = known.bytes ++ bytes }

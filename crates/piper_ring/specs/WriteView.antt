@@ -15,7 +15,7 @@ pub record WriteView : Type 0 where
   pub sent : List ℕ
   -- how many bytes it knows to have room for
   pub room : ℕ
-  -- what is left of the slice last lent, as it stands
+  -- what is left of the slice last lent, as it is
   pub lent : List ℕ
   -- whether it closed the pipe for good
   pub shut : Bool

@@ -17,7 +17,7 @@ pub text_of : {E : Type 0} (line : Text) (r : Result (Bor Text) E) (Fails : E �
 text_of line (Ok s) Fails text cases e = (ap (λ (o : Option (Bor Text)). (unwrap_or o text).now) e ∙ cases.0, cases.1)
 text_of line (Err x) Fails text cases e = absurd (false≢true (sym (ap is_some e)))
 
--- the call stands behind the word that opens it
+-- the call follows the word that opens it
 pub begin_calls : (line : Text) (side : Side) (call : Text) → line ≡ codes "begin " ++ call → BeginsFor line side → CallsFor call side
 begin_calls line side call written begins = subst (λ (t : Text). CallsFor t side) (ap (λ (t : Text). drop 6 t) (sym begins.written ∙ written)) begins.calls
 

@@ -119,7 +119,7 @@ some_side : (side : Side) → 0 < length (side_text side)
 some_side Reader = omega arith
 some_side Writer = omega arith
 
--- the first word is found wherever it stands
+-- the first word is found wherever it is
 abbrev pub CutsWord : Text → Text → Text → Type 0
 CutsWord text word rest = (front after : Text) → HasNoSpace front → IsAfter after → text ≡ front ++ after → (word ≡ front) × (rest ≡ drop 1 after)
 
@@ -176,7 +176,7 @@ shared_name word (inr (inr (inr (inr (inl e))))) = record {
 }
 shared_name word (inr (inr (inr (inr (inr e))))) = record { call = Drop; name = λ s. e; shared = λ s. refl; of_side = λ s. refl }
 
--- the side stands behind the name
+-- the side follows the name
 after_is : (side : Side) (after rest more : Text) → IsAfter after → rest ≡ drop 1 after → rest ≡ side_text side ++ more → after ≡ spaced (side_text side) ++ more
 after_is side after rest more (inl none) is named =
     absurd (omega (arith, some_side side, length-append (side_text side) more, ap length (sym named ∙ is ∙ ap (λ (t : Text). drop 1 t) none)))

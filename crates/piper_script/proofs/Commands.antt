@@ -62,7 +62,7 @@ luck said small = IsAscii-append (draw_text said.draw) (denials_text said.no_reg
     drawn None small = IsAscii-nil
     drawn (Some n) small = IsAscii-append (codes " draw=") (decimal n) (word (codes " draw=") refl) (IsAscii-decimal n (omega (arith, small)))
 
--- two words, and luck behind them
+-- two words, and luck after them
 three : (first second : List ℕ) (said : SaidLuck) → IsAscii (spaced first) → IsAscii (spaced second) → IsLuck said → IsAscii (spaced first ++ spaced second ++ luck_text said)
 three first second said a b small = IsAscii-append (spaced first ++ spaced second) (luck_text said) (IsAscii-append (spaced first) (spaced second) a b) (luck said small)
 
@@ -113,7 +113,7 @@ steps of One limits = IsAscii-nil
 steps of (Count n) limits = number n (omega (arith, limits.1))
 steps of ToAnswer limits = word (codes " end") refl
 
--- a name and what stands behind it
+-- a name and what follows it
 text : (name arguments : List ℕ) → is_ascii_word name ≡ true → IsAscii arguments → IsAscii (name ++ arguments)
 text name arguments tests rest = IsAscii-append name arguments (word name tests) rest
 

@@ -28,7 +28,7 @@ repeat_lacks value count valid =
     All-append (λ b. b ≢ 46) (decimal value) (42 ∷ decimal count) (number_lacks 46 value (omega (arith, valid)) (lit< tt))
     (All-cons (λ b. b ≢ 46) 42 (decimal count) (λ e. omega (arith, e)) (number_lacks 46 count (omega (arith, valid)) (lit< tt)))
 
--- dots stand in a range alone
+-- dots are in a range alone
 pub item_with_dots : (text : List ℕ) (first last : Bor (List ℕ)) (r : Result Item Refusal) → IsCutAtDots text (Some (first, last)) → ((a b : ℕ) → IsItem (Range a b) → first.now ≡ decimal a → last.now ≡ decimal b → r ≡ Ok (Range a b)) → (item : Item) → IsItem item → text ≡ item_text item → r ≡ Ok item
 item_with_dots text first last r cut reads (Byte value) valid e =
     absurd (dots_are_in text first.now last.now (split_text_parts (codes "..") text (Some (first, last)) cut) (All-same (λ b. b ≢ 46) text (decimal value) e (number_lacks 46 value (omega (arith, valid)) (lit< tt))))
@@ -38,7 +38,7 @@ item_with_dots text first last r cut reads (Range a b) valid e =
 item_with_dots text first last r cut reads (Repeat value count) valid e =
     absurd (dots_are_in text first.now last.now (split_text_parts (codes "..") text (Some (first, last)) cut) (All-same (λ b. b ≢ 46) text (decimal value ++ 42 ∷ decimal count) (repeat_text text value count e) (repeat_lacks value count valid)))
 
--- without dots a star stands in a repetition alone
+-- without dots a star is in a repetition alone
 pub record WithStar (item : Item) (first last : List ℕ) : Type 0 where
   pub value : ℕ
   pub count : ℕ

@@ -81,14 +81,14 @@ said_at {A} text Is (x ∷ xs) (suc n) part inside here valid =
     add_one : suc n ≡ n + 1
     add_one = omega arith
 
--- how many bytes the things stand for with one more
+-- how many bytes the things represent with one more
 pub sized_more : {A : Type 0} (bytes : A → List ℕ) (said more : List A) (next : A) → more ≡ said ++ next ∷ [] → length (flat_map bytes more) ≡ length (flat_map bytes said) + length (bytes next)
 sized_more bytes said more next grown =
     ap (λ (xs : List _). length (flat_map bytes xs)) grown
     ∙ ap length (flat_map-append bytes said (next ∷ []) ∙ ap (λ (bs : List ℕ). flat_map bytes said ++ bs) (append-nil (bytes next)))
     ∙ length-append (flat_map bytes said) (bytes next)
 
--- the first things stand for no more bytes than all
+-- the first things represent no more bytes than all
 pub sized_first : {A : Type 0} (bytes : A → List ℕ) (n : ℕ) (said : List A) → length (flat_map bytes (take n said)) ≤ length (flat_map bytes said)
 sized_first bytes n said =
     let whole = ap length (sym (ap (flat_map bytes) (take-append-drop n said)) ∙ flat_map-append bytes (take n said) (drop n said)) in

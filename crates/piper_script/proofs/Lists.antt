@@ -29,7 +29,7 @@ length-item_bytes-range item first last n is valid gap =
     let ordered = rw is at valid in
     rw is (omega (arith, length-numbers_from first (last + 1 - first), ordered, gap))
 
--- one number more, behind those that stand there already
+-- one number more, after those that are there already
 pub numbers_from-append : (first value : ℕ) (before old new : List ℕ) → first ≤ value → old ≡ before ++ numbers_from first (value - first) → new ≡ old ++ value ∷ [] → new ≡ before ++ numbers_from first (value + 1 - first)
 numbers_from-append first value before old new ordered was push =
     let count : value + 1 - first ≡ suc (value - first) = omega (arith, ordered) in

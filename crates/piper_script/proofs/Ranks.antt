@@ -10,11 +10,11 @@ use Rattle.std.proofs.lemmas.Bool.Decides.{nat_tests}
 use Rattle.std.proofs.lemmas.List.Elements.{All-head, All-tail}
 use Rattle.piper_script.specs.Number.{IsNumber, number_of}
 
--- how the first of two numbers stands to the second
+-- how the first of two numbers is to the second
 abbrev Ranks : Ordering → ℕ → ℕ → Type 0
 Ranks order m n = MatchOrdering order (m < n) (m ≡ n) (n < m)
 
--- the number that digits write behind those of another
+-- the number that digits write after those of another
 abbrev after : ℕ → List ℕ → ℕ
 after n text = digits_value_after 10 n text
 
@@ -24,11 +24,11 @@ AreDigits text = All IsAsciiDigit text
 digit : (c : ℕ) → IsAsciiDigit c → digit_value c + 48 ≡ c
 digit c digits = grind (arith, nat_tests, digits)
 
--- one digit more behind each of two numbers
+-- one digit more after each of two numbers
 below_one_more : (m n x y : ℕ) → IsAsciiDigit x → IsAsciiDigit y → m < n → m * 10 + digit_value x < n * 10 + digit_value y
 below_one_more m n x y a b less = omega (arith, less, digit x a, a)
 
--- behind a smaller number as many digits write a smaller one
+-- after a smaller number as many digits write a smaller one
 below : (m n : ℕ) (xs ys : List ℕ) → m < n → length xs ≡ length ys → AreDigits xs → AreDigits ys → after m xs < after n ys
 below m n [] [] less long a b = less
 below m n [] (y ∷ ys) less long a b = absurd (omega (arith, long))
@@ -56,7 +56,7 @@ by_digits m n (x ∷ xs) (y ∷ ys) same long a b =
     decide Equal e rest = rest e
     decide Greater more rest = below (n * 10 + digit_value y) (m * 10 + digit_value x) ys xs (omega (arith, same, is_x, is_y, more)) (omega (arith, long)) (All-tail IsAsciiDigit y ys b) (All-tail IsAsciiDigit x xs a)
 
--- digits behind a number write more than no more digits behind none
+-- digits after a number write more than no more digits after none
 below_longer : (k n : ℕ) (xs ys : List ℕ) → 0 < n → length ys ≡ length xs + k → AreDigits xs → AreDigits ys → after 0 xs < after n ys
 below_longer zero n xs ys some long a b = below 0 n xs ys some (omega (arith, long)) a b
 below_longer (suc k) n xs [] some long a b = absurd (omega (arith, long))
@@ -79,7 +79,7 @@ by_texts xs ys a b = decide (nat_cmp (length xs) (length ys)) (ranked (length xs
     decide Equal same = by_digits 0 0 xs ys refl same a.digits b.digits
     decide Greater longer = by_length ys xs b a longer
 
--- what `<=` of two pairs tells, where `cmp` tells which is the greater
+-- what `<=` of two pairs reports, where `cmp` reports which is the greater
 decides : (m n : ℕ) (o p : Ordering) → Ranks (ordering_then o p) m n → IsTrue (is_some_and is_le (partial_ordering_then (Some o) (Some p))) ↔ (m ≤ n)
 decides m n Less p h = (λ _. omega (arith, h), λ _. refl)
 decides m n Equal Less h = (λ _. omega (arith, h), λ _. refl)

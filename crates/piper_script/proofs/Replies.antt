@@ -17,7 +17,7 @@ pub joined-first : {A : Type 0} (separator : ℕ) (text : A → List ℕ) (first
 joined-first separator text first rest things old new word whole printed written =
     printed ∙ ap (λ (words : List ℕ). old ++ words) (written ∙ sym (ap (λ (xs : List _). joined_or_dash separator text (take 1 xs)) whole))
 
--- a loop has printed `i` things behind the first, and prints the next
+-- a loop has printed `i` things after the first, and prints the next
 pub joined-next : {A : Type 0} (separator : ℕ) (text : A → List ℕ) (first next : A) (rest things : List A) (old so_far with_separator new word : List ℕ) (i : ℕ) → things ≡ first ∷ rest → i < length rest
     → next ≡ get_or rest i next → so_far ≡ old ++ joined_or_dash separator text (take (i + 1) things) → with_separator ≡ so_far ++ separator ∷ [] → new ≡ with_separator ++ word → word ≡ text next
     → new ≡ old ++ joined_or_dash separator text (take (i + 1 + 1) things)

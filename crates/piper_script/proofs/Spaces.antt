@@ -75,7 +75,7 @@ pub side_has_no_space : (side : Side) → HasNoSpace (side_text side)
 side_has_no_space Reader = word_lacks 32 (codes "r") refl
 side_has_no_space Writer = word_lacks 32 (codes "w") refl
 
--- what a drawn number and the words behind it say
+-- what a drawn number and the words after it say
 pub record SaysDraw (luck : SaidLuck) (words : List ℕ) : Type 0 where
   pub draw : ℕ
   pub is : luck.draw ≡ Some draw
@@ -119,7 +119,7 @@ draw_alone words luck cut said =
     let none = no_denials luck.no_register luck.no_yield parts.1 in
     (parts.0, none.0, none.1)
 
--- and one with words behind it
+-- and one with words after it
 pub draw_first : (words : List ℕ) (luck : SaidLuck) (draw after : Bor (List ℕ)) → IsSplitOnceResult 32 words (Some (draw, after)) → (said : SaysDraw luck words) → (draw.now ≡ decimal said.draw) × (32 ∷ after.now ≡ denials_text luck.no_register luck.no_yield)
 draw_first words luck draw after cut said =
     cut_at_space words (decimal said.draw) (denials_text luck.no_register luck.no_yield) (Some (draw, after)) cut said.written (number_has_no_space said.draw (omega (arith, said.small))) (denials_after luck.no_register luck.no_yield)
@@ -131,7 +131,7 @@ joined_luck first second luck said draw no_register no_yield is a b c d =
     let words : (luck.no_register, luck.no_yield) ≡ (no_register, no_yield) = cc in
     luck_is luck (Some draw) no_register no_yield (cc) (ap (λ (w : Bool × Bool). w.0) words) (ap (λ (w : Bool × Bool). w.1) words)
 
--- two words, and luck behind them
+-- two words, and luck after them
 pub cut_two_words : (arguments first second : List ℕ) (luck : SaidLuck) (r : Option (Bor (List ℕ) × Bor (List ℕ))) → IsSplitOnceResult 32 arguments r → 32 ∷ arguments ≡ (32 ∷ first ++ 32 ∷ second) ++ luck_text luck → HasNoSpace first
     → MatchOption r ⊥ (λ x. (x.0.now ≡ first) × (x.1.now ≡ second ++ luck_text luck))
 cut_two_words arguments first second luck r cut e lacks =

@@ -1,4 +1,4 @@
--- Which bytes stand in the texts of numbers, items, lists and acts.
+-- Which bytes are in the texts of numbers, items, lists and acts.
 use Rattle.std.proofs.Common.{◌≡◌, ◌≢◌, ℕ, ◌+◌, ◌<◌, ◌≤◌, ◌^◌, take, drop, Bor, Option, None, Some, List, [], ◌∷◌, ◌++◌, codes, decimal, length, get_or, Bool, true, false, cond, All, refl, sym, ap, ◌∙◌, arith, length-append}
 use Rattle.std.specs.Int.{IsInRange}
 use Rattle.std.proofs.lemmas.Bool.{false≢true}
@@ -84,19 +84,19 @@ dash_is_no_list first rest some e = omega (arith, some, ap length e, length-appe
 pub digits_lack : (byte : ℕ) (text : List ℕ) → All IsDigit text → byte < 48 → Lacks byte text
 digits_lack byte text digits low = All-weaker IsDigit (λ b. b ≢ byte) (λ b digit e. omega (arith, digit, low, e)) text digits
 
--- a text in which the two dots stand has a dot
+-- a text in which the two dots are has a dot
 pub dots_are_in : (text before after : List ℕ) → text ≡ before ++ (codes ".." ++ after) → ¬ (Lacks 46 text)
 dots_are_in text before after e lacks =
     let inside : length before < length text = omega (arith, ap length e, length-append before (codes ".." ++ after)) in
     lacks (length before) 0 inside (ap (λ t. get_or t (length before) 0) e ∙ get_or-append_seam before 46 (46 ∷ after) 0)
 
--- a text in which a byte stands does not lack it
+-- a text in which a byte is does not lack it
 pub byte_is_in : (byte : ℕ) (text before after : List ℕ) → text ≡ before ++ byte ∷ after → ¬ (Lacks byte text)
 byte_is_in byte text before after e lacks =
     let inside : length before < length text = omega (arith, ap length e, length-append before (byte ∷ after)) in
     lacks (length before) 0 inside (ap (λ t. get_or t (length before) 0) e ∙ get_or-append_seam before byte after 0)
 
--- the two dots are found where they first stand
+-- the two dots are found where they first are
 pub cut_at_dots : (text first last : List ℕ) (r : Option (Bor (List ℕ) × Bor (List ℕ)))
     → MatchOption r (FindsText (codes "..") text None) (λ x. (i : ℕ) × (j : ℕ) × FindsText (codes "..") text (Some (i, j)) × (x.0.now ≡ take i text) × (x.1.now ≡ drop j text) × (i ≤ j) × (length x.0.now ≡ i) × (length x.1.now + j ≡ length text))
     → text ≡ first ++ (codes ".." ++ last) → Lacks 46 first → MatchOption r ⊥ (λ x. (x.0.now ≡ first) × (x.1.now ≡ last))

@@ -37,7 +37,7 @@ denials_text no_register no_yield =
 abbrev pub luck_text : SaidLuck → List ℕ
 luck_text luck = draw_text luck.draw ++ denials_text luck.no_register luck.no_yield
 
--- a text behind a space
+-- a text after a space
 abbrev pub spaced : List ℕ → List ℕ
 spaced text = 32 ∷ text
 
@@ -59,7 +59,7 @@ call_name (Produced n) = codes "produced"
 call_name Close = codes "close"
 call_name (Drop side) = codes "drop"
 
--- what stands behind the name
+-- what follows the name
 abbrev pub call_arguments : SaidCall → List ℕ
 call_arguments (Len side) = spaced (side_text side)
 call_arguments (IsEmpty side) = spaced (side_text side)
@@ -163,11 +163,11 @@ Asks arguments said = (spaced arguments ≡ call_arguments said) × IsCallInLimi
 abbrev pub AsksCommand : List ℕ → Command → Type 0
 AsksCommand arguments said = (spaced arguments ≡ command_arguments said) × IsInLimits said
 
--- nothing, or more words behind a space
+-- nothing, or more words after a space
 abbrev pub IsAfter : Text → Type 0
 IsAfter text = (text ≡ []) ⊎ ((words : Text) × (text ≡ spaced words))
 
--- the text before its first space, and what stands behind that
+-- the text before its first space, and what follows that
 pub record IsFirstWord (text word rest : Text) : Type 0 where
   pub after : Text
   pub written : text ≡ word ++ after
@@ -203,7 +203,7 @@ named_side (Poll side waker luck) = spaced (side_text side)
 named_side (Drop side) = spaced (side_text side)
 named_side said = []
 
--- the text begins as that of a call of this side does, as far as it tells whose call it is
+-- the text begins as that of a call of this side does, as far as it reports whose call it is
 pub record CallsFor (text : Text) (side : Side) : Type 0 where
   pub said : SaidCall
   pub after : Text

@@ -63,7 +63,7 @@ side_prefix (Some Writer) = codes "w "
 abbrev pub event_line : Event → List ℕ
 event_line event = side_prefix (side_of_event event) ++ event_word event ++ codes "\n"
 
--- what two calls answered, whom they woke, and what they left unread
+-- what two calls returned, whom they woke, and what they left unread
 abbrev pub outcome_line : Answer → Answer → List ℕ → List ℕ → List ℕ
 outcome_line reader writer woken unread =
     codes "r=" ++ answer_word reader

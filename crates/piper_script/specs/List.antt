@@ -36,7 +36,7 @@ pub record Denotes (text bytes : List ℕ) : Type 0 where
   pub written : text ≡ list_text items
   pub meant : bytes ≡ flat_map item_bytes items
 
--- the text writes items that stand for so many bytes together, within the limit
+-- the text writes items that represent so many bytes together, within the limit
 pub record IsListText (text : List ℕ) (len : ℕ) : Type 0 where
   pub items : List Item
   pub written : text ≡ list_text items

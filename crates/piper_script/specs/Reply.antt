@@ -33,7 +33,7 @@ copied_text (Ready (Err failed)) = codes "failed"
 copied_text Pending = codes "pending"
 copied_text Memory = codes "memory"
 
--- what a whole call answers
+-- what a whole call returns
 abbrev pub answer_text : Answer → List ℕ
 answer_text (Count n) = decimal n
 answer_text (Flag b) = flag_text b

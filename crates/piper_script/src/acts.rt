@@ -12,7 +12,7 @@ use crate::stop::Stop;
 use piper_protocol::scripted::{ActList, DestAct, SourceAct};
 use std::alloc::Global;
 
-/// The acts of a source: their text, and how many bytes their lists stand for.
+/// The acts of a source: their text, and how many bytes their lists represent.
 #[derive(Clone, Copy)]
 pub struct Sources<'line> {
     pub text: &'line str,
@@ -36,7 +36,7 @@ impl<'line> Sources<'line> {
         for act in text.split('/') {
             match source_len(act) {
                 Ok(count) => len = len.saturating_add(count),
-                // A later act may still be no act, which is told first.
+                // A later act may still be no act, which is reported first.
                 Err(Refusal::Limit) => len = usize::MAX,
                 Err(refusal) => return Err(refusal),
             }
@@ -75,7 +75,7 @@ impl<'line> Sources<'line> {
     }
 }
 
-// How many bytes an act of a source stands for.
+// How many bytes an act of a source represents.
 fn source_len(text: &str) -> Result<usize, Refusal>
     ensures source { IfOk result (IsSourceText text.now) }
     ensures refused { IfErr result IsTextRefusal }
@@ -122,7 +122,7 @@ impl<'line> Dests<'line> {
         for act in text.split('/') {
             match dest(act) {
                 Ok(_) => {}
-                // A later act may still be no act, which is told first.
+                // A later act may still be no act, which is reported first.
                 Err(Refusal::Limit) => is_within = false,
                 Err(refusal) => return Err(refusal),
             }

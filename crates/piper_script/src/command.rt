@@ -13,7 +13,7 @@ pub const MOST: usize = 1_048_576;
 pub enum Command<'line> {
     /// Puts a new machine of this capacity in place of the old one.
     Pipe(usize),
-    /// Shows the known bytes that stand in one piece.
+    /// Shows the known bytes that are contiguous.
     Peek,
     /// A call, made whole.
     Whole(SaidCall<'line>),
@@ -72,7 +72,7 @@ pub struct SaidLuck {
 pub enum Steps {
     One,
     Count(usize),
-    /// At least one, until the call answers.
+    /// At least one, until the call returns.
     ToAnswer,
 }
 

@@ -41,7 +41,7 @@ impl Reply {
         Ok(())
     }
 
-    /// Writes an event on a line of its own, behind the letter of its side.
+    /// Writes an event on a line of its own, after the letter of its side.
     pub fn write_event_line(&mut self, event: &Event) -> Result<(), AllocError>
         ensures { OnOk result (self.new ≡ self.old ++ event_line event.now) }
     {
@@ -85,7 +85,7 @@ impl Reply {
         }
     }
 
-    /// Writes what two calls answered, whom they woke, and what they left unread.
+    /// Writes what two calls returned, whom they woke, and what they left unread.
     pub fn write_outcome(
         &mut self,
         reader: Answer,

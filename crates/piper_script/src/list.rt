@@ -40,7 +40,7 @@ impl Item {
         Ok(Item::Byte(byte(text)?))
     }
 
-    /// How many bytes the item stands for.
+    /// How many bytes the item represents.
     fn len(self) -> usize
         requires { IsItem self }
         ensures { result ≡ length (item_bytes self) }
@@ -95,7 +95,7 @@ pub fn byte(text: &str) -> Result<u8, Refusal>
     Ok(value as u8)
 }
 
-/// A list of bytes: its text, and how many bytes it stands for.
+/// A list of bytes: its text, and how many bytes it represents.
 #[derive(Clone, Copy)]
 pub struct List<'line> {
     pub text: &'line str,
@@ -120,7 +120,7 @@ impl<'line> List<'line> {
         for item in text.split(',') {
             match Item::parse(item) {
                 Ok(item) => len = len.saturating_add(item.len()),
-                // A later item may still be no item, which is told first.
+                // A later item may still be no item, which is reported first.
                 Err(Refusal::Limit) => len = usize::MAX,
                 Err(refusal) => return Err(refusal),
             }
@@ -159,7 +159,7 @@ impl<'line> List<'line> {
     }
 }
 
-/// Both values, or the refusal that is told first: `Syntax` comes before `Limit`.
+/// Both values, or the refusal that is reported first: `Syntax` comes before `Limit`.
 pub fn both<A: Drop, B: Drop>(
     first: Result<A, Refusal>,
     second: Result<B, Refusal>,

@@ -75,7 +75,7 @@ fn side_of_call(text: &str) -> Option<Side>
     }
 }
 
-// The text before the first space, and what stands behind that.
+// The text before the first space, and what follows that.
 fn first_word(text: &str) -> (&str, &str)
     ensures cut { (front after : Text) → HasNoSpace front → IsAfter after →
         text.now ≡ front ++ after → (result.0.now ≡ front) × (result.1.now ≡ drop 1 after) }
@@ -278,7 +278,7 @@ fn drain_to(arguments: &str) -> Result<SaidCall<'_>, Refusal>
 
 type TwoWords<'line> = (&'line str, &'line str, Result<SaidLuck, Refusal>);
 
-// Two words, and the luck behind them.
+// Two words, and the luck after them.
 fn two_words(arguments: &str) -> Result<TwoWords<'_>, Refusal>
     ensures text { IfOk result (λ (first, second, luck). IfOk luck (λ luck.
         spaced arguments.now ≡ spaced first.now ++ spaced second.now ++ luck_text luck)) }
@@ -295,7 +295,7 @@ fn two_words(arguments: &str) -> Result<TwoWords<'_>, Refusal>
     Ok((first, second, luck))
 }
 
-// The text before the first space, and the luck that stands behind it.
+// The text before the first space, and the luck that follows it.
 fn without_luck(text: &str) -> (&str, Result<SaidLuck, Refusal>)
     ensures text { IfOk result.1 (λ luck. text.now ≡ result.0.now ++ luck_text luck) }
     ensures refused { IfErr result.1 IsTextRefusal }
@@ -333,7 +333,7 @@ fn luck(words: &str) -> Result<SaidLuck, Refusal>
     })
 }
 
-// The luck that a number says which is drawn, and the words behind it.
+// The luck that a number says which is drawn, and the words after it.
 fn drawn(words: &str) -> Result<SaidLuck, Refusal>
     ensures text { IfOk result (λ luck. codes " draw=" ++ words.now ≡ luck_text luck) }
     ensures refused { IfErr result IsTextRefusal }

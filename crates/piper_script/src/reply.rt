@@ -72,7 +72,7 @@ impl Reply {
         self.write(if flag { "true" } else { "false" })
     }
 
-    /// Writes what a whole call answers.
+    /// Writes what a whole call returns.
     pub fn write_answer(&mut self, answer: Answer) -> Result<(), AllocError>
         ensures { OnOk result (self.new ≡ self.old ++ answer_text answer) }
     {

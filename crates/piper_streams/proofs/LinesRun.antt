@@ -61,7 +61,7 @@ module _ {R : Type 0} (taken known : R → List ℕ) (saw : R → Bool) (end lim
   comes_error r0 r1 k0 k1 e items last moves runs =
       (runs.0, runs.1, together r0 r1 k0 k1 (Err e) items last moves runs, runs.3, runs.4)
 
-  -- what stands behind the last line, and then the end
+  -- what follows the last line, and then the end
   pub comes_last : (r0 r1 : R) (k0 k1 : List ℕ) (line : Vec ℕ Global) (items : List Item) (last : Option Item) → Moves (taken r0) (taken r1) k0 line.items k1
       → Lacks end line.items → 0 < length line.items → k1 ≡ [] → AtEnd (known r1) (saw r1) → Ends items last
       → LineRuns taken known saw end limit r0 k0 (Ok line ∷ items) last

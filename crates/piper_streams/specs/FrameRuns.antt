@@ -31,8 +31,8 @@ Fits limit (Err e) = ⊤
 abbrev pub EndsInError : List Item → Type 0
 EndsInError items = (front : List Item) × (e : PipeError) × (items ≡ front ++ Err e ∷ [])
 
--- what may come from a reader and what is kept of a frame: none of the bytes that were taken
--- is lost, made up or out of its place. The end is told where nothing is left, or behind an error
+-- what may come from a reader and what is kept of a frame: none of the bytes that were taken is
+-- lost, made up or out of its place. The end is reported where nothing is left, or after an error
 abbrev pub FrameRuns : {R : Type 0} → (R → List ℕ) → (R → List ℕ) → (R → Bool) → FrameHeader
     → ℕ → R → List ℕ → List Item → Option Item → Type 0
 FrameRuns {R} taken known saw format limit reader kept items last =

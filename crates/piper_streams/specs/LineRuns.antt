@@ -27,13 +27,13 @@ abbrev pub last_bytes : Option Item → List ℕ
 last_bytes None = []
 last_bytes (Option.Some item) = item_bytes item
 
--- a piece, or what stands behind the last line
+-- a piece, or what follows the last line
 abbrev pub IsPart : ℕ → ℕ → Item → Type 0
 IsPart end limit (Ok line) =
     IsPiece end limit line.items ⊎ (Lacks end line.items × (0 < length line.items))
 IsPart end limit (Err e) = ⊤
 
--- each item is a whole piece, but for what stands behind the last line, behind which nothing comes
+-- each item is a whole piece, but for what follows the last line, after which nothing comes
 abbrev pub ArePieces : ℕ → ℕ → List Item → Option Item → Type 0
 ArePieces end limit [] last = IfSome last (IsPart end limit)
 ArePieces end limit (Err e ∷ items) last = ArePieces end limit items last
@@ -42,7 +42,7 @@ ArePieces end limit (Ok line ∷ items) last =
     ⊎ (Lacks end line.items × (0 < length line.items) × Ends items last)
 
 -- what may come from a reader and what is kept of a line: none of the bytes that were taken is
--- lost, made up or out of its place, and nothing is left where the end is told
+-- lost, made up or out of its place, and nothing is left where the end is reported
 abbrev pub LineRuns : {R : Type 0} → (R → List ℕ) → (R → List ℕ) → (R → Bool) → ℕ → ℕ
     → R → List ℕ → List Item → Option Item → Type 0
 LineRuns {R} taken known saw end limit reader kept items last =

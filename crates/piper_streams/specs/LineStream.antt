@@ -11,6 +11,6 @@ lines_of stream = stream.lines
 abbrev pub limit_of : {R : Type 0} → LineStream R → ℕ
 limit_of stream = stream.limit
 
--- the end was told
+-- the end was reported
 abbrev pub ended_of : {R : Type 0} → LineStream R → Bool
 ended_of stream = stream.is_ended

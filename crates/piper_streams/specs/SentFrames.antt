@@ -12,7 +12,7 @@ use Rattle.piper_streams.specs.declared.write_sink.frame_sink.FrameSink.{FrameSi
 abbrev pub frames_below : {W : Type 0} → FrameSink W → WriteSink W
 frames_below frames = frames.sink
 
--- how the length of a frame is told
+-- how the length of a frame is reported
 abbrev pub header_of : {W : Type 0} → FrameSink W → FrameHeader
 header_of frames = frames.format
 

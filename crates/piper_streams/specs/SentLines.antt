@@ -15,7 +15,7 @@ lines_below lines = lines.sink
 abbrev pub ending_of : {W : Type 0} → LineSink W → ℕ
 ending_of lines = lines.end
 
--- a text with this byte behind it
+-- a text with this byte after it
 abbrev pub line_of : ℕ → Vec ℕ Global → List ℕ
 line_of end text = text.items ++ end ∷ []
 

@@ -16,9 +16,9 @@ use std::io::ErrorKind;
 
 /// The bodies of a reader's frames, as a stream.
 ///
-/// A frame of more bytes than the limit is told by an error of the kind `InvalidData`, and an end
-/// inside a frame by one of the kind `UnexpectedEof`; behind either the stream ends, and
-/// `into_frames` gives what is kept. Behind another error it goes on where it was. In clauses,
+/// A frame of more bytes than the limit is reported by an error of the kind `InvalidData`, and an
+/// end inside a frame by one of the kind `UnexpectedEof`; after either the stream ends, and
+/// `into_frames` gives what is kept. After another error it goes on where it was. In clauses,
 /// `frames_of` are the frames below, `frame_limit_of` the limit, and `is_over` whether the stream
 /// has ended.
 #[derive(Drop)]
@@ -33,7 +33,7 @@ pub struct FrameStream<R> {
 impl<R: AsyncBufRead + Drop> FrameStream<R> {
     ghost use Rattle.piper_streams.specs.FrameStream.{frames_of, frame_limit_of, is_over};
 
-    /// The frames of at most `limit` bytes, whose length is told in four bytes, the most
+    /// The frames of at most `limit` bytes, whose length is reported in four bytes, the most
     /// significant first. Memory is asked for where a frame comes.
     pub fn new(alloc: Global, reader: R, limit: usize) -> FrameStream<R>
         ensures reader { reader_of (frames_of result) ≡ reader }
@@ -46,7 +46,7 @@ impl<R: AsyncBufRead + Drop> FrameStream<R> {
         FrameStream::with_header(alloc, reader, format, limit)
     }
 
-    /// The frames of at most `limit` bytes, whose length is told in this way.
+    /// The frames of at most `limit` bytes, whose length is reported in this way.
     pub fn with_header(
         alloc: Global,
         reader: R,

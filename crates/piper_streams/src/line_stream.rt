@@ -13,12 +13,12 @@ use piper_lines::{LineAnswer, Lines};
 use std::alloc::Global;
 use std::fmt::{self, Debug, Formatter};
 
-/// The lines of a reader, each with the byte that ends it, as a stream; the last is what stands
-/// behind the last line.
+/// The lines of a reader, each with the byte that ends it, as a stream; the last is what follows
+/// the last line.
 ///
-/// A line of more bytes than the limit comes in pieces of that many. Behind an error the stream
-/// goes on where it was: what was taken of a line is kept. In clauses, `lines_of` are the lines
-/// below, `limit_of` the limit, and `ended_of` whether the end was told.
+/// A line of more bytes than the limit comes in pieces of that many. After an error the stream goes
+/// on where it was: what was taken of a line is kept. In clauses, `lines_of` are the lines below,
+/// `limit_of` the limit, and `ended_of` whether the end was reported.
 #[derive(Drop)]
 pub struct LineStream<R> {
     lines: Lines<R>,
@@ -61,7 +61,7 @@ impl<R: AsyncBufRead + Drop> LineStream<R> {
         }
     }
 
-    /// Gives the reader back. What is kept of a line is let go.
+    /// Gives the reader back. What is kept of a line is dropped.
     pub fn into_reader(self) -> R
         ensures { result ≡ reader_of (lines_of self) }
     {

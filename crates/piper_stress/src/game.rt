@@ -21,7 +21,7 @@ const STALLED: u64 = 20;
 /// So many microseconds lie between two looks of the thread that watches.
 const BETWEEN_LOOKS: u64 = 300;
 
-/// Plays the game of a plan, and answers how many bytes the reader took.
+/// Plays the game of a plan, and returns how many bytes the reader took.
 pub fn play<R>(rt: &R, plan: Plan) -> io::Result<Result<u64, Fault>>
 where
     R: Wait + Threads + Clock + RandomSource + AllocGlobal + Clone + Drop + Send + Sync + 'static,

@@ -19,7 +19,7 @@ Plays games of two threads on one pipe, with the seeds SEED, SEED + 1 and so on,
 In a game one thread writes and one reads, by all calls of the handles as the seed mixes them, over a pipe of 1 to 16 bytes; each sleeps where a call is pending. A game ends as its seed says: the writer closes the pipe or is dropped, or the reader is dropped.
 The status is 0 where nothing was found, 1 where a game went wrong (its seed and what was seen stand on standard error), and 2 where the words are not these.";
 
-/// The words behind the program's name, or `None` where they are not what it takes.
+/// The words after the program's name, or `None` where they are not what it takes.
 fn asked_for(rt: &HostRuntime) -> Option<Hunt> {
     let mut words = env::args(rt).ok()?.skip(1);
     let first_seed = words.next()?.as_str().parse::<u64>().ok()?;

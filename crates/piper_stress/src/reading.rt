@@ -170,7 +170,7 @@ impl<'a> Reading<'a> {
         Ok(Taken::Bytes(0))
     }
 
-    // The end was told: all bytes must have been taken, and the end must stay.
+    // The end was reported: all bytes must have been taken, and the end must stay.
     fn end(&mut self, cx: &mut Context<'_>) -> Result<u64, Fault> {
         let given = self.watch.given();
         if self.taken < given {

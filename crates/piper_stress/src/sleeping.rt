@@ -10,7 +10,7 @@ use std::sync::Wait;
 
 /// A side of a game: it makes calls of its handle until one is pending, or it has ended.
 pub trait Side {
-    /// The calls up to one that is pending. At the end it answers how many bytes it moved.
+    /// The calls up to one that is pending. At the end it returns how many bytes it moved.
     fn turn<R: Wait>(&mut self, rt: &R, cx: &mut Context<'_>) -> Poll<Result<u64, Fault>>
         ensures armed { OnPending result (IsArmed cx.new) };
 }

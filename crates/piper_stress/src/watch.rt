@@ -8,17 +8,17 @@ use std::sync::atomic::Ordering::SeqCst;
 /// What went wrong in a game.
 #[derive(Clone, Copy)]
 pub enum Fault {
-    /// Both sides slept, or one did behind the other's end: a wake was lost.
+    /// Both sides slept, or one did after the other's end: a wake was lost.
     Stalled,
     /// The reader took another byte than the writer gave there.
     WrongByte,
-    /// The reader was told the end before it had taken all that was given.
+    /// The reader was given the end before it had taken all that was given.
     FalseEnd,
     /// The reader took more than was given.
     TooMany,
-    /// A byte came behind an end that was told.
+    /// A byte came after an end that was reported.
     NoEnd,
-    /// A count or a flag was told that can't be.
+    /// A count or a flag was reported that can't be.
     WrongCount,
     /// A call failed.
     Refused,

@@ -129,7 +129,7 @@ impl Side for Writing<'_> {
     }
 }
 
-// Puts there what the writer gives from this place on, and answers how many bytes.
+// Puts there what the writer gives from this place on, and returns how many bytes.
 fn put(to: &mut [u8], from: u64) -> usize
     ensures { result ≡ length to.old }
 {

@@ -131,10 +131,10 @@ impl AsyncWrite for Keeper {
 const BYTES: &[u8] = b"abcdefghijklmnopqrstuvwxyzabcdefghijklmnopqrstuvwxyz\
     abcdefghijklmnopqrstuvwxyzabcdefghijklmnopqrstuvwxyz";
 
-/// Makes the polls of a copy of so many bytes: what each must answer, and how many bytes were
+/// Makes the polls of a copy of so many bytes: what each must return, and how many bytes were
 /// carried by then. The reader fails at the first of the two calls, and the writer at the second;
-/// none has the number 0. What was carried stands in the writer, and none is lost; who is pending
-/// asked for another poll.
+/// none has the number 0. What was carried is in the writer, and none is lost; who is pending asked
+/// for another poll.
 fn carries<R>(
     rt: &R,
     len: usize,

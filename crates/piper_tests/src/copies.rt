@@ -55,7 +55,7 @@ const KINDS: [ErrorKind; 41] = [
     ErrorKind::InProgress,
 ];
 
-/// What a copy answers whose last call of the end fails with an error of this kind, or moves none.
+/// What a copy returns whose last call of the end fails with an error of this kind, or moves none.
 fn ended(moved: usize, error: Option<ErrorKind>) -> Moved<usize> {
     match error {
         Some(kind) => Moved::Failed(kind),
@@ -190,7 +190,7 @@ fn a_destination_that_takes_none_ends_a_drain(rt: HostRuntime) {
 }
 
 /// The second call of an end fails with an error of this kind, which comes out as it is, though the
-/// copy's handle knew of bytes or room before; and a call behind it goes on.
+/// copy's handle knew of bytes or room before; and a call after it goes on.
 fn reports_error<H>(rt: &H, through: Through, kind: ErrorKind)
 where
     H: Abort + Wait + RandomSource + AllocGlobal,

@@ -30,7 +30,7 @@ enum Give<'a> {
 enum Take<'a> {
     /// So many bytes as these are.
     Bytes(&'a [u8]),
-    /// The same, behind which no byte comes.
+    /// The same, after which no byte comes.
     Last(&'a [u8]),
     Line(&'a [u8]),
     /// All up to the pipe's end, by drains.

@@ -60,7 +60,7 @@ impl End {
         &self.lens[..self.calls.min(8)]
     }
 
-    /// Notes a call on a slice of this length, and tells how many bytes of it are to be moved.
+    /// Notes a call on a slice of this length, and reports how many bytes of it are to be moved.
     fn called(&mut self, len: usize) -> Result<usize, ErrorKind>
         ensures count { IfOk result (λ n. n ≤ len) }
         ensures failures { Counts result self.old.failures self.new.failures }

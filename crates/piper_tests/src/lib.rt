@@ -1,6 +1,6 @@
-//! Examples of the public calls of `piper`, `piper_lines` and `piper_duplex`; and tests of the pipe, of
-//! the ring below it, of the futures, streams and sinks over it, and of the machine. They stand apart,
-//! so that these crates are proved once.
+//! Examples of the public calls of `piper`, `piper_lines` and `piper_duplex`; and tests of the
+//! pipe, of the ring below it, of the futures, streams and sinks over it, and of the machine. They
+//! are a crate of their own, so that these crates are proved once.
 #![tactic(auto)]
 
 #[cfg(test)]

@@ -1,4 +1,4 @@
-//! The machine, the sides that it stands on, and its callers.
+//! The machine, the sides that it builds on, and its callers.
 mod caller;
 mod runs;
 mod sides;

@@ -1,4 +1,4 @@
-//! Last marks: what a handle that was dropped tells the other one.
+//! Last marks: what a handle that was dropped reports the other one.
 ghost use Rattle.piper.specs.Handles.{ArePair};
 
 use crate::pair::{pipe_at_last, same, task_at_last};

@@ -1,4 +1,4 @@
-//! Both handles in one hand, and marks carried from one to the other.
+//! Both handles held by one thread, and marks carried from one to the other.
 ghost use Rattle.std.specs.Prelude.{◌≡◌};
 
 use crate::pair::{granted, pipe_at_last, same, task_at_last};
@@ -39,7 +39,7 @@ fn without_a_meeting_the_writer_takes_one_byte(rt: HostRuntime) {
     same(&rt, &"taken", taken_after(&rt, false), 1);
 }
 
-/// A poll behind a heeded mark finds the bytes that were published before it.
+/// A poll after a heeded mark finds the bytes that were published before it.
 fn finds_what_was_marked<H>(rt: &H)
 where
     H: Abort + Wait + RandomSource + AllocGlobal,

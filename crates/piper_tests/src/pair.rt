@@ -53,7 +53,7 @@ pub(crate) enum Act<'a> {
     Closed(bool),
 }
 
-/// What a poll answers, where it is not refused.
+/// What a poll returns, where it is not refused.
 #[derive(Clone, Copy, Debug, PartialEq, Eq)]
 pub(crate) enum Polled {
     Pending,
@@ -61,7 +61,7 @@ pub(crate) enum Polled {
     End,
 }
 
-/// What a copy answers.
+/// What a copy returns.
 #[derive(Clone, Copy, Debug, PartialEq, Eq)]
 pub(crate) enum Moved<T> {
     Pending,
@@ -151,7 +151,7 @@ fn copied_inner(polled: Poll<Result<usize, Inner<ErrorKind>>>) -> Moved<usize> {
     }
 }
 
-/// What a copy over a reader or a writer answers.
+/// What a copy over a reader or a writer returns.
 pub(crate) fn copied<T: Drop>(polled: Poll<Result<T, PipeError>>) -> Moved<T> {
     match polled {
         Poll::Pending => Moved::Pending,

@@ -1,4 +1,4 @@
-//! The ring's two ends over their public calls: in one hand, and on two threads.
+//! The ring's two ends over their public calls: held by one thread, and on two threads.
 mod acts;
 mod one_thread;
 mod two_threads;

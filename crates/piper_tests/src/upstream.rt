@@ -1,4 +1,4 @@
-//! What the Rust crate tests of its own pipe on one thread. What it tests across threads stands in
+//! What the Rust crate tests of its own pipe on one thread. What it tests across threads is in
 //! crossing.rt.
 use crate::pair::{Act, plays};
 

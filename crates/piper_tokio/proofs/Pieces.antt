@@ -9,7 +9,7 @@ use Rattle.piper.specs.ReadView.{ReadView, in_one_piece, read_place}
 place_on : (capacity m n : ℕ) → slot_of capacity m + n < capacity → slot_of capacity (m + n) ≡ slot_of capacity m + n
 place_on capacity m n near = sym (slot_add capacity m n) ∙ slot_small capacity (slot_of capacity m + n) near
 
--- n bytes of a piece at the place s were consumed, and the next byte stands at the place t
+-- n bytes of a piece at the place s were consumed, and the next byte is at the place t
 piece_on : (capacity known s n t : ℕ) → n ≤ min known (capacity - s) → (s + n < capacity → t ≡ s + n) → Dec (capacity ≤ s + n) → min known (capacity - s) - n ≤ min (known - n) (capacity - t)
 piece_on capacity known s n t within near (yes round) = omega arith
 piece_on capacity known s n t within near (no before) = let at : t ≡ s + n = near (omega arith) in omega arith

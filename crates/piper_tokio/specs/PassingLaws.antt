@@ -37,7 +37,7 @@ same_write_end a b c p q =
       told = q.told ∙ p.told;
     }
 
--- bytes joined on behind others
+-- bytes joined on after others
 pub joined_on : (us vs ws xs ys : List ℕ) → vs ≡ us ++ xs → ws ≡ vs ++ ys → ws ≡ us ++ (xs ++ ys)
 joined_on us vs ws xs ys p q = q ∙ ap (λ zs. zs ++ ys) p ∙ append_assoc us xs ys
 

@@ -23,7 +23,7 @@ use piper_duplex::End;
 use std::io;
 use tokio::io::{AsyncBufRead, AsyncRead, AsyncWrite};
 
-/// An end of a duplex stream, as a reader and a writer of `tokio`. Where it is let go it closes
+/// An end of a duplex stream, as a reader and a writer of `tokio`. Where it is dropped it closes
 /// both pipes, first the one that it writes into, and wakes who waits at the other end.
 ///
 /// In clauses, `reader` and `writer` are what `into_halves` gives.

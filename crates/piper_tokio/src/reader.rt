@@ -6,10 +6,10 @@ mod streams;
 
 use piper::Reader;
 
-/// The reading side of a pipe, as a reader of `tokio`. Where it is let go it closes the pipe and
+/// The reading side of a pipe, as a reader of `tokio`. Where it is dropped it closes the pipe and
 /// wakes the writer.
 ///
-/// In clauses, `reader` is the handle that the call of this name lends, and `shown_by` tells the
+/// In clauses, `reader` is the handle that the call of this name lends, and `shown_by` reports the
 /// bytes that `buffer` shows.
 pub struct CompatReader {
     reader: Reader,

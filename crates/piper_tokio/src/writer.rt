@@ -17,7 +17,7 @@ use futures::task::{Context, Poll};
 use piper::{OutOfMemory, Writer};
 use std::io;
 
-/// The writing side of a pipe, as a writer of `tokio`. Where it is let go it closes the pipe and
+/// The writing side of a pipe, as a writer of `tokio`. Where it is dropped it closes the pipe and
 /// wakes the reader.
 ///
 /// In clauses, `writer` is the handle that the call of this name lends.

@@ -86,7 +86,7 @@ where
             .collect(alloc)
             .map_ok(move |body| (status, body))
     });
-    // With no sender left the connection ends behind this request, and `join` with it.
+    // With no sender left the connection ends after this request, and `join` with it.
     drop(sender);
     let (status, body) = block_on(rt, join(page, connection))?.0?;
     Ok((status, body.to_bytes()?))
@@ -104,7 +104,7 @@ fn a_service_answers_each_path(rt: HostRuntime) -> Result<(), Fail> {
         // Each path has a stream of its own, as it would have a connection of its own to a server.
         let (near, far) = duplex(rt.alloc(), 64, 64, 1).expect(&rt, "memory");
         let (near, far) = (CompatEnd::new(near), CompatEnd::new(far));
-        // The service owns its end: where it returns, the end is let go, which closes both pipes
+        // The service owns its end: where it returns, the end is dropped, which closes both pipes
         // and wakes a client that waits.
         let child = thread::spawn(&rt, move || serve(&theirs, far))?;
         let (came_status, came_page) = fetch(&rt, near, path)?;

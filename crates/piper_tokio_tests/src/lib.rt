@@ -1,5 +1,5 @@
-//! Tests of `tokio`, its codecs, `tungstenite` and `hyper` over pipes. They stand apart, so that the
-//! crate is proved once.
+//! Tests of `tokio`, its codecs, `tungstenite` and `hyper` over pipes. They are a crate of their
+//! own, so that the crate is proved once.
 #![tactic(auto)]
 
 #[cfg(test)]

@@ -17,7 +17,7 @@ fn is_pending<I: AsyncBufRead>(task: &MockTask, reader: &mut I) -> bool {
     matches!(task.enter(|cx| reader.poll_fill_buf(cx)), Poll::Pending)
 }
 
-/// A fill is ready, and these bytes are shown behind it.
+/// A fill is ready, and these bytes are shown after it.
 fn shows<I: AsyncBufRead>(rt: &impl Abort, task: &MockTask, reader: &mut I, wanted: &[u8]) {
     let filled = task.enter(|cx| reader.poll_fill_buf(cx));
     confirm(rt, matches!(filled, Poll::Ready(Ok(()))));

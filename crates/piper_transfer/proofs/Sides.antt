@@ -22,7 +22,7 @@ fed_more i j k a b c p q = record {
 pub fed_same : (i j : Option (List ℕ)) (a b c : WriteView) → Fed i j a b → c.sent ≡ b.sent → c.ring ≡ b.ring → Fed i j a c
 fed_same i j a b c p sent ring = record { given = p.given; consumed = p.consumed; sent = sent ∙ p.sent; ring = ring ∙ p.ring }
 
--- what was given before a look, and behind it
+-- what was given before a look, and after it
 pub fed_looked : (i j : Option (List ℕ)) (a b c : WriteView) → Fed i j a b → WriterLooked b c → Fed i j a c
 fed_looked i j a b c p look = fed_same i j a b c p look.sent look.end.ring
 
@@ -32,7 +32,7 @@ fed_round i j k a b c d p look q = fed_more i j k a c d (fed_looked i j a b c p 
 pub poured_none : (i : Option (List ℕ)) (a : ReadView) → PouredAll i i a a
 poured_none i a = record { written = []; appended = Appends-nil i; taken = sym (append-nil a.taken); ring = refl }
 
--- nothing was written, and nothing let go
+-- nothing was written, and nothing dropped
 pub poured_nothing : (i : Option (List ℕ)) (a : ReadView) → Poured i i a a
 poured_nothing i a = record { written = []; lost = []; appended = Appends-nil i; taken = sym (append-nil a.taken); ring = refl }
 
@@ -47,7 +47,7 @@ poured_more i j k a b c p q = record {
 pub poured_same : (i j : Option (List ℕ)) (a b c : ReadView) → PouredAll i j a b → c.taken ≡ b.taken → c.ring ≡ b.ring → PouredAll i j a c
 poured_same i j a b c p taken ring = record { written = p.written; appended = p.appended; taken = taken ∙ p.taken; ring = ring ∙ p.ring }
 
--- what was written before a look, and behind it
+-- what was written before a look, and after it
 pub poured_looked : (i j : Option (List ℕ)) (a b c : ReadView) → PouredAll i j a b → ReaderLooked b c → PouredAll i j a c
 poured_looked i j a b c p look = poured_same i j a b c p look.taken look.end.ring
 

@@ -1,4 +1,4 @@
--- Which side's error is told, and whether all was written then.
+-- Which side's error is reported, and whether all was written then.
 use Rattle.std.proofs.Common.{◌≡◌, Result, Ok, Err, sym, subst}
 use Rattle.std.specs.Prelude.{IfErr, OnOk}
 use Rattle.std.specs.Result.{result_and}
@@ -7,7 +7,7 @@ use Rattle.piper_transfer.specs.Transfer.{IsOfDestination, IsOfInput, IsOfMemory
 use Rattle.piper_transfer.specs.declared.error.TransferError.{TransferError}
 use Rattle.piper_transfer.specs.declared.error.TransferError.TheVariants.{Read, Write, Full, Memory, Turns}
 
--- the output's side tells no failure of the input
+-- the output's side reports no failure of the input
 pub not_of_input : (fails : Error → Type 0) (full : Type 0) (e : TransferError) → IsOfDestination fails full e → ¬ IsOfInput e
 not_of_input fails full (Read x) reported = λ _. reported
 not_of_input fails full (Write x) reported = λ input. input

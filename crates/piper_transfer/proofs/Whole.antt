@@ -52,7 +52,7 @@ nothing_lost r i j o p w0 w1 r0 r1 new_writer new_reader fed poured fifo all end
       ended = ended;
     }
 
--- the handles meet behind a told end, or where all was taken: nothing is known
+-- the handles meet after a reported end, or where all was taken: nothing is known
 pub none_known : (r1 r2 : ReadView) (w1 w2 : WriteView) → IsDrained r1 w1 → ReaderRefreshed r1 r2 → r2.taken ++ r2.known ≡ w2.sent → w2.sent ≡ w1.sent
     → (KnowsEnd r2 → r2.all ≡ w2.sent) → (KnowsEnd r1 → r2.all ≡ r1.all) → r2.known ≡ []
 none_known r1 r2 w1 w2 (inl ended) met fifo sent all same =

@@ -1,8 +1,8 @@
--- How a number of bytes is written: in decimal digits, behind which a unit may stand, as K or KiB.
+-- How a number of bytes is written: in decimal digits, after which a unit may be, as K or KiB.
 use Rattle.std.specs.Prelude.{◌≡◌, ℕ, Bool, not, ◌-◌, ◌*◌, ◌==◌, ◌&&◌, ◌||◌, cond, List, length, take, slice_index}
 use Rattle.std.specs.Str.Parse.{IsNumeral, digits_value}
 
--- how many bytes a last letter stands for: K, M, G or T, or its lower case, and 1 for any other
+-- how many bytes a last letter represents: K, M, G or T, or its lower case, and 1 for any other
 abbrev pub bytes_of_letter : ℕ → ℕ
 bytes_of_letter letter =
     cond (letter == 75 || letter == 107) 1_024
@@ -22,7 +22,7 @@ without_last n text = take (length text - n) text
 abbrev pub ends_in_ib : List ℕ → Bool
 ends_in_ib text = last_letter text == 66 && last_letter (without_last 1 text) == 105
 
--- the text, without an `iB` behind a letter that stands for a number: `K` for `KiB`
+-- the text, without an `iB` after a letter that represents a number: `K` for `KiB`
 abbrev pub short_of : List ℕ → List ℕ
 short_of text =
     cond (ends_in_ib text && not (bytes_of_letter (last_letter (without_last 2 text)) == 1))

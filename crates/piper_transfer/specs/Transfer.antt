@@ -21,7 +21,7 @@ pub record Fed (input_old input_new : Option (List ℕ)) (a b : WriteView) : Typ
   pub sent : b.sent ≡ a.sent ++ given
   pub ring : b.ring ≡ a.ring
 
--- the output was given the front of what was taken from the reading end; the rest was let go
+-- the output was given the front of what was taken from the reading end; the rest was dropped
 pub record Poured (output_old output_new : Option (List ℕ)) (a b : ReadView) : Type 0 where
   pub written : List ℕ
   pub lost : List ℕ
@@ -29,7 +29,7 @@ pub record Poured (output_old output_new : Option (List ℕ)) (a b : ReadView) :
   pub taken : b.taken ≡ a.taken ++ (written ++ lost)
   pub ring : b.ring ≡ a.ring
 
--- nothing of what was taken from the reading end was let go
+-- nothing of what was taken from the reading end was dropped
 pub record PouredAll (output_old output_new : Option (List ℕ)) (a b : ReadView) : Type 0 where
   pub written : List ℕ
   pub appended : Appends output_old output_new written
@@ -45,7 +45,8 @@ abbrev pub IsOfInput : TransferError → Type 0
 IsOfInput (Read e) = ⊤
 IsOfInput other = ⊥
 
--- a transfer with this answer wrote all that the input gave: no error is told, or one of the input
+-- a transfer with this answer wrote all that the input gave: no error is reported, or one of the
+-- input
 abbrev pub WritesAll : Result Unit TransferError → Type 0
 WritesAll (Ok _) = ⊤
 WritesAll (Err e) = IsOfInput e
@@ -55,14 +56,14 @@ pub record IsLasting (e : Error) : Type 0 where
   pub heard : error_kind e ≢ Interrupted
   pub due : error_kind e ≢ WouldBlock
 
--- the side that reads the input may tell this error: a read has failed so, or memory was refused
+-- the side that reads the input may report this error: a read has failed so, or memory was refused
 abbrev pub IsOfSource : (Error → Type 0) → TransferError → Type 0
 IsOfSource fails (Read e) = fails e × IsLasting e
 IsOfSource fails Memory = ⊤
 IsOfSource fails (Turns e) = ⊤
 IsOfSource fails other = ⊥
 
--- the side that writes the output may tell this error: a write or a flush has failed so, a write
+-- the side that writes the output may report this error: a write or a flush has failed so, a write
 -- has taken no byte, or memory was refused
 abbrev pub IsOfDestination : (Error → Type 0) → Type 0 → TransferError → Type 0
 IsOfDestination fails full (Read e) = ⊥

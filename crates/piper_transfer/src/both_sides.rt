@@ -30,8 +30,8 @@ pub struct Sizes {
     pub capacity: usize,
     /// How many bytes one read or write is asked for at most.
     pub chunk: usize,
-    /// How many bytes are to stand in the pipe before the first is written, and again once it ran
-    /// dry; at most what it can hold.
+    /// How many bytes are to be in the pipe before the first is written, and again once it ran dry;
+    /// at most what it can hold.
     pub level: usize,
     ghost fits: { (0 < capacity) × (2 * capacity < 2 ^ 64) × (0 < chunk)
         × (level ≤ capacity) },
@@ -42,15 +42,15 @@ pub struct Sizes {
 ///
 /// It ends at the input's end, once all of it is written, or at the first failure of either side. A
 /// read that fails ends it once all that came before is written. Where a write fails or takes
-/// nothing, what is still in the pipe is let go, and the input is read no further once a read that
+/// nothing, what is still in the pipe is dropped, and the input is read no further once a read that
 /// is under way has ended. A read or a write that is interrupted is made again, and one that would
 /// block is made again after a sleep of at most 10 milliseconds. Where a second thread is refused,
 /// both sides take turns on this one, and each read is written at once. `meter` is kept up to date
 /// meanwhile.
 ///
 /// Where all that the input gave is written, with `Ok` or with the input's error, the output is
-/// flushed behind the last byte; a flush that fails is told in place of the input's error. An error
-/// that is told is one that its side answered, and `Full` says that a write took nothing.
+/// flushed after the last byte; a flush that fails is reported in place of the input's error. An
+/// error that is reported is one that its side returned, and `Full` says that a write took nothing.
 pub fn transfer<R, S, D>(
     rt: &R,
     source: &mut S,
@@ -72,8 +72,8 @@ where
     let chunk = sizes.chunk.min(sizes.capacity);
     let (filled, drained) = run_sides(rt, source, &mut input, &mut output, dest, chunk, meter);
     let (mut reader, mut writer) = (output.into_reader(), input.into_writer());
-    // Now that both handles are in one hand, what is left where the output failed is known; else
-    // nothing is.
+    // Now that both handles are held by one thread, what is left where the output failed is known;
+    // else nothing is.
     reader.meet(&mut writer);
     let ended = match drained {
         Ok(()) => flush(rt, dest).and(filled),

@@ -54,7 +54,7 @@ where
 /// Writes the pipe's bytes to the output, at most `chunk` at a time, up to the pipe's end.
 ///
 /// Where that fails, the other side is told to end: bytes that it publishes until then stay in the
-/// pipe or are let go.
+/// pipe or are dropped.
 pub(crate) fn drain<R, D>(
     rt: &R,
     output: &mut Output,
@@ -209,7 +209,7 @@ where
     }
 }
 
-// Takes as many bytes out of the pipe as one write takes, and answers how many.
+// Takes as many bytes out of the pipe as one write takes, and returns how many.
 fn write_chunk<R, D>(rt: &R, reader: &mut Reader, dest: &mut D, chunk: usize) -> io::Result<usize>
 where
     R: Wait + Clock,

@@ -19,7 +19,7 @@ pub trait Source {
     // a read has failed with this error, and left it so
     ghost fails: { Self → Error → Type 0 } = { λ _ _. ⊤ };
 
-    /// Reads bytes to the front of `buf`, and answers how many; 0 where `buf` has room is the end.
+    /// Reads bytes to the front of `buf`, and returns how many; 0 where `buf` has room is the end.
     fn read(&mut self, buf: &mut [u8]) -> io::Result<usize>
         ensures bound { ReadsAtMost result buf.new }
         ensures bytes { ReadConsumes (remaining self.old) (remaining self.new) result buf.new }
@@ -45,7 +45,7 @@ pub trait Destination {
     // a write or a flush has failed with this error, and left it so
     ghost fails: { Self → Error → Type 0 } = { λ _ _. ⊤ };
 
-    /// Writes bytes from the front of `buf`, and answers how many.
+    /// Writes bytes from the front of `buf`, and returns how many.
     fn write(&mut self, buf: &[u8]) -> io::Result<usize>
         ensures bound { WritesAtMost result buf.now }
         ensures bytes { WriteAppends (contents self.old) (contents self.new) result buf.now }

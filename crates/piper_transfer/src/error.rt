@@ -25,8 +25,8 @@ pub enum TransferError {
     Turns(io::Error),
 }
 
-/// What a side answers that was told to end since the other one has failed. The other one's error
-/// is told then, and never this one.
+/// What a side returns that was asked to end because the other one has failed. The other one's
+/// error is reported then, and never this one.
 pub(crate) fn stopped() -> TransferError
     ensures { result ≡ TransferError.Memory }
 {

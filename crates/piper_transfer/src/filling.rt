@@ -18,7 +18,7 @@ use std::sync::Wait;
 use std::time::Clock;
 
 /// Fills the pipe as `fill_in_turns` does, once it has told the other side that it begins. Where
-/// that one has given it up, it answers `None` and has done nothing.
+/// that one has given it up, it returns `None` and has done nothing.
 pub(crate) fn fill_from<R, S>(
     rt: &R,
     start: &Start,
@@ -121,7 +121,7 @@ where
     unreachable!()
 }
 
-/// Publishes what one read gives, of at most so many bytes, and answers how many they are; 0 is the
+/// Publishes what one read gives, of at most so many bytes, and returns how many they are; 0 is the
 /// input's end.
 pub(crate) fn read_chunk<R, S>(
     rt: &R,

@@ -33,8 +33,8 @@ impl Patience {
         }
     }
 
-    // Whether a call that failed so is to be made again. Where it would block, that is told after a
-    // sleep.
+    // Whether a call that failed so is to be made again. Where it would block, the call is made
+    // again after a sleep.
     fn outlasts(&mut self, clock: &impl Clock, error: &io::Error) -> bool
         ensures { result ≡ false → IsLasting error.now }
     {

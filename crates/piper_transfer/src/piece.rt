@@ -24,7 +24,7 @@ impl Piece {
         }
     }
 
-    /// What a read is asked for behind one that gave so many bytes.
+    /// What a read is asked for after one that gave so many bytes.
     pub(crate) fn after(self, count: usize) -> Piece {
         let len = count.saturating_mul(2).max(FIRST).min(self.chunk);
         Piece {

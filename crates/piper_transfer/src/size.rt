@@ -13,8 +13,8 @@ const GREATEST: usize = 9_223_372_036_854_775_807;
 #[error("a size is a number of bytes from 1 to 9223372036854775807, as 4096, 64K, 16m or 2GiB")]
 pub struct NotASize;
 
-/// The number of bytes that the text writes in decimal digits, behind which may stand `K` (1,024
-/// bytes), `M` (1,024 `K`), `G` (1,024 `M`) or `T` (1,024 `G`), also in lower case, and `iB` behind
+/// The number of bytes that the text writes in decimal digits, after which may come `K` (1,024
+/// bytes), `M` (1,024 `K`), `G` (1,024 `M`) or `T` (1,024 `G`), also in lower case, and `iB` after
 /// that. It is at least 1, and at most half of the greatest `usize`; nothing else is a size.
 pub fn parse_size(text: &str) -> Result<usize, NotASize>
     ensures written { IfOk result (λ n. WritesSize text.now n) }
@@ -46,7 +46,7 @@ fn split(text: &[u8]) -> (&[u8], usize)
     }
 }
 
-// The text, without an `iB` behind a letter that stands for a number.
+// The text, without an `iB` after a letter that represents a number.
 fn short(text: &[u8]) -> &[u8]
     ensures { result.now ≡ short_of text.now }
 {
@@ -56,7 +56,7 @@ fn short(text: &[u8]) -> &[u8]
     }
 }
 
-// How many bytes a last letter stands for.
+// How many bytes a last letter represents.
 fn bytes_of(letter: u8) -> usize
     ensures bytes { result ≡ bytes_of_letter letter }
     ensures some { 0 < result }

@@ -5,7 +5,7 @@ use std::time::{Clock, Duration};
 /// How many milliseconds a thread is waited for. One that begins at all mostly does so within one.
 const PATIENCE: u64 = 200;
 
-/// Where the start of the second thread stands.
+/// Where the start of the second thread is.
 #[derive(Clone, Copy, PartialEq, Eq)]
 enum Stage {
     Waited,
@@ -13,10 +13,10 @@ enum Stage {
     GivenUp,
 }
 
-/// Tells the first thread whether the second one has begun, and the second one whether it is still
-/// waited for.
+/// Says to the first thread whether the second one has begun, and to the second one whether it is
+/// still waited for.
 ///
-/// A thread that the system refuses is run behind the first one, on the same thread. So neither may
+/// A thread that the system refuses is run after the first one, on the same thread. So neither may
 /// wait for the other before both have begun; and where one has not begun for a while, neither
 /// does.
 #[derive(Drop)]

@@ -3,7 +3,7 @@ use Rattle.std.proofs.Common.{◌≡◌, ◌∙◌, ◌≤◌, ◌+◌, ◌-◌,
 use Rattle.std.proofs.Math.Seq.{take-add}
 use Rattle.std.proofs.lemmas.List.{take_all}
 
--- what is left of the bytes behind the first k
+-- what is left of the bytes after the first k
 abbrev pub left_after : List ℕ → ℕ → List ℕ
 left_after bytes k = take (length bytes - k) (drop k bytes)
 

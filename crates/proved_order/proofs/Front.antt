@@ -1,7 +1,7 @@
 -- What came is the front of what was sent.
 use Rattle.std.proofs.Common.{◌≡◌, ◌∙◌, ◌≤◌, sym, ap, ℕ, List, ◌++◌, take, length, length-append, length-take, length-take-le, take_at, take-take, arith}
 
--- if it makes a beginning of the bytes with more behind it
+-- if it makes a beginning of the bytes with more after it
 pub came_first : (place more bytes : List ℕ) (n m : ℕ) → n ≤ length place → take n place ++ more ≡ take m bytes → take n place ≡ take n bytes
 came_first place more bytes n m within all =
     let count : length (take n place) ≡ n = length-take-le n place within in

@@ -1,6 +1,7 @@
-//! Clients that prove of themselves that all bytes arrive in order: what came is a beginning of what
-//! was sent. `carry` has both sides of the pipe in one hand, those of threads.rt run on two threads;
-//! and in sleeping.rt two threads poll by hand, of which nothing of the kind is proved.
+//! Clients that prove of themselves that all bytes arrive in order: what came is a beginning of
+//! what was sent. `carry` has both sides of the pipe held by one thread, those of threads.rt run on
+//! two threads; and in sleeping.rt two threads poll by hand, of which nothing of the kind is
+//! proved.
 #![tactic(auto)]
 
 mod sleeping;
@@ -15,7 +16,7 @@ use std::alloc::Global;
 use std::io;
 
 #[tactic(auto, using(crate::proofs::Front::came_first))]
-/// Sends what is in `bytes` through a pipe that holds all of it, and answers how many bytes came.
+/// Sends what is in `bytes` through a pipe that holds all of it, and returns how many bytes came.
 fn carry(alloc: Global, bytes: &[u8], place: &mut [u8]) -> io::Result<usize>
     requires { (0 < length bytes.now) × (2 * length bytes.now < 2 ^ 64) }
     ensures { IfOk result (λ n. take n place.new ≡ take n bytes.now) }

@@ -106,7 +106,7 @@ where
     unreachable!()
 }
 
-/// Sends all bytes from one thread to another, and answers how many came.
+/// Sends all bytes from one thread to another, and returns how many came.
 pub(crate) fn send_and_count<H>(rt: &H) -> io::Result<u64>
 where
     H: Threads + Wait + RandomSource + AllocGlobal + Clone + Drop + Send + Sync + 'static,

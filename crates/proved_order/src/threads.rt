@@ -15,7 +15,7 @@ use std::{io, thread};
 const CAPACITY: usize = 4;
 
 /// What the thread that writes promises of its last mark: it is of the pipe that `pipe` is a mark
-/// of, and tells a beginning of `bytes`.
+/// of, and reports a beginning of `bytes`.
 #[derive(Drop)]
 struct SendsFront {
     pipe: WriteMark,
@@ -46,7 +46,7 @@ fn send_all<H: Wait>(rt: &H, writer: OwnedWriter, bytes: &[u8]) -> WriteMark
     writer.drop().told
 }
 
-/// Takes bytes to the front of `place` until it is full or the pipe has ended, and answers how
+/// Takes bytes to the front of `place` until it is full or the pipe has ended, and returns how
 /// many.
 fn receive_all<H: Wait>(rt: &H, reader: &mut OwnedReader, place: &mut [u8]) -> usize
     requires { reader.old.reader.end.taken ≡ [] }
@@ -69,7 +69,7 @@ fn receive_all<H: Wait>(rt: &H, reader: &mut OwnedReader, place: &mut [u8]) -> u
     came
 }
 
-/// Sends `bytes` from one thread to another, and answers how many came to the front of `place`.
+/// Sends `bytes` from one thread to another, and returns how many came to the front of `place`.
 pub(crate) fn carry_across<H>(rt: &H, bytes: &'static [u8], place: &mut [u8]) -> io::Result<usize>
 where
     H: Threads + Wait + Clone + AllocGlobal + Drop + Send + Sync + 'static,

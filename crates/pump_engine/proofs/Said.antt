@@ -38,7 +38,7 @@ pub flag_said : (words : List Text) (m : ArgMatches) (flag : Text) → rows_of (
     → one_text (found_of m) flag ≡ one_of flag (said_by words)
 flag_said words m flag said = one_text-rows (found_of m) flag ∙ ap (one_of flag) said
 
--- the text that is read is the one that was found, or the one that stands for it
+-- the text that is read is the one that was found, or the one that represents it
 text_read : (found : Option (Bor Text)) (left_out : Bor Text)
     → (unwrap_or found left_out).now ≡ unwrap_or (option_map (λ s. s.now) found) left_out.now
 text_read None left_out = refl

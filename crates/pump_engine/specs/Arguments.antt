@@ -17,7 +17,7 @@ flag_rule name = record (new_rule name) {
   action = Some SetTrue;
 }
 
--- an option of this name, with a size behind it, as `--chunk 4K`
+-- an option of this name, with a size after it, as `--chunk 4K`
 abbrev pub size_rule : Text → Rule
 size_rule name = record (new_rule name) {
   long = Some name;
@@ -25,7 +25,7 @@ size_rule name = record (new_rule name) {
   value_names = 1;
 }
 
--- an option of this name and this letter, with a file behind it, as `-i FILE`
+-- an option of this name and this letter, with a file after it, as `-i FILE`
 abbrev pub file_rule : Text → ℕ → Rule
 file_rule name letter = record (new_rule name) {
   long = Some name;
@@ -67,7 +67,7 @@ pump_command = on_top (λ s. record s { rules = pump_rules }) (versioned (new_ap
 abbrev pub said_by : List Text → List Row
 said_by words = matches_of pump_command words
 
--- the text of a size: what the words have behind this option, or what stands for it if left out
+-- the text of a size: what the words have after this option, or what represents it if left out
 abbrev pub size_text : List Text → Text → Text → Text
 size_text words option left_out = unwrap_or (first_of option (said_by words)) left_out
 
@@ -109,18 +109,18 @@ pub record AskFor (words : List Text) (arguments : Arguments) : Type 0 where
   pub no_sum : one_of (codes "sha256") (said_by words) ≡ Some (codes "false")
       → arguments.shows_sum ≡ false
 
--- these words ask for something: `clap` takes them, and what stands for a size writes one
+-- these words ask for something: `clap` takes them, and what represents a size writes one
 pub record AreTaken (words : List Text) : Type 0 where
   pub taken : takes pump_command words ≡ true
   pub capacity : IsSize (capacity_text words)
   pub chunk : IsSize (chunk_text words)
 
--- the words name no file that stands in place of the input or the output
+-- the words name no file that replaces the input or the output
 pub record NamesNoFile (words : List Text) : Type 0 where
   pub input : first_of (codes "input") (said_by words) ≡ None
   pub output : first_of (codes "output") (said_by words) ≡ None
 
--- progress is told where these words ask for it, and are not to be quiet; else it is not
+-- progress is reported where these words ask for it, and are not to be quiet; else it is not
 pub record ShowsAsAsked {W : Type 0} (words : List Text) (reported : Option W) : Type 0 where
   pub shown : one_of (codes "progress") (said_by words) ≡ Some (codes "true")
       → one_of (codes "quiet") (said_by words) ≡ Some (codes "false") → IsSome reported

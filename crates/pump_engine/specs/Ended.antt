@@ -1,4 +1,4 @@
--- How the pump ends after a transfer, and the exit status that tells it.
+-- How the pump ends after a transfer, and the exit status that reports it.
 use Rattle.std.specs.Prelude.{◌≡◌, ◌≢◌, ◌⊎◌, ℕ, Result, Ok, Err, ⊤}
 use Rattle.std.specs.IoError.{error_kind}
 use Rattle.std.specs.declared.io.ErrorKind.TheVariants.{BrokenPipe}
@@ -43,8 +43,8 @@ IsEarly other = ⊥
 abbrev pub IsShown : Error → Type 0
 IsShown error = (kind_of error ≡ DisplayHelp) ⊎ (kind_of error ≡ DisplayVersion)
 
--- the exit status that tells it: of words on the command line 0
--- where they ask for the help or the version, or 4 where that could not be printed; and else 2
+-- the exit status that reports it: of words on the command line 0 where they ask for the help or
+-- the version, or 4 where that could not be printed; and else 2
 abbrev pub HasStatus : Ended → ℕ → Type 0
 HasStatus ended.Moved n = n ≡ 0
 HasStatus (ended.Words error) n =

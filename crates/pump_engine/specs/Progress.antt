@@ -4,7 +4,7 @@ use Rattle.std.specs.Duration.{as_nanos}
 use Rattle.pump_engine.specs.declared.progress.Done.{Done}
 use Rattle.pump_engine.specs.declared.progress.Line.{Line}
 
--- how many of this unit n is, in decimal digits with the tenths behind a point: `205.0`
+-- how many of this unit n is, in decimal digits with the tenths after a point: `205.0`
 abbrev pub in_tenths : ℕ → ℕ → List ℕ
 in_tenths unit n = decimal (n / unit) ++ codes "." ++ decimal (n % unit * 10 / unit)
 

@@ -14,7 +14,7 @@ pub record StopsEarly
   pub output : output_new ≡ output_old
 
 -- it ended as a transfer did: the output was flushed where that one wrote all, and the error that
--- is told is one of the side that it names
+-- is reported is one of the side that it names
 pub record EndsWithTransfer
     (input_old input_new output_old output_new : Option (List ℕ))
     (is_flushed : Type 0)

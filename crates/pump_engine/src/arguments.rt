@@ -34,7 +34,7 @@ pub struct Arguments<'a> {
     pub tees: Vec<&'a str>,
 }
 
-/// What stands behind the options that may be left out, as it is written.
+/// What follows the options that may be left out, as it is written.
 #[derive(Clone, Copy)]
 pub struct Texts<'a> {
     pub rate: Option<&'a str>,
@@ -198,7 +198,7 @@ fn tee_option<'a>(alloc: Global) -> Arg<'a>
         .action(ArgAction::Append)
 }
 
-// The size that this argument has, or else the one that stands for it.
+// The size that this argument has, or else the one that represents it.
 fn size<'a>(
     alloc: Global,
     command: &mut Command<'a>,

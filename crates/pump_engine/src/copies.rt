@@ -16,9 +16,9 @@ pub struct Copies<'a, R: Clock> {
     tees: Vec<File>,
     sum: Option<Sha256>,
     pace: Option<Pace>,
-    // Why a file did not get them, until that is told.
+    // Why a file did not get them, until that is reported.
     error: Option<io::Error>,
-    /// Whether it was told that a file did not get them.
+    /// Whether it was reported that a file did not get them.
     pub has_failed: bool,
 }
 
@@ -52,7 +52,7 @@ impl<'a, R: Clock> Copies<'a, R> {
         Some(sum.finalize())
     }
 
-    /// Tells why a file did not get what passed, once.
+    /// Reports why a file did not get what passed, once.
     pub(crate) fn report(&mut self) -> io::Result<()>
         ensures { IfErr result (λ _. self.new.has_failed ≡ true) }
     {
@@ -98,7 +98,7 @@ impl<'a, R: Clock> Copies<'a, R> {
         }
     }
 
-    /// Flushes the files, and tells why one did not get what passed.
+    /// Flushes the files, and reports why one did not get what passed.
     pub(crate) fn flush(&mut self) -> io::Result<()>
         ensures { IfErr result (λ _. self.new.has_failed ≡ true) }
     {

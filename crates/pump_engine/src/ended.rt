@@ -24,7 +24,7 @@ pub enum Ended {
     Words(clap::Error),
     /// A word on the command line is no text.
     NotText,
-    /// Behind this option stands no number that it takes.
+    /// The word after this option is no number that it takes.
     Value(&'static str),
     /// The file that is to be read can't be opened.
     NoInput(Unopened),
@@ -57,7 +57,7 @@ impl Ended {
         }
     }
 
-    /// Says why it ended early, if it did, and answers the status.
+    /// Says why it ended early, if it did, and returns the status.
     pub fn report(&self, rt: &(impl Print + Eprint)) -> ExitCode
         ensures { HasStatus self.now (exit_status result) }
     {

@@ -76,7 +76,7 @@ impl<R: Clock, D: Destination + Drop> Destination for Outlet<'_, R, D> {
 
     ghost fails = { λ o. OutletFails D.fails o.drain o.copies.has_failed };
 
-    // A copy that fails is told by the next call, since the drain has taken the bytes by then.
+    // A copy that fails is reported by the next call, since the drain has taken the bytes by then.
     fn write(&mut self, buf: &[u8]) -> io::Result<usize> {
         self.copies.report()?;
         let most = self.copies.begin(buf.len());

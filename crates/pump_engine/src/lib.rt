@@ -1,5 +1,5 @@
 //! What the program `piper_pump` does: its words, the files that they name, the transfer between
-//! them, and what it tells of that.
+//! them, and what it reports of that.
 #![tactic(auto)]
 
 pub mod arguments;

@@ -17,11 +17,11 @@ use std::{fs, io};
 pub struct Numbers {
     pub sizes: Sizes,
     pub rate: Option<usize>,
-    /// How many bytes come, if that was told.
+    /// How many bytes come, if that was reported.
     pub total: Option<u64>,
 }
 
-/// Reads the numbers behind the options.
+/// Reads the numbers after the options.
 pub fn numbers_of(sizes: Sizes, texts: Texts<'_>) -> Result<Numbers, Ended>
     ensures { IfErr result IsEarly }
 {
@@ -132,8 +132,8 @@ where
     Ok(tees)
 }
 
-/// Opens the files that are named, and takes them in place of what stands for them. Where one
-/// can't be opened, both stay.
+/// Opens the files that are named, and takes them in place of what represents them. Where one can't
+/// be opened, both stay.
 pub fn open_files<R, S, D>(
     rt: &R,
     arguments: &Arguments<'_>,

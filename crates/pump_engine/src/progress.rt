@@ -1,4 +1,4 @@
-//! Lines on standard error that tell how far a transfer is.
+//! Lines on standard error that report how far a transfer is.
 ghost use Rattle.std.specs.Prelude.{◌≡◌, ◌-◌, ◌*◌, ◌/◌, ◌^◌, min, max, Some};
 ghost use Rattle.std.specs.Duration.{as_nanos};
 ghost use Rattle.pump_engine.specs.Progress.{amount_text, done_text, line_text, seconds_text};
@@ -27,7 +27,7 @@ impl Over {
         }
     }
 
-    /// Tells that it is over.
+    /// Reports that it is over.
     pub fn report(&self, rt: &impl Wait) {
         *self.is_over.lock(rt) = true;
         self.changed.notify_all();
@@ -131,7 +131,7 @@ fn percent(held: u64, capacity: usize) -> u64
     (held as u128 * 100 / capacity).min(100) as u64
 }
 
-/// What one line tells.
+/// What one line reports.
 #[derive(Drop)]
 struct Line {
     bytes: u64,

@@ -30,7 +30,7 @@ struct Task {
     asked: Option<Watched>,
 }
 
-/// Does what the words ask for, between an input and an output that stand for files that are not
+/// Does what the words ask for, between an input and an output that represent files that are not
 /// named. `redraws` says that standard error is a terminal.
 ///
 /// Words that are refused end it before a byte is moved. Else it ends as the transfer does: with
@@ -108,7 +108,7 @@ where
     })
 }
 
-/// Moves all bytes, and tells meanwhile how far it is where that is asked for. Told or not, the
+/// Moves all bytes, and reports meanwhile how far it is where that is asked for. Told or not, the
 /// bytes and the answer are those of the transfer.
 pub(crate) fn pump<R, S, D>(
     rt: &R,
@@ -145,7 +145,7 @@ where
     moved
 }
 
-// Tells the sum of what passed.
+// Reports the sum of what passed.
 fn report_sum(rt: &impl Eprint, digest: [u8; 32]) {
     // There is nowhere left to say that standard error is closed.
     let _ = eprint!(rt; "SHA-256: ");

@@ -19,7 +19,7 @@ use types.Kit.{‵, raw, ◌⊛◌, given, ◌$◌, ◌∵◌, !, qed, by, move,
 use denote.RattleType.{RattleType}
 use Rattle.token_cell.specs.TokenCell.{flips, odd, eighth, pledged, content, Loan, lies, Kept}
 
--- a number no less than n that tells what it is to tell
+-- a number no less than n that reports what it is to report
 abbrev Shows : ℕ → Bool → Type 0
 Shows n y = (m : ℕ) × (n ≤ m) × (odd m ≡ y)
 

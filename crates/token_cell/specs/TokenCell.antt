@@ -45,7 +45,7 @@ abbrev pub offset : RattleType → ℕ
 offset R = up (align (lone R.mir)) 0
 
 module _ (R : RattleType) (full : R.Denot → Bool) (name : ℕ) where
-  -- some content, with the number that tells of it
+  -- some content, with the number that reports of it
   abbrev pub known : ℕ × R.Denot → Fml
   known s = counted quarter name (full s.1) s.0
 

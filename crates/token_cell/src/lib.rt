@@ -9,7 +9,7 @@ ghost use Rattle.token_cell.specs.TokenCell.{place_owns, place_shares, right};
 
 use std::marker::{Model, Move, Owns, PhantomData, Send, Sync};
 
-/// What a place can hold: it tells of each content whether the place is filled.
+/// What a cell can hold: it says of each content whether the cell is filled.
 pub trait Content {
     ghost is_full: { Self → Bool };
 }
@@ -20,7 +20,7 @@ impl<T> Content for Option<T> {
     ghost is_full = { is_some };
 }
 
-/// A place. In a clause it is a number that tells it from every other place.
+/// A cell. In a clause it is a number that no other cell has.
 pub struct TokenCell<X: Content> {
     content: X,
 }
@@ -38,7 +38,7 @@ impl<X: Content> Move for TokenCell<X> {
         (λ x. Fields.own_val (record { content = x }) vs) };
 }
 
-/// The right to use the place of that name, where `there` says so. It tells whether the place is
+/// The right to use the place of that name, where `there` says so. It says whether the cell is
 /// filled. What lies there only a proof can say, so a function that makes a right has one of its
 /// own.
 #[derive(Drop)]
@@ -68,7 +68,7 @@ impl<X: Content> TokenCell<X> {
         (TokenCell { content }, Token { mark: PhantomData })
     }
 
-    /// Puts `content` there, and answers what lay there before.
+    /// Puts `content` there, and returns what lay there before.
     pub fn exchange(&self, right: &mut Token, content: X) -> X
         requires { (right.old.name ≡ self.now) × (right.old.there ≡ true) }
         ensures { (X.is_full result ≡ right.old.filled)

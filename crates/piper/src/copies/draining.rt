@@ -30,15 +30,15 @@ impl Reader {
     ghost use Rattle.piper.specs.Waits.{ReaderRegistered};
     ghost use Rattle.piper.specs.Handles.{NotifiesWriter, SameReader, SameReaderButWaits, SameReaderButWoke, read_source};
 
-    /// Moves known bytes into a writer, and answers how many that took.
+    /// Moves known bytes into a writer, and returns how many that took.
     ///
     /// It begins with the look of `poll`: 0 is the end of a closed pipe, or says that the writer
     /// took none, and where nothing is known the call is pending, or wants memory. Once in a
     /// hundred calls, as the reader's generator draws, it yields in place of the rounds: it moves
     /// nothing and asks for another poll. A round hands the writer at most 131,072 bytes in one
     /// piece; the rounds end once nothing is known or the writer takes none. Where the writer
-    /// fails, what it took in the rounds before stays taken, and its error is answered; no clause
-    /// can tell that error.
+    /// fails, what it took in the rounds before stays taken, and its error is returned; no clause
+    /// can report that error.
     pub fn poll_drain<W: Write>(
         &mut self,
         cx: &mut Context<'_>,
@@ -71,7 +71,7 @@ impl Reader {
         }
     }
 
-    /// Moves known bytes into the front of `dest`, and answers how many: as many as its look left
+    /// Moves known bytes into the front of `dest`, and returns how many: as many as its look left
     /// known and as fit.
     ///
     /// It looks, draws and waits as `poll_drain` does: 0 is the end of a closed pipe, or `dest` has
@@ -113,7 +113,7 @@ impl Reader {
         }
     }
 
-    /// Moves known bytes into the front of `dest`, as many as fit, and answers how many. It looks
+    /// Moves known bytes into the front of `dest`, as many as fit, and returns how many. It checks
     /// for more only where none is known, and doesn't wait: 0 is no end.
     pub fn try_drain(&mut self, dest: &mut [u8]) -> usize
         ensures count { result ≤ length dest.old }
@@ -241,7 +241,7 @@ impl Reader {
         }
     }
 
-    // The look of a drain that waits: its open call once a byte is known, or what it answers.
+    // The look of a drain that waits: its open call once a byte is known, or what it returns.
     #[inline(always)]
     fn look_to_drain<E>(
         &mut self,
@@ -284,7 +284,7 @@ impl Reader {
     }
 
     // The look of a drain that doesn't wait: its open call once a byte is known, or what it
-    // answers, pending where it would wait.
+    // returns, pending where it would wait.
     #[inline(always)]
     fn look_at_once<E>(&mut self) -> Result<ReadCall, Poll<Result<usize, Inner<E>>>>
         ensures found { IfOk result (λ call.

@@ -29,7 +29,7 @@ impl Writer {
     ghost use Rattle.piper.specs.Waits.{WriterRegistered};
     ghost use Rattle.piper.specs.Handles.{NotifiesReader, SameWriter, SameWriterButWaits, SameWriterButWoke, write_source};
 
-    /// Publishes bytes that a reader gives, and answers how many it gave.
+    /// Publishes bytes that a reader gives, and returns how many it gave.
     ///
     /// It begins with the look of `poll`: 0 says that the pipe is closed, or that the reader gave
     /// none, and where no room is known the call is pending, or wants memory. Once in a hundred
@@ -37,7 +37,7 @@ impl Writer {
     /// and asks for another poll. A round lends the reader at most 131,072 places in one piece; the
     /// rounds end once there is no room, the reader gives none, or the pipe is seen closed, and
     /// what was given in that last round is counted and lost. Where the reader fails, what it gave
-    /// in the rounds before stays published, and its error is answered; no clause can tell that
+    /// in the rounds before stays published, and its error is returned; no clause can report that
     /// error. Nothing is lent afterwards.
     pub fn poll_fill<R: Read>(
         &mut self,
@@ -68,7 +68,7 @@ impl Writer {
         }
     }
 
-    /// Publishes bytes from the front of `bytes`, and answers how many: as many as there is room
+    /// Publishes bytes from the front of `bytes`, and returns how many: as many as there is room
     /// for once it looked, and all of them if they fit.
     ///
     /// It looks, draws and waits as `poll_fill` does: 0, where there are some, says that the pipe
@@ -113,8 +113,8 @@ impl Writer {
         }
     }
 
-    /// Publishes bytes from the front of `bytes`, as many as there is room for, and answers how
-    /// many it took. It looks for more room only where none is known, and doesn't wait. Nothing is
+    /// Publishes bytes from the front of `bytes`, as many as there is room for, and returns how
+    /// many it took. It checks for more room only where none is known, and doesn't wait. Nothing is
     /// lent afterwards.
     ///
     /// A closed pipe takes none. Where the pipe is seen closed only once some bytes were taken, the
@@ -244,7 +244,7 @@ impl Writer {
         }
     }
 
-    // The look of a fill that waits: its open call once there is room, or what it answers.
+    // The look of a fill that waits: its open call once there is room, or what it returns.
     #[inline(always)]
     fn look_to_fill<E>(
         &mut self,
@@ -289,7 +289,7 @@ impl Writer {
         Err(copied(call.end()))
     }
 
-    // The look of a fill that doesn't wait: its open call once there is room, or what it answers,
+    // The look of a fill that doesn't wait: its open call once there is room, or what it returns,
     // pending where it would wait.
     #[inline(always)]
     fn look_at_once<E>(&mut self) -> Result<WriteCall, Poll<Result<usize, Inner<E>>>>

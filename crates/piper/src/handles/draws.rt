@@ -12,8 +12,8 @@ use rand_core::utils::NextWord;
 use rand_pcg::Pcg32;
 
 impl Reader {
-    /// Empties the reader's slot behind the true look of a polling copy, unless its place is known
-    /// to be empty; then draws, and tells whether the copy yields.
+    /// Empties the reader's slot after the true look of a polling copy, unless its place is known
+    /// to be empty; then draws, and reports whether the copy yields.
     #[inline(always)]
     pub(crate) fn take_own_and_draw(&mut self, call: ReadCall) -> (ReadCall, bool)
         requires next { call.point ≡ ReadPoint.LookTake (Purpose.Copy (Form.Polling false)) }
@@ -33,8 +33,8 @@ impl Reader {
 }
 
 impl Writer {
-    /// Empties the writer's slot behind the true look of a polling copy, unless its place is known
-    /// to be empty; then draws, and tells whether the copy yields.
+    /// Empties the writer's slot after the true look of a polling copy, unless its place is known
+    /// to be empty; then draws, and reports whether the copy yields.
     #[inline(always)]
     pub(crate) fn take_own_and_draw(&mut self, call: WriteCall) -> (WriteCall, bool)
         requires next { call.point ≡ WritePoint.LookTake (Purpose.Copy (Form.Polling false)) }
@@ -53,7 +53,7 @@ impl Writer {
     }
 }
 
-// Takes one word, and tells whether it is 0 modulo 100.
+// Takes one word, and reports whether it is 0 modulo 100.
 fn draw(rng: &mut Pcg32) -> bool
     ensures yields { IsTrue result ↔ DrawsYield rng.old }
     ensures rest { rng.new ≡ drawn_from rng.old }

@@ -22,10 +22,10 @@ impl Reader {
         &self.end
     }
 
-    /// From now on it knows what the mark tells: a look finds at least the bytes that were
+    /// From now on it knows what the mark reports: a look finds at least the bytes that were
     /// published before it, and a pipe that the writer closed before it is seen closed. Its bytes
     /// and those that the reader took and knows of are beginnings of one stream, and those of a
-    /// mark that tells of the end are all bytes that were ever published.
+    /// mark that reports of the end are all bytes that were ever published.
     pub fn heed(&mut self, mark: &WriteMark)
         requires { mark.now.names ≡ self.old.end.ring.1.1 }
         ensures told { self.new.end.told ≡ max self.old.end.told (length mark.now.bytes) }
@@ -39,9 +39,9 @@ impl Reader {
         self.end.heed(mark);
     }
 
-    /// Both handles in one hand: then the reader knows of all that was published, and the writer of
-    /// all the free room, and where either saw the pipe closed the writer closed it: what the
-    /// reader took for all bytes is what the writer published. It takes no memory.
+    /// Both handles held by one thread: then the reader knows of all that was published, and the
+    /// writer of all the free room, and where either saw the pipe closed the writer closed it: what
+    /// the reader took for all bytes is what the writer published. It takes no memory.
     ///
     /// And nobody who waits is forgotten: of a side that is pending in its slot, the other took and
     /// woke the waker since, or the side has nothing to do.
@@ -104,8 +104,8 @@ impl Writer {
         &self.end
     }
 
-    /// From now on it knows what the mark tells: a look finds at least the room that was given back
-    /// before it.
+    /// From now on it knows what the mark reports: a look finds at least the room that was given
+    /// back before it.
     pub fn heed(&mut self, mark: &ReadMark)
         requires { mark.now.names ≡ self.old.end.ring.1.1 }
         ensures told { self.new.end.told ≡ max self.old.end.told mark.now.count }
@@ -146,7 +146,7 @@ impl Writer {
 
     /// Lends at most `max` bytes of the known room, in one piece, to be written: at least one where
     /// there is room, one is asked for and the writer didn't close the pipe. It replaces what was
-    /// lent before; what stands in the bytes is not said.
+    /// lent before; what is in the bytes is not said.
     ///
     /// Nothing is lent once the writer closed the pipe. Else all that is asked for and fits is
     /// lent, or at least 4,096 bytes of it: the memory is zeroed on the way.

@@ -24,7 +24,7 @@ use piper_ring::{LastReadMark, ReadMark};
 impl Reader {
     ghost use Rattle.piper.specs.Handles.{NotifiesWriter, SameReader, SameReaderButWaits, SameReaderButWoke, read_source};
 
-    /// Opens a call that begins with a look, and tells whether no byte is known.
+    /// Opens a call that begins with a look, and reports whether no byte is known.
     #[inline(always)]
     pub(crate) fn look(&self, purpose: Purpose) -> (ReadCall, bool)
         ensures opened { result.0 ≡ goes_on (reader_looks_for result.1 purpose) }
@@ -34,7 +34,7 @@ impl Reader {
         (ReadCall::look(none, purpose), none)
     }
 
-    /// Loads the tail where no byte is known, and tells whether none is known even now.
+    /// Loads the tail where no byte is known, and reports whether none is known even now.
     #[inline(always)]
     pub(crate) fn load_tail(&mut self, call: ReadCall) -> (ReadCall, bool)
         requires next { read_action call.point ≡ Action.Refresh }
@@ -54,7 +54,7 @@ impl Reader {
         (call.refreshed(none), none)
     }
 
-    /// Loads closed, and tells what the flag was.
+    /// Loads closed, and reports what the flag was.
     #[inline(always)]
     pub(crate) fn load_closed(&mut self, call: ReadCall) -> (ReadCall, bool)
         requires next { read_action call.point ≡ Action.LoadClosed }
@@ -71,8 +71,9 @@ impl Reader {
         (call.loaded_closed(is_closed), is_closed)
     }
 
-    /// Registers in the reader's slot, and tells whether a waker was granted. Where the writer has
-    /// just taken who stood there, the task asks for another poll in place of that.
+    /// Registers in the reader's slot, and reports whether a waker was granted. Where the writer
+    /// has just taken whoever was registered there, the task asks for another poll in place of
+    /// that.
     #[inline(always)]
     pub(crate) fn register(&mut self, call: ReadCall, cx: &mut Context<'_>) -> (ReadCall, bool)
         requires next { read_action call.point ≡ Action.Register }
@@ -89,8 +90,8 @@ impl Reader {
         (call.registered(is_granted), is_granted)
     }
 
-    /// Stands in the reader's slot, as `register` says. It takes no open call, which would then lie
-    /// in memory.
+    /// Registers in the reader's slot, as `register` says. It takes no open call, which would then
+    /// lie in memory.
     #[inline(never)]
     fn register_or_yield(&mut self, cx: &mut Context<'_>) -> bool
         ensures covered { Covers cx.new (λ s. s ≡ read_source self.old) }
@@ -118,7 +119,7 @@ impl Reader {
     }
 
     /// Takes the place of the reader's waker back, where the writer doesn't have it just now, and
-    /// the waker that still stands there.
+    /// the waker that is still registered there.
     pub(crate) fn reclaim_waker(&mut self) -> Option<Waker>
         ensures registrations { self.new.registrations
             ≡ record self.old.registrations { owns = self.new.registrations.owns } }
@@ -133,7 +134,7 @@ impl Reader {
             .cancel(&mut self.registrations, &self.slots.reader.place)
     }
 
-    /// Empties the reader's slot behind the look of a poll, unless its place is known to be empty.
+    /// Empties the reader's slot after the look of a poll, unless its place is known to be empty.
     #[inline(always)]
     pub(crate) fn take_own(&mut self, call: ReadCall) -> ReadCall
         requires next { read_action call.point ≡ Action.Take Side.Reader }
@@ -148,14 +149,15 @@ impl Reader {
         call.took_own()
     }
 
-    /// Lets a waker go that still stands in the reader's slot, out of the way of a pipe that flows.
+    /// Drops a waker that is still registered in the reader's slot, so that a flowing pipe need not
+    /// check for it.
     #[cold]
     #[inline(never)]
     pub(crate) fn let_own_go(&mut self)
         ensures end { self.new.end ≡ self.old.end }
         ensures rest { SameReaderButWaits self.old self.new }
     {
-        if self.end.registered(&mut self.registrations) {
+        if self.end.is_registered(&mut self.registrations) {
             Taken::new(self.reclaim_waker()).discard();
         }
     }
@@ -176,8 +178,8 @@ impl Reader {
         call.stored_head(n)
     }
 
-    /// Looks behind the store whether the writer stands in its slot, and takes it and calls its waker
-    /// where it does.
+    /// Checks after the store whether the writer is registered in its slot, and takes it and calls
+    /// its waker if so.
     #[inline(always)]
     pub(crate) fn wake_writer(&mut self, call: ReadCall) -> ReadCall
         requires next { read_action call.point ≡ Action.Take Side.Writer }
@@ -192,7 +194,7 @@ impl Reader {
         self.take_and_wake_writer(call)
     }
 
-    /// Takes who stands in the writer's slot, and calls its waker.
+    /// Takes whoever is registered in the writer's slot, and calls its waker.
     #[inline(always)]
     pub(crate) fn take_and_wake_writer(&mut self, call: ReadCall) -> ReadCall
         requires next { read_action call.point ≡ Action.Take Side.Writer }
@@ -205,8 +207,9 @@ impl Reader {
         read_wake(call.took_writer(taken.is_found()), taken)
     }
 
-    /// Takes who stands in the writer's slot, behind all that was consumed. It stands apart, out of
-    /// the way of a pipe that flows, and takes no open call, which would then lie in memory.
+    /// Takes whoever is registered in the writer's slot, after all that was consumed. It is a
+    /// function of its own, so that the path of a flowing pipe stays short. It takes no open call,
+    /// which would then lie in memory.
     #[cold]
     #[inline(never)]
     fn take_writer(&mut self) -> Taken
@@ -223,8 +226,8 @@ impl Reader {
         Taken::new(waker)
     }
 
-    /// Stores closed as it lets the end go, and takes who stands in the writer's slot: the two
-    /// steps are made in one, since between them there is no handle. With what was taken comes
+    /// Stores closed as it drops the end, and takes whoever is registered in the writer's slot: the
+    /// two steps are made in one, since between them there is no handle. With what was taken comes
     /// what is left of the reader.
     pub(crate) fn close_and_take(self, call: ReadCall) -> (ReadCall, Taken, FinishedReader)
         requires next { read_action call.point ≡ Action.StoreClosed false }

@@ -23,8 +23,8 @@ use piper_ring::WriteMark;
 impl Writer {
     ghost use Rattle.piper.specs.Handles.{NotifiesReader, SameWriter, SameWriterButWaits, SameWriterButWoke, write_source};
 
-    /// Loads closed where a look begins, and tells what the flag was, and whether no room is known.
-    /// A pipe that the writer closed is closed.
+    /// Loads closed where a look begins, and reports what the flag was, and whether no room is
+    /// known. A pipe that the writer closed is closed.
     #[inline(always)]
     pub(crate) fn look_closed(&mut self, call: WriteCall) -> (WriteCall, bool, bool)
         requires next { write_action call.point ≡ Action.LoadClosed }
@@ -42,7 +42,7 @@ impl Writer {
         (call.looked_closed(none, is_closed), is_closed, none)
     }
 
-    /// Loads closed at the end of a look or in a round, and tells what the flag was. A pipe that
+    /// Loads closed at the end of a look or in a round, and reports what the flag was. A pipe that
     /// the writer closed is closed.
     #[inline(always)]
     pub(crate) fn load_closed(&mut self, call: WriteCall) -> (WriteCall, bool)
@@ -61,7 +61,7 @@ impl Writer {
         (call.loaded_closed(is_closed), is_closed)
     }
 
-    /// Loads the head where no room is known, and tells whether none is known even now.
+    /// Loads the head where no room is known, and reports whether none is known even now.
     #[inline(always)]
     pub(crate) fn load_head(&mut self, call: WriteCall) -> (WriteCall, bool)
         requires next { write_action call.point ≡ Action.Refresh }
@@ -79,8 +79,9 @@ impl Writer {
         (call.refreshed(none), none)
     }
 
-    /// Registers in the writer's slot, and tells whether a waker was granted. Where the reader has
-    /// just taken who stood there, the task asks for another poll in place of that.
+    /// Registers in the writer's slot, and reports whether a waker was granted. Where the reader
+    /// has just taken whoever was registered there, the task asks for another poll in place of
+    /// that.
     #[inline(always)]
     pub(crate) fn register(&mut self, call: WriteCall, cx: &mut Context<'_>) -> (WriteCall, bool)
         requires next { write_action call.point ≡ Action.Register }
@@ -97,8 +98,8 @@ impl Writer {
         (call.registered(is_granted), is_granted)
     }
 
-    /// Stands in the writer's slot, as `register` says. It takes no open call, which would then lie
-    /// in memory.
+    /// Registers in the writer's slot, as `register` says. It takes no open call, which would then
+    /// lie in memory.
     #[inline(never)]
     fn register_or_yield(&mut self, cx: &mut Context<'_>) -> bool
         ensures covered { Covers cx.new (λ s. s ≡ write_source self.old) }
@@ -126,7 +127,7 @@ impl Writer {
     }
 
     /// Takes the place of the writer's waker back, where the reader doesn't have it just now, and
-    /// the waker that still stands there.
+    /// the waker that is still registered there.
     pub(crate) fn reclaim_waker(&mut self) -> Option<Waker>
         ensures registrations { self.new.registrations
             ≡ record self.old.registrations { owns = self.new.registrations.owns } }
@@ -141,7 +142,7 @@ impl Writer {
             .cancel(&mut self.registrations, &self.slots.writer.place)
     }
 
-    /// Empties the writer's slot behind the look of a poll, unless its place is known to be empty.
+    /// Empties the writer's slot after the look of a poll, unless its place is known to be empty.
     #[inline(always)]
     pub(crate) fn take_own(&mut self, call: WriteCall) -> WriteCall
         requires next { call.point ≡ WritePoint.LookTake Purpose.Poll }
@@ -155,19 +156,20 @@ impl Writer {
         call.took_own(false)
     }
 
-    /// Lets a waker go that still stands in the writer's slot, out of the way of a pipe that flows.
+    /// Drops a waker that is still registered in the writer's slot, so that a flowing pipe need not
+    /// check for it.
     #[cold]
     #[inline(never)]
     pub(crate) fn let_own_go(&mut self)
         ensures end { self.new.end ≡ self.old.end }
         ensures rest { SameWriterButWaits self.old self.new }
     {
-        if self.end.registered(&mut self.registrations) {
+        if self.end.is_registered(&mut self.registrations) {
             Taken::new(self.reclaim_waker()).discard();
         }
     }
 
-    /// Takes who stands in the writer's own slot, in a close, and calls its waker.
+    /// Takes whoever is registered in the writer's own slot, in a close, and calls its waker.
     pub(crate) fn take_and_wake_own(&mut self, call: WriteCall) -> WriteCall
         requires next { call.point ≡ WritePoint.TakeWriter }
         ensures step { result ≡ write_step call.point (Found.Waker false) }
@@ -214,8 +216,8 @@ impl Writer {
         call.stored_closed(true)
     }
 
-    /// Looks behind the store whether the reader stands in its slot, and takes it and calls its waker
-    /// where it does.
+    /// Checks after the store whether the reader is registered in its slot, and takes it and calls
+    /// its waker if so.
     #[inline(always)]
     pub(crate) fn wake_reader(&mut self, call: WriteCall) -> WriteCall
         requires next { write_action call.point ≡ Action.Take Side.Reader }
@@ -230,7 +232,7 @@ impl Writer {
         self.take_and_wake_reader(call)
     }
 
-    /// Takes who stands in the reader's slot, and calls its waker.
+    /// Takes whoever is registered in the reader's slot, and calls its waker.
     #[inline(always)]
     pub(crate) fn take_and_wake_reader(&mut self, call: WriteCall) -> WriteCall
         requires next { write_action call.point ≡ Action.Take Side.Reader }
@@ -243,8 +245,9 @@ impl Writer {
         write_wake(call.took_reader(taken.is_found()), taken)
     }
 
-    /// Takes who stands in the reader's slot, behind all that was published. It stands apart, out of
-    /// the way of a pipe that flows, and takes no open call, which would then lie in memory.
+    /// Takes whoever is registered in the reader's slot, after all that was published. It is a
+    /// function of its own, so that the path of a flowing pipe stays short. It takes no open call,
+    /// which would then lie in memory.
     #[cold]
     #[inline(never)]
     fn take_reader(&mut self) -> Taken
@@ -261,8 +264,8 @@ impl Writer {
         Taken::new(waker)
     }
 
-    /// Stores closed as it lets the end go, and takes who stands in the reader's slot: the two
-    /// steps are made in one, since between them there is no handle. With what was taken comes
+    /// Stores closed as it drops the end, and takes whoever is registered in the reader's slot: the
+    /// two steps are made in one, since between them there is no handle. With what was taken comes
     /// what is left of the writer.
     pub(crate) fn close_and_take(self, call: WriteCall) -> (WriteCall, Taken, FinishedWriter)
         requires next { write_action call.point ≡ Action.StoreClosed false }

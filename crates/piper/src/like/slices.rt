@@ -2,7 +2,7 @@
 ghost use Rattle.std.specs.Prelude.{◌≡◌, length};
 
 /// How many bytes the C library is handed at once. It copies more by `rep movsb`, which is slower
-/// where they stand in a core's cache, and takes half as long again where they come from another
+/// where they are in a core's cache, and takes half as long again where they come from another
 /// core.
 const MOST_AT_ONCE: usize = 4096;
 

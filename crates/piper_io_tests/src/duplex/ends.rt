@@ -11,7 +11,7 @@ use std::sync::Wait;
 /// How often a poll that yields is made again.
 const MOST_POLLS: u32 = 1_000;
 
-/// Writes until a poll is ready, and holds what it answers against the count that is wanted.
+/// Writes until a poll is ready, and holds what it returns against the count that is wanted.
 fn writes<H>(rt: &H, task: &MockTask, end: &mut End, bytes: &[u8], want: usize)
 where
     H: Abort + Wait,

@@ -28,7 +28,7 @@ const STEPS: &[u8] = b"pipe 2\nbegin lend 2\nput 0 5\nbegin produced 1\ngo w 2\n
 const STEPS_PRINT: &[u8] =
     b"w began\nw answer=lent:2\nw began\nw published=5\nw answer=ok\nunread 5\n";
 
-/// Replays the beginning of a script, behind which the input fails, and compares what is printed.
+/// Replays the beginning of a script, after which the input fails, and compares what is printed.
 fn expect_broken(
     rt: &(impl Abort + Alloc<A = Global>),
     arguments: &str,

@@ -28,7 +28,7 @@ impl Read for Turns<'_> {
     }
 }
 
-/// A writer that tells how many of its bytes were flushed.
+/// A writer that reports how many of its bytes were flushed.
 #[derive(Drop)]
 struct Flushed<'a> {
     written: usize,

@@ -17,7 +17,7 @@ pub struct Fault {
     pub kind: ErrorKind,
 }
 
-/// Gives so many bytes, each told by its index.
+/// Gives so many bytes, each made from its index.
 #[derive(Drop)]
 pub struct Input {
     pub left: usize,
@@ -26,7 +26,7 @@ pub struct Input {
     pub given: u64,
 }
 
-/// Takes bytes, and tells whether each was the one that was due.
+/// Takes bytes, and reports whether each was the one that was due.
 #[derive(Drop)]
 pub struct Output {
     pub fault: Fault,

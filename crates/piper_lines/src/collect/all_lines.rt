@@ -17,8 +17,7 @@ use futures::task::{Context, Poll};
 use piper::PipeError;
 use piper::io::AsyncBufRead;
 
-/// Appends the lines of the reader to `out`, up to its end, and answers what stands behind the last
-/// line.
+/// Appends the lines of the reader to `out`, up to its end, and returns what follows the last line.
 ///
 /// A line of more than `limit` bytes comes in pieces of that many. Memory is asked for before bytes
 /// are taken: after an error, as where it is pending, `out` has each line that was handed out, and

@@ -1,5 +1,5 @@
--- An end that was told is final: what was lent is taken back by a close, and unread bytes are still
--- read.
+-- An end that was reported is final: what was lent is taken back by a close, and unread bytes are
+-- still read.
 use Rattle.std.specs.Prelude.{◌≡◌, List, [], ◌∷◌, true, false, refl}
 use Rattle.piper_protocol.specs.declared.calls.Side.TheVariants.{Reader, Writer}
 use Rattle.piper_protocol.specs.declared.calls.Query.TheVariants.{Len}

@@ -9,7 +9,7 @@ use Rattle.piper_protocol.specs.declared.events.Seen.TheVariants as seen
 use Rattle.piper_machine.specs.End.{saw_closed}
 use Rattle.piper_machine.specs.Heed.{IsHeeded}
 
--- what such a fill logs, up to its look behind the round
+-- what such a fill logs, up to its look after the round
 abbrev up_to_its_look : List Event
 up_to_its_look =
     Began Writer kind.TryFill None ∷ Looked Writer (seen.Closed false)

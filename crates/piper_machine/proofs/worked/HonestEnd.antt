@@ -1,5 +1,5 @@
--- A poll that tells the reader false, what the log says of its last look, and who stands where on
--- the way.
+-- A poll that returns false to the reader, what the log says of its last look, and where each side
+-- is on the way.
 use Rattle.std.specs.Prelude.{◌≡◌, List, [], ◌∷◌, ◌++◌, take, true, false, None, Some, refl}
 use Rattle.piper_protocol.specs.declared.calls.Side.TheVariants.{Reader, Writer}
 use Rattle.piper_protocol.specs.declared.calls.Call.TheVariants as call
@@ -39,8 +39,8 @@ told_after_the_last_look :
     × ((history_from unwritten logged_up_to_the_end).last_look ≡ Some (record { count = 0; is_after_close = true }))
 told_after_the_last_look = (refl, refl)
 
--- Behind each of these the reader may not be told false: the close came after the look, a byte was
--- found, or the call has not looked yet.
+-- After each of these the poll may not return false to the reader: the close came after the look, a
+-- byte was found, or the call has not looked yet.
 abbrev first_look : List Event
 first_look = Began Reader kind.Poll (Some 1) ∷ Looked Reader (seen.Tail 0) ∷ Closed Writer ∷ []
 
@@ -57,7 +57,7 @@ other_last_looks :
 other_last_looks = (refl, refl, refl)
 
 -- An empty open pipe blocks the reader. From the store of closed to the call of its waker the
--- writer stands between.
+-- writer is between the two.
 blocked_when_fresh : IsBlocked Reader (fresh 4)
 blocked_when_fresh = (refl, refl)
 

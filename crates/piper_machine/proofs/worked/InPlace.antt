@@ -17,7 +17,7 @@ peeked_and_consumed :
     ∷ Bytes 10 (101 ∷ 108 ∷ 108 ∷ 111 ∷ 32 ∷ 119 ∷ 111 ∷ 114 ∷ 108 ∷ 100 ∷ []) ∷ [])
 peeked_and_consumed = refl
 
--- The second poll still knows of a byte, and so it finds no more; the third looks again.
+-- The second poll still knows of a byte, and so it finds no more; the third checks again.
 peeked_by_what_is_known :
     answers (fresh 8)
     (Fill (1 to 4) ∷ Poll Reader (by 1) ∷ Consume 3 ∷ Fill (5 to 6) ∷ Poll Reader (by 1) ∷ Peek
@@ -34,7 +34,7 @@ consumed_round_the_end :
     ∷ Done ∷ Bytes 4 (9 to 12) ∷ [])
 consumed_round_the_end = refl
 
--- What is lent is published as it stands at that moment, from its beginning on, and takes room.
+-- What is lent is published as it is at that moment, from its beginning on, and takes room.
 published_as_it_is :
     answers (fresh 4)
     (Lend 3 ∷ Put 0 5 ∷ Put 1 6 ∷ Put 2 7 ∷ Produced 1 ∷ Put 1 9 ∷ Produced 2 ∷ Fill (1 to 4) ∷ Drain 4 ∷ [])

@@ -1,4 +1,4 @@
--- What a log tells of what a side knows, and the counts by it.
+-- What a log reports of what a side knows, and the counts by it.
 use Rattle.std.specs.Prelude.{◌≡◌, List, [], ◌∷◌, ◌++◌, take, Some, None, true, false, refl}
 use Rattle.piper_protocol.specs.declared.calls.Side.TheVariants.{Reader, Writer}
 use Rattle.piper_protocol.specs.declared.calls.Query.TheVariants.{Len}

@@ -49,7 +49,7 @@ rounds_of_a_fill :
     ≡ (4096 ∷ 12288 ∷ 36864 ∷ 110592 ∷ 36160 ∷ 0 ∷ [])
 rounds_of_a_fill = refl
 
--- The round of a fill whose source fails at once lends as any first round does: the lend behind it
+-- The round of a fill whose source fails at once lends as any first round does: the lend after it
 -- finds 4096 places set.
 lend_after_a_failure : lengths (writer 200000) (Lend 131072 ∷ Lend 131072 ∷ []) ≡ (4096 ∷ 12288 ∷ [])
 lend_after_a_failure = refl
@@ -81,7 +81,7 @@ bounded false limit n small most least shut = let enough : min 4096 limit ≤ n 
 bounds_meet : (most : ℕ) (p : Pipe) (n : ℕ) → lend_limit most p ≤ 4096 → Lendable most p n → n ≡ lent_count most p
 bounds_meet most p n small lendable = bounded p.is_shut (lend_limit most p) n small lendable.at_most lendable.at_least lendable.shut
 
--- What the side lends is within the bounds of the pipe that it stands for.
+-- What the side lends is within the bounds of the pipe that it represents.
 at_most_limit : (is_shut : Bool) (limit n : ℕ) → n ≤ limit → (if is_shut then 0 else n) ≤ limit
 at_most_limit true limit n within = omega arith
 at_most_limit false limit n within = within

@@ -44,7 +44,7 @@ produced_past_the_lent_slice :
     ≡ (Says (Count 2) ∷ Says Done ∷ Says Done ∷ Refused PastLent ∷ [])
 produced_past_the_lent_slice = refl
 
--- six bytes are known, and two of them stand in one piece
+-- six bytes are known, and two of them are contiguous
 consume_past_the_peeked_slice :
     prints (fresh 8)
     (Whole (Fill (1 to 6)) ∷ Whole (Drain 6) ∷ Whole (Fill (7 to 8)) ∷ Whole (Fill (9 to 12)) ∷ Whole (Poll Reader (by 1)) ∷ Whole Peek

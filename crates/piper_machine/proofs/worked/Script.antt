@@ -1,5 +1,5 @@
 -- A small language of whole calls over the definitions: what each call of a list answers, from a
--- given pipe on. Its calls and answers are those of the replayer's scripts.
+-- given pipe on. Its calls and returns are those of the replayer's scripts.
 use Rattle.std.specs.Prelude.{◌≡◌, ℕ, suc, zero, ◌+◌, ◌-◌, List, [], ◌∷◌, take, length, replicate, slice_set, Bool, true, false, Some, Result, if◌then◌else◌}
 use Rattle.std.specs.declared.result.Result.TheVariants as result
 use Rattle.piper_protocol.specs.declared.calls.Side.{Side}
@@ -37,7 +37,7 @@ abbrev pub ◌to◌ : ℕ → ℕ → List ℕ
 first to last = counted first (last + 1 - first)
 
 -- The calls. A waker is a number; `by`, `yielding` and the two after them make the context of a
--- polling call. A query names its side, and answers the same on both.
+-- polling call. A query names its side, and returns the same on both.
 pub data Call : Type 0 where
   Fill : List ℕ → Call
   Drain : ℕ → Call
@@ -56,7 +56,7 @@ pub data Call : Type 0 where
   Close : Call
   Drop : Side → Call
 
--- What a call answers, as the replayer prints it.
+-- What a call returns, as the replayer prints it.
 pub data Answer : Type 0 where
   Done : Answer
   Count : ℕ → Answer
@@ -88,7 +88,7 @@ pub record Ran : Type 0 where
   pub answer : Answer
   pub pipe : Pipe
 
--- the names called are told, if there are any
+-- the names called come after it, if there are any
 abbrev pub with_names : Answer → List ℕ → Answer
 with_names answer [] = answer
 with_names answer (name ∷ names) = answer woken (name ∷ names)

@@ -66,7 +66,7 @@ what_lies_past_an_end :
     ≡ (Failed ∷ Ready (Count 1) ∷ Bytes 3 (1 ∷ 2 ∷ 4 ∷ []) ∷ [])
 what_lies_past_an_end = refl
 
--- two known bytes stand before the end of the buffer, and four after it
+-- two known bytes come before the end of the buffer, and four after it
 one_piece_a_round :
     answers (fresh 8)
     (Fill (1 to 6) ∷ Drain 6 ∷ Fill (7 to 8) ∷ Fill (9 to 12)

@@ -1,4 +1,4 @@
--- A side looks at the other's index only where it knows nothing, so that its count may be behind.
+-- A side checks the other's index only where it knows nothing, so that its count may lag.
 use Rattle.std.specs.Prelude.{◌≡◌, [], ◌∷◌, refl}
 use Rattle.piper_machine.specs.Pipe.{fresh}
 use Rattle.piper_machine.proofs.worked.Script.{◌to◌, Fill, Drain, Peek, Count, Bytes, answers}

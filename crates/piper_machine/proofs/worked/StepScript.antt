@@ -45,7 +45,7 @@ stopped refusal p = record { pipe = p; events = []; refusal = Some refusal }
 abbrev pub after : List Event → Gone → Gone
 after events g = record g { events = events ++ g.events }
 
--- what is lent stands as zeros, as many as the bounds allow where they meet
+-- what is lent is zeros, as many as the bounds allow where they meet
 abbrev pub lent_by : Step → Pipe → List ℕ
 lent_by (step.Begin (call.WriteBuf most)) p = replicate (lent_count most p) 0
 lent_by s p = []

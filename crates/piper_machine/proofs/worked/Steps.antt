@@ -23,7 +23,7 @@ use Rattle.piper_machine.proofs.worked.Script.{Fill, Drain, Poll, by, Close, Dro
 use Rattle.piper_machine.proofs.worked.StepScript.{Whole, Begin, Go, GoEnd, Says, Logs, gone, prints}
 
 -- The reader's poll finds no byte and registers; then a byte is published, and the writer is gone.
--- The byte is not lost to the end, since the last load of tail comes behind that of closed.
+-- The byte is not lost to the end, since the last load of tail comes after that of closed.
 a_byte_before_the_end :
     prints (fresh 4)
     (Begin (call.Poll Reader 1 (by 1).luck) ∷ Go Reader 2 ∷ Whole (Fill (9 ∷ [])) ∷ Whole (Drop Writer) ∷ GoEnd Reader ∷ [])

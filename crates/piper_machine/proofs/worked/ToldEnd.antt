@@ -1,4 +1,4 @@
--- A told end, and what may be logged behind it.
+-- A reported end, and what may be logged after it.
 use Rattle.std.specs.Prelude.{◌≡◌, List, [], ◌∷◌, ◌++◌, true, false, None, Some, Ok, refl}
 use Rattle.std.proofs.Common.{inl, inr}
 use Rattle.piper_protocol.specs.declared.calls.Side.TheVariants.{Reader, Writer}
@@ -18,8 +18,8 @@ use Rattle.piper_machine.specs.Final.{told_end, IsAfterEnd}
 use Rattle.piper_machine.proofs.worked.Script.{by}
 use Rattle.piper_machine.proofs.worked.StepScript.{gone}
 
--- A writer with a lent slice closes; the reader is told the end; then the writer can publish no
--- byte, and the reader is told again.
+-- A writer with a lent slice closes; a poll reports the end to the reader; then the writer can
+-- publish no byte, and the end is reported again.
 abbrev asked_twice : List Step
 asked_twice =
     Begin (call.WriteBuf 2) ∷ Begin call.Close ∷ Go Writer ∷ Go Writer ∷ Go Writer
@@ -39,8 +39,8 @@ told_and_empty :
     × ((gone asked_twice (fresh 4)).pipe.unread ≡ [])
 told_and_empty = (refl, refl)
 
--- A drain finds the end as a poll does, and answers no byte; the writer looks at the same empty
--- pipe behind it.
+-- A drain finds the end as a poll does, and returns no byte; the writer checks the same empty pipe
+-- after it.
 abbrev drained_to_the_end : List Step
 drained_to_the_end =
     Begin call.Close ∷ Go Writer ∷ Go Writer ∷ Go Writer
@@ -60,8 +60,8 @@ found_by_a_drain :
     × (saw_closed Reader before_it_is_found ≡ true)
 found_by_a_drain = (refl, refl)
 
--- A drain that looked at closed before the close answers 0 as well, and found no end: the writer
--- may have published in between.
+-- A drain that checked closed before the close answers 0 as well, and found no end: the writer may
+-- have published in between.
 abbrev drained_over_the_drop : List Step
 drained_over_the_drop = Begin (call.TryDrain 4) ∷ Go Reader ∷ Go Reader ∷ Begin (call.Drop Writer) ∷ Go Writer ∷ Go Reader ∷ []
 
@@ -80,14 +80,14 @@ forgotten_by_the_next : saw_closed Reader (before_it_is_found ++ Began Reader (k
 forgotten_by_the_next = refl
 
 -- The reader closes its own end in the middle of a publication: a drop of the reader does not shut,
--- and the writer goes on. No end was told, so this is allowed.
+-- and the writer goes on. No end was reported, so this is allowed.
 abbrev published_after_a_drop : List Step
 published_after_a_drop = Begin (call.WriteBuf 2) ∷ Begin (call.Produced 1) ∷ Begin (call.Drop Reader) ∷ Go Reader ∷ Go Writer ∷ []
 
 drop_is_no_end : (gone published_after_a_drop (fresh 4)).pipe.unread ≡ 0 ∷ []
 drop_is_no_end = refl
 
--- what may stand behind it, and what may not
+-- what may follow it, and what may not
 allowed : IsAfterEnd told_end × IsAfterEnd (Answered Reader (answer.Poll polled.Memory)) × IsAfterEnd (Published [])
 allowed = (inl refl, inr refl, refl)
 

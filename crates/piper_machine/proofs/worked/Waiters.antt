@@ -1,4 +1,4 @@
--- A side that was told to wait, from point to point of the other side's wake, and what no run may
+-- A side that was left pending, from point to point of the other side's wake, and what no run may
 -- come to.
 use Rattle.std.specs.Prelude.{◌≡◌, ℕ, List, [], ◌∷◌, take, true, false, None, Some, Ok, refl}
 use Rattle.std.proofs.Common.{inl, inr}
@@ -19,7 +19,7 @@ use Rattle.piper_machine.specs.Remembered.{IsRemembered}
 use Rattle.piper_machine.proofs.worked.Script.{by}
 use Rattle.piper_machine.proofs.worked.StepScript.{gone}
 
--- The reader polls an empty pipe and is told to wait; then the writer publishes no byte, which
+-- The reader polls an empty pipe and is left pending; then the writer publishes no byte, which
 -- wakes all the same.
 abbrev waits_then_woken : List Step
 waits_then_woken =
@@ -33,7 +33,7 @@ pipe_after n = (gone (take n waits_then_woken) (fresh 4)).pipe
 abbrev reader_waits : ℕ → Wait
 reader_waits n = wait_of Reader (gone (take n waits_then_woken) (fresh 4)).events
 
--- told to wait at the fifth step, woken at the ninth; a query in between or behind changes nothing
+-- left pending at the fifth step, woken at the ninth; a query in between or after changes nothing
 -- of it
 told_and_woken :
     (reader_waits 4 ≡ record { handed = 1; is_woken = false; is_pending = false })
@@ -42,8 +42,8 @@ told_and_woken :
     × (reader_waits 12 ≡ record { handed = 1; is_woken = true; is_pending = true })
 told_and_woken = (refl, refl, refl, refl)
 
--- it stands ready; behind the store the writer is to find its waker in the slot; then it has it in
--- its hand; then it has called it
+-- it is ready; after the store the writer is to find its waker in the slot; then it has it taken;
+-- then it has called it
 always_remembered :
     IsRemembered Reader (pipe_after 5) (reader_waits 5)
     × IsRemembered Reader (pipe_after 7) (reader_waits 7)
@@ -70,12 +70,12 @@ copied_after_a_wait :
     wait_of Reader (Began Reader kind.Poll (Some 1) ∷ Registered Reader 1 ∷ pending ∷ Began Reader kind.PollDrainBytes (Some 2) ∷ Answered Reader (answer.Copy (polled.Ready (Ok 3))) ∷ []) ≡ record { handed = 2; is_woken = false; is_pending = false }
 copied_after_a_wait = refl
 
--- a try has no waker: who was told to wait before still waits
+-- a try has no waker: who was left pending before still waits
 tried_after_a_wait : wait_of Reader (Began Reader kind.Poll (Some 1) ∷ Registered Reader 1 ∷ pending ∷ Began Reader kind.TryDrain None ∷ Answered Reader (answer.Count 0) ∷ []) ≡ record { handed = 1; is_woken = false; is_pending = true }
 tried_after_a_wait = refl
 
--- To these pipes, with nobody about to call, a wrong order of steps would come. The reader was told
--- to wait and is not called.
+-- To these pipes, with nobody about to call, a wrong order of steps would come. The reader was left
+-- pending and is not called.
 abbrev told_to_wait : Wait
 told_to_wait = record { handed = 1; is_woken = false; is_pending = true }
 
@@ -115,7 +115,7 @@ writer_untold_forgets (inl called) = absurd (cc)
 writer_untold_forgets (inr (inl ready)) = let open_still = ready.1.1 in absurd (cc)
 writer_untold_forgets (inr (inr about)) = let between = about.0 in absurd (cc)
 
--- a wake before its store: the reader, called too early, was told to wait once more, and then the
+-- a wake before its store: the reader, called too early, was left pending once more, and then the
 -- byte came
 abbrev called_too_early : List Event
 called_too_early = Began Reader kind.Poll (Some 1) ∷ Registered Reader 1 ∷ pending ∷ Woken 1 ∷ Began Reader kind.Poll (Some 1) ∷ Registered Reader 1 ∷ pending ∷ Published (7 ∷ []) ∷ []

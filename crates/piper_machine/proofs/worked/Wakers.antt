@@ -42,7 +42,7 @@ empty_copies_wake_nobody :
 empty_copies_wake_nobody = refl
 
 -- After whole calls no side finds anything with its own waker still in its slot, since the call
--- that brought the byte or the room has woken it. So the next pipes stand in the middle of such a
+-- that brought the byte or the room has woken it. So the next pipes are in the middle of such a
 -- call.
 
 -- the reader waits, the byte 5 is published, and its waker is not called yet

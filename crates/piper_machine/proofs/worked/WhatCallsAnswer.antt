@@ -1,4 +1,4 @@
--- What the log tells of calls of both sides, and what they answer.
+-- What the log reports of calls of both sides, and what they return.
 use Rattle.std.specs.Prelude.{◌≡◌, List, [], ◌∷◌, ◌++◌, drop, true, false, None, Some, Err, refl}
 use Rattle.std.proofs.Common.{arith}
 use Rattle.piper_protocol.specs.declared.calls.Side.{Side}
@@ -26,7 +26,7 @@ abbrev logged : List Step → Pipe → List Event
 logged [] p = []
 logged (s ∷ ss) p = let out = stepped (0 ∷ 0 ∷ []) s p in out.events ++ logged ss out.pipe
 
--- what they tell of a side of which these steps are made
+-- what they report of a side of which these steps are made
 abbrev told_by : Side → List Step → List Event → Noted
 told_by side steps events = noted_from side (unnoted (calls_of side steps)) events
 
@@ -103,7 +103,7 @@ counts_of_a_closed_pipe = (
   λ filled. absurd (let zero = filled.none refl in omega arith),
 )
 
--- A source fails behind its first byte: the fill has published that byte, and answers the failure.
+-- A source fails after its first byte: the fill has published that byte, and returns the failure.
 abbrev fails_after_a_byte : List Step
 fails_after_a_byte = Begin (call.PollFill 1 (by 1).luck (source.Bytes (9 ∷ []) ∷ source.Fail ∷ [])) ∷ Go Writer ∷ Go Writer ∷ Go Writer ∷ Go Writer ∷ Go Writer ∷ Go Writer ∷ Go Writer ∷ []
 
@@ -164,13 +164,13 @@ logged_of_the_consumed = refl
 places_of_the_destination : (places_of (dest.Take 1 ∷ dest.Fail ∷ []) ≡ 1) × (may_fail (dest.Take 1 ∷ dest.Fail ∷ []) ≡ true)
 places_of_the_destination = (refl, refl)
 
--- Of the same two looks the writer answers what it found first, and the reader what it found last.
+-- Of the same two looks the writer returns what it found first, and the reader what it found last.
 numbers_found :
     (number_found Writer (seen.Tail 0 ∷ seen.Head 2 ∷ []) ≡ Some 2)
     × (number_found Reader (seen.Tail 0 ∷ seen.Head 2 ∷ []) ≡ Some 0)
     × (number_found Reader (seen.Tail 0 ∷ []) ≡ None)
 numbers_found = (refl, refl, refl)
 
--- Behind its answer a call is no longer open.
+-- After its answer a call is no longer open.
 closed_by_its_answer : (told_by Writer drained_between_the_looks (logged drained_between_the_looks (fresh 4))).call ≡ None
 closed_by_its_answer = refl

@@ -21,7 +21,7 @@ in_two_pieces :
     ≡ (Count 5 ∷ Bytes 5 (1 to 5) ∷ Count 3 ∷ Count 5 ∷ Bytes 8 (6 to 13) ∷ Count 8 ∷ Flag true ∷ [])
 in_two_pieces = refl
 
--- Six bytes are known, and two of them stand in one piece up to the end.
+-- Six bytes are known, and two of them are contiguous up to the end.
 abbrev around_the_end : List Call
 around_the_end =
     Fill (1 to 6) ∷ Drain 6 ∷ Fill (7 to 8) ∷ Fill (9 to 12) ∷ Poll Reader (by 1) ∷ Peek ∷ Ask Reader Len ∷ []

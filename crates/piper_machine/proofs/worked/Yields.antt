@@ -1,4 +1,4 @@
--- A copying poll yields exactly at a draw of 0, and answers `memory` exactly where a clone is
+-- A copying poll yields exactly at a draw of 0, and returns `memory` exactly where a clone is
 -- needed and refused.
 use Rattle.std.specs.Prelude.{◌≡◌, List, [], ◌∷◌, refl}
 use Rattle.piper_protocol.specs.declared.calls.Side.TheVariants.{Reader, Writer}

@@ -31,8 +31,8 @@ fn without_failure(copied: Polled<Result<usize, Failed>>) -> Polled<usize>
 }
 
 impl Machine {
-    // A fill run whole, up to its answer: bytes of the caller's, and behind them the acts of its
-    // script, stand in the place of the source that an open call holds.
+    // A fill run whole, up to its answer: bytes of the caller's, and after them the acts of its
+    // script, replace the source that an open call holds.
     fn fill_whole<'a>(
         &mut self,
         context: Option<Context>,
@@ -67,7 +67,7 @@ impl Machine {
         }
     }
 
-    // Copies the known bytes that stand in one piece to the front of a slice, as many as fit and a
+    // Copies the known bytes that are contiguous to the front of a slice, as many as fit and a
     // round may move.
     fn read_round(&self, dest: &mut [u8]) -> usize
         ensures count { result ≡ min (length dest.old) (round_count self.now) }
@@ -109,8 +109,8 @@ impl Machine {
         }
     }
 
-    // A drain to the caller's script, up to its answer: its acts stand in the place of the
-    // destination that an open call holds.
+    // A drain to the caller's script, up to its answer: its acts replace the destination that an
+    // open call holds.
     fn drain_script(&mut self, context: Option<Context>, mut acts: &[DestAct]) -> Answer
         requires idle { self.old.reader ≡ ReadPoint.Idle }
         requires woken { self.old.woken ≡ [] }
@@ -139,7 +139,7 @@ impl Machine {
         }
     }
 
-    /// Publishes as many of the first bytes as there is known room, and answers how many.
+    /// Publishes as many of the first bytes as there is known room, and returns how many.
     pub fn w_try_fill(&mut self, bytes: &[u8]) -> usize
         requires { self.old.writer ≡ WritePoint.Idle }
         ensures count { result ≡ count_of (try_fill bytes.now self.old).answer }
@@ -151,7 +151,7 @@ impl Machine {
         self.fill_whole(None, bytes, &[]).count()
     }
 
-    /// Moves as many of the known bytes as fit to the front of `dest`, and answers how many.
+    /// Moves as many of the known bytes as fit to the front of `dest`, and returns how many.
     pub fn r_try_drain(&mut self, dest: &mut [u8]) -> usize
         requires { self.old.reader ≡ ReadPoint.Idle }
         ensures count { result ≡ count_of (try_drain (length dest.old) self.old).answer }
@@ -166,13 +166,13 @@ impl Machine {
         self.drain_slice(None, dest).count()
     }
 
-    /// Publishes as many of the first bytes as there is known room, and answers how many: 0 of a
+    /// Publishes as many of the first bytes as there is known room, and returns how many: 0 of a
     /// closed pipe.
     ///
     /// Without room it waits as `w_poll` does. With room it yields where the draw is 0: the
     /// caller's own waker is called, the answer is pending, and no byte has moved. `Memory` is
-    /// answered exactly where a registration or a yield is needed and not granted. Nothing stays
-    /// lent, whatever is answered.
+    /// returned exactly where a registration or a yield is needed and not granted. Nothing stays
+    /// lent, whatever is returned.
     pub fn w_poll_fill_bytes(&mut self, waker: u32, luck: Luck, bytes: &[u8]) -> Polled<usize>
         requires idle { self.old.writer ≡ WritePoint.Idle }
         requires draw { luck.draw < 100 }
@@ -188,12 +188,12 @@ impl Machine {
         )
     }
 
-    /// Moves as many of the known bytes as fit to the front of `dest`, and answers how many: 0 at
+    /// Moves as many of the known bytes as fit to the front of `dest`, and returns how many: 0 at
     /// the end of a closed pipe.
     ///
     /// Without a byte it waits as `r_poll` does. With one it yields where the draw is 0: the
     /// caller's own waker is called, the answer is pending, and no byte has moved. `Memory` is
-    /// answered exactly where a registration or a yield is needed and not granted.
+    /// returned exactly where a registration or a yield is needed and not granted.
     pub fn r_poll_drain_bytes(&mut self, waker: u32, luck: Luck, dest: &mut [u8]) -> Polled<usize>
         requires idle { self.old.reader ≡ ReadPoint.Idle }
         requires draw { luck.draw < 100 }
@@ -215,11 +215,11 @@ impl Machine {
         )
     }
 
-    /// Publishes what a scripted source gives, as far as there is known room, and answers how many
+    /// Publishes what a scripted source gives, as far as there is known room, and returns how many
     /// bytes.
     ///
     /// It waits and yields as `w_poll_fill_bytes` does. The source's end is a failure, an act of no
-    /// bytes, or the end of its script; a failure that is reached is answered, and what moved
+    /// bytes, or the end of its script; a failure that is reached is returned, and what moved
     /// before it stays.
     pub fn w_poll_fill(
         &mut self,
@@ -239,12 +239,11 @@ impl Machine {
             .copied()
     }
 
-    /// Hands known bytes to a scripted destination, and answers how many it took.
+    /// Hands known bytes to a scripted destination, and returns how many it took.
     ///
     /// It waits and yields as `r_poll_drain_bytes` does. Each call of the destination is lent the
-    /// known bytes that stand in one piece, at most 131,072; one that takes none, and the end of
-    /// the script, end the call. A failure is answered, and what was taken before it stays
-    /// consumed.
+    /// known bytes that are contiguous, at most 131,072; one that takes none, and the end of the
+    /// script, end the call. A failure is returned, and what was taken before it stays consumed.
     pub fn r_poll_drain(
         &mut self,
         waker: u32,

@@ -59,7 +59,7 @@ impl Machine {
         }
     }
 
-    // Opens a call of a side that is idle, and answers at once where the call makes no step.
+    // Opens a call of a side that is idle, and returns at once where the call makes no step.
     fn open(
         &mut self,
         call: &Call,

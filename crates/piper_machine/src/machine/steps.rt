@@ -22,7 +22,7 @@ use piper_protocol::write_side::WriteSide;
 use std::alloc::Global;
 use std::mem;
 
-// Puts the waker of the context into the slot, if its clone is granted, and answers whether it was.
+// Puts the waker of the context into the slot, if its clone is granted, and returns whether it was.
 fn register(slot: &mut SlotState<u32>, context: Option<Context>) -> bool
     ensures answer { result ≡ is_granted context }
     ensures after { slot.new ≡ registered_in context slot.old }
@@ -46,7 +46,7 @@ fn is_yield_granted(context: Option<Context>) -> bool
     }
 }
 
-// A call of the reader that has answered holds nothing, and its drain fills nothing more.
+// A call of the reader that has returned holds nothing, and its drain fills nothing more.
 fn settle_reader(
     call: &mut OpenCall,
     destination: &mut Destination,
@@ -65,7 +65,7 @@ fn settle_reader(
     answer
 }
 
-// A call of the writer that has answered holds nothing, and its fill gives nothing more.
+// A call of the writer that has returned holds nothing, and its fill gives nothing more.
 fn settle_writer(
     alloc: Global,
     call: &mut OpenCall,
@@ -85,7 +85,7 @@ fn settle_writer(
     answer
 }
 
-// Nothing stays lent where a fill has answered.
+// Nothing stays lent where a fill has returned.
 fn settle_lent(write: &mut WriteSide, is_fill: bool, answer: Option<Answer>)
     requires { IsSome answer → tail_store write.old.point ≡ 0 }
     ensures { write.new

@@ -231,11 +231,11 @@ impl Machine {
         self.drive_writer().flag()
     }
 
-    /// Looks for a byte. Without one the waker is registered, and called when that may have
+    /// Checks for a byte. Without one the waker is registered, and called when that may have
     /// changed.
     ///
     /// Ready with true: a byte is known. Ready with false: the pipe is closed, and no byte is
-    /// unread. `Memory` is answered exactly where a registration is needed and not granted.
+    /// unread. `Memory` is returned exactly where a registration is needed and not granted.
     pub fn r_poll(&mut self, waker: u32, luck: Luck) -> Polled<bool>
         requires idle { self.old.reader ≡ ReadPoint.Idle }
         requires draw { luck.draw < 100 }
@@ -250,10 +250,10 @@ impl Machine {
         self.drive_reader().polled()
     }
 
-    /// Looks for room. Without it the waker is registered, and called when that may have changed.
+    /// Checks for room. Without it the waker is registered, and called when that may have changed.
     ///
-    /// Ready with true: room is known. Ready with false: the pipe is closed.
-    /// `Memory` is answered exactly where a registration is needed and not granted.
+    /// Ready with true: room is known. Ready with false: the pipe is closed. `Memory` is returned
+    /// exactly where a registration is needed and not granted.
     pub fn w_poll(&mut self, waker: u32, luck: Luck) -> Polled<bool>
         requires idle { self.old.writer ≡ WritePoint.Idle }
         requires draw { luck.draw < 100 }
@@ -281,7 +281,7 @@ impl Machine {
         self.drive_reader();
     }
 
-    /// Lends at most `max` free places in one piece, in place of what was lent before, and answers
+    /// Lends at most `max` free places in one piece, in place of what was lent before, and returns
     /// how many.
     ///
     /// Nothing is lent of a shut pipe; else at least the lesser of `max`, 4096, the known room and
@@ -307,7 +307,7 @@ impl Machine {
         write_at(&mut self.bytes, self.write.front() + offset, bytes);
     }
 
-    /// Publishes the first `n` bytes of what is lent, as they stand now, and wakes the reader, also
+    /// Publishes the first `n` bytes of what is lent, as they are now, and wakes the reader, also
     /// at 0.
     pub fn w_produced(&mut self, n: usize)
         requires idle { self.old.writer ≡ WritePoint.Idle }

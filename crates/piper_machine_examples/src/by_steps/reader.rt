@@ -29,7 +29,7 @@ pub trait ReadWords {
     /// Empties the reader's slot.
     fn take_own(&mut self);
 
-    /// Empties the writer's slot, and keeps the waker that stood there, if one did.
+    /// Empties the writer's slot, and keeps the waker that was there, if one was.
     fn take_writer(&mut self) -> bool;
 
     /// Calls the waker that was taken.
@@ -43,7 +43,7 @@ pub struct Reader<W> {
 }
 
 impl<W: ReadWords> Reader<W> {
-    /// Looks for a byte; where there is none, registers the caller's waker.
+    /// Checks for a byte; where there is none, registers the caller's waker.
     pub fn poll(&mut self) -> Polled<bool>
         ensures byte { result ≡ Ready true → 1 ≤ known_in self.new.indices }
         ensures none { result ≢ Ready true → known_in self.new.indices ≡ 0 }

@@ -13,7 +13,7 @@ use piper_protocol::write_indices::WriteIndices;
 
 /// What a writer reaches of the pipe that it shares, by one access each.
 pub trait WriteWords {
-    /// Loads the reader's index, which is no more than a turn behind the writer's own, and leaves
+    /// Loads the reader's index, which is no more than a turn after the writer's own, and leaves
     /// room for what is lent.
     fn load_head(&mut self, indices: &WriteIndices) -> usize
         ensures index { result < 2 * indices.now.capacity }
@@ -30,10 +30,10 @@ pub trait WriteWords {
     /// Puts the caller's waker into the writer's slot.
     fn put_own(&mut self);
 
-    /// Empties the writer's slot. Whether a waker stood there.
+    /// Empties the writer's slot. Whether a waker was there.
     fn take_own(&mut self) -> bool;
 
-    /// Empties the reader's slot, and keeps the waker that stood there, if one did.
+    /// Empties the reader's slot, and keeps the waker that was there, if one was.
     fn take_reader(&mut self) -> bool;
 
     /// Calls the waker that was taken.
@@ -47,7 +47,7 @@ pub struct Writer<W> {
 }
 
 impl<W: WriteWords> Writer<W> {
-    /// Looks for room in an open pipe; where there is none, registers the caller's waker.
+    /// Checks for room in an open pipe; where there is none, registers the caller's waker.
     pub fn poll(&mut self) -> Polled<bool>
         ensures room { result ≡ Ready true → 1 ≤ room_in self.new.indices }
         ensures pending { result ≡ Pending → room_in self.new.indices ≡ 0 }

@@ -19,7 +19,7 @@ pub(crate) struct ReadParts {
     pub(crate) told: WriteMark,
     /// What it saw of the pipe's end.
     pub(crate) saw: WriteMark,
-    /// All that it knows of what was published: what it loaded, was told and saw.
+    /// All that it knows of what was published: what it loaded, was reported and saw.
     pub(crate) heard: WriteMark,
     pub(crate) base: Base,
     pub(crate) alloc: Global,
@@ -103,8 +103,8 @@ impl ReadEnd {
         self.len() == self.capacity()
     }
 
-    /// Whether the pipe is closed now. Once this end saw it closed, or was told that the writer
-    /// closed it, the answer is `true`.
+    /// Whether the pipe is closed now. Once this end saw it closed, or learned from a mark that the
+    /// writer closed it, the result is `true`.
     pub fn is_closed(&self) -> bool
         ensures saw { self.now.saw ≡ true → IsTrue result }
         ensures told { self.now.told_shut ≡ true → IsTrue result }
@@ -113,8 +113,8 @@ impl ReadEnd {
         self.parts.seat.load_closed(&mut saw, &self.parts.told) != 0
     }
 
-    /// The known bytes that stand in one piece, at least one where any is known. The slice stays as
-    /// it is while the writer writes and publishes.
+    /// The known bytes that are contiguous, at least one where any is known. The slice stays as it
+    /// is while the writer writes and publishes.
     pub fn peek_buf(&self) -> &[u8]
         ensures bytes { result.now ≡ take (in_one_piece self.now) self.now.known }
         ensures length { length result.now ≡ in_one_piece self.now }
@@ -133,10 +133,10 @@ impl ReadEnd {
         self.parts.seat.mark()
     }
 
-    /// From now on it knows what the mark tells: a reload finds at least the bytes that were
+    /// From now on it knows what the mark reports: a reload finds at least the bytes that were
     /// published before it, and a ring that the writer closed before it is seen closed. Its bytes
     /// and those that this end took and knows of are beginnings of one stream, and those of a mark
-    /// that tells of the end are all.
+    /// that reports of the end are all.
     pub fn heed(&mut self, mark: &WriteMark)
         requires { mark.now.names ≡ self.old.ring.1.1 }
         ensures told { self.new.told ≡ max self.old.told (length mark.now.bytes) }
@@ -150,7 +150,7 @@ impl ReadEnd {
         self.parts.heard.heed(mark);
     }
 
-    /// Looks for bytes that were published: for all there are, once it is known where the pipe
+    /// Checks for bytes that were published: for all there are, once it is known where the pipe
     /// ends. It is for an end that knows of none: one that does has something to do, and need not
     /// touch the other's word.
     pub fn reload(&mut self)
@@ -177,7 +177,7 @@ impl ReadEnd {
         parts.indices.sees(tail as usize);
     }
 
-    /// From now on it has heard of what the mark tells.
+    /// From now on it has heard of what the mark reports.
     pub(crate) fn hear(&mut self, mark: &WriteMark)
         requires { mark.now.names ≡ self.old.ring.1.1 }
         ensures heard { length mark.now.bytes ≤ length self.new.all }
@@ -201,9 +201,9 @@ impl ReadEnd {
         }
     }
 
-    /// Both ends in one hand: then this end knows of all that was published, and the other of all
-    /// the free room, and where either saw the pipe closed the writer closed it: what the reader
-    /// took for the end is all that was published.
+    /// Both ends held by one thread: then this end knows of all that was published, and the other
+    /// of all the free room, and where either saw the pipe closed the writer closed it: what the
+    /// reader took for the end is all that was published.
     pub fn meet(&mut self, other: &mut WriteEnd)
         requires { other.old.ring ≡ self.old.ring }
         ensures fifo { self.new.taken ++ self.new.known ≡ other.new.sent }
@@ -227,7 +227,7 @@ impl ReadEnd {
         writer.indices.sees(reader.indices.head());
     }
 
-    /// Looks whether the pipe is closed, and keeps what it saw. Where it is, it is known from then
+    /// Checks whether the pipe is closed, and keeps what it saw. Where it is, it is known from then
     /// on where the pipe ends.
     pub fn look_closed(&mut self) -> bool
         ensures saw { result ≡ self.new.saw }
@@ -256,8 +256,8 @@ impl ReadEnd {
         is_closed
     }
 
-    /// Takes the first `n` known bytes off, which stand in one piece, and gives their places back
-    /// to the writer. It wakes nobody.
+    /// Takes the first `n` known bytes off, which are contiguous, and gives their places back to
+    /// the writer. It wakes nobody.
     pub fn consume(&mut self, n: usize)
         requires { n ≤ in_one_piece self.old }
         ensures taken { self.new.taken ≡ self.old.taken ++ take n self.old.known }

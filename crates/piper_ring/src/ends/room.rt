@@ -9,7 +9,7 @@ use crate::ring::places::{Base, Blank, Places};
 pub(crate) struct Room {
     /// What is left of the slice last lent.
     pub(crate) lent: Places,
-    /// The places behind it that are set.
+    /// The places after it that are set.
     pub(crate) ready: Places,
     /// The places of the first turn that are not set yet.
     pub(crate) blank: Blank,
@@ -49,9 +49,8 @@ impl Room {
         self.ready.put(front);
     }
 
-    /// Lends its first `len` places, which stand in one piece from the offset `from` on, in place
-    /// of what was lent before. Those that are not set, from the offset `zeroed` on, are zeroed
-    /// first.
+    /// Lends its first `len` places, which are contiguous from the offset `from` on, in place of
+    /// what was lent before. Those that are not set, from the offset `zeroed` on, are zeroed first.
     pub(crate) fn lend(
         &mut self,
         base: Base,

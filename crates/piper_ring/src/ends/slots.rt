@@ -17,9 +17,9 @@ pub(crate) struct ReadSlotParts {
     /// The right to the place of its waker, where it is not in the slot or with the writer: then
     /// nothing lies there.
     pub(crate) right: Option<Token>,
-    /// Whether its waker may stand in the slot: since it registered, no look found it gone.
+    /// Whether its waker may be registered in the slot: since it registered, no look found it gone.
     pub(crate) maybe_registered: bool,
-    /// What the writer had looked behind when this end registered last.
+    /// What the writer had stored when it last checked the slot before this end registered.
     pub(crate) heard: WriteMark,
     pub(crate) wakes: ReaderWakes,
 }
@@ -48,9 +48,9 @@ pub(crate) struct WriteSlotParts {
     /// The right to the place of its waker, where it is not in the slot or with the reader: then
     /// nothing lies there.
     pub(crate) right: Option<Token>,
-    /// Whether its waker may stand in the slot: since it registered, no look found it gone.
+    /// Whether its waker may be registered in the slot: since it registered, no look found it gone.
     pub(crate) maybe_registered: bool,
-    /// What the reader had looked behind when this end registered last.
+    /// What the reader had stored when it last checked the slot before this end registered.
     pub(crate) heard: ReadMark,
     pub(crate) saw: Saw,
     pub(crate) wakes: WriterWakes,
@@ -102,7 +102,7 @@ impl Drop for WriteRegistrations {
 }
 
 impl ReadRegistrations {
-    /// Whether the place of the reader's waker is with its end: then it stands nowhere.
+    /// Whether the place of the reader's waker is with its end: then it is registered nowhere.
     #[inline(always)]
     pub fn has_place(&self) -> bool
         ensures { result ≡ self.now.owns }
@@ -110,8 +110,8 @@ impl ReadRegistrations {
         self.parts.right.is_some()
     }
 
-    /// Whether the reader's waker may stand in its slot, as far as is known without a look there:
-    /// `is_registered` looks.
+    /// Whether the reader's waker may be registered in its slot, as far as is known without a look
+    /// there: `is_registered` looks.
     #[inline(always)]
     pub fn maybe_registered(&self) -> bool
         ensures { self.now.owns ≡ true → IsFalse result }
@@ -121,7 +121,7 @@ impl ReadRegistrations {
 }
 
 impl WriteRegistrations {
-    /// Whether the place of the writer's waker is with its end: then it stands nowhere.
+    /// Whether the place of the writer's waker is with its end: then it is registered nowhere.
     #[inline(always)]
     pub fn has_place(&self) -> bool
         ensures { result ≡ self.now.owns }
@@ -129,8 +129,8 @@ impl WriteRegistrations {
         self.parts.right.is_some()
     }
 
-    /// Whether the writer's waker may stand in its slot, as far as is known without a look there:
-    /// `is_registered` looks.
+    /// Whether the writer's waker may be registered in its slot, as far as is known without a look
+    /// there: `is_registered` looks.
     #[inline(always)]
     pub fn maybe_registered(&self) -> bool
         ensures { self.now.owns ≡ true → IsFalse result }

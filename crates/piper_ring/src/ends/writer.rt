@@ -119,7 +119,7 @@ impl WriteEnd {
         self.parts.seat.mark()
     }
 
-    /// From now on it knows what the mark tells: a reload finds at least the room that was given
+    /// From now on it knows what the mark reports: a reload finds at least the room that was given
     /// back before it.
     pub fn heed(&mut self, mark: &ReadMark)
         requires { mark.now.names ≡ self.old.ring.1.1 }
@@ -141,7 +141,7 @@ impl WriteEnd {
         self.parts.saw = mark.closed.again();
     }
 
-    /// Looks for room that was given back. It is for an end that knows of none, as the reader's
+    /// Checks for room that was given back. It is for an end that knows of none, as the reader's
     /// `reload`.
     pub fn reload(&mut self)
         requires { self.old.room ≡ 0 }
@@ -168,7 +168,7 @@ impl WriteEnd {
         parts.indices.sees(head as usize);
     }
 
-    /// Looks whether the pipe is closed, and keeps what it saw.
+    /// Checks whether the pipe is closed, and keeps what it saw.
     pub fn look_closed(&mut self) -> bool
         ensures saw { result ≡ self.new.saw }
         ensures stays { flag self.old.saw ≤ flag self.new.saw }
@@ -194,8 +194,8 @@ impl WriteEnd {
         is_closed
     }
 
-    /// Publishes the first `n` bytes of what is left of the slice last lent, as they stand. It
-    /// wakes nobody.
+    /// Publishes the first `n` bytes of what is left of the slice last lent, as they are. It wakes
+    /// nobody.
     pub fn produce(&mut self, n: usize)
         requires { n ≤ length self.old.lent }
         ensures sent { self.new.sent ≡ self.old.sent ++ take n self.old.lent }
@@ -224,14 +224,14 @@ impl WriteEnd {
 
     /// Lends at most `max` bytes of the room, in one piece, to be written: at least one where there
     /// is room, one is asked for and the pipe wasn't closed here. It replaces what was lent before;
-    /// what stands in the bytes is not said.
+    /// what is in the bytes is not said.
     pub fn write_buf(&mut self, max: usize) -> &mut [u8]
         ensures* writes { sem 𝓛 (lends_buffer self.entry result) }
         ensures length { Lendable self.old max (length result.now) }
         ensures some { self.old.shut ≡ false → 0 < self.old.room → 0 < max → 0 < length result.now }
     {
         // Once all places are set nothing is left to be zeroed, and the compiler leaves out the
-        // looks for that.
+        // checks for that.
         if self.parts.indices.is_set() {
             self.lend(max)
         } else {
@@ -278,11 +278,11 @@ impl WriteEnd {
         parts.seat.store_shut();
     }
 
-    /// Closes the pipe for good and lets this end go. The memory is freed if the reader's end is
+    /// Closes the pipe for good and drops this end. The memory is freed if the reader's end is
     /// gone. It wakes nobody.
     ///
     /// The answer is evidence, for the reader's end, of all that was ever published, and that the
-    /// pipe is closed behind it.
+    /// pipe is closed after it.
     pub fn finish(self) -> WriteMark
         ensures ring { result.names ≡ self.ring.1.1 }
         ensures bytes { result.bytes ≡ self.sent }

@@ -8,7 +8,7 @@ ghost use Rattle.piper_ring.specs.Streams.{Stream, Reaches};
 use std::marker::{Model, PhantomData, Send, Sync};
 
 /// The bytes published begin with `bytes`, and where `shut` is `true` they are all: the writer
-/// closed the pipe behind them.
+/// closed the pipe after them.
 pub struct WriteMark {
     pub(crate) mark: PhantomData<*mut u8>,
     pub ghost names: { Names } by { names_code },
@@ -40,7 +40,7 @@ impl WriteMark {
         WriteMark { mark: PhantomData }
     }
 
-    /// Afterwards it tells what either of the two told.
+    /// Afterwards it says what either of the two says.
     pub fn heed(&mut self, other: &WriteMark)
         requires { other.now.names ≡ self.old.names }
         ensures ring { self.new.names ≡ self.old.names }
@@ -86,7 +86,7 @@ impl ReadMark {
         ReadMark { mark: PhantomData }
     }
 
-    /// Afterwards it tells what either of the two told.
+    /// Afterwards it says what either of the two says.
     pub fn heed(&mut self, other: &ReadMark)
         requires { other.now.names ≡ self.old.names }
         ensures ring { self.new.names ≡ self.old.names }

@@ -70,7 +70,7 @@ impl Places {
         unsafe { slice::from_raw_parts_mut(base.ptr.add(from), len) }
     }
 
-    /// The first `len` bytes, to be read. They stand in one piece from the offset `from` on.
+    /// The first `len` bytes, to be read. They are contiguous from the offset `from` on.
     pub(crate) fn slice(&self, base: Base, from: usize, len: usize) -> &[u8]
         requires { IsPiece base.ptr from len self.now }
         ensures { result.now ≡ take len self.now.bytes }
@@ -130,7 +130,7 @@ impl Places {
 impl Blank {
     ghost use Rattle.piper_ring.specs.Stretches.{FollowsBlank, places_from};
 
-    /// No places, as they stand `skip` places after its first.
+    /// No places, as they are `skip` places after its first.
     pub(crate) fn none(&mut self, skip: usize) -> Places
         ensures none { result ≡ places_from self.old (self.old.first + skip) [] }
         ensures same { self.new ≡ self.old }
@@ -139,7 +139,7 @@ impl Blank {
         Places { mark: PhantomData }
     }
 
-    /// Zeroes the first place, which stands at `offset`. It then leaves it.
+    /// Zeroes the first place, which is at `offset`. It then leaves it.
     pub(crate) fn set(&mut self, base: Base, offset: usize) -> Places
         requires { (base.ptr ≡ self.old.at) × (0 < self.old.count)
             × (offset ≡ offset_of self.old.capacity self.old.first) × (offset < self.old.capacity) }

@@ -202,7 +202,7 @@ impl ReadSeat {
         Saw { mark: PhantomData }
     }
 
-    /// Where the tail stands: no less than the reader has seen or was told of, and right at the end
+    /// Where the tail is: no less than the reader has seen or was told of, and right at the end
     /// where it was told of that. With it comes evidence of the bytes that were published.
     pub(crate) fn look_tail(&self, told: &WriteMark) -> (u64, WriteMark)
         requires { told.now.names ≡ self.now.names }
@@ -227,9 +227,9 @@ impl ReadSeat {
         ensures { ReadGains self.old self.new known.old known.new published.now.bytes }
     {}
 
-    /// 1 if the ring is closed, else 0. Once it was seen closed, or the reader was told that the
-    /// writer closed it, the answer is 1. While the reader is there only the writer closes the
-    /// ring: so with a 1 comes evidence of all that was published.
+    /// 1 if the ring is closed, else 0. Once it was seen closed, or the reader learned from a mark
+    /// that the writer closed it, the result is 1. While the reader is there only the writer closes
+    /// the ring: so with a 1 comes evidence of all that was published.
     pub(crate) fn load_closed(&self, saw: &mut WriteMark, told: &WriteMark) -> u64
         requires { (saw.old.names ≡ self.now.names) × (told.now.names ≡ self.now.names)
             × (self.now.leaving ≡ false) }
@@ -277,9 +277,9 @@ impl ReadSeat {
         (found, Remains { words })
     }
 
-    /// Both ends in one hand: the reader gets the places of all bytes that were published, and the
-    /// writer those of all that were consumed. What the reader heard of the end is so, and where
-    /// the writer saw the ring closed it closed it itself.
+    /// Both ends held by one thread: the reader gets the places of all bytes that were published,
+    /// and the writer those of all that were consumed. What the reader heard of the end is so, and
+    /// where the writer saw the ring closed it closed it itself.
     pub(crate) fn meet(
         &mut self,
         other: &mut WriteSeat,
@@ -319,7 +319,7 @@ impl WriteSeat {
         WriteMark { mark: PhantomData }
     }
 
-    /// Where the head stands: no less than the writer was told of, and no room that it knows of is
+    /// Where the head is: no less than the writer was told of, and no room that it knows of is
     /// taken away. With it comes evidence of how many bytes were consumed.
     pub(crate) fn look_head(&self, told: &ReadMark) -> (u64, ReadMark)
         requires { told.now.names ≡ self.now.names }
@@ -355,7 +355,7 @@ impl WriteSeat {
         unsafe { raw::load::<Brand>(self.words.add(CLOSED_WORD), SeqCst) }
     }
 
-    /// Publishes the bytes that stand in the places handed over. Once the writer closed the ring
+    /// Publishes the bytes that are in the places handed over. Once the writer closed the ring
     /// there are none.
     pub(crate) fn store_tail(&mut self, bytes: Places, tail: u64)
         requires { BeginsAt self.old.at self.old.names.capacity (length self.old.sent) bytes

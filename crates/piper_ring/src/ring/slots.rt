@@ -12,7 +12,8 @@ use std::sync::atomic::raw;
 use token_cell::{Token, TokenCell};
 
 /// The reader, at its own slot. `owns` is whether it has the place of the waker, `tickets` how
-/// often it registered, and the rest what the writer had published when it looked last before that.
+/// often it registered, and the rest what the writer had published when it checked last before
+/// that.
 pub(crate) struct ReaderWaits {
     pub(crate) mark: PhantomData<*mut u8>,
     pub(crate) ghost names: { Names } by { names_code },
@@ -39,7 +40,7 @@ impl Drop for ReaderWaits {
 }
 
 /// The writer, at the reader's slot. `holds` is whether it has the place of the waker, `taken`
-/// whose ticket it took last, and the rest what it had published when it looked last.
+/// whose ticket it took last, and the rest what it had published when it checked last.
 pub(crate) struct WriterWakes {
     pub(crate) mark: PhantomData<*mut u8>,
     pub(crate) ghost names: { Names } by { names_code },
@@ -66,7 +67,7 @@ impl Drop for WriterWakes {
 }
 
 /// The writer, at its own slot. `owns` is whether it has the place of the waker, `tickets` how
-/// often it registered, and the rest what the reader had consumed when it looked last before that,
+/// often it registered, and the rest what the reader had consumed when it checked last before that,
 /// and whether it had closed the ring.
 pub(crate) struct WriterWaits {
     pub(crate) mark: PhantomData<*mut u8>,
@@ -94,8 +95,8 @@ impl Drop for WriterWaits {
 }
 
 /// The reader, at the writer's slot. `holds` is whether it has the place of the waker, `taken`
-/// whose ticket it took last, and the rest what it had consumed when it looked last, and whether it
-/// had closed the ring.
+/// whose ticket it took last, and the rest what it had consumed when it checked last, and whether
+/// it had closed the ring.
 pub(crate) struct ReaderWakes {
     pub(crate) mark: PhantomData<*mut u8>,
     pub(crate) ghost names: { Names } by { names_code },
@@ -125,8 +126,8 @@ impl WriteSeat {
     ghost use Rattle.piper_ring.specs.Slots.{GivesBack, PublishesWaker, IsRemembered, Looks, Reclaims, Takes};
     ghost use Rattle.piper_ring.specs.SlotViews.{IsTokenOf, of_reader_wakes, of_writer_waits, of_writer_wakes};
 
-    /// 1 where a waker stands in the reader's slot, else 0: then all that was published so far was
-    /// looked behind.
+    /// 1 where a waker is registered in the reader's slot, else 0: then this check came after all
+    /// that was published so far.
     pub(crate) fn look_flag(&self, slot: &mut WriterWakes) -> u64
         requires { (slot.old.names ≡ self.now.names) × (slot.old.holds ≡ false) }
         ensures ring { slot.new.names ≡ slot.old.names }
@@ -136,8 +137,8 @@ impl WriteSeat {
         unsafe { raw::load::<Brand>(self.words.add(READER_FLAG), SeqCst) }
     }
 
-    /// 1 where it took the waker that stood in the reader's slot, with the right to its place, else
-    /// 0: then all that was published so far was looked behind.
+    /// 1 where it took the waker that was registered in the reader's slot, with the right to its
+    /// place, else 0: then this check came after all that was published so far.
     pub(crate) fn take_waker(&self, slot: &mut WriterWakes) -> (u64, Token)
         requires { (slot.old.names ≡ self.now.names) × (slot.old.holds ≡ false) }
         ensures ring { slot.new.names ≡ slot.old.names }
@@ -162,8 +163,8 @@ impl WriteSeat {
         unsafe { raw::store::<Brand>(self.words.add(READER_BACK), 1, SeqCst) }
     }
 
-    /// Takes the waker that stands in the reader's slot, if one does, out of its place, and hands
-    /// the place back.
+    /// Takes the waker that is registered in the reader's slot, if one is, out of its place, and
+    /// hands the place back.
     pub(crate) fn take<T>(&self, slot: &mut WriterWakes, place: &TokenCell<Option<T>>) -> Option<T>
         requires slot { (slot.old.names ≡ self.now.names) × (slot.old.holds ≡ false) }
         requires place { place.now ≡ self.now.names.reader_place }
@@ -181,8 +182,8 @@ impl WriteSeat {
         Some(taken)
     }
 
-    /// The writer's waker, which lies in its place, stands in its slot, under the next ticket. With
-    /// it comes evidence of what the reader had looked behind.
+    /// The writer's waker, which lies in its place, is registered in its slot, under the next
+    /// ticket. With it comes evidence of what the reader had stored when it last checked the slot.
     pub(crate) fn publish_waker(&self, slot: &mut WriterWaits, right: Token) -> (ReadMark, Saw)
         requires { (slot.old.names ≡ self.now.names) × (slot.old.owns ≡ true)
             × IsTokenOf self.now.names.writer_place true true right }
@@ -196,7 +197,7 @@ impl WriteSeat {
         (ReadMark { mark: PhantomData }, Saw { mark: PhantomData })
     }
 
-    /// 1 where the writer's waker stands in its slot, else 0.
+    /// 1 where the writer's waker is registered in its slot, else 0.
     pub(crate) fn is_registered(&self, slot: &mut WriterWaits) -> u64
         requires { slot.old.names ≡ self.now.names }
         ensures { slot.new ≡ slot.old }
@@ -204,8 +205,8 @@ impl WriteSeat {
         unsafe { raw::load::<Brand>(self.words.add(WRITER_FLAG), SeqCst) }
     }
 
-    /// 1 where the writer's waker stood in its slot and is the writer's again, with the right to
-    /// its place, else 0.
+    /// 1 where the writer's waker was registered in its slot and is the writer's again, with the
+    /// right to its place, else 0.
     pub(crate) fn cancel(&self, slot: &mut WriterWaits) -> (u64, Token)
         requires { (slot.old.names ≡ self.now.names) × (slot.old.owns ≡ false) }
         ensures ring { slot.new.names ≡ slot.old.names }
@@ -230,8 +231,8 @@ impl WriteSeat {
         (found, Token { mark: PhantomData })
     }
 
-    /// Both sides of the writer's slot in one hand: a writer that has registered, and since which
-    /// the reader looked behind something new, was taken. It is no step of the program.
+    /// Both sides of the writer's slot held by one thread: a writer that has registered, and since
+    /// which the reader check after something new, was taken. It is no step of the program.
     pub(crate) fn meet_slot(&self, waits: &mut WriterWaits, wakes: &mut ReaderWakes)
         requires { (waits.old.names ≡ self.now.names) × (wakes.old.names ≡ self.now.names) }
         ensures remembered { IsRemembered Consumed (of_writer_waits waits.old)
@@ -244,8 +245,8 @@ impl ReadSeat {
     ghost use Rattle.piper_ring.specs.Slots.{GivesBack, PublishesWaker, IsRemembered, Looks, Reclaims, Takes};
     ghost use Rattle.piper_ring.specs.SlotViews.{IsTokenOf, of_reader_waits, of_reader_wakes, of_writer_wakes};
 
-    /// The reader's waker, which lies in its place, stands in its slot, under the next ticket. With
-    /// it comes evidence of what the writer had looked behind.
+    /// The reader's waker, which lies in its place, is registered in its slot, under the next
+    /// ticket. With it comes evidence of what the writer had stored when it last checked the slot.
     pub(crate) fn publish_waker(&self, slot: &mut ReaderWaits, right: Token) -> WriteMark
         requires { (slot.old.names ≡ self.now.names) × (slot.old.owns ≡ true)
             × IsTokenOf self.now.names.reader_place true true right }
@@ -259,7 +260,7 @@ impl ReadSeat {
         WriteMark { mark: PhantomData }
     }
 
-    /// 1 where the reader's waker stands in its slot, else 0.
+    /// 1 where the reader's waker is registered in its slot, else 0.
     pub(crate) fn is_registered(&self, slot: &mut ReaderWaits) -> u64
         requires { slot.old.names ≡ self.now.names }
         ensures { slot.new ≡ slot.old }
@@ -267,8 +268,8 @@ impl ReadSeat {
         unsafe { raw::load::<Brand>(self.words.add(READER_FLAG), SeqCst) }
     }
 
-    /// 1 where the reader's waker stood in its slot and is the reader's again, with the right to
-    /// its place, else 0.
+    /// 1 where the reader's waker was registered in its slot and is the reader's again, with the
+    /// right to its place, else 0.
     pub(crate) fn cancel(&self, slot: &mut ReaderWaits) -> (u64, Token)
         requires { (slot.old.names ≡ self.now.names) × (slot.old.owns ≡ false) }
         ensures ring { slot.new.names ≡ slot.old.names }
@@ -293,8 +294,8 @@ impl ReadSeat {
         (found, Token { mark: PhantomData })
     }
 
-    /// Both sides of the reader's slot in one hand: a reader that has registered, and since which
-    /// the writer looked behind something new, was taken. It is no step of the program.
+    /// Both sides of the reader's slot held by one thread: a reader that has registered, and since
+    /// which the writer check after something new, was taken. It is no step of the program.
     pub(crate) fn meet_slot(&self, waits: &mut ReaderWaits, wakes: &mut WriterWakes)
         requires { (waits.old.names ≡ self.now.names) × (wakes.old.names ≡ self.now.names) }
         ensures remembered { IsRemembered Stream (of_reader_waits waits.old)
@@ -302,8 +303,9 @@ impl ReadSeat {
         ensures kept { (waits.new ≡ waits.old) × (wakes.new ≡ wakes.old) }
     {}
 
-    /// 1 where a waker stands in the writer's slot, else 0: then all that was consumed so far was
-    /// looked behind, and that the ring is closed where `saw` tells so.
+    /// 1 where a waker is registered in the writer's slot, else 0: then all that was consumed so
+    /// far was followed by a check of the slot, and so was the close, where `saw` says that the
+    /// ring is closed.
     pub(crate) fn look_flag(&self, slot: &mut ReaderWakes, saw: &Saw) -> u64
         requires { (slot.old.names ≡ self.now.names) × (slot.old.holds ≡ false)
             × (saw.now.names ≡ self.now.names) }
@@ -314,9 +316,9 @@ impl ReadSeat {
         unsafe { raw::load::<Brand>(self.words.add(WRITER_FLAG), SeqCst) }
     }
 
-    /// 1 where it took the waker that stood in the writer's slot, with the right to its place, else
-    /// 0: then all that was consumed so far was looked behind, and that the ring is closed where
-    /// `saw` tells so.
+    /// 1 where it took the waker that was registered in the writer's slot, with the right to its
+    /// place, else 0: then all that was consumed so far was followed by a check of the slot, and so
+    /// was the close, where `saw` says that the ring is closed.
     pub(crate) fn take_waker(&self, slot: &mut ReaderWakes, saw: &Saw) -> (u64, Token)
         requires { (slot.old.names ≡ self.now.names) × (slot.old.holds ≡ false)
             × (saw.now.names ≡ self.now.names) }
@@ -342,8 +344,8 @@ impl ReadSeat {
         unsafe { raw::store::<Brand>(self.words.add(WRITER_BACK), 1, SeqCst) }
     }
 
-    /// Takes the waker that stands in the writer's slot, if one does, out of its place, and hands
-    /// the place back.
+    /// Takes the waker that is registered in the writer's slot, if one is, out of its place, and
+    /// hands the place back.
     pub(crate) fn take<T>(
         &self,
         slot: &mut ReaderWakes,

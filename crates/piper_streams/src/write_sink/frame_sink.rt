@@ -16,9 +16,9 @@ use std::io::ErrorKind;
 /// Writes a frame for each body that it is sent, whole and in order: its length, and the body.
 ///
 /// Memory is asked for where a body is sent; where that is refused, or a body whose length the
-/// header can't tell is, by an error of the kind `InvalidInput`, the sink is as it was, and the
-/// body goes. What is said of [`WriteSink`] holds of it, too. In clauses, `frames_below` is the
-/// sink below, and `header_of` how the length is told.
+/// header can't say is, by an error of the kind `InvalidInput`, the sink is as it was, and the body
+/// goes. What is said of [`WriteSink`] holds of it, too. In clauses, `frames_below` is the sink
+/// below, and `header_of` how the length is reported.
 #[derive(Debug, Drop)]
 pub struct FrameSink<W> {
     sink: WriteSink<W>,
@@ -29,7 +29,8 @@ pub struct FrameSink<W> {
 impl<W: AsyncWrite + Drop> FrameSink<W> {
     ghost use Rattle.piper_streams.specs.SentFrames.{frames_below, header_of};
 
-    /// Frames whose length is told in four bytes, the most significant first. Nothing is sent yet.
+    /// Frames whose length is reported in four bytes, the most significant first. Nothing is sent
+    /// yet.
     pub fn new(alloc: Global, writer: W) -> FrameSink<W>
         ensures writer { writer_of (frames_below result) ≡ writer }
         ensures format { header_of result ≡ usual_header }
@@ -38,7 +39,7 @@ impl<W: AsyncWrite + Drop> FrameSink<W> {
         FrameSink::with_header(alloc, writer, FrameHeader::FourBytes(ByteOrder::BigEndian))
     }
 
-    /// Frames whose length is told in this way. Nothing is sent yet.
+    /// Frames whose length is reported in this way. Nothing is sent yet.
     pub fn with_header(alloc: Global, writer: W, format: FrameHeader) -> FrameSink<W>
         ensures writer { writer_of (frames_below result) ≡ writer }
         ensures format { header_of result ≡ format }

@@ -16,7 +16,7 @@ fn poll_close(rt: &impl Abort, cx: &mut Context<'_>, reader: &mut Reader, writer
     same(rt, reader.try_drain(&mut [0; 4]), 2);
 }
 
-/// What a side did, the other heeds; in one hand both meet.
+/// What a side did, the other heeds; held by one thread both meet.
 fn mark_and_meet(rt: &impl Abort, mut reader: Reader, mut writer: Writer)
     requires { ArePair reader writer }
 {

@@ -14,7 +14,7 @@ use std::test::Fail;
 
 const TWO_BYTES: FrameHeader = FrameHeader::TwoBytes(ByteOrder::LittleEndian);
 
-/// A body is written behind its length.
+/// A body is written after its length.
 fn write_frame<W: AsyncWrite>(rt: &impl Abort, cx: &mut Context<'_>, writer: &mut W) {
     let mut frame = WriteFrame::new(b"one");
     ready(rt, frame.poll(cx, writer), Written::Whole);

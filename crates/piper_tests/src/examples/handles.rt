@@ -18,7 +18,7 @@ fn try_fill_and_try_drain(rt: &impl Abort, reader: &mut Reader, writer: &mut Wri
     same(rt, reader.try_drain(&mut place), 1);
 }
 
-/// Both sides can ask how the pipe stands.
+/// Both sides can ask the state of the pipe.
 fn len_and_capacity(rt: &impl Abort, reader: &mut Reader, writer: &mut Writer) {
     writer.try_fill(b"abcd");
     same(rt, [writer.len(), reader.len()], [4, 4]);

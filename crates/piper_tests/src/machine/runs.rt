@@ -22,7 +22,7 @@ const GRANTED: Luck = Luck {
     yield_granted: true,
 };
 
-/// Two bytes are lent and published, 7 and what stood there before, and the first is consumed.
+/// Two bytes are lent and published, 7 and what was there before, and the first is consumed.
 const PUBLISHED_AND_CONSUMED: [Step; 10] = [
     Step::Begin(Call::WriteBuf(2)),
     Step::Put(0, 7),

@@ -28,8 +28,8 @@ pub(crate) fn send(writer: &mut WriteEnd, bytes: &[u8]) -> usize
     n
 }
 
-/// Publishes the bytes that are due behind the first `sent`, at most so many, as there is room in
-/// one piece. The answer is how many.
+/// Publishes the bytes that are due after the first `sent`, at most so many, as there is room in
+/// one piece. Returns how many.
 pub(crate) fn send_due(writer: &mut WriteEnd, sent: usize, most: usize) -> usize
     ensures { writer.new.ring ≡ writer.old.ring }
 {
@@ -43,8 +43,8 @@ pub(crate) fn send_due(writer: &mut WriteEnd, sent: usize, most: usize) -> usize
     n
 }
 
-/// Consumes the bytes that stand in one piece, at most so many. The answer is how many, or none
-/// where one is not the one that is due behind the first `received`.
+/// Consumes the bytes that are contiguous, at most so many. Returns how many, or none where one is
+/// not the one that is due after the first `received`.
 pub(crate) fn receive_due(reader: &mut ReadEnd, received: usize, most: usize) -> Option<usize>
     ensures { reader.new.ring ≡ reader.old.ring }
 {

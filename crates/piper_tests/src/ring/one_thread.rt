@@ -6,7 +6,7 @@ use crate::ring::acts::{receive_due, ring_of, send, send_due};
 use std::alloc::AllocGlobal;
 use std::process::Abort;
 
-/// Sends pieces of `len` bytes round a ring, and receives them behind those that were sent before.
+/// Sends pieces of `len` bytes round a ring, and receives them after those that were sent before.
 fn goes_round(rt: &(impl Abort + AllocGlobal), capacity: usize, len: usize)
     requires { (0 < capacity) × (capacity ≤ 8) }
 {

@@ -1,5 +1,5 @@
 //! That a side which waits at its slot is found there by the other's next look, with what it left
-//! in its place: in one hand, and on two threads.
+//! in its place: held by one thread, and on two threads.
 ghost use Rattle.std.specs.Prelude.{◌≡◌, ◌<◌, ◌^◌, ◌*◌};
 ghost use Rattle.std.specs.Arc.{arc_value};
 
@@ -86,8 +86,8 @@ impl Reading {
         self.end.look_closed()
     }
 
-    /// Consumes what is due behind the first `received`. The answer is how much, or none where it
-    /// is not that.
+    /// Consumes what is due after the first `received`. Returns how much, or none where it is not
+    /// that.
     fn receives_due(&mut self, received: usize) -> Option<usize> {
         receive_due(&mut self.end, received, 3)
     }

@@ -1,4 +1,4 @@
--- What was taken so far stands at the end of the bytes.
+-- What was taken so far is at the end of the bytes.
 use Rattle.std.proofs.Common.{◌≡◌}
 use Rattle.futures.specs.Task.{Keeps}
 use Rattle.piper_lines.specs.Moves.{Grows}

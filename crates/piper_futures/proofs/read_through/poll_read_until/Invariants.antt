@@ -1,4 +1,4 @@
--- What was taken so far stands at the end of the bytes, and lacks the delimiter.
+-- What was taken so far is at the end of the bytes, and lacks the delimiter.
 use Rattle.std.proofs.Common.{◌≡◌}
 use Rattle.futures.specs.Task.{Keeps}
 use Rattle.piper_futures.specs.Until.{GrowsBy, Lacks}

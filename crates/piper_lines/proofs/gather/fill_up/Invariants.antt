@@ -1,4 +1,4 @@
--- What was taken so far stands at the end of what is gathered.
+-- What was taken so far is at the end of what is gathered.
 use Rattle.std.proofs.Common.{◌≡◌, ◌≤◌, ◌-◌, length, vec_capacity}
 use Rattle.futures.specs.Task.{Keeps}
 use Rattle.piper_lines.specs.Moves.{Grows}

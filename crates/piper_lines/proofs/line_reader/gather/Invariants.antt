@@ -1,4 +1,4 @@
--- What was taken so far stands at the end of the line, which none of it ends yet.
+-- What was taken so far is at the end of the line, which none of it ends yet.
 use Rattle.std.proofs.Common.{◌≡◌, ◌≤◌, ◌⊎◌, ◌-◌, length, vec_capacity}
 use Rattle.futures.specs.Task.{Keeps}
 use Rattle.piper_lines.specs.Line.{Lacks}

@@ -12,7 +12,7 @@ impl ReadEnd {
     ghost use Rattle.piper_ring.specs.Shared.{flag};
     ghost use Rattle.piper_ring.specs.SlotsView.{Registers, HasToDo, IsPending, HasNews, IsReaderAtRest, SameReaderPlace, IsWriterPending, HasRoomNews};
 
-    /// Takes its waker back, where it still stands in this end's slot.
+    /// Takes its waker back, where it is still registered in this end's slot.
     pub fn cancel<T>(
         &self,
         slots: &mut ReadRegistrations,
@@ -60,8 +60,8 @@ impl ReadEnd {
         true
     }
 
-    /// Whether this end's waker still stands at its slot. A waker that the writer took is not asked
-    /// for again until this end registers anew.
+    /// Whether this end's waker is still registered in its slot. A waker that the writer took is
+    /// not asked for again until this end registers anew.
     pub fn is_registered(&self, slots: &mut ReadRegistrations) -> bool
         requires { slots.old.names ≡ self.now.ring.1.1 }
         ensures nowhere { slots.old.owns ≡ true → IsFalse result }
@@ -74,7 +74,8 @@ impl ReadEnd {
         parts.maybe_registered
     }
 
-    /// Stands at this end's slot, where the writer's next look finds it, with `waker` in its place.
+    /// Registers: puts `waker` in its place and publishes it in this end's slot, where the writer's
+    /// next look finds it.
     pub fn publish_waker<T>(
         &self,
         slots: &mut ReadRegistrations,
@@ -95,9 +96,9 @@ impl ReadEnd {
         parts.heard = self.parts.seat.publish_waker(&mut parts.waits, right);
     }
 
-    /// `publish_waker`, where the place can be had: the answer is the waker that still stood there, if
-    /// one did. It is `Err`, and this end stands nowhere, where the writer has stored something and
-    /// has not handed the place back yet.
+    /// `publish_waker`, where the place can be had: the answer is the waker that was still
+    /// registered there, if one was. It is `Err`, and this end is registered nowhere, where the
+    /// writer has stored something and has not handed the place back yet.
     pub fn register<T>(
         &self,
         slots: &mut ReadRegistrations,
@@ -123,8 +124,8 @@ impl ReadEnd {
         Ok(before)
     }
 
-    /// `reload`, by an end that has registered: it finds all that the writer had looked behind
-    /// before that.
+    /// `reload`, by an end that has registered: it finds all that the writer had stored before its
+    /// last check of the slot ahead of the registration.
     #[inline(always)]
     pub fn reload_after(&mut self, slots: &ReadRegistrations)
         requires ring { slots.now.names ≡ self.old.ring.1.1 }
@@ -138,8 +139,8 @@ impl ReadEnd {
         self.reload_heard();
     }
 
-    /// `look_closed`, by an end that has registered: it finds a close that the writer had looked
-    /// behind before that.
+    /// `look_closed`, by an end that has registered: it finds a close that the writer had stored
+    /// before its last check of the slot ahead of the registration.
     #[inline(always)]
     pub fn look_closed_after(&mut self, slots: &ReadRegistrations) -> bool
         requires { slots.now.names ≡ self.old.ring.1.1 }
@@ -152,9 +153,9 @@ impl ReadEnd {
         self.look_closed_knowing(&slots.parts.heard)
     }
 
-    /// Registers, and looks once more whether the writer published something or closed the pipe.
-    /// Where the answer is `true` this end waits: it has nothing to do, and the look behind
-    /// whatever the writer stores from now on finds it.
+    /// Registers, and checks once more whether the writer published something or closed the pipe.
+    /// Where the answer is `true` this end waits: it has nothing to do, and the look after whatever
+    /// the writer stores from now on finds it.
     pub fn wait<T: Drop>(
         &mut self,
         slots: &mut ReadRegistrations,
@@ -177,8 +178,8 @@ impl ReadEnd {
         !self.look_closed_after(slots) && self.knows_none()
     }
 
-    /// Looks behind all that this end consumed whether the writer stands at its slot. The answer is
-    /// `true` where it doesn't.
+    /// Checks after all that this end consumed whether the writer is registered in its slot.
+    /// Returns `true` where it isn't.
     #[inline(always)]
     pub fn nobody_waits(&self, slots: &mut ReadRegistrations) -> bool
         requires { slots.old.names ≡ self.now.ring.1.1 }
@@ -191,8 +192,8 @@ impl ReadEnd {
         seat.look_flag(&mut slots.parts.wakes, &seat.unseen()) == 0
     }
 
-    /// Behind all that this end consumed, takes the writer's ticket where it stands at its slot.
-    /// The answer is the waker that it put there, and its place is handed back.
+    /// After all that this end consumed, takes the writer's ticket where it is registered in its
+    /// slot. Returns the waker that it put there, and its place is handed back.
     pub fn take<T>(&self, slots: &mut ReadRegistrations, place: &TokenCell<Option<T>>) -> Option<T>
         requires ring { slots.old.names ≡ self.now.ring.1.1 }
         requires place { place.now ≡ slots.old.names.writer_place }
@@ -205,8 +206,8 @@ impl ReadEnd {
         seat.take(&mut slots.parts.wakes, &seat.unseen(), place)
     }
 
-    /// Looks behind all that this end consumed whether the writer stands at its slot, and takes its
-    /// ticket. The answer is whether it did.
+    /// Checks after all that this end consumed whether the writer is registered in its slot, and
+    /// takes its ticket if so. Returns whether it was.
     pub fn wake<T: Drop>(&self, slots: &mut ReadRegistrations, place: &TokenCell<Option<T>>) -> bool
         requires ring { slots.old.names ≡ self.now.ring.1.1 }
         requires place { place.now ≡ slots.old.names.writer_place }
@@ -221,7 +222,7 @@ impl ReadEnd {
         self.take(slots, place).is_some()
     }
 
-    /// `finish`, and `take` behind its close.
+    /// `finish`, and `take` after its close.
     pub fn finish_waking<T>(
         self,
         slots: &mut ReadRegistrations,
@@ -243,8 +244,8 @@ impl ReadEnd {
         (LastReadMark { consumed, closed }, taken)
     }
 
-    /// Both ends in one hand: of each that waits, and behind whose back the other stored something
-    /// since and looked, the last ticket was taken.
+    /// One thread holds both ends: for each that waits, and since whose registration the other
+    /// stored something since and looked, the last ticket was taken.
     pub fn meet_slots(
         &self,
         slots: &mut ReadRegistrations,
@@ -265,8 +266,8 @@ impl ReadEnd {
     }
 
     /// With what is left of the writer's slots once its end is gone, and also before: where this
-    /// end waits, and behind its back the writer stored something since and looked, its last ticket
-    /// was taken.
+    /// end waits, and the writer stored something since and checked the slot, its last ticket was
+    /// taken.
     pub fn meet_finished(&self, slots: &mut ReadRegistrations, left: &mut WriteRegistrations)
         requires { (slots.old.names ≡ self.now.ring.1.1) × (left.old.names ≡ self.now.ring.1.1) }
         ensures reader { IsPending self.now slots.old → HasNews self.now left.old

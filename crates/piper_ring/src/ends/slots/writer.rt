@@ -11,7 +11,7 @@ impl WriteEnd {
     ghost use Rattle.piper_ring.specs.WriteView.{HasMoreRoom, SameButSaw};
     ghost use Rattle.piper_ring.specs.SlotsView.{WriterRegisters, WriterHasToDo, IsWriterPending, IsAtRest, SameWriterPlace, HasRoomNews};
 
-    /// Takes its waker back, where it still stands in this end's slot.
+    /// Takes its waker back, where it is still registered in this end's slot.
     pub fn cancel<T>(
         &self,
         slots: &mut WriteRegistrations,
@@ -59,8 +59,8 @@ impl WriteEnd {
         true
     }
 
-    /// Whether this end's waker still stands at its slot. A waker that the reader took is not asked
-    /// for again until this end registers anew.
+    /// Whether this end's waker is still registered in its slot. A waker that the reader took is
+    /// not asked for again until this end registers anew.
     pub fn is_registered(&self, slots: &mut WriteRegistrations) -> bool
         requires { slots.old.names ≡ self.now.ring.1.1 }
         ensures nowhere { slots.old.owns ≡ true → IsFalse result }
@@ -73,7 +73,8 @@ impl WriteEnd {
         parts.maybe_registered
     }
 
-    /// Stands at this end's slot, where the reader's next look finds it, with `waker` in its place.
+    /// Registers: puts `waker` in its place and publishes it in this end's slot, where the reader's
+    /// next look finds it.
     pub fn publish_waker<T>(
         &self,
         slots: &mut WriteRegistrations,
@@ -96,9 +97,9 @@ impl WriteEnd {
         parts.saw = saw;
     }
 
-    /// `publish_waker`, where the place can be had: the answer is the waker that still stood there, if
-    /// one did. It is `Err`, and this end stands nowhere, where the reader has consumed something and
-    /// has not handed the place back yet.
+    /// `publish_waker`, where the place can be had: the answer is the waker that was still
+    /// registered there, if one was. It is `Err`, and this end is registered nowhere, where the
+    /// reader has consumed something and has not handed the place back yet.
     pub fn register<T>(
         &self,
         slots: &mut WriteRegistrations,
@@ -124,8 +125,8 @@ impl WriteEnd {
         Ok(before)
     }
 
-    /// `reload`, by an end that has registered: it finds all the room that the reader had looked
-    /// behind before that.
+    /// `reload`, by an end that has registered: it finds all the room that the reader had given
+    /// back before its last check of the slot ahead of the registration.
     #[inline(always)]
     pub fn reload_after(&mut self, slots: &WriteRegistrations)
         requires ring { slots.now.names ≡ self.old.ring.1.1 }
@@ -139,7 +140,8 @@ impl WriteEnd {
     }
 
     /// `look_closed`, by an end that has registered and has not seen the pipe closed: it finds a
-    /// close that the reader had looked behind before that.
+    /// close that the reader had stored before its last check of the slot ahead of the
+    /// registration.
     #[inline(always)]
     pub fn look_closed_after(&mut self, slots: &WriteRegistrations) -> bool
         requires ring { slots.now.names ≡ self.old.ring.1.1 }
@@ -151,8 +153,8 @@ impl WriteEnd {
         self.look_closed_knowing(&slots.parts.saw)
     }
 
-    /// Registers, and looks once more whether the reader consumed something or closed the pipe.
-    /// Where the answer is `true` this end waits: it has no room, and the look behind whatever the
+    /// Registers, and checks once more whether the reader consumed something or closed the pipe.
+    /// Where the answer is `true` this end waits: it has no room, and the look after whatever the
     /// reader stores from now on finds it.
     pub fn wait<T: Drop>(
         &mut self,
@@ -177,8 +179,8 @@ impl WriteEnd {
         !self.look_closed_after(slots) && self.knows_none()
     }
 
-    /// Looks behind all that this end stored whether the reader stands at its slot. The answer is
-    /// `true` where it doesn't.
+    /// Checks after all that this end stored whether the reader is registered in its slot. Returns
+    /// `true` where it isn't.
     #[inline(always)]
     pub fn nobody_waits(&self, slots: &mut WriteRegistrations) -> bool
         requires { slots.old.names ≡ self.now.ring.1.1 }
@@ -190,8 +192,8 @@ impl WriteEnd {
         self.parts.seat.look_flag(&mut slots.parts.wakes) == 0
     }
 
-    /// Behind all that this end stored, takes the reader's ticket where it stands at its slot. The
-    /// answer is the waker that it put there, and its place is handed back.
+    /// After all that this end stored, takes the reader's ticket where it is registered in its
+    /// slot. Returns the waker that it put there, and its place is handed back.
     pub fn take<T>(&self, slots: &mut WriteRegistrations, place: &TokenCell<Option<T>>) -> Option<T>
         requires ring { slots.old.names ≡ self.now.ring.1.1 }
         requires place { place.now ≡ slots.old.names.reader_place }
@@ -203,8 +205,8 @@ impl WriteEnd {
         self.parts.seat.take(&mut slots.parts.wakes, place)
     }
 
-    /// Looks behind all that this end stored whether the reader stands at its slot, and takes its
-    /// ticket. The answer is whether it did.
+    /// Checks after all that this end stored whether the reader is registered in its slot, and
+    /// takes its ticket if so. Returns whether it was.
     pub fn wake<T: Drop>(
         &self,
         slots: &mut WriteRegistrations,
@@ -223,7 +225,7 @@ impl WriteEnd {
         self.take(slots, place).is_some()
     }
 
-    /// `finish`, and `take` behind its close.
+    /// `finish`, and `take` after its close.
     pub fn finish_waking<T>(
         self,
         slots: &mut WriteRegistrations,
@@ -247,8 +249,8 @@ impl WriteEnd {
     }
 
     /// With what is left of the reader's slots once its end is gone, and also before: where this
-    /// end waits, and behind its back the reader stored something since and looked, its last ticket
-    /// was taken.
+    /// end waits, and the reader stored something since and checked the slot, its last ticket was
+    /// taken.
     pub fn meet_finished(&self, slots: &mut WriteRegistrations, left: &mut ReadRegistrations)
         requires { (slots.old.names ≡ self.now.ring.1.1) × (left.old.names ≡ self.now.ring.1.1) }
         ensures writer { IsWriterPending self.now slots.old → HasRoomNews self.now left.old

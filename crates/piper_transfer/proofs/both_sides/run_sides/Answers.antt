@@ -1,4 +1,4 @@
--- What the input gave on two threads, and in turns behind that.
+-- What the input gave on two threads, and in turns after that.
 use Rattle.piper_transfer.proofs.Sides.{fed_more}
 use Rattle.piper_transfer.proofs.both_sides.run_sides.Goals as goal
 

@@ -1,4 +1,4 @@
--- What the output was given before a look, and what it is given behind it.
+-- What the output was given before a look, and what it is given after it.
 use Rattle.piper_transfer.proofs.Sides.{poured_none, poured_looked, poured_round}
 use Rattle.piper_transfer.proofs.draining.drain_turn.Goals as goal
 

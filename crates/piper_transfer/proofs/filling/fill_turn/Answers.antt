@@ -1,4 +1,4 @@
--- What the input gave before a look, and what it gives behind it.
+-- What the input gave before a look, and what it gives after it.
 use Rattle.std.proofs.Common.{◌∙◌}
 use Rattle.piper_transfer.proofs.Sides.{fed_none, fed_same, fed_looked, fed_round}
 use Rattle.piper_transfer.proofs.filling.fill_turn.Goals as goal

@@ -1,4 +1,4 @@
--- What was taken stands at the front of the place.
+-- What was taken is at the front of the place.
 use Rattle.std.proofs.Common.{◌≡◌, ◌≤◌, length, take}
 use Rattle.proved_order.proofs.threads.receive_all.Given as goal
 

@@ -1,4 +1,4 @@
--- Behind the end there is nothing to consume.
+-- After the end there is nothing to consume.
 use Rattle.piper.proofs.Ended.{ended_consumed}
 use Rattle.piper.proofs.handles.Reader.consume.Goals as goal
 

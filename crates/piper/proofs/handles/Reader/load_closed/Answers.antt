@@ -1,4 +1,4 @@
--- Behind the end a load of closed changes nothing.
+-- After the end a load of closed changes nothing.
 use Rattle.piper.proofs.Ended.{ended_seen}
 use Rattle.piper.proofs.handles.Reader.load_closed.Goals as goal
 

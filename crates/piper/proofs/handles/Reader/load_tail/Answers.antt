@@ -1,4 +1,4 @@
--- Behind the end a load finds nothing more.
+-- After the end a load finds nothing more.
 use Rattle.piper.proofs.Ended.{ended_more}
 use Rattle.piper.proofs.handles.Reader.load_tail.Goals as goal
 

@@ -1,4 +1,4 @@
--- A writer that waits where there is room had its waker taken behind the reader's last look.
+-- A writer that waits where there is room had its waker taken after the reader's last look.
 use Rattle.std.proofs.Common.{◌∙◌, ap, length, length-append, inl, arith}
 use Rattle.piper.proofs.RoomOrNone.{room_or_none, not_shut, and_open}
 use Rattle.piper.proofs.handles.Reader.meet.Goals as goal

@@ -1,4 +1,4 @@
--- What is taken stands at the front of the slice.
+-- What is taken is at the front of the slice.
 use Rattle.std.proofs.Common.{rules, ◌≡◌, ◌≤◌, ◌++◌, length, refl, sym, ap, ◌∙◌, append_assoc, inl, inr}
 use Rattle.piper.proofs.Front.{front_is, rest_is, full_is, counts, none_found}
 use Rattle.piper.proofs.handles.Reader.poll_drain_bytes.Goals as goal

@@ -1,4 +1,4 @@
--- What is taken stands at the front of the slice.
+-- What is taken is at the front of the slice.
 use Rattle.std.proofs.Common.{rules, ap, ◌∙◌, ◌++◌, sym}
 use Rattle.piper.proofs.Front.{front_is, rest_is, none_known}
 use Rattle.piper.proofs.handles.Reader.try_drain.Goals as goal

@@ -1,4 +1,4 @@
--- A round adds to the rounds before it, or ends them; `here` is where the call stands before it.
+-- A round adds to the rounds before it, or ends them; `here` is where the call comes before it.
 use Rattle.std.proofs.Common.{◌≡◌, ◌+◌, ◌%◌, ◌^◌, ◌∙◌, ℕ, [], Ok, take, refl, sym, ap, subst, inl, inr, arith}
 use Rattle.futures.specs.declared.task.Poll.TheVariants.{Ready}
 use Rattle.piper_ring.specs.WriteView.{WriteView}

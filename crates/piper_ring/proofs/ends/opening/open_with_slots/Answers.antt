@@ -10,7 +10,7 @@ use Rattle.piper_protocol.specs.ReaderIndices.{ReaderIndices}
 use Rattle.piper_protocol.specs.WriterIndices.{WriterIndices}
 use Rattle.piper_ring.proofs.ends.opening.open_with_slots.Goals as goal
 
--- a copy of a mark tells what it tells
+-- a copy of a mark reports what it reports
 same_as : (m n : WriteMark) → m ≡ n → Reaches (m.bytes, m.shut) (n.bytes, n.shut)
 same_as m n e = subst (λ (k : WriteMark). Reaches (m.bytes, m.shut) (k.bytes, k.shut)) e (reaches_same (m.bytes, m.shut))
 

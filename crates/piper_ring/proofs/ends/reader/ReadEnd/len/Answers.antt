@@ -1,4 +1,4 @@
--- What was looked at lies between the known bytes and the capacity, and past what was told.
+-- What was checked lies between the known bytes and the capacity, and past what marks have said.
 use Rattle.std.proofs.Common.{◌≡◌, ℕ, ◌+◌, ◌-◌, ◌≤◌, length, take, arith, ap, ◌∙◌, sym, subst}
 use Rattle.std.proofs.lemmas.List.{length-take-le}
 use Rattle.rtrb.specs.Fifo.{position_of}

@@ -1,4 +1,4 @@
--- The known bytes that stand in one piece lie from the head's offset on.
+-- The known bytes that are contiguous lie from the head's offset on.
 use Rattle.std.proofs.Common.{◌≡◌, ℕ, ◌-◌, ◌≤◌, ◌<◌, length, take, min, arith, sym, ap, ◌∙◌}
 use Rattle.std.proofs.lemmas.List.{length-take-le}
 use Rattle.rtrb.specs.Fifo.{slot_of as offset_of}

@@ -1,4 +1,4 @@
--- What was looked at leaves the known room free, and the bytes consumed that were told of.
+-- What was checked leaves the known room free, and the bytes consumed that were told of.
 use Rattle.std.proofs.Common.{◌≡◌, ℕ, ◌+◌, ◌-◌, ◌≤◌, length, arith, ap, sym, subst, ◌∙◌}
 use Rattle.rtrb.specs.Fifo.{position_of}
 use Rattle.rtrb.proofs.Positions.{position_inside}

@@ -1,4 +1,4 @@
--- `heed` joins what two marks tell. Assumes `Logic`.
+-- `heed` joins what two marks say. Assumes `Logic`.
 use Rattle.std.proofs.Common.{◌≡◌, ℕ, List, [], ◌∷◌, length, max, refl}
 use mir.Syntax.{named}
 use mir.Val.{Val, vptr}
