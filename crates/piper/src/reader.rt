@@ -8,9 +8,10 @@ ghost use Rattle.piper.specs.Ends.{IsEnded, ReaderConsumed};
 ghost use Rattle.piper.specs.Looks.{ReaderFound, ReaderLooked, OnRefused};
 ghost use Rattle.piper.specs.Polls.{After};
 
-use crate::answers::{polled, read_wake};
+use crate::answers::polled;
 use crate::finished::FinishedReader;
 use crate::handles::Reader;
+use crate::handles::read_steps::read_wake;
 use futures::task::{Context, Poll};
 use piper_protocol::read_call::ReadCall;
 use piper_protocol::table::Purpose;

@@ -7,9 +7,10 @@ ghost use Rattle.piper.specs.Counts.{WriterCompares};
 ghost use Rattle.piper.specs.Ends.{WriterPublished, WriterShut};
 ghost use Rattle.piper.specs.Looks.{WriterFound, WriterLooked, OnRefused};
 
-use crate::answers::{polled, write_wake};
+use crate::answers::polled;
 use crate::finished::FinishedWriter;
 use crate::handles::Writer;
+use crate::handles::write_steps::write_wake;
 use futures::task::{Context, Poll};
 use piper_protocol::table::Purpose;
 use piper_protocol::write_call::WriteCall;

@@ -1,13 +1,11 @@
-//! The modes `handles` and `twin`.
+//! Scripts on the handles, alone or compared with the machine.
 
 use crate::halt::{Halt, finish};
 use crate::hands::Hands;
 use crate::random::Drawn;
 use crate::twin::{Compared, Twin};
-use piper_interpreter::replay::{self, Ended, end_of};
+use piper_interpreter::replay::Ended;
 use piper_interpreter::stream::{Lines, write_reply};
-use piper_script::command::MOST;
-use piper_script::number::number;
 use piper_script::parser::parse;
 use piper_script::reply::Reply;
 use piper_script::stop::Stop;
@@ -18,50 +16,42 @@ use std::random::RandomSource;
 /// The seed of the generators where a script is read.
 const SEED: u64 = 1;
 
-/// Words that are none of the modes, in place of what the player says, which has two of them.
-pub const WRONG_ARGUMENTS: Ended = Ended {
-    status: 1,
-    text: "usage: piper_replay [run|all|handles|twin [SEED COUNT]]",
-};
-
-/// Runs the script that `input` gives, and writes what it prints to `output`. `words` are the
-/// arguments of the command line.
-pub fn replay<H, I: Read, O: Write>(
-    rt: &H,
-    words: &[String],
-    input: &mut I,
-    output: &mut O,
-) -> Ended
-where
-    H: RandomSource + AllocGlobal + Clone + Drop,
-{
-    let mode = words.first().map_or("", |word| word.as_str());
-    let played = match (mode, words.get(1), words.get(2), words.len()) {
-        ("handles", None, None, 1) => play_handles(rt, input, output),
-        ("twin", None, None, 1) => play_twin(rt, input, output),
-        ("twin", Some(seed), Some(count), 3) => {
-            match (
-                number(seed.as_str(), 0, MOST),
-                number(count.as_str(), 0, MOST),
-            ) {
-                (Ok(seed), Ok(count)) => draw_twin(rt, seed as u64, count as u64, output),
-                _ => return WRONG_ARGUMENTS,
-            }
-        }
-        _ => {
-            let ended = replay::replay(rt.alloc(), words, input, output);
-            return if ended == Ended::WRONG_ARGUMENTS {
-                WRONG_ARGUMENTS
-            } else {
-                ended
-            };
-        }
-    };
+/// How a comparison ended that was made to its end, or stopped.
+fn end_of(played: Result<bool, Stop>) -> Ended {
     match played {
         Ok(true) => Ended::DONE,
         Ok(false) => Ended::REFUSED,
         Err(stop) => Ended::from(stop),
     }
+}
+
+/// Plays the script that `input` gives on the handles, and writes what it prints to `output`. The
+/// status is 1 where a line was refused.
+pub fn play_on_handles<H, I: Read, O: Write>(rt: &H, input: &mut I, output: &mut O) -> Ended
+where
+    H: RandomSource + AllocGlobal + Clone + Drop,
+{
+    end_of(play_handles(rt, input, output))
+}
+
+/// Plays the script that `input` gives on the handles and on the machine, and writes what both
+/// print to `output`, or where they differ. The status is 1 where a line was refused, and where
+/// they differ.
+pub fn play_on_both<H, I: Read, O: Write>(rt: &H, input: &mut I, output: &mut O) -> Ended
+where
+    H: RandomSource + AllocGlobal + Clone + Drop,
+{
+    end_of(play_twin(rt, input, output))
+}
+
+/// Plays `count` scripts that are drawn from `seed` on the handles and on the machine, and writes
+/// the first difference to `output`, or how many lines were played. The status is 1 where they
+/// differ.
+pub fn play_drawn_on_both<H, O: Write>(rt: &H, seed: u64, count: u64, output: &mut O) -> Ended
+where
+    H: RandomSource + AllocGlobal + Clone + Drop,
+{
+    end_of(draw_twin(rt, seed, count, output))
 }
 
 // Plays a script on the handles. The answer is whether it was played to its end.

@@ -3,7 +3,7 @@ use Rattle.std.specs.Prelude.{◌≡◌, ℕ, Bool, List, [], ◌∷◌, ◌++�
 use Rattle.piper_lines.specs.LineReader.{kept_of}
 use Rattle.piper_lines.specs.Sends.{Sends}
 use Rattle.piper_lines.specs.declared.line_reader.Lines.{Lines}
-use Rattle.piper_duplex.specs.declared.echoing.LineEcho.{LineEcho}
+use Rattle.piper_duplex.specs.declared.engine.echoing.LineEcho.{LineEcho}
 
 -- the bytes of the line on its way back that are left
 abbrev pub left_of : LineEcho → List ℕ

@@ -2,11 +2,8 @@
 //! lines over one.
 #![tactic(auto)]
 
-mod echoing;
 mod end;
-mod session;
-mod waiting;
+mod engine;
 
-pub use echoing::{Echoed, LineEcho};
 pub use end::{End, duplex};
-pub use session::{Ended, echo};
+pub use engine::{Echoed, Ended, LineEcho, echo};

@@ -114,7 +114,9 @@ pub fn replay<I: Read, O: Write>(
     input: &mut I,
     output: &mut O,
 ) -> Ended
-    ensures { IsWrong words.now → EndsWith result 1 (codes "usage: piper_replay [run|all]") }
+    ensures wrong { IsWrong words.now →
+        EndsWith result 1 (codes "usage: piper_replay [run|all]") }
+    ensures silent { IsWrong words.now → O.contents output.new ≡ O.contents output.old }
 {
     let played = match mode_of(words) {
         None => return Ended::WRONG_ARGUMENTS,

@@ -1,5 +1,5 @@
 //! Frames: through a small pipe, past the limit, and cut short.
-use crate::compare::{Polled, feed, poll_frame, same, same_bytes, skip_long, write_frame};
+use crate::polls::{Polled, feed, poll_frame, skip_long, write_frame};
 use futures::test::MockTask;
 use piper::{Reader, Writer, pipe};
 use piper_lines::{BodyTooLong, ByteOrder, FrameAnswer, FrameHeader, Frames, WriteFrame, Written};
@@ -8,6 +8,7 @@ use rand_pcg::Pcg32;
 use std::alloc::{AllocError, Global};
 use std::process::Abort;
 use std::test::Fail;
+use test_assertions::{same, same_bytes};
 
 /// The most turns that a frame may take.
 const MOST_TURNS: u32 = 1_000;
@@ -52,9 +53,9 @@ fn frame_through(
     let mut is_written = false;
     for _ in 0..MOST_TURNS {
         if !is_written {
-            is_written = write_frame(task, &mut left, writer) == Polled::Told(Written::Whole);
+            is_written = write_frame(task, &mut left, writer) == Polled::Ready(Written::Whole);
         }
-        if poll_frame(task, frames, &mut frame, 40) == Polled::Told(FrameAnswer::Frame) {
+        if poll_frame(task, frames, &mut frame, 40) == Polled::Ready(FrameAnswer::Frame) {
             return frame;
         }
     }
@@ -80,7 +81,7 @@ fn random_frames_come_whole_and_in_order(rt: HostRuntime) -> Result<(), Fail> {
         &task,
         &mut frames,
         40,
-        Polled::Told(FrameAnswer::End),
+        Polled::Ready(FrameAnswer::End),
         b"",
         alloc,
     );
@@ -102,7 +103,7 @@ fn the_end_inside_a_frame_is_reported_apart(rt: HostRuntime) -> Result<(), Fail>
         &task,
         &mut frames,
         9,
-        Polled::Told(FrameAnswer::Frame),
+        Polled::Ready(FrameAnswer::Frame),
         &[7],
         alloc,
     );
@@ -111,7 +112,7 @@ fn the_end_inside_a_frame_is_reported_apart(rt: HostRuntime) -> Result<(), Fail>
         &task,
         &mut frames,
         9,
-        Polled::Told(FrameAnswer::Truncated),
+        Polled::Ready(FrameAnswer::Truncated),
         b"",
         alloc,
     );
@@ -137,7 +138,7 @@ fn a_frame_past_the_limit_can_be_skipped(rt: HostRuntime) -> Result<(), Fail> {
     same(
         &rt,
         poll_frame(&task, &mut frames, &mut frame, 2),
-        Polled::Told(FrameAnswer::TooLong(3)),
+        Polled::Ready(FrameAnswer::TooLong(3)),
     );
     let skipped = task.enter(|cx| skip_long(&mut frames, cx, &mut frame, 2));
     same(&rt, skipped, Some(3));
@@ -146,7 +147,7 @@ fn a_frame_past_the_limit_can_be_skipped(rt: HostRuntime) -> Result<(), Fail> {
         &task,
         &mut frames,
         2,
-        Polled::Told(FrameAnswer::Frame),
+        Polled::Ready(FrameAnswer::Frame),
         &[9],
         alloc,
     );
@@ -167,14 +168,14 @@ fn header_through(
     let (mut reader, mut writer) = pipe;
     if let Ok(mut frame) = WriteFrame::with_header(format, &[7, 8]) {
         let written = write_frame(task, &mut frame, &mut writer);
-        same(rt, written, Polled::Told(Written::Whole));
+        same(rt, written, Polled::Ready(Written::Whole));
     }
     let mut place = [0; 16];
     let came = reader.try_drain(&mut place);
     same_bytes(rt, &place[..came.min(16)], wanted);
     writer.try_fill(wanted);
     let mut frames = Frames::with_header(alloc, reader, format);
-    let reported = Polled::Told(FrameAnswer::Frame);
+    let reported = Polled::Ready(FrameAnswer::Frame);
     expect_frame(rt, task, &mut frames, 2, reported, &[7, 8], alloc);
     frames.into_reader().drop();
     writer.drop();

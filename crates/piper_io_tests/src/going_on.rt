@@ -1,6 +1,5 @@
 //! Lines and frames of a reader that is pending or fails at any one of its looks: nothing is lost,
 //! and the next poll goes on. So it does where memory is refused.
-use crate::compare::{same, same_bytes};
 use crate::halting::{Halt, Halting};
 use futures::task::{Context, Poll};
 use futures::test::MockTask;
@@ -9,6 +8,7 @@ use piper_lines::{Collected, Frames, Lines, poll_frames, poll_lines};
 use std::alloc::{AllocError, Global};
 use std::process::Abort;
 use std::test::Fail;
+use test_assertions::{same, same_bytes};
 
 /// The most polls that a text takes.
 const MOST_POLLS: u32 = 8;
@@ -43,7 +43,7 @@ impl Halts {
 
 /// What a poll returned, if it did, and else one more halt. Where memory was refused it is none:
 /// the poll is made again.
-fn reported<A: Drop>(polled: Poll<Result<A, PipeError>>, halts: &mut Halts) -> Option<A> {
+fn polled<A: Drop>(polled: Poll<Result<A, PipeError>>, halts: &mut Halts) -> Option<A> {
     match polled {
         Poll::Ready(Ok(answer)) => return Some(answer),
         Poll::Ready(Err(PipeError::Memory)) => {}
@@ -64,7 +64,7 @@ fn lines_of(
     let mut found = Vec::new(alloc);
     for _ in 0..MOST_POLLS {
         let polled = task.enter(|cx| poll_lines(&mut lines, cx, &mut found, 100));
-        if let Some(rest) = reported(polled, halts) {
+        if let Some(rest) = polled(polled, halts) {
             found.push(rest)?;
             break;
         }
@@ -81,7 +81,7 @@ fn frames_of(
 ) -> Option<Collected> {
     for _ in 0..MOST_POLLS {
         let polled = task.enter(|cx| poll_frames(frames, cx, found, 2));
-        if let Some(ended) = reported(polled, halts) {
+        if let Some(ended) = polled(polled, halts) {
             return Some(ended);
         }
     }

@@ -6,8 +6,6 @@
 #[cfg(test)]
 mod broken;
 #[cfg(test)]
-mod compare;
-#[cfg(test)]
 mod duplex;
 #[cfg(test)]
 mod frames;
@@ -17,6 +15,8 @@ mod going_on;
 mod halting;
 #[cfg(test)]
 mod lines;
+#[cfg(test)]
+mod polls;
 #[cfg(test)]
 mod replays;
 #[cfg(test)]

@@ -1,5 +1,5 @@
 //! Lines: their answers one by one, and random texts against a plain split of the whole.
-use crate::compare::{Polled, feed, poll_line, same, same_bytes, write_line};
+use crate::polls::{Polled, feed, poll_line, write_line};
 use futures::task::Poll;
 use futures::test::MockTask;
 use piper::{Reader, Writer, pipe};
@@ -11,6 +11,7 @@ use rand_pcg::Pcg32;
 use std::alloc::{AllocError, Global};
 use std::process::Abort;
 use std::test::Fail;
+use test_assertions::{same, same_bytes};
 
 /// The most turns that a text may take.
 const MOST_TURNS: u32 = 10_000;
@@ -49,7 +50,7 @@ fn a_text_comes_line_by_line(rt: HostRuntime) -> Result<(), Fail> {
         &task,
         &mut lines,
         100,
-        Polled::Told(LineAnswer::Line),
+        Polled::Ready(LineAnswer::Line),
         b"hello world\n",
         alloc,
     );
@@ -61,7 +62,7 @@ fn a_text_comes_line_by_line(rt: HostRuntime) -> Result<(), Fail> {
         &task,
         &mut lines,
         100,
-        Polled::Told(LineAnswer::Line),
+        Polled::Ready(LineAnswer::Line),
         b"line2\n",
         alloc,
     );
@@ -70,7 +71,7 @@ fn a_text_comes_line_by_line(rt: HostRuntime) -> Result<(), Fail> {
         &task,
         &mut lines,
         100,
-        Polled::Told(LineAnswer::Last),
+        Polled::Ready(LineAnswer::Last),
         b"line3",
         alloc,
     );
@@ -79,7 +80,7 @@ fn a_text_comes_line_by_line(rt: HostRuntime) -> Result<(), Fail> {
         &task,
         &mut lines,
         100,
-        Polled::Told(LineAnswer::End),
+        Polled::Ready(LineAnswer::End),
         b"",
         alloc,
     );
@@ -101,7 +102,7 @@ fn what_is_kept_comes_at_a_smaller_limit(rt: HostRuntime) -> Result<(), Fail> {
         &task,
         &mut lines,
         3,
-        Polled::Told(LineAnswer::TooLong),
+        Polled::Ready(LineAnswer::TooLong),
         b"abcdef",
         alloc,
     );
@@ -111,7 +112,7 @@ fn what_is_kept_comes_at_a_smaller_limit(rt: HostRuntime) -> Result<(), Fail> {
         &task,
         &mut lines,
         3,
-        Polled::Told(LineAnswer::End),
+        Polled::Ready(LineAnswer::End),
         b"",
         alloc,
     );
@@ -218,7 +219,7 @@ fn a_line_is_written_whole(rt: HostRuntime) -> Result<(), Fail> {
         same(
             &rt,
             write_line(&task, &mut line, &mut writer),
-            Polled::Told(Written::Whole),
+            Polled::Ready(Written::Whole),
         );
     }
     expect_line(
@@ -226,7 +227,7 @@ fn a_line_is_written_whole(rt: HostRuntime) -> Result<(), Fail> {
         &task,
         &mut lines,
         9,
-        Polled::Told(LineAnswer::Line),
+        Polled::Ready(LineAnswer::Line),
         b"hello\n",
         alloc,
     );
@@ -245,7 +246,7 @@ fn lines_end_at_the_byte_that_is_chosen(rt: HostRuntime) -> Result<(), Fail> {
     if lacks(text, b',') {
         let mut line = WriteLine::ended_by(text, b',');
         let written = write_line(&task, &mut line, &mut writer);
-        same(&rt, written, Polled::Told(Written::Whole));
+        same(&rt, written, Polled::Ready(Written::Whole));
     }
     writer.try_fill(b"three");
     writer.drop();
@@ -258,7 +259,7 @@ fn lines_end_at_the_byte_that_is_chosen(rt: HostRuntime) -> Result<(), Fail> {
             &task,
             &mut lines,
             9,
-            Polled::Told(answer),
+            Polled::Ready(answer),
             piece,
             alloc,
         );

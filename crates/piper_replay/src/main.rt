@@ -1,8 +1,7 @@
 //! Replays a script of pipe calls on the pure machine.
 #![tactic(auto)]
 
-use piper_differential::modes::{WRONG_ARGUMENTS, replay};
-use piper_interpreter::replay::Ended;
+use piper_interpreter::replay::{Ended, replay};
 use std::env;
 use std::io::ErrorKind;
 use std::process::ExitCode;
@@ -15,14 +14,14 @@ fn words(rt: &HostRuntime) -> Result<Vec<String>, Ended> {
             .collect(rt.alloc())
             .map_err(|_| Ended::OUT_OF_MEMORY),
         // An argument that is no text is a wrong one.
-        Err(error) if error.kind() == ErrorKind::InvalidData => Err(WRONG_ARGUMENTS),
+        Err(error) if error.kind() == ErrorKind::InvalidData => Err(Ended::WRONG_ARGUMENTS),
         Err(_) => Err(Ended::OUT_OF_MEMORY),
     }
 }
 
 fn main(rt: HostRuntime) -> ExitCode {
     let ended = match words(&rt) {
-        Ok(words) => replay(&rt, words.as_slice(), &mut rt.stdin(), &mut rt.stdout()),
+        Ok(words) => replay(rt.alloc(), &words, &mut rt.stdin(), &mut rt.stdout()),
         Err(ended) => ended,
     };
     if !ended.text.is_empty() {

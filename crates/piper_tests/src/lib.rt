@@ -6,7 +6,6 @@
 #[cfg(test)]
 mod carries;
 #[cfg(test)]
-mod compare;
 #[cfg(test)]
 mod copies;
 #[cfg(test)]

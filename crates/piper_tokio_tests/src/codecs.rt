@@ -1,6 +1,5 @@
 //! The codecs of `tokio_util` over a duplex stream whose pipes are shorter than a frame.
 
-use crate::compare::{confirm, same};
 use bytes::{Bytes, BytesMut};
 use futures::executor::block_on;
 use futures::future::join;
@@ -13,6 +12,7 @@ use std::process::Abort;
 use std::random::RandomSource;
 use std::sync::Wait;
 use std::{io, thread};
+use test_assertions::{confirm, same_bytes};
 use tokio::io::{AsyncRead, AsyncWrite};
 use tokio_util::codec::{Framed, FramedRead, FramedWrite, LengthDelimitedCodec, LinesCodec};
 
@@ -29,7 +29,7 @@ where
     let (sent, (first, _lines)) = block_on(rt, passing).expect(rt, "runs");
     confirm(rt, sent.is_ok());
     let line = first.expect(rt, "a line").expect(rt, "text");
-    same(rt, line.as_bytes(), text.as_bytes());
+    same_bytes(rt, line.as_bytes(), text.as_bytes());
 }
 
 #[test]
@@ -72,7 +72,7 @@ fn frames_pass_both_ways_between_two_threads(rt: HostRuntime) {
     let child = thread::spawn(&rt, move || echo(&theirs, far));
     let child = child.expect(&rt, "a thread");
     let frame = ask(&rt, near, b"there and back again");
-    same(
+    same_bytes(
         &rt,
         frame.expect(&rt, "a frame").as_slice(),
         b"there and back again",

@@ -1,7 +1,6 @@
 //! Copies of `tokio` through pipes of few bytes, whose other side is a thread.
 ghost use Rattle.std.specs.Prelude.{◌<◌, ◌*◌, ◌^◌};
 
-use crate::compare::{confirm, same};
 use crate::pattern::{Compared, Made};
 use futures::executor::block_on;
 use piper::{Reader, pipe};
@@ -13,6 +12,7 @@ use std::random::RandomSource;
 use std::sync::Wait;
 use std::thread::{JoinHandle, Threads};
 use std::{io, thread};
+use test_assertions::{confirm, same_bytes};
 use tokio::io::{AsyncBufRead, AsyncRead, AsyncWrite, copy, read_until};
 
 const TEXT: &[u8] = b"one\ntwo and three\n\nfour, without an end of line";
@@ -56,7 +56,7 @@ where
 #[test]
 fn copies_on_both_sides_move_all_bytes_in_order(rt: HostRuntime) {
     let (count, output) = copied(&rt, 7, TEXT, Vec::new(rt.alloc()));
-    same(&rt, &output, TEXT);
+    same_bytes(&rt, &output, TEXT);
     confirm(&rt, count == TEXT.len() as u64);
 }
 
@@ -75,7 +75,7 @@ where
 {
     let reading = read_until(reader, b'\n', Vec::new(rt.alloc()));
     let (reader, line) = block_on(rt, reading).expect(rt, "runs").expect(rt, "reads");
-    same(rt, &line, wanted);
+    same_bytes(rt, &line, wanted);
     reader
 }
 

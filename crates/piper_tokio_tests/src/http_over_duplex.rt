@@ -1,7 +1,6 @@
 //! A client and a server of HTTP over a duplex stream in place of a socket, so that a service is
 //! tried with no network.
 
-use crate::compare::{confirm, same};
 use bytes::Bytes;
 use futures::executor::block_on;
 use futures::future::{Ready, join};
@@ -19,6 +18,7 @@ use std::random::RandomSource;
 use std::sync::Wait;
 use std::test::Fail;
 use std::{io, thread};
+use test_assertions::{confirm, same_bytes};
 use tokio::io::{AsyncRead, AsyncWrite};
 
 /// The service that is tried: two pages, and 404 for all other paths.
@@ -110,7 +110,7 @@ fn a_service_answers_each_path(rt: HostRuntime) -> Result<(), Fail> {
         let (came_status, came_page) = fetch(&rt, near, path)?;
         child.join(&rt)?;
         confirm(&rt, came_status == status);
-        same(&rt, came_page.as_slice(), page);
+        same_bytes(&rt, came_page.as_slice(), page);
     }
     Ok(())
 }

@@ -1,11 +1,11 @@
 //! What a reader shows of its known bytes, poll by poll.
 
-use crate::compare::{confirm, same};
 use futures::task::Poll;
 use futures::test::MockTask;
 use piper::{Writer, pipe};
 use piper_tokio::CompatReader;
 use std::process::Abort;
+use test_assertions::{confirm, same_bytes};
 use tokio::io::AsyncBufRead;
 
 /// All of these bytes go in.
@@ -21,14 +21,14 @@ fn is_pending<I: AsyncBufRead>(task: &MockTask, reader: &mut I) -> bool {
 fn shows<I: AsyncBufRead>(rt: &impl Abort, task: &MockTask, reader: &mut I, wanted: &[u8]) {
     let filled = task.enter(|cx| reader.poll_fill_buf(cx));
     confirm(rt, matches!(filled, Poll::Ready(Ok(()))));
-    same(rt, reader.buffer(), wanted);
+    same_bytes(rt, reader.buffer(), wanted);
 }
 
 /// So many of the bytes that are shown are taken, and these are left.
 fn leaves<I: AsyncBufRead>(rt: &impl Abort, reader: &mut I, count: usize, wanted: &[u8]) {
     let count = count.min(reader.buffer().len());
     reader.consume(count);
-    same(rt, reader.buffer(), wanted);
+    same_bytes(rt, reader.buffer(), wanted);
 }
 
 #[test]
@@ -44,7 +44,7 @@ fn a_reader_shows_what_is_left_of_one_piece(rt: HostRuntime) {
     leaves(&rt, &mut reader, 2, b"c");
     fill(&rt, &mut writer, b"d");
     fill(&rt, &mut writer, b"ef");
-    same(&rt, reader.buffer(), b"c");
+    same_bytes(&rt, reader.buffer(), b"c");
     leaves(&rt, &mut reader, 1, b"");
     shows(&rt, &task, &mut reader, b"d");
     leaves(&rt, &mut reader, 1, b"");

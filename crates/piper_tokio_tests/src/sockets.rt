@@ -1,13 +1,13 @@
 //! A client and a server of WebSocket over a duplex stream.
 
 use crate::blocking::Blocking;
-use crate::compare::same;
 use piper_duplex::duplex;
 use std::alloc::Global;
 use std::io::{Read, Write};
 use std::random::RandomSource;
 use std::test::Fail;
 use std::thread;
+use test_assertions::same_bytes;
 use tungstenite::handshake::client::request_of;
 use tungstenite::{Error, Message, Utf8Bytes, accept, client};
 
@@ -45,7 +45,7 @@ fn a_message_goes_each_way_after_the_handshake(rt: HostRuntime) -> Result<(), Fa
     let far = Blocking::new(theirs, far);
     let child = thread::spawn(&rt, move || echo(alloc, far))?;
     let text = ask(alloc, rt.clone()?, near, "there and back again")?;
-    same(&rt, text.as_bytes(), b"there and back again");
+    same_bytes(&rt, text.as_bytes(), b"there and back again");
     child.join(&rt)?;
     Ok(())
 }

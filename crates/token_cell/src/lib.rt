@@ -74,6 +74,8 @@ impl<X: Content> TokenCell<X> {
         ensures { (X.is_full result ≡ right.old.filled)
             × (right.new ≡ record right.old { filled = X.is_full content }) }
     {
+        // SAFETY: the condition says that this cell's token is here, so nobody else is in the cell
+        // now.
         unsafe {
             let at = &raw const self.content as *mut X;
             let before = at.read();

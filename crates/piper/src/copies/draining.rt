@@ -208,7 +208,7 @@ impl Reader {
     {
         let call = match self.look_to_drain(cx) {
             Ok(call) => call,
-            Err(told) => return told,
+            Err(outcome) => return outcome,
         };
         let (call, yields) = self.take_own_and_draw(call);
         if yields {
@@ -237,7 +237,7 @@ impl Reader {
     {
         match self.look_at_once() {
             Ok(call) => self.drain_rounds(call, Form::Try, dest),
-            Err(told) => told,
+            Err(outcome) => outcome,
         }
     }
 
@@ -250,15 +250,15 @@ impl Reader {
         ensures found { IfOk result (λ call.
             call.point ≡ ReadPoint.LookTake (Purpose.Copy (Form.Polling false))) }
         ensures some { IfOk result (λ _. 0 < length self.new.end.known) }
-        ensures none { IfErr result (λ told. FoundNoByte told self.new.end) }
-        ensures all { IfErr result (λ told. OnReadyOk told (IsEnded self.new.end)) }
+        ensures none { IfErr result (λ outcome. FoundNoByte outcome self.new.end) }
+        ensures all { IfErr result (λ outcome. OnReadyOk outcome (IsEnded self.new.end)) }
         ensures same { KnowsEnd self.old.end → self.new.end.all ≡ self.old.end.all }
         ensures stays { IsEnded self.old.end → IsEnded self.new.end }
-        ensures refused { IfErr result (λ told. OnMemory told (cx.new.lacks_waker ≡ true)) }
-        ensures covered { IfErr result (λ told.
-            OnPending told (Covers cx.new (λ s. s ≡ read_source self.old))) }
-        ensures registered { IfErr result (λ told.
-            OnPending told (ReaderRegistered self.old self.new cx.new)) }
+        ensures refused { IfErr result (λ outcome. OnMemory outcome (cx.new.lacks_waker ≡ true)) }
+        ensures covered { IfErr result (λ outcome.
+            OnPending outcome (Covers cx.new (λ s. s ≡ read_source self.old))) }
+        ensures registered { IfErr result (λ outcome.
+            OnPending outcome (ReaderRegistered self.old self.new cx.new)) }
         ensures looked { ReaderLooked self.old.end self.new.end }
         ensures rest { SameReaderButWaits self.old self.new }
         ensures kept { Keeps cx.old cx.new }
@@ -290,11 +290,11 @@ impl Reader {
         ensures found { IfOk result (λ call.
             call ≡ goes_on (ReadPoint.CallDestination Form.Try 0)) }
         ensures some { IfOk result (λ _. 0 < length self.new.end.known) }
-        ensures none { IfErr result (λ told. FoundNoByte told self.new.end) }
-        ensures all { IfErr result (λ told. OnReadyOk told (IsEnded self.new.end)) }
+        ensures none { IfErr result (λ outcome. FoundNoByte outcome self.new.end) }
+        ensures all { IfErr result (λ outcome. OnReadyOk outcome (IsEnded self.new.end)) }
         ensures same { KnowsEnd self.old.end → self.new.end.all ≡ self.old.end.all }
         ensures stays { IsEnded self.old.end → IsEnded self.new.end }
-        ensures granted { IfErr result (λ told. OnMemory told ⊥) }
+        ensures granted { IfErr result (λ outcome. OnMemory outcome ⊥) }
         ensures looked { ReaderLooked self.old.end self.new.end }
         ensures rest { SameReader self.old self.new }
     {

@@ -180,14 +180,14 @@ impl Writer {
     {
         match cx {
             Some(cx) => {
-                let told = self.fill_waiting(cx, source);
+                let outcome = self.fill_waiting(cx, source);
                 self.unlend();
-                told
+                outcome
             }
             None => {
-                let told = self.fill_at_once(source);
+                let outcome = self.fill_at_once(source);
                 self.unlend();
-                told
+                outcome
             }
         }
     }
@@ -215,7 +215,7 @@ impl Writer {
     {
         let call = match self.look_to_fill(cx) {
             Ok(call) => call,
-            Err(told) => return told,
+            Err(outcome) => return outcome,
         };
         let (call, yields) = self.take_own_and_draw(call);
         if yields {
@@ -240,7 +240,7 @@ impl Writer {
     {
         match self.look_at_once() {
             Ok(call) => self.fill_rounds(call, Form::Try, source),
-            Err(told) => told,
+            Err(outcome) => outcome,
         }
     }
 
@@ -255,12 +255,12 @@ impl Writer {
         ensures some { OnOk result (0 < self.new.end.room) }
         ensures is_open { OnOk result (
             (self.new.end.shut ≡ false) × (self.new.end.saw ≡ false)) }
-        ensures none { IfErr result (λ told. FoundNoRoom told self.new.end) }
-        ensures refused { IfErr result (λ told. OnMemory told (cx.new.lacks_waker ≡ true)) }
-        ensures covered { IfErr result (λ told.
-            OnPending told (Covers cx.new (λ s. s ≡ write_source self.old))) }
-        ensures registered { IfErr result (λ told.
-            OnPending told (WriterRegistered self.old self.new cx.new)) }
+        ensures none { IfErr result (λ outcome. FoundNoRoom outcome self.new.end) }
+        ensures refused { IfErr result (λ outcome. OnMemory outcome (cx.new.lacks_waker ≡ true)) }
+        ensures covered { IfErr result (λ outcome.
+            OnPending outcome (Covers cx.new (λ s. s ≡ write_source self.old))) }
+        ensures registered { IfErr result (λ outcome.
+            OnPending outcome (WriterRegistered self.old self.new cx.new)) }
         ensures looked { WriterLooked self.old.end self.new.end }
         ensures rest { SameWriterButWaits self.old self.new }
         ensures kept { Keeps cx.old cx.new }
@@ -297,8 +297,8 @@ impl Writer {
         ensures some { OnOk result (0 < self.new.end.room) }
         ensures is_open { OnOk result (
             (self.new.end.shut ≡ false) × (self.new.end.saw ≡ false)) }
-        ensures none { IfErr result (λ told. FoundNoRoom told self.new.end) }
-        ensures granted { IfErr result (λ told. OnMemory told ⊥) }
+        ensures none { IfErr result (λ outcome. FoundNoRoom outcome self.new.end) }
+        ensures granted { IfErr result (λ outcome. OnMemory outcome ⊥) }
         ensures looked { WriterLooked self.old.end self.new.end }
         ensures rest { SameWriter self.old self.new }
     {

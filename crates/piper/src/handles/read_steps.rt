@@ -8,10 +8,10 @@ ghost use Rattle.piper_ring.specs.Shared.{flag};
 ghost use Rattle.piper_ring.specs.SlotsView.{Registers};
 ghost use Rattle.piper.specs.Contexts.{AsksAgain};
 ghost use Rattle.piper.specs.Slots.{found_in};
+ghost use Rattle.piper.specs.Calls.{read_woken};
 ghost use Rattle.piper.specs.Ends.{HasAll, IsEnded, ReaderIsUpToDate, ReaderRefreshed, ReaderSaw, ReaderConsumed};
 
 use super::Reader;
-use crate::answers::read_wake;
 use crate::finished::FinishedReader;
 use crate::slot::Taken;
 use futures::task::{Context, Poll, Waker};
@@ -265,4 +265,17 @@ pub(crate) fn wake(call: ReadCall, taken: Taken) -> ReadCall
 {
     taken.wake();
     call.woke()
+}
+
+/// Calls the waker that the reader took, if there was one.
+#[inline(always)]
+pub(crate) fn read_wake(call: ReadCall, taken: Taken) -> ReadCall
+    requires next { found_in taken ≡ true → read_action call.point ≡ Action.Wake }
+    ensures step { result ≡ read_woken (found_in taken) call }
+{
+    if taken.is_found() {
+        return wake(call, taken);
+    }
+    taken.discard();
+    call
 }

@@ -7,10 +7,10 @@ ghost use Rattle.piper_ring.specs.Shared.{flag};
 ghost use Rattle.piper_ring.specs.SlotsView.{WriterRegisters};
 ghost use Rattle.piper.specs.Contexts.{AsksAgain};
 ghost use Rattle.piper.specs.Slots.{found_in};
+ghost use Rattle.piper.specs.Calls.{write_woken};
 ghost use Rattle.piper.specs.Ends.{WriterIsUpToDate, WriterRefreshed, WriterSaw, WriterPublished, WriterUnlent, WriterShut};
 
 use super::Writer;
-use crate::answers::write_wake;
 use crate::finished::FinishedWriter;
 use crate::slot::Taken;
 use futures::task::{Context, Poll, Waker};
@@ -304,4 +304,17 @@ pub(crate) fn wake(call: WriteCall, taken: Taken) -> WriteCall
 {
     taken.wake();
     call.woke()
+}
+
+/// Calls the waker that the writer took, if there was one.
+#[inline(always)]
+pub(crate) fn write_wake(call: WriteCall, taken: Taken) -> WriteCall
+    requires next { found_in taken ≡ true → write_action call.point ≡ Action.Wake }
+    ensures step { result ≡ write_woken (found_in taken) call }
+{
+    if taken.is_found() {
+        return wake(call, taken);
+    }
+    taken.discard();
+    call
 }

@@ -1,5 +1,5 @@
 //! The ends of a duplex stream on one thread.
-use crate::compare::{Polled, reported, same};
+use crate::polls::{Polled, polled};
 use futures::test::MockTask;
 use piper::io::{AsyncRead, AsyncWrite};
 use piper_duplex::{End, duplex};
@@ -7,6 +7,7 @@ use std::alloc::AllocGlobal;
 use std::process::Abort;
 use std::random::RandomSource;
 use std::sync::Wait;
+use test_assertions::same;
 
 /// How often a poll that yields is made again.
 const MOST_POLLS: u32 = 1_000;
@@ -19,10 +20,10 @@ where
     let mut answer = Polled::Pending;
     for _ in 0..MOST_POLLS {
         if answer == Polled::Pending {
-            answer = reported(task.enter(|cx| end.poll_write(cx, bytes)));
+            answer = polled(task.enter(|cx| end.poll_write(cx, bytes)));
         }
     }
-    same(rt, answer, Polled::Told(want));
+    same(rt, answer, Polled::Ready(want));
 }
 
 /// Reads until a poll is ready, and holds what came against the bytes that are wanted.
@@ -34,10 +35,10 @@ where
     let mut answer = Polled::Pending;
     for _ in 0..MOST_POLLS {
         if answer == Polled::Pending {
-            answer = reported(task.enter(|cx| end.poll_read(cx, &mut place)));
+            answer = polled(task.enter(|cx| end.poll_read(cx, &mut place)));
         }
     }
-    same(rt, answer, Polled::Told(want.len()));
+    same(rt, answer, Polled::Ready(want.len()));
     same(rt, &place[..want.len().min(16)], want);
 }
 
@@ -83,8 +84,8 @@ where
     let writing = MockTask::new(rt).expect(rt, "memory");
     let mut place = [0; 4];
     writes(rt, &writing, &mut second, b"full", 4);
-    let read = reported(reading.enter(|cx| second.poll_read(cx, &mut place)));
-    let written = reported(writing.enter(|cx| second.poll_write(cx, b"more")));
+    let read = polled(reading.enter(|cx| second.poll_read(cx, &mut place)));
+    let written = polled(writing.enter(|cx| second.poll_write(cx, b"more")));
     same(rt, (read, written), (Polled::Pending, Polled::Pending));
     same(rt, (reading.is_woken(), writing.is_woken()), (false, false));
     first.drop();

@@ -34,6 +34,8 @@ impl Memory {
         requires { IsClaim size align × (self.size ≡ size) × (self.align ≡ align) }
     {
         let Memory { start } = self;
+        // SAFETY: `also_owns` owns the block that `claim` got, and the condition gives its size and
+        // alignment.
         unsafe { heap.deallocate(start, size, align) }
     }
 }

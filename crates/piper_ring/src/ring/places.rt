@@ -67,6 +67,8 @@ impl Places {
         ensures* writes_back { sem 𝓛 (lends_bytes self.entry result) }
         ensures value { result.now ≡ self.old.bytes }
     {
+        // SAFETY: `IsPiece` says that the bytes lie there in one piece, and `also_owns` that only
+        // this has them.
         unsafe { slice::from_raw_parts_mut(base.ptr.add(from), len) }
     }
 
@@ -75,6 +77,8 @@ impl Places {
         requires { IsPiece base.ptr from len self.now }
         ensures { result.now ≡ take len self.now.bytes }
     {
+        // SAFETY: `IsPiece` says that the bytes lie there in one piece, and `also_shares` that
+        // nobody writes them.
         unsafe { slice::from_raw_parts(base.ptr.add(from), len) }
     }
 
@@ -149,6 +153,8 @@ impl Blank {
           count = self.old.count - 1;
         } }
     {
+        // SAFETY: the condition says that the first place is at this offset, and `also_owns` that
+        // only this has it.
         unsafe { base.ptr.add(offset).write(0) };
         Places { mark: PhantomData }
     }

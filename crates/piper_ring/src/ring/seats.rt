@@ -155,6 +155,8 @@ pub(crate) fn open(
     let Memory { start: ptr } = bytes;
     let Memory { start } = words;
     let start = start as *mut u64;
+    // SAFETY: the condition says that the block is owned here, is aligned to 8 and has room for 96
+    // words.
     unsafe {
         start.add(HEAD_WORD).write(0);
         start.add(TAIL_WORD).write(0);
@@ -213,6 +215,8 @@ impl ReadSeat {
         ensures told { length told.now.bytes ≤ length result.1.bytes }
         ensures end { told.now.shut ≡ true → result.1.bytes ≡ told.now.bytes }
     {
+        // SAFETY: the seat owns or shares the ring's words (`also_owns`, `also_shares`), which live
+        // until the last end is gone.
         let tail = unsafe { raw::load::<Brand>(self.words.add(TAIL_WORD), SeqCst) };
         (tail, WriteMark { mark: PhantomData })
     }
@@ -238,6 +242,8 @@ impl ReadSeat {
         ensures stays { Reaches (saw.old.bytes, saw.old.shut) (saw.new.bytes, saw.new.shut) }
         ensures told { flag told.now.shut ≤ result }
     {
+        // SAFETY: the seat owns or shares the ring's words (`also_owns`, `also_shares`), which live
+        // until the last end is gone.
         unsafe { raw::load::<Brand>(self.words.add(CLOSED_WORD), SeqCst) }
     }
 
@@ -249,6 +255,8 @@ impl ReadSeat {
         ensures { self.new ≡ record self.old { head = self.old.head + length back.bytes } }
     {
         let Places { mark: _ } = back;
+        // SAFETY: the seat owns or shares the ring's words (`also_owns`, `also_shares`), which live
+        // until the last end is gone.
         unsafe { raw::store::<Brand>(self.words.add(HEAD_WORD), head, SeqCst) }
     }
 
@@ -258,6 +266,8 @@ impl ReadSeat {
         ensures leaving { self.new ≡ record self.old { leaving = true } }
         ensures closed { (result.names ≡ self.old.names) × (result.seen ≡ true) }
     {
+        // SAFETY: the seat owns or shares the ring's words (`also_owns`, `also_shares`), which live
+        // until the last end is gone.
         unsafe { raw::store::<Brand>(self.words.add(CLOSED_WORD), 1, SeqCst) };
         Saw { mark: PhantomData }
     }
@@ -273,6 +283,8 @@ impl ReadSeat {
     {
         let ReadSeat { words } = self;
         let Blank { mark: _ } = known;
+        // SAFETY: the seat owns or shares the ring's words (`also_owns`, `also_shares`), which live
+        // until the last end is gone.
         let found = unsafe { raw::swap::<Brand>(words.add(LEFT_WORD), 1, SeqCst) };
         (found, Remains { words })
     }
@@ -329,6 +341,8 @@ impl WriteSeat {
         ensures room { self.now.limit ≤ result.1.count + self.now.names.capacity }
         ensures told { told.now.count ≤ result.1.count }
     {
+        // SAFETY: the seat owns or shares the ring's words (`also_owns`, `also_shares`), which live
+        // until the last end is gone.
         let head = unsafe { raw::load::<Brand>(self.words.add(HEAD_WORD), SeqCst) };
         (head, ReadMark { mark: PhantomData })
     }
@@ -352,6 +366,8 @@ impl WriteSeat {
         ensures stays { flag saw.old.seen ≤ result }
         ensures shut { flag self.now.shut ≤ result }
     {
+        // SAFETY: the seat owns or shares the ring's words (`also_owns`, `also_shares`), which live
+        // until the last end is gone.
         unsafe { raw::load::<Brand>(self.words.add(CLOSED_WORD), SeqCst) }
     }
 
@@ -365,6 +381,8 @@ impl WriteSeat {
         ensures { self.new ≡ record self.old { sent = self.old.sent ++ bytes.bytes } }
     {
         let Places { mark: _ } = bytes;
+        // SAFETY: the seat owns or shares the ring's words (`also_owns`, `also_shares`), which live
+        // until the last end is gone.
         unsafe { raw::store::<Brand>(self.words.add(TAIL_WORD), tail, SeqCst) }
     }
 
@@ -372,6 +390,8 @@ impl WriteSeat {
     pub(crate) fn store_shut(&mut self)
         ensures { self.new ≡ record self.old { shut = true } }
     {
+        // SAFETY: the seat owns or shares the ring's words (`also_owns`, `also_shares`), which live
+        // until the last end is gone.
         unsafe { raw::store::<Brand>(self.words.add(CLOSED_WORD), 1, SeqCst) }
     }
 
@@ -386,6 +406,8 @@ impl WriteSeat {
     {
         let WriteSeat { words } = self;
         let Blank { mark: _ } = room;
+        // SAFETY: the seat owns or shares the ring's words (`also_owns`, `also_shares`), which live
+        // until the last end is gone.
         let found = unsafe { raw::swap::<Brand>(words.add(LEFT_WORD), 1, SeqCst) };
         (found, Remains { words })
     }

@@ -134,6 +134,8 @@ impl WriteSeat {
         ensures looked { Looks Stream (of_writer_wakes slot.old) (self.now.sent, self.now.shut)
             result (of_writer_wakes slot.new) }
     {
+        // SAFETY: the seat owns or shares the ring's words (`also_owns`, `also_shares`), which live
+        // until the last end is gone.
         unsafe { raw::load::<Brand>(self.words.add(READER_FLAG), SeqCst) }
     }
 
@@ -147,6 +149,8 @@ impl WriteSeat {
         ensures right { IsTokenOf self.now.names.reader_place slot.new.holds slot.new.holds
             result.1 }
     {
+        // SAFETY: the seat owns or shares the ring's words (`also_owns`, `also_shares`), which live
+        // until the last end is gone.
         let found = unsafe { raw::swap::<Brand>(self.words.add(READER_FLAG), 0, SeqCst) };
         (found, Token { mark: PhantomData })
     }
@@ -160,6 +164,8 @@ impl WriteSeat {
             0 (of_writer_wakes slot.new) }
     {
         let Token { mark: _ } = right;
+        // SAFETY: the seat owns or shares the ring's words (`also_owns`, `also_shares`), which live
+        // until the last end is gone.
         unsafe { raw::store::<Brand>(self.words.add(READER_BACK), 1, SeqCst) }
     }
 
@@ -193,6 +199,8 @@ impl WriteSeat {
             (result.0.count, result.1.seen) 0 (of_writer_waits slot.new) }
     {
         let Token { mark: _ } = right;
+        // SAFETY: the seat owns or shares the ring's words (`also_owns`, `also_shares`), which live
+        // until the last end is gone.
         unsafe { raw::store::<Brand>(self.words.add(WRITER_FLAG), 1, SeqCst) };
         (ReadMark { mark: PhantomData }, Saw { mark: PhantomData })
     }
@@ -202,6 +210,8 @@ impl WriteSeat {
         requires { slot.old.names ≡ self.now.names }
         ensures { slot.new ≡ slot.old }
     {
+        // SAFETY: the seat owns or shares the ring's words (`also_owns`, `also_shares`), which live
+        // until the last end is gone.
         unsafe { raw::load::<Brand>(self.words.add(WRITER_FLAG), SeqCst) }
     }
 
@@ -214,6 +224,8 @@ impl WriteSeat {
             result.0 (of_writer_waits slot.new) }
         ensures right { IsTokenOf self.now.names.writer_place slot.new.owns slot.new.owns result.1 }
     {
+        // SAFETY: the seat owns or shares the ring's words (`also_owns`, `also_shares`), which live
+        // until the last end is gone.
         let found = unsafe { raw::swap::<Brand>(self.words.add(WRITER_FLAG), 0, SeqCst) };
         (found, Token { mark: PhantomData })
     }
@@ -227,6 +239,8 @@ impl WriteSeat {
             result.0 (of_writer_waits slot.new) }
         ensures right { IsTokenOf self.now.names.writer_place slot.new.owns false result.1 }
     {
+        // SAFETY: the seat owns or shares the ring's words (`also_owns`, `also_shares`), which live
+        // until the last end is gone.
         let found = unsafe { raw::swap::<Brand>(self.words.add(WRITER_BACK), 0, SeqCst) };
         (found, Token { mark: PhantomData })
     }
@@ -256,6 +270,8 @@ impl ReadSeat {
             0 (of_reader_waits slot.new) }
     {
         let Token { mark: _ } = right;
+        // SAFETY: the seat owns or shares the ring's words (`also_owns`, `also_shares`), which live
+        // until the last end is gone.
         unsafe { raw::store::<Brand>(self.words.add(READER_FLAG), 1, SeqCst) };
         WriteMark { mark: PhantomData }
     }
@@ -265,6 +281,8 @@ impl ReadSeat {
         requires { slot.old.names ≡ self.now.names }
         ensures { slot.new ≡ slot.old }
     {
+        // SAFETY: the seat owns or shares the ring's words (`also_owns`, `also_shares`), which live
+        // until the last end is gone.
         unsafe { raw::load::<Brand>(self.words.add(READER_FLAG), SeqCst) }
     }
 
@@ -277,6 +295,8 @@ impl ReadSeat {
             result.0 (of_reader_waits slot.new) }
         ensures right { IsTokenOf self.now.names.reader_place slot.new.owns slot.new.owns result.1 }
     {
+        // SAFETY: the seat owns or shares the ring's words (`also_owns`, `also_shares`), which live
+        // until the last end is gone.
         let found = unsafe { raw::swap::<Brand>(self.words.add(READER_FLAG), 0, SeqCst) };
         (found, Token { mark: PhantomData })
     }
@@ -290,6 +310,8 @@ impl ReadSeat {
             result.0 (of_reader_waits slot.new) }
         ensures right { IsTokenOf self.now.names.reader_place slot.new.owns false result.1 }
     {
+        // SAFETY: the seat owns or shares the ring's words (`also_owns`, `also_shares`), which live
+        // until the last end is gone.
         let found = unsafe { raw::swap::<Brand>(self.words.add(READER_BACK), 0, SeqCst) };
         (found, Token { mark: PhantomData })
     }
@@ -313,6 +335,8 @@ impl ReadSeat {
         ensures looked { Looks Consumed (of_reader_wakes slot.old) (self.now.head, saw.now.seen)
             result (of_reader_wakes slot.new) }
     {
+        // SAFETY: the seat owns or shares the ring's words (`also_owns`, `also_shares`), which live
+        // until the last end is gone.
         unsafe { raw::load::<Brand>(self.words.add(WRITER_FLAG), SeqCst) }
     }
 
@@ -328,6 +352,8 @@ impl ReadSeat {
         ensures right { IsTokenOf self.now.names.writer_place slot.new.holds slot.new.holds
             result.1 }
     {
+        // SAFETY: the seat owns or shares the ring's words (`also_owns`, `also_shares`), which live
+        // until the last end is gone.
         let found = unsafe { raw::swap::<Brand>(self.words.add(WRITER_FLAG), 0, SeqCst) };
         (found, Token { mark: PhantomData })
     }
@@ -341,6 +367,8 @@ impl ReadSeat {
             0 (of_reader_wakes slot.new) }
     {
         let Token { mark: _ } = right;
+        // SAFETY: the seat owns or shares the ring's words (`also_owns`, `also_shares`), which live
+        // until the last end is gone.
         unsafe { raw::store::<Brand>(self.words.add(WRITER_BACK), 1, SeqCst) }
     }
 

@@ -1,5 +1,4 @@
 //! A duplex stream, and an echo of lines over one.
-use crate::compare::{ready, same};
 use crate::running::same_bytes;
 use futures::test::MockTask;
 use piper::{OwnedReader, OwnedWriter, owned_pipe};
@@ -9,6 +8,7 @@ use std::alloc::AllocGlobal;
 use std::process::Abort;
 use std::random::RandomSource;
 use std::test::Fail;
+use test_assertions::{ready, same};
 
 /// What the one end writes the other reads.
 fn halves(rt: &impl Abort, mut reader: OwnedReader, mut writer: OwnedWriter) {

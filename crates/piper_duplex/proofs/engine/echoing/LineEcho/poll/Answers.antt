@@ -1,7 +1,7 @@
 use Rattle.std.proofs.Common.{rules}
 use Rattle.piper_lines.specs.LineReader.{kept_of}
 use Rattle.piper_duplex.proofs.WritingBack.{echoes_line, echoes_turn}
-use Rattle.piper_duplex.proofs.echoing.LineEcho.poll.Goals as goal
+use Rattle.piper_duplex.proofs.engine.echoing.LineEcho.poll.Goals as goal
 
 pub returns-in-Pending-clause-echoes : goal.returns-in-Pending-clause-echoes
 returns-in-Pending-clause-echoes g c =

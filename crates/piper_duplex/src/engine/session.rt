@@ -2,7 +2,7 @@
 ghost use Rattle.std.specs.Prelude.{◌≡◌, ◌<◌, ◌≤◌, ◌⊎◌, [], length, IfOk, IfErr};
 
 use crate::end::duplex;
-use crate::waiting::{EchoAll, MOST_OF_A_LINE, ReadSome, WriteAll};
+use crate::engine::waiting::{EchoAll, MOST_OF_A_LINE, ReadSome, WriteAll};
 use futures::executor::block_on;
 use piper::io::{AsyncRead, AsyncWrite};
 use piper::{OwnedReader, OwnedWriter};

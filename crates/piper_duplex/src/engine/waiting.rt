@@ -2,7 +2,7 @@
 ghost use Rattle.std.specs.Prelude.{◌≡◌, ◌≤◌, length, IfOk};
 ghost use Rattle.piper_lines.specs.LineReader.{reader_of};
 
-use crate::echoing::{Echoed, LineEcho};
+use crate::engine::echoing::{Echoed, LineEcho};
 use futures::Future;
 use futures::task::{Context, Poll};
 use piper::PipeError;

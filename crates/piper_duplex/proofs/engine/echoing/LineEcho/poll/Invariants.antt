@@ -3,7 +3,7 @@ use Rattle.std.specs.Prelude.{◌≡◌, true}
 use Rattle.futures.specs.Task.{Keeps}
 use Rattle.piper_lines.specs.LineReader.{reader_of}
 use Rattle.piper_duplex.specs.Echoes.{Echoes, held_of}
-use Rattle.piper_duplex.proofs.echoing.LineEcho.poll.Given as goal
+use Rattle.piper_duplex.proofs.engine.echoing.LineEcho.poll.Given as goal
 
 abbrev pub invariant-loop : goal.invariant-loop
 invariant-loop g l = record {

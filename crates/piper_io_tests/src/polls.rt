@@ -1,38 +1,26 @@
-//! How the tests poll, and compare what they see.
+//! How the tests poll.
 use futures::task::{Context, Poll};
 use futures::test::MockTask;
 use piper::io::AsyncBufRead;
 use piper::{PipeError, Reader, Writer};
 use piper_lines::{FrameAnswer, Frames, LineAnswer, Lines, WriteFrame, WriteLine, Written};
-use std::fmt::Debug;
-use std::process::Abort;
 
 /// What a poll is to a test.
 #[derive(Clone, Copy, Debug, PartialEq, Eq)]
 pub(crate) enum Polled<A> {
     Pending,
-    Told(A),
+    Ready(A),
     Refused,
     Failed,
 }
 
-pub(crate) fn reported<A: Drop>(polled: Poll<Result<A, PipeError>>) -> Polled<A> {
-    match polled {
+pub(crate) fn polled<A: Drop>(poll: Poll<Result<A, PipeError>>) -> Polled<A> {
+    match poll {
         Poll::Pending => Polled::Pending,
-        Poll::Ready(Ok(answer)) => Polled::Told(answer),
+        Poll::Ready(Ok(answer)) => Polled::Ready(answer),
         Poll::Ready(Err(PipeError::Memory)) => Polled::Refused,
         Poll::Ready(Err(PipeError::Io(_))) => Polled::Failed,
     }
-}
-
-/// Holds what was seen against what is wanted.
-pub(crate) fn same<T: Debug + Drop + PartialEq>(rt: &impl Abort, seen: T, wanted: T) {
-    assert!(rt; seen == wanted, "{seen:?} in place of {wanted:?}");
-}
-
-/// Holds bytes against those that are wanted.
-pub(crate) fn same_bytes(rt: &impl Abort, seen: &[u8], wanted: &[u8]) {
-    assert!(rt; seen == wanted, "{seen:?} in place of {wanted:?}");
 }
 
 /// Fills the pipe with what is left of the text, as far as there is room, up to `most` bytes.
@@ -50,8 +38,8 @@ pub(crate) fn poll_line(
     limit: usize,
 ) -> Polled<LineAnswer> {
     let limit = limit.max(1);
-    match reported(task.enter(|cx| lines.poll_line(cx, line, limit))) {
-        Polled::Refused => reported(task.enter(|cx| lines.poll_line(cx, line, limit))),
+    match polled(task.enter(|cx| lines.poll_line(cx, line, limit))) {
+        Polled::Refused => polled(task.enter(|cx| lines.poll_line(cx, line, limit))),
         answer => answer,
     }
 }
@@ -63,8 +51,8 @@ pub(crate) fn poll_frame(
     frame: &mut Vec<u8>,
     limit: usize,
 ) -> Polled<FrameAnswer> {
-    match reported(task.enter(|cx| frames.poll_frame(cx, frame, limit))) {
-        Polled::Refused => reported(task.enter(|cx| frames.poll_frame(cx, frame, limit))),
+    match polled(task.enter(|cx| frames.poll_frame(cx, frame, limit))) {
+        Polled::Refused => polled(task.enter(|cx| frames.poll_frame(cx, frame, limit))),
         answer => answer,
     }
 }
@@ -75,7 +63,7 @@ pub(crate) fn write_line(
     line: &mut WriteLine<'_>,
     writer: &mut Writer,
 ) -> Polled<Written> {
-    reported(task.enter(|cx| line.poll(cx, writer)))
+    polled(task.enter(|cx| line.poll(cx, writer)))
 }
 
 /// Polls a frame once that is being written, as a task.
@@ -84,7 +72,7 @@ pub(crate) fn write_frame(
     frame: &mut WriteFrame<'_>,
     writer: &mut Writer,
 ) -> Polled<Written> {
-    reported(task.enter(|cx| frame.poll(cx, writer)))
+    polled(task.enter(|cx| frame.poll(cx, writer)))
 }
 
 /// Polls once for a frame, and skips it where it is past the limit: how many bytes it has.

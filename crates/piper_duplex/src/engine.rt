@@ -1,0 +1,7 @@
+//! The engine of an echo program: the task that echoes, and the session of a client with it.
+mod echoing;
+mod session;
+mod waiting;
+
+pub use echoing::{Echoed, LineEcho};
+pub use session::{Ended, echo};
