@@ -33,7 +33,7 @@ pub struct Reader {
     registrations: ReadRegistrations,
     slots: Arc<Slots>,
     rng: Pcg32,
-    ghost of_one_ring: { registrations.names ≡ end.ring.1.1 },
+    ghost of_one_ring: { registrations.names ≡ end.ring.names },
     ghost places: { HoldPlaces (arc_value slots) registrations.names },
 }
 
@@ -47,6 +47,6 @@ pub struct Writer {
     registrations: WriteRegistrations,
     slots: Arc<Slots>,
     rng: Pcg32,
-    ghost of_one_ring: { registrations.names ≡ end.ring.1.1 },
+    ghost of_one_ring: { registrations.names ≡ end.ring.names },
     ghost places: { HoldPlaces (arc_value slots) registrations.names },
 }

@@ -131,7 +131,7 @@ impl Reader {
 
     /// Evidence of what was consumed, for the writer to heed.
     pub fn mark(&self) -> ReadMark
-        ensures ring { result.names ≡ self.now.end.ring.1.1 }
+        ensures ring { result.names ≡ self.now.end.ring.names }
         ensures count { result.count ≡ length self.now.end.taken }
     {
         self.end().mark()
@@ -143,7 +143,7 @@ impl Reader {
     /// consumed, that the pipe is closed, and that after the store that closed, whoever was
     /// registered in the writer's slot was taken, and its waker called.
     pub fn drop(self) -> FinishedReader
-        ensures ring { result.told.consumed.names ≡ self.end.ring.1.1 }
+        ensures ring { result.told.consumed.names ≡ self.end.ring.names }
         ensures count { result.told.consumed.count ≡ length self.end.taken }
         ensures woke { ReaderWokeLast self.end result }
     {

@@ -129,7 +129,7 @@ impl Writer {
 
     /// Evidence of what was published, for the reader to heed.
     pub fn mark(&self) -> WriteMark
-        ensures ring { result.names ≡ self.now.end.ring.1.1 }
+        ensures ring { result.names ≡ self.now.end.ring.names }
         ensures bytes { result.bytes ≡ self.now.end.sent }
         ensures shut { result.shut ≡ self.now.end.shut }
     {
@@ -143,7 +143,7 @@ impl Writer {
     /// published, that the pipe is closed, and that after the store that closed, whoever was
     /// registered in the reader's slot was taken, and its waker called.
     pub fn drop(self) -> FinishedWriter
-        ensures ring { result.told.names ≡ self.end.ring.1.1 }
+        ensures ring { result.told.names ≡ self.end.ring.names }
         ensures bytes { result.told.bytes ≡ self.end.sent }
         ensures shut { result.told.shut ≡ true }
         ensures woke { WriterWokeLast self.end result }

@@ -99,8 +99,8 @@ impl End {
     /// What is unread there can still be read. The answer is what is left of both handles, for those
     /// of the other end to take in.
     pub fn drop(self) -> (FinishedReader, FinishedWriter)
-        ensures ring { (result.0.told.consumed.names ≡ self.reader.end.ring.1.1)
-            × (result.1.told.names ≡ self.writer.end.ring.1.1) }
+        ensures ring { (result.0.told.consumed.names ≡ self.reader.end.ring.names)
+            × (result.1.told.names ≡ self.writer.end.ring.names) }
         ensures taken { result.0.told.consumed.count ≡ length self.reader.end.taken }
         ensures sent { result.1.told.bytes ≡ self.writer.end.sent }
         ensures woke { ReaderWokeLast self.reader.end result.0

@@ -3,7 +3,7 @@ use Rattle.std.specs.Prelude.{◌≡◌, ℕ, ◌+◌, ◌-◌, ◌^◌, ◌<◌
 use Rattle.std.specs.Coded.{Coded, code_by, coded×, coded_list, coded_ℕ, coded_bool}
 use Rattle.rtrb.specs.Fifo.{position_of, slot_of as offset_of}
 use mathlib.Core.List.{IsPrefix}
-use Rattle.piper_ring.specs.Shared.{Ring, ring_code}
+use Rattle.piper_ring.specs.Shared.{Ring, ring_of, ring_code}
 use Rattle.piper_ring.specs.Streams.{Reaches, either}
 use Rattle.piper_ring.specs.declared.ends.reader.ReadParts.{ReadParts}
 
@@ -47,7 +47,7 @@ read_view_code =
 
 abbrev pub read_view_of : ReadParts → ReadView
 read_view_of e =
-    read_view (e.seat.words, (e.seat.at, e.seat.names)) e.indices.capacity
+    read_view (ring_of e.seat.words e.seat.at e.seat.names) e.indices.capacity
     (take e.seat.head e.seat.have) e.known.bytes
     (length e.told.bytes) e.told.shut e.saw.shut e.heard.bytes
 

@@ -95,11 +95,22 @@ names_code =
     (λ p. of_threes p.0.0 p.0.1 p.1.0.0 p.1.0.1 p.1.1) (λ _. refl)
 
 -- which ring it is: where its words and its memory begin, and its names
-abbrev pub Ring : Type 0
-Ring = Ptr × (Ptr × Names)
+pub record Ring : Type 0 where
+  pub words : Ptr
+  pub at : Ptr
+  pub names : Names
+
+abbrev pub ring_of : Ptr → Ptr → Names → Ring
+ring_of words at names = record {
+  words = words;
+  at = at;
+  names = names;
+}
 
 abbrev pub ring_code : Coded Ring
-ring_code = coded× coded_ptr (coded× coded_ptr names_code)
+ring_code =
+    code_by (Ptr × (Ptr × Names)) (coded× coded_ptr (coded× coded_ptr names_code))
+    (λ r. (r.words, (r.at, r.names))) (λ p. ring_of p.0 p.1.0 p.1.1) (λ _. refl)
 
 -- an end's part of what it alone may change, and the invariant's part
 abbrev pub half : Share

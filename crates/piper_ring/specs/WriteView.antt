@@ -2,7 +2,7 @@
 use Rattle.std.specs.Prelude.{◌≡◌, ℕ, ◌+◌, ◌-◌, ◌^◌, ◌<◌, ◌≤◌, Bool, true, false, List, [], length, min, refl}
 use Rattle.std.specs.Coded.{Coded, code_by, coded×, coded_list, coded_ℕ, coded_bool}
 use Rattle.rtrb.specs.Fifo.{position_of, slot_of as offset_of}
-use Rattle.piper_ring.specs.Shared.{Ring, ring_code}
+use Rattle.piper_ring.specs.Shared.{Ring, ring_of, ring_code}
 use Rattle.piper_ring.specs.RoomOrder.{IsRoom, end_of}
 pub use Rattle.piper_ring.specs.Streams.{either}
 use Rattle.piper_ring.specs.declared.ends.writer.WriteParts.{WriteParts}
@@ -46,7 +46,7 @@ write_view_code =
 
 abbrev pub write_view_of : WriteParts → WriteView
 write_view_of e =
-    write_view (e.seat.words, (e.seat.at, e.seat.names)) e.indices.capacity
+    write_view (ring_of e.seat.words e.seat.at e.seat.names) e.indices.capacity
     e.seat.sent (e.seat.limit - length e.seat.sent) e.room.lent.bytes
     e.seat.shut e.told.count (either e.seat.shut e.saw.seen)
 

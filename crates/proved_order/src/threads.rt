@@ -31,7 +31,7 @@ impl Promise<WriteMark> for SendsFront {
 /// answer is its last mark.
 fn send_all<H: Wait>(rt: &H, writer: OwnedWriter, bytes: &[u8]) -> WriteMark
     requires { writer.writer.end.sent ≡ [] }
-    ensures { ReportsFront writer.writer.end.ring.1.1 result.names
+    ensures { ReportsFront writer.writer.end.ring.names result.names
         bytes.now result.bytes result.shut }
 {
     let mut writer = writer.into_inner();

@@ -27,7 +27,7 @@ impl Reader {
     /// and those that the reader took and knows of are beginnings of one stream, and those of a
     /// mark that reports of the end are all bytes that were ever published.
     pub fn heed(&mut self, mark: &WriteMark)
-        requires { mark.now.names ≡ self.old.end.ring.1.1 }
+        requires { mark.now.names ≡ self.old.end.ring.names }
         ensures told { self.new.end.told ≡ max self.old.end.told (length mark.now.bytes) }
         ensures shut { self.new.end.told_shut ≡ either self.old.end.told_shut mark.now.shut }
         ensures agree { Agree (self.new.end.taken ++ self.new.end.known) mark.now.bytes }
@@ -75,7 +75,7 @@ impl Reader {
     /// Takes in what is left of the writer that was dropped: `heed` of its last mark. And it was not
     /// forgotten: where it waits in its slot, the writer took and woke its waker as it left.
     pub fn meet_finished(&mut self, left: &mut FinishedWriter)
-        requires { left.old.told.names ≡ self.old.end.ring.1.1 }
+        requires { left.old.told.names ≡ self.old.end.ring.names }
         ensures woken { IsPending self.old.end self.old.registrations
             → left.old.registrations.taken ≡ self.old.registrations.tickets }
         ensures told { self.new.end.told ≡ max self.old.end.told (length left.old.told.bytes) }
@@ -107,7 +107,7 @@ impl Writer {
     /// From now on it knows what the mark reports: a look finds at least the room that was given
     /// back before it.
     pub fn heed(&mut self, mark: &ReadMark)
-        requires { mark.now.names ≡ self.old.end.ring.1.1 }
+        requires { mark.now.names ≡ self.old.end.ring.names }
         ensures told { self.new.end.told ≡ max self.old.end.told mark.now.count }
         ensures end { WriterHeeded self.old.end self.new.end }
         ensures rest { SameWriter self.old self.new }
@@ -118,7 +118,7 @@ impl Writer {
     /// From now on it knows that the reader was dropped: the pipe counts as seen closed, so polls
     /// answer `false` and fills 0. And it knows of all that was ever consumed.
     pub fn heed_last(&mut self, mark: &LastReadMark)
-        requires { mark.now.consumed.names ≡ self.old.end.ring.1.1 }
+        requires { mark.now.consumed.names ≡ self.old.end.ring.names }
         ensures saw { self.new.end.saw ≡ true }
         ensures told { self.new.end.told ≡ max self.old.end.told mark.now.consumed.count }
         ensures end { SameButHeard self.old.end self.new.end }
@@ -130,7 +130,7 @@ impl Writer {
     /// Takes in what is left of the reader that was dropped: `heed_last` of its last mark. And it
     /// was not forgotten: where it waits in its slot, the reader took and woke its waker as it left.
     pub fn meet_finished(&mut self, left: &mut FinishedReader)
-        requires { left.old.told.consumed.names ≡ self.old.end.ring.1.1 }
+        requires { left.old.told.consumed.names ≡ self.old.end.ring.names }
         ensures woken { IsWriterPending self.old.end self.old.registrations
             → left.old.registrations.taken ≡ self.old.registrations.tickets }
         ensures saw { self.new.end.saw ≡ true }

@@ -235,7 +235,7 @@ impl Reader {
             ≡ Action.Take Side.Writer }
         ensures step { result.0 ≡ read_step (read_step call.point Found.Nothing).point
             (Found.Waker (found_in result.1)) }
-        ensures ring { result.2.told.consumed.names ≡ self.end.ring.1.1 }
+        ensures ring { result.2.told.consumed.names ≡ self.end.ring.names }
         ensures count { result.2.told.consumed.count ≡ length self.end.taken }
         ensures woke { result.2.registrations.count ≡ length self.end.taken }
     {

@@ -273,7 +273,7 @@ impl Writer {
             ≡ Action.Take Side.Reader }
         ensures step { result.0 ≡ write_step (write_step call.point Found.Nothing).point
             (Found.Waker (found_in result.1)) }
-        ensures ring { result.2.told.names ≡ self.end.ring.1.1 }
+        ensures ring { result.2.told.names ≡ self.end.ring.names }
         ensures bytes { result.2.told.bytes ≡ self.end.sent }
         ensures shut { result.2.told.shut ≡ true }
         ensures woke { result.2.registrations.bytes ≡ self.end.sent }

@@ -43,10 +43,10 @@ pub fn open_with_slots(
     ensures pair { IfOk result (λ r. r.1.ring ≡ r.0.ring) }
     ensures reader { IfOk result (λ r. FreshReadEnd capacity r.0) }
     ensures writer { IfOk result (λ r. FreshWriteEnd capacity r.1) }
-    ensures read_slots { IfOk result (λ r. FreshReadSlots r.0.ring.1.1 r.2) }
-    ensures write_slots { IfOk result (λ r. FreshWriteSlots r.0.ring.1.1 r.3) }
-    ensures places { IfOk result (λ r. (r.0.ring.1.1.reader_place ≡ reader_token.name)
-        × (r.0.ring.1.1.writer_place ≡ writer_token.name)) }
+    ensures read_slots { IfOk result (λ r. FreshReadSlots r.0.ring.names r.2) }
+    ensures write_slots { IfOk result (λ r. FreshWriteSlots r.0.ring.names r.3) }
+    ensures places { IfOk result (λ r. (r.0.ring.names.reader_place ≡ reader_token.name)
+        × (r.0.ring.names.writer_place ≡ writer_token.name)) }
 {
     let (words, bytes) = claim(&alloc, capacity)?;
     let (

@@ -47,7 +47,7 @@ impl Model for ReadEnd {
 impl ReadEnd {
     ghost use Rattle.piper_ring.specs.ReadView.{SameReadEnd, KnowsMore, SameButTold, SameButSaw, MayBeUnread, KnowsEnd, HasTheRest, Agree, in_one_piece};
     ghost use Rattle.piper_ring.specs.WriteView.{HasMoreRoom};
-    ghost use Rattle.piper_ring.specs.Shared.{flag};
+    ghost use Rattle.piper_ring.specs.Shared.{flag, ring_of};
 
     /// The capacity of the ring.
     pub fn capacity(&self) -> usize
@@ -127,7 +127,7 @@ impl ReadEnd {
 
     /// Evidence of what was consumed, for the other end.
     pub fn mark(&self) -> ReadMark
-        ensures ring { result.names ≡ self.now.ring.1.1 }
+        ensures ring { result.names ≡ self.now.ring.names }
         ensures count { result.count ≡ length self.now.taken }
     {
         self.parts.seat.mark()
@@ -138,7 +138,7 @@ impl ReadEnd {
     /// and those that this end took and knows of are beginnings of one stream, and those of a mark
     /// that reports of the end are all.
     pub fn heed(&mut self, mark: &WriteMark)
-        requires { mark.now.names ≡ self.old.ring.1.1 }
+        requires { mark.now.names ≡ self.old.ring.names }
         ensures told { self.new.told ≡ max self.old.told (length mark.now.bytes) }
         ensures shut { flag self.new.told_shut
             ≡ max (flag self.old.told_shut) (flag mark.now.shut) }
@@ -179,7 +179,7 @@ impl ReadEnd {
 
     /// From now on it has heard of what the mark reports.
     pub(crate) fn hear(&mut self, mark: &WriteMark)
-        requires { mark.now.names ≡ self.old.ring.1.1 }
+        requires { mark.now.names ≡ self.old.ring.names }
         ensures heard { length mark.now.bytes ≤ length self.new.all }
         ensures saw { self.new.saw ≡ self.old.saw }
         ensures kept { SameButSaw self.old self.new }
@@ -241,7 +241,7 @@ impl ReadEnd {
 
     /// `look_closed`, with evidence of what the writer did besides: it finds that, too.
     pub(crate) fn look_closed_knowing(&mut self, more: &WriteMark) -> bool
-        requires { more.now.names ≡ self.old.ring.1.1 }
+        requires { more.now.names ≡ self.old.ring.names }
         ensures more { flag more.now.shut ≤ flag self.new.saw }
         ensures saw { result ≡ self.new.saw }
         ensures stays { flag self.old.saw ≤ flag self.new.saw }
@@ -277,7 +277,7 @@ impl ReadEnd {
     /// The answer is evidence, for the writer's end, that the pipe is closed, and of all that was
     /// ever consumed.
     pub fn finish(self) -> LastReadMark
-        ensures ring { result.consumed.names ≡ self.ring.1.1 }
+        ensures ring { result.consumed.names ≡ self.ring.names }
         ensures count { result.consumed.count ≡ length self.taken }
     {
         let consumed = self.mark();
@@ -288,10 +288,10 @@ impl ReadEnd {
 
     /// Closes the pipe, since this end is about to leave.
     pub(crate) fn close(self) -> (LeavingReader, Saw)
-        ensures ring { (result.0.seat.words, (result.0.seat.at, result.0.seat.names))
+        ensures ring { ring_of result.0.seat.words result.0.seat.at result.0.seat.names
             ≡ self.ring }
         ensures head { result.0.seat.head ≡ length self.taken }
-        ensures closed { (result.1.names ≡ self.ring.1.1) × (result.1.seen ≡ true) }
+        ensures closed { (result.1.names ≡ self.ring.names) × (result.1.seen ≡ true) }
     {
         let ReadEnd { parts } = self;
         let ReadParts {

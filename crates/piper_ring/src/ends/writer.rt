@@ -45,7 +45,7 @@ impl WriteEnd {
     ghost use Rattle.piper_ring.specs.WriteView.{SameWriteEnd, HasMoreRoom, SameButTold, SameButSaw, SameButHeard, MayBeUnread, Lendable};
     ghost use Rattle.piper_ring.specs.LendsBuffer.{lends_buffer};
     ghost use Rattle.std.specs.Borrow.{sem};
-    ghost use Rattle.piper_ring.specs.Shared.{flag};
+    ghost use Rattle.piper_ring.specs.Shared.{flag, ring_of};
 
     /// The capacity of the ring.
     pub fn capacity(&self) -> usize
@@ -112,7 +112,7 @@ impl WriteEnd {
 
     /// Evidence of what was published, for the other end.
     pub fn mark(&self) -> WriteMark
-        ensures ring { result.names ≡ self.now.ring.1.1 }
+        ensures ring { result.names ≡ self.now.ring.names }
         ensures bytes { result.bytes ≡ self.now.sent }
         ensures shut { result.shut ≡ self.now.shut }
     {
@@ -122,7 +122,7 @@ impl WriteEnd {
     /// From now on it knows what the mark reports: a reload finds at least the room that was given
     /// back before it.
     pub fn heed(&mut self, mark: &ReadMark)
-        requires { mark.now.names ≡ self.old.ring.1.1 }
+        requires { mark.now.names ≡ self.old.ring.names }
         ensures told { self.new.told ≡ max self.old.told mark.now.count }
         ensures kept { SameButTold self.old self.new }
     {
@@ -132,7 +132,7 @@ impl WriteEnd {
     /// From now on it knows that the reader's end left: the pipe counts as seen closed. And it
     /// knows of all that was consumed.
     pub fn heed_last(&mut self, mark: &LastReadMark)
-        requires { mark.now.consumed.names ≡ self.old.ring.1.1 }
+        requires { mark.now.consumed.names ≡ self.old.ring.names }
         ensures saw { self.new.saw ≡ true }
         ensures told { self.new.told ≡ max self.old.told mark.now.consumed.count }
         ensures kept { SameButHeard self.old self.new }
@@ -155,7 +155,7 @@ impl WriteEnd {
     /// `reload`, with evidence of what was consumed besides: it finds that room, too.
     pub(crate) fn reload_knowing(&mut self, more: &ReadMark)
         requires none { self.old.room ≡ 0 }
-        requires ring { more.now.names ≡ self.old.ring.1.1 }
+        requires ring { more.now.names ≡ self.old.ring.names }
         ensures more { more.now.count + self.old.capacity ≤ length self.new.sent + self.new.room }
         ensures fresh { self.old.told + self.old.capacity ≤ length self.new.sent + self.new.room }
         ensures kept { HasMoreRoom self.old self.new }
@@ -181,7 +181,7 @@ impl WriteEnd {
     /// `look_closed`, by an end that has not seen the pipe closed, with evidence of what the reader
     /// did: it finds that.
     pub(crate) fn look_closed_knowing(&mut self, more: &Saw) -> bool
-        requires ring { more.now.names ≡ self.old.ring.1.1 }
+        requires ring { more.now.names ≡ self.old.ring.names }
         requires open { self.old.saw ≡ false }
         ensures more { flag more.now.seen ≤ flag self.new.saw }
         ensures saw { result ≡ self.new.saw }
@@ -284,7 +284,7 @@ impl WriteEnd {
     /// The answer is evidence, for the reader's end, of all that was ever published, and that the
     /// pipe is closed after it.
     pub fn finish(self) -> WriteMark
-        ensures ring { result.names ≡ self.ring.1.1 }
+        ensures ring { result.names ≡ self.ring.names }
         ensures bytes { result.bytes ≡ self.sent }
         ensures shut { result.shut ≡ true }
     {
@@ -296,7 +296,7 @@ impl WriteEnd {
 
     /// Closes the pipe, since this end is about to leave.
     pub(crate) fn close(self) -> LeavingWriter
-        ensures ring { (result.seat.words, (result.seat.at, result.seat.names)) ≡ self.ring }
+        ensures ring { ring_of result.seat.words result.seat.at result.seat.names ≡ self.ring }
         ensures sent { result.seat.sent ≡ self.sent }
     {
         let WriteEnd { parts } = self;

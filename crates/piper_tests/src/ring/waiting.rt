@@ -29,7 +29,7 @@ struct Reading {
     end: ReadEnd,
     slots: ReadRegistrations,
     places: Arc<Places>,
-    ghost of_one_ring: { slots.names ≡ end.ring.1.1 },
+    ghost of_one_ring: { slots.names ≡ end.ring.names },
     ghost reader: { (arc_value places).reader ≡ slots.names.reader_place },
     ghost writer: { (arc_value places).writer ≡ slots.names.writer_place },
 }
@@ -40,7 +40,7 @@ struct Writing {
     end: WriteEnd,
     slots: WriteRegistrations,
     places: Arc<Places>,
-    ghost of_one_ring: { slots.names ≡ end.ring.1.1 },
+    ghost of_one_ring: { slots.names ≡ end.ring.names },
     ghost reader: { (arc_value places).reader ≡ slots.names.reader_place },
 }
 

@@ -18,7 +18,7 @@ impl ReadEnd {
         slots: &mut ReadRegistrations,
         place: &TokenCell<Option<T>>,
     ) -> Option<T>
-        requires ring { slots.old.names ≡ self.now.ring.1.1 }
+        requires ring { slots.old.names ≡ self.now.ring.names }
         requires place { place.now ≡ slots.old.names.reader_place }
         ensures back { IsSome result → (slots.old.owns ≡ false) × (slots.new.owns ≡ true) }
         ensures none { result ≡ None → slots.new ≡ slots.old }
@@ -41,7 +41,7 @@ impl ReadEnd {
     /// Whether the place of this end's waker is with it: it takes back a place that the writer
     /// handed back.
     pub fn reclaim(&self, slots: &mut ReadRegistrations) -> bool
-        requires { slots.old.names ≡ self.now.ring.1.1 }
+        requires { slots.old.names ≡ self.now.ring.names }
         ensures owns { result ≡ slots.new.owns }
         ensures stays { slots.old.owns ≡ true → IsTrue result }
         ensures refused { IsFalse result → slots.new ≡ slots.old }
@@ -63,7 +63,7 @@ impl ReadEnd {
     /// Whether this end's waker is still registered in its slot. A waker that the writer took is
     /// not asked for again until this end registers anew.
     pub fn is_registered(&self, slots: &mut ReadRegistrations) -> bool
-        requires { slots.old.names ≡ self.now.ring.1.1 }
+        requires { slots.old.names ≡ self.now.ring.names }
         ensures nowhere { slots.old.owns ≡ true → IsFalse result }
         ensures kept { slots.new ≡ slots.old }
     {
@@ -82,7 +82,7 @@ impl ReadEnd {
         place: &TokenCell<Option<T>>,
         waker: T,
     )
-        requires ring { slots.old.names ≡ self.now.ring.1.1 }
+        requires ring { slots.old.names ≡ self.now.ring.names }
         requires place { place.now ≡ slots.old.names.reader_place }
         requires owned { slots.old.owns ≡ true }
         ensures { Registers slots.old slots.new }
@@ -105,7 +105,7 @@ impl ReadEnd {
         place: &TokenCell<Option<T>>,
         waker: T,
     ) -> Result<Option<T>, T>
-        requires ring { slots.old.names ≡ self.now.ring.1.1 }
+        requires ring { slots.old.names ≡ self.now.ring.names }
         requires place { place.now ≡ slots.old.names.reader_place }
         ensures registered { IfOk result (λ _. Registers slots.old slots.new) }
         ensures refused { IfErr result (λ _. slots.new ≡ slots.old) }
@@ -128,7 +128,7 @@ impl ReadEnd {
     /// last check of the slot ahead of the registration.
     #[inline(always)]
     pub fn reload_after(&mut self, slots: &ReadRegistrations)
-        requires ring { slots.now.names ≡ self.old.ring.1.1 }
+        requires ring { slots.now.names ≡ self.old.ring.names }
         requires none { length self.old.known ≡ 0 }
         ensures after { length slots.now.bytes ≤ length (self.new.taken ++ self.new.known) }
         ensures fresh { self.old.told ≤ length (self.new.taken ++ self.new.known) }
@@ -143,7 +143,7 @@ impl ReadEnd {
     /// before its last check of the slot ahead of the registration.
     #[inline(always)]
     pub fn look_closed_after(&mut self, slots: &ReadRegistrations) -> bool
-        requires { slots.now.names ≡ self.old.ring.1.1 }
+        requires { slots.now.names ≡ self.old.ring.names }
         ensures after { flag slots.now.shut ≤ flag self.new.saw }
         ensures saw { result ≡ self.new.saw }
         ensures stays { flag self.old.saw ≤ flag self.new.saw }
@@ -162,7 +162,7 @@ impl ReadEnd {
         place: &TokenCell<Option<T>>,
         waker: T,
     ) -> bool
-        requires ring { slots.old.names ≡ self.old.ring.1.1 }
+        requires ring { slots.old.names ≡ self.old.ring.names }
         requires place { place.now ≡ slots.old.names.reader_place }
         requires none { length self.old.known ≡ 0 }
         ensures pending { IsTrue result → IsPending self.new slots.new }
@@ -182,7 +182,7 @@ impl ReadEnd {
     /// Returns `true` where it isn't.
     #[inline(always)]
     pub fn nobody_waits(&self, slots: &mut ReadRegistrations) -> bool
-        requires { slots.old.names ≡ self.now.ring.1.1 }
+        requires { slots.old.names ≡ self.now.ring.names }
         ensures rests { IsTrue result → IsReaderAtRest self.now slots.new }
         ensures found { IsFalse result → slots.new ≡ slots.old }
         ensures none { slots.new.taken ≡ slots.old.taken }
@@ -195,7 +195,7 @@ impl ReadEnd {
     /// After all that this end consumed, takes the writer's ticket where it is registered in its
     /// slot. Returns the waker that it put there, and its place is handed back.
     pub fn take<T>(&self, slots: &mut ReadRegistrations, place: &TokenCell<Option<T>>) -> Option<T>
-        requires ring { slots.old.names ≡ self.now.ring.1.1 }
+        requires ring { slots.old.names ≡ self.now.ring.names }
         requires place { place.now ≡ slots.old.names.writer_place }
         ensures rests { IsReaderAtRest self.now slots.new }
         ensures none { result ≡ None → slots.new.taken ≡ slots.old.taken }
@@ -209,7 +209,7 @@ impl ReadEnd {
     /// Checks after all that this end consumed whether the writer is registered in its slot, and
     /// takes its ticket if so. Returns whether it was.
     pub fn wake<T: Drop>(&self, slots: &mut ReadRegistrations, place: &TokenCell<Option<T>>) -> bool
-        requires ring { slots.old.names ≡ self.now.ring.1.1 }
+        requires ring { slots.old.names ≡ self.now.ring.names }
         requires place { place.now ≡ slots.old.names.writer_place }
         ensures rests { IsReaderAtRest self.now slots.new }
         ensures none { IsFalse result → slots.new.taken ≡ slots.old.taken }
@@ -228,9 +228,9 @@ impl ReadEnd {
         slots: &mut ReadRegistrations,
         place: &TokenCell<Option<T>>,
     ) -> (LastReadMark, Option<T>)
-        requires ring { slots.old.names ≡ self.ring.1.1 }
+        requires ring { slots.old.names ≡ self.ring.names }
         requires place { place.now ≡ slots.old.names.writer_place }
-        ensures ring { result.0.consumed.names ≡ self.ring.1.1 }
+        ensures ring { result.0.consumed.names ≡ self.ring.names }
         ensures count { result.0.consumed.count ≡ length self.taken }
         ensures looked { (slots.new.count ≡ length self.taken) × (slots.new.over ≡ true) }
         ensures none { result.1 ≡ None → slots.new.taken ≡ slots.old.taken }
@@ -252,8 +252,8 @@ impl ReadEnd {
         writer: &WriteEnd,
         writer_slots: &mut WriteRegistrations,
     )
-        requires { (writer.now.ring ≡ self.now.ring) × (slots.old.names ≡ self.now.ring.1.1)
-            × (writer_slots.old.names ≡ self.now.ring.1.1) }
+        requires { (writer.now.ring ≡ self.now.ring) × (slots.old.names ≡ self.now.ring.names)
+            × (writer_slots.old.names ≡ self.now.ring.names) }
         ensures reader { IsPending self.now slots.old → HasNews self.now writer_slots.old
             → writer_slots.old.taken ≡ slots.old.tickets }
         ensures writer { IsWriterPending writer.now writer_slots.old
@@ -269,10 +269,10 @@ impl ReadEnd {
     /// end waits, and the writer stored something since and checked the slot, its last ticket was
     /// taken.
     pub fn meet_finished(&self, slots: &mut ReadRegistrations, left: &mut WriteRegistrations)
-        requires { (slots.old.names ≡ self.now.ring.1.1) × (left.old.names ≡ self.now.ring.1.1) }
+        requires { (slots.old.names ≡ self.now.ring.names) × (left.old.names ≡ self.now.ring.names) }
         ensures reader { IsPending self.now slots.old → HasNews self.now left.old
             → left.old.taken ≡ slots.old.tickets }
-        ensures capacity { self.now.capacity ≡ self.now.ring.1.1.capacity }
+        ensures capacity { self.now.capacity ≡ self.now.ring.names.capacity }
         ensures kept { (slots.new ≡ slots.old) × (left.new ≡ left.old) }
     {
         let seat = &self.parts.seat;

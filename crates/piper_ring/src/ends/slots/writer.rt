@@ -17,7 +17,7 @@ impl WriteEnd {
         slots: &mut WriteRegistrations,
         place: &TokenCell<Option<T>>,
     ) -> Option<T>
-        requires ring { slots.old.names ≡ self.now.ring.1.1 }
+        requires ring { slots.old.names ≡ self.now.ring.names }
         requires place { place.now ≡ slots.old.names.writer_place }
         ensures back { IsSome result → (slots.old.owns ≡ false) × (slots.new.owns ≡ true) }
         ensures none { result ≡ None → slots.new ≡ slots.old }
@@ -40,7 +40,7 @@ impl WriteEnd {
     /// Whether the place of this end's waker is with it: it takes back a place that the reader
     /// handed back.
     pub fn reclaim(&self, slots: &mut WriteRegistrations) -> bool
-        requires { slots.old.names ≡ self.now.ring.1.1 }
+        requires { slots.old.names ≡ self.now.ring.names }
         ensures owns { result ≡ slots.new.owns }
         ensures stays { slots.old.owns ≡ true → IsTrue result }
         ensures refused { IsFalse result → slots.new ≡ slots.old }
@@ -62,7 +62,7 @@ impl WriteEnd {
     /// Whether this end's waker is still registered in its slot. A waker that the reader took is
     /// not asked for again until this end registers anew.
     pub fn is_registered(&self, slots: &mut WriteRegistrations) -> bool
-        requires { slots.old.names ≡ self.now.ring.1.1 }
+        requires { slots.old.names ≡ self.now.ring.names }
         ensures nowhere { slots.old.owns ≡ true → IsFalse result }
         ensures kept { slots.new ≡ slots.old }
     {
@@ -81,7 +81,7 @@ impl WriteEnd {
         place: &TokenCell<Option<T>>,
         waker: T,
     )
-        requires ring { slots.old.names ≡ self.now.ring.1.1 }
+        requires ring { slots.old.names ≡ self.now.ring.names }
         requires place { place.now ≡ slots.old.names.writer_place }
         requires owned { slots.old.owns ≡ true }
         ensures { WriterRegisters slots.old slots.new }
@@ -106,7 +106,7 @@ impl WriteEnd {
         place: &TokenCell<Option<T>>,
         waker: T,
     ) -> Result<Option<T>, T>
-        requires ring { slots.old.names ≡ self.now.ring.1.1 }
+        requires ring { slots.old.names ≡ self.now.ring.names }
         requires place { place.now ≡ slots.old.names.writer_place }
         ensures registered { IfOk result (λ _. WriterRegisters slots.old slots.new) }
         ensures refused { IfErr result (λ _. slots.new ≡ slots.old) }
@@ -129,7 +129,7 @@ impl WriteEnd {
     /// back before its last check of the slot ahead of the registration.
     #[inline(always)]
     pub fn reload_after(&mut self, slots: &WriteRegistrations)
-        requires ring { slots.now.names ≡ self.old.ring.1.1 }
+        requires ring { slots.now.names ≡ self.old.ring.names }
         requires none { self.old.room ≡ 0 }
         ensures after { slots.now.count + self.old.capacity
             ≤ length self.new.sent + self.new.room }
@@ -144,7 +144,7 @@ impl WriteEnd {
     /// registration.
     #[inline(always)]
     pub fn look_closed_after(&mut self, slots: &WriteRegistrations) -> bool
-        requires ring { slots.now.names ≡ self.old.ring.1.1 }
+        requires ring { slots.now.names ≡ self.old.ring.names }
         requires open { self.old.saw ≡ false }
         ensures after { flag slots.now.over ≤ flag self.new.saw }
         ensures saw { result ≡ self.new.saw }
@@ -162,7 +162,7 @@ impl WriteEnd {
         place: &TokenCell<Option<T>>,
         waker: T,
     ) -> bool
-        requires ring { slots.old.names ≡ self.old.ring.1.1 }
+        requires ring { slots.old.names ≡ self.old.ring.names }
         requires place { place.now ≡ slots.old.names.writer_place }
         requires none { self.old.room ≡ 0 }
         requires open { self.old.saw ≡ false }
@@ -183,7 +183,7 @@ impl WriteEnd {
     /// `true` where it isn't.
     #[inline(always)]
     pub fn nobody_waits(&self, slots: &mut WriteRegistrations) -> bool
-        requires { slots.old.names ≡ self.now.ring.1.1 }
+        requires { slots.old.names ≡ self.now.ring.names }
         ensures rests { IsTrue result → IsAtRest self.now slots.new }
         ensures found { IsFalse result → slots.new ≡ slots.old }
         ensures none { slots.new.taken ≡ slots.old.taken }
@@ -195,7 +195,7 @@ impl WriteEnd {
     /// After all that this end stored, takes the reader's ticket where it is registered in its
     /// slot. Returns the waker that it put there, and its place is handed back.
     pub fn take<T>(&self, slots: &mut WriteRegistrations, place: &TokenCell<Option<T>>) -> Option<T>
-        requires ring { slots.old.names ≡ self.now.ring.1.1 }
+        requires ring { slots.old.names ≡ self.now.ring.names }
         requires place { place.now ≡ slots.old.names.reader_place }
         ensures rests { IsAtRest self.now slots.new }
         ensures none { result ≡ None → slots.new.taken ≡ slots.old.taken }
@@ -212,7 +212,7 @@ impl WriteEnd {
         slots: &mut WriteRegistrations,
         place: &TokenCell<Option<T>>,
     ) -> bool
-        requires ring { slots.old.names ≡ self.now.ring.1.1 }
+        requires ring { slots.old.names ≡ self.now.ring.names }
         requires place { place.now ≡ slots.old.names.reader_place }
         ensures rests { IsAtRest self.now slots.new }
         ensures none { IsFalse result → slots.new.taken ≡ slots.old.taken }
@@ -231,9 +231,9 @@ impl WriteEnd {
         slots: &mut WriteRegistrations,
         place: &TokenCell<Option<T>>,
     ) -> (WriteMark, Option<T>)
-        requires ring { slots.old.names ≡ self.ring.1.1 }
+        requires ring { slots.old.names ≡ self.ring.names }
         requires place { place.now ≡ slots.old.names.reader_place }
-        ensures ring { result.0.names ≡ self.ring.1.1 }
+        ensures ring { result.0.names ≡ self.ring.names }
         ensures bytes { result.0.bytes ≡ self.sent }
         ensures shut { result.0.shut ≡ true }
         ensures looked { (slots.new.bytes ≡ self.sent) × (slots.new.shut ≡ true) }
@@ -252,10 +252,10 @@ impl WriteEnd {
     /// end waits, and the reader stored something since and checked the slot, its last ticket was
     /// taken.
     pub fn meet_finished(&self, slots: &mut WriteRegistrations, left: &mut ReadRegistrations)
-        requires { (slots.old.names ≡ self.now.ring.1.1) × (left.old.names ≡ self.now.ring.1.1) }
+        requires { (slots.old.names ≡ self.now.ring.names) × (left.old.names ≡ self.now.ring.names) }
         ensures writer { IsWriterPending self.now slots.old → HasRoomNews self.now left.old
             → left.old.taken ≡ slots.old.tickets }
-        ensures capacity { self.now.capacity ≡ self.now.ring.1.1.capacity }
+        ensures capacity { self.now.capacity ≡ self.now.ring.names.capacity }
         ensures kept { (slots.new ≡ slots.old) × (left.new ≡ left.old) }
     {
         let seat = &self.parts.seat;

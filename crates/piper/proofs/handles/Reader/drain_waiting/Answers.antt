@@ -12,7 +12,7 @@ returns-then-yields-clause-drained g c =
 
 pub returns-in-Err-clause-drained : goal.returns-in-Err-clause-drained
 returns-in-Err-clause-drained g c =
-    drains_unfound _ _ _ c.in-Err.told _ _ _ g.met.W.WriteLike.takes_nothing c.look_to_drain.ensures.looked c.in-Err.ensures.none
+    drains_unfound _ _ _ c.in-Err.outcome _ _ _ g.met.W.WriteLike.takes_nothing c.look_to_drain.ensures.looked c.in-Err.ensures.none
 
 pub returns-clause-drained : goal.returns-clause-drained
 returns-clause-drained g c =

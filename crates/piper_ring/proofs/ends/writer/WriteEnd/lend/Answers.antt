@@ -6,6 +6,7 @@ use Rattle.piper_protocol.specs.LendBound.{lend_bound}
 use Rattle.piper_protocol.specs.WriterIndices.{WriterIndices, room_in, left_in}
 use Rattle.piper_ring.specs.Lends.{written}
 use Rattle.piper_ring.specs.LendsBuffer.{with_lent}
+use Rattle.piper_ring.specs.Shared.{ring_of}
 use Rattle.piper_ring.specs.WriteView.{WriteView, Lendable, either, write_view, write_view_of}
 use Rattle.piper_ring.proofs.Indices.{offset_at}
 use Rattle.piper_ring.proofs.WriterFacts.{sent_below, room_apart, lends_within, lends_none, lends_all}
@@ -36,7 +37,7 @@ returns c = let e = c.self.inside.parts in let i = c.self.invariant in let w = e
     let room : room_in w ≡ e.seat.limit - s = room_apart e i in let left : left_in w ≡ cap - from = ap (λ (k : ℕ). cap - k) (sym c.front-from.ensures.value) in
     let may : Lendable (write_view_of e) c.args.max len = ((λ shut. lends_none c.args.max w len count (i.closed ∙ shut)), omega arith, λ open_still. let all = lends_all c.args.max w len count (i.closed ∙ open_still) in omega arith) in
     let told : Lendable c.args.self.now c.args.max len = subst (λ (v : WriteView). Lendable v c.args.max len) c.self.view_is may in (
-      (refl, λ ws. (λ j. write_view (e.seat.words, (e.seat.at, e.seat.names)) (kept j) e.seat.sent (e.seat.limit - s) (written c.slice_mut.result.now ws) e.seat.shut e.told.count (either e.seat.shut e.saw.seen)) ∙ ap (λ (v : WriteView). with_lent v c.slice_mut.result.now ws) c.self.view_is),
+      (refl, λ ws. (λ j. write_view (ring_of e.seat.words e.seat.at e.seat.names) (kept j) e.seat.sent (e.seat.limit - s) (written c.slice_mut.result.now ws) e.seat.shut e.told.count (either e.seat.shut e.saw.seen)) ∙ ap (λ (v : WriteView). with_lent v c.slice_mut.result.now ws) c.self.view_is),
       record {
         writes = tt;
         length = subst (λ (k : ℕ). Lendable c.args.self.now c.args.max k) (sym long) told;
