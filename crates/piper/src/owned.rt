@@ -66,7 +66,7 @@ impl OwnedReader {
         &mut self.reader
     }
 
-    /// The reader, to be checked.
+    /// The reader, by a shared reference.
     pub fn get_ref(&self) -> &Reader
         ensures { result.now ≡ self.now.reader }
     {
@@ -100,7 +100,7 @@ impl OwnedWriter {
         &mut self.writer
     }
 
-    /// The writer, to be checked.
+    /// The writer, by a shared reference.
     pub fn get_ref(&self) -> &Writer
         ensures { result.now ≡ self.now.writer }
     {

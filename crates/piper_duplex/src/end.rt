@@ -74,7 +74,7 @@ impl End {
     }
 
     /// Both handles, each for itself: for two tasks, or for a reader of lines over the one and
-    /// sends it back through the other.
+    /// answers through the other.
     pub fn into_halves(self) -> (Reader, Writer)
         ensures reader { result.0 ≡ self.reader }
         ensures writer { result.1 ≡ self.writer }

@@ -163,7 +163,8 @@ impl Reader {
             Draws (0 < found_len self.old.end self.new.end) result self.old.rng self.new.rng }
         ensures undrawn { cx.entry ≡ None →
             Undrawn (0 < found_len self.old.end self.new.end) result self.old.rng self.new.rng }
-        ensures place { cx.entry ≡ None → SameReaderPlace self.old.registrations self.new.registrations }
+        ensures place { cx.entry ≡ None →
+            SameReaderPlace self.old.registrations self.new.registrations }
         ensures granted { cx.entry ≡ None → OnMemory result ⊥ }
         ensures woke { NotifiesWriter self.old → NotifiesWriter self.new }
         ensures slots { self.new.slots ≡ self.old.slots }

@@ -166,7 +166,8 @@ impl Writer {
             Draws (FoundRoom result self.new.end) result self.old.rng self.new.rng }
         ensures undrawn { cx.entry ≡ None →
             Undrawn (FoundRoom result self.new.end) result self.old.rng self.new.rng }
-        ensures place { cx.entry ≡ None → SameWriterPlace self.old.registrations self.new.registrations }
+        ensures place { cx.entry ≡ None →
+            SameWriterPlace self.old.registrations self.new.registrations }
         ensures granted { cx.entry ≡ None → OnMemory result ⊥ }
         ensures lent { self.new.end.lent ≡ [] }
         ensures woke { NotifiesReader self.old → NotifiesReader self.new }

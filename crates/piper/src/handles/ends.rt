@@ -57,8 +57,8 @@ impl Reader {
         ensures same { KnowsEnd self.old.end → self.new.end.all ≡ self.old.end.all }
         ensures reader { ReaderRefreshed self.old.end self.new.end }
         ensures writer { WriterRefreshed other.old.end other.new.end }
-        ensures reader_woken { IsPending self.old.end self.old.registrations → NotifiesReader other.old
-            → ReaderIsRemembered self.old self.new other.old }
+        ensures reader_woken { IsPending self.old.end self.old.registrations
+            → NotifiesReader other.old → ReaderIsRemembered self.old self.new other.old }
         ensures writer_woken { IsWriterPending other.old.end other.old.registrations
             → NotifiesWriter self.old → WriterIsRemembered other.old other.new self.old }
         ensures rest { SameReader self.old self.new × SameWriter other.old other.new }

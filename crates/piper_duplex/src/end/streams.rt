@@ -60,7 +60,8 @@ impl AsyncRead for End {
         ensures stays { self.old.reader.end.saw ≡ true → self.new.reader.end.saw ≡ true }
         ensures woke { NotifiesWriter self.old.reader → NotifiesWriter self.new.reader }
         ensures covered { OnPending result (Covers cx.new (λ s. s ≡ read_source self.new.reader)) }
-        ensures registered { OnPending result (ReaderRegistered self.old.reader self.new.reader cx.new) }
+        ensures registered { OnPending result
+            (ReaderRegistered self.old.reader self.new.reader cx.new) }
         ensures kept { Keeps cx.old cx.new }
         ensures rest { OnlyReads self.old self.new }
     {
@@ -95,7 +96,8 @@ impl AsyncBufRead for End {
         // said of the end as it is once the slice is given back
         ensures* lent { sem 𝓛 (Rests the_row self.entry
             (λ new. OnlyReads self.old new × ReaderLooked self.old.reader.end new.reader.end
-            × RegisteredAndWoke result self.old new cx.new × LendsPiece result self.old new cx.new)) }
+            × RegisteredAndWoke result self.old new cx.new
+            × LendsPiece result self.old new cx.new)) }
         ensures kept { Keeps cx.old cx.new }
     {
         match self.reader.poll(cx) {
@@ -152,7 +154,8 @@ impl AsyncWrite for End {
         ensures stays { self.old.writer.end.saw ≡ true → self.new.writer.end.saw ≡ true }
         ensures woke { NotifiesReader self.old.writer → NotifiesReader self.new.writer }
         ensures covered { OnPending result (Covers cx.new (λ s. s ≡ write_source self.new.writer)) }
-        ensures registered { OnPending result (WriterRegistered self.old.writer self.new.writer cx.new) }
+        ensures registered { OnPending result
+            (WriterRegistered self.old.writer self.new.writer cx.new) }
         ensures kept { Keeps cx.old cx.new }
         ensures rest { OnlyWrites self.old self.new }
     {

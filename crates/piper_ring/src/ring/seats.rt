@@ -376,7 +376,8 @@ impl WriteSeat {
     pub(crate) fn store_tail(&mut self, bytes: Places, tail: u64)
         requires { BeginsAt self.old.at self.old.names.capacity (length self.old.sent) bytes
             × (length self.old.sent + length bytes.bytes ≤ self.old.limit)
-            × (self.old.shut ≡ true → bytes.bytes ≡ []) × (tail ≡ position_of self.old.names.capacity
+            × (self.old.shut ≡ true → bytes.bytes ≡ [])
+            × (tail ≡ position_of self.old.names.capacity
             (length self.old.sent + length bytes.bytes)) }
         ensures { self.new ≡ record self.old { sent = self.old.sent ++ bytes.bytes } }
     {

@@ -266,8 +266,8 @@ impl ReadSeat {
             × IsTokenOf self.now.names.reader_place true true right }
         ensures ring { slot.new.names ≡ slot.old.names }
         ensures mark { result.names ≡ self.now.names }
-        ensures is_registered { PublishesWaker Stream (of_reader_waits slot.old) (result.bytes, result.shut)
-            0 (of_reader_waits slot.new) }
+        ensures is_registered { PublishesWaker Stream (of_reader_waits slot.old)
+            (result.bytes, result.shut) 0 (of_reader_waits slot.new) }
     {
         let Token { mark: _ } = right;
         // SAFETY: the seat owns or shares the ring's words (`also_owns`, `also_shares`), which live

@@ -269,7 +269,8 @@ impl ReadEnd {
     /// end waits, and the writer stored something since and checked the slot, its last ticket was
     /// taken.
     pub fn meet_finished(&self, slots: &mut ReadRegistrations, left: &mut WriteRegistrations)
-        requires { (slots.old.names ≡ self.now.ring.names) × (left.old.names ≡ self.now.ring.names) }
+        requires { (slots.old.names ≡ self.now.ring.names)
+            × (left.old.names ≡ self.now.ring.names) }
         ensures reader { IsPending self.now slots.old → HasNews self.now left.old
             → left.old.taken ≡ slots.old.tickets }
         ensures capacity { self.now.capacity ≡ self.now.ring.names.capacity }

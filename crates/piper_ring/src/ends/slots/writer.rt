@@ -252,7 +252,8 @@ impl WriteEnd {
     /// end waits, and the reader stored something since and checked the slot, its last ticket was
     /// taken.
     pub fn meet_finished(&self, slots: &mut WriteRegistrations, left: &mut ReadRegistrations)
-        requires { (slots.old.names ≡ self.now.ring.names) × (left.old.names ≡ self.now.ring.names) }
+        requires { (slots.old.names ≡ self.now.ring.names)
+            × (left.old.names ≡ self.now.ring.names) }
         ensures writer { IsWriterPending self.now slots.old → HasRoomNews self.now left.old
             → left.old.taken ≡ slots.old.tickets }
         ensures capacity { self.now.capacity ≡ self.now.ring.names.capacity }
