@@ -4,6 +4,8 @@
 
 mod end;
 mod engine;
+mod owned;
 
 pub use end::{End, duplex};
 pub use engine::{Echoed, Ended, LineEcho, echo};
+pub use owned::{OwnedEnd, owned_duplex};

@@ -1,4 +1,5 @@
 //! Frames: through a small pipe, past the limit, and cut short.
+use crate::compare::{same, same_bytes};
 use crate::polls::{Polled, feed, poll_frame, skip_long, write_frame};
 use futures::test::MockTask;
 use piper::{Reader, Writer, pipe};
@@ -8,7 +9,6 @@ use rand_pcg::Pcg32;
 use std::alloc::{AllocError, Global};
 use std::process::Abort;
 use std::test::Fail;
-use test_assertions::{same, same_bytes};
 
 /// The most turns that a frame may take.
 const MOST_TURNS: u32 = 1_000;

@@ -1,5 +1,6 @@
 //! Lines and frames of a reader that is pending or fails at any one of its looks: nothing is lost,
 //! and the next poll goes on. So it does where memory is refused.
+use crate::compare::{same, same_bytes};
 use crate::halting::{Halt, Halting};
 use futures::task::{Context, Poll};
 use futures::test::MockTask;
@@ -8,7 +9,6 @@ use piper_lines::{Collected, Frames, Lines, poll_frames, poll_lines};
 use std::alloc::{AllocError, Global};
 use std::process::Abort;
 use std::test::Fail;
-use test_assertions::{same, same_bytes};
 
 /// The most polls that a text takes.
 const MOST_POLLS: u32 = 8;

@@ -6,6 +6,8 @@
 #[cfg(test)]
 mod broken;
 #[cfg(test)]
+mod compare;
+#[cfg(test)]
 mod duplex;
 #[cfg(test)]
 mod frames;

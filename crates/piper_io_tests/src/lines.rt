@@ -1,4 +1,5 @@
 //! Lines: their answers one by one, and random texts against a plain split of the whole.
+use crate::compare::{same, same_bytes};
 use crate::polls::{Polled, feed, poll_line, write_line};
 use futures::task::Poll;
 use futures::test::MockTask;
@@ -11,7 +12,6 @@ use rand_pcg::Pcg32;
 use std::alloc::{AllocError, Global};
 use std::process::Abort;
 use std::test::Fail;
-use test_assertions::{same, same_bytes};
 
 /// The most turns that a text may take.
 const MOST_TURNS: u32 = 10_000;

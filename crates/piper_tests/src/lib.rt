@@ -6,6 +6,7 @@
 #[cfg(test)]
 mod carries;
 #[cfg(test)]
+mod compare;
 #[cfg(test)]
 mod copies;
 #[cfg(test)]

@@ -1,5 +1,6 @@
 //! The codecs of `tokio_util` over a duplex stream whose pipes are shorter than a frame.
 
+use crate::compare::{confirm, same_bytes};
 use bytes::{Bytes, BytesMut};
 use futures::executor::block_on;
 use futures::future::join;
@@ -12,7 +13,6 @@ use std::process::Abort;
 use std::random::RandomSource;
 use std::sync::Wait;
 use std::{io, thread};
-use test_assertions::{confirm, same_bytes};
 use tokio::io::{AsyncRead, AsyncWrite};
 use tokio_util::codec::{Framed, FramedRead, FramedWrite, LengthDelimitedCodec, LinesCodec};
 

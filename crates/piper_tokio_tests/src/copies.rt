@@ -1,6 +1,7 @@
 //! Copies of `tokio` through pipes of few bytes, whose other side is a thread.
 ghost use Rattle.std.specs.Prelude.{◌<◌, ◌*◌, ◌^◌};
 
+use crate::compare::{confirm, same_bytes};
 use crate::pattern::{Compared, Made};
 use futures::executor::block_on;
 use piper::{Reader, pipe};
@@ -12,7 +13,6 @@ use std::random::RandomSource;
 use std::sync::Wait;
 use std::thread::{JoinHandle, Threads};
 use std::{io, thread};
-use test_assertions::{confirm, same_bytes};
 use tokio::io::{AsyncBufRead, AsyncRead, AsyncWrite, copy, read_until};
 
 const TEXT: &[u8] = b"one\ntwo and three\n\nfour, without an end of line";

@@ -1,6 +1,7 @@
 //! A client and a server of HTTP over a duplex stream in place of a socket, so that a service is
 //! tried with no network.
 
+use crate::compare::{confirm, same_bytes};
 use bytes::Bytes;
 use futures::executor::block_on;
 use futures::future::{Ready, join};
@@ -18,7 +19,6 @@ use std::random::RandomSource;
 use std::sync::Wait;
 use std::test::Fail;
 use std::{io, thread};
-use test_assertions::{confirm, same_bytes};
 use tokio::io::{AsyncRead, AsyncWrite};
 
 /// The service that is tried: two pages, and 404 for all other paths.

@@ -7,6 +7,7 @@ mod blocking;
 #[cfg(test)]
 mod codecs;
 #[cfg(test)]
+mod compare;
 #[cfg(test)]
 mod copies;
 #[cfg(test)]

@@ -1,11 +1,11 @@
 //! What a reader shows of its known bytes, poll by poll.
 
+use crate::compare::{confirm, same_bytes};
 use futures::task::Poll;
 use futures::test::MockTask;
 use piper::{Writer, pipe};
 use piper_tokio::CompatReader;
 use std::process::Abort;
-use test_assertions::{confirm, same_bytes};
 use tokio::io::AsyncBufRead;
 
 /// All of these bytes go in.

@@ -1,13 +1,13 @@
 //! A client and a server of WebSocket over a duplex stream.
 
 use crate::blocking::Blocking;
+use crate::compare::same_bytes;
 use piper_duplex::duplex;
 use std::alloc::Global;
 use std::io::{Read, Write};
 use std::random::RandomSource;
 use std::test::Fail;
 use std::thread;
-use test_assertions::same_bytes;
 use tungstenite::handshake::client::request_of;
 use tungstenite::{Error, Message, Utf8Bytes, accept, client};
 

@@ -1,4 +1,5 @@
 //! The ends of a duplex stream on one thread.
+use crate::compare::same;
 use crate::polls::{Polled, polled};
 use futures::test::MockTask;
 use piper::io::{AsyncRead, AsyncWrite};
@@ -7,7 +8,6 @@ use std::alloc::AllocGlobal;
 use std::process::Abort;
 use std::random::RandomSource;
 use std::sync::Wait;
-use test_assertions::same;
 
 /// How often a poll that yields is made again.
 const MOST_POLLS: u32 = 1_000;

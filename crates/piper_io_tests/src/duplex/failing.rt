@@ -1,5 +1,6 @@
 //! Echoes whose input or output fails.
 use crate::broken::{Broken, Full};
+use crate::compare::same;
 use piper_duplex::{Ended, echo};
 use std::alloc::AllocGlobal;
 use std::marker::Send;
@@ -7,7 +8,6 @@ use std::process::Abort;
 use std::random::RandomSource;
 use std::sync::Wait;
 use std::thread::Threads;
-use test_assertions::same;
 
 const TEXT: &[u8] = b"one\ntwo\nthree";
 

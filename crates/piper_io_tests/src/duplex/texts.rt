@@ -1,4 +1,5 @@
 //! Texts that go through the echo and come back.
+use crate::compare::same;
 use piper_duplex::{Ended, echo};
 use std::alloc::AllocGlobal;
 use std::marker::{Send, Sync};
@@ -7,7 +8,6 @@ use std::random::RandomSource;
 use std::sync::Wait;
 use std::test::Fail;
 use std::thread::Threads;
-use test_assertions::same;
 
 /// Holds how an echo ends, and what comes back, against what is wanted.
 fn comes_back<R>(rt: &R, words: &[String], text: &[u8], wanted: Ended, want: &[u8])

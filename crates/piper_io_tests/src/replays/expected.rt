@@ -1,10 +1,10 @@
 //! What a replay is expected to print, and how it is expected to end.
 
+use crate::compare::{same, same_bytes};
 use piper_interpreter::replay::{Ended, replay};
 use std::alloc::Global;
 use std::process::Abort;
 use std::test::Fail;
-use test_assertions::{same, same_bytes};
 
 /// The lines of a script, each with what it prints.
 pub const LINES: [(&str, &str); 5] = [

@@ -1,12 +1,12 @@
 //! Replays whose input or output fails, and wrong arguments.
 
 use crate::broken::{Broken, Full};
+use crate::compare::same_bytes;
 use crate::replays::expected::{LINES, expect_end, joined, words};
 use piper_interpreter::replay::replay;
 use std::alloc::Global;
 use std::process::Abort;
 use std::test::Fail;
-use test_assertions::same_bytes;
 
 /// What the lines print that lie whole in the first `count` bytes of the script.
 fn printed_before(alloc: Global, count: usize) -> Result<Vec<u8>, Fail> {

@@ -1,12 +1,12 @@
 //! What is written and flushed before a script is read on.
 
+use crate::compare::same;
 use crate::replays::expected::{LINES, expect_end};
 use piper_interpreter::replay::replay;
 use std::cell::Cell;
 use std::io;
 use std::io::{Read, Write};
 use std::test::Fail;
-use test_assertions::same;
 
 /// A reader that gives a line at each read, and notes how many bytes were flushed by then.
 #[derive(Drop)]

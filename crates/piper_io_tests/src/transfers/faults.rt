@@ -1,4 +1,5 @@
 //! Transfers between ends of which one call goes wrong.
+use crate::compare::same;
 use crate::transfers::faulty::{Fault, Input, Output};
 use piper_transfer::{Meter, Plain, Sizes, TransferError, transfer};
 use std::alloc::AllocGlobal;
@@ -9,7 +10,6 @@ use std::random::RandomSource;
 use std::sync::Wait;
 use std::thread::Threads;
 use std::time::Clock;
-use test_assertions::same;
 
 /// No call has this number.
 const NEVER: Fault = Fault {

@@ -1,6 +1,6 @@
 //! Sizes as they are written.
+use crate::compare::same;
 use piper_transfer::parse_size;
-use test_assertions::same;
 
 #[test]
 fn a_size_is_digits_and_perhaps_a_unit(rt: HostRuntime) {

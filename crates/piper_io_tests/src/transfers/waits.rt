@@ -1,9 +1,9 @@
 //! How long a transfer's meter says that a side waited.
+use crate::compare::same;
 use piper_transfer::{Destination, Meter, Sizes, Source, transfer};
 use std::sync::Wait;
 use std::time::{Clock, Duration};
 use std::{io, thread};
-use test_assertions::same;
 
 /// How many milliseconds the slow side sleeps, once.
 const SLEEP: u64 = 200;

@@ -1,14 +1,15 @@
 //! A duplex stream, and an echo of lines over one.
+use crate::compare::{confirm, ready, same};
 use crate::running::same_bytes;
 use futures::test::MockTask;
+use piper::io::AsyncBufRead;
 use piper::{OwnedReader, OwnedWriter, owned_pipe};
-use piper_duplex::{Echoed, Ended, LineEcho, duplex, echo};
+use piper_duplex::{Echoed, Ended, LineEcho, OwnedEnd, duplex, echo, owned_duplex};
 use piper_lines::Lines;
 use std::alloc::AllocGlobal;
 use std::process::Abort;
 use std::random::RandomSource;
 use std::test::Fail;
-use test_assertions::{ready, same};
 
 /// What the one end writes the other reads.
 fn halves(rt: &impl Abort, mut reader: OwnedReader, mut writer: OwnedWriter) {
@@ -33,6 +34,36 @@ fn bytes_go_both_ways(rt: HostRuntime) -> Result<(), Fail> {
     let (near, far) = duplex(alloc, 8, 8, 1)?;
     near.drop();
     far.drop();
+    Ok(())
+}
+
+/// An end that was dropped closes both ways.
+fn closes_both_ways(rt: &impl Abort, near: OwnedEnd, far: OwnedEnd) {
+    drop(near);
+    confirm(rt, far.reader().is_closed());
+    confirm(rt, far.writer().is_closed());
+}
+
+/// An owner goes into a closure, and what it wrote can be read after it was dropped.
+fn sends_and_goes(rt: &impl Abort, task: &MockTask, near: OwnedEnd, mut far: OwnedEnd) {
+    let send = move || {
+        let (_, mut writer) = near.into_halves();
+        writer.try_fill(b"ab")
+    };
+    same(rt, send(), 2);
+    let lent = task.enter(|cx| far
+        .poll_fill_buf(cx)
+        .map(|piece| piece.map(|piece| piece.len())));
+    ready(rt, lent, 2);
+}
+
+#[test]
+fn an_owned_end_moves_and_closes_where_it_is_dropped(rt: HostRuntime) -> Result<(), Fail> {
+    let (near, far) = owned_duplex(rt.alloc(), 8, 8)?;
+    closes_both_ways(&rt, near, far);
+    let task = MockTask::new(&rt)?;
+    let (near, far) = owned_duplex(rt.alloc(), 8, 8)?;
+    sends_and_goes(&rt, &task, near, far);
     Ok(())
 }
 

@@ -1,12 +1,12 @@
 //! How a pipe begins and ends, and what its sides can prove to each other.
 ghost use Rattle.piper.specs.Handles.{ArePair};
 
+use crate::compare::{confirm, same};
 use futures::task::Context;
 use futures::test::MockTask;
 use piper::{OwnedReader, OwnedWriter, Reader, Writer, pipe};
 use std::process::Abort;
 use std::test::Fail;
-use test_assertions::{confirm, same};
 
 /// The writer closes the pipe; what is unread can still be read.
 fn poll_close(rt: &impl Abort, cx: &mut Context<'_>, reader: &mut Reader, writer: &mut Writer) {

@@ -1,4 +1,5 @@
 //! Frames, read and written whole, with a header of any kind.
+use crate::compare::{confirm, ready, same};
 use crate::running::same_bytes;
 use futures::task::{Context, Poll};
 use futures::test::MockTask;
@@ -10,7 +11,6 @@ use piper_lines::{
 };
 use std::process::Abort;
 use std::test::Fail;
-use test_assertions::{confirm, ready, same};
 
 const TWO_BYTES: FrameHeader = FrameHeader::TwoBytes(ByteOrder::LittleEndian);
 

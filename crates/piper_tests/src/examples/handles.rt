@@ -1,5 +1,6 @@
 //! What both handles of a pipe do. An owner, as `owned_pipe` gives it, has all of it, too. Each
 //! example leaves the pipe empty.
+use crate::compare::{confirm, ready, same};
 use crate::running::same_bytes;
 use futures::task::Context;
 use futures::test::MockTask;
@@ -7,7 +8,6 @@ use piper::like::{ReadBytes, ReadLike, WriteBytes, WriteLike};
 use piper::{Reader, Writer, owned_pipe};
 use std::process::Abort;
 use std::test::Fail;
-use test_assertions::{confirm, ready, same};
 
 /// Bytes move as far as there is room, and as many as there are.
 fn try_fill_and_try_drain(rt: &impl Abort, reader: &mut Reader, writer: &mut Writer) {

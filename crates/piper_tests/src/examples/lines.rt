@@ -1,4 +1,5 @@
 //! Lines, read and written whole.
+use crate::compare::{confirm, ready, same};
 use crate::running::same_bytes;
 use futures::task::{Context, Poll};
 use futures::test::MockTask;
@@ -10,7 +11,6 @@ use piper_lines::{
 };
 use std::process::Abort;
 use std::test::Fail;
-use test_assertions::{confirm, ready, same};
 
 /// A text is written with what ends its line.
 fn write_line<W: AsyncWrite>(rt: &impl Abort, cx: &mut Context<'_>, writer: &mut W) {

@@ -1,4 +1,5 @@
 //! The traits of readers and writers that may be pending, and the copy between two of them.
+use crate::compare::{confirm, ready, same};
 use crate::running::same_bytes;
 use futures::task::{Context, Poll};
 use futures::test::MockTask;
@@ -7,7 +8,6 @@ use piper::like::{ReadLike, StdRead, StdWrite, WriteLike};
 use piper::owned_pipe;
 use std::process::Abort;
 use std::test::Fail;
-use test_assertions::{confirm, ready, same};
 
 /// Any writer and any reader of these traits, at the two sides of one pipe.
 fn poll_write_and_poll_read<R, W>(

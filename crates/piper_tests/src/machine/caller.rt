@@ -1,8 +1,8 @@
 //! What the contracts leave open: that there is memory, and that a list of steps is accepted.
+use crate::compare::same;
 use piper_machine::calls::{Call, Query, Side, SideState, Step};
 use piper_machine_examples::{len_alone, made_by_the_laws, through};
 use std::test::Fail;
-use test_assertions::same;
 
 #[test]
 fn bytes_come_out_as_they_went_in(rt: HostRuntime) -> Result<(), Fail> {

@@ -3,6 +3,7 @@ ghost use Rattle.std.specs.Prelude.{◌≡◌};
 ghost use Rattle.piper_protocol.specs.Index.{IsCapacity};
 ghost use Rattle.piper_machine.specs.Pipe.{fresh};
 
+use crate::compare::same;
 use piper_machine::machine::{Machine, run};
 use piper_protocol::bytes::Bytes;
 use piper_protocol::calls::{Call, Side, Step};
@@ -13,7 +14,6 @@ use piper_protocol::refusals::{RunRefusal, StepRefusal};
 use piper_protocol::scripted::{ActList, SourceAct};
 use std::alloc::Global;
 use std::process::Abort;
-use test_assertions::same;
 
 /// Every clone is granted.
 const GRANTED: Luck = Luck {

@@ -1,10 +1,10 @@
 //! What no contract says: that memory is granted, and what an error prints.
+use crate::compare::same;
 use piper_protocol::bytes::Bytes;
 use piper_protocol::calls::Side;
 use piper_protocol::events::{Answer, Event, Log, answered};
 use piper_protocol::memory::OutOfMemory;
 use std::test::Fail;
-use test_assertions::same;
 
 #[test]
 fn a_copy_has_the_bytes(rt: HostRuntime) -> Result<(), Fail> {

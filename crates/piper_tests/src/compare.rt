@@ -1,28 +1,21 @@
 //! What a test saw, compared with what it wants. A call of these costs the prover less than the
 //! branches of a macro at each place would.
-#![tactic(auto)]
-
 use futures::task::Poll;
 use std::fmt::Debug;
 use std::process::Abort;
 
 /// Fails unless what was seen is what is wanted.
-pub fn same<T: Debug + Drop + PartialEq>(rt: &impl Abort, seen: T, wanted: T) {
-    assert!(rt; seen == wanted, "{seen:?} in place of {wanted:?}");
-}
-
-/// Fails unless the bytes are those that are wanted.
-pub fn same_bytes(rt: &impl Abort, seen: &[u8], wanted: &[u8]) {
+pub(crate) fn same<T: Debug + Drop + PartialEq>(rt: &impl Abort, seen: T, wanted: T) {
     assert!(rt; seen == wanted, "{seen:?} in place of {wanted:?}");
 }
 
 /// Fails unless this is so.
-pub fn confirm(rt: &impl Abort, is_so: bool) {
+pub(crate) fn confirm(rt: &impl Abort, is_so: bool) {
     assert!(rt; is_so);
 }
 
 /// Fails unless the poll was ready with this value.
-pub fn ready<T, E>(rt: &impl Abort, seen: Poll<Result<T, E>>, wanted: T)
+pub(crate) fn ready<T, E>(rt: &impl Abort, seen: Poll<Result<T, E>>, wanted: T)
 where
     T: Debug + Drop + PartialEq,
     E: Drop,
