@@ -43,7 +43,7 @@ impl Halts {
 
 /// What a poll returned, if it did, and else one more halt. Where memory was refused it is none:
 /// the poll is made again.
-fn polled<A: Drop>(polled: Poll<Result<A, PipeError>>, halts: &mut Halts) -> Option<A> {
+fn reported<A: Drop>(polled: Poll<Result<A, PipeError>>, halts: &mut Halts) -> Option<A> {
     match polled {
         Poll::Ready(Ok(answer)) => return Some(answer),
         Poll::Ready(Err(PipeError::Memory)) => {}
@@ -64,7 +64,7 @@ fn lines_of(
     let mut found = Vec::new(alloc);
     for _ in 0..MOST_POLLS {
         let polled = task.enter(|cx| poll_lines(&mut lines, cx, &mut found, 100));
-        if let Some(rest) = polled(polled, halts) {
+        if let Some(rest) = reported(polled, halts) {
             found.push(rest)?;
             break;
         }
@@ -81,7 +81,7 @@ fn frames_of(
 ) -> Option<Collected> {
     for _ in 0..MOST_POLLS {
         let polled = task.enter(|cx| poll_frames(frames, cx, found, 2));
-        if let Some(ended) = polled(polled, halts) {
+        if let Some(ended) = reported(polled, halts) {
             return Some(ended);
         }
     }

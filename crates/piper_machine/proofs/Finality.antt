@@ -230,7 +230,7 @@ final p events lasts so_far = record { lasts = lasts; so_far = so_far; final = r
   where
     over : (before after : List Event) (e : Event) → events ≡ before ++ e ∷ after → ended_after (saw_closed Reader before) (ended_from false false before) e ≡ true → IsOver p after
     over before after e parts here =
-        let after = final-after false false before after e here (subst (λ (es : List Event). IsFinalFrom false false es) parts so_far) in
+        let following = final-after false false before after e here (subst (λ (es : List Event). IsFinalFrom false false es) parts so_far) in
         (following.0, (lasts.over (ap (λ (es : List Event). ended_from false false es) parts ∙ following.1)).unread)
 
     found : (before after : List Event) → events ≡ before ++ found_none ∷ after → saw_closed Reader before ≡ true → IsOver p after

@@ -19,7 +19,7 @@ use Rattle.piper_ring.proofs.ends.reader.ReadEnd.meet.Goals as goal
 
 pub sees-requires-clause-within : goal.sees-requires-clause-within
 sees-requires-clause-within c = let e = c.self.inside.parts in let i = c.self.invariant in let w = c.other.inside.parts in let o = c.other.invariant in let m = c.meet-arrived.ensures in
-    let names : w.seat.names ≡ e.seat.names = ap (λ (r : WriteView). r.ring.names) c.other.view_is ∙ ap (λ (r : Ring). r.1.1) c.requires ∙ sym (ap (λ (r : ReadView). r.ring.names) c.self.view_is) in
+    let names : w.seat.names ≡ e.seat.names = ap (λ (r : WriteView). r.ring.names) c.other.view_is ∙ ap (λ (r : Ring). r.names) c.requires ∙ sym (ap (λ (r : ReadView). r.ring.names) c.self.view_is) in
     let cap : w.indices.capacity ≡ e.indices.capacity = o.fits.0 ∙ ap (λ (z : Names). z.capacity) names ∙ sym i.fits.0 in
     let own : e.indices.capacity ≡ e.seat.names.capacity = i.fits.0 in let s : ℕ = length w.seat.sent in let below : s ≤ w.seat.limit = sent_below w o in
     let all : length e.seat.have + length c.meet-arrived.result.0.bytes ≡ s = sym (length-append e.seat.have c.meet-arrived.result.0.bytes) ∙ ap length m.published in let low : e.seat.head ≤ length e.seat.have = i.whole.0 in
@@ -29,7 +29,7 @@ sees-requires-clause-within c = let e = c.self.inside.parts in let i = c.self.in
 
 pub sees-requires-2-clause-lent : goal.sees-requires-2-clause-lent
 sees-requires-2-clause-lent c = let e = c.self.inside.parts in let i = c.self.invariant in let w = c.other.inside.parts in let o = c.other.invariant in let m = c.meet-arrived.ensures in let cap : ℕ = w.indices.capacity in
-    let names : w.seat.names ≡ e.seat.names = ap (λ (r : WriteView). r.ring.names) c.other.view_is ∙ ap (λ (r : Ring). r.1.1) c.requires ∙ sym (ap (λ (r : ReadView). r.ring.names) c.self.view_is) in
+    let names : w.seat.names ≡ e.seat.names = ap (λ (r : WriteView). r.ring.names) c.other.view_is ∙ ap (λ (r : Ring). r.names) c.requires ∙ sym (ap (λ (r : ReadView). r.ring.names) c.self.view_is) in
     let same : e.indices.capacity ≡ cap = i.fits.0 ∙ ap (λ (z : Names). z.capacity) (sym names) ∙ sym o.fits.0 in let own : cap ≡ e.seat.names.capacity = o.fits.0 ∙ ap (λ (z : Names). z.capacity) names in
     let s : ℕ = length w.seat.sent in let below : s ≤ w.seat.limit = sent_below w o in let turn : w.seat.limit + length c.meet-arrived.result.1.bytes ≡ e.seat.head + e.seat.names.capacity = m.room in
     let all : length e.seat.have + length c.meet-arrived.result.0.bytes ≡ s = sym (length-append e.seat.have c.meet-arrived.result.0.bytes) ∙ ap length m.published in let low : e.seat.head ≤ length e.seat.have = i.whole.0 in
@@ -41,7 +41,7 @@ sees-requires-2-clause-lent c = let e = c.self.inside.parts in let i = c.self.in
 pub invariant_of-self : goal.invariant_of-self
 invariant_of-self c = let e = c.self.inside.parts in let i = c.self.invariant in let w = c.other.inside.parts in let o = c.other.invariant in let m = c.meet-arrived.ensures in let s = m.reader in let k = c.join.ensures in let h = c.heed.ensures in let after = c.sees.ensures.after in
     let more : List ℕ = c.meet-arrived.result.0.bytes in let sent : List ℕ = w.seat.sent in let head : ℕ = e.seat.head in
-    let names : w.seat.names ≡ e.seat.names = ap (λ (r : WriteView). r.ring.names) c.other.view_is ∙ ap (λ (r : Ring). r.1.1) c.requires ∙ sym (ap (λ (r : ReadView). r.ring.names) c.self.view_is) in
+    let names : w.seat.names ≡ e.seat.names = ap (λ (r : WriteView). r.ring.names) c.other.view_is ∙ ap (λ (r : Ring). r.names) c.requires ∙ sym (ap (λ (r : ReadView). r.ring.names) c.self.view_is) in
     let cap : c.sees.new.self.capacity ≡ e.indices.capacity = ap (λ (r : ReaderIndices). r.capacity) after in let theirs : w.indices.capacity ≡ e.indices.capacity = o.fits.0 ∙ ap (λ (z : Names). z.capacity) names ∙ sym i.fits.0 in
     let all : length e.seat.have + length more ≡ length sent = sym (length-append e.seat.have more) ∙ ap length m.published in let counted : length e.seat.have ≡ head + length e.known.bytes = all_counted e.seat.have e.known.bytes head 0 i.whole.0 i.whole.1 in
     let grown : length c.join.new.self.bytes ≡ length e.known.bytes + length more = ap length (λ j. (k j).bytes) ∙ length-append e.known.bytes more in
@@ -63,7 +63,7 @@ invariant_of-self c = let e = c.self.inside.parts in let i = c.self.invariant in
 
 pub invariant_of-other : goal.invariant_of-other
 invariant_of-other c = let e = c.self.inside.parts in let i = c.self.invariant in let w = c.other.inside.parts in let o = c.other.invariant in let r = w.room in let m = c.meet-arrived.ensures in let s = m.writer in let k = c.join-2.ensures in let after = c.sees-2.ensures.after in
-    let names : w.seat.names ≡ e.seat.names = ap (λ (r : WriteView). r.ring.names) c.other.view_is ∙ ap (λ (r : Ring). r.1.1) c.requires ∙ sym (ap (λ (r : ReadView). r.ring.names) c.self.view_is) in
+    let names : w.seat.names ≡ e.seat.names = ap (λ (r : WriteView). r.ring.names) c.other.view_is ∙ ap (λ (r : Ring). r.names) c.requires ∙ sym (ap (λ (r : ReadView). r.ring.names) c.self.view_is) in
     let cap : c.sees-2.new.self.capacity ≡ w.indices.capacity = ap (λ (x : WriterIndices). x.capacity) after in let theirs : e.indices.capacity ≡ w.indices.capacity = i.fits.0 ∙ ap (λ (z : Names). z.capacity) (sym names) ∙ sym o.fits.0 in let own : e.indices.capacity ≡ e.seat.names.capacity = i.fits.0 in
     let more : List ℕ = c.meet-arrived.result.1.bytes in let head : ℕ = e.seat.head in let sl : ℕ = length w.seat.sent in
     let limit : c.meet-arrived.new.other.limit ≡ head + e.seat.names.capacity = (λ j. (s j).limit) in let turn : w.seat.limit + length more ≡ head + e.seat.names.capacity = m.room in let sent : length c.meet-arrived.new.other.sent ≡ sl = ap length (λ j. (s j).sent) in
