@@ -90,7 +90,7 @@ fn random_frames_come_whole_and_in_order(rt: HostRuntime) -> Result<(), Fail> {
 }
 
 #[test]
-fn the_end_inside_a_frame_is_reported_apart(rt: HostRuntime) -> Result<(), Fail> {
+fn the_end_inside_a_frame_is_distinguished(rt: HostRuntime) -> Result<(), Fail> {
     let task = MockTask::new(&rt)?;
     let alloc = rt.alloc();
     let (reader, mut writer) = pipe(alloc, 16, 1)?;

@@ -73,6 +73,6 @@ where
 }
 
 #[test]
-fn what_is_printed_reports_how_a_handle_is_registered_and_no_byte(rt: HostRuntime) {
+fn what_is_printed_is_the_state_of_a_handle_and_no_byte(rt: HostRuntime) {
     is_printed(&rt);
 }

@@ -10,7 +10,7 @@ use piper_futures::{close, copy, drain_into, fill_from, read_to_end, read_until,
 use piper_lines::{ByteOrder, FrameHeader, into_line_text};
 use piper_streams::{FrameSink, FrameStream, LineSink, LineStream, WriteSink};
 use std::alloc::AllocGlobal;
-use std::io;
+use std::io::{self, ErrorKind};
 use std::process::Abort;
 use std::random::RandomSource;
 use std::sync::Wait;
@@ -93,6 +93,14 @@ fn lines_of_a_sink_come_out_of_a_stream_in_order(rt: HostRuntime) {
     lines_pass(&rt);
 }
 
+/// The kind of the error that a stream gave, if it gave one that is no want of memory.
+fn kind_of(item: Option<Result<Vec<u8>, PipeError>>) -> Option<ErrorKind> {
+    match item {
+        Some(Err(PipeError::Io(error))) => Some(error.kind()),
+        _ => None,
+    }
+}
+
 fn frames_pass<H>(rt: &H)
 where
     H: Abort + Wait + RandomSource + AllocGlobal,
@@ -102,19 +110,49 @@ where
     let _sink = sends(rt, sink, &[b"one", b"", b"three"]);
     let mut frames = FrameStream::new(rt.alloc(), reader, 4);
     come(rt, &mut frames, &[b"one", b""]);
-    let long = next_of(rt, &mut frames);
-    same(
-        rt,
-        &"too long",
-        matches!(long, Some(Err(PipeError::Io(_)))),
-        true,
-    );
+    let long = kind_of(next_of(rt, &mut frames));
+    same(rt, &"too long", long, Some(ErrorKind::InvalidData));
     same(rt, &"the end", next_of(rt, &mut frames).is_none(), true);
 }
 
 #[test]
 fn frames_of_a_sink_come_out_of_a_stream_up_to_one_too_long(rt: HostRuntime) {
     frames_pass(&rt);
+}
+
+fn cut_off<H>(rt: &H)
+where
+    H: Abort + Wait + RandomSource + AllocGlobal,
+{
+    let (reader, writer) = holding(rt, 64, &[0, 0, 0, 2, 7]);
+    drop(writer);
+    let mut frames = FrameStream::new(rt.alloc(), reader, 4);
+    let ended = kind_of(next_of(rt, &mut frames));
+    same(rt, &"cut off", ended, Some(ErrorKind::UnexpectedEof));
+    same(rt, &"the end", next_of(rt, &mut frames).is_none(), true);
+}
+
+#[test]
+fn a_frame_that_is_cut_off_is_an_error_of_its_own_kind(rt: HostRuntime) {
+    cut_off(&rt);
+}
+
+/// A body whose length takes more than one byte, and more than 1,024 bytes.
+fn long_frame_passes<H>(rt: &H)
+where
+    H: Abort + Wait + RandomSource + AllocGlobal,
+{
+    let (reader, writer) = holding(rt, 2_000, b"");
+    let sink = FrameSink::new(rt.alloc(), writer);
+    drop(sends(rt, sink, &[&[7; 300], &[8; 1_500]]));
+    let mut frames = FrameStream::new(rt.alloc(), reader, 1_500);
+    come(rt, &mut frames, &[&[7; 300], &[8; 1_500]]);
+    same(rt, &"the end", next_of(rt, &mut frames).is_none(), true);
+}
+
+#[test]
+fn a_frame_of_more_than_1024_bytes_passes(rt: HostRuntime) {
+    long_frame_passes(&rt);
 }
 
 fn texts_pass<H>(rt: &H)
@@ -219,6 +257,6 @@ where
 }
 
 #[test]
-fn what_is_printed_reports_of_ends_and_counts_and_no_byte(rt: HostRuntime) {
+fn what_is_printed_has_ends_and_counts_and_no_byte(rt: HostRuntime) {
     is_printed(&rt);
 }
