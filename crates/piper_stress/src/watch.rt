@@ -1,4 +1,4 @@
-//! What both sides of a game tell the thread that watches it.
+//! what both sides of a game report to the thread that watches it.
 
 use std::fmt;
 use std::fmt::{Formatter, Write};
