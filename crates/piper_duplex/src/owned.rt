@@ -96,9 +96,11 @@ impl AsyncRead for OwnedEnd {
 
     ghost fails = { λ _ cx e. WantsWaker cx e };
 
-    fn poll_read(&mut self, cx: &mut Context<'_>, dest: &mut [u8]) -> Poll<Result<usize, PipeError>>
-        ensures rest { self.new.writer ≡ self.old.writer }
-    {
+    fn poll_read(
+        &mut self,
+        cx: &mut Context<'_>,
+        dest: &mut [u8],
+    ) -> Poll<Result<usize, PipeError>> {
         self.reader.poll_read(cx, dest)
     }
 }
