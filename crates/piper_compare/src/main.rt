@@ -13,19 +13,22 @@ use std::env;
 use std::io::ErrorKind;
 use std::process::ExitCode;
 
-const USAGE: &str = "usage: piper_compare vectors|handles|twin [SEED COUNT]";
+const USAGE: &str = "usage: piper_compare vectors|handles|twin [SEED COUNT]|--help|--version";
 
-const HELP: &str = "usage: piper_compare vectors | handles | twin [SEED COUNT]
+const HELP: &str = "usage: piper_compare vectors
+       piper_compare handles
+       piper_compare twin [SEED COUNT]
+       piper_compare --help
+       piper_compare --version
+The first plays the stored scripts, whose files are in the current folder, on the machine and on the handles, and compares what they print with what is stored.
+The second plays a script from standard input on the handles.
+The third plays a script from standard input on the handles and on the machine, and prints the first line in which they differ; or COUNT scripts that are drawn from SEED.
+Exit status:
+  0  all is alike, or the help or the version was printed
+  1  something differs, or a line of the script was refused
+  2  the words are not these, a stored file is missing or broken, memory was refused, or a read or write failed";
 
-vectors            plays the stored scripts, which lie in the current folder, on the machine and
-                   on the handles, and compares what they print with what is stored
-handles            plays a script from standard input on the handles
-twin               plays a script from standard input on the handles and on the machine, and
-                   prints the first line in which they differ
-twin SEED COUNT    plays COUNT scripts that are drawn from SEED on both
-
-The status is 0 where all is alike, 1 where something differs, a line was refused or the words
-are none of these, and 2 where memory was refused, or a read or write failed.";
+const VERSION: &str = "piper_compare 0.2.5";
 
 /// The arguments after the program's name.
 fn words(rt: &HostRuntime) -> Result<Vec<String>, Ended> {
@@ -41,7 +44,7 @@ fn words(rt: &HostRuntime) -> Result<Vec<String>, Ended> {
 
 /// The words are none of those that the program knows.
 const WRONG_ARGUMENTS: Ended = Ended {
-    status: 1,
+    status: 2,
     text: USAGE,
 };
 
@@ -51,14 +54,19 @@ const REPORTED: Ended = Ended {
     text: "",
 };
 
+fn print(rt: &HostRuntime, text: &str) -> Ended {
+    match println!(rt; "{text}") {
+        Ok(()) => Ended::DONE,
+        Err(_) => Ended::WRITE_FAILED,
+    }
+}
+
 /// Does what the words ask for.
 fn run(rt: &HostRuntime) -> Result<Ended, Ended> {
     let words = words(rt)?;
     Ok(match mode_of(&words).ok_or(WRONG_ARGUMENTS)? {
-        Mode::Help => match println!(rt; "{HELP}") {
-            Ok(()) => Ended::DONE,
-            Err(_) => Ended::WRITE_FAILED,
-        },
+        Mode::Help => print(rt, HELP),
+        Mode::Version => print(rt, VERSION),
         Mode::Vectors => match compare(rt) {
             Ok(true) => Ended::DONE,
             Ok(false) => Ended::REFUSED,

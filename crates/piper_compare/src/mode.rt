@@ -1,7 +1,7 @@
 //! What the program is asked to compare.
 
-ghost use Rattle.std.specs.Prelude.IfSome;
-ghost use Rattle.piper_compare.specs.Words.AsksFor;
+ghost use Rattle.std.specs.Prelude.{IfSome};
+ghost use Rattle.piper_compare.specs.Words.{AsksFor};
 
 use piper_script::command::MOST;
 use piper_script::number::number;
@@ -18,6 +18,8 @@ pub(crate) struct Seeds {
 pub(crate) enum Mode {
     /// It prints how it is used.
     Help,
+    /// It prints its version.
+    Version,
     /// The stored scripts are played on the machine and on the handles, and compared with their
     /// answers.
     Vectors,
@@ -37,6 +39,7 @@ pub(crate) fn mode_of(words: &[String]) -> Option<Mode>
     let Some((seed, rest)) = rest.split_first() else {
         return match word.as_str() {
             "--help" => Some(Mode::Help),
+            "--version" => Some(Mode::Version),
             "vectors" => Some(Mode::Vectors),
             "handles" => Some(Mode::Handles),
             "twin" => Some(Mode::Twin),

@@ -51,6 +51,17 @@ struct Tally {
 }
 
 impl Tally {
+    fn count_on_handles(&mut self, played: Played) {
+        match played {
+            Played::ToItsEnd => self.on_handles = self.on_handles.saturating_add(1),
+            Played::Begun => self.begun_on_handles = self.begun_on_handles.saturating_add(1),
+            Played::Otherwise => {
+                self.otherwise_on_handles = self.otherwise_on_handles.saturating_add(1);
+            }
+            Played::Not => {}
+        }
+    }
+
     fn is_alike(&self) -> bool {
         self.alike == self.all && self.otherwise_on_handles == 0
     }
@@ -80,13 +91,7 @@ where
     } else {
         Played::Not
     };
-    let counted = match played {
-        Played::ToItsEnd => &mut tally.on_handles,
-        Played::Begun => &mut tally.begun_on_handles,
-        Played::Otherwise => &mut tally.otherwise_on_handles,
-        Played::Not => return report_place(rt, place, &vector, is_alike),
-    };
-    *counted = counted.saturating_add(1);
+    tally.count_on_handles(played);
     report_place(
         rt,
         place,

@@ -1,6 +1,6 @@
 //! The engine: a script in, its output out.
 
-ghost use Rattle.std.specs.Prelude.{◌↔◌, codes, IsNone, IsOk, IfSome, IfErr, OnOk};
+ghost use Rattle.std.specs.Prelude.{◌≡◌, ◌↔◌, codes, IsNone, IsOk, IfSome, IfErr, OnOk};
 ghost use Rattle.piper_interpreter.specs.Ended.{EndsWith, IsEndOf};
 ghost use Rattle.piper_interpreter.specs.Arguments.{IsWrong, AsksFor};
 ghost use Rattle.piper_interpreter.specs.Output.{AnswersLine, Reports};

@@ -1,4 +1,4 @@
-//! what both sides of a game report to the thread that watches it.
+//! What both sides of a game report to the thread that watches it.
 
 use std::fmt;
 use std::fmt::{Formatter, Write};
