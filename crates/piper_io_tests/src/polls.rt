@@ -14,7 +14,7 @@ pub(crate) enum Polled<A> {
     Failed,
 }
 
-pub(crate) fn polled<A: Drop>(poll: Poll<Result<A, PipeError>>) -> Polled<A> {
+pub(crate) fn outcome_of<A: Drop>(poll: Poll<Result<A, PipeError>>) -> Polled<A> {
     match poll {
         Poll::Pending => Polled::Pending,
         Poll::Ready(Ok(answer)) => Polled::Ready(answer),
@@ -38,8 +38,8 @@ pub(crate) fn poll_line(
     limit: usize,
 ) -> Polled<LineAnswer> {
     let limit = limit.max(1);
-    match polled(task.enter(|cx| lines.poll_line(cx, line, limit))) {
-        Polled::Refused => polled(task.enter(|cx| lines.poll_line(cx, line, limit))),
+    match outcome_of(task.enter(|cx| lines.poll_line(cx, line, limit))) {
+        Polled::Refused => outcome_of(task.enter(|cx| lines.poll_line(cx, line, limit))),
         answer => answer,
     }
 }
@@ -51,8 +51,8 @@ pub(crate) fn poll_frame(
     frame: &mut Vec<u8>,
     limit: usize,
 ) -> Polled<FrameAnswer> {
-    match polled(task.enter(|cx| frames.poll_frame(cx, frame, limit))) {
-        Polled::Refused => polled(task.enter(|cx| frames.poll_frame(cx, frame, limit))),
+    match outcome_of(task.enter(|cx| frames.poll_frame(cx, frame, limit))) {
+        Polled::Refused => outcome_of(task.enter(|cx| frames.poll_frame(cx, frame, limit))),
         answer => answer,
     }
 }
@@ -63,7 +63,7 @@ pub(crate) fn write_line(
     line: &mut WriteLine<'_>,
     writer: &mut Writer,
 ) -> Polled<Written> {
-    polled(task.enter(|cx| line.poll(cx, writer)))
+    outcome_of(task.enter(|cx| line.poll(cx, writer)))
 }
 
 /// Polls a frame once that is being written, as a task.
@@ -72,7 +72,7 @@ pub(crate) fn write_frame(
     frame: &mut WriteFrame<'_>,
     writer: &mut Writer,
 ) -> Polled<Written> {
-    polled(task.enter(|cx| frame.poll(cx, writer)))
+    outcome_of(task.enter(|cx| frame.poll(cx, writer)))
 }
 
 /// Polls once for a frame, and skips it where it is past the limit: how many bytes it has.

@@ -1,6 +1,6 @@
 //! The ends of a duplex stream on one thread.
 use crate::compare::same;
-use crate::polls::{Polled, polled};
+use crate::polls::{Polled, outcome_of};
 use futures::test::MockTask;
 use piper::io::{AsyncRead, AsyncWrite};
 use piper_duplex::{End, duplex};
@@ -20,7 +20,7 @@ where
     let mut answer = Polled::Pending;
     for _ in 0..MOST_POLLS {
         if answer == Polled::Pending {
-            answer = polled(task.enter(|cx| end.poll_write(cx, bytes)));
+            answer = outcome_of(task.enter(|cx| end.poll_write(cx, bytes)));
         }
     }
     same(rt, answer, Polled::Ready(want));
@@ -35,7 +35,7 @@ where
     let mut answer = Polled::Pending;
     for _ in 0..MOST_POLLS {
         if answer == Polled::Pending {
-            answer = polled(task.enter(|cx| end.poll_read(cx, &mut place)));
+            answer = outcome_of(task.enter(|cx| end.poll_read(cx, &mut place)));
         }
     }
     same(rt, answer, Polled::Ready(want.len()));
@@ -84,8 +84,8 @@ where
     let writing = MockTask::new(rt).expect(rt, "memory");
     let mut place = [0; 4];
     writes(rt, &writing, &mut second, b"full", 4);
-    let read = polled(reading.enter(|cx| second.poll_read(cx, &mut place)));
-    let written = polled(writing.enter(|cx| second.poll_write(cx, b"more")));
+    let read = outcome_of(reading.enter(|cx| second.poll_read(cx, &mut place)));
+    let written = outcome_of(writing.enter(|cx| second.poll_write(cx, b"more")));
     same(rt, (read, written), (Polled::Pending, Polled::Pending));
     same(rt, (reading.is_woken(), writing.is_woken()), (false, false));
     first.drop();
