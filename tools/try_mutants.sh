@@ -35,7 +35,7 @@ done
 # What they depend on is built first, one library after another: two crates that build the same one at once would
 # each read what the other has half written.
 for name in "${names[@]}"; do
-    for library in $(sed -n "s/^$name://p" crates.txt); do
+    for library in $(sed -n "s/^$name\( [^:]*\)\{0,1\}://p" crates.txt); do
         if [ -d "$copy/crates/$library" ]; then
             (cd "$copy/crates/$library" && rt lib > "$room/built" 2>&1) || { tail -20 "$room/built"; exit 1; }
         fi

@@ -5,13 +5,16 @@
 
 mod file_to_task;
 mod number_lines;
+mod words;
 
 use crate::file_to_task::count_lines;
 use crate::number_lines::print_numbered;
+use crate::words::answer_words;
 use futures::executor::block_on;
 use piper::owned_pipe;
 use piper_futures::fill_from;
 use std::alloc::AllocGlobal;
+use std::process::ExitCode;
 use std::{fs, io, thread};
 
 // Opens a file. Where that fails, the error names it.
@@ -25,7 +28,10 @@ fn open<R: fs::Files + AllocGlobal>(rt: &R, path: &str) -> io::Result<R::File> {
     }
 }
 
-fn main(rt: HostRuntime) -> io::Result<()> {
+fn main(rt: HostRuntime) -> io::Result<ExitCode> {
+    if let Some(status) = answer_words(&rt)? {
+        return Ok(status);
+    }
     let count = count_lines(&rt, open(&rt, "poem.txt")?)?;
     println!(&rt; "{count} lines")?;
     let theirs = rt.clone()?;
@@ -35,5 +41,6 @@ fn main(rt: HostRuntime) -> io::Result<()> {
         Ok(())
     })?;
     print_numbered(&rt, reader, &mut io::writer(&rt))?;
-    child.join(&rt)
+    child.join(&rt)?;
+    Ok(ExitCode::SUCCESS)
 }

@@ -87,6 +87,16 @@ impl What {
     pub fn of(word: &str) -> Option<What> {
         named(&WORDS, word)
     }
+
+    /// Whether each side has a thread of its own.
+    pub fn has_two_threads(self) -> bool {
+        match self {
+            What::Ring { is_shared } | What::Rtrb { is_shared } => is_shared,
+            What::Pipe { way: _, is_shared } => is_shared,
+            What::Lines => false,
+            What::Peer(_) | What::ToAndFro { is_stream: _ } => true,
+        }
+    }
 }
 
 fn named(words: &[(&str, What)], word: &str) -> Option<What> {

@@ -6,6 +6,8 @@ use crate::work::Work;
 
 /// What a call of the program is to do.
 pub enum Request {
+    Help,
+    Version,
     /// A short run of everything.
     ShortRuns,
     /// So many pipes at once, by this means.
@@ -23,6 +25,8 @@ impl Request {
     pub fn of(words: &[String]) -> Option<Request> {
         match words {
             [] => Some(Request::ShortRuns),
+            [word] if word.as_str() == "--help" => Some(Request::Help),
+            [word] if word.as_str() == "--version" => Some(Request::Version),
             [word, means, count] if word.as_str() == "many" => Some(Request::Many(
                 Means::of(means.as_str())?,
                 number(count.as_str())?,

@@ -81,11 +81,15 @@ impl Work {
     }
 }
 
-/// Does the work, and returns how long it took and the checksum.
+/// Does the work, and returns how long it took and the checksum. Work for two threads is refused
+/// where the system grants no second one: each side would wait for the other.
 pub fn run<R>(rt: &R, work: Work) -> io::Result<(Duration, u64)>
 where
     R: Wait + Threads + Clock + Print + RandomSource + AllocGlobal + Clone + Drop + Send + Sync,
 {
+    if work.what.has_two_threads() && thread::spawn(rt, || ()).is_err() {
+        return Err(io::Error::other("no thread is granted"));
+    }
     let source = vec![in rt.alloc(); BYTE; work.chunk + APART]?;
     let mut place = vec![in rt.alloc(); 0u8; APART + work.chunk + APART]?;
     let place = &mut place[APART..APART + work.chunk];

@@ -4,22 +4,44 @@
 
 use piper_transfer::Plain;
 use pump_engine::arguments::words;
-use pump_engine::copies::Copies;
-use pump_engine::ends::{Drain, Inlet, Outlet};
-use pump_engine::running::run;
+use pump_engine::ended::Ended;
+use pump_engine::outcome::Outcome;
+use pump_engine::program::{Nothing, STACK, run_and_report};
+use pump_engine::streams::{Streams, is_open};
 use std::io::IsTerminal;
 use std::process::ExitCode;
+use std::sync::Arc;
+use std::thread::Builder;
 
 fn main(rt: HostRuntime) -> ExitCode {
-    let redraws = rt.stderr().is_terminal();
-    let mut input = Inlet::Standard(Plain(rt.stdin()));
-    let mut output = Outlet {
-        drain: Drain::Standard(Plain(rt.stdout())),
-        copies: Copies::new(&rt, Vec::new(rt.alloc())),
+    let streams = Streams {
+        has_input: is_open(&rt.stdin()),
+        has_output: is_open(&rt.stdout()),
+        has_error: is_open(&rt.stderr()),
+        redraws: rt.stderr().is_terminal(),
     };
-    let ended = match words(&rt) {
-        Ok(words) => run(&rt, words.as_slice(), &mut input, &mut output, redraws),
-        Err(ended) => ended,
+    let _fillers = match streams.fill(&rt) {
+        Ok(fillers) => fillers,
+        Err(ended) => return ended.report(&rt),
     };
-    ended.report(&rt)
+    let words = match words(&rt) {
+        Ok(words) => words,
+        Err(ended) => return ended.report(&rt),
+    };
+    let Ok(outcome) = Arc::new(rt.alloc(), Outcome::new()) else {
+        return Ended::Memory.report(&rt);
+    };
+    let Ok(theirs) = Arc::try_clone(&outcome) else {
+        return Ended::Memory.report(&rt);
+    };
+    let (source, dest) = (Plain(rt.stdin()), Plain(rt.stdout()));
+    let started = Builder::new()
+        .stack_size(STACK)
+        .spawn_with(&rt, Nothing, move || {
+            run_and_report(rt, words, source, dest, streams, theirs)
+        });
+    if let Err(refused) = started {
+        (refused.value)();
+    }
+    outcome.wait(&rt).report(&rt)
 }

@@ -1,5 +1,6 @@
 //! One game: two threads on one pipe, and a third that watches them.
 
+use crate::halt::Halt;
 use crate::plan::Plan;
 use crate::reading::Reading;
 use crate::sleeping::play_side;
@@ -22,27 +23,35 @@ const STALLED: u64 = 20;
 const BETWEEN_LOOKS: u64 = 300;
 
 /// Plays the game of a plan, and returns how many bytes the reader took.
-pub fn play<R>(rt: &R, plan: Plan) -> io::Result<Result<u64, Fault>>
+pub fn play<R>(rt: &R, plan: Plan) -> Result<Result<u64, Fault>, Halt>
 where
     R: Wait + Threads + Clock + RandomSource + AllocGlobal + Clone + Drop + Send + Sync + 'static,
 {
-    let watch = Arc::new(rt.alloc(), Watch::new())?;
+    let Ok(watch) = Arc::new(rt.alloc(), Watch::new()) else {
+        return Err(Halt::Memory);
+    };
     let (readers_watch, writers_watch) = (Arc::try_clone(&watch)?, Arc::try_clone(&watch)?);
     let (readers_rt, writers_rt) = (rt.clone()?, rt.clone()?);
     let Ok((reader, writer)) = pipe(rt.alloc(), plan.capacity, plan.seed) else {
-        return Err(io::ErrorKind::OutOfMemory.into());
+        return Err(Halt::Memory);
     };
     let (mut reader, mut writer) = (OwnedReader::new(reader), OwnedWriter::new(writer));
     let reading = thread::spawn(rt, move || {
         let took = read(&readers_rt, reader, &readers_watch, plan);
         readers_watch.end_side();
         took
-    })?;
+    });
+    let Ok(reading) = reading else {
+        return Err(Halt::Thread);
+    };
     let writing = thread::spawn(rt, move || {
         let gave = write(&writers_rt, writer, &writers_watch, plan);
         writers_watch.end_side();
         gave
-    })?;
+    });
+    let Ok(writing) = writing else {
+        return Err(Halt::Thread);
+    };
     if !ends(rt, &watch)? {
         return Ok(Err(Fault::Stalled));
     }

@@ -1,10 +1,10 @@
 //! Games, one after another, until the time is over or one goes wrong.
 
 use crate::game::play;
+use crate::halt::Halt;
 use crate::plan::Plan;
 use crate::watch::Fault;
 use std::alloc::AllocGlobal;
-use std::io;
 use std::marker::Send;
 use std::random::RandomSource;
 use std::rt::Clock;
@@ -31,7 +31,7 @@ pub enum Outcome {
 }
 
 impl Hunt {
-    pub fn run<R>(self, rt: &R) -> io::Result<Outcome>
+    pub fn run<R>(self, rt: &R) -> Result<Outcome, Halt>
     where
         R: Wait
             + Threads

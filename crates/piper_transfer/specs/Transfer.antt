@@ -36,7 +36,7 @@ pub record PouredAll (output_old output_new : Option (List ℕ)) (a b : ReadView
   pub taken : b.taken ≡ a.taken ++ written
   pub ring : b.ring ≡ a.ring
 
--- all that the writing end published was taken: the reading end told the end, or met the other
+-- all that the writing end published was taken: the reading end reported the end, or met the other
 abbrev pub IsDrained : ReadView → WriteView → Type 0
 IsDrained r w = IsEnded r ⊎ (r.taken ≡ w.sent)
 

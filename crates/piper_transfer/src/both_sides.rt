@@ -13,7 +13,7 @@ use crate::filling::fill_from;
 use crate::meter::Meter;
 use crate::one_thread::take_turns;
 use crate::patience::flush_patiently;
-use crate::start::Start;
+use crate::start::{Start, grants_thread};
 use crate::turns::{Input, Output, Turns};
 use piper::{Writer, pipe};
 use std::alloc::AllocGlobal;
@@ -45,8 +45,7 @@ pub struct Sizes {
 /// nothing, what is still in the pipe is dropped, and the input is read no further once a read that
 /// is under way has ended. A read or a write that is interrupted is made again, and one that would
 /// block is made again after a sleep of at most 10 milliseconds. Where a second thread is refused,
-/// both sides take turns on this one, and each read is written at once. `meter` is kept up to date
-/// meanwhile.
+/// both sides take turns on this one. `meter` is kept up to date meanwhile.
 ///
 /// Where all that the input gave is written, with `Ok` or with the input's error, the output is
 /// flushed after the last byte; a flush that fails is reported in place of the input's error. An
@@ -152,6 +151,10 @@ where
     ensures input_told { IfErr result.0 (IsOfSource (S.fails source.new)) }
     ensures reported { IfErr result.1 (IsOfDestination (D.fails dest.new) (D.full dest.new)) }
 {
+    if !grants_thread(rt) {
+        let (writer, reader) = (&mut input.writer, &mut output.reader);
+        return take_turns(rt, source, writer, reader, dest, chunk, output.level, meter);
+    }
     let (turns, writer) = (&input.turns, &mut input.writer);
     match on_two_threads(rt, source, turns, writer, output, dest, chunk, meter) {
         (Some(filled), Some(drained)) => (filled, drained),
@@ -159,7 +162,7 @@ where
         (None, Some(drained)) => (Err(stopped()), drained),
         (None, None) => {
             let (writer, reader) = (&mut input.writer, &mut output.reader);
-            take_turns(rt, source, writer, reader, dest, chunk, meter)
+            take_turns(rt, source, writer, reader, dest, chunk, output.level, meter)
         }
     }
 }

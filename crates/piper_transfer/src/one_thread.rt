@@ -15,7 +15,8 @@ use piper::{Reader, Writer};
 use std::sync::Wait;
 use std::time::Clock;
 
-/// Reads the input to its end, and writes what each read gave before the next one is made.
+/// Reads the input to its end, and writes what the pipe holds each time that it holds `level` bytes
+/// or is full; of a `level` of 0 that is what each read gave, before the next one is made.
 pub(crate) fn take_turns<R, S, D>(
     rt: &R,
     source: &mut S,
@@ -23,6 +24,7 @@ pub(crate) fn take_turns<R, S, D>(
     reader: &mut Reader,
     dest: &mut D,
     chunk: usize,
+    level: usize,
     meter: &Meter,
 ) -> (Result<(), TransferError>, Result<(), TransferError>)
 where
@@ -44,7 +46,7 @@ where
 {
     let mut piece = Piece::first(chunk);
     for _ in rt.forever() {
-        if let Err(error) = pass_on(rt, writer, reader, dest, chunk, meter) {
+        if let Err(error) = pass_on_from(rt, writer, reader, dest, chunk, level, meter) {
             return (Err(stopped()), Err(error));
         }
         match read_chunk(rt, source, writer, piece.len(), meter) {
@@ -60,6 +62,36 @@ where
         }
     }
     unreachable!()
+}
+
+// Writes all that was published, if that is at least so many bytes or leaves no room.
+fn pass_on_from<R, D>(
+    rt: &R,
+    writer: &mut Writer,
+    reader: &mut Reader,
+    dest: &mut D,
+    chunk: usize,
+    level: usize,
+    meter: &Meter,
+) -> Result<(), TransferError>
+where
+    R: Wait + Clock,
+    D: Destination,
+    requires chunk { 0 < chunk }
+    requires pair { writer.old.end.ring ≡ reader.old.end.ring }
+    requires some { 0 < reader.old.end.capacity }
+    ensures writer { WriterRefreshed writer.old.end writer.new.end }
+    ensures poured { PouredAll (D.contents dest.old) (D.contents dest.new)
+        reader.old.end reader.new.end }
+    ensures capacity { reader.new.end.capacity ≡ reader.old.end.capacity }
+    ensures room { OnOk result (0 < writer.new.end.room) }
+    ensures reported { IfErr result (IsOfDestination (D.fails dest.new) (D.full dest.new)) }
+{
+    reader.meet(writer);
+    if reader.len() < level.min(reader.capacity()) {
+        return Ok(());
+    }
+    pass_on(rt, writer, reader, dest, chunk, meter)
 }
 
 // Writes all that was published; then the whole pipe is room.

@@ -1,6 +1,6 @@
 //! Calls of an input or an output that are made again: at once where they were interrupted, and
 //! after a short sleep where they would block.
-ghost use Rattle.std.specs.Prelude.{◌≡◌, ◌<◌, length, false, Ok, OnOk, IfErr};
+ghost use Rattle.std.specs.Prelude.{◌≡◌, ◌<◌, ◌↔◌, IsTrue, length, false, Ok, OnOk, IfErr};
 ghost use Rattle.std.specs.Io.{ReadsAtMost, WritesAtMost};
 ghost use Rattle.std.specs.Io.KnownBytes.{Keeps, ReadConsumes, WriteAppends};
 ghost use Rattle.piper_transfer.specs.Transfer.{IsLasting, IsOfSource};
@@ -48,6 +48,13 @@ impl Patience {
             _ => false,
         }
     }
+}
+
+/// Whether a call that failed so is not made again: it was not interrupted, and would not block.
+pub fn is_lasting(error: &io::Error) -> bool
+    ensures { IsTrue result ↔ IsLasting error.now }
+{
+    !matches!(error.kind(), ErrorKind::Interrupted | ErrorKind::WouldBlock)
 }
 
 /// Reads once. A read that gave nothing for now is made again, unless the output has ended

@@ -6,14 +6,17 @@
 
 mod sleeping;
 mod threads;
+mod words;
 
 ghost use Rattle.std.specs.Prelude.{◌≡◌, ◌<◌, ◌*◌, ◌^◌, ◌≤◌, ◌+◌, take, length, IfOk};
 
 use crate::sleeping::send_and_count;
 use crate::threads::carry_across;
+use crate::words::answer_words;
 use piper::owned_pipe;
 use std::alloc::Global;
 use std::io;
+use std::process::ExitCode;
 
 #[tactic(auto, using(crate::proofs::Front::came_first))]
 /// Sends what is in `bytes` through a pipe that holds all of it, and returns how many bytes came.
@@ -28,12 +31,16 @@ fn carry(alloc: Global, bytes: &[u8], place: &mut [u8]) -> io::Result<usize>
     Ok(came)
 }
 
-fn main(rt: HostRuntime) -> io::Result<()> {
+fn main(rt: HostRuntime) -> io::Result<ExitCode> {
+    if let Some(status) = answer_words(&rt)? {
+        return Ok(status);
+    }
     let mut place = [0; 16];
     let came = carry(rt.alloc(), b"hello world", &mut place)?;
     println!(&rt; "{}", place[..came].escape_ascii())?;
     let came = carry_across(&rt, b"hello, threads", &mut place)?;
     println!(&rt; "{}", place[..came].escape_ascii())?;
     let came = send_and_count(&rt)?;
-    println!(&rt; "{came} bytes came")
+    println!(&rt; "{came} bytes came")?;
+    Ok(ExitCode::SUCCESS)
 }

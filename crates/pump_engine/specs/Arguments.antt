@@ -58,7 +58,7 @@ pump_rules =
     ∷ size_rule (codes "capacity") ∷ size_rule (codes "chunk")
     ∷ size_rule (codes "rate") ∷ size_rule (codes "size") ∷ size_rule (codes "start-at")
     ∷ file_rule (codes "input") 105 ∷ file_rule (codes "output") 111
-    ∷ tee_rule ∷ []
+    ∷ tee_rule ∷ flag_rule (codes "force") ∷ []
 
 abbrev pub pump_command : App
 pump_command = on_top (λ s. record s { rules = pump_rules }) (versioned (new_app (codes "piper_pump")))
@@ -108,6 +108,10 @@ pub record AskFor (words : List Text) (arguments : Arguments) : Type 0 where
   pub output : first_of (codes "output") (said_by words) ≡ None → arguments.texts.output ≡ None
   pub no_sum : one_of (codes "sha256") (said_by words) ≡ Some (codes "false")
       → arguments.shows_sum ≡ false
+  pub force : one_of (codes "force") (said_by words) ≡ Some (codes "true")
+      → arguments.overwrites ≡ true
+  pub no_force : one_of (codes "force") (said_by words) ≡ Some (codes "false")
+      → arguments.overwrites ≡ false
 
 -- these words ask for something: `clap` takes them, and what represents a size writes one
 pub record AreTaken (words : List Text) : Type 0 where

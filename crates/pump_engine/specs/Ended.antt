@@ -1,5 +1,5 @@
 -- How the pump ends after a transfer, and the exit status that reports it.
-use Rattle.std.specs.Prelude.{◌≡◌, ◌≢◌, ◌⊎◌, ℕ, Result, Ok, Err, ⊤}
+use Rattle.std.specs.Prelude.{◌≡◌, ◌≢◌, ◌⊎◌, ℕ, Bool, true, false, List, Result, Ok, Err, ⊤, string_bytes}
 use Rattle.std.specs.IoError.{error_kind}
 use Rattle.std.specs.declared.io.ErrorKind.TheVariants.{BrokenPipe}
 use Rattle.clap.specs.Words.{kind_of}
@@ -10,17 +10,19 @@ use Rattle.piper_transfer.specs.declared.error.TransferError.TheVariants.{Read, 
 use Rattle.pump_engine.specs.declared.ended.Ended.{Ended}
 use Rattle.pump_engine.specs.declared.ended.Ended.TheVariants as ended
 
--- a transfer with this answer ends the program so. A write that fails
--- with a broken pipe says that the program which read the output has ended
-abbrev pub EndsAs : {A : Type 0} → Result A TransferError → Ended → Type 0
-EndsAs (Ok moved) e = e ≡ ended.Moved
-EndsAs (Err (Read failed)) e = e ≡ ended.Input (Read failed)
-EndsAs (Err (Write failed)) e =
+-- a transfer with this answer ends the program so. Where all was moved, a file that did not get its
+-- copy is reported. A write that fails with a broken pipe says that the program which read the
+-- output has ended
+abbrev pub EndsAs : {A : Type 0} → Result A TransferError → Bool → Ended → Type 0
+EndsAs (Ok moved) has_copy_failed e =
+    (has_copy_failed ≡ false → e ≡ ended.Moved) × (has_copy_failed ≡ true → e ≡ ended.Copies)
+EndsAs (Err (Read failed)) has_copy_failed e = e ≡ ended.Input (Read failed)
+EndsAs (Err (Write failed)) has_copy_failed e =
     (error_kind failed ≡ BrokenPipe → e ≡ ended.Closed)
     × (error_kind failed ≢ BrokenPipe → e ≡ ended.Output (Write failed))
-EndsAs (Err Full) e = e ≡ ended.Output Full
-EndsAs (Err Memory) e = e ≡ ended.Memory
-EndsAs (Err (Turns failed)) e = e ≡ ended.Memory
+EndsAs (Err Full) has_copy_failed e = e ≡ ended.Output Full
+EndsAs (Err Memory) has_copy_failed e = e ≡ ended.Memory
+EndsAs (Err (Turns failed)) has_copy_failed e = e ≡ ended.Memory
 
 -- the program ends before it moves a byte: for its words, or for want of memory
 abbrev pub IsOfWords : Ended → Type 0
@@ -39,6 +41,13 @@ IsEarly (ended.NoOutput file) = ⊤
 IsEarly ended.Memory = ⊤
 IsEarly other = ⊥
 
+-- what is reported names this file, unless it is reported that memory was refused
+abbrev pub IsToldOf : List ℕ → Ended → Type 0
+IsToldOf name (ended.NoInput file) = string_bytes file.name ≡ name
+IsToldOf name (ended.NoOutput file) = string_bytes file.name ≡ name
+IsToldOf name ended.Memory = ⊤
+IsToldOf name other = ⊥
+
 -- the words on the command line ask for the help or the version
 abbrev pub IsShown : Error → Type 0
 IsShown error = (kind_of error ≡ DisplayHelp) ⊎ (kind_of error ≡ DisplayVersion)
@@ -56,4 +65,5 @@ HasStatus (ended.NoOutput file) n = n ≡ 4
 HasStatus (ended.Input failed) n = n ≡ 3
 HasStatus (ended.Output failed) n = n ≡ 4
 HasStatus ended.Closed n = n ≡ 5
+HasStatus ended.Copies n = n ≡ 7
 HasStatus ended.Memory n = n ≡ 6

@@ -1,5 +1,5 @@
 -- What is known of the input and the output: of a standard stream what it says, of a file nothing.
-use Rattle.std.specs.Prelude.{◌≡◌, ◌⊎◌, ℕ, Bool, true, List, Option, None, ⊤}
+use Rattle.std.specs.Prelude.{◌≡◌, false, ℕ, List, Option, None, ⊤}
 use Rattle.std.specs.declared.io.Error.{Error}
 use Rattle.pump_engine.specs.declared.ends.Inlet.{Inlet}
 use Rattle.pump_engine.specs.declared.ends.Inlet.TheVariants as inlet
@@ -21,6 +21,11 @@ abbrev pub drain_bytes : {D : Type 0} → (D → Option (List ℕ)) → Drain D 
 drain_bytes contents (drain.Standard d) = contents d
 drain_bytes contents (drain.File f) = None
 
+-- its file, if it is one, still holds what it held where it was opened
+abbrev pub KeepsHeld : {D : Type 0} → Drain D → Type 0
+KeepsHeld (drain.Standard d) = ⊤
+KeepsHeld (drain.File sink) = sink.has_begun ≡ false
+
 -- it was flushed
 abbrev pub IsFlushed : {D : Type 0} → (D → Type 0) → Drain D → Type 0
 IsFlushed flushed (drain.Standard d) = flushed d
@@ -35,7 +40,3 @@ IsFull full (drain.File f) = ⊤
 abbrev pub DrainFails : {D : Type 0} → (D → Error → Type 0) → Drain D → Error → Type 0
 DrainFails fails (drain.Standard d) e = fails d e
 DrainFails fails (drain.File f) e = ⊤
-
--- the same, or a file did not get its copy
-abbrev pub OutletFails : {D : Type 0} → (D → Error → Type 0) → Drain D → Bool → Error → Type 0
-OutletFails fails d has_copy_failed e = DrainFails fails d e ⊎ (has_copy_failed ≡ true)

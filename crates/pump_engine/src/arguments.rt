@@ -18,9 +18,12 @@ const STATUSES: &str = "Exit status:
   0  all bytes were moved, or the help or the version was printed
   2  the words on the command line are refused
   3  the input failed; what came before was written
-  4  the output failed, or takes no more bytes
+  4  the output failed, or takes no more bytes; or a file can't be written
   5  the program that reads the output has ended
-  6  memory was refused";
+  6  memory was refused
+  7  all bytes were moved, but a file by --tee did not get them
+
+What it holds is lost where a signal ends it: at most its capacity";
 
 /// What the program is asked to do.
 #[derive(Drop)]
@@ -29,6 +32,8 @@ pub struct Arguments<'a> {
     pub shows_progress: bool,
     pub is_quiet: bool,
     pub shows_sum: bool,
+    /// Whether files that hold bytes are written, too.
+    pub overwrites: bool,
     pub texts: Texts<'a>,
     /// The files that get what passes, too.
     pub tees: Vec<&'a str>,
@@ -75,6 +80,7 @@ pub fn read_words<'a>(alloc: Global, words: &'a [String]) -> Result<Arguments<'a
         shows_progress: matches.get_flag("progress"),
         is_quiet: matches.get_flag("quiet"),
         shows_sum: matches.get_flag("sha256"),
+        overwrites: matches.get_flag("force"),
         texts: texts_of(&matches),
         tees,
     })
@@ -124,7 +130,7 @@ fn command<'a>(alloc: Global) -> Result<Command<'a>, Error>
         .arg(flag(
             alloc,
             "quiet",
-            "Tells nothing but errors, also where progress is asked for",
+            "Tells nothing but errors and the sum, also where progress is asked for",
         ))?
         .arg(flag(
             alloc,
@@ -145,16 +151,22 @@ fn command<'a>(alloc: Global) -> Result<Command<'a>, Error>
         .arg(option(
             alloc,
             "size",
-            "How many bytes come, for the progress; of a file it is known",
+            "How many bytes come, for the progress; of a file that is known",
         ))?
         .arg(option(
             alloc,
             "start-at",
             "How full it is, in percent, before it writes, also once it ran dry",
         ))?
-        .arg(file_option(alloc, "input", 'i', "Reads this file"))?
-        .arg(file_option(alloc, "output", 'o', "Writes this file"))?
-        .arg(tee_option(alloc))?;
+        .arg(file_option(alloc, "input", 'i', "Reads this file; - is standard input"))?
+        .arg(file_option(
+            alloc,
+            "output",
+            'o',
+            "Writes this file; - is standard output",
+        ))?
+        .arg(tee_option(alloc))?
+        .arg(flag(alloc, "force", "Overwrites files that hold bytes"))?;
     Ok(command)
 }
 

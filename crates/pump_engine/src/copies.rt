@@ -1,42 +1,37 @@
 //! What is done with the bytes that pass: they are copied, summed up, and slowed down.
-ghost use Rattle.std.specs.Prelude.{◌≡◌, ◌<◌, ◌≤◌, true, IfErr};
+ghost use Rattle.std.specs.Prelude.{◌≡◌, ◌<◌, ◌≤◌};
 
 use crate::pace::Pace;
+use crate::sinks::Sink;
 use sha2::{Digest, Sha256};
-use std::fs::File;
-use std::io;
-use std::io::Write;
 use std::time::Clock;
 
 /// What is done with the bytes that the output took.
 #[derive(Drop)]
-pub struct Copies<'a, R: Clock> {
+pub struct Copies<'a, R: Clock + Eprint> {
     rt: &'a R,
     /// The files that get them, too.
-    tees: Vec<File>,
+    tees: Vec<Sink>,
     sum: Option<Sha256>,
     pace: Option<Pace>,
-    // Why a file did not get them, until that is reported.
-    error: Option<io::Error>,
-    /// Whether it was reported that a file did not get them.
+    /// Whether a file did not get them, which was reported.
     pub has_failed: bool,
 }
 
-impl<'a, R: Clock> Copies<'a, R> {
+impl<'a, R: Clock + Eprint> Copies<'a, R> {
     /// Nothing is done with them until that is asked for.
-    pub fn new(rt: &'a R, tees: Vec<File>) -> Copies<'a, R> {
+    pub fn new(rt: &'a R, tees: Vec<Sink>) -> Copies<'a, R> {
         Copies {
             rt,
             tees,
             sum: None,
             pace: None,
-            error: None,
             has_failed: false,
         }
     }
 
     /// Their files, whether their sum is wanted, and how many may pass in a second.
-    pub(crate) fn ask(&mut self, tees: Vec<File>, wants_sum: bool, rate: Option<usize>) {
+    pub(crate) fn ask(&mut self, tees: Vec<Sink>, wants_sum: bool, rate: Option<usize>) {
         self.tees = tees;
         if wants_sum {
             self.sum = Some(Sha256::new());
@@ -50,19 +45,6 @@ impl<'a, R: Clock> Copies<'a, R> {
     {
         let sum = self.sum.take()?;
         Some(sum.finalize())
-    }
-
-    /// Reports why a file did not get what passed, once.
-    pub(crate) fn report(&mut self) -> io::Result<()>
-        ensures { IfErr result (λ _. self.new.has_failed ≡ true) }
-    {
-        match self.error.take() {
-            Some(error) => {
-                self.has_failed = true;
-                Err(error)
-            }
-            None => Ok(()),
-        }
     }
 
     /// So many bytes are about to pass. It answers how many of them may.
@@ -79,16 +61,13 @@ impl<'a, R: Clock> Copies<'a, R> {
         }
     }
 
-    /// These bytes have passed.
+    /// These bytes have passed. A file that can't be written is reported by its name, and gets no
+    /// more; the others go on.
     pub(crate) fn keep(&mut self, passed: &[u8]) {
-        let mut failed = None;
         for tee in self.tees.iter_mut() {
-            if let Err(error) = tee.write_all(passed) {
-                failed = Some(error);
+            if !tee.give(self.rt, passed) {
+                self.has_failed = true;
             }
-        }
-        if failed.is_some() {
-            self.error = failed;
         }
         if let Some(sum) = &mut self.sum {
             sum.update(passed);
@@ -98,19 +77,12 @@ impl<'a, R: Clock> Copies<'a, R> {
         }
     }
 
-    /// Flushes the files, and reports why one did not get what passed.
-    pub(crate) fn flush(&mut self) -> io::Result<()>
-        ensures { IfErr result (λ _. self.new.has_failed ≡ true) }
-    {
-        let mut failed = None;
+    /// Flushes the files, and reports of those that can't be.
+    pub(crate) fn flush(&mut self) {
         for tee in self.tees.iter_mut() {
-            if let Err(error) = tee.flush() {
-                failed = Some(error);
+            if !tee.finish(self.rt) {
+                self.has_failed = true;
             }
         }
-        if failed.is_some() {
-            self.error = failed;
-        }
-        self.report()
     }
 }

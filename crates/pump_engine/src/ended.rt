@@ -1,9 +1,10 @@
 //! How the program ends: what it says, and its exit status.
-ghost use Rattle.std.specs.Prelude.{◌≡◌, ◌⊎◌};
+ghost use Rattle.std.specs.Prelude.{◌≡◌, ◌⊎◌, IfErr, IfOk, string_bytes};
 ghost use Rattle.std.specs.Process.{exit_status};
-ghost use Rattle.pump_engine.specs.Ended.{EndsAs, HasStatus, IsShown};
+ghost use Rattle.pump_engine.specs.Ended.{EndsAs, HasStatus, IsEarly, IsShown};
 
 use piper_transfer::TransferError;
+use std::alloc::Global;
 use std::io;
 use std::io::ErrorKind;
 use std::process::ExitCode;
@@ -13,6 +14,43 @@ use std::process::ExitCode;
 pub struct Unopened {
     pub name: String,
     pub error: io::Error,
+}
+
+impl Unopened {
+    /// The name of the file, and why it can't be opened.
+    pub(crate) fn new(alloc: Global, name: &str, error: io::Error) -> Result<Unopened, Ended>
+        ensures named { IfOk result (λ file. string_bytes file.name ≡ name.now) }
+        ensures error { IfOk result (λ file. file.error ≡ error) }
+        ensures memory { IfErr result (λ e. e ≡ Ended.Memory) }
+    {
+        match String::from_str(alloc, name) {
+            Ok(name) => Ok(Unopened { name, error }),
+            Err(_) => Err(Ended::Memory),
+        }
+    }
+}
+
+/// A word after an option that is no number which the option takes.
+#[derive(Drop)]
+pub struct NotTaken {
+    pub option: &'static str,
+    pub text: String,
+    /// Which numbers it takes.
+    pub range: &'static str,
+}
+
+/// That this word follows the option, which takes such numbers.
+pub fn not_taken(alloc: Global, option: &'static str, text: &str, range: &'static str) -> Ended
+    ensures { IsEarly result }
+{
+    match String::from_str(alloc, text) {
+        Ok(text) => Ended::Value(NotTaken {
+            option,
+            text,
+            range,
+        }),
+        Err(_) => Ended::Memory,
+    }
 }
 
 /// How the program ends.
@@ -25,7 +63,7 @@ pub enum Ended {
     /// A word on the command line is no text.
     NotText,
     /// The word after this option is no number that it takes.
-    Value(&'static str),
+    Value(NotTaken),
     /// The file that is to be read can't be opened.
     NoInput(Unopened),
     /// A file that is to be written can't be opened.
@@ -36,16 +74,19 @@ pub enum Ended {
     Output(TransferError),
     /// The program that reads the output has ended.
     Closed,
+    /// All bytes were moved, and a file did not get its copy, which was reported.
+    Copies,
     /// Memory was refused.
     Memory,
 }
 
 impl Ended {
-    /// How a transfer ended.
-    pub fn of(moved: Result<(), TransferError>) -> Ended
-        ensures { EndsAs moved result }
+    /// How a run ends whose transfer ended so, and which may have failed to make a copy.
+    pub fn of(moved: Result<(), TransferError>, has_copy_failed: bool) -> Ended
+        ensures { EndsAs moved has_copy_failed result }
     {
         match moved {
+            Ok(()) if has_copy_failed => Ended::Copies,
             Ok(()) => Ended::Moved,
             Err(TransferError::Read(error)) => Ended::Input(TransferError::Read(error)),
             Err(TransferError::Write(error)) if error.kind() == ErrorKind::BrokenPipe => {
@@ -65,12 +106,7 @@ impl Ended {
             Ended::Moved => (Ok(()), 0),
             Ended::Words(error) => report_words(rt, error),
             Ended::NotText => (eprintln!(rt; "piper_pump: an argument is not UTF-8"), 2),
-            Ended::Value(option) => {
-                (
-                    eprintln!(rt; "piper_pump: after {option} stands no number that it takes"),
-                    2,
-                )
-            }
+            Ended::Value(word) => (report_not_taken(rt, word), 2),
             Ended::NoInput(file) => (
                 eprintln!(rt; "piper_pump: {}: {}", file.name, file.error),
                 3,
@@ -84,12 +120,21 @@ impl Ended {
             Ended::Input(error) => (eprintln!(rt; "piper_pump: {error}"), 3),
             Ended::Output(error) => (eprintln!(rt; "piper_pump: {error}"), 4),
             Ended::Closed => (eprintln!(rt; "piper_pump: the output was closed"), 5),
+            Ended::Copies => (Ok(()), 7),
             Ended::Memory => (eprintln!(rt; "piper_pump: out of memory"), 6),
         };
         // There is nowhere left to say that standard error is closed.
         let _ = reported;
         ExitCode::from(status)
     }
+}
+
+// In the words that other options are refused in.
+fn report_not_taken(rt: &impl Eprint, word: &NotTaken) -> io::Result<()> {
+    eprintln!(rt;
+        "error: invalid value '{}' for '{}': {}\n\nFor more information, try '--help'.",
+        word.text, word.option, word.range
+    )
 }
 
 // Prints the help or the version, or why the words are refused. A help that can't be printed is an

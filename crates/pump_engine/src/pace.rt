@@ -4,12 +4,20 @@ ghost use Rattle.std.specs.Prelude.{◌<◌, ◌≤◌};
 use std::thread;
 use std::time::{Clock, Duration, Instant};
 
+/// For how many milliseconds bytes pass between two checks the clock.
+const STEP: u64 = 1;
+
+/// By how many milliseconds a sleep may be too long, which is made up for by later ones.
+const LAG: u64 = 100;
+
 /// How many bytes a second may pass, and how far ahead of that rate those are that did.
 #[derive(Clone, Copy)]
 pub struct Pace {
     rate: usize,
     since: Option<Instant>,
+    // How long the bytes take that have passed since then, and what that was when the clock was read.
     owed: Duration,
+    checked: Duration,
 }
 
 impl Pace {
@@ -18,6 +26,7 @@ impl Pace {
             rate,
             since: None,
             owed: Duration::ZERO,
+            checked: Duration::ZERO,
         }
     }
 
@@ -34,11 +43,12 @@ impl Pace {
         if self.since.is_none() {
             self.since = Instant::now(clock).ok();
             self.owed = Duration::ZERO;
+            self.checked = Duration::ZERO;
         }
     }
 
-    /// So many bytes have passed: sleeps until their time is over. Time in which none came is not
-    /// made up for.
+    /// So many bytes have passed: sleeps until their time is over. Of the time in which none came a
+    /// tenth of a second at most is made up for.
     pub fn keep(&mut self, clock: &impl Clock, count: usize) {
         let Some(since) = self.since else {
             return;
@@ -46,10 +56,14 @@ impl Pace {
         let owed = count as u128 * 1_000_000_000 / (self.rate as u128).max(1);
         let owed = Duration::from_nanos(owed.min(u64::MAX as u128) as u64);
         self.owed = self.owed.saturating_add(owed);
+        if self.owed.saturating_sub(self.checked) < Duration::from_millis(STEP) {
+            return;
+        }
+        self.checked = self.owed;
         let spent = since.elapsed(clock).unwrap_or(self.owed);
         if spent < self.owed {
             thread::sleep(clock, self.owed - spent);
-        } else {
+        } else if Duration::from_millis(LAG) < spent - self.owed {
             self.since = None;
         }
     }

@@ -1,16 +1,23 @@
-//! What is done, from what the words ask for: the rate, the size and the level in numbers, and the
-//! files opened.
-ghost use Rattle.std.specs.Prelude.{◌≡◌, None, Ok, OnErr, IfErr};
+//! What is done, from what the words ask for: the rate, the size and the level in numbers, and
+//! whether there is an input and an output.
+ghost use Rattle.std.specs.Prelude.{◌≡◌, None, IfErr};
 ghost use Rattle.pump_engine.specs.Ended.{IsEarly};
 
-use crate::arguments::{Arguments, Texts};
-use crate::ended::{Ended, Unopened};
-use crate::ends::{Drain, Inlet, Outlet};
-use piper_transfer::{Destination, Sizes, Source, parse_size};
-use std::alloc::{AllocGlobal, Global};
-use std::fs::{File, Files, OpenFile};
-use std::time::Clock;
-use std::{fs, io};
+use crate::arguments::Texts;
+use crate::ended::{Ended, Unopened, not_taken};
+use crate::streams::Streams;
+use piper_transfer::{Sizes, parse_size};
+use std::alloc::Global;
+use std::io;
+
+/// What follows each option that is read here.
+const SIZES: &str =
+    "a size is a number of bytes from 1 to 9223372036854775807, as 4096, 64K, 16m or 2GiB";
+
+const TOTALS: &str =
+    "a size is a number of bytes from 0 to 9223372036854775807, as 4096, 64K, 16m or 2GiB";
+
+const PERCENTS: &str = "a level is a number of percent from 0 to 100";
 
 /// The numbers that are asked for.
 #[derive(Clone, Copy)]
@@ -22,12 +29,21 @@ pub struct Numbers {
 }
 
 /// Reads the numbers after the options.
-pub fn numbers_of(sizes: Sizes, texts: Texts<'_>) -> Result<Numbers, Ended>
+pub fn numbers_of(alloc: Global, sizes: Sizes, texts: Texts<'_>) -> Result<Numbers, Ended>
     ensures { IfErr result IsEarly }
 {
-    let rate = optional_size("--rate", texts.rate)?;
-    let total = optional_size("--size", texts.size)?;
-    let percent = percent(texts.start_at)?;
+    let rate = match texts.rate {
+        Some(text) => Some(size(alloc, text)?),
+        None => None,
+    };
+    let total = match texts.size {
+        Some(text) => Some(total(alloc, text)?),
+        None => None,
+    };
+    let percent = match texts.start_at {
+        Some(text) => percent(alloc, text)?,
+        None => 0,
+    };
     let level = (sizes.capacity as u128 * percent as u128 / 100).min(
         sizes.capacity as u128,
     ) as usize;
@@ -38,141 +54,63 @@ pub fn numbers_of(sizes: Sizes, texts: Texts<'_>) -> Result<Numbers, Ended>
             level,
         },
         rate,
-        total: total.map(|total| total as u64),
+        total,
     })
 }
 
-fn optional_size(option: &'static str, text: Option<&str>) -> Result<Option<usize>, Ended>
+// How many bytes may pass in a second.
+fn size(alloc: Global, text: &str) -> Result<usize, Ended>
     ensures { IfErr result IsEarly }
+{
+    match parse_size(text) {
+        Ok(size) => Ok(size),
+        Err(_) => Err(not_taken(alloc, "--rate <N>", text, SIZES)),
+    }
+}
+
+// How many bytes come: a size, or none.
+fn total(alloc: Global, text: &str) -> Result<u64, Ended>
+    ensures { IfErr result IsEarly }
+{
+    if text == "0" {
+        return Ok(0);
+    }
+    match parse_size(text) {
+        Ok(size) => Ok(size as u64),
+        Err(_) => Err(not_taken(alloc, "--size <N>", text, TOTALS)),
+    }
+}
+
+// From 0 to 100.
+fn percent(alloc: Global, text: &str) -> Result<u8, Ended>
+    ensures { IfErr result IsEarly }
+{
+    match text.parse::<u8>() {
+        Ok(percent) if percent <= 100 => Ok(percent),
+        _ => Err(not_taken(alloc, "--start-at <N>", text, PERCENTS)),
+    }
+}
+
+/// The file that is named; `-` represents the standard stream.
+pub fn named<'a>(text: Option<&'a str>) -> Option<&'a str>
+    ensures { text.entry ≡ None → result ≡ None }
 {
     match text {
-        None => Ok(None),
-        Some(text) => match parse_size(text) {
-            Ok(size) => Ok(Some(size)),
-            Err(_) => Err(Ended::Value(option)),
-        },
+        Some("-") => None,
+        text => text,
     }
 }
 
-// From 0 to 100; 0 if it is left out.
-fn percent(text: Option<&str>) -> Result<u8, Ended>
+/// Refuses a standard stream that was closed, where no file is named in its place.
+pub fn refuse_closed(alloc: Global, texts: Texts<'_>, streams: Streams) -> Result<(), Ended>
     ensures { IfErr result IsEarly }
 {
-    match text {
-        None => Ok(0),
-        Some(text) => match text.parse::<u8>() {
-            Ok(percent) if percent <= 100 => Ok(percent),
-            _ => Err(Ended::Value("--start-at")),
-        },
+    let closed = io::Error::other("it is closed");
+    if named(texts.input).is_none() && !streams.has_input {
+        return Err(Ended::NoInput(Unopened::new(alloc, "standard input", closed)?));
     }
-}
-
-// The name of a file that can't be opened, and why.
-fn unopened(alloc: Global, name: &str, error: io::Error) -> Result<Unopened, Ended>
-    ensures { IfErr result IsEarly }
-{
-    match String::from_str(alloc, name) {
-        Ok(name) => Ok(Unopened { name, error }),
-        Err(_) => Err(Ended::Memory),
+    if named(texts.output).is_none() && !streams.has_output {
+        return Err(Ended::NoOutput(Unopened::new(alloc, "standard output", closed)?));
     }
-}
-
-// Opens the file that is read, if one is named.
-fn open_input<R>(rt: &R, alloc: Global, name: Option<&str>) -> Result<Option<File>, Ended>
-where
-    R: Files<File = File>,
-    ensures early { IfErr result IsEarly }
-    ensures none { name.entry ≡ None → result ≡ Ok None }
-{
-    match name {
-        None => Ok(None),
-        Some(name) => match fs::open(rt, name) {
-            Ok(file) => Ok(Some(file)),
-            Err(error) => Err(Ended::NoInput(unopened(alloc, name, error)?)),
-        },
-    }
-}
-
-// Makes a file that is written.
-fn create<R: Files<File = File>>(rt: &R, alloc: Global, name: &str) -> Result<File, Ended>
-    ensures { IfErr result IsEarly }
-{
-    match fs::create(rt, name) {
-        Ok(file) => Ok(file),
-        Err(error) => Err(Ended::NoOutput(unopened(alloc, name, error)?)),
-    }
-}
-
-// Makes the file that is written, if one is named.
-fn open_output<R>(rt: &R, alloc: Global, name: Option<&str>) -> Result<Option<File>, Ended>
-where
-    R: Files<File = File>,
-    ensures early { IfErr result IsEarly }
-    ensures none { name.entry ≡ None → result ≡ Ok None }
-{
-    match name {
-        None => Ok(None),
-        Some(name) => Ok(Some(create(rt, alloc, name)?)),
-    }
-}
-
-// Makes the files that get what passes, too.
-fn open_tees<R>(rt: &R, alloc: Global, names: &[&str]) -> Result<Vec<File>, Ended>
-where
-    R: Files<File = File>,
-    ensures { IfErr result IsEarly }
-{
-    let mut tees = Vec::new(alloc);
-    for name in names {
-        let file = create(rt, alloc, *name)?;
-        if tees.push(file).is_err() {
-            return Err(Ended::Memory);
-        }
-    }
-    Ok(tees)
-}
-
-/// Opens the files that are named, and takes them in place of what represents them. Where one can't
-/// be opened, both stay.
-pub fn open_files<R, S, D>(
-    rt: &R,
-    arguments: &Arguments<'_>,
-    rate: Option<usize>,
-    input: &mut Inlet<S>,
-    output: &mut Outlet<'_, R, D>,
-) -> Result<(), Ended>
-where
-    R: Files<File = File> + Clock + AllocGlobal,
-    S: Source + Drop,
-    D: Destination + Drop,
-    ensures early { IfErr result IsEarly }
-    ensures stays { OnErr result
-        ((input.new ≡ input.old) × (output.new.drain ≡ output.old.drain)) }
-    ensures input { arguments.now.texts.input ≡ None → input.new ≡ input.old }
-    ensures output { arguments.now.texts.output ≡ None → output.new.drain ≡ output.old.drain }
-{
-    let source = open_input(rt, rt.alloc(), arguments.texts.input)?;
-    let dest = open_output(rt, rt.alloc(), arguments.texts.output)?;
-    let tees = open_tees(rt, rt.alloc(), arguments.tees.as_slice())?;
-    if let Some(file) = source {
-        *input = Inlet::File(file);
-    }
-    if let Some(file) = dest {
-        output.drain = Drain::File(file);
-    }
-    output.copies.ask(tees, arguments.shows_sum, rate);
     Ok(())
-}
-
-/// How many bytes the input has, where it is a file that says.
-pub fn size_of<S: Source + Drop>(input: &Inlet<S>) -> Option<u64> {
-    let Inlet::File(file) = input else {
-        return None;
-    };
-    let attributes = file.metadata().ok()?;
-    if attributes.is_file() {
-        Some(attributes.len())
-    } else {
-        None
-    }
 }

@@ -1,16 +1,17 @@
 //! Lines on standard error that report how far a transfer is.
 ghost use Rattle.std.specs.Prelude.{◌≡◌, ◌-◌, ◌*◌, ◌/◌, ◌^◌, min, max, Some};
 ghost use Rattle.std.specs.Duration.{as_nanos};
-ghost use Rattle.pump_engine.specs.Progress.{amount_text, done_text, line_text, seconds_text};
 
+use crate::lines::{Done, Line};
 use piper_transfer::Meter;
-use std::fmt;
-use std::fmt::{Display, Formatter};
 use std::sync::{Condvar, Mutex, Wait};
 use std::time::{Clock, Duration, Instant};
 
 /// How many milliseconds it is from one line to the next.
 const PAUSE: u64 = 250;
+
+/// The longest time that is reported as left, in milliseconds: 99 hours. A longer one is a guess.
+const LONGEST: u128 = 356_400_000;
 
 /// Whether what is watched is over. Another thread may wait for that.
 #[derive(Drop)]
@@ -43,7 +44,7 @@ impl Over {
     }
 }
 
-/// What is told of a transfer, and how.
+/// What is reported of a transfer, and how.
 #[derive(Clone, Copy)]
 pub struct Watched {
     /// How many bytes the pipe can hold.
@@ -54,40 +55,103 @@ pub struct Watched {
     pub redraws: bool,
 }
 
+/// What was reported last, from which the next line goes on.
+#[derive(Clone, Copy)]
+pub struct Progress {
+    watched: Watched,
+    begun: Option<Instant>,
+    reported: Option<Instant>,
+    bytes: u64,
+    /// Bytes a second, as an average over the last seconds.
+    average: Option<u64>,
+}
+
 /// Prints a line four times a second until the transfer is over, and then one of the whole.
 pub fn watch<R>(rt: &R, meter: &Meter, watched: Watched, over: &Over)
 where
     R: Wait + Clock + Eprint,
 {
-    let start = Instant::now(rt).ok();
-    let pause = Duration::from_millis(PAUSE);
-    let mut last = 0;
+    let mut progress = Progress::new(rt, watched);
     for _ in rt.forever() {
-        let is_over = over.wait(rt, pause);
-        let bytes = meter.output.bytes();
-        let (moved, spent) = match start {
-            Some(start) if is_over => (bytes, start.elapsed(rt).unwrap_or(pause)),
-            _ => (bytes.saturating_sub(last), pause),
-        };
-        let rate = rate(moved, spent);
-        let line = Line {
-            bytes,
-            rate,
-            percent: percent(meter.input.bytes().saturating_sub(bytes), watched.capacity),
-            full: meter.input.waited(rt),
-            empty: meter.output.waited(rt),
-        };
-        print(
-            rt,
-            &line,
-            done_of(bytes, rate, watched.total),
-            watched.redraws,
-            is_over,
-        );
+        let is_over = over.wait(rt, Duration::from_millis(PAUSE));
+        progress.report(rt, meter, is_over);
         if is_over {
             return;
         }
-        last = bytes;
+    }
+}
+
+impl Progress {
+    pub fn new(clock: &impl Clock, watched: Watched) -> Progress {
+        let now = Instant::now(clock).ok();
+        Progress {
+            watched,
+            begun: now,
+            reported: now,
+            bytes: 0,
+            average: None,
+        }
+    }
+
+    /// Prints a line if the last one was printed a quarter of a second ago, where no other thread
+    /// does that.
+    pub fn report_if_due<R: Wait + Clock + Eprint>(&mut self, rt: &R, meter: &Meter) {
+        let since = match self.reported {
+            Some(reported) => reported.elapsed(rt).unwrap_or(Duration::ZERO),
+            None => Duration::ZERO,
+        };
+        if Duration::from_millis(PAUSE) <= since {
+            self.report(rt, meter, false);
+        }
+    }
+
+    /// Prints a line: of the time since the last one, or of the whole.
+    pub fn report<R: Wait + Clock + Eprint>(&mut self, rt: &R, meter: &Meter, is_last: bool) {
+        let bytes = meter.output.bytes();
+        let (moved, since) = if is_last {
+            (bytes, self.begun)
+        } else {
+            (bytes.saturating_sub(self.bytes), self.reported)
+        };
+        let rate = rate(moved, elapsed(rt, since));
+        self.average = Some(average(self.average, rate));
+        let held = meter.input.bytes().saturating_sub(bytes);
+        let line = Line {
+            bytes,
+            rate,
+            percent: percent(held, self.watched.capacity as u64),
+            full: meter.input.waited(rt),
+            empty: meter.output.waited(rt),
+        };
+        let done = self.done(bytes, is_last);
+        print(rt, &line, done, self.watched.redraws, is_last);
+        self.bytes = bytes;
+        self.reported = Instant::now(rt).ok();
+    }
+
+    // How much of all that comes has passed, and how long the rest takes; that is left out at the
+    // end, where more came than was reported, and where none comes.
+    fn done(&self, bytes: u64, is_last: bool) -> Option<Done> {
+        let total = self.watched.total?;
+        let average = self.average.unwrap_or(0);
+        let left = total.saturating_sub(bytes) as u128 * 1_000 / (average as u128).max(1);
+        let is_shown = !is_last && 0 < average && bytes < total && left <= LONGEST;
+        Some(Done {
+            percent: percent(bytes, total),
+            left: if is_shown {
+                Some(Duration::from_millis(left as u64))
+            } else {
+                None
+            },
+        })
+    }
+}
+
+fn elapsed(clock: &impl Clock, since: Option<Instant>) -> Duration {
+    let pause = Duration::from_millis(PAUSE);
+    match since {
+        Some(since) => since.elapsed(clock).unwrap_or(pause),
+        None => pause,
     }
 }
 
@@ -101,18 +165,8 @@ fn print(rt: &impl Eprint, line: &Line, done: Option<Done>, redraws: bool, is_la
     };
     let _ = match done {
         None => eprint!(rt; "{before}{line}{after}"),
-        Some(done) => eprint!(rt; "{before}{line}; {done}{after}"),
+        Some(done) => eprint!(rt; "{before}{line}{done}{after}"),
     };
-}
-
-// How much of all that comes has passed, and how long the rest takes at this rate.
-fn done_of(bytes: u64, rate: u64, total: Option<u64>) -> Option<Done> {
-    let total = total?;
-    let left = total.saturating_sub(bytes) / rate.max(1);
-    Some(Done {
-        percent: percent(bytes, total as usize),
-        left: Duration::from_secs(left),
-    })
 }
 
 // Bytes a second.
@@ -123,84 +177,19 @@ fn rate(bytes: u64, spent: Duration) -> u64
     (bytes as u128 * 1_000 / milliseconds).min(u64::MAX as u128) as u64
 }
 
-// How much of the capacity is taken, in percent.
-fn percent(held: u64, capacity: usize) -> u64
-    ensures { result ≡ min (held * 100 / max capacity 1) 100 }
+// The average of the last seconds, once a rate is added to it: each counts an eighth less than the
+// next one.
+fn average(average: Option<u64>, rate: u64) -> u64 {
+    match average {
+        None => rate,
+        Some(average) => ((average as u128 * 7 + rate as u128) / 8) as u64,
+    }
+}
+
+// How much of so many bytes that is, in percent; all of none.
+fn percent(bytes: u64, all: u64) -> u64
+    ensures { result ≡ min (bytes * 100 / max all 1) 100 }
 {
-    let capacity = (capacity as u128).max(1);
-    (held as u128 * 100 / capacity).min(100) as u64
-}
-
-/// What one line reports.
-#[derive(Drop)]
-struct Line {
-    bytes: u64,
-    rate: u64,
-    percent: u64,
-    /// How long the input had to wait since the pipe was full, and the output since it was empty.
-    full: Duration,
-    empty: Duration,
-}
-
-impl Display for Line {
-    ghost output = { λ line. Some (line_text line) };
-
-    fn fmt<W: fmt::Write>(&self, f: &mut Formatter<W>) -> fmt::Result {
-        write!(
-            f,
-            "{}, {}/s, {}% full; full for {}, empty for {}",
-            Amount(self.bytes),
-            Amount(self.rate),
-            self.percent,
-            Seconds(self.full),
-            Seconds(self.empty)
-        )
-    }
-}
-
-/// How much of all that comes has passed, in percent, and how long the rest takes.
-#[derive(Clone, Copy)]
-struct Done {
-    percent: u64,
-    left: Duration,
-}
-
-impl Display for Done {
-    ghost output = { λ done. Some (done_text done) };
-
-    fn fmt<W: fmt::Write>(&self, f: &mut Formatter<W>) -> fmt::Result {
-        write!(f, "{}% done, {} left", self.percent, Seconds(self.left))
-    }
-}
-
-/// A number of bytes, in the greatest unit of which it has one.
-#[derive(Clone, Copy)]
-struct Amount(u64);
-
-impl Display for Amount {
-    ghost output = { λ amount. Some (amount_text amount.0) };
-
-    fn fmt<W: fmt::Write>(&self, f: &mut Formatter<W>) -> fmt::Result {
-        let Amount(bytes) = *self;
-        let (unit, name) = match bytes {
-            1_073_741_824.. => (1_073_741_824, "GiB"),
-            1_048_576.. => (1_048_576, "MiB"),
-            1_024.. => (1_024, "KiB"),
-            _ => return write!(f, "{bytes} B"),
-        };
-        write!(f, "{}.{} {name}", bytes / unit, bytes % unit * 10 / unit)
-    }
-}
-
-/// A time in seconds, to a tenth.
-#[derive(Clone, Copy)]
-struct Seconds(Duration);
-
-impl Display for Seconds {
-    ghost output = { λ seconds. Some (seconds_text (as_nanos seconds.0)) };
-
-    fn fmt<W: fmt::Write>(&self, f: &mut Formatter<W>) -> fmt::Result {
-        let Seconds(time) = self;
-        write!(f, "{}.{} s", time.as_secs(), time.subsec_millis() / 100)
-    }
+    let all = (all as u128).max(1);
+    (bytes as u128 * 100 / all).min(100) as u64
 }

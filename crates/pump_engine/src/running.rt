@@ -5,14 +5,16 @@ ghost use Rattle.piper_transfer.specs.Transfer.{IsOfSide, Transfers, WritesAll};
 ghost use Rattle.pump_engine.specs.Arguments.{NamesNoFile, ShowsAsAsked, pump_command};
 ghost use Rattle.pump_engine.specs.Ended.{IsEarly};
 ghost use Rattle.pump_engine.specs.Ends.{drain_bytes, inlet_bytes, InletFails, IsFlushed};
-ghost use Rattle.pump_engine.specs.Ends.{IsFull, OutletFails};
+ghost use Rattle.pump_engine.specs.Ends.{DrainFails, IsFull};
 ghost use Rattle.pump_engine.specs.Running.{Runs};
 
 use crate::arguments::read_words;
 use crate::ended::Ended;
 use crate::ends::{Inlet, Outlet};
-use crate::plan::{numbers_of, open_files, size_of};
+use crate::opening::{open_files, size_of};
+use crate::plan::{numbers_of, refuse_closed};
 use crate::progress::{Over, Watched, watch};
+use crate::streams::Streams;
 use piper_transfer::{Destination, Meter, Sizes, Source, TransferError, transfer};
 use std::alloc::AllocGlobal;
 use std::fs::{File, Files};
@@ -31,7 +33,7 @@ struct Task {
 }
 
 /// Does what the words ask for, between an input and an output that represent files that are not
-/// named. `redraws` says that standard error is a terminal.
+/// named. One that was closed, and would be used, ends it.
 ///
 /// Words that are refused end it before a byte is moved. Else it ends as the transfer does: with
 /// success only where all that the input gave was written and flushed. Progress, told or not,
@@ -41,7 +43,7 @@ pub fn run<R, S, D>(
     words: &[String],
     input: &mut Inlet<S>,
     output: &mut Outlet<'_, R, D>,
-    redraws: bool,
+    streams: Streams,
 ) -> Ended
 where
     R: Wait + Threads + Clock + RandomSource + AllocGlobal + Files<File = File>,
@@ -55,18 +57,18 @@ where
         (drain_bytes D.contents output.old.drain) (drain_bytes D.contents output.new.drain)
         (IsFlushed D.flushed output.new.drain)
         (IsOfSide (InletFails S.fails input.new)
-        (OutletFails D.fails output.new.drain output.new.copies.has_failed)
-        (IsFull D.full output.new.drain)) result }
+        (DrainFails D.fails output.new.drain)
+        (IsFull D.full output.new.drain)) output.new.copies.has_failed result }
 {
-    let task = match prepare(rt, words, input, output, redraws) {
+    let task = match prepare(rt, words, input, output, streams) {
         Ok(task) => task,
         Err(ended) => return ended,
     };
-    let moved = pump(rt, input, output, task.sizes, task.asked);
-    if let Some(sum) = output.copies.sum() {
-        report_sum(rt, sum);
-    }
-    Ended::of(moved)
+    let meter = output.meter;
+    let watched = output.ask_progress(task.asked);
+    let moved = pump(rt, input, output, task.sizes, meter, watched);
+    output.report_rest(&moved);
+    Ended::of(moved, output.copies.has_failed)
 }
 
 // Reads the words, and opens the files that they name.
@@ -75,10 +77,10 @@ fn prepare<R, S, D>(
     words: &[String],
     input: &mut Inlet<S>,
     output: &mut Outlet<'_, R, D>,
-    redraws: bool,
+    streams: Streams,
 ) -> Result<Task, Ended>
 where
-    R: Clock + AllocGlobal + Files<File = File>,
+    R: Wait + Clock + Eprint + AllocGlobal + Files<File = File>,
     S: Source + Drop,
     D: Destination + Drop,
     ensures early { IfErr result IsEarly }
@@ -94,12 +96,13 @@ where
         Ok(arguments) => arguments,
         Err(error) => return Err(Ended::Words(error)),
     };
-    let numbers = numbers_of(arguments.sizes, arguments.texts)?;
+    let numbers = numbers_of(rt.alloc(), arguments.sizes, arguments.texts)?;
+    refuse_closed(rt.alloc(), arguments.texts, streams)?;
     open_files(rt, &arguments, numbers.rate, input, output)?;
     let watched = Watched {
         capacity: numbers.sizes.capacity,
-        total: numbers.total.or(size_of(input)),
-        redraws,
+        total: numbers.total.or(size_of(rt, input)),
+        redraws: streams.redraws,
     };
     let shows_progress = arguments.shows_progress && !arguments.is_quiet;
     Ok(Task {
@@ -115,6 +118,7 @@ pub(crate) fn pump<R, S, D>(
     source: &mut S,
     dest: &mut D,
     sizes: Sizes,
+    meter: &Meter,
     watched: Option<Watched>,
 ) -> Result<(), TransferError>
 where
@@ -127,30 +131,19 @@ where
     ensures reported { IfErr result
         (IsOfSide (S.fails source.new) (D.fails dest.new) (D.full dest.new)) }
 {
-    let meter = Meter::new();
     let Some(watched) = watched else {
-        return transfer(rt, source, dest, sizes, &meter);
+        return transfer(rt, source, dest, sizes, meter);
     };
     let over = Over::new();
-    let (seen, done) = (&meter, &over);
+    let done = &over;
     let (_, moved) = join_mut(
         rt,
-        &mut || watch(rt, seen, watched, done),
+        &mut || watch(rt, meter, watched, done),
         &mut || {
-            let moved = transfer(rt, source, dest, sizes, seen);
+            let moved = transfer(rt, source, dest, sizes, meter);
             done.report(rt);
             moved
         },
     );
     moved
-}
-
-// Reports the sum of what passed.
-fn report_sum(rt: &impl Eprint, digest: [u8; 32]) {
-    // There is nowhere left to say that standard error is closed.
-    let _ = eprint!(rt; "SHA-256: ");
-    for byte in &digest {
-        let _ = eprint!(rt; "{:02x}", byte);
-    }
-    let _ = eprintln!(rt; "");
 }

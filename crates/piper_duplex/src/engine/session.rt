@@ -15,7 +15,8 @@ use std::sync::Wait;
 use std::thread;
 use std::thread::Threads;
 
-/// How many bytes each way of the stream can hold.
+/// How many bytes each way of the stream can hold. So many pass at a time, with a change of threads
+/// each way, so that time goes into those.
 const CAPACITY: usize = 64;
 
 /// How many bytes are printed at once.
@@ -44,6 +45,11 @@ impl Ended {
     pub const OUT_OF_MEMORY: Ended = Ended {
         status: 2,
         text: "memory",
+    };
+
+    pub const NO_THREAD: Ended = Ended {
+        status: 2,
+        text: "no thread is granted",
     };
 
     pub const READ_FAILED: Ended = Ended {
@@ -103,7 +109,7 @@ where
     });
     let Ok(child) = spawned else {
         first.drop();
-        return Err(Ended::OUT_OF_MEMORY);
+        return Err(Ended::NO_THREAD);
     };
     let (mut reader, mut writer) = first.into_halves();
     let sent = talk(rt, alloc, &mut reader, &mut writer, input, output);

@@ -46,4 +46,6 @@ returns-clause-asked c =
       input = λ none. text_left_out words c.in_ok-matches.matches (codes "input") _ said c.texts_of.ensures.input none;
       output = λ none. text_left_out words c.in_ok-matches.matches (codes "output") _ said c.texts_of.ensures.output none;
       no_sum = λ reported. c.get_flag-3.ensures.other (flag_said words c.in_ok-matches.matches (codes "sha256") said ∙ reported);
+      force = λ reported. c.get_flag-4.ensures.value (flag_said words c.in_ok-matches.matches (codes "force") said ∙ reported);
+      no_force = λ reported. c.get_flag-4.ensures.other (flag_said words c.in_ok-matches.matches (codes "force") said ∙ reported);
     }

@@ -1,0 +1,60 @@
+//! The whole program: a run on a thread of its own, for whose end the first thread waits.
+ghost use Rattle.std.specs.Prelude.{⊤};
+
+use crate::copies::Copies;
+use crate::ends::{Drain, Inlet, Outlet};
+use crate::outcome::Outcome;
+use crate::running::run;
+use crate::streams::Streams;
+use piper_transfer::{Destination, Meter, Source};
+use std::alloc::{AllocGlobal, Global};
+use std::fs::{File, Files};
+use std::marker::Send;
+use std::random::RandomSource;
+use std::sync::{Arc, Wait};
+use std::thread::{Promise, Threads};
+use std::time::Clock;
+
+/// How many bytes the stack of the run's thread has, however small the system makes those of others.
+pub const STACK: usize = 262_144;
+
+/// What is promised of the result of the run's thread, which has none.
+#[derive(Clone, Copy)]
+pub struct Nothing;
+
+impl Promise<()> for Nothing {
+    ghost kept_by = { λ _ _. ⊤ };
+}
+
+/// Does what the words ask for between these streams, as `run` does, and reports `outcome` how that
+/// ended; and before, at once, where the output fails.
+///
+/// It is for a thread of its own, that is not joined. So the program can end where its output has
+/// failed, though a read is under way that no byte comes for.
+pub fn run_and_report<R, S, D>(
+    rt: R,
+    words: Vec<String>,
+    source: S,
+    dest: D,
+    streams: Streams,
+    outcome: Arc<Outcome, Global>,
+)
+where
+    R: Wait + Threads + Clock + RandomSource + AllocGlobal + Files<File = File>,
+    R: Eprint + Clone + Drop + Send + Sync,
+    S: Source + Send + Drop,
+    D: Destination + Drop,
+{
+    let mut input = Inlet::Standard(source);
+    let meter = Meter::new();
+    let mut output = Outlet {
+        rt: &rt,
+        drain: Drain::Standard(dest),
+        copies: Copies::new(&rt, Vec::new(rt.alloc())),
+        outcome: &outcome,
+        meter: &meter,
+        progress: None,
+    };
+    let ended = run(&rt, words.as_slice(), &mut input, &mut output, streams);
+    outcome.end(&rt, ended);
+}

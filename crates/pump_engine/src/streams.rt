@@ -1,0 +1,80 @@
+//! The standard streams, as they were where the program began.
+ghost use Rattle.std.specs.Prelude.{IfErr};
+ghost use Rattle.pump_engine.specs.Ended.{IsEarly};
+
+use crate::ended::{Ended, Unopened};
+use std::alloc::AllocGlobal;
+use std::fs::{File, Files, OpenOptions};
+use std::os::fd::AsFd;
+
+/// The device that is opened in place of a stream that is closed.
+const NULL: &str = "/dev/null";
+
+/// The system's error where a number is that of no open file.
+const NOT_OPEN: i32 = 9;
+
+/// What is known of the standard streams.
+#[derive(Clone, Copy)]
+pub struct Streams {
+    /// Whether standard input was open.
+    pub has_input: bool,
+    /// Whether standard output was open.
+    pub has_output: bool,
+    /// Whether standard error was open.
+    pub has_error: bool,
+    /// Whether standard error is a terminal, where each line is drawn over the one before.
+    pub redraws: bool,
+}
+
+/// Files with the numbers of the standard streams that were closed.
+#[derive(Drop)]
+pub struct Fillers {
+    _input: Option<File>,
+    _output: Option<File>,
+    _error: Option<File>,
+}
+
+/// Whether this stream is open.
+pub fn is_open(stream: &impl AsFd) -> bool {
+    match stream.as_fd().try_clone_to_owned() {
+        Ok(_) => true,
+        Err(error) => error.raw_os_error() != Some(NOT_OPEN),
+    }
+}
+
+impl Streams {
+    /// Opens a file in place of each stream that was closed, so that no file that is opened later
+    /// gets its number, and with it what is read from or written to the stream. The first is open
+    /// for writing and the others for reading, so that what uses them fails.
+    ///
+    /// It is called before any other file is opened, and what it returns is kept to the end.
+    pub fn fill<R>(&self, rt: &R) -> Result<Fillers, Ended>
+    where
+        R: Files<File = File> + AllocGlobal,
+        ensures { IfErr result IsEarly }
+    {
+        // The system gives the lowest number that is free.
+        let _input = open_unless(rt, self.has_input, OpenOptions::new().write(true))?;
+        let _output = open_unless(rt, self.has_output, OpenOptions::new().read(true))?;
+        let _error = open_unless(rt, self.has_error, OpenOptions::new().read(true))?;
+        Ok(Fillers {
+            _input,
+            _output,
+            _error,
+        })
+    }
+}
+
+fn open_unless<R>(rt: &R, is_open: bool, how: &OpenOptions) -> Result<Option<File>, Ended>
+where
+    R: Files<File = File> + AllocGlobal,
+    ensures { IfErr result IsEarly }
+{
+    if is_open {
+        return Ok(None);
+    }
+    match how.open(rt, NULL) {
+        Ok(file) => Ok(Some(file)),
+        Err(error) => Err(Ended::NoOutput(Unopened::new(rt.alloc(), NULL, error)?)),
+    }
+}

@@ -1,0 +1,153 @@
+#!/usr/bin/env bash
+# Tries the built programs where a user may lose bytes by them, or not hear of it, in under two minutes.
+#
+#     tests/programs.sh [FOLDER]
+#
+# FOLDER has the built programs; if it is left out, each is taken from out/ of its crate, where `rt run` builds it. It needs
+# bash, the coreutils and util-linux's prlimit (and setpriv where root runs it). Each case runs under a time limit, and what
+# would hang fails so. The last line is `N passed, M failed`.
+set -u
+here=$(cd "$(dirname "$0")" && pwd)
+. "$here/trying.bash"
+room=$(mktemp -d)
+trap 'rm -rf "$room"' EXIT
+programs='piper_pump piper_stress piper_bench piper_compare duplex_echo line_tasks proved_order'
+for program in $programs; do
+    cp "${1:-$here/../crates/$program/out}/$program" "$room/" || exit 2
+    chmod 755 "$room/$program"
+done
+chmod 755 "$room"
+cd "$room" || exit 2
+export pump=./piper_pump
+lines 5000000 > file
+lines 20000 > short
+
+# Closed standard streams: no file that is opened takes their numbers.
+try 'a closed standard error, and a file' 10 0 '' '$pump --sha256 -o sent < short 2>&-; status=$?; cmp sent short && exit $status'
+try 'a closed standard output' 10 4 'standard output' '$pump --tee copy < file >&-'
+note 'a closed standard output, before a file is made' test ! -e copy
+try 'a closed standard input' 10 3 'standard input' '$pump -o none <&-'
+note 'a closed standard input, before a file is made' test ! -e none
+try 'all closed, and files' 10 0 '' '$pump -i file -o moved <&- >&- 2>&-; status=$?; cmp moved file && exit $status'
+
+# An input that is an output, too.
+echo kept > kept
+cp file twice
+ln twice link
+ln -s twice symlink
+try 'one file as the input and the output' 10 4 '^piper_pump: twice: ' '$pump --force -i twice -o twice'
+try 'one file under two names' 10 4 '^piper_pump: link: ' '$pump --force -i twice -o link'
+try 'one file by a symbolic link' 10 4 '^piper_pump: symlink: ' '$pump --force -o symlink < twice'
+try 'one file as the input and a copy' 10 4 '^piper_pump: twice: ' '$pump --force -i twice --tee twice'
+try 'one file that is appended to' 10 4 '^piper_pump: standard output: ' '$pump -i twice >> twice'
+try 'the same, by the shell alone' 10 4 '^piper_pump: standard output: ' '$pump < twice >> twice'
+try 'one file that is written twice' 10 4 '^piper_pump: twice: ' '$pump --force -o link --tee twice < file'
+note 'it keeps its bytes' cmp twice file
+try_silent 'a device as the input and the output' 10 0 '$pump -i /dev/null -o /dev/null --tee /dev/null'
+
+# Files that hold bytes, and a start that fails.
+try 'a file that holds bytes' 10 4 '^piper_pump: kept: .*--force' '$pump -o kept < file'
+try 'a copy that holds bytes' 10 4 '^piper_pump: kept: .*--force' '$pump --tee kept < file'
+try 'a copy that can not be made' 10 4 '^piper_pump: no/such/file: ' '$pump --force -o kept --tee no/such/file < file'
+try 'an input that is not there' 10 3 '^piper_pump: no/such/file: ' '$pump --force -o kept -i no/such/file'
+try 'memory that is refused' 10 6 'out of memory' 'prlimit --as=8192000 $pump --capacity 64M --force -o kept < file'
+note 'what a file held stays where the pump does not begin' test "$(cat kept)" = kept
+: > empty
+try_silent 'a file that is empty' 10 0 '$pump -o empty < file && cmp empty file'
+cp file long
+lines 100 >> long
+try_silent 'a file that is overwritten' 10 0 '$pump --force -o long --tee kept < file && cmp long file && cmp kept file'
+try_silent 'a file that is overwritten by nothing' 10 0 '$pump --force -o long < /dev/null && test ! -s long'
+
+# Copies that fail: the output and the other copies get all bytes, and the file is named.
+try 'a copy that is full' 20 7 '^piper_pump: /dev/full: No space' '$pump --tee /dev/full --tee second < file > first; status=$?; cmp first file && cmp second file && exit $status'
+try 'a copy whose reader left' 20 7 '^piper_pump: /dev/fd/[0-9]*: Broken pipe' '$pump --tee >(exec true) --tee third < file > first; status=$?; cmp first file && cmp third file && exit $status'
+note 'it is told once' test "$(wc -l < told)" -eq 1
+try 'a full copy, and a full output' 20 4 'writing the output failed' '$pump --tee /dev/full < file > /dev/full'
+
+# Ends that fail while the input is idle.
+export feed='sleep 0.5; echo a line; exec sleep 30'
+try 'a full output, and an idle input' 5 4 'writing the output failed' '$pump < <(eval "$feed") > /dev/full'
+try 'a full file, and an idle input' 5 4 'writing the output failed' '$pump -o /dev/full < <(eval "$feed")'
+try 'a full output with progress, and an idle input' 5 4 'writing the output failed' '$pump --progress < <(eval "$feed") > /dev/full'
+try 'a reader that left, and an idle input' 5 5 'the output was closed' '$pump < <(eval "$feed") | true; exit ${PIPESTATUS[0]}'
+
+# Threads that are refused, or begin late.
+alone=''
+if [ "$(id -u)" -eq 0 ]; then
+    alone='setpriv --reuid=65533 --regid=65533 --clear-groups'
+fi
+export alone
+try 'progress on one thread' 20 0 'KiB' '(for i in 1 2 3 4 5; do lines 5000; sleep 0.4; done) | $alone prlimit --nproc=1 $pump --progress > /dev/null'
+note 'it is told more than once' test "$(wc -l < told)" -ge 4
+try_silent 'the level on one thread' 20 0 '(lines 400; sleep 1; lines 200; sleep 1) | $alone prlimit --nproc=1 $pump --capacity 1000 --start-at 50 | (sleep 0.5; timeout 0.3 head -c 1 > early; sleep 0.7; timeout 0.5 head -c 600 > late); test ! -s early && cmp late <(lines 400; lines 200)'
+cat > late.sh <<'LATE'
+# Stops a pump as it begins, and goes on later: it is to have its threads for the run and for the input.
+has_threads() { test "$(ls "/proc/$child/task" | wc -l)" -ge 3; }
+for turn in {1..20}; do
+    sleep 20 | $pump &
+    child=$!
+    sleep "0.00$((RANDOM % 10))"
+    kill -STOP $child
+    sleep 0.3
+    kill -CONT $child
+    for wait in {1..50}; do
+        if has_threads; then break; fi
+        sleep 0.1
+    done
+    sleep 0.1
+    has_threads || exit 1
+    kill $child
+done
+LATE
+try_silent 'threads that begin late' 60 0 '. ./late.sh'
+
+# Words.
+try 'a rate that is none' 10 2 "invalid value 'x' for '--rate <N>': .* from 1 to " '$pump --rate x < file'
+try 'a size that is none' 10 2 "invalid value 'x' for '--size <N>': .* from 0 to " '$pump --size x < file'
+try 'a level that is none' 10 2 "invalid value '101' for '--start-at <N>': .* from 0 to 100" '$pump --start-at 101 < file'
+try_silent 'a size of none' 10 0 '$pump --size 0 < /dev/null'
+try_silent 'names of the standard streams' 10 0 '$pump -i - -o - < file | cmp - file && test ! -e ./-'
+try 'the sum, quietly' 20 0 "$(sha256sum < short | cut -c1-64)" '$pump --quiet --progress --sha256 < short > /dev/null'
+note 'it is told alone' test "$(wc -l < told)" -eq 1
+try_silent 'the help' 10 0 '$pump --help'
+note 'the help tells what a signal costs' grep -q 'is lost where a signal ends it' out
+
+# A small stack, and a rate of single bytes.
+try 'a small stack' 20 0 "$(sha256sum < short | cut -c1-64)" 'ulimit -s 16; $pump --sha256 < short > /dev/null'
+begun=$(date +%s%N)
+try_silent 'a rate of single bytes' 20 0 'head -c 100000 file | $pump --rate 100000 --chunk 1 > /dev/null'
+took=$((($(date +%s%N) - begun) / 1000000))
+note "100,000 bytes at 100,000 a second, one by one, took $took ms" test "$took" -ge 800 -a "$took" -le 1500
+
+# Progress.
+try 'progress that knows the size by the shell' 20 0 '; [0-9]*%, [0-9.]* [a-z]* left' '$pump --progress --rate 3m < file > /dev/null'
+try 'a part of a file' 20 0 '; 100%$' '(head -c 4000000 > /dev/null; $pump --progress) < file > /dev/null'
+try 'progress at its longest' 20 0 '; 0%, 2[0-9] h left' '(lines 2000000; sleep 1) | $pump --progress --capacity 1m --size 99000000000 --rate 1m > /dev/null'
+note 'no line has more than 79 columns' awk 'length($0) > 79 { exit 1 }' told
+
+# The help, the version and an unknown word of each program.
+for program in $programs; do
+    try_silent "the help of $program" 10 0 "./$program --help"
+    note "the help of $program, by name and with each status" awk -v name="$program" 'tolower($0) ~ "^usage: " name { named = 1 } /^Exit status:/ { told = 1 } END { exit !(named && told) }' out
+    try_silent "the version of $program" 10 0 "./$program --version"
+    note "the version of $program, in one line" grep -qx "$program [0-9.]*" out
+    refused=2
+    case $program in duplex_echo | piper_bench) refused=1 ;; esac
+    try "an unknown word, to $program" 10 $refused '' "./$program --speed"
+    note "an unknown word, to $program: nothing is printed" test ! -s out
+done
+
+# Each way in which they fail has its status and its words.
+try 'an echo' 10 0 '' './duplex_echo < short | cmp - short'
+try_silent 'an echo of a word: as promised, nothing is told' 10 1 './duplex_echo x < short'
+try 'an echo without a thread' 10 2 'no thread is granted' '$alone prlimit --nproc=1 ./duplex_echo < short'
+try 'an echo to a full output' 10 2 'write failed' './duplex_echo < short > /dev/full'
+try 'a hunt' 20 0 'games' './piper_stress 1 1 100'
+try 'a hunt to a full output' 20 3 'standard output: No space left' './piper_stress 1 1 3 > /dev/full'
+try 'a hunt to a closed output' 20 3 'standard output: Bad file' './piper_stress 1 1 3 >&-'
+try 'a hunt without a thread' 20 4 'no thread is granted' '$alone prlimit --nproc=1 ./piper_stress 1 1 3'
+try 'a bench to a full output' 20 2 '^piper_bench: No space left' './piper_bench ring 64 16 1000 > /dev/full'
+try 'a bench without a thread' 20 2 'no thread is granted' '$alone prlimit --nproc=1 ./piper_bench ring2 64 16 1000'
+
+count
