@@ -1,0 +1,51 @@
+"""Sends a line through a pipe of bytes. LIBRARY is a shared object of the archive:
+
+    make -C c libpiper.so && python3 c/pipe.py c/libpiper.so
+"""
+import ctypes
+import sys
+
+lib = ctypes.CDLL(sys.argv[1])
+size, byte_p = ctypes.c_size_t, ctypes.POINTER(ctypes.c_uint8)
+
+
+class Handle(ctypes.Structure):
+    _fields_ = [("at", ctypes.c_void_p)]
+
+
+class Words(ctypes.Structure):
+    _fields_ = [("data", size), ("vtable", size)]
+
+
+class Moved(ctypes.Structure):
+    _fields_ = [("count", size), ("wake", Words)]
+
+
+class Left(ctypes.Structure):
+    _fields_ = [("wake", Words), ("mine", Words)]
+
+
+def declare(name, result, *arguments):
+    call = getattr(lib, "piper_" + name)
+    call.restype, call.argtypes = result, arguments
+    return call
+
+
+handle = ctypes.POINTER(Handle)
+pipe_open = declare("open", ctypes.c_bool, size, handle, handle)
+write = declare("writer_write", Moved, handle, ctypes.c_char_p, size)
+read = declare("reader_read", Moved, handle, ctypes.c_char_p, size)
+reader_drop = declare("reader_drop", Left, handle)
+writer_drop = declare("writer_drop", Left, handle)
+
+reader, writer = Handle(), Handle()
+if not pipe_open(1000, reader, writer):
+    sys.exit("no memory")
+line = b"hello from Python"
+sent = write(writer, line, len(line)).count
+place = ctypes.create_string_buffer(100)
+came = read(reader, place, len(place)).count
+writer_drop(writer)
+reader_drop(reader)
+print(place.raw[:came].decode())
+sys.exit(0 if sent == came == len(line) else 1)

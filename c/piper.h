@@ -1,0 +1,192 @@
+/* A byte pipe for one reader and one writer, for C and what calls C.
+ *
+ * Nothing here waits, takes a lock, starts a thread or calls back. A side that has nothing to do
+ * leaves two machine words of its own in the pipe and goes to sleep by whatever means it likes.
+ * Whoever changes something that the sleeping side waits for gets these words as a result of its
+ * call, and then has to wake that side.
+ *
+ * What a caller owes, in every call:
+ * - A handle that a call takes is open: `piper_open` filled it, and it was not dropped since.
+ *   `at` belongs to the pipe. A handle may be moved, and then its old place is not used again.
+ * - A handle is used by one thread at a time. The two handles of a pipe may be used by two threads
+ *   at the same time. A handle may go to another thread, ordered by a lock, a start or join of a
+ *   thread, or a sequentially consistent atomic.
+ * - Each open handle is dropped once, by `piper_reader_drop` or `piper_writer_drop`.
+ * - A pointer is not null, and the memory at it is the caller's for as long as the call runs. That
+ *   of a pointer and a length (`to`, `from`) is at least that long, and is no part of the pipe.
+ * - No call is made from a signal handler, nor in the forked child of a process with threads.
+ *
+ * Memory comes from `malloc` and goes back by `free`: link with liblibc_c.a of the toolchain.
+ */
+#ifndef PIPER_H
+#define PIPER_H
+
+#include <stdbool.h>
+#include <stddef.h>
+#include <stdint.h>
+
+#ifdef __cplusplus
+extern "C" {
+#endif
+
+/* Two words that a waiting side leaves: a function and its argument, a pointer to a condition
+ * variable, a descriptor, or in Rust the data and the vtable of a waker. The pipe never reads them
+ * but to see whether `vtable` is 0. In a result `vtable` 0 means: none. */
+typedef struct {
+    uintptr_t data;
+    uintptr_t vtable;
+} piper_words;
+
+/* The side that reads. It is one pointer, null where the handle isn't open. */
+typedef struct {
+    void *at;
+} piper_reader;
+
+/* The side that writes. */
+typedef struct {
+    void *at;
+} piper_writer;
+
+/* What a poll found. */
+enum {
+    /* Nothing to do yet: `mine` was left, and comes back as a result of some later call. */
+    PIPER_PENDING = 0,
+    /* Of a reader: a byte can be read. Of a writer: there is room. */
+    PIPER_READY = 1,
+    /* Of a reader: the pipe is closed, and all that was ever published was consumed. Of a writer:
+     * the pipe is closed. It is final. */
+    PIPER_END = 2,
+    /* The other side is just taking the words that were left before. Nothing was left: poll again,
+     * at once or after a yield. */
+    PIPER_AGAIN = 3,
+    /* Words whose `vtable` is 0 can't be left. Nothing was done. */
+    PIPER_REFUSED = 4
+};
+
+/* The result of a poll. */
+typedef struct {
+    /* One of the five above. */
+    uint32_t outcome;
+    /* Words that an earlier poll of this handle left and that nobody took: they are this side's
+     * again. None where there were none. */
+    piper_words before;
+    /* The words of this call where they were not left, or were taken out again by the same call;
+     * none where they are still in the pipe or the other side took them. */
+    piper_words mine;
+} piper_polled;
+
+/* The result of a call that moves bytes. */
+typedef struct {
+    /* How many bytes were moved. */
+    size_t count;
+    /* Who has to be woken now, if anyone: the other side's words. They are handed out once, and
+     * whoever gets them has to wake. */
+    piper_words wake;
+} piper_moved;
+
+/* The result of a close or a drop. */
+typedef struct {
+    /* Who has to be woken now, if anyone: the other side's words. */
+    piper_words wake;
+    /* Words that this handle had left and that nobody took, if any: they are this side's again. */
+    piper_words mine;
+} piper_left;
+
+/* Opens a pipe that holds `capacity` bytes. `*reader` and `*writer` are overwritten, whatever they
+ * held. Returns false, and makes both null, where the capacity is 0 or 2^63 or more, or where
+ * memory was refused. */
+bool piper_open(size_t capacity, piper_reader *reader, piper_writer *writer);
+
+/* ---- The side that reads ---- */
+
+/* Checks for a byte, or for the end. Where there is neither, leaves `mine`, checks once more, and
+ * then is pending: whoever publishes bytes or closes the pipe from then on gets `mine`. It checks
+ * for more bytes only where it knows of none. Every PIPER_PENDING replaces the words of the one
+ * before. Where the outcome is PIPER_END words may still be in the pipe: the drop returns them. */
+piper_polled piper_reader_poll(piper_reader *reader, piper_words mine);
+
+/* Checks for a byte, or for the end, and leaves no words: the outcome is PIPER_READY, PIPER_END, or
+ * PIPER_PENDING where there is neither now. Words that a poll left stay where they are. */
+uint32_t piper_reader_look(piper_reader *reader);
+
+/* The known bytes that lie in one piece, the next one first: puts their address into `*at` and
+ * returns how many they are, at least one after a poll that was ready. The bytes stay there,
+ * unchanged, until this reader's next `consume`, `read` or `drop`; they are not to be written. */
+size_t piper_reader_peek(piper_reader *reader, const uint8_t **at);
+
+/* Takes the first `n` bytes of what `peek` gives, and gives their places back to the writer.
+ * Returns who has to be woken now, if anyone. An `n` over what `peek` gives is refused: nothing is
+ * done, and nobody is returned. */
+piper_words piper_reader_consume(piper_reader *reader, size_t n);
+
+/* Copies bytes to `to`, at most `len`, and takes them. It never waits: `count` is 0 only where
+ * `len` is 0 or no byte was there. It may be less than `len` though more bytes are there: call
+ * again until it is 0. */
+piper_moved piper_reader_read(piper_reader *reader, uint8_t *to, size_t len);
+
+/* How many bytes are unread now. The writer may publish more at any time. */
+size_t piper_reader_len(piper_reader *reader);
+
+/* How many bytes the pipe can hold. */
+size_t piper_reader_capacity(piper_reader *reader);
+
+/* Whether the pipe is closed now: a side was dropped, or the writer closed it. Bytes may still be
+ * unread. */
+bool piper_reader_is_closed(piper_reader *reader);
+
+/* Closes the pipe, and drops this side; `reader->at` is null then. What is unread is lost. The
+ * memory is freed with the second of the two sides. */
+piper_left piper_reader_drop(piper_reader *reader);
+
+/* ---- The side that writes ---- */
+
+/* Checks for room, or for the end. Where there is neither, leaves `mine`, checks once more, and then
+ * is pending: whoever consumes bytes or closes the pipe from then on gets `mine`. As the reader's
+ * poll in all else. */
+piper_polled piper_writer_poll(piper_writer *writer, piper_words mine);
+
+/* Checks for room, or for the end, and leaves no words, as the reader's look does. */
+uint32_t piper_writer_look(piper_writer *writer);
+
+/* Lends room to be written to, at most `max` bytes in one piece: puts its address into `*at` and
+ * returns how many bytes it is. It is at least one after a poll that was ready, where `max` isn't
+ * 0 and this side has not closed the pipe; it may be less than `max` though more room is there.
+ * What is in the bytes is not said.
+ *
+ * The room is the caller's to read and write until `piper_writer_publish` takes it back. That call
+ * has to be made, and no other call of this writer is made before it. */
+size_t piper_writer_lend(piper_writer *writer, size_t max, uint8_t **at);
+
+/* Ends the loan of the room at `at`, the address that the last lend gave out: publishes its first
+ * `n` bytes, as the caller wrote them, and takes all of it back. Returns who has to be woken now, if
+ * anyone. `n` is at most what that lend returned; that is not tested. With an `n` of 0 it takes the
+ * room back, and does nothing else. */
+piper_words piper_writer_publish(piper_writer *writer, uint8_t *at, size_t n);
+
+/* Copies bytes from `from`, at most `len`, into the pipe, and publishes them. It never waits:
+ * `count` is 0 only where `len` is 0, the pipe is closed or there was no room. It may be less than
+ * `len` though more room is there: call again until it is 0. */
+piper_moved piper_writer_write(piper_writer *writer, const uint8_t *from, size_t len);
+
+/* How many bytes are unread now. The reader may consume some at any time. */
+size_t piper_writer_len(piper_writer *writer);
+
+/* How many bytes the pipe can hold. */
+size_t piper_writer_capacity(piper_writer *writer);
+
+/* Whether the pipe is closed now: a side was dropped, or this one closed it. */
+bool piper_writer_is_closed(piper_writer *writer);
+
+/* Closes the pipe for good: the reader can still read what is unread. Nothing is lent or can be
+ * published then. Both words that come back are to be woken, those of this side too. */
+piper_left piper_writer_close(piper_writer *writer);
+
+/* Closes the pipe, and drops this side; `writer->at` is null then. The memory is freed with the
+ * second of the two sides. */
+piper_left piper_writer_drop(piper_writer *writer);
+
+#ifdef __cplusplus
+}
+#endif
+
+#endif

@@ -1,0 +1,29 @@
+/* Shows ThreadSanitizer which call comes after which, since it doesn't see into the archive: what one
+ * side's calls did before it published or gave room back has been done for the other side's calls
+ * after that. So it checks that the C code keeps to what piper.h allows. Linked with --wrap. */
+#include "piper.h"
+
+void __tsan_acquire(void *at);
+void __tsan_release(void *at);
+
+/* From the writer to the reader, and back. */
+static char bytes, room;
+
+#define WRAP(result, name, arguments, passed, before, after) \
+    result __real_##name arguments;                          \
+    result __wrap_##name arguments;                          \
+    result __wrap_##name arguments {                         \
+        __tsan_release(&before);                             \
+        result answer = __real_##name passed;                \
+        __tsan_acquire(&after);                              \
+        return answer;                                       \
+    }
+
+WRAP(piper_words, piper_writer_publish, (piper_writer * w, uint8_t *at, size_t n), (w, at, n), bytes, room)
+WRAP(piper_polled, piper_writer_poll, (piper_writer * w, piper_words mine), (w, mine), bytes, room)
+WRAP(uint32_t, piper_writer_look, (piper_writer * w), (w), bytes, room)
+WRAP(piper_left, piper_writer_drop, (piper_writer * w), (w), bytes, room)
+WRAP(piper_words, piper_reader_consume, (piper_reader * r, size_t n), (r, n), room, bytes)
+WRAP(piper_polled, piper_reader_poll, (piper_reader * r, piper_words mine), (r, mine), room, bytes)
+WRAP(uint32_t, piper_reader_look, (piper_reader * r), (r), room, bytes)
+WRAP(piper_left, piper_reader_drop, (piper_reader * r), (r), room, bytes)

@@ -1,0 +1,4 @@
+pub mod ReaderValues
+pub mod WriterValues
+pub mod RoomValues
+pub mod HeldSteps

@@ -1,0 +1,38 @@
+-- `none` owns nothing. Assumes `Logic`.
+use Rattle.std.proofs.Common.{◌≡◌, [], ◌∷◌, refl}
+use Rattle.std.specs.Prelude.{None}
+use mir.Val.{Val}
+use base.Logic.{SProp, emp}
+use base.Fml.{ftrue}
+use types.Kit.{‵, raw, ◌⊛◌, ◌$◌, ◌∵◌, !, qed, by, keep, split, fjoin, use0}
+use types.Run.{lit, no_more, and_then, returns, enter}
+use types.ByLocal.{alloc_all, pass_all, free_all, look_at, sets}
+use types.Part.{agg}
+use contract.Monad.{fact, fact_i}
+use contract.Running.{tables}
+use denote.RawPtr.{null_ptr}
+use denote.Steps.{nothing}
+use denote.Triple.Walked.{Stays, walk_of}
+use Rattle.std_alloc.proofs.RcSteps.{word-Good}
+use Rattle.rtrb.proofs.Walks.{proved, leaves}
+use Rattle.piper_c.specs.contracts.handles.PiperReader as Handle
+use Rattle.piper_c.proofs.ReaderValues.{handle_val, Data, made}
+use Rattle.piper_c.specs.contracts.handles.PiperReader.none.{ended, clauses}
+use Rattle.piper_c.specs.contracts.handles.PiperReader.none.Key.{name as #self}
+use Rattle.piper_c.proofs.handles.PiperReader.none.Statement.{statement}
+use Rattle.piper_c.proofs.handles.PiperReader.none.Code as code
+
+pub none_spec : {M : Type 1} → statement M
+none_spec 𝓤 𝓛 𝓜 𝓡 wired =
+    let H = 𝓛.H in let 𝓣 = tables 𝓤 H 𝓜 𝓡 𝓡.env in let En = ended in let fn = code.function in let c = clauses 𝓛 𝓜.mem 𝓡.returns in
+    let hs : Stays En.signature.params En.kept = tt in
+    proved 𝓛 En hs c 𝓜 𝓡 tt #self fn (code.unfolded 𝓤 H 𝓜 𝓡 wired) (λ κs. tt) (λ κs. tt) (λ κs qs bounds a gh are.
+    let y : (walk_of 𝓛 En hs c).Ghost = ((κs, qs, bounds, a, tt), gh) in let Post : Val → SProp 𝓤 = (walk_of 𝓛 En hs c).post y in
+    let new : Handle.the_row.Denot = record { at = null_ptr; half = None } in
+    qed 𝓛 ((‵ ftrue ⊛ ‵ ftrue) ∷ raw ((c κs a).requires gh) ∷ []) ∵ split ! $
+    enter ! 𝓣.C 𝓣.Λ fn [] Post $ alloc_all ! (λ l. pass_all ! refl tt $
+    sets ! (agg ! (and_then ! (lit ! tt) (no_more !))) refl (word-Good [] null_ptr) $ returns ! (look_at ! 0 refl) $ free_all ! refl $
+    nothing ! $ use0 𝓛 (‵ (Data.own_val (null_ptr, tt) (handle_val null_ptr ∷ []))) (made 𝓛 null_ptr) $ fjoin ! $
+    use0 𝓛 (raw (fact 𝓤 (new.half ≡ None))) (fact_i 𝓤 (new.half ≡ None) (emp 𝓤) refl) $ nothing ! $
+    -- [what is left of the parameters; the fact; the handle; the tokens]
+    keep ! (3 ∷ 0 ∷ 2 ∷ 1 ∷ []) $ by ! (leaves 𝓛 En hs c y (handle_val null_ptr) new tt tt)))

@@ -1,0 +1,39 @@
+-- `address` reads the slice's pointer. Assumes `Logic`.
+use Rattle.std.proofs.Common.{ℕ, List, [], ◌∷◌, length, refl}
+use mir.Syntax.{named}
+use mir.Val.{Val, vptr}
+use base.Logic.{SProp}
+use base.Fml.{ftrue, flft}
+use types.Kit.{‵, raw, ◌⊛◌, ◌$◌, ◌∵◌, !, qed, by, keep, split, fjoin, feq_i}
+use types.Run.{stop, fld, hop, from, addr, returns, enter}
+use types.ByLocal.{alloc_all, pass_all, free_all, look_at, look_in_at, sets}
+use types.Part.{sub, whole}
+use contract.Running.{tables}
+use denote.Builtin.{SliceRefOf, u8}
+use denote.Exit.{yes}
+use denote.RattleType.{owns}
+use denote.RawPtr.{block_ptr}
+use denote.Signature.{types_at, plain}
+use denote.Slice.{slice_val, shr_slice_vals, shr_slice_Tells}
+use denote.Steps.{nothing}
+use denote.Triple.Walked.{Stays, stay_dropped, walk_of, Goes-dropped}
+use Rattle.rtrb.proofs.Walks.{proved, leaves}
+use Rattle.piper_c.specs.contracts.lending.address.{ended, clauses}
+use Rattle.piper_c.specs.contracts.lending.address.Key.{name as #self}
+use Rattle.piper_c.proofs.lending.address.Statement.{statement}
+use Rattle.piper_c.proofs.lending.address.Code as code
+
+pub address_spec : {M : Type 1} → statement M
+address_spec 𝓤 𝓛 𝓜 𝓡 wired =
+    let H = 𝓛.H in let 𝓣 = tables 𝓤 H 𝓜 𝓡 𝓡.env in let En = ended in let fn = code.function in let c = clauses 𝓛 𝓜.mem 𝓡.returns in
+    let slice = SliceRefOf (0 ∷ []) tt (plain (λ _. u8)) (λ _. tt) in
+    let hs : Stays En.signature.params En.kept = (stay_dropped slice yes, tt) in
+    proved 𝓛 En hs c 𝓜 𝓡 (Goes-dropped 𝓛 1 slice yes (λ κs x f. refl), tt) #self fn (code.unfolded 𝓤 H 𝓜 𝓡 wired)
+    (λ κs. (shr_slice_vals, tt)) (λ κs. (shr_slice_Tells (named 0) κs.0 u8, tt)) (λ κs qs bounds a gh are.
+    let b : ℕ = a.0.ref_ptr.0 in let o : ℕ = a.0.ref_ptr.1 in let n : ℕ = length a.0.now in
+    let y : (walk_of 𝓛 En hs c).Ghost = ((κs, qs, bounds, a, (slice_val (b, o) n ∷ [], tt)), gh) in let Post : Val → SProp 𝓤 = (walk_of 𝓛 En hs c).post y in
+    qed 𝓛 (((‵ (flft κs.0 qs.0) ⊛ ‵ ftrue) ⊛ ‵ (owns (types_at En.signature.params κs) a y.0.4)) ∷ raw ((c κs a).requires gh) ∷ []) ∵ split ! $
+    enter ! 𝓣.C 𝓣.Λ fn (slice_val (b, o) n ∷ []) Post $ alloc_all ! (λ l. pass_all ! refl ((tt, (tt, (record { fits = are.0.0.1.0 }, tt))), tt) $
+    sets ! (addr ! (from ! (fld ! refl (hop ! (look_in_at ! 1 (sub ! 0 refl (whole !))) (stop !))))) refl (tt, tt) $ returns ! (look_at ! 0 refl) $ free_all ! refl $
+    nothing ! $ feq_i ! (List Val) (vptr b o ∷ []) (vptr b o ∷ []) refl $ nothing ! $ nothing ! $ fjoin ! $
+    keep ! (3 ∷ 0 ∷ 1 ∷ 2 ∷ []) $ by ! (leaves 𝓛 En hs c y (vptr b o) (block_ptr b o) (tt, tt) (tt, tt))))

@@ -1,0 +1,42 @@
+-- What a loan of room to C hands out, and what comes back.
+use Rattle.std.specs.Prelude.{◌≡◌, ◌<◌, ◌≤◌, ℕ, false, List, Option, None, Some, length}
+use Rattle.std.specs.Borrow.{Fml, MutBor, Array, Lends}
+use denote.Builtin.{u8}
+use denote.RawPtr.{Ptr}
+use Rattle.piper_ring.specs.LendsBuffer.{with_lent}
+use Rattle.piper_ring.specs.WriteView.{Lendable}
+use Rattle.piper_c.specs.Held.{with_room}
+use Rattle.piper_c.specs.declared.halves.WriteHalf.{WriteHalf}
+use Rattle.piper_c.specs.declared.handles.PiperWriter.{PiperWriter}
+use Rattle.piper_c.specs.declared.handles.PiperRoom.{PiperRoom}
+use Rattle.piper_c.specs.contracts.halves.WriteHalf.{the_row}
+
+-- the side, once a `&mut` into the slice that it lent has ended
+abbrev pub lends_half : MutBor WriteHalf → MutBor (List ℕ) → Fml
+lends_half w r =
+    Lends the_row (Array u8 0) w r (λ ws. record w.now { end = with_lent w.now.end r.now ws })
+
+-- a loan of at most `max` bytes: the room has the bytes, and the handle all the rest of w
+pub record LendsOut (w : WriteHalf) (max len : ℕ) (writer : PiperWriter) (room : PiperRoom) : Type 0 where
+  pub bytes : List ℕ
+  pub there : room.bytes ≡ Some bytes
+  pub half : writer.half ≡ Some (with_room w bytes)
+  pub lent : writer.lent ≡ Some room.at
+  pub count : len ≡ length bytes
+  pub most : Lendable w.end max len
+  pub some : w.end.shut ≡ false → 0 < w.end.room → 0 < max → 0 < len
+
+-- the room that comes back is the one that was lent
+abbrev pub IsLoanOf : Option WriteHalf → Option Ptr → Ptr → Option (List ℕ) → Type 0
+IsLoanOf (Some w) (Some at) p (Some ws) = (at ≡ p) × (length ws ≡ length w.end.lent)
+IsLoanOf w at p ws = ⊥
+
+-- n bytes are no more than the room has
+abbrev pub IsWithin : ℕ → Option (List ℕ) → Type 0
+IsWithin n None = ⊥
+IsWithin n (Some ws) = n ≤ length ws
+
+-- the writer has what is in the room as the bytes that it lent
+abbrev pub IsWhole : Option WriteHalf → Option (List ℕ) → WriteHalf → Type 0
+IsWhole (Some w) (Some ws) b = b ≡ with_room w ws
+IsWhole w ws b = ⊥

@@ -1,0 +1,21 @@
+-- The two sides of a new pipe.
+use Rattle.std.specs.Prelude.{◌≡◌, ℕ}
+use Rattle.std.specs.Arc.{arc_value}
+use Rattle.piper_ring.specs.Opened.{FreshReadEnd, FreshReadSlots, FreshWriteEnd, FreshWriteSlots}
+use Rattle.piper_c.specs.declared.halves.ReadHalf.{ReadHalf}
+use Rattle.piper_c.specs.declared.halves.WriteHalf.{WriteHalf}
+
+-- the sides of one pipe: each takes the words that the other leaves
+pub record ArePair (r : ReadHalf) (w : WriteHalf) : Type 0 where
+  pub ring : w.end.ring ≡ r.end.ring
+  pub places : arc_value w.places ≡ arc_value r.places
+
+-- nothing was read, and nobody has waited
+pub record IsFreshReader (capacity : ℕ) (r : ReadHalf) : Type 0 where
+  pub end : FreshReadEnd capacity r.end
+  pub slots : FreshReadSlots r.end.ring.names r.slots
+
+-- nothing was published, and nobody has waited
+pub record IsFreshWriter (capacity : ℕ) (w : WriteHalf) : Type 0 where
+  pub end : FreshWriteEnd capacity w.end
+  pub slots : FreshWriteSlots w.end.ring.names w.slots

@@ -1,0 +1,145 @@
+-- What the calls of the reading side find, and what they leave of it.
+use Rattle.std.specs.Prelude.{◌≡◌, ℕ, ◌<◌, ◌≤◌, ◌+◌, ◌++◌, take, drop, true, false, List, [], ◌⊎◌, length, Option, Some, None, IsSome}
+use Rattle.piper_ring.specs.Shared.{flag}
+use Rattle.piper_ring.specs.ReadView.{ReadView, SameReadEnd, in_one_piece}
+use Rattle.piper_ring.specs.SlotsView.{ReadSlotsView, IsPending, IsReaderAtRest, SameReaderLooks, SameReaderPlace}
+use Rattle.piper_c.specs.declared.halves.ReadHalf.{ReadHalf}
+use Rattle.piper_c.specs.declared.outcome.Outcome.{Outcome}
+use Rattle.piper_c.specs.declared.outcome.Outcome.TheVariants.{Pending, Ready, End, Again, Refused}
+use Rattle.piper_c.specs.declared.outcome.Polled.{Polled}
+use Rattle.piper_c.specs.declared.outcome.PiperPolled.{PiperPolled}
+use Rattle.piper_c.specs.declared.words.Waiter.{Waiter}
+use Rattle.piper_c.specs.declared.words.PiperMoved.{PiperMoved}
+use Rattle.piper_c.specs.declared.words.PiperWords.{PiperWords}
+use Rattle.piper_c.specs.Outcome.{code}
+
+-- the pipe was seen closed, and all that was ever published has been taken
+pub record IsEnded (r : ReadView) : Type 0 where
+  pub known : r.known ≡ []
+  pub saw : r.saw ≡ true
+  pub all : r.taken ≡ r.all
+
+-- what a poll found
+abbrev pub ReaderFound : Outcome → ReadHalf → Type 0
+ReaderFound Ready r = 0 < length r.end.known
+ReaderFound End r = IsEnded r.end
+ReaderFound Pending r = IsPending r.end r.slots
+ReaderFound Again r = r.end.known ≡ []
+ReaderFound Refused r = ⊥
+
+-- what a look found that leaves no words
+abbrev pub ReaderSaw : Outcome → ReadHalf → Type 0
+ReaderSaw Ready r = 0 < length r.end.known
+ReaderSaw End r = IsEnded r.end
+ReaderSaw Pending r = (r.end.known ≡ []) × (r.end.saw ≡ false)
+ReaderSaw Again r = ⊥
+ReaderSaw Refused r = ⊥
+
+-- a poll takes no byte, and what it saw of closed it keeps; nobody is taken from the writer's slot
+pub record ReaderLooked (a b : ReadHalf) : Type 0 where
+  pub end : SameReadEnd a.end b.end
+  pub taken : b.end.taken ≡ a.end.taken
+  pub known : 0 < length a.end.known → b.end ≡ a.end
+  pub saw : flag a.end.saw ≤ flag b.end.saw
+  pub looks : SameReaderLooks a.slots b.slots
+  pub places : b.places ≡ a.places
+
+-- a poll gives back the words that it took out of its slot, and those that it didn't leave
+pub record ReaderGotBack (mine : Waiter) (p : Polled) (a b : ReadHalf) : Type 0 where
+  -- words of an earlier poll come only out of the slot
+  pub before : IsSome p.before → a.slots.owns ≡ false
+  -- words that were not left come back
+  pub kept : b.slots.tickets ≡ a.slots.tickets → p.mine ≡ Some mine
+  -- words that were left come back only out of the slot
+  pub left : b.slots.tickets ≡ a.slots.tickets + 1 → IsSome p.mine → b.slots.owns ≡ true
+  -- they are left only where the outcome reports it
+  pub pending : p.outcome ≡ Pending → (b.slots.tickets ≡ a.slots.tickets + 1) × (p.mine ≡ None)
+  pub again : p.outcome ≡ Again → b.slots ≡ a.slots
+
+-- the reader, but for the bytes that it took and knows of
+pub record ReaderConsumed (a b : ReadView) : Type 0 where
+  pub end : SameReadEnd a b
+  pub saw : b.saw ≡ a.saw
+  pub all : b.all ≡ a.all
+
+-- after all that b consumed, the writer's slot was checked: words are handed out
+-- exactly where it took a ticket of the writer's
+pub record TookWriter (taken : Option Waiter) (old : ReadSlotsView) (b : ReadHalf) : Type 0 where
+  pub rests : IsReaderAtRest b.end b.slots
+  pub none : taken ≡ None → b.slots.taken ≡ old.taken
+  pub some : IsSome taken → old.taken < b.slots.taken
+  pub own : SameReaderPlace old b.slots
+
+-- after the close by which a left, the writer's slot was checked: words come out exactly
+-- where a ticket of the writer's was taken
+pub record LeftReading (a : ReadHalf) (taken : Option Waiter) (left : ReadSlotsView) : Type 0 where
+  pub count : left.count ≡ length a.end.taken
+  pub over : left.over ≡ true
+  pub none : taken ≡ None → left.taken ≡ a.slots.taken
+  pub some : IsSome taken → a.slots.taken < left.taken
+
+-- n known bytes were copied to the front of a slice and taken, in order
+pub record ReadsInto (old new : List ℕ) (n : ℕ) (a b : ReadHalf) : Type 0 where
+  pub count : n ≤ length old
+  pub rest : drop n new ≡ drop n old
+  pub taken : b.end.taken ≡ a.end.taken ++ take n new
+  pub known : 0 < length a.end.known → take n new ++ b.end.known ≡ a.end.known
+  pub none : n ≡ 0 → (old ≡ []) ⊎ (b.end.known ≡ [])
+  pub end : SameReadEnd a.end b.end
+  pub saw : b.end.saw ≡ a.end.saw
+  pub places : b.places ≡ a.places
+
+-- the exports
+
+-- a poll with words of C: what it found and left, and which words it gives back
+pub record ReaderTold (mine : PiperWords) (p : PiperPolled) (a b : ReadHalf) : Type 0 where
+  pub outcome : Outcome
+  pub code : p.outcome ≡ code outcome
+  pub found : ReaderFound outcome b
+  pub looked : ReaderLooked a b
+  -- words of an earlier poll come only out of the slot
+  pub before : 0 < p.before.vtable → a.slots.owns ≡ false
+  -- words that were not left come back as they are
+  pub kept : b.slots.tickets ≡ a.slots.tickets → p.mine ≡ mine
+  -- words that were left come back only out of the slot
+  pub left : b.slots.tickets ≡ a.slots.tickets + 1 → 0 < p.mine.vtable → b.slots.owns ≡ true
+  -- words that are left are not handed out
+  pub pending : p.outcome ≡ 0 → (b.slots.tickets ≡ a.slots.tickets + 1) × (p.mine.vtable ≡ 0)
+  pub again : p.outcome ≡ 3 → b.slots ≡ a.slots
+
+-- after all that b consumed, the writer's slot was checked: words come out exactly where
+-- it took a ticket of the writer's
+pub record WakesWriter (wake : PiperWords) (old : ReadSlotsView) (b : ReadHalf) : Type 0 where
+  pub rests : IsReaderAtRest b.end b.slots
+  pub none : wake.vtable ≡ 0 → b.slots.taken ≡ old.taken
+  pub some : 0 < wake.vtable → old.taken < b.slots.taken
+  pub own : SameReaderPlace old b.slots
+
+-- n bytes were taken, from the front of those that the reader knows of
+pub record ReaderTook (n : ℕ) (wake : PiperWords) (a b : ReadHalf) : Type 0 where
+  pub taken : b.end.taken ≡ a.end.taken ++ take n a.end.known
+  pub known : b.end.known ≡ drop n a.end.known
+  pub end : ReaderConsumed a.end b.end
+  pub woke : WakesWriter wake a.slots b
+  pub places : b.places ≡ a.places
+
+-- nothing was done, and nobody is to be woken
+pub record ReaderRefused (wake : PiperWords) (a b : ReadHalf) : Type 0 where
+  pub side : b ≡ a
+  pub nobody : wake.vtable ≡ 0
+
+pub record ReaderConsumes (n : ℕ) (wake : PiperWords) (a b : ReadHalf) : Type 0 where
+  pub taken : n ≤ in_one_piece a.end → ReaderTook n wake a b
+  pub refused : in_one_piece a.end < n → ReaderRefused wake a b
+
+pub record ReaderReads (old new : List ℕ) (moved : PiperMoved) (a b : ReadHalf) : Type 0 where
+  pub read : ReadsInto old new moved.count a b
+  pub none : moved.count ≡ 0 → (moved.wake.vtable ≡ 0) × (b.slots ≡ a.slots)
+  pub some : 0 < moved.count → WakesWriter moved.wake a.slots b
+
+pub record ReaderSeen (result : ℕ) (a b : ReadHalf) : Type 0 where
+  pub outcome : Outcome
+  pub code : result ≡ code outcome
+  pub saw : ReaderSaw outcome b
+  pub looked : ReaderLooked a b
+  pub slots : b.slots ≡ a.slots

@@ -1,0 +1,185 @@
+-- What the calls of the writing side find, and what they leave of it.
+use Rattle.std.specs.Prelude.{◌≡◌, ℕ, ◌<◌, ◌≤◌, ◌+◌, ◌++◌, ◌⊎◌, take, true, false, List, [], length, Option, Some, None, IsSome}
+use Rattle.piper_ring.specs.Shared.{flag}
+use Rattle.piper_ring.specs.WriteView.{WriteView, SameWriteEnd}
+use Rattle.piper_ring.specs.SlotsView.{WriteSlotsView, IsWriterPending, IsAtRest, SameWriterLooks, SameWriterPlace}
+use Rattle.piper_c.specs.declared.halves.WriteHalf.{WriteHalf}
+use Rattle.piper_c.specs.declared.outcome.Outcome.{Outcome}
+use Rattle.piper_c.specs.declared.outcome.Outcome.TheVariants.{Pending, Ready, End, Again, Refused}
+use Rattle.piper_c.specs.declared.outcome.Polled.{Polled}
+use Rattle.piper_c.specs.declared.outcome.PiperPolled.{PiperPolled}
+use Rattle.piper_c.specs.declared.words.Waiter.{Waiter}
+use Rattle.piper_c.specs.declared.words.PiperMoved.{PiperMoved}
+use Rattle.piper_c.specs.declared.words.PiperLeft.{PiperLeft}
+use Rattle.piper_c.specs.declared.words.PiperWords.{PiperWords}
+use Rattle.piper_c.specs.Outcome.{code}
+
+-- what a poll found
+abbrev pub WriterFound : Outcome → WriteHalf → Type 0
+WriterFound Ready w = (0 < w.end.room) × (w.end.saw ≡ false)
+WriterFound End w = w.end.saw ≡ true
+WriterFound Pending w = IsWriterPending w.end w.slots
+WriterFound Again w = (w.end.room ≡ 0) × (w.end.saw ≡ false)
+WriterFound Refused w = ⊥
+
+-- what a look found that leaves no words
+abbrev pub WriterSaw : Outcome → WriteHalf → Type 0
+WriterSaw Ready w = (0 < w.end.room) × (w.end.saw ≡ false)
+WriterSaw End w = w.end.saw ≡ true
+WriterSaw Pending w = (w.end.room ≡ 0) × (w.end.saw ≡ false)
+WriterSaw Again w = ⊥
+WriterSaw Refused w = ⊥
+
+-- a poll publishes nothing and takes back nothing, and what it saw of closed it keeps; nobody is
+-- taken from the reader's slot
+pub record WriterLooked (a b : WriteHalf) : Type 0 where
+  pub end : SameWriteEnd a.end b.end
+  pub sent : b.end.sent ≡ a.end.sent
+  pub lent : b.end.lent ≡ a.end.lent
+  pub shut : b.end.shut ≡ a.end.shut
+  pub known : 0 < a.end.room → b.end.room ≡ a.end.room
+  pub saw : flag a.end.saw ≤ flag b.end.saw
+  pub looks : SameWriterLooks a.slots b.slots
+  pub places : b.places ≡ a.places
+
+-- a poll gives back the words that it took out of its slot, and those that it didn't leave
+pub record WriterGotBack (mine : Waiter) (p : Polled) (a b : WriteHalf) : Type 0 where
+  -- words of an earlier poll come only out of the slot
+  pub before : IsSome p.before → a.slots.owns ≡ false
+  -- words that were not left come back
+  pub kept : b.slots.tickets ≡ a.slots.tickets → p.mine ≡ Some mine
+  -- words that were left come back only out of the slot
+  pub left : b.slots.tickets ≡ a.slots.tickets + 1 → IsSome p.mine → b.slots.owns ≡ true
+  -- they are left only where the outcome reports it
+  pub pending : p.outcome ≡ Pending → (b.slots.tickets ≡ a.slots.tickets + 1) × (p.mine ≡ None)
+  pub again : p.outcome ≡ Again → b.slots ≡ a.slots
+
+-- the writer, but for the bytes that it published, and the room and the slice that they were in
+pub record WriterPublished (a b : WriteView) : Type 0 where
+  pub end : SameWriteEnd a b
+  pub shut : b.shut ≡ a.shut
+  pub saw : b.saw ≡ a.saw
+
+-- after all that b published, the reader's slot was checked: words are handed out
+-- exactly where it took a ticket of the reader's
+pub record TookReader (taken : Option Waiter) (old : WriteSlotsView) (b : WriteHalf) : Type 0 where
+  pub rests : IsAtRest b.end b.slots
+  pub none : taken ≡ None → b.slots.taken ≡ old.taken
+  pub some : IsSome taken → old.taken < b.slots.taken
+  pub own : SameWriterPlace old b.slots
+
+-- the same in a close, which takes the writer's own words back, too
+pub record TookReaderLast (taken : Option Waiter) (old : WriteSlotsView) (b : WriteHalf) : Type 0 where
+  pub rests : IsAtRest b.end b.slots
+  pub none : taken ≡ None → b.slots.taken ≡ old.taken
+  pub some : IsSome taken → old.taken < b.slots.taken
+
+-- after the close by which a left, the reader's slot was checked: words come out exactly
+-- where a ticket of the reader's was taken
+pub record LeftWriting (a : WriteHalf) (taken : Option Waiter) (left : WriteSlotsView) : Type 0 where
+  pub bytes : left.bytes ≡ a.end.sent
+  pub shut : left.shut ≡ true
+  pub none : taken ≡ None → left.taken ≡ a.slots.taken
+  pub some : IsSome taken → a.slots.taken < left.taken
+
+-- the writer, which lends nothing any more
+pub record NothingLent (a b : WriteHalf) : Type 0 where
+  pub end : SameWriteEnd a.end b.end
+  pub lent : b.end.lent ≡ []
+  pub shut : b.end.shut ≡ a.end.shut
+  pub saw : b.end.saw ≡ a.end.saw
+  pub places : b.places ≡ a.places
+
+-- the first n bytes of what was lent were published, as they were, and the rest was taken back
+pub record PublishesLent (n : ℕ) (taken : Option Waiter) (a b : WriteHalf) : Type 0 where
+  pub sent : b.end.sent ≡ a.end.sent ++ take n a.end.lent
+  pub room : b.end.room + n ≡ a.end.room
+  pub wake : TookReader taken a.slots b
+  pub rest : NothingLent a b
+
+-- nothing was published, and what was lent was taken back
+pub record TakesLentBack (taken : Option Waiter) (a b : WriteHalf) : Type 0 where
+  pub nobody : taken ≡ None
+  pub sent : b.end.sent ≡ a.end.sent
+  pub room : b.end.room ≡ a.end.room
+  pub slots : b.slots ≡ a.slots
+  pub rest : NothingLent a b
+
+-- n bytes were copied from the front of a slice and published, and nothing is lent
+pub record WritesFrom (from : List ℕ) (n : ℕ) (a b : WriteHalf) : Type 0 where
+  pub count : n ≤ length from
+  pub sent : b.end.sent ≡ a.end.sent ++ take n from
+  pub lent : b.end.lent ≡ []
+  pub none : n ≡ 0 → (from ≡ []) ⊎ ((b.end.room ≡ 0) ⊎ (b.end.saw ≡ true))
+  pub end : SameWriteEnd a.end b.end
+  pub shut : b.end.shut ≡ a.end.shut
+  pub places : b.places ≡ a.places
+
+-- the exports
+
+pub record WriterSeen (result : ℕ) (a b : WriteHalf) : Type 0 where
+  pub outcome : Outcome
+  pub code : result ≡ code outcome
+  pub saw : WriterSaw outcome b
+  pub looked : WriterLooked a b
+  pub slots : b.slots ≡ a.slots
+
+-- a poll with words of C: what it found and left, and which words it gives back
+pub record WriterTold (mine : PiperWords) (p : PiperPolled) (a b : WriteHalf) : Type 0 where
+  pub outcome : Outcome
+  pub code : p.outcome ≡ code outcome
+  pub found : WriterFound outcome b
+  pub looked : WriterLooked a b
+  -- words of an earlier poll come only out of the slot
+  pub before : 0 < p.before.vtable → a.slots.owns ≡ false
+  -- words that were not left come back as they are
+  pub kept : b.slots.tickets ≡ a.slots.tickets → p.mine ≡ mine
+  -- words that were left come back only out of the slot
+  pub left : b.slots.tickets ≡ a.slots.tickets + 1 → 0 < p.mine.vtable → b.slots.owns ≡ true
+  -- words that are left are not handed out
+  pub pending : p.outcome ≡ 0 → (b.slots.tickets ≡ a.slots.tickets + 1) × (p.mine.vtable ≡ 0)
+  pub again : p.outcome ≡ 3 → b.slots ≡ a.slots
+
+-- after all that b published, the reader's slot was checked: words come out exactly where
+-- it took a ticket of the reader's
+pub record WakesReader (wake : PiperWords) (old : WriteSlotsView) (b : WriteHalf) : Type 0 where
+  pub rests : IsAtRest b.end b.slots
+  pub none : wake.vtable ≡ 0 → b.slots.taken ≡ old.taken
+  pub some : 0 < wake.vtable → old.taken < b.slots.taken
+  pub own : SameWriterPlace old b.slots
+
+pub record WriterWrites (from : List ℕ) (moved : PiperMoved) (a b : WriteHalf) : Type 0 where
+  pub wrote : WritesFrom from moved.count a b
+  pub none : moved.count ≡ 0 → (moved.wake.vtable ≡ 0) × (b.slots ≡ a.slots)
+  pub some : 0 < moved.count → WakesReader moved.wake a.slots b
+
+-- the pipe is closed for good; after that the reader's slot was checked, and the writer's own words
+-- come out only of its slot
+pub record WriterCloses (left : PiperLeft) (a b : WriteHalf) : Type 0 where
+  pub shut : b.end.shut ≡ true
+  pub sent : b.end.sent ≡ a.end.sent
+  pub rests : IsAtRest b.end b.slots
+  pub none : left.wake.vtable ≡ 0 → b.slots.taken ≡ a.slots.taken
+  pub some : 0 < left.wake.vtable → a.slots.taken < b.slots.taken
+  pub mine : 0 < left.mine.vtable → a.slots.owns ≡ false
+  pub places : b.places ≡ a.places
+
+-- the same, by words of C, of room in which C left these bytes
+pub record WriterPublishes (bytes : List ℕ) (n : ℕ) (wake : PiperWords) (a b : WriteHalf) : Type 0 where
+  pub sent : b.end.sent ≡ a.end.sent ++ take n bytes
+  pub room : b.end.room + n ≡ a.end.room
+  pub woke : WakesReader wake a.slots b
+  pub rest : NothingLent a b
+
+pub record WriterTakesBack (wake : PiperWords) (a b : WriteHalf) : Type 0 where
+  pub nobody : wake.vtable ≡ 0
+  pub sent : b.end.sent ≡ a.end.sent
+  pub room : b.end.room ≡ a.end.room
+  pub slots : b.slots ≡ a.slots
+  pub rest : NothingLent a b
+
+-- what comes of room that C gave back with these bytes, of which n are to be published
+abbrev pub WriterEnds : Option (List ℕ) → ℕ → PiperWords → WriteHalf → WriteHalf → Type 0
+WriterEnds None n wake a b = ⊥
+WriterEnds (Some ws) n wake a b =
+    (0 < n → WriterPublishes ws n wake a b) × (n ≡ 0 → WriterTakesBack wake a b)

@@ -1,0 +1,31 @@
+//! The two sides of a pipe. Each is an end of the ring, what it has of the slots of both sides, and
+//! the places of both sides' words.
+ghost use Rattle.std.specs.Prelude.{◌≡◌};
+ghost use Rattle.std.specs.Arc.{arc_value};
+ghost use Rattle.piper_c.specs.Places.{HoldPlaces};
+
+use crate::words::Places;
+use piper_ring::{ReadEnd, ReadRegistrations, WriteEnd, WriteRegistrations};
+use std::sync::Arc;
+
+/// The side that reads.
+#[derive(Drop)]
+pub struct ReadHalf {
+    pub(crate) end: ReadEnd,
+    /// How it waits in its slot, and what it loaded before it checked the writer's.
+    pub(crate) slots: ReadRegistrations,
+    pub(crate) places: Arc<Places>,
+    ghost of_one_ring: { slots.names ≡ end.ring.names },
+    ghost held: { HoldPlaces (arc_value places) slots.names },
+}
+
+/// The side that writes.
+#[derive(Drop)]
+pub struct WriteHalf {
+    pub(crate) end: WriteEnd,
+    /// How it waits in its slot, and what it stored before it checked the reader's.
+    pub(crate) slots: WriteRegistrations,
+    pub(crate) places: Arc<Places>,
+    ghost of_one_ring: { slots.names ≡ end.ring.names },
+    ghost held: { HoldPlaces (arc_value places) slots.names },
+}

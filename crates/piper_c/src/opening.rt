@@ -1,0 +1,96 @@
+//! A pipe is opened.
+ghost use Rattle.std.specs.Prelude.{◌≡◌, ◌*◌, ◌^◌, ◌<◌, IfOk, IsTrue, IsFalse, None};
+ghost use Rattle.piper_c.specs.Handles.{Holds};
+ghost use Rattle.piper_c.specs.Opened.{ArePair, IsFreshReader, IsFreshWriter};
+
+use crate::halves::{ReadHalf, WriteHalf};
+use crate::handles::{PiperReader, PiperWriter};
+use crate::words::Places;
+use piper_ring::{OutOfMemory, open_with_slots};
+use std::alloc::Global;
+use std::sync::Arc;
+
+/// The most bytes that a pipe can hold.
+const MOST: usize = (1 << 63) - 1;
+
+/// Opens a pipe that holds `capacity` bytes. Where it returns false, the capacity is none or
+/// memory was refused, and both handles are null.
+#[unsafe(no_mangle)]
+pub extern "C" fn piper_open(
+    alloc: Global,
+    capacity: usize,
+    reader: &mut PiperReader,
+    writer: &mut PiperWriter,
+) -> bool
+    ensures capacity { IsTrue result → (0 < capacity) × (2 * capacity < 2 ^ 64) }
+    ensures reader { IsTrue result → Holds reader.new.half (IsFreshReader capacity) }
+    ensures writer { IsTrue result → Holds writer.new.half (IsFreshWriter capacity) }
+    ensures pair { IsTrue result →
+        Holds reader.new.half (λ r. Holds writer.new.half (λ w. ArePair r w)) }
+    ensures refused { IsFalse result → (reader.new.half ≡ None) × (writer.new.half ≡ None) }
+{
+    *reader = PiperReader::none();
+    *writer = PiperWriter::none();
+    if capacity == 0 || capacity > MOST {
+        return false;
+    }
+    match open_boxed(alloc, capacity) {
+        Ok((read, write)) => {
+            reader.put(read);
+            writer.put(write);
+            true
+        }
+        Err(OutOfMemory) => false,
+    }
+}
+
+/// The two sides of a new pipe, each in a box.
+fn open_boxed(
+    alloc: Global,
+    capacity: usize,
+) -> Result<(Box<ReadHalf, Global>, Box<WriteHalf, Global>), OutOfMemory>
+    requires { (0 < capacity) × (2 * capacity < 2 ^ 64) }
+    ensures pair { IfOk result (λ (r, w). ArePair r.value w.value) }
+    ensures reader { IfOk result (λ (r, _). IsFreshReader capacity r.value) }
+    ensures writer { IfOk result (λ (_, w). IsFreshWriter capacity w.value) }
+{
+    let (read, write) = open_halves(alloc, capacity)?;
+    let read = boxed(alloc, read)?;
+    let write = boxed(alloc, write)?;
+    Ok((read, write))
+}
+
+fn boxed<T: Drop>(alloc: Global, value: T) -> Result<Box<T, Global>, OutOfMemory>
+    ensures { IfOk result (λ b. b.value ≡ value) }
+{
+    Box::new(alloc, value).map_err(|_| OutOfMemory)
+}
+
+/// The two sides of a new pipe. Where memory is refused, all that was got is given back.
+fn open_halves(alloc: Global, capacity: usize) -> Result<(ReadHalf, WriteHalf), OutOfMemory>
+    requires { (0 < capacity) × (2 * capacity < 2 ^ 64) }
+    ensures pair { IfOk result (λ (r, w). ArePair r w) }
+    ensures reader { IfOk result (λ (r, _). IsFreshReader capacity r) }
+    ensures writer { IfOk result (λ (_, w). IsFreshWriter capacity w) }
+{
+    let (places, reader_right, writer_right) = Places::new();
+    let places = Arc::new(alloc, places).map_err(|_| OutOfMemory)?;
+    let reader_places = Arc::try_clone(&places).map_err(|_| OutOfMemory)?;
+    let (read_end, write_end, read_slots, write_slots) = open_with_slots(
+        alloc,
+        capacity,
+        reader_right,
+        writer_right,
+    )?;
+    let read = ReadHalf {
+        end: read_end,
+        slots: read_slots,
+        places: reader_places,
+    };
+    let write = WriteHalf {
+        end: write_end,
+        slots: write_slots,
+        places,
+    };
+    Ok((read, write))
+}

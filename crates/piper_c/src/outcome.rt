@@ -1,0 +1,67 @@
+//! What a poll finds, and the words that it gives back.
+ghost use Rattle.std.specs.Prelude.{◌≡◌, Bool};
+
+use crate::words::{PiperWords, Waiter};
+use piper_protocol::events::Answer;
+use piper_protocol::polling::Polled as Answered;
+
+/// What a poll found. `code` is its number for C.
+#[derive(Clone, Copy)]
+pub enum Outcome {
+    Pending,
+    Ready,
+    End,
+    Again,
+    Refused,
+}
+
+impl Outcome {
+    ghost use Rattle.piper_c.specs.Outcome.{code};
+
+    pub(crate) fn code(self) -> u32
+        ensures { result ≡ code self }
+    {
+        match self {
+            Outcome::Pending => 0,
+            Outcome::Ready => 1,
+            Outcome::End => 2,
+            Outcome::Again => 3,
+            Outcome::Refused => 4,
+        }
+    }
+}
+
+/// The result of a poll.
+pub(crate) struct Polled {
+    pub(crate) outcome: Outcome,
+    /// Words that an earlier poll left and that nobody took.
+    pub(crate) before: Option<Waiter>,
+    /// The words of this call, where they are not in the slot and the other side didn't take them.
+    pub(crate) mine: Option<Waiter>,
+}
+
+ghost use Rattle.piper_c.specs.Outcome.{answered};
+
+/// The outcome that is the call table's answer to a poll. That no waker could be left means here
+/// that the slot's place was with the other side.
+pub(crate) fn outcome_of(answer: Answer) -> Outcome
+    requires { (p : Answered Bool) × (answer ≡ Answer.Poll p) }
+    ensures { result ≡ answered answer }
+{
+    match answer {
+        Answer::Poll(Answered::Ready(true)) => Outcome::Ready,
+        Answer::Poll(Answered::Ready(false)) => Outcome::End,
+        Answer::Poll(Answered::Memory) => Outcome::Again,
+        Answer::Poll(Answered::Pending) => Outcome::Pending,
+        _ => unreachable!(),
+    }
+}
+
+/// The result of a poll for C: where `vtable` is 0 there are no words.
+#[repr(C)]
+#[derive(Drop)]
+pub struct PiperPolled {
+    pub outcome: u32,
+    pub before: PiperWords,
+    pub mine: PiperWords,
+}

@@ -1,0 +1,170 @@
+//! The exports of the side that reads. Each takes the side out of its handle, makes a call of it and
+//! puts it back.
+ghost use Rattle.std.specs.Prelude.{◌≡◌, ◌<◌, take, IsSome, IsTrue, None, true, false};
+ghost use Rattle.piper_ring.specs.ReadView.{MayBeUnread, in_one_piece};
+ghost use Rattle.piper_c.specs.Handles.{Holds, HoldsOn};
+ghost use Rattle.piper_c.specs.Reading.{ReaderTold, ReaderSeen, ReaderConsumes, ReaderReads};
+
+use crate::handles::PiperReader;
+use crate::lending::address;
+use crate::outcome::{Outcome, PiperPolled, Polled};
+use crate::words::{PiperLeft, PiperMoved, PiperWords, Waiter};
+use std::alloc::Global;
+
+/// Waits for a byte or for the end. `mine` is left where there is neither.
+#[unsafe(no_mangle)]
+pub extern "C" fn piper_reader_poll(
+    alloc: Global,
+    reader: &mut PiperReader,
+    mine: PiperWords,
+) -> PiperPolled
+    requires { IsSome reader.old.half }
+    ensures refused { mine.vtable ≡ 0 → (reader.new.half ≡ reader.old.half) × (result.outcome ≡ 4)
+        × (result.mine ≡ mine) × (result.before ≡ mine) }
+    ensures polled { 0 < mine.vtable →
+        HoldsOn reader.old.half reader.new.half (λ a b. ReaderTold mine result a b) }
+{
+    if mine.vtable == 0 {
+        return PiperPolled {
+            outcome: Outcome::Refused.code(),
+            before: mine,
+            mine,
+        };
+    }
+    let mut half = reader.take(alloc);
+    let Polled {
+        outcome,
+        before,
+        mine,
+    } = half.poll(Waiter::new(mine));
+    reader.put(half);
+    PiperPolled {
+        outcome: outcome.code(),
+        before: Waiter::hand_out(before),
+        mine: Waiter::hand_out(mine),
+    }
+}
+
+/// Checks for a byte or for the end, and leaves nothing.
+#[unsafe(no_mangle)]
+pub extern "C" fn piper_reader_look(alloc: Global, reader: &mut PiperReader) -> u32
+    requires { IsSome reader.old.half }
+    ensures { HoldsOn reader.old.half reader.new.half (λ a b. ReaderSeen result a b) }
+{
+    let mut half = reader.take(alloc);
+    let outcome = half.look();
+    reader.put(half);
+    outcome.code()
+}
+
+/// Takes the first `n` bytes of what `peek` gives.
+#[unsafe(no_mangle)]
+pub extern "C" fn piper_reader_consume(
+    alloc: Global,
+    reader: &mut PiperReader,
+    n: usize,
+) -> PiperWords
+    requires { IsSome reader.old.half }
+    ensures { HoldsOn reader.old.half reader.new.half (λ a b. ReaderConsumes n result a b) }
+{
+    let mut half = reader.take(alloc);
+    let wake = if n <= half.peek_len() {
+        Waiter::hand_out(half.consume(n))
+    } else {
+        Waiter::hand_out(None)
+    };
+    reader.put(half);
+    wake
+}
+
+/// Copies bytes to `to`, and takes them.
+#[unsafe(no_mangle)]
+pub extern "C" fn piper_reader_read(
+    alloc: Global,
+    reader: &mut PiperReader,
+    to: &mut [u8],
+) -> PiperMoved
+    requires { IsSome reader.old.half }
+    ensures { HoldsOn reader.old.half reader.new.half (λ a b.
+        ReaderReads to.old to.new result a b) }
+{
+    let mut half = reader.take(alloc);
+    let (count, wake) = half.read(to);
+    reader.put(half);
+    PiperMoved {
+        count,
+        wake: Waiter::hand_out(wake),
+    }
+}
+
+/// How many bytes are unread now.
+#[unsafe(no_mangle)]
+pub extern "C" fn piper_reader_len(alloc: Global, reader: &mut PiperReader) -> usize
+    requires { IsSome reader.old.half }
+    ensures { HoldsOn reader.old.half reader.new.half (λ a b. (b ≡ a) × MayBeUnread a.end result) }
+{
+    let half = reader.take(alloc);
+    let len = half.end.len();
+    reader.put(half);
+    len
+}
+
+/// How many bytes the pipe can hold.
+#[unsafe(no_mangle)]
+pub extern "C" fn piper_reader_capacity(alloc: Global, reader: &mut PiperReader) -> usize
+    requires { IsSome reader.old.half }
+    ensures { HoldsOn reader.old.half reader.new.half (λ a b.
+        (b ≡ a) × (result ≡ a.end.capacity)) }
+{
+    let half = reader.take(alloc);
+    let capacity = half.end.capacity();
+    reader.put(half);
+    capacity
+}
+
+/// Whether the pipe is closed now.
+#[unsafe(no_mangle)]
+pub extern "C" fn piper_reader_is_closed(alloc: Global, reader: &mut PiperReader) -> bool
+    requires { IsSome reader.old.half }
+    ensures { HoldsOn reader.old.half reader.new.half (λ a b.
+        (b ≡ a) × (a.end.saw ≡ true → IsTrue result)) }
+{
+    let half = reader.take(alloc);
+    let is_closed = half.end.is_closed();
+    reader.put(half);
+    is_closed
+}
+
+/// Closes the pipe, and drops this side.
+#[unsafe(no_mangle)]
+pub extern "C" fn piper_reader_drop(alloc: Global, reader: &mut PiperReader) -> PiperLeft
+    requires { IsSome reader.old.half }
+    ensures dropped { reader.new.half ≡ None }
+    ensures mine { Holds reader.old.half (λ a. 0 < result.mine.vtable → a.slots.owns ≡ false) }
+{
+    let half = Box::into_inner(reader.take(alloc));
+    let (wake, mine, _left) = half.leave();
+    PiperLeft {
+        wake: Waiter::hand_out(wake),
+        mine: Waiter::hand_out(mine),
+    }
+}
+
+/// The known bytes that lie in one piece: their address goes into `at`, and it returns how many they
+/// are. What C reads there is no part of what is proved.
+#[unsafe(no_mangle)]
+pub extern "C" fn piper_reader_peek(
+    alloc: Global,
+    reader: &mut PiperReader,
+    at: &mut *const u8,
+) -> usize
+    requires { IsSome reader.old.half }
+    ensures { HoldsOn reader.old.half reader.new.half (λ a b.
+        (b ≡ a) × (result ≡ in_one_piece a.end)) }
+{
+    let half = reader.take(alloc);
+    *at = address(half.end.peek_buf());
+    let len = half.peek_len();
+    reader.put(half);
+    len
+}

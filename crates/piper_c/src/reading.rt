@@ -1,0 +1,228 @@
+//! The calls of the side that reads. Each makes its steps in the order of the call table.
+ghost use Rattle.std.specs.Prelude.{◌≡◌, [], ◌<◌, ◌≤◌, ◌++◌, ◌+◌, length, take, drop, IsSome, Some, None, true, false};
+ghost use Rattle.piper_ring.specs.ReadView.{in_one_piece};
+
+use crate::halves::ReadHalf;
+use crate::outcome::{Outcome, Polled, outcome_of};
+use crate::words::Waiter;
+use piper_protocol::calls::Side;
+use piper_protocol::read_call::ReadCall;
+use piper_protocol::table::{AfterRead, Purpose, ReadPoint};
+use piper_ring::ReadRegistrations;
+
+impl ReadHalf {
+    ghost use Rattle.piper_c.specs.Reading.{ReaderFound, ReaderLooked, ReaderConsumed, ReaderGotBack, ReaderSaw, ReadsInto, TookWriter, LeftReading};
+
+    /// Waits for a byte or for the end. `mine` is left where there is neither.
+    pub(crate) fn poll(&mut self, mine: Waiter) -> Polled
+        ensures found { ReaderFound result.outcome self.new }
+        ensures looked { ReaderLooked self.old self.new }
+        ensures words { ReaderGotBack mine result self.old self.new }
+    {
+        let none = self.end.knows_none();
+        let call = ReadCall::look(none, Purpose::Poll);
+        if !none {
+            let before = self.take_own(call);
+            return Polled {
+                outcome: Outcome::Ready,
+                before,
+                mine: Some(mine),
+            };
+        }
+        self.end.reload_after(&self.slots);
+        let none = self.end.knows_none();
+        let call = call.refreshed(none);
+        if !none {
+            let before = self.take_own(call);
+            return Polled {
+                outcome: Outcome::Ready,
+                before,
+                mine: Some(mine),
+            };
+        }
+        let before = self.reclaim_waker();
+        if !self.slots.has_place() {
+            return Polled {
+                outcome: outcome_of(call.registered(false).end()),
+                before,
+                mine: Some(mine),
+            };
+        }
+        self.end
+            .publish_waker(&mut self.slots, &self.places.reader, mine);
+        self.look_again(call.registered(true), before)
+    }
+
+    /// Takes the place of its own words back, where the other side doesn't have it just now, and the
+    /// words that are still there.
+    fn reclaim_waker(&mut self) -> Option<Waiter>
+        ensures back { IsSome result → (self.old.slots.owns ≡ false) × (self.new.slots.owns ≡ true) }
+        ensures nowhere { self.new.slots.owns ≡ false → result ≡ None }
+        ensures kept { self.new.slots ≡ record self.old.slots { owns = self.new.slots.owns } }
+        ensures stays { self.new.slots.owns ≡ false → self.new.slots ≡ self.old.slots }
+        ensures rest { (self.new.end ≡ self.old.end) × (self.new.places ≡ self.old.places) }
+    {
+        // A side that was woken finds its place handed back: so that is asked first.
+        if self.end.reclaim(&mut self.slots) {
+            return None;
+        }
+        self.end.cancel(&mut self.slots, &self.places.reader)
+    }
+
+    /// Checks once more, once its words are in the slot.
+    fn look_again(&mut self, call: ReadCall, before: Option<Waiter>) -> Polled
+        requires next { call.point ≡ ReadPoint.LookClosed Purpose.Poll }
+        requires none { self.old.end.known ≡ [] }
+        requires left { self.old.slots.owns ≡ false }
+        ensures found { ReaderFound result.outcome self.new }
+        ensures looked { ReaderLooked self.old self.new }
+        ensures before { result.before ≡ before }
+        ensures back { IsSome result.mine → self.new.slots.owns ≡ true }
+        ensures pending { result.outcome ≡ Outcome.Pending → result.mine ≡ None }
+        ensures left { result.outcome ≡ Outcome.Again → false ≡ true }
+        ensures kept { self.new.slots ≡ record self.old.slots { owns = self.new.slots.owns } }
+    {
+        let is_closed = self.end.look_closed_after(&self.slots);
+        let call = call.loaded_closed(is_closed);
+        self.end.reload_after(&self.slots);
+        let none = self.end.knows_none();
+        let call = call.refreshed(none);
+        if !none {
+            let mine = self.take_own(call);
+            return Polled {
+                outcome: Outcome::Ready,
+                before,
+                mine,
+            };
+        }
+        Polled {
+            outcome: outcome_of(call.end()),
+            before,
+            mine: None,
+        }
+    }
+
+    /// Takes its own words out of its slot, if they are still there.
+    fn take_own(&mut self, call: ReadCall) -> Option<Waiter>
+        requires next { call.point ≡ ReadPoint.LookTake Purpose.Poll }
+        ensures back { IsSome result → (self.old.slots.owns ≡ false) × (self.new.slots.owns ≡ true) }
+        ensures none { result ≡ None → self.new.slots ≡ self.old.slots }
+        ensures kept { self.new.slots ≡ record self.old.slots { owns = self.new.slots.owns } }
+        ensures rest { (self.new.end ≡ self.old.end) × (self.new.places ≡ self.old.places) }
+    {
+        let _ready = call.took_own().end();
+        if !self.slots.maybe_registered() {
+            return None;
+        }
+        self.end.cancel(&mut self.slots, &self.places.reader)
+    }
+
+    /// Checks for a byte or for the end, and leaves no words.
+    pub(crate) fn look(&mut self) -> Outcome
+        ensures seen { ReaderSaw result self.new }
+        ensures looked { ReaderLooked self.old self.new }
+        ensures slots { self.new.slots ≡ self.old.slots }
+    {
+        self.end.refresh();
+        if !self.end.knows_none() {
+            return Outcome::Ready;
+        }
+        if !self.end.look_closed() {
+            return Outcome::Pending;
+        }
+        self.end.reload();
+        if self.end.knows_none() {
+            Outcome::End
+        } else {
+            Outcome::Ready
+        }
+    }
+
+    /// How many known bytes lie in one piece.
+    pub(crate) fn peek_len(&self) -> usize
+        ensures len { result ≡ in_one_piece self.now.end }
+        ensures some { 0 < length self.now.end.known → 0 < result }
+    {
+        self.end.peek_buf().len()
+    }
+
+    /// Copies known bytes that lie in one piece to the front of `to`, and takes them. Returns how
+    /// many, and who has to be woken.
+    pub(crate) fn read(&mut self, to: &mut [u8]) -> (usize, Option<Waiter>)
+        ensures read { ReadsInto to.old to.new result.0 self.old self.new }
+        ensures none { result.0 ≡ 0 → (result.1 ≡ None) × (self.new.slots ≡ self.old.slots) }
+        ensures some { 0 < result.0 → TookWriter result.1 self.old.slots self.new }
+    {
+        self.end.refresh();
+        let n = self.peek_len().min(to.len());
+        if n == 0 {
+            return (0, None);
+        }
+        to[..n].copy_from_slice(&self.end.peek_buf()[..n]);
+        let wake = self.consume(n);
+        (n, wake)
+    }
+
+    /// Takes the first `n` bytes of what `peek` lends. Returns who has to be woken.
+    pub(crate) fn consume(&mut self, n: usize) -> Option<Waiter>
+        requires { n ≤ in_one_piece self.old.end }
+        ensures taken { self.new.end.taken ≡ self.old.end.taken ++ take n self.old.end.known }
+        ensures known { self.new.end.known ≡ drop n self.old.end.known }
+        ensures end { ReaderConsumed self.old.end self.new.end }
+        ensures wake { TookWriter result self.old.slots self.new }
+        ensures places { self.new.places ≡ self.old.places }
+    {
+        let call = ReadCall::consume(n);
+        self.end.consume(n);
+        self.wake_writer(call.stored_head(n))
+    }
+
+    /// Checks, after the store, whether the writer left its words, and takes them if it did.
+    fn wake_writer(&mut self, call: ReadCall) -> Option<Waiter>
+        requires { call.point ≡ ReadPoint.TakeWriter AfterRead.Answer }
+        ensures wake { TookWriter result self.old.slots self.new }
+        ensures rest { (self.new.end ≡ self.old.end) × (self.new.places ≡ self.old.places) }
+    {
+        if self.end.nobody_waits(&mut self.slots) {
+            call.took_writer(false).done();
+            return None;
+        }
+        match self.end.take(&mut self.slots, &self.places.writer) {
+            Some(taken) => {
+                call.took_writer(true).woke().done();
+                Some(taken)
+            }
+            None => {
+                call.took_writer(false).done();
+                None
+            }
+        }
+    }
+
+    /// Closes the pipe and drops this side. Returns who has to be woken, the words of its own that
+    /// nobody took, and what is left of its slots: the writer's was checked after the close.
+    pub(crate) fn leave(self) -> (Option<Waiter>, Option<Waiter>, ReadRegistrations)
+        ensures left { LeftReading self result.0 result.2 }
+        ensures mine { IsSome result.1 → self.slots.owns ≡ false }
+    {
+        let ReadHalf {
+            end,
+            mut slots,
+            places,
+        } = self;
+        let mine = end.cancel(&mut slots, &places.reader);
+        let call = ReadCall::drop().stored_closed();
+        let (_last, taken) = end.finish_waking(&mut slots, &places.writer);
+        let wake = match taken {
+            Some(taken) => {
+                call.took_writer(true).woke().done();
+                Some(taken)
+            }
+            None => {
+                call.took_writer(false).done();
+                None
+            }
+        };
+        (wake, mine, slots)
+    }
+}

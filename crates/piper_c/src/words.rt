@@ -1,0 +1,99 @@
+//! The two words that a side leaves while it waits, and the places where both sides leave theirs.
+ghost use Rattle.std.specs.Prelude.{◌≡◌, ◌<◌, ◌↔◌, IsSome, IfSome, true, false};
+
+use token_cell::{Token, TokenCell};
+
+/// Two words that a waiting side leaves, or none where `vtable` is 0.
+#[repr(C)]
+#[derive(Clone, Copy)]
+pub struct PiperWords {
+    pub data: usize,
+    pub vtable: usize,
+}
+
+/// The result of a call that moves bytes.
+#[repr(C)]
+#[derive(Drop)]
+pub struct PiperMoved {
+    pub count: usize,
+    /// Who has to be woken, if anyone.
+    pub wake: PiperWords,
+}
+
+/// The result of a close or a drop.
+#[repr(C)]
+#[derive(Drop)]
+pub struct PiperLeft {
+    /// Who has to be woken of the other side, if anyone.
+    pub wake: PiperWords,
+    /// Words of this side that nobody took, if any.
+    pub mine: PiperWords,
+}
+
+/// Words that a side leaves, or left.
+///
+/// They are neither copied nor dropped, and only this file can take them apart. So words that a
+/// poll was given come out of the library once: by `hand_out`.
+pub(crate) struct Waiter {
+    words: PiperWords,
+    ghost some: { 0 < words.vtable },
+}
+
+/// The places where both sides leave their words.
+pub(crate) struct Places {
+    pub(crate) reader: TokenCell<Option<Waiter>>,
+    pub(crate) writer: TokenCell<Option<Waiter>>,
+}
+
+impl Waiter {
+    /// The words of a side that is about to wait.
+    pub(crate) fn new(words: PiperWords) -> Waiter
+        requires { 0 < words.vtable }
+        ensures { result.words ≡ words }
+    {
+        Waiter { words }
+    }
+
+    /// Hands the words out to whoever called the library, if there are some.
+    pub(crate) fn hand_out(waiter: Option<Waiter>) -> PiperWords
+        ensures some { 0 < result.vtable ↔ IsSome waiter }
+        ensures words { IfSome waiter (λ w. result ≡ w.words) }
+    {
+        match waiter {
+            Some(Waiter { words }) => words,
+            None => PiperWords { data: 0, vtable: 0 },
+        }
+    }
+}
+
+impl Places {
+    /// Two empty places, and the rights to them: the reader's first.
+    pub(crate) fn new() -> (Places, Token, Token)
+        ensures reader { (result.1.name ≡ result.0.reader) × (result.1.there ≡ true)
+            × (result.1.filled ≡ false) }
+        ensures writer { (result.2.name ≡ result.0.writer) × (result.2.there ≡ true)
+            × (result.2.filled ≡ false) }
+    {
+        let (reader, reader_right) = TokenCell::empty();
+        let (writer, writer_right) = TokenCell::empty();
+        (Places { reader, writer }, reader_right, writer_right)
+    }
+}
+
+impl Drop for Places {
+    /// Both sides are gone. Each took its own words back as it was dropped, or the other side took
+    /// them, so nothing lies here.
+    fn drop(self) {
+        let Places { reader, writer } = self;
+        for_gone(reader.into_inner());
+        for_gone(writer.into_inner());
+    }
+}
+
+/// What a place holds once both sides are gone.
+fn for_gone(left: Option<Waiter>) {
+    match left {
+        Some(Waiter { words: _ }) => {}
+        None => {}
+    }
+}

@@ -1,0 +1,187 @@
+//! The exports of the side that writes. Each takes the side out of its handle, makes a call of it and
+//! puts it back.
+ghost use Rattle.std.specs.Prelude.{◌≡◌, ◌<◌, IsTrue, None, true, false};
+ghost use Rattle.piper_ring.specs.WriteView.{MayBeUnread};
+ghost use Rattle.piper_c.specs.Handles.{Holds, HoldsOn, IsWholeWriter};
+ghost use Rattle.piper_c.specs.Writing.{WriterTold, WriterSeen, WriterWrites, WriterCloses, WriterEnds};
+ghost use Rattle.piper_c.specs.Lending.{LendsOut, IsLoanOf, IsWithin};
+
+use crate::handles::{PiperRoom, PiperWriter};
+use crate::lending::{lend_out, reclaim_room};
+use crate::outcome::{Outcome, PiperPolled, Polled};
+use crate::words::{PiperLeft, PiperMoved, PiperWords, Waiter};
+use std::alloc::Global;
+use std::mem::replace;
+
+/// Waits for room or for the end. `mine` is left where there is neither.
+#[unsafe(no_mangle)]
+pub extern "C" fn piper_writer_poll(
+    alloc: Global,
+    writer: &mut PiperWriter,
+    mine: PiperWords,
+) -> PiperPolled
+    requires { IsWholeWriter writer.old.half writer.old.lent }
+    ensures refused { mine.vtable ≡ 0 → (writer.new.half ≡ writer.old.half) × (result.outcome ≡ 4)
+        × (result.mine ≡ mine) × (result.before ≡ mine) }
+    ensures polled { 0 < mine.vtable →
+        HoldsOn writer.old.half writer.new.half (λ a b. WriterTold mine result a b) }
+{
+    if mine.vtable == 0 {
+        return PiperPolled {
+            outcome: Outcome::Refused.code(),
+            before: mine,
+            mine,
+        };
+    }
+    let mut half = writer.take(alloc);
+    let Polled {
+        outcome,
+        before,
+        mine,
+    } = half.poll(Waiter::new(mine));
+    writer.put(half);
+    PiperPolled {
+        outcome: outcome.code(),
+        before: Waiter::hand_out(before),
+        mine: Waiter::hand_out(mine),
+    }
+}
+
+/// Checks for room or for the end, and leaves nothing.
+#[unsafe(no_mangle)]
+pub extern "C" fn piper_writer_look(alloc: Global, writer: &mut PiperWriter) -> u32
+    requires { IsWholeWriter writer.old.half writer.old.lent }
+    ensures { HoldsOn writer.old.half writer.new.half (λ a b. WriterSeen result a b) }
+{
+    let mut half = writer.take(alloc);
+    let outcome = half.look();
+    writer.put(half);
+    outcome.code()
+}
+
+/// Copies bytes from `from`, and publishes them.
+#[unsafe(no_mangle)]
+pub extern "C" fn piper_writer_write(
+    alloc: Global,
+    writer: &mut PiperWriter,
+    from: &[u8],
+) -> PiperMoved
+    requires { IsWholeWriter writer.old.half writer.old.lent }
+    ensures { HoldsOn writer.old.half writer.new.half (λ a b.
+        WriterWrites from.now result a b) }
+{
+    let mut half = writer.take(alloc);
+    let (count, wake) = half.write(from);
+    writer.put(half);
+    PiperMoved {
+        count,
+        wake: Waiter::hand_out(wake),
+    }
+}
+
+/// How many bytes are unread now.
+#[unsafe(no_mangle)]
+pub extern "C" fn piper_writer_len(alloc: Global, writer: &mut PiperWriter) -> usize
+    requires { IsWholeWriter writer.old.half writer.old.lent }
+    ensures { HoldsOn writer.old.half writer.new.half (λ a b. (b ≡ a) × MayBeUnread a.end result) }
+{
+    let half = writer.take(alloc);
+    let len = half.end.len();
+    writer.put(half);
+    len
+}
+
+/// How many bytes the pipe can hold.
+#[unsafe(no_mangle)]
+pub extern "C" fn piper_writer_capacity(alloc: Global, writer: &mut PiperWriter) -> usize
+    requires { IsWholeWriter writer.old.half writer.old.lent }
+    ensures { HoldsOn writer.old.half writer.new.half (λ a b.
+        (b ≡ a) × (result ≡ a.end.capacity)) }
+{
+    let half = writer.take(alloc);
+    let capacity = half.end.capacity();
+    writer.put(half);
+    capacity
+}
+
+/// Whether the pipe is closed now.
+#[unsafe(no_mangle)]
+pub extern "C" fn piper_writer_is_closed(alloc: Global, writer: &mut PiperWriter) -> bool
+    requires { IsWholeWriter writer.old.half writer.old.lent }
+    ensures { HoldsOn writer.old.half writer.new.half (λ a b.
+        (b ≡ a) × (a.end.saw ≡ true → IsTrue result)) }
+{
+    let half = writer.take(alloc);
+    let is_closed = half.end.is_closed();
+    writer.put(half);
+    is_closed
+}
+
+/// Closes the pipe for good. The words of both sides are to be woken.
+#[unsafe(no_mangle)]
+pub extern "C" fn piper_writer_close(alloc: Global, writer: &mut PiperWriter) -> PiperLeft
+    requires { IsWholeWriter writer.old.half writer.old.lent }
+    ensures { HoldsOn writer.old.half writer.new.half (λ a b. WriterCloses result a b) }
+{
+    let mut half = writer.take(alloc);
+    let (wake, mine) = half.close();
+    writer.put(half);
+    PiperLeft {
+        wake: Waiter::hand_out(wake),
+        mine: Waiter::hand_out(mine),
+    }
+}
+
+/// Closes the pipe, and drops this side.
+#[unsafe(no_mangle)]
+pub extern "C" fn piper_writer_drop(alloc: Global, writer: &mut PiperWriter) -> PiperLeft
+    requires { IsWholeWriter writer.old.half writer.old.lent }
+    ensures dropped { writer.new.half ≡ None }
+    ensures mine { Holds writer.old.half (λ a. 0 < result.mine.vtable → a.slots.owns ≡ false) }
+{
+    let half = Box::into_inner(writer.take(alloc));
+    let (wake, mine, _left) = half.leave();
+    PiperLeft {
+        wake: Waiter::hand_out(wake),
+        mine: Waiter::hand_out(mine),
+    }
+}
+
+/// Lends room to C, at most `max` bytes: they belong to `at` then.
+#[unsafe(no_mangle)]
+pub extern "C" fn piper_writer_lend(
+    _alloc: Global,
+    writer: &mut PiperWriter,
+    max: usize,
+    at: &mut PiperRoom,
+) -> usize
+    requires { IsWholeWriter writer.old.half writer.old.lent }
+    ensures { Holds writer.old.half (λ a. LendsOut a max result writer.new at.new) }
+{
+    let whole = replace(writer, PiperWriter::none());
+    let (lent, room, len) = lend_out(whole, max);
+    *writer = lent;
+    *at = room;
+    len
+}
+
+/// Takes the room back that was lent, and publishes its first `n` bytes, as C left them.
+#[unsafe(no_mangle)]
+pub extern "C" fn piper_writer_publish(
+    alloc: Global,
+    writer: &mut PiperWriter,
+    room: PiperRoom,
+    n: usize,
+) -> PiperWords
+    requires loan { IsLoanOf writer.old.half writer.old.lent room.at room.bytes }
+    requires within { IsWithin n room.bytes }
+    ensures ended { HoldsOn writer.old.half writer.new.half (λ a b.
+        WriterEnds room.bytes n result a b) }
+    ensures whole { IsWholeWriter writer.new.half writer.new.lent }
+{
+    let lent = replace(writer, PiperWriter::none());
+    let mut half = reclaim_room(lent, room).into_box(alloc);
+    let wake = half.publish_lent(n);
+    writer.put(half);
+    Waiter::hand_out(wake)
+}

@@ -1,0 +1,287 @@
+//! The calls of the side that writes. Each makes its steps in the order of the call table.
+ghost use Rattle.std.specs.Prelude.{◌≡◌, [], ◌<◌, ◌≤◌, ◌++◌, ◌+◌, length, take, drop, IsSome, Some, None, true, false};
+
+use crate::halves::WriteHalf;
+use crate::outcome::{Outcome, Polled, outcome_of};
+use crate::words::Waiter;
+use piper_protocol::table::{AfterWrite, Purpose, WritePoint};
+use piper_protocol::write_call::WriteCall;
+use piper_ring::WriteRegistrations;
+
+impl WriteHalf {
+    ghost use Rattle.piper_c.specs.Writing.{LeftWriting, PublishesLent, TakesLentBack, WriterFound, WriterSaw, WritesFrom, WriterLooked, WriterPublished, WriterGotBack, TookReader, TookReaderLast};
+
+    /// Waits for room or for the end. `mine` is left where there is neither.
+    pub(crate) fn poll(&mut self, mine: Waiter) -> Polled
+        ensures found { WriterFound result.outcome self.new }
+        ensures looked { WriterLooked self.old self.new }
+        ensures words { WriterGotBack mine result self.old self.new }
+    {
+        self.end.learn();
+        let is_closed = self.end.look_closed();
+        let none = self.end.knows_none();
+        let call = WriteCall::look(Purpose::Poll).looked_closed(none, is_closed);
+        if is_closed {
+            return Polled {
+                outcome: outcome_of(call.end()),
+                before: None,
+                mine: Some(mine),
+            };
+        }
+        if !none {
+            let before = self.take_own(call);
+            return Polled {
+                outcome: Outcome::Ready,
+                before,
+                mine: Some(mine),
+            };
+        }
+        self.end.reload_after(&self.slots);
+        let none = self.end.knows_none();
+        let call = call.refreshed(none);
+        if !none {
+            let before = self.take_own(call);
+            return Polled {
+                outcome: Outcome::Ready,
+                before,
+                mine: Some(mine),
+            };
+        }
+        let before = self.reclaim_waker();
+        if !self.slots.has_place() {
+            return Polled {
+                outcome: outcome_of(call.registered(false).end()),
+                before,
+                mine: Some(mine),
+            };
+        }
+        self.end
+            .publish_waker(&mut self.slots, &self.places.writer, mine);
+        self.look_again(call.registered(true), before)
+    }
+
+    /// Takes the place of its own words back, where the other side doesn't have it just now, and the
+    /// words that are still there.
+    fn reclaim_waker(&mut self) -> Option<Waiter>
+        ensures back { IsSome result → (self.old.slots.owns ≡ false) × (self.new.slots.owns ≡ true) }
+        ensures nowhere { self.new.slots.owns ≡ false → result ≡ None }
+        ensures kept { self.new.slots ≡ record self.old.slots { owns = self.new.slots.owns } }
+        ensures stays { self.new.slots.owns ≡ false → self.new.slots ≡ self.old.slots }
+        ensures rest { (self.new.end ≡ self.old.end) × (self.new.places ≡ self.old.places) }
+    {
+        // A side that was woken finds its place handed back: so that is asked first.
+        if self.end.reclaim(&mut self.slots) {
+            return None;
+        }
+        self.end.cancel(&mut self.slots, &self.places.writer)
+    }
+
+    /// Checks once more, once its words are in the slot.
+    fn look_again(&mut self, call: WriteCall, before: Option<Waiter>) -> Polled
+        requires next { call.point ≡ WritePoint.LookHeadAgain Purpose.Poll }
+        requires none { self.old.end.room ≡ 0 }
+        requires open { self.old.end.saw ≡ false }
+        requires left { self.old.slots.owns ≡ false }
+        ensures found { WriterFound result.outcome self.new }
+        ensures looked { WriterLooked self.old self.new }
+        ensures before { result.before ≡ before }
+        ensures back { IsSome result.mine → self.new.slots.owns ≡ true }
+        ensures pending { result.outcome ≡ Outcome.Pending → result.mine ≡ None }
+        ensures left { result.outcome ≡ Outcome.Again → false ≡ true }
+        ensures kept { self.new.slots ≡ record self.old.slots { owns = self.new.slots.owns } }
+    {
+        self.end.reload_after(&self.slots);
+        let none = self.end.knows_none();
+        let call = call.refreshed(none);
+        if !none {
+            let mine = self.take_own(call);
+            return Polled {
+                outcome: Outcome::Ready,
+                before,
+                mine,
+            };
+        }
+        self.end.learn();
+        let is_closed = self.end.look_closed_after(&self.slots);
+        let call = call.loaded_closed(is_closed);
+        Polled {
+            outcome: outcome_of(call.end()),
+            before,
+            mine: None,
+        }
+    }
+
+    /// Takes its own words out of its slot, if they are still there.
+    fn take_own(&mut self, call: WriteCall) -> Option<Waiter>
+        requires next { call.point ≡ WritePoint.LookTake Purpose.Poll }
+        ensures back { IsSome result → (self.old.slots.owns ≡ false) × (self.new.slots.owns ≡ true) }
+        ensures none { result ≡ None → self.new.slots ≡ self.old.slots }
+        ensures kept { self.new.slots ≡ record self.old.slots { owns = self.new.slots.owns } }
+        ensures rest { (self.new.end ≡ self.old.end) × (self.new.places ≡ self.old.places) }
+    {
+        let _ready = call.took_own(false).end();
+        if !self.slots.maybe_registered() {
+            return None;
+        }
+        self.end.cancel(&mut self.slots, &self.places.writer)
+    }
+
+    /// Checks for room or for the end, and leaves no words.
+    pub(crate) fn look(&mut self) -> Outcome
+        ensures saw { WriterSaw result self.new }
+        ensures looked { WriterLooked self.old self.new }
+        ensures slots { self.new.slots ≡ self.old.slots }
+    {
+        if self.end.look_closed() {
+            return Outcome::End;
+        }
+        self.end.refresh();
+        if self.end.knows_none() {
+            Outcome::Pending
+        } else {
+            Outcome::Ready
+        }
+    }
+
+    /// Copies bytes from the front of `from` into room that lies in one piece, and publishes them.
+    /// Returns how many, and who has to be woken.
+    pub(crate) fn write(&mut self, from: &[u8]) -> (usize, Option<Waiter>)
+        ensures wrote { WritesFrom from.now result.0 self.old self.new }
+        ensures none { result.0 ≡ 0 → (result.1 ≡ None) × (self.new.slots ≡ self.old.slots) }
+        ensures some { 0 < result.0 → TookReader result.1 self.old.slots self.new }
+    {
+        self.end.learn();
+        if self.end.look_closed() {
+            self.end.write_buf(0);
+            return (0, None);
+        }
+        self.end.refresh();
+        let room = self.end.write_buf(from.len());
+        let n = room.len();
+        room.copy_from_slice(&from[..n]);
+        if n == 0 {
+            return (0, None);
+        }
+        let wake = self.publish(n);
+        (n, wake)
+    }
+
+    /// Publishes the first `n` bytes of what is lent, as they are. Returns who has to be woken.
+    pub(crate) fn publish(&mut self, n: usize) -> Option<Waiter>
+        requires { n ≤ length self.old.end.lent }
+        ensures sent { self.new.end.sent ≡ self.old.end.sent ++ take n self.old.end.lent }
+        ensures lent { self.new.end.lent ≡ drop n self.old.end.lent }
+        ensures room { self.new.end.room + n ≡ self.old.end.room }
+        ensures end { WriterPublished self.old.end self.new.end }
+        ensures wake { TookReader result self.old.slots self.new }
+        ensures places { self.new.places ≡ self.old.places }
+    {
+        let call = WriteCall::produced(n);
+        self.end.produce(n);
+        self.wake_reader(call.stored_tail(n))
+    }
+
+    /// Publishes the first `n` bytes of the room that C gave back, and takes back the rest. Returns
+    /// who has to be woken.
+    pub(crate) fn publish_lent(&mut self, n: usize) -> Option<Waiter>
+        requires { n ≤ length self.old.end.lent }
+        ensures published { 0 < n → PublishesLent n result self.old self.new }
+        ensures none { n ≡ 0 → TakesLentBack result self.old self.new }
+    {
+        if n == 0 {
+            self.end.write_buf(0);
+            return None;
+        }
+        let wake = self.publish(n);
+        self.end.write_buf(0);
+        wake
+    }
+
+    /// Checks, after the store, whether the reader left its words, and takes them if it did.
+    fn wake_reader(&mut self, call: WriteCall) -> Option<Waiter>
+        requires { call.point ≡ WritePoint.TakeReader AfterWrite.Answer }
+        ensures wake { TookReader result self.old.slots self.new }
+        ensures rest { (self.new.end ≡ self.old.end) × (self.new.places ≡ self.old.places) }
+    {
+        if self.end.nobody_waits(&mut self.slots) {
+            call.took_reader(false).done();
+            return None;
+        }
+        match self.end.take(&mut self.slots, &self.places.reader) {
+            Some(taken) => {
+                call.took_reader(true).woke().done();
+                Some(taken)
+            }
+            None => {
+                call.took_reader(false).done();
+                None
+            }
+        }
+    }
+
+    /// Closes the pipe for good. Returns who has to be woken of each side, the reader's first.
+    pub(crate) fn close(&mut self) -> (Option<Waiter>, Option<Waiter>)
+        ensures shut { (self.new.end.shut ≡ true) × (self.new.end.lent ≡ []) }
+        ensures sent { self.new.end.sent ≡ self.old.end.sent }
+        ensures wake { TookReaderLast result.0 self.old.slots self.new }
+        ensures mine { IsSome result.1 → self.old.slots.owns ≡ false }
+        ensures places { self.new.places ≡ self.old.places }
+    {
+        let call = WriteCall::close();
+        self.end.shut();
+        let call = call.stored_closed(true);
+        match self.end.take(&mut self.slots, &self.places.reader) {
+            Some(taken) => (
+                Some(taken),
+                self.reclaim_last(call.took_reader(true).woke()),
+            ),
+            None => (None, self.reclaim_last(call.took_reader(false))),
+        }
+    }
+
+    /// Takes its own words back, in a close, if nobody took them.
+    fn reclaim_last(&mut self, call: WriteCall) -> Option<Waiter>
+        requires { call.point ≡ WritePoint.TakeWriter }
+        ensures back { IsSome result → self.old.slots.owns ≡ false }
+        ensures kept { self.new.slots ≡ record self.old.slots { owns = self.new.slots.owns } }
+        ensures rest { (self.new.end ≡ self.old.end) × (self.new.places ≡ self.old.places) }
+    {
+        match self.end.cancel(&mut self.slots, &self.places.writer) {
+            Some(mine) => {
+                call.took_own(true).woke().done();
+                Some(mine)
+            }
+            None => {
+                call.took_own(false).done();
+                None
+            }
+        }
+    }
+
+    /// Closes the pipe and drops this side. Returns who has to be woken, the words of its own that
+    /// nobody took, and what is left of its slots: the reader's was checked after the close.
+    pub(crate) fn leave(self) -> (Option<Waiter>, Option<Waiter>, WriteRegistrations)
+        ensures left { LeftWriting self result.0 result.2 }
+        ensures mine { IsSome result.1 → self.slots.owns ≡ false }
+    {
+        let WriteHalf {
+            end,
+            mut slots,
+            places,
+        } = self;
+        let mine = end.cancel(&mut slots, &places.writer);
+        let call = WriteCall::drop().stored_closed(false);
+        let (_last, taken) = end.finish_waking(&mut slots, &places.reader);
+        let wake = match taken {
+            Some(taken) => {
+                call.took_reader(true).woke().done();
+                Some(taken)
+            }
+            None => {
+                call.took_reader(false).done();
+                None
+            }
+        };
+        (wake, mine, slots)
+    }
+}
