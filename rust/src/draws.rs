@@ -1,0 +1,41 @@
+//! When a copy that could go on yields, so that other tasks of its thread come to their turn.
+
+/// A copy of a task yields once in so many, on average.
+const ONE_IN: usize = 100;
+
+/// A stream of random draws. It is kept as a number, since not each `fastrand` has a generator that
+/// can be shared.
+pub(crate) struct Draws(u64);
+
+impl Draws {
+    /// The streams of both sides of a pipe.
+    pub(crate) fn pair() -> (Draws, Draws) {
+        #[allow(unused_mut)]
+        let mut seeds = fastrand::Rng::with_seed(first_seed());
+        (Draws(seeds.u64(..)), Draws(seeds.u64(..)))
+    }
+
+    /// Whether this copy is to yield.
+    pub(crate) fn draw(&mut self) -> bool {
+        #[allow(unused_mut)]
+        let mut numbers = fastrand::Rng::with_seed(self.0);
+        let drawn = numbers.usize(..ONE_IN);
+        self.0 = numbers.get_seed();
+        drawn == 0
+    }
+}
+
+/// A number that differs from pipe to pipe and from run to run.
+#[cfg(feature = "std")]
+fn first_seed() -> u64 {
+    use std::collections::hash_map::RandomState;
+    use std::hash::{BuildHasher, Hasher};
+
+    RandomState::new().build_hasher().finish()
+}
+
+/// There is no source of random numbers without `std`.
+#[cfg(not(feature = "std"))]
+fn first_seed() -> u64 {
+    0x9e37_79b9_7f4a_7c15
+}

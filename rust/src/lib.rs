@@ -1,0 +1,100 @@
+//! A bounded pipe of bytes between one reader and one writer, for threads and for tasks.
+//!
+//! This crate takes the place of `piper` 0.2.5: it has the same calls under the same names. The pipe
+//! itself is a static library whose every function is proved: bytes come in order, none is lost,
+//! doubled or read unset, memory is freed once, and the waker that a side leaves while it waits comes
+//! out of the pipe once. What this crate adds is not proved: it turns wakers into the two words that
+//! the library keeps, and tests what the library asks of its callers.
+//!
+//! ```
+//! use futures_lite::{future, AsyncReadExt, AsyncWriteExt};
+//!
+//! let (mut reader, mut writer) = piper::pipe(1024);
+//! let sending = std::thread::spawn(move || {
+//!     future::block_on(writer.write_all(b"hello world")).unwrap();
+//!     // The drop of the writer closes the pipe.
+//! });
+//! let mut text = String::new();
+//! future::block_on(reader.read_to_string(&mut text)).unwrap();
+//! sending.join().unwrap();
+//! assert_eq!(text, "hello world");
+//! ```
+//!
+//! # When a pipe is closed
+//!
+//! - The writer is dropped, or `poll_close` is called: the reader is woken. What is unread can still
+//!   be read; then every read gives 0, for good.
+//! - The reader is dropped: the writer is woken, and every write gives 0.
+//!
+//! # Where this is not 0.2.5
+//!
+//! - [`Writer::produced`] panics where `n` is more than what is left of the slice last lent, and
+//!   [`Reader::consume`] where `amt` is more than [`Reader::peek_buf`] shows, as they are documented
+//!   to. 0.2.5 lets more pass where it can.
+//! - `poll_close` is final for the writer, too: nothing is lent any more, and what was lent is taken
+//!   back. Every copy into the pipe ends with nothing lent.
+//! - `produced(0)` wakes nobody.
+//! - Where the reader is dropped during a read of [`Writer::poll_fill`], what was read is counted, as in
+//!   0.2.5, and published, too, so that [`Writer::len`] has it.
+//! - [`Reader::try_drain`] and [`Writer::try_fill`] leave the waker of an earlier poll where it is, so
+//!   that a task that waits is not forgotten.
+//! - The waker of a handle is dropped with it, and not called by the other handle later.
+//! - A copy from a slice lends no more room than the slice is long, so that less is set to 0.
+//! - A task whose waker is just being called may be polled once more than with 0.2.5.
+//! - A copy panics where a `Read` or a `Write` claims more bytes than it was handed.
+//! - The handles are `Send` and, with the feature `std`, `Sync`: calls through a shared reference that
+//!   ask the pipe (`len`, `is_empty`, `is_full`, `is_closed`, and `peek_buf` after bytes were taken)
+//!   then wait for each other. Without `std` they are `Send` alone.
+//! - The feature `portable-atomic` changes nothing: the library has atomics of its own.
+//! - The handles have a `Debug` that prints counts and no bytes.
+//! - Memory comes from `malloc`, not from the program's global allocator.
+
+#![cfg_attr(not(feature = "std"), no_std)]
+#![deny(unsafe_code)]
+#![warn(missing_docs)]
+
+extern crate alloc;
+
+mod copies;
+mod draws;
+#[allow(unsafe_code)]
+mod ends;
+mod reader;
+mod sys;
+mod turns;
+mod writer;
+
+pub use reader::Reader;
+pub use writer::Writer;
+
+/// Makes a pipe that holds up to `cap` bytes, and returns both of its sides.
+///
+/// # Panics
+///
+/// If `cap` is 0, or if `cap * 2` is more than a `usize` can hold. Where memory is refused the
+/// program ends, as at any allocation.
+///
+/// ```
+/// let (reader, _writer) = piper::pipe(10);
+/// assert_eq!(reader.capacity(), 10);
+/// ```
+pub fn pipe(cap: usize) -> (Reader, Writer) {
+    assert!(cap > 0, "capacity must be positive");
+    assert!(cap.checked_mul(2).is_some(), "capacity is too large");
+    let (of_reader, of_writer) = draws::Draws::pair();
+    match ends::open(cap) {
+        Some((reader, writer)) => (
+            Reader::new(reader, of_reader),
+            Writer::new(writer, of_writer),
+        ),
+        None => refused(cap),
+    }
+}
+
+/// Ends the program for want of memory.
+fn refused(cap: usize) -> ! {
+    match core::alloc::Layout::array::<u8>(cap) {
+        Ok(layout) => alloc::alloc::handle_alloc_error(layout),
+        Err(_) => panic!("capacity is too large"),
+    }
+}

@@ -1,0 +1,87 @@
+//! The functions of the static library, declared as its header `c/piper.h` has them.
+//!
+//! Nothing compares these declarations with the library: change both together. What the crate has no
+//! use for is left out.
+
+use core::ffi::c_void;
+
+/// Two words that a side leaves while it waits. Here they are the data and the vtable of a waker;
+/// a null vtable says that there are none.
+#[repr(C)]
+#[derive(Clone, Copy)]
+pub(crate) struct Words {
+    pub(crate) data: *const (),
+    pub(crate) vtable: *const (),
+}
+
+/// The side that reads: null once it was dropped.
+#[repr(C)]
+pub(crate) struct RawReader {
+    pub(crate) at: *mut c_void,
+}
+
+/// The side that writes.
+#[repr(C)]
+pub(crate) struct RawWriter {
+    pub(crate) at: *mut c_void,
+}
+
+// Of the outcomes of a look or a poll 0 says that there is nothing to do yet. The words of a poll
+// are in the pipe then; a look leaves none.
+
+/// There is a byte to read, or room to write.
+pub(crate) const READY: u32 = 1;
+/// The pipe is closed, and for a reader also empty for good.
+pub(crate) const END: u32 = 2;
+/// The other side is just taking the words of an earlier poll: poll again.
+pub(crate) const AGAIN: u32 = 3;
+
+/// What a poll found, and the words that are the caller's again.
+#[repr(C)]
+pub(crate) struct Polled {
+    pub(crate) outcome: u32,
+    pub(crate) before: Words,
+    pub(crate) mine: Words,
+}
+
+/// How many bytes a call moved, and who has to be woken now.
+#[repr(C)]
+pub(crate) struct Moved {
+    pub(crate) count: usize,
+    pub(crate) wake: Words,
+}
+
+/// Who has to be woken after a close or a drop, and the words that this side had left.
+#[repr(C)]
+pub(crate) struct Left {
+    pub(crate) wake: Words,
+    pub(crate) mine: Words,
+}
+
+extern "C" {
+    pub(crate) fn piper_open(
+        capacity: usize,
+        reader: *mut RawReader,
+        writer: *mut RawWriter,
+    ) -> bool;
+
+    pub(crate) fn piper_reader_look(reader: *mut RawReader) -> u32;
+    pub(crate) fn piper_reader_poll(reader: *mut RawReader, mine: Words) -> Polled;
+    pub(crate) fn piper_reader_peek(reader: *mut RawReader, at: *mut *const u8) -> usize;
+    pub(crate) fn piper_reader_consume(reader: *mut RawReader, n: usize) -> Words;
+    pub(crate) fn piper_reader_read(reader: *mut RawReader, to: *mut u8, len: usize) -> Moved;
+    pub(crate) fn piper_reader_len(reader: *mut RawReader) -> usize;
+    pub(crate) fn piper_reader_is_closed(reader: *mut RawReader) -> bool;
+    pub(crate) fn piper_reader_drop(reader: *mut RawReader) -> Left;
+
+    pub(crate) fn piper_writer_look(writer: *mut RawWriter) -> u32;
+    pub(crate) fn piper_writer_poll(writer: *mut RawWriter, mine: Words) -> Polled;
+    pub(crate) fn piper_writer_lend(writer: *mut RawWriter, max: usize, at: *mut *mut u8) -> usize;
+    pub(crate) fn piper_writer_publish(writer: *mut RawWriter, at: *mut u8, n: usize) -> Words;
+    pub(crate) fn piper_writer_write(writer: *mut RawWriter, from: *const u8, len: usize) -> Moved;
+    pub(crate) fn piper_writer_len(writer: *mut RawWriter) -> usize;
+    pub(crate) fn piper_writer_is_closed(writer: *mut RawWriter) -> bool;
+    #[cfg(feature = "std")]
+    pub(crate) fn piper_writer_close(writer: *mut RawWriter) -> Left;
+    pub(crate) fn piper_writer_drop(writer: *mut RawWriter) -> Left;
+}

@@ -1,0 +1,253 @@
+//! The handle that writes.
+
+#[cfg(feature = "std")]
+use crate::copies::FromRead;
+use crate::copies::{FromSlice, Source, MOST_A_ROUND};
+use crate::draws::Draws;
+use crate::ends::WriteEnd;
+use core::fmt;
+use core::task::{Context, Poll};
+#[cfg(feature = "std")]
+use futures_io::AsyncWrite;
+#[cfg(feature = "std")]
+use std::{
+    io::{self, Read},
+    pin::Pin,
+};
+
+/// The side of a pipe that writes. [`pipe`](crate::pipe) makes it.
+///
+/// Its drop closes the pipe and wakes the reader, which can still read what is unread.
+pub struct Writer {
+    end: WriteEnd,
+    draws: Draws,
+    /// How many bytes are left of the slice last lent by `write_buf`.
+    lent: usize,
+}
+
+impl Writer {
+    pub(crate) fn new(end: WriteEnd, draws: Draws) -> Writer {
+        Writer {
+            end,
+            draws,
+            lent: 0,
+        }
+    }
+
+    /// How many bytes were published and not consumed. The reader may consume some at any time.
+    ///
+    /// ```
+    /// let (_reader, mut writer) = piper::pipe(16);
+    /// writer.try_fill(b"four");
+    /// assert_eq!(writer.len(), 4);
+    /// ```
+    pub fn len(&self) -> usize {
+        self.end.len()
+    }
+
+    /// Whether no byte is unread now.
+    pub fn is_empty(&self) -> bool {
+        self.len() == 0
+    }
+
+    /// How many bytes the pipe can hold at a time.
+    pub fn capacity(&self) -> usize {
+        self.end.capacity()
+    }
+
+    /// Whether as many bytes are unread as the pipe can hold.
+    pub fn is_full(&self) -> bool {
+        self.len() == self.capacity()
+    }
+
+    /// Whether the pipe is closed: a handle was dropped, or this one closed it.
+    pub fn is_closed(&self) -> bool {
+        self.end.is_closed()
+    }
+
+    /// Waits for room, or for the end.
+    ///
+    /// `Ready(true)` says that [`write_buf`](Writer::write_buf) lends at least one byte, where it is
+    /// asked for one; `Ready(false)` that the pipe is closed. Until then the call is pending, and
+    /// the task is woken when bytes are consumed or the pipe is closed.
+    ///
+    /// ```
+    /// # use futures_lite::future::{block_on, poll_fn};
+    /// let (mut reader, mut writer) = piper::pipe(16);
+    /// assert!(block_on(poll_fn(|cx| writer.poll(cx))));
+    /// let room = writer.write_buf(3);
+    /// room.copy_from_slice(b"abc");
+    /// writer.produced(3);
+    /// assert_eq!(reader.try_drain(&mut [0; 8]), 3);
+    /// ```
+    #[inline]
+    pub fn poll(&mut self, cx: &mut Context<'_>) -> Poll<bool> {
+        self.end.poll(cx.waker())
+    }
+
+    /// Lends room of the pipe, in one piece, to be written to, at most `max` bytes. What is in these
+    /// bytes is not said. It never looks for room: that is for [`poll`](Writer::poll). After
+    /// `poll_close` it lends nothing.
+    ///
+    /// Call [`produced`](Writer::produced) once they are written.
+    #[inline]
+    pub fn write_buf(&mut self, max: usize) -> &mut [u8] {
+        let room = self.end.lend(max);
+        self.lent = room.len();
+        room
+    }
+
+    /// Publishes the first `n` bytes of what is left of the slice that
+    /// [`write_buf`](Writer::write_buf) lent last, as they were written, and wakes the reader.
+    ///
+    /// # Panics
+    ///
+    /// If `n` is more than what is left of that slice. Every copy into the pipe, and `poll_close`,
+    /// leave nothing of it.
+    #[inline]
+    pub fn produced(&mut self, n: usize) {
+        assert!(
+            n <= self.lent,
+            "cannot publish more bytes than `write_buf` lent"
+        );
+        if n > 0 && !self.end.has_lent() {
+            // A loan ends with each call. What was left of it lies at the front of the room, as it was
+            // written: a lend sets only places that never were.
+            let room = self.end.lend(self.lent);
+            assert_eq!(room.len(), self.lent, "the pipe lent less than before");
+        }
+        self.end.publish(n);
+        self.lent -= n;
+    }
+
+    /// Copies bytes from `src` into the pipe, and returns how many. It never waits: 0 says that there
+    /// is no room now, that the pipe is closed, or that `src` is empty.
+    ///
+    /// ```
+    /// let (mut reader, mut writer) = piper::pipe(4);
+    /// assert_eq!(writer.try_fill(b"abcdef"), 4);
+    /// assert_eq!(writer.try_fill(b"ef"), 0);
+    /// drop(reader);
+    /// assert_eq!(writer.try_fill(b"ef"), 0);
+    /// ```
+    pub fn try_fill(&mut self, src: &[u8]) -> usize {
+        self.lent = 0;
+        self.write(src)
+    }
+
+    /// Waits for room, and copies bytes from `bytes` into the pipe. `Ready(0)` says that the pipe is
+    /// closed, or that `bytes` is empty.
+    ///
+    /// Once in a hundred calls, on average, it yields though there is room.
+    pub fn poll_fill_bytes(&mut self, cx: &mut Context<'_>, bytes: &[u8]) -> Poll<usize> {
+        match self.poll_copy(cx) {
+            Poll::Ready(true) => Poll::Ready(self.write(bytes)),
+            Poll::Ready(false) => Poll::Ready(0),
+            Poll::Pending => Poll::Pending,
+        }
+    }
+
+    /// Waits for room, and reads from `src` straight into the pipe's memory. It blocks the thread
+    /// where `src` does.
+    ///
+    /// `Ready(Ok(0))` says that the pipe is closed or `src` gives nothing. An error of `src` is
+    /// returned as it came; what was read before it stays published. Where the reader is dropped
+    /// during a read, the bytes of that read are counted and lost. Yields as
+    /// [`poll_fill_bytes`](Writer::poll_fill_bytes) does.
+    ///
+    /// ```
+    /// # use futures_lite::future::{block_on, poll_fn};
+    /// let (mut reader, mut writer) = piper::pipe(16);
+    /// let count = block_on(poll_fn(|cx| writer.poll_fill(cx, &b"abc"[..]))).unwrap();
+    /// assert_eq!(count, 3);
+    /// assert_eq!(reader.len(), 3);
+    /// ```
+    #[cfg(feature = "std")]
+    pub fn poll_fill(&mut self, cx: &mut Context<'_>, src: impl Read) -> Poll<io::Result<usize>> {
+        match self.poll_copy(cx) {
+            Poll::Ready(true) => Poll::Ready(self.fill(FromRead(src))),
+            Poll::Ready(false) => Poll::Ready(Ok(0)),
+            Poll::Pending => Poll::Pending,
+        }
+    }
+
+    /// The beginning of a copy of a task: waits for room or the end, and may yield where there is
+    /// room.
+    fn poll_copy(&mut self, cx: &mut Context<'_>) -> Poll<bool> {
+        self.lent = 0;
+        let found = self.end.poll(cx.waker());
+        if found == Poll::Ready(true) && self.draws.draw() {
+            cx.waker().wake_by_ref();
+            return Poll::Pending;
+        }
+        found
+    }
+
+    /// Looks for room where none is known, and fills what is known until `bytes` are used up.
+    fn write(&mut self, bytes: &[u8]) -> usize {
+        // Only the first piece is looked for: a copy ends where no more is known.
+        match self.end.write(&bytes[..bytes.len().min(MOST_A_ROUND)]) {
+            0 => 0,
+            count => count + without_fail(self.fill(FromSlice(&bytes[count..]))),
+        }
+    }
+
+    /// Fills known room, one piece after another, until there is none or `src` gives nothing.
+    fn fill<S: Source>(&mut self, mut src: S) -> Result<usize, S::Error> {
+        let mut count = 0;
+        while src.asks() > 0 {
+            let room = self.end.lend(src.asks().min(MOST_A_ROUND));
+            let most = room.len();
+            let given = src.give(room)?;
+            assert!(
+                given <= most,
+                "a source gave more bytes than there was room for"
+            );
+            self.end.publish(given);
+            count += given;
+            if given == 0 || self.end.was_closed() {
+                break;
+            }
+        }
+        Ok(count)
+    }
+}
+
+/// The count of a copy that can't fail.
+fn without_fail(count: Result<usize, core::convert::Infallible>) -> usize {
+    count.unwrap_or_else(|never| match never {})
+}
+
+impl fmt::Debug for Writer {
+    fn fmt(&self, f: &mut fmt::Formatter<'_>) -> fmt::Result {
+        f.debug_struct("Writer")
+            .field("len", &self.len())
+            .field("capacity", &self.capacity())
+            .field("is_closed", &self.is_closed())
+            .finish()
+    }
+}
+
+#[cfg(feature = "std")]
+impl AsyncWrite for Writer {
+    fn poll_write(
+        self: Pin<&mut Self>,
+        cx: &mut Context<'_>,
+        buf: &[u8],
+    ) -> Poll<io::Result<usize>> {
+        self.get_mut().poll_fill_bytes(cx, buf).map(Ok)
+    }
+
+    /// There is nothing to flush.
+    fn poll_flush(self: Pin<&mut Self>, _cx: &mut Context<'_>) -> Poll<io::Result<()>> {
+        Poll::Ready(Ok(()))
+    }
+
+    /// Closes the pipe for good, and wakes both sides.
+    fn poll_close(self: Pin<&mut Self>, _cx: &mut Context<'_>) -> Poll<io::Result<()>> {
+        let writer = self.get_mut();
+        writer.lent = 0;
+        writer.end.close();
+        Poll::Ready(Ok(()))
+    }
+}
