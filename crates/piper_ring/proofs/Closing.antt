@@ -83,11 +83,11 @@ module _ {M : Type 1} {𝓤 : Ura M} (𝓛 : Logic 𝓤) (w p : Ptr) (z : Names)
   abbrev pub AfterClosed : Fml → Bool → Bool → ℕ → Fml
   AfterClosed K m b n = fsep (ToldClosed m b n) K
 
-  shows_closed : (K : Fml) (m b : Bool) (s : State) → Holds cap s → flag b ≤ flag s.closed → OneStays 𝓛 w p z s → ⟦ WK other s.sent s.limit s.shut s.writer_stage ⟧ ∗ ⟦ RK other s.head s.seen s.reader_stage ⟧ ∗ ⟦ Rest 𝓛 w p z s ⟧ ∗ ⟦ K ⟧ ∗ ⟦ S m ⟧ ⊢ upd 𝓤 (ex 𝓤 (Holding 384 (λ n. n) (AfterClosed K m b)))
-  shows_closed K m b s so lb near = let then : ℕ → Fml = AfterClosed K m b in let Z : Pr = ex 𝓤 (Holding 384 (λ n. n) then) in let n : ℕ = flag s.closed in
+  shows_closed : (K : Fml) (m b : Bool) (s : State) → Holds cap s → flag b ≤ flag s.closed → OneStays 𝓛 w p z s → ⟦ WK other s.sent s.limit s.shut s.writer_stage ⟧ ∗ ⟦ RK other s.head s.seen s.reader_stage ⟧ ∗ ⟦ Rest 𝓛 w p z s ⟧ ∗ ⟦ K ⟧ ∗ ⟦ S m ⟧ ⊢ upd 𝓤 (ex 𝓤 (Holding 136 (λ n. n) (AfterClosed K m b)))
+  shows_closed K m b s so lb near = let then : ℕ → Fml = AfterClosed K m b in let Z : Pr = ex 𝓤 (Holding 136 (λ n. n) then) in let n : ℕ = flag s.closed in
       qed 𝓛 (‵ (WK other s.sent s.limit s.shut s.writer_stage) ∷ ‵ (RK other s.head s.seen s.reader_stage) ∷ ‵ (Rest 𝓛 w p z s) ∷ ‵ K ∷ ‵ (S m) ∷ []) ∵ move ! (2 ∷ []) $ fsplit ! $ move ! (0 ∷ 5 ∷ []) $
       use2 𝓛 (given (flag m ≤ n) (‵ (ends w p z s.closed) ⊛ ‵ (S s.closed))) (ends_show m s.closed) $ learn ! (λ le. split ! $ move ! (2 ∷ []) $ fsplit ! $ fsplit3 ! $ move ! (2 ∷ []) $ fsplit ! $
-      suffices ! _ (upd_i 𝓤 Z) $ show ! (Holding 384 (λ n. n) then) n $ frame ! $ assume ! (‵ (word w 384 n)) $ suffices ! _ (upd_i 𝓤 (⟦ I ⟧ ∗ ⟦ then n ⟧)) $
+      suffices ! _ (upd_i 𝓤 Z) $ show ! (Holding 136 (λ n. n) then) n $ frame ! $ assume ! (‵ (word w 136 n)) $ suffices ! _ (upd_i 𝓤 (⟦ I ⟧ ∗ ⟦ then n ⟧)) $
       fjoin ! $ move ! (1 ∷ 2 ∷ 0 ∷ []) $ fjoin3 ! $ fjoin ! $ move ! (1 ∷ 0 ∷ []) $ fjoin ! $ move ! (2 ∷ 3 ∷ 0 ∷ []) $ use3 𝓛 (‵ I) (closes 𝓛 w p z s so near) $ frame ! $
       nothing ! $ fpack ! (Answer m b n s.closed) (λ _. ftrue) (refl, le, lb) $ fjoin ! $ fpack ! Bool (told_one m b n) s.closed $ fjoin ! $ done !)
 
@@ -127,9 +127,9 @@ module _ {M : Type 1} {𝓤 : Ura M} (𝓛 : Logic 𝓤) (w p : Ptr) (z : Names)
   AfterEnd K m b n = fsep (base.Fml.fex Stream (end_seen m b n)) K
 
   -- a load of closed while the reader is there
-  pub reader_looks : (q : Share) (head seen i : ℕ) → i ≡ 0 → (m b : Stream) → ⟦ C ⟧ ∗ ⟦ RK q head seen i ⟧ ∗ ⟦ E m ⟧ ∗ ⟦ E b ⟧ ⊢ access 384 (λ n. n) (AfterEnd (RK q head seen i) m b)
-  reader_looks q head seen i there m b = let K : Fml = RK q head seen i in let then : ℕ → Fml = AfterEnd K m b in let Z : Pr = ex 𝓤 (Holding 384 (λ n. n) then) in
-      inside 𝓛 w p z 384 (λ n. n) then (⟦ K ⟧ ∗ ⟦ E m ⟧ ∗ ⟦ E b ⟧) (qed 𝓛 (‵ I ∷ ‵ K ∷ ‵ (E m) ∷ ‵ (E b) ∷ []) ∵
+  pub reader_looks : (q : Share) (head seen i : ℕ) → i ≡ 0 → (m b : Stream) → ⟦ C ⟧ ∗ ⟦ RK q head seen i ⟧ ∗ ⟦ E m ⟧ ∗ ⟦ E b ⟧ ⊢ access 136 (λ n. n) (AfterEnd (RK q head seen i) m b)
+  reader_looks q head seen i there m b = let K : Fml = RK q head seen i in let then : ℕ → Fml = AfterEnd K m b in let Z : Pr = ex 𝓤 (Holding 136 (λ n. n) then) in
+      inside 𝓛 w p z 136 (λ n. n) then (⟦ K ⟧ ∗ ⟦ E m ⟧ ∗ ⟦ E b ⟧) (qed 𝓛 (‵ I ∷ ‵ K ∷ ‵ (E m) ∷ ‵ (E b) ∷ []) ∵
       use2 𝓛 (some (λ (s : State). given (ReaderSees 𝓛 w p z head seen i s) (‵ K ⊛ ‵ (RK other s.head s.seen s.reader_stage) ⊛ ‵ (WK other s.sent s.limit s.shut s.writer_stage) ⊛ ‵ (Rest 𝓛 w p z s)))) (reader_opens 𝓛 w p z q head seen i (omega arith)) $ pick ! (λ s. learn ! (λ so. split3 ! $
       let ei = so.3 in let top = so.0.stages.1 in let shutting = so.0.shutting in let closing = so.0.closing in let all : Stream = (s.sent, s.shut) in let n : ℕ = flag s.closed in let near : OneStays 𝓛 w p z s = omega arith in
       move ! (2 ∷ []) $ split ! $ fsplit3 ! $ move ! (0 ∷ 7 ∷ []) $
@@ -138,19 +138,19 @@ module _ {M : Type 1} {𝓤 : Ura M} (𝓛 : Logic 𝓤) (w p : Ptr) (z : Names)
       use2 𝓛 (some (λ (r : Stream). given (Shown s.closed m all r) (‵ (Latest all) ⊛ ‵ (E r)))) (shows_all s.closed s.shut s.sent m (omega arith) hm) $ pick ! (λ r. learn ! (λ shown. split ! $
       let heard = flag_reaches b all hb in let closed_is = shown.0 in let shut_is = shown.2 in
       move ! (0 ∷ 3 ∷ 4 ∷ []) $ fjoin3 ! $ move ! (3 ∷ []) $ fsplit ! $ move ! (1 ∷ []) $ fsplit ! $ fsplit3 ! $ move ! (2 ∷ []) $ fsplit ! $
-      suffices ! _ (upd_i 𝓤 Z) $ show ! (Holding 384 (λ n. n) then) n $ frame ! $ assume ! (‵ (word w 384 n)) $ suffices ! _ (upd_i 𝓤 (⟦ I ⟧ ∗ ⟦ then n ⟧)) $
+      suffices ! _ (upd_i 𝓤 Z) $ show ! (Holding 136 (λ n. n) then) n $ frame ! $ assume ! (‵ (word w 136 n)) $ suffices ! _ (upd_i 𝓤 (⟦ I ⟧ ∗ ⟦ then n ⟧)) $
       fjoin ! $ move ! (1 ∷ 2 ∷ 0 ∷ []) $ fjoin3 ! $ fjoin ! $ move ! (1 ∷ 0 ∷ []) $ fjoin ! $ move ! (1 ∷ 5 ∷ 0 ∷ []) $ use3 𝓛 (‵ I) (closes 𝓛 w p z s so.0 near) $ frame ! $ move ! (1 ∷ []) $ forget ! $
       nothing ! $ fpack ! (SeenEnd m b n r) (λ _. ftrue) (shown.0, shown.1, omega arith) $ fjoin ! $ fpack ! Stream (end_seen m b n) r $ fjoin ! $ done !)))))))
 
-  pub writer_looks : (q : Share) (sent : List ℕ) (limit : ℕ) (shut : Bool) (i : ℕ) → i ≤ 1 → (m : Bool) → ⟦ C ⟧ ∗ ⟦ WK q sent limit shut i ⟧ ∗ ⟦ S m ⟧ ⊢ access 384 (λ n. n) (AfterClosed (WK q sent limit shut i) m shut)
-  writer_looks q sent limit shut i le m = inside 𝓛 w p z 384 (λ n. n) (AfterClosed (WK q sent limit shut i) m shut) (⟦ WK q sent limit shut i ⟧ ∗ ⟦ S m ⟧) (qed 𝓛 (‵ I ∷ ‵ (WK q sent limit shut i) ∷ ‵ (S m) ∷ []) ∵
+  pub writer_looks : (q : Share) (sent : List ℕ) (limit : ℕ) (shut : Bool) (i : ℕ) → i ≤ 1 → (m : Bool) → ⟦ C ⟧ ∗ ⟦ WK q sent limit shut i ⟧ ∗ ⟦ S m ⟧ ⊢ access 136 (λ n. n) (AfterClosed (WK q sent limit shut i) m shut)
+  writer_looks q sent limit shut i le m = inside 𝓛 w p z 136 (λ n. n) (AfterClosed (WK q sent limit shut i) m shut) (⟦ WK q sent limit shut i ⟧ ∗ ⟦ S m ⟧) (qed 𝓛 (‵ I ∷ ‵ (WK q sent limit shut i) ∷ ‵ (S m) ∷ []) ∵
       use2 𝓛 (some (λ (s : State). given (WriterSees 𝓛 w p z sent limit shut i s) (‵ (WK q sent limit shut i) ⊛ ‵ (WK other s.sent s.limit s.shut s.writer_stage) ⊛ ‵ (RK other s.head s.seen s.reader_stage) ⊛ ‵ (Rest 𝓛 w p z s)))) (writer_opens 𝓛 w p z q sent limit shut i le) $ pick ! (λ s. learn ! (λ so. split3 ! $
       move ! (2 ∷ []) $ split ! $ let ei = so.4 in let same : flag shut ≡ flag s.shut = ap flag so.3 in let shutting = so.0.shutting in let top = so.0.stages.0 in move ! (3 ∷ 0 ∷ 1 ∷ 2 ∷ 4 ∷ []) $ by ! (shows_closed (WK q sent limit shut i) m shut s so.0 (omega arith) (omega arith)))))
 
   -- the writer closes
-  pub shuts : (sent : List ℕ) (limit : ℕ) (shut : Bool) (i : ℕ) → i ≤ 1 → ⟦ C ⟧ ∗ ⟦ WK half sent limit shut i ⟧ ⊢ access 384 (λ _. 1) (λ _. WK half sent limit true i)
-  shuts sent limit shut i le = let Then : Fml = WK half sent limit true i in let Z : Pr = ex 𝓤 (Holding 384 (λ _. 1) (λ _. Then)) in
-      inside 𝓛 w p z 384 (λ _. 1) (λ _. Then) ⟦ WK half sent limit shut i ⟧ (qed 𝓛 (‵ I ∷ ‵ (WK half sent limit shut i) ∷ []) ∵
+  pub shuts : (sent : List ℕ) (limit : ℕ) (shut : Bool) (i : ℕ) → i ≤ 1 → ⟦ C ⟧ ∗ ⟦ WK half sent limit shut i ⟧ ⊢ access 136 (λ _. 1) (λ _. WK half sent limit true i)
+  shuts sent limit shut i le = let Then : Fml = WK half sent limit true i in let Z : Pr = ex 𝓤 (Holding 136 (λ _. 1) (λ _. Then)) in
+      inside 𝓛 w p z 136 (λ _. 1) (λ _. Then) ⟦ WK half sent limit shut i ⟧ (qed 𝓛 (‵ I ∷ ‵ (WK half sent limit shut i) ∷ []) ∵
       use2 𝓛 (some (λ (s : State). given (WriterSees 𝓛 w p z sent limit shut i s) (‵ (WK half sent limit shut i) ⊛ ‵ (WK other s.sent s.limit s.shut s.writer_stage) ⊛ ‵ (RK other s.head s.seen s.reader_stage) ⊛ ‵ (Rest 𝓛 w p z s)))) (writer_opens 𝓛 w p z half sent limit shut i le) $ pick ! (λ s. learn ! (λ so. split3 ! $
       let ei = so.4 in let top = so.0.stages.0 in let ended : Reaches (sent, shut) (sent, true) = (prefix_refl sent, λ e. ap (λ (u : Bool). (sent, u)) (sym e)) in let small2 = flag_small s.closed in let s' : State = record s { closed = true; shut = true } in let near : OneStays 𝓛 w p z s' = omega arith in
       let so' : Holds cap s' = record { known = so.0.known; arrived = so.0.arrived; written = so.0.written; freed = so.0.freed; closing = omega arith; shutting = omega arith; stages = so.0.stages } in
@@ -159,5 +159,5 @@ module _ {M : Type 1} {𝓤 : Ura M} (𝓛 : Logic 𝓤) (w p : Ptr) (z : Names)
       move ! (3 ∷ 0 ∷ []) $ use2 𝓛 (raw (upd 𝓤 (⟦ latest O half z.sent (sent, true) ⟧ ∗ ⟦ latest O other z.sent (s.sent, true) ⟧))) (raise 𝓛 w p z O z.sent (sent, shut) (s.sent, s.shut) (sent, true) (s.sent, true) (λ j. (so.1 j, so.3 j)) (λ j. (so.1 j, true)) ended) $
       settle 𝓛 Z (‵ (latest O half z.sent (sent, true)) ⊛ ‵ (latest O other z.sent (s.sent, true))) $ suffices ! _ (upd_i 𝓤 Z) $ split ! $
       move ! (1 ∷ 2 ∷ 3 ∷ []) $ fjoin3 ! $ move ! (1 ∷ 2 ∷ 3 ∷ []) $ fjoin3 ! $
-      move ! (3 ∷ []) $ fsplit ! $ fsplit3 ! $ move ! (2 ∷ []) $ fsplit ! $ show ! (Holding 384 (λ _. 1) (λ _. Then)) (flag s.closed) $ frame ! $ assume ! (‵ (word w 384 1)) $ suffices ! _ (upd_i 𝓤 (⟦ I ⟧ ∗ ⟦ Then ⟧)) $
+      move ! (3 ∷ []) $ fsplit ! $ fsplit3 ! $ move ! (2 ∷ []) $ fsplit ! $ show ! (Holding 136 (λ _. 1) (λ _. Then)) (flag s.closed) $ frame ! $ assume ! (‵ (word w 136 1)) $ suffices ! _ (upd_i 𝓤 (⟦ I ⟧ ∗ ⟦ Then ⟧)) $
       fjoin ! $ move ! (1 ∷ 2 ∷ 0 ∷ []) $ fjoin3 ! $ fjoin ! $ move ! (3 ∷ 0 ∷ []) $ fjoin ! $ move ! (2 ∷ 3 ∷ 0 ∷ []) $ use3 𝓛 (‵ I) (closes 𝓛 w p z s' so' near) $ frame ! $ done !)))

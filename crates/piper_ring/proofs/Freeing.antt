@@ -71,9 +71,9 @@ module _ {M : Type 1} {𝓤 : Ura M} (𝓛 : Logic 𝓤) (w p : Ptr) (z : Names)
 
   -- the reader gives the places of xs back
   pub frees : (head seen i : ℕ) → i ≤ 1 → (xs : List ℕ) (new : ℕ) → new ≡ position_of cap (head + length xs) → head + length xs ≤ seen
-      → ⟦ C ⟧ ∗ ⟦ RK half head seen i ⟧ ∗ ⟦ run (byte p cap) head xs ⟧ ⊢ access 128 (λ _. new) (λ _. RK half (head + length xs) seen i)
-  frees head seen i le xs new is room = let top : ℕ = head + length xs in let Then : Fml = RK half top seen i in let Z : Pr = ex 𝓤 (Holding 128 (λ _. new) (λ _. Then)) in let B : ℕ → ℕ → Fml = byte p cap in
-      inside 𝓛 w p z 128 (λ _. new) (λ _. Then) (⟦ RK half head seen i ⟧ ∗ ⟦ run B head xs ⟧) (qed 𝓛 (‵ I ∷ ‵ (RK half head seen i) ∷ ‵ (run B head xs) ∷ []) ∵
+      → ⟦ C ⟧ ∗ ⟦ RK half head seen i ⟧ ∗ ⟦ run (byte p cap) head xs ⟧ ⊢ access 8 (λ _. new) (λ _. RK half (head + length xs) seen i)
+  frees head seen i le xs new is room = let top : ℕ = head + length xs in let Then : Fml = RK half top seen i in let Z : Pr = ex 𝓤 (Holding 8 (λ _. new) (λ _. Then)) in let B : ℕ → ℕ → Fml = byte p cap in
+      inside 𝓛 w p z 8 (λ _. new) (λ _. Then) (⟦ RK half head seen i ⟧ ∗ ⟦ run B head xs ⟧) (qed 𝓛 (‵ I ∷ ‵ (RK half head seen i) ∷ ‵ (run B head xs) ∷ []) ∵
       use2 𝓛 (some (λ (s : State). given (ReaderSees 𝓛 w p z head seen i s) (‵ (RK half head seen i) ⊛ ‵ (RK other s.head s.seen s.reader_stage) ⊛ ‵ (WK other s.sent s.limit s.shut s.writer_stage) ⊛ ‵ (Rest 𝓛 w p z s)))) (reader_opens 𝓛 w p z half head seen i le) $ pick ! (λ s. learn ! (λ so. split3 ! $
       let known = so.0.known in let freed = so.0.freed in let eh = so.1 in let es = so.2 in let ei = so.3 in let last = so.0.stages.1 in
       let s' : State = record s { head = top } in let near : OneStays 𝓛 w p z s' = omega arith in
@@ -82,8 +82,8 @@ module _ {M : Type 1} {𝓤 : Ura M} (𝓛 : Logic 𝓤) (w p : Ptr) (z : Names)
       use2 𝓛 (raw (upd 𝓤 (⟦ latest numbers half z.head top ⟧ ∗ ⟦ latest numbers other z.head top ⟧))) (raise 𝓛 w p z numbers z.head head s.head top top eh refl (omega arith)) $
       settle 𝓛 Z (‵ (latest numbers half z.head top) ⊛ ‵ (latest numbers other z.head top)) $ suffices ! _ (upd_i 𝓤 Z) $ split ! $
       move ! (0 ∷ 4 ∷ []) $ fjoin ! $ move ! (0 ∷ 4 ∷ []) $ fjoin ! $ move ! (1 ∷ 2 ∷ []) $ fjoin ! $ move ! (0 ∷ 2 ∷ []) $ fjoin ! $ move ! (2 ∷ []) $ split ! $ move ! (1 ∷ []) $ fsplit ! $ move ! (1 ∷ []) $ fsplit ! $ fsplit ! $
-      show ! (Holding 128 (λ _. new) (λ _. Then)) (position_of cap s.head) $ frame ! $ assume ! (‵ (word w 128 new)) $ suffices ! _ (upd_i 𝓤 (⟦ I ⟧ ∗ ⟦ Then ⟧)) $
-      rewrite ! 0 (λ (m : ℕ). ‵ (word w 128 m)) is refl $ fjoin ! $ move ! (1 ∷ []) $ fsplit ! $ move ! (1 ∷ []) $ fsplit3 ! $ move ! (1 ∷ []) $
+      show ! (Holding 8 (λ _. new) (λ _. Then)) (position_of cap s.head) $ frame ! $ assume ! (‵ (word w 8 new)) $ suffices ! _ (upd_i 𝓤 (⟦ I ⟧ ∗ ⟦ Then ⟧)) $
+      rewrite ! 0 (λ (m : ℕ). ‵ (word w 8 m)) is refl $ fjoin ! $ move ! (1 ∷ []) $ fsplit ! $ move ! (1 ∷ []) $ fsplit3 ! $ move ! (1 ∷ []) $
       rewrite ! 0 (λ (F : Fml). ‵ F) {x = where_gone (gone s.reader_stage) (blanks w p z top (s.seen - top))} {y = where_gone (gone s.reader_stage) (blanks w p z s.head (s.seen - s.head))} (not_gone 𝓛 w p z s.reader_stage _ _ (omega arith)) refl $
       move ! (1 ∷ []) $ fpick ! (λ ys. fsplit ! $ fpick ! (λ ly. forget ! $ move ! (0 ∷ 9 ∷ []) $
       rewrite ! 1 (λ (F : Fml). ‵ F) {x = run B (s.head + cap) xs} {y = run B head xs} (run_turn p cap xs head (s.head + cap) (ap (λ (m : ℕ). m + cap) eh)) refl $

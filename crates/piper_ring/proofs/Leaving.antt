@@ -103,16 +103,16 @@ module _ {M : Type 1} {𝓤 : Ura M} (𝓛 : Logic 𝓤) (w p : Ptr) (z : Names)
   slots_end : ⟦ slots w p z ⟧ ⊢ ⟦ slot_rooms w ⟧
   slots_end = let b : ℕ = block_of w in let o : ℕ = count_of w in qed 𝓛 (‵ (slots w p z) ∷ []) ∵ fsplit ! $
       fpick ! (λ s. fsplit3 ! $ move ! (1 ∷ []) $ fsplit ! $ move ! (4 ∷ []) $ fpick ! (λ t. fsplit3 ! $ move ! (1 ∷ []) $ fsplit ! $
-      use1 𝓛 (‵ (word_room w 640)) (𝓛.laws.at_room u b (640 + o) _) $ move ! (1 ∷ []) $ use1 𝓛 (‵ (word_room w 648)) (𝓛.laws.at_room u b (648 + o) _) $
-      move ! (4 ∷ []) $ use1 𝓛 (‵ (word_room w 512)) (𝓛.laws.at_room u b (512 + o) _) $ move ! (5 ∷ []) $ use1 𝓛 (‵ (word_room w 520)) (𝓛.laws.at_room u b (520 + o) _) $
+      use1 𝓛 (‵ (word_room w 72)) (𝓛.laws.at_room u b (72 + o) _) $ move ! (1 ∷ []) $ use1 𝓛 (‵ (word_room w 80)) (𝓛.laws.at_room u b (80 + o) _) $
+      move ! (4 ∷ []) $ use1 𝓛 (‵ (word_room w 144)) (𝓛.laws.at_room u b (144 + o) _) $ move ! (5 ∷ []) $ use1 𝓛 (‵ (word_room w 152)) (𝓛.laws.at_room u b (152 + o) _) $
       move ! (3 ∷ 2 ∷ []) $ fjoin ! $ move ! (2 ∷ 1 ∷ 0 ∷ []) $ fjoin3 ! $ keep ! (0 ∷ []) $ done !))
 
   -- once both ends are gone, the words and the places that each gave up are all of the memory
   gathers : (s : State) → Holds cap s → gone s.reader_stage ≡ true → gone s.writer_stage ≡ true → ⟦ memory w p z s ⟧ ⊢ ⟦ whole w p z ⟧
   gathers s so gr gw = let b : ℕ = block_of w in let o : ℕ = count_of w in let known = so.known in let arrived = so.arrived in let written = so.written in let freed = so.freed in let sl : ℕ = length s.sent in let pend : List ℕ = drop s.seen s.sent in let pl : length pend ≡ sl - s.seen = length-drop s.seen s.sent in
       qed 𝓛 (‵ (memory w p z s) ∷ []) ∵ fsplit ! $ fsplit3 ! $ move ! (2 ∷ []) $ fsplit ! $
-      use1 𝓛 (‵ (word_room w 384)) (𝓛.laws.at_room u b (384 + o) _) $ move ! (1 ∷ []) $ use1 𝓛 (‵ (word_room w 0)) (𝓛.laws.at_room u b (0 + o) _) $ move ! (2 ∷ []) $
-      use1 𝓛 (‵ (word_room w 128)) (𝓛.laws.at_room u b (128 + o) _) $ move ! (3 ∷ []) $ use1 𝓛 (‵ (word_room w 256)) (𝓛.laws.at_room u b (256 + o) _) $
+      use1 𝓛 (‵ (word_room w 136)) (𝓛.laws.at_room u b (136 + o) _) $ move ! (1 ∷ []) $ use1 𝓛 (‵ (word_room w 0)) (𝓛.laws.at_room u b (0 + o) _) $ move ! (2 ∷ []) $
+      use1 𝓛 (‵ (word_room w 8)) (𝓛.laws.at_room u b (8 + o) _) $ move ! (3 ∷ []) $ use1 𝓛 (‵ (word_room w 208)) (𝓛.laws.at_room u b (208 + o) _) $
       move ! (3 ∷ 2 ∷ []) $ fjoin ! $ move ! (2 ∷ 1 ∷ 0 ∷ []) $ fjoin3 ! $ move ! (1 ∷ []) $ fsplit ! $ move ! (1 ∷ []) $ fsplit3 ! $ move ! (2 ∷ []) $ fsplit ! $
       rewrite ! 0 (λ (c : Bool). ‵ (where_gone c (blanks w p z sl (s.limit - sl)))) gw refl $ rewrite ! 3 (λ (c : Bool). ‵ (where_gone c (blanks w p z s.head (s.seen - s.head)))) gr refl $
       move ! (2 ∷ []) $ fpick ! (λ ys. fsplit ! $ fpick ! (λ ly. forget ! $ let size : length ys ≡ s.head + cap - s.limit = ly in
@@ -166,9 +166,9 @@ module _ {M : Type 1} {𝓤 : Ura M} (𝓛 : Logic 𝓤) (w p : Ptr) (z : Names)
   IsClosing head seen = fsep (raised z.closed true) (RK half head seen 1)
 
   -- the reader closes the ring, as it is about to leave
-  pub reader_closes : (head seen i : ℕ) → i ≤ 1 → ⟦ C ⟧ ∗ ⟦ RK half head seen i ⟧ ⊢ access 384 one (λ _. IsClosing head seen)
-  reader_closes head seen i le = let Then : Fml = IsClosing head seen in let Z : Pr = ex 𝓤 (Holding 384 one (λ _. Then)) in
-      inside 𝓛 w p z 384 one (λ _. Then) ⟦ RK half head seen i ⟧ (qed 𝓛 (‵ I ∷ ‵ (RK half head seen i) ∷ []) ∵
+  pub reader_closes : (head seen i : ℕ) → i ≤ 1 → ⟦ C ⟧ ∗ ⟦ RK half head seen i ⟧ ⊢ access 136 one (λ _. IsClosing head seen)
+  reader_closes head seen i le = let Then : Fml = IsClosing head seen in let Z : Pr = ex 𝓤 (Holding 136 one (λ _. Then)) in
+      inside 𝓛 w p z 136 one (λ _. Then) ⟦ RK half head seen i ⟧ (qed 𝓛 (‵ I ∷ ‵ (RK half head seen i) ∷ []) ∵
       use2 𝓛 (some (λ (s : State). given (ReaderSees 𝓛 w p z head seen i s) (‵ (RK half head seen i) ⊛ ‵ (RK other s.head s.seen s.reader_stage) ⊛ ‵ (WK other s.sent s.limit s.shut s.writer_stage) ⊛ ‵ (Rest 𝓛 w p z s)))) (reader_opens 𝓛 w p z half head seen i le) $ pick ! (λ s. learn ! (λ so. split3 ! $
       let ei = so.3 in let last = so.0.stages.1 in let small = flag_small s.closed in let s' : State = record s { closed = true; reader_stage = 1 } in let near : OneStays 𝓛 w p z s' = omega arith in
       let so' : Holds cap s' = record { known = so.0.known; arrived = so.0.arrived; written = so.0.written; freed = so.0.freed; closing = omega arith; shutting = flag_small s.shut; stages = (omega arith, last) } in
@@ -178,7 +178,7 @@ module _ {M : Type 1} {𝓤 : Ura M} (𝓛 : Logic 𝓤) (w p : Ptr) (z : Names)
       settle 𝓛 Z (‵ (latest numbers half z.reader_stage 1) ⊛ ‵ (latest numbers other z.reader_stage 1)) $ suffices ! _ (upd_i 𝓤 Z) $ split ! $
       move ! (7 ∷ 0 ∷ []) $ fjoin ! $ move ! (0 ∷ 7 ∷ []) $ fjoin ! $ move ! (5 ∷ 1 ∷ []) $ fjoin ! $ move ! (0 ∷ 5 ∷ []) $ fjoin ! $ move ! (3 ∷ []) $ fsplit ! $ fsplit3 ! $ move ! (2 ∷ []) $ fsplit ! $ move ! (1 ∷ []) $
       rewrite ! 0 (λ (c : Bool). ‵ (word w 0 (one_gone c (gone s.writer_stage)))) {x = false} {y = gone s.reader_stage} (here s.reader_stage (omega arith)) refl $ move ! (1 ∷ []) $
-      show ! (Holding 384 one (λ _. Then)) (flag s.closed) $ frame ! $ assume ! (‵ (word w 384 1)) $ suffices ! _ (upd_i 𝓤 (⟦ I ⟧ ∗ ⟦ Then ⟧)) $
+      show ! (Holding 136 one (λ _. Then)) (flag s.closed) $ frame ! $ assume ! (‵ (word w 136 1)) $ suffices ! _ (upd_i 𝓤 (⟦ I ⟧ ∗ ⟦ Then ⟧)) $
       fjoin ! $ move ! (1 ∷ 2 ∷ 0 ∷ []) $ fjoin3 ! $ move ! (1 ∷ []) $ fsplit ! $ move ! (1 ∷ []) $ fsplit3 ! $ move ! (1 ∷ []) $
       rewrite ! 0 (λ (c : Bool). ‵ (where_gone c (blanks w p z s.head (s.seen - s.head)))) {x = false} {y = gone s.reader_stage} (here s.reader_stage (omega arith)) refl $
       move ! (1 ∷ 0 ∷ 2 ∷ []) $ fjoin3 ! $ move ! (1 ∷ 0 ∷ []) $ fjoin ! $ move ! (1 ∷ 0 ∷ []) $ fjoin ! $ move ! (3 ∷ []) $ use1 𝓛 (‵ (ends w p z true) ⊛ ‵ (raised z.closed true)) (latest_shows numbers 𝓛 full_share z.closed 1 1 (omega arith)) $ split ! $ move ! (0 ∷ 2 ∷ []) $ fjoin ! $ move ! (4 ∷ 2 ∷ 0 ∷ []) $ use3 𝓛 (‵ I) (closes 𝓛 w p z s' so' near) $ frame ! $ fjoin ! $ done !)))

@@ -65,63 +65,44 @@ module _ {M : Type 1} {𝓤 : Ura M} (𝓛 : Logic 𝓤) (w p : Ptr) (cap : ℕ)
   beyond_words zero e = omega arith
   beyond_words (suc m) e = beyond_words m (e + 8) ∙ omega arith
 
-  -- a word in use, the words of the next lines, and 15 words between that nobody uses
-  apart : (n here next : ℕ) → next ≡ here + 128 → ⟦ many (suc (15 + n)) here ⟧ ⊢ ⟦ froom u b here ⟧ ∗ ⟦ many n next ⟧ ∗ ⟦ many 15 (here + 8) ⟧
-  apart n here next far = let gap : ℕ = here + 8 in
-      qed 𝓛 (‵ (many (suc (15 + n)) here) ∷ []) ∵ use1 𝓛 (‵ (froom u b here) ⊛ ‵ (many (15 + n) gap)) (𝓛.laws.room_uncons u (15 + n) b here) $ split ! $ frame ! $
-      use1 𝓛 (‵ (many 15 gap) ⊛ ‵ (many n (beyond u 15 gap))) (room_cut 𝓛 u 15 n b gap) $ split ! $
-      rewrite ! 1 (λ (at : ℕ). ‵ (many n at)) (beyond_words 15 gap ∙ omega arith) refl $ move ! (1 ∷ []) $ frame ! $ done !
+  -- a word in use, m words behind it that nobody uses, and the n words from the next one in use on
+  apart : (m n here next : ℕ) → next ≡ m * 8 + (here + 8) → ⟦ many (suc (m + n)) here ⟧ ⊢ ⟦ froom u b here ⟧ ∗ ⟦ many n next ⟧ ∗ ⟦ many m (here + 8) ⟧
+  apart m n here next far = let gap : ℕ = here + 8 in
+      qed 𝓛 (‵ (many (suc (m + n)) here) ∷ []) ∵ use1 𝓛 (‵ (froom u b here) ⊛ ‵ (many (m + n) gap)) (𝓛.laws.room_uncons u (m + n) b here) $ split ! $ frame ! $
+      use1 𝓛 (‵ (many m gap) ⊛ ‵ (many n (beyond u m gap))) (room_cut 𝓛 u m n b gap) $ split ! $
+      rewrite ! 1 (λ (at : ℕ). ‵ (many n at)) (beyond_words m gap ∙ sym far) refl $ move ! (1 ∷ []) $ frame ! $ done !
 
-  together : (n here next : ℕ) → next ≡ here + 128 → ⟦ froom u b here ⟧ ∗ ⟦ many n next ⟧ ∗ ⟦ many 15 (here + 8) ⟧ ⊢ ⟦ many (suc (15 + n)) here ⟧
-  together n here next far = let gap : ℕ = here + 8 in
-      qed 𝓛 (‵ (froom u b here) ∷ ‵ (many n next) ∷ ‵ (many 15 gap) ∷ []) ∵ rewrite ! 1 (λ (at : ℕ). ‵ (many n at)) (omega arith) refl $ move ! (2 ∷ 1 ∷ []) $
-      use2 𝓛 (‵ (many (15 + n) gap)) (room_glue 𝓛 u 15 n b gap) $ move ! (1 ∷ []) $ by ! (𝓛.laws.room_cons u (15 + n) b here)
-
-  -- two words in use that share a line, the words of the next lines, and 14 words between
-  pair : (n here second next : ℕ) → second ≡ here + 8 → next ≡ here + 128 → ⟦ many (suc (suc (14 + n))) here ⟧
-      ⊢ ⟦ froom u b here ⟧ ∗ ⟦ froom u b second ⟧ ∗ ⟦ many n next ⟧ ∗ ⟦ many 14 (second + 8) ⟧
-  pair n here second next two far = let gap : ℕ = second + 8 in let there : beyond u 14 gap ≡ next = beyond_words 14 gap ∙ omega (arith, two, far) in
-      qed 𝓛 (‵ (many (suc (suc (14 + n))) here) ∷ []) ∵ use1 𝓛 (‵ (froom u b here) ⊛ ‵ (many (suc (14 + n)) (here + 8))) (𝓛.laws.room_uncons u (suc (14 + n)) b here) $ split ! $ frame ! $
-      rewrite ! 0 (λ (at : ℕ). ‵ (many (suc (14 + n)) at)) (sym two) refl $ use1 𝓛 (‵ (froom u b second) ⊛ ‵ (many (14 + n) gap)) (𝓛.laws.room_uncons u (14 + n) b second) $ split ! $ frame ! $
-      use1 𝓛 (‵ (many 14 gap) ⊛ ‵ (many n (beyond u 14 gap))) (room_cut 𝓛 u 14 n b gap) $ split ! $ rewrite ! 1 (λ (at : ℕ). ‵ (many n at)) there refl $ move ! (1 ∷ []) $ frame ! $ done !
-
-  pair_back : (n here second next : ℕ) → second ≡ here + 8 → next ≡ here + 128
-      → ⟦ fsep (froom u b here) (froom u b second) ⟧ ∗ ⟦ many n next ⟧ ∗ ⟦ many 14 (second + 8) ⟧ ⊢ ⟦ many (suc (suc (14 + n))) here ⟧
-  pair_back n here second next two far = let gap : ℕ = second + 8 in let there : next ≡ beyond u 14 gap = sym (beyond_words 14 gap ∙ omega (arith, two, far)) in
-      qed 𝓛 (‵ (fsep (froom u b here) (froom u b second)) ∷ ‵ (many n next) ∷ ‵ (many 14 gap) ∷ []) ∵ fsplit ! $
-      rewrite ! 2 (λ (at : ℕ). ‵ (many n at)) there refl $ move ! (3 ∷ 2 ∷ []) $ use2 𝓛 (‵ (many (14 + n) gap)) (room_glue 𝓛 u 14 n b gap) $
-      move ! (2 ∷ []) $ use2 𝓛 (‵ (many (suc (14 + n)) second)) (𝓛.laws.room_cons u (14 + n) b second) $ rewrite ! 0 (λ (at : ℕ). ‵ (many (suc (14 + n)) at)) two refl $
-      move ! (1 ∷ []) $ by ! (𝓛.laws.room_cons u (suc (14 + n)) b here)
+  together : (m n here next : ℕ) → next ≡ m * 8 + (here + 8) → ⟦ froom u b here ⟧ ∗ ⟦ many n next ⟧ ∗ ⟦ many m (here + 8) ⟧ ⊢ ⟦ many (suc (m + n)) here ⟧
+  together m n here next far = let gap : ℕ = here + 8 in
+      qed 𝓛 (‵ (froom u b here) ∷ ‵ (many n next) ∷ ‵ (many m gap) ∷ []) ∵ rewrite ! 1 (λ (at : ℕ). ‵ (many n at)) (far ∙ sym (beyond_words m gap)) refl $ move ! (2 ∷ 1 ∷ []) $
+      use2 𝓛 (‵ (many (m + n) gap)) (room_glue 𝓛 u m n b gap) $ move ! (1 ∷ []) $ by ! (𝓛.laws.room_cons u (m + n) b here)
 
   abbrev pub Rejoin : Fml
   Rejoin = fwand (all_rooms w) (froom words_type b o)
 
-  -- the last four of the words in use, with what makes a block of them again
-  slots_out : ⟦ many 32 (512 + o) ⟧ ⊢ ⟦ slot_rooms w ⟧ ∗ ⟦ fwand (slot_rooms w) (many 32 (512 + o)) ⟧
-  slots_out = qed 𝓛 (‵ (many 32 (512 + o)) ∷ []) ∵
-      use1 𝓛 (‵ (word_room w 512) ⊛ ‵ (word_room w 520) ⊛ ‵ (many 16 (640 + o)) ⊛ ‵ (many 14 (520 + o + 8))) (pair 16 (512 + o) (520 + o) (640 + o) (omega arith) (omega arith)) $
-      split3 ! $ move ! (2 ∷ []) $ split ! $
-      use1 𝓛 (‵ (word_room w 640) ⊛ ‵ (word_room w 648) ⊛ ‵ (many 0 (768 + o)) ⊛ ‵ (many 14 (648 + o + 8))) (pair 0 (640 + o) (648 + o) (768 + o) (omega arith) (omega arith)) $
-      split3 ! $ move ! (2 ∷ []) $ split ! $
-      move ! (2 ∷ 3 ∷ []) $ fjoin ! $ move ! (5 ∷ 0 ∷ []) $ fjoin ! $ move ! (4 ∷ 0 ∷ []) $ fjoin ! $ frame ! $ assume ! (‵ (slot_rooms w)) $ fsplit3 ! $
-      move ! (2 ∷ 3 ∷ 4 ∷ []) $ use3 𝓛 (‵ (many 16 (640 + o))) (pair_back 0 (640 + o) (648 + o) (768 + o) (omega arith) (omega arith)) $
-      move ! (1 ∷ 2 ∷ []) $ fjoin ! $ by ! (pair_back 16 (512 + o) (520 + o) (640 + o) (omega arith) (omega arith))
-
   -- the block of the words is the eight words in use, and what makes a block of them again
-  pub words_out : ⟦ froom words_type b o ⟧ ⊢ ⟦ word_room w 128 ⟧ ∗ ⟦ word_room w 256 ⟧ ∗ ⟦ word_room w 384 ⟧ ∗ ⟦ word_room w 0 ⟧ ∗ ⟦ slot_rooms w ⟧ ∗ ⟦ Rejoin ⟧
+  pub words_out : ⟦ froom words_type b o ⟧ ⊢ ⟦ word_room w 8 ⟧ ∗ ⟦ word_room w 208 ⟧ ∗ ⟦ word_room w 136 ⟧ ∗ ⟦ word_room w 0 ⟧ ∗ ⟦ slot_rooms w ⟧ ∗ ⟦ Rejoin ⟧
   words_out = let first_word : 0 + o ≡ o = omega arith in
-      qed 𝓛 (‵ (froom words_type b o) ∷ []) ∵ use1 𝓛 (‵ (many 96 o)) (𝓛.laws.raw-room (ty_array u 96) b o) $ rewrite ! 0 (λ (at : ℕ). ‵ (many 96 at)) (sym first_word) refl $
-      use1 𝓛 (‵ (word_room w 0) ⊛ ‵ (many 80 (128 + o)) ⊛ ‵ (many 15 (0 + o + 8))) (apart 80 (0 + o) (128 + o) (omega arith)) $ split3 ! $ move ! (1 ∷ []) $
-      use1 𝓛 (‵ (word_room w 128) ⊛ ‵ (many 64 (256 + o)) ⊛ ‵ (many 15 (128 + o + 8))) (apart 64 (128 + o) (256 + o) (omega arith)) $ split3 ! $ frame ! $
-      use1 𝓛 (‵ (word_room w 256) ⊛ ‵ (many 48 (384 + o)) ⊛ ‵ (many 15 (256 + o + 8))) (apart 48 (256 + o) (384 + o) (omega arith)) $ split3 ! $ frame ! $
-      use1 𝓛 (‵ (word_room w 384) ⊛ ‵ (many 32 (512 + o)) ⊛ ‵ (many 15 (384 + o + 8))) (apart 32 (384 + o) (512 + o) (omega arith)) $ split3 ! $ frame ! $
-      move ! (4 ∷ []) $ frame ! $ use1 𝓛 (‵ (slot_rooms w) ⊛ ‵ (fwand (slot_rooms w) (many 32 (512 + o)))) slots_out $ split ! $ frame ! $ assume ! (‵ (all_rooms w)) $ fsplit ! $
-      move ! (1 ∷ 2 ∷ []) $ use2 𝓛 (‵ (many 32 (512 + o))) (apply∗ 𝓤 ⟦ slot_rooms w ⟧ ⟦ many 32 (512 + o) ⟧) $ move ! (1 ∷ []) $ fsplit3 ! $ move ! (2 ∷ []) $ fsplit ! $
-      move ! (0 ∷ 4 ∷ 5 ∷ []) $ use3 𝓛 (‵ (many 48 (384 + o))) (together 32 (384 + o) (512 + o) (omega arith)) $
-      move ! (3 ∷ 0 ∷ 4 ∷ []) $ use3 𝓛 (‵ (many 64 (256 + o))) (together 48 (256 + o) (384 + o) (omega arith)) $
-      move ! (2 ∷ 0 ∷ 3 ∷ []) $ use3 𝓛 (‵ (many 80 (128 + o))) (together 64 (128 + o) (256 + o) (omega arith)) $
-      move ! (1 ∷ 0 ∷ 2 ∷ []) $ use3 𝓛 (‵ (many 96 (0 + o))) (together 80 (0 + o) (128 + o) (omega arith)) $
-      rewrite ! 0 (λ (at : ℕ). ‵ (many 96 at)) first_word refl $ by ! (𝓛.laws.room-raw (ty_array u 96) b o)
+      qed 𝓛 (‵ (froom words_type b o) ∷ []) ∵ use1 𝓛 (‵ (many 27 o)) (𝓛.laws.raw-room (ty_array u 27) b o) $ rewrite ! 0 (λ (at : ℕ). ‵ (many 27 at)) (sym first_word) refl $
+      use1 𝓛 (‵ (word_room w 0) ⊛ ‵ (many 26 (8 + o)) ⊛ ‵ (many 0 (0 + o + 8))) (apart 0 26 (0 + o) (8 + o) (omega arith)) $ split3 ! $ move ! (1 ∷ []) $
+      use1 𝓛 (‵ (word_room w 8) ⊛ ‵ (many 18 (72 + o)) ⊛ ‵ (many 7 (8 + o + 8))) (apart 7 18 (8 + o) (72 + o) (omega arith)) $ split3 ! $ frame ! $
+      use1 𝓛 (‵ (word_room w 72) ⊛ ‵ (many 17 (80 + o)) ⊛ ‵ (many 0 (72 + o + 8))) (apart 0 17 (72 + o) (80 + o) (omega arith)) $ split3 ! $ move ! (1 ∷ []) $
+      use1 𝓛 (‵ (word_room w 80) ⊛ ‵ (many 10 (136 + o)) ⊛ ‵ (many 6 (80 + o + 8))) (apart 6 10 (80 + o) (136 + o) (omega arith)) $ split3 ! $ move ! (1 ∷ []) $
+      use1 𝓛 (‵ (word_room w 136) ⊛ ‵ (many 9 (144 + o)) ⊛ ‵ (many 0 (136 + o + 8))) (apart 0 9 (136 + o) (144 + o) (omega arith)) $ split3 ! $ move ! (1 ∷ []) $
+      use1 𝓛 (‵ (word_room w 144) ⊛ ‵ (many 8 (152 + o)) ⊛ ‵ (many 0 (144 + o + 8))) (apart 0 8 (144 + o) (152 + o) (omega arith)) $ split3 ! $ move ! (1 ∷ []) $
+      use1 𝓛 (‵ (word_room w 152) ⊛ ‵ (many 1 (208 + o)) ⊛ ‵ (many 6 (152 + o + 8))) (apart 6 1 (152 + o) (208 + o) (omega arith)) $ split3 ! $ move ! (1 ∷ []) $
+      use1 𝓛 (‵ (word_room w 208) ⊛ ‵ (many 0 (216 + o)) ⊛ ‵ (many 0 (208 + o + 8))) (apart 0 0 (208 + o) (216 + o) (omega arith)) $ split3 ! $ frame ! $
+      move ! (6 ∷ []) $ frame ! $ move ! (12 ∷ []) $ frame ! $ move ! (9 ∷ 7 ∷ []) $ fjoin ! $ move ! (3 ∷ 0 ∷ []) $ fjoin ! $ move ! (4 ∷ 0 ∷ []) $ fjoin ! $ frame ! $
+      assume ! (‵ (all_rooms w)) $ fsplit ! $ fsplit3 ! $ move ! (2 ∷ []) $ fsplit ! $ move ! (4 ∷ []) $ fsplit3 ! $ move ! (2 ∷ []) $ fsplit ! $
+      move ! (7 ∷ 8 ∷ 9 ∷ []) $ use3 𝓛 (‵ (many 1 (208 + o))) (together 0 0 (208 + o) (216 + o) (omega arith)) $
+      move ! (4 ∷ 0 ∷ 8 ∷ []) $ use3 𝓛 (‵ (many 8 (152 + o))) (together 6 1 (152 + o) (208 + o) (omega arith)) $
+      move ! (3 ∷ 0 ∷ 7 ∷ []) $ use3 𝓛 (‵ (many 9 (144 + o))) (together 0 8 (144 + o) (152 + o) (omega arith)) $
+      move ! (3 ∷ 0 ∷ 6 ∷ []) $ use3 𝓛 (‵ (many 10 (136 + o))) (together 0 9 (136 + o) (144 + o) (omega arith)) $
+      move ! (2 ∷ 0 ∷ 5 ∷ []) $ use3 𝓛 (‵ (many 17 (80 + o))) (together 6 10 (80 + o) (136 + o) (omega arith)) $
+      move ! (1 ∷ 0 ∷ 4 ∷ []) $ use3 𝓛 (‵ (many 18 (72 + o))) (together 0 17 (72 + o) (80 + o) (omega arith)) $
+      move ! (2 ∷ 0 ∷ 3 ∷ []) $ use3 𝓛 (‵ (many 26 (8 + o))) (together 7 18 (8 + o) (72 + o) (omega arith)) $
+      move ! (1 ∷ 0 ∷ 2 ∷ []) $ use3 𝓛 (‵ (many 27 (0 + o))) (together 0 26 (0 + o) (8 + o) (omega arith)) $
+      rewrite ! 0 (λ (at : ℕ). ‵ (many 27 at)) first_word refl $ by ! (𝓛.laws.room-raw (ty_array u 27) b o)
 
   abbrev τ : Ty
   τ = lone u8.mir
@@ -170,10 +151,10 @@ module _ {M : Type 1} {𝓤 : Ura M} (𝓛 : Logic 𝓤) (w p : Ptr) (cap : ℕ)
         now ! $ show ! (SlotMade far) (γ, δ) $ move ! (0 ∷ 2 ∷ 1 ∷ []) $ done !)))
 
   abbrev pub zero_words : Fml
-  zero_words = fsep (word w 128 0) (fsep (word w 256 0) (fsep (word w 384 0) (word w 0 0)))
+  zero_words = fsep (word w 8 0) (fsep (word w 208 0) (fsep (word w 136 0) (word w 0 0)))
 
   abbrev pub slot_words : Fml
-  slot_words = fsep (word w 512 0) (fsep (word w 520 0) (fsep (word w 640 0) (word w 648 0)))
+  slot_words = fsep (word w 144 0) (fsep (word w 152 0) (fsep (word w 72 0) (word w 80 0)))
 
   abbrev pub Deeds : Fml
   Deeds = titles w p (names_of cap 0 0 0 0 0 0 0 0 0 0 0 0 0)
@@ -198,16 +179,16 @@ module _ {M : Type 1} {𝓤 : Ura M} (𝓛 : Logic 𝓤) (w p : Ptr) (cap : ℕ)
       move ! (4 ∷ []) $ fsplit3 ! $ use1 𝓛 (‵ (latest O half s none) ⊛ ‵ (published y none)) (latest_shows O 𝓛 half s none none (reaches_same none)) $ split ! $ move ! (0 ∷ 2 ∷ 3 ∷ []) $ fjoin3 ! $
       move ! (4 ∷ []) $ fsplit ! $ fsplit ! $ use1 𝓛 (‵ (latest numbers half h 0) ⊛ ‵ (took y 0)) (latest_shows numbers 𝓛 half h 0 0 (omega arith)) $ split ! $ move ! (0 ∷ 2 ∷ []) $ fjoin ! $ move ! (0 ∷ 2 ∷ []) $ fjoin ! $
       move ! (1 ∷ []) $ nothing ! $ move ! (1 ∷ 0 ∷ []) $ fjoin ! $ move ! (9 ∷ []) $ fsplit3 ! $ move ! (2 ∷ []) $ fsplit ! $
-      move ! (0 ∷ 1 ∷ 4 ∷ []) $ use3 𝓛 (later (some (λ (γ : ℕ × ℕ). ‵ (slot w 640 γ.0 γ.1 theirs coded_consumed (consumed y)) ⊛ ‵ (fobs γ.0 ((code_of Consumed coded_consumed).code (true, (0, was)))) ⊛ ‵ (fobs γ.1 ((code_of Consumed coded_consumed).code (false, (0, was)))))))
-      (slot_new coded_consumed (consumed y) was theirs 640) $ await ! tt $ pick ! (λ d. split3 ! $
-      move ! (3 ∷ 4 ∷ 7 ∷ []) $ use3 𝓛 (later (some (λ (γ : ℕ × ℕ). ‵ (slot w 512 γ.0 γ.1 mine coded_stream (published y)) ⊛ ‵ (fobs γ.0 ((code_of Stream coded_stream).code (true, (0, none)))) ⊛ ‵ (fobs γ.1 ((code_of Stream coded_stream).code (false, (0, none)))))))
-      (slot_new coded_stream (published y) none mine 512) $ await ! tt $ pick ! (λ a. split3 ! $
+      move ! (0 ∷ 1 ∷ 4 ∷ []) $ use3 𝓛 (later (some (λ (γ : ℕ × ℕ). ‵ (slot w 72 γ.0 γ.1 theirs coded_consumed (consumed y)) ⊛ ‵ (fobs γ.0 ((code_of Consumed coded_consumed).code (true, (0, was)))) ⊛ ‵ (fobs γ.1 ((code_of Consumed coded_consumed).code (false, (0, was)))))))
+      (slot_new coded_consumed (consumed y) was theirs 72) $ await ! tt $ pick ! (λ d. split3 ! $
+      move ! (3 ∷ 4 ∷ 7 ∷ []) $ use3 𝓛 (later (some (λ (γ : ℕ × ℕ). ‵ (slot w 144 γ.0 γ.1 mine coded_stream (published y)) ⊛ ‵ (fobs γ.0 ((code_of Stream coded_stream).code (true, (0, none)))) ⊛ ‵ (fobs γ.1 ((code_of Stream coded_stream).code (false, (0, none)))))))
+      (slot_new coded_stream (published y) none mine 144) $ await ! tt $ pick ! (λ a. split3 ! $
       let z : Names = names_of cap s l h k x j i a.0 a.1 d.0 d.1 mine theirs in let so : Holds cap fresh = record { known = omega arith; arrived = omega arith; written = omega arith; freed = omega arith; closing = omega arith; shutting = omega arith; stages = (omega arith, omega arith) } in
       let I : Fml = Inner w p z in let C : Fml = common w p z in
       move ! (0 ∷ 3 ∷ []) $ fjoin ! $ move ! (11 ∷ 0 ∷ []) $ fjoin ! $ move ! (1 ∷ 2 ∷ []) $ fjoin ! $ move ! (2 ∷ 3 ∷ []) $ fjoin ! $ move ! (1 ∷ 0 ∷ []) $ fjoin ! $ move ! (1 ∷ 4 ∷ 5 ∷ 2 ∷ 6 ∷ 3 ∷ 7 ∷ 0 ∷ []) $
       nothing ! $ fjoin ! $ nothing ! $ fjoin ! $ nothing ! $ nothing ! $ fpack ! (length {A = ℕ} [] ≡ 0 + cap - cap) (λ _. ftrue) (omega arith) $ fjoin ! $ fpack ! (List ℕ) (idle w p z cap (0 + cap - cap)) [] $ fjoin ! $ nothing ! $ fjoin ! $
       move ! (6 ∷ []) $ fsplit3 ! $
-      rewrite ! 0 (λ (n : ℕ). ‵ (word w 128 n)) (sym (position_zero cap)) refl $ rewrite ! 1 (λ (n : ℕ). ‵ (word w 256 n)) (sym (position_zero cap)) refl $ fjoin3 ! $ fjoin ! $ move ! (1 ∷ 0 ∷ []) $ fjoin ! $
+      rewrite ! 0 (λ (n : ℕ). ‵ (word w 8 n)) (sym (position_zero cap)) refl $ rewrite ! 1 (λ (n : ℕ). ‵ (word w 208 n)) (sym (position_zero cap)) refl $ fjoin3 ! $ fjoin ! $ move ! (1 ∷ 0 ∷ []) $ fjoin ! $
       move ! (3 ∷ 1 ∷ 0 ∷ []) $ use3 𝓛 (‵ I) (closes 𝓛 w p z fresh so (omega arith)) $ use1 𝓛 (later (‵ (finv I))) (𝓛.invs.inv_new I) $ await ! tt $
       nothing ! $ fpack ! (Placed w p z) (λ _. ftrue) at $ fjoin ! $ use1 𝓛 (‵ C ⊛ ‵ C) (common_twice 𝓛 w p z) $ split ! $ move ! (3 ∷ []) $ fsplit3 ! $ use1 𝓛 (‵ (latest O half s none) ⊛ ‵ (at_least O s none)) (latest_shows O 𝓛 half s none none (reaches_same none)) $ split ! $ move ! (0 ∷ 2 ∷ 3 ∷ []) $ fjoin3 ! $ move ! (2 ∷ 0 ∷ []) $ fjoin ! $ move ! (1 ∷ []) $ nothing ! $ fpack ! (length {A = ℕ} [] ≡ 0) (λ _. ftrue) refl $ fjoin ! $ move ! (3 ∷ 0 ∷ []) $ fjoin ! $ move ! (2 ∷ 0 ∷ []) $ fjoin ! $
       now ! $ show ! (Made mine theirs) z $ check ! (refl, refl, refl) $ done !))))))))))

@@ -310,19 +310,19 @@ module _ {M : Type 1} {𝓤 : Ura M} (𝓛 : Logic 𝓤) (w p : Ptr) (z : Names)
     lent = readers_own KW (writer_lent q sent limit shut i le)
 
     abbrev pub WriterWoke : (ℕ → Wakes Stream → Held → Type 0) → ℕ → Fml
-    WriterWoke = WakeAfter 512 z.reader_waits z.writer_wakes z.reader_place coded_stream (published z) KW
+    WriterWoke = WakeAfter 144 z.reader_waits z.writer_wakes z.reader_place coded_stream (published z) KW
 
-    pub writer_looks_flag : b.0 ≡ false → ⟦ C ⟧ ∗ ⟦ KW ⟧ ∗ ⟦ BW ⟧ ⊢ access 512 (λ n. n) (WriterWoke (λ n b' _. Looks Stream b (sent, shut) n b'))
+    pub writer_looks_flag : b.0 ≡ false → ⟦ C ⟧ ∗ ⟦ KW ⟧ ∗ ⟦ BW ⟧ ⊢ access 144 (λ n. n) (WriterWoke (λ n b' _. Looks Stream b (sent, shut) n b'))
     writer_looks_flag rests = let x : Stream = (sent, shut) in qed 𝓛 (‵ C ∷ ‵ KW ∷ ‵ BW ∷ []) ∵ move ! (2 ∷ []) $ nothing ! $ move ! (1 ∷ 0 ∷ []) $ fjoin ! $ move ! (2 ∷ []) $ use1 𝓛 (‵ KW ⊛ ‵ (published z x)) (wk_shows q sent limit shut i) $ split ! $ move ! (3 ∷ 0 ∷ 2 ∷ 1 ∷ []) $
-        by ! (wakes_flag 512 z.reader_waits z.writer_wakes z.reader_place coded_stream (published z) KW lent none b x (λ n. n) (λ n b' _. Looks Stream b x n b') (looks b x rests))
+        by ! (wakes_flag 144 z.reader_waits z.writer_wakes z.reader_place coded_stream (published z) KW lent none b x (λ n. n) (λ n b' _. Looks Stream b x n b') (looks b x rests))
 
-    pub writer_takes : b.0 ≡ false → ⟦ C ⟧ ∗ ⟦ KW ⟧ ∗ ⟦ BW ⟧ ⊢ access 512 (λ _. 0) (WriterWoke (TakesHeld b (sent, shut)))
+    pub writer_takes : b.0 ≡ false → ⟦ C ⟧ ∗ ⟦ KW ⟧ ∗ ⟦ BW ⟧ ⊢ access 144 (λ _. 0) (WriterWoke (TakesHeld b (sent, shut)))
     writer_takes rests = let x : Stream = (sent, shut) in qed 𝓛 (‵ C ∷ ‵ KW ∷ ‵ BW ∷ []) ∵ move ! (2 ∷ []) $ nothing ! $ move ! (1 ∷ 0 ∷ []) $ fjoin ! $ move ! (2 ∷ []) $ use1 𝓛 (‵ KW ⊛ ‵ (published z x)) (wk_shows q sent limit shut i) $ split ! $ move ! (3 ∷ 0 ∷ 2 ∷ 1 ∷ []) $
-        by ! (wakes_flag 512 z.reader_waits z.writer_wakes z.reader_place coded_stream (published z) KW lent none b x (λ _. 0) (TakesHeld b x) (takes b x rests))
+        by ! (wakes_flag 144 z.reader_waits z.writer_wakes z.reader_place coded_stream (published z) KW lent none b x (λ _. 0) (TakesHeld b x) (takes b x rests))
 
-    pub writer_gives_back : b.0 ≡ true → ⟦ C ⟧ ∗ ⟦ KW ⟧ ∗ ⟦ fsep BW (held z.reader_place emptied) ⟧ ⊢ access 520 (λ _. 1) (WriterWoke (λ n b' _. GivesBack Stream b (sent, shut) n b'))
+    pub writer_gives_back : b.0 ≡ true → ⟦ C ⟧ ∗ ⟦ KW ⟧ ∗ ⟦ fsep BW (held z.reader_place emptied) ⟧ ⊢ access 152 (λ _. 1) (WriterWoke (λ n b' _. GivesBack Stream b (sent, shut) n b'))
     writer_gives_back holds = let x : Stream = (sent, shut) in qed 𝓛 (‵ C ∷ ‵ KW ∷ ‵ (fsep BW (held z.reader_place emptied)) ∷ []) ∵ move ! (1 ∷ []) $ use1 𝓛 (‵ KW ⊛ ‵ (published z x)) (wk_shows q sent limit shut i) $ split ! $ move ! (2 ∷ 0 ∷ 3 ∷ 1 ∷ []) $
-        by ! (wakes_back 512 z.reader_waits z.writer_wakes z.reader_place coded_stream (published z) KW lent emptied b x (λ _. 1) (λ n b' _. GivesBack Stream b x n b') (gives_back b x holds))
+        by ! (wakes_back 144 z.reader_waits z.writer_wakes z.reader_place coded_stream (published z) KW lent emptied b x (λ _. 1) (λ n b' _. GivesBack Stream b x n b') (gives_back b x holds))
 
   -- the reader's steps on its own slot
   module _ (q : Share) (head seen i : ℕ) (le : i ≤ 1) (a : Waits Stream) where
@@ -336,29 +336,29 @@ module _ {M : Type 1} {𝓤 : Ura M} (𝓛 : Logic 𝓤) (w p : Ptr) (z : Names)
     lent_too = readers_own KR (reader_lent q head seen i le)
 
     abbrev pub ReaderWaited : (ℕ → Stream → Waits Stream → Held → Type 0) → ℕ → Fml
-    ReaderWaited = WaitAfter 512 z.reader_waits z.writer_wakes z.reader_place coded_stream (published z) KR
+    ReaderWaited = WaitAfter 144 z.reader_waits z.writer_wakes z.reader_place coded_stream (published z) KR
 
-    pub reader_publishes_waker : a.0 ≡ true → ⟦ C ⟧ ∗ ⟦ KR ⟧ ∗ ⟦ fsep AR (held z.reader_place filled) ⟧ ⊢ access 512 (λ _. 1) (ReaderWaited (λ n x a' _. PublishesWaker Stream a x n a'))
-    reader_publishes_waker owns = waits_flag 512 z.reader_waits z.writer_wakes z.reader_place coded_stream (published z) KR lent_too (λ s. announced_twice 𝓛 z s.0 s.1) filled a (λ _. 1) (λ n x a' _. PublishesWaker Stream a x n a') (publishes_waker a owns)
+    pub reader_publishes_waker : a.0 ≡ true → ⟦ C ⟧ ∗ ⟦ KR ⟧ ∗ ⟦ fsep AR (held z.reader_place filled) ⟧ ⊢ access 144 (λ _. 1) (ReaderWaited (λ n x a' _. PublishesWaker Stream a x n a'))
+    reader_publishes_waker owns = waits_flag 144 z.reader_waits z.writer_wakes z.reader_place coded_stream (published z) KR lent_too (λ s. announced_twice 𝓛 z s.0 s.1) filled a (λ _. 1) (λ n x a' _. PublishesWaker Stream a x n a') (publishes_waker a owns)
 
-    pub reader_cancels : a.0 ≡ false → ⟦ C ⟧ ∗ ⟦ KR ⟧ ∗ ⟦ AR ⟧ ⊢ access 512 (λ _. 0) (ReaderWaited (Cancels a))
+    pub reader_cancels : a.0 ≡ false → ⟦ C ⟧ ∗ ⟦ KR ⟧ ∗ ⟦ AR ⟧ ⊢ access 144 (λ _. 0) (ReaderWaited (Cancels a))
     reader_cancels gave = qed 𝓛 (‵ C ∷ ‵ KR ∷ ‵ AR ∷ []) ∵ move ! (2 ∷ []) $ nothing ! $ move ! (1 ∷ 0 ∷ []) $ fjoin ! $ move ! (1 ∷ 2 ∷ 0 ∷ []) $
-        by ! (waits_flag 512 z.reader_waits z.writer_wakes z.reader_place coded_stream (published z) KR lent_too (λ s. announced_twice 𝓛 z s.0 s.1) none a (λ _. 0) (Cancels a) (cancels a gave))
+        by ! (waits_flag 144 z.reader_waits z.writer_wakes z.reader_place coded_stream (published z) KR lent_too (λ s. announced_twice 𝓛 z s.0 s.1) none a (λ _. 0) (Cancels a) (cancels a gave))
 
-    pub reader_is_registered : ⟦ C ⟧ ∗ ⟦ KR ⟧ ∗ ⟦ AR ⟧ ⊢ access 512 (λ n. n) (ReaderWaited (StaysSo a))
+    pub reader_is_registered : ⟦ C ⟧ ∗ ⟦ KR ⟧ ∗ ⟦ AR ⟧ ⊢ access 144 (λ n. n) (ReaderWaited (StaysSo a))
     reader_is_registered = qed 𝓛 (‵ C ∷ ‵ KR ∷ ‵ AR ∷ []) ∵ move ! (2 ∷ []) $ nothing ! $ move ! (1 ∷ 0 ∷ []) $ fjoin ! $ move ! (1 ∷ 2 ∷ 0 ∷ []) $
-        by ! (waits_flag 512 z.reader_waits z.writer_wakes z.reader_place coded_stream (published z) KR lent_too (λ s. announced_twice 𝓛 z s.0 s.1) none a (λ n. n) (StaysSo a) (stays_so a))
+        by ! (waits_flag 144 z.reader_waits z.writer_wakes z.reader_place coded_stream (published z) KR lent_too (λ s. announced_twice 𝓛 z s.0 s.1) none a (λ n. n) (StaysSo a) (stays_so a))
 
-    pub reader_reclaims : a.0 ≡ false → ⟦ C ⟧ ∗ ⟦ KR ⟧ ∗ ⟦ AR ⟧ ⊢ access 520 (λ _. 0) (ReaderWaited (ReclaimsHeld a))
+    pub reader_reclaims : a.0 ≡ false → ⟦ C ⟧ ∗ ⟦ KR ⟧ ∗ ⟦ AR ⟧ ⊢ access 152 (λ _. 0) (ReaderWaited (ReclaimsHeld a))
     reader_reclaims gave = qed 𝓛 (‵ C ∷ ‵ KR ∷ ‵ AR ∷ []) ∵ move ! (2 ∷ []) $ nothing ! $ move ! (1 ∷ 0 ∷ []) $ fjoin ! $ move ! (1 ∷ 2 ∷ 0 ∷ []) $
-        by ! (waits_back 512 z.reader_waits z.writer_wakes z.reader_place coded_stream (published z) KR lent_too (λ s. announced_twice 𝓛 z s.0 s.1) none a (λ _. 0) (ReclaimsHeld a) (reclaims a gave))
+        by ! (waits_back 144 z.reader_waits z.writer_wakes z.reader_place coded_stream (published z) KR lent_too (λ s. announced_twice 𝓛 z s.0 s.1) none a (λ _. 0) (ReclaimsHeld a) (reclaims a gave))
 
     abbrev pub BothMet : Wakes Stream → Pr
-    BothMet = Met 512 z.reader_waits z.writer_wakes z.reader_place coded_stream (published z) KR a
+    BothMet = Met 144 z.reader_waits z.writer_wakes z.reader_place coded_stream (published z) KR a
 
     -- the reader and what the writer knows of its slot, held by one thread
     pub reader_meets : (b : Wakes Stream) → ⟦ C ⟧ ∗ ⟦ KR ⟧ ∗ ⟦ AR ⟧ ∗ ⟦ fobs z.writer_wakes ((code_of Stream coded_stream).code b) ⟧ ⊢ H.⇛ (BothMet b)
-    reader_meets b = meets 512 z.reader_waits z.writer_wakes z.reader_place coded_stream (published z) KR lent_too a b
+    reader_meets b = meets 144 z.reader_waits z.writer_wakes z.reader_place coded_stream (published z) KR lent_too a b
 
   -- what the reader's right to the head shows
   rk_shows : (q : Share) (head seen i : ℕ) → ⟦ RK q head seen i ⟧ ⊢ ⟦ RK q head seen i ⟧ ∗ ⟦ took z head ⟧
@@ -381,19 +381,19 @@ module _ {M : Type 1} {𝓤 : Ura M} (𝓛 : Logic 𝓤) (w p : Ptr) (z : Names)
     lent_back = writers_own KR' (reader_lent q head seen i le)
 
     abbrev pub ReaderWoke : (ℕ → Wakes Consumed → Held → Type 0) → ℕ → Fml
-    ReaderWoke = WakeAfter 640 z.writer_waits z.reader_wakes z.writer_place coded_consumed (consumed z) KR'
+    ReaderWoke = WakeAfter 72 z.writer_waits z.reader_wakes z.writer_place coded_consumed (consumed z) KR'
 
-    pub reader_looks_flag : (over : Bool) → b.0 ≡ false → ⟦ C ⟧ ∗ ⟦ KR' ⟧ ∗ ⟦ BR ⟧ ∗ ⟦ raised z.closed over ⟧ ⊢ access 640 (λ n. n) (ReaderWoke (λ n b' _. Looks Consumed b (head, over) n b'))
+    pub reader_looks_flag : (over : Bool) → b.0 ≡ false → ⟦ C ⟧ ∗ ⟦ KR' ⟧ ∗ ⟦ BR ⟧ ∗ ⟦ raised z.closed over ⟧ ⊢ access 72 (λ n. n) (ReaderWoke (λ n b' _. Looks Consumed b (head, over) n b'))
     reader_looks_flag over rests = let x : Consumed = (head, over) in qed 𝓛 (‵ C ∷ ‵ KR' ∷ ‵ BR ∷ ‵ (raised z.closed over) ∷ []) ∵ move ! (2 ∷ []) $ nothing ! $ move ! (1 ∷ 0 ∷ []) $ fjoin ! $ move ! (2 ∷ []) $ use1 𝓛 (‵ KR' ⊛ ‵ (took z head)) (rk_shows q head seen i) $ split ! $ move ! (1 ∷ 4 ∷ []) $ fjoin ! $ move ! (3 ∷ 1 ∷ 2 ∷ 0 ∷ []) $
-        by ! (wakes_flag 640 z.writer_waits z.reader_wakes z.writer_place coded_consumed (consumed z) KR' lent_back none b x (λ n. n) (λ n b' _. Looks Consumed b x n b') (looks b x rests))
+        by ! (wakes_flag 72 z.writer_waits z.reader_wakes z.writer_place coded_consumed (consumed z) KR' lent_back none b x (λ n. n) (λ n b' _. Looks Consumed b x n b') (looks b x rests))
 
-    pub reader_takes : (over : Bool) → b.0 ≡ false → ⟦ C ⟧ ∗ ⟦ KR' ⟧ ∗ ⟦ BR ⟧ ∗ ⟦ raised z.closed over ⟧ ⊢ access 640 (λ _. 0) (ReaderWoke (TakesHeld b (head, over)))
+    pub reader_takes : (over : Bool) → b.0 ≡ false → ⟦ C ⟧ ∗ ⟦ KR' ⟧ ∗ ⟦ BR ⟧ ∗ ⟦ raised z.closed over ⟧ ⊢ access 72 (λ _. 0) (ReaderWoke (TakesHeld b (head, over)))
     reader_takes over rests = let x : Consumed = (head, over) in qed 𝓛 (‵ C ∷ ‵ KR' ∷ ‵ BR ∷ ‵ (raised z.closed over) ∷ []) ∵ move ! (2 ∷ []) $ nothing ! $ move ! (1 ∷ 0 ∷ []) $ fjoin ! $ move ! (2 ∷ []) $ use1 𝓛 (‵ KR' ⊛ ‵ (took z head)) (rk_shows q head seen i) $ split ! $ move ! (1 ∷ 4 ∷ []) $ fjoin ! $ move ! (3 ∷ 1 ∷ 2 ∷ 0 ∷ []) $
-        by ! (wakes_flag 640 z.writer_waits z.reader_wakes z.writer_place coded_consumed (consumed z) KR' lent_back none b x (λ _. 0) (TakesHeld b x) (takes b x rests))
+        by ! (wakes_flag 72 z.writer_waits z.reader_wakes z.writer_place coded_consumed (consumed z) KR' lent_back none b x (λ _. 0) (TakesHeld b x) (takes b x rests))
 
-    pub reader_gives_back : b.0 ≡ true → ⟦ C ⟧ ∗ ⟦ KR' ⟧ ∗ ⟦ fsep BR (held z.writer_place emptied) ⟧ ⊢ access 648 (λ _. 1) (ReaderWoke (λ n b' _. GivesBack Consumed b (head, false) n b'))
+    pub reader_gives_back : b.0 ≡ true → ⟦ C ⟧ ∗ ⟦ KR' ⟧ ∗ ⟦ fsep BR (held z.writer_place emptied) ⟧ ⊢ access 80 (λ _. 1) (ReaderWoke (λ n b' _. GivesBack Consumed b (head, false) n b'))
     reader_gives_back holds = let x : Consumed = (head, false) in qed 𝓛 (‵ C ∷ ‵ KR' ∷ ‵ (fsep BR (held z.writer_place emptied)) ∷ []) ∵ move ! (1 ∷ []) $ use1 𝓛 (‵ KR' ⊛ ‵ (took z head)) (rk_shows q head seen i) $ split ! $ move ! (1 ∷ []) $ nothing ! $ move ! (1 ∷ 0 ∷ []) $ fjoin ! $ move ! (2 ∷ 1 ∷ 3 ∷ 0 ∷ []) $
-        by ! (wakes_back 640 z.writer_waits z.reader_wakes z.writer_place coded_consumed (consumed z) KR' lent_back emptied b x (λ _. 1) (λ n b' _. GivesBack Consumed b x n b') (gives_back b x holds))
+        by ! (wakes_back 72 z.writer_waits z.reader_wakes z.writer_place coded_consumed (consumed z) KR' lent_back emptied b x (λ _. 1) (λ n b' _. GivesBack Consumed b x n b') (gives_back b x holds))
 
   -- the writer's steps on its own slot
   module _ (q : Share) (sent : List ℕ) (limit : ℕ) (shut : Bool) (i : ℕ) (le : i ≤ 1) (a : Waits Consumed) where
@@ -407,26 +407,26 @@ module _ {M : Type 1} {𝓤 : Ura M} (𝓛 : Logic 𝓤) (w p : Ptr) (z : Names)
     lent_own = writers_own KW' (writer_lent q sent limit shut i le)
 
     abbrev pub WriterWaited : (ℕ → Consumed → Waits Consumed → Held → Type 0) → ℕ → Fml
-    WriterWaited = WaitAfter 640 z.writer_waits z.reader_wakes z.writer_place coded_consumed (consumed z) KW'
+    WriterWaited = WaitAfter 72 z.writer_waits z.reader_wakes z.writer_place coded_consumed (consumed z) KW'
 
-    pub writer_publishes_waker : a.0 ≡ true → ⟦ C ⟧ ∗ ⟦ KW' ⟧ ∗ ⟦ fsep AW (held z.writer_place filled) ⟧ ⊢ access 640 (λ _. 1) (WriterWaited (λ n x a' _. PublishesWaker Consumed a x n a'))
-    writer_publishes_waker owns = waits_flag 640 z.writer_waits z.reader_wakes z.writer_place coded_consumed (consumed z) KW' lent_own consumed_twice filled a (λ _. 1) (λ n x a' _. PublishesWaker Consumed a x n a') (publishes_waker a owns)
+    pub writer_publishes_waker : a.0 ≡ true → ⟦ C ⟧ ∗ ⟦ KW' ⟧ ∗ ⟦ fsep AW (held z.writer_place filled) ⟧ ⊢ access 72 (λ _. 1) (WriterWaited (λ n x a' _. PublishesWaker Consumed a x n a'))
+    writer_publishes_waker owns = waits_flag 72 z.writer_waits z.reader_wakes z.writer_place coded_consumed (consumed z) KW' lent_own consumed_twice filled a (λ _. 1) (λ n x a' _. PublishesWaker Consumed a x n a') (publishes_waker a owns)
 
-    pub writer_cancels : a.0 ≡ false → ⟦ C ⟧ ∗ ⟦ KW' ⟧ ∗ ⟦ AW ⟧ ⊢ access 640 (λ _. 0) (WriterWaited (Cancels a))
+    pub writer_cancels : a.0 ≡ false → ⟦ C ⟧ ∗ ⟦ KW' ⟧ ∗ ⟦ AW ⟧ ⊢ access 72 (λ _. 0) (WriterWaited (Cancels a))
     writer_cancels gave = qed 𝓛 (‵ C ∷ ‵ KW' ∷ ‵ AW ∷ []) ∵ move ! (2 ∷ []) $ nothing ! $ move ! (1 ∷ 0 ∷ []) $ fjoin ! $ move ! (1 ∷ 2 ∷ 0 ∷ []) $
-        by ! (waits_flag 640 z.writer_waits z.reader_wakes z.writer_place coded_consumed (consumed z) KW' lent_own consumed_twice none a (λ _. 0) (Cancels a) (cancels a gave))
+        by ! (waits_flag 72 z.writer_waits z.reader_wakes z.writer_place coded_consumed (consumed z) KW' lent_own consumed_twice none a (λ _. 0) (Cancels a) (cancels a gave))
 
-    pub writer_is_registered : ⟦ C ⟧ ∗ ⟦ KW' ⟧ ∗ ⟦ AW ⟧ ⊢ access 640 (λ n. n) (WriterWaited (StaysSo a))
+    pub writer_is_registered : ⟦ C ⟧ ∗ ⟦ KW' ⟧ ∗ ⟦ AW ⟧ ⊢ access 72 (λ n. n) (WriterWaited (StaysSo a))
     writer_is_registered = qed 𝓛 (‵ C ∷ ‵ KW' ∷ ‵ AW ∷ []) ∵ move ! (2 ∷ []) $ nothing ! $ move ! (1 ∷ 0 ∷ []) $ fjoin ! $ move ! (1 ∷ 2 ∷ 0 ∷ []) $
-        by ! (waits_flag 640 z.writer_waits z.reader_wakes z.writer_place coded_consumed (consumed z) KW' lent_own consumed_twice none a (λ n. n) (StaysSo a) (stays_so a))
+        by ! (waits_flag 72 z.writer_waits z.reader_wakes z.writer_place coded_consumed (consumed z) KW' lent_own consumed_twice none a (λ n. n) (StaysSo a) (stays_so a))
 
-    pub writer_reclaims : a.0 ≡ false → ⟦ C ⟧ ∗ ⟦ KW' ⟧ ∗ ⟦ AW ⟧ ⊢ access 648 (λ _. 0) (WriterWaited (ReclaimsHeld a))
+    pub writer_reclaims : a.0 ≡ false → ⟦ C ⟧ ∗ ⟦ KW' ⟧ ∗ ⟦ AW ⟧ ⊢ access 80 (λ _. 0) (WriterWaited (ReclaimsHeld a))
     writer_reclaims gave = qed 𝓛 (‵ C ∷ ‵ KW' ∷ ‵ AW ∷ []) ∵ move ! (2 ∷ []) $ nothing ! $ move ! (1 ∷ 0 ∷ []) $ fjoin ! $ move ! (1 ∷ 2 ∷ 0 ∷ []) $
-        by ! (waits_back 640 z.writer_waits z.reader_wakes z.writer_place coded_consumed (consumed z) KW' lent_own consumed_twice none a (λ _. 0) (ReclaimsHeld a) (reclaims a gave))
+        by ! (waits_back 72 z.writer_waits z.reader_wakes z.writer_place coded_consumed (consumed z) KW' lent_own consumed_twice none a (λ _. 0) (ReclaimsHeld a) (reclaims a gave))
 
     abbrev pub BothMetBack : Wakes Consumed → Pr
-    BothMetBack = Met 640 z.writer_waits z.reader_wakes z.writer_place coded_consumed (consumed z) KW' a
+    BothMetBack = Met 72 z.writer_waits z.reader_wakes z.writer_place coded_consumed (consumed z) KW' a
 
     -- the writer and what the reader knows of its slot, held by one thread
     pub writer_meets : (b : Wakes Consumed) → ⟦ C ⟧ ∗ ⟦ KW' ⟧ ∗ ⟦ AW ⟧ ∗ ⟦ fobs z.reader_wakes ((code_of Consumed coded_consumed).code b) ⟧ ⊢ H.⇛ (BothMetBack b)
-    writer_meets b = meets 640 z.writer_waits z.reader_wakes z.writer_place coded_consumed (consumed z) KW' lent_own a b
+    writer_meets b = meets 72 z.writer_waits z.reader_wakes z.writer_place coded_consumed (consumed z) KW' lent_own a b

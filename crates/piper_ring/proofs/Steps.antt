@@ -129,9 +129,9 @@ module _ {M : Type 1} {𝓤 : Ura M} (𝓛 : Logic 𝓤) (w p : Ptr) (z : Names)
   AfterLook q head seen i told n = fex (List ℕ) (TailSeen q head seen i told n)
 
   -- a load of the tail by anyone who has a share of what the reader knows
-  pub looks_tail : (q : Share) (head seen i : ℕ) (told : Stream) → i ≤ 1 → ⟦ C ⟧ ∗ ⟦ RK q head seen i ⟧ ∗ ⟦ announced z told.0 told.1 ⟧ ⊢ access 256 (λ n. n) (AfterLook q head seen i told)
-  looks_tail q head seen i told le = let then : ℕ → Fml = AfterLook q head seen i told in let Z : Pr = ex 𝓤 (Holding 256 (λ n. n) then) in let O : Order Stream = streams in let T : Fml = announced z told.0 told.1 in
-      inside 256 (λ n. n) then (⟦ RK q head seen i ⟧ ∗ ⟦ T ⟧) (qed 𝓛 (‵ I ∷ ‵ (RK q head seen i) ∷ ‵ T ∷ []) ∵
+  pub looks_tail : (q : Share) (head seen i : ℕ) (told : Stream) → i ≤ 1 → ⟦ C ⟧ ∗ ⟦ RK q head seen i ⟧ ∗ ⟦ announced z told.0 told.1 ⟧ ⊢ access 208 (λ n. n) (AfterLook q head seen i told)
+  looks_tail q head seen i told le = let then : ℕ → Fml = AfterLook q head seen i told in let Z : Pr = ex 𝓤 (Holding 208 (λ n. n) then) in let O : Order Stream = streams in let T : Fml = announced z told.0 told.1 in
+      inside 208 (λ n. n) then (⟦ RK q head seen i ⟧ ∗ ⟦ T ⟧) (qed 𝓛 (‵ I ∷ ‵ (RK q head seen i) ∷ ‵ T ∷ []) ∵
       use2 𝓛 (some (λ (s : State). given (ReaderSees head seen i s) (‵ (RK q head seen i) ⊛ ‵ (RK other s.head s.seen s.reader_stage) ⊛ ‵ (WK other s.sent s.limit s.shut s.writer_stage) ⊛ ‵ (Rest s)))) (reader_opens q head seen i le) $ pick ! (λ s. learn ! (λ so. split3 ! $
       move ! (2 ∷ []) $ split ! $ fsplit3 ! $ move ! (0 ∷ 6 ∷ []) $
       use2 𝓛 (given (Reaches told (s.sent, s.shut)) (‵ (latest O other z.sent (s.sent, s.shut)) ⊛ ‵ T)) (latest_bounds O 𝓛 other z.sent (s.sent, s.shut) told) $ learn ! (λ pt. split ! $
@@ -139,7 +139,7 @@ module _ {M : Type 1} {𝓤 : Ura M} (𝓛 : Logic 𝓤) (w p : Ptr) (z : Names)
       move ! (3 ∷ []) $ fsplit ! $ move ! (1 ∷ []) $ fsplit ! $ fsplit3 ! $ move ! (1 ∷ []) $
       let n : ℕ = position_of cap (length s.sent) in let known = so.0.known in let arrived = so.0.arrived in let written = so.0.written in let freed = so.0.freed in let eh = so.1 in let es = so.2 in let ei = so.3 in let top = so.0.stages.1 in let near : OneStays s = omega arith in
       let long : length (told.0 ++ pt.0.0) ≡ length told.0 + length pt.0.0 = length-append told.0 pt.0.0 in let all : length (told.0 ++ pt.0.0) ≡ length s.sent = ap length pt.0.1 in
-      suffices ! _ (upd_i 𝓤 Z) $ show ! (Holding 256 (λ n. n) then) n $ frame ! $ assume ! (‵ (word w 256 n)) $ suffices ! _ (upd_i 𝓤 (⟦ I ⟧ ∗ ⟦ then n ⟧)) $
+      suffices ! _ (upd_i 𝓤 Z) $ show ! (Holding 208 (λ n. n) then) n $ frame ! $ assume ! (‵ (word w 208 n)) $ suffices ! _ (upd_i 𝓤 (⟦ I ⟧ ∗ ⟦ then n ⟧)) $
       move ! (1 ∷ 0 ∷ []) $ fjoin3 ! $ fjoin ! $ move ! (1 ∷ 0 ∷ []) $ fjoin ! $ move ! (1 ∷ 5 ∷ 0 ∷ []) $ use3 𝓛 (‵ I) (closes s so.0 near) $ frame ! $
       move ! (1 ∷ []) $ forget ! $ fjoin ! $ nothing ! $ fpack ! (SawTail head seen told n s.sent) (λ _. ftrue) (refl, omega arith, omega arith, omega arith, λ e. ap (λ (x : Stream). x.0) (pt.1 e)) $ fjoin ! $ fpack ! (List ℕ) (TailSeen q head seen i told n) s.sent $ done !))))
 
@@ -182,16 +182,16 @@ module _ {M : Type 1} {𝓤 : Ura M} (𝓛 : Logic 𝓤) (w p : Ptr) (z : Names)
   AfterPeek q sent limit shut i told n = fex ℕ (HeadSeen q sent limit shut i told n)
 
   -- a load of the head by anyone who has a share of what the writer knows
-  pub looks_head : (q : Share) (sent : List ℕ) (limit : ℕ) (shut : Bool) (i : ℕ) (told : ℕ) → i ≤ 1 → ⟦ C ⟧ ∗ ⟦ WK q sent limit shut i ⟧ ∗ ⟦ took z told ⟧ ⊢ access 128 (λ n. n) (AfterPeek q sent limit shut i told)
-  looks_head q sent limit shut i told le = let then : ℕ → Fml = AfterPeek q sent limit shut i told in let Z : Pr = ex 𝓤 (Holding 128 (λ n. n) then) in
-      inside 128 (λ n. n) then (⟦ WK q sent limit shut i ⟧ ∗ ⟦ took z told ⟧) (qed 𝓛 (‵ I ∷ ‵ (WK q sent limit shut i) ∷ ‵ (took z told) ∷ []) ∵
+  pub looks_head : (q : Share) (sent : List ℕ) (limit : ℕ) (shut : Bool) (i : ℕ) (told : ℕ) → i ≤ 1 → ⟦ C ⟧ ∗ ⟦ WK q sent limit shut i ⟧ ∗ ⟦ took z told ⟧ ⊢ access 8 (λ n. n) (AfterPeek q sent limit shut i told)
+  looks_head q sent limit shut i told le = let then : ℕ → Fml = AfterPeek q sent limit shut i told in let Z : Pr = ex 𝓤 (Holding 8 (λ n. n) then) in
+      inside 8 (λ n. n) then (⟦ WK q sent limit shut i ⟧ ∗ ⟦ took z told ⟧) (qed 𝓛 (‵ I ∷ ‵ (WK q sent limit shut i) ∷ ‵ (took z told) ∷ []) ∵
       use2 𝓛 (some (λ (s : State). given (WriterSees sent limit shut i s) (‵ (WK q sent limit shut i) ⊛ ‵ (WK other s.sent s.limit s.shut s.writer_stage) ⊛ ‵ (RK other s.head s.seen s.reader_stage) ⊛ ‵ (Rest s)))) (writer_opens q sent limit shut i le) $ pick ! (λ s. learn ! (λ so. split3 ! $
       move ! (2 ∷ []) $ split ! $ fsplit ! $ fsplit ! $ move ! (0 ∷ 6 ∷ []) $
       use2 𝓛 (given (told ≤ s.head) (‵ (latest numbers other z.head s.head) ⊛ ‵ (took z told))) (latest_bounds numbers 𝓛 other z.head s.head told) $ learn ! (λ least. split ! $
       use1 𝓛 (‵ (latest numbers other z.head s.head) ⊛ ‵ (took z s.head)) (latest_shows numbers 𝓛 other z.head s.head s.head (omega arith)) $ split ! $ move ! (0 ∷ 3 ∷ []) $ fjoin ! $ move ! (0 ∷ 3 ∷ []) $ fjoin ! $
       move ! (3 ∷ []) $ fsplit ! $ move ! (1 ∷ []) $ fsplit ! $ fsplit ! $
       let n : ℕ = position_of cap s.head in let known = so.0.known in let arrived = so.0.arrived in let written = so.0.written in let freed = so.0.freed in let es : length sent ≡ length s.sent = ap length so.1 in let el = so.2 in let ei = so.4 in let top = so.0.stages.0 in let near : OneStays s = omega arith in
-      suffices ! _ (upd_i 𝓤 Z) $ show ! (Holding 128 (λ n. n) then) n $ frame ! $ assume ! (‵ (word w 128 n)) $ suffices ! _ (upd_i 𝓤 (⟦ I ⟧ ∗ ⟦ then n ⟧)) $
+      suffices ! _ (upd_i 𝓤 Z) $ show ! (Holding 8 (λ n. n) then) n $ frame ! $ assume ! (‵ (word w 8 n)) $ suffices ! _ (upd_i 𝓤 (⟦ I ⟧ ∗ ⟦ then n ⟧)) $
       fjoin ! $ fjoin ! $ move ! (1 ∷ 0 ∷ []) $ fjoin ! $ move ! (5 ∷ 1 ∷ 0 ∷ []) $ use3 𝓛 (‵ I) (closes s so.0 near) $ frame ! $
       move ! (1 ∷ []) $ forget ! $ fjoin ! $ nothing ! $ fpack ! (SawHead sent limit told n s.head) (λ _. ftrue) (refl, omega arith, omega arith, least) $ fjoin ! $ fpack ! ℕ (HeadSeen q sent limit shut i told n) s.head $ done !))))
 
@@ -203,9 +203,9 @@ module _ {M : Type 1} {𝓤 : Ura M} (𝓛 : Logic 𝓤) (w p : Ptr) (z : Names)
     Gift = run (byte p cap) (length sent) xs
 
     -- a store of the tail hands the places of xs over
-    pub publishes : ⟦ C ⟧ ∗ ⟦ WK half sent limit shut i ⟧ ∗ ⟦ Gift ⟧ ⊢ access 256 (λ _. new) (λ _. Then)
-    publishes = let Z : Pr = ex 𝓤 (Holding 256 (λ _. new) (λ _. Then)) in let O : Order Stream = streams in
-        inside 256 (λ _. new) (λ _. Then) (⟦ WK half sent limit shut i ⟧ ∗ ⟦ Gift ⟧) (qed 𝓛 (‵ I ∷ ‵ (WK half sent limit shut i) ∷ ‵ Gift ∷ []) ∵
+    pub publishes : ⟦ C ⟧ ∗ ⟦ WK half sent limit shut i ⟧ ∗ ⟦ Gift ⟧ ⊢ access 208 (λ _. new) (λ _. Then)
+    publishes = let Z : Pr = ex 𝓤 (Holding 208 (λ _. new) (λ _. Then)) in let O : Order Stream = streams in
+        inside 208 (λ _. new) (λ _. Then) (⟦ WK half sent limit shut i ⟧ ∗ ⟦ Gift ⟧) (qed 𝓛 (‵ I ∷ ‵ (WK half sent limit shut i) ∷ ‵ Gift ∷ []) ∵
         use2 𝓛 (some (λ (s : State). given (WriterSees sent limit shut i s) (‵ (WK half sent limit shut i) ⊛ ‵ (WK other s.sent s.limit s.shut s.writer_stage) ⊛ ‵ (RK other s.head s.seen s.reader_stage) ⊛ ‵ (Rest s)))) (writer_opens half sent limit shut i le) $ pick ! (λ s. learn ! (λ so. split3 ! $
         let known = so.0.known in let arrived = so.0.arrived in let written = so.0.written in let freed = so.0.freed in let es : length sent ≡ length s.sent = ap length so.1 in let el = so.2 in
         let all : List ℕ = s.sent ++ xs in let long : length all ≡ length s.sent + length xs = length-append s.sent xs in let s' : State = record s { sent = all } in
@@ -215,8 +215,8 @@ module _ {M : Type 1} {𝓤 : Ura M} (𝓛 : Logic 𝓤) (w p : Ptr) (z : Names)
         use2 𝓛 (raw (upd 𝓤 (⟦ latest O half z.sent (sent ++ xs, shut) ⟧ ∗ ⟦ latest O other z.sent (all, s.shut) ⟧))) (raise O z.sent (sent, shut) (s.sent, s.shut) (sent ++ xs, shut) (all, s.shut) (λ j. (so.1 j, so.3 j)) (λ j. (so.1 j ++ xs, so.3 j)) more) $
         settle 𝓛 Z (‵ (latest O half z.sent (sent ++ xs, shut)) ⊛ ‵ (latest O other z.sent (all, s.shut))) $ suffices ! _ (upd_i 𝓤 Z) $ split ! $
         move ! (0 ∷ 4 ∷ 5 ∷ []) $ fjoin3 ! $ move ! (1 ∷ 2 ∷ 3 ∷ []) $ fjoin3 ! $ move ! (2 ∷ []) $ split ! $ move ! (1 ∷ []) $ fsplit ! $ move ! (1 ∷ []) $ fsplit ! $ fsplit3 ! $ move ! (1 ∷ []) $
-        show ! (Holding 256 (λ _. new) (λ _. Then)) (position_of cap (length s.sent)) $ frame ! $ assume ! (‵ (word w 256 new)) $ suffices ! _ (upd_i 𝓤 (⟦ I ⟧ ∗ ⟦ Then ⟧)) $
-        rewrite ! 0 (λ (m : ℕ). ‵ (word w 256 m)) (is ∙ ap (position_of cap) (ap (λ (m : ℕ). m + length xs) es ∙ sym long)) refl $
+        show ! (Holding 208 (λ _. new) (λ _. Then)) (position_of cap (length s.sent)) $ frame ! $ assume ! (‵ (word w 208 new)) $ suffices ! _ (upd_i 𝓤 (⟦ I ⟧ ∗ ⟦ Then ⟧)) $
+        rewrite ! 0 (λ (m : ℕ). ‵ (word w 208 m)) (is ∙ ap (position_of cap) (ap (λ (m : ℕ). m + length xs) es ∙ sym long)) refl $
         move ! (1 ∷ 0 ∷ []) $ fjoin3 ! $ move ! (1 ∷ []) $ fsplit ! $ move ! (1 ∷ []) $ fsplit3 ! $ move ! (2 ∷ []) $
         rewrite ! 0 (λ (F : Fml). ‵ (fsep F (deeds w p z))) {x = where_gone (gone s.writer_stage) (blanks w p z (length all) (s.limit - length all))} {y = where_gone (gone s.writer_stage) (blanks w p z (length s.sent) (s.limit - length s.sent))} (not_gone s.writer_stage _ _ (omega arith)) refl $
         move ! (1 ∷ 2 ∷ 0 ∷ []) $ fjoin3 ! $ move ! (1 ∷ 7 ∷ []) $

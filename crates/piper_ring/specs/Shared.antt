@@ -156,18 +156,18 @@ pub record Holds (capacity : ℕ) (s : State) : Type 0 where
   pub shutting : flag s.shut ≤ flag s.closed
   pub stages : (s.reader_stage ≤ 2) × (s.writer_stage ≤ 2)
 
--- six lines of 128 bytes: the two words of a slot share one, and else no two words do
+-- of cache lines: head, the writer's slot, closed with the reader's slot, and tail
 abbrev pub words_type : Ty
-words_type = array_of u64 96
+words_type = array_of u64 27
 
 abbrev pub four_rooms : Ptr → Fml
 four_rooms w =
-    fsep (word_room w 128) (fsep (word_room w 256) (fsep (word_room w 384) (word_room w 0)))
+    fsep (word_room w 8) (fsep (word_room w 208) (fsep (word_room w 136) (word_room w 0)))
 
 -- the words of both slots
 abbrev pub slot_rooms : Ptr → Fml
 slot_rooms w =
-    fsep (word_room w 512) (fsep (word_room w 520) (fsep (word_room w 640) (word_room w 648)))
+    fsep (word_room w 144) (fsep (word_room w 152) (fsep (word_room w 72) (word_room w 80)))
 
 abbrev pub all_rooms : Ptr → Fml
 all_rooms w = fsep (four_rooms w) (slot_rooms w)
@@ -230,17 +230,17 @@ wakes_back z holds taken count over =
 module _ (w p : Ptr) (z : Names) where
   -- in the reader's slot the reader waits for what the writer publishes
   abbrev pub reader_slot : Fml
-  reader_slot = slot w 512 z.reader_waits z.writer_wakes z.reader_place coded_stream (published z)
+  reader_slot = slot w 144 z.reader_waits z.writer_wakes z.reader_place coded_stream (published z)
 
   -- in the writer's slot the writer waits for what the reader consumes
   abbrev pub writer_slot : Fml
-  writer_slot = slot w 640 z.writer_waits z.reader_wakes z.writer_place coded_consumed (consumed z)
+  writer_slot = slot w 72 z.writer_waits z.reader_wakes z.writer_place coded_consumed (consumed z)
 
   abbrev pub words : State → Fml
   words s =
-      fsep (word w 128 (position_of z.capacity s.head))
-      (fsep (word w 256 (position_of z.capacity (length s.sent)))
-      (fsep (word w 384 (flag s.closed))
+      fsep (word w 8 (position_of z.capacity s.head))
+      (fsep (word w 208 (position_of z.capacity (length s.sent)))
+      (fsep (word w 136 (flag s.closed))
       (word w 0 (one_gone (gone s.reader_stage) (gone s.writer_stage)))))
 
   abbrev pub idle : ℕ → ℕ → List ℕ → Fml

@@ -110,7 +110,7 @@ pub fn open_with_slots(
 /// back.
 fn claim(alloc: &Global, capacity: usize) -> Result<(Memory, Memory), OutOfMemory>
     requires { (0 < capacity) × (2 * capacity < 2 ^ 64) }
-    ensures words { IfOk result (λ m. (m.0.size ≡ 768) × (m.0.align ≡ 8)) }
+    ensures words { IfOk result (λ m. (m.0.size ≡ 216) × (m.0.align ≡ 8)) }
     ensures bytes { IfOk result (λ m. (m.1.size ≡ capacity) × (m.1.align ≡ 1)) }
 {
     let words = Memory::claim(alloc, WORDS_SIZE, WORDS_ALIGN)?;

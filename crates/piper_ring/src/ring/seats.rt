@@ -15,28 +15,29 @@ use std::sync::atomic::Ordering::SeqCst;
 use std::sync::atomic::raw;
 use token_cell::Token;
 
-/// The words lie in six lines of 128 bytes. The two words of a slot, which nobody stores while bytes
-/// flow, share one, and else no two words share a cache line. What lies in front of this memory can
-/// share one with the first alone, which each end uses once, on leaving.
-pub(crate) const WORDS_SIZE: usize = 768;
+/// Processors fetch cache lines of 64 bytes, and often two, a pair of 128. So the head and the
+/// tail, which are stored while bytes flow, are never in one pair. Between them are the words that
+/// the reader loads after it stored the head, and those that the writer loads before and after it
+/// stores the tail: each a line away from the word beside it, which the same side stores.
+pub(crate) const WORDS_SIZE: usize = 216;
 
 pub(crate) const WORDS_ALIGN: usize = 8;
 
 const LEFT_WORD: usize = 0;
 
-const HEAD_WORD: usize = 16;
+const HEAD_WORD: usize = 1;
 
-const TAIL_WORD: usize = 32;
+pub(crate) const WRITER_FLAG: usize = 9;
 
-const CLOSED_WORD: usize = 48;
+pub(crate) const WRITER_BACK: usize = 10;
 
-pub(crate) const READER_FLAG: usize = 64;
+const CLOSED_WORD: usize = 17;
 
-pub(crate) const READER_BACK: usize = 65;
+pub(crate) const READER_FLAG: usize = 18;
 
-pub(crate) const WRITER_FLAG: usize = 80;
+pub(crate) const READER_BACK: usize = 19;
 
-pub(crate) const WRITER_BACK: usize = 81;
+const TAIL_WORD: usize = 26;
 
 /// The reader's side of the words. `have` is all that it consumed, followed by all that it knows
 /// of.
@@ -103,7 +104,7 @@ impl Remains {
     /// The memory as the heap gave it: that of the words, and that of the bytes.
     pub(crate) fn into_memory(self, base: Base) -> (Memory, Memory)
         requires { (self.last ≡ true) × (base.ptr ≡ self.at) }
-        ensures words { (result.0.size ≡ 768) × (result.0.align ≡ 8) }
+        ensures words { (result.0.size ≡ 216) × (result.0.align ≡ 8) }
         ensures bytes { (result.1.size ≡ self.names.capacity) × (result.1.align ≡ 1) }
     {
         let Remains { words } = self;
@@ -155,7 +156,7 @@ pub(crate) fn open(
     let Memory { start: ptr } = bytes;
     let Memory { start } = words;
     let start = start as *mut u64;
-    // SAFETY: the condition says that the block is owned here, is aligned to 8 and has room for 96
+    // SAFETY: the condition says that the block is owned here, is aligned to 8 and has room for 27
     // words.
     unsafe {
         start.add(HEAD_WORD).write(0);

@@ -63,7 +63,7 @@ open_spec 𝓤 𝓛 𝓜 𝓡 wired =
     rewrite ! 0 (λ (k : ℕ). ‵ (unused cap k p₀)) asked.1 refl $ fsplit ! $ fpick ! (λ small. drop ! $
     in_a_block ! p₀ (λ q. owned_block heap_token τ q) (fst∗ 𝓤 (never 𝓤) (sem 𝓛 (heap_token τ null_ptr))) (λ b' o' at_p. let w : Ptr = block_ptr b o in let p : Ptr = block_ptr b' o' in
     fsplit ! $ move ! (2 ∷ []) $ fsplit ! $ keep ! (0 ∷ 1 ∷ 3 ∷ 2 ∷ 5 ∷ []) $
-    use1 𝓛 (‵ (word_room w 128) ⊛ ‵ (word_room w 256) ⊛ ‵ (word_room w 384) ⊛ ‵ (word_room w 0) ⊛ ‵ (slot_rooms w) ⊛ ‵ (Rejoin 𝓛 w p cap)) (words_out 𝓛 w p cap) $ split3 ! $ move ! (2 ∷ []) $ split3 ! $ move ! (2 ∷ []) $ split ! $ fsplit3 ! $ move ! (2 ∷ []) $ fsplit ! $ move ! (5 ∷ 6 ∷ 4 ∷ 7 ∷ 8 ∷ 2 ∷ 3 ∷ 0 ∷ 1 ∷ []) $
+    use1 𝓛 (‵ (word_room w 8) ⊛ ‵ (word_room w 208) ⊛ ‵ (word_room w 136) ⊛ ‵ (word_room w 0) ⊛ ‵ (slot_rooms w) ⊛ ‵ (Rejoin 𝓛 w p cap)) (words_out 𝓛 w p cap) $ split3 ! $ move ! (2 ∷ []) $ split3 ! $ move ! (2 ∷ []) $ split ! $ fsplit3 ! $ move ! (2 ∷ []) $ fsplit ! $ move ! (5 ∷ 6 ∷ 4 ∷ 7 ∷ 8 ∷ 2 ∷ 3 ∷ 0 ∷ 1 ∷ []) $
     enter ! 𝓣.C 𝓣.Λ fn (seat_val w₀ ∷ seat_val p₀ ∷ v₁ ∷ v₂ ∷ []) Post $ alloc_all ! (λ l. pass_all ! refl (word-Good [] w₀, (word-Good [] p₀, ((tt, tt), ((tt, tt), tt)))) $ let Ev = env fn.locals l in
     sets ! (is ! (of_opd ! (get_in ! (fld ! refl (stop !)) (sub ! 0 refl (whole !)))) (ap ptr_val at_p)) refl (tt, tt) $
     sets ! (is ! (of_opd ! (get_in ! (fld ! refl (stop !)) (sub ! 0 refl (whole !)))) (ap ptr_val at_w)) refl (tt, tt) $ sets ! (of_opd ! (get ! refl)) refl (tt, tt) $ first ! $ blocks ! $

@@ -46,12 +46,12 @@ into_memory_spec 𝓤 𝓛 𝓜 𝓡 wired =
     let h = a.0 in let base = a.1.0 in let w : Ptr = h.words in let p : Ptr = h.at in let z : Names = h.names in let cap : ℕ = z.capacity in let bv : Val = lowers.lowered base in
     let w' : Ptr = block_ptr (block_of w) (count_of w) in let p' : Ptr = block_ptr (block_of p) (count_of p) in let τ : Ty = array_of u8 cap in
     let y : (walk_of 𝓛 En hs c).Ghost = ((κs, qs, bounds, a, (seat_val w ∷ [], (bv ∷ [], tt))), gh) in let Post : Val → SProp 𝓤 = (walk_of 𝓛 En hs c).post y in
-    let one : Row.Denot = record { start = w'; size = 768; align = 8 } in let two : Row.Denot = record { start = p'; size = cap; align = 1 } in let u : Val = seat_val w' in let v : Val = seat_val p' in
+    let one : Row.Denot = record { start = w'; size = 216; align = 8 } in let two : Row.Denot = record { start = p'; size = cap; align = 1 } in let u : Val = seat_val w' in let v : Val = seat_val p' in
     qed 𝓛 ((raw (alive 𝓛 En.signature κs qs) ⊛ ‵ (owns (types_at En.signature.params κs) a y.0.4)) ∷ given ((h.last ≡ true) × (base.ptr ≡ p)) (‵ ftrue) ∷ []) ∵
     keep ! (1 ∷ 0 ∷ []) $ learn ! (λ asked. drop ! $ split ! $ move ! (1 ∷ []) $ fsplit ! $ fsplit ! $ drop ! $ fsplit ! $ fpick ! (λ at. drop ! $
     rewrite ! 0 (λ (b : Bool). ‵ (where_gone b (shared.whole w p z))) asked.0 refl $ keep ! (0 ∷ 2 ∷ []) $ fsplit ! $ fsplit ! $
     let is_w : w ≡ w' = at_block w at.0 in let is_p : p ≡ p' = at_block p at.1 in
-    rewrite ! 1 (λ (q : Ptr). ‵ (heap_token words_type q)) is_w refl $ fjoin ! $ nothing ! $ fpack ! (768 < 2 ^ 63) (λ _. ftrue) (lit< tt) $ fjoin ! $
+    rewrite ! 1 (λ (q : Ptr). ‵ (heap_token words_type q)) is_w refl $ fjoin ! $ nothing ! $ fpack ! (216 < 2 ^ 63) (λ _. ftrue) (lit< tt) $ fjoin ! $
     use0 𝓛 (‵ (MemoryData.own_val (w', tt) (u ∷ []))) (memory_made 𝓛 w') $ fjoin ! $ move ! (1 ∷ []) $ fsplit ! $
     rewrite ! 1 (λ (q : Ptr). ‵ (heap_token τ q)) is_p refl $ fjoin ! $ nothing ! $ fpack ! (cap < 2 ^ 63) (λ _. ftrue) at.2 $ fjoin ! $
     use0 𝓛 (‵ (MemoryData.own_val (p', tt) (v ∷ []))) (memory_made 𝓛 p') $ fjoin ! $
@@ -64,6 +64,6 @@ into_memory_spec 𝓤 𝓛 𝓜 𝓡 wired =
     sets ! (of_opd ! (get ! refl)) refl (tt, (tt, tt)) $ sets ! (of_opd ! (get ! refl)) refl (tt, (tt, tt)) $
     sets ! (agg ! (and_then ! (get ! refl) (and_then ! (get ! refl) (no_more !)))) refl (tt, ((tt, tt), ((tt, tt), tt))) $
     use0 𝓛 (raw (fact 𝓤 ((cap ≡ cap) × (1 ≡ 1)))) (fact_i 𝓤 ((cap ≡ cap) × (1 ≡ 1)) (emp 𝓤) (refl, refl)) $
-    use0 𝓛 (raw (fact 𝓤 ((768 ≡ 768) × (8 ≡ 8)))) (fact_i 𝓤 ((768 ≡ 768) × (8 ≡ 8)) (emp 𝓤) (refl, refl)) $ join ! $
+    use0 𝓛 (raw (fact 𝓤 ((216 ≡ 216) × (8 ≡ 8)))) (fact_i 𝓤 ((216 ≡ 216) × (8 ≡ 8)) (emp 𝓤) (refl, refl)) $ join ! $
     nothing ! $ nothing ! $ fjoin ! $ nothing ! $ fjoin ! $
     returns ! (look_at ! 0 refl) $ free_all ! refl $ keep ! (3 ∷ 0 ∷ 2 ∷ 1 ∷ []) $ by ! (leaves 𝓛 En hs c y (pair_val u v) (one, two) (tt, (tt, tt)) (tt, (tt, tt)))))))

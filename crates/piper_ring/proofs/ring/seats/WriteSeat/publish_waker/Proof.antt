@@ -68,7 +68,7 @@ publish_waker_spec 𝓤 𝓛 𝓜 𝓡 wired =
     keep ! (1 ∷ 0 ∷ []) $ learn ! (λ asked. drop ! $ split ! $ split3 ! $ move ! (3 ∷ []) $ fsplit3 ! $ move ! (1 ∷ []) $ fsplit3 ! $ keep ! (3 ∷ 5 ∷ 1 ∷ 2 ∷ 6 ∷ 4 ∷ []) $ fsplit ! $ drop ! $
     use1 𝓛 (‵ (hidden_shr Data κ (w, tt) b o) ⊛ ‵ (fhide (writer_lends w p z h.sent h.limit h.shut κ))) (lent_out 𝓛 Seat.struct Seat.the_codes Seat.the_heap Seat.the_lent κ h b o) $
     split ! $ unhide ! $ fsplit ! $ fsplit ! $ keep ! (0 ∷ 3 ∷ 4 ∷ 5 ∷ 6 ∷ 7 ∷ 8 ∷ []) $ hide ! $ move ! (1 ∷ []) $ unhide ! $ fsplit ! $ fsplit ! $ fpick ! (λ at. drop ! $ nothing ! $ fpack ! (Placed w p z) (λ _. ftrue) at $ fjoin ! $
-    let bw : ℕ = block_of w in let ow : ℕ = count_of w in let e : ℕ = 640 + ow in let isw : w ≡ block_ptr bw ow = at_block w at.0 in
+    let bw : ℕ = block_of w in let ow : ℕ = count_of w in let e : ℕ = 72 + ow in let isw : w ≡ block_ptr bw ow = at_block w at.0 in
     enter ! 𝓣.C 𝓣.Λ fn (vptr b o ∷ vptr b' o' ∷ right_val ∷ []) Post $ alloc_all ! (λ l. pass_all ! refl ((tt, tt), ((tt, tt), ((tt, (tt, tt)), tt))) $ let Ev = env fn.locals l in
     move ! (4 ∷ 5 ∷ 6 ∷ []) $ opens ! tt SRow b' o' (λ vs'. move ! (1 ∷ []) $ fsplit ! $ move ! (8 ∷ 9 ∷ 6 ∷ 7 ∷ []) $ first ! $ blocks ! $
     pointer_in ! tt w bw ow isw b (o + 0) (λ r.

@@ -42,7 +42,7 @@ store_shut_spec 𝓤 𝓛 𝓜 𝓡 wired =
     proved 𝓛 En hs c 𝓜 𝓡 (Goes-ref 𝓛 1 0 tt self, tt) #self fn (code.unfolded 𝓤 H 𝓜 𝓡 wired)
     (λ κs. (mut_vals, tt)) (λ κs. (mut_Tells (named 0) κs.0 Row, tt)) (λ κs qs bounds a gh are.
     let b : ℕ = a.0.ref_ptr.0 in let o : ℕ = a.0.ref_ptr.1 in let h = a.0.now in let w : Ptr = h.words in let p : Ptr = h.at in let z : Names = h.names in let κ = κs.0 in
-    let bw : ℕ = block_of w in let e : ℕ = 384 + count_of w in let us : List Val = seat_val w ∷ [] in let C : Fml = common w p z in
+    let bw : ℕ = block_of w in let e : ℕ = 136 + count_of w in let us : List Val = seat_val w ∷ [] in let C : Fml = common w p z in
     let Then : Fml = writer_knows w p z half h.sent h.limit true 0 in let Step : SProp 𝓤 = asks 𝓛 (block_ptr bw e) (λ _. 1) always (λ _. Then) in let h' : Row.Denot = record h { shut = true } in
     let Data : Fml = WriteData.own_val (w, tt) us in
     let y : (walk_of 𝓛 En hs c).Ghost = ((κs, qs, bounds, a, (vptr b o ∷ [], tt)), gh) in let Post : Val → SProp 𝓤 = (walk_of 𝓛 En hs c).post y in

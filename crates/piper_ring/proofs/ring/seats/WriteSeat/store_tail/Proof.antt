@@ -48,7 +48,7 @@ store_tail_spec 𝓤 𝓛 𝓜 𝓡 wired =
     proved 𝓛 En hs c 𝓜 𝓡 (Goes-ref 𝓛 1 0 tt self, (Goes-dropped 𝓛 1 (plain (λ _. Places.the_row)) yes (λ κs x f. refl), (Goes-dropped 𝓛 1 (plain (λ _. u64)) yes (λ κs x f. refl), tt))) #self fn (code.unfolded 𝓤 H 𝓜 𝓡 wired)
     (λ κs. (mut_vals, ((λ x. ghost_val ∷ []), (uint_vals w64, tt)))) (λ κs. (mut_Tells (named 0) κs.0 Row, ((λ x vs is. places_told vs is.0), (uint_Tells w64, tt)))) (λ κs qs bounds a gh are.
     let b : ℕ = a.0.ref_ptr.0 in let o : ℕ = a.0.ref_ptr.1 in let h = a.0.now in let g = a.1.0 in let new : ℕ = a.1.1.0 in let w : Ptr = h.words in let p : Ptr = h.at in let z : Names = h.names in let κ = κs.0 in let xs : List ℕ = g.bytes in
-    let bw : ℕ = block_of w in let e : ℕ = 256 + count_of w in let us : List Val = seat_val w ∷ [] in let C : Fml = common w p z in let Now : Fml = writer_knows w p z half h.sent h.limit h.shut 0 in
+    let bw : ℕ = block_of w in let e : ℕ = 208 + count_of w in let us : List Val = seat_val w ∷ [] in let C : Fml = common w p z in let Now : Fml = writer_knows w p z half h.sent h.limit h.shut 0 in
     let Then : Fml = writer_knows w p z half (h.sent ++ xs) h.limit h.shut 0 in let Step : SProp 𝓤 = asks 𝓛 (block_ptr bw e) (λ _. new) always (λ _. Then) in let h' : Row.Denot = record h { sent = h.sent ++ xs } in
     let Data : Fml = WriteData.own_val (w, tt) us in
     let y : (walk_of 𝓛 En hs c).Ghost = ((κs, qs, bounds, a, (vptr b o ∷ [], (ghost_val ∷ [], (vint w64 new ∷ [], tt)))), gh) in let Post : Val → SProp 𝓤 = (walk_of 𝓛 En hs c).post y in
