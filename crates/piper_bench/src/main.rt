@@ -33,6 +33,7 @@ const USAGE: &str = "usage: piper_bench WHAT CAP CHUNK TOTAL
 The first moves TOTAL bytes in pieces of CHUNK through a ring of CAP bytes, and prints bytes, nanoseconds, nanoseconds a piece and a checksum.
 WHAT is ring (one thread, in and out in turn), ring2 (two threads), or rtrb or rtrb2 (the same work on rtrb).
 Or it is through the handles of a pipe: pipe (by try forms) and inplace (by lent slices, and by polls where these would be empty) on one thread, pipe2 and inplace2 between two threads, which look a few times and then sleep until they are woken, and on one thread filldrain (both ways by the copies that wait); and lines takes lines of CHUNK bytes out of one, the LF with them.
+Or it is, on one thread, stream: the stream in memory of tokio, in and out in turn.
 Or it is one of its peers, between two threads that wait as those of a pipe do: tokio2 (a pipe by the traits of tokio), stream2 (the stream in memory of tokio, by the same) and channel2 (a bounded channel of pieces, each in memory of its own, whose ends wait as it will).
 Or a piece goes to and fro between two threads, each of which sleeps until the other has answered: pingpong (through two pipes, by lent slices) and pingpong_stream (through two streams in memory, by the traits of tokio).
 CAP is at least 1 and at most half of the greatest usize, CHUNK is 1 to 16777216.

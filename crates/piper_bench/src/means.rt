@@ -1,7 +1,7 @@
 //! The means that bytes go through, and the words for them.
 
 /// Each means by its word, in the order in which a run without arguments makes them.
-pub const WORDS: [(&str, What); 15] = [
+pub const WORDS: [(&str, What); 16] = [
     ("ring", What::Ring { is_shared: false }),
     ("ring2", What::Ring { is_shared: true }),
     ("rtrb", What::Rtrb { is_shared: false }),
@@ -42,6 +42,7 @@ pub const WORDS: [(&str, What); 15] = [
         },
     ),
     ("lines", What::Lines),
+    ("stream", What::StreamInTurn),
     ("tokio2", What::Peer(Peer::Pipe)),
     ("stream2", What::Peer(Peer::Stream)),
     ("channel2", What::Peer(Peer::Channel)),
@@ -56,6 +57,8 @@ pub enum What {
     Rtrb { is_shared: bool },
     Pipe { way: Way, is_shared: bool },
     Lines,
+    /// The stream in memory of `tokio`, on one thread.
+    StreamInTurn,
     Peer(Peer),
     /// To and fro, through a means each way: streams of `tokio`, or pipes by its traits.
     ToAndFro { is_stream: bool },
@@ -93,7 +96,7 @@ impl What {
         match self {
             What::Ring { is_shared } | What::Rtrb { is_shared } => is_shared,
             What::Pipe { way: _, is_shared } => is_shared,
-            What::Lines => false,
+            What::Lines | What::StreamInTurn => false,
             What::Peer(_) | What::ToAndFro { is_stream: _ } => true,
         }
     }

@@ -6,12 +6,13 @@ use crate::rings::add_piece;
 use crate::work::Work;
 use crossbeam_channel::{Receiver, Sender};
 use futures::task::{Context, Poll};
+use futures::test::MockTask;
 use std::marker::Send;
 use std::random::RandomSource;
 use std::sync::Wait;
 use std::thread::Threads;
 use std::{io, thread};
-use tokio::io::{AsyncRead, AsyncWrite};
+use tokio::io::{AsyncRead, AsyncWrite, DuplexStream};
 
 /// Writes what is left of so many bytes. Of an error it hands its kind on: an `io::Error` holds its
 /// message, and to hand on an answer with room for one would copy that at each piece.
@@ -109,6 +110,32 @@ where
     );
     written??;
     Ok(read??)
+}
+
+/// Moves the bytes through a stream on this thread, in and out in turn. It answers the checksum.
+pub fn stream_in_turn(
+    rt: &impl Wait,
+    task: &MockTask,
+    (mut reader, mut writer): (DuplexStream, DuplexStream),
+    source: &[u8],
+    place: &mut [u8],
+    total: usize,
+) -> u64 {
+    let (mut left, mut due, mut checksum) = (total, total, 0u64);
+    for _ in rt.forever() {
+        if due == 0 {
+            return checksum;
+        }
+        let piece = &source[..left.min(source.len())];
+        if let Poll::Ready(Ok(n)) = task.enter(|cx| writer.poll_write(cx, piece)) {
+            left = left.saturating_sub(n);
+        }
+        if let Poll::Ready(Ok(n)) = task.enter(|cx| reader.poll_read(cx, place)) {
+            due = due.saturating_sub(n);
+            checksum = add_piece(checksum, place, n);
+        }
+    }
+    unreachable!()
 }
 
 // Sends a piece in memory of its own.

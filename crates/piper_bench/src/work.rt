@@ -3,7 +3,7 @@ ghost use Rattle.std.specs.Prelude.{IfSome, IsSome, ◌≡◌, ◌<◌, ◌≤�
 
 use crate::lines::through_lines;
 use crate::means::{Peer, Way, What};
-use crate::peers::{through_channel, through_stream};
+use crate::peers::{stream_in_turn, through_channel, through_stream};
 use crate::pipes::{Copies, InPlace, TryForms, through_pipe};
 use crate::rings::{BYTE, Input, Output, get_all, in_turn, put_all, yields};
 use crate::to_and_fro::{Ends, Handles, Streams, to_and_fro};
@@ -116,6 +116,7 @@ where
         }
         What::Pipe { way, is_shared: _ } => through_way(rt, way, work, source, place),
         What::Lines => lines_through_pipe(rt, work),
+        What::StreamInTurn => timed_in_turn(rt, work, source, place),
         What::Peer(peer) => through_peer(rt, peer, work, source, place),
         What::ToAndFro { is_stream } => through_both_ways(rt, is_stream, work),
     }
@@ -184,6 +185,23 @@ where
             timed_channel(rt, ends, work, source, place)
         }
     }
+}
+
+/// Moves the bytes through a stream on one thread, and returns how long it took and the checksum.
+fn timed_in_turn<R>(
+    rt: &R,
+    work: Work,
+    source: &[u8],
+    place: &mut [u8],
+) -> io::Result<(Duration, u64)>
+where
+    R: Wait + Clock + RandomSource + AllocGlobal,
+{
+    let ends = tokio::io::duplex(rt.alloc(), work.capacity)?;
+    let task = MockTask::new(rt)?;
+    let start = Instant::now(rt)?;
+    let checksum = stream_in_turn(rt, &task, ends, source, place, work.total);
+    Ok((start.elapsed(rt)?, checksum))
 }
 
 fn timed_stream<R, I, O>(
