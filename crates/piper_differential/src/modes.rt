@@ -62,6 +62,19 @@ where
     let mut lines = Lines::new(rt.alloc(), input)?;
     let mut hands = Hands::new(rt.clone().map_err(|_| Stop::Memory)?, SEED);
     let mut reply = Reply::new(rt.alloc());
+    play_each(&mut lines, &mut hands, &mut reply, output)
+}
+
+// Plays each line on the handles, and writes the reply. The answer is whether none was refused.
+fn play_each<H, I: Read, O: Write>(
+    lines: &mut Lines<'_, I>,
+    hands: &mut Hands<H>,
+    reply: &mut Reply,
+    output: &mut O,
+) -> Result<bool, Stop>
+where
+    H: RandomSource + AllocGlobal + Drop,
+{
     for number in 1..u64::MAX {
         let Some(line) = lines.next()? else {
             break;
@@ -69,11 +82,11 @@ where
         reply.clear();
         let played = match parse(line) {
             Ok(None) => continue,
-            Ok(Some(command)) => hands.play(command, &mut reply),
+            Ok(Some(command)) => hands.play(command, reply),
             Err(refusal) => Err(Halt::from(refusal)),
         };
-        let is_refused = finish(played, number, &mut reply)?;
-        write_reply(&reply, output)?;
+        let is_refused = finish(played, number, reply)?;
+        write_reply(reply, output)?;
         if is_refused {
             return Ok(false);
         }
@@ -89,6 +102,19 @@ where
 {
     let mut lines = Lines::new(rt.alloc(), input)?;
     let mut twin = Twin::new(rt.clone().map_err(|_| Stop::Memory)?, SEED);
+    compare_each(&mut lines, &mut twin, output)
+}
+
+// Plays each line on both, and reports the first difference. Returns whether there is none, and no
+// line was refused.
+fn compare_each<H, I: Read, O: Write>(
+    lines: &mut Lines<'_, I>,
+    twin: &mut Twin<H>,
+    output: &mut O,
+) -> Result<bool, Stop>
+where
+    H: RandomSource + AllocGlobal + Clone + Drop,
+{
     for number in 1..u64::MAX {
         let Some(line) = lines.next()? else {
             break;
@@ -101,7 +127,7 @@ where
                 return Ok(false);
             }
             Compared::Differ => {
-                write_difference(&twin, number, line, output)?;
+                write_difference(twin, number, line, output)?;
                 return Ok(false);
             }
         }
@@ -155,17 +181,35 @@ where
     let mut line = String::new(rt.alloc());
     let count = 20 + u64::from(drawn.below(60));
     for number in 1..count + 1 {
-        line.clear();
-        if number == 1 {
-            drawn.write_pipe(&mut line)?;
-        } else {
-            drawn.write_line(&mut line)?;
-        }
-        if let Compared::Differ = twin.play(number, line.as_bytes())? {
-            write!(output, "seed {seed}, ").map_err(|_| Stop::Write)?;
-            write_difference(&twin, number, line.as_bytes(), output)?;
+        if !play_next(&mut drawn, &mut twin, &mut line, (seed, number), output)? {
             return Ok(None);
         }
     }
     Ok(Some(count))
+}
+
+// Draws the line of that number in the script of that seed, and plays it on both. Returns whether
+// they do not differ.
+fn play_next<H, O: Write>(
+    drawn: &mut Drawn,
+    twin: &mut Twin<H>,
+    line: &mut String,
+    (seed, number): (u64, u64),
+    output: &mut O,
+) -> Result<bool, Stop>
+where
+    H: RandomSource + AllocGlobal + Clone + Drop,
+{
+    line.clear();
+    if number == 1 {
+        drawn.write_pipe(line)?;
+    } else {
+        drawn.write_line(line)?;
+    }
+    let Compared::Differ = twin.play(number, line.as_bytes())? else {
+        return Ok(true);
+    };
+    write!(output, "seed {seed}, ").map_err(|_| Stop::Write)?;
+    write_difference(twin, number, line.as_bytes(), output)?;
+    Ok(false)
 }
