@@ -55,28 +55,26 @@ static void wake(piper_words words) {
         bell_ring((bell *)words.data);
 }
 
-/* Waits until there is a byte to read. Returns false at the end of the pipe. */
-static bool wait_to_read(piper_reader *reader, bell *mine) {
+/* Waits until there is a byte to read, and returns how many lie at `*bytes`: 0 at the end of the
+ * pipe. */
+static size_t wait_to_read(piper_reader *reader, bell *mine, const uint8_t **bytes) {
     for (;;) {
-        uint32_t outcome = piper_reader_look(reader);
-        if (outcome == PIPER_PENDING)
-            outcome = piper_reader_poll(reader, words_of(mine)).outcome;
-        if (outcome == PIPER_READY || outcome == PIPER_END)
-            return outcome == PIPER_READY;
-        if (outcome == PIPER_PENDING)
+        piper_seen seen = piper_reader_look(reader, bytes);
+        if (seen.outcome != PIPER_PENDING)
+            return seen.len;
+        if (piper_reader_poll(reader, words_of(mine)).outcome == PIPER_PENDING)
             bell_sleep(mine);
     }
 }
 
-/* Waits until there is room to write to. Returns false where the pipe is closed. */
-static bool wait_to_write(piper_writer *writer, bell *mine) {
+/* Waits until there is room to write to, and returns how many bytes are lent at `*room`: 0, and
+ * there is no loan, where the pipe is closed. */
+static size_t wait_to_write(piper_writer *writer, bell *mine, uint8_t **room) {
     for (;;) {
-        uint32_t outcome = piper_writer_look(writer);
-        if (outcome == PIPER_PENDING)
-            outcome = piper_writer_poll(writer, words_of(mine)).outcome;
-        if (outcome == PIPER_READY || outcome == PIPER_END)
-            return outcome == PIPER_READY;
-        if (outcome == PIPER_PENDING)
+        piper_seen seen = piper_writer_offer(writer, SIZE_MAX, room);
+        if (seen.outcome != PIPER_PENDING)
+            return seen.len;
+        if (piper_writer_poll(writer, words_of(mine)).outcome == PIPER_PENDING)
             bell_sleep(mine);
     }
 }
@@ -90,10 +88,10 @@ typedef struct {
 
 static void *run_source(void *at) {
     source *s = at;
-    while (wait_to_write(&s->writer, &s->bell)) {
+    uint8_t *room;
+    size_t len;
+    while ((len = wait_to_write(&s->writer, &s->bell, &room)) > 0) {
         /* The file is read in place: into the room that the pipe lends. */
-        uint8_t *room;
-        size_t len = piper_writer_lend(&s->writer, SIZE_MAX, &room);
         size_t n = fread(room, 1, len, s->file);
         wake(piper_writer_publish(&s->writer, room, n));
         if (n == 0)
@@ -104,10 +102,9 @@ static void *run_source(void *at) {
 }
 
 static size_t count_lines(piper_reader *reader, bell *mine) {
-    size_t lines = 0;
-    while (wait_to_read(reader, mine)) {
-        const uint8_t *bytes;
-        size_t len = piper_reader_peek(reader, &bytes);
+    size_t lines = 0, len;
+    const uint8_t *bytes;
+    while ((len = wait_to_read(reader, mine, &bytes)) > 0) {
         for (const uint8_t *at = bytes; (at = memchr(at, '\n', len - (size_t)(at - bytes))); at++)
             lines++;
         wake(piper_reader_consume(reader, len));

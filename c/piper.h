@@ -47,9 +47,10 @@ typedef struct {
     void *at;
 } piper_writer;
 
-/* What a poll found. */
+/* What a poll or a look found. */
 enum {
-    /* Nothing to do yet: `mine` was left, and comes back as a result of some later call. */
+    /* Nothing to do yet. Of a poll: `mine` was left, and comes back as a result of some later
+     * call. */
     PIPER_PENDING = 0,
     /* Of a reader: a byte can be read. Of a writer: there is room. */
     PIPER_READY = 1,
@@ -74,6 +75,24 @@ typedef struct {
      * none where they are still in the pipe or the other side took them. */
     piper_words mine;
 } piper_polled;
+
+/* The result of a look, and where its bytes or its room are. */
+typedef struct {
+    /* PIPER_READY, PIPER_END, or PIPER_PENDING where there is neither now. */
+    uint32_t outcome;
+    /* How many bytes lie in one piece, or are lent; 0 where the outcome isn't PIPER_READY. */
+    size_t len;
+} piper_seen;
+
+/* The result of a publish that lends again. */
+typedef struct {
+    /* Who has to be woken now, if anyone, as below. */
+    piper_words wake;
+    /* How many bytes are lent. */
+    size_t len;
+    /* Whether the pipe is closed now. */
+    bool is_closed;
+} piper_next;
 
 /* The result of a call that moves bytes. */
 typedef struct {
@@ -105,18 +124,20 @@ bool piper_open(size_t capacity, piper_reader *reader, piper_writer *writer);
  * before. Where the outcome is PIPER_END words may still be in the pipe: the drop returns them. */
 piper_polled piper_reader_poll(piper_reader *reader, piper_words mine);
 
-/* Checks for a byte, or for the end, and leaves no words: the outcome is PIPER_READY, PIPER_END, or
- * PIPER_PENDING where there is neither now. Words that a poll left stay where they are. */
-uint32_t piper_reader_look(piper_reader *reader);
+/* Checks for a byte, or for the end, and leaves no words; words that a poll left stay where they
+ * are. It puts the address of the known bytes into `*at` and returns how many they are, as `peek`
+ * does. */
+piper_seen piper_reader_look(piper_reader *reader, const uint8_t **at);
 
 /* The known bytes that lie in one piece, the next one first: puts their address into `*at` and
- * returns how many they are, at least one after a poll that was ready. The bytes stay there,
- * unchanged, until this reader's next `consume`, `read` or `drop`; they are not to be written. */
+ * returns how many they are, at least one after a poll that was ready. The address is not null,
+ * even where they are none. The bytes stay there, unchanged, until this reader's next `consume`,
+ * `read` or `drop`; they are not to be written. */
 size_t piper_reader_peek(piper_reader *reader, const uint8_t **at);
 
 /* Takes the first `n` bytes of what `peek` gives, and gives their places back to the writer.
- * Returns who has to be woken now, if anyone. An `n` over what `peek` gives is refused: nothing is
- * done, and nobody is returned. */
+ * Returns who has to be woken now, if anyone, even where `n` is 0. An `n` over what `peek` gives is
+ * refused: nothing is done, and nobody is returned. */
 piper_words piper_reader_consume(piper_reader *reader, size_t n);
 
 /* Copies bytes to `to`, at most `len`, and takes them. It never waits: `count` is 0 only where
@@ -130,8 +151,8 @@ size_t piper_reader_len(piper_reader *reader);
 /* How many bytes the pipe can hold. */
 size_t piper_reader_capacity(piper_reader *reader);
 
-/* Whether the pipe is closed now: a side was dropped, or the writer closed it. Bytes may still be
- * unread. */
+/* Whether the pipe is closed now: a side was dropped, or the writer closed it. Once it is true it
+ * stays so. Bytes may still be unread. */
 bool piper_reader_is_closed(piper_reader *reader);
 
 /* Closes the pipe, and drops this side; `reader->at` is null then. What is unread is lost. The
@@ -145,23 +166,37 @@ piper_left piper_reader_drop(piper_reader *reader);
  * poll in all else. */
 piper_polled piper_writer_poll(piper_writer *writer, piper_words mine);
 
-/* Checks for room, or for the end, and leaves no words, as the reader's look does. */
+/* Checks for room, or for the end, and leaves no words: the outcome is PIPER_READY, PIPER_END, or
+ * PIPER_PENDING where there is neither now. */
 uint32_t piper_writer_look(piper_writer *writer);
 
 /* Lends room to be written to, at most `max` bytes in one piece: puts its address into `*at` and
  * returns how many bytes it is. It is at least one after a poll that was ready, where `max` isn't
  * 0 and this side has not closed the pipe; it may be less than `max` though more room is there.
- * What is in the bytes is not said.
+ * What is in the bytes is not said. The address is not null, even where no byte is lent.
  *
- * The room is the caller's to read and write until `piper_writer_publish` takes it back. That call
- * has to be made, and no other call of this writer is made before it. */
+ * The room is the caller's to read and write until `publish`, `next` or `reclaim` takes it back.
+ * One of them has to be called, even where no byte was lent, and no other call of this writer is
+ * made before it. */
 size_t piper_writer_lend(piper_writer *writer, size_t max, uint8_t **at);
 
-/* Ends the loan of the room at `at`, the address that the last lend gave out: publishes its first
- * `n` bytes, as the caller wrote them, and takes all of it back. Returns who has to be woken now, if
- * anyone. `n` is at most what that lend returned; that is not tested. With an `n` of 0 it takes the
- * room back, and does nothing else. */
+/* Looks, and where there is room lends some, as `lend` does. Where the outcome isn't PIPER_READY
+ * nothing is lent, and `*at` stays as it is. */
+piper_seen piper_writer_offer(piper_writer *writer, size_t max, uint8_t **at);
+
+/* Ends the loan of the room at `at`, the address that the last lend, offer or next gave out:
+ * publishes its first `n` bytes, as the caller wrote them, and takes all of it back. Returns who has
+ * to be woken now, if anyone, even where `n` is 0. `n` is at most what was lent; that is not
+ * tested. */
 piper_words piper_writer_publish(piper_writer *writer, uint8_t *at, size_t n);
+
+/* Publishes as `publish` does, checks whether the pipe is closed, and lends as `lend` does, even
+ * where it is: the address goes into `*next`. */
+piper_next piper_writer_next(piper_writer *writer, uint8_t *at, size_t n, size_t max,
+                             uint8_t **next);
+
+/* Ends a loan as `publish` does, but publishes nothing, and there is nobody to be woken. */
+void piper_writer_reclaim(piper_writer *writer, uint8_t *at);
 
 /* Copies bytes from `from`, at most `len`, into the pipe, and publishes them. It never waits:
  * `count` is 0 only where `len` is 0, the pipe is closed or there was no room. It may be less than
@@ -174,7 +209,8 @@ size_t piper_writer_len(piper_writer *writer);
 /* How many bytes the pipe can hold. */
 size_t piper_writer_capacity(piper_writer *writer);
 
-/* Whether the pipe is closed now: a side was dropped, or this one closed it. */
+/* Whether the pipe is closed now: a side was dropped, or this one closed it. Once it is true it
+ * stays so. */
 bool piper_writer_is_closed(piper_writer *writer);
 
 /* Closes the pipe for good: the reader can still read what is unread. Nothing is lent or can be

@@ -80,10 +80,12 @@ static void in_place(void) {
     CHECK(piper_writer_len(&writer) == 3);
     /* Given back with nothing published. */
     CHECK(piper_writer_lend(&writer, SIZE_MAX, &room) == 7);
-    CHECK(is_none(piper_writer_publish(&writer, room, 0)) && piper_writer_len(&writer) == 3);
+    piper_writer_reclaim(&writer, room);
+    CHECK(piper_writer_len(&writer) == 3);
     CHECK(piper_writer_lend(&writer, 0, &room) == 0);
     CHECK(is_none(piper_writer_publish(&writer, room, 0)));
-    CHECK(piper_reader_look(&reader) == PIPER_READY);
+    piper_seen seen = piper_reader_look(&reader, &bytes);
+    CHECK(seen.outcome == PIPER_READY && seen.len == 3 && memcmp(bytes, "wxy", 3) == 0);
     CHECK(piper_reader_peek(&reader, &bytes) == 3 && memcmp(bytes, "wxy", 3) == 0);
     /* More than was peeked is refused. */
     CHECK(is_none(piper_reader_consume(&reader, 4)) && piper_reader_len(&reader) == 3);
@@ -93,12 +95,47 @@ static void in_place(void) {
     drop_both(&reader, &writer);
 }
 
+/* Bytes that go on from one loan to the next. */
+static void goes_on(void) {
+    piper_reader reader;
+    piper_writer writer;
+    uint8_t *room, *next, to[8];
+    CHECK(piper_open(6, &reader, &writer));
+    piper_seen seen = piper_writer_offer(&writer, 4, &room);
+    CHECK(seen.outcome == PIPER_READY && seen.len == 4);
+    memcpy(room, "abcd", 4);
+    piper_next after = piper_writer_next(&writer, room, 3, SIZE_MAX, &next);
+    CHECK(is_none(after.wake) && after.len == 3 && !after.is_closed && next == room + 3);
+    CHECK(next[0] == 'd');
+    memcpy(next, "efg", 3);
+    after = piper_writer_next(&writer, next, 3, SIZE_MAX, &room);
+    CHECK(is_none(after.wake) && after.len == 0 && !after.is_closed);
+    piper_writer_reclaim(&writer, room);
+    room = NULL;
+    seen = piper_writer_offer(&writer, 1, &room);
+    CHECK(seen.outcome == PIPER_PENDING && seen.len == 0 && room == NULL);
+    CHECK(piper_reader_read(&reader, to, 8).count == 6 && memcmp(to, "abcefg", 6) == 0);
+    /* A publish of no bytes checks for words, too. */
+    CHECK(piper_reader_poll(&reader, READER).outcome == PIPER_PENDING);
+    CHECK(piper_writer_offer(&writer, 1, &room).len == 1);
+    after = piper_writer_next(&writer, room, 0, 2, &room);
+    CHECK(are(after.wake, READER) && after.len == 2);
+    CHECK(is_none(piper_reader_drop(&reader).wake));
+    after = piper_writer_next(&writer, room, 2, 2, &room);
+    CHECK(is_none(after.wake) && after.is_closed);
+    piper_writer_reclaim(&writer, room);
+    seen = piper_writer_offer(&writer, 1, &room);
+    CHECK(seen.outcome == PIPER_END && seen.len == 0);
+    CHECK(is_none(piper_writer_drop(&writer).wake));
+}
+
 static void wakes_the_reader(void) {
     piper_reader reader;
     piper_writer writer;
+    const uint8_t *bytes;
     uint8_t *room, to[4];
     CHECK(piper_open(4, &reader, &writer));
-    CHECK(piper_reader_look(&reader) == PIPER_PENDING);
+    CHECK(piper_reader_look(&reader, &bytes).outcome == PIPER_PENDING);
     piper_polled polled = piper_reader_poll(&reader, READER);
     CHECK(polled.outcome == PIPER_PENDING && is_none(polled.before) && is_none(polled.mine));
     /* Other words take the place of the first, which come back. */
@@ -115,6 +152,13 @@ static void wakes_the_reader(void) {
     polled = piper_reader_poll(&reader, READER);
     CHECK(polled.outcome == PIPER_PENDING && is_none(polled.before));
     CHECK(are(piper_writer_write(&writer, (const uint8_t *)"c", 1).wake, READER));
+    /* By a publish of no bytes, but not where room is only given back. */
+    CHECK(piper_reader_read(&reader, to, 4).count == 1);
+    CHECK(piper_reader_poll(&reader, READER).outcome == PIPER_PENDING);
+    CHECK(piper_writer_lend(&writer, 1, &room) == 1);
+    piper_writer_reclaim(&writer, room);
+    CHECK(piper_writer_lend(&writer, 1, &room) == 1);
+    CHECK(are(piper_writer_publish(&writer, room, 0), READER));
     /* Words without a vtable are refused. */
     polled = piper_reader_poll(&reader, (piper_words){5, 0});
     CHECK(polled.outcome == PIPER_REFUSED);
@@ -124,13 +168,14 @@ static void wakes_the_reader(void) {
 static void wakes_the_writer(void) {
     piper_reader reader;
     piper_writer writer;
+    const uint8_t *bytes;
     CHECK(piper_open(2, &reader, &writer));
     CHECK(piper_writer_look(&writer) == PIPER_READY);
     CHECK(piper_writer_write(&writer, (const uint8_t *)"ab", 2).count == 2);
     CHECK(piper_writer_look(&writer) == PIPER_PENDING);
     piper_polled polled = piper_writer_poll(&writer, WRITER);
     CHECK(polled.outcome == PIPER_PENDING && is_none(polled.before) && is_none(polled.mine));
-    CHECK(piper_reader_look(&reader) == PIPER_READY);
+    CHECK(piper_reader_look(&reader, &bytes).outcome == PIPER_READY);
     CHECK(are(piper_reader_consume(&reader, 1), WRITER));
     CHECK(is_none(piper_reader_consume(&reader, 1)));
     polled = piper_writer_poll(&writer, WRITER);
@@ -143,6 +188,7 @@ static void wakes_the_writer(void) {
 static void closes(void) {
     piper_reader reader;
     piper_writer writer;
+    const uint8_t *bytes;
     uint8_t to[4];
     CHECK(piper_open(4, &reader, &writer));
     CHECK(piper_reader_poll(&reader, READER).outcome == PIPER_PENDING);
@@ -155,9 +201,9 @@ static void closes(void) {
     CHECK(piper_writer_poll(&writer, WRITER).outcome == PIPER_END);
     CHECK(piper_writer_write(&writer, (const uint8_t *)"c", 1).count == 0);
     /* What was published before the close can still be read. */
-    CHECK(piper_reader_look(&reader) == PIPER_READY);
+    CHECK(piper_reader_look(&reader, &bytes).outcome == PIPER_READY);
     CHECK(piper_reader_read(&reader, to, 4).count == 1 && to[0] == 'b');
-    CHECK(piper_reader_look(&reader) == PIPER_END);
+    CHECK(piper_reader_look(&reader, &bytes).outcome == PIPER_END);
     CHECK(piper_reader_poll(&reader, READER).outcome == PIPER_END);
     left = piper_reader_drop(&reader);
     CHECK(is_none(left.wake) && are(left.mine, READER));
@@ -284,6 +330,7 @@ int main(void) {
     opens();
     copies();
     in_place();
+    goes_on();
     wakes_the_reader();
     wakes_the_writer();
     closes();

@@ -20,10 +20,15 @@ static char bytes, room;
     }
 
 WRAP(piper_words, piper_writer_publish, (piper_writer * w, uint8_t *at, size_t n), (w, at, n), bytes, room)
+WRAP(piper_next, piper_writer_next,
+     (piper_writer * w, uint8_t *at, size_t n, size_t max, uint8_t **next), (w, at, n, max, next),
+     bytes, room)
+WRAP(piper_seen, piper_writer_offer, (piper_writer * w, size_t max, uint8_t **at), (w, max, at),
+     bytes, room)
 WRAP(piper_polled, piper_writer_poll, (piper_writer * w, piper_words mine), (w, mine), bytes, room)
 WRAP(uint32_t, piper_writer_look, (piper_writer * w), (w), bytes, room)
 WRAP(piper_left, piper_writer_drop, (piper_writer * w), (w), bytes, room)
 WRAP(piper_words, piper_reader_consume, (piper_reader * r, size_t n), (r, n), room, bytes)
 WRAP(piper_polled, piper_reader_poll, (piper_reader * r, piper_words mine), (r, mine), room, bytes)
-WRAP(uint32_t, piper_reader_look, (piper_reader * r), (r), room, bytes)
+WRAP(piper_seen, piper_reader_look, (piper_reader * r, const uint8_t **at), (r, at), room, bytes)
 WRAP(piper_left, piper_reader_drop, (piper_reader * r), (r), room, bytes)

@@ -4,8 +4,9 @@
 #     rust/speed.sh [-r ROUNDS] [-i] FOLDER..
 #
 # Each FOLDER has a package named piper; `rust` is this one, and 0.2.5 is measured by who has its sources. It prints for each way
-# and size of a piece the median nanoseconds a piece of each package, with the ratio to the first. With -i it counts
-# instructions of a piece by valgrind, on one thread. CARGO_SOURCES names the sources of other packages, as for check.sh.
+# and size of a piece the median nanoseconds a piece of each package, with the ratio to the first; two packages take a minute.
+# With -i it counts instructions of a piece by valgrind, on one thread, and of a piece there and back, in both threads.
+# CARGO_SOURCES names the sources of other packages, as for check.sh.
 set -euo pipefail
 here=$(cd "$(dirname "$0")" && pwd)
 sources=${CARGO_SOURCES:-/usr/share/cargo/registry}
@@ -19,7 +20,7 @@ while getopts r:i option; do
     esac
 done
 shift $((OPTIND - 1))
-[ $# -gt 0 ] || { sed -n 's/^# \?//; 2,8p' "$0" >&2; exit 2; }
+[ $# -gt 0 ] || { sed -n 's/^# \?//; 2,9p' "$0" >&2; exit 2; }
 work=$(mktemp -d)
 trap 'rm -rf "$work"' EXIT
 
@@ -41,9 +42,20 @@ MANIFEST
         build --quiet --release --offline --target-dir "$work/$1/target")
 }
 
-instructions() { # NUMBER WAY PIECE PIECES
-    valgrind --tool=callgrind --callgrind-out-file=/dev/null "$work/$1/target/release/speed" "$2" 65536 "$3" $(($3 * $4)) 2>&1 |
+instructions() { # NUMBER WAY CAPACITY PIECE PIECES
+    valgrind --tool=callgrind --callgrind-out-file=/dev/null "$work/$1/target/release/speed" "$2" "$3" "$4" $(($4 * $5)) 2>&1 |
         sed -n 's/^==[0-9]*== Collected : \([0-9]*\)$/\1/p'
+}
+
+# One line of them. So many pieces go once round the pipe, which sets its places.
+counts() { # WAY CAPACITY PIECE
+    local which few many all=() warm=$((200 + $2 / $3)) more=$(($3 < 65536 ? 10000 : 500))
+    for ((which = 1; which <= number; which++)); do
+        few=$(instructions "$which" "$@" "$warm")
+        many=$(instructions "$which" "$@" $((warm + more)))
+        all+=($(((many - few) / more)))
+    done
+    line "$1" "$3" "${all[@]}"
 }
 
 nanoseconds() { # NUMBER WAY CAPACITY PIECE TOTAL
@@ -73,18 +85,12 @@ done
 echo
 if [ -n "$count" ]; then
     for way in inplace slices filldrain; do
-        for piece in 1 64 4096; do
-            # So many go once round the pipe, which sets its places.
-            warm=$((2000 + 65536 / piece))
-            all=()
-            for ((which = 1; which <= number; which++)); do
-                few=$(instructions "$which" "$way" "$piece" "$warm")
-                many=$(instructions "$which" "$way" "$piece" $((warm + 10000)))
-                all+=($(((many - few) / 10000)))
-            done
-            line "$way" "$piece" "${all[@]}"
+        for piece in 1 64 4096 65536; do
+            counts "$way" 65536 "$piece"
         done
     done
+    counts pingpong 1 1
+    counts pingpong 64 64
     exit
 fi
 
@@ -104,10 +110,10 @@ in_turn() { # WAY CAPACITY PIECE TOTAL
 }
 
 for way in inplace slices filldrain inplace2 slices2 filldrain2; do
-    in_turn "$way" 65536 1 2000000
-    in_turn "$way" 65536 64 64000000
+    in_turn "$way" 65536 1 500000
+    in_turn "$way" 65536 64 32000000
     in_turn "$way" 65536 4096 512000000
-    in_turn "$way" 65536 65536 2000000000
+    in_turn "$way" 65536 65536 1000000000
 done
-in_turn pingpong 1 1 30000
-in_turn pingpong 64 64 2000000
+in_turn pingpong 1 1 10000
+in_turn pingpong 64 64 640000

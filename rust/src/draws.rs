@@ -1,5 +1,7 @@
 //! When a copy that could go on yields, so that other tasks of its thread come to their turn.
 
+use core::task::{Context, Poll};
+
 /// A copy of a task yields once in so many, on average.
 const ONE_IN: usize = 100;
 
@@ -16,6 +18,7 @@ impl Draws {
     }
 
     /// Whether this copy is to yield.
+    #[inline]
     pub(crate) fn draw(&mut self) -> bool {
         #[allow(unused_mut)]
         let mut numbers = fastrand::Rng::with_seed(self.0);
@@ -23,6 +26,13 @@ impl Draws {
         self.0 = numbers.get_seed();
         drawn == 0
     }
+}
+
+/// Has the task polled again, once others had their turn.
+#[cold]
+pub(crate) fn yield_now<A>(cx: &mut Context<'_>) -> Poll<A> {
+    cx.waker().wake_by_ref();
+    Poll::Pending
 }
 
 /// A number that differs from pipe to pipe and from run to run.

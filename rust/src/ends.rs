@@ -6,7 +6,7 @@
 
 use crate::sys::{self, Left, Polled, RawReader, RawWriter, Words};
 use crate::turns::Turns;
-use core::ptr;
+use core::ptr::{self, NonNull};
 use core::slice;
 use core::task::{Poll, RawWakerVTable, Waker};
 
@@ -18,7 +18,7 @@ unsafe impl Send for Lender {}
 /// The known bytes in one piece. They stay as they are until this side consumes any.
 #[derive(Clone, Copy)]
 struct Piece {
-    at: *const u8,
+    at: NonNull<u8>,
     len: usize,
 }
 
@@ -31,7 +31,7 @@ unsafe impl Sync for Piece {}
 /// The side that reads.
 pub(crate) struct ReadEnd {
     raw: Turns<RawReader>,
-    /// `None` where the pipe was not asked since it was polled or bytes were taken.
+    /// `None` where the pipe has to be asked.
     known: Option<Piece>,
     /// How many places lie from the next byte to the end of the buffer.
     to_the_end: usize,
@@ -39,19 +39,18 @@ pub(crate) struct ReadEnd {
 }
 
 /// The handle that writes, and the room that it has lent.
-struct Lender {
+pub(crate) struct Lender {
     raw: RawWriter,
-    /// From a lend to its publish.
+    /// From a lend until the room is taken back, by its publish or before another call.
     loan: Option<Loan>,
 }
 
 /// Room that is lent.
 #[derive(Clone, Copy)]
 struct Loan {
-    at: *mut u8,
+    at: NonNull<u8>,
     len: usize,
 }
-
 /// The side that writes.
 pub(crate) struct WriteEnd {
     raw: Turns<Lender>,
@@ -92,15 +91,23 @@ fn peek(raw: &mut RawReader) -> Piece {
     let mut at = ptr::null();
     // SAFETY: the handle is open, whoever has it mutably has it alone, and `at` is a value of ours.
     let len = unsafe { sys::piper_reader_peek(raw, &mut at) };
+    // SAFETY: the call gave this address.
+    let at = unsafe { address(at as *mut u8) };
     Piece { at, len }
 }
 
-impl Piece {
-    const EMPTY: Piece = Piece {
-        at: ptr::null(),
-        len: 0,
-    };
+/// An address that a call of the library put at a place of ours.
+///
+/// # Safety
+///
+/// A call of the library gave it.
+#[inline]
+unsafe fn address(at: *mut u8) -> NonNull<u8> {
+    // SAFETY: the library gives addresses in the memory of a pipe, also where no bytes are there.
+    unsafe { NonNull::new_unchecked(at) }
+}
 
+impl Piece {
     /// The bytes.
     ///
     /// # Safety
@@ -108,12 +115,9 @@ impl Piece {
     /// The pipe gave this piece, and its handle is borrowed for `'a`.
     #[inline]
     unsafe fn bytes<'a>(self) -> &'a [u8] {
-        if self.len == 0 {
-            return &[];
-        }
         // SAFETY: the library lends these bytes until some are consumed, for which the handle has to
         // be borrowed mutably.
-        unsafe { slice::from_raw_parts(self.at, self.len) }
+        unsafe { slice::from_raw_parts(self.at.as_ptr(), self.len) }
     }
 }
 
@@ -196,12 +200,16 @@ impl ReadEnd {
         if self.known.map_or(false, |known| known.len > 0) {
             return Poll::Ready(true);
         }
-        self.known = None;
         // A waker is cloned only where a look says that it will be left. One that was left before
         // lies in the pipe only as long as nothing happened, or until the other side, which made
         // it happen, takes it.
-        // SAFETY: the handle is open and ours alone.
-        match found(unsafe { sys::piper_reader_look(self.raw.get_mut()) }) {
+        let mut at = ptr::null();
+        // SAFETY: the handle is open and ours alone, and `at` is a value of ours.
+        let seen = unsafe { sys::piper_reader_look(self.raw.get_mut(), &mut at) };
+        // SAFETY: the look gave this address.
+        let at = unsafe { address(at as *mut u8) };
+        self.known = Some(Piece { at, len: seen.len });
+        match found(seen.outcome) {
             Poll::Ready(found) => Poll::Ready(found),
             Poll::Pending => self.leave(waker),
         }
@@ -211,6 +219,7 @@ impl ReadEnd {
     #[cold]
     fn leave(&mut self, waker: &Waker) -> Poll<bool> {
         let mine = words_of(waker.clone());
+        self.known = None;
         // SAFETY: the handle is open and ours alone, and the words are given away.
         unsafe { sys::piper_reader_poll(self.raw.get_mut(), mine) }.settle()
     }
@@ -226,28 +235,46 @@ impl ReadEnd {
     /// As `known`, for who has the end alone.
     #[inline]
     pub(crate) fn known_now(&mut self) -> &[u8] {
-        let raw = self.raw.get_mut();
-        let known = *self.known.get_or_insert_with(|| peek(raw));
+        let known = match self.known {
+            Some(known) => known,
+            None => self.ask_known(),
+        };
         // SAFETY: as in `known`.
         unsafe { known.bytes() }
+    }
+
+    #[cold]
+    fn ask_known(&mut self) -> Piece {
+        let known = peek(self.raw.get_mut());
+        self.known = Some(known);
+        known
     }
 
     /// Gives the first `n` known bytes back to the writer and wakes it. At most `known_now` are given.
     #[inline]
     pub(crate) fn consume(&mut self, n: usize) {
-        let rest = self.known_now().len() - n;
-        // The loan ends as soon as the call begins.
-        self.known = None;
+        let known = self.known_now();
+        let rest = &known[n..];
+        self.known = Some(Piece {
+            at: NonNull::from(rest).cast(),
+            len: rest.len(),
+        });
+        self.goes_on(n);
         // SAFETY: the handle is open and ours alone.
-        let woken = unsafe { sys::piper_reader_consume(self.raw.get_mut(), n) };
+        wake(unsafe { sys::piper_reader_consume(self.raw.get_mut(), n) });
+    }
+
+    /// Counts bytes that are taken. At the buffer's end known bytes may come next that lie at its
+    /// beginning, unless all that fit were taken at once.
+    #[inline]
+    fn goes_on(&mut self, n: usize) {
         self.to_the_end -= n;
         if self.to_the_end == 0 {
-            // Known bytes that go round the end of the buffer may come next.
             self.to_the_end = self.capacity;
-        } else if rest == 0 {
-            self.known = Some(Piece::EMPTY);
+            if n < self.capacity {
+                self.known = None;
+            }
         }
-        wake(woken);
     }
 
     /// Looks for bytes where none are known, copies some to `place` in one piece, and wakes the
@@ -258,10 +285,7 @@ impl ReadEnd {
         // SAFETY: the handle is open and ours alone, and the place is ours for the call.
         let moved =
             unsafe { sys::piper_reader_read(self.raw.get_mut(), place.as_mut_ptr(), place.len()) };
-        self.to_the_end -= moved.count;
-        if self.to_the_end == 0 {
-            self.to_the_end = self.capacity;
-        }
+        self.goes_on(moved.count);
         wake(moved.wake);
         moved.count
     }
@@ -293,22 +317,55 @@ impl Drop for ReadEnd {
 }
 
 impl Lender {
-    /// Ends a loan, if there is one, and publishes the first `n` bytes of the room.
+    /// The room that is lent.
+    #[inline]
+    pub(crate) fn room(&mut self) -> &mut [u8] {
+        match self.loan {
+            // SAFETY: the library lent these bytes, all of them set, until they are taken back, for
+            // which `self` has to be borrowed mutably.
+            Some(Loan { at, len }) => unsafe { slice::from_raw_parts_mut(at.as_ptr(), len) },
+            None => &mut [],
+        }
+    }
+
+    /// Ends the loan, and says where the room is, of which `n` bytes are to be published.
+    #[inline]
+    fn end_loan(&mut self, n: usize) -> *mut u8 {
+        let Loan { at, len } = self.loan.take().expect("room is lent");
+        assert!(n <= len, "more bytes are published than were lent");
+        at.as_ptr()
+    }
+
+    /// Publishes the first `n` bytes of the room that is lent, takes it back, and wakes the reader.
     #[inline]
     fn publish(&mut self, n: usize) {
-        if let Some(Loan { at, len }) = self.loan {
-            assert!(n <= len, "more bytes are published than were lent");
-            self.loan = None;
-            // SAFETY: the handle is open, whoever has it mutably has it alone, the room is that of its
-            // last lend, of which no slice is left, and `n` is at most its length.
-            wake(unsafe { sys::piper_writer_publish(&mut self.raw, at, n) });
-        }
+        let at = self.end_loan(n);
+        // SAFETY: the handle is open, whoever has it mutably has it alone, the room is that of its
+        // last lend, of which no slice is left, and `n` is at most its length.
+        wake(unsafe { sys::piper_writer_publish(&mut self.raw, at, n) });
+    }
+
+    /// As `publish`, and lends at most `max` bytes of known room. It returns whether the pipe is
+    /// closed.
+    #[inline]
+    pub(crate) fn next(&mut self, n: usize, max: usize) -> bool {
+        let (ended, mut at) = (self.end_loan(n), ptr::null_mut());
+        // SAFETY: as in `publish`; and `at` is a value of ours.
+        let next = unsafe { sys::piper_writer_next(&mut self.raw, ended, n, max, &mut at) };
+        // SAFETY: `next` gave this address.
+        let at = unsafe { address(at) };
+        self.loan = Some(Loan { at, len: next.len });
+        wake(next.wake);
+        next.is_closed
     }
 
     /// The handle, with no room lent.
     #[inline]
     fn free(&mut self) -> &mut RawWriter {
-        self.publish(0);
+        if let Some(Loan { at, .. }) = self.loan.take() {
+            // SAFETY: as in `publish`.
+            unsafe { sys::piper_writer_reclaim(&mut self.raw, at.as_ptr()) };
+        }
         &mut self.raw
     }
 }
@@ -326,12 +383,40 @@ impl WriteEnd {
         }
     }
 
+    /// As `poll`; and where there is room, it lends at most `max` bytes of it.
+    #[inline]
+    pub(crate) fn offer(&mut self, waker: &Waker, max: usize) -> Poll<bool> {
+        let mut at = ptr::null_mut();
+        // SAFETY: the handle is open and ours alone, and `at` is a value of ours.
+        let seen = unsafe { sys::piper_writer_offer(self.free(), max, &mut at) };
+        match found(seen.outcome) {
+            Poll::Ready(true) => {
+                // SAFETY: an offer of room gave this address.
+                let at = unsafe { address(at) };
+                self.raw.get_mut().loan = Some(Loan { at, len: seen.len });
+                Poll::Ready(true)
+            }
+            Poll::Ready(false) => Poll::Ready(false),
+            Poll::Pending => self.leave_to_lend(waker, max),
+        }
+    }
+
     /// Looks once more, with the waker left in the pipe.
     #[cold]
     fn leave(&mut self, waker: &Waker) -> Poll<bool> {
         let mine = words_of(waker.clone());
         // SAFETY: the handle is open and ours alone, and the words are given away.
         unsafe { sys::piper_writer_poll(self.free(), mine) }.settle()
+    }
+
+    /// As `leave`; and where there is room now, it lends some.
+    #[cold]
+    fn leave_to_lend(&mut self, waker: &Waker, max: usize) -> Poll<bool> {
+        let found = self.leave(waker);
+        if found == Poll::Ready(true) {
+            self.lend(max);
+        }
+        found
     }
 
     /// The handle, for a call other than a publish. A loan ends here: whoever had the room borrowed
@@ -347,13 +432,17 @@ impl WriteEnd {
         let mut at = ptr::null_mut();
         // SAFETY: the handle is open and ours alone, and `at` is a value of ours.
         let len = unsafe { sys::piper_writer_lend(self.free(), max, &mut at) };
-        self.raw.get_mut().loan = Some(Loan { at, len });
-        if len == 0 {
-            return &mut [];
-        }
-        // SAFETY: the library lent these bytes, all of them set, until a publish, for which `self`
-        // has to be borrowed mutably.
-        unsafe { slice::from_raw_parts_mut(at, len) }
+        let lender = self.raw.get_mut();
+        // SAFETY: the lend gave this address.
+        let at = unsafe { address(at) };
+        lender.loan = Some(Loan { at, len });
+        lender.room()
+    }
+
+    /// The room that is lent, and what becomes of it.
+    #[inline]
+    pub(crate) fn lender(&mut self) -> &mut Lender {
+        self.raw.get_mut()
     }
 
     /// Whether room is lent, and was not given back by another call since.
@@ -393,13 +482,6 @@ impl WriteEnd {
         // SAFETY: as in `len`.
         self.raw
             .take_turn(|lender| unsafe { sys::piper_writer_is_closed(lender.free()) })
-    }
-
-    /// As `is_closed`, for who has the end alone.
-    #[inline]
-    pub(crate) fn was_closed(&mut self) -> bool {
-        // SAFETY: the handle is open and ours alone.
-        unsafe { sys::piper_writer_is_closed(self.free()) }
     }
 
     /// Closes the pipe for good, and wakes both sides.

@@ -33,7 +33,6 @@
 //!   to. 0.2.5 lets more pass where it can.
 //! - `poll_close` is final for the writer, too: nothing is lent any more, and what was lent is taken
 //!   back. Every copy into the pipe ends with nothing lent.
-//! - `produced(0)` wakes nobody.
 //! - Where the reader is dropped during a read of [`Writer::poll_fill`], what was read is counted, as in
 //!   0.2.5, and published, too, so that [`Writer::len`] has it.
 //! - [`Reader::try_drain`] and [`Writer::try_fill`] leave the waker of an earlier poll where it is, so

@@ -3,7 +3,7 @@
 #[cfg(feature = "std")]
 use crate::copies::IntoWrite;
 use crate::copies::{Destination, IntoSlice, MOST_A_ROUND};
-use crate::draws::Draws;
+use crate::draws::{yield_now, Draws};
 use crate::ends::ReadEnd;
 use core::fmt;
 use core::task::{Context, Poll};
@@ -78,12 +78,7 @@ impl Reader {
     /// ```
     #[inline]
     pub fn poll(&mut self, cx: &mut Context<'_>) -> Poll<bool> {
-        let found = self.end.poll(cx.waker());
-        if found == Poll::Ready(true) {
-            // So that `peek_buf` need not ask.
-            self.end.known_now();
-        }
-        found
+        self.end.poll(cx.waker())
     }
 
     /// The bytes that this side knows of and that lie in one piece. It never looks for more: that
@@ -127,7 +122,8 @@ impl Reader {
     ///
     /// Once in a hundred calls, on average, it yields though there are bytes.
     pub fn poll_drain_bytes(&mut self, cx: &mut Context<'_>, dest: &mut [u8]) -> Poll<usize> {
-        match self.poll_copy(cx) {
+        match self.end.poll(cx.waker()) {
+            Poll::Ready(true) if self.draws.draw() => yield_now(cx),
             Poll::Ready(true) => Poll::Ready(self.read(dest)),
             Poll::Ready(false) => Poll::Ready(0),
             Poll::Pending => Poll::Pending,
@@ -150,27 +146,18 @@ impl Reader {
     /// assert_eq!((count, &all[..]), (3, &b"abc"[..]));
     /// ```
     #[cfg(feature = "std")]
+    #[inline]
     pub fn poll_drain(
         &mut self,
         cx: &mut Context<'_>,
         dest: impl Write,
     ) -> Poll<io::Result<usize>> {
-        match self.poll_copy(cx) {
+        match self.end.poll(cx.waker()) {
+            Poll::Ready(true) if self.draws.draw() => yield_now(cx),
             Poll::Ready(true) => Poll::Ready(self.drain(IntoWrite(dest))),
             Poll::Ready(false) => Poll::Ready(Ok(0)),
             Poll::Pending => Poll::Pending,
         }
-    }
-
-    /// The beginning of a copy of a task: waits for bytes or the end, and may yield where there are
-    /// bytes.
-    fn poll_copy(&mut self, cx: &mut Context<'_>) -> Poll<bool> {
-        let found = self.end.poll(cx.waker());
-        if found == Poll::Ready(true) && self.draws.draw() {
-            cx.waker().wake_by_ref();
-            return Poll::Pending;
-        }
-        found
     }
 
     /// Looks for bytes where none are known, and moves what is known until `dest` is full.
@@ -184,6 +171,7 @@ impl Reader {
     }
 
     /// Moves known bytes, one piece after another, until there is none or `dest` is full.
+    #[inline]
     fn drain<D: Destination>(&mut self, mut dest: D) -> Result<usize, D::Error> {
         let mut count = 0;
         while dest.asks() > 0 {

@@ -44,6 +44,21 @@ pub(crate) struct Polled {
     pub(crate) mine: Words,
 }
 
+/// What a look found, and how many bytes lie in one piece where it found some.
+#[repr(C)]
+pub(crate) struct Seen {
+    pub(crate) outcome: u32,
+    pub(crate) len: usize,
+}
+
+/// Who has to be woken now, how many bytes are lent next, and whether the pipe is closed.
+#[repr(C)]
+pub(crate) struct Next {
+    pub(crate) wake: Words,
+    pub(crate) len: usize,
+    pub(crate) is_closed: bool,
+}
+
 /// How many bytes a call moved, and who has to be woken now.
 #[repr(C)]
 pub(crate) struct Moved {
@@ -65,7 +80,7 @@ extern "C" {
         writer: *mut RawWriter,
     ) -> bool;
 
-    pub(crate) fn piper_reader_look(reader: *mut RawReader) -> u32;
+    pub(crate) fn piper_reader_look(reader: *mut RawReader, at: *mut *const u8) -> Seen;
     pub(crate) fn piper_reader_poll(reader: *mut RawReader, mine: Words) -> Polled;
     pub(crate) fn piper_reader_peek(reader: *mut RawReader, at: *mut *const u8) -> usize;
     pub(crate) fn piper_reader_consume(reader: *mut RawReader, n: usize) -> Words;
@@ -77,7 +92,20 @@ extern "C" {
     pub(crate) fn piper_writer_look(writer: *mut RawWriter) -> u32;
     pub(crate) fn piper_writer_poll(writer: *mut RawWriter, mine: Words) -> Polled;
     pub(crate) fn piper_writer_lend(writer: *mut RawWriter, max: usize, at: *mut *mut u8) -> usize;
+    pub(crate) fn piper_writer_offer(
+        writer: *mut RawWriter,
+        max: usize,
+        at: *mut *mut u8,
+    ) -> Seen;
     pub(crate) fn piper_writer_publish(writer: *mut RawWriter, at: *mut u8, n: usize) -> Words;
+    pub(crate) fn piper_writer_next(
+        writer: *mut RawWriter,
+        at: *mut u8,
+        n: usize,
+        max: usize,
+        next: *mut *mut u8,
+    ) -> Next;
+    pub(crate) fn piper_writer_reclaim(writer: *mut RawWriter, at: *mut u8);
     pub(crate) fn piper_writer_write(writer: *mut RawWriter, from: *const u8, len: usize) -> Moved;
     pub(crate) fn piper_writer_len(writer: *mut RawWriter) -> usize;
     pub(crate) fn piper_writer_is_closed(writer: *mut RawWriter) -> bool;

@@ -3,7 +3,7 @@
 #[cfg(feature = "std")]
 use crate::copies::FromRead;
 use crate::copies::{FromSlice, Source, MOST_A_ROUND};
-use crate::draws::Draws;
+use crate::draws::{yield_now, Draws};
 use crate::ends::WriteEnd;
 use core::fmt;
 use core::task::{Context, Poll};
@@ -98,7 +98,8 @@ impl Writer {
     }
 
     /// Publishes the first `n` bytes of what is left of the slice that
-    /// [`write_buf`](Writer::write_buf) lent last, as they were written, and wakes the reader.
+    /// [`write_buf`](Writer::write_buf) lent last, as they were written, and wakes the reader, also
+    /// where `n` is 0.
     ///
     /// # Panics
     ///
@@ -110,7 +111,7 @@ impl Writer {
             n <= self.lent,
             "cannot publish more bytes than `write_buf` lent"
         );
-        if n > 0 && !self.end.has_lent() {
+        if !self.end.has_lent() {
             // A loan ends with each call. What was left of it lies at the front of the room, as it was
             // written: a lend sets only places that never were.
             let room = self.end.lend(self.lent);
@@ -140,7 +141,9 @@ impl Writer {
     ///
     /// Once in a hundred calls, on average, it yields though there is room.
     pub fn poll_fill_bytes(&mut self, cx: &mut Context<'_>, bytes: &[u8]) -> Poll<usize> {
-        match self.poll_copy(cx) {
+        self.lent = 0;
+        match self.end.poll(cx.waker()) {
+            Poll::Ready(true) if self.draws.draw() => yield_now(cx),
             Poll::Ready(true) => Poll::Ready(self.write(bytes)),
             Poll::Ready(false) => Poll::Ready(0),
             Poll::Pending => Poll::Pending,
@@ -163,53 +166,54 @@ impl Writer {
     /// assert_eq!(reader.len(), 3);
     /// ```
     #[cfg(feature = "std")]
+    #[inline]
     pub fn poll_fill(&mut self, cx: &mut Context<'_>, src: impl Read) -> Poll<io::Result<usize>> {
-        match self.poll_copy(cx) {
-            Poll::Ready(true) => Poll::Ready(self.fill(FromRead(src))),
+        self.lent = 0;
+        // It is drawn before the look, since a copy that yields lends nothing.
+        let yields = self.draws.draw();
+        let found = match yields {
+            true => self.end.poll(cx.waker()),
+            false => self.end.offer(cx.waker(), MOST_A_ROUND),
+        };
+        match found {
+            Poll::Ready(true) if yields => yield_now(cx),
+            Poll::Ready(true) => Poll::Ready(self.fill_lent(FromRead(src))),
             Poll::Ready(false) => Poll::Ready(Ok(0)),
             Poll::Pending => Poll::Pending,
         }
     }
 
-    /// The beginning of a copy of a task: waits for room or the end, and may yield where there is
-    /// room.
-    fn poll_copy(&mut self, cx: &mut Context<'_>) -> Poll<bool> {
-        self.lent = 0;
-        let found = self.end.poll(cx.waker());
-        if found == Poll::Ready(true) && self.draws.draw() {
-            cx.waker().wake_by_ref();
-            return Poll::Pending;
-        }
-        found
-    }
-
     /// Looks for room where none is known, and fills what is known until `bytes` are used up.
     fn write(&mut self, bytes: &[u8]) -> usize {
         // Only the first piece is looked for: a copy ends where no more is known.
-        match self.end.write(&bytes[..bytes.len().min(MOST_A_ROUND)]) {
-            0 => 0,
-            count => count + without_fail(self.fill(FromSlice(&bytes[count..]))),
+        let count = self.end.write(&bytes[..bytes.len().min(MOST_A_ROUND)]);
+        if count == 0 || count == bytes.len() {
+            return count;
         }
+        let rest = FromSlice(&bytes[count..]);
+        self.end.lend(rest.asks().min(MOST_A_ROUND));
+        count + without_fail(self.fill_lent(rest))
     }
 
-    /// Fills known room, one piece after another, until there is none or `src` gives nothing.
-    fn fill<S: Source>(&mut self, mut src: S) -> Result<usize, S::Error> {
+    /// Fills the room that is lent and what is known beside it, one piece after another, until there is
+    /// none or `src` gives nothing. The last loan ends with the next call.
+    #[inline]
+    fn fill_lent<S: Source>(&mut self, mut src: S) -> Result<usize, S::Error> {
+        let lender = self.end.lender();
         let mut count = 0;
-        while src.asks() > 0 {
-            let room = self.end.lend(src.asks().min(MOST_A_ROUND));
+        loop {
+            let room = lender.room();
             let most = room.len();
             let given = src.give(room)?;
             assert!(
                 given <= most,
                 "a source gave more bytes than there was room for"
             );
-            self.end.publish(given);
             count += given;
-            if given == 0 || self.end.was_closed() {
-                break;
+            if given == 0 || lender.next(given, src.asks().min(MOST_A_ROUND)) {
+                return Ok(count);
             }
         }
-        Ok(count)
     }
 }
 

@@ -57,12 +57,27 @@ fn a_writer_that_waits_is_woken_once() {
 #[test]
 fn each_call_that_publishes_wakes() {
     type Publish = fn(&mut Writer, &Counter);
-    let calls: [Publish; 5] = [
+    let calls: [Publish; 9] = [
         |writer, _| assert_eq!(writer.try_fill(b"a"), 1),
         |writer, _| {
             writer.write_buf(1);
             writer.produced(1);
         },
+        // Also of no bytes, whether or not room is lent, and after other calls.
+        |writer, _| {
+            writer.write_buf(3);
+            writer.produced(0);
+        },
+        |writer, _| {
+            writer.write_buf(3);
+            assert_eq!(writer.len(), 0);
+            writer.produced(0);
+        },
+        |writer, _| {
+            writer.write_buf(0);
+            writer.produced(0);
+        },
+        |writer, _| writer.produced(0),
         |writer, cx| while cx.with(|cx| writer.poll_fill_bytes(cx, b"a").is_pending()) {},
         |writer, cx| while cx.with(|cx| writer.poll_fill(cx, &b"a"[..]).is_pending()) {},
         |writer, cx| {
@@ -78,14 +93,15 @@ fn each_call_that_publishes_wakes() {
 }
 
 #[test]
-fn a_loan_that_ends_with_nothing_published_wakes_nobody() {
-    let counter = Counter::new();
+fn a_loan_of_which_nothing_is_published_wakes_nobody() {
+    let (counter, other) = (Counter::new(), Counter::new());
     let (_reader, mut writer) = reader_waits(&counter);
     writer.write_buf(3);
-    writer.produced(0);
     writer.write_buf(3);
     assert_eq!(writer.len(), 0);
     writer.write_buf(3);
+    assert_eq!(writer.try_fill(b""), 0);
+    while other.with(|cx| writer.poll_fill(cx, std::io::empty()).is_pending()) {}
     assert_eq!(counted(&counter), (0, 1));
     drop(writer);
     assert_eq!(counted(&counter), (1, 0));

@@ -2,3 +2,4 @@ pub mod ReaderValues
 pub mod WriterValues
 pub mod RoomValues
 pub mod HeldSteps
+pub mod Loans

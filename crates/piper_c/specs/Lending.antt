@@ -1,5 +1,5 @@
 -- What a loan of room to C hands out, and what comes back.
-use Rattle.std.specs.Prelude.{◌≡◌, ◌<◌, ◌≤◌, ℕ, false, List, Option, None, Some, length}
+use Rattle.std.specs.Prelude.{◌≡◌, ◌≢◌, ◌<◌, ◌≤◌, ℕ, false, List, Option, None, Some, length}
 use Rattle.std.specs.Borrow.{Fml, MutBor, Array, Lends}
 use denote.Builtin.{u8}
 use denote.RawPtr.{Ptr}
@@ -9,6 +9,9 @@ use Rattle.piper_c.specs.Held.{with_room}
 use Rattle.piper_c.specs.declared.halves.WriteHalf.{WriteHalf}
 use Rattle.piper_c.specs.declared.handles.PiperWriter.{PiperWriter}
 use Rattle.piper_c.specs.declared.handles.PiperRoom.{PiperRoom}
+use Rattle.piper_c.specs.declared.outcome.PiperNext.{PiperNext}
+use Rattle.piper_c.specs.declared.outcome.PiperSeen.{PiperSeen}
+use Rattle.piper_c.specs.Writing.{WriterSeen, WriterAsked, WriterEnds}
 use Rattle.piper_c.specs.contracts.halves.WriteHalf.{the_row}
 
 -- the side, once a `&mut` into the slice that it lent has ended
@@ -26,6 +29,13 @@ pub record LendsOut (w : WriteHalf) (max len : ℕ) (writer : PiperWriter) (room
   pub most : Lendable w.end max len
   pub some : w.end.shut ≡ false → 0 < w.end.room → 0 < max → 0 < len
 
+-- nothing was lent, and the room is as it was
+pub record IsKept (w : WriteHalf) (len : ℕ) (writer : PiperWriter) (before after : PiperRoom) : Type 0 where
+  pub half : writer.half ≡ Some w
+  pub lent : writer.lent ≡ None
+  pub none : len ≡ 0
+  pub room : after ≡ before
+
 -- the room that comes back is the one that was lent
 abbrev pub IsLoanOf : Option WriteHalf → Option Ptr → Ptr → Option (List ℕ) → Type 0
 IsLoanOf (Some w) (Some at) p (Some ws) = (at ≡ p) × (length ws ≡ length w.end.lent)
@@ -40,3 +50,20 @@ IsWithin n (Some ws) = n ≤ length ws
 abbrev pub IsWhole : Option WriteHalf → Option (List ℕ) → WriteHalf → Type 0
 IsWhole (Some w) (Some ws) b = b ≡ with_room w ws
 IsWhole w ws b = ⊥
+
+-- a look and what came of it: where it found room, that was lent, and else nothing was
+pub record WriterOffers (max : ℕ) (seen : PiperSeen) (a : WriteHalf) (writer : PiperWriter)
+    (before after : PiperRoom) : Type 0 where
+  pub looked : WriteHalf
+  pub looks : WriterSeen seen.outcome a looked
+  pub lends : seen.outcome ≡ 1 → LendsOut looked max seen.len writer after
+  pub keeps : seen.outcome ≢ 1 → IsKept looked seen.len writer before after
+
+-- a publish of the first n bytes that C left in the room, a look at the pipe's end, and a loan
+pub record WriterGoesOn (bytes : Option (List ℕ)) (n max : ℕ) (next : PiperNext) (a : WriteHalf)
+    (writer : PiperWriter) (room : PiperRoom) : Type 0 where
+  pub published : WriteHalf
+  pub looked : WriteHalf
+  pub publishes : WriterEnds bytes n next.wake a published
+  pub looks : WriterAsked next.is_closed published looked
+  pub lends : LendsOut looked max next.len writer room

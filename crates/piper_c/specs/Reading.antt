@@ -1,13 +1,14 @@
 -- What the calls of the reading side find, and what they leave of it.
-use Rattle.std.specs.Prelude.{◌≡◌, ℕ, ◌<◌, ◌≤◌, ◌+◌, ◌++◌, take, drop, true, false, List, [], ◌⊎◌, length, Option, Some, None, IsSome}
+use Rattle.std.specs.Prelude.{◌≡◌, ℕ, ◌<◌, ◌≤◌, ◌+◌, ◌++◌, take, drop, Bool, true, false, List, [], ◌⊎◌, length, Option, Some, None, IsSome}
 use Rattle.piper_ring.specs.Shared.{flag}
-use Rattle.piper_ring.specs.ReadView.{ReadView, SameReadEnd, in_one_piece}
+use Rattle.piper_ring.specs.ReadView.{ReadView, SameReadEnd, SameButSaw, in_one_piece}
 use Rattle.piper_ring.specs.SlotsView.{ReadSlotsView, IsPending, IsReaderAtRest, SameReaderLooks, SameReaderPlace}
 use Rattle.piper_c.specs.declared.halves.ReadHalf.{ReadHalf}
 use Rattle.piper_c.specs.declared.outcome.Outcome.{Outcome}
 use Rattle.piper_c.specs.declared.outcome.Outcome.TheVariants.{Pending, Ready, End, Again, Refused}
 use Rattle.piper_c.specs.declared.outcome.Polled.{Polled}
 use Rattle.piper_c.specs.declared.outcome.PiperPolled.{PiperPolled}
+use Rattle.piper_c.specs.declared.outcome.PiperSeen.{PiperSeen}
 use Rattle.piper_c.specs.declared.words.Waiter.{Waiter}
 use Rattle.piper_c.specs.declared.words.PiperMoved.{PiperMoved}
 use Rattle.piper_c.specs.declared.words.PiperWords.{PiperWords}
@@ -78,6 +79,14 @@ pub record LeftReading (a : ReadHalf) (taken : Option Waiter) (left : ReadSlotsV
   pub none : taken ≡ None → left.taken ≡ a.slots.taken
   pub some : IsSome taken → a.slots.taken < left.taken
 
+-- the pipe was checked for its end: what the answer says was seen, and what was seen once stays
+pub record ReaderAsked (is_closed : Bool) (a b : ReadHalf) : Type 0 where
+  pub saw : is_closed ≡ b.end.saw
+  pub stays : flag a.end.saw ≤ flag b.end.saw
+  pub end : SameButSaw a.end b.end
+  pub slots : b.slots ≡ a.slots
+  pub places : b.places ≡ a.places
+
 -- n known bytes were copied to the front of a slice and taken, in order
 pub record ReadsInto (old new : List ℕ) (n : ℕ) (a b : ReadHalf) : Type 0 where
   pub count : n ≤ length old
@@ -137,9 +146,10 @@ pub record ReaderReads (old new : List ℕ) (moved : PiperMoved) (a b : ReadHalf
   pub none : moved.count ≡ 0 → (moved.wake.vtable ≡ 0) × (b.slots ≡ a.slots)
   pub some : 0 < moved.count → WakesWriter moved.wake a.slots b
 
-pub record ReaderSeen (result : ℕ) (a b : ReadHalf) : Type 0 where
+pub record ReaderSeen (result : PiperSeen) (a b : ReadHalf) : Type 0 where
   pub outcome : Outcome
-  pub code : result ≡ code outcome
+  pub code : result.outcome ≡ code outcome
+  pub len : result.len ≡ in_one_piece b.end
   pub saw : ReaderSaw outcome b
   pub looked : ReaderLooked a b
   pub slots : b.slots ≡ a.slots

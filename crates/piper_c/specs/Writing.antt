@@ -1,7 +1,7 @@
 -- What the calls of the writing side find, and what they leave of it.
-use Rattle.std.specs.Prelude.{◌≡◌, ℕ, ◌<◌, ◌≤◌, ◌+◌, ◌++◌, ◌⊎◌, take, true, false, List, [], length, Option, Some, None, IsSome}
+use Rattle.std.specs.Prelude.{◌≡◌, ℕ, ◌<◌, ◌≤◌, ◌+◌, ◌++◌, ◌⊎◌, take, drop, Bool, true, false, List, [], length, Option, Some, None, IsSome}
 use Rattle.piper_ring.specs.Shared.{flag}
-use Rattle.piper_ring.specs.WriteView.{WriteView, SameWriteEnd}
+use Rattle.piper_ring.specs.WriteView.{WriteView, SameWriteEnd, SameButSaw}
 use Rattle.piper_ring.specs.SlotsView.{WriteSlotsView, IsWriterPending, IsAtRest, SameWriterLooks, SameWriterPlace}
 use Rattle.piper_c.specs.declared.halves.WriteHalf.{WriteHalf}
 use Rattle.piper_c.specs.declared.outcome.Outcome.{Outcome}
@@ -82,28 +82,14 @@ pub record LeftWriting (a : WriteHalf) (taken : Option Waiter) (left : WriteSlot
   pub none : taken ≡ None → left.taken ≡ a.slots.taken
   pub some : IsSome taken → a.slots.taken < left.taken
 
--- the writer, which lends nothing any more
-pub record NothingLent (a b : WriteHalf) : Type 0 where
-  pub end : SameWriteEnd a.end b.end
-  pub lent : b.end.lent ≡ []
-  pub shut : b.end.shut ≡ a.end.shut
-  pub saw : b.end.saw ≡ a.end.saw
-  pub places : b.places ≡ a.places
-
--- the first n bytes of what was lent were published, as they were, and the rest was taken back
-pub record PublishesLent (n : ℕ) (taken : Option Waiter) (a b : WriteHalf) : Type 0 where
-  pub sent : b.end.sent ≡ a.end.sent ++ take n a.end.lent
-  pub room : b.end.room + n ≡ a.end.room
-  pub wake : TookReader taken a.slots b
-  pub rest : NothingLent a b
-
--- nothing was published, and what was lent was taken back
-pub record TakesLentBack (taken : Option Waiter) (a b : WriteHalf) : Type 0 where
-  pub nobody : taken ≡ None
-  pub sent : b.end.sent ≡ a.end.sent
-  pub room : b.end.room ≡ a.end.room
+-- the pipe was checked for its end: what the answer says was seen, and what was seen once stays
+pub record WriterAsked (is_closed : Bool) (a b : WriteHalf) : Type 0 where
+  pub saw : is_closed ≡ b.end.saw
+  pub stays : flag a.end.saw ≤ flag b.end.saw
+  pub shut : a.end.shut ≡ true → is_closed ≡ true
+  pub end : SameButSaw a.end b.end
   pub slots : b.slots ≡ a.slots
-  pub rest : NothingLent a b
+  pub places : b.places ≡ a.places
 
 -- n bytes were copied from the front of a slice and published, and nothing is lent
 pub record WritesFrom (from : List ℕ) (n : ℕ) (a b : WriteHalf) : Type 0 where
@@ -164,22 +150,17 @@ pub record WriterCloses (left : PiperLeft) (a b : WriteHalf) : Type 0 where
   pub mine : 0 < left.mine.vtable → a.slots.owns ≡ false
   pub places : b.places ≡ a.places
 
--- the same, by words of C, of room in which C left these bytes
+-- the first n bytes of room that C gave back were published, as it left them; after that the
+-- reader's slot was checked, also where n is 0
 pub record WriterPublishes (bytes : List ℕ) (n : ℕ) (wake : PiperWords) (a b : WriteHalf) : Type 0 where
   pub sent : b.end.sent ≡ a.end.sent ++ take n bytes
   pub room : b.end.room + n ≡ a.end.room
+  pub lent : b.end.lent ≡ drop n bytes
   pub woke : WakesReader wake a.slots b
-  pub rest : NothingLent a b
+  pub end : WriterPublished a.end b.end
+  pub places : b.places ≡ a.places
 
-pub record WriterTakesBack (wake : PiperWords) (a b : WriteHalf) : Type 0 where
-  pub nobody : wake.vtable ≡ 0
-  pub sent : b.end.sent ≡ a.end.sent
-  pub room : b.end.room ≡ a.end.room
-  pub slots : b.slots ≡ a.slots
-  pub rest : NothingLent a b
-
--- what comes of room that C gave back with these bytes, of which n are to be published
+-- the same, of what a room holds
 abbrev pub WriterEnds : Option (List ℕ) → ℕ → PiperWords → WriteHalf → WriteHalf → Type 0
 WriterEnds None n wake a b = ⊥
-WriterEnds (Some ws) n wake a b =
-    (0 < n → WriterPublishes ws n wake a b) × (n ≡ 0 → WriterTakesBack wake a b)
+WriterEnds (Some ws) n wake a b = WriterPublishes ws n wake a b

@@ -57,6 +57,26 @@ pub(crate) fn outcome_of(answer: Answer) -> Outcome
     }
 }
 
+/// The result of a look for C, and how many bytes lie in one piece where it found some.
+#[repr(C)]
+#[derive(Drop)]
+pub struct PiperSeen {
+    pub outcome: u32,
+    pub len: usize,
+}
+
+/// The result of a publish that lends again.
+#[repr(C)]
+#[derive(Drop)]
+pub struct PiperNext {
+    /// Who has to be woken, if anyone.
+    pub wake: PiperWords,
+    /// How many bytes are lent.
+    pub len: usize,
+    /// Whether the pipe is closed now.
+    pub is_closed: bool,
+}
+
 /// The result of a poll for C: where `vtable` is 0 there are no words.
 #[repr(C)]
 #[derive(Drop)]

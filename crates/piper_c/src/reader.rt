@@ -1,13 +1,13 @@
 //! The exports of the side that reads. Each takes the side out of its handle, makes a call of it and
 //! puts it back.
-ghost use Rattle.std.specs.Prelude.{◌≡◌, ◌<◌, take, IsSome, IsTrue, None, true, false};
+ghost use Rattle.std.specs.Prelude.{◌≡◌, ◌<◌, IsSome, None, false};
 ghost use Rattle.piper_ring.specs.ReadView.{MayBeUnread, in_one_piece};
 ghost use Rattle.piper_c.specs.Handles.{Holds, HoldsOn};
-ghost use Rattle.piper_c.specs.Reading.{ReaderTold, ReaderSeen, ReaderConsumes, ReaderReads};
+ghost use Rattle.piper_c.specs.Reading.{ReaderTold, ReaderSeen, ReaderAsked, ReaderConsumes, ReaderReads};
 
 use crate::handles::PiperReader;
 use crate::lending::address;
-use crate::outcome::{Outcome, PiperPolled, Polled};
+use crate::outcome::{Outcome, PiperPolled, PiperSeen, Polled};
 use crate::words::{PiperLeft, PiperMoved, PiperWords, Waiter};
 use std::alloc::Global;
 
@@ -45,16 +45,26 @@ pub extern "C" fn piper_reader_poll(
     }
 }
 
-/// Checks for a byte or for the end, and leaves nothing.
+/// Checks for a byte or for the end, and leaves nothing. It gives what `peek` does, too.
 #[unsafe(no_mangle)]
-pub extern "C" fn piper_reader_look(alloc: Global, reader: &mut PiperReader) -> u32
+pub extern "C" fn piper_reader_look(
+    alloc: Global,
+    reader: &mut PiperReader,
+    at: &mut *const u8,
+) -> PiperSeen
     requires { IsSome reader.old.half }
     ensures { HoldsOn reader.old.half reader.new.half (λ a b. ReaderSeen result a b) }
 {
     let mut half = reader.take(alloc);
     let outcome = half.look();
+    let known = half.end.peek_buf();
+    *at = address(known);
+    let len = known.len();
     reader.put(half);
-    outcome.code()
+    PiperSeen {
+        outcome: outcome.code(),
+        len,
+    }
 }
 
 /// Takes the first `n` bytes of what `peek` gives.
@@ -126,11 +136,10 @@ pub extern "C" fn piper_reader_capacity(alloc: Global, reader: &mut PiperReader)
 #[unsafe(no_mangle)]
 pub extern "C" fn piper_reader_is_closed(alloc: Global, reader: &mut PiperReader) -> bool
     requires { IsSome reader.old.half }
-    ensures { HoldsOn reader.old.half reader.new.half (λ a b.
-        (b ≡ a) × (a.end.saw ≡ true → IsTrue result)) }
+    ensures { HoldsOn reader.old.half reader.new.half (λ a b. ReaderAsked result a b) }
 {
-    let half = reader.take(alloc);
-    let is_closed = half.end.is_closed();
+    let mut half = reader.take(alloc);
+    let is_closed = half.look_closed();
     reader.put(half);
     is_closed
 }

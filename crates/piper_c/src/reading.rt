@@ -11,7 +11,7 @@ use piper_protocol::table::{AfterRead, Purpose, ReadPoint};
 use piper_ring::ReadRegistrations;
 
 impl ReadHalf {
-    ghost use Rattle.piper_c.specs.Reading.{ReaderFound, ReaderLooked, ReaderConsumed, ReaderGotBack, ReaderSaw, ReadsInto, TookWriter, LeftReading};
+    ghost use Rattle.piper_c.specs.Reading.{ReaderFound, ReaderLooked, ReaderConsumed, ReaderGotBack, ReaderSaw, ReadsInto, ReaderAsked, TookWriter, LeftReading};
 
     /// Waits for a byte or for the end. `mine` is left where there is neither.
     pub(crate) fn poll(&mut self, mine: Waiter) -> Polled
@@ -136,6 +136,13 @@ impl ReadHalf {
         } else {
             Outcome::Ready
         }
+    }
+
+    /// Checks whether the pipe is closed now, and keeps what it sees.
+    pub(crate) fn look_closed(&mut self) -> bool
+        ensures { ReaderAsked result self.old self.new }
+    {
+        self.end.look_closed()
     }
 
     /// How many known bytes lie in one piece.

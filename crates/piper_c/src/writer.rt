@@ -1,14 +1,14 @@
 //! The exports of the side that writes. Each takes the side out of its handle, makes a call of it and
 //! puts it back.
-ghost use Rattle.std.specs.Prelude.{◌≡◌, ◌<◌, IsTrue, None, true, false};
+ghost use Rattle.std.specs.Prelude.{◌≡◌, ◌<◌, None, false};
 ghost use Rattle.piper_ring.specs.WriteView.{MayBeUnread};
 ghost use Rattle.piper_c.specs.Handles.{Holds, HoldsOn, IsWholeWriter};
-ghost use Rattle.piper_c.specs.Writing.{WriterTold, WriterSeen, WriterWrites, WriterCloses, WriterEnds};
-ghost use Rattle.piper_c.specs.Lending.{LendsOut, IsLoanOf, IsWithin};
+ghost use Rattle.piper_c.specs.Writing.{WriterTold, WriterSeen, WriterAsked, WriterWrites, WriterCloses, WriterEnds};
+ghost use Rattle.piper_c.specs.Lending.{LendsOut, IsLoanOf, IsWithin, IsWhole, WriterOffers, WriterGoesOn};
 
 use crate::handles::{PiperRoom, PiperWriter};
 use crate::lending::{lend_out, reclaim_room};
-use crate::outcome::{Outcome, PiperPolled, Polled};
+use crate::outcome::{Outcome, PiperNext, PiperPolled, PiperSeen, Polled};
 use crate::words::{PiperLeft, PiperMoved, PiperWords, Waiter};
 use std::alloc::Global;
 use std::mem::replace;
@@ -25,6 +25,7 @@ pub extern "C" fn piper_writer_poll(
         × (result.mine ≡ mine) × (result.before ≡ mine) }
     ensures polled { 0 < mine.vtable →
         HoldsOn writer.old.half writer.new.half (λ a b. WriterTold mine result a b) }
+    ensures whole { IsWholeWriter writer.new.half writer.new.lent }
 {
     if mine.vtable == 0 {
         return PiperPolled {
@@ -51,7 +52,8 @@ pub extern "C" fn piper_writer_poll(
 #[unsafe(no_mangle)]
 pub extern "C" fn piper_writer_look(alloc: Global, writer: &mut PiperWriter) -> u32
     requires { IsWholeWriter writer.old.half writer.old.lent }
-    ensures { HoldsOn writer.old.half writer.new.half (λ a b. WriterSeen result a b) }
+    ensures on { HoldsOn writer.old.half writer.new.half (λ a b. WriterSeen result a b) }
+    ensures whole { IsWholeWriter writer.new.half writer.new.lent }
 {
     let mut half = writer.take(alloc);
     let outcome = half.look();
@@ -67,8 +69,9 @@ pub extern "C" fn piper_writer_write(
     from: &[u8],
 ) -> PiperMoved
     requires { IsWholeWriter writer.old.half writer.old.lent }
-    ensures { HoldsOn writer.old.half writer.new.half (λ a b.
+    ensures on { HoldsOn writer.old.half writer.new.half (λ a b.
         WriterWrites from.now result a b) }
+    ensures whole { IsWholeWriter writer.new.half writer.new.lent }
 {
     let mut half = writer.take(alloc);
     let (count, wake) = half.write(from);
@@ -83,7 +86,8 @@ pub extern "C" fn piper_writer_write(
 #[unsafe(no_mangle)]
 pub extern "C" fn piper_writer_len(alloc: Global, writer: &mut PiperWriter) -> usize
     requires { IsWholeWriter writer.old.half writer.old.lent }
-    ensures { HoldsOn writer.old.half writer.new.half (λ a b. (b ≡ a) × MayBeUnread a.end result) }
+    ensures on { HoldsOn writer.old.half writer.new.half (λ a b. (b ≡ a) × MayBeUnread a.end result) }
+    ensures whole { IsWholeWriter writer.new.half writer.new.lent }
 {
     let half = writer.take(alloc);
     let len = half.end.len();
@@ -95,8 +99,9 @@ pub extern "C" fn piper_writer_len(alloc: Global, writer: &mut PiperWriter) -> u
 #[unsafe(no_mangle)]
 pub extern "C" fn piper_writer_capacity(alloc: Global, writer: &mut PiperWriter) -> usize
     requires { IsWholeWriter writer.old.half writer.old.lent }
-    ensures { HoldsOn writer.old.half writer.new.half (λ a b.
+    ensures on { HoldsOn writer.old.half writer.new.half (λ a b.
         (b ≡ a) × (result ≡ a.end.capacity)) }
+    ensures whole { IsWholeWriter writer.new.half writer.new.lent }
 {
     let half = writer.take(alloc);
     let capacity = half.end.capacity();
@@ -108,11 +113,11 @@ pub extern "C" fn piper_writer_capacity(alloc: Global, writer: &mut PiperWriter)
 #[unsafe(no_mangle)]
 pub extern "C" fn piper_writer_is_closed(alloc: Global, writer: &mut PiperWriter) -> bool
     requires { IsWholeWriter writer.old.half writer.old.lent }
-    ensures { HoldsOn writer.old.half writer.new.half (λ a b.
-        (b ≡ a) × (a.end.saw ≡ true → IsTrue result)) }
+    ensures on { HoldsOn writer.old.half writer.new.half (λ a b. WriterAsked result a b) }
+    ensures whole { IsWholeWriter writer.new.half writer.new.lent }
 {
-    let half = writer.take(alloc);
-    let is_closed = half.end.is_closed();
+    let mut half = writer.take(alloc);
+    let is_closed = half.look_closed();
     writer.put(half);
     is_closed
 }
@@ -121,7 +126,8 @@ pub extern "C" fn piper_writer_is_closed(alloc: Global, writer: &mut PiperWriter
 #[unsafe(no_mangle)]
 pub extern "C" fn piper_writer_close(alloc: Global, writer: &mut PiperWriter) -> PiperLeft
     requires { IsWholeWriter writer.old.half writer.old.lent }
-    ensures { HoldsOn writer.old.half writer.new.half (λ a b. WriterCloses result a b) }
+    ensures on { HoldsOn writer.old.half writer.new.half (λ a b. WriterCloses result a b) }
+    ensures whole { IsWholeWriter writer.new.half writer.new.lent }
 {
     let mut half = writer.take(alloc);
     let (wake, mine) = half.close();
@@ -165,6 +171,61 @@ pub extern "C" fn piper_writer_lend(
     len
 }
 
+/// Checks for room or for the end, and lends what it finds to C, at most `max` bytes.
+#[unsafe(no_mangle)]
+pub extern "C" fn piper_writer_offer(
+    alloc: Global,
+    writer: &mut PiperWriter,
+    max: usize,
+    at: &mut PiperRoom,
+) -> PiperSeen
+    requires { IsWholeWriter writer.old.half writer.old.lent }
+    ensures { Holds writer.old.half (λ a. WriterOffers max result a writer.new at.old at.new) }
+{
+    let outcome = piper_writer_look(alloc, writer);
+    let mut len = 0;
+    if outcome == Outcome::Ready.code() {
+        len = piper_writer_lend(alloc, writer, max, at);
+    }
+    PiperSeen { outcome, len }
+}
+
+/// Takes the room back that was lent. Nothing is published.
+#[unsafe(no_mangle)]
+pub extern "C" fn piper_writer_reclaim(_alloc: Global, writer: &mut PiperWriter, room: PiperRoom)
+    requires { IsLoanOf writer.old.half writer.old.lent room.at room.bytes }
+    ensures back { Holds writer.new.half (λ b. IsWhole writer.old.half room.bytes b) }
+    ensures whole { IsWholeWriter writer.new.half writer.new.lent }
+{
+    let lent = replace(writer, PiperWriter::none());
+    *writer = reclaim_room(lent, room);
+}
+
+/// Publishes as `piper_writer_publish` does, checks whether the pipe is closed, and lends room again.
+#[unsafe(no_mangle)]
+pub extern "C" fn piper_writer_next(
+    alloc: Global,
+    writer: &mut PiperWriter,
+    room: PiperRoom,
+    n: usize,
+    max: usize,
+    at: &mut PiperRoom,
+) -> PiperNext
+    requires loan { IsLoanOf writer.old.half writer.old.lent room.at room.bytes }
+    requires within { IsWithin n room.bytes }
+    ensures { Holds writer.old.half (λ a.
+        WriterGoesOn room.bytes n max result a writer.new at.new) }
+{
+    let wake = piper_writer_publish(alloc, writer, room, n);
+    let is_closed = piper_writer_is_closed(alloc, writer);
+    let len = piper_writer_lend(alloc, writer, max, at);
+    PiperNext {
+        wake,
+        len,
+        is_closed,
+    }
+}
+
 /// Takes the room back that was lent, and publishes its first `n` bytes, as C left them.
 #[unsafe(no_mangle)]
 pub extern "C" fn piper_writer_publish(
@@ -181,7 +242,7 @@ pub extern "C" fn piper_writer_publish(
 {
     let lent = replace(writer, PiperWriter::none());
     let mut half = reclaim_room(lent, room).into_box(alloc);
-    let wake = half.publish_lent(n);
+    let wake = half.publish(n);
     writer.put(half);
     Waiter::hand_out(wake)
 }

@@ -9,7 +9,7 @@ use piper_protocol::write_call::WriteCall;
 use piper_ring::WriteRegistrations;
 
 impl WriteHalf {
-    ghost use Rattle.piper_c.specs.Writing.{LeftWriting, PublishesLent, TakesLentBack, WriterFound, WriterSaw, WritesFrom, WriterLooked, WriterPublished, WriterGotBack, TookReader, TookReaderLast};
+    ghost use Rattle.piper_c.specs.Writing.{LeftWriting, WriterAsked, WriterFound, WriterSaw, WritesFrom, WriterLooked, WriterPublished, WriterGotBack, TookReader, TookReaderLast};
 
     /// Waits for room or for the end. `mine` is left where there is neither.
     pub(crate) fn poll(&mut self, mine: Waiter) -> Polled
@@ -166,7 +166,8 @@ impl WriteHalf {
         (n, wake)
     }
 
-    /// Publishes the first `n` bytes of what is lent, as they are. Returns who has to be woken.
+    /// Publishes the first `n` bytes of what is lent, as they are. Returns who has to be woken, also
+    /// where `n` is 0.
     pub(crate) fn publish(&mut self, n: usize) -> Option<Waiter>
         requires { n ≤ length self.old.end.lent }
         ensures sent { self.new.end.sent ≡ self.old.end.sent ++ take n self.old.end.lent }
@@ -181,20 +182,12 @@ impl WriteHalf {
         self.wake_reader(call.stored_tail(n))
     }
 
-    /// Publishes the first `n` bytes of the room that C gave back, and takes back the rest. Returns
-    /// who has to be woken.
-    pub(crate) fn publish_lent(&mut self, n: usize) -> Option<Waiter>
-        requires { n ≤ length self.old.end.lent }
-        ensures published { 0 < n → PublishesLent n result self.old self.new }
-        ensures none { n ≡ 0 → TakesLentBack result self.old self.new }
+    /// Checks whether the pipe is closed now, and keeps what it sees.
+    pub(crate) fn look_closed(&mut self) -> bool
+        ensures { WriterAsked result self.old self.new }
     {
-        if n == 0 {
-            self.end.write_buf(0);
-            return None;
-        }
-        let wake = self.publish(n);
-        self.end.write_buf(0);
-        wake
+        self.end.learn();
+        self.end.look_closed()
     }
 
     /// Checks, after the store, whether the reader left its words, and takes them if it did.

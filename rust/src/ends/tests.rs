@@ -55,10 +55,9 @@ fn a_loan_ends_with_its_publish_and_before_any_other_call() {
     assert!(writer.has_lent());
     writer.publish(2);
     assert!(!writer.has_lent());
-    let calls: [fn(&mut WriteEnd); 6] = [
+    let calls: [fn(&mut WriteEnd); 5] = [
         |writer| assert_eq!(writer.len(), 2),
         |writer| assert!(!writer.is_closed()),
-        |writer| assert!(!writer.was_closed()),
         |writer| {
             assert_eq!(
                 writer.poll(&Waker::from(Arc::new(Wakes(AtomicUsize::new(0))))),

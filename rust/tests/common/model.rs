@@ -159,9 +159,7 @@ impl Model {
         self.lent -= bytes.len();
         self.room -= bytes.len();
         self.tail = (self.tail + bytes.len()) % self.capacity;
-        if !bytes.is_empty() {
-            self.reader.wake();
-        }
+        self.reader.wake();
     }
 
     /// How many of these bytes a copy publishes after its look.
