@@ -92,11 +92,7 @@ extern "C" {
     pub(crate) fn piper_writer_look(writer: *mut RawWriter) -> u32;
     pub(crate) fn piper_writer_poll(writer: *mut RawWriter, mine: Words) -> Polled;
     pub(crate) fn piper_writer_lend(writer: *mut RawWriter, max: usize, at: *mut *mut u8) -> usize;
-    pub(crate) fn piper_writer_offer(
-        writer: *mut RawWriter,
-        max: usize,
-        at: *mut *mut u8,
-    ) -> Seen;
+    pub(crate) fn piper_writer_offer(writer: *mut RawWriter, max: usize, at: *mut *mut u8) -> Seen;
     pub(crate) fn piper_writer_publish(writer: *mut RawWriter, at: *mut u8, n: usize) -> Words;
     pub(crate) fn piper_writer_next(
         writer: *mut RawWriter,

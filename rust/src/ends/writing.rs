@@ -1,0 +1,222 @@
+//! The side that writes.
+
+use super::{address, found, release, wake, words_of};
+use crate::sys::{self, RawWriter};
+use crate::turns::Turns;
+use core::ptr::{self, NonNull};
+use core::slice;
+use core::task::{Poll, Waker};
+
+// SAFETY: as for the side that reads; and room that is lent goes with its handle.
+unsafe impl Send for Lender {}
+
+/// The handle that writes, and the room that it has lent.
+pub(crate) struct Lender {
+    raw: RawWriter,
+    /// From a lend until the room is taken back, by its publish or before another call.
+    loan: Option<Loan>,
+}
+
+/// Room that is lent.
+#[derive(Clone, Copy)]
+struct Loan {
+    at: NonNull<u8>,
+    len: usize,
+}
+
+/// The side that writes.
+pub(crate) struct WriteEnd {
+    raw: Turns<Lender>,
+    capacity: usize,
+}
+
+impl Lender {
+    /// The room that is lent.
+    #[inline]
+    pub(crate) fn room(&mut self) -> &mut [u8] {
+        match self.loan {
+            // SAFETY: the library lent these bytes, all of them set, until they are taken back, for
+            // which `self` has to be borrowed mutably.
+            Some(Loan { at, len }) => unsafe { slice::from_raw_parts_mut(at.as_ptr(), len) },
+            None => &mut [],
+        }
+    }
+
+    /// Ends the loan, and says where the room is, of which `n` bytes are to be published.
+    #[inline]
+    fn end_loan(&mut self, n: usize) -> *mut u8 {
+        let Loan { at, len } = self.loan.take().expect("room is lent");
+        assert!(n <= len, "more bytes are published than were lent");
+        at.as_ptr()
+    }
+
+    /// Publishes the first `n` bytes of the room that is lent, takes it back, and wakes the reader.
+    #[inline]
+    fn publish(&mut self, n: usize) {
+        let at = self.end_loan(n);
+        // SAFETY: the handle is open, whoever has it mutably has it alone, the room is that of its
+        // last lend, of which no slice is left, and `n` is at most its length.
+        wake(unsafe { sys::piper_writer_publish(&mut self.raw, at, n) });
+    }
+
+    /// As `publish`, and lends at most `max` bytes of known room. It returns whether the pipe is
+    /// closed.
+    #[inline]
+    pub(crate) fn next(&mut self, n: usize, max: usize) -> bool {
+        let (ended, mut at) = (self.end_loan(n), ptr::null_mut());
+        // SAFETY: as in `publish`; and `at` is a value of ours.
+        let next = unsafe { sys::piper_writer_next(&mut self.raw, ended, n, max, &mut at) };
+        // SAFETY: `next` gave this address.
+        let at = unsafe { address(at) };
+        self.loan = Some(Loan { at, len: next.len });
+        wake(next.wake);
+        next.is_closed
+    }
+
+    /// The handle, with no room lent.
+    #[inline]
+    fn free(&mut self) -> &mut RawWriter {
+        if let Some(Loan { at, .. }) = self.loan.take() {
+            // SAFETY: as in `publish`.
+            unsafe { sys::piper_writer_reclaim(&mut self.raw, at.as_ptr()) };
+        }
+        &mut self.raw
+    }
+}
+
+impl WriteEnd {
+    pub(super) fn new(raw: RawWriter, capacity: usize) -> WriteEnd {
+        WriteEnd {
+            raw: Turns::new(Lender { raw, loan: None }),
+            capacity,
+        }
+    }
+
+    /// Whether there is room (`true`) or the pipe is closed (`false`). Where there is neither, the waker
+    /// is left, and called once there may be.
+    #[inline]
+    pub(crate) fn poll(&mut self, waker: &Waker) -> Poll<bool> {
+        // As for the reader.
+        // SAFETY: the handle is open and ours alone.
+        match found(unsafe { sys::piper_writer_look(self.free()) }) {
+            Poll::Ready(found) => Poll::Ready(found),
+            Poll::Pending => self.leave(waker),
+        }
+    }
+
+    /// As `poll`; and where there is room, it lends at most `max` bytes of it.
+    #[inline]
+    pub(crate) fn offer(&mut self, waker: &Waker, max: usize) -> Poll<bool> {
+        let mut at = ptr::null_mut();
+        // SAFETY: the handle is open and ours alone, and `at` is a value of ours.
+        let seen = unsafe { sys::piper_writer_offer(self.free(), max, &mut at) };
+        match found(seen.outcome) {
+            Poll::Ready(true) => {
+                // SAFETY: an offer of room gave this address.
+                let at = unsafe { address(at) };
+                self.raw.get_mut().loan = Some(Loan { at, len: seen.len });
+                Poll::Ready(true)
+            }
+            Poll::Ready(false) => Poll::Ready(false),
+            Poll::Pending => self.leave_to_lend(waker, max),
+        }
+    }
+
+    /// Looks once more, with the waker left in the pipe.
+    #[cold]
+    fn leave(&mut self, waker: &Waker) -> Poll<bool> {
+        let mine = words_of(waker.clone());
+        // SAFETY: the handle is open and ours alone, and the words are given away.
+        unsafe { sys::piper_writer_poll(self.free(), mine) }.settle()
+    }
+
+    /// As `leave`; and where there is room now, it lends some.
+    #[cold]
+    fn leave_to_lend(&mut self, waker: &Waker, max: usize) -> Poll<bool> {
+        let found = self.leave(waker);
+        if found == Poll::Ready(true) {
+            self.lend(max);
+        }
+        found
+    }
+
+    /// The handle, for a call other than a publish. A loan ends here: whoever had the room borrowed
+    /// this end for it.
+    #[inline]
+    fn free(&mut self) -> &mut RawWriter {
+        self.raw.get_mut().free()
+    }
+
+    /// Lends room in one piece, at most `max` bytes. It is the caller's until the next call.
+    #[inline]
+    pub(crate) fn lend(&mut self, max: usize) -> &mut [u8] {
+        let mut at = ptr::null_mut();
+        // SAFETY: the handle is open and ours alone, and `at` is a value of ours.
+        let len = unsafe { sys::piper_writer_lend(self.free(), max, &mut at) };
+        let lender = self.raw.get_mut();
+        // SAFETY: the lend gave this address.
+        let at = unsafe { address(at) };
+        lender.loan = Some(Loan { at, len });
+        lender.room()
+    }
+
+    /// The room that is lent, and what becomes of it.
+    #[inline]
+    pub(crate) fn lender(&mut self) -> &mut Lender {
+        self.raw.get_mut()
+    }
+
+    /// Whether room is lent, and was not given back by another call since.
+    #[inline]
+    pub(crate) fn has_lent(&mut self) -> bool {
+        self.raw.get_mut().loan.is_some()
+    }
+
+    /// Publishes the first `n` bytes of the room that is lent, takes it back, and wakes the reader.
+    #[inline]
+    pub(crate) fn publish(&mut self, n: usize) {
+        self.raw.get_mut().publish(n);
+    }
+
+    /// Looks for room where none is known, copies bytes there in one piece, and wakes the reader. It
+    /// returns how many: none where the pipe is closed.
+    #[inline]
+    pub(crate) fn write(&mut self, bytes: &[u8]) -> usize {
+        // SAFETY: the handle is open and ours alone, no slice of lent room is left, and the bytes are
+        // only read.
+        let moved = unsafe { sys::piper_writer_write(self.free(), bytes.as_ptr(), bytes.len()) };
+        wake(moved.wake);
+        moved.count
+    }
+
+    pub(crate) fn len(&self) -> usize {
+        // SAFETY: the handle is open, and other queries wait for their turn.
+        self.raw
+            .take_turn(|lender| unsafe { sys::piper_writer_len(lender.free()) })
+    }
+
+    pub(crate) fn capacity(&self) -> usize {
+        self.capacity
+    }
+
+    pub(crate) fn is_closed(&self) -> bool {
+        // SAFETY: as in `len`.
+        self.raw
+            .take_turn(|lender| unsafe { sys::piper_writer_is_closed(lender.free()) })
+    }
+
+    /// Closes the pipe for good, and wakes both sides.
+    #[cfg(feature = "std")]
+    pub(crate) fn close(&mut self) {
+        // SAFETY: the handle is open and ours alone, and no slice of lent room is left.
+        unsafe { sys::piper_writer_close(self.free()) }.settle(wake);
+    }
+}
+
+impl Drop for WriteEnd {
+    fn drop(&mut self) {
+        // SAFETY: the handle is open and ours alone, and this is the last call with it.
+        let left = unsafe { sys::piper_writer_drop(self.raw.get_mut().free()) };
+        left.settle(release);
+    }
+}
