@@ -1,4 +1,5 @@
 pub mod CarryingOn
+pub mod InThreads
 pub mod DrainingOn
 pub mod Failing
 pub mod FillingOn

@@ -14,6 +14,7 @@ mod read_all;
 mod read_some;
 mod read_through;
 mod read_up_to;
+mod threads;
 mod write_end;
 mod write_whole;
 
@@ -25,5 +26,6 @@ pub use read_all::{ReadToEnd, poll_read_to_end, read_to_end};
 pub use read_some::{ReadOnce, read};
 pub use read_through::{ReadUntil, poll_read_until, read_until};
 pub use read_up_to::{ReadExact, read_exact};
+pub use threads::{Drained, Drains, Filled, Fills, spawn_drain, spawn_fill};
 pub use write_end::{Closing, Flushing, close, flush};
 pub use write_whole::{WriteAll, write_all};

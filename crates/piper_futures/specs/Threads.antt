@@ -1,0 +1,58 @@
+-- What comes of threads that fill a pipe, or drain one.
+use Rattle.std.specs.Prelude.{◌≡◌, Bool, true, ⊤, List, ℕ, length, ◌++◌, Option, None, Some, Result, Ok, Err}
+use Rattle.std.specs.Io.KnownBytes.{IsAtEnd, Appends}
+use Rattle.piper.specs.declared.io.copy.Copied.{Copied}
+use Rattle.piper.specs.declared.io.copy.Copied.TheVariants.{ToTheEnd, UntilClosed}
+use Rattle.piper.specs.declared.owned.OwnedReader.{OwnedReader}
+use Rattle.piper.specs.declared.owned.OwnedWriter.{OwnedWriter}
+use Rattle.piper_lines.specs.AtEnd.{AtEnd}
+use Rattle.piper_futures.specs.Draining.{DrainsOn}
+use Rattle.piper_futures.specs.Filling.{FillsOn}
+use Rattle.piper_futures.specs.declared.failed.Failed.{Failed}
+use Rattle.piper_futures.specs.declared.threads.Drained.{Drained}
+use Rattle.piper_futures.specs.declared.threads.Filled.{Filled}
+
+-- why it ended holds of what is left of the source
+abbrev pub WhyFilled : Option (List ℕ) → Copied → Type 0
+WhyFilled left ToTheEnd = IsAtEnd left
+WhyFilled left UntilClosed = ⊤
+
+module _ {S : Type 0} (remaining : S → Option (List ℕ)) where
+  -- the writer's last mark reports the front of what the source gave behind what was published
+  -- before, and all of it unless the pipe was seen closed
+  pub record FilledTo (w : OwnedWriter) (s : S) (left : Filled S) : Type 0 where
+    pub saw : Bool
+    pub moved :
+        FillsOn (remaining s) (remaining left.source) w.writer.end.sent left.told.bytes
+        w.writer.end.saw saw
+    pub closed : left.told.shut ≡ true
+
+  abbrev pub LeftByFill : OwnedWriter → S → Option (Filled S) → Type 0
+  LeftByFill w s None = ⊤
+  LeftByFill w s (Some left) = FilledTo w s left
+
+  -- all was moved into the pipe; or the writer wanted memory, or the source failed, and what it gave
+  -- before was moved
+  abbrev pub FilledAndClosed : OwnedWriter → S → Result (Filled S × Copied) (Failed (Option (Filled S))) → Type 0
+  FilledAndClosed w s (Ok done) =
+      FilledTo w s done.0 × WhyFilled (remaining done.0.source) done.1
+  FilledAndClosed w s (Err failed) = LeftByFill w s failed.left
+
+module _ {D : Type 0} (contents : D → Option (List ℕ)) where
+  -- all that was taken since was written, in order
+  pub record DrainedTo (r : OwnedReader) (d : D) (left : Drained D) : Type 0 where
+    pub moved : List ℕ
+    pub count : left.told.consumed.count ≡ length (r.reader.end.taken ++ moved)
+    pub written : Appends (contents d) (contents left.dest) moved
+
+  abbrev pub LeftByDrain : OwnedReader → D → Option (Drained D) → Type 0
+  LeftByDrain r d None = ⊤
+  LeftByDrain r d (Some left) = DrainedTo r d left
+
+  -- all was moved out of the pipe, up to its end; or the reader or the writer of std failed, and what
+  -- was taken before was written
+  abbrev pub DrainedOrClosed : OwnedReader → D → Result (OwnedReader × D) (Failed (Option (Drained D))) → Type 0
+  DrainedOrClosed r d (Ok done) =
+      DrainsOn r.reader.end.taken done.0.reader.end.taken (contents d) (contents done.1)
+      × AtEnd done.0.reader.end.known done.0.reader.end.saw
+  DrainedOrClosed r d (Err failed) = LeftByDrain r d failed.left

@@ -1,0 +1,182 @@
+//! Threads that read for a pipe, or write for one: a call of std that blocks may not be made in a
+//! task.
+ghost use Rattle.std.specs.Prelude.{◌≡◌, IfOk, length, true};
+ghost use Rattle.piper_futures.specs.Threads.{FilledAndClosed, DrainedOrClosed};
+
+use crate::drain::drain_into;
+use crate::failed::Failed;
+use crate::fill::fill_from;
+use futures::executor::block_on;
+use piper::io::Copied;
+use piper::{LastReadMark, OwnedReader, OwnedWriter, PipeError, WriteMark};
+use std::alloc::AllocGlobal;
+use std::io::{Read, Write};
+use std::marker::{Send, Sync};
+use std::random::RandomSource;
+use std::snapshot::Snapshot;
+use std::sync::Wait;
+use std::thread::{Promise, PromisedHandle, Threads};
+use std::{io, thread};
+
+/// What a fill left whose thread dropped the writer.
+#[derive(Drop)]
+pub struct Filled<S> {
+    /// The source, with what the fill left of it.
+    pub source: S,
+    /// All that was ever published, and that the pipe is closed.
+    pub told: WriteMark,
+}
+
+/// What a drain left that failed, and whose thread dropped the reader.
+#[derive(Drop)]
+pub struct Drained<D> {
+    /// The writer of std.
+    pub dest: D,
+    /// How much was ever consumed, and that the pipe is closed.
+    pub told: LastReadMark,
+}
+
+/// What the thread of [`spawn_fill`] promises of its result.
+#[derive(Drop)]
+pub struct Fills<S> {
+    writer: Snapshot<OwnedWriter>,
+    source: Snapshot<S>,
+}
+
+impl<S: Read> Promise<Result<(Filled<S>, Copied), Failed<Option<Filled<S>>>>> for Fills<S> {
+    ghost kept_by = { λ promise filled.
+        FilledAndClosed S.remaining promise.writer.value promise.source.value filled };
+}
+
+/// What the thread of [`spawn_drain`] promises of its result.
+#[derive(Drop)]
+pub struct Drains<D> {
+    reader: Snapshot<OwnedReader>,
+    dest: Snapshot<D>,
+}
+
+impl<D: Write> Promise<Result<(OwnedReader, D), Failed<Option<Drained<D>>>>> for Drains<D> {
+    ghost kept_by = { λ promise drained.
+        DrainedOrClosed D.contents promise.reader.value promise.dest.value drained };
+}
+
+/// Starts a thread that moves all that `source` gives into the pipe, as `fill_from` does, and then
+/// drops the writer, which closes the pipe. The thread's result comes with the join: until then
+/// what was read of the pipe may be a part.
+///
+/// Where no thread can be made, writer and source are dropped. A failure of the thread's own wait,
+/// which is want of memory, leaves neither.
+pub fn spawn_fill<H, S>(
+    rt: &H,
+    writer: OwnedWriter,
+    source: S,
+) -> io::Result<PromisedHandle<Result<(Filled<S>, Copied), Failed<Option<Filled<S>>>>, Fills<S>>>
+where
+    H: Threads + Wait + RandomSource + AllocGlobal + Clone + Drop + Send + Sync + 'static,
+    S: Read + Drop + Send + 'static,
+    ensures { IfOk result (λ handle. (handle.promise.writer.value ≡ writer)
+        × (handle.promise.source.value ≡ source)) }
+{
+    let theirs = rt.clone()?;
+    let promise = Fills {
+        writer: Snapshot::of(&writer),
+        source: Snapshot::of(&source),
+    };
+    let child = thread::spawn_with(rt, promise, move || fill_and_close(&theirs, writer, source))?;
+    Ok(child)
+}
+
+/// Starts a thread that moves all bytes of the pipe into `dest`, as `drain_into` does. The thread's
+/// result comes with the join. Where the drain fails, the thread drops the reader, which closes the
+/// pipe. What `dest` holds back is not flushed.
+///
+/// Where no thread can be made, reader and `dest` are dropped. A failure of the thread's own wait,
+/// which is want of memory, leaves neither.
+pub fn spawn_drain<H, D>(
+    rt: &H,
+    reader: OwnedReader,
+    dest: D,
+) -> io::Result<PromisedHandle<Result<(OwnedReader, D), Failed<Option<Drained<D>>>>, Drains<D>>>
+where
+    H: Threads + Wait + RandomSource + AllocGlobal + Clone + Drop + Send + Sync + 'static,
+    D: Write + Drop + Send + 'static,
+    ensures { IfOk result (λ handle. (handle.promise.reader.value ≡ reader)
+        × (handle.promise.dest.value ≡ dest)) }
+{
+    let theirs = rt.clone()?;
+    let promise = Drains {
+        reader: Snapshot::of(&reader),
+        dest: Snapshot::of(&dest),
+    };
+    let child = thread::spawn_with(rt, promise, move || drain_or_close(&theirs, reader, dest))?;
+    Ok(child)
+}
+
+/// Moves all that `source` gives into the pipe, and drops the writer.
+fn fill_and_close<H, S>(
+    rt: &H,
+    writer: OwnedWriter,
+    source: S,
+) -> Result<(Filled<S>, Copied), Failed<Option<Filled<S>>>>
+where
+    H: Wait + RandomSource + AllocGlobal,
+    S: Read + Drop,
+    ensures { FilledAndClosed S.remaining writer source result }
+{
+    match block_on(rt, fill_from(writer, source)) {
+        Ok(Ok((writer, source, copied))) => Ok((closed_by_writer(writer, source), copied)),
+        Ok(Err(failed)) => {
+            let Failed { left, error } = failed;
+            let (writer, source) = left;
+            let left = Some(closed_by_writer(writer, source));
+            Err(Failed { left, error })
+        }
+        Err(error) => Err(Failed {
+            left: None,
+            error: PipeError::Io(error),
+        }),
+    }
+}
+
+fn closed_by_writer<S>(writer: OwnedWriter, source: S) -> Filled<S>
+    ensures source { result.source ≡ source }
+    ensures bytes { result.told.bytes ≡ writer.writer.end.sent }
+    ensures shut { result.told.shut ≡ true }
+{
+    let told = writer.into_inner().drop().told;
+    Filled { source, told }
+}
+
+/// Moves all bytes of the pipe into `dest`, or drops the reader.
+fn drain_or_close<H, D>(
+    rt: &H,
+    reader: OwnedReader,
+    dest: D,
+) -> Result<(OwnedReader, D), Failed<Option<Drained<D>>>>
+where
+    H: Wait + RandomSource + AllocGlobal,
+    D: Write + Drop,
+    ensures { DrainedOrClosed D.contents reader dest result }
+{
+    match block_on(rt, drain_into(reader, dest)) {
+        Ok(Ok(ends)) => Ok(ends),
+        Ok(Err(failed)) => {
+            let Failed { left, error } = failed;
+            let (reader, dest) = left;
+            let left = Some(closed_by_reader(reader, dest));
+            Err(Failed { left, error })
+        }
+        Err(error) => Err(Failed {
+            left: None,
+            error: PipeError::Io(error),
+        }),
+    }
+}
+
+fn closed_by_reader<D>(reader: OwnedReader, dest: D) -> Drained<D>
+    ensures dest { result.dest ≡ dest }
+    ensures count { result.told.consumed.count ≡ length reader.reader.end.taken }
+{
+    let told = reader.into_inner().drop().told;
+    Drained { dest, told }
+}
