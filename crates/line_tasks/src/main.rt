@@ -10,12 +10,11 @@ mod words;
 use crate::file_to_task::count_lines;
 use crate::number_lines::print_numbered;
 use crate::words::answer_words;
-use futures::executor::block_on;
 use piper::owned_pipe;
-use piper_futures::fill_from;
+use piper_futures::spawn_fill;
 use std::alloc::AllocGlobal;
 use std::process::ExitCode;
-use std::{fs, io, thread};
+use std::{fs, io};
 
 // Opens a file. Where that fails, the error names it.
 fn open<R: fs::Files + AllocGlobal>(rt: &R, path: &str) -> io::Result<R::File> {
@@ -34,12 +33,8 @@ fn main(rt: HostRuntime) -> io::Result<ExitCode> {
     }
     let count = count_lines(&rt, open(&rt, "poem.txt")?)?;
     println!(&rt; "{count} lines")?;
-    let theirs = rt.clone()?;
     let (reader, writer) = owned_pipe(rt.alloc(), 64)?;
-    let child = thread::spawn(&rt, move || -> io::Result<()> {
-        drop(block_on(&theirs, fill_from(writer, theirs.stdin()))??);
-        Ok(())
-    })?;
+    let child = spawn_fill(&rt, writer, rt.stdin())?;
     print_numbered(&rt, reader, &mut io::writer(&rt))?;
     child.join(&rt)?;
     Ok(ExitCode::SUCCESS)

@@ -34,6 +34,8 @@ mod ring;
 #[cfg(test)]
 mod running;
 #[cfg(test)]
+mod threads;
+#[cfg(test)]
 mod upstream;
 #[cfg(test)]
 mod waking;
