@@ -47,6 +47,17 @@ impl From<AllocError> for PipeError {
     }
 }
 
+/// So that `?` takes a failure of std to a `PipeError`, as it came.
+impl From<io::Error> for PipeError {
+    ghost use Rattle.piper.specs.declared.error.PipeError.TheVariants.{Io};
+
+    ghost from_gives = { λ error failed. failed ≡ Io error };
+
+    fn from(error: io::Error) -> PipeError {
+        PipeError::Io(error)
+    }
+}
+
 /// So that `?` takes a failed call of the pipe to an `io::Result`: want of memory by its kind, and
 /// the error of a source or destination as it is.
 impl From<PipeError> for io::Error {
