@@ -8,6 +8,7 @@
 mod copy_across;
 mod debug;
 mod drain;
+mod ext;
 mod failed;
 mod fill;
 mod read_all;
@@ -20,6 +21,7 @@ mod write_whole;
 
 pub use copy_across::{Copying, copy};
 pub use drain::{Draining, drain_into, poll_drain_into};
+pub use ext::{AsyncBufReadExt, AsyncReadExt, AsyncWriteExt};
 pub use failed::Failed;
 pub use fill::{AsyncFill, Filling, fill_from};
 pub use read_all::{ReadToEnd, poll_read_to_end, read_to_end};

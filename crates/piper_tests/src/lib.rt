@@ -22,6 +22,8 @@ mod marks;
 #[cfg(test)]
 mod meeting;
 #[cfg(test)]
+mod methods;
+#[cfg(test)]
 mod owners;
 #[cfg(test)]
 mod owning;
