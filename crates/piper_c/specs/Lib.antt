@@ -5,4 +5,5 @@ pub mod Places
 pub mod Opened
 pub mod Outcome
 pub mod Reading
+pub mod Waiting
 pub mod Writing

@@ -1,5 +1,5 @@
 -- What the calls of the reading side find, and what they leave of it.
-use Rattle.std.specs.Prelude.{◌≡◌, ℕ, ◌<◌, ◌≤◌, ◌+◌, ◌++◌, take, drop, Bool, true, false, List, [], ◌⊎◌, length, Option, Some, None, IsSome}
+use Rattle.std.specs.Prelude.{◌≡◌, ℕ, ◌<◌, ◌≤◌, ◌++◌, take, drop, Bool, true, false, List, [], ◌⊎◌, length, Option}
 use Rattle.piper_ring.specs.Shared.{flag}
 use Rattle.piper_ring.specs.ReadView.{ReadView, SameReadEnd, SameButSaw, in_one_piece}
 use Rattle.piper_ring.specs.SlotsView.{ReadSlotsView, IsPending, IsReaderAtRest, SameReaderLooks, SameReaderPlace}
@@ -13,6 +13,7 @@ use Rattle.piper_c.specs.declared.words.Waiter.{Waiter}
 use Rattle.piper_c.specs.declared.words.PiperMoved.{PiperMoved}
 use Rattle.piper_c.specs.declared.words.PiperWords.{PiperWords}
 use Rattle.piper_c.specs.Outcome.{code}
+use Rattle.piper_c.specs.Waiting.{GotBack, HandedBack, Took, HandedOut}
 
 -- the pipe was seen closed, and all that was ever published has been taken
 pub record IsEnded (r : ReadView) : Type 0 where
@@ -47,14 +48,7 @@ pub record ReaderLooked (a b : ReadHalf) : Type 0 where
 
 -- a poll gives back the words that it took out of its slot, and those that it didn't leave
 pub record ReaderGotBack (mine : Waiter) (p : Polled) (a b : ReadHalf) : Type 0 where
-  -- words of an earlier poll come only out of the slot
-  pub before : IsSome p.before → a.slots.owns ≡ false
-  -- words that were not left come back
-  pub kept : b.slots.tickets ≡ a.slots.tickets → p.mine ≡ Some mine
-  -- words that were left come back only out of the slot
-  pub left : b.slots.tickets ≡ a.slots.tickets + 1 → IsSome p.mine → b.slots.owns ≡ true
-  -- they are left only where the outcome reports it
-  pub pending : p.outcome ≡ Pending → (b.slots.tickets ≡ a.slots.tickets + 1) × (p.mine ≡ None)
+  pub words : GotBack mine p a.slots.owns b.slots.owns a.slots.tickets b.slots.tickets
   pub again : p.outcome ≡ Again → b.slots ≡ a.slots
 
 -- the reader, but for the bytes that it took and knows of
@@ -67,8 +61,7 @@ pub record ReaderConsumed (a b : ReadView) : Type 0 where
 -- exactly where it took a ticket of the writer's
 pub record TookWriter (taken : Option Waiter) (old : ReadSlotsView) (b : ReadHalf) : Type 0 where
   pub rests : IsReaderAtRest b.end b.slots
-  pub none : taken ≡ None → b.slots.taken ≡ old.taken
-  pub some : IsSome taken → old.taken < b.slots.taken
+  pub took : Took taken old.taken b.slots.taken
   pub own : SameReaderPlace old b.slots
 
 -- after the close by which a left, the writer's slot was checked: words come out exactly
@@ -76,8 +69,7 @@ pub record TookWriter (taken : Option Waiter) (old : ReadSlotsView) (b : ReadHal
 pub record LeftReading (a : ReadHalf) (taken : Option Waiter) (left : ReadSlotsView) : Type 0 where
   pub count : left.count ≡ length a.end.taken
   pub over : left.over ≡ true
-  pub none : taken ≡ None → left.taken ≡ a.slots.taken
-  pub some : IsSome taken → a.slots.taken < left.taken
+  pub took : Took taken a.slots.taken left.taken
 
 -- the pipe was checked for its end: what the answer says was seen, and what was seen once stays
 pub record ReaderAsked (is_closed : Bool) (a b : ReadHalf) : Type 0 where
@@ -106,22 +98,14 @@ pub record ReaderTold (mine : PiperWords) (p : PiperPolled) (a b : ReadHalf) : T
   pub code : p.outcome ≡ code outcome
   pub found : ReaderFound outcome b
   pub looked : ReaderLooked a b
-  -- words of an earlier poll come only out of the slot
-  pub before : 0 < p.before.vtable → a.slots.owns ≡ false
-  -- words that were not left come back as they are
-  pub kept : b.slots.tickets ≡ a.slots.tickets → p.mine ≡ mine
-  -- words that were left come back only out of the slot
-  pub left : b.slots.tickets ≡ a.slots.tickets + 1 → 0 < p.mine.vtable → b.slots.owns ≡ true
-  -- words that are left are not handed out
-  pub pending : p.outcome ≡ 0 → (b.slots.tickets ≡ a.slots.tickets + 1) × (p.mine.vtable ≡ 0)
+  pub words : HandedBack mine p a.slots.owns b.slots.owns a.slots.tickets b.slots.tickets
   pub again : p.outcome ≡ 3 → b.slots ≡ a.slots
 
 -- after all that b consumed, the writer's slot was checked: words come out exactly where
 -- it took a ticket of the writer's
 pub record WakesWriter (wake : PiperWords) (old : ReadSlotsView) (b : ReadHalf) : Type 0 where
   pub rests : IsReaderAtRest b.end b.slots
-  pub none : wake.vtable ≡ 0 → b.slots.taken ≡ old.taken
-  pub some : 0 < wake.vtable → old.taken < b.slots.taken
+  pub took : HandedOut wake old.taken b.slots.taken
   pub own : SameReaderPlace old b.slots
 
 -- n bytes were taken, from the front of those that the reader knows of

@@ -1,5 +1,5 @@
 -- What the calls of the writing side find, and what they leave of it.
-use Rattle.std.specs.Prelude.{◌≡◌, ℕ, ◌<◌, ◌≤◌, ◌+◌, ◌++◌, ◌⊎◌, take, drop, Bool, true, false, List, [], length, Option, Some, None, IsSome}
+use Rattle.std.specs.Prelude.{◌≡◌, ℕ, ◌<◌, ◌≤◌, ◌+◌, ◌++◌, ◌⊎◌, take, drop, Bool, true, false, List, [], length, Option, Some, None}
 use Rattle.piper_ring.specs.Shared.{flag}
 use Rattle.piper_ring.specs.WriteView.{WriteView, SameWriteEnd, SameButSaw}
 use Rattle.piper_ring.specs.SlotsView.{WriteSlotsView, IsWriterPending, IsAtRest, SameWriterLooks, SameWriterPlace}
@@ -13,6 +13,7 @@ use Rattle.piper_c.specs.declared.words.PiperMoved.{PiperMoved}
 use Rattle.piper_c.specs.declared.words.PiperLeft.{PiperLeft}
 use Rattle.piper_c.specs.declared.words.PiperWords.{PiperWords}
 use Rattle.piper_c.specs.Outcome.{code}
+use Rattle.piper_c.specs.Waiting.{GotBack, HandedBack, Took, HandedOut}
 
 -- what a poll found
 abbrev pub WriterFound : Outcome → WriteHalf → Type 0
@@ -44,14 +45,7 @@ pub record WriterLooked (a b : WriteHalf) : Type 0 where
 
 -- a poll gives back the words that it took out of its slot, and those that it didn't leave
 pub record WriterGotBack (mine : Waiter) (p : Polled) (a b : WriteHalf) : Type 0 where
-  -- words of an earlier poll come only out of the slot
-  pub before : IsSome p.before → a.slots.owns ≡ false
-  -- words that were not left come back
-  pub kept : b.slots.tickets ≡ a.slots.tickets → p.mine ≡ Some mine
-  -- words that were left come back only out of the slot
-  pub left : b.slots.tickets ≡ a.slots.tickets + 1 → IsSome p.mine → b.slots.owns ≡ true
-  -- they are left only where the outcome reports it
-  pub pending : p.outcome ≡ Pending → (b.slots.tickets ≡ a.slots.tickets + 1) × (p.mine ≡ None)
+  pub words : GotBack mine p a.slots.owns b.slots.owns a.slots.tickets b.slots.tickets
   pub again : p.outcome ≡ Again → b.slots ≡ a.slots
 
 -- the writer, but for the bytes that it published, and the room and the slice that they were in
@@ -64,23 +58,20 @@ pub record WriterPublished (a b : WriteView) : Type 0 where
 -- exactly where it took a ticket of the reader's
 pub record TookReader (taken : Option Waiter) (old : WriteSlotsView) (b : WriteHalf) : Type 0 where
   pub rests : IsAtRest b.end b.slots
-  pub none : taken ≡ None → b.slots.taken ≡ old.taken
-  pub some : IsSome taken → old.taken < b.slots.taken
+  pub took : Took taken old.taken b.slots.taken
   pub own : SameWriterPlace old b.slots
 
 -- the same in a close, which takes the writer's own words back, too
 pub record TookReaderLast (taken : Option Waiter) (old : WriteSlotsView) (b : WriteHalf) : Type 0 where
   pub rests : IsAtRest b.end b.slots
-  pub none : taken ≡ None → b.slots.taken ≡ old.taken
-  pub some : IsSome taken → old.taken < b.slots.taken
+  pub took : Took taken old.taken b.slots.taken
 
 -- after the close by which a left, the reader's slot was checked: words come out exactly
 -- where a ticket of the reader's was taken
 pub record LeftWriting (a : WriteHalf) (taken : Option Waiter) (left : WriteSlotsView) : Type 0 where
   pub bytes : left.bytes ≡ a.end.sent
   pub shut : left.shut ≡ true
-  pub none : taken ≡ None → left.taken ≡ a.slots.taken
-  pub some : IsSome taken → a.slots.taken < left.taken
+  pub took : Took taken a.slots.taken left.taken
 
 -- the pipe was checked for its end: what the answer says was seen, and what was seen once stays
 pub record WriterAsked (is_closed : Bool) (a b : WriteHalf) : Type 0 where
@@ -116,22 +107,14 @@ pub record WriterTold (mine : PiperWords) (p : PiperPolled) (a b : WriteHalf) : 
   pub code : p.outcome ≡ code outcome
   pub found : WriterFound outcome b
   pub looked : WriterLooked a b
-  -- words of an earlier poll come only out of the slot
-  pub before : 0 < p.before.vtable → a.slots.owns ≡ false
-  -- words that were not left come back as they are
-  pub kept : b.slots.tickets ≡ a.slots.tickets → p.mine ≡ mine
-  -- words that were left come back only out of the slot
-  pub left : b.slots.tickets ≡ a.slots.tickets + 1 → 0 < p.mine.vtable → b.slots.owns ≡ true
-  -- words that are left are not handed out
-  pub pending : p.outcome ≡ 0 → (b.slots.tickets ≡ a.slots.tickets + 1) × (p.mine.vtable ≡ 0)
+  pub words : HandedBack mine p a.slots.owns b.slots.owns a.slots.tickets b.slots.tickets
   pub again : p.outcome ≡ 3 → b.slots ≡ a.slots
 
 -- after all that b published, the reader's slot was checked: words come out exactly where
 -- it took a ticket of the reader's
 pub record WakesReader (wake : PiperWords) (old : WriteSlotsView) (b : WriteHalf) : Type 0 where
   pub rests : IsAtRest b.end b.slots
-  pub none : wake.vtable ≡ 0 → b.slots.taken ≡ old.taken
-  pub some : 0 < wake.vtable → old.taken < b.slots.taken
+  pub took : HandedOut wake old.taken b.slots.taken
   pub own : SameWriterPlace old b.slots
 
 pub record WriterWrites (from : List ℕ) (moved : PiperMoved) (a b : WriteHalf) : Type 0 where
@@ -145,8 +128,7 @@ pub record WriterCloses (left : PiperLeft) (a b : WriteHalf) : Type 0 where
   pub shut : b.end.shut ≡ true
   pub sent : b.end.sent ≡ a.end.sent
   pub rests : IsAtRest b.end b.slots
-  pub none : left.wake.vtable ≡ 0 → b.slots.taken ≡ a.slots.taken
-  pub some : 0 < left.wake.vtable → a.slots.taken < b.slots.taken
+  pub took : HandedOut left.wake a.slots.taken b.slots.taken
   pub mine : 0 < left.mine.vtable → a.slots.owns ≡ false
   pub places : b.places ≡ a.places
 
