@@ -30,7 +30,8 @@ pub record LendsOut (w : WriteHalf) (max len : ℕ) (writer : PiperWriter) (room
   pub some : w.end.shut ≡ false → 0 < w.end.room → 0 < max → 0 < len
 
 -- nothing was lent, and the room is as it was
-pub record IsKept (w : WriteHalf) (len : ℕ) (writer : PiperWriter) (before after : PiperRoom) : Type 0 where
+pub record IsKept (w : WriteHalf) (len : ℕ) (writer : PiperWriter)
+    (before after : PiperRoom) : Type 0 where
   pub half : writer.half ≡ Some w
   pub lent : writer.lent ≡ None
   pub none : len ≡ 0

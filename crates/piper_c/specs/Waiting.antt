@@ -1,5 +1,5 @@
--- What becomes of the words of a side that waits. Both sides speak of it: their slots have different
--- views, so what is said here is said of the parts that both have.
+-- What becomes of the words of a side that waits. Both sides speak of it: their slots have
+-- different views, so what is said here is said of the parts that both have.
 use Rattle.std.specs.Prelude.{◌≡◌, ℕ, ◌<◌, ◌+◌, Bool, true, false, Option, Some, None, IsSome}
 use Rattle.piper_c.specs.declared.outcome.Outcome.TheVariants.{Pending}
 use Rattle.piper_c.specs.declared.outcome.Polled.{Polled}
@@ -20,7 +20,8 @@ pub record GotBack (mine : Waiter) (p : Polled) (had has : Bool) (old new : ℕ)
   pub pending : p.outcome ≡ Pending → (new ≡ old + 1) × (p.mine ≡ None)
 
 -- the same of words of C
-pub record HandedBack (mine : PiperWords) (p : PiperPolled) (had has : Bool) (old new : ℕ) : Type 0 where
+pub record HandedBack (mine : PiperWords) (p : PiperPolled) (had has : Bool)
+    (old new : ℕ) : Type 0 where
   pub before : 0 < p.before.vtable → had ≡ false
   pub kept : new ≡ old → p.mine ≡ mine
   pub left : new ≡ old + 1 → 0 < p.mine.vtable → has ≡ true

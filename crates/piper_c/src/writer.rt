@@ -86,7 +86,8 @@ pub extern "C" fn piper_writer_write(
 #[unsafe(no_mangle)]
 pub extern "C" fn piper_writer_len(alloc: Global, writer: &mut PiperWriter) -> usize
     requires { IsWholeWriter writer.old.half writer.old.lent }
-    ensures on { HoldsOn writer.old.half writer.new.half (λ a b. (b ≡ a) × MayBeUnread a.end result) }
+    ensures on { HoldsOn writer.old.half writer.new.half (λ a b.
+        (b ≡ a) × MayBeUnread a.end result) }
     ensures whole { IsWholeWriter writer.new.half writer.new.lent }
 {
     let half = writer.take(alloc);
@@ -201,7 +202,8 @@ pub extern "C" fn piper_writer_reclaim(_alloc: Global, writer: &mut PiperWriter,
     *writer = reclaim_room(lent, room);
 }
 
-/// Publishes as `piper_writer_publish` does, checks whether the pipe is closed, and lends room again.
+/// Publishes as `piper_writer_publish` does, checks whether the pipe is closed, and lends room
+/// again.
 #[unsafe(no_mangle)]
 pub extern "C" fn piper_writer_next(
     alloc: Global,

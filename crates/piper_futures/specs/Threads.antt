@@ -31,9 +31,10 @@ module _ {S : Type 0} (remaining : S → Option (List ℕ)) where
   LeftByFill w s None = ⊤
   LeftByFill w s (Some left) = FilledTo w s left
 
-  -- all was moved into the pipe; or the writer wanted memory, or the source failed, and what it gave
-  -- before was moved
-  abbrev pub FilledAndClosed : OwnedWriter → S → Result (Filled S × Copied) (Failed (Option (Filled S))) → Type 0
+  -- all was moved into the pipe; or the writer wanted memory, or the source failed, and what it
+  -- gave before was moved
+  abbrev pub FilledAndClosed : OwnedWriter → S
+      → Result (Filled S × Copied) (Failed (Option (Filled S))) → Type 0
   FilledAndClosed w s (Ok done) =
       FilledTo w s done.0 × WhyFilled (remaining done.0.source) done.1
   FilledAndClosed w s (Err failed) = LeftByFill w s failed.left
@@ -49,9 +50,10 @@ module _ {D : Type 0} (contents : D → Option (List ℕ)) where
   LeftByDrain r d None = ⊤
   LeftByDrain r d (Some left) = DrainedTo r d left
 
-  -- all was moved out of the pipe, up to its end; or the reader or the writer of std failed, and what
-  -- was taken before was written
-  abbrev pub DrainedOrClosed : OwnedReader → D → Result (OwnedReader × D) (Failed (Option (Drained D))) → Type 0
+  -- all was moved out of the pipe, up to its end; or the reader or the writer of std failed, and
+  -- what was taken before was written
+  abbrev pub DrainedOrClosed : OwnedReader → D
+      → Result (OwnedReader × D) (Failed (Option (Drained D))) → Type 0
   DrainedOrClosed r d (Ok done) =
       DrainsOn r.reader.end.taken done.0.reader.end.taken (contents d) (contents done.1)
       × AtEnd done.0.reader.end.known done.0.reader.end.saw
