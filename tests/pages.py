@@ -1,0 +1,262 @@
+#!/usr/bin/env python3
+"""Tries what README.md and docs/USING.md have their readers type, and the links of every page.
+
+    tests/pages.py [WORD]
+
+Each block of code on these two pages is fenced, and its first word says what becomes of it:
+
+- `console`: bash runs each line after `$ `, and it has to print what stands below it; a line `...`
+  stands for any lines. The commands of a block share one shell, which begins at the top of the
+  repository.
+- `rust`, `c`, `toml`: a file, whose path is the comment in the first line. Below `~` it is a whole
+  file, and is written before the commands after it run, with the path in place of
+  `THIS REPOSITORY`; else it is a part of that file of the repository, word for word.
+- `text`: not run, since it takes an hour, or root.
+
+The gate's own proofs are not made again: of `rt run` the stored output of the crate is compared,
+and `rt lib` wants the library to be there. `~` is a new folder. The section SETUP of a page is
+tried first, and each other one of that page in a copy of what it left, beside the others. With a
+WORD only sections whose heading has it are tried. A section whose tools are missing is left out,
+which is said. The last line is `N passed, M failed`.
+"""
+import os
+import re
+import shutil
+import signal
+import subprocess
+import sys
+import tempfile
+from concurrent.futures import ThreadPoolExecutor
+from pathlib import Path
+
+TOP = Path(__file__).resolve().parent.parent
+PAGES = ["README.md", "docs/USING.md"]
+SETUP = "A repository of your own"
+FILES = ("rust", "c", "toml")
+WORDS = FILES + ("console", "text")
+SECONDS = 300
+SOURCES = Path(os.environ.get("CARGO_SOURCES", "/usr/share/cargo/registry"))
+ARCHIVE = TOP / "crates/piper_c/out/libpiper_c.a"
+CARGO = f"""[source.crates-io]
+replace-with = "here"
+[source.here]
+directory = "{SOURCES}"
+[net]
+offline = true
+"""
+
+
+class Failed(Exception):
+    """Says what is wrong, and where."""
+
+
+class Block:
+    def __init__(self, page, line, word):
+        self.where, self.word, self.lines = f"{page}:{line}", word, []
+
+
+class Section:
+    def __init__(self, page, heading):
+        self.page, self.heading, self.blocks = page, heading, []
+
+    def commands(self):
+        lines = [line for b in self.blocks if b.word == "console" for line in b.lines]
+        return [line for line in lines if line.startswith("$ ")]
+
+
+def read_page(page):
+    """The sections of a page, with their blocks, and what is wrong with its layout."""
+    sections, wrong, block, above = [Section(page, "the top")], [], None, ""
+    for number, line in enumerate((TOP / page).read_text().splitlines(), 1):
+        fence = re.fullmatch(r"```(\w*)", line)
+        if fence and block:
+            block = None
+        elif fence:
+            block = Block(page, number, fence[1])
+            sections[-1].blocks.append(block)
+            if block.word not in WORDS:
+                wrong.append(f"{block.where}: a block of the word '{block.word}'")
+        elif block:
+            block.lines.append(line)
+        elif line.startswith("## "):
+            sections.append(Section(page, line[3:]))
+        elif line.startswith("    ") and not above:
+            wrong.append(f"{page}:{number}: an indented block, which is not tried")
+        above = line
+    return sections, wrong
+
+
+def place_file(block, home):
+    """Writes a file below `~`, or compares a part of a file of the repository."""
+    name = re.sub(r"^(//|#|/\*) | \*/$", "", block.lines[0])
+    text = "\n".join(block.lines[1:]).strip("\n").replace("THIS REPOSITORY", str(TOP)) + "\n"
+    if name.startswith("~/"):
+        path = home / name[2:]
+        path.parent.mkdir(parents=True, exist_ok=True)
+        path.write_text(text)
+    elif not (TOP / name).is_file():
+        raise Failed(f"{block.where}: there is no file {name}")
+    elif "\n" + text not in "\n" + (TOP / name).read_text():
+        raise Failed(f"{block.where}: {name} does not have these lines")
+
+
+def turns(block):
+    """The commands of a block, each with the lines that it has to print."""
+    found = []
+    for line in block.lines:
+        if line.startswith("$ "):
+            found.append((line[2:], []))
+        elif not found:
+            raise Failed(f"{block.where}: a line before the first command")
+        else:
+            found[-1][1].append(line)
+    return found
+
+
+def is_as_told(printed, told):
+    """Whether these lines were printed, where `...` stands for any."""
+    pattern = "".join("(.*\n)*?" if line == "..." else re.escape(line) + "\n" for line in told)
+    lines = "".join(line.rstrip() + "\n" for line in printed.splitlines())
+    return re.fullmatch(pattern, lines) is not None
+
+
+def run_within(script, where):
+    """Runs a script of bash, and returns its status. What hangs is ended with all it started."""
+    shell = subprocess.Popen(["bash", "-c", "\n".join(script)], start_new_session=True)
+    try:
+        return shell.wait(SECONDS)
+    except subprocess.TimeoutExpired:
+        os.killpg(shell.pid, signal.SIGKILL)
+        shell.wait()
+        raise Failed(f"{where}: not done after {SECONDS} seconds") from None
+
+
+def run_commands(block, home, room):
+    """Runs the commands of a block in one shell, and compares what each prints."""
+    script = ["cd " + str(TOP)]
+    commands = turns(block)
+    for index, (command, _told) in enumerate(commands):
+        command = command.replace("~/", f"{home}/")
+        command = re.sub(r"\brt run\b", "cat stdout", command)
+        command = re.sub(r"\brt lib\b", "test -s out/libpiper_c.a", command)
+        streams = f"> {room}/{index}.out 2> {room}/{index}.err < /dev/null"
+        script.append(f"{{ {command}\n}} {streams} || exit {index + 1}")
+    status = run_within(script, block.where)
+    for index, (command, told) in enumerate(commands):
+        printed = (room / f"{index}.out").read_text(errors="replace")
+        if index + 1 == status or not is_as_told(printed, told):
+            said = printed + (room / f"{index}.err").read_text(errors="replace")[-2000:]
+            wanted = "\n".join(told)
+            raise Failed(f"{block.where}: '{command}' printed\n{said}\nin place of\n{wanted}")
+
+
+def lacks(section):
+    """What a section needs that is not there."""
+    text = "\n".join(section.commands())
+    named = [tool for tool in ("cargo", "gcc") if re.search(rf"\b{tool} ", text)]
+    tools = [tool for tool in named if not shutil.which(tool)]
+    if re.search(r"\bcargo |libpiper_c\.a", text) and not ARCHIVE.is_file():
+        tools.append("crates/piper_c/out/libpiper_c.a, which `rt lib` there builds")
+    if "cargo " in text and not list(SOURCES.glob("futures-lite-*")):
+        tools.append(f"futures-lite in {SOURCES}, which `rust/check.sh --install` gets")
+    return tools
+
+
+def try_section(section, home):
+    """Tries the blocks of a section in order. Returns what is wrong, if something is."""
+    room = home.parent
+    (home / ".cargo").mkdir(parents=True, exist_ok=True)
+    (home / ".cargo/config.toml").write_text(CARGO)
+    try:
+        for block in section.blocks:
+            if block.word in FILES:
+                place_file(block, home)
+            elif block.word == "console":
+                run_commands(block, home, room)
+    except Failed as failed:
+        return str(failed)
+    return None
+
+
+def tried(section, home, before):
+    """Tries a section and says how it went: True, False, or None where it is left out."""
+    name = f"{section.page}, {section.heading}"
+    missing = lacks(section)
+    if missing:
+        print(f"left out: {name}: there is no " + ", no ".join(missing), flush=True)
+        return None
+    if before:
+        shutil.copytree(before, home)
+    wrong = try_section(section, home)
+    print(wrong or f"passed: {name}", flush=True)
+    return not wrong
+
+
+def try_sections(sections, scratch):
+    """Tries the set-up of each page, and then the other sections side by side."""
+    homes = {section: scratch / str(number) / "home" for number, section in enumerate(sections)}
+    setups = {section.page: section for section in sections if section.heading == SETUP}
+    went = [tried(section, homes[section], None) for section in setups.values()]
+    with ThreadPoolExecutor(os.cpu_count()) as pool:
+        waiting = []
+        for section in sections:
+            if section.heading != SETUP:
+                before = homes.get(setups.get(section.page))
+                waiting.append(pool.submit(tried, section, homes[section], before))
+        return went + [one.result() for one in waiting]
+
+
+def anchors(path):
+    """The anchors of a page's headings, as hosts of repositories make them."""
+    seen, inside, found = {}, False, set()
+    for line in path.read_text().splitlines():
+        inside ^= line.startswith("```")
+        heading = None if inside else re.fullmatch(r"#+ (.*)", line)
+        if heading:
+            text = re.sub(r"\[([^]]*)\]\([^)]*\)", r"\1", heading[1]).lower()
+            name = re.sub(r"[^\w\- ]", "", text).replace(" ", "-")
+            count = seen.get(name, 0)
+            seen[name] = count + 1
+            found.add(f"{name}-{count}" if count else name)
+    return found
+
+
+def wrong_links(page):
+    """The links of a page that lead to no file, or to no heading."""
+    text = re.sub(r"^```.*?^```", "", page.read_text(), flags=re.M | re.S)
+    for link in re.findall(r"\]\(([^)\s]+)\)", text):
+        if re.match(r"\w+:", link):
+            continue
+        name, _, anchor = link.partition("#")
+        target = (page.parent / name).resolve() if name else page
+        if not target.exists():
+            yield f"{page.relative_to(TOP)}: {link}: there is no such file"
+        elif anchor and anchor not in anchors(target):
+            yield f"{page.relative_to(TOP)}: {link}: there is no such heading"
+
+
+def main():
+    word = sys.argv[1].lower() if len(sys.argv) > 1 else ""
+    sections, wrong, blocks = [], [], []
+    for page in PAGES:
+        found, layout = read_page(page)
+        wrong += layout
+        blocks += [block for section in found for block in section.blocks]
+        named = [s for s in found if word in s.heading.lower() or s.heading == SETUP]
+        sections += [s for s in named if any(block.word != "text" for block in s.blocks)]
+    others = [TOP / "README.md", TOP / "CONTRIBUTING.md", TOP / "rust/README.md"]
+    pages = others + sorted((TOP / "docs").glob("*.md"))
+    wrong += [link for page in pages for link in wrong_links(page)]
+    with tempfile.TemporaryDirectory() as scratch:
+        went = try_sections(sections, Path(scratch))
+    for said in wrong:
+        print(said)
+    counts = ", ".join(f"{sum(b.word == word for b in blocks)} {word}" for word in WORDS)
+    print(f"blocks: {counts}; links of {len(pages)} pages")
+    failed = len(wrong) + went.count(False)
+    print(f"{went.count(True)} passed, {failed} failed")
+    return 1 if failed else 0
+
+
+if __name__ == "__main__":
+    sys.exit(main())
