@@ -69,4 +69,4 @@ ended_after Pending a b same stays unseen ended =
 pub ended_poll : {E : Type 0} (r : Poll (Result Bool E)) (b : ReadView) → ReaderFound r b → IsEnded b → After r (IsEnded b) b.known
 ended_poll (Ready (Ok found)) b answer ended = (ended, ended.known, tt)
 ended_poll (Ready (Err e)) b answer ended = (ended, ended.known, tt)
-ended_poll Pending b answer ended = (ended, ended.known, absurd (true≢false (sym ended.saw ∙ answer.1)))
+ended_poll Pending b answer ended = (ended, ended.known, absurd (true≢false (sym ended.saw ∙ answer.saw)))

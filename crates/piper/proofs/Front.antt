@@ -1,9 +1,12 @@
 -- Bytes that a drain wrote to the front of a slice.
-use Rattle.std.proofs.Common.{◌≡◌, ℕ, ◌+◌, ◌<◌, ◌≤◌, ◌⊎◌, List, [], ◌++◌, take, drop, length, min, ap, ◌∙◌, take_at, drop_at, length-append, length-drop, inl, inr, arith}
+use Rattle.std.proofs.Common.{◌≡◌, ℕ, ◌+◌, ◌<◌, ◌≤◌, ◌⊎◌, List, [], ◌++◌, take, drop, length, min, sym, ap, append-nil, ◌∙◌, take_at, drop_at, length-append, length-drop, inl, inr, arith}
 use Rattle.std.proofs.lemmas.List.{nil_from_length}
 use Rattle.piper_ring.specs.ReadView.{ReadView}
 use Rattle.piper.specs.Drains.{found_len}
 use Rattle.piper.specs.Written.{written}
+use Rattle.piper.specs.declared.handles.Reader.{Reader}
+use Rattle.piper.specs.Ends.{ReaderIsUpToDate}
+use Rattle.piper.specs.ReaderCalls.{Drained, OnlyLooked}
 
 module _ (old before now new moved : List ℕ) (place n : ℕ) (same : before ≡ old) (first : place ≡ 0) (count : length moved ≡ n) (is : now ≡ written before place moved) (back : new ≡ now) where
   whole : new ≡ moved ++ drop n old
@@ -20,6 +23,30 @@ module _ (old before now new moved : List ℕ) (place n : ℕ) (same : before �
   -- which is full where they end
   pub full_is : n ≤ length old → (end : ℕ) → end ≡ place + length moved → length new ≡ end → length old ≡ n
   full_is within end ends full = omega (arith, within, ends, full, first, count, ap length whole, length-append moved (drop n old), length-drop n old)
+
+  -- and so the slice was drained into
+  pub drained_is : (a b : Reader) → b.end.taken ≡ a.end.taken ++ moved → (0 < length a.end.known → a.end.known ≡ moved ++ b.end.known) → (a.end.known ≡ [] → ReaderIsUpToDate b.end) → n ≤ length old → (n < length old → b.end.known ≡ []) → Drained n a b old new
+  drained_is a b taken known fresh within most = record {
+    count = within;
+    rest = rest_is;
+    taken = taken ∙ ap (λ xs. a.end.taken ++ xs) (sym front_is);
+    known = λ some. ap (λ xs. xs ++ b.end.known) front_is ∙ sym (known some);
+    fresh = fresh;
+    most = most;
+  }
+
+-- where nothing was moved, the reader only looked
+pub looked_only : (a b : Reader) (moved : List ℕ) → moved ≡ [] → b.end.taken ≡ a.end.taken ++ moved → (0 < length a.end.known → a.end.known ≡ moved ++ b.end.known) → (a.end.known ≡ [] → ReaderIsUpToDate b.end) → OnlyLooked a b
+looked_only a b moved none taken known fresh = record {
+  taken = taken ∙ ap (λ xs. a.end.taken ++ xs) none ∙ append-nil a.end.taken;
+  known = λ some. sym (known some ∙ ap (λ xs. xs ++ b.end.known) none);
+  fresh = fresh;
+}
+
+-- of two the first, where the second can't be
+pub not_other : (P Q : Type 0) → P ⊎ Q → (Q → ⊥) → P
+not_other P Q (inl p) never = p
+not_other P Q (inr q) never = absurd (never q)
 
 -- as many as fit
 pub counts : (a b : ReadView) (moved : List ℕ) (n space : ℕ) → b.taken ≡ a.taken ++ moved → length moved ≡ n → n ≤ space → (b.known ≡ []) ⊎ (space ≡ n) → n ≡ min space (found_len a b)

@@ -4,6 +4,7 @@ mod Drawn
 mod Front
 mod Copied
 pub mod Ended
+pub mod Traits
 mod LookingOut
 mod LookingIn
 mod RoundsIn

@@ -1,5 +1,5 @@
 -- What is free where two handles meet is what the writer has as its room.
-use Rattle.std.proofs.Common.{◌≡◌, ℕ, zero, suc, ◌+◌, ◌<◌, ◌≤◌, ◌⊎◌, Bool, true, false, inl, inr, refl, arith}
+use Rattle.std.proofs.Common.{◌≡◌, ℕ, zero, suc, ◌+◌, ◌<◌, ◌⊎◌, Bool, true, false, inl, inr, refl, arith}
 
 -- a writer that has room there had given less than the reader consumed and the capacity
 pub room_or_none : (room sent count known capacity : ℕ) (P : Type 0) → room + known ≡ capacity → sent ≡ count + known

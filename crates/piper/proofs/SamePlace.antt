@@ -1,5 +1,5 @@
 -- A side waits as it did while neither it nor its slot is touched.
-use Rattle.std.proofs.Common.{◌≡◌, ◌∙◌, ap, subst, sym}
+use Rattle.std.proofs.Common.{◌≡◌, ◌∙◌, subst, sym}
 use Rattle.piper_ring.specs.SlotsView.{ReadSlotsView, WriteSlotsView, SameReaderPlace, SameWriterPlace}
 
 pub reader_place : (a b c d : ReadSlotsView) → SameReaderPlace a b → c ≡ b → SameReaderPlace c d → SameReaderPlace a d

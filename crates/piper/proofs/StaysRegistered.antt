@@ -1,12 +1,22 @@
 -- A writer that waits still waits once it has taken back what it lent.
-use Rattle.std.proofs.Common.{◌≡◌, ◌∙◌, ◌⊎◌, inl, inr}
+use Rattle.std.proofs.Common.{◌≡◌, ◌∙◌, ℕ, Result, Ok, Err, inl, inr}
 use Rattle.futures.specs.declared.task.context.Context.{Context}
 use Rattle.futures.specs.declared.task.Poll.{Poll}
 use Rattle.futures.specs.declared.task.Poll.TheVariants.{Ready, Pending}
 use Rattle.futures.specs.Poll.{OnPending}
 use Rattle.piper.specs.declared.handles.Writer.{Writer}
 use Rattle.piper.specs.Ends.{WriterUnlent}
+use Rattle.piper.specs.Handles.{SameWriter}
 use Rattle.piper.specs.Waits.{WriterRegistered}
+use Rattle.piper.specs.WriterCalls.{DrawsToYield, FillPends, FillsWaiting}
+use Rattle.piper.specs.declared.error.Inner.{Inner}
+use Rattle.piper.specs.declared.error.Inner.TheVariants.{Memory, Like}
+
+draws : {E : Type 0} (r : Poll (Result ℕ (Inner E))) (a b d : Writer) → WriterUnlent b.end d.end → SameWriter b d → DrawsToYield r a b → DrawsToYield r a d
+draws (Ready (Ok n)) a b d end rest h = rw (rest.rng, end.saw) h
+draws (Ready (Err Memory)) a b d end rest h = rw rest.rng h
+draws (Ready (Err (Like e))) a b d end rest h = rw rest.rng h
+draws Pending a b d end rest h = rw (rest.rng, end.room) h
 
 still : (a b d : Writer) (cx : Context) → WriterUnlent b.end d.end → d.registrations ≡ b.registrations → WriterRegistered a b cx → WriterRegistered a d cx
 still a b d cx end registrations (inl w) = inl (record {
@@ -21,7 +31,21 @@ still a b d cx end registrations (inl w) = inl (record {
 })
 still a b d cx end registrations (inr asks) = inr asks
 
-pub stays_registered : {A : Type 0} (r : Poll A) (a b d : Writer) (cx : Context) → WriterUnlent b.end d.end → d.registrations ≡ b.registrations
-    → OnPending r (WriterRegistered a b cx) → OnPending r (WriterRegistered a d cx)
-stays_registered (Ready x) a b d cx end registrations h = h
-stays_registered Pending a b d cx end registrations h = still a b d cx end registrations h
+pending : {A : Type 0} (r : Poll A) (a b d : Writer) (cx : Context) → WriterUnlent b.end d.end → SameWriter b d
+    → OnPending r (FillPends a b cx) → OnPending r (FillPends a d cx)
+pending (Ready x) a b d cx end rest h = tt
+pending Pending a b d cx end rest h = record {
+  yields = rw end.room h.yields;
+  covered = h.covered;
+  registered = still a b d cx end rest.registrations h.registered;
+}
+
+-- and the whole fill waits as it did
+pub stays_waiting : {E : Type 0} (r : Poll (Result ℕ (Inner E))) (a b d : Writer) (old left : Context) → WriterUnlent b.end d.end → SameWriter b d
+    → FillsWaiting r a b old left → FillsWaiting r a d old left
+stays_waiting r a b d old left end rest h = record {
+  draws = draws r a b d end rest h.draws;
+  pending = pending r a b d left end rest h.pending;
+  memory = h.memory;
+  context = h.context;
+}

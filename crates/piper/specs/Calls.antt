@@ -11,7 +11,7 @@ use Rattle.piper_protocol.specs.declared.table.WritePoint.{WritePoint}
 use Rattle.piper_protocol.specs.declared.table.Found.TheVariants.{Nothing as nothing}
 use Rattle.piper_protocol.specs.Table.{Next, read_step, write_step}
 
--- what a poll of the table answers; nothing else is asked for
+-- what a poll of the table returns; nothing else is asked for
 abbrev pub poll_of : Answer → Poll (Result Bool OutOfMemory)
 poll_of (answer.Poll (told.Ready found)) = polling.Ready (Ok found)
 poll_of (answer.Poll told.Memory) = polling.Ready (Err (record {}))

@@ -1,13 +1,9 @@
 -- The context that a copy is handed, and what it is left as.
-use Rattle.std.specs.Prelude.{◌≡◌, ℕ, true, Option, Some, None, Result, ⊤, ◌⊎◌}
+use Rattle.std.specs.Prelude.{◌≡◌, true, Option, Some, None, ⊤, ◌⊎◌}
 use Rattle.std.specs.Borrow.{MutBor}
 use Rattle.std.proofs.Common.{inl, inr}
 use Rattle.futures.specs.Task.{Covers}
-use Rattle.futures.specs.Poll.{OnPending}
 use Rattle.futures.specs.declared.task.context.Context.{Context}
-use Rattle.futures.specs.declared.task.Poll.{Poll}
-use Rattle.piper.specs.CopyAnswers.{OnMemory}
-use Rattle.piper.specs.declared.error.Inner.{Inner}
 use Rattle.piper.specs.declared.error.PipeError.{PipeError}
 use Rattle.piper.specs.declared.error.PipeError.TheVariants.{Memory}
 
@@ -23,14 +19,6 @@ IfGiven (Some cx) (inr (inr never)) P = ⊥
 abbrev pub AsksAgain : Context → Type 0
 AsksAgain cx = Covers cx (λ _. ⊤)
 
--- a copy that is pending has armed its task at the source
-abbrev pub Arms : {A : Type 0} → Poll A → ℕ → Context → Context → Type 0
-Arms r source old left = OnPending r (Covers left (λ s. s ≡ source))
-
 -- want of memory, since no waker could be made
 abbrev pub WantsWaker : Context → PipeError → Type 0
 WantsWaker cx e = (e ≡ Memory) × (cx.lacks_waker ≡ true)
-
--- a copy wants memory only where no waker could be made
-abbrev pub LacksWaker : {E : Type 0} → Poll (Result ℕ (Inner E)) → Context → Context → Type 0
-LacksWaker r old left = OnMemory r (left.lacks_waker ≡ true)

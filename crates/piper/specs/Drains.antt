@@ -1,27 +1,19 @@
 -- Drains of the reader into any destination.
-use Rattle.std.specs.Prelude.{◌≡◌, ℕ, ◌+◌, ◌-◌, ◌<◌, ◌⊎◌, true, false, List, [], ◌++◌, length, min, Option, Result, Ok, Err, ⊤}
-use Rattle.futures.specs.declared.task.context.Context.{Context}
+use Rattle.std.specs.Prelude.{◌≡◌, ℕ, ◌+◌, ◌-◌, ◌<◌, ◌⊎◌, false, List, [], ◌++◌, length, Option, Result, ⊤}
 use Rattle.futures.specs.declared.task.Poll.{Poll}
-use Rattle.futures.specs.declared.task.Poll.TheVariants.{Ready, Pending}
 use Rattle.futures.specs.Poll.{OnPending}
 use Rattle.piper_ring.specs.ReadView.{ReadView}
 use Rattle.piper.specs.Copies.{ReaderCopied}
 use Rattle.piper.specs.CopyAnswers.{Copies}
-use Rattle.piper.specs.Contexts.{AsksAgain}
 use Rattle.piper.specs.Ends.{IsEnded, ReaderConsumed, ReaderIsUpToDate}
 use Rattle.piper.specs.Like.{Passes, appends_to}
-use Rattle.piper.specs.Polls.{OnReadyOk, IfReadyOk}
+use Rattle.piper.specs.Polls.{OnReadyOk}
 use Rattle.piper.specs.declared.error.Inner.{Inner}
-use Rattle.piper.specs.declared.error.Inner.TheVariants.{Memory, Like}
 
 -- how many bytes the reader knew of after its look:
 -- those that it took since, and those that it knows of now
 abbrev pub found_len : ReadView → ReadView → ℕ
 found_len a b = length b.taken + length b.known - length a.taken
-
--- a drain that returns a count found a byte, or saw the pipe closed
-abbrev pub EndIsSeen : {E : Type 0} → Poll (Result ℕ E) → ReadView → ReadView → Type 0
-EndIsSeen r a b = OnReadyOk r (found_len a b ≡ 0 → b.saw ≡ true)
 
 -- a drain that returns a count found a byte, or the end: all that was ever published has been taken
 abbrev pub EndIsTrue : {E : Type 0} → Poll (Result ℕ E) → ReadView → ReadView → Type 0
@@ -31,15 +23,6 @@ EndIsTrue r a b = OnReadyOk r (found_len a b ≡ 0 → IsEnded b)
 abbrev pub EndIsUnseen : {E : Type 0} → Poll (Result ℕ E) → ReadView → ReadView → Type 0
 EndIsUnseen r a b =
     OnPending r (found_len a b ≡ 0 → (b.saw ≡ false) × (b.told_shut ≡ false))
-
--- a drain that is pending though it found a byte yields: it asked for another poll itself
-abbrev pub DrainYields : {E : Type 0}
-    → Poll (Result ℕ E) → ReadView → ReadView → Context → Type 0
-DrainYields r a b cx = OnPending r (0 < found_len a b → AsksAgain cx)
-
--- a drain into a slice of this length answers how many of the bytes that it found fit
-abbrev pub CountsWhatFits : {E : Type 0} → Poll (Result ℕ E) → ℕ → ReadView → ReadView → Type 0
-CountsWhatFits r space a b = IfReadyOk r (λ n. n ≡ min space (found_len a b))
 
 -- what the reader knew it still knows, but for what it took of it
 abbrev pub StaysKnown : ReadView → ReadView → Type 0
@@ -74,10 +57,3 @@ pub record Drains {S E : Type 0}
 abbrev pub DrainsInto : {S E : Type 0} → (S → Option (List ℕ)) → Poll (Result ℕ (Inner E))
     → ReadView → ReadView → S → S → Type 0
 DrainsInto contents r a b s t = Drains (appends_to contents) (λ _. ⊤) (λ _ _ _. ⊤) r a b s t
-
--- a look of a drain found no byte: the pipe was seen closed, or not, or no waker could be made
-abbrev pub FoundNoByte : {E : Type 0} → Poll (Result ℕ (Inner E)) → ReadView → Type 0
-FoundNoByte (Ready (Ok n)) r = (n ≡ 0) × (r.known ≡ []) × (r.saw ≡ true)
-FoundNoByte (Ready (Err Memory)) r = r.known ≡ []
-FoundNoByte (Ready (Err (Like e))) r = ⊥
-FoundNoByte Pending r = (r.known ≡ []) × (r.saw ≡ false) × (r.told_shut ≡ false)

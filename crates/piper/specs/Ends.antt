@@ -1,5 +1,5 @@
 -- What a step of a handle changes of its end, and so what it leaves as it was.
-use Rattle.std.specs.Prelude.{◌≡◌, ℕ, ◌+◌, ◌<◌, ◌≤◌, ◌++◌, length, true, false, []}
+use Rattle.std.specs.Prelude.{◌≡◌, ◌+◌, ◌≤◌, ◌++◌, length, true, []}
 use Rattle.piper_ring.specs.Shared.{flag}
 use Rattle.piper_ring.specs.ReadView.{ReadView, SameReadEnd}
 use Rattle.piper_ring.specs.WriteView.{WriteView, SameWriteEnd}
@@ -91,10 +91,6 @@ pub record WriterHeeded (a b : WriteView) : Type 0 where
   pub lent : b.lent ≡ a.lent
   pub shut : b.shut ≡ a.shut
   pub saw : b.saw ≡ a.saw
-
--- there is room, some is asked for, and the writer didn't close the pipe
-abbrev pub MustLend : WriteView → ℕ → Type 0
-MustLend w max = (w.shut ≡ false) × (0 < w.room) × (0 < max)
 
 -- the reader knows, or knew, of all that it was told of
 abbrev pub ReaderIsUpToDate : ReadView → Type 0

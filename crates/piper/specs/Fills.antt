@@ -1,16 +1,13 @@
 -- Fills of the writer from any source.
 use Rattle.std.specs.Prelude.{◌≡◌, ℕ, ◌<◌, ◌≤◌, ◌+◌, ◌⊎◌, true, false, List, [], ◌++◌, length, min, Option, Result, Ok, Err, ⊤}
-use Rattle.futures.specs.declared.task.context.Context.{Context}
 use Rattle.futures.specs.declared.task.Poll.{Poll}
 use Rattle.futures.specs.declared.task.Poll.TheVariants.{Ready, Pending}
-use Rattle.futures.specs.Poll.{OnPending}
 use Rattle.std.specs.Io.KnownBytes.{IsAtEnd}
 use Rattle.piper_ring.specs.Shared.{flag}
 use Rattle.piper_ring.specs.WriteView.{WriteView, SameWriteEnd, room_in_one_piece}
 use Rattle.piper_protocol.specs.declared.scripted.TheConstants.{MOST_A_ROUND}
 use Rattle.piper.specs.Copies.{IsReplaced}
 use Rattle.piper.specs.CopyAnswers.{Copies}
-use Rattle.piper.specs.Contexts.{AsksAgain}
 use Rattle.piper.specs.Ends.{WriterIsUpToDate}
 use Rattle.piper.specs.Like.{Passes, consumes_of}
 use Rattle.piper.specs.Polls.{IfReadyOk}
@@ -39,10 +36,6 @@ most_of_round w = min MOST_A_ROUND (room_in_one_piece w)
 -- of n bytes that were counted no more were lost than a round has
 abbrev pub LosesOneRound : ℕ → WriteView → WriteView → Type 0
 LosesOneRound n a b = length a.sent + n ≤ length b.sent + most_of_round b
-
--- a fill that is pending though there is room yields: it asked for another poll itself
-abbrev pub FillYields : {E : Type 0} → Poll (Result ℕ E) → WriteView → Context → Type 0
-FillYields r b cx = OnPending r (0 < b.room → AsksAgain cx)
 
 -- rounds from a to b: what was published is a beginning of what the source gave,
 -- and all of it unless the pipe was seen closed: then what the last round gave is lost
@@ -79,14 +72,6 @@ abbrev pub FillsFrom : {S E : Type 0} → (S → Option (List ℕ)) → Poll (Re
     → WriteView → WriteView → S → S → Type 0
 FillsFrom remaining r a b s t =
     Fills (consumes_of remaining) (λ u. IsAtEnd (remaining u)) (λ _ _ _. ⊤) r a b s t
-
--- a look of a fill was not true: the pipe was seen closed,
--- or there is no room, or no waker could be made
-abbrev pub FoundNoRoom : {E : Type 0} → Poll (Result ℕ (Inner E)) → WriteView → Type 0
-FoundNoRoom (Ready (Ok n)) w = (n ≡ 0) × (w.saw ≡ true)
-FoundNoRoom (Ready (Err Memory)) w = (w.room ≡ 0) × (w.saw ≡ false)
-FoundNoRoom (Ready (Err (Like e))) w = ⊥
-FoundNoRoom Pending w = (w.room ≡ 0) × (w.saw ≡ false)
 
 -- by its answer and what it leaves: the look of the fill was true
 abbrev pub FoundRoom : {E : Type 0} → Poll (Result ℕ (Inner E)) → WriteView → Type 0

@@ -1,10 +1,12 @@
 -- The two handles of a pipe.
-use Rattle.std.specs.Prelude.{◌≡◌, ℕ, List}
+use Rattle.std.specs.Prelude.{◌≡◌, ℕ, List, bit_xor}
 use Rattle.std.specs.Arc.{arc_value}
-use Rattle.std.specs.Borrow.{Fml, RattleType, MutBor, Array, Lends}
+use Rattle.std.specs.Borrow.{Fml, MutBor, Array, Lends}
 use denote.Builtin.{u8}
 use Rattle.piper_ring.specs.LendsBuffer.{with_lent}
 use Rattle.piper_ring.specs.SlotsView.{IsAtRest, IsReaderAtRest, SameReaderLooks, SameReaderPlace, SameWriterLooks, SameWriterPlace}
+use Rattle.piper_ring.specs.Opened.{FreshReadEnd, FreshWriteEnd}
+use Rattle.piper.specs.Generator.{generator}
 use Rattle.piper.specs.Slots.{source_of}
 use Rattle.piper.specs.declared.handles.Reader.{Reader}
 use Rattle.piper.specs.declared.handles.Writer.{Writer}
@@ -31,6 +33,17 @@ NotifiesWriter reader = IsReaderAtRest reader.end reader.registrations
 -- closed the pipe, and took who waited there
 abbrev pub NotifiesReader : Writer → Type 0
 NotifiesReader writer = IsAtRest writer.end writer.registrations
+
+-- the handles of a pipe that was just opened: nothing was stored, and nobody waits
+pub record AreFresh (cap : ℕ) (r : Reader) (w : Writer) : Type 0 where
+  pub reader : FreshReadEnd cap r.end
+  pub writer : FreshWriteEnd cap w.end
+  pub woken : NotifiesWriter r × NotifiesReader w
+
+-- the generators of the handles, before their first draw
+pub record DrawFrom (seed : ℕ) (r : Reader) (w : Writer) : Type 0 where
+  pub reader : r.rng ≡ generator seed
+  pub writer : w.rng ≡ generator (bit_xor seed 1)
 
 -- b waits as a does and wakes at the slots of a, and draws the same numbers next
 pub record SameReaderButWoke (a b : Reader) : Type 0 where

@@ -18,6 +18,10 @@ pub mod Handles
 pub mod Looks
 pub mod Owned
 pub mod Waits
+pub mod OfReader
+pub mod OfWriter
+pub mod ReaderCalls
+pub mod WriterCalls
 -- What the contracts of the ring's ends speak of.
 pub use Rattle.piper_ring.specs.ReadView
 pub use Rattle.piper_ring.specs.WriteView

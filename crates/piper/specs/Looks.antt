@@ -1,19 +1,45 @@
--- Looks of the two handles: what they return, and what they leave of their end.
+-- Looks of the two handles: what they find and return, and what they leave of their end.
 use Rattle.std.specs.Prelude.{◌≡◌, ◌<◌, ◌≤◌, Bool, true, false, [], length, Result, Ok, Err, ⊤}
 use Rattle.futures.specs.declared.task.Poll.{Poll}
 use Rattle.futures.specs.declared.task.Poll.TheVariants.{Ready, Pending}
 use Rattle.piper_ring.specs.Shared.{flag}
 use Rattle.piper_ring.specs.ReadView.{ReadView, SameReadEnd}
 use Rattle.piper_ring.specs.WriteView.{WriteView, SameWriteEnd}
-use Rattle.piper.specs.Ends.{ReaderIsUpToDate, WriterIsUpToDate}
+use Rattle.piper.specs.Ends.{IsEnded, ReaderIsUpToDate, WriterIsUpToDate}
+use Rattle.piper.specs.declared.looks.NoWork.{NoWork}
+use Rattle.piper.specs.declared.looks.NoWork.TheVariants as no_work
 
--- what a look of the reader returns: true with a byte known; false with none known and closed seen;
--- else none is known, and a pending one didn't see closed
+-- P holds where the look found nothing to do yet
+abbrev pub IfPending : {C : Type 0} → Result C NoWork → Type 0 → Type 0
+IfPending (Err no_work.Pending) P = P
+IfPending other P = ⊤
+
+-- P holds where no waker could be made
+abbrev pub IfRefused : {C : Type 0} → Result C NoWork → Type 0 → Type 0
+IfRefused (Err no_work.Refused) P = P
+IfRefused other P = ⊤
+
+-- there is nothing to do for the reader: no byte is known, the pipe was not seen closed, and no
+-- mark reported that the writer closed it
+pub record NothingYet (r : ReadView) : Type 0 where
+  pub known : r.known ≡ []
+  pub saw : r.saw ≡ false
+  pub told : r.told_shut ≡ false
+
+-- what a look of the reader finds: a byte; or none, and the end; or none, and the pipe open
+abbrev pub ReaderLookedFor : {C : Type 0} → Result C NoWork → ReadView → Type 0
+ReaderLookedFor (Ok call) r = 0 < length r.known
+ReaderLookedFor (Err no_work.Closed) r = IsEnded r
+ReaderLookedFor (Err no_work.Pending) r = NothingYet r
+ReaderLookedFor (Err no_work.Refused) r = r.known ≡ []
+
+-- what a poll of the reader returns: true with a byte known; false at the end; pending with nothing
+-- to do yet
 abbrev pub ReaderFound : {E : Type 0} → Poll (Result Bool E) → ReadView → Type 0
 ReaderFound (Ready (Ok true)) r = 0 < length r.known
-ReaderFound (Ready (Ok false)) r = (r.known ≡ []) × (r.saw ≡ true)
+ReaderFound (Ready (Ok false)) r = IsEnded r
 ReaderFound (Ready (Err e)) r = r.known ≡ []
-ReaderFound Pending r = (r.known ≡ []) × (r.saw ≡ false)
+ReaderFound Pending r = NothingYet r
 
 -- a look of the reader takes no byte, and what it saw of closed it keeps. It checks only where no
 -- byte is known, and then finds at least what the reader was told of
@@ -24,7 +50,13 @@ pub record ReaderLooked (a b : ReadView) : Type 0 where
   pub fresh : a.known ≡ [] → ReaderIsUpToDate b
   pub saw : flag a.saw ≤ flag b.saw
 
--- what a look of the writer returns: true with room known and closed not seen; false with closed
+-- what a look of the writer finds: room, and the pipe open; or the pipe closed; or neither
+abbrev pub WriterLookedFor : {C : Type 0} → Result C NoWork → WriteView → Type 0
+WriterLookedFor (Ok call) w = (0 < w.room) × (w.shut ≡ false) × (w.saw ≡ false)
+WriterLookedFor (Err no_work.Closed) w = w.saw ≡ true
+WriterLookedFor (Err other) w = (w.room ≡ 0) × (w.saw ≡ false)
+
+-- what a poll of the writer returns: true with room known and closed not seen; false with closed
 -- seen; else no room is known, and closed not seen
 abbrev pub WriterFound : {E : Type 0} → Poll (Result Bool E) → WriteView → Type 0
 WriterFound (Ready (Ok true)) w = (0 < w.room) × (w.saw ≡ false)

@@ -1,10 +1,11 @@
 -- What a handle is that waits in its slot, and that it is not forgotten there.
-use Rattle.std.specs.Prelude.{◌≡◌, ℕ, ◌+◌, ◌⊎◌, true, false, [], length}
+use Rattle.std.specs.Prelude.{◌≡◌, ◌+◌, ◌⊎◌, true, false, [], length}
+use Rattle.futures.specs.Task.{Covers}
 use Rattle.futures.specs.declared.task.context.Context.{Context}
-use Rattle.piper_ring.specs.ReadView.{ReadView}
 use Rattle.piper_ring.specs.SlotsView.{IsPending, IsWriterPending}
-use Rattle.piper_ring.specs.WriteView.{WriteView}
 use Rattle.piper.specs.Contexts.{AsksAgain}
+use Rattle.piper.specs.Handles.{read_source, write_source}
+use Rattle.piper.specs.Looks.{NothingYet}
 use Rattle.piper.specs.declared.handles.Reader.{Reader}
 use Rattle.piper.specs.declared.handles.Writer.{Writer}
 use Rattle.piper.specs.declared.finished.FinishedReader.{FinishedReader}
@@ -28,6 +29,17 @@ ReaderRegistered a b cx = ReaderWaits a b ⊎ AsksAgain cx
 abbrev pub WriterRegistered : Writer → Writer → Context → Type 0
 WriterRegistered a b cx = WriterWaits a b ⊎ AsksAgain cx
 
+-- a reader whose poll is pending: there is nothing to do yet; its task is armed at the reader's
+-- source, and is registered there, or asked for another poll itself
+pub record ReaderPends (a b : Reader) (cx : Context) : Type 0 where
+  pub nothing : NothingYet b.end
+  pub covered : Covers cx (λ s. s ≡ read_source a)
+  pub registered : ReaderRegistered a b cx
+
+pub record WriterPends (a b : Writer) (cx : Context) : Type 0 where
+  pub covered : Covers cx (λ s. s ≡ write_source a)
+  pub registered : WriterRegistered a b cx
+
 -- once a reader met its writer as b: the writer took its last ticket,
 -- or the reader has nothing to do, since no byte is unread and the pipe is open
 abbrev pub ReaderIsRemembered : Reader → Reader → Writer → Type 0
@@ -43,11 +55,11 @@ WriterIsRemembered a b reader =
     ⊎ ((b.end.room ≡ 0) × (b.end.shut ≡ false))
 
 -- after the close by which it left, the reader checked the writer's slot
-pub record ReaderWokeLast (end : ReadView) (left : FinishedReader) : Type 0 where
-  pub count : left.registrations.count ≡ length end.taken
+pub record ReaderWokeLast (reader : Reader) (left : FinishedReader) : Type 0 where
+  pub count : left.registrations.count ≡ length reader.end.taken
   pub over : left.registrations.over ≡ true
 
 -- after the close by which it left, the writer checked the reader's slot
-pub record WriterWokeLast (end : WriteView) (left : FinishedWriter) : Type 0 where
-  pub bytes : left.registrations.bytes ≡ end.sent
+pub record WriterWokeLast (writer : Writer) (left : FinishedWriter) : Type 0 where
+  pub bytes : left.registrations.bytes ≡ writer.end.sent
   pub shut : left.registrations.shut ≡ true

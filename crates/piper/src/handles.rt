@@ -25,8 +25,8 @@ pub(crate) struct Slots {
 
 /// The reading side of a pipe.
 ///
-/// It is made by `pipe`, can't be cloned, and has to be spent by its call `drop`. In clauses, `end`
-/// is the view of the end that `end()` lends.
+/// It is made by `pipe`, can't be cloned, and has to be spent by its call `drop`. Clauses see what
+/// it knows by functions of it: `taken`, `known`, `capacity` and others.
 pub struct Reader {
     end: ReadEnd,
     /// How it waits in its slot, and what it had stored when it last checked the writer's.
@@ -39,8 +39,8 @@ pub struct Reader {
 
 /// The writing side of a pipe.
 ///
-/// It is made by `pipe`, can't be cloned, and has to be spent by its call `drop`. In clauses, `end`
-/// is the view of the end that `end()` lends.
+/// It is made by `pipe`, can't be cloned, and has to be spent by its call `drop`. Clauses see what
+/// it knows by functions of it: `sent`, `room`, `capacity` and others.
 pub struct Writer {
     end: WriteEnd,
     /// How it waits in its slot, and what it had stored when it last checked the reader's.

@@ -38,6 +38,9 @@ pub trait AsyncRead {
     // a call with this context has failed with this error, and left it so
     ghost fails: { Self → Context → PipeError → Type 0 } = { λ _ _ _. ⊤ };
 
+    // the other side was woken after all that this side stored
+    ghost woken: { Self → Type 0 } = { λ _. ⊤ };
+
     /// Takes bytes, puts them at the front of `dest`, and returns how many; 0 where `dest` has room
     /// is the end, after which no byte comes and no call waits. A reader that was told of the end
     /// is pending only where it asked for another poll itself.
@@ -47,11 +50,11 @@ pub trait AsyncRead {
         ensures end { result ≡ Poll.Ready (Ok 0) → 0 < length dest.old → ended self.new }
         ensures after { ended self.old →
             TakesNone result (ended self.new) (taken self.old) (taken self.new) }
-        ensures told { told self.new ≡ told self.old }
-        ensures heeded { OnPending result (told self.old ≡ true → AsksAgain cx.new) }
+        ensures stays { (told self.new ≡ told self.old) × (saw self.old ≡ true → saw self.new ≡ true) }
+        ensures pending { OnPending result (Covers cx.new (needs self.new)
+            × (told self.old ≡ true → AsksAgain cx.new)) }
         ensures error { IfReadyErr result (fails self.new cx.new) }
-        ensures stays { saw self.old ≡ true → saw self.new ≡ true }
-        ensures covered { OnPending result (Covers cx.new (needs self.new)) }
+        ensures woken { woken self.old → woken self.new }
         ensures kept { Keeps cx.old cx.new };
 }
 
@@ -84,6 +87,9 @@ pub trait AsyncBufRead {
     // a call with this context has failed with this error, and left it so
     ghost fails: { Self → Context → PipeError → Type 0 } = { λ _ _ _. ⊤ };
 
+    // the other side was woken after all that this side stored
+    ghost woken: { Self → Type 0 } = { λ _. ⊤ };
+
     /// Lends the first piece of the bytes that it knows; an empty slice is the end, after which no
     /// byte comes and no call waits. Bytes that were known stay known, and none is taken. A reader
     /// that was told of the end is not pending.
@@ -99,7 +105,8 @@ pub trait AsyncBufRead {
             × IfReadyErr result (fails new cx.new)
             × (told new ≡ told self.old)
             × OnPending result (told new ≡ false)
-            × OnPending result (Covers cx.new (needs new)))) }
+            × OnPending result (Covers cx.new (needs new))
+            × (woken self.old → woken new))) }
         ensures kept { Keeps cx.old cx.new };
 
     /// Takes the first `amt` bytes of the piece.
@@ -109,7 +116,8 @@ pub trait AsyncBufRead {
         ensures taken { taken self.new ≡ taken self.old ++ take amt (known self.old) }
         ensures saw { saw self.new ≡ saw self.old }
         ensures told { told self.new ≡ told self.old }
-        ensures end { ended self.old → ended self.new };
+        ensures end { ended self.old → ended self.new }
+        ensures woken { woken self.old → woken self.new };
 }
 
 /// A writer.
@@ -129,6 +137,9 @@ pub trait AsyncWrite {
     // a call with this context has failed with this error, and left it so
     ghost fails: { Self → Context → PipeError → Type 0 } = { λ _ _ _. ⊤ };
 
+    // the other side was woken after all that this side stored
+    ghost woken: { Self → Type 0 } = { λ _. ⊤ };
+
     /// Publishes bytes from the front of `source`, and returns how many; 0 where there are some
     /// says that the pipe is closed, and so does each later answer. Bytes that were counted in the
     /// call that sees the pipe closed may be lost.
@@ -140,14 +151,16 @@ pub trait AsyncWrite {
         ensures over { saw self.old ≡ true → result ≡ Poll.Ready (Ok 0) }
         ensures stays { saw self.old ≡ true → saw self.new ≡ true }
         ensures covered { OnPending result (Covers cx.new (needs self.new)) }
+        ensures woken { woken self.old → woken self.new }
         ensures kept { Keeps cx.old cx.new };
 
     /// Waits until what was written is on its way.
     fn poll_flush(&mut self, cx: &mut Context<'_>) -> Poll<Result<(), PipeError>>
         ensures error { IfReadyErr result (fails self.new cx.new) }
         ensures sent { sent self.new ≡ sent self.old }
-        ensures stays { saw self.old ≡ true → saw self.new ≡ true }
+        ensures saw { saw self.new ≡ saw self.old }
         ensures covered { OnPending result (Covers cx.new (needs self.new)) }
+        ensures woken { woken self.old → woken self.new }
         ensures kept { Keeps cx.old cx.new };
 
     /// Closes the pipe for good.
@@ -157,5 +170,6 @@ pub trait AsyncWrite {
         ensures sent { sent self.new ≡ sent self.old }
         ensures stays { saw self.old ≡ true → saw self.new ≡ true }
         ensures covered { OnPending result (Covers cx.new (needs self.new)) }
+        ensures woken { woken self.old → woken self.new }
         ensures kept { Keeps cx.old cx.new };
 }

@@ -9,6 +9,7 @@ mod finished;
 mod handles;
 pub mod io;
 pub mod like;
+mod looks;
 mod owned;
 mod reader;
 mod slot;

@@ -1,12 +1,10 @@
 //! Handles that are dropped automatically, for a thread or a task that takes one with it.
-ghost use Rattle.std.specs.Prelude.{◌≡◌, ◌*◌, ◌^◌, ◌<◌, IfOk, Ok, bit_xor};
+ghost use Rattle.std.specs.Prelude.{◌≡◌, ◌*◌, ◌^◌, ◌<◌, IfOk, Ok};
 ghost use Rattle.std.specs.Borrow.{sem};
 ghost use Rattle.futures.specs.Task.{Keeps};
-ghost use Rattle.piper_ring.specs.Opened.{FreshReadEnd, FreshWriteEnd};
 ghost use Rattle.piper.specs.Contexts.{WantsWaker};
-ghost use Rattle.piper.specs.Ends.{IsEnded, WriterShut};
-ghost use Rattle.piper.specs.Generator.{generator};
-ghost use Rattle.piper.specs.Handles.{ArePair};
+ghost use Rattle.piper.specs.Ends.{IsEnded};
+ghost use Rattle.piper.specs.Handles.{AreFresh, ArePair, DrawFrom};
 
 use crate::error::PipeError;
 use crate::handles::{Reader, Writer, pipe};
@@ -14,6 +12,7 @@ use crate::io::{AsyncBufRead, AsyncRead, AsyncWrite};
 use futures::task::{Context, Poll};
 use piper_ring::OutOfMemory;
 use std::alloc::Global;
+use std::marker::Model;
 use std::ops::{Deref, DerefMut};
 
 /// Where the generators of a pipe begin for which no seed is chosen.
@@ -21,16 +20,32 @@ pub const DEFAULT_SEED: u64 = 0;
 
 /// A reader that is dropped automatically: it closes the pipe and wakes the writer.
 ///
-/// Each call of [`Reader`] can be made on it, with the same contract.
+/// Each call of [`Reader`] can be made on it, with the same contract: in clauses it is its reader.
 pub struct OwnedReader {
     reader: Reader,
 }
 
+impl Model for OwnedReader {
+    ghost use Rattle.piper.specs.declared.handles.Reader.{Reader};
+
+    ghost Value = { Reader };
+
+    ghost view = { λ owned. owned.reader };
+}
+
 /// A writer that is dropped automatically: it closes the pipe and wakes the reader.
 ///
-/// Each call of [`Writer`] can be made on it, with the same contract.
+/// Each call of [`Writer`] can be made on it, with the same contract: in clauses it is its writer.
 pub struct OwnedWriter {
     writer: Writer,
+}
+
+impl Model for OwnedWriter {
+    ghost use Rattle.piper.specs.declared.handles.Writer.{Writer};
+
+    ghost Value = { Writer };
+
+    ghost view = { λ owned. owned.writer };
 }
 
 /// Creates a pipe of `cap` bytes whose handles are dropped automatically.
@@ -39,11 +54,9 @@ pub struct OwnedWriter {
 /// back.
 pub fn owned_pipe(alloc: Global, cap: usize) -> Result<(OwnedReader, OwnedWriter), OutOfMemory>
     requires { (0 < cap) × (2 * cap < 2 ^ 64) }
-    ensures pair { IfOk result (λ (owned, other). ArePair owned.reader other.writer) }
-    ensures reader { IfOk result (λ (owned, _). FreshReadEnd cap owned.reader.end) }
-    ensures writer { IfOk result (λ (_, owned). FreshWriteEnd cap owned.writer.end) }
-    ensures reader_rng { IfOk result (λ (owned, _). owned.reader.rng ≡ generator 0) }
-    ensures writer_rng { IfOk result (λ (_, owned). owned.writer.rng ≡ generator (bit_xor 0 1)) }
+    ensures pair { IfOk result (λ (reader, writer). ArePair reader writer) }
+    ensures fresh { IfOk result (λ (reader, writer). AreFresh cap reader writer) }
+    ensures draws { IfOk result (λ (reader, writer). DrawFrom 0 reader writer) }
 {
     let (reader, writer) = pipe(alloc, cap, DEFAULT_SEED)?;
     Ok((OwnedReader { reader }, OwnedWriter { writer }))
@@ -53,7 +66,7 @@ impl OwnedReader {
     ghost use Rattle.piper.specs.Owned.{lends_reader};
 
     pub fn new(reader: Reader) -> OwnedReader
-        ensures { result.reader ≡ reader }
+        ensures { result ≡ reader }
     {
         OwnedReader { reader }
     }
@@ -61,14 +74,14 @@ impl OwnedReader {
     /// The reader.
     pub fn get_mut(&mut self) -> &mut Reader
         ensures* lends { sem 𝓛 (lends_reader self.entry result) }
-        ensures value { result.now ≡ self.old.reader }
+        ensures value { result.now ≡ self.old }
     {
         &mut self.reader
     }
 
     /// The reader, by a shared reference.
     pub fn get_ref(&self) -> &Reader
-        ensures { result.now ≡ self.now.reader }
+        ensures { result.now ≡ self.now }
     {
         &self.reader
     }
@@ -76,7 +89,7 @@ impl OwnedReader {
     /// The reader itself, which has to be spent by its call `drop`. The pipe is as it was: it is
     /// not closed.
     pub fn into_inner(self) -> Reader
-        ensures { result ≡ self.reader }
+        ensures { result ≡ self }
     {
         let OwnedReader { reader } = self;
         reader
@@ -87,7 +100,7 @@ impl OwnedWriter {
     ghost use Rattle.piper.specs.Owned.{lends_writer};
 
     pub fn new(writer: Writer) -> OwnedWriter
-        ensures { result.writer ≡ writer }
+        ensures { result ≡ writer }
     {
         OwnedWriter { writer }
     }
@@ -95,14 +108,14 @@ impl OwnedWriter {
     /// The writer.
     pub fn get_mut(&mut self) -> &mut Writer
         ensures* lends { sem 𝓛 (lends_writer self.entry result) }
-        ensures value { result.now ≡ self.old.writer }
+        ensures value { result.now ≡ self.old }
     {
         &mut self.writer
     }
 
     /// The writer, by a shared reference.
     pub fn get_ref(&self) -> &Writer
-        ensures { result.now ≡ self.now.writer }
+        ensures { result.now ≡ self.now }
     {
         &self.writer
     }
@@ -110,7 +123,7 @@ impl OwnedWriter {
     /// The writer itself, which has to be spent by its call `drop`. The pipe is as it was: it is
     /// not closed.
     pub fn into_inner(self) -> Writer
-        ensures { result ≡ self.writer }
+        ensures { result ≡ self }
     {
         let OwnedWriter { writer } = self;
         writer
@@ -121,7 +134,7 @@ impl OwnedWriter {
 impl Deref for OwnedReader {
     type Target = Reader;
 
-    ghost deref_gives = { λ owned reader. reader ≡ owned.reader };
+    ghost deref_gives = { λ owned reader. reader ≡ owned };
 
     fn deref(&self) -> &Reader {
         &self.reader
@@ -131,11 +144,11 @@ impl Deref for OwnedReader {
 impl DerefMut for OwnedReader {
     ghost use Rattle.piper.specs.Owned.{lends_reader};
 
-    ghost deref_mut_gives = { λ owned reader. reader ≡ owned.reader };
+    ghost deref_mut_gives = { λ owned reader. reader ≡ owned };
 
     fn deref_mut(&mut self) -> &mut Reader
         ensures* lends { sem 𝓛 (lends_reader self.entry result) }
-        ensures shows { result.now ≡ self.old.reader }
+        ensures shows { result.now ≡ self.old }
     {
         &mut self.reader
     }
@@ -145,7 +158,7 @@ impl DerefMut for OwnedReader {
 impl Deref for OwnedWriter {
     type Target = Writer;
 
-    ghost deref_gives = { λ owned writer. writer ≡ owned.writer };
+    ghost deref_gives = { λ owned writer. writer ≡ owned };
 
     fn deref(&self) -> &Writer {
         &self.writer
@@ -155,11 +168,11 @@ impl Deref for OwnedWriter {
 impl DerefMut for OwnedWriter {
     ghost use Rattle.piper.specs.Owned.{lends_writer};
 
-    ghost deref_mut_gives = { λ owned writer. writer ≡ owned.writer };
+    ghost deref_mut_gives = { λ owned writer. writer ≡ owned };
 
     fn deref_mut(&mut self) -> &mut Writer
         ensures* lends { sem 𝓛 (lends_writer self.entry result) }
-        ensures shows { result.now ≡ self.old.writer }
+        ensures shows { result.now ≡ self.old }
     {
         &mut self.writer
     }
@@ -180,19 +193,21 @@ impl Drop for OwnedWriter {
 }
 
 impl AsyncRead for OwnedReader {
-    ghost use Rattle.piper.specs.Handles.{read_source};
+    ghost use Rattle.piper.specs.Handles.{NotifiesWriter, read_source};
 
-    ghost taken = { λ owned. owned.reader.end.taken };
+    ghost taken = { λ owned. owned.end.taken };
 
-    ghost saw = { λ owned. owned.reader.end.saw };
+    ghost saw = { λ owned. owned.end.saw };
 
-    ghost told = { λ owned. owned.reader.end.told_shut };
+    ghost told = { λ owned. owned.end.told_shut };
 
-    ghost ended = { λ owned. IsEnded owned.reader.end };
+    ghost ended = { λ owned. IsEnded owned.end };
 
-    ghost needs = { λ owned s. s ≡ read_source owned.reader };
+    ghost needs = { λ owned s. s ≡ read_source owned };
 
     ghost fails = { λ _ cx e. WantsWaker cx e };
+
+    ghost woken = { NotifiesWriter };
 
     fn poll_read(
         &mut self,
@@ -205,23 +220,25 @@ impl AsyncRead for OwnedReader {
 
 impl AsyncBufRead for OwnedReader {
     ghost use Rattle.piper_ring.specs.ReadView.{in_one_piece};
-    ghost use Rattle.piper.specs.Handles.{read_source};
+    ghost use Rattle.piper.specs.Handles.{NotifiesWriter, read_source};
 
-    ghost known = { λ owned. owned.reader.end.known };
+    ghost known = { λ owned. owned.end.known };
 
-    ghost piece = { λ owned. in_one_piece owned.reader.end };
+    ghost piece = { λ owned. in_one_piece owned.end };
 
-    ghost taken = { λ owned. owned.reader.end.taken };
+    ghost taken = { λ owned. owned.end.taken };
 
-    ghost saw = { λ owned. owned.reader.end.saw };
+    ghost saw = { λ owned. owned.end.saw };
 
-    ghost told = { λ owned. owned.reader.end.told_shut };
+    ghost told = { λ owned. owned.end.told_shut };
 
-    ghost ended = { λ owned. IsEnded owned.reader.end };
+    ghost ended = { λ owned. IsEnded owned.end };
 
-    ghost needs = { λ owned s. s ≡ read_source owned.reader };
+    ghost needs = { λ owned s. s ≡ read_source owned };
 
     ghost fails = { λ _ cx e. WantsWaker cx e };
+
+    ghost woken = { NotifiesWriter };
 
     fn poll_fill_buf(&mut self, cx: &mut Context<'_>) -> Poll<Result<&[u8], PipeError>> {
         self.reader.poll_fill_buf(cx)
@@ -233,15 +250,18 @@ impl AsyncBufRead for OwnedReader {
 }
 
 impl AsyncWrite for OwnedWriter {
-    ghost use Rattle.piper.specs.Handles.{NotifiesReader, SameWriterButSlots, write_source};
+    ghost use Rattle.piper.specs.Handles.{NotifiesReader, write_source};
+    ghost use Rattle.piper.specs.WriterCalls.{SameWriterButShut};
 
-    ghost sent = { λ owned. owned.writer.end.sent };
+    ghost sent = { λ owned. owned.end.sent };
 
-    ghost saw = { λ owned. owned.writer.end.saw };
+    ghost saw = { λ owned. owned.end.saw };
 
-    ghost needs = { λ owned s. s ≡ write_source owned.writer };
+    ghost needs = { λ owned s. s ≡ write_source owned };
 
     ghost fails = { λ _ cx e. WantsWaker cx e };
+
+    ghost woken = { NotifiesReader };
 
     fn poll_write(
         &mut self,
@@ -253,18 +273,17 @@ impl AsyncWrite for OwnedWriter {
 
     fn poll_flush(&mut self, cx: &mut Context<'_>) -> Poll<Result<(), PipeError>>
         ensures answer { result ≡ Poll.Ready (Ok (record {})) }
-        ensures handle { self.new ≡ self.old }
-        ensures kept { Keeps cx.old cx.new }
+        ensures context { Keeps cx.old cx.new }
+        ensures rest { self.new ≡ self.old }
     {
         self.writer.poll_flush(cx)
     }
 
     fn poll_close(&mut self, cx: &mut Context<'_>) -> Poll<Result<(), PipeError>>
         ensures answer { result ≡ Poll.Ready (Ok (record {})) }
-        ensures shut { WriterShut self.old.writer.end self.new.writer.end }
-        ensures woke { NotifiesReader self.new.writer }
-        ensures handle { SameWriterButSlots self.old.writer self.new.writer }
-        ensures kept { Keeps cx.old cx.new }
+        ensures woken { NotifiesReader self.new }
+        ensures context { Keeps cx.old cx.new }
+        ensures rest { SameWriterButShut self.old self.new }
     {
         AsyncWrite::poll_close(&mut self.writer, cx)
     }

@@ -1,50 +1,51 @@
 //! The calls of the handle that writes.
-ghost use Rattle.std.specs.Prelude.{◌≡◌, ◌+◌, ◌-◌, ◌<◌, ◌≤◌, ◌++◌, length, take, drop, IsTrue, Ok, true, false};
-ghost use Rattle.futures.specs.Task.{Covers, Keeps};
+ghost use Rattle.std.specs.Prelude.{◌≡◌, ◌+◌, ◌≤◌, ◌++◌, length, take, drop, IsTrue, Ok, true};
+ghost use Rattle.futures.specs.Task.{Keeps};
 ghost use Rattle.futures.specs.Poll.{OnPending};
-ghost use Rattle.piper_ring.specs.WriteView.{MayBeUnread};
-ghost use Rattle.piper.specs.Counts.{WriterCompares};
-ghost use Rattle.piper.specs.Ends.{WriterPublished, WriterShut};
-ghost use Rattle.piper.specs.Looks.{WriterFound, WriterLooked, OnRefused};
+ghost use Rattle.piper.specs.Looks.{OnRefused};
 
 use crate::answers::polled;
 use crate::finished::FinishedWriter;
 use crate::handles::Writer;
 use crate::handles::write_steps::write_wake;
+use crate::looks::NoWork;
 use futures::task::{Context, Poll};
 use piper_protocol::table::Purpose;
 use piper_protocol::write_call::WriteCall;
 use piper_ring::{OutOfMemory, WriteMark};
 
 impl Writer {
-    ghost use Rattle.piper.specs.Handles.{NotifiesReader, SameWriterButSlots, SameWriterButWaits, SameWriterButWoke, write_source};
-    ghost use Rattle.piper.specs.Waits.{WriterRegistered, WriterWokeLast};
+    ghost use Rattle.piper.specs.Counts.{WriterCompares};
+    ghost use Rattle.piper.specs.Handles.{NotifiesReader, SameWriterButWaits};
+    ghost use Rattle.piper.specs.OfWriter.{ring, capacity, sent, room, lent, shut, saw};
+    ghost use Rattle.piper.specs.Waits.{WriterPends, WriterWokeLast};
+    ghost use Rattle.piper.specs.WriterCalls.{MayBeUnread, Polled, SameWriterButPublished, SameWriterButShut};
 
     /// How many bytes are unread now: it counts all of those that the writer learned of from marks
     /// as consumed. The reader may consume more at any time.
     pub fn len(&self) -> usize
-        ensures { MayBeUnread self.now.end result }
+        ensures { MayBeUnread self.now result }
     {
         self.end().len()
     }
 
     /// Whether nothing is unread now. It compares such a count as `len` answers with 0.
     pub fn is_empty(&self) -> bool
-        ensures { WriterCompares self.now.end 0 result }
+        ensures { WriterCompares self.now 0 result }
     {
         self.end().is_empty()
     }
 
     /// How many bytes the pipe can hold at a time.
     pub fn capacity(&self) -> usize
-        ensures { result ≡ self.now.end.capacity }
+        ensures { result ≡ capacity self.now }
     {
         self.end().capacity()
     }
 
     /// Whether the pipe is full now. It compares such a count as `len` answers with the capacity.
     pub fn is_full(&self) -> bool
-        ensures { WriterCompares self.now.end self.now.end.capacity result }
+        ensures { WriterCompares self.now (capacity self.now) result }
     {
         self.end().is_full()
     }
@@ -52,7 +53,7 @@ impl Writer {
     /// Whether the pipe is closed now: a handle was dropped, or this one closed the pipe. Once the
     /// writer saw it closed, or closed it, the answer is `true`.
     pub fn is_closed(&self) -> bool
-        ensures { self.now.end.saw ≡ true → IsTrue result }
+        ensures { saw self.now ≡ true → IsTrue result }
     {
         self.end().is_closed()
     }
@@ -64,48 +65,30 @@ impl Writer {
     /// consumed or the pipe is closed. It checks for more room only where none is known. Where no
     /// waker can be made the answer is want of memory.
     pub fn poll(&mut self, cx: &mut Context<'_>) -> Poll<Result<bool, OutOfMemory>>
-        ensures answer { WriterFound result self.new.end }
-        ensures looked { WriterLooked self.old.end self.new.end }
-        ensures refused { OnRefused result (cx.new.lacks_waker ≡ true) }
+        ensures found { Polled result self.old self.new }
+        ensures pending { OnPending result (WriterPends self.old self.new cx.new) }
+        ensures memory { OnRefused result (cx.new.lacks_waker ≡ true) }
+        ensures context { Keeps cx.old cx.new }
         ensures rest { SameWriterButWaits self.old self.new }
-        ensures covered { OnPending result (Covers cx.new (λ s. s ≡ write_source self.old)) }
-        ensures waits { OnPending result (WriterRegistered self.old self.new cx.new) }
-        ensures kept { Keeps cx.old cx.new }
     {
-        let (call, is_closed, none) = self.look_closed(WriteCall::look(Purpose::Poll));
-        if is_closed {
-            return polled(call.end());
+        match self.poll_inner(Purpose::Poll, cx) {
+            Ok(call) => polled(self.take_own(call).end()),
+            Err(NoWork::Closed) => Poll::Ready(Ok(false)),
+            Err(NoWork::Pending) => Poll::Pending,
+            Err(NoWork::Refused) => Poll::Ready(Err(OutOfMemory)),
         }
-        if !none {
-            return polled(self.take_own(call).end());
-        }
-        let (call, none) = self.load_head(call);
-        if !none {
-            return polled(self.take_own(call).end());
-        }
-        let (call, is_granted) = self.register(call, cx);
-        if !is_granted {
-            return polled(call.end());
-        }
-        let (call, none) = self.load_head(call);
-        if !none {
-            return polled(self.take_own(call).end());
-        }
-        let (call, _) = self.load_closed(call);
-        polled(call.end())
     }
 
     /// Publishes the first `n` bytes of what is left of the slice last lent, as they are, and wakes
     /// the reader.
     #[inline(always)]
     pub fn produced(&mut self, n: usize)
-        requires { n ≤ length self.old.end.lent }
-        ensures sent { self.new.end.sent ≡ self.old.end.sent ++ take n self.old.end.lent }
-        ensures lent { self.new.end.lent ≡ drop n self.old.end.lent }
-        ensures room { self.new.end.room + n ≡ self.old.end.room }
-        ensures woke { NotifiesReader self.new }
-        ensures end { WriterPublished self.old.end self.new.end }
-        ensures rest { SameWriterButWoke self.old self.new }
+        requires { n ≤ length (lent self.old) }
+        ensures sent { sent self.new ≡ sent self.old ++ take n (lent self.old) }
+        ensures lent { lent self.new ≡ drop n (lent self.old) }
+        ensures room { room self.new + n ≡ room self.old }
+        ensures woken { NotifiesReader self.new }
+        ensures rest { SameWriterButPublished self.old self.new }
     {
         let call = self.store_tail(WriteCall::produced(n), n);
         self.wake_reader(call).done();
@@ -115,10 +98,9 @@ impl Writer {
     /// is taken back.
     pub fn poll_close(&mut self, cx: &mut Context<'_>) -> Poll<Result<(), OutOfMemory>>
         ensures answer { result ≡ Poll.Ready (Ok (record {})) }
-        ensures woke { NotifiesReader self.new }
-        ensures end { WriterShut self.old.end self.new.end }
-        ensures rest { SameWriterButSlots self.old self.new }
-        ensures kept { Keeps cx.old cx.new }
+        ensures woken { NotifiesReader self.new }
+        ensures context { Keeps cx.old cx.new }
+        ensures rest { SameWriterButShut self.old self.new }
     {
         let _unused = cx;
         let call = self.shut(WriteCall::close());
@@ -129,9 +111,9 @@ impl Writer {
 
     /// Evidence of what was published, for the reader to heed.
     pub fn mark(&self) -> WriteMark
-        ensures ring { result.names ≡ self.now.end.ring.names }
-        ensures bytes { result.bytes ≡ self.now.end.sent }
-        ensures shut { result.shut ≡ self.now.end.shut }
+        ensures ring { result.names ≡ (ring self.now).names }
+        ensures bytes { result.bytes ≡ sent self.now }
+        ensures shut { result.shut ≡ shut self.now }
     {
         self.end().mark()
     }
@@ -143,10 +125,10 @@ impl Writer {
     /// published, that the pipe is closed, and that after the store that closed, whoever was
     /// registered in the reader's slot was taken, and its waker called.
     pub fn drop(self) -> FinishedWriter
-        ensures ring { result.told.names ≡ self.end.ring.names }
-        ensures bytes { result.told.bytes ≡ self.end.sent }
+        ensures ring { result.told.names ≡ (ring self).names }
+        ensures bytes { result.told.bytes ≡ sent self }
         ensures shut { result.told.shut ≡ true }
-        ensures woke { WriterWokeLast self.end result }
+        ensures woken { WriterWokeLast self result }
     {
         let (call, taken, left) = self.close_and_take(WriteCall::drop());
         write_wake(call, taken).done();

@@ -35,7 +35,7 @@ struct Counting {
 impl Future for Counting {
     type Output = ();
 
-    ghost needs = { λ counting s. s ≡ read_source counting.reader.reader };
+    ghost needs = { λ counting s. s ≡ read_source counting.reader };
 
     fn poll(&mut self, cx: &mut Context<'_>) -> Poll<()> {
         let mut place = [0; 64];

@@ -1,2 +1,3 @@
 pub mod Crosswise
 pub mod Echoes
+pub mod OwnedEnds

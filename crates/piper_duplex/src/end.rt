@@ -1,7 +1,9 @@
 //! The two ends of a duplex stream. Each reads from the one pipe and writes into the other.
 ghost use Rattle.std.specs.Prelude.{◌≡◌, ◌*◌, ◌^◌, ◌<◌, IfOk, length};
 ghost use Rattle.piper.specs.Waits.{ReaderWokeLast, WriterWokeLast};
-ghost use Rattle.piper_duplex.specs.Crosswise.{IsNewPipe};
+ghost use Rattle.piper.specs.OfReader.{ring, taken};
+ghost use Rattle.piper.specs.OfWriter as of_writer;
+ghost use Rattle.piper_duplex.specs.Crosswise.{IsNewPipe, reading, writing};
 
 mod streams;
 
@@ -12,8 +14,8 @@ use std::fmt::{self, Debug, Formatter};
 /// One end of a duplex stream.
 ///
 /// It is made by `duplex`, can't be cloned, and has to be spent: by its call `drop`, or by
-/// `into_halves`. In clauses, `reader` and `writer` are the handles that the calls of these names
-/// lend.
+/// `into_halves`. In clauses, `reading` and `writing` are the handles that the calls `reader` and
+/// `writer` lend.
 pub struct End {
     reader: Reader,
     writer: Writer,
@@ -32,9 +34,9 @@ pub fn duplex(
     requires there { (0 < cap_a) × (2 * cap_a < 2 ^ 64) }
     requires back { (0 < cap_b) × (2 * cap_b < 2 ^ 64) }
     ensures there { IfOk result
-        (λ (first, second). IsNewPipe cap_a seed second.reader first.writer) }
+        (λ (first, second). IsNewPipe cap_a seed (reading second) (writing first)) }
     ensures back { IfOk result
-        (λ (first, second). IsNewPipe cap_b seed first.reader second.writer) }
+        (λ (first, second). IsNewPipe cap_b seed (reading first) (writing second)) }
 {
     let (there_reader, there_writer) = pipe(alloc, cap_a, seed)?;
     let (back_reader, back_writer) = match pipe(alloc, cap_b, seed) {
@@ -61,14 +63,14 @@ impl End {
 
     /// The handle that reads what the other end writes.
     pub fn reader(&self) -> &Reader
-        ensures { result.now ≡ self.now.reader }
+        ensures { result.now ≡ reading self.now }
     {
         &self.reader
     }
 
     /// The handle that writes what the other end reads.
     pub fn writer(&self) -> &Writer
-        ensures { result.now ≡ self.now.writer }
+        ensures { result.now ≡ writing self.now }
     {
         &self.writer
     }
@@ -76,8 +78,8 @@ impl End {
     /// Both handles, each for itself: for two tasks, or for a reader of lines over the one and
     /// answers through the other.
     pub fn into_halves(self) -> (Reader, Writer)
-        ensures reader { result.0 ≡ self.reader }
-        ensures writer { result.1 ≡ self.writer }
+        ensures reader { result.0 ≡ reading self }
+        ensures writer { result.1 ≡ writing self }
     {
         let End { reader, writer } = self;
         (reader, writer)
@@ -86,10 +88,12 @@ impl End {
     /// Both ends held by one thread: then each reader knows of all that the writer at the other end
     /// published, in its order. It takes no memory.
     pub fn meet(&mut self, other: &mut End)
-        requires there { self.old.writer.end.ring ≡ other.old.reader.end.ring }
-        requires back { other.old.writer.end.ring ≡ self.old.reader.end.ring }
-        ensures there { HaveMet other.old.reader other.new.reader self.old.writer self.new.writer }
-        ensures back { HaveMet self.old.reader self.new.reader other.old.writer other.new.writer }
+        requires there { of_writer.ring (writing self.old) ≡ ring (reading other.old) }
+        requires back { of_writer.ring (writing other.old) ≡ ring (reading self.old) }
+        ensures there { HaveMet (reading other.old) (reading other.new)
+            (writing self.old) (writing self.new) }
+        ensures back { HaveMet (reading self.old) (reading self.new)
+            (writing other.old) (writing other.new) }
     {
         other.reader.meet(&mut self.writer);
         self.reader.meet(&mut other.writer);
@@ -99,12 +103,12 @@ impl End {
     /// What is unread there can still be read. The answer is what is left of both handles, for those
     /// of the other end to take in.
     pub fn drop(self) -> (FinishedReader, FinishedWriter)
-        ensures ring { (result.0.told.consumed.names ≡ self.reader.end.ring.names)
-            × (result.1.told.names ≡ self.writer.end.ring.names) }
-        ensures taken { result.0.told.consumed.count ≡ length self.reader.end.taken }
-        ensures sent { result.1.told.bytes ≡ self.writer.end.sent }
-        ensures woke { ReaderWokeLast self.reader.end result.0
-            × WriterWokeLast self.writer.end result.1 }
+        ensures ring { (result.0.told.consumed.names ≡ (ring (reading self)).names)
+            × (result.1.told.names ≡ (of_writer.ring (writing self)).names) }
+        ensures taken { result.0.told.consumed.count ≡ length (taken (reading self)) }
+        ensures sent { result.1.told.bytes ≡ of_writer.sent (writing self) }
+        ensures woken { ReaderWokeLast (reading self) result.0
+            × WriterWokeLast (writing self) result.1 }
     {
         let End { reader, writer } = self;
         let left = writer.drop();

@@ -2,8 +2,14 @@
 ghost use Rattle.std.specs.Prelude.{◌≡◌, ◌*◌, ◌^◌, ◌<◌, IfOk, Ok};
 ghost use Rattle.futures.specs.Task.{Keeps};
 ghost use Rattle.piper.specs.Contexts.{WantsWaker};
-ghost use Rattle.piper.specs.Ends.{IsEnded, WriterShut};
-ghost use Rattle.piper_duplex.specs.Crosswise.{IsNewPipe};
+ghost use Rattle.piper.specs.Handles.{NotifiesReader, NotifiesWriter, read_source, write_source};
+ghost use Rattle.piper.specs.OfReader.{front, known, taken, told_shut};
+ghost use Rattle.piper.specs.OfReader as of_reader;
+ghost use Rattle.piper.specs.OfWriter as of_writer;
+ghost use Rattle.piper.specs.ReaderCalls.{AtEnd};
+ghost use Rattle.piper.specs.WriterCalls.{SameWriterButShut};
+ghost use Rattle.piper_duplex.specs.Crosswise.{IsNewPipe, reading as reading_of, writing as writing_of};
+ghost use Rattle.piper_duplex.specs.OwnedEnds.{reading, writing};
 
 use crate::end::{End, duplex};
 use futures::task::{Context, Poll};
@@ -15,7 +21,7 @@ use std::fmt::{self, Debug, Formatter};
 /// One end of a duplex stream, dropped automatically: it closes both pipes, first the one that it
 /// writes into, and wakes who waits at the other end.
 ///
-/// It moves into threads, tasks and closures. In clauses, `reader` and `writer` are its handles.
+/// It moves into threads, tasks and closures. In clauses, `reading` and `writing` are its handles.
 #[derive(Drop)]
 pub struct OwnedEnd {
     writer: OwnedWriter,
@@ -36,9 +42,9 @@ pub fn owned_duplex(
     requires there { (0 < cap_a) × (2 * cap_a < 2 ^ 64) }
     requires back { (0 < cap_b) × (2 * cap_b < 2 ^ 64) }
     ensures there { IfOk result
-        (λ (first, second). IsNewPipe cap_a 0 second.reader.reader first.writer.writer) }
+        (λ (first, second). IsNewPipe cap_a 0 (reading second) (writing first)) }
     ensures back { IfOk result
-        (λ (first, second). IsNewPipe cap_b 0 first.reader.reader second.writer.writer) }
+        (λ (first, second). IsNewPipe cap_b 0 (reading first) (writing second)) }
 {
     let (first, second) = duplex(alloc, cap_a, cap_b, DEFAULT_SEED)?;
     Ok((OwnedEnd::new(first), OwnedEnd::new(second)))
@@ -46,8 +52,8 @@ pub fn owned_duplex(
 
 impl OwnedEnd {
     pub fn new(end: End) -> OwnedEnd
-        ensures reader { result.reader.reader ≡ end.reader }
-        ensures writer { result.writer.writer ≡ end.writer }
+        ensures reader { reading result ≡ reading_of end }
+        ensures writer { writing result ≡ writing_of end }
     {
         let (reader, writer) = end.into_halves();
         OwnedEnd {
@@ -58,14 +64,14 @@ impl OwnedEnd {
 
     /// The handle that reads what the other end writes.
     pub fn reader(&self) -> &OwnedReader
-        ensures { result.now ≡ self.now.reader }
+        ensures { result.now ≡ reading self.now }
     {
         &self.reader
     }
 
     /// The handle that writes what the other end reads.
     pub fn writer(&self) -> &OwnedWriter
-        ensures { result.now ≡ self.now.writer }
+        ensures { result.now ≡ writing self.now }
     {
         &self.writer
     }
@@ -73,8 +79,8 @@ impl OwnedEnd {
     /// Both handles, each for itself: for two threads, or for a reader of lines over the one and
     /// answers through the other. No pipe is closed.
     pub fn into_halves(self) -> (OwnedReader, OwnedWriter)
-        ensures reader { result.0 ≡ self.reader }
-        ensures writer { result.1 ≡ self.writer }
+        ensures reader { result.0 ≡ reading self }
+        ensures writer { result.1 ≡ writing self }
     {
         let OwnedEnd { reader, writer } = self;
         (reader, writer)
@@ -82,19 +88,19 @@ impl OwnedEnd {
 }
 
 impl AsyncRead for OwnedEnd {
-    ghost use Rattle.piper.specs.Handles.{read_source};
+    ghost taken = { λ e. taken (reading e) };
 
-    ghost taken = { λ e. e.reader.reader.end.taken };
+    ghost saw = { λ e. of_reader.saw (reading e) };
 
-    ghost saw = { λ e. e.reader.reader.end.saw };
+    ghost told = { λ e. told_shut (reading e) };
 
-    ghost told = { λ e. e.reader.reader.end.told_shut };
+    ghost ended = { λ e. AtEnd (reading e) };
 
-    ghost ended = { λ e. IsEnded e.reader.reader.end };
-
-    ghost needs = { λ e s. s ≡ read_source e.reader.reader };
+    ghost needs = { λ e s. s ≡ read_source (reading e) };
 
     ghost fails = { λ _ cx e. WantsWaker cx e };
+
+    ghost woken = { λ e. NotifiesWriter (reading e) };
 
     fn poll_read(
         &mut self,
@@ -106,24 +112,23 @@ impl AsyncRead for OwnedEnd {
 }
 
 impl AsyncBufRead for OwnedEnd {
-    ghost use Rattle.piper.specs.ReadView.{in_one_piece};
-    ghost use Rattle.piper.specs.Handles.{read_source};
+    ghost known = { λ e. known (reading e) };
 
-    ghost known = { λ e. e.reader.reader.end.known };
+    ghost piece = { λ e. front (reading e) };
 
-    ghost piece = { λ e. in_one_piece e.reader.reader.end };
+    ghost taken = { λ e. taken (reading e) };
 
-    ghost taken = { λ e. e.reader.reader.end.taken };
+    ghost saw = { λ e. of_reader.saw (reading e) };
 
-    ghost saw = { λ e. e.reader.reader.end.saw };
+    ghost told = { λ e. told_shut (reading e) };
 
-    ghost told = { λ e. e.reader.reader.end.told_shut };
+    ghost ended = { λ e. AtEnd (reading e) };
 
-    ghost ended = { λ e. IsEnded e.reader.reader.end };
-
-    ghost needs = { λ e s. s ≡ read_source e.reader.reader };
+    ghost needs = { λ e s. s ≡ read_source (reading e) };
 
     ghost fails = { λ _ cx e. WantsWaker cx e };
+
+    ghost woken = { λ e. NotifiesWriter (reading e) };
 
     fn poll_fill_buf(&mut self, cx: &mut Context<'_>) -> Poll<Result<&[u8], PipeError>> {
         self.reader.poll_fill_buf(cx)
@@ -135,15 +140,15 @@ impl AsyncBufRead for OwnedEnd {
 }
 
 impl AsyncWrite for OwnedEnd {
-    ghost use Rattle.piper.specs.Handles.{NotifiesReader, write_source};
+    ghost sent = { λ e. of_writer.sent (writing e) };
 
-    ghost sent = { λ e. e.writer.writer.end.sent };
+    ghost saw = { λ e. of_writer.saw (writing e) };
 
-    ghost saw = { λ e. e.writer.writer.end.saw };
-
-    ghost needs = { λ e s. s ≡ write_source e.writer.writer };
+    ghost needs = { λ e s. s ≡ write_source (writing e) };
 
     ghost fails = { λ _ cx e. WantsWaker cx e };
+
+    ghost woken = { λ e. NotifiesReader (writing e) };
 
     fn poll_write(
         &mut self,
@@ -155,18 +160,18 @@ impl AsyncWrite for OwnedEnd {
 
     fn poll_flush(&mut self, cx: &mut Context<'_>) -> Poll<Result<(), PipeError>>
         ensures answer { result ≡ Poll.Ready (Ok (record {})) }
-        ensures end { self.new ≡ self.old }
         ensures kept { Keeps cx.old cx.new }
+        ensures rest { self.new ≡ self.old }
     {
         self.writer.poll_flush(cx)
     }
 
     fn poll_close(&mut self, cx: &mut Context<'_>) -> Poll<Result<(), PipeError>>
         ensures answer { result ≡ Poll.Ready (Ok (record {})) }
-        ensures shut { WriterShut self.old.writer.writer.end self.new.writer.writer.end }
-        ensures woke { NotifiesReader self.new.writer.writer }
-        ensures rest { self.new.reader ≡ self.old.reader }
+        ensures woken { NotifiesReader (writing self.new) }
         ensures kept { Keeps cx.old cx.new }
+        ensures writer { SameWriterButShut (writing self.old) (writing self.new) }
+        ensures reader { reading self.new ≡ reading self.old }
     {
         AsyncWrite::poll_close(&mut self.writer, cx)
     }

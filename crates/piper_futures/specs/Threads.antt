@@ -23,8 +23,8 @@ module _ {S : Type 0} (remaining : S → Option (List ℕ)) where
   pub record FilledTo (w : OwnedWriter) (s : S) (left : Filled S) : Type 0 where
     pub saw : Bool
     pub moved :
-        FillsOn (remaining s) (remaining left.source) w.writer.end.sent left.told.bytes
-        w.writer.end.saw saw
+        FillsOn (remaining s) (remaining left.source) w.end.sent left.told.bytes
+        w.end.saw saw
     pub closed : left.told.shut ≡ true
 
   abbrev pub LeftByFill : OwnedWriter → S → Option (Filled S) → Type 0
@@ -43,7 +43,7 @@ module _ {D : Type 0} (contents : D → Option (List ℕ)) where
   -- all that was taken since was written, in order
   pub record DrainedTo (r : OwnedReader) (d : D) (left : Drained D) : Type 0 where
     pub moved : List ℕ
-    pub count : left.told.consumed.count ≡ length (r.reader.end.taken ++ moved)
+    pub count : left.told.consumed.count ≡ length (r.end.taken ++ moved)
     pub written : Appends (contents d) (contents left.dest) moved
 
   abbrev pub LeftByDrain : OwnedReader → D → Option (Drained D) → Type 0
@@ -55,6 +55,6 @@ module _ {D : Type 0} (contents : D → Option (List ℕ)) where
   abbrev pub DrainedOrClosed : OwnedReader → D
       → Result (OwnedReader × D) (Failed (Option (Drained D))) → Type 0
   DrainedOrClosed r d (Ok done) =
-      DrainsOn r.reader.end.taken done.0.reader.end.taken (contents d) (contents done.1)
-      × AtEnd done.0.reader.end.known done.0.reader.end.saw
+      DrainsOn r.end.taken done.0.end.taken (contents d) (contents done.1)
+      × AtEnd done.0.end.known done.0.end.saw
   DrainedOrClosed r d (Err failed) = LeftByDrain r d failed.left

@@ -3,6 +3,7 @@ ghost use Rattle.std.specs.Prelude.{◌≡◌, ◌⊎◌, IsSome, IsSomeAnd, tru
 ghost use Rattle.std.specs.Io.KnownBytes.{IsAtEnd};
 ghost use Rattle.futures.specs.Task.{Covers, Keeps};
 ghost use Rattle.futures.specs.Poll.{OnPending};
+ghost use Rattle.piper.specs.OfWriter.{saw, sent};
 ghost use Rattle.piper.specs.Polls.{IfReadyErr};
 ghost use Rattle.piper_futures.specs.Filling.{FilledAll, FillsOn, StartsFilling};
 ghost use Rattle.piper_futures.specs.Moving.{IsIo};
@@ -57,10 +58,10 @@ impl AsyncFill for Writer {
 // Why a fill moved nothing: the pipe is closed, or else its source gave none. A pipe that is closed
 // is so for good, so the poll does not wait.
 fn why_none(writer: &mut Writer, cx: &mut Context<'_>) -> Copied
-    ensures ended { result ≡ Copied.ToTheEnd → writer.old.end.saw ≡ false }
-    ensures closed { result ≡ Copied.UntilClosed → writer.new.end.saw ≡ true }
-    ensures sent { writer.new.end.sent ≡ writer.old.end.sent }
-    ensures stays { writer.old.end.saw ≡ true → writer.new.end.saw ≡ true }
+    ensures ended { result ≡ Copied.ToTheEnd → saw writer.old ≡ false }
+    ensures closed { result ≡ Copied.UntilClosed → saw writer.new ≡ true }
+    ensures sent { sent writer.new ≡ sent writer.old }
+    ensures stays { saw writer.old ≡ true → saw writer.new ≡ true }
     ensures kept { Keeps cx.old cx.new }
 {
     if !writer.is_closed() {

@@ -1,6 +1,8 @@
 //! Threads that read for a pipe, or write for one: a call of std that blocks may not be made in a
 //! task.
 ghost use Rattle.std.specs.Prelude.{◌≡◌, IfOk, length, true};
+ghost use Rattle.piper.specs.OfReader.{taken};
+ghost use Rattle.piper.specs.OfWriter.{sent};
 ghost use Rattle.piper_futures.specs.Threads.{FilledAndClosed, DrainedOrClosed};
 
 use crate::drain::drain_into;
@@ -140,7 +142,7 @@ where
 
 fn closed_by_writer<S>(writer: OwnedWriter, source: S) -> Filled<S>
     ensures source { result.source ≡ source }
-    ensures bytes { result.told.bytes ≡ writer.writer.end.sent }
+    ensures bytes { result.told.bytes ≡ sent writer }
     ensures shut { result.told.shut ≡ true }
 {
     let told = writer.into_inner().drop().told;
@@ -175,7 +177,7 @@ where
 
 fn closed_by_reader<D>(reader: OwnedReader, dest: D) -> Drained<D>
     ensures dest { result.dest ≡ dest }
-    ensures count { result.told.consumed.count ≡ length reader.reader.end.taken }
+    ensures count { result.told.consumed.count ≡ length (taken reader) }
 {
     let told = reader.into_inner().drop().told;
     Drained { dest, told }

@@ -146,12 +146,11 @@ impl<R: AsyncBufRead> Frames<R> {
             (LacksFrameRoom (format_of self.old) limit (header_room_of self.old)
             (body_room_of self.old) (header_of self.new) (body_of self.new)
             (R.known (reader_of self.new)))) }
-        ensures format { format_of self.new ≡ format_of self.old }
-        ensures told { R.told (reader_of self.new) ≡ R.told (reader_of self.old) }
-        ensures heeded { OnPending result
-            (R.told (reader_of self.new) ≡ true → AsksAgain cx.new) }
-        ensures covered { OnPending result (Covers cx.new (R.needs (reader_of self.new))) }
+        ensures pending { OnPending result ((R.told (reader_of self.new) ≡ true → AsksAgain cx.new)
+            × Covers cx.new (R.needs (reader_of self.new))) }
         ensures kept { Keeps cx.old cx.new }
+        ensures rest { (format_of self.new ≡ format_of self.old)
+            × (R.told (reader_of self.new) ≡ R.told (reader_of self.old)) }
     {
         frame.clear();
         match pass_over(&mut self.reader, cx, &mut self.to_skip) {

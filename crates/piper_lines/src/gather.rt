@@ -31,17 +31,15 @@ pub fn fill_up<R: AsyncBufRead>(
         gathered.old.items gathered.new.items }
     ensures within { length gathered.new.items ≤ size }
     ensures full { result ≡ Poll.Ready (Ok true) → length gathered.new.items ≡ size }
-    ensures ended { result ≡ Poll.Ready (Ok false) →
-        (length gathered.new.items < size) × AtEnd (R.known reader.new) (R.saw reader.new) }
-    ensures ends { result ≡ Poll.Ready (Ok false) → R.ended reader.new }
+    ensures ended { result ≡ Poll.Ready (Ok false) → (length gathered.new.items < size)
+        × AtEnd (R.known reader.new) (R.saw reader.new) × R.ended reader.new }
     ensures after { R.ended reader.old → R.ended reader.new
         × (gathered.new.items ≡ gathered.old.items) × OnPending result ⊥ }
     ensures error { IfReadyErr result (λ e. IsReported e (R.fails reader.new cx.new)
         (LacksRoom size (vec_capacity gathered.old) gathered.new.items (R.known reader.new))) }
-    ensures told { R.told reader.new ≡ R.told reader.old }
-    ensures heeded { OnPending result (R.told reader.new ≡ false) }
-    ensures covered { OnPending result (Covers cx.new (R.needs reader.new)) }
-    ensures kept { Keeps cx.old cx.new }
+    ensures pending { OnPending result ((R.told reader.new ≡ false)
+        × Covers cx.new (R.needs reader.new)) }
+    ensures rest { Keeps cx.old cx.new × (R.told reader.new ≡ R.told reader.old) }
 {
     while gathered.len() < size {
         let lent = match reader.poll_fill_buf(cx) {

@@ -122,11 +122,11 @@ impl<R: AsyncBufRead> Lines<R> {
         ensures after { IsSpent R.ended self.old → IsSpent R.ended self.new × EndsAgain result }
         ensures error { IfReadyErr result (λ e. IsReported e (R.fails (reader_of self.new) cx.new)
             (LacksRoom limit (room_of self.old) (kept_of self.new) (R.known (reader_of self.new)))) }
-        ensures end { end_of self.new ≡ end_of self.old }
-        ensures told { R.told (reader_of self.new) ≡ R.told (reader_of self.old) }
-        ensures heeded { OnPending result (R.told (reader_of self.new) ≡ false) }
-        ensures covered { OnPending result (Covers cx.new (R.needs (reader_of self.new))) }
+        ensures pending { OnPending result ((R.told (reader_of self.new) ≡ false)
+            × Covers cx.new (R.needs (reader_of self.new))) }
         ensures kept { Keeps cx.old cx.new }
+        ensures rest { (end_of self.new ≡ end_of self.old)
+            × (R.told (reader_of self.new) ≡ R.told (reader_of self.old)) }
     {
         line.clear();
         mem::swap(line, &mut self.kept);

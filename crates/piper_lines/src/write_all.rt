@@ -37,8 +37,8 @@ pub fn poll_write_all<W: AsyncWrite>(
     ensures closed { result ≡ Poll.Ready (Ok Written.Closed) → W.saw writer.new ≡ true }
     ensures stays { W.saw writer.old ≡ true → W.saw writer.new ≡ true }
     ensures error { IfReadyErr result (W.fails writer.new cx.new) }
-    ensures waits { OnPending result (written.new < length bytes.now) }
-    ensures covered { OnPending result (Covers cx.new (W.needs writer.new)) }
+    ensures pending { OnPending result ((written.new < length bytes.now)
+        × Covers cx.new (W.needs writer.new)) }
     ensures kept { Keeps cx.old cx.new }
 {
     while *written < bytes.len() {

@@ -28,7 +28,7 @@ fn a_reader_that_heeds_the_last_mark_of_a_writer_knows_how_many_come(rt: HostRun
 
 /// A reader that waits, and then meets what is left of its writer.
 fn reader_is_taken(rt: &impl Abort, cx: &mut Context<'_>, reader: OwnedReader, writer: OwnedWriter)
-    requires { ArePair reader.reader writer.writer }
+    requires { ArePair reader writer }
 {
     let (mut reader, mut writer) = (reader.into_inner(), writer.into_inner());
     same(rt, &"waits", reader.poll(cx).is_pending(), true);
@@ -50,7 +50,7 @@ fn a_reader_that_waits_meets_what_is_left_of_its_writer(rt: HostRuntime) {
 
 /// A writer of a full pipe that waits, and then meets what is left of its reader.
 fn writer_is_taken(rt: &impl Abort, cx: &mut Context<'_>, reader: OwnedReader, writer: OwnedWriter)
-    requires { ArePair reader.reader writer.writer }
+    requires { ArePair reader writer }
 {
     let (reader, mut writer) = (reader.into_inner(), writer.into_inner());
     same(rt, &"taken", writer.try_fill(b"ab"), 2);

@@ -1,5 +1,5 @@
 //! Owners of the handles: the calls of a handle, made on its owner, and what `{:?}` prints of both.
-ghost use Rattle.std.specs.Prelude.{◌≡◌, ◌<◌, ◌*◌, ◌^◌};
+ghost use Rattle.std.specs.Prelude.{◌<◌, ◌*◌, ◌^◌};
 ghost use Rattle.piper.specs.Handles.{ArePair};
 
 use crate::pair::same;
@@ -13,7 +13,7 @@ pub(crate) fn holding<H>(rt: &H, capacity: usize, bytes: &[u8]) -> (OwnedReader,
 where
     H: Abort + Wait + AllocGlobal,
     requires { (0 < capacity) × (2 * capacity < 2 ^ 64) }
-    ensures { ArePair result.0.reader result.1.writer }
+    ensures { ArePair result.0 result.1 }
 {
     let (reader, mut writer) = owned_pipe(rt.alloc(), capacity).expect(rt, "a pipe");
     same(rt, &"taken", writer.try_fill(bytes), bytes.len());

@@ -1,6 +1,6 @@
 -- What a write counted was given, and a front of it published.
-use Rattle.std.proofs.Common.{◌≡◌, ℕ, ◌≤◌, ◌++◌, true, false, List, [], take, drop, length, sym, ap, ◌∙◌, arith, take-take, take-append-drop, drop_of_length-le, length-take}
-use Rattle.piper.specs.Fills.{WriterFilled}
+use Rattle.std.proofs.Common.{◌≡◌, ℕ, ◌≤◌, ◌++◌, true, List, [], take, drop, length, sym, ap, ◌∙◌, arith, take-take, take-append-drop, drop_of_length-le, length-append, length-take, length-take-le}
+use Rattle.piper.specs.WriterCalls.{Filled, SameWriterButMoved}
 use Rattle.piper.specs.declared.handles.Writer.{Writer}
 use Rattle.piper_tokio.specs.Passing.{Gave}
 
@@ -13,16 +13,22 @@ none_lost n m xs same =
     let few : length (take n xs) ≤ m = omega (arith, length-take n xs) in
     drop_of_length-le (take n xs) few
 
-pub gave_front : (a b : Writer) (n m : ℕ) (xs : List ℕ) → m ≤ n → b.end.sent ≡ a.end.sent ++ take m xs → (b.end.saw ≡ false → m ≡ n) → (a.end.saw ≡ true → n ≡ 0) → WriterFilled a.end b.end → b.slots ≡ a.slots → Gave a (take n xs) b
-gave_front a b n m xs le sent all over filled slots =
+-- the first m and the first n of the bytes are as many
+as_many : (before after xs : List ℕ) (m n : ℕ) → m ≤ n → n ≤ length xs → after ≡ before ++ take m xs → after ≡ before ++ take n xs → m ≡ n
+as_many before after xs m n le within p q =
+    omega (arith, ap length p, ap length q, length-append before (take m xs), length-append before (take n xs), length-take-le m xs (omega arith), length-take-le n xs within)
+
+pub gave_front : (a b : Writer) (n : ℕ) (xs : List ℕ) → Filled n a b xs → (a.end.saw ≡ true → n ≡ 0) → SameWriterButMoved a b → Gave a (take n xs) b
+gave_front a b n xs filled over same =
+    let m : ℕ = filled.front.0 in
     record {
       published = take m xs;
       lost = drop m (take n xs);
-      given = counted n m xs le;
-      sent = sent;
-      all = λ unseen. none_lost n m xs (all unseen);
-      over = λ seen. let none : n ≡ 0 = over seen in let zero : m ≡ 0 = omega arith in ap (λ k. take k xs) zero;
-      saw = filled.saw;
-      end = filled.end;
-      slots = slots;
+      given = counted n m xs filled.front.1;
+      sent = filled.front.2;
+      all = λ unseen. none_lost n m xs (as_many a.end.sent b.end.sent xs m n filled.front.1 filled.count filled.front.2 (filled.all unseen));
+      over = λ seen. let none : n ≡ 0 = over seen in let zero : m ≡ 0 = omega (arith, filled.front.1) in ap (λ k. take k xs) zero;
+      saw = same.end.saw;
+      end = same.end.end;
+      slots = same.slots;
     }

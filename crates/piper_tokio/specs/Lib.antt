@@ -1,3 +1,4 @@
 pub mod Passing
 pub mod PassingLaws
 pub mod Shown
+pub mod Halves

@@ -1,8 +1,11 @@
 -- What passes through a handle of the pipe while `tokio` reads or writes it.
 use Rattle.std.specs.Prelude.{◌≡◌, ◌≤◌, ◌++◌, true, false, List, [], ℕ}
+use Rattle.std.specs.IoError.{error_kind}
+use Rattle.std.specs.declared.io.Error.{Error}
+use Rattle.std.specs.declared.io.ErrorKind.TheVariants.{OutOfMemory}
+use Rattle.futures.specs.declared.task.context.Context.{Context}
 use Rattle.piper.specs.ReadView.{SameReadEnd}
 use Rattle.piper.specs.WriteView.{SameWriteEnd}
-use Rattle.piper.specs.Ends.{IsEnded}
 use Rattle.piper.specs.Shared.{flag}
 use Rattle.piper.specs.declared.handles.Reader.{Reader}
 use Rattle.piper.specs.declared.handles.Writer.{Writer}
@@ -14,10 +17,6 @@ pub record Took (a : Reader) (xs : List ℕ) (b : Reader) : Type 0 where
   pub saw : flag a.end.saw ≤ flag b.end.saw
   pub end : SameReadEnd a.end b.end
   pub slots : b.slots ≡ a.slots
-
--- the reader saw the pipe closed, and took all that was ever published
-abbrev pub AtEnd : Reader → Type 0
-AtEnd reader = IsEnded reader.end
 
 -- the writer a was given the bytes xs, in this order, and is b now:
 -- an end of the same pipe. What it published of them is their front,
@@ -32,3 +31,7 @@ pub record Gave (a : Writer) (xs : List ℕ) (b : Writer) : Type 0 where
   pub saw : flag a.end.saw ≤ flag b.end.saw
   pub end : SameWriteEnd a.end b.end
   pub slots : b.slots ≡ a.slots
+
+-- want of memory, since no waker could be made
+abbrev pub WantsMemory : Context → Error → Type 0
+WantsMemory cx e = (error_kind e ≡ OutOfMemory) × (cx.lacks_waker ≡ true)

@@ -9,8 +9,7 @@ use piper::Reader;
 /// The reading side of a pipe, as a reader of `tokio`. Where it is dropped it closes the pipe and
 /// wakes the writer.
 ///
-/// In clauses, `reader` is the handle that the call of this name lends, and `shown_by` reports the
-/// bytes that `buffer` shows.
+/// In clauses, `handle_of` is its handle, and `shown_by` the bytes that `buffer` shows.
 pub struct CompatReader {
     reader: Reader,
     // `tokio` asks that `buffer` shows what is left of one piece and no more, until the next fill.

@@ -1,23 +1,19 @@
 //! Copies into the pipe.
-ghost use Rattle.std.specs.Prelude.{◌≡◌, ℕ, ◌<◌, ◌≤◌, ◌++◌, ◌⊎◌, [], length, take, IfOk, IfErr, OnOk, IsSome, IsTrue, ◌↔◌, None, Ok, true, false};
-ghost use Rattle.futures.specs.Task.{Covers, Keeps};
+ghost use Rattle.std.specs.Prelude.{◌≡◌, ◌<◌, ◌≤◌, ◌⊎◌, length, IfOk, IfErr, None, Ok, true, false};
+ghost use Rattle.futures.specs.Task.{Keeps};
 ghost use Rattle.futures.specs.Poll.{OnPending};
-ghost use Rattle.piper_ring.specs.SlotsView.{SameWriterLooks, SameWriterPlace};
-ghost use Rattle.piper_protocol.specs.Table.{goes_on, writer_is_true};
-ghost use Rattle.piper.specs.Contexts.{IfGiven, Arms, LacksWaker};
-ghost use Rattle.piper.specs.Copies.{IsReplaced, WriterCopied};
+ghost use Rattle.piper_protocol.specs.Table.{goes_on};
+ghost use Rattle.piper.specs.Contexts.{IfGiven};
 ghost use Rattle.piper.specs.CopyAnswers.{OnMemory, CountsFailure, IsAtOnce, inner_of, inner_of_bytes};
-ghost use Rattle.piper.specs.Draws.{Draws, DrawsYield, Undrawn, drawn_from};
-ghost use Rattle.piper.specs.Ends.{WriterIsUpToDate};
-ghost use Rattle.piper.specs.Fills.{Fills, FillsFrom, FillRounds, FillYields, FoundNoRoom, FoundRoom, LosesOneRound, OnNoCount, WriterFilled, WriterRelent, most_of_round};
+ghost use Rattle.piper.specs.Fills.{FillRounds, FoundRoom, OnNoCount, WriterRelent, most_of_round};
 ghost use Rattle.piper.specs.Like.{Counts, passed};
-ghost use Rattle.piper.specs.Looks.{WriterLooked, OnRefused};
-ghost use Rattle.piper.specs.Polls.{IfReadyOk, Writes};
+ghost use Rattle.piper.specs.Looks.{OnRefused};
 
 use super::copied;
 use crate::error::{Inner, PipeError};
 use crate::handles::Writer;
 use crate::like::{ReadBytes, ReadLike, StdRead};
+use crate::looks::NoWork;
 use futures::task::{Context, Poll};
 use piper_protocol::scripted::MOST_A_ROUND;
 use piper_protocol::table::{Form, Purpose, WritePoint};
@@ -26,8 +22,9 @@ use piper_ring::OutOfMemory;
 use std::io::Read;
 
 impl Writer {
-    ghost use Rattle.piper.specs.Waits.{WriterRegistered};
-    ghost use Rattle.piper.specs.Handles.{NotifiesReader, SameWriter, SameWriterButWaits, SameWriterButWoke, write_source};
+    ghost use Rattle.piper.specs.Handles.{SameWriter, SameWriterButWoke};
+    ghost use Rattle.piper.specs.WriterCalls.{DrawsToYield, Filled, FillPends, FillsAtOnce, FillsEnd, FillsLike, FillsSlice, FillsStd, FillsWaiting, SameWriterButMoved, SameWriterButTried, WakesReader};
+    ghost use Rattle.piper.specs.OfWriter.{saw};
 
     /// Publishes bytes that a reader gives, and returns how many it gave.
     ///
@@ -44,20 +41,15 @@ impl Writer {
         cx: &mut Context<'_>,
         source: &mut R,
     ) -> Poll<Result<usize, PipeError>>
-        ensures filled { FillsFrom R.remaining (inner_of result)
-            self.old.end self.new.end source.old source.new }
-        ensures over { self.old.end.saw ≡ true → result ≡ Poll.Ready (Ok 0) }
-        ensures open { OnNoCount (inner_of result) (self.new.end.saw ≡ false) }
-        ensures draws { Draws (FoundRoom (inner_of result) self.new.end) result
-            self.old.rng self.new.rng }
-        ensures yields { FillYields result self.new.end cx.new }
-        ensures lent { self.new.end.lent ≡ [] }
-        ensures refused { OnMemory (inner_of result) (cx.new.lacks_waker ≡ true) }
-        ensures woke { NotifiesReader self.old → NotifiesReader self.new }
-        ensures slots { self.new.slots ≡ self.old.slots }
-        ensures covered { OnPending result (Covers cx.new (λ s. s ≡ write_source self.old)) }
-        ensures registered { OnPending result (WriterRegistered self.old self.new cx.new) }
-        ensures kept { Keeps cx.old cx.new }
+        ensures filled { FillsStd R.remaining (inner_of result)
+            self.old self.new source.old source.new }
+        ensures end { FillsEnd result self.old self.new }
+        ensures draws { DrawsToYield (inner_of result) self.old self.new }
+        ensures pending { OnPending result (FillPends self.old self.new cx.new) }
+        ensures memory { OnMemory (inner_of result) (cx.new.lacks_waker ≡ true) }
+        ensures woken { WakesReader self.old self.new }
+        ensures context { Keeps cx.old cx.new }
+        ensures rest { SameWriterButMoved self.old self.new }
     {
         let mut source = StdRead::new(source);
         match self.fill_inner(Some(cx), &mut source) {
@@ -80,29 +72,14 @@ impl Writer {
         cx: &mut Context<'_>,
         bytes: &[u8],
     ) -> Poll<Result<usize, OutOfMemory>>
-        ensures written { Writes result bytes.now
-            self.old.end.sent self.new.end.sent self.new.end.saw }
-        ensures full { result ≡ Poll.Ready (Ok 0) →
-            0 < length bytes.now → self.new.end.saw ≡ true }
-        ensures last { IfReadyOk result (λ n. LosesOneRound n self.old.end self.new.end) }
-        ensures most { IfReadyOk result (λ n.
-            n < length bytes.now → self.new.end.saw ≡ false → self.new.end.room ≡ 0) }
-        ensures room { 0 < self.old.end.room → IsReplaced self.old.end self.new.end }
-        ensures fresh { self.old.end.room ≡ 0 →
-            self.new.end.saw ≡ false → WriterIsUpToDate self.new.end }
-        ensures over { self.old.end.saw ≡ true → result ≡ Poll.Ready (Ok 0) }
-        ensures open { OnNoCount result (self.new.end.saw ≡ false) }
-        ensures draws { Draws (FoundRoom (inner_of_bytes result) self.new.end) result
-            self.old.rng self.new.rng }
-        ensures yields { FillYields result self.new.end cx.new }
-        ensures lent { self.new.end.lent ≡ [] }
-        ensures refused { OnRefused result (cx.new.lacks_waker ≡ true) }
-        ensures end { WriterFilled self.old.end self.new.end }
-        ensures woke { NotifiesReader self.old → NotifiesReader self.new }
-        ensures slots { self.new.slots ≡ self.old.slots }
-        ensures covered { OnPending result (Covers cx.new (λ s. s ≡ write_source self.old)) }
-        ensures registered { OnPending result (WriterRegistered self.old self.new cx.new) }
-        ensures kept { Keeps cx.old cx.new }
+        ensures filled { FillsSlice result self.old self.new bytes.now }
+        ensures end { FillsEnd result self.old self.new }
+        ensures draws { DrawsToYield (inner_of_bytes result) self.old self.new }
+        ensures pending { OnPending result (FillPends self.old self.new cx.new) }
+        ensures memory { OnRefused result (cx.new.lacks_waker ≡ true) }
+        ensures woken { WakesReader self.old self.new }
+        ensures context { Keeps cx.old cx.new }
+        ensures rest { SameWriterButMoved self.old self.new }
     {
         let mut source = ReadBytes::new(bytes);
         match self.fill_inner(Some(cx), &mut source) {
@@ -120,21 +97,10 @@ impl Writer {
     /// A closed pipe takes none. Where the pipe is seen closed only once some bytes were taken, the
     /// last of them, at most one round, are counted and not published.
     pub fn try_fill(&mut self, bytes: &[u8]) -> usize
-        ensures count { result ≤ length bytes.now }
-        ensures sent { self.new.end.saw ≡ false →
-            self.new.end.sent ≡ self.old.end.sent ++ take result bytes.now }
-        ensures front { (m : ℕ) × (m ≤ result)
-            × (self.new.end.sent ≡ self.old.end.sent ++ take m bytes.now) }
-        ensures last { LosesOneRound result self.old.end self.new.end }
-        ensures room { 0 < self.old.end.room → IsReplaced self.old.end self.new.end }
-        ensures most { result < length bytes.now →
-            self.new.end.saw ≡ false → self.new.end.room ≡ 0 }
-        ensures closed { self.old.end.saw ≡ true → result ≡ 0 }
-        ensures fresh { self.old.end.room ≡ 0 →
-            self.new.end.saw ≡ false → WriterIsUpToDate self.new.end }
-        ensures end { WriterCopied self.old.end self.new.end }
-        ensures woke { NotifiesReader self.old → NotifiesReader self.new }
-        ensures handle { SameWriterButWoke self.old self.new }
+        ensures filled { Filled result self.old self.new bytes.now }
+        ensures closed { saw self.old ≡ true → result ≡ 0 }
+        ensures woken { WakesReader self.old self.new }
+        ensures rest { SameWriterButTried self.old self.new }
     {
         let mut source = ReadBytes::new(bytes);
         match self.fill_inner(None, &mut source) {
@@ -157,27 +123,14 @@ impl Writer {
         cx: Option<&mut Context<'_>>,
         source: &mut R,
     ) -> Poll<Result<usize, Inner<R::Error>>>
-        ensures filled { Fills R.gives R.is_dry R.fails result
-            self.old.end self.new.end source.old source.new }
+        ensures filled { FillsLike R.gives R.is_dry R.fails result
+            self.old self.new source.old source.new }
         ensures failures { CountsFailure result (R.failures source.old) (R.failures source.new) }
-        ensures over { self.old.end.saw ≡ true → result ≡ Poll.Ready (Ok 0) }
-        ensures open { OnNoCount result (self.new.end.saw ≡ false) }
-        ensures draws { IsSome cx.entry →
-            Draws (FoundRoom result self.new.end) result self.old.rng self.new.rng }
-        ensures undrawn { cx.entry ≡ None →
-            Undrawn (FoundRoom result self.new.end) result self.old.rng self.new.rng }
-        ensures place { cx.entry ≡ None →
-            SameWriterPlace self.old.registrations self.new.registrations }
-        ensures granted { cx.entry ≡ None → OnMemory result ⊥ }
-        ensures lent { self.new.end.lent ≡ [] }
-        ensures woke { NotifiesReader self.old → NotifiesReader self.new }
-        ensures slots { self.new.slots ≡ self.old.slots }
-        ensures yields { IfGiven cx.entry cx.exit (λ _ left. FillYields result self.new.end left) }
-        ensures refused { IfGiven cx.entry cx.exit (LacksWaker result) }
-        ensures covered { IfGiven cx.entry cx.exit (Arms result (write_source self.old)) }
-        ensures registered { IfGiven cx.entry cx.exit (λ _ left.
-            OnPending result (WriterRegistered self.old self.new left)) }
-        ensures kept { IfGiven cx.entry cx.exit Keeps }
+        ensures end { FillsEnd result self.old self.new }
+        ensures waiting { IfGiven cx.entry cx.exit (FillsWaiting result self.old self.new) }
+        ensures at_once { cx.entry ≡ None → FillsAtOnce result self.old self.new }
+        ensures woken { WakesReader self.old self.new }
+        ensures rest { SameWriterButMoved self.old self.new }
     {
         match cx {
             Some(cx) => {
@@ -200,28 +153,25 @@ impl Writer {
         cx: &mut Context<'_>,
         source: &mut R,
     ) -> Poll<Result<usize, Inner<R::Error>>>
-        ensures filled { Fills R.gives R.is_dry R.fails result
-            self.old.end self.new.end source.old source.new }
+        ensures filled { FillsLike R.gives R.is_dry R.fails result
+            self.old self.new source.old source.new }
         ensures failures { CountsFailure result (R.failures source.old) (R.failures source.new) }
-        ensures over { self.old.end.saw ≡ true → result ≡ Poll.Ready (Ok 0) }
-        ensures open { OnNoCount result (self.new.end.saw ≡ false) }
-        ensures draws { Draws (FoundRoom result self.new.end) result self.old.rng self.new.rng }
-        ensures yields { FillYields result self.new.end cx.new }
-        ensures refused { OnMemory result (cx.new.lacks_waker ≡ true) }
-        ensures woke { NotifiesReader self.old → NotifiesReader self.new }
+        ensures end { FillsEnd result self.old self.new }
+        ensures waiting { FillsWaiting result self.old self.new cx.old cx.new }
+        ensures woken { WakesReader self.old self.new }
         ensures slots { self.new.slots ≡ self.old.slots }
-        ensures covered { OnPending result (Covers cx.new (λ s. s ≡ write_source self.old)) }
-        ensures registered { OnPending result (WriterRegistered self.old self.new cx.new) }
-        ensures kept { Keeps cx.old cx.new }
     {
-        let call = match self.look_to_fill(cx) {
+        let call = match self.poll_inner(Purpose::Copy(Form::Polling { is_drawn: false }), cx) {
             Ok(call) => call,
-            Err(outcome) => return outcome,
+            Err(NoWork::Closed) => return Poll::Ready(Ok(0)),
+            Err(NoWork::Pending) => return Poll::Pending,
+            Err(NoWork::Refused) => return Poll::Ready(Err(Inner::Memory)),
         };
         let (call, yields) = self.take_own_and_draw(call);
         if yields {
             let _pending: Poll<()> = cx.yield_now();
-            return copied(call.yielded(true).end());
+            call.yielded(true).end();
+            return Poll::Pending;
         }
         self.fill_rounds(call, Form::Polling { is_drawn: false }, source)
     }
@@ -229,102 +179,21 @@ impl Writer {
     // The fill without a context: the look, and the rounds.
     #[inline(always)]
     fn fill_at_once<R: ReadLike>(&mut self, source: &mut R) -> Poll<Result<usize, Inner<R::Error>>>
-        ensures filled { Fills R.gives R.is_dry R.fails result
-            self.old.end self.new.end source.old source.new }
+        ensures filled { FillsLike R.gives R.is_dry R.fails result
+            self.old self.new source.old source.new }
         ensures failures { CountsFailure result (R.failures source.old) (R.failures source.new) }
-        ensures over { self.old.end.saw ≡ true → result ≡ Poll.Ready (Ok 0) }
-        ensures open { OnNoCount result (self.new.end.saw ≡ false) }
+        ensures end { FillsEnd result self.old self.new }
         ensures waits { OnPending result (self.new.end.room ≡ 0) }
         ensures granted { OnMemory result ⊥ }
-        ensures woke { NotifiesReader self.old → NotifiesReader self.new }
+        ensures woken { WakesReader self.old self.new }
         ensures rest { SameWriterButWoke self.old self.new }
     {
-        match self.look_at_once() {
+        match self.try_inner() {
             Ok(call) => self.fill_rounds(call, Form::Try, source),
-            Err(outcome) => outcome,
+            Err(NoWork::Closed) => Poll::Ready(Ok(0)),
+            Err(NoWork::Pending) => Poll::Pending,
+            Err(NoWork::Refused) => unreachable!(),
         }
-    }
-
-    // The look of a fill that waits: its open call once there is room, or what it returns.
-    #[inline(always)]
-    fn look_to_fill<E>(
-        &mut self,
-        cx: &mut Context<'_>,
-    ) -> Result<WriteCall, Poll<Result<usize, Inner<E>>>>
-        ensures found { IfOk result (λ call.
-            call.point ≡ WritePoint.LookTake (Purpose.Copy (Form.Polling false))) }
-        ensures some { OnOk result (0 < self.new.end.room) }
-        ensures is_open { OnOk result (
-            (self.new.end.shut ≡ false) × (self.new.end.saw ≡ false)) }
-        ensures none { IfErr result (λ outcome. FoundNoRoom outcome self.new.end) }
-        ensures refused { IfErr result (λ outcome. OnMemory outcome (cx.new.lacks_waker ≡ true)) }
-        ensures covered { IfErr result (λ outcome.
-            OnPending outcome (Covers cx.new (λ s. s ≡ write_source self.old))) }
-        ensures registered { IfErr result (λ outcome.
-            OnPending outcome (WriterRegistered self.old self.new cx.new)) }
-        ensures looked { WriterLooked self.old.end self.new.end }
-        ensures rest { SameWriterButWaits self.old self.new }
-        ensures kept { Keeps cx.old cx.new }
-    {
-        let call = WriteCall::look(Purpose::Copy(Form::Polling { is_drawn: false }));
-        let (call, is_closed, none) = self.look_closed(call);
-        if is_closed {
-            return Err(copied(call.end()));
-        }
-        if !none {
-            return Ok(call);
-        }
-        let (call, none) = self.load_head(call);
-        if !none {
-            return Ok(call);
-        }
-        let (call, is_granted) = self.register(call, cx);
-        if !is_granted {
-            return Err(copied(call.end()));
-        }
-        let (call, none) = self.load_head(call);
-        if !none {
-            return Ok(call);
-        }
-        let (call, _is_closed) = self.load_closed(call);
-        Err(copied(call.end()))
-    }
-
-    // The look of a fill that doesn't wait: its open call once there is room, or what it returns,
-    // pending where it would wait.
-    #[inline(always)]
-    fn look_at_once<E>(&mut self) -> Result<WriteCall, Poll<Result<usize, Inner<E>>>>
-        ensures found { IfOk result (λ call. call ≡ goes_on (WritePoint.CallSource Form.Try 0)) }
-        ensures some { OnOk result (0 < self.new.end.room) }
-        ensures is_open { OnOk result (
-            (self.new.end.shut ≡ false) × (self.new.end.saw ≡ false)) }
-        ensures none { IfErr result (λ outcome. FoundNoRoom outcome self.new.end) }
-        ensures granted { IfErr result (λ outcome. OnMemory outcome ⊥) }
-        ensures looked { WriterLooked self.old.end self.new.end }
-        ensures rest { SameWriter self.old self.new }
-    {
-        let (call, is_closed, none) = self.look_closed(WriteCall::look(Purpose::Copy(Form::Try)));
-        if is_closed {
-            return Err(copied(call.end()));
-        }
-        if !none {
-            return Ok(call);
-        }
-        let (call, none) = self.load_head(call);
-        if !none {
-            return Ok(call);
-        }
-        let (call, none) = self.load_head(call);
-        if !none {
-            return Ok(call);
-        }
-        let (call, is_closed) = self.load_closed(call);
-        let answer = call.end();
-        Err(if is_closed {
-            copied(answer)
-        } else {
-            Poll::Pending
-        })
     }
 
     // Publishes what the source gives in rounds, each in one piece, until there is no room, it
@@ -345,7 +214,7 @@ impl Writer {
         ensures open { OnNoCount result (self.new.end.saw ≡ false) }
         ensures found { FoundRoom result self.new.end }
         ensures ready { IsAtOnce result }
-        ensures woke { NotifiesReader self.old → NotifiesReader self.new }
+        ensures woke { WakesReader self.old self.new }
         ensures rest { SameWriterButWoke self.old self.new }
     {
         self.end().learn();

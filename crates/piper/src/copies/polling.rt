@@ -2,7 +2,7 @@
 ghost use Rattle.std.specs.Prelude.{◌≡◌, Ok};
 ghost use Rattle.futures.specs.Task.{Keeps};
 ghost use Rattle.piper.specs.Contexts.{WantsWaker};
-ghost use Rattle.piper.specs.Ends.{IsEnded, WriterShut};
+ghost use Rattle.piper.specs.Ends.{IsEnded};
 
 use crate::error::PipeError;
 use crate::handles::{Reader, Writer};
@@ -11,7 +11,7 @@ use futures::task::{Context, Poll};
 use piper_ring::OutOfMemory;
 
 impl AsyncRead for Reader {
-    ghost use Rattle.piper.specs.Handles.{read_source};
+    ghost use Rattle.piper.specs.Handles.{NotifiesWriter, read_source};
 
     ghost taken = { λ r. r.end.taken };
 
@@ -24,6 +24,8 @@ impl AsyncRead for Reader {
     ghost needs = { λ r s. s ≡ read_source r };
 
     ghost fails = { λ _ cx e. WantsWaker cx e };
+
+    ghost woken = { NotifiesWriter };
 
     fn poll_read(
         &mut self,
@@ -40,7 +42,7 @@ impl AsyncRead for Reader {
 
 impl AsyncBufRead for Reader {
     ghost use Rattle.piper_ring.specs.ReadView.{in_one_piece};
-    ghost use Rattle.piper.specs.Handles.{read_source};
+    ghost use Rattle.piper.specs.Handles.{NotifiesWriter, read_source};
 
     ghost known = { λ r. r.end.known };
 
@@ -58,6 +60,8 @@ impl AsyncBufRead for Reader {
 
     ghost fails = { λ _ cx e. WantsWaker cx e };
 
+    ghost woken = { NotifiesWriter };
+
     fn poll_fill_buf(&mut self, cx: &mut Context<'_>) -> Poll<Result<&[u8], PipeError>> {
         match self.poll(cx) {
             Poll::Pending => Poll::Pending,
@@ -74,7 +78,8 @@ impl AsyncBufRead for Reader {
 }
 
 impl AsyncWrite for Writer {
-    ghost use Rattle.piper.specs.Handles.{NotifiesReader, SameWriterButSlots, write_source};
+    ghost use Rattle.piper.specs.Handles.{NotifiesReader, write_source};
+    ghost use Rattle.piper.specs.WriterCalls.{SameWriterButShut};
 
     ghost sent = { λ w. w.end.sent };
 
@@ -83,6 +88,8 @@ impl AsyncWrite for Writer {
     ghost needs = { λ w s. s ≡ write_source w };
 
     ghost fails = { λ _ cx e. WantsWaker cx e };
+
+    ghost woken = { NotifiesReader };
 
     fn poll_write(
         &mut self,
@@ -98,8 +105,8 @@ impl AsyncWrite for Writer {
 
     fn poll_flush(&mut self, cx: &mut Context<'_>) -> Poll<Result<(), PipeError>>
         ensures answer { result ≡ Poll.Ready (Ok (record {})) }
-        ensures handle { self.new ≡ self.old }
-        ensures kept { Keeps cx.old cx.new }
+        ensures context { Keeps cx.old cx.new }
+        ensures rest { self.new ≡ self.old }
     {
         // What was written is published already.
         let _unused = cx;
@@ -108,10 +115,9 @@ impl AsyncWrite for Writer {
 
     fn poll_close(&mut self, cx: &mut Context<'_>) -> Poll<Result<(), PipeError>>
         ensures answer { result ≡ Poll.Ready (Ok (record {})) }
-        ensures shut { WriterShut self.old.end self.new.end }
-        ensures woke { NotifiesReader self.new }
-        ensures handle { SameWriterButSlots self.old self.new }
-        ensures kept { Keeps cx.old cx.new }
+        ensures woken { NotifiesReader self.new }
+        ensures context { Keeps cx.old cx.new }
+        ensures rest { SameWriterButShut self.old self.new }
     {
         match Writer::poll_close(self, cx) {
             Poll::Pending => Poll::Pending,

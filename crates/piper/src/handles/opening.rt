@@ -1,8 +1,6 @@
 //! A pipe is opened.
-ghost use Rattle.std.specs.Prelude.{◌≡◌, ℕ, ◌*◌, ◌^◌, ◌<◌, IfOk, bit_xor};
-ghost use Rattle.piper_ring.specs.Opened.{FreshReadEnd, FreshWriteEnd};
-ghost use Rattle.piper.specs.Generator.{generator};
-ghost use Rattle.piper.specs.Handles.{ArePair, NotifiesReader, NotifiesWriter};
+ghost use Rattle.std.specs.Prelude.{◌*◌, ◌^◌, ◌<◌, IfOk};
+ghost use Rattle.piper.specs.Handles.{AreFresh, ArePair, DrawFrom};
 
 use super::{Reader, Slots, Writer};
 use crate::slot::Slot;
@@ -20,11 +18,8 @@ use std::sync::Arc;
 pub fn pipe(alloc: Global, cap: usize, seed: u64) -> Result<(Reader, Writer), OutOfMemory>
     requires { (0 < cap) × (2 * cap < 2 ^ 64) }
     ensures pair { IfOk result (λ (reader, writer). ArePair reader writer) }
-    ensures reader { IfOk result (λ (reader, _). FreshReadEnd cap reader.end) }
-    ensures writer { IfOk result (λ (_, writer). FreshWriteEnd cap writer.end) }
-    ensures woke { IfOk result (λ (reader, writer). NotifiesWriter reader × NotifiesReader writer) }
-    ensures reader_rng { IfOk result (λ (reader, _). reader.rng ≡ generator seed) }
-    ensures writer_rng { IfOk result (λ (_, writer). writer.rng ≡ generator (bit_xor seed 1)) }
+    ensures fresh { IfOk result (λ (reader, writer). AreFresh cap reader writer) }
+    ensures draws { IfOk result (λ (reader, writer). DrawFrom seed reader writer) }
 {
     let (reader, reader_right) = Slot::new();
     let (writer, writer_right) = Slot::new();

@@ -16,6 +16,8 @@ impl<R: AsyncRead> AsyncRead for &mut R {
 
     ghost fails = { λ r. R.fails r.now };
 
+    ghost woken = { λ r. R.woken r.now };
+
     fn poll_read(
         &mut self,
         cx: &mut Context<'_>,
@@ -42,6 +44,8 @@ impl<R: AsyncBufRead> AsyncBufRead for &mut R {
 
     ghost fails = { λ r. R.fails r.now };
 
+    ghost woken = { λ r. R.woken r.now };
+
     fn poll_fill_buf(&mut self, cx: &mut Context<'_>) -> Poll<Result<&[u8], PipeError>> {
         (**self).poll_fill_buf(cx)
     }
@@ -59,6 +63,8 @@ impl<W: AsyncWrite> AsyncWrite for &mut W {
     ghost needs = { λ w. W.needs w.now };
 
     ghost fails = { λ w. W.fails w.now };
+
+    ghost woken = { λ w. W.woken w.now };
 
     fn poll_write(
         &mut self,

@@ -35,18 +35,16 @@ pub fn poll_copy<R: AsyncBufRead, W: AsyncWrite>(
         (W.sent writer.old) (W.sent writer.new) (W.saw writer.new) }
     ensures over { W.saw writer.old ≡ true →
         (R.taken reader.new ≡ R.taken reader.old) × (W.sent writer.new ≡ W.sent writer.old) }
-    ensures stays { W.saw writer.old ≡ true → W.saw writer.new ≡ true }
+    ensures stays { (W.saw writer.old ≡ true → W.saw writer.new ≡ true)
+        × (R.told reader.new ≡ R.told reader.old) }
     ensures ended { result ≡ Poll.Ready (Ok Copied.ToTheEnd) →
-        (R.known reader.new ≡ []) × (R.saw reader.new ≡ true) }
-    ensures ends { result ≡ Poll.Ready (Ok Copied.ToTheEnd) → R.ended reader.new }
+        (R.known reader.new ≡ []) × (R.saw reader.new ≡ true) × R.ended reader.new }
     ensures closed { result ≡ Poll.Ready (Ok Copied.UntilClosed) → W.saw writer.new ≡ true }
     ensures error { IfReadyErr result (λ e.
         R.fails reader.new cx.new e ⊎ W.fails writer.new cx.new e) }
-    ensures told { R.told reader.new ≡ R.told reader.old }
-    ensures heeded { OnPending result (
-        R.told reader.new ≡ true → Covers cx.new (W.needs writer.new)) }
-    ensures covered { OnPending result (
-        Covers cx.new (R.needs reader.new) ⊎ Covers cx.new (W.needs writer.new)) }
+    ensures pending { OnPending result (
+        (R.told reader.new ≡ true → Covers cx.new (W.needs writer.new))
+        × (Covers cx.new (R.needs reader.new) ⊎ Covers cx.new (W.needs writer.new))) }
     ensures kept { Keeps cx.old cx.new }
 {
     for _ in 0..MOST_PIECES {

@@ -1,21 +1,19 @@
 //! The traits of readers and writers, for an end. Each call is that call of one of its handles, and
 //! leaves the other as it is.
-ghost use Rattle.std.specs.Prelude.{◌≡◌, ◌<◌, ◌≤◌, ◌++◌, [], length, take, drop, true, false, Ok};
+ghost use Rattle.std.specs.Prelude.{◌≡◌, ◌≤◌, ◌++◌, take, drop, Ok};
 ghost use Rattle.std.specs.Borrow.{sem};
 ghost use Rattle.std.specs.Io.BufRead.{Rests};
-ghost use Rattle.futures.specs.Task.{Covers, Keeps};
+ghost use Rattle.futures.specs.Task.{Keeps};
 ghost use Rattle.futures.specs.Poll.{OnPending};
-ghost use Rattle.piper.specs.Contexts.{AsksAgain, WantsWaker};
-ghost use Rattle.piper.specs.Copies.{IsReplaced};
-ghost use Rattle.piper.specs.Drains.{CountsWhatFits, DrainYields, EndIsSeen, EndIsTrue, EndIsUnseen, StaysKnown};
-ghost use Rattle.piper.specs.Ends.{IsEnded, ReaderIsUpToDate, WriterIsUpToDate, WriterShut};
-ghost use Rattle.piper.specs.Fills.{FillYields, LosesOneRound, OnNoCount, WriterFilled};
+ghost use Rattle.piper.specs.Contexts.{WantsWaker};
 ghost use Rattle.piper.specs.Handles.{NotifiesReader, NotifiesWriter, read_source, write_source};
-ghost use Rattle.piper.specs.Looks.{ReaderLooked};
-ghost use Rattle.piper.specs.Polls.{Reads, TakesNone, Writes, IfReadyOk, IfReadyErr};
-ghost use Rattle.piper.specs.ReadView.{KnowsEnd, in_one_piece};
-ghost use Rattle.piper.specs.Waits.{ReaderRegistered, WriterRegistered};
-ghost use Rattle.piper_duplex.specs.Crosswise.{OnlyReads, OnlyWrites, LendsPiece, RegisteredAndWoke};
+ghost use Rattle.piper.specs.OfReader.{front, known, taken, told_shut};
+ghost use Rattle.piper.specs.OfReader as of_reader;
+ghost use Rattle.piper.specs.OfWriter as of_writer;
+ghost use Rattle.piper.specs.Polls.{IfReadyErr};
+ghost use Rattle.piper.specs.ReaderCalls.{AtEnd, DrainPends, DrainsEnd, DrainsSlice, SameReaderButConsumed, SameReaderButMoved, WakesWriter};
+ghost use Rattle.piper.specs.WriterCalls.{FillPends, FillsEnd, FillsSlice, SameWriterButMoved, SameWriterButShut, WakesReader};
+ghost use Rattle.piper_duplex.specs.Crosswise.{LendsPiece, PollsPiece, reading, writing};
 
 use super::End;
 use futures::task::{Context, Poll};
@@ -23,47 +21,31 @@ use piper::io::{AsyncBufRead, AsyncRead, AsyncWrite};
 use piper::{OutOfMemory, PipeError};
 
 impl AsyncRead for End {
-    ghost taken = { λ e. e.reader.end.taken };
+    ghost taken = { λ e. taken (reading e) };
 
-    ghost saw = { λ e. e.reader.end.saw };
+    ghost saw = { λ e. of_reader.saw (reading e) };
 
-    ghost told = { λ e. e.reader.end.told_shut };
+    ghost told = { λ e. told_shut (reading e) };
 
-    ghost ended = { λ e. IsEnded e.reader.end };
+    ghost ended = { λ e. AtEnd (reading e) };
 
-    ghost needs = { λ e s. s ≡ read_source e.reader };
+    ghost needs = { λ e s. s ≡ read_source (reading e) };
 
     ghost fails = { λ _ cx e. WantsWaker cx e };
 
+    ghost woken = { λ e. NotifiesWriter (reading e) };
+
     fn poll_read(&mut self, cx: &mut Context<'_>, dest: &mut [u8]) -> Poll<Result<usize, PipeError>>
-        ensures read { Reads result dest.old dest.new
-            self.old.reader.end.taken self.new.reader.end.taken self.new.reader.end.saw }
-        ensures end { result ≡ Poll.Ready (Ok 0) → 0 < length dest.old →
-            IsEnded self.new.reader.end }
-        ensures after { IsEnded self.old.reader.end → TakesNone result
-            (IsEnded self.new.reader.end) self.old.reader.end.taken self.new.reader.end.taken }
-        ensures all { EndIsTrue result self.old.reader.end self.new.reader.end }
-        ensures same { KnowsEnd self.old.reader.end →
-            self.new.reader.end.all ≡ self.old.reader.end.all }
-        ensures count { CountsWhatFits result (length dest.old)
-            self.old.reader.end self.new.reader.end }
-        ensures known { 0 < length self.old.reader.end.known →
-            StaysKnown self.old.reader.end self.new.reader.end }
-        ensures fresh { self.old.reader.end.known ≡ [] → ReaderIsUpToDate self.new.reader.end }
-        ensures ended { EndIsSeen result self.old.reader.end self.new.reader.end }
-        ensures waits { EndIsUnseen result self.old.reader.end self.new.reader.end }
-        ensures yields { DrainYields result self.old.reader.end self.new.reader.end cx.new }
-        ensures told { self.new.reader.end.told_shut ≡ self.old.reader.end.told_shut }
-        ensures heeded { OnPending result
-            (self.old.reader.end.told_shut ≡ true → AsksAgain cx.new) }
+        ensures drained { DrainsSlice result (reading self.old) (reading self.new)
+            dest.old dest.new }
+        ensures end { DrainsEnd result (reading self.old) (reading self.new) }
+        ensures pending { OnPending result
+            (DrainPends (reading self.old) (reading self.new) cx.new) }
         ensures error { IfReadyErr result (WantsWaker cx.new) }
-        ensures stays { self.old.reader.end.saw ≡ true → self.new.reader.end.saw ≡ true }
-        ensures woke { NotifiesWriter self.old.reader → NotifiesWriter self.new.reader }
-        ensures covered { OnPending result (Covers cx.new (λ s. s ≡ read_source self.new.reader)) }
-        ensures registered { OnPending result
-            (ReaderRegistered self.old.reader self.new.reader cx.new) }
+        ensures woken { WakesWriter (reading self.old) (reading self.new) }
         ensures kept { Keeps cx.old cx.new }
-        ensures rest { OnlyReads self.old self.new }
+        ensures reader { SameReaderButMoved (reading self.old) (reading self.new) }
+        ensures writer { writing self.new ≡ writing self.old }
     {
         match self.reader.poll_drain_bytes(cx, dest) {
             Poll::Pending => Poll::Pending,
@@ -76,27 +58,28 @@ impl AsyncRead for End {
 impl AsyncBufRead for End {
     ghost use Rattle.piper_duplex.specs.contracts.end.End.{the_row};
 
-    ghost known = { λ e. e.reader.end.known };
+    ghost known = { λ e. known (reading e) };
 
-    ghost piece = { λ e. in_one_piece e.reader.end };
+    ghost piece = { λ e. front (reading e) };
 
-    ghost taken = { λ e. e.reader.end.taken };
+    ghost taken = { λ e. taken (reading e) };
 
-    ghost saw = { λ e. e.reader.end.saw };
+    ghost saw = { λ e. of_reader.saw (reading e) };
 
-    ghost told = { λ e. e.reader.end.told_shut };
+    ghost told = { λ e. told_shut (reading e) };
 
-    ghost ended = { λ e. IsEnded e.reader.end };
+    ghost ended = { λ e. AtEnd (reading e) };
 
-    ghost needs = { λ e s. s ≡ read_source e.reader };
+    ghost needs = { λ e s. s ≡ read_source (reading e) };
 
     ghost fails = { λ _ cx e. WantsWaker cx e };
+
+    ghost woken = { λ e. NotifiesWriter (reading e) };
 
     fn poll_fill_buf(&mut self, cx: &mut Context<'_>) -> Poll<Result<&[u8], PipeError>>
         // said of the end as it is once the slice is given back
         ensures* lent { sem 𝓛 (Rests the_row self.entry
-            (λ new. OnlyReads self.old new × ReaderLooked self.old.reader.end new.reader.end
-            × RegisteredAndWoke result self.old new cx.new
+            (λ new. PollsPiece result self.old new cx.new
             × LendsPiece result self.old new cx.new)) }
         ensures kept { Keeps cx.old cx.new }
     {
@@ -108,56 +91,40 @@ impl AsyncBufRead for End {
     }
 
     fn consume(&mut self, amt: usize)
-        requires { amt ≤ in_one_piece self.old.reader.end }
-        ensures known { self.new.reader.end.known ≡ drop amt self.old.reader.end.known }
-        ensures taken { self.new.reader.end.taken
-            ≡ self.old.reader.end.taken ++ take amt self.old.reader.end.known }
-        ensures saw { self.new.reader.end.saw ≡ self.old.reader.end.saw }
-        ensures told { self.new.reader.end.told_shut ≡ self.old.reader.end.told_shut }
-        ensures end { IsEnded self.old.reader.end → IsEnded self.new.reader.end }
-        ensures all { self.new.reader.end.all ≡ self.old.reader.end.all }
-        ensures woke { NotifiesWriter self.new.reader }
-        ensures rest { OnlyReads self.old self.new }
+        requires { amt ≤ front (reading self.old) }
+        ensures known { known (reading self.new) ≡ drop amt (known (reading self.old)) }
+        ensures taken { taken (reading self.new)
+            ≡ taken (reading self.old) ++ take amt (known (reading self.old)) }
+        ensures end { AtEnd (reading self.old) → AtEnd (reading self.new) }
+        ensures woken { NotifiesWriter (reading self.new) }
+        ensures reader { SameReaderButConsumed (reading self.old) (reading self.new) }
+        ensures writer { writing self.new ≡ writing self.old }
     {
         self.reader.consume(amt);
     }
 }
 
 impl AsyncWrite for End {
-    ghost sent = { λ e. e.writer.end.sent };
+    ghost sent = { λ e. of_writer.sent (writing e) };
 
-    ghost saw = { λ e. e.writer.end.saw };
+    ghost saw = { λ e. of_writer.saw (writing e) };
 
-    ghost needs = { λ e s. s ≡ write_source e.writer };
+    ghost needs = { λ e s. s ≡ write_source (writing e) };
 
     ghost fails = { λ _ cx e. WantsWaker cx e };
 
+    ghost woken = { λ e. NotifiesReader (writing e) };
+
     fn poll_write(&mut self, cx: &mut Context<'_>, source: &[u8]) -> Poll<Result<usize, PipeError>>
-        ensures written { Writes result source.now
-            self.old.writer.end.sent self.new.writer.end.sent self.new.writer.end.saw }
-        ensures last { IfReadyOk result (λ n.
-            LosesOneRound n self.old.writer.end self.new.writer.end) }
-        ensures most { IfReadyOk result (λ n. n < length source.now →
-            self.new.writer.end.saw ≡ false → self.new.writer.end.room ≡ 0) }
-        ensures room { 0 < self.old.writer.end.room →
-            IsReplaced self.old.writer.end self.new.writer.end }
-        ensures fresh { self.old.writer.end.room ≡ 0 →
-            self.new.writer.end.saw ≡ false → WriterIsUpToDate self.new.writer.end }
-        ensures open { OnNoCount result (self.new.writer.end.saw ≡ false) }
-        ensures yields { FillYields result self.new.writer.end cx.new }
-        ensures lent { self.new.writer.end.lent ≡ [] }
-        ensures filled { WriterFilled self.old.writer.end self.new.writer.end }
-        ensures full { result ≡ Poll.Ready (Ok 0) →
-            0 < length source.now → self.new.writer.end.saw ≡ true }
+        ensures filled { FillsSlice result (writing self.old) (writing self.new) source.now }
+        ensures end { FillsEnd result (writing self.old) (writing self.new) }
+        ensures pending { OnPending result
+            (FillPends (writing self.old) (writing self.new) cx.new) }
         ensures error { IfReadyErr result (WantsWaker cx.new) }
-        ensures over { self.old.writer.end.saw ≡ true → result ≡ Poll.Ready (Ok 0) }
-        ensures stays { self.old.writer.end.saw ≡ true → self.new.writer.end.saw ≡ true }
-        ensures woke { NotifiesReader self.old.writer → NotifiesReader self.new.writer }
-        ensures covered { OnPending result (Covers cx.new (λ s. s ≡ write_source self.new.writer)) }
-        ensures registered { OnPending result
-            (WriterRegistered self.old.writer self.new.writer cx.new) }
+        ensures woken { WakesReader (writing self.old) (writing self.new) }
         ensures kept { Keeps cx.old cx.new }
-        ensures rest { OnlyWrites self.old self.new }
+        ensures writer { SameWriterButMoved (writing self.old) (writing self.new) }
+        ensures reader { reading self.new ≡ reading self.old }
     {
         match self.writer.poll_fill_bytes(cx, source) {
             Poll::Pending => Poll::Pending,
@@ -168,8 +135,8 @@ impl AsyncWrite for End {
 
     fn poll_flush(&mut self, cx: &mut Context<'_>) -> Poll<Result<(), PipeError>>
         ensures answer { result ≡ Poll.Ready (Ok (record {})) }
-        ensures end { self.new ≡ self.old }
         ensures kept { Keeps cx.old cx.new }
+        ensures rest { self.new ≡ self.old }
     {
         // What was written is published already.
         let _unused = cx;
@@ -178,10 +145,10 @@ impl AsyncWrite for End {
 
     fn poll_close(&mut self, cx: &mut Context<'_>) -> Poll<Result<(), PipeError>>
         ensures answer { result ≡ Poll.Ready (Ok (record {})) }
-        ensures shut { WriterShut self.old.writer.end self.new.writer.end }
-        ensures woke { NotifiesReader self.new.writer }
+        ensures woken { NotifiesReader (writing self.new) }
         ensures kept { Keeps cx.old cx.new }
-        ensures rest { OnlyWrites self.old self.new }
+        ensures writer { SameWriterButShut (writing self.old) (writing self.new) }
+        ensures reader { reading self.new ≡ reading self.old }
     {
         match self.writer.poll_close(cx) {
             Poll::Pending => Poll::Pending,

@@ -70,17 +70,16 @@ impl LineEcho {
             (held_of self.old lines.old) (held_of self.new lines.new)
             (W.sent writer.old) (W.sent writer.new) (W.saw writer.old) (W.saw writer.new) }
         ensures ended { result ≡ Poll.Ready (Ok Echoed.ToTheEnd) → (held_of self.new lines.new ≡ [])
-            × AtEnd (R.known (reader_of lines.new)) (R.saw (reader_of lines.new)) }
-        ensures spent { result ≡ Poll.Ready (Ok Echoed.ToTheEnd) → IsSpent R.ended lines.new }
+            × AtEnd (R.known (reader_of lines.new)) (R.saw (reader_of lines.new))
+            × IsSpent R.ended lines.new }
         ensures closed { result ≡ Poll.Ready (Ok Echoed.UntilClosed) → W.saw writer.new ≡ true }
         ensures error { IfReadyErr result (λ e. W.fails writer.new cx.new e
             ⊎ IsReported e (R.fails (reader_of lines.new) cx.new)
             (LacksRoom limit 0 (kept_of lines.new) (R.known (reader_of lines.new)))) }
         ensures stays { W.saw writer.old ≡ true → W.saw writer.new ≡ true }
         ensures told { R.told (reader_of lines.new) ≡ R.told (reader_of lines.old) }
-        ensures heeded { OnPending result (R.told (reader_of lines.new) ≡ true →
-            (0 < length (left_of self.new)) ⊎ AsksAgain cx.new) }
-        ensures covered { OnPending result (Covers cx.new
+        ensures pending { OnPending result ((R.told (reader_of lines.new) ≡ true →
+            (0 < length (left_of self.new)) ⊎ AsksAgain cx.new) × Covers cx.new
             (WaitsFor (R.needs (reader_of lines.new)) (W.needs writer.new) (left_of self.new))) }
         ensures kept { Keeps cx.old cx.new }
     {

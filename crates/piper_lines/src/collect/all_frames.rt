@@ -42,8 +42,8 @@ pub fn poll_frames<R: AsyncBufRead>(
         (R.known (reader_of frames.new)) ⊎ (vec_capacity out.old ≤ vec_len out.new))) }
     ensures format { format_of frames.new ≡ format_of frames.old }
     ensures told { R.told (reader_of frames.new) ≡ R.told (reader_of frames.old) }
-    ensures heeded { OnPending result (R.told (reader_of frames.new) ≡ true → AsksAgain cx.new) }
-    ensures covered { OnPending result (Covers cx.new (R.needs (reader_of frames.new))) }
+    ensures pending { OnPending result ((R.told (reader_of frames.new) ≡ true → AsksAgain cx.new)
+        × Covers cx.new (R.needs (reader_of frames.new))) }
     ensures kept { Keeps cx.old cx.new }
 {
     for _ in 0..MOST_PIECES {

@@ -35,15 +35,15 @@ pub fn poll_lines<R: AsyncBufRead>(
     ensures split { Adds (λ piece. length (kept_of lines.old) < limit →
         IsPiece (end_of lines.old) limit piece) out.old.items out.new.items }
     ensures ended { IfReadyOk result (λ _. (kept_of lines.new ≡ [])
-        × AtEnd (R.known (reader_of lines.new)) (R.saw (reader_of lines.new))) }
-    ensures spent { IfReadyOk result (λ _. IsSpent R.ended lines.new) }
+        × AtEnd (R.known (reader_of lines.new)) (R.saw (reader_of lines.new))
+        × IsSpent R.ended lines.new) }
     ensures error { IfReadyErr result (λ e. IsReported e (R.fails (reader_of lines.new) cx.new)
         (LacksRoom limit 0 (kept_of lines.new) (R.known (reader_of lines.new))
         ⊎ (vec_capacity out.old ≤ vec_len out.new))) }
     ensures end { end_of lines.new ≡ end_of lines.old }
     ensures told { R.told (reader_of lines.new) ≡ R.told (reader_of lines.old) }
-    ensures heeded { OnPending result (R.told (reader_of lines.new) ≡ true → AsksAgain cx.new) }
-    ensures covered { OnPending result (Covers cx.new (R.needs (reader_of lines.new))) }
+    ensures pending { OnPending result ((R.told (reader_of lines.new) ≡ true → AsksAgain cx.new)
+        × Covers cx.new (R.needs (reader_of lines.new))) }
     ensures kept { Keeps cx.old cx.new }
 {
     for _ in 0..MOST_PIECES {

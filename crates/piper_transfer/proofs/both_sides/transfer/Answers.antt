@@ -42,17 +42,17 @@ returns g c =
     let new_reader = c.in_ok-input.ensures.output.taken in
     let reads : c.into_reader-reader.result.end ≡ r1 = ap (λ (r : Reader). r.end) c.into_reader-reader.ensures in
     let writes : c.into_writer-writer.result.end ≡ w1 = ap (λ (w : Writer). w.end) c.into_writer-writer.ensures in
-    let met : ReaderRefreshed r1 r2 = subst (λ (r : ReadView). ReaderRefreshed r r2) reads c.meet.ensures.reader in
-    let sent : c.meet.new.other.end.sent ≡ w1.sent = c.meet.ensures.writer.sent ∙ ap (λ (w : WriteView). w.sent) writes in
+    let met : ReaderRefreshed r1 r2 = subst (λ (r : ReadView). ReaderRefreshed r r2) reads c.meet.ensures.rest.reader in
+    let sent : c.meet.new.other.end.sent ≡ w1.sent = c.meet.ensures.rest.writer.sent ∙ ap (λ (w : WriteView). w.sent) writes in
     let fifo = c.meet.ensures.fifo ∙ sent in
     elim c.match-drained.branch [
       | in-Ok w ↦
           let q = contents w.flush.new.dest in
           let drained : PouredAll o p r0 r1 = search rules in
           let poured : PouredAll o q r0 r2 = poured_kept o p q r0 r2 (poured_same o p r0 r1 r2 drained met.taken met.end.ring) w.flush.ensures.kept in
-          let whole : IsDrained r1 w1 = search rules in
-          let none : r2.known ≡ [] = none_known r1 r2 w1 c.meet.new.other.end whole met c.meet.ensures.fifo sent c.meet.ensures.all
-          (subst (λ (r : ReadView). KnowsEnd r → r2.all ≡ r.all) reads c.meet.ensures.same) in
+          let whole : IsDrained r1 w1 = rw w.in-Ok.is at both.ensures.drained in
+          let none : r2.known ≡ [] = none_known r1 r2 w1 c.meet.new.other.end whole met c.meet.ensures.fifo sent c.meet.ensures.closed.all
+          (subst (λ (r : ReadView). KnowsEnd r → r2.all ≡ r.all) reads c.meet.ensures.more.all) in
           let same : c.match-drained.ended ≡ result_and w.flush.result both.result.0 = search rules in
           let ended = ends_with_both w.flush.result both.result.0 c.match-drained.ended (IsAtEnd j) same both.ensures.input_ended in
           let d = g.D.Destination.fails w.flush.new.dest in

@@ -10,32 +10,32 @@ pub returns-then-is_output_over-clause-fed : goal.returns-then-is_output_over-cl
 returns-then-is_output_over-clause-fed g c = fed_same _ _ _ _ _ c.loop.invariant.2 c.close.ensures.sent c.close.ensures.ring
 
 pub returns-in-Pending-clause-fed : goal.returns-in-Pending-clause-fed
-returns-in-Pending-clause-fed g c = fed_looked _ _ _ _ _ c.loop.invariant.2 c.poll.ensures.looked
+returns-in-Pending-clause-fed g c = fed_looked _ _ _ _ _ c.loop.invariant.2 c.poll.ensures.found.looked
 
 pub returns-in-Ready-Ok-false-clause-fed : goal.returns-in-Ready-Ok-false-clause-fed
 returns-in-Ready-Ok-false-clause-fed g c =
-    let looked = c.poll.ensures.looked in
+    let looked = c.poll.ensures.found.looked in
     let closed = c.close-in-Ready-Ok-false.ensures in
     fed_same _ _ _ _ _ c.loop.invariant.2 (closed.sent ∙ looked.sent) (closed.ring ∙ looked.end.ring)
 
 pub returns-in-Ready-Err-clause-fed : goal.returns-in-Ready-Err-clause-fed
 returns-in-Ready-Err-clause-fed g c =
-    let looked = c.poll.ensures.looked in
+    let looked = c.poll.ensures.found.looked in
     let closed = c.close-in-Ready-Err.ensures in
     fed_same _ _ _ _ _ c.loop.invariant.2 (closed.sent ∙ looked.sent) (closed.ring ∙ looked.end.ring)
 
 pub returns-in-Ok-eq0-clause-fed : goal.returns-in-Ok-eq0-clause-fed
 returns-in-Ok-eq0-clause-fed g c =
-    let read = fed_round _ _ _ _ _ _ _ c.loop.invariant.2 c.poll.ensures.looked c.read_chunk.ensures.fed in
+    let read = fed_round _ _ _ _ _ _ _ c.loop.invariant.2 c.poll.ensures.found.looked c.read_chunk.ensures.fed in
     let closed = c.close-in-Ok-eq0.ensures in
     fed_same _ _ _ _ _ read closed.sent closed.ring
 
 pub returns-in-Err-clause-fed : goal.returns-in-Err-clause-fed
 returns-in-Err-clause-fed g c =
-    let read = fed_round _ _ _ _ _ _ _ c.loop.invariant.2 c.poll.ensures.looked c.read_chunk.ensures.fed in
+    let read = fed_round _ _ _ _ _ _ _ c.loop.invariant.2 c.poll.ensures.found.looked c.read_chunk.ensures.fed in
     let closed = c.close-in-Err.ensures in
     fed_same _ _ _ _ _ read closed.sent closed.ring
 
 pub loop-preserved : goal.loop-preserved
 loop-preserved g c =
-    (tt, tt, fed_round _ _ _ _ _ _ _ c.loop.invariant.2 c.poll.ensures.looked c.read_chunk.ensures.fed, c.read_chunk.ensures.is_open)
+    (tt, tt, fed_round _ _ _ _ _ _ _ c.loop.invariant.2 c.poll.ensures.found.looked c.read_chunk.ensures.fed, c.read_chunk.ensures.is_open)

@@ -10,7 +10,7 @@ returns-clause-room g c =
     let drained = c.drain_known.ensures in
     room_again c.meet.new.self.end c.drain_known.new.reader.end c.meet-2.new.self.end
     c.meet.new.other.end c.meet-2.new.other.end
-    first.fifo drained.known (search rules) second.reader.taken second.fifo second.writer.sent
+    first.fifo drained.known (search rules) second.rest.reader.taken second.fifo second.rest.writer.sent
     second.room (search rules)
 
 pub returns-clause-all : goal.returns-clause-all
@@ -20,4 +20,4 @@ returns-clause-all g c =
     let drained = c.drain_known.ensures in
     taken_all c.meet.new.self.end c.drain_known.new.reader.end c.meet-2.new.self.end
     c.meet.new.other.end c.meet-2.new.other.end
-    first.fifo drained.known (search rules) second.reader.taken second.writer.sent
+    first.fifo drained.known (search rules) second.rest.reader.taken second.rest.writer.sent

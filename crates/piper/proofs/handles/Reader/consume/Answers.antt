@@ -2,7 +2,7 @@
 use Rattle.piper.proofs.Ended.{ended_consumed}
 use Rattle.piper.proofs.handles.Reader.consume.Goals as goal
 
-pub returns-clause-stays : goal.returns-clause-stays
-returns-clause-stays c =
+pub returns-clause-end : goal.returns-clause-end
+returns-clause-end c =
     let stored = c.store_head-call.ensures in
     rw c.wake_writer.ensures.end (ended_consumed c.args.amt _ _ stored.taken stored.known stored.all stored.end.saw)

@@ -58,8 +58,8 @@ loop-preserved g c =
       within = adds_piece (λ body. length body ≤ c.args.limit) c.args.out.now.items c.loop.out.items c.push.new.out.items body c.loop.invariant.within pushed hands.0;
       body = inr hands.1.1;
       room = omega (arith, c.loop.invariant.room, c.reserve.ensures.capacity, c.push.ensures.capacity);
-      format = c.poll_frame.ensures.format ∙ c.loop.invariant.format;
-      told = c.poll_frame.ensures.told ∙ c.loop.invariant.told;
+      format = c.poll_frame.ensures.rest.0 ∙ c.loop.invariant.format;
+      told = c.poll_frame.ensures.rest.1 ∙ c.loop.invariant.told;
       kept = λ fact held. c.poll_frame.ensures.kept fact (c.loop.invariant.kept fact held);
     }
 

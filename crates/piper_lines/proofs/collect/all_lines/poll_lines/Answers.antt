@@ -34,12 +34,10 @@ returns-then-is_end-clause-moved g c =
 
 pub returns-then-is_end-clause-ended : goal.returns-then-is_end-clause-ended
 returns-then-is_end-clause-ended g c =
+    let is_end = sym c.is_end.ensures ∙ c.if-is_end.true in
     let hands = rw c.in-Ready-Ok.field-0-is at c.in-Ready-Ok.ensures.hands in
-    hands_end PipeError c.in-Ready-Ok.answer _ _ _ _ _ _ _ (sym c.is_end.ensures ∙ c.if-is_end.true) hands
-
-pub returns-then-is_end-clause-spent : goal.returns-then-is_end-clause-spent
-returns-then-is_end-clause-spent g c =
-    (rw c.in-Ready-Ok.field-0-is at c.in-Ready-Ok.ensures.ended) (sym c.is_end.ensures ∙ c.if-is_end.true)
+    let ended = hands_end PipeError c.in-Ready-Ok.answer _ _ _ _ _ _ _ is_end hands in
+    (ended.0, ended.1, (rw c.in-Ready-Ok.field-0-is at c.in-Ready-Ok.ensures.ended) is_end)
 
 pub loop-preserved : goal.loop-preserved
 loop-preserved g c =
@@ -54,7 +52,7 @@ loop-preserved g c =
       split = adds_piece (λ piece. length (kept_of c.args.lines.now) < c.args.limit → IsPiece (end_of c.args.lines.now) c.args.limit piece) c.args.out.now.items c.loop.out.items c.push.new.out.items line c.loop.invariant.split pushed (λ short. piece.1 (c.loop.invariant.short short));
       short = λ short. omega (arith, ap length piece.0);
       room = omega (arith, c.loop.invariant.room, c.reserve.ensures.capacity, c.push.ensures.capacity);
-      end = c.poll_line.ensures.end ∙ c.loop.invariant.end;
-      told = c.poll_line.ensures.told ∙ c.loop.invariant.told;
+      end = c.poll_line.ensures.rest.0 ∙ c.loop.invariant.end;
+      told = c.poll_line.ensures.rest.1 ∙ c.loop.invariant.told;
       kept = λ fact held. c.poll_line.ensures.kept fact (c.loop.invariant.kept fact held);
     }

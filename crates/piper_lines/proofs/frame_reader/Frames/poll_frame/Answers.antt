@@ -109,4 +109,4 @@ invariant_of-self-in-Ready-Ok-false-fill_up-2 g c =
 pub returns-in-Ready-Ok-false-fill_up-clause-ended : goal.returns-in-Ready-Ok-false-fill_up-clause-ended
 returns-in-Ready-Ok-false-fill_up-clause-ended g c =
     let ended : c.fill_up.result ≡ Ready (Ok false) = cc in
-    on_end _ _ (c.fill_up.ensures.ends ended)
+    on_end _ _ ((c.fill_up.ensures.ended ended).2)

@@ -11,7 +11,7 @@ returns-in-Pending-clause-same g c = λ xs last runs.
     let moved = only_moves (g.R.AsyncBufRead.taken (reader_of c.args.self.now.frames)) (g.R.AsyncBufRead.taken (reader_of c.poll_frame.new.self)) (kept_of c.args.self.now.frames) [] (kept_of c.poll_frame.new.self) (skips_of c.args.self.now.frames) (skips_of c.poll_frame.new.self) c.args.self.now.whole passes in
     went_on g.R.AsyncBufRead.taken g.R.AsyncBufRead.known g.R.AsyncBufRead.saw (format_of c.args.self.now.frames) c.args.self.now.limit c.args.self.now.is_ended (reader_of c.args.self.now.frames) (kept_of c.args.self.now.frames) xs last c.if-self.false
     (waits g.R.AsyncBufRead.taken g.R.AsyncBufRead.known g.R.AsyncBufRead.saw (format_of c.args.self.now.frames) c.args.self.now.limit (reader_of c.args.self.now.frames) (reader_of c.poll_frame.new.self) (kept_of c.args.self.now.frames) (kept_of c.poll_frame.new.self) xs last moved
-    (goes_on g.R.AsyncBufRead.taken g.R.AsyncBufRead.known g.R.AsyncBufRead.saw (format_of c.args.self.now.frames) c.args.self.now.limit c.args.self.now.is_ended (reader_of c.poll_frame.new.self) (kept_of c.poll_frame.new.self) xs last c.if-self.false (rw c.poll_frame.ensures.format at runs)))
+    (goes_on g.R.AsyncBufRead.taken g.R.AsyncBufRead.known g.R.AsyncBufRead.saw (format_of c.args.self.now.frames) c.args.self.now.limit c.args.self.now.is_ended (reader_of c.poll_frame.new.self) (kept_of c.poll_frame.new.self) xs last c.if-self.false (rw c.poll_frame.ensures.rest.0 at runs)))
 
 pub returns-in-Ready-Err-clause-value : goal.returns-in-Ready-Err-clause-value
 returns-in-Ready-Err-clause-value g c =
@@ -26,7 +26,7 @@ returns-in-Ready-Err-clause-rest g c = λ xs last runs.
     let moved = only_moves (g.R.AsyncBufRead.taken (reader_of c.args.self.now.frames)) (g.R.AsyncBufRead.taken (reader_of c.poll_frame.new.self)) (kept_of c.args.self.now.frames) [] (kept_of c.poll_frame.new.self) (skips_of c.args.self.now.frames) (skips_of c.poll_frame.new.self) c.args.self.now.whole passes in
     went_on g.R.AsyncBufRead.taken g.R.AsyncBufRead.known g.R.AsyncBufRead.saw (format_of c.args.self.now.frames) c.args.self.now.limit c.args.self.now.is_ended (reader_of c.args.self.now.frames) (kept_of c.args.self.now.frames) (Err c.in-Ready-Err.error ∷ xs) last c.if-self.false
     (comes_then g.R.AsyncBufRead.taken g.R.AsyncBufRead.known g.R.AsyncBufRead.saw (format_of c.args.self.now.frames) c.args.self.now.limit (reader_of c.args.self.now.frames) (reader_of c.poll_frame.new.self) (kept_of c.args.self.now.frames) (kept_of c.poll_frame.new.self) (Err c.in-Ready-Err.error) xs last moved tt
-    (goes_on g.R.AsyncBufRead.taken g.R.AsyncBufRead.known g.R.AsyncBufRead.saw (format_of c.args.self.now.frames) c.args.self.now.limit c.args.self.now.is_ended (reader_of c.poll_frame.new.self) (kept_of c.poll_frame.new.self) xs last c.if-self.false (rw c.poll_frame.ensures.format at runs)))
+    (goes_on g.R.AsyncBufRead.taken g.R.AsyncBufRead.known g.R.AsyncBufRead.saw (format_of c.args.self.now.frames) c.args.self.now.limit c.args.self.now.is_ended (reader_of c.poll_frame.new.self) (kept_of c.poll_frame.new.self) xs last c.if-self.false (rw c.poll_frame.ensures.rest.0 at runs)))
 
 pub returns-in-Ready-Ok-Frame-clause-value : goal.returns-in-Ready-Ok-Frame-clause-value
 returns-in-Ready-Ok-Frame-clause-value g c =
@@ -41,7 +41,7 @@ returns-in-Ready-Ok-Frame-clause-rest g c = λ xs last runs.
     let moved = only_moves (g.R.AsyncBufRead.taken (reader_of c.args.self.now.frames)) (g.R.AsyncBufRead.taken (reader_of c.poll_frame.new.self)) (kept_of c.args.self.now.frames) (frame_bytes (format_of c.args.self.now.frames) c.poll_frame.new.frame.items) (kept_of c.poll_frame.new.self) (skips_of c.args.self.now.frames) (skips_of c.poll_frame.new.self) c.args.self.now.whole passes in
     went_on g.R.AsyncBufRead.taken g.R.AsyncBufRead.known g.R.AsyncBufRead.saw (format_of c.args.self.now.frames) c.args.self.now.limit c.args.self.now.is_ended (reader_of c.args.self.now.frames) (kept_of c.args.self.now.frames) (Ok c.poll_frame.new.frame ∷ xs) last c.if-self.false
     (comes_then g.R.AsyncBufRead.taken g.R.AsyncBufRead.known g.R.AsyncBufRead.saw (format_of c.args.self.now.frames) c.args.self.now.limit (reader_of c.args.self.now.frames) (reader_of c.poll_frame.new.self) (kept_of c.args.self.now.frames) (kept_of c.poll_frame.new.self) (Ok c.poll_frame.new.frame) xs last moved (rw (c.in-Ready-Ok-Frame.field-0-is, c.in-Ready-Ok-Frame.field-0-0-is) at c.in-Ready-Ok-Frame.ensures.hands).0
-    (goes_on g.R.AsyncBufRead.taken g.R.AsyncBufRead.known g.R.AsyncBufRead.saw (format_of c.args.self.now.frames) c.args.self.now.limit c.args.self.now.is_ended (reader_of c.poll_frame.new.self) (kept_of c.poll_frame.new.self) xs last c.if-self.false (rw c.poll_frame.ensures.format at runs)))
+    (goes_on g.R.AsyncBufRead.taken g.R.AsyncBufRead.known g.R.AsyncBufRead.saw (format_of c.args.self.now.frames) c.args.self.now.limit c.args.self.now.is_ended (reader_of c.poll_frame.new.self) (kept_of c.poll_frame.new.self) xs last c.if-self.false (rw c.poll_frame.ensures.rest.0 at runs)))
 
 pub returns-in-Ready-Ok-End-clause-value : goal.returns-in-Ready-Ok-End-clause-value
 returns-in-Ready-Ok-End-clause-value g c =

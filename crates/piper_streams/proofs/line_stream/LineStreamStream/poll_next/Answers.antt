@@ -11,7 +11,7 @@ returns-in-Pending-clause-same g c = λ xs last runs.
     let moved = rw c.in-Pending.ensures.hands.0 at c.poll_line.ensures.moved in
     went_on g.R.AsyncBufRead.taken g.R.AsyncBufRead.known g.R.AsyncBufRead.saw (end_of c.args.self.now.lines) c.args.self.now.limit c.args.self.now.is_ended (reader_of c.args.self.now.lines) (kept_of c.args.self.now.lines) xs last c.if-self.false
     (waits g.R.AsyncBufRead.taken g.R.AsyncBufRead.known g.R.AsyncBufRead.saw (end_of c.args.self.now.lines) c.args.self.now.limit (reader_of c.args.self.now.lines) (reader_of c.poll_line.new.self) (kept_of c.args.self.now.lines) (kept_of c.poll_line.new.self) xs last moved
-    (goes_on g.R.AsyncBufRead.taken g.R.AsyncBufRead.known g.R.AsyncBufRead.saw (end_of c.args.self.now.lines) c.args.self.now.limit c.args.self.now.is_ended (reader_of c.poll_line.new.self) (kept_of c.poll_line.new.self) xs last c.if-self.false (rw c.poll_line.ensures.end at runs)))
+    (goes_on g.R.AsyncBufRead.taken g.R.AsyncBufRead.known g.R.AsyncBufRead.saw (end_of c.args.self.now.lines) c.args.self.now.limit c.args.self.now.is_ended (reader_of c.poll_line.new.self) (kept_of c.poll_line.new.self) xs last c.if-self.false (rw c.poll_line.ensures.rest.0 at runs)))
 
 pub returns-in-Ready-Err-clause-value : goal.returns-in-Ready-Err-clause-value
 returns-in-Ready-Err-clause-value g c =
@@ -26,7 +26,7 @@ returns-in-Ready-Err-clause-rest g c = λ xs last runs.
     let moved = rw hands.0 at c.poll_line.ensures.moved in
     went_on g.R.AsyncBufRead.taken g.R.AsyncBufRead.known g.R.AsyncBufRead.saw (end_of c.args.self.now.lines) c.args.self.now.limit c.args.self.now.is_ended (reader_of c.args.self.now.lines) (kept_of c.args.self.now.lines) (Err c.in-Ready-Err.error ∷ xs) last c.if-self.false
     (comes_error g.R.AsyncBufRead.taken g.R.AsyncBufRead.known g.R.AsyncBufRead.saw (end_of c.args.self.now.lines) c.args.self.now.limit (reader_of c.args.self.now.lines) (reader_of c.poll_line.new.self) (kept_of c.args.self.now.lines) (kept_of c.poll_line.new.self) c.in-Ready-Err.error xs last moved
-    (goes_on g.R.AsyncBufRead.taken g.R.AsyncBufRead.known g.R.AsyncBufRead.saw (end_of c.args.self.now.lines) c.args.self.now.limit c.args.self.now.is_ended (reader_of c.poll_line.new.self) (kept_of c.poll_line.new.self) xs last c.if-self.false (rw c.poll_line.ensures.end at runs)))
+    (goes_on g.R.AsyncBufRead.taken g.R.AsyncBufRead.known g.R.AsyncBufRead.saw (end_of c.args.self.now.lines) c.args.self.now.limit c.args.self.now.is_ended (reader_of c.poll_line.new.self) (kept_of c.poll_line.new.self) xs last c.if-self.false (rw c.poll_line.ensures.rest.0 at runs)))
 
 pub returns-in-Ready-Ok-Last-clause-rest : goal.returns-in-Ready-Ok-Last-clause-rest
 returns-in-Ready-Ok-Last-clause-rest g c = λ xs last over.
@@ -42,7 +42,7 @@ returns-in-Ready-Ok-Line-clause-rest g c = λ xs last runs.
     went_on g.R.AsyncBufRead.taken g.R.AsyncBufRead.known g.R.AsyncBufRead.saw (end_of c.args.self.now.lines) c.args.self.now.limit c.args.self.now.is_ended (reader_of c.args.self.now.lines) (kept_of c.args.self.now.lines) (Ok c.poll_line.new.line ∷ xs) last c.if-self.false
     (comes_piece g.R.AsyncBufRead.taken g.R.AsyncBufRead.known g.R.AsyncBufRead.saw (end_of c.args.self.now.lines) c.args.self.now.limit (reader_of c.args.self.now.lines) (reader_of c.poll_line.new.self) (kept_of c.args.self.now.lines) (kept_of c.poll_line.new.self) c.poll_line.new.line xs last c.poll_line.ensures.moved
     (piece.1 c.args.self.now.short)
-    (goes_on g.R.AsyncBufRead.taken g.R.AsyncBufRead.known g.R.AsyncBufRead.saw (end_of c.args.self.now.lines) c.args.self.now.limit c.args.self.now.is_ended (reader_of c.poll_line.new.self) (kept_of c.poll_line.new.self) xs last c.if-self.false (rw c.poll_line.ensures.end at runs)))
+    (goes_on g.R.AsyncBufRead.taken g.R.AsyncBufRead.known g.R.AsyncBufRead.saw (end_of c.args.self.now.lines) c.args.self.now.limit c.args.self.now.is_ended (reader_of c.poll_line.new.self) (kept_of c.poll_line.new.self) xs last c.if-self.false (rw c.poll_line.ensures.rest.0 at runs)))
 
 pub returns-in-Ready-Ok-TooLong-clause-rest : goal.returns-in-Ready-Ok-TooLong-clause-rest
 returns-in-Ready-Ok-TooLong-clause-rest g c = λ xs last runs.
@@ -51,4 +51,4 @@ returns-in-Ready-Ok-TooLong-clause-rest g c = λ xs last runs.
     went_on g.R.AsyncBufRead.taken g.R.AsyncBufRead.known g.R.AsyncBufRead.saw (end_of c.args.self.now.lines) c.args.self.now.limit c.args.self.now.is_ended (reader_of c.args.self.now.lines) (kept_of c.args.self.now.lines) (Ok c.poll_line.new.line ∷ xs) last c.if-self.false
     (comes_piece g.R.AsyncBufRead.taken g.R.AsyncBufRead.known g.R.AsyncBufRead.saw (end_of c.args.self.now.lines) c.args.self.now.limit (reader_of c.args.self.now.lines) (reader_of c.poll_line.new.self) (kept_of c.args.self.now.lines) (kept_of c.poll_line.new.self) c.poll_line.new.line xs last c.poll_line.ensures.moved
     (piece.1 c.args.self.now.short)
-    (goes_on g.R.AsyncBufRead.taken g.R.AsyncBufRead.known g.R.AsyncBufRead.saw (end_of c.args.self.now.lines) c.args.self.now.limit c.args.self.now.is_ended (reader_of c.poll_line.new.self) (kept_of c.poll_line.new.self) xs last c.if-self.false (rw c.poll_line.ensures.end at runs)))
+    (goes_on g.R.AsyncBufRead.taken g.R.AsyncBufRead.known g.R.AsyncBufRead.saw (end_of c.args.self.now.lines) c.args.self.now.limit c.args.self.now.is_ended (reader_of c.poll_line.new.self) (kept_of c.poll_line.new.self) xs last c.if-self.false (rw c.poll_line.ensures.rest.0 at runs)))

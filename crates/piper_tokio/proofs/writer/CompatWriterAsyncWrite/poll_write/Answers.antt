@@ -6,6 +6,6 @@ use Rattle.piper_tokio.proofs.writer.CompatWriterAsyncWrite.poll_write.Goals as 
 pub returns-in-Ready-Ok-clause-bytes : goal.returns-in-Ready-Ok-clause-bytes
 returns-in-Ready-Ok-clause-bytes c =
     let told = c.in-Ready-Ok.ensures in
-    let written = rw c.in-Ready-Ok.field-0-is at told.written in
-    let over = rw c.in-Ready-Ok.field-0-is at told.over in
-    gave_front c.args.self.now.writer c.poll_fill_bytes.new.self c.in-Ready-Ok.count written.1.0 c.args.buf.now written.1.1 written.1.2 written.1.3 (λ seen. ap count_moved (over seen)) told.end told.slots
+    let filled = rw c.in-Ready-Ok.field-0-is at told.filled in
+    let end = rw c.in-Ready-Ok.field-0-is at told.end in
+    gave_front c.args.self.now.writer c.poll_fill_bytes.new.self c.in-Ready-Ok.count c.args.buf.now filled.0 (λ seen. ap count_moved (end.over seen)) told.rest

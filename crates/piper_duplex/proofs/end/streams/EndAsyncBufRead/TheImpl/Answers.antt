@@ -1,8 +1,7 @@
 -- The trait says less of the end that lends.
 use contract.Monad.{fact}
 use Rattle.futures.specs.Task.{Keeps}
-use Rattle.piper.specs.Looks.{ReaderLooked}
-use Rattle.piper_duplex.specs.Crosswise.{OnlyReads, LendsPiece, RegisteredAndWoke}
+use Rattle.piper_duplex.specs.Crosswise.{LendsPiece, PollsPiece}
 use Rattle.piper_duplex.specs.contracts.end.End.{the_row}
 use Rattle.piper_duplex.proofs.Lending.{meets_less}
 use Rattle.piper_duplex.proofs.end.streams.EndAsyncBufRead.TheImpl.Goals as goal
@@ -10,7 +9,7 @@ use Rattle.piper_duplex.proofs.end.streams.EndAsyncBufRead.TheImpl.Goals as goal
 pub poll_fill_buf-meets : goal.poll_fill_buf-meets
 poll_fill_buf-meets g c =
     meets_less g.world.𝓛 the_row c.args.self _ _
-    (λ r e new. OnlyReads c.args.self.now new × ReaderLooked c.args.self.now.reader.end new.reader.end × RegisteredAndWoke r c.args.self.now new e.1.0.now × LendsPiece r c.args.self.now new e.1.0.now)
+    (λ r e new. PollsPiece r c.args.self.now new e.1.0.now × LendsPiece r c.args.self.now new e.1.0.now)
     (λ r e new. LendsPiece r c.args.self.now new e.1.0.now)
     (λ r e. fact g.world.𝓤 (Keeps c.args.cx.now e.1.0.now))
-    (λ r e new said. said.3)
+    (λ r e new said. said.1)

@@ -1,3 +1,4 @@
+use Rattle.std.proofs.Common.{◌∙◌}
 use Rattle.piper_lines.specs.Split.{joined_frames}
 use Rattle.piper_streams.proofs.PiecesSent.{sent_then, sent_same, unless_failed}
 use Rattle.piper_streams.proofs.write_sink.frame_sink.FrameSinkSinkVecU8.poll_flush.Goals as goal
@@ -5,7 +6,7 @@ use Rattle.piper_streams.proofs.write_sink.frame_sink.FrameSinkSinkVecU8.poll_fl
 pub returns-in-Ready-Ok-clause-history : goal.returns-in-Ready-Ok-clause-history
 returns-in-Ready-Ok-clause-history g c =
     unless_failed c.poll_flush.result _ (λ bodies sent.
-    sent_same (joined_frames c.args.self.now.format bodies) _ _ _ _ _ (sent_then (joined_frames c.args.self.now.format bodies) _ _ _ _ _ _ sent c.poll_write.ensures.sends c.poll_write.ensures.stays) c.poll_flush.ensures.stays c.poll_flush.ensures.sent)
+    sent_same (joined_frames c.args.self.now.format bodies) _ _ _ _ _ (sent_then (joined_frames c.args.self.now.format bodies) _ _ _ _ _ _ sent c.poll_write.ensures.sends c.poll_write.ensures.stays) (λ seen. c.poll_flush.ensures.saw ∙ seen) c.poll_flush.ensures.sent)
 
 pub returns-in_default-2-clause-history : goal.returns-in_default-2-clause-history
 returns-in_default-2-clause-history g c =

@@ -9,7 +9,7 @@ invariant_of-self c =
     let s = c.args.self.now in
     let few : c.args.amount ≤ s.shown = omega (arith, c.requires, length-take s.shown s.reader.end.known) in
     let shown : s.shown ≤ in_one_piece s.reader.end = s.within in
-    let rest = rest_in_one_piece s.reader.end c.consume.new.self.end c.args.amount (omega arith) c.consume.ensures.end.end.capacity c.consume.ensures.taken c.consume.ensures.known in
+    let rest = rest_in_one_piece s.reader.end c.consume.new.self.end c.args.amount (omega arith) c.consume.ensures.rest.end.end.capacity c.consume.ensures.taken c.consume.ensures.known in
     record { within = omega (arith, rest) }
 
 pub returns-clause-rest : goal.returns-clause-rest

@@ -1,0 +1,88 @@
+-- What the traits of readers and writers say, of a drain and a fill whose clauses say more.
+use Rattle.std.proofs.Common.{◌≡◌, ℕ, zero, suc, ◌+◌, ◌<◌, ◌≤◌, ◌++◌, Bool, true, false, true≢false, List, take, length, Result, Ok, Err, refl, sym, ap, ◌∙◌, length-append, length-take, length-take-le, arith}
+use Rattle.futures.specs.Poll.{OnPending}
+use Rattle.futures.specs.Task.{Covers}
+use Rattle.futures.specs.declared.task.context.Context.{Context}
+use Rattle.futures.specs.declared.task.Poll.{Poll}
+use Rattle.futures.specs.declared.task.Poll.TheVariants.{Ready, Pending}
+use Rattle.piper_protocol.specs.declared.scripted.TheConstants.{MOST_A_ROUND}
+use Rattle.piper_ring.specs.Shared.{flag}
+use Rattle.piper.specs.Contexts.{AsksAgain}
+use Rattle.piper.specs.Drains.{found_len}
+use Rattle.piper.specs.Handles.{read_source, write_source}
+use Rattle.piper.specs.Polls.{Reads, Writes}
+use Rattle.piper.specs.ReaderCalls.{AtEnd, Drained, DrainPends, DrainsEnd, DrainsSlice, SameReaderButMoved}
+use Rattle.piper.specs.WriterCalls.{Filled, FillPends, FillsSlice, SameWriterButMoved}
+use Rattle.piper.specs.declared.handles.Reader.{Reader}
+use Rattle.piper.specs.declared.handles.Writer.{Writer}
+
+-- what was seen closed stays seen
+pub saw_stays : (a b : Bool) → flag a ≤ flag b → a ≡ true → b ≡ true
+saw_stays a true le seen = refl
+saw_stays a false le seen = absurd (omega (arith, le, ap flag seen))
+
+-- a drain of none into a slice that has room found none
+found_none : (n : ℕ) (a b : Reader) (old new : List ℕ) → Drained n a b old new → n ≡ 0 → 0 < length old → found_len a.end b.end ≡ 0
+found_none n a b old new d none some =
+    omega (arith, ap length d.taken, length-append a.end.taken (take n new), length-take n new, none, ap length (d.most (omega (arith, none, some))))
+
+pub reads : {E : Type 0} (r : Poll (Result ℕ E)) (a b : Reader) (old new : List ℕ) → DrainsSlice r a b old new → DrainsEnd r a b
+    → Reads r old new a.end.taken b.end.taken b.end.saw
+reads (Ready (Ok n)) a b old new d e = (d.count, d.taken, d.rest, λ none some. (e.end (found_none n a b old new d none some)).saw)
+reads (Ready (Err x)) a b old new d e = (d.0.taken, d.1)
+reads Pending a b old new d e = (d.0.taken, d.1)
+
+pub read_end : {E : Type 0} (r : Poll (Result ℕ E)) (a b : Reader) (old new : List ℕ) → DrainsSlice r a b old new → DrainsEnd r a b
+    → r ≡ Ready (Ok 0) → 0 < length old → AtEnd b
+read_end (Ready (Ok n)) a b old new d e told some = e.end (found_none n a b old new d (cc) some)
+read_end (Ready (Err x)) a b old new d e told some = absurd (cc)
+read_end Pending a b old new d e told some = absurd (cc)
+
+-- a pending drain that was told of the end found a byte, and asked for another poll
+asks : (found : ℕ) (told : Bool) (P Q : Type 0) → (found ≡ 0 → P × (told ≡ false)) → (0 < found → Q) → told ≡ true → Q
+asks zero told P Q none some seen = absurd (true≢false (sym seen ∙ (none refl).1))
+asks (suc found) told P Q none some seen = some (omega arith)
+
+pub read_pends : {E : Type 0} (r : Poll (Result ℕ E)) (a b : Reader) (cx : Context) → SameReaderButMoved a b → OnPending r (DrainPends a b cx)
+    → OnPending r (Covers cx (λ s. s ≡ read_source b) × (a.end.told_shut ≡ true → AsksAgain cx))
+read_pends (Ready x) a b cx same h = tt
+read_pends Pending a b cx same h = (
+  rw same.slots h.covered,
+  λ told. asks (found_len a.end b.end) b.end.told_shut _ _ h.unseen h.yields (same.end.end.told_shut ∙ told),
+)
+
+-- the first m and the first n of some bytes are as many, where both were published after the same
+as_many : (before after xs : List ℕ) (m n : ℕ) → m ≤ n → n ≤ length xs → after ≡ before ++ take m xs → after ≡ before ++ take n xs → m ≡ n
+as_many before after xs m n le within p q =
+    omega (arith, ap length p, ap length q, length-append before (take m xs), length-append before (take n xs), length-take-le m xs (omega (arith, le, within)), length-take-le n xs within)
+
+writes_some : (n : ℕ) (a b : Writer) (bytes : List ℕ) → Filled n a b bytes
+    → (n ≤ length bytes) × ((m : ℕ) × (m ≤ n) × (b.end.sent ≡ a.end.sent ++ take m bytes) × (b.end.saw ≡ false → m ≡ n) × (n ≤ m + MOST_A_ROUND))
+writes_some n a b bytes f =
+    let m : ℕ = f.front.0 in (
+      f.count,
+      (
+        m,
+        f.front.1,
+        f.front.2,
+        λ unseen. as_many a.end.sent b.end.sent bytes m n f.front.1 f.count f.front.2 (f.all unseen),
+        omega (arith, f.last, ap length f.front.2, length-append a.end.sent (take m bytes), length-take m bytes),
+      ),
+    )
+
+pub writes : {E : Type 0} (r : Poll (Result ℕ E)) (a b : Writer) (bytes : List ℕ) → FillsSlice r a b bytes
+    → Writes r bytes a.end.sent b.end.sent b.end.saw
+writes (Ready (Ok n)) a b bytes f = writes_some n a b bytes f.0
+writes (Ready (Err x)) a b bytes f = f.sent
+writes Pending a b bytes f = f.sent
+
+pub write_full : {E : Type 0} (r : Poll (Result ℕ E)) (a b : Writer) (bytes : List ℕ) → FillsSlice r a b bytes
+    → r ≡ Ready (Ok 0) → 0 < length bytes → b.end.saw ≡ true
+write_full (Ready (Ok n)) a b bytes f told some = f.1 (cc) some
+write_full (Ready (Err x)) a b bytes f told some = absurd (cc)
+write_full Pending a b bytes f told some = absurd (cc)
+
+pub write_pends : {E : Type 0} (r : Poll (Result ℕ E)) (a b : Writer) (cx : Context) → SameWriterButMoved a b → OnPending r (FillPends a b cx)
+    → OnPending r (Covers cx (λ s. s ≡ write_source b))
+write_pends (Ready x) a b cx same h = tt
+write_pends Pending a b cx same h = rw same.slots h.covered

@@ -1,0 +1,45 @@
+-- What clauses see of a reader, by name.
+use Rattle.std.specs.Prelude.{ℕ, List, Bool}
+use Rattle.piper_ring.specs.ReadView.{ReadView, in_one_piece}
+use Rattle.piper_ring.specs.Shared.{Ring}
+use Rattle.piper.specs.declared.handles.Reader.{Reader}
+
+-- its end of the ring
+abbrev pub end_of : Reader → ReadView
+end_of reader = reader.end
+
+-- of which pipe it is
+abbrev pub ring : Reader → Ring
+ring reader = reader.end.ring
+
+-- how many bytes the pipe can hold
+abbrev pub capacity : Reader → ℕ
+capacity reader = reader.end.capacity
+
+-- all bytes that it consumed
+abbrev pub taken : Reader → List ℕ
+taken reader = reader.end.taken
+
+-- the bytes that it knows of, the next one first
+abbrev pub known : Reader → List ℕ
+known reader = reader.end.known
+
+-- how many of these are contiguous
+abbrev pub front : Reader → ℕ
+front reader = in_one_piece reader.end
+
+-- whether a call of its own saw the pipe closed
+abbrev pub saw : Reader → Bool
+saw reader = reader.end.saw
+
+-- how many published bytes marks reported to it, and whether one reported that the writer closed
+-- the pipe
+abbrev pub told : Reader → ℕ
+told reader = reader.end.told
+
+abbrev pub told_shut : Reader → Bool
+told_shut reader = reader.end.told_shut
+
+-- all bytes that were ever published, once it knows that the pipe is closed
+abbrev pub all : Reader → List ℕ
+all reader = reader.end.all

@@ -1,0 +1,41 @@
+-- What clauses see of a writer, by name.
+use Rattle.std.specs.Prelude.{ℕ, List, Bool}
+use Rattle.piper_ring.specs.Shared.{Ring}
+use Rattle.piper_ring.specs.WriteView.{WriteView}
+use Rattle.piper.specs.declared.handles.Writer.{Writer}
+
+-- its end of the ring
+abbrev pub end_of : Writer → WriteView
+end_of writer = writer.end
+
+-- of which pipe it is
+abbrev pub ring : Writer → Ring
+ring writer = writer.end.ring
+
+-- how many bytes the pipe can hold
+abbrev pub capacity : Writer → ℕ
+capacity writer = writer.end.capacity
+
+-- all bytes that it published
+abbrev pub sent : Writer → List ℕ
+sent writer = writer.end.sent
+
+-- how many bytes it knows to have room for
+abbrev pub room : Writer → ℕ
+room writer = writer.end.room
+
+-- what is left of the slice last lent, as it is
+abbrev pub lent : Writer → List ℕ
+lent writer = writer.end.lent
+
+-- whether it closed the pipe for good
+abbrev pub shut : Writer → Bool
+shut writer = writer.end.shut
+
+-- whether a call of its own saw the pipe closed, or closed it
+abbrev pub saw : Writer → Bool
+saw writer = writer.end.saw
+
+-- how many consumed bytes marks reported to it
+abbrev pub told : Writer → ℕ
+told writer = writer.end.told

@@ -1,0 +1,190 @@
+-- What the calls of a reader do: each definition is shared by all forms of a call.
+use Rattle.std.specs.Prelude.{◌≡◌, ℕ, ◌<◌, ◌≤◌, ◌++◌, true, false, Bool, List, [], length, take, drop, Option, Result, Ok}
+use Rattle.futures.specs.Task.{Covers, Keeps}
+use Rattle.futures.specs.Poll.{OnPending}
+use Rattle.futures.specs.declared.task.context.Context.{Context}
+use Rattle.futures.specs.declared.task.Poll.{Poll}
+use Rattle.futures.specs.declared.task.Poll.TheVariants.{Ready}
+use Rattle.piper_ring.specs.ReadView.{KnowsEnd, MayBeUnread as EndMayHave}
+use Rattle.piper_ring.specs.SlotsView.{IsPending, IsWriterPending, SameReaderPlace}
+use Rattle.piper.specs.Contexts.{AsksAgain}
+use Rattle.piper.specs.Copies.{ReaderCopied}
+use Rattle.piper.specs.CopyAnswers.{OnMemory}
+use Rattle.piper.specs.Drains.{Drains, DrainsInto, EndIsTrue, EndIsUnseen, found_len}
+use Rattle.piper.specs.Draws.{Draws, Undrawn}
+use Rattle.piper.specs.Ends.{IsEnded, ReaderConsumed, ReaderHeeded, ReaderIsUpToDate, ReaderRefreshed, WriterRefreshed}
+use Rattle.piper.specs.Handles.{NotifiesReader, NotifiesWriter, SameReader, SameWriter, SameReaderButWoke, read_source}
+use Rattle.piper.specs.Like.{Passes}
+use Rattle.piper.specs.Looks.{ReaderFound, ReaderLooked}
+use Rattle.piper.specs.Polls.{After, TakesNone}
+use Rattle.piper.specs.Waits.{ReaderIsRemembered, WriterIsRemembered, ReaderRegistered}
+use Rattle.piper.specs.declared.error.Inner.{Inner}
+use Rattle.piper.specs.declared.finished.FinishedWriter.{FinishedWriter}
+use Rattle.piper.specs.declared.handles.Reader.{Reader}
+use Rattle.piper.specs.declared.handles.Writer.{Writer}
+
+-- the reader found the end, which is final: it saw the pipe closed, and all that was ever published
+-- has been taken
+abbrev pub AtEnd : Reader → Type 0
+AtEnd reader = IsEnded reader.end
+
+-- n bytes may be unread: all that the reader knows of, all that it was told of, and no more than
+-- fit; and just those up to the end where that is known
+abbrev pub MayBeUnread : Reader → ℕ → Type 0
+MayBeUnread reader n = EndMayHave reader.end n
+
+-- what the reader knows to be all that was ever published is so still
+abbrev pub KeepsAll : Reader → Reader → Type 0
+KeepsAll a b = KnowsEnd a.end → b.end.all ≡ a.end.all
+
+-- the reader looked, which takes no byte
+abbrev pub Looks : Reader → Reader → Type 0
+Looks a b = ReaderLooked a.end b.end
+
+-- a poll looked, which takes no byte, and returns what it found
+pub record Polled {E : Type 0} (r : Poll (Result Bool E)) (a b : Reader) : Type 0 where
+  pub found : ReaderFound r b.end
+  pub looked : ReaderLooked a.end b.end
+
+-- once the end was reported a poll reports it again; and what the reader knows to be all is all
+pub record PollsEnd {A E : Type 0} (r : Poll (Result A E)) (a b : Reader) : Type 0 where
+  pub after : AtEnd a → After r (AtEnd b) b.end.known
+  pub all : KeepsAll a b
+
+-- n bytes were drained into a slice: they are at its front, and the rest of it stays. They are the
+-- first that were known, or that were found where none was known; and as many as fit
+pub record Drained (n : ℕ) (a b : Reader) (old new : List ℕ) : Type 0 where
+  pub count : n ≤ length old
+  pub rest : drop n new ≡ drop n old
+  pub taken : b.end.taken ≡ a.end.taken ++ take n new
+  pub known : 0 < length a.end.known → take n new ++ b.end.known ≡ a.end.known
+  pub fresh : a.end.known ≡ [] → ReaderIsUpToDate b.end
+  pub most : n < length old → b.end.known ≡ []
+
+-- nothing was taken, and what was known is known; where none was, the reader looked for more
+pub record OnlyLooked (a b : Reader) : Type 0 where
+  pub taken : b.end.taken ≡ a.end.taken
+  pub known : 0 < length a.end.known → b.end.known ≡ a.end.known
+  pub fresh : a.end.known ≡ [] → ReaderIsUpToDate b.end
+
+-- a drain into a slice drained as many bytes as it returns; else it looked, and moved nothing
+abbrev pub DrainsSlice : {E : Type 0} → Poll (Result ℕ E) → Reader → Reader
+    → List ℕ → List ℕ → Type 0
+DrainsSlice (Ready (Ok n)) a b old new = Drained n a b old new
+DrainsSlice other a b old new = OnlyLooked a b × (new ≡ old)
+
+-- a drain into any destination, and into a writer of std
+abbrev pub DrainsLike : {S E : Type 0} → Passes S → (S → Type 0) → (S → E → S → Type 0)
+    → Poll (Result ℕ (Inner E)) → Reader → Reader → S → S → Type 0
+DrainsLike takes is_full fails r a b s t = Drains takes is_full fails r a.end b.end s t
+
+abbrev pub DrainsStd : {S E : Type 0} → (S → Option (List ℕ)) → Poll (Result ℕ (Inner E))
+    → Reader → Reader → S → S → Type 0
+DrainsStd contents r a b s t = DrainsInto contents r a.end b.end s t
+
+-- a drain that returns a count found a byte, or the end; and once the end was reported it takes
+-- nothing and doesn't wait. What the reader knows to be all is all
+pub record DrainsEnd {E : Type 0} (r : Poll (Result ℕ E)) (a b : Reader) : Type 0 where
+  pub end : EndIsTrue r a.end b.end
+  pub after : AtEnd a → TakesNone r (AtEnd b) a.end.taken b.end.taken
+  pub all : KeepsAll a b
+
+-- the same of a drain that doesn't wait
+pub record KeepsEnd (a b : Reader) : Type 0 where
+  pub stays : AtEnd a → AtEnd b
+  pub all : KeepsAll a b
+
+-- a drain that is pending: it found no byte, neither saw the pipe closed nor was told so, and waits
+-- as a poll does; or it found one and asked for another poll itself
+pub record DrainPends (a b : Reader) (cx : Context) : Type 0 where
+  pub unseen : found_len a.end b.end ≡ 0 → (b.end.saw ≡ false) × (b.end.told_shut ≡ false)
+  pub yields : 0 < found_len a.end b.end → AsksAgain cx
+  pub covered : Covers cx (λ s. s ≡ read_source a)
+  pub registered : ReaderRegistered a b cx
+
+-- a drain draws from the reader's generator exactly where it found a byte, and yields by that draw
+abbrev pub DrawsToYield : {E : Type 0} → Poll (Result ℕ E) → Reader → Reader → Type 0
+DrawsToYield r a b = Draws (0 < found_len a.end b.end) r a.rng b.rng
+
+-- with a context a drain draws, waits, and is refused memory only for its waker
+pub record DrainsWaiting {E : Type 0} (r : Poll (Result ℕ (Inner E)))
+    (a b : Reader) (old left : Context) : Type 0 where
+  pub draws : DrawsToYield r a b
+  pub pending : OnPending r (DrainPends a b left)
+  pub memory : OnMemory r (left.lacks_waker ≡ true)
+  pub context : Keeps old left
+
+-- without one it doesn't draw, is pending only where it found no byte and the pipe open, is refused
+-- no memory, and waits as it did
+pub record DrainsAtOnce {E : Type 0} (r : Poll (Result ℕ (Inner E))) (a b : Reader) : Type 0 where
+  pub undrawn : Undrawn (0 < found_len a.end b.end) r a.rng b.rng
+  pub unseen : EndIsUnseen r a.end b.end
+  pub memory : OnMemory r ⊥
+  pub place : SameReaderPlace a.registrations b.registrations
+
+-- who was woken after all that the reader had consumed, was so after all that it consumed since
+abbrev pub WakesWriter : Reader → Reader → Type 0
+WakesWriter a b = NotifiesWriter a → NotifiesWriter b
+
+-- the same reader of the same pipe, but for bytes that it took and knows of, and for how it waits:
+-- it may have seen closed now
+pub record SameReaderButMoved (a b : Reader) : Type 0 where
+  pub slots : b.slots ≡ a.slots
+  pub end : ReaderCopied a.end b.end
+
+-- and it waits as it did, and draws the same numbers next
+pub record SameReaderButTried (a b : Reader) : Type 0 where
+  pub handle : SameReaderButWoke a b
+  pub end : ReaderCopied a.end b.end
+
+-- the reader, but for the bytes that it took and knows of
+pub record SameReaderButConsumed (a b : Reader) : Type 0 where
+  pub handle : SameReaderButWoke a b
+  pub end : ReaderConsumed a.end b.end
+  pub all : b.end.all ≡ a.end.all
+
+-- the reader learned that these bytes are all that was ever published: what it took and knows of is
+-- their front
+pub record KnowsAll (r : Reader) (bytes : List ℕ) : Type 0 where
+  pub all : r.end.all ≡ bytes
+  pub rest : (xs : List ℕ) × ((r.end.taken ++ r.end.known) ++ xs ≡ bytes)
+
+-- where the reader was pending in its slot, the writer took its last waker and woke it as it left
+abbrev pub WasWoken : Reader → FinishedWriter → Type 0
+WasWoken reader left =
+    IsPending reader.end reader.registrations
+    → left.registrations.taken ≡ reader.registrations.tickets
+
+-- the reader, but for what marks reported to it
+pub record SameReaderButTold (a b : Reader) : Type 0 where
+  pub end : ReaderHeeded a.end b.end
+  pub handle : SameReader a b
+
+-- where two handles met: what each of them knows of more than before
+pub record MeetMore (a b : Reader) (c d : Writer) : Type 0 where
+  pub known : (xs : List ℕ) × (b.end.known ≡ a.end.known ++ xs)
+  pub room : c.end.room ≤ d.end.room
+  pub all : KeepsAll a b
+
+-- and that the writer closed the pipe, where one of them saw it closed: then all is what it sent
+pub record MeetClosed (b : Reader) (d : Writer) : Type 0 where
+  pub reader : b.end.saw ≡ true → d.end.shut ≡ true
+  pub writer : d.end.saw ≡ true → d.end.shut ≡ true
+  pub all : KnowsEnd b.end → b.end.all ≡ d.end.sent
+
+-- and that the reader is not forgotten: where it was pending, the writer took and woke its waker
+-- since, or the reader has nothing to do
+abbrev pub MeetReader : Reader → Reader → Writer → Type 0
+MeetReader a b writer =
+    IsPending a.end a.registrations → NotifiesReader writer → ReaderIsRemembered a b writer
+
+-- nor the writer
+abbrev pub MeetWriter : Writer → Writer → Reader → Type 0
+MeetWriter a b reader =
+    IsWriterPending a.end a.registrations → NotifiesWriter reader → WriterIsRemembered a b reader
+
+-- and both are else as they were
+pub record MeetSame (a b : Reader) (c d : Writer) : Type 0 where
+  pub reader : ReaderRefreshed a.end b.end
+  pub writer : WriterRefreshed c.end d.end
+  pub handles : SameReader a b × SameWriter c d

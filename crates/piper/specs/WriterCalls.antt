@@ -1,0 +1,147 @@
+-- What the calls of a writer do: each definition is shared by all forms of a call.
+use Rattle.std.specs.Prelude.{◌≡◌, ℕ, ◌<◌, ◌≤◌, ◌++◌, true, false, Bool, List, length, take, Option, Result, Ok}
+use Rattle.futures.specs.Task.{Covers, Keeps}
+use Rattle.futures.specs.Poll.{OnPending}
+use Rattle.futures.specs.declared.task.context.Context.{Context}
+use Rattle.futures.specs.declared.task.Poll.{Poll}
+use Rattle.futures.specs.declared.task.Poll.TheVariants.{Ready}
+use Rattle.piper_ring.specs.SlotsView.{IsWriterPending, SameWriterPlace}
+use Rattle.piper_ring.specs.WriteView.{Lendable, SameButHeard, MayBeUnread as EndMayHave}
+use Rattle.piper.specs.Contexts.{AsksAgain}
+use Rattle.piper.specs.Copies.{IsReplaced, WriterCopied}
+use Rattle.piper.specs.CopyAnswers.{OnMemory}
+use Rattle.piper.specs.Draws.{Draws, Undrawn}
+use Rattle.piper.specs.Ends.{WriterHeeded, WriterIsUpToDate, WriterPublished, WriterShut}
+use Rattle.piper.specs.Fills.{Fills, FillsFrom, FoundRoom, LosesOneRound, OnNoCount}
+use Rattle.piper.specs.Handles.{NotifiesReader, SameWriter, SameWriterButSlots, SameWriterButWoke, write_source}
+use Rattle.piper.specs.Like.{Passes}
+use Rattle.piper.specs.Looks.{WriterFound, WriterLooked}
+use Rattle.piper.specs.Waits.{WriterRegistered}
+use Rattle.piper.specs.declared.error.Inner.{Inner}
+use Rattle.piper.specs.declared.finished.FinishedReader.{FinishedReader}
+use Rattle.piper.specs.declared.handles.Writer.{Writer}
+
+-- n bytes may be unread: the room that the writer knows of is free, and the bytes that it was told
+-- of are consumed
+abbrev pub MayBeUnread : Writer → ℕ → Type 0
+MayBeUnread writer n = EndMayHave writer.end n
+
+-- a call for at most `max` bytes may lend n: none once the writer closed the pipe, and else all that
+-- is asked for and fits, or at least 4,096 of it
+abbrev pub MayLend : Writer → ℕ → ℕ → Type 0
+MayLend writer max n = Lendable writer.end max n
+
+-- there is room, some is asked for, and the writer didn't close the pipe
+abbrev pub MustLend : Writer → ℕ → Type 0
+MustLend writer max = (writer.end.shut ≡ false) × (0 < writer.end.room) × (0 < max)
+
+-- where the writer was pending in its slot, the reader took its last waker and woke it as it left
+abbrev pub WasWoken : Writer → FinishedReader → Type 0
+WasWoken writer left =
+    IsWriterPending writer.end writer.registrations
+    → left.registrations.taken ≡ writer.registrations.tickets
+
+-- a poll looked, which publishes nothing, and returns what it found
+pub record Polled {E : Type 0} (r : Poll (Result Bool E)) (a b : Writer) : Type 0 where
+  pub found : WriterFound r b.end
+  pub looked : WriterLooked a.end b.end
+
+-- n bytes were taken from the front of a slice, and published: all of them unless the pipe was seen
+-- closed, and else all but those of one round. They are as many as there is room for, which is
+-- looked for where none was known
+pub record Filled (n : ℕ) (a b : Writer) (bytes : List ℕ) : Type 0 where
+  pub count : n ≤ length bytes
+  pub front : (m : ℕ) × (m ≤ n) × (b.end.sent ≡ a.end.sent ++ take m bytes)
+  pub all : b.end.saw ≡ false → b.end.sent ≡ a.end.sent ++ take n bytes
+  pub last : LosesOneRound n a.end b.end
+  pub room : 0 < a.end.room → IsReplaced a.end b.end
+  pub fresh : a.end.room ≡ 0 → b.end.saw ≡ false → WriterIsUpToDate b.end
+  pub most : n < length bytes → b.end.saw ≡ false → b.end.room ≡ 0
+
+-- nothing was published, and the room is as it was; where there was none, the writer looked for some
+pub record OnlyLooked (a b : Writer) : Type 0 where
+  pub sent : b.end.sent ≡ a.end.sent
+  pub room : 0 < a.end.room → IsReplaced a.end b.end
+  pub fresh : a.end.room ≡ 0 → b.end.saw ≡ false → WriterIsUpToDate b.end
+
+-- a fill from a slice published as many bytes as it returns, and returns 0 only where there are none
+-- or the pipe is closed; else it looked, and moved nothing
+abbrev pub FillsSlice : {E : Type 0} → Poll (Result ℕ E) → Writer → Writer → List ℕ → Type 0
+FillsSlice (Ready (Ok n)) a b bytes =
+    Filled n a b bytes × (n ≡ 0 → 0 < length bytes → b.end.saw ≡ true)
+FillsSlice other a b bytes = OnlyLooked a b
+
+-- a fill from any source, and from a reader of std
+abbrev pub FillsLike : {S E : Type 0} → Passes S → (S → Type 0) → (S → E → S → Type 0)
+    → Poll (Result ℕ (Inner E)) → Writer → Writer → S → S → Type 0
+FillsLike gives is_dry fails r a b s t = Fills gives is_dry fails r a.end b.end s t
+
+abbrev pub FillsStd : {S E : Type 0} → (S → Option (List ℕ)) → Poll (Result ℕ (Inner E))
+    → Writer → Writer → S → S → Type 0
+FillsStd remaining r a b s t = FillsFrom remaining r a.end b.end s t
+
+-- once the pipe was seen closed a fill returns 0, and a call that returns no count saw it open
+pub record FillsEnd {E : Type 0} (r : Poll (Result ℕ E)) (a b : Writer) : Type 0 where
+  pub over : a.end.saw ≡ true → r ≡ Ready (Ok 0)
+  pub unseen : OnNoCount r (b.end.saw ≡ false)
+
+-- a fill that is pending: it waits as a poll does; or there is room, and it asked for another poll
+-- itself
+pub record FillPends (a b : Writer) (cx : Context) : Type 0 where
+  pub yields : 0 < b.end.room → AsksAgain cx
+  pub covered : Covers cx (λ s. s ≡ write_source a)
+  pub registered : WriterRegistered a b cx
+
+-- a fill draws from the writer's generator exactly where it found room, and yields by that draw
+abbrev pub DrawsToYield : {E : Type 0} → Poll (Result ℕ (Inner E)) → Writer → Writer → Type 0
+DrawsToYield r a b = Draws (FoundRoom r b.end) r a.rng b.rng
+
+-- with a context a fill draws, waits, and is refused memory only for its waker
+pub record FillsWaiting {E : Type 0} (r : Poll (Result ℕ (Inner E)))
+    (a b : Writer) (old left : Context) : Type 0 where
+  pub draws : DrawsToYield r a b
+  pub pending : OnPending r (FillPends a b left)
+  pub memory : OnMemory r (left.lacks_waker ≡ true)
+  pub context : Keeps old left
+
+-- without one it doesn't draw, is pending only where it found no room, is refused no memory, and
+-- waits as it did
+pub record FillsAtOnce {E : Type 0} (r : Poll (Result ℕ (Inner E))) (a b : Writer) : Type 0 where
+  pub undrawn : Undrawn (FoundRoom r b.end) r a.rng b.rng
+  pub memory : OnMemory r ⊥
+  pub place : SameWriterPlace a.registrations b.registrations
+
+-- who was woken after all that the writer had published, was so after all that it published since
+abbrev pub WakesReader : Writer → Writer → Type 0
+WakesReader a b = NotifiesReader a → NotifiesReader b
+
+-- the same writer of the same pipe, but for bytes that it published and its room, and for how it
+-- waits: it may have seen closed now, and lends nothing
+pub record SameWriterButMoved (a b : Writer) : Type 0 where
+  pub slots : b.slots ≡ a.slots
+  pub end : WriterCopied a.end b.end
+
+-- and it waits as it did, and draws the same numbers next
+pub record SameWriterButTried (a b : Writer) : Type 0 where
+  pub handle : SameWriterButWoke a b
+  pub end : WriterCopied a.end b.end
+
+-- the writer, but for the bytes that it published, and the room and the slice that they were in
+pub record SameWriterButPublished (a b : Writer) : Type 0 where
+  pub handle : SameWriterButWoke a b
+  pub end : WriterPublished a.end b.end
+
+-- the writer, which has closed the pipe for good: it lends nothing any more
+pub record SameWriterButShut (a b : Writer) : Type 0 where
+  pub handle : SameWriterButSlots a b
+  pub end : WriterShut a.end b.end
+
+-- the writer, but for what marks reported to it
+pub record SameWriterButTold (a b : Writer) : Type 0 where
+  pub handle : SameWriter a b
+  pub end : WriterHeeded a.end b.end
+
+-- and that the reader was dropped
+pub record SameWriterButLast (a b : Writer) : Type 0 where
+  pub handle : SameWriter a b
+  pub end : SameButHeard a.end b.end
