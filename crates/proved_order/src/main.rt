@@ -1,14 +1,13 @@
-//! Clients that prove of themselves that all bytes arrive in order: what came is a beginning of
-//! what was sent. `carry` has both sides of the pipe held by one thread, those of threads.rt run on
-//! two threads; and in sleeping.rt two threads poll by hand, of which nothing of the kind is
-//! proved.
+//! Clients that prove of themselves that bytes arrive in order. Where `carry` holds both sides of
+//! the pipe, all that was sent came; on two threads, in threads.rt, what came is a beginning of what
+//! was sent; and in sleeping.rt two threads poll by hand, of which nothing of the kind is proved.
 #![tactic(auto)]
 
 mod sleeping;
 mod threads;
 mod words;
 
-ghost use Rattle.std.specs.Prelude.{◌≡◌, ◌<◌, ◌*◌, ◌^◌, ◌≤◌, ◌+◌, take, length, IfOk};
+ghost use Rattle.std.specs.Prelude.{◌≡◌, ◌<◌, ◌*◌, ◌^◌, ◌≤◌, take, length, IfOk};
 
 use crate::sleeping::send_and_count;
 use crate::threads::carry_across;
@@ -18,17 +17,17 @@ use std::alloc::Global;
 use std::io;
 use std::process::ExitCode;
 
-#[tactic(auto, using(crate::proofs::Front::came_first))]
-/// Sends what is in `bytes` through a pipe that holds all of it, and returns how many bytes came.
+/// Sends what is in `bytes` through a pipe that holds all of it, and returns how many bytes came:
+/// all of them, in order, at the front of `place`.
 fn carry(alloc: Global, bytes: &[u8], place: &mut [u8]) -> io::Result<usize>
-    requires { (0 < length bytes.now) × (2 * length bytes.now < 2 ^ 64) }
-    ensures { IfOk result (λ n. take n place.new ≡ take n bytes.now) }
+    requires some { (0 < length bytes.now) × (2 * length bytes.now < 2 ^ 64) }
+    requires room { length bytes.now ≤ length place.old }
+    ensures { IfOk result (λ n. take n place.new ≡ bytes.now) }
 {
     let (mut reader, mut writer) = owned_pipe(alloc, bytes.len())?;
     writer.try_fill(bytes);
-    let came = reader.try_drain(place);
     reader.meet(&mut writer);
-    Ok(came)
+    Ok(reader.try_drain(place))
 }
 
 fn main(rt: HostRuntime) -> io::Result<ExitCode> {

@@ -2,6 +2,9 @@
 //! writes hands its last mark back, and by that alone, with no more than the reader in hand, what
 //! came is a beginning of what was sent.
 ghost use Rattle.std.specs.Prelude.{◌≡◌, ℕ, ◌≤◌, ◌<◌, [], length, take, IfOk, true};
+ghost use Rattle.piper.specs.OfReader.{taken};
+ghost use Rattle.piper.specs.OfReader as of_reader;
+ghost use Rattle.piper.specs.OfWriter.{ring, sent};
 ghost use Rattle.proved_order.specs.LastMark.{ReportsFront};
 
 use piper::{OwnedReader, OwnedWriter, WriteMark, owned_pipe};
@@ -30,8 +33,8 @@ impl Promise<WriteMark> for SendsFront {
 /// Publishes `bytes` in order, up to the last or to the pipe's close, and drops the writer. The
 /// answer is its last mark.
 fn send_all<H: Wait>(rt: &H, writer: OwnedWriter, bytes: &[u8]) -> WriteMark
-    requires { writer.writer.end.sent ≡ [] }
-    ensures { ReportsFront writer.writer.end.ring.names result.names
+    requires { sent writer ≡ [] }
+    ensures { ReportsFront (ring writer).names result.names
         bytes.now result.bytes result.shut }
 {
     let mut writer = writer.into_inner();
@@ -49,10 +52,10 @@ fn send_all<H: Wait>(rt: &H, writer: OwnedWriter, bytes: &[u8]) -> WriteMark
 /// Takes bytes to the front of `place` until it is full or the pipe has ended, and returns how
 /// many.
 fn receive_all<H: Wait>(rt: &H, reader: &mut OwnedReader, place: &mut [u8]) -> usize
-    requires { reader.old.reader.end.taken ≡ [] }
+    requires { taken reader.old ≡ [] }
     ensures count { result ≤ length place.new }
-    ensures taken { reader.new.reader.end.taken ≡ take result place.new }
-    ensures ring { reader.new.reader.end.ring ≡ reader.old.reader.end.ring }
+    ensures taken { taken reader.new ≡ take result place.new }
+    ensures ring { of_reader.ring reader.new ≡ of_reader.ring reader.old }
 {
     let mut came = 0;
     for _ in rt.forever() {
@@ -86,6 +89,5 @@ where
     let came = receive_all(rt, &mut reader, place);
     let last = child.join(rt);
     reader.heed(&last);
-    reader.end().learn();
     Ok(came)
 }

@@ -12,10 +12,10 @@ loop-preserved g c =
       turns = search rules;
       within = search rules;
       ring = search rules;
-      front = front_grows bytes c.loop.writer.end.sent c.try_fill-given.new.self.end.sent c.loop.given n c.loop.writer.end.saw was.within was.front was.all fill.closed fill.front;
+      front = front_grows bytes c.loop.writer.end.sent c.try_fill-given.new.self.end.sent c.loop.given n c.loop.writer.end.saw was.within was.front was.all fill.closed fill.filled.front;
       all = λ unseen.
           let before : c.loop.writer.end.saw ≡ false = search rules in
-          fill.sent unseen ∙ ap (λ xs. xs ++ take n (left_after bytes c.loop.given)) (was.all before) ∙ first_and_next bytes c.loop.given n was.within;
+          fill.filled.all unseen ∙ ap (λ xs. xs ++ take n (left_after bytes c.loop.given)) (was.all before) ∙ first_and_next bytes c.loop.given n was.within;
     }
 
 pub returns : goal.returns
@@ -29,7 +29,7 @@ returns g c =
       }
       | in-Some+then-given-bytes w ↦
           let fill = w.try_fill-given.ensures in
-          let front = front_grows c.args.bytes.now c.loop.writer.end.sent w.try_fill-given.new.self.end.sent c.loop.given w.try_fill-given.result c.loop.writer.end.saw was.within was.front was.all fill.closed fill.front in
+          let front = front_grows c.args.bytes.now c.loop.writer.end.sent w.try_fill-given.new.self.end.sent c.loop.given w.try_fill-given.result c.loop.writer.end.saw was.within was.front was.all fill.closed fill.filled.front in
           record {
             ring = search rules;
             front = (front.0, c.drop.ensures.bytes ∙ ap (λ writer. writer.end.sent) w.writer-is ∙ front.1);
