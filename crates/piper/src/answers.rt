@@ -1,4 +1,4 @@
-//! What the call table answers, as the calls of the handles return it.
+//! What the call table returns, as the calls of the handles return it.
 ghost use Rattle.std.specs.Prelude.{◌≡◌, Bool};
 ghost use Rattle.piper.specs.Calls.{poll_of};
 

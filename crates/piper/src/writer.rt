@@ -29,7 +29,7 @@ impl Writer {
         self.end().len()
     }
 
-    /// Whether nothing is unread now. It compares such a count as `len` answers with 0.
+    /// Whether nothing is unread now. It compares such a count as `len` returns with 0.
     pub fn is_empty(&self) -> bool
         ensures { WriterCompares self.now 0 result }
     {
@@ -43,7 +43,7 @@ impl Writer {
         self.end().capacity()
     }
 
-    /// Whether the pipe is full now. It compares such a count as `len` answers with the capacity.
+    /// Whether the pipe is full now. It compares such a count as `len` returns with the capacity.
     pub fn is_full(&self) -> bool
         ensures { WriterCompares self.now (capacity self.now) result }
     {

@@ -12,7 +12,7 @@ use std::io;
 use std::random::RandomSource;
 use std::sync::Wait;
 
-/// Puts `total` bytes of lines in and takes them out again, in turn. It answers the checksum.
+/// Puts `total` bytes of lines in and takes them out again, in turn. Returns the checksum.
 #[inline(never)]
 fn in_turn(
     rt: &impl Wait,

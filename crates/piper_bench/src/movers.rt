@@ -48,7 +48,7 @@ pub trait Mover: Drop {
 }
 
 /// Moves all pieces, on this thread. Before it checks again it lets the other thread go on so many
-/// times. It answers the checksum.
+/// times. Returns the checksum.
 pub fn move_all<R, M>(rt: &R, mover: M, yields: usize) -> io::Result<Result<u64, M::Error>>
 where
     R: Wait + RandomSource + AllocGlobal,
@@ -101,7 +101,7 @@ impl<R: Wait, M: Mover> Future for MoveAll<'_, R, M> {
 }
 
 /// Looks so many times, or until the other end has moved, and lets the other thread go on before
-/// each. It answers how many looks are left.
+/// each. Returns how many looks are left.
 #[cold]
 #[inline(never)]
 fn look_again(mover: &impl Mover, looks: usize, yields: usize) -> usize {

@@ -79,7 +79,7 @@ impl<I: AsyncRead> Mover for Reading<'_, I> {
     }
 }
 
-/// Moves the bytes through a stream, one end on each of two threads. It answers the checksum.
+/// Moves the bytes through a stream, one end on each of two threads. Returns the checksum.
 pub fn through_stream<R, I, O>(
     rt: &R,
     (reader, writer): (I, O),
@@ -112,7 +112,7 @@ where
     Ok(read??)
 }
 
-/// Moves the bytes through a stream on this thread, in and out in turn. It answers the checksum.
+/// Moves the bytes through a stream on this thread, in and out in turn. Returns the checksum.
 pub fn stream_in_turn(
     rt: &impl Wait,
     task: &MockTask,
@@ -164,7 +164,7 @@ where
     unreachable!()
 }
 
-// Copies each piece that comes to the front of the place. It answers the checksum.
+// Copies each piece that comes to the front of the place. Returns the checksum.
 fn receive_all(rt: &impl Wait, receiver: Receiver<Vec<u8>>, place: &mut [u8]) -> u64 {
     let mut checksum = 0u64;
     for piece in receiver.iter(rt) {
@@ -175,7 +175,7 @@ fn receive_all(rt: &impl Wait, receiver: Receiver<Vec<u8>>, place: &mut [u8]) ->
     checksum
 }
 
-/// Moves the bytes through a channel of pieces, one end on each of two threads. It answers the
+/// Moves the bytes through a channel of pieces, one end on each of two threads. Returns the
 /// checksum.
 pub fn through_channel<R>(
     rt: &R,

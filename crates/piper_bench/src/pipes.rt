@@ -232,7 +232,7 @@ fn moved(polled: Poll<Result<usize, OutOfMemory>>) -> Result<usize, OutOfMemory>
 }
 
 /// Puts `total` bytes in and takes them out again, in turn, on one thread and under one task. It
-/// answers the checksum.
+/// returns the checksum.
 #[inline(never)]
 fn in_turn<F: Fill + Drop, D: Drain + Drop>(
     rt: &impl Wait,

@@ -171,7 +171,7 @@ impl Output for Consumer<u8> {
     }
 }
 
-/// Puts `total` bytes in and takes them out again, in turn, on one thread. It answers the checksum.
+/// Puts `total` bytes in and takes them out again, in turn, on one thread. Returns the checksum.
 /// It is a function of its own, so that for either ring the compiler keeps its values in registers.
 #[inline(never)]
 pub fn in_turn<I: Input + Drop, O: Output + Drop>(
@@ -217,7 +217,7 @@ pub fn put_all<I: Input + Drop>(
     }
 }
 
-/// Takes `total` bytes out, and waits as `put_all` does. It answers the checksum.
+/// Takes `total` bytes out, and waits as `put_all` does. Returns the checksum.
 pub fn get_all<O: Output + Drop>(
     rt: &impl Wait,
     mut output: O,

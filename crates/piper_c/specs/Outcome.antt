@@ -14,7 +14,7 @@ code End = 2
 code Again = 3
 code Refused = 4
 
--- what a poll of the call table answers; nothing else is asked for
+-- what a poll of the call table returns; nothing else is asked for
 abbrev pub answered : Answer → Outcome
 answered (answer.Poll (polled.Ready true)) = Ready
 answered (answer.Poll (polled.Ready false)) = End

@@ -67,7 +67,7 @@ pub fn reported(polled: Poll<Result<bool, OutOfMemory>>) -> Polled<bool> {
     }
 }
 
-/// What a copy over a slice answers.
+/// What a copy over a slice returns.
 pub fn copied_slice(polled: Poll<Result<usize, OutOfMemory>>) -> Polled<Result<usize, Failed>> {
     match polled {
         Poll::Pending => Polled::Pending,
@@ -86,7 +86,7 @@ pub fn copied(polled: Poll<Result<usize, PipeError>>) -> Polled<Result<usize, Fa
     }
 }
 
-/// What a copy over a source or a destination answers.
+/// What a copy over a source or a destination returns.
 pub fn copied_inner(polled: Poll<Result<usize, Inner<Failed>>>) -> Polled<Result<usize, Failed>> {
     match polled {
         Poll::Pending => Polled::Pending,

@@ -1,4 +1,4 @@
--- What a call made whole answers, and the pipe that it leaves.
+-- What a call made whole returns, and the pipe that it leaves.
 use Rattle.std.specs.Prelude.{◌≡◌, ℕ, length, Some, Result, Ok}
 use Rattle.piper_protocol.specs.declared.calls.Side.TheVariants.{Reader, Writer}
 use Rattle.piper_protocol.specs.declared.calls.Call.{Call}

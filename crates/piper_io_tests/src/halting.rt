@@ -12,7 +12,7 @@ use std::io::ErrorKind;
 pub(crate) enum Halt {
     /// It is pending, and asks for another poll.
     Pending,
-    /// It answers an error.
+    /// Returns an error.
     Fails,
 }
 

@@ -1,4 +1,4 @@
--- What a poll for all lines, or for all frames, answers.
+-- What a poll for all lines, or for all frames, returns.
 use Rattle.std.specs.Prelude.{◌≡◌, ℕ, ◌<◌, ◌⊎◌, Bool, List, [], Result, Ok, Err, Vec, ⊤}
 use Rattle.std.specs.declared.alloc.Global.{Global}
 use Rattle.futures.specs.declared.task.Poll.{Poll}

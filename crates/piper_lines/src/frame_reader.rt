@@ -16,7 +16,7 @@ use std::alloc::Global;
 use std::fmt::{self, Debug, Formatter};
 use std::mem;
 
-/// What a poll for a frame answers.
+/// What a poll for a frame returns.
 #[derive(Debug, Drop, Clone, Copy, PartialEq, Eq)]
 pub enum FrameAnswer {
     /// A whole frame, of at most as many bytes as the limit.

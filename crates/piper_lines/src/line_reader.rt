@@ -17,7 +17,7 @@ use std::alloc::Global;
 use std::fmt::{self, Debug, Formatter};
 use std::mem;
 
-/// What a poll for a line answers.
+/// What a poll for a line returns.
 #[derive(Debug, Drop, Clone, Copy, PartialEq, Eq)]
 pub enum LineAnswer {
     /// A whole line with the byte that ends it, of at most as many bytes as the limit.

@@ -32,7 +32,7 @@ reader_rest (Some answer) p = record { answer = answer; pipe = p }
 abbrev pub read_step : ReadPoint → Pipe → Stepped
 read_step point p = let q = record p { reader = point } in went Reader (heard Reader (read_action point) q)
 
--- the reader comes to a point, or answers
+-- the reader comes to a point, or returns
 abbrev pub reader_settled : Next ReadPoint → Pipe → Pipe
 reader_settled next p = record p { reader = next.point; reader_call = call_after next.answer p.reader_call; destination = destination_after next.answer p.destination }
 

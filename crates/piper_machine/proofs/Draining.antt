@@ -406,7 +406,7 @@ acts-left (act ∷ acts) = refl
 pub next-act : (spent : ℕ) (acts : List DestAct) → left_of_acts (drop spent acts) ≡ drop (spent + 1) acts
 next-act spent acts = acts-left (drop spent acts) ∙ drop-drop 1 spent acts
 
--- a drain to a slice answers how many bytes have left the pipe
+-- a drain to a slice returns how many bytes have left the pipe
 pub record IsCounted (before : List ℕ) (count : ℕ) (after : List ℕ) : Type 0 where
   pub within : count ≤ length before
   pub left : after ≡ drop count before

@@ -50,7 +50,7 @@ honest-append : (h : History) (es fs : List Event) → IsHonestFrom h es → IsH
 honest-append h [] fs first then = then
 honest-append h (e ∷ es) fs first then = (first.0, honest-append (history_after h e) es fs first.1 then)
 
--- the step of an action tells the history what it does to the flag, and answers nobody
+-- the step of an action tells the history what it does to the flag, and returns to nobody
 
 registration-quiet : (h : History) (side : Side) (b : Bool) (name : ℕ) → IsHonestFrom h (registration side b name) × (history_from h (registration side b name) ≡ h)
 registration-quiet h side true name = ((tt, tt), refl)

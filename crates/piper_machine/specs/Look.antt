@@ -13,7 +13,7 @@ use Rattle.piper_machine.specs.Refresh.{reader_refreshed, writer_refreshed}
 abbrev pub context : ℕ → Luck → Context
 context waker luck = record { waker = waker; luck = luck }
 
--- what a look answers, and the pipe that it leaves
+-- what a look returns, and the pipe that it leaves
 pub record Look : Type 0 where
   pub answer : Polled Bool
   pub pipe : Pipe

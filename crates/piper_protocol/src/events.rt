@@ -65,7 +65,7 @@ impl Answer {
         }
     }
 
-    /// What a copying call with a context answers, or want of memory.
+    /// What a copying call with a context returns, or want of memory.
     pub fn copied(self) -> Polled<Result<usize, Failed>>
         ensures { result ≡ copied_in self }
     {

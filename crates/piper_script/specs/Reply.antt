@@ -26,7 +26,7 @@ abbrev pub flag_text : Bool → List ℕ
 flag_text true = codes "true"
 flag_text false = codes "false"
 
--- what a polling call that copies answers
+-- what a polling call that copies returns
 abbrev pub copied_text : Polled (Result ℕ Failed) → List ℕ
 copied_text (Ready (Ok n)) = codes "ready " ++ decimal n
 copied_text (Ready (Err failed)) = codes "failed"

@@ -90,7 +90,7 @@ impl Reply {
         }
     }
 
-    // Writes what a polling call that copies answers.
+    // Writes what a polling call that copies returns.
     fn write_copied(&mut self, copied: Polled<Result<usize, Failed>>) -> Result<(), AllocError>
         ensures { OnOk result (self.new ≡ self.old ++ copied_text copied) }
     {

@@ -72,7 +72,7 @@ fn error_at(fails: bool, last: usize) -> Option<ErrorKind> {
     }
 }
 
-/// A copy over an end answers as is wanted, and so many bytes were moved, each in its turn.
+/// A copy over an end returns what is wanted, and so many bytes were moved, each in its turn.
 fn copies(
     rt: &impl Abort,
     pair: &mut Pair,

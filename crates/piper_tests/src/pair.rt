@@ -141,7 +141,7 @@ fn told(rt: &impl Abort, polled: Poll<Result<bool, OutOfMemory>>) -> Polled {
     }
 }
 
-/// What a copy over a source or a destination of the test's own answers.
+/// What a copy over a source or a destination of the test's own returns.
 fn copied_inner(polled: Poll<Result<usize, Inner<ErrorKind>>>) -> Moved<usize> {
     match polled {
         Poll::Pending => Moved::Pending,

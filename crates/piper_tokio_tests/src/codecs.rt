@@ -52,7 +52,7 @@ where
     Ok(())
 }
 
-/// Sends bytes as a frame. It answers the frame that comes back.
+/// Sends bytes as a frame. Returns the frame that comes back.
 fn ask<R, I>(rt: &R, io: I, bytes: &'static [u8]) -> io::Result<BytesMut>
 where
     R: Wait + RandomSource + AllocGlobal,

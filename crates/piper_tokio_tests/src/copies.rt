@@ -35,7 +35,7 @@ where
 }
 
 /// Copies the input into a pipe of so many bytes on a thread of its own, and here out of it into
-/// the output. It answers how many bytes that were, and the output.
+/// the output. Returns how many bytes that were, and the output.
 fn copied<R, I, O>(rt: &R, capacity: usize, input: I, output: O) -> (u64, O)
 where
     R: Abort + Wait + Threads + RandomSource + AllocGlobal + Clone + Drop + Send + Sync + 'static,

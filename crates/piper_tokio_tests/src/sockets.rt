@@ -20,7 +20,7 @@ fn echo<S: Read + Write + Drop>(alloc: Global, stream: S) -> Result<(), Error> {
     socket.send(message)
 }
 
-/// Sends a text. It answers the text that comes back.
+/// Sends a text. Returns the text that comes back.
 fn ask<R, S>(alloc: Global, random: R, stream: S, text: &str) -> Result<Utf8Bytes, Fail>
 where
     R: RandomSource + Drop,

@@ -167,7 +167,7 @@ where
     }
 }
 
-// Runs both sides to their end, if the second thread begins. A side that was given up answers
+// Runs both sides to their end, if the second thread begins. A side that was given up returns
 // `None`.
 fn on_two_threads<R, S, D>(
     rt: &R,

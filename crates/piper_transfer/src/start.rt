@@ -51,7 +51,7 @@ impl Start {
         }
     }
 
-    /// The second thread begins. It answers whether it was still waited for.
+    /// The second thread begins. Returns whether it was still waited for.
     pub(crate) fn begin(&self, rt: &impl Wait) -> bool {
         let mut stage = self.stage.lock(rt);
         if *stage == Stage::GivenUp {
@@ -62,7 +62,7 @@ impl Start {
         true
     }
 
-    /// Waits for the second thread, and gives it up once the time is over. It answers whether it
+    /// Waits for the second thread, and gives it up once the time is over. Returns whether it
     /// has begun.
     pub(crate) fn wait(&self, rt: &(impl Wait + Clock)) -> bool {
         let pause = Duration::from_millis(PATIENCE);

@@ -47,7 +47,7 @@ impl<'a, R: Clock + Eprint> Copies<'a, R> {
         Some(sum.finalize())
     }
 
-    /// So many bytes are about to pass. It answers how many of them may.
+    /// So many bytes are about to pass. Returns how many of them may.
     pub(crate) fn begin(&mut self, count: usize) -> usize
         ensures most { result ≤ count }
         ensures some { 0 < count → 0 < result }

@@ -34,7 +34,7 @@ impl Over {
         self.changed.notify_all();
     }
 
-    // Waits until it is over, or the time is up. It answers whether it is over.
+    // Waits until it is over, or the time is up. Returns whether it is over.
     fn wait(&self, rt: &(impl Wait + Clock), pause: Duration) -> bool {
         let held = self.is_over.lock(rt);
         let (held, _) = self

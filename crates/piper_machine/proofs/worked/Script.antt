@@ -1,4 +1,4 @@
--- A small language of whole calls over the definitions: what each call of a list answers, from a
+-- A small language of whole calls over the definitions: what each call of a list returns, from a
 -- given pipe on. Its calls and returns are those of the replayer's scripts.
 use Rattle.std.specs.Prelude.{◌≡◌, ℕ, suc, zero, ◌+◌, ◌-◌, List, [], ◌∷◌, take, length, replicate, slice_set, Bool, true, false, Some, Result, if◌then◌else◌}
 use Rattle.std.specs.declared.result.Result.TheVariants as result
@@ -145,7 +145,7 @@ run Close p = ran Done (close (begun p))
 run (Drop Reader) p = ran Done (drop_reader (begun p))
 run (Drop Writer) p = ran Done (drop_writer (begun p))
 
--- what each call of a list answers
+-- what each call of a list returns
 abbrev pub answers : Pipe → List Call → List Answer
 answers p [] = []
 answers p (call ∷ calls) = let out = run call p in out.answer ∷ answers out.pipe calls

@@ -60,7 +60,7 @@ found_by_a_drain :
     × (saw_closed Reader before_it_is_found ≡ true)
 found_by_a_drain = (refl, refl)
 
--- A drain that checked closed before the close answers 0 as well, and found no end: the writer may
+-- A drain that checked closed before the close returns 0 as well, and found no end: the writer may
 -- have published in between.
 abbrev drained_over_the_drop : List Step
 drained_over_the_drop = Begin (call.TryDrain 4) ∷ Go Reader ∷ Go Reader ∷ Begin (call.Drop Writer) ∷ Go Writer ∷ Go Reader ∷ []
