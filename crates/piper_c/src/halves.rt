@@ -4,7 +4,7 @@
 //! Some calls of the one have a twin of the other. They are no generic functions: the ends of the
 //! ring are two types, so a trait over both would write the contracts of these calls a third time,
 //! and the steps of an open call are those of its own side. What the contracts of both say of words
-//! stands once, in specs/Waiting.antt. An export can't be generic, and neither can its handle.
+//! is stated once, in specs/Waiting.antt. An export can't be generic, and neither can its handle.
 ghost use Rattle.std.specs.Prelude.{◌≡◌};
 ghost use Rattle.std.specs.Arc.{arc_value};
 ghost use Rattle.piper_c.specs.Places.{HoldPlaces};

@@ -18,7 +18,7 @@ WhyFilled left ToTheEnd = IsAtEnd left
 WhyFilled left UntilClosed = ⊤
 
 module _ {S : Type 0} (remaining : S → Option (List ℕ)) where
-  -- the writer's last mark reports the front of what the source gave behind what was published
+  -- the writer's last mark reports the front of what the source gave, after what was published
   -- before, and all of it unless the pipe was seen closed
   pub record FilledTo (w : OwnedWriter) (s : S) (left : Filled S) : Type 0 where
     pub saw : Bool
