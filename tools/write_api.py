@@ -16,13 +16,16 @@ TOP = Path(__file__).resolve().parent.parent
 PAGE = TOP / "docs/API.md"
 CRATES = ["piper", "piper_lines", "piper_futures", "piper_streams", "piper_duplex",
           "piper_transfer", "piper_tokio"]
+# The files of `specs/` of `piper` that say what came of a call.
+DEFINED = ["OfReader", "OfWriter", "ReaderCalls", "WriterCalls", "Looks", "Waits"]
 START = re.compile(r"(?:pub |final |unsafe )*(fn|struct|enum|trait|const|impl)\b(.*)")
 INTRO = """# The public calls
 
 Written by `tools/write_api.py` from the sources: change those, and run it. A call has what it asks \
 of its caller (`requires`) and what it gives (`ensures`). A trait's clauses hold of each type that \
 has the trait; a type's own stand in their place. [CONTRACTS.md](CONTRACTS.md) says how clauses are \
-read; the files of `specs/` that the `ghost use` lines of a source name define their words. A seed \
+read, and [the last section](#what-the-clauses-of-piper-say) has the definitions of those of `piper`; \
+the `ghost use` lines of a source name the files of `specs/` that define the others. A seed \
 is where a handle's generator begins, from which a polling copy that could go on draws whether it \
 yields, as it does for one number in a hundred.
 """
@@ -232,8 +235,8 @@ def block(lines):
 
 
 def comment(doc):
-    """A comment as paragraphs."""
-    text = "\n".join(doc).split("\n\n")
+    """A comment as paragraphs. A link of rustdoc is left as what it shows."""
+    text = re.sub(r"\[(`[^`]+`)\]\(\w+@[^)]*\)", r"\1", "\n".join(doc)).split("\n\n")
     return [line for part in text if part for line in ("", part.replace("\n", " "))]
 
 
@@ -284,8 +287,19 @@ def crate_page(crate):
     return said
 
 
+def definitions():
+    """What came of a call, as the clauses of `piper` have it."""
+    said = ["", "## What the clauses of `piper` say"]
+    for name in DEFINED:
+        text = (TOP / f"crates/piper/specs/{name}.antt").read_text()
+        kept = [line for line in text.splitlines() if not line.startswith("use ")]
+        said += ["", f"### `{name}`", *block("\n".join(kept).strip().splitlines())]
+    return said
+
+
 def page():
-    return INTRO + "\n".join(line for crate in CRATES for line in crate_page(crate)) + "\n"
+    lines = [line for crate in CRATES for line in crate_page(crate)]
+    return INTRO + "\n".join(lines + definitions()) + "\n"
 
 
 def main():
