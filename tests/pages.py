@@ -5,7 +5,7 @@
 
 Each block of code on these two pages is fenced, and its first word says what becomes of it:
 
-- `console`: bash runs each line after `$ `, and it has to print what stands below it; a line `...`
+- `console`: bash runs each line after `$ `, and it has to print what is below it; a line `...`
   stands for any lines. The commands of a block share one shell, which begins at the top of the
   repository.
 - `rust`, `c`, `toml`: a file, whose path is the comment in the first line. Below `~` it is a whole
