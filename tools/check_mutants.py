@@ -1,0 +1,36 @@
+#!/usr/bin/env python3
+"""Says of each mutant whether it still applies: whether each text that it replaces is in its file
+once, after the replacements above it. tools/try_mutants.sh says whether the prover refuses them.
+"""
+import sys
+from pathlib import Path
+
+TOP = Path(__file__).resolve().parent.parent
+
+
+def misfits(edit):
+    """The texts that an edit can't replace."""
+    crate = next(folder for folder in edit.parents if folder.parent.name == "crates")
+    texts, path, old = {}, None, None
+    for line in edit.read_text().splitlines():
+        word, _colon, rest = line.partition(": ")
+        if word == "file":
+            path = crate / rest
+            texts.setdefault(path, path.read_text() if path.is_file() else "")
+        elif word == "old":
+            old = rest
+            if texts[path].count(old) != 1:
+                yield f"{path.relative_to(TOP)} has it {texts[path].count(old)} times: {old.strip()}"
+        elif word == "new":
+            texts[path] = texts[path].replace(old, rest, 1)
+
+
+def main():
+    edits = sorted(TOP.glob("crates/*/mutants/*.edit")) + sorted(TOP.glob("crates/*/must-fail/*.edit"))
+    wrong = [f"{edit.relative_to(TOP)}: {text}" for edit in edits for text in misfits(edit)]
+    print("\n".join(wrong + [f"{len(edits)} mutants, {len(wrong)} texts that don't apply"]))
+    return 1 if wrong or not edits else 0
+
+
+if __name__ == "__main__":
+    sys.exit(main())
