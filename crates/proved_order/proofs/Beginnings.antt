@@ -1,7 +1,8 @@
 -- Beginnings of the same bytes: what was given, and what was published.
-use Rattle.std.proofs.Common.{◌≡◌, ◌∙◌, ◌≤◌, ◌+◌, ◌-◌, sym, ap, refl, ℕ, Bool, true, false, List, ◌++◌, take, drop, length, append-nil, length-drop, arith}
-use Rattle.std.proofs.Math.Seq.{take-add}
-use Rattle.std.proofs.lemmas.List.{take_all}
+use Rattle.std.proofs.Common.{◌≡◌, ◌∙◌, ◌≤◌, ◌+◌, ◌-◌, sym, ap, refl, ℕ, Bool, true, false, List, ◌++◌, take, drop, length, append-nil, length-drop, length-take-le, arith}
+use Rattle.std.proofs.Math.Seq.{take-add, take-append-add}
+use Rattle.std.proofs.lemmas.List.{take-append-le, take_all}
+use borrow.Rule.Slice.PartMut.{put_mid, post_of}
 
 -- what is left of the bytes after the first k
 abbrev pub left_after : List ℕ → ℕ → List ℕ
@@ -32,3 +33,12 @@ front_grows bytes before after k n false within front unseen over more = (
   more.2 ∙ ap (λ xs. xs ++ take more.0 (left_after bytes k)) (unseen refl)
       ∙ first_and_next bytes k more.0 within,
 )
+
+-- what is at the front of a place that is filled from k on: what was there, and then the front of
+-- what was put there
+pub front_and_next : (place part : List ℕ) (k n : ℕ) → k ≤ length place → n ≤ length part
+    → take (k + n) (put_mid k (length place - k) place part) ≡ take k place ++ take n part
+front_and_next place part k n within fits =
+    let rest = part ++ post_of k (length place - k) place in
+    ap (λ m. take (m + n) (take k place ++ rest)) (sym (length-take-le k place within))
+    ∙ take-append-add (take k place) rest n ∙ ap (λ xs. take k place ++ xs) (take-append-le n part _ fits)

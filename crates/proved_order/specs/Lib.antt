@@ -1,1 +1,2 @@
 pub mod LastMark
+pub mod Rounds

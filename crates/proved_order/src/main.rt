@@ -1,14 +1,17 @@
-//! Clients that prove of themselves that bytes arrive in order. Where `carry` holds both sides of
-//! the pipe, all that was sent came; on two threads, in threads.rt, what came is a beginning of what
-//! was sent; and in sleeping.rt two threads poll by hand, of which nothing of the kind is proved.
+//! Clients that prove of themselves that bytes arrive in order. Where one function holds both sides
+//! of the pipe, all that was sent came: `carry` fills the pipe once, and rounds.rt sends more than
+//! the pipe holds. On two threads, in threads.rt, what came is a beginning of what was sent; and in
+//! sleeping.rt two threads poll by hand, of which nothing of the kind is proved.
 #![tactic(auto)]
 
+mod rounds;
 mod sleeping;
 mod threads;
 mod words;
 
 ghost use Rattle.std.specs.Prelude.{◌≡◌, ◌<◌, ◌*◌, ◌^◌, ◌≤◌, take, length, IfOk};
 
+use crate::rounds::carry_in_rounds;
 use crate::sleeping::send_and_count;
 use crate::threads::carry_across;
 use crate::words::answer_words;
@@ -34,8 +37,10 @@ fn main(rt: HostRuntime) -> io::Result<ExitCode> {
     if let Some(status) = answer_words(&rt)? {
         return Ok(status);
     }
-    let mut place = [0; 16];
+    let mut place = [0; 32];
     let came = carry(rt.alloc(), b"hello world", &mut place)?;
+    println!(&rt; "{}", place[..came].escape_ascii())?;
+    let came = carry_in_rounds(rt.alloc(), b"hello, eight bytes at a time", &mut place)?;
     println!(&rt; "{}", place[..came].escape_ascii())?;
     let came = carry_across(&rt, b"hello, threads", &mut place)?;
     println!(&rt; "{}", place[..came].escape_ascii())?;
