@@ -16,8 +16,10 @@ TOP = Path(__file__).resolve().parent.parent
 PAGE = TOP / "docs/API.md"
 CRATES = ["piper", "piper_lines", "piper_futures", "piper_streams", "piper_duplex",
           "piper_transfer", "piper_tokio"]
-# The files of `specs/` of `piper` that say what came of a call.
-DEFINED = ["OfReader", "OfWriter", "ReaderCalls", "WriterCalls", "Looks", "Waits"]
+# The files of `specs/` that the clauses of `piper` cite, those of its own first.
+DEFINED = ["OfReader", "OfWriter", "ReaderCalls", "WriterCalls", "Looks", "Waits", "Handles", "Ends",
+           "Copies", "Counts", "Drains", "Fills", "CopyAnswers", "Polls", "Draws", "Contexts", "Like"]
+BELOW = ["ReadView", "WriteView", "SlotsView", "Opened"]
 START = re.compile(r"(?:pub |final |unsafe )*(fn|struct|enum|trait|const|impl)\b(.*)")
 INTRO = """# The public calls
 
@@ -287,14 +289,26 @@ def crate_page(crate):
     return said
 
 
+def defined(crate, name, is_kept):
+    """The definitions of a file of `specs/`, with their comments, but for those that are left out."""
+    text = (TOP / f"crates/{crate}/specs/{name}.antt").read_text()
+    lines = [line for line in text.splitlines() if not re.match(r"(pub )?use ", line)]
+    parts = [part for part in "\n".join(lines).strip().split("\n\n") if is_kept(part)]
+    return ["", f"### `{name}`", *block("\n\n".join(parts).splitlines())]
+
+
+def is_said(part):
+    """Whether clauses may cite it: a type or a claim, and not how an end keeps its view."""
+    return re.search(r"^(abbrev )?pub (record )?[A-Z]", part, re.MULTILINE) and "Parts" not in part
+
+
 def definitions():
-    """What came of a call, as the clauses of `piper` have it."""
-    said = ["", "## What the clauses of `piper` say"]
-    for name in DEFINED:
-        text = (TOP / f"crates/piper/specs/{name}.antt").read_text()
-        kept = [line for line in text.splitlines() if not line.startswith("use ")]
-        said += ["", f"### `{name}`", *block("\n".join(kept).strip().splitlines())]
-    return said
+    """What the clauses of `piper` cite."""
+    own = [line for name in DEFINED for line in defined("piper", name, lambda part: True)]
+    below = [line for name in BELOW for line in defined("piper_ring", name, is_said)]
+    return ["", "## What the clauses of `piper` say", "",
+            "A clause writes `of_writer.ring` for `ring` of `OfWriter`, where both sides have the name. "
+            "The last of these files are those of `piper_ring`.", *own, *below]
 
 
 def page():
