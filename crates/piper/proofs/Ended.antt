@@ -20,9 +20,10 @@ knows true saw seen = refl
 pub ended_knows : (r : ReadView) → IsEnded r → KnowsEnd r
 ended_knows r ended = knows r.told_shut r.saw ended.saw
 
-stays : (a b : Bool) → flag a ≤ flag b → a ≡ true → b ≡ true
-stays a true le seen = refl
-stays a false le seen = absurd (omega (arith, le, ap flag seen))
+-- what was seen closed stays seen
+pub saw_stays : (a b : Bool) → flag a ≤ flag b → a ≡ true → b ≡ true
+saw_stays a true le seen = refl
+saw_stays a false le seen = absurd (omega (arith, le, ap flag seen))
 
 -- a load of the tail finds nothing more
 pub ended_more : (a b : ReadView) → (KnowsEnd a → b.taken ++ b.known ≡ b.all) → KnowsMore a b → IsEnded a → IsEnded b
@@ -40,7 +41,7 @@ ended_more a b whole more ended =
 pub ended_seen : (a b : ReadView) → SameButSaw a b → flag a.saw ≤ flag b.saw → IsEnded a → IsEnded b
 ended_seen a b same seen ended = record {
   known = same.known ∙ ended.known;
-  saw = stays a.saw b.saw seen ended.saw;
+  saw = saw_stays a.saw b.saw seen ended.saw;
   all = same.taken ∙ ended.all ∙ sym (same.all (ended_knows a ended));
 }
 

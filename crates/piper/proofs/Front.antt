@@ -1,8 +1,5 @@
 -- Bytes that a drain wrote to the front of a slice.
-use Rattle.std.proofs.Common.{◌≡◌, ℕ, ◌+◌, ◌<◌, ◌≤◌, ◌⊎◌, List, [], ◌++◌, take, drop, length, min, sym, ap, append-nil, ◌∙◌, take_at, drop_at, length-append, length-drop, inl, inr, arith}
-use Rattle.std.proofs.lemmas.List.{nil_from_length}
-use Rattle.piper_ring.specs.ReadView.{ReadView}
-use Rattle.piper.specs.Drains.{found_len}
+use Rattle.std.proofs.Common.{◌≡◌, ℕ, ◌+◌, ◌<◌, ◌≤◌, ◌⊎◌, List, [], ◌++◌, take, drop, length, sym, ap, append-nil, ◌∙◌, take_at, drop_at, length-append, length-drop, inl, inr, arith}
 use Rattle.piper.specs.Written.{written}
 use Rattle.piper.specs.declared.handles.Reader.{Reader}
 use Rattle.piper.specs.Ends.{ReaderIsUpToDate}
@@ -47,14 +44,3 @@ looked_only a b moved none taken known fresh = record {
 pub not_other : (P Q : Type 0) → P ⊎ Q → (Q → ⊥) → P
 not_other P Q (inl p) never = p
 not_other P Q (inr q) never = absurd (never q)
-
--- as many as fit
-pub counts : (a b : ReadView) (moved : List ℕ) (n space : ℕ) → b.taken ≡ a.taken ++ moved → length moved ≡ n → n ≤ space → (b.known ≡ []) ⊎ (space ≡ n) → n ≡ min space (found_len a b)
-counts a b moved n space taken count within (inl none) = omega (arith, ap length taken, length-append a.taken moved, count, within, ap length none)
-counts a b moved n space taken count within (inr full) = omega (arith, ap length taken, length-append a.taken moved, count, full)
-
-pub none_found : (n space found : ℕ) → n ≡ min space found → n ≡ 0 → 0 < space → found ≡ 0
-none_found n space found counted zero some = omega (arith, counted, zero, some)
-
-pub none_known : (a b : ReadView) (moved : List ℕ) → b.taken ≡ a.taken ++ moved → ¬ (0 < found_len a b) → b.known ≡ []
-none_known a b moved taken none = nil_from_length b.known (omega (arith, ap length taken, length-append a.taken moved, none))

@@ -26,7 +26,3 @@ module _ {S E : Type 0} (gives : Passes S) (is_dry : S → Type 0) (fails : S �
     most = most;
     end = record { end = looked.end; shut = looked.shut; saw = looked.saw };
   }
-
--- what was seen closed stays so, and the look is not true
-pub still_open : (a w : WriteView) → WriterLooked a w → w.saw ≡ false → a.saw ≡ true → ⊥
-still_open a w looked unseen seen = omega (arith, looked.saw, ap flag seen, ap flag unseen)

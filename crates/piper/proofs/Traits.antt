@@ -16,11 +16,6 @@ use Rattle.piper.specs.WriterCalls.{Filled, FillPends, FillsSlice, SameWriterBut
 use Rattle.piper.specs.declared.handles.Reader.{Reader}
 use Rattle.piper.specs.declared.handles.Writer.{Writer}
 
--- what was seen closed stays seen
-pub saw_stays : (a b : Bool) → flag a ≤ flag b → a ≡ true → b ≡ true
-saw_stays a true le seen = refl
-saw_stays a false le seen = absurd (omega (arith, le, ap flag seen))
-
 -- a drain of none into a slice that has room found none
 found_none : (n : ℕ) (a b : Reader) (old new : List ℕ) → Drained n a b old new → n ≡ 0 → 0 < length old → found_len a.end b.end ≡ 0
 found_none n a b old new d none some =
@@ -52,7 +47,7 @@ read_pends Pending a b cx same h = (
 )
 
 -- the first m and the first n of some bytes are as many, where both were published after the same
-as_many : (before after xs : List ℕ) (m n : ℕ) → m ≤ n → n ≤ length xs → after ≡ before ++ take m xs → after ≡ before ++ take n xs → m ≡ n
+pub as_many : (before after xs : List ℕ) (m n : ℕ) → m ≤ n → n ≤ length xs → after ≡ before ++ take m xs → after ≡ before ++ take n xs → m ≡ n
 as_many before after xs m n le within p q =
     omega (arith, ap length p, ap length q, length-append before (take m xs), length-append before (take n xs), length-take-le m xs (omega (arith, le, within)), length-take-le n xs within)
 

@@ -1,7 +1,6 @@
 //! A bounded pipe of bytes between one reader and one writer.
 #![tactic(auto)]
 
-mod answers;
 mod copies;
 mod debug;
 mod error;

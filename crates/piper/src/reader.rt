@@ -4,7 +4,6 @@ ghost use Rattle.futures.specs.Task.{Keeps};
 ghost use Rattle.futures.specs.Poll.{OnPending};
 ghost use Rattle.piper.specs.Looks.{OnRefused};
 
-use crate::answers::polled;
 use crate::finished::FinishedReader;
 use crate::handles::Reader;
 use crate::handles::read_steps::read_wake;
@@ -75,8 +74,17 @@ impl Reader {
         ensures context { Keeps cx.old cx.new }
         ensures rest { SameReaderButWaits self.old self.new }
     {
-        match self.poll_inner(Purpose::Poll, cx) {
-            Ok(call) => polled(self.take_own(call).end()),
+        // Most polls find a byte, and return before there is a reason for none to be told apart.
+        let (call, none) = self.look_first(Purpose::Poll);
+        if !none {
+            self.take_own(call).end();
+            return Poll::Ready(Ok(true));
+        }
+        match self.look_waiting(call, Purpose::Poll, cx) {
+            Ok(call) => {
+                self.take_own(call).end();
+                Poll::Ready(Ok(true))
+            }
             Err(NoWork::Closed) => Poll::Ready(Ok(false)),
             Err(NoWork::Pending) => Poll::Pending,
             Err(NoWork::Refused) => Poll::Ready(Err(OutOfMemory)),

@@ -4,7 +4,6 @@ ghost use Rattle.futures.specs.Task.{Keeps};
 ghost use Rattle.futures.specs.Poll.{OnPending};
 ghost use Rattle.piper.specs.Looks.{OnRefused};
 
-use crate::answers::polled;
 use crate::finished::FinishedWriter;
 use crate::handles::Writer;
 use crate::handles::write_steps::write_wake;
@@ -71,8 +70,21 @@ impl Writer {
         ensures context { Keeps cx.old cx.new }
         ensures rest { SameWriterButWaits self.old self.new }
     {
-        match self.poll_inner(Purpose::Poll, cx) {
-            Ok(call) => polled(self.take_own(call).end()),
+        // Most polls find room, and return before there is a reason for none to be told apart.
+        let (call, is_closed, none) = self.look_first(Purpose::Poll);
+        if is_closed {
+            call.end();
+            return Poll::Ready(Ok(false));
+        }
+        if !none {
+            self.take_own(call).end();
+            return Poll::Ready(Ok(true));
+        }
+        match self.look_waiting(call, Purpose::Poll, cx) {
+            Ok(call) => {
+                self.take_own(call).end();
+                Poll::Ready(Ok(true))
+            }
             Err(NoWork::Closed) => Poll::Ready(Ok(false)),
             Err(NoWork::Pending) => Poll::Pending,
             Err(NoWork::Refused) => Poll::Ready(Err(OutOfMemory)),

@@ -2,6 +2,7 @@
 use Rattle.std.proofs.Common.{◌≡◌, ℕ, ◌≤◌, ◌++◌, true, List, [], take, drop, length, sym, ap, ◌∙◌, arith, take-take, take-append-drop, drop_of_length-le, length-append, length-take, length-take-le}
 use Rattle.piper.specs.WriterCalls.{Filled, SameWriterButMoved}
 use Rattle.piper.specs.declared.handles.Writer.{Writer}
+use Rattle.piper.proofs.Traits.{as_many}
 use Rattle.piper_tokio.specs.Passing.{Gave}
 
 -- n bytes were counted, and the first m of them published
@@ -12,11 +13,6 @@ pub none_lost : (n m : ℕ) (xs : List ℕ) → m ≡ n → drop m (take n xs) �
 none_lost n m xs same =
     let few : length (take n xs) ≤ m = omega (arith, length-take n xs) in
     drop_of_length-le (take n xs) few
-
--- the first m and the first n of the bytes are as many
-as_many : (before after xs : List ℕ) (m n : ℕ) → m ≤ n → n ≤ length xs → after ≡ before ++ take m xs → after ≡ before ++ take n xs → m ≡ n
-as_many before after xs m n le within p q =
-    omega (arith, ap length p, ap length q, length-append before (take m xs), length-append before (take n xs), length-take-le m xs (omega arith), length-take-le n xs within)
 
 pub gave_front : (a b : Writer) (n : ℕ) (xs : List ℕ) → Filled n a b xs → (a.end.saw ≡ true → n ≡ 0) → SameWriterButMoved a b → Gave a (take n xs) b
 gave_front a b n xs filled over same =

@@ -4,7 +4,7 @@ ghost use Rattle.futures.specs.Task.{Keeps};
 ghost use Rattle.piper_protocol.specs.Table.{goes_on, reader_found, reader_found_none, reader_looked};
 ghost use Rattle.piper_ring.specs.ReadView.{KnowsEnd};
 ghost use Rattle.piper_ring.specs.Shared.{flag};
-ghost use Rattle.piper.specs.Ends.{IsEnded};
+ghost use Rattle.piper.specs.Ends.{IsEnded, ReaderIsUpToDate};
 ghost use Rattle.piper.specs.Looks.{ReaderLooked, ReaderLookedFor, IfPending, IfRefused};
 
 use super::NoWork;
@@ -17,7 +17,7 @@ impl Reader {
     ghost use Rattle.piper.specs.Handles.{SameReader, SameReaderButWaits};
     ghost use Rattle.piper.specs.Waits.{ReaderPends};
 
-    /// The look of a poll, and of a copy that waits: the open call once a byte is known.
+    /// The look of a copy that waits: the open call once a byte is known.
     #[inline(always)]
     pub(crate) fn poll_inner(
         &mut self,
@@ -39,6 +39,30 @@ impl Reader {
         if !none {
             return Ok(call);
         }
+        self.look_waiting(call, purpose, cx)
+    }
+
+    /// The rest of a look that waits, where no byte was found: it registers, and looks once more.
+    #[inline(always)]
+    pub(crate) fn look_waiting(
+        &mut self,
+        call: ReadCall,
+        purpose: Purpose,
+        cx: &mut Context<'_>,
+    ) -> Result<ReadCall, NoWork>
+        requires at { call ≡ goes_on (ReadPoint.LookRegister purpose) }
+        requires none { length self.old.end.known ≡ 0 }
+        requires fresh { ReaderIsUpToDate self.old.end }
+        ensures found { IfOk result (λ call. call ≡ goes_on (reader_found purpose)) }
+        ensures answer { ReaderLookedFor result self.new.end }
+        ensures pending { IfPending result (ReaderPends self.old self.new cx.new) }
+        ensures refused { IfRefused result (cx.new.lacks_waker ≡ true) }
+        ensures looked { ReaderLooked self.old.end self.new.end }
+        ensures all { KnowsEnd self.old.end → self.new.end.all ≡ self.old.end.all }
+        ensures stays { IsEnded self.old.end → IsEnded self.new.end }
+        ensures rest { SameReaderButWaits self.old self.new }
+        ensures kept { Keeps cx.old cx.new }
+    {
         let (call, is_granted) = self.register(call, cx);
         if !is_granted {
             call.end();
@@ -65,12 +89,13 @@ impl Reader {
         self.look_again(call, Purpose::Copy(Form::Try))
     }
 
-    // Looks for a byte that is known, or else for one that was published since, and reports whether
-    // there is none.
+    /// Looks for a byte that is known, or else for one that was published since, and reports
+    /// whether there is none.
     #[inline(always)]
-    fn look_first(&mut self, purpose: Purpose) -> (ReadCall, bool)
+    pub(crate) fn look_first(&mut self, purpose: Purpose) -> (ReadCall, bool)
         ensures step { result.0 ≡ goes_on (reader_looked result.1 purpose) }
         ensures none { IsTrue result.1 ↔ (length self.new.end.known ≡ 0) }
+        ensures fresh { IsTrue result.1 → ReaderIsUpToDate self.new.end }
         ensures looked { ReaderLooked self.old.end self.new.end }
         ensures all { KnowsEnd self.old.end → self.new.end.all ≡ self.old.end.all }
         ensures stays { IsEnded self.old.end → IsEnded self.new.end }

@@ -1,5 +1,6 @@
 -- The trait says less than the clauses of the end.
-use Rattle.piper.proofs.Traits.{read_end, read_pends, reads, saw_stays}
+use Rattle.piper.proofs.Ended.{saw_stays}
+use Rattle.piper.proofs.Traits.{read_end, read_pends, reads}
 use Rattle.piper_duplex.proofs.end.streams.EndAsyncRead.TheImpl.Goals as goal
 
 pub poll_read-tells : goal.poll_read-tells

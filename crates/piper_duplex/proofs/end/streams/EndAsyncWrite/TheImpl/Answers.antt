@@ -1,5 +1,6 @@
 -- The trait says less than the clauses of the end.
-use Rattle.piper.proofs.Traits.{saw_stays, write_full, write_pends, writes}
+use Rattle.piper.proofs.Ended.{saw_stays}
+use Rattle.piper.proofs.Traits.{write_full, write_pends, writes}
 use Rattle.piper_duplex.proofs.end.streams.EndAsyncWrite.TheImpl.Goals as goal
 
 pub poll_write-tells : goal.poll_write-tells
