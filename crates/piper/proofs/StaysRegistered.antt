@@ -1,5 +1,5 @@
 -- A writer that waits still waits once it has taken back what it lent.
-use Rattle.std.proofs.Common.{◌≡◌, ◌∙◌, ℕ, Result, Ok, Err, inl, inr}
+use Rattle.std.proofs.Common.{◌≡◌, ◌∙◌, sym, ℕ, Result, Ok, Err, inl, inr}
 use Rattle.futures.specs.declared.task.context.Context.{Context}
 use Rattle.futures.specs.declared.task.Poll.{Poll}
 use Rattle.futures.specs.declared.task.Poll.TheVariants.{Ready, Pending}
@@ -29,7 +29,7 @@ still a b d cx end registrations (inl w) = inl (record {
     goes_on = rw registrations w.pending.goes_on;
   };
 })
-still a b d cx end registrations (inr asks) = inr asks
+still a b d cx end registrations (inr away) = inr (away.0, (away.1.0, rw registrations away.1.1))
 
 pending : {A : Type 0} (r : Poll A) (a b d : Writer) (cx : Context) → WriterUnlent b.end d.end → SameWriter b d
     → OnPending r (FillPends a b cx) → OnPending r (FillPends a d cx)
@@ -37,7 +37,7 @@ pending (Ready x) a b d cx end rest h = tt
 pending Pending a b d cx end rest h = record {
   yields = rw end.room h.yields;
   covered = h.covered;
-  registered = still a b d cx end rest.registrations h.registered;
+  registered = λ none. still a b d cx end rest.registrations (h.registered (sym end.room ∙ none));
 }
 
 -- and the whole fill waits as it did

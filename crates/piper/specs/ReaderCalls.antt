@@ -100,7 +100,7 @@ pub record DrainPends (a b : Reader) (cx : Context) : Type 0 where
   pub unseen : found_len a.end b.end ≡ 0 → (b.end.saw ≡ false) × (b.end.told_shut ≡ false)
   pub yields : 0 < found_len a.end b.end → AsksAgain cx
   pub covered : Covers cx (λ s. s ≡ read_source a)
-  pub registered : ReaderRegistered a b cx
+  pub registered : found_len a.end b.end ≡ 0 → ReaderRegistered a b cx
 
 -- a drain draws from the reader's generator exactly where it found a byte, and yields by that draw
 abbrev pub DrawsToYield : {E : Type 0} → Poll (Result ℕ E) → Reader → Reader → Type 0

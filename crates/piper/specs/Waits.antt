@@ -22,15 +22,24 @@ pub record WriterWaits (a b : Writer) : Type 0 where
   pub ticket : b.registrations.tickets ≡ a.registrations.tickets + 1
   pub pending : IsWriterPending b.end b.registrations
 
--- a reader that is pending waits in its slot, or its task asked for another poll itself
+-- the place of the side's waker is with the other side, or on its way back, before and after the
+-- call: so no waker could be left there
+abbrev pub ReaderIsAway : Reader → Reader → Type 0
+ReaderIsAway a b = (a.registrations.owns ≡ false) × (b.registrations.owns ≡ false)
+
+abbrev pub WriterIsAway : Writer → Writer → Type 0
+WriterIsAway a b = (a.registrations.owns ≡ false) × (b.registrations.owns ≡ false)
+
+-- a reader that has nothing to do waits in its slot; only where its place is away its task asked for
+-- another poll itself
 abbrev pub ReaderRegistered : Reader → Reader → Context → Type 0
-ReaderRegistered a b cx = ReaderWaits a b ⊎ AsksAgain cx
+ReaderRegistered a b cx = ReaderWaits a b ⊎ (AsksAgain cx × ReaderIsAway a b)
 
 abbrev pub WriterRegistered : Writer → Writer → Context → Type 0
-WriterRegistered a b cx = WriterWaits a b ⊎ AsksAgain cx
+WriterRegistered a b cx = WriterWaits a b ⊎ (AsksAgain cx × WriterIsAway a b)
 
 -- a reader whose poll is pending: there is nothing to do yet; its task is armed at the reader's
--- source, and is registered there, or asked for another poll itself
+-- source, and is registered there, or asked for another poll itself since its place is away
 pub record ReaderPends (a b : Reader) (cx : Context) : Type 0 where
   pub nothing : NothingYet b.end
   pub covered : Covers cx (λ s. s ≡ read_source a)

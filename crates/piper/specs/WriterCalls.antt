@@ -90,7 +90,7 @@ pub record FillsEnd {E : Type 0} (r : Poll (Result ℕ E)) (a b : Writer) : Type
 pub record FillPends (a b : Writer) (cx : Context) : Type 0 where
   pub yields : 0 < b.end.room → AsksAgain cx
   pub covered : Covers cx (λ s. s ≡ write_source a)
-  pub registered : WriterRegistered a b cx
+  pub registered : b.end.room ≡ 0 → WriterRegistered a b cx
 
 -- a fill draws from the writer's generator exactly where it found room, and yields by that draw
 abbrev pub DrawsToYield : {E : Type 0} → Poll (Result ℕ (Inner E)) → Writer → Writer → Type 0

@@ -17,8 +17,8 @@ pub(crate) struct Slot {
     source: Source,
 }
 
-/// What was registered in a slot when it was emptied. It is not dropped automatically: one of its
-/// calls has to take it.
+/// What was registered in a slot when it was emptied. It is not dropped automatically, and a waker
+/// that was found can be ended by `wake` alone.
 pub(crate) struct Taken {
     waker: Option<Waker>,
 }
@@ -81,10 +81,11 @@ impl Taken {
         }
     }
 
-    /// Drops the waker, if there was one. A waker that is dropped wakes its task, too: it polls
-    /// once too often, never once too seldom.
-    pub(crate) fn discard(self) {
-        let Taken { waker } = self;
-        drop(waker);
+    /// Ends an emptying that found no waker.
+    #[inline(always)]
+    pub(crate) fn discard(self)
+        requires { found_in self ≡ false }
+    {
+        let Taken { waker: _ } = self;
     }
 }

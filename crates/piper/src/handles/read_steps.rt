@@ -23,6 +23,7 @@ use piper_ring::{LastReadMark, ReadMark};
 
 impl Reader {
     ghost use Rattle.piper.specs.Handles.{NotifiesWriter, SameReader, SameReaderButWaits, SameReaderButWoke, read_source};
+    ghost use Rattle.piper.specs.Waits.{ReaderIsAway};
 
     /// Opens a call that begins with a look, and reports whether no byte is known.
     #[inline(always)]
@@ -80,7 +81,8 @@ impl Reader {
         ensures step { result.0 ≡ read_step call.point (Found.Granted result.1) }
         ensures covered { Covers cx.new (λ s. s ≡ read_source self.old) }
         ensures registered { IsTrue result.1 →
-            Registers self.old.registrations self.new.registrations ⊎ AsksAgain cx.new }
+            Registers self.old.registrations self.new.registrations
+            ⊎ (AsksAgain cx.new × ReaderIsAway self.old self.new) }
         ensures refused { IsFalse result.1 → cx.new.lacks_waker ≡ true }
         ensures kept { Keeps cx.old cx.new }
         ensures end { self.new.end ≡ self.old.end }
@@ -96,7 +98,8 @@ impl Reader {
     fn register_or_yield(&mut self, cx: &mut Context<'_>) -> bool
         ensures covered { Covers cx.new (λ s. s ≡ read_source self.old) }
         ensures registered { IsTrue result →
-            Registers self.old.registrations self.new.registrations ⊎ AsksAgain cx.new }
+            Registers self.old.registrations self.new.registrations
+            ⊎ (AsksAgain cx.new × ReaderIsAway self.old self.new) }
         ensures refused { IsFalse result → cx.new.lacks_waker ≡ true }
         ensures kept { Keeps cx.old cx.new }
         ensures end { self.new.end ≡ self.old.end }
@@ -123,6 +126,8 @@ impl Reader {
     pub(crate) fn reclaim_waker(&mut self) -> Option<Waker>
         ensures registrations { self.new.registrations
             ≡ record self.old.registrations { owns = self.new.registrations.owns } }
+        ensures away { self.new.registrations.owns ≡ false →
+            self.old.registrations.owns ≡ false }
         ensures end { self.new.end ≡ self.old.end }
         ensures rest { SameReaderButWaits self.old self.new }
     {
@@ -150,7 +155,7 @@ impl Reader {
     }
 
     /// Drops a waker that is still registered in the reader's slot, so that a flowing pipe need not
-    /// check for it.
+    /// check for it. A waker that is dropped wakes its task, too: it polls once too often.
     #[cold]
     #[inline(never)]
     pub(crate) fn let_own_go(&mut self)
@@ -158,7 +163,7 @@ impl Reader {
         ensures rest { SameReaderButWaits self.old self.new }
     {
         if self.end.is_registered(&mut self.registrations) {
-            Taken::new(self.reclaim_waker()).discard();
+            drop(self.reclaim_waker());
         }
     }
 

@@ -22,6 +22,7 @@ use piper_ring::WriteMark;
 
 impl Writer {
     ghost use Rattle.piper.specs.Handles.{NotifiesReader, SameWriter, SameWriterButWaits, SameWriterButWoke, write_source};
+    ghost use Rattle.piper.specs.Waits.{WriterIsAway};
 
     /// Loads closed where a look begins, and reports what the flag was, and whether no room is
     /// known. A pipe that the writer closed is closed.
@@ -88,7 +89,8 @@ impl Writer {
         ensures step { result.0 ≡ write_step call.point (Found.Granted result.1) }
         ensures covered { Covers cx.new (λ s. s ≡ write_source self.old) }
         ensures registered { IsTrue result.1 →
-            WriterRegisters self.old.registrations self.new.registrations ⊎ AsksAgain cx.new }
+            WriterRegisters self.old.registrations self.new.registrations
+            ⊎ (AsksAgain cx.new × WriterIsAway self.old self.new) }
         ensures refused { IsFalse result.1 → cx.new.lacks_waker ≡ true }
         ensures kept { Keeps cx.old cx.new }
         ensures end { self.new.end ≡ self.old.end }
@@ -104,7 +106,8 @@ impl Writer {
     fn register_or_yield(&mut self, cx: &mut Context<'_>) -> bool
         ensures covered { Covers cx.new (λ s. s ≡ write_source self.old) }
         ensures registered { IsTrue result →
-            WriterRegisters self.old.registrations self.new.registrations ⊎ AsksAgain cx.new }
+            WriterRegisters self.old.registrations self.new.registrations
+            ⊎ (AsksAgain cx.new × WriterIsAway self.old self.new) }
         ensures refused { IsFalse result → cx.new.lacks_waker ≡ true }
         ensures kept { Keeps cx.old cx.new }
         ensures end { self.new.end ≡ self.old.end }
@@ -131,6 +134,8 @@ impl Writer {
     pub(crate) fn reclaim_waker(&mut self) -> Option<Waker>
         ensures registrations { self.new.registrations
             ≡ record self.old.registrations { owns = self.new.registrations.owns } }
+        ensures away { self.new.registrations.owns ≡ false →
+            self.old.registrations.owns ≡ false }
         ensures end { self.new.end ≡ self.old.end }
         ensures rest { SameWriterButWaits self.old self.new }
     {
@@ -157,7 +162,7 @@ impl Writer {
     }
 
     /// Drops a waker that is still registered in the writer's slot, so that a flowing pipe need not
-    /// check for it.
+    /// check for it. A waker that is dropped wakes its task, too: it polls once too often.
     #[cold]
     #[inline(never)]
     pub(crate) fn let_own_go(&mut self)
@@ -165,7 +170,7 @@ impl Writer {
         ensures rest { SameWriterButWaits self.old self.new }
     {
         if self.end.is_registered(&mut self.registrations) {
-            Taken::new(self.reclaim_waker()).discard();
+            drop(self.reclaim_waker());
         }
     }
 
