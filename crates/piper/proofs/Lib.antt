@@ -5,6 +5,7 @@ mod Front
 mod Copied
 pub mod Ended
 pub mod Traits
+pub mod Lending
 pub mod Clients
 mod LookingOut
 mod LookingIn

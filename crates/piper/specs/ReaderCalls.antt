@@ -5,20 +5,23 @@ use Rattle.futures.specs.Poll.{OnPending}
 use Rattle.futures.specs.declared.task.context.Context.{Context}
 use Rattle.futures.specs.declared.task.Poll.{Poll}
 use Rattle.futures.specs.declared.task.Poll.TheVariants.{Ready}
-use Rattle.piper_ring.specs.ReadView.{KnowsEnd, MayBeUnread as EndMayHave}
+use Rattle.std.specs.Io.{StartsWith}
+use denote.Ref.{Bor}
+use Rattle.piper_ring.specs.ReadView.{KnowsEnd, MayBeUnread as EndMayHave, in_one_piece}
 use Rattle.piper_ring.specs.SlotsView.{IsPending, IsWriterPending, SameReaderPlace}
-use Rattle.piper.specs.Contexts.{AsksAgain}
+use Rattle.piper.specs.Contexts.{AsksAgain, WantsWaker}
 use Rattle.piper.specs.Copies.{ReaderCopied}
 use Rattle.piper.specs.CopyAnswers.{OnMemory}
 use Rattle.piper.specs.Drains.{Drains, DrainsInto, EndIsTrue, EndIsUnseen, found_len}
 use Rattle.piper.specs.Draws.{Draws, Undrawn}
 use Rattle.piper.specs.Ends.{IsEnded, ReaderConsumed, ReaderHeeded, ReaderIsUpToDate, ReaderRefreshed, WriterRefreshed}
-use Rattle.piper.specs.Handles.{NotifiesReader, NotifiesWriter, SameReader, SameWriter, SameReaderButWoke, read_source}
+use Rattle.piper.specs.Handles.{NotifiesReader, NotifiesWriter, SameReader, SameReaderButWaits, SameWriter, SameReaderButWoke, read_source}
 use Rattle.piper.specs.Like.{Passes}
 use Rattle.piper.specs.Looks.{ReaderFound, ReaderLooked}
-use Rattle.piper.specs.Polls.{After, TakesNone}
-use Rattle.piper.specs.Waits.{ReaderIsRemembered, WriterIsRemembered, ReaderRegistered}
+use Rattle.piper.specs.Polls.{After, IfReadyErr, IfReadyOk, Lends, TakesNone}
+use Rattle.piper.specs.Waits.{ReaderIsRemembered, ReaderPends, WriterIsRemembered, ReaderRegistered}
 use Rattle.piper.specs.declared.error.Inner.{Inner}
+use Rattle.piper.specs.declared.error.PipeError.{PipeError}
 use Rattle.piper.specs.declared.finished.FinishedWriter.{FinishedWriter}
 use Rattle.piper.specs.declared.handles.Reader.{Reader}
 use Rattle.piper.specs.declared.handles.Writer.{Writer}
@@ -50,6 +53,32 @@ pub record Polled {E : Type 0} (r : Poll (Result Bool E)) (a b : Reader) : Type 
 pub record PollsEnd {A E : Type 0} (r : Poll (Result A E)) (a b : Reader) : Type 0 where
   pub after : AtEnd a → After r (AtEnd b) b.end.known
   pub all : KeepsAll a b
+
+-- a poll lent the first piece of the known bytes: no byte was taken; an empty piece is the end,
+-- which is final; a pending poll has armed its task, and was not told of the end; and one that fails
+-- wants memory
+abbrev pub LendsPiece : Poll (Result (Bor (List ℕ)) PipeError)
+    → Reader → Reader → Context → Type 0
+LendsPiece r a b cx =
+    Lends r b.end.known (in_one_piece b.end) b.end.saw
+    × IfReadyOk r (λ lent. length lent.now ≡ 0 → AtEnd b)
+    × (AtEnd a → After r (AtEnd b) b.end.known)
+    × StartsWith b.end.known a.end.known
+    × (b.end.taken ≡ a.end.taken)
+    × (a.end.saw ≡ true → b.end.saw ≡ true)
+    × IfReadyErr r (WantsWaker cx)
+    × (b.end.told_shut ≡ a.end.told_shut)
+    × OnPending r (b.end.told_shut ≡ false)
+    × OnPending r (Covers cx (λ s. s ≡ read_source b))
+    × (NotifiesWriter a → NotifiesWriter b)
+
+-- and else it is `poll`: it looked, and where it is pending it waits as that does
+pub record PollsPiece (r : Poll (Result (Bor (List ℕ)) PipeError)) (a b : Reader) (cx : Context)
+    : Type 0 where
+  pub looked : ReaderLooked a.end b.end
+  pub pending : OnPending r (ReaderPends a b cx)
+  pub all : KeepsAll a b
+  pub rest : SameReaderButWaits a b
 
 -- n bytes were drained into a slice: they are at its front, and the rest of it stays. They are the
 -- first that were known, or that were found where none was known; and as many as fit

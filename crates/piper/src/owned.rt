@@ -1,6 +1,8 @@
 //! Handles that are dropped automatically, for a thread or a task that takes one with it.
-ghost use Rattle.std.specs.Prelude.{◌≡◌, ◌*◌, ◌^◌, ◌<◌, IfOk, Ok};
+ghost use Rattle.std.specs.Prelude.{◌≡◌, ◌*◌, ◌^◌, ◌<◌, ◌≤◌, ◌++◌, take, drop, IfOk, Ok};
 ghost use Rattle.std.specs.Borrow.{sem};
+ghost use Rattle.std.specs.Io.BufRead.{Rests};
+ghost use Rattle.futures.specs.Poll.{OnPending};
 ghost use Rattle.futures.specs.Task.{Keeps};
 ghost use Rattle.piper.specs.Contexts.{WantsWaker};
 ghost use Rattle.piper.specs.Ends.{IsEnded};
@@ -194,6 +196,8 @@ impl Drop for OwnedWriter {
 
 impl AsyncRead for OwnedReader {
     ghost use Rattle.piper.specs.Handles.{NotifiesWriter, read_source};
+    ghost use Rattle.piper.specs.Polls.{IfReadyErr};
+    ghost use Rattle.piper.specs.ReaderCalls.{DrainPends, DrainsEnd, DrainsSlice, DrawsToYield, SameReaderButMoved, WakesWriter};
 
     ghost taken = { λ owned. owned.end.taken };
 
@@ -209,11 +213,16 @@ impl AsyncRead for OwnedReader {
 
     ghost woken = { NotifiesWriter };
 
-    fn poll_read(
-        &mut self,
-        cx: &mut Context<'_>,
-        dest: &mut [u8],
-    ) -> Poll<Result<usize, PipeError>> {
+    fn poll_read(&mut self, cx: &mut Context<'_>, dest: &mut [u8]) -> Poll<Result<usize, PipeError>>
+        ensures drained { DrainsSlice result self.old self.new dest.old dest.new }
+        ensures end { DrainsEnd result self.old self.new }
+        ensures draws { DrawsToYield result self.old self.new }
+        ensures pending { OnPending result (DrainPends self.old self.new cx.new) }
+        ensures error { IfReadyErr result (WantsWaker cx.new) }
+        ensures woken { WakesWriter self.old self.new }
+        ensures context { Keeps cx.old cx.new }
+        ensures rest { SameReaderButMoved self.old self.new }
+    {
         self.reader.poll_read(cx, dest)
     }
 }
@@ -221,6 +230,8 @@ impl AsyncRead for OwnedReader {
 impl AsyncBufRead for OwnedReader {
     ghost use Rattle.piper_ring.specs.ReadView.{in_one_piece};
     ghost use Rattle.piper.specs.Handles.{NotifiesWriter, read_source};
+    ghost use Rattle.piper.specs.ReaderCalls.{AtEnd, LendsPiece, PollsPiece, SameReaderButConsumed};
+    ghost use Rattle.piper.specs.contracts.owned.OwnedReader.{the_row};
 
     ghost known = { λ owned. owned.end.known };
 
@@ -240,18 +251,33 @@ impl AsyncBufRead for OwnedReader {
 
     ghost woken = { NotifiesWriter };
 
-    fn poll_fill_buf(&mut self, cx: &mut Context<'_>) -> Poll<Result<&[u8], PipeError>> {
+    fn poll_fill_buf(&mut self, cx: &mut Context<'_>) -> Poll<Result<&[u8], PipeError>>
+        // said of the reader as it is once the slice is given back
+        ensures* lent { sem 𝓛 (Rests the_row self.entry
+            (λ new. PollsPiece result self.old new cx.new
+            × LendsPiece result self.old new cx.new)) }
+        ensures context { Keeps cx.old cx.new }
+    {
         self.reader.poll_fill_buf(cx)
     }
 
-    fn consume(&mut self, amt: usize) {
+    fn consume(&mut self, amt: usize)
+        requires { amt ≤ in_one_piece self.old.end }
+        ensures taken { self.new.end.taken ≡ self.old.end.taken ++ take amt self.old.end.known }
+        ensures known { self.new.end.known ≡ drop amt self.old.end.known }
+        ensures end { AtEnd self.old → AtEnd self.new }
+        ensures woken { NotifiesWriter self.new }
+        ensures rest { SameReaderButConsumed self.old self.new }
+    {
         AsyncBufRead::consume(&mut self.reader, amt);
     }
 }
 
 impl AsyncWrite for OwnedWriter {
     ghost use Rattle.piper.specs.Handles.{NotifiesReader, write_source};
-    ghost use Rattle.piper.specs.WriterCalls.{SameWriterButShut};
+    ghost use Rattle.piper.specs.Polls.{IfReadyErr};
+    ghost use Rattle.piper.specs.CopyAnswers.{inner_of};
+    ghost use Rattle.piper.specs.WriterCalls.{DrawsToYield, FillPends, FillsEnd, FillsSlice, SameWriterButMoved, SameWriterButShut, WakesReader};
 
     ghost sent = { λ owned. owned.end.sent };
 
@@ -263,11 +289,16 @@ impl AsyncWrite for OwnedWriter {
 
     ghost woken = { NotifiesReader };
 
-    fn poll_write(
-        &mut self,
-        cx: &mut Context<'_>,
-        source: &[u8],
-    ) -> Poll<Result<usize, PipeError>> {
+    fn poll_write(&mut self, cx: &mut Context<'_>, source: &[u8]) -> Poll<Result<usize, PipeError>>
+        ensures filled { FillsSlice result self.old self.new source.now }
+        ensures end { FillsEnd result self.old self.new }
+        ensures draws { DrawsToYield (inner_of result) self.old self.new }
+        ensures pending { OnPending result (FillPends self.old self.new cx.new) }
+        ensures error { IfReadyErr result (WantsWaker cx.new) }
+        ensures woken { WakesReader self.old self.new }
+        ensures context { Keeps cx.old cx.new }
+        ensures rest { SameWriterButMoved self.old self.new }
+    {
         self.writer.poll_write(cx, source)
     }
 

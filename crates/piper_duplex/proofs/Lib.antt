@@ -1,2 +1,1 @@
-mod Lending
 mod WritingBack

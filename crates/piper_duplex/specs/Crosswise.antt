@@ -32,12 +32,6 @@ pub record IsNewPipe (cap seed : ℕ) (reader : Reader) (writer : Writer) : Type
   pub fresh : AreFresh cap reader writer
   pub draws : DrawFrom seed reader writer
 
--- b is the end a, but for what its reader took, knows, saw and drew
-pub record OnlyReads (a b : End) : Type 0 where
-  pub writer : b.writer ≡ a.writer
-  pub end : SameReadEnd a.reader.end b.reader.end
-  pub slots : b.reader.slots ≡ a.reader.slots
-
 -- the handles of one pipe, once they were held by one thread: what was taken and what is known make
 -- up what was published, first in, first out, room and known bytes make up the capacity, and what
 -- else `Reader::meet` ensures
@@ -49,28 +43,3 @@ pub record HaveMet (r0 r1 : Reader) (w0 w1 : Writer) : Type 0 where
   pub reader_woken : MeetReader r0 r1 w0
   pub writer_woken : MeetWriter w0 w1 r0
   pub rest : MeetSame r0 r1 w0 w1
-
--- a poll of the end a lent the first piece of the known bytes, and left the end as b:
--- no byte was taken, an empty piece is the end, which is final, and a pending poll has armed
--- its task and was not told of the end; a poll that fails wants memory
-abbrev pub LendsPiece : Poll (Result (Bor (List ℕ)) PipeError)
-    → End → End → Context → Type 0
-LendsPiece r a b cx =
-    Lends r b.reader.end.known (in_one_piece b.reader.end) b.reader.end.saw
-    × IfReadyOk r (λ lent. length lent.now ≡ 0 → IsEnded b.reader.end)
-    × (IsEnded a.reader.end → After r (IsEnded b.reader.end) b.reader.end.known)
-    × StartsWith b.reader.end.known a.reader.end.known
-    × (b.reader.end.taken ≡ a.reader.end.taken)
-    × (a.reader.end.saw ≡ true → b.reader.end.saw ≡ true)
-    × IfReadyErr r (WantsWaker cx)
-    × (b.reader.end.told_shut ≡ a.reader.end.told_shut)
-    × OnPending r (b.reader.end.told_shut ≡ false)
-    × OnPending r (Covers cx (λ s. s ≡ read_source b.reader))
-    × WakesWriter a.reader b.reader
-
--- and else it polled as its reader does
-pub record PollsPiece (r : Poll (Result (Bor (List ℕ)) PipeError)) (a b : End) (cx : Context)
-    : Type 0 where
-  pub rest : OnlyReads a b
-  pub looked : ReaderLooked a.reader.end b.reader.end
-  pub pending : OnPending r (ReaderPends a.reader b.reader cx)

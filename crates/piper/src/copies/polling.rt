@@ -1,5 +1,8 @@
 //! The traits of readers and writers, for the handles.
-ghost use Rattle.std.specs.Prelude.{◌≡◌, Ok};
+ghost use Rattle.std.specs.Prelude.{◌≡◌, ◌≤◌, ◌++◌, take, drop, Ok};
+ghost use Rattle.std.specs.Borrow.{sem};
+ghost use Rattle.std.specs.Io.BufRead.{Rests};
+ghost use Rattle.futures.specs.Poll.{OnPending};
 ghost use Rattle.futures.specs.Task.{Keeps};
 ghost use Rattle.piper.specs.Contexts.{WantsWaker};
 ghost use Rattle.piper.specs.Ends.{IsEnded};
@@ -12,6 +15,8 @@ use piper_ring::OutOfMemory;
 
 impl AsyncRead for Reader {
     ghost use Rattle.piper.specs.Handles.{NotifiesWriter, read_source};
+    ghost use Rattle.piper.specs.Polls.{IfReadyErr};
+    ghost use Rattle.piper.specs.ReaderCalls.{DrainPends, DrainsEnd, DrainsSlice, DrawsToYield, SameReaderButMoved, WakesWriter};
 
     ghost taken = { λ r. r.end.taken };
 
@@ -27,11 +32,16 @@ impl AsyncRead for Reader {
 
     ghost woken = { NotifiesWriter };
 
-    fn poll_read(
-        &mut self,
-        cx: &mut Context<'_>,
-        dest: &mut [u8],
-    ) -> Poll<Result<usize, PipeError>> {
+    fn poll_read(&mut self, cx: &mut Context<'_>, dest: &mut [u8]) -> Poll<Result<usize, PipeError>>
+        ensures drained { DrainsSlice result self.old self.new dest.old dest.new }
+        ensures end { DrainsEnd result self.old self.new }
+        ensures draws { DrawsToYield result self.old self.new }
+        ensures pending { OnPending result (DrainPends self.old self.new cx.new) }
+        ensures error { IfReadyErr result (WantsWaker cx.new) }
+        ensures woken { WakesWriter self.old self.new }
+        ensures context { Keeps cx.old cx.new }
+        ensures rest { SameReaderButMoved self.old self.new }
+    {
         match self.poll_drain_bytes(cx, dest) {
             Poll::Pending => Poll::Pending,
             Poll::Ready(Ok(count)) => Poll::Ready(Ok(count)),
@@ -43,6 +53,8 @@ impl AsyncRead for Reader {
 impl AsyncBufRead for Reader {
     ghost use Rattle.piper_ring.specs.ReadView.{in_one_piece};
     ghost use Rattle.piper.specs.Handles.{NotifiesWriter, read_source};
+    ghost use Rattle.piper.specs.ReaderCalls.{AtEnd, LendsPiece, PollsPiece, SameReaderButConsumed};
+    ghost use Rattle.piper.specs.contracts.handles.Reader.{the_row};
 
     ghost known = { λ r. r.end.known };
 
@@ -62,7 +74,13 @@ impl AsyncBufRead for Reader {
 
     ghost woken = { NotifiesWriter };
 
-    fn poll_fill_buf(&mut self, cx: &mut Context<'_>) -> Poll<Result<&[u8], PipeError>> {
+    fn poll_fill_buf(&mut self, cx: &mut Context<'_>) -> Poll<Result<&[u8], PipeError>>
+        // said of the reader as it is once the slice is given back
+        ensures* lent { sem 𝓛 (Rests the_row self.entry
+            (λ new. PollsPiece result self.old new cx.new
+            × LendsPiece result self.old new cx.new)) }
+        ensures context { Keeps cx.old cx.new }
+    {
         match self.poll(cx) {
             Poll::Pending => Poll::Pending,
             Poll::Ready(Ok(_)) => Poll::Ready(Ok(self.peek_buf())),
@@ -72,14 +90,23 @@ impl AsyncBufRead for Reader {
 
     // A reader of lines consumes in several places, and is shorter where each of them is a call.
     #[inline(never)]
-    fn consume(&mut self, amt: usize) {
+    fn consume(&mut self, amt: usize)
+        requires { amt ≤ in_one_piece self.old.end }
+        ensures taken { self.new.end.taken ≡ self.old.end.taken ++ take amt self.old.end.known }
+        ensures known { self.new.end.known ≡ drop amt self.old.end.known }
+        ensures end { AtEnd self.old → AtEnd self.new }
+        ensures woken { NotifiesWriter self.new }
+        ensures rest { SameReaderButConsumed self.old self.new }
+    {
         Reader::consume(self, amt);
     }
 }
 
 impl AsyncWrite for Writer {
     ghost use Rattle.piper.specs.Handles.{NotifiesReader, write_source};
-    ghost use Rattle.piper.specs.WriterCalls.{SameWriterButShut};
+    ghost use Rattle.piper.specs.Polls.{IfReadyErr};
+    ghost use Rattle.piper.specs.CopyAnswers.{inner_of};
+    ghost use Rattle.piper.specs.WriterCalls.{DrawsToYield, FillPends, FillsEnd, FillsSlice, SameWriterButMoved, SameWriterButShut, WakesReader};
 
     ghost sent = { λ w. w.end.sent };
 
@@ -91,11 +118,16 @@ impl AsyncWrite for Writer {
 
     ghost woken = { NotifiesReader };
 
-    fn poll_write(
-        &mut self,
-        cx: &mut Context<'_>,
-        source: &[u8],
-    ) -> Poll<Result<usize, PipeError>> {
+    fn poll_write(&mut self, cx: &mut Context<'_>, source: &[u8]) -> Poll<Result<usize, PipeError>>
+        ensures filled { FillsSlice result self.old self.new source.now }
+        ensures end { FillsEnd result self.old self.new }
+        ensures draws { DrawsToYield (inner_of result) self.old self.new }
+        ensures pending { OnPending result (FillPends self.old self.new cx.new) }
+        ensures error { IfReadyErr result (WantsWaker cx.new) }
+        ensures woken { WakesReader self.old self.new }
+        ensures context { Keeps cx.old cx.new }
+        ensures rest { SameWriterButMoved self.old self.new }
+    {
         match self.poll_fill_bytes(cx, source) {
             Poll::Pending => Poll::Pending,
             Poll::Ready(Ok(count)) => Poll::Ready(Ok(count)),

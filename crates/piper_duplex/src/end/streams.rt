@@ -11,9 +11,9 @@ ghost use Rattle.piper.specs.OfReader.{front, known, taken, told_shut};
 ghost use Rattle.piper.specs.OfReader as of_reader;
 ghost use Rattle.piper.specs.OfWriter as of_writer;
 ghost use Rattle.piper.specs.Polls.{IfReadyErr};
-ghost use Rattle.piper.specs.ReaderCalls.{AtEnd, DrainPends, DrainsEnd, DrainsSlice, SameReaderButConsumed, SameReaderButMoved, WakesWriter};
+ghost use Rattle.piper.specs.ReaderCalls.{AtEnd, DrainPends, DrainsEnd, DrainsSlice, LendsPiece, PollsPiece, SameReaderButConsumed, SameReaderButMoved, WakesWriter};
 ghost use Rattle.piper.specs.WriterCalls.{FillPends, FillsEnd, FillsSlice, SameWriterButMoved, SameWriterButShut, WakesReader};
-ghost use Rattle.piper_duplex.specs.Crosswise.{LendsPiece, PollsPiece, reading, writing};
+ghost use Rattle.piper_duplex.specs.Crosswise.{reading, writing};
 
 use super::End;
 use futures::task::{Context, Poll};
@@ -79,8 +79,9 @@ impl AsyncBufRead for End {
     fn poll_fill_buf(&mut self, cx: &mut Context<'_>) -> Poll<Result<&[u8], PipeError>>
         // said of the end as it is once the slice is given back
         ensures* lent { sem 𝓛 (Rests the_row self.entry
-            (λ new. PollsPiece result self.old new cx.new
-            × LendsPiece result self.old new cx.new)) }
+            (λ new. (writing new ≡ writing self.old)
+            × PollsPiece result (reading self.old) (reading new) cx.new
+            × LendsPiece result (reading self.old) (reading new) cx.new)) }
         ensures kept { Keeps cx.old cx.new }
     {
         match self.reader.poll(cx) {
