@@ -140,6 +140,9 @@ pub trait AsyncWrite {
     // the other side was woken after all that this side stored
     ghost woken: { Self → Type 0 } = { λ _. ⊤ };
 
+    // all that was written is on its way: a flush, or a close, left the writer so
+    ghost flushed: { Self → Type 0 } = { λ _. ⊤ };
+
     /// Publishes bytes from the front of `source`, and returns how many; 0 where there are some
     /// says that the pipe is closed, and so does each later answer. Bytes that were counted in the
     /// call that sees the pipe closed may be lost.
@@ -156,6 +159,7 @@ pub trait AsyncWrite {
 
     /// Waits until what was written is on its way.
     fn poll_flush(&mut self, cx: &mut Context<'_>) -> Poll<Result<(), PipeError>>
+        ensures flushed { OnReadyOk result (flushed self.new) }
         ensures error { IfReadyErr result (fails self.new cx.new) }
         ensures sent { sent self.new ≡ sent self.old }
         ensures saw { saw self.new ≡ saw self.old }
@@ -163,9 +167,10 @@ pub trait AsyncWrite {
         ensures woken { woken self.old → woken self.new }
         ensures kept { Keeps cx.old cx.new };
 
-    /// Closes the pipe for good.
+    /// Closes the pipe for good, with what was written on its way.
     fn poll_close(&mut self, cx: &mut Context<'_>) -> Poll<Result<(), PipeError>>
         ensures closed { OnReadyOk result (saw self.new ≡ true) }
+        ensures flushed { OnReadyOk result (flushed self.new) }
         ensures error { IfReadyErr result (fails self.new cx.new) }
         ensures sent { sent self.new ≡ sent self.old }
         ensures stays { saw self.old ≡ true → saw self.new ≡ true }

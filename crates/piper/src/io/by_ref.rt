@@ -66,6 +66,8 @@ impl<W: AsyncWrite> AsyncWrite for &mut W {
 
     ghost woken = { λ w. W.woken w.now };
 
+    ghost flushed = { λ w. W.flushed w.now };
+
     fn poll_write(
         &mut self,
         cx: &mut Context<'_>,

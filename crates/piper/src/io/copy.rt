@@ -36,7 +36,9 @@ pub fn poll_copy<R: AsyncBufRead, W: AsyncWrite>(
     ensures over { W.saw writer.old ≡ true →
         (R.taken reader.new ≡ R.taken reader.old) × (W.sent writer.new ≡ W.sent writer.old) }
     ensures stays { (W.saw writer.old ≡ true → W.saw writer.new ≡ true)
-        × (R.told reader.new ≡ R.told reader.old) }
+        × (R.told reader.new ≡ R.told reader.old)
+        × (R.woken reader.old → R.woken reader.new)
+        × (W.woken writer.old → W.woken writer.new) }
     ensures ended { result ≡ Poll.Ready (Ok Copied.ToTheEnd) →
         (R.known reader.new ≡ []) × (R.saw reader.new ≡ true) × R.ended reader.new }
     ensures closed { result ≡ Poll.Ready (Ok Copied.UntilClosed) → W.saw writer.new ≡ true }

@@ -9,6 +9,8 @@ loop-init g c = record {
   over = λ _. (refl, refl);
   stays = λ seen. seen;
   told = refl;
+  reader_woken = λ woken. woken;
+  writer_woken = λ woken. woken;
   kept = λ fact held. held;
 }
 
@@ -26,5 +28,7 @@ loop-preserved g c =
       over = λ seen. absurd (unseen (c.loop.invariant.stays seen));
       stays = λ seen. absurd (unseen (c.loop.invariant.stays seen));
       told = search rules;
+      reader_woken = search rules;
+      writer_woken = search rules;
       kept = search rules;
     }

@@ -10,5 +10,7 @@ invariant-loop g l = record {
   over : g.W.AsyncWrite.saw l.initial.writer ≡ true → (g.R.AsyncBufRead.taken l.reader ≡ g.R.AsyncBufRead.taken l.initial.reader) × (g.W.AsyncWrite.sent l.writer ≡ g.W.AsyncWrite.sent l.initial.writer);
   stays : g.W.AsyncWrite.saw l.initial.writer ≡ true → g.W.AsyncWrite.saw l.writer ≡ true;
   told : g.R.AsyncBufRead.told l.reader ≡ g.R.AsyncBufRead.told l.initial.reader;
+  reader_woken : g.R.AsyncBufRead.woken l.initial.reader → g.R.AsyncBufRead.woken l.reader;
+  writer_woken : g.W.AsyncWrite.woken l.initial.writer → g.W.AsyncWrite.woken l.writer;
   kept : Keeps l.initial.cx l.cx;
 }
