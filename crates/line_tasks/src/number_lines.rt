@@ -2,7 +2,7 @@
 use futures::executor::block_on;
 use futures::{StreamExt, TryStreamExt, future};
 use piper::io::AsyncBufRead;
-use piper_streams::LineStream;
+use piper_streams::LinesExt;
 use std::alloc::AllocGlobal;
 use std::io;
 use std::random::RandomSource;
@@ -29,7 +29,8 @@ where
     R: AsyncBufRead + Drop,
     W: io::Write,
 {
-    let printing = LineStream::new(rt.alloc(), reader, MOST_OF_A_LINE)
+    let printing = reader
+        .lines(rt.alloc(), MOST_OF_A_LINE)
         .enumerate()
         .map(|(index, line)| print(output, index.wrapping_add(1), &line?))
         .try_for_each(|()| future::ok(()));

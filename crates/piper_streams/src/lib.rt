@@ -2,10 +2,12 @@
 //! sent.
 #![tactic(auto)]
 
+mod ext;
 mod frame_stream;
 mod line_stream;
 mod write_sink;
 
+pub use ext::LinesExt;
 pub use frame_stream::FrameStream;
 pub use line_stream::LineStream;
 pub use write_sink::{FrameSink, LineSink, WriteSink};
