@@ -126,6 +126,31 @@ try 'a part of a file' 20 0 '; 100%$' '(head -c 4000000 > /dev/null; $pump --pro
 try 'progress at its longest' 20 0 '; 0%, 2[0-9] h left' '(lines 2000000; sleep 1) | $pump --progress --capacity 1m --size 99000000000 --rate 1m > /dev/null'
 note 'no line has more than 79 columns' awk 'length($0) > 79 { exit 1 }' told
 
+# Each block that a program asks the heap for is given back, and where any one is refused all others are: of pipes whose sides
+# are dropped in each order, and of those that a client makes, also across threads.
+if cc -O2 -shared -fPIC -o blocks.so "$here/blocks.c" -ldl; then
+    gives_all_back() { # COMMAND [NUMBER OF A BLOCK]
+        : > blocks
+        BLOCKS=blocks REFUSE=${2:-0} timeout 20 env LD_PRELOAD=./blocks.so $1 < script > out 2> told
+        awk 'NF == 2 && $1 == $2 { all = 1 } END { exit !all }' blocks
+    }
+    try_blocks() { # NAME COMMAND
+        note "all blocks are given back: $1" gives_all_back "$2"
+        local most block kept=
+        most=$(cut -d ' ' -f 1 blocks)
+        for ((block = 1; block <= most; block++)); do
+            gives_all_back "$2" "$block" || kept="$kept $block"
+        done
+        note "all others, where one of $most is refused: $1$kept" test "$most" -gt 0 -a -z "$kept"
+    }
+    for order in 'drop r/drop w' 'drop w/drop r' 'drop r' 'drop w' 'fill 1..8/drop r/drop w' 'poll r 1/drop w/drop r' \
+        'fill 1..9/poll w 1/drop r/drop w' 'close/drop w/drop r' 'len r'; do
+        printf 'pipe 8\n%s\n' "$order" | tr / '\n' > script
+        try_blocks "$order" './piper_compare handles'
+    done
+    try_blocks 'a client' ./proved_order
+fi
+
 # The help, the version and an unknown word of each program.
 for program in $programs; do
     try_silent "the help of $program" 10 0 "./$program --help"
