@@ -4,6 +4,8 @@
 #![tactic(auto)]
 
 #[cfg(test)]
+mod asleep;
+#[cfg(test)]
 mod carries;
 #[cfg(test)]
 mod compare;
