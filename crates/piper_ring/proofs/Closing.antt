@@ -1,23 +1,8 @@
 -- The loads of closed, and the store by which the writer closes the ring for good. Assumes `Logic`.
-use Rattle.std.proofs.Common.{◌≡◌, ℕ, ◌+◌, ◌≤◌, Bool, true, false, List, [], ◌∷◌, refl, sym, ap, arith}
-use seplogic.Ra.Ura.{Ura}
-use base.Fraction.{full_share}
-use base.Growing.{Order, numbers, latest, prefix_refl}
-use base.Logic.{SProp, ent, sep, upd, guard, ex, upd_i}
-use base.Fml.{Share, Fml, GName, ftrue, fsep, finv}
-use types.Logic.{Logic, sem}
-use types.Growing.{latest_grows, latest_shows, latest_bounds}
-use types.Kit.{‵, raw, ◌⊛◌, some, given, ◌$◌, ◌∵◌, !, qed, by, move, keep, split, split3, fsplit, fsplit3, fjoin, fjoin3, fpack, pick, learn, check, show, frame, assume, settle, suffices, use1, use2, use3, done}
-use types.Kit.{drop as forget}
-use denote.RawPtr.{Ptr, block_ptr, block_of, count_of}
-use denote.Steps.{nothing}
-use Rattle.core.specs.Sync.RawAtomic.{asks, always}
-use Rattle.rtrb.proofs.Asks.{Lies}
+use Rattle.piper_ring.proofs.Kit.{◌≡◌, ℕ, ◌+◌, ◌≤◌, Bool, true, false, List, [], ◌∷◌, refl, sym, ap, arith, Ura, full_share, Order, numbers, latest, prefix_refl, SProp, ent, sep, upd, guard, ex, upd_i, Share, Fml, ftrue, fsep, Logic, sem, latest_grows, latest_shows, latest_bounds, ‵, raw, ◌⊛◌, some, given, ◌$◌, ◌∵◌, !, qed, by, move, keep, split, split3, fsplit, fsplit3, fjoin, fjoin3, fpack, pick, learn, check, show, frame, assume, settle, suffices, use1, use2, use3, done, drop as forget, Ptr, block_ptr, block_of, count_of, nothing, asks, always, Lies, Stream, Reaches, streams, reaches_same, announced, raised, Names, State, Holds, half, other, flag, word, writer_knows, reader_knows, ends, Inner, common}
 use Rattle.piper_ring.specs.Places.{fact}
 use Rattle.piper_ring.proofs.Steps.{flag_small, Rest, OneStays, ReaderSees, WriterSees, reader_opens, writer_opens, closes, inside, raise}
-use Rattle.piper_ring.specs.Streams.{Stream, Reaches, streams, reaches_same}
 use Rattle.piper_ring.proofs.Reaching.{flag_reaches, open_before}
-use Rattle.piper_ring.specs.Shared.{announced, raised, Names, State, Holds, half, other, flag, word, writer_knows, reader_knows, ends, Inner, common}
 
 module _ {M : Type 1} {𝓤 : Ura M} (𝓛 : Logic 𝓤) (w p : Ptr) (z : Names) where
   open 𝓛 use {H, A}

@@ -1,16 +1,10 @@
 -- The seats may cross threads and be shared by them. Assumes nothing.
-use Rattle.std.proofs.Common.{ℕ, Bool, true, false, List, ◌+◌, ◌-◌, length, drop}
-use base.Fml.{Share, Fml}
+use Rattle.piper_ring.proofs.Kit.{ℕ, Bool, true, false, List, ◌+◌, ◌-◌, length, Share, Fml, latest, at_least, Ptr, u8, IsSend, Common, sendable, array_of, words_type, slots, deeds, Names, State, flag, gone, where_gone, until_both, writer_knows, reader_knows, arrived_first, ends, blanks, memory, Inner, common, reader_owns, reader_lends, writer_owns, writer_lends, held_at}
+use Rattle.std.proofs.Common.{drop}
 use base.Shift.{Keyless}
-use base.Growing.{latest, at_least}
-use denote.RawPtr.{Ptr}
-use denote.Builtin.{u8}
-use denote.Param.Send.{IsSend, Common, sendable}
-use Rattle.core.specs.Allocator.{array_of}
 use Rattle.std.proofs.Crossing.{frees}
-use Rattle.piper_ring.specs.Shared.{words_type, slots, deeds, Names, State, flag, gone, where_gone, until_both, writer_knows, reader_knows, arrived_first, ends, spare, blanks, memory, Inner, common, reader_owns, reader_lends, writer_owns, writer_lends}
+use Rattle.piper_ring.specs.Shared.{spare}
 use Rattle.piper_ring.proofs.Evidence.{announced-Keyless, took-Keyless, raised-Keyless}
-use Rattle.piper_ring.specs.Slots.{held_at}
 use Rattle.token_cell.proofs.Crosses.{right-Keyless}
 use Rattle.piper_ring.proofs.PlacesLaws.{run-Keyless, span-Keyless}
 

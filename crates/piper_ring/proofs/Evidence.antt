@@ -1,18 +1,10 @@
 -- What a mark reports can be had twice, and two marks give one that says what either says. Assumes
 -- `Logic`.
-use Rattle.std.proofs.Common.{◌≡◌, ℕ, ◌<◌, ◌≤◌, ◌⊎◌, inl, inr, Bool, true, false, List, [], ◌∷◌, max, leb, arith}
+use Rattle.piper_ring.proofs.Kit.{◌≡◌, ℕ, ◌<◌, ◌≤◌, ◌⊎◌, inl, inr, Bool, true, false, List, [], ◌∷◌, max, leb, arith, Ura, numbers, at_least, SProp, ent, sep, ex, guard, emp, emp∗, Fml, Logic, sem, ‵, ◌⊛◌, some, given, ◌$◌, ◌∵◌, !, qed, by, move, split, pick, learn, check, show, use1, use2, done, drop as forget, Names, took, raised, announced, Stream, Reaches, streams, reaches_same}
 use Rattle.std.proofs.lemmas.Bool.Decides.{leb_tells}
-use seplogic.Ra.Ura.{Ura}
-use base.Growing.{Least, numbers, at_least}
+use base.Growing.{Least}
 use base.Shift.{Keyless}
-use base.Logic.{SProp, ent, sep, ex, guard, emp, emp∗}
-use base.Fml.{Fml}
-use types.Logic.{Logic, sem}
 use types.Growing.{at_least_dup, at_least_join}
-use types.Kit.{‵, ◌⊛◌, some, given, ◌$◌, ◌∵◌, !, qed, by, move, split, pick, learn, check, show, use1, use2, done}
-use types.Kit.{drop as forget}
-use Rattle.piper_ring.specs.Shared.{Names, took, raised, announced}
-use Rattle.piper_ring.specs.Streams.{Stream, Reaches, streams, reaches_same}
 use Rattle.piper_ring.proofs.Reaching.{in_line, prefix_length, flag_reaches, Joined}
 
 module _ {M : Type 1} {𝓤 : Ura M} (𝓛 : Logic 𝓤) (z : Names) where

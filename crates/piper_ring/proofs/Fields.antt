@@ -1,20 +1,12 @@
 -- What the machine keeps of the ring's own types: a seat is its pointer to the words, and the
 -- owners of places and the marks take no space. Assumes `Logic`.
-use Rattle.std.proofs.Common.{◌≡◌, List, [], ◌∷◌, ◌++◌, refl, ap, ◌∙◌}
-use seplogic.Ra.Ura.{Ura}
-use mir.Val.{Val, vstruct, vcons, vnil, of_list}
-use base.Logic.{ent, sep, emp}
-use types.Kit.{‵, ◌$◌, ◌∵◌, !, qed, move, fjoin, fpack, feq_i, done}
-use denote.Steps.{nothing}
+use Rattle.piper_ring.proofs.Kit.{◌≡◌, List, [], ◌∷◌, ◌++◌, refl, ap, ◌∙◌, Ura, Val, vstruct, vnil, of_list, ent, sep, emp, ‵, ◌$◌, ◌∵◌, !, qed, move, fjoin, fpack, feq_i, done, nothing, Logic, sem, RattleType, Is, Ptr, ptr_val, Struct, shape}
+use mir.Val.{vcons}
 use denote.Struct.Declared as Declared
 use denote.Struct.Tuple.{Tuple, tuple_type}
-use types.Logic.{Logic, sem}
-use denote.RattleType.{RattleType, Valss}
-use denote.Laws.{Is}
-use denote.RawPtr.{Ptr, ptr_val}
+use denote.RattleType.{Valss}
 use denote.Shadow.{makes_shadow}
-use denote.Struct.Struct.{Struct, within}
-use denote.Struct.Owning.{shape}
+use denote.Struct.Struct.{within}
 use Rattle.piper_ring.specs.contracts.ring.memory.Memory as Memory
 use Rattle.piper_ring.specs.contracts.ring.seats.ReadSeat as ReadSeat
 use Rattle.piper_ring.specs.contracts.ring.seats.WriteSeat as WriteSeat
@@ -81,9 +73,6 @@ places_told vs is = is.1.0 ∙ ap (λ (ws : List Val). vstruct (of_list (ws ++ [
 
 pub blank_told : (vs : List Val) → Is BlankData (record {}, tt) vs → vs ≡ ghost_val ∷ []
 blank_told vs is = is.1.0 ∙ ap (λ (ws : List Val). vstruct (of_list (ws ++ [])) ∷ []) is.1.1.0.1.0
-
-pub saw_told : (vs : List Val) → Is SawData (record {}, tt) vs → vs ≡ ghost_val ∷ []
-saw_told vs is = is.1.0 ∙ ap (λ (ws : List Val). vstruct (of_list (ws ++ [])) ∷ []) is.1.1.0.1.0
 
 module _ {M : Type 1} {𝓤 : Ura M} (𝓛 : Logic 𝓤) where
   pub read_made : (w : Ptr) → ent 𝓤 (emp 𝓤) (sem 𝓛 (ReadData.own_val (w, tt) (seat_val w ∷ [])))

@@ -1,27 +1,7 @@
 -- A store of the head gives the places of consumed bytes back. Assumes `Logic`.
-use Rattle.std.proofs.Common.{◌≡◌, ℕ, suc, ◌+◌, ◌-◌, ◌≤◌, Bool, List, [], ◌∷◌, ◌++◌, length, sym, refl, ap, ◌∙◌, length-append, arith}
-use seplogic.Ra.Ura.{Ura}
-use base.Fraction.{full_share}
-use base.Growing.{numbers, latest}
-use base.Logic.{SProp, ent, sep, upd, ex, upd_i}
-use base.Fml.{Share, Fml, ftrue, fsep}
-use types.Logic.{Logic, sem}
-use types.Kit.{‵, raw, ◌⊛◌, some, given, ◌$◌, ◌∵◌, !, qed, move, split, split3, fsplit, fsplit3, fjoin, fjoin3, fpick, fpack, pick, learn, show, frame, assume, settle, suffices, rewrite, use2, use3, done}
-use types.Kit.{drop as forget}
-use denote.RawPtr.{Ptr, block_ptr, block_of, count_of}
-use denote.Steps.{nothing}
-use Rattle.core.specs.Sync.RawAtomic.{asks, always}
-use Rattle.rtrb.specs.Fifo.{position_of}
-use Rattle.rtrb.specs.Shared.{run}
-use Rattle.rtrb.proofs.Asks.{Lies}
-use Rattle.rtrb.proofs.Spans.{run_join}
-use Rattle.piper_ring.specs.Places.{byte}
+use Rattle.piper_ring.proofs.Kit.{◌≡◌, ℕ, suc, ◌+◌, ◌-◌, ◌≤◌, Bool, List, [], ◌∷◌, ◌++◌, length, sym, refl, ap, ◌∙◌, length-append, arith, Ura, full_share, numbers, latest, SProp, ent, sep, upd, ex, upd_i, Share, Fml, ftrue, fsep, Logic, sem, ‵, raw, ◌⊛◌, some, given, ◌$◌, ◌∵◌, !, qed, move, split, split3, fsplit, fsplit3, fjoin, fjoin3, fpick, fpack, pick, learn, show, frame, assume, settle, suffices, rewrite, use2, use3, done, drop as forget, Ptr, block_ptr, block_of, count_of, nothing, asks, always, position_of, run, Lies, run_join, byte, u8, part_at, slot_of as offset_of, idle, Names, State, Holds, half, other, gone, where_gone, word, blanks, writer_knows, reader_knows, Inner, common}
 use Rattle.piper_ring.proofs.Steps.{not_gone, Rest, OneStays, ReaderSees, reader_opens, closes, inside, raise}
-use denote.Builtin.{u8}
-use denote.Memory.{part_at}
-use Rattle.rtrb.specs.Fifo.{slot_of as offset_of}
 use Rattle.rtrb.proofs.Positions.{slot_turn}
-use Rattle.piper_ring.specs.Shared.{idle, Names, State, Holds, half, other, gone, where_gone, word, blanks, writer_knows, reader_knows, Inner, common}
 
 -- one turn on lie the same places
 pub run_turn : (p : Ptr) (cap : ℕ) (xs : List ℕ) (k j : ℕ) → k + cap ≡ j → run (byte p cap) k xs ≡ run (byte p cap) j xs

@@ -1,34 +1,22 @@
 -- The two calls of the heap, as a walk meets them: what a call is handed, and what its caller has
 -- afterwards. Assumes `Logic`.
-use Rattle.std.proofs.Common.{◌≡◌, ℕ, List, [], ◌∷◌, ◌++◌, refl, ap, ◌∙◌, w64}
-use seplogic.Ra.Ura.{Ura}
-use mir.Syntax.{Ty}
-use mir.Val.{Val, vint, vptr, vunit, vstruct, vnil, of_list}
-use base.Logic.{SProp, ent, sep, emp, guard, ex, id⊢, fst∗, never}
-use base.Fml.{Lft, Share, Fml, ftrue, fsep, flft}
+use Rattle.piper_ring.proofs.Kit.{◌≡◌, ℕ, List, [], ◌∷◌, ◌++◌, refl, ap, ◌∙◌, w64, Ura, Ty, Val, vint, vptr, vunit, vstruct, vnil, of_list, SProp, ent, sep, emp, guard, ex, id⊢, fst∗, never, Lft, Share, Fml, ftrue, fsep, flft, Logic, sem, ‵, raw, ◌⊛◌, some, later, ◌$◌, ◌∵◌, !, qed, move, keep, drop, split, join, fsplit, fjoin, feq_i, pick, show, check, use0, use1, updating, await, now, done, fact, fact_i, RattleType, Is, shows, usize, RefOf, shr_vals, plain, Ptr, ptr_val, block_ptr, null_ptr, in_a_block, nothing, peeks, owned_block, block_if_ok, heap_token}
 use prog.Model.{Model}
-use types.Logic.{Logic, sem}
-use types.Kit.{Goal, Item, Seq, ‵, raw, ◌⊛◌, some, later, ◌$◌, ◌∵◌, !, qed, move, keep, drop, split, join, fsplit, fjoin, feq_l, feq_i, pick, show, check, use0, use1, updating, await, now, done}
-use contract.Monad.{fact, fact_i}
+use types.Kit.{Goal, Item, Seq, feq_l}
 use contract.Running.{Running}
-use denote.RattleType.{RattleType}
-use denote.Laws.{Is, shows}
 use types.Match.{live}
 use Rattle.core.specs.declared.alloc.AllocError.{AllocError}
 use Rattle.core.specs.declared.result.Result.TheVariants.{Ok, Err}
-use denote.Builtin.{unit, usize, RefOf}
-use denote.Ref.{shr_vals}
-use denote.Signature.{plain, type_at}
-use denote.RawPtr.{Ptr, ptr_val, block_ptr, null_ptr, in_a_block}
-use denote.Steps.{nothing, only, peeks}
+use denote.Builtin.{unit}
+use denote.Signature.{type_at}
+use denote.Steps.{only}
 use denote.Triple.Statement.{Contract}
 use denote.Triple.Spec.{triple_of}
-use Rattle.core.specs.Allocator.{HasLayout, owned_block, block_if_ok}
+use Rattle.core.specs.Allocator.{HasLayout}
 use Rattle.core.proofs.alloc.Calls.{Answer}
 use Rattle.std_heap.specs.contracts.Global as Heap
 use Rattle.std_heap.specs.contracts.GlobalAllocator.allocate as Allocate
 use Rattle.std_heap.specs.contracts.GlobalAllocator.deallocate as Deallocate
-use Rattle.piper_ring.specs.Shared.{heap_token}
 
 -- a `&Global`
 abbrev pub Handle : Lft → RattleType

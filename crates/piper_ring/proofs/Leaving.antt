@@ -1,34 +1,13 @@
 -- An end leaves: it closes the ring, and then gives up its places; the second one to leave gets all
 -- of the memory. Assumes `Logic`.
-use Rattle.std.proofs.Common.{◌≡◌, ℕ, zero, suc, ◌+◌, ◌-◌, ◌*◌, ◌≤◌, Bool, true, false, List, [], ◌∷◌, length, drop, sym, refl, ap, ◌∙◌, subst, arith}
-use seplogic.Ra.Ura.{Ura}
-use base.Growing.{numbers, latest}
-use base.Logic.{SProp, ent, sep, upd, ex, via, upd_i}
-use base.Fml.{Share, Fml, ftrue, fsep}
-use types.Logic.{Logic, sem}
-use types.Growing.{latest_grows, latest_shows}
-use types.Kit.{‵, raw, ◌⊛◌, some, given, ◌$◌, ◌∵◌, !, qed, by, move, keep, split, split3, fsplit, fsplit3, fjoin, fjoin3, fpick, fpack, pick, learn, show, frame, assume, settle, suffices, rewrite, use1, use2, use3, done}
-use types.Kit.{drop as forget}
-use denote.RawPtr.{Ptr, block_ptr, block_of, count_of}
-use denote.Steps.{nothing}
-use Rattle.core.specs.Sync.RawAtomic.{asks, always}
-use Rattle.rtrb.proofs.Asks.{Lies}
-use Rattle.std.proofs.lemmas.List.{length-drop}
-use Rattle.rtrb.proofs.Spans.{span_join, span_map, ring_in}
-use Rattle.rtrb.specs.Shared.{span}
+use Rattle.piper_ring.proofs.Kit.{◌≡◌, ℕ, zero, suc, ◌+◌, ◌-◌, ◌*◌, ◌≤◌, Bool, true, false, List, [], ◌∷◌, length, sym, refl, ap, ◌∙◌, subst, arith, Ura, numbers, latest, SProp, ent, sep, upd, ex, via, upd_i, Share, Fml, ftrue, fsep, Logic, sem, latest_grows, latest_shows, ‵, raw, ◌⊛◌, some, given, ◌$◌, ◌∵◌, !, qed, by, move, keep, split, split3, fsplit, fsplit3, fjoin, fjoin3, fpick, fpack, pick, learn, show, frame, assume, settle, suffices, rewrite, use1, use2, use3, done, drop as forget, Ptr, block_ptr, block_of, count_of, nothing, asks, always, Lies, length-drop, span_join, span_map, span, array_of, Ty, w64, ty_int, lone, apply∗, id⊢, froom, fex, unset, full_share, u8, slot_of as offset_of, Names, State, Holds, half, other, flag, gone, until_both, where_gone, word, word_room, words_type, slot_rooms, all_rooms, slots, blanks, memory, writer_knows, reader_knows, ends, raised, state_holds, Inner, common}
+use Rattle.std.proofs.Common.{drop}
+use Rattle.rtrb.proofs.Spans.{ring_in}
 use Rattle.piper_ring.proofs.PlacesParts.{forgets}
-use Rattle.core.specs.Allocator.{array_of}
-use mir.Syntax.{Ty, w64, ty_int}
 use mir.Raw.{raw as bare}
-use denote.Memory.{lone}
-use base.Logic.{apply∗, id⊢}
-use base.Fml.{froom, fex}
-use Rattle.piper_ring.specs.Places.{fact, unset}
-use base.Fraction.{full_share}
+use Rattle.piper_ring.specs.Places.{fact}
 use Rattle.piper_ring.proofs.Steps.{flag_small, Rest, OneStays, ReaderSees, WriterSees, reader_opens, writer_opens, closes, inside, raise}
-use denote.Builtin.{u8}
-use Rattle.rtrb.specs.Fifo.{slot_of as offset_of}
-use Rattle.piper_ring.specs.Shared.{one_gone, Names, State, Holds, half, other, flag, gone, until_both, where_gone, word, word_room, words_type, slot_rooms, all_rooms, slots, blanks, memory, whole, writer_knows, reader_knows, ends, raised, state_holds, Inner, common}
+use Rattle.piper_ring.specs.Shared.{one_gone, whole}
 
 pub here : (i : ℕ) → i ≤ 1 → gone i ≡ false
 here zero le = refl

@@ -1,3 +1,4 @@
+pub mod Kit
 pub mod Fields
 pub mod PlacesLaws
 pub mod PlacesParts

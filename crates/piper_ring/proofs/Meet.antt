@@ -1,23 +1,10 @@
 -- Both ends held by one thread open the invariant with no step of the program: the reader gets all
 -- that was published, the writer all that is free, and a ring that was seen closed is shut. Assumes
 -- `Logic`.
-use Rattle.std.proofs.Common.{◌≡◌, ℕ, ◌+◌, ◌-◌, ◌≤◌, Bool, false, List, [], ◌∷◌, ◌++◌, length, drop, sym, refl, ap, subst, ◌∙◌, arith}
+use Rattle.piper_ring.proofs.Kit.{◌≡◌, ℕ, ◌+◌, ◌-◌, ◌≤◌, Bool, false, List, [], ◌∷◌, ◌++◌, length, sym, refl, ap, subst, ◌∙◌, arith, Order, numbers, latest, prefix_refl, latest_bounds, latest_shows, run, byte, Ura, SProp, ent, sep, ex, guard, upd, upd_i, Fml, ftrue, fsep, Logic, sem, keep, ‵, raw, ◌⊛◌, some, given, ◌$◌, ◌∵◌, !, qed, move, split, split3, fsplit, fsplit3, fjoin, fjoin3, fpick, fpack, pick, learn, check, show, frame, assume, settle, suffices, rewrite, use1, use2, use3, done, nothing, drop as forget, Ptr, Names, State, Holds, half, other, idle, flag, gone, where_gone, blanks, deeds, raised, announced, began, writer_knows, reader_knows, ends, Inner, common, Stream, Reaches, streams, open_reaches}
+use Rattle.std.proofs.Common.{drop}
 use Rattle.std.proofs.Math.Seq.{drop-length}
-use base.Growing.{Order, numbers, latest, prefix_refl}
-use types.Growing.{latest_bounds, latest_shows}
-use Rattle.rtrb.specs.Shared.{run}
-use Rattle.piper_ring.specs.Places.{byte}
 use Rattle.piper_ring.proofs.Refresh.{pending_is}
-use seplogic.Ra.Ura.{Ura}
-use base.Logic.{SProp, ent, sep, ex, guard, upd, upd_i}
-use base.Fml.{Fml, ftrue, fsep}
-use types.Logic.{Logic, sem}
-use types.Kit.{keep, ‵, raw, ◌⊛◌, some, given, ◌$◌, ◌∵◌, !, qed, move, split, split3, fsplit, fsplit3, fjoin, fjoin3, fpick, fpack, pick, learn, check, show, frame, assume, settle, suffices, rewrite, use1, use2, use3, done}
-use denote.Steps.{nothing}
-use types.Kit.{drop as forget}
-use denote.RawPtr.{Ptr}
-use Rattle.piper_ring.specs.Shared.{Names, State, Holds, half, other, idle, flag, gone, where_gone, blanks, deeds, raised, announced, began, writer_knows, reader_knows, ends, Inner, common}
-use Rattle.piper_ring.specs.Streams.{Stream, Reaches, streams, open_reaches}
 use Rattle.piper_ring.proofs.Closing.{ends_show}
 use Rattle.piper_ring.proofs.Steps.{flag_small, not_gone, Rest, OneStays, WriterSees, writer_opens, reader_agrees, closes, raise}
 

@@ -1,36 +1,17 @@
 -- A ring is opened: the words are cut out of their block, the bytes are places, and the invariant
 -- is made. Assumes `Logic`.
-use Rattle.std.proofs.Common.{◌≡◌, ℕ, zero, suc, ◌+◌, ◌-◌, ◌*◌, ◌<◌, ◌^◌, true, false, List, [], ◌∷◌, length, sym, refl, ap, ◌∙◌, subst, arith}
-use seplogic.Ra.Ura.{Ura}
-use base.Fraction.{full_share}
-use base.Growing.{Order, numbers, latest, at_least}
-use base.Logic.{SProp, ent, sep, emp, ex, via, id⊢, apply∗}
-use base.Fml.{Fml, ftrue, fsep, finv, fobs}
-use types.Logic.{Logic, sem}
-use types.Growing.{latest_new, latest_shows}
-use types.Kit.{assume, ‵, ◌⊛◌, some, later, ◌$◌, ◌∵◌, !, qed, by, move, split, split3, fsplit, fsplit3, fjoin, fjoin3, fpack, pick, show, frame, rewrite, check, use0, use1, use2, use3, updating, await, now, done}
-use denote.RawPtr.{Ptr, InBlock}
-use denote.Steps.{nothing}
+use Rattle.piper_ring.proofs.Kit.{◌≡◌, ℕ, zero, suc, ◌+◌, ◌-◌, ◌*◌, ◌<◌, ◌^◌, true, false, List, [], ◌∷◌, length, sym, refl, ap, ◌∙◌, subst, arith, Ura, full_share, Order, numbers, latest, at_least, SProp, ent, sep, emp, ex, via, id⊢, Fml, ftrue, fsep, finv, fobs, Logic, sem, latest_shows, assume, ‵, ◌⊛◌, some, later, ◌$◌, ◌∵◌, !, qed, by, move, split, split3, fsplit, fsplit3, fjoin, fjoin3, fpack, pick, show, frame, rewrite, check, use0, use1, use2, use3, updating, await, now, done, Ptr, nothing, Ty, ty_int, w64, u8, lone, block_of, count_of, array_of, fwand, froom, span, slot_of as offset_of, span_map, unset, Stream, streams, reaches_same, Names, State, Holds, half, other, word, word_room, words_type, slot_rooms, all_rooms, idle, Inner, Placed, common, reader_owns, writer_owns, Waits, Wakes, IsWhere, Slot, with_waiter, code_of, slot, slot_at, Consumed, coded_stream, coded_consumed, published, consumed, took, waits_for, wakes_for, waits_back, wakes_back}
+use types.Growing.{latest_new}
+use denote.RawPtr.{InBlock}
 use types.Owned.{basic}
-use mir.Syntax.{Ty, ty_int, ty_array, w64}
+use mir.Syntax.{ty_array}
 use mir.Raw.{raw as bare}
-use denote.Builtin.{u8}
-use denote.Memory.{lone}
-use denote.RawPtr.{block_of, count_of}
 use denote.RawPtr.Room.{past as beyond, room_cut, room_glue}
-use Rattle.core.specs.Allocator.{array_of}
-use base.Fml.{fwand, froom}
-use Rattle.rtrb.specs.Shared.{span}
-use Rattle.rtrb.specs.Fifo.{slot_of as offset_of}
-use Rattle.rtrb.proofs.Spans.{span_map, ring_out}
+use Rattle.rtrb.proofs.Spans.{ring_out}
 use Rattle.rtrb.proofs.Positions.{position_zero}
-use Rattle.piper_ring.specs.Places.{unset}
-use Rattle.piper_ring.specs.Streams.{Stream, streams, reaches_same}
-use Rattle.piper_ring.specs.Shared.{Names, names_of, State, Holds, half, other, word, word_room, words_type, slot_rooms, all_rooms, idle, titles, Inner, Placed, common, reader_owns, writer_owns}
+use Rattle.piper_ring.specs.Shared.{names_of, titles}
 use types.Tokens.{name_new}
 use Rattle.std.specs.Coded.{Coded}
-use Rattle.piper_ring.specs.Slots.{Waits, Wakes, IsWhere, Slot, with_waiter, code_of, slot, slot_at}
-use Rattle.piper_ring.specs.Shared.{Consumed, coded_stream, coded_consumed, published, consumed, took, waits_for, wakes_for, waits_back, wakes_back}
 use Rattle.piper_ring.proofs.Rights.{common_twice, cut}
 use Rattle.piper_ring.proofs.Steps.{closes}
 

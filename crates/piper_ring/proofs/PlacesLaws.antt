@@ -1,22 +1,11 @@
 -- A `&` to a stretch of places lends its bytes. Assumes `Logic`.
-use Rattle.std.proofs.Common.{ℕ, zero, suc, List, [], ◌∷◌}
-use seplogic.Ra.Ura.{Ura}
-use base.Fml.{Lft, ftrue}
+use Rattle.piper_ring.proofs.Kit.{ℕ, zero, suc, List, [], ◌∷◌, Ura, Lft, ftrue, full_share, Logic, u8, w8, Ptr, block_of, beside_shr_laws, nothing_shr_laws, said_shr_laws, IsSend, IsSync, Common, Lends, Lends-both, Lends-nothing, Lends-said, shared_of, run, span, place, byte, unset, run_lent, places_lent}
 use base.Shift.{Keyless}
-use base.Fraction.{full_share}
-use types.Logic.{Logic}
-use denote.Builtin.{u8}
 use denote.Plain.{uint_row_laws}
 use denote.Copied.{uint_Copied}
-use mir.Syntax.{w8}
-use denote.RawPtr.{Ptr, block_of}
 use denote.Sharing.{ShrLaws, said}
-use denote.SharingLaws.{beside_shr_laws, nothing_shr_laws, said_shr_laws}
-use denote.Param.Send.{IsSend, IsSync, Common, part_keyless}
-use denote.Struct.Lending.{Lends, Lends-both, Lends-nothing, Lends-said}
-use denote.Memory.{shared_of}
-use Rattle.rtrb.specs.Shared.{run, span}
-use Rattle.piper_ring.specs.Places.{fact, place, byte, unset, Placed, blank_own, places_own, run_lent, places_lent}
+use denote.Param.Send.{part_keyless}
+use Rattle.piper_ring.specs.Places.{fact, Placed, blank_own, places_own}
 
 module _ (at : Ptr) (cap : ℕ) where
   run_laws : (k : ℕ) (xs : List ℕ) → ShrLaws (run_lent at cap k xs)

@@ -1,29 +1,13 @@
 -- Stretches of places are cut; their front is one piece of memory; and their bytes are given up.
 -- Assumes `Logic`.
-use Rattle.std.proofs.Common.{◌≡◌, ℕ, zero, suc, ◌+◌, ◌<◌, ◌≤◌, List, [], ◌∷◌, length, take, sym, ap, ◌∙◌, subst, arith}
-use seplogic.Ra.Ura.{Ura}
-use base.Logic.{ent, mono_r, id⊢}
-use base.Fml.{Lft, Fml}
-use types.Logic.{Logic, sem}
-use types.Kit.{‵, ◌$◌, ◌∵◌, !, qed, keep, done}
-use denote.Builtin.{u8}
-use denote.RawPtr.{Ptr, block_of, count_of}
+use Rattle.piper_ring.proofs.Kit.{◌≡◌, ℕ, zero, suc, ◌+◌, ◌<◌, ◌≤◌, List, [], ◌∷◌, length, take, sym, ap, ◌∙◌, subst, arith, Ura, ent, id⊢, Lft, Fml, Logic, sem, ‵, ◌$◌, ◌∵◌, !, qed, keep, done, u8, Ptr, block_of, count_of, shared_of, slot_of as offset_of, slot_small, mem, full_share, sep, via, emp, emp∗, move, split, fjoin, use1, ◌⊛◌, w8, ty_int, vint, run, span, run_lent, place, byte, unset}
+use base.Logic.{mono_r}
 use denote.Slice.{elements_shared}
-use denote.Memory.{shared_of}
-use Rattle.rtrb.specs.Fifo.{slot_of as offset_of}
-use Rattle.rtrb.proofs.Positions.{slot_small, slot_add}
+use Rattle.rtrb.proofs.Positions.{slot_add}
 use types.SemTy.{cells}
-use denote.Memory.{mem}
-use base.Fraction.{full_share}
-use base.Logic.{sep, via, emp, emp∗}
-use types.Kit.{move, split, fjoin, use1, ◌⊛◌}
 use Rattle.std.proofs.Common.{drop}
-use mir.Syntax.{w8, ty_int}
-use mir.Val.{vint}
 use denote.Plain.{uint_out}
 use Rattle.rtrb.proofs.Spans.{run_span}
-use Rattle.rtrb.specs.Shared.{run, span}
-use Rattle.piper_ring.specs.Places.{run_lent, place, byte, unset}
 
 -- the next place, where the row does not wrap
 pub next_place : (cap k s : ℕ) → s ≡ offset_of cap k → s + 1 < cap → suc s ≡ offset_of cap (suc k)
@@ -31,9 +15,6 @@ next_place cap k s e lt = let more : k + 1 ≡ suc k = omega arith in let up : s
     sym up ∙ sym (slot_small cap (s + 1) lt) ∙ ap (λ (x : ℕ). offset_of cap (x + 1)) e ∙ slot_add cap k 1 ∙ ap (offset_of cap) more
 
 module _ {M : Type 1} {𝓤 : Ura M} (𝓛 : Logic 𝓤) (at : Ptr) (cap : ℕ) (κ : Lft) where
-  seen_end : (n k s : ℕ) (xs : List ℕ) → n ≤ length xs → (n ≡ 0) → ent 𝓤 (sem 𝓛 (run_lent at cap k xs κ)) (sem 𝓛 (elements_shared u8 [] (block_of at) (s + count_of at) κ))
-  seen_end n k s xs le e = qed 𝓛 (‵ (run_lent at cap k xs κ) ∷ []) ∵ keep ! [] $ done !
-
   pub seen : (n k s o : ℕ) (xs : List ℕ) → n ≤ length xs → (0 < n → s ≡ offset_of cap k) → s + n ≤ cap → o ≡ s + count_of at
       → ent 𝓤 (sem 𝓛 (run_lent at cap k xs κ)) (sem 𝓛 (elements_shared u8 (take n xs) (block_of at) o κ))
   seen zero k s o xs le e near is = qed 𝓛 (‵ (run_lent at cap k xs κ) ∷ []) ∵ keep ! [] $ done !

@@ -1,12 +1,8 @@
 -- What follows for two streams where one may become of the other. Assumes nothing.
-use Rattle.std.proofs.Common.{◌≡◌, ℕ, ◌+◌, ◌<◌, ◌≤◌, ◌⊎◌, inl, inr, Bool, true, false, List, ◌++◌, length, take, drop, max, leb, refl, sym, ap, subst, ◌∙◌, length-append, arith}
-use Rattle.std.proofs.Math.Seq.{take-append_seam}
-use Rattle.std.proofs.lemmas.List.{take-append-le, take-append-drop}
+use Rattle.piper_ring.proofs.Kit.{◌≡◌, ℕ, ◌+◌, ◌<◌, ◌≤◌, ◌⊎◌, inl, inr, Bool, true, false, List, ◌++◌, length, take, max, leb, refl, sym, ap, subst, ◌∙◌, length-append, arith, take-append_seam, take-append-le, take-append-drop, IsPrefix, flag, Stream, Reaches, open_reaches}
+use Rattle.std.proofs.Common.{drop}
 use Rattle.std.proofs.lemmas.Bool.{false≢true}
 use Rattle.std.proofs.lemmas.Bool.Decides.{leb_tells}
-use mathlib.Core.List.{IsPrefix}
-use Rattle.piper_ring.specs.Shared.{flag}
-use Rattle.piper_ring.specs.Streams.{Stream, Reaches, open_reaches}
 
 -- of two beginnings of one list, the longer begins with the shorter
 pub begins : (a b l xs ys : List ℕ) → a ++ xs ≡ l → b ++ ys ≡ l → length a ≤ length b → a ++ drop (length a) b ≡ b

@@ -1,5 +1,5 @@
 -- What the parts of a reader's end say of its indices, and its view of its known bytes.
-use Rattle.std.proofs.Common.{◌≡◌, ℕ, ◌+◌, ◌-◌, ◌≤◌, ◌++◌, Bool, true, false, length, refl, sym, ap, arith}
+use Rattle.std.proofs.Common.{◌≡◌, ℕ, ◌+◌, ◌-◌, ◌≤◌, Bool, true, false, length, refl, ap, arith}
 use Rattle.piper_protocol.specs.ReaderIndices.{known_in}
 use Rattle.piper_ring.specs.Streams.{Stream, Reaches, either}
 use Rattle.piper_ring.specs.ReadView.{ReadView, read_view_of, IsReadEnd, KnowsEnd, in_one_piece}
@@ -15,10 +15,6 @@ within_known r n piece = omega arith
 pub known_apart : (e : ReadParts) → IsReadEnd e → known_in e.indices ≡ length e.known.bytes
 known_apart e i = let sum : e.seat.seen ≡ e.seat.head + length e.known.bytes = i.counts.0 in let near : length e.known.bytes ≤ e.indices.capacity = i.counts.1 in
     let far : known_in e.indices ≡ e.seat.seen - e.seat.head = apart _ _ _ e.seat.head e.seat.seen (omega arith) (omega arith) i.cached.0 i.cached.1 in omega arith
-
--- what the end took, followed by what it knows of, is all that it came to know of
-pub all_known : (e : ReadParts) → IsReadEnd e → (read_view_of e).taken ++ (read_view_of e).known ≡ e.seat.have
-all_known e i = sym i.whole.1
 
 one_of : (a b : Bool) (P : Type 0) → either a b ≡ true → (a ≡ true → P) → (b ≡ true → P) → P
 one_of true b P e f g = f refl

@@ -1,20 +1,7 @@
 -- The places that the writer saw given back come to it, with no step of the program. Assumes
 -- `Logic`.
-use Rattle.std.proofs.Common.{◌≡◌, ℕ, ◌+◌, ◌-◌, ◌≤◌, Bool, false, List, [], ◌∷◌, length, take, drop, sym, refl, ap, arith}
-use Rattle.std.proofs.lemmas.List.{length-take-le, length-drop}
-use seplogic.Ra.Ura.{Ura}
-use base.Growing.{numbers, latest}
-use base.Logic.{SProp, ent, sep, ex, guard, upd, upd_i}
-use base.Fml.{Fml, ftrue, fsep}
-use types.Logic.{Logic, sem}
-use types.Growing.{latest_bounds}
-use types.Kit.{‵, raw, ◌⊛◌, some, given, ◌$◌, ◌∵◌, !, qed, move, split, split3, fsplit, fsplit3, fjoin, fjoin3, fpick, fpack, pick, learn, check, show, frame, assume, settle, suffices, rewrite, use1, use2, use3, done}
-use types.Kit.{drop as forget}
-use denote.RawPtr.{Ptr}
-use denote.Steps.{nothing}
-use Rattle.rtrb.specs.Shared.{run}
-use Rattle.piper_ring.specs.Places.{byte}
-use Rattle.piper_ring.specs.Shared.{Names, State, Holds, half, other, idle, gone, where_gone, blanks, deeds, took, writer_knows, reader_knows, Inner, common}
+use Rattle.piper_ring.proofs.Kit.{◌≡◌, ℕ, ◌+◌, ◌-◌, ◌≤◌, Bool, false, List, [], ◌∷◌, length, take, sym, refl, ap, arith, length-take-le, length-drop, Ura, numbers, latest, SProp, ent, sep, ex, guard, upd, upd_i, Fml, ftrue, fsep, Logic, sem, latest_bounds, ‵, raw, ◌⊛◌, some, given, ◌$◌, ◌∵◌, !, qed, move, split, split3, fsplit, fsplit3, fjoin, fjoin3, fpick, fpack, pick, learn, check, show, frame, assume, settle, suffices, rewrite, use1, use2, use3, done, drop as forget, Ptr, nothing, run, byte, Names, State, Holds, half, other, idle, gone, where_gone, blanks, deeds, took, writer_knows, reader_knows, Inner, common}
+use Rattle.std.proofs.Common.{drop}
 use Rattle.piper_ring.proofs.PlacesParts.{run_cut}
 use Rattle.piper_ring.proofs.Steps.{flag_small, not_gone, Rest, OneStays, WriterSees, writer_opens, closes, raise}
 

@@ -1,20 +1,8 @@
 -- The places of the bytes that the reader saw published come to it, with no step of the program.
 -- Assumes `Logic`.
-use Rattle.std.proofs.Common.{◌≡◌, ℕ, ◌+◌, ◌-◌, ◌≤◌, Bool, false, List, [], ◌∷◌, ◌++◌, length, take, drop, sym, refl, ap, ◌∙◌, length-append, append_assoc, arith}
-use Rattle.std.proofs.Math.Seq.{drop-append_seam, take-append_seam}
-use seplogic.Ra.Ura.{Ura}
-use base.Growing.{Order, numbers, latest}
-use base.Logic.{SProp, ent, sep, ex, guard, upd, upd_i}
-use base.Fml.{Share, Fml}
-use types.Logic.{Logic, sem}
-use types.Growing.{latest_bounds, latest_shows}
-use types.Kit.{‵, raw, ◌⊛◌, some, given, ◌$◌, ◌∵◌, !, qed, move, keep, split, split3, fsplit, fsplit3, fjoin, fjoin3, pick, learn, check, show, frame, assume, settle, suffices, rewrite, use1, use2, use3, done}
-use types.Kit.{drop as forget}
-use denote.RawPtr.{Ptr}
-use Rattle.rtrb.specs.Shared.{run}
-use Rattle.piper_ring.specs.Places.{byte}
-use Rattle.piper_ring.specs.Shared.{Names, State, Holds, half, other, flag, gone, where_gone, blanks, announced, began, writer_knows, reader_knows, Inner, common}
-use Rattle.piper_ring.specs.Streams.{Stream, Reaches, streams, open_reaches}
+use Rattle.piper_ring.proofs.Kit.{◌≡◌, ℕ, ◌+◌, ◌-◌, ◌≤◌, Bool, false, List, [], ◌∷◌, ◌++◌, length, take, sym, refl, ap, ◌∙◌, length-append, append_assoc, arith, take-append_seam, Ura, Order, numbers, latest, SProp, ent, sep, ex, guard, upd, upd_i, Share, Fml, Logic, sem, latest_bounds, latest_shows, ‵, raw, ◌⊛◌, some, given, ◌$◌, ◌∵◌, !, qed, move, keep, split, split3, fsplit, fsplit3, fjoin, fjoin3, pick, learn, check, show, frame, assume, settle, suffices, rewrite, use1, use2, use3, done, drop as forget, Ptr, run, byte, Names, State, Holds, half, other, flag, gone, where_gone, blanks, announced, began, writer_knows, reader_knows, Inner, common, Stream, Reaches, streams, open_reaches}
+use Rattle.std.proofs.Common.{drop}
+use Rattle.std.proofs.Math.Seq.{drop-append_seam}
 use Rattle.piper_ring.proofs.Reaching.{begins}
 use Rattle.piper_ring.proofs.PlacesParts.{run_cut}
 use Rattle.piper_ring.proofs.Steps.{flag_small, not_gone, Rest, OneStays, ReaderSees, reader_opens, closes, raise}

@@ -1,24 +1,13 @@
 -- What an end knows is cut and joined, lent, and moved up. Assumes `Logic`.
-use Rattle.std.proofs.Common.{ℕ, Bool, List, [], ◌∷◌}
-use seplogic.Ra.Ura.{Ura}
+use Rattle.piper_ring.proofs.Kit.{ℕ, Bool, List, [], ◌∷◌, Ura, Order, numbers, latest, SProp, ent, sep, snd∗, Lft, Share, Fml, GName, ftrue, fsep, finv, before, Logic, sem, ‵, raw, ◌⊛◌, ◌$◌, ◌∵◌, !, qed, move, drop, split, fsplit, fjoin, fpick, fpack, frame, use1, use2, updating, now, done, Ptr, beside_shr_laws, nothing, Lends, Lends-both, Lends-first, lends_twice, streams, Names, half, flag, writer_knows, reader_knows, arrived_first, Inner, Placed, common, reader_owns, reader_lends, writer_owns, writer_lends}
 use base.Share.{left, right, halves}
-use base.Growing.{Order, numbers, latest}
-use base.Logic.{SProp, ent, sep, snd∗}
-use base.Fml.{Lft, Share, Fml, GName, ftrue, fsep, finv, fbor, fshr_bor}
-use base.Before.{before}
+use base.Fml.{fbor, fshr_bor}
 use ghost.Rules.{Halves}
-use types.Logic.{Logic, sem, lfts}
+use types.Logic.{lfts}
 use types.Growing.{latest_cut, latest_glue}
-use types.Kit.{‵, raw, ◌⊛◌, ◌$◌, ◌∵◌, !, qed, move, drop, split, fsplit, fjoin, fpick, fpack, frame, use1, use2, updating, now, done}
 use types.Tokens.{bor_fracture}
-use denote.RawPtr.{Ptr}
 use denote.Sharing.{ShrLaws, said, one}
-use denote.SharingLaws.{beside_shr_laws, one_shr_laws}
-use denote.Steps.{nothing}
-use denote.Struct.Lending.{Lends, Lends-both, Lends-first}
-use Rattle.logbook.proofs.Fields.{lends_twice}
-use Rattle.piper_ring.specs.Streams.{streams}
-use Rattle.piper_ring.specs.Shared.{Names, half, flag, writer_knows, reader_knows, arrived_first, Inner, Placed, common, reader_owns, reader_lends, writer_owns, writer_lends}
+use denote.SharingLaws.{one_shr_laws}
 
 module _ {M : Type 1} {𝓤 : Ura M} (𝓛 : Logic 𝓤) where
   open 𝓛 use {H, A}

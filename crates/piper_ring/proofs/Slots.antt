@@ -1,26 +1,13 @@
 -- The steps of both sides on a slot. Assumes `Logic`.
-use Rattle.std.proofs.Common.{◌≡◌, ℕ, ◌+◌, ◌≤◌, ◌⊎◌, inl, inr, Bool, true, false, List, [], ◌∷◌, sym, refl, ◌∙◌, subst, arith}
+use Rattle.piper_ring.proofs.Kit.{◌≡◌, ℕ, ◌+◌, ◌≤◌, ◌⊎◌, inl, inr, Bool, true, false, List, [], ◌∷◌, sym, refl, ◌∙◌, subst, arith, Ura, SProp, ent, sep, upd, ex, guard, upd_i, apply∗, Share, Fml, ftrue, fsep, fex, fwand, fobs, Logic, sem, ‵, raw, ◌⊛◌, some, given, ◌$◌, ◌∵◌, !, qed, by, move, keep, split, split3, fsplit, fsplit3, fjoin, fjoin3, fpick, fpack, pick, learn, check, show, frame, assume, settle, suffices, rewrite, use1, use2, done, drop as forget, Ptr, block_ptr, block_of, count_of, nothing, asks, always, Lies, with_waiter, held_at, Waits, Wakes, IsWhere, Slot, code_of, slot, slot_at, Looks, Takes, GivesBack, PublishesWaker, Reclaims, IsRemembered, Names, State, Holds, other, word, reader_knows, writer_knows, slots, Inner, common, Order, numbers, latest, latest_shows, Stream, streams, reaches_same, took, raised, published, consumed, coded_stream, coded_consumed, Consumed}
 use Rattle.std.proofs.lemmas.Bool.{false≢true}
-use seplogic.Ra.Ura.{Ura}
-use base.Logic.{SProp, ent, sep, upd, ex, guard, upd_i, apply∗}
 use base.Stored.{Gv}
-use base.Fml.{Share, Fml, ftrue, fsep, fex, fwand, fobs, fauth}
-use types.Logic.{Logic, sem}
+use base.Fml.{fauth}
 use types.Tokens.{name_agree}
-use types.Kit.{‵, raw, ◌⊛◌, some, given, ◌$◌, ◌∵◌, !, qed, by, move, keep, split, split3, fsplit, fsplit3, fjoin, fjoin3, fpick, fpack, pick, learn, check, show, frame, assume, settle, suffices, rewrite, use1, use2, done}
-use types.Kit.{drop as forget}
-use denote.RawPtr.{Ptr, block_ptr, block_of, count_of}
-use denote.Steps.{nothing}
-use Rattle.core.specs.Sync.RawAtomic.{asks, always}
 use Rattle.std.specs.Coded.{Coded}
-use Rattle.rtrb.proofs.Asks.{Lies}
 use Rattle.piper_ring.specs.Places.{fact}
-use Rattle.piper_ring.specs.Slots.{Where, with_waiter, in_slot, with_taker, handed_back, Held, held_at, held, flag_of, back_of, Waits, Wakes, IsWhere, Slot, code_of, slot, slot_at, Looks, Takes, GivesBack, PublishesWaker, Reclaims, IsRemembered}
-use Rattle.piper_ring.specs.Shared.{Names, State, Holds, other, word, reader_knows, writer_knows, slots, reader_slot, writer_slot, Inner, common}
-use base.Growing.{Order, numbers, latest}
-use types.Growing.{latest_shows}
-use Rattle.piper_ring.specs.Streams.{Stream, streams, reaches_same}
-use Rattle.piper_ring.specs.Shared.{took, raised, published, consumed, coded_stream, coded_consumed, Consumed}
+use Rattle.piper_ring.specs.Slots.{Where, in_slot, with_taker, handed_back, Held, held, flag_of, back_of}
+use Rattle.piper_ring.specs.Shared.{reader_slot, writer_slot}
 use Rattle.piper_ring.proofs.Evidence.{announced_twice, took_twice, raised_twice}
 use Rattle.piper_ring.proofs.Steps.{inside, Rest, OneStays, ReaderSees, WriterSees, reader_opens, writer_opens, closes}
 

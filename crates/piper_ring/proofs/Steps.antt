@@ -1,26 +1,11 @@
 -- The invariant is taken apart by what one end knows and put together again; and the steps on the
 -- tail, and the look at the head. Assumes `Logic`.
-use Rattle.std.proofs.Common.{◌≡◌, ℕ, zero, suc, ◌+◌, ◌-◌, ◌≤◌, Bool, true, false, List, [], ◌∷◌, ◌++◌, length, drop, sym, refl, ap, ◌∙◌, length-append, append-nil, arith}
-use seplogic.Ra.Ura.{Ura}
-use base.Fraction.{full_share}
-use base.Growing.{Order, numbers, latest, prefix_refl}
-use base.Logic.{SProp, ent, sep, upd, guard, ex, upd_i}
-use base.Fml.{Share, Fml, GName, ftrue, fsep, fex}
-use types.Logic.{Logic, sem}
-use types.Growing.{latest_agrees, latest_grows, latest_bounds, latest_shows}
-use types.Kit.{‵, raw, ◌⊛◌, some, given, ◌$◌, ◌∵◌, !, qed, by, move, split, split3, fsplit, fsplit3, fjoin, fjoin3, fpick, fpack, pick, learn, check, show, frame, assume, settle, suffices, rewrite, use1, use2, use3, done}
-use types.Kit.{drop as forget}
-use denote.RawPtr.{Ptr, block_ptr, block_of, count_of}
-use denote.Steps.{nothing}
-use Rattle.core.specs.Sync.RawAtomic.{asks, always}
-use Rattle.rtrb.specs.Fifo.{position_of}
-use Rattle.rtrb.specs.Shared.{run}
-use Rattle.rtrb.proofs.Asks.{Lies, shared}
-use Rattle.std.proofs.lemmas.List.{drop-append-le, length-drop}
-use Rattle.rtrb.proofs.Spans.{run_join}
-use Rattle.piper_ring.specs.Places.{fact, byte}
-use Rattle.piper_ring.specs.Streams.{Stream, Reaches, streams, open_reaches}
-use Rattle.piper_ring.specs.Shared.{Names, State, Holds, half, other, flag, gone, until_both, where_gone, word, blanks, deeds, memory, announced, began, took, writer_knows, reader_knows, ends, state_holds, Inner, common}
+use Rattle.piper_ring.proofs.Kit.{◌≡◌, ℕ, zero, suc, ◌+◌, ◌-◌, ◌≤◌, Bool, true, false, List, [], ◌∷◌, ◌++◌, length, sym, refl, ap, ◌∙◌, length-append, arith, Ura, full_share, Order, numbers, latest, prefix_refl, SProp, ent, sep, upd, guard, ex, upd_i, Share, Fml, GName, ftrue, fsep, fex, Logic, sem, latest_grows, latest_bounds, latest_shows, ‵, raw, ◌⊛◌, some, given, ◌$◌, ◌∵◌, !, qed, by, move, split, split3, fsplit, fsplit3, fjoin, fjoin3, fpick, fpack, pick, learn, check, show, frame, assume, settle, suffices, rewrite, use1, use2, use3, done, drop as forget, Ptr, block_ptr, block_of, count_of, nothing, asks, always, position_of, run, Lies, length-drop, run_join, byte, Stream, Reaches, streams, open_reaches, Names, State, Holds, half, other, flag, gone, until_both, where_gone, word, blanks, deeds, memory, announced, began, took, writer_knows, reader_knows, ends, state_holds, Inner, common}
+use Rattle.std.proofs.Common.{drop, append-nil}
+use types.Growing.{latest_agrees}
+use Rattle.rtrb.proofs.Asks.{shared}
+use Rattle.std.proofs.lemmas.List.{drop-append-le}
+use Rattle.piper_ring.specs.Places.{fact}
 use Rattle.piper_ring.proofs.Rights.{cut, glue}
 
 pub flag_small : (b : Bool) → flag b ≤ 1

@@ -1,13 +1,8 @@
 -- The two ends of a new ring keep their views.
-use Rattle.std.proofs.Common.{◌≡◌, ℕ, ◌+◌, ◌-◌, ◌*◌, ◌^◌, ◌<◌, ◌++◌, List, length, take, arith, refl, ap, subst, ◌∙◌, sym}
+use Rattle.piper_ring.proofs.Kit.{◌≡◌, ℕ, ◌+◌, ◌-◌, ◌*◌, ◌^◌, ◌<◌, ◌++◌, List, length, take, arith, refl, ap, subst, ◌∙◌, sym, Names, IsPrefix, Reaches, reaches_same, ReaderIndices, WriterIndices}
 use Rattle.rtrb.proofs.Positions.{position_none}
-use Rattle.piper_ring.specs.Shared.{Names}
-use mathlib.Core.List.{IsPrefix}
 use Rattle.piper_ring.specs.declared.ring.marks.WriteMark.{WriteMark}
-use Rattle.piper_ring.specs.Streams.{Reaches, reaches_same}
 use Rattle.piper_ring.specs.declared.ring.places.Blank.{Blank}
-use Rattle.piper_protocol.specs.ReaderIndices.{ReaderIndices}
-use Rattle.piper_protocol.specs.WriterIndices.{WriterIndices}
 use Rattle.piper_ring.proofs.ends.opening.open_with_slots.Goals as goal
 
 -- a copy of a mark reports what it reports

@@ -1,8 +1,6 @@
 -- The next place to be zeroed is the first of `blank`, and in the first turn its number is its
 -- offset.
-use Rattle.std.proofs.Common.{◌≡◌, ℕ, ◌+◌, ◌<◌, ◌≤◌, arith, sym, ap, ◌∙◌}
-use Rattle.rtrb.specs.Fifo.{slot_of as offset_of}
-use Rattle.rtrb.proofs.Positions.{slot_small}
+use Rattle.piper_ring.proofs.Kit.{◌≡◌, ℕ, ◌+◌, ◌<◌, ◌≤◌, arith, sym, ap, ◌∙◌, slot_of as offset_of, slot_small}
 use Rattle.piper_ring.proofs.ends.room.zero.Goals as goal
 
 pub set-requires : goal.set-requires

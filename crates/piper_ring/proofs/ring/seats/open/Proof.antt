@@ -1,32 +1,7 @@
 -- `open` writes the four words, and puts them under the ring's invariant. Assumes `Logic`.
-use Rattle.std.proofs.Common.{◌≡◌, ℕ, true, false, [], ◌∷◌, refl, ap, sym, lit<}
-use mir.Syntax.{Ty, named}
-use mir.Val.{Val, vptr}
-use base.Logic.{SProp, emp, fst∗, never}
-use base.Fml.{ftrue}
-use types.Logic.{sem}
-use types.Kit.{‵, raw, ◌⊛◌, some, given, later, await, pick, at_ret, ◌$◌, ◌∵◌, !, qed, by, move, keep, drop, split, split3, join, fsplit, fsplit3, fjoin, fjoin3, fpick, fpack, learn, use0, use1, use2, use3, rewrite}
-use types.Run.{stop, fld, init, lit, of_opd, bin, no_more, and_then, first, blocks, exec, assigns, assigns_last, returns, enter}
-use types.ByLocal.{alloc_all, pass_all, free_all, look_at, get, get_in, through, sets, is, env}
-use types.Part.{agg, sub, whole}
-use contract.Monad.{fact, fact_i}
-use contract.Running.{tables}
-use denote.Exit.{yes}
-use denote.RattleType.{RattleType, owns}
-use denote.Signature.{types_at, plain}
-use denote.RawPtr.{Ptr, block_ptr, null_ptr, ptr_val, in_a_block}
-use denote.Builtin.{u8, RefOf}
-use denote.Steps.{nothing}
-use denote.Triple.Entry.{alive}
-use denote.Triple.Walked.{Stays, stay_dropped, walk_of, Goes-dropped}
-use Rattle.core.specs.Allocator.{array_of, owned_block}
-use Rattle.core.proofs.slots.Bodies.{after as from_on}
-use Rattle.std_alloc.proofs.RcSteps.{word-Good}
-use Rattle.rtrb.specs.Shared.{span}
-use Rattle.rtrb.proofs.Walks.{proved, leaves}
-use Rattle.piper_ring.specs.Places.{unset}
+use Rattle.piper_ring.proofs.Kit.{◌≡◌, ℕ, true, false, [], ◌∷◌, refl, ap, sym, lit<, Ty, named, Val, vptr, SProp, emp, fst∗, never, ftrue, sem, ‵, raw, ◌⊛◌, some, given, later, await, pick, at_ret, ◌$◌, ◌∵◌, !, qed, by, move, keep, drop, split, split3, join, fsplit, fsplit3, fjoin, fjoin3, fpick, fpack, learn, use0, use1, use2, use3, rewrite, stop, fld, init, lit, of_opd, bin, no_more, and_then, first, blocks, exec, assigns_last, returns, enter, alloc_all, pass_all, free_all, look_at, get, get_in, through, sets, is, env, agg, sub, whole, fact, fact_i, tables, yes, RattleType, owns, types_at, plain, Ptr, block_ptr, null_ptr, ptr_val, in_a_block, u8, RefOf, nothing, alive, Stays, stay_dropped, walk_of, Goes-dropped, array_of, owned_block, after as from_on, word-Good, span, proved, leaves, unset, Names, words_type, slot_rooms, word_room, heap_token, reader_owns, writer_owns, shr_vals, shr_Tells}
+use types.Run.{assigns}
 use Rattle.piper_ring.specs.Places as P
-use Rattle.piper_ring.specs.Shared.{Names, words_type, slot_rooms, word_room, heap_token, reader_owns, writer_owns}
 use Rattle.piper_ring.proofs.Fields.{seat_val, ghost_val, ReaderWaitsData, reader_waits_made, WriterWakesData, writer_wakes_made, WriterWaitsData, writer_waits_made, ReaderWakesData, reader_wakes_made, eight_val, eight_of, memory_told, ReadData, read_made, WriteData, write_made, BlankData, blank_made, BaseData, base_made}
 use Rattle.piper_ring.specs.SlotViews.{IsUnused, LooksFirst, IsUnusedBack, LooksFirstBack}
 use Rattle.piper_ring.specs.contracts.ring.slots.ReaderWaits as ReaderWaits
@@ -35,7 +10,6 @@ use Rattle.piper_ring.specs.contracts.ring.slots.WriterWaits as WriterWaits
 use Rattle.piper_ring.specs.contracts.ring.slots.ReaderWakes as ReaderWakes
 use Rattle.piper_ring.proofs.Opening.{words_out, Rejoin, as_places, begins, Slotted, IsNamed}
 use Rattle.piper_ring.specs.Memory.{unused}
-use denote.Ref.{shr_vals, shr_Tells}
 use Rattle.token_cell.specs.contracts.Token as Token
 use Rattle.piper_ring.specs.contracts.ring.memory.Memory as Memory
 use Rattle.piper_ring.specs.contracts.ring.places.Base as Base

@@ -1,11 +1,5 @@
 -- The end keeps its view as the front of the known bytes goes over to what was taken.
-use Rattle.std.proofs.Common.{◌≡◌, ℕ, ◌+◌, ◌-◌, ◌≤◌, ◌<◌, ◌^◌, ◌++◌, List, length, take, arith, ap, ◌∙◌, sym, subst}
-use Rattle.std.proofs.lemmas.List.{length-take-le, length-drop}
-use mathlib.Core.List.{IsPrefix}
-use Rattle.rtrb.specs.Fifo.{position_of}
-use Rattle.piper_protocol.specs.ReaderIndices.{ReaderIndices}
-use Rattle.piper_ring.specs.Shared.{Names}
-use Rattle.piper_ring.specs.ReadView.{ReadView, read_view_of, in_one_piece}
+use Rattle.piper_ring.proofs.Kit.{◌≡◌, ℕ, ◌+◌, ◌-◌, ◌≤◌, ◌<◌, ◌^◌, ◌++◌, List, length, take, arith, ap, ◌∙◌, sym, subst, length-take-le, length-drop, IsPrefix, position_of, ReaderIndices, Names, ReadView, read_view_of, in_one_piece}
 use Rattle.piper_ring.proofs.Indices.{further}
 use Rattle.piper_ring.proofs.ReaderFacts.{known_apart, within_known}
 use Rattle.piper_ring.proofs.Taking.{taken_more, whole_still, all_counted}

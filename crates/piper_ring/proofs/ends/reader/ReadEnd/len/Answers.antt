@@ -1,9 +1,6 @@
 -- What was checked lies between the known bytes and the capacity, and past what marks have said.
-use Rattle.std.proofs.Common.{◌≡◌, ℕ, ◌+◌, ◌-◌, ◌≤◌, length, take, arith, ap, ◌∙◌, sym, subst}
-use Rattle.std.proofs.lemmas.List.{length-take-le}
-use Rattle.rtrb.specs.Fifo.{position_of}
-use Rattle.rtrb.proofs.Positions.{position_inside}
-use Rattle.piper_ring.specs.ReadView.{ReadView, MayBeUnread}
+use Rattle.piper_ring.proofs.Kit.{◌≡◌, ℕ, ◌+◌, ◌-◌, ◌≤◌, length, take, arith, ap, ◌∙◌, sym, subst, length-take-le, position_of, position_inside, ReadView}
+use Rattle.piper_ring.specs.ReadView.{MayBeUnread}
 use Rattle.piper_ring.proofs.Indices.{apart}
 use Rattle.piper_ring.proofs.Reaching.{prefix_length}
 use Rattle.piper_ring.proofs.ReaderFacts.{heard_end}

@@ -1,16 +1,10 @@
 -- All that was published lies at most a turn past the head, and what is lent lies in the room that
 -- is left.
 -- Both ends keep their views as the one comes to know of all bytes, and the other of all room.
-use Rattle.std.proofs.Common.{◌≡◌, ℕ, ◌+◌, ◌-◌, ◌^◌, ◌<◌, ◌≤◌, ◌++◌, List, length, take, arith, refl, sym, subst, ap, ◌∙◌, length-append}
-use mathlib.Core.List.{IsPrefix}
-use Rattle.rtrb.specs.Fifo.{position_of}
+use Rattle.piper_ring.proofs.Kit.{◌≡◌, ℕ, ◌+◌, ◌-◌, ◌^◌, ◌<◌, ◌≤◌, ◌++◌, List, length, take, arith, refl, sym, subst, ap, ◌∙◌, length-append, IsPrefix, position_of, ReaderIndices, WriterIndices, Names, ring_of, Stream, reaches_trans, ReadView, WriteView}
 use Rattle.piper_protocol.specs.Index.{distance}
-use Rattle.piper_protocol.specs.ReaderIndices.{ReaderIndices}
-use Rattle.piper_protocol.specs.WriterIndices.{WriterIndices}
-use Rattle.piper_ring.specs.Shared.{Names, Ring, ring_of}
-use Rattle.piper_ring.specs.Streams.{Stream, reaches_trans}
-use Rattle.piper_ring.specs.ReadView.{ReadView, read_view, KnowsMore}
-use Rattle.piper_ring.specs.WriteView.{WriteView}
+use Rattle.piper_ring.specs.Shared.{Ring}
+use Rattle.piper_ring.specs.ReadView.{read_view, KnowsMore}
 use Rattle.piper_ring.proofs.Indices.{apart}
 use Rattle.piper_ring.proofs.WriterFacts.{sent_below}
 use Rattle.piper_ring.proofs.ReaderFacts.{all_stays}

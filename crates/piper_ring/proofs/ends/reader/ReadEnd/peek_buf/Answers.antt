@@ -1,8 +1,5 @@
 -- The known bytes that are contiguous lie from the head's offset on.
-use Rattle.std.proofs.Common.{◌≡◌, ℕ, ◌-◌, ◌≤◌, ◌<◌, length, take, min, arith, sym, ap, ◌∙◌}
-use Rattle.std.proofs.lemmas.List.{length-take-le}
-use Rattle.rtrb.specs.Fifo.{slot_of as offset_of}
-use Rattle.piper_ring.specs.ReadView.{ReadView, in_one_piece}
+use Rattle.piper_ring.proofs.Kit.{◌≡◌, ℕ, ◌-◌, ◌≤◌, ◌<◌, length, take, min, arith, sym, ap, ◌∙◌, length-take-le, slot_of as offset_of, ReadView, in_one_piece}
 use Rattle.piper_ring.proofs.Indices.{offset_at}
 use Rattle.piper_ring.proofs.ReaderFacts.{known_apart}
 use Rattle.piper_ring.proofs.ends.reader.ReadEnd.peek_buf.Goals as goal

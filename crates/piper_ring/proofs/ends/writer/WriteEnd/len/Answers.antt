@@ -1,8 +1,6 @@
 -- What was checked leaves the known room free, and the bytes consumed that were told of.
-use Rattle.std.proofs.Common.{◌≡◌, ℕ, ◌+◌, ◌-◌, ◌≤◌, length, arith, ap, sym, subst, ◌∙◌}
-use Rattle.rtrb.specs.Fifo.{position_of}
-use Rattle.rtrb.proofs.Positions.{position_inside}
-use Rattle.piper_ring.specs.WriteView.{WriteView, MayBeUnread}
+use Rattle.piper_ring.proofs.Kit.{◌≡◌, ℕ, ◌+◌, ◌-◌, ◌≤◌, length, arith, ap, sym, subst, ◌∙◌, position_of, position_inside, WriteView}
+use Rattle.piper_ring.specs.WriteView.{MayBeUnread}
 use Rattle.piper_ring.proofs.Indices.{apart}
 use Rattle.piper_ring.proofs.WriterFacts.{sent_below}
 use Rattle.piper_ring.proofs.ends.writer.WriteEnd.len.Goals as goal

@@ -1,13 +1,9 @@
 -- What is lent lies in the room and before the end of the memory.
-use Rattle.std.proofs.Common.{◌≡◌, ℕ, ◌+◌, ◌-◌, ◌<◌, ◌≤◌, length, min, arith, sym, refl, ap, subst, ◌∙◌}
-use Rattle.rtrb.specs.Fifo.{slot_of as offset_of}
-use Rattle.rtrb.proofs.Positions.{slot_small}
+use Rattle.piper_ring.proofs.Kit.{◌≡◌, ℕ, ◌+◌, ◌-◌, ◌<◌, ◌≤◌, length, min, arith, sym, refl, ap, subst, ◌∙◌, slot_of as offset_of, slot_small, WriterIndices, room_in, left_in, ring_of, WriteView}
 use Rattle.piper_protocol.specs.LendBound.{lend_bound}
-use Rattle.piper_protocol.specs.WriterIndices.{WriterIndices, room_in, left_in}
 use Rattle.piper_ring.specs.Lends.{written}
 use Rattle.piper_ring.specs.LendsBuffer.{with_lent}
-use Rattle.piper_ring.specs.Shared.{ring_of}
-use Rattle.piper_ring.specs.WriteView.{WriteView, Lendable, either, write_view, write_view_of}
+use Rattle.piper_ring.specs.WriteView.{Lendable, either, write_view, write_view_of}
 use Rattle.piper_ring.proofs.Indices.{offset_at}
 use Rattle.piper_ring.proofs.WriterFacts.{sent_below, room_apart, lends_within, lends_none, lends_all}
 use Rattle.piper_ring.proofs.ends.writer.WriteEnd.lend.Goals as goal

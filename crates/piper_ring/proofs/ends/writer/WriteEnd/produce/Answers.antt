@@ -1,11 +1,7 @@
 -- The end keeps its view as the front of what is lent goes over to what was sent.
-use Rattle.std.proofs.Common.{◌≡◌, ℕ, ◌+◌, ◌-◌, ◌^◌, ◌<◌, ◌≤◌, List, length, take, drop, arith, ap, ◌∙◌, sym, subst, length-append}
-use Rattle.std.proofs.lemmas.List.{length-take-le, length-drop}
+use Rattle.piper_ring.proofs.Kit.{◌≡◌, ℕ, ◌+◌, ◌-◌, ◌^◌, ◌<◌, ◌≤◌, List, length, take, arith, ap, ◌∙◌, sym, subst, length-append, length-take-le, length-drop, position_of, WriterIndices, Names, WriteView}
+use Rattle.std.proofs.Common.{drop}
 use Rattle.std.proofs.Math.Seq.{take-nil, drop-nil}
-use Rattle.rtrb.specs.Fifo.{position_of}
-use Rattle.piper_protocol.specs.WriterIndices.{WriterIndices}
-use Rattle.piper_ring.specs.Shared.{Names}
-use Rattle.piper_ring.specs.WriteView.{WriteView}
 use Rattle.piper_ring.proofs.Indices.{further}
 use Rattle.piper_ring.proofs.ends.writer.WriteEnd.produce.Goals as goal
 

@@ -1,7 +1,5 @@
 -- What was loaded is an index of the ring, at most a turn before the tail.
-use Rattle.std.proofs.Common.{◌≡◌, ℕ, ◌+◌, ◌-◌, ◌≤◌, length, arith, sym, subst, ap, ◌∙◌}
-use Rattle.rtrb.specs.Fifo.{position_of}
-use Rattle.rtrb.proofs.Positions.{position_inside}
+use Rattle.piper_ring.proofs.Kit.{◌≡◌, ℕ, ◌+◌, ◌-◌, ◌≤◌, length, arith, sym, subst, ap, ◌∙◌, position_of, position_inside}
 use Rattle.piper_ring.proofs.Indices.{apart}
 use Rattle.piper_ring.proofs.WriterFacts.{sent_below}
 use Rattle.piper_ring.proofs.ends.writer.WriteEnd.reload_knowing.Goals as goal

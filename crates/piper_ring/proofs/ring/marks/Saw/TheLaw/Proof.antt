@@ -1,14 +1,6 @@
 -- A `&` to a mark holds what it knows, which can be had twice. Assumes `Logic`.
-use base.Logic.{snd∗}
-use base.Before.{before}
-use types.Logic.{sem}
-use denote.RawPtr.{RawPtr}
-use denote.Param.Shared.{copy_shared}
-use denote.Struct.Laws.{field_copy}
-use denote.Struct.Lending.{of_Lends}
+use Rattle.piper_ring.proofs.Kit.{snd∗, before, sem, RawPtr, copy_shared, field_copy, of_Lends, lends_twice, raised}
 use Rattle.core.specs.contracts.marker.PhantomData as marker
-use Rattle.logbook.proofs.Fields.{lends_twice}
-use Rattle.piper_ring.specs.Shared.{raised}
 use Rattle.piper_ring.specs.contracts.ring.marks.Saw as C
 use Rattle.piper_ring.proofs.Evidence.{raised_twice}
 use Rattle.piper_ring.proofs.ring.marks.Saw.TheLaw.Statement.{statement}

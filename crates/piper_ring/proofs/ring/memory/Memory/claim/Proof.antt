@@ -1,42 +1,24 @@
 -- `claim` asks the heap, and keeps what it hands over. Assumes `Logic`.
-use Rattle.std.proofs.Common.{◌≡◌, ℕ, ◌<◌, ◌^◌, [], ◌∷◌, refl, lit<, w64, IfOk, Ok, Err}
-use mir.Syntax.{Ty, Body, named}
-use mir.Val.{Val, vint, vptr, vstruct, vnil, of_list, WT}
-use base.Logic.{SProp, emp}
-use base.Fml.{Share, ftrue, flft}
+use Rattle.piper_ring.proofs.Kit.{◌≡◌, ℕ, ◌<◌, ◌^◌, [], ◌∷◌, refl, lit<, w64, Ty, named, Val, vint, vptr, vstruct, vnil, of_list, WT, SProp, emp, Share, ftrue, flft, ‵, raw, ◌⊛◌, some, given, later, await, pick, at_ret, ◌$◌, ◌∵◌, !, qed, by, move, keep, drop, split, split3, join, fjoin, fpack, learn, use0, use1, use2, stop, fld, lit, of_opd, no_more, and_then, first, exec, returns, enter, alloc_all, pass_all, free_all, look_at, get, get_in, sets, sets_last, env, agg, whole, fact, fact_i, tables, RefOf, usize, yes, Is, RattleType, owns, Ptr, block_ptr, uint_vals, uint_Tells, shr_vals, shr_Tells, types_at, plain, nothing, Struct, Stays, stay_dropped, walk_of, Goes-dropped, after as from_on, block_if_ok, fm, proved, leaves, heap_token}
+use Rattle.std.proofs.Common.{IfOk, Ok, Err}
+use mir.Syntax.{Body}
 use prog.Wp.{Wp, after_seq, at_return}
-use types.Kit.{Post as Next, any_q, ‵, raw, ◌⊛◌, some, given, later, await, pick, at_ret, ◌$◌, ◌∵◌, !, qed, by, move, keep, drop, split, split3, join, fjoin, fpack, learn, use0, use1, use2}
+use types.Kit.{Post as Next, any_q}
 use types.Match.{live, vrt, in_variant}
-use types.Run.{stop, fld, lit, of_opd, no_more, and_then, first, switches_on, exec, returns, enter}
-use types.ByLocal.{alloc_all, pass_all, free_all, look_at, get, get_in, get_tag, sets, sets_last, lands_as, env}
-use types.Part.{agg, whole}
-use contract.Monad.{fact, fact_i}
-use contract.Running.{tables}
-use denote.Builtin.{RefOf, usize}
-use denote.Exit.{yes}
-use denote.Laws.{Is}
-use denote.RattleType.{RattleType, owns}
-use denote.RawPtr.{Ptr, block_ptr}
-use denote.Plain.{uint_vals, uint_Tells}
-use denote.Ref.{shr_vals, shr_Tells}
-use denote.Signature.{types_at, plain}
-use denote.Steps.{nothing, owned}
+use types.Run.{switches_on}
+use types.ByLocal.{get_tag, lands_as}
+use denote.Steps.{owned}
 use denote.Struct.Declared as Declared
-use denote.Struct.Struct.{Struct, Struct-Makes}
+use denote.Struct.Struct.{Struct-Makes}
 use denote.Triple.Call.{calls_at}
-use denote.Triple.Walked.{Stays, stay_dropped, walk_of, Goes-dropped}
 use Rattle.core.proofs.alloc.Calls.{Answer}
-use Rattle.core.proofs.slots.Bodies.{after as from_on, head, arm_body}
-use Rattle.core.specs.Allocator.{block_if_ok}
+use Rattle.core.proofs.slots.Bodies.{head, arm_body}
 use Rattle.core.specs.contracts.result.Result as Either
 use Rattle.std_heap.specs.contracts.Global as Heap
 use Rattle.std_heap.proofs.GlobalAllocator.allocate.Met as allocates
-use Rattle.rtrb.proofs.Calls.{fm}
 use Rattle.rtrb.proofs.Values.{ok_of, err_of}
-use Rattle.rtrb.proofs.Walks.{proved, leaves}
 use Rattle.piper_protocol.specs.contracts.memory.OutOfMemory as Want
 use Rattle.piper_ring.specs.Memory.{IsClaim, purpose}
-use Rattle.piper_ring.specs.Shared.{heap_token}
 use Rattle.piper_ring.proofs.Fields.{seat_val, MemoryData, memory_made}
 use Rattle.piper_ring.proofs.Heap.{Asks, asking, may_ask, was_answered, answered}
 use Rattle.piper_ring.specs.contracts.ring.memory.Memory as Memory

@@ -1,34 +1,12 @@
 -- `surrender` hands the bytes to the heap. Assumes `Logic`.
-use Rattle.std.proofs.Common.{◌≡◌, ℕ, T, List, [], ◌∷◌, sym, refl, ap, subst, w64}
-use mir.Syntax.{Ty, named, ty_unit}
-use mir.Val.{Val, vint, vptr, vunit, has_ty, WT}
-use base.Logic.{SProp, fst∗, never}
-use base.Fml.{Share, ftrue, flft}
-use types.Logic.{sem}
-use types.Kit.{‵, raw, ◌⊛◌, given, later, await, at_ret, ◌$◌, ◌∵◌, !, qed, by, move, keep, drop, split, join, fsplit, fjoin, feq_i, learn, rewrite, use1, use3}
-use types.Run.{stop, fld, unit_lit, of_opd, no_more, and_then, first, blocks, exec, returns, enter}
-use types.ByLocal.{alloc_all, pass_all, free_all, look_at, get, get_in, sets, is, lands_last, env}
-use types.Part.{sub, whole}
-use contract.Running.{tables}
-use denote.Builtin.{RefOf, usize}
-use denote.Exit.{yes}
-use denote.RattleType.{owns}
-use denote.RawPtr.{Ptr, block_ptr, null_ptr, ptr_val, in_a_block}
-use denote.Plain.{uint_vals, uint_Tells}
-use denote.Ref.{shr_vals, shr_Tells}
-use denote.Signature.{types_at, plain}
-use denote.Steps.{nothing}
+use Rattle.piper_ring.proofs.Kit.{◌≡◌, ℕ, List, [], ◌∷◌, sym, refl, ap, subst, w64, Ty, named, Val, vint, vptr, vunit, WT, SProp, fst∗, never, Share, ftrue, flft, sem, ‵, raw, ◌⊛◌, given, later, await, at_ret, ◌$◌, ◌∵◌, !, qed, by, move, keep, drop, split, join, fsplit, fjoin, feq_i, learn, rewrite, use1, use3, stop, fld, unit_lit, of_opd, no_more, and_then, first, blocks, exec, returns, enter, alloc_all, pass_all, free_all, look_at, get, get_in, sets, is, lands_last, env, sub, whole, tables, RefOf, usize, yes, owns, Ptr, block_ptr, null_ptr, ptr_val, in_a_block, uint_vals, uint_Tells, shr_vals, shr_Tells, types_at, plain, nothing, Stays, stay_dropped, walk_of, Goes-dropped, owned_block, after as from_on, word-Good, fm, proved, leaves, heap_token}
+use Rattle.std.proofs.Common.{T}
+use mir.Syntax.{ty_unit}
+use mir.Val.{has_ty}
 use denote.Triple.Call.{calls_at_last}
-use denote.Triple.Walked.{Stays, stay_dropped, walk_of, Goes-dropped}
-use Rattle.core.specs.Allocator.{owned_block}
-use Rattle.core.proofs.slots.Bodies.{after as from_on}
 use Rattle.std_heap.specs.contracts.Global as Heap
 use Rattle.std_heap.proofs.GlobalAllocator.deallocate.Met as deallocates
-use Rattle.std_alloc.proofs.RcSteps.{word-Good}
-use Rattle.rtrb.proofs.Calls.{fm}
-use Rattle.rtrb.proofs.Walks.{proved, leaves}
 use Rattle.piper_ring.specs.Memory.{IsClaim, purpose, unused}
-use Rattle.piper_ring.specs.Shared.{heap_token}
 use Rattle.piper_ring.proofs.Fields.{seat_val, memory_told}
 use Rattle.piper_ring.proofs.Heap.{Frees, freeing, may_free, was_freed}
 use Rattle.piper_ring.specs.contracts.ring.memory.Memory as Memory

@@ -1,13 +1,8 @@
 -- A `&` to places that need not be set lends none of them. Assumes `Logic`.
-use denote.RawPtr.{RawPtr}
-use denote.SharingLaws.{said_shr_laws}
-use denote.Param.Shared.{copy_shared}
-use denote.Struct.Laws.{field_copy}
-use denote.Struct.Lending.{of_Lends, Lends-first, Lends-said}
+use Rattle.piper_ring.proofs.Kit.{RawPtr, said_shr_laws, copy_shared, field_copy, of_Lends, Lends-first, Lends-said, span, unset}
 use denote.Sharing.{said}
 use Rattle.core.specs.contracts.marker.PhantomData as marker
-use Rattle.rtrb.specs.Shared.{span}
-use Rattle.piper_ring.specs.Places.{fact, Placed, unset}
+use Rattle.piper_ring.specs.Places.{fact, Placed}
 use Rattle.piper_ring.specs.contracts.ring.places.Blank as C
 use Rattle.piper_ring.proofs.ring.places.Blank.TheLaw.Statement.{statement}
 

@@ -1,29 +1,6 @@
 -- `join` glues two runs of places. Assumes `Logic`.
-use Rattle.std.proofs.Common.{◌≡◌, ℕ, ◌+◌, List, [], ◌∷◌, refl}
-use mir.Syntax.{named}
-use mir.Val.{Val, vptr, vunit}
-use base.Logic.{SProp, emp}
-use base.Fraction.{full_share}
-use base.Fml.{Fml, ftrue, flft}
-use types.Kit.{‵, raw, ◌⊛◌, given, ◌$◌, ◌∵◌, !, qed, by, move, keep, split, join, fsplit, fsplit3, fjoin, fjoin3, fpick, fpack, learn, use0, use2, rewrite, feq_i}
-use types.Kit.{drop as forget}
-use types.Run.{unit_lit, of_opd, returns, enter}
-use types.ByLocal.{alloc_all, pass_all, free_all, look_at, sets, env}
-use contract.Monad.{fact, fact_i}
-use contract.Running.{tables}
-use denote.Exit.{yes}
-use denote.RattleType.{RattleType, owns}
-use denote.Signature.{types_at, plain}
-use denote.RawPtr.{Ptr}
-use denote.Laws.{Is, shows}
-use denote.Memory.{cell_at}
-use denote.Ref.{mut_vals, mut_Tells}
-use denote.Steps.{nothing, peeks, opens, closes}
-use denote.Triple.Walked.{Stays, stay_ref, stay_dropped, walk_of, Goes-ref, Goes-dropped}
-use Rattle.rtrb.specs.Shared.{span}
-use Rattle.rtrb.proofs.Spans.{span_join}
-use Rattle.rtrb.proofs.Walks.{proved, leaves}
-use Rattle.piper_ring.specs.Places.{unset, Placed}
+use Rattle.piper_ring.proofs.Kit.{◌≡◌, ℕ, ◌+◌, List, [], ◌∷◌, refl, named, Val, vptr, vunit, SProp, emp, full_share, Fml, ftrue, flft, ‵, raw, ◌⊛◌, given, ◌$◌, ◌∵◌, !, qed, by, move, keep, split, join, fsplit, fsplit3, fjoin, fjoin3, fpick, fpack, learn, use0, use2, rewrite, feq_i, drop as forget, unit_lit, of_opd, returns, enter, alloc_all, pass_all, free_all, look_at, sets, env, fact, fact_i, tables, yes, RattleType, owns, types_at, plain, Ptr, Is, shows, cell_at, mut_vals, mut_Tells, nothing, peeks, opens, closes, Stays, stay_ref, stay_dropped, walk_of, Goes-ref, Goes-dropped, span, span_join, proved, leaves, unset}
+use Rattle.piper_ring.specs.Places.{Placed}
 use Rattle.piper_ring.proofs.Fields.{ghost_val, BlankData, blank_told, blank_made}
 use Rattle.piper_ring.specs.contracts.ring.places.Blank as Blank
 use Rattle.piper_ring.specs.contracts.ring.places.Blank.join.{ended, clauses}

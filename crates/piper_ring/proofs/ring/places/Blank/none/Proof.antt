@@ -1,28 +1,5 @@
 -- `none` makes the owner of no places. Assumes `Logic`.
-use Rattle.std.proofs.Common.{◌≡◌, ℕ, ◌+◌, List, [], ◌∷◌, refl, w64}
-use mir.Syntax.{named}
-use mir.Val.{Val, vint, vptr}
-use base.Logic.{SProp, emp}
-use base.Fraction.{full_share}
-use base.Fml.{ftrue, flft}
-use types.Kit.{‵, raw, ◌⊛◌, ◌$◌, ◌∵◌, !, qed, by, move, keep, split, join, fsplit, fsplit3, fjoin, fjoin3, fpick, fpack, use0, rewrite, feq_i}
-use types.Kit.{drop as forget}
-use types.Run.{no_more, and_then, returns, enter}
-use types.ByLocal.{alloc_all, pass_all, free_all, look_at, get, sets, env}
-use types.Part.{agg}
-use contract.Monad.{fact, fact_i}
-use contract.Running.{tables}
-use denote.Exit.{yes}
-use denote.RattleType.{RattleType, owns}
-use denote.Signature.{types_at, plain}
-use denote.Builtin.{usize}
-use denote.Laws.{Is, shows}
-use denote.Memory.{cell_at}
-use denote.Plain.{uint_vals, uint_Tells}
-use denote.Ref.{mut_vals, mut_Tells}
-use denote.Steps.{nothing, peeks, opens, closes}
-use denote.Triple.Walked.{Stays, stay_ref, stay_dropped, walk_of, Goes-ref, Goes-dropped}
-use Rattle.rtrb.proofs.Walks.{proved, leaves}
+use Rattle.piper_ring.proofs.Kit.{◌≡◌, ℕ, ◌+◌, List, [], ◌∷◌, refl, w64, named, Val, vint, vptr, SProp, emp, full_share, ftrue, flft, ‵, raw, ◌⊛◌, ◌$◌, ◌∵◌, !, qed, by, move, keep, split, join, fsplit, fsplit3, fjoin, fjoin3, fpick, fpack, use0, rewrite, feq_i, drop as forget, no_more, and_then, returns, enter, alloc_all, pass_all, free_all, look_at, get, sets, env, agg, fact, fact_i, tables, yes, RattleType, owns, types_at, plain, usize, Is, shows, cell_at, uint_vals, uint_Tells, mut_vals, mut_Tells, nothing, peeks, opens, closes, Stays, stay_ref, stay_dropped, walk_of, Goes-ref, Goes-dropped, proved, leaves}
 use Rattle.piper_ring.specs.Places.{Placed}
 use Rattle.piper_ring.proofs.Fields.{ghost_val, PlacesData, places_made, BlankData, blank_told, blank_made}
 use Rattle.piper_ring.specs.contracts.ring.places.Places as Places

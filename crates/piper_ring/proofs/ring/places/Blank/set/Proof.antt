@@ -1,36 +1,9 @@
 -- `set` writes one byte through the pointer. Assumes `Logic`.
-use Rattle.std.proofs.Common.{◌≡◌, ℕ, suc, ◌+◌, ◌-◌, ◌<◌, List, [], ◌∷◌, sym, refl, ◌∙◌, arith, lit<, w8, w64}
-use mir.Syntax.{named, ty_int}
-use mir.Val.{Val, vint, vptr}
-use base.Logic.{SProp, emp}
-use base.Fraction.{full_share}
-use base.Fml.{ftrue, flft, fat, froom}
-use types.Kit.{‵, raw, ◌⊛◌, given, at_ret, ◌$◌, ◌∵◌, !, qed, by, move, keep, split, join, fsplit, fsplit3, fjoin, fjoin3, fpick, fpack, learn, use0, use1, rewrite, feq_i}
-use types.Kit.{drop as forget}
-use types.Run.{stop, fld, init, lit, of_opd, bin, no_more, and_then, first, blocks, exec, assigns_last, returns, enter}
-use types.ByLocal.{alloc_all, pass_all, free_all, look_at, get, get_in, through, sets, take_at, give_at, env}
-use types.Part.{agg, sub, whole}
-use contract.Monad.{fact, fact_i}
-use contract.Running.{tables}
-use denote.Exit.{yes}
-use denote.RattleType.{RattleType, owns}
-use denote.Signature.{types_at, plain}
-use denote.RawPtr.{Ptr, block_ptr, block_of, count_of, at_block}
-use denote.Param.{layout}
-use denote.Builtin.{u8, usize}
-use denote.Laws.{Is, shows}
-use denote.Memory.{cell_at, part_at}
-use denote.Plain.{uint_in, uint_vals, uint_Tells}
-use denote.Ref.{mut_vals, mut_Tells}
-use denote.Steps.{nothing, peeks, opens, closes}
-use denote.Triple.Walked.{Stays, stay_ref, stay_dropped, walk_of, Goes-ref, Goes-dropped}
-use Rattle.std_alloc.proofs.RcSteps.{word, word-Good}
-use Rattle.core.proofs.atomic.Steps.{tail}
-use Rattle.rtrb.specs.Fifo.{slot_of as offset_of}
-use Rattle.rtrb.specs.Shared.{span}
+use Rattle.piper_ring.proofs.Kit.{◌≡◌, ℕ, suc, ◌+◌, ◌-◌, ◌<◌, List, [], ◌∷◌, sym, refl, ◌∙◌, arith, lit<, w8, w64, named, ty_int, Val, vint, vptr, SProp, emp, full_share, ftrue, flft, fat, froom, ‵, raw, ◌⊛◌, given, at_ret, ◌$◌, ◌∵◌, !, qed, by, move, keep, split, join, fsplit, fsplit3, fjoin, fjoin3, fpick, fpack, learn, use0, use1, rewrite, feq_i, drop as forget, stop, fld, init, lit, of_opd, bin, no_more, and_then, first, blocks, exec, assigns_last, returns, enter, alloc_all, pass_all, free_all, look_at, get, get_in, through, sets, take_at, give_at, env, agg, sub, whole, fact, fact_i, tables, yes, RattleType, owns, types_at, plain, Ptr, block_ptr, block_of, count_of, at_block, layout, u8, usize, Is, shows, cell_at, part_at, uint_vals, uint_Tells, mut_vals, mut_Tells, nothing, peeks, opens, closes, Stays, stay_ref, stay_dropped, walk_of, Goes-ref, Goes-dropped, word-Good, tail, slot_of as offset_of, span, proved, leaves, unset, place}
+use denote.Plain.{uint_in}
+use Rattle.std_alloc.proofs.RcSteps.{word}
 use Rattle.rtrb.proofs.Spans.{span_first}
-use Rattle.rtrb.proofs.Walks.{proved, leaves}
-use Rattle.piper_ring.specs.Places.{unset, place, Placed}
+use Rattle.piper_ring.specs.Places.{Placed}
 use Rattle.piper_ring.proofs.Fields.{ghost_val, PlacesData, places_made, BlankData, blank_told, blank_made}
 use Rattle.piper_ring.specs.contracts.ring.places.Places as Places
 use Rattle.piper_ring.specs.contracts.ring.places.Blank as Blank

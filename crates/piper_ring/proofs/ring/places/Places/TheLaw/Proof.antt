@@ -1,8 +1,5 @@
 -- A `&` to places lends each byte. Assumes `Logic`.
-use denote.RawPtr.{RawPtr}
-use denote.Param.Shared.{copy_shared}
-use denote.Struct.Laws.{field_copy}
-use denote.Struct.Lending.{of_Lends}
+use Rattle.piper_ring.proofs.Kit.{RawPtr, copy_shared, field_copy, of_Lends}
 use Rattle.core.specs.contracts.marker.PhantomData as marker
 use Rattle.piper_ring.specs.contracts.ring.places.Places as C
 use Rattle.piper_ring.proofs.ring.places.Places.TheLaw.Statement.{statement}

@@ -1,8 +1,5 @@
 -- Threads may share it.
-use denote.Param.Send.{IsSync, sendable}
-use denote.Builtin.{u8}
-use denote.Struct.Struct.{Struct}
-use denote.Struct.Owning.{shape}
+use Rattle.piper_ring.proofs.Kit.{IsSync, sendable, u8, Struct, shape}
 use Rattle.piper_ring.specs.contracts.ring.places.Places.{the_row, the_type}
 use Rattle.piper_ring.proofs.PlacesLaws.{places-Common}
 

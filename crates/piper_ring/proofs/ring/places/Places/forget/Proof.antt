@@ -1,24 +1,5 @@
 -- `forget` gives the bytes up, and keeps their places. Assumes `Logic`.
-use Rattle.std.proofs.Common.{◌≡◌, ℕ, List, [], ◌∷◌, length, refl}
-use mir.Val.{Val}
-use base.Logic.{SProp, emp}
-use base.Fml.{ftrue}
-use types.Kit.{‵, raw, ◌⊛◌, ◌$◌, ◌∵◌, !, qed, by, move, keep, split, fsplit, fjoin, use0, use1}
-use types.Kit.{drop as forget}
-use types.Run.{no_more, and_then, returns, enter}
-use types.ByLocal.{alloc_all, pass_all, free_all, look_at, get, sets, env}
-use types.Part.{agg}
-use contract.Monad.{fact, fact_i}
-use contract.Running.{tables}
-use denote.Exit.{yes}
-use denote.RattleType.{RattleType, owns}
-use denote.Signature.{types_at, plain}
-use denote.Steps.{nothing}
-use denote.Triple.Entry.{alive}
-use denote.Triple.Walked.{Stays, stay_dropped, walk_of, Goes-dropped}
-use Rattle.rtrb.specs.Shared.{span}
-use Rattle.rtrb.proofs.Walks.{proved, leaves}
-use Rattle.piper_ring.specs.Places.{unset}
+use Rattle.piper_ring.proofs.Kit.{◌≡◌, ℕ, List, [], ◌∷◌, length, refl, Val, SProp, emp, ftrue, ‵, raw, ◌⊛◌, ◌$◌, ◌∵◌, !, qed, by, move, keep, split, fsplit, fjoin, use0, use1, drop as forget, no_more, and_then, returns, enter, alloc_all, pass_all, free_all, look_at, get, sets, env, agg, fact, fact_i, tables, yes, RattleType, owns, types_at, plain, nothing, alive, Stays, stay_dropped, walk_of, Goes-dropped, span, proved, leaves, unset}
 use Rattle.piper_ring.proofs.Fields.{ghost_val, places_told, BlankData, blank_made}
 use Rattle.piper_ring.proofs.PlacesParts.{forgets}
 use Rattle.piper_ring.specs.contracts.ring.places.Places as Places

@@ -1,42 +1,12 @@
 -- `slice` shows the front of the places that a `&` lends. Assumes `Logic`.
-use Rattle.std.proofs.Common.{◌≡◌, ℕ, ◌+◌, ◌*◌, ◌^◌, ◌<◌, ◌≤◌, List, [], ◌∷◌, length, take, length-take, sym, refl, ap, ◌∙◌, arith, w64}
-use mir.Syntax.{named}
-use mir.Val.{Val, vint, vptr}
-use base.Logic.{SProp, emp}
-use base.Fml.{ftrue, flft, fhide, fat}
-use base.Fraction.{full_share}
-use types.Kit.{‵, raw, ◌⊛◌, given, at_ret, ◌$◌, ◌∵◌, !, qed, by, move, keep, drop, split, join, fsplit, fjoin, fpick, learn, use0, use1, rewrite, feq_i, flt_i}
-use types.Run.{stop, fld, of_opd, and_then, no_more, bin, first, blocks, exec, returns, enter}
-use types.ByLocal.{alloc_all, pass_all, free_all, look_at, get, get_in, sets, sets_last, take_at, give_at, env}
-use types.Part.{agg, sub, whole}
-use contract.Monad.{fact, fact_i}
-use contract.Running.{tables}
-use denote.Exit.{yes}
-use denote.RattleType.{RattleType, owns}
-use denote.Signature.{types_at, plain}
-use denote.RawPtr.{Ptr, block_ptr, block_of, count_of, at_block}
-use denote.Builtin.{u8, usize, RefOf}
-use denote.Plain.{uint_vals, uint_Tells}
-use denote.Ref.{shr_vals, shr_Tells}
-use denote.Memory.{hidden_shr}
-use denote.Opens.{hide, unhide}
-use denote.Steps.{nothing}
+use Rattle.piper_ring.proofs.Kit.{◌≡◌, ℕ, ◌+◌, ◌*◌, ◌^◌, ◌<◌, ◌≤◌, List, [], ◌∷◌, length, take, sym, refl, ap, ◌∙◌, arith, w64, named, Val, vint, vptr, SProp, emp, ftrue, flft, fhide, fat, full_share, ‵, raw, ◌⊛◌, given, at_ret, ◌$◌, ◌∵◌, !, qed, by, move, keep, drop, split, join, fsplit, fjoin, fpick, learn, use0, use1, rewrite, feq_i, flt_i, stop, fld, of_opd, and_then, no_more, bin, first, blocks, exec, returns, enter, alloc_all, pass_all, free_all, look_at, get, get_in, sets, sets_last, take_at, give_at, env, agg, sub, whole, fact, fact_i, tables, yes, RattleType, owns, types_at, plain, Ptr, block_ptr, block_of, count_of, at_block, u8, usize, RefOf, uint_vals, uint_Tells, shr_vals, shr_Tells, hidden_shr, hide, unhide, nothing, lent_out, Struct, shape, RawPtr, layout, word-Good, Stays, stay_dropped, walk_of, Goes-dropped, tail, proved, leaves, places_lent, slot_of as offset_of}
+use Rattle.std.proofs.Common.{length-take}
 use denote.Slice.{slice_val, elements_shared}
-use denote.Struct.Lending.{lent_out}
-use denote.Struct.Struct.{Struct}
-use denote.Struct.Owning.{shape}
-use denote.RawPtr.{RawPtr}
 use Rattle.core.specs.contracts.marker.PhantomData as marker
-use denote.Param.{layout}
-use Rattle.std_alloc.proofs.RcSteps.{word, word-Good}
-use denote.Triple.Walked.{Stays, stay_dropped, walk_of, Goes-dropped}
-use Rattle.core.proofs.atomic.Steps.{tail}
-use Rattle.rtrb.proofs.Walks.{proved, leaves}
-use Rattle.piper_ring.specs.Places.{places_lent}
+use Rattle.std_alloc.proofs.RcSteps.{word}
 use Rattle.piper_ring.specs.contracts.ring.places.Places as Places
 use Rattle.piper_ring.specs.contracts.ring.places.Base as Base
 use Rattle.piper_ring.proofs.ring.places.Base.TheLaws.{lowers}
-use Rattle.rtrb.specs.Fifo.{slot_of as offset_of}
 use Rattle.piper_ring.proofs.PlacesParts.{seen}
 use Rattle.piper_ring.specs.contracts.ring.places.Places.slice.{ended, clauses}
 use Rattle.piper_ring.specs.contracts.ring.places.Places.slice.Key.{name as #self}

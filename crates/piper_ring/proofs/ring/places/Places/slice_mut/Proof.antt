@@ -1,43 +1,19 @@
 -- `slice_mut` lends the bytes, and their owner follows what is written. Assumes `Logic`.
-use Rattle.std.proofs.Common.{◌≡◌, ℕ, ◌+◌, ◌*◌, ◌^◌, ◌<◌, ◌≤◌, List, [], ◌∷◌, length, drop, sym, refl, ◌∙◌, arith, w64}
-use mir.Syntax.{named}
-use mir.Val.{Val, vint, vptr}
-use seplogic.Ra.Ura.{Ura}
-use base.Logic.{SProp, ent, sep, id⊢}
-use base.Fml.{Fml, GName, ftrue, fsep, flft, fat}
-use base.Fraction.{full_share}
-use types.Logic.{Logic, sem}
+use Rattle.piper_ring.proofs.Kit.{◌≡◌, ℕ, ◌+◌, ◌*◌, ◌^◌, ◌<◌, ◌≤◌, List, [], ◌∷◌, length, sym, refl, ◌∙◌, arith, w64, named, Val, vint, vptr, Ura, SProp, ent, sep, id⊢, Fml, GName, ftrue, fsep, flft, fat, full_share, Logic, sem, ‵, raw, ◌⊛◌, some, given, later, await, pick, split3, at_ret, ◌$◌, ◌∵◌, !, qed, move, keep, split, join, fsplit, fsplit3, fjoin, fpick, fpack, learn, use1, rewrite, frame, suffices, done, drop as forget, stop, fld, of_opd, and_then, no_more, bin, first, blocks, exec, returns, enter, alloc_all, pass_all, free_all, look_at, get, get_in, sets, sets_last, is, take_at, give_at, env, agg, sub, whole, tables, yes, RattleType, owns, types_at, plain, Ptr, block_ptr, block_of, count_of, at_block, u8, usize, uint_vals, uint_Tells, mut_vals, mut_Tells, mem, cell_at, nothing, opens, Struct, shape, layout, Stays, stay_dropped, walk_of, Goes-dropped, tail, word-Good, proved, slot_of as offset_of, run, byte}
+use Rattle.std.proofs.Common.{drop}
 use types.SemTy.{cells}
-use types.Kit.{‵, raw, ◌⊛◌, some, given, later, await, pick, split3, at_ret, ◌$◌, ◌∵◌, !, qed, move, keep, group, split, join, fsplit, fsplit3, fjoin, fpick, fpack, learn, use1, rewrite, frame, suffices, done}
-use types.Kit.{drop as forget}
-use types.Run.{stop, fld, of_opd, and_then, no_more, bin, first, blocks, exec, returns, enter}
-use types.ByLocal.{alloc_all, pass_all, free_all, look_at, get, get_in, sets, sets_last, is, take_at, give_at, env}
-use types.Part.{agg, sub, whole}
-use contract.Running.{tables}
-use denote.Exit.{yes, no}
-use denote.RattleType.{RattleType, owns}
-use denote.Signature.{types_at, plain, mut_ref_to}
-use denote.RawPtr.{Ptr, block_ptr, block_of, count_of, at_block}
-use denote.Builtin.{u8, usize}
-use denote.Plain.{uint_vals, uint_Tells}
-use denote.Ref.{MutBor, mut_vals, mut_Tells}
-use denote.Memory.{mem, cell_at}
+use types.Kit.{group}
+use denote.Exit.{no}
+use denote.Signature.{mut_ref_to}
+use denote.Ref.{MutBor}
 use denote.Array.{Array}
 use denote.Follow.{follows}
 use denote.FollowSlice.{Elements, lends_Elements}
-use denote.Steps.{nothing, opens}
 use denote.Slice.{slice_val, MutSlice}
-use denote.Struct.Struct.{Struct}
-use denote.Struct.Owning.{shape}
-use denote.Param.{layout}
-use denote.Triple.Walked.{Stays, stay_dropped, walk_of, says, ends_at, Goes-dropped, Goes-spent_ref}
+use denote.Triple.Walked.{says, ends_at, Goes-spent_ref}
 use lib.Seq.{take_at as take_front}
-use Rattle.core.proofs.atomic.Steps.{tail}
-use Rattle.std_alloc.proofs.RcSteps.{word, word-Good}
-use Rattle.rtrb.proofs.Walks.{proved}
-use Rattle.rtrb.specs.Fifo.{slot_of as offset_of}
-use Rattle.rtrb.specs.Shared.{run}
-use Rattle.piper_ring.specs.Places.{byte, Placed}
+use Rattle.std_alloc.proofs.RcSteps.{word}
+use Rattle.piper_ring.specs.Places.{Placed}
 use Rattle.piper_ring.specs.Lends.{with_bytes, written}
 use Rattle.piper_ring.specs.contracts.ring.places.Places as Places
 use Rattle.piper_ring.specs.contracts.ring.places.Base as Base

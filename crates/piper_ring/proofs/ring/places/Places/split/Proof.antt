@@ -1,30 +1,7 @@
 -- `split` cuts the run of places in two. Assumes `Logic`.
-use Rattle.std.proofs.Common.{◌≡◌, ℕ, ◌+◌, ◌≤◌, List, [], ◌∷◌, length, take, drop, refl, w64}
-use mir.Syntax.{named}
-use mir.Val.{Val, vint, vptr}
-use base.Logic.{SProp, emp}
-use base.Fraction.{full_share}
-use base.Fml.{Fml, ftrue, flft}
-use types.Kit.{‵, raw, ◌⊛◌, given, ◌$◌, ◌∵◌, !, qed, by, move, keep, split, join, fsplit, fsplit3, fjoin, fjoin3, fpick, fpack, learn, use0, use1, rewrite, feq_i}
-use types.Kit.{drop as forget}
-use types.Run.{no_more, and_then, returns, enter}
-use types.ByLocal.{alloc_all, pass_all, free_all, look_at, get, sets, env}
-use types.Part.{agg}
-use contract.Monad.{fact, fact_i}
-use contract.Running.{tables}
-use denote.Exit.{yes}
-use denote.RattleType.{RattleType, owns}
-use denote.Signature.{types_at, plain}
-use denote.Builtin.{usize}
-use denote.Laws.{Is, shows}
-use denote.Memory.{cell_at}
-use denote.Ref.{mut_vals, mut_Tells}
-use denote.Plain.{uint_vals, uint_Tells}
-use denote.Steps.{nothing, peeks, opens, closes}
-use denote.Triple.Walked.{Stays, stay_ref, stay_dropped, walk_of, Goes-ref, Goes-dropped}
-use Rattle.rtrb.specs.Shared.{run}
-use Rattle.rtrb.proofs.Walks.{proved, leaves}
-use Rattle.piper_ring.specs.Places.{byte, Placed}
+use Rattle.piper_ring.proofs.Kit.{◌≡◌, ℕ, ◌+◌, ◌≤◌, List, [], ◌∷◌, length, take, refl, w64, named, Val, vint, vptr, SProp, emp, full_share, Fml, ftrue, flft, ‵, raw, ◌⊛◌, given, ◌$◌, ◌∵◌, !, qed, by, move, keep, split, join, fsplit, fsplit3, fjoin, fjoin3, fpick, fpack, learn, use0, use1, rewrite, feq_i, drop as forget, no_more, and_then, returns, enter, alloc_all, pass_all, free_all, look_at, get, sets, env, agg, fact, fact_i, tables, yes, RattleType, owns, types_at, plain, usize, Is, shows, cell_at, mut_vals, mut_Tells, uint_vals, uint_Tells, nothing, peeks, opens, closes, Stays, stay_ref, stay_dropped, walk_of, Goes-ref, Goes-dropped, run, proved, leaves, byte}
+use Rattle.std.proofs.Common.{drop}
+use Rattle.piper_ring.specs.Places.{Placed}
 use Rattle.piper_ring.proofs.Fields.{ghost_val, PlacesData, places_told, places_made}
 use Rattle.piper_ring.proofs.PlacesParts.{run_cut}
 use Rattle.piper_ring.specs.contracts.ring.places.Places.{the_row}

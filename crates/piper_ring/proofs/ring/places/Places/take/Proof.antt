@@ -1,26 +1,6 @@
 -- `take` hands the whole run over, and keeps none. Assumes `Logic`.
-use Rattle.std.proofs.Common.{◌≡◌, ℕ, ◌+◌, List, [], ◌∷◌, length, refl}
-use mir.Syntax.{named}
-use mir.Val.{Val, vptr}
-use base.Logic.{SProp, emp}
-use base.Fraction.{full_share}
-use base.Fml.{Fml, ftrue, flft}
-use types.Kit.{‵, raw, ◌⊛◌, ◌$◌, ◌∵◌, !, qed, by, move, keep, split, join, fsplit, fsplit3, fjoin, fjoin3, fpick, fpack, use0, rewrite, feq_i}
-use types.Kit.{drop as forget}
-use types.Run.{no_more, and_then, returns, enter}
-use types.ByLocal.{alloc_all, pass_all, free_all, look_at, get, sets, env}
-use types.Part.{agg}
-use contract.Monad.{fact, fact_i}
-use contract.Running.{tables}
-use denote.RattleType.{RattleType, owns}
-use denote.Signature.{types_at, plain}
-use denote.Laws.{Is, shows}
-use denote.Memory.{cell_at}
-use denote.Ref.{mut_vals, mut_Tells}
-use denote.Steps.{nothing, peeks, opens, closes}
-use denote.Triple.Walked.{Stays, stay_ref, walk_of, Goes-ref}
-use Rattle.rtrb.proofs.Walks.{proved, leaves}
-use Rattle.piper_ring.specs.Places.{byte, Placed}
+use Rattle.piper_ring.proofs.Kit.{◌≡◌, ℕ, ◌+◌, List, [], ◌∷◌, length, refl, named, Val, vptr, SProp, emp, full_share, Fml, ftrue, flft, ‵, raw, ◌⊛◌, ◌$◌, ◌∵◌, !, qed, by, move, keep, split, join, fsplit, fsplit3, fjoin, fjoin3, fpick, fpack, use0, rewrite, feq_i, drop as forget, no_more, and_then, returns, enter, alloc_all, pass_all, free_all, look_at, get, sets, env, agg, fact, fact_i, tables, RattleType, owns, types_at, plain, Is, shows, cell_at, mut_vals, mut_Tells, nothing, peeks, opens, closes, Stays, stay_ref, walk_of, Goes-ref, proved, leaves, byte}
+use Rattle.piper_ring.specs.Places.{Placed}
 use Rattle.piper_ring.proofs.Fields.{ghost_val, PlacesData, places_told, places_made}
 use Rattle.piper_ring.specs.contracts.ring.places.Places as Places
 use Rattle.piper_ring.specs.contracts.ring.places.Places.take.{ended, clauses}

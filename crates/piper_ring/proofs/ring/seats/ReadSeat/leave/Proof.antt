@@ -1,33 +1,6 @@
 -- `leave` is one swap: it gives the end's places to the invariant, and takes all of the memory out
 -- where the other end is gone. Assumes `Logic`.
-use Rattle.std.proofs.Common.{true, ◌≡◌, ℕ, ◌+◌, ◌-◌, ◌^◌, List, [], ◌∷◌, sym, refl, ap, arith, lit<, w64}
-use mir.Val.{Val, vint, vptr}
-use base.Logic.{SProp, emp}
-use base.Fml.{Fml, ftrue}
-use types.Kit.{‵, raw, ◌⊛◌, given, mean, at_ret, ◌$◌, ◌∵◌, !, qed, by, move, keep, drop, join, split, fsplit, fsplit3, fjoin, fpick, fpack, learn, use0, use1, use2, use3, rewrite, feq_i, flt_i}
-use types.Run.{stop, fld, lit, of_opd, bin, no_more, and_then, first, blocks, exec, Calls-last, returns, enter}
-use types.ByLocal.{alloc_all, pass_all, free_all, look_at, get, get_in, sets, lands_last, is, env}
-use types.Part.{agg, sub}
-use types.Part.{whole as shape_all}
-use contract.Monad.{fact, fact_i}
-use contract.Running.{tables}
-use denote.Exit.{yes}
-use denote.RattleType.{owns}
-use denote.Signature.{types_at, plain}
-use denote.RawPtr.{Ptr, block_ptr, ptr_val, block_of, count_of, at_block}
-use denote.Builtin.{u64}
-use denote.Steps.{nothing}
-use denote.Triple.Entry.{alive}
-use denote.Triple.Walked.{Stays, stay_dropped, walk_of, Goes-dropped}
-use Rattle.std_alloc.proofs.RcSteps.{word-Good}
-use Rattle.core.proofs.slots.Bodies.{after as from_on}
-use Rattle.core.specs.Sync.RawAtomic.{asks, always}
-use Rattle.rtrb.specs.Shared.{span}
-use Rattle.rtrb.proofs.Values.{pair_val, pair_of}
-use Rattle.rtrb.proofs.Walks.{proved, leaves}
-use Rattle.rtrb.proofs.Calls.{seq_cst, fm, found, finds, swaps}
-use Rattle.piper_ring.specs.Places.{unset}
-use Rattle.piper_ring.specs.Shared.{Names, Placed, flag, common, half, blanks, reader_knows, writer_knows, where_gone}
+use Rattle.piper_ring.proofs.Kit.{true, ◌≡◌, ℕ, ◌+◌, ◌-◌, ◌^◌, List, [], ◌∷◌, sym, refl, ap, arith, lit<, w64, Val, vint, vptr, SProp, emp, Fml, ftrue, ‵, raw, ◌⊛◌, given, mean, at_ret, ◌$◌, ◌∵◌, !, qed, by, move, keep, drop, join, split, fsplit, fsplit3, fjoin, fpick, fpack, learn, use0, use1, use2, use3, rewrite, feq_i, flt_i, stop, fld, lit, of_opd, bin, no_more, and_then, first, blocks, exec, Calls-last, returns, enter, alloc_all, pass_all, free_all, look_at, get, get_in, sets, lands_last, is, env, agg, sub, whole as shape_all, fact, fact_i, tables, yes, owns, types_at, plain, Ptr, block_ptr, ptr_val, block_of, count_of, at_block, u64, nothing, alive, Stays, stay_dropped, walk_of, Goes-dropped, word-Good, after as from_on, asks, always, span, pair_val, pair_of, proved, leaves, seq_cst, fm, found, finds, swaps, unset, Names, Placed, flag, common, half, blanks, reader_knows, where_gone}
 use Rattle.piper_ring.specs.Shared as shared
 use Rattle.piper_ring.proofs.Fields.{seat_val, ghost_val, read_told, blank_told, RemainsData, remains_made}
 use Rattle.piper_ring.proofs.Rights.{common_twice}

@@ -1,39 +1,8 @@
 -- `load_closed` is one load, beside a share of what the reader knows. Assumes `Logic`.
-use Rattle.std.proofs.Common.{arith, lit<, ◌≡◌, ℕ, ◌+◌, ◌^◌, ◌≤◌, List, [], ◌∷◌, false, sym, refl, ap, w64}
-use mir.Syntax.{named}
-use mir.Val.{Val, vint, vptr}
-use base.Logic.{SProp, emp, via}
-use base.Fml.{Share, Fml, ftrue, flft, fhide}
-use types.Kit.{‵, raw, ◌⊛◌, given, mean, at_ret, ◌$◌, ◌∵◌, !, qed, by, move, keep, drop, split, split3, join, fsplit, fsplit3, fjoin, fjoin3, fpick, fpack, learn, use0, use1, use3, rewrite, feq_i, flt_i}
-use types.Run.{stop, fld, load, look, lit, of_opd, bin, no_more, and_then, first, blocks, exec, Calls-last, returns, enter}
-use types.ByLocal.{alloc_all, pass_all, free_all, look_at, get, through, sets, lands_last, env}
-use types.Part.{agg}
-use types.Tokens.{shr_bor-open, obor_close}
-use contract.Monad.{fact, fact_i}
-use contract.Running.{tables}
-use denote.Exit.{yes}
-use denote.RattleType.{RattleType, owns}
-use denote.Signature.{types_at, plain}
-use denote.RawPtr.{Ptr, RawPtr, block_ptr, block_of, count_of, at_block}
-use denote.Builtin.{RefOf}
-use denote.Ref.{shr_vals, shr_Tells, mut_vals, mut_Tells}
-use denote.Memory.{hidden_shr}
-use denote.Opens.{hide, unhide}
-use denote.Steps.{nothing, opens, closes}
-use denote.Struct.Struct.{Struct}
-use denote.Struct.Owning.{shape}
-use denote.Struct.Lending.{lent_out}
-use denote.Triple.Walked.{Stays, stay_dropped, stay_ref, walk_of, Goes-dropped, Goes-ref}
-use Rattle.core.proofs.atomic.Steps.{tail}
-use Rattle.core.proofs.slots.Lent.{pointer_in, pointer_out}
-use Rattle.rtrb.proofs.Walks.{proved, leaves}
-use Rattle.rtrb.proofs.Calls.{seq_cst, fm, found, finds, loads}
+use Rattle.piper_ring.proofs.Kit.{arith, lit<, ◌≡◌, ℕ, ◌+◌, ◌^◌, ◌≤◌, List, [], ◌∷◌, false, sym, refl, ap, w64, named, Val, vint, vptr, SProp, emp, via, Share, Fml, ftrue, flft, fhide, ‵, raw, ◌⊛◌, given, mean, at_ret, ◌$◌, ◌∵◌, !, qed, by, move, keep, drop, split, split3, join, fsplit, fsplit3, fjoin, fjoin3, fpick, fpack, learn, use0, use1, use3, rewrite, feq_i, flt_i, stop, fld, load, look, lit, of_opd, bin, no_more, and_then, first, blocks, exec, Calls-last, returns, enter, alloc_all, pass_all, free_all, look_at, get, through, sets, lands_last, env, agg, shr_bor-open, obor_close, fact, fact_i, tables, yes, RattleType, owns, types_at, plain, Ptr, RawPtr, block_ptr, block_of, count_of, at_block, RefOf, shr_vals, shr_Tells, mut_vals, mut_Tells, hidden_shr, hide, unhide, nothing, opens, closes, Struct, shape, lent_out, Stays, stay_dropped, stay_ref, walk_of, Goes-dropped, Goes-ref, tail, pointer_in, pointer_out, proved, leaves, seq_cst, fm, found, finds, loads, announced, Names, flag, Placed, common, reader_knows, reader_lends, Stream, Reaches}
 use Rattle.core.specs.contracts.marker.PhantomData as marker
-use denote.RawPtr.{RawPtr}
 use Rattle.piper_ring.specs.contracts.ring.marks.WriteMark as Mark
-use Rattle.piper_ring.specs.Shared.{announced, Names, flag, Placed, common, reader_knows, reader_lends}
 use Rattle.piper_ring.proofs.Rights.{reader_halves}
-use Rattle.piper_ring.specs.Streams.{Stream, Reaches}
 use Rattle.piper_ring.proofs.Closing.{AfterEnd, reader_looks}
 use Rattle.piper_ring.proofs.Fields.{SentData}
 use Rattle.piper_ring.specs.contracts.ring.seats.ReadSeat as Seat

@@ -1,39 +1,9 @@
 -- `look_tail` is one load of the tail, beside a share of what the reader knows. Assumes `Logic`.
-use Rattle.std.proofs.Common.{lit<, ◌≡◌, ℕ, ◌+◌, ◌≤◌, ◌^◌, List, [], ◌∷◌, true, false, length, refl, w64}
-use mir.Syntax.{named}
-use mir.Val.{Val, vint, vptr}
-use base.Logic.{SProp, emp, via}
-use base.Fml.{Share, Fml, ftrue, flft, fhide}
-use types.Kit.{‵, raw, ◌⊛◌, given, learn, split3, rewrite, use3, mean, at_ret, ◌$◌, ◌∵◌, !, qed, by, move, keep, drop, split, join, fsplit, fjoin, fpick, fpack, use0, use1, use2, feq_i, flt_i}
-use types.Run.{stop, fld, load, look, lit, of_opd, bin, no_more, and_then, first, blocks, exec, Calls-last, returns, enter}
-use types.ByLocal.{alloc_all, pass_all, free_all, look_at, get, through, sets, lands_last, env}
-use types.Part.{agg}
-use types.Tokens.{shr_bor-open, obor_close}
-use contract.Monad.{fact, fact_i}
-use contract.Running.{tables}
-use denote.Exit.{yes}
-use denote.RattleType.{RattleType, owns}
-use denote.Signature.{types_at, plain}
-use denote.RawPtr.{Ptr, block_ptr, block_of, count_of, at_block}
-use denote.Builtin.{RefOf, RawPtr, u64}
-use denote.Ref.{shr_vals, shr_Tells}
-use denote.Memory.{hidden_shr}
-use denote.Opens.{hide, unhide}
-use denote.Steps.{nothing}
-use denote.Struct.Struct.{Struct}
-use denote.Struct.Owning.{shape}
-use denote.Struct.Lending.{lent_out}
-use denote.Triple.Walked.{Stays, stay_dropped, walk_of, Goes-dropped}
-use Rattle.core.proofs.atomic.Steps.{tail}
-use Rattle.core.proofs.slots.Lent.{pointer_in, pointer_out}
+use Rattle.piper_ring.proofs.Kit.{lit<, ◌≡◌, ℕ, ◌+◌, ◌≤◌, ◌^◌, List, [], ◌∷◌, true, false, length, refl, w64, named, Val, vint, vptr, SProp, emp, via, Share, Fml, ftrue, flft, fhide, ‵, raw, ◌⊛◌, given, learn, split3, rewrite, use3, mean, at_ret, ◌$◌, ◌∵◌, !, qed, by, move, keep, drop, split, join, fsplit, fjoin, fpick, fpack, use0, use1, use2, feq_i, flt_i, stop, fld, load, look, lit, of_opd, bin, no_more, and_then, first, blocks, exec, Calls-last, returns, enter, alloc_all, pass_all, free_all, look_at, get, through, sets, lands_last, env, agg, shr_bor-open, obor_close, fact, fact_i, tables, yes, RattleType, owns, types_at, plain, Ptr, block_ptr, block_of, count_of, at_block, RefOf, u64, shr_vals, shr_Tells, hidden_shr, hide, unhide, nothing, Struct, shape, lent_out, Stays, stay_dropped, walk_of, Goes-dropped, tail, pointer_in, pointer_out, position_of, proved, leaves, pair_val, pair_of, seq_cst, fm, found, finds, loads, announced, Names, flag, Placed, common, reader_knows, reader_lends}
+use denote.Builtin.{RawPtr}
 use Rattle.core.specs.contracts.marker.PhantomData as marker
-use Rattle.rtrb.specs.Fifo.{position_of}
-use Rattle.rtrb.proofs.Walks.{proved, leaves}
-use Rattle.rtrb.proofs.Values.{pair_val, pair_of}
 use Rattle.piper_ring.proofs.Fields.{ghost_val, SentData, sent_made}
 use Rattle.piper_ring.specs.contracts.ring.marks.WriteMark as Mark
-use Rattle.rtrb.proofs.Calls.{seq_cst, fm, found, finds, loads}
-use Rattle.piper_ring.specs.Shared.{announced, Names, flag, Placed, common, reader_knows, reader_lends}
 use Rattle.piper_ring.proofs.Rights.{reader_halves}
 use Rattle.piper_ring.proofs.Steps.{flag_small, AfterLook, looks_tail}
 use Rattle.piper_ring.specs.contracts.ring.seats.ReadSeat as Seat

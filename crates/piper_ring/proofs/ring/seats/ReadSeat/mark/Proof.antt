@@ -1,34 +1,6 @@
 -- `mark` copies evidence out of a share of what the writer knows. Assumes `Logic`.
-use Rattle.std.proofs.Common.{arith, ◌≡◌, ℕ, [], ◌∷◌, refl}
-use mir.Syntax.{named}
-use mir.Val.{Val, vptr}
-use base.Logic.{SProp, emp}
-use base.Fml.{Share, ftrue, flft, fhide}
-use types.Kit.{‵, raw, ◌⊛◌, ◌$◌, ◌∵◌, !, qed, by, move, keep, drop, split, join, fsplit, fjoin, use0, use1}
-use types.Run.{no_more, and_then, returns, enter}
-use types.ByLocal.{alloc_all, pass_all, free_all, look_at, get, sets, env}
-use types.Part.{agg}
-use types.Tokens.{shr_bor-open, obor_close}
-use contract.Monad.{fact, fact_i}
-use contract.Running.{tables}
-use denote.Exit.{yes}
-use denote.RattleType.{RattleType, owns}
-use denote.Signature.{types_at, plain}
-use denote.RawPtr.{Ptr}
-use denote.Builtin.{RefOf}
-use denote.Ref.{shr_vals, shr_Tells}
-use denote.Memory.{hidden_shr}
-use denote.Opens.{unhide}
-use denote.Steps.{nothing}
-use denote.Struct.Struct.{Struct}
-use denote.Struct.Owning.{shape}
-use denote.Struct.Lending.{lent_out}
-use denote.Triple.Walked.{Stays, stay_dropped, walk_of, Goes-dropped}
-use Rattle.rtrb.proofs.Walks.{proved, leaves}
-use Rattle.piper_ring.specs.Shared.{flag, Names, took, reader_lends}
+use Rattle.piper_ring.proofs.Kit.{arith, ◌≡◌, ℕ, [], ◌∷◌, refl, named, Val, vptr, SProp, emp, Share, ftrue, flft, fhide, ‵, raw, ◌⊛◌, ◌$◌, ◌∵◌, !, qed, by, move, keep, drop, split, join, fsplit, fjoin, use0, use1, no_more, and_then, returns, enter, alloc_all, pass_all, free_all, look_at, get, sets, env, agg, shr_bor-open, obor_close, fact, fact_i, tables, yes, RattleType, owns, types_at, plain, Ptr, RefOf, shr_vals, shr_Tells, hidden_shr, unhide, nothing, Struct, shape, lent_out, Stays, stay_dropped, walk_of, Goes-dropped, proved, leaves, flag, Names, took, reader_lends, latest, numbers, latest_shows}
 use Rattle.piper_ring.proofs.Fields.{ghost_val, TookData, took_made}
-use base.Growing.{latest, numbers}
-use types.Growing.{latest_shows}
 use Rattle.piper_ring.proofs.Rights.{reader_halves}
 use Rattle.piper_ring.specs.contracts.ring.seats.ReadSeat as Seat
 use Rattle.piper_ring.specs.contracts.ring.seats.ReadSeat.mark.{ended, clauses}

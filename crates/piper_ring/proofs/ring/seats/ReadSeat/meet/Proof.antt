@@ -1,41 +1,11 @@
 -- `meet` is no step of the program. Assumes `Logic`.
-use Rattle.std.proofs.Common.{◌≤◌, false, ◌≡◌, ℕ, ◌+◌, List, [], ◌∷◌, ◌++◌, length, sym, refl}
-use mir.Syntax.{named}
-use mir.Val.{Val, vptr}
-use base.Logic.{SProp, emp}
-use base.Fml.{Fml, ftrue, flft, fhide}
-use denote.Exit.{yes}
-use denote.RawPtr.{RawPtr}
-use denote.Builtin.{RefOf}
-use denote.Ref.{shr_vals, shr_Tells}
-use denote.Memory.{hidden_shr}
-use denote.Opens.{unhide}
-use denote.Struct.Lending.{lent_out}
+use Rattle.piper_ring.proofs.Kit.{◌≤◌, false, ◌≡◌, ℕ, ◌+◌, List, [], ◌∷◌, ◌++◌, length, sym, refl, named, Val, vptr, SProp, emp, Fml, ftrue, flft, fhide, yes, RawPtr, RefOf, shr_vals, shr_Tells, hidden_shr, unhide, lent_out, Reaches, ‵, raw, ◌⊛◌, given, ◌$◌, ◌∵◌, !, qed, by, move, keep, drop, split, split3, join, fsplit, fsplit3, fjoin, fjoin3, fpick, fpack, learn, use0, use1, use2, use3, rewrite, feq_i, no_more, and_then, returns, enter, alloc_all, pass_all, free_all, look_at, get, sets, env, agg, fact, fact_i, some, later, await, pick, tables, RattleType, owns, types_at, plain, Ptr, mut_vals, mut_Tells, nothing, opens, closes, Stays, stay_ref, stay_dropped, walk_of, Goes-ref, Goes-dropped, run, proved, leaves, byte, flag, raised, announced, began, Names, Placed, half, common, reader_knows, writer_knows, writer_owns, pair_val, pair_of}
 use Rattle.core.specs.contracts.marker.PhantomData as marker
 use Rattle.piper_ring.specs.contracts.ring.marks.Saw as Seen
 use Rattle.piper_ring.specs.contracts.ring.marks.WriteMark as Mark
-use Rattle.piper_ring.specs.Streams.{Reaches}
-use types.Kit.{‵, raw, ◌⊛◌, given, ◌$◌, ◌∵◌, !, qed, by, move, keep, drop, split, split3, join, fsplit, fsplit3, fjoin, fjoin3, fpick, fpack, learn, use0, use1, use2, use3, rewrite, feq_i}
-use types.Run.{no_more, and_then, returns, enter}
-use types.ByLocal.{alloc_all, pass_all, free_all, look_at, get, sets, env}
-use types.Part.{agg}
-use contract.Monad.{fact, fact_i}
-use types.Kit.{some, later, await, pick}
-use contract.Running.{tables}
-use denote.RattleType.{RattleType, owns}
-use denote.Signature.{types_at, plain}
-use denote.RawPtr.{Ptr}
-use denote.Ref.{mut_vals, mut_Tells}
-use denote.Steps.{nothing, opens, closes}
-use denote.Triple.Walked.{Stays, stay_ref, stay_dropped, walk_of, Goes-ref, Goes-dropped}
-use Rattle.rtrb.specs.Shared.{run}
-use Rattle.rtrb.proofs.Walks.{proved, leaves}
-use Rattle.piper_ring.specs.Places.{byte}
 use Rattle.piper_ring.specs.Places as P
-use Rattle.piper_ring.specs.Shared.{flag, raised, announced, began, Names, Placed, half, common, reader_knows, writer_knows, writer_owns}
 use Rattle.piper_ring.proofs.Fields.{SentData, SawData, ghost_val, PlacesData, places_made}
 use Rattle.piper_ring.specs.Stretches.{AreOfOneRing}
-use Rattle.rtrb.proofs.Values.{pair_val, pair_of}
 use Rattle.piper_ring.proofs.Meet.{Apart, joins}
 use Rattle.piper_ring.proofs.Rights.{common_twice}
 use Rattle.piper_ring.specs.contracts.ring.places.Places as Places

@@ -1,38 +1,7 @@
 -- `meet_slot` is no step of the program. Assumes `Logic`.
-use Rattle.std.proofs.Common.{◌≡◌, ℕ, List, [], ◌∷◌, sym, refl}
-use mir.Syntax.{named}
-use mir.Val.{Val, vptr, vunit}
-use base.Logic.{SProp, emp}
-use base.Fml.{Share, Fml, ftrue, flft, fhide}
-use types.Kit.{‵, raw, ◌⊛◌, given, ◌$◌, ◌∵◌, !, qed, by, move, keep, drop, split, split3, join, fsplit, fsplit3, fjoin, fjoin3, learn, use0, use1, rewrite, feq_i}
-use types.Run.{unit_lit, of_opd, returns, enter}
-use types.ByLocal.{alloc_all, pass_all, free_all, look_at, sets, env}
-use types.Tokens.{shr_bor-open, obor_close}
-use contract.Monad.{fact, fact_i}
-use contract.Running.{tables}
-use denote.Exit.{yes}
-use denote.RattleType.{RattleType, owns}
-use denote.Signature.{types_at, plain}
-use denote.RawPtr.{Ptr}
-use denote.Builtin.{RefOf}
-use denote.Ref.{shr_vals, shr_Tells, mut_vals, mut_Tells}
-use denote.Memory.{hidden_shr}
-use denote.Opens.{unhide}
-use denote.Steps.{nothing, opens, closes}
-use denote.Struct.Struct.{Struct}
-use denote.Struct.Owning.{shape}
-use denote.Struct.Lending.{lent_out}
-use denote.Triple.Walked.{Stays, stay_dropped, stay_ref, walk_of, Goes-dropped, Goes-ref}
-use Rattle.rtrb.proofs.Walks.{proved, leaves}
-use Rattle.piper_ring.specs.Streams.{Stream}
-use Rattle.piper_ring.specs.Slots.{Waits, Wakes}
-use Rattle.piper_ring.specs.SlotViews.{of_reader_waits, of_writer_wakes}
-use Rattle.piper_ring.specs.Shared.{Names, flag, common, reader_knows, reader_lends}
+use Rattle.piper_ring.proofs.Kit.{◌≡◌, ℕ, List, [], ◌∷◌, sym, refl, named, Val, vptr, vunit, SProp, emp, Share, Fml, ftrue, flft, fhide, ‵, raw, ◌⊛◌, given, ◌$◌, ◌∵◌, !, qed, by, move, keep, drop, split, split3, join, fsplit, fsplit3, fjoin, fjoin3, learn, use0, use1, rewrite, feq_i, unit_lit, of_opd, returns, enter, alloc_all, pass_all, free_all, look_at, sets, env, shr_bor-open, obor_close, fact, fact_i, tables, yes, RattleType, owns, types_at, plain, Ptr, RefOf, shr_vals, shr_Tells, mut_vals, mut_Tells, hidden_shr, unhide, nothing, opens, closes, Struct, shape, lent_out, Stays, stay_dropped, stay_ref, walk_of, Goes-dropped, Goes-ref, proved, leaves, Stream, Waits, Wakes, of_reader_waits, of_writer_wakes, Names, flag, common, reader_knows, reader_lends, later, await, use2, IsRemembered, waits_for, wakes_for}
 use Rattle.piper_ring.proofs.Rights.{reader_halves}
 use Rattle.piper_ring.proofs.Steps.{flag_small}
-use types.Kit.{later, await, use2}
-use Rattle.piper_ring.specs.Slots.{IsRemembered}
-use Rattle.piper_ring.specs.Shared.{waits_for, wakes_for}
 use Rattle.piper_ring.proofs.Slots.{reader_meets}
 use Rattle.piper_ring.specs.contracts.ring.slots.ReaderWaits as One
 use Rattle.piper_ring.specs.contracts.ring.slots.WriterWakes as Two

@@ -1,29 +1,5 @@
 -- `store_closed` is one store. Assumes `Logic`.
-use Rattle.std.proofs.Common.{lit<, ◌≡◌, ℕ, ◌+◌, true, List, [], ◌∷◌, refl, ap, w64}
-use mir.Syntax.{named}
-use mir.Val.{Val, vint, vptr}
-use base.Logic.{SProp, emp}
-use base.Fraction.{full_share}
-use base.Fml.{Fml, ftrue, flft}
-use types.Kit.{‵, raw, ◌⊛◌, mean, at_ret, ◌$◌, ◌∵◌, !, qed, by, move, keep, drop, split, join, fsplit, fsplit3, fjoin, fjoin3, fpick, fpack, use0, use1, use2, rewrite, feq_i}
-use types.Run.{stop, fld, load, lit, of_opd, bin, no_more, and_then, first, blocks, exec, Calls-last, returns, enter}
-use types.ByLocal.{alloc_all, pass_all, free_all, look_at, get, through, sets, lands_last, is, env}
-use types.Part.{agg, sub, whole, look_in}
-use contract.Monad.{fact, fact_i}
-use contract.Running.{tables}
-use denote.RattleType.{RattleType, owns}
-use denote.Signature.{types_at, plain}
-use denote.RawPtr.{Ptr, block_ptr, ptr_val, block_of, count_of, at_block}
-use denote.Laws.{Is, shows}
-use denote.Memory.{cell_at}
-use denote.Ref.{mut_vals, mut_Tells}
-use denote.Steps.{nothing, peeks, opens, closes}
-use denote.Triple.Walked.{Stays, stay_ref, walk_of, Goes-ref}
-use Rattle.core.proofs.atomic.Steps.{tail}
-use Rattle.core.specs.Sync.RawAtomic.{asks, always}
-use Rattle.rtrb.proofs.Walks.{proved, leaves}
-use Rattle.rtrb.proofs.Calls.{seq_cst, fm, stored, has_stored, stores}
-use Rattle.piper_ring.specs.Shared.{Names, flag, Placed, common}
+use Rattle.piper_ring.proofs.Kit.{lit<, ◌≡◌, ℕ, ◌+◌, true, List, [], ◌∷◌, refl, ap, w64, named, Val, vint, vptr, SProp, emp, full_share, Fml, ftrue, flft, ‵, raw, ◌⊛◌, mean, at_ret, ◌$◌, ◌∵◌, !, qed, by, move, keep, drop, split, join, fsplit, fsplit3, fjoin, fjoin3, fpick, fpack, use0, use1, use2, rewrite, feq_i, stop, fld, load, lit, of_opd, bin, no_more, and_then, first, blocks, exec, Calls-last, returns, enter, alloc_all, pass_all, free_all, look_at, get, through, sets, lands_last, is, env, agg, sub, whole, look_in, fact, fact_i, tables, RattleType, owns, types_at, plain, Ptr, block_ptr, ptr_val, block_of, count_of, at_block, Is, shows, cell_at, mut_vals, mut_Tells, nothing, peeks, opens, closes, Stays, stay_ref, walk_of, Goes-ref, tail, asks, always, proved, leaves, seq_cst, fm, stored, has_stored, stores, Names, flag, Placed, common}
 use Rattle.piper_ring.proofs.Fields.{seat_val, ghost_val, ReadData, SawData, read_told, read_made, saw_made}
 use Rattle.piper_ring.proofs.Rights.{common_twice}
 use Rattle.piper_ring.proofs.Steps.{flag_small}

@@ -1,24 +1,5 @@
 -- `unseen` makes evidence of nothing. Assumes `Logic`.
-use Rattle.std.proofs.Common.{false, ◌≡◌, ℕ, [], ◌∷◌, refl}
-use mir.Syntax.{named}
-use mir.Val.{Val, vptr}
-use base.Logic.{SProp, emp}
-use base.Fml.{Share, ftrue, flft}
-use types.Kit.{‵, raw, ◌⊛◌, ◌$◌, ◌∵◌, !, qed, by, move, keep, split, join, fjoin, use0}
-use types.Run.{no_more, and_then, returns, enter}
-use types.ByLocal.{alloc_all, pass_all, free_all, look_at, get, sets, env}
-use types.Part.{agg}
-use contract.Monad.{fact, fact_i}
-use contract.Running.{tables}
-use denote.Exit.{yes}
-use denote.RattleType.{owns}
-use denote.Signature.{types_at, plain}
-use denote.Builtin.{RefOf}
-use denote.Ref.{shr_vals, shr_Tells}
-use denote.Steps.{nothing}
-use denote.Triple.Walked.{Stays, stay_dropped, walk_of, Goes-dropped}
-use Rattle.rtrb.proofs.Walks.{proved, leaves}
-use Rattle.piper_ring.specs.Shared.{Names}
+use Rattle.piper_ring.proofs.Kit.{false, ◌≡◌, ℕ, [], ◌∷◌, refl, named, Val, vptr, SProp, emp, Share, ftrue, flft, ‵, raw, ◌⊛◌, ◌$◌, ◌∵◌, !, qed, by, move, keep, split, join, fjoin, use0, no_more, and_then, returns, enter, alloc_all, pass_all, free_all, look_at, get, sets, env, agg, fact, fact_i, tables, yes, owns, types_at, plain, RefOf, shr_vals, shr_Tells, nothing, Stays, stay_dropped, walk_of, Goes-dropped, proved, leaves, Names}
 use Rattle.piper_ring.proofs.Fields.{ghost_val, SawData, saw_made}
 use Rattle.piper_ring.specs.contracts.ring.seats.ReadSeat as Mark
 use Rattle.piper_ring.specs.contracts.ring.seats.ReadSeat.unseen.{ended, clauses}

@@ -1,30 +1,6 @@
 -- `into_memory` gives the memory as the heap gave it. Assumes `Logic`.
-use Rattle.std.proofs.Common.{◌≡◌, ℕ, ◌<◌, ◌^◌, Bool, true, [], ◌∷◌, refl, ap, ◌∙◌, lit<}
-use mir.Syntax.{Ty}
-use mir.Val.{Val}
-use base.Logic.{SProp, emp}
-use base.Fml.{ftrue, fat}
-use base.Fraction.{full_share}
-use denote.Param.{layout}
-use types.Kit.{‵, raw, ◌⊛◌, given, ◌$◌, ◌∵◌, !, qed, by, move, keep, drop, join, split, fsplit, fjoin, fpick, fpack, learn, use0, use2, rewrite}
-use types.Run.{stop, fld, of_opd, no_more, and_then, returns, enter}
-use types.ByLocal.{take_at, give_at, alloc_all, pass_all, free_all, look_at, get, get_in, sets, is, env}
-use types.Part.{agg, sub, whole}
-use contract.Monad.{fact, fact_i}
-use contract.Running.{tables}
-use denote.Exit.{yes}
-use denote.RattleType.{RattleType, owns}
-use denote.Signature.{types_at, plain}
-use denote.RawPtr.{Ptr, block_ptr, ptr_val, block_of, count_of, at_block}
-use denote.Builtin.{u8}
-use denote.Steps.{nothing}
-use denote.Triple.Entry.{alive}
-use denote.Triple.Walked.{Stays, stay_dropped, walk_of, Goes-dropped}
-use Rattle.core.specs.Allocator.{array_of}
-use Rattle.std_alloc.proofs.RcSteps.{word, word-Good}
-use Rattle.rtrb.proofs.Values.{pair_val, pair_of}
-use Rattle.rtrb.proofs.Walks.{proved, leaves}
-use Rattle.piper_ring.specs.Shared.{Names, words_type, heap_token, where_gone}
+use Rattle.piper_ring.proofs.Kit.{◌≡◌, ℕ, ◌<◌, ◌^◌, Bool, true, [], ◌∷◌, refl, ap, ◌∙◌, lit<, Ty, Val, SProp, emp, ftrue, fat, full_share, layout, ‵, raw, ◌⊛◌, given, ◌$◌, ◌∵◌, !, qed, by, move, keep, drop, join, split, fsplit, fjoin, fpick, fpack, learn, use0, use2, rewrite, stop, fld, of_opd, no_more, and_then, returns, enter, take_at, give_at, alloc_all, pass_all, free_all, look_at, get, get_in, sets, is, env, agg, sub, whole, fact, fact_i, tables, yes, RattleType, owns, types_at, plain, Ptr, block_ptr, ptr_val, block_of, count_of, at_block, u8, nothing, alive, Stays, stay_dropped, walk_of, Goes-dropped, array_of, word-Good, pair_val, pair_of, proved, leaves, Names, words_type, heap_token, where_gone}
+use Rattle.std_alloc.proofs.RcSteps.{word}
 use Rattle.piper_ring.specs.Shared as shared
 use Rattle.piper_ring.proofs.Fields.{seat_val, remains_told, MemoryData, memory_made}
 use Rattle.piper_ring.proofs.ring.places.Base.TheLaws.{lowers}

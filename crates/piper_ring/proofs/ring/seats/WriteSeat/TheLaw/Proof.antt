@@ -1,9 +1,7 @@
 -- A `&` to the writer's side lends the invariant and a share of what the writer knows. Assumes
 -- `Logic`.
-use denote.Param.Shared.{copy_shared}
+use Rattle.piper_ring.proofs.Kit.{copy_shared, RawPtr-copy, of_Lends}
 use denote.Struct.Field.{RawPtr-field}
-use denote.Struct.Laws.{RawPtr-copy}
-use denote.Struct.Lending.{of_Lends}
 use Rattle.piper_ring.specs.contracts.ring.seats.WriteSeat as C
 use Rattle.piper_ring.proofs.ring.seats.WriteSeat.TheLaw.Statement.{statement}
 use Rattle.piper_ring.proofs.Rights.{writer_laws, lends_writer}

@@ -1,7 +1,5 @@
 -- Threads may share it.
-use denote.Param.Send.{IsSync, sendable}
-use denote.Struct.Struct.{Struct}
-use denote.Struct.Owning.{shape}
+use Rattle.piper_ring.proofs.Kit.{IsSync, sendable, Struct, shape}
 use Rattle.piper_ring.specs.contracts.ring.seats.WriteSeat.{the_row, the_type}
 use Rattle.piper_ring.proofs.Crosses.{writer_lends-Common}
 

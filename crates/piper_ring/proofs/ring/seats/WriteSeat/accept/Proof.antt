@@ -1,45 +1,14 @@
 -- `accept` is no step of the program. Assumes `Logic`.
-use Rattle.std.proofs.Common.{◌≡◌, ℕ, ◌+◌, ◌≤◌, List, [], ◌∷◌, ◌++◌, length, sym, refl}
-use mir.Syntax.{named}
-use mir.Val.{Val, vptr, vunit}
-use base.Logic.{SProp, emp}
-use base.Fraction.{full_share}
-use base.Fml.{Fml, ftrue, flft}
-use types.Kit.{‵, raw, ◌⊛◌, some, later, await, pick, given, ◌$◌, ◌∵◌, !, qed, by, move, keep, drop, split, split3, join, fsplit, fsplit3, fjoin, fjoin3, fpick, fpack, learn, use0, use1, use2, use3, rewrite, feq_i}
-use types.Run.{of_opd, unit_lit, returns, enter}
-use types.ByLocal.{alloc_all, pass_all, free_all, look_at, sets, env}
-use contract.Monad.{fact, fact_i}
-use contract.Running.{tables}
-use denote.RattleType.{RattleType, owns}
-use denote.Signature.{types_at, plain}
-use denote.RawPtr.{Ptr}
-use denote.Laws.{Is, shows}
-use denote.Memory.{cell_at}
-use denote.Ref.{mut_vals, mut_Tells}
-use denote.Steps.{nothing, peeks, opens, closes}
-use denote.Triple.Walked.{Stays, stay_ref, walk_of, Goes-ref}
-use Rattle.rtrb.specs.Shared.{run}
-use Rattle.rtrb.proofs.Walks.{proved, leaves}
-use Rattle.rtrb.proofs.Spans.{run_join}
-use Rattle.piper_ring.specs.Places.{byte}
+use Rattle.piper_ring.proofs.Kit.{◌≡◌, ℕ, ◌+◌, ◌≤◌, List, [], ◌∷◌, ◌++◌, length, sym, refl, named, Val, vptr, vunit, SProp, emp, full_share, Fml, ftrue, flft, ‵, raw, ◌⊛◌, some, later, await, pick, given, ◌$◌, ◌∵◌, !, qed, by, move, keep, drop, split, split3, join, fsplit, fsplit3, fjoin, fjoin3, fpick, fpack, learn, use0, use1, use2, use3, rewrite, feq_i, of_opd, unit_lit, returns, enter, alloc_all, pass_all, free_all, look_at, sets, env, fact, fact_i, tables, RattleType, owns, types_at, plain, Ptr, Is, shows, cell_at, mut_vals, mut_Tells, nothing, peeks, opens, closes, Stays, stay_ref, walk_of, Goes-ref, run, proved, leaves, run_join, byte, Names, half, common, writer_knows, fhide, RefOf, hidden_shr, unhide, shr_vals, shr_Tells, lent_out, stay_dropped, Goes-dropped, yes, took}
 use Rattle.piper_ring.specs.Places as P
 use Rattle.piper_ring.proofs.Rights.{common_twice}
 use Rattle.piper_ring.specs.Stretches.{WriteGains}
-use Rattle.piper_ring.specs.Shared.{Names, half, common, writer_knows}
 use Rattle.piper_ring.proofs.Fields.{seat_val, WriteData, write_told, write_made}
 use Rattle.piper_ring.proofs.Reclaim.{accepts}
 use Rattle.piper_ring.specs.contracts.ring.places.Places as Places
-use base.Fml.{fhide}
-use denote.Builtin.{RefOf, RawPtr}
-use denote.Memory.{hidden_shr}
-use denote.Opens.{unhide}
-use denote.Ref.{shr_vals, shr_Tells}
-use denote.Struct.Lending.{lent_out}
-use denote.Triple.Walked.{stay_dropped, Goes-dropped}
-use denote.Exit.{yes}
+use denote.Builtin.{RawPtr}
 use Rattle.core.specs.contracts.marker.PhantomData as marker
 use Rattle.piper_ring.specs.contracts.ring.marks.ReadMark as Mark
-use Rattle.piper_ring.specs.Shared.{took}
 use Rattle.piper_ring.proofs.Fields.{TookData}
 use Rattle.piper_ring.specs.contracts.ring.seats.WriteSeat.{the_row}
 use Rattle.piper_ring.specs.contracts.ring.seats.WriteSeat.accept.{ended, clauses}

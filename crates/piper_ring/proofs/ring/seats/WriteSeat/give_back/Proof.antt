@@ -1,43 +1,8 @@
 -- `give_back` is one store, beside a share of what the writer knows. Assumes `Logic`.
-use Rattle.std.proofs.Common.{true, false, lit<, ◌≡◌, ℕ, ◌+◌, List, [], ◌∷◌, sym, refl, w64, Bool}
-use mir.Syntax.{named}
-use mir.Val.{Val, vint, vptr, vunit}
-use base.Logic.{SProp, emp, via}
-use base.Fml.{Share, Fml, ftrue, flft, fhide}
-use types.Kit.{‵, raw, ◌⊛◌, given, mean, at_ret, ◌$◌, ◌∵◌, !, qed, by, move, keep, drop, split, split3, join, fsplit, fsplit3, fjoin, fjoin3, fpick, fpack, learn, use0, use1, use3, rewrite, feq_i}
-use types.Run.{stop, fld, load, look, lit, unit_lit, of_opd, bin, no_more, and_then, first, blocks, exec, Calls-last, returns, enter}
-use types.ByLocal.{alloc_all, pass_all, free_all, look_at, get, through, sets, lands_last, env}
-use types.Part.{agg}
-use types.Tokens.{shr_bor-open, obor_close}
-use contract.Monad.{fact, fact_i}
-use contract.Running.{tables}
-use denote.Exit.{yes}
-use denote.RattleType.{RattleType, owns}
-use denote.Signature.{types_at, plain}
-use denote.RawPtr.{Ptr, block_ptr, block_of, count_of, at_block}
-use denote.Builtin.{RefOf}
-use denote.Ref.{shr_vals, shr_Tells, mut_vals, mut_Tells}
-use denote.Memory.{hidden_shr}
-use denote.Opens.{hide, unhide}
-use denote.Steps.{nothing, opens, closes}
-use denote.Struct.Struct.{Struct}
-use denote.Struct.Owning.{shape}
-use denote.Struct.Lending.{lent_out}
-use denote.Triple.Walked.{Stays, stay_dropped, stay_ref, walk_of, Goes-dropped, Goes-ref}
-use Rattle.core.proofs.atomic.Steps.{tail}
-use Rattle.core.proofs.slots.Lent.{pointer_in, pointer_out}
-use Rattle.rtrb.proofs.Walks.{proved, leaves}
-use Rattle.rtrb.proofs.Calls.{seq_cst, fm, stored, has_stored, stores}
-use Rattle.piper_ring.specs.Streams.{Stream}
-use Rattle.piper_ring.specs.Slots.{Wakes, GivesBack}
-use Rattle.piper_ring.specs.SlotViews.{of_writer_wakes}
-use Rattle.piper_ring.specs.Shared.{Names, Placed, common, writer_knows, writer_lends}
+use Rattle.piper_ring.proofs.Kit.{true, false, lit<, ◌≡◌, ℕ, ◌+◌, List, [], ◌∷◌, sym, refl, w64, Bool, named, Val, vint, vptr, vunit, SProp, emp, via, Share, Fml, ftrue, flft, fhide, ‵, raw, ◌⊛◌, given, mean, at_ret, ◌$◌, ◌∵◌, !, qed, by, move, keep, drop, split, split3, join, fsplit, fsplit3, fjoin, fjoin3, fpick, fpack, learn, use0, use1, use3, rewrite, feq_i, stop, fld, load, look, lit, unit_lit, of_opd, bin, no_more, and_then, first, blocks, exec, Calls-last, returns, enter, alloc_all, pass_all, free_all, look_at, get, through, sets, lands_last, env, agg, shr_bor-open, obor_close, fact, fact_i, tables, yes, RattleType, owns, types_at, plain, Ptr, block_ptr, block_of, count_of, at_block, RefOf, shr_vals, shr_Tells, mut_vals, mut_Tells, hidden_shr, hide, unhide, nothing, opens, closes, Struct, shape, lent_out, Stays, stay_dropped, stay_ref, walk_of, Goes-dropped, Goes-ref, tail, pointer_in, pointer_out, proved, leaves, seq_cst, fm, stored, has_stored, stores, Stream, Wakes, GivesBack, of_writer_wakes, Names, Placed, common, writer_knows, writer_lends, wakes_for, right, right_val, right_told}
 use Rattle.piper_ring.proofs.Rights.{writer_halves}
 use Rattle.piper_ring.proofs.Steps.{flag_small}
-use Rattle.piper_ring.specs.Shared.{wakes_for}
-use Rattle.token_cell.specs.TokenCell.{right}
 use Rattle.token_cell.specs.contracts.Token as Token
-use Rattle.token_cell.proofs.Fields.{right_val, right_told}
 use Rattle.piper_ring.proofs.Slots.{WriterWoke, writer_gives_back}
 use Rattle.piper_ring.specs.contracts.ring.slots.WriterWakes as Slot
 use Rattle.piper_ring.specs.contracts.ring.seats.WriteSeat as Seat

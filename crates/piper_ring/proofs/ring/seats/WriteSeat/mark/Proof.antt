@@ -1,35 +1,6 @@
 -- `mark` copies evidence out of a share of what the writer knows. Assumes `Logic`.
-use Rattle.std.proofs.Common.{◌≡◌, ℕ, [], ◌∷◌, refl}
-use mir.Syntax.{named}
-use mir.Val.{Val, vptr}
-use base.Logic.{SProp, emp}
-use base.Fml.{Share, ftrue, flft, fhide}
-use types.Kit.{‵, raw, ◌⊛◌, ◌$◌, ◌∵◌, !, qed, by, move, keep, drop, split, join, fsplit, fsplit3, fjoin, fjoin3, use0, use1}
-use types.Run.{no_more, and_then, returns, enter}
-use types.ByLocal.{alloc_all, pass_all, free_all, look_at, get, sets, env}
-use types.Part.{agg}
-use types.Tokens.{shr_bor-open, obor_close}
-use contract.Monad.{fact, fact_i}
-use contract.Running.{tables}
-use denote.Exit.{yes}
-use denote.RattleType.{RattleType, owns}
-use denote.Signature.{types_at, plain}
-use denote.RawPtr.{Ptr}
-use denote.Builtin.{RefOf}
-use denote.Ref.{shr_vals, shr_Tells}
-use denote.Memory.{hidden_shr}
-use denote.Opens.{unhide}
-use denote.Steps.{nothing}
-use denote.Struct.Struct.{Struct}
-use denote.Struct.Owning.{shape}
-use denote.Struct.Lending.{lent_out}
-use denote.Triple.Walked.{Stays, stay_dropped, walk_of, Goes-dropped}
-use Rattle.rtrb.proofs.Walks.{proved, leaves}
-use Rattle.piper_ring.specs.Shared.{Names, announced, writer_lends}
-use Rattle.piper_ring.specs.Streams.{Stream, streams, reaches_same}
+use Rattle.piper_ring.proofs.Kit.{◌≡◌, ℕ, [], ◌∷◌, refl, named, Val, vptr, SProp, emp, Share, ftrue, flft, fhide, ‵, raw, ◌⊛◌, ◌$◌, ◌∵◌, !, qed, by, move, keep, drop, split, join, fsplit, fsplit3, fjoin, fjoin3, use0, use1, no_more, and_then, returns, enter, alloc_all, pass_all, free_all, look_at, get, sets, env, agg, shr_bor-open, obor_close, fact, fact_i, tables, yes, RattleType, owns, types_at, plain, Ptr, RefOf, shr_vals, shr_Tells, hidden_shr, unhide, nothing, Struct, shape, lent_out, Stays, stay_dropped, walk_of, Goes-dropped, proved, leaves, Names, announced, writer_lends, Stream, streams, reaches_same, latest, latest_shows}
 use Rattle.piper_ring.proofs.Fields.{ghost_val, SentData, sent_made}
-use base.Growing.{latest}
-use types.Growing.{latest_shows}
 use Rattle.piper_ring.proofs.Rights.{writer_halves}
 use Rattle.piper_ring.specs.contracts.ring.seats.WriteSeat as Seat
 use Rattle.piper_ring.specs.contracts.ring.seats.WriteSeat.mark.{ended, clauses}

@@ -1,35 +1,5 @@
 -- `store_tail` is one store, which hands places over. Assumes `Logic`.
-use Rattle.std.proofs.Common.{true, false, lit<, ◌≡◌, ℕ, ◌+◌, ◌≤◌, List, [], ◌∷◌, ◌++◌, length, refl, ap, w64}
-use mir.Syntax.{named}
-use mir.Val.{Val, vint, vptr, vunit}
-use base.Logic.{SProp, emp}
-use base.Fraction.{full_share}
-use base.Fml.{Fml, ftrue, flft}
-use types.Kit.{‵, raw, ◌⊛◌, given, mean, at_ret, ◌$◌, ◌∵◌, !, qed, by, move, keep, drop, split, join, fsplit, fsplit3, fjoin, fjoin3, fpick, fpack, learn, use0, use1, use3, rewrite, feq_i}
-use types.Run.{stop, fld, load, lit, unit_lit, of_opd, bin, no_more, and_then, first, blocks, exec, Calls-last, returns, enter}
-use types.ByLocal.{alloc_all, pass_all, free_all, look_at, get, through, sets, lands_last, is, env}
-use types.Part.{agg, sub, whole, look_in}
-use contract.Monad.{fact, fact_i}
-use contract.Running.{tables}
-use denote.Exit.{yes}
-use denote.RattleType.{RattleType, owns}
-use denote.Signature.{types_at, plain}
-use denote.RawPtr.{Ptr, block_ptr, ptr_val, block_of, count_of, at_block}
-use denote.Builtin.{u64}
-use denote.Laws.{Is, shows}
-use denote.Memory.{cell_at}
-use denote.Ref.{mut_vals, mut_Tells}
-use denote.Plain.{uint_vals, uint_Tells}
-use denote.Steps.{nothing, peeks, opens, closes}
-use denote.Triple.Walked.{Stays, stay_ref, stay_dropped, walk_of, Goes-ref, Goes-dropped}
-use Rattle.core.proofs.atomic.Steps.{tail}
-use Rattle.core.specs.Sync.RawAtomic.{asks, always}
-use Rattle.rtrb.specs.Fifo.{position_of}
-use Rattle.rtrb.specs.Shared.{run}
-use Rattle.rtrb.proofs.Walks.{proved, leaves}
-use Rattle.rtrb.proofs.Calls.{seq_cst, fm, stored, has_stored, stores}
-use Rattle.piper_ring.specs.Places.{byte}
-use Rattle.piper_ring.specs.Shared.{Names, Placed, common, half, writer_knows}
+use Rattle.piper_ring.proofs.Kit.{true, false, lit<, ◌≡◌, ℕ, ◌+◌, ◌≤◌, List, [], ◌∷◌, ◌++◌, length, refl, ap, w64, named, Val, vint, vptr, vunit, SProp, emp, full_share, Fml, ftrue, flft, ‵, raw, ◌⊛◌, given, mean, at_ret, ◌$◌, ◌∵◌, !, qed, by, move, keep, drop, split, join, fsplit, fsplit3, fjoin, fjoin3, fpick, fpack, learn, use0, use1, use3, rewrite, feq_i, stop, fld, load, lit, unit_lit, of_opd, bin, no_more, and_then, first, blocks, exec, Calls-last, returns, enter, alloc_all, pass_all, free_all, look_at, get, through, sets, lands_last, is, env, agg, sub, whole, look_in, fact, fact_i, tables, yes, RattleType, owns, types_at, plain, Ptr, block_ptr, ptr_val, block_of, count_of, at_block, u64, Is, shows, cell_at, mut_vals, mut_Tells, uint_vals, uint_Tells, nothing, peeks, opens, closes, Stays, stay_ref, stay_dropped, walk_of, Goes-ref, Goes-dropped, tail, asks, always, position_of, run, proved, leaves, seq_cst, fm, stored, has_stored, stores, byte, Names, Placed, common, half, writer_knows}
 use Rattle.piper_ring.proofs.Fields.{seat_val, ghost_val, WriteData, write_told, write_made, places_told}
 use Rattle.piper_ring.proofs.Rights.{common_twice}
 use Rattle.piper_ring.proofs.Steps.{flag_small, publishes}

@@ -1,43 +1,8 @@
 -- `take_waker` is one swap, beside a share of what the writer knows. Assumes `Logic`.
-use Rattle.std.proofs.Common.{false, lit<, ◌≡◌, ℕ, ◌+◌, ◌^◌, List, [], ◌∷◌, sym, refl, w64}
-use mir.Syntax.{named}
-use mir.Val.{Val, vint, vptr}
-use base.Logic.{SProp, emp, via}
-use base.Fml.{Share, Fml, ftrue, flft, fhide}
-use types.Kit.{‵, raw, ◌⊛◌, given, mean, at_ret, ◌$◌, ◌∵◌, !, qed, by, move, keep, drop, split, split3, join, fsplit, fsplit3, fjoin, fjoin3, fpick, fpack, learn, use0, use1, use3, rewrite, feq_i, flt_i, use2}
-use types.Run.{stop, fld, load, look, lit, of_opd, bin, no_more, and_then, first, blocks, exec, Calls-last, returns, enter}
-use types.ByLocal.{alloc_all, pass_all, free_all, look_at, get, through, sets, lands_last, env}
-use types.Part.{agg}
-use types.Tokens.{shr_bor-open, obor_close}
-use contract.Monad.{fact, fact_i}
-use contract.Running.{tables}
-use denote.Exit.{yes}
-use denote.RattleType.{RattleType, owns}
-use denote.Signature.{types_at, plain}
-use denote.RawPtr.{Ptr, block_ptr, block_of, count_of, at_block}
-use denote.Builtin.{RefOf, u64}
-use denote.Ref.{shr_vals, shr_Tells, mut_vals, mut_Tells}
-use denote.Memory.{hidden_shr}
-use denote.Opens.{hide, unhide}
-use denote.Steps.{nothing, opens, closes}
-use denote.Struct.Struct.{Struct}
-use denote.Struct.Owning.{shape}
-use denote.Struct.Lending.{lent_out}
-use denote.Triple.Walked.{Stays, stay_dropped, stay_ref, walk_of, Goes-dropped, Goes-ref}
-use Rattle.core.proofs.atomic.Steps.{tail}
-use Rattle.core.proofs.slots.Lent.{pointer_in, pointer_out}
-use Rattle.rtrb.proofs.Walks.{proved, leaves}
-use Rattle.rtrb.proofs.Calls.{seq_cst, fm, found, finds, swaps}
-use Rattle.piper_ring.specs.Streams.{Stream}
-use Rattle.piper_ring.specs.Slots.{Wakes, Takes}
-use Rattle.piper_ring.specs.SlotViews.{of_writer_wakes}
-use Rattle.rtrb.proofs.Values.{pair_val, pair_of}
-use Rattle.piper_ring.specs.Shared.{Names, Placed, common, writer_knows, writer_lends}
+use Rattle.piper_ring.proofs.Kit.{false, lit<, ◌≡◌, ℕ, ◌+◌, ◌^◌, List, [], ◌∷◌, sym, refl, w64, named, Val, vint, vptr, SProp, emp, via, Share, Fml, ftrue, flft, fhide, ‵, raw, ◌⊛◌, given, mean, at_ret, ◌$◌, ◌∵◌, !, qed, by, move, keep, drop, split, split3, join, fsplit, fsplit3, fjoin, fjoin3, fpick, fpack, learn, use0, use1, use3, rewrite, feq_i, flt_i, use2, stop, fld, load, look, lit, of_opd, bin, no_more, and_then, first, blocks, exec, Calls-last, returns, enter, alloc_all, pass_all, free_all, look_at, get, through, sets, lands_last, env, agg, shr_bor-open, obor_close, fact, fact_i, tables, yes, RattleType, owns, types_at, plain, Ptr, block_ptr, block_of, count_of, at_block, RefOf, u64, shr_vals, shr_Tells, mut_vals, mut_Tells, hidden_shr, hide, unhide, nothing, opens, closes, Struct, shape, lent_out, Stays, stay_dropped, stay_ref, walk_of, Goes-dropped, Goes-ref, tail, pointer_in, pointer_out, proved, leaves, seq_cst, fm, found, finds, swaps, Stream, Wakes, Takes, of_writer_wakes, pair_val, pair_of, Names, Placed, common, writer_knows, writer_lends, wakes_for, right_val, RightData, right_made}
 use Rattle.piper_ring.proofs.Rights.{writer_halves}
 use Rattle.piper_ring.proofs.Steps.{flag_small}
-use Rattle.piper_ring.specs.Shared.{wakes_for}
 use Rattle.token_cell.specs.contracts.Token as Token
-use Rattle.token_cell.proofs.Fields.{right_val, RightData, right_made}
 use Rattle.piper_ring.proofs.Slots.{WriterWoke, writer_takes, TakesHeld}
 use Rattle.piper_ring.specs.contracts.ring.slots.WriterWakes as Slot
 use Rattle.piper_ring.specs.contracts.ring.seats.WriteSeat as Seat

@@ -1,9 +1,5 @@
 -- A `&` to it holds nothing. Assumes `Logic`.
-use denote.RawPtr.{RawPtr}
-use denote.Param.Shared.{copy_shared}
-use denote.SharingLaws.{nothing_shr_laws}
-use denote.Struct.Laws.{field_copy}
-use denote.Struct.Lending.{of_Lends, Lends-nothing}
+use Rattle.piper_ring.proofs.Kit.{RawPtr, copy_shared, nothing_shr_laws, field_copy, of_Lends, Lends-nothing}
 use Rattle.core.specs.contracts.marker.PhantomData as marker
 use Rattle.piper_ring.specs.contracts.ring.slots.WriterWaits as C
 use Rattle.piper_ring.proofs.ring.slots.WriterWaits.TheLaw.Statement.{statement}

@@ -1,0 +1,70 @@
+-- The names that many proofs of this crate cite, passed on from one place. Declares nothing.
+pub use Rattle.std.proofs.Common.{◌≡◌, ℕ, ◌+◌, ◌≤◌, Bool, true, false, List, [], ◌∷◌, refl, sym, ap, arith, ◌-◌, length, ◌<◌, ◌⊎◌, inl, inr, max, leb, ◌++◌, ◌∙◌, suc, length-append, w64, ◌*◌, zero, subst, ◌^◌, w8, take, append_assoc, min, lit<}
+pub use Rattle.std.proofs.Math.Seq.{take-append_seam}
+pub use Rattle.std.proofs.lemmas.List.{length-drop, take-append-le, take-append-drop, length-take-le}
+pub use mathlib.Core.List.{IsPrefix}
+pub use mir.Syntax.{Ty, ty_int, named}
+pub use mir.Val.{Val, vstruct, vnil, of_list, vint, vptr, vunit, WT}
+pub use base.Before.{before}
+pub use base.Fml.{Share, Fml, GName, ftrue, fsep, finv, Lft, flft, froom, fex, fobs, fwand, fhide, fat}
+pub use base.Fraction.{full_share}
+pub use base.Growing.{Order, numbers, prefix_refl}
+unfoldable pub use base.Growing.{latest, at_least}
+pub use base.Logic.{SProp, ent, sep, upd, guard, ex, upd_i, emp, emp∗, id⊢, fst∗, never, via, apply∗, snd∗}
+pub use seplogic.Ra.Ura.{Ura}
+pub use types.ByLocal.{alloc_all, pass_all, free_all, look_at, get, sets, env, get_in, sets_last, is, lands_last, through, take_at, give_at}
+pub use types.Growing.{latest_grows, latest_shows, latest_bounds}
+pub use types.Kit.{‵, raw, ◌⊛◌, some, given, ◌$◌, ◌∵◌, !, qed, by, move, keep, split, split3, fsplit, fsplit3, fjoin, fjoin3, fpack, pick, learn, check, show, frame, assume, settle, suffices, use1, use2, use3, done, drop, feq_i, fpick, rewrite, later, join, use0, updating, await, now, at_ret, flt_i, mean}
+pub use types.Logic.{Logic, sem}
+pub use types.Part.{agg, whole, sub, look_in}
+pub use types.Run.{no_more, and_then, returns, enter, of_opd, unit_lit, stop, fld, lit, first, exec, blocks, init, bin, assigns_last, load, look, Calls-last}
+pub use types.Tokens.{shr_bor-open, obor_close}
+pub use denote.Builtin.{u8, usize, RefOf, u64}
+pub use denote.Exit.{yes}
+pub use denote.Laws.{Is, shows}
+pub use denote.Memory.{part_at, lone, shared_of, mem, hidden_shr, cell_at}
+pub use denote.Opens.{unhide, hide}
+pub use denote.Param.{layout}
+pub use denote.Param.Send.{IsSend, Common, sendable, IsSync}
+pub use denote.Param.Shared.{copy_shared}
+pub use denote.Plain.{uint_vals, uint_Tells}
+pub use denote.RattleType.{RattleType, owns}
+pub use denote.RawPtr.{Ptr, block_ptr, block_of, count_of, ptr_val, null_ptr, in_a_block, RawPtr, at_block}
+pub use denote.Ref.{shr_vals, shr_Tells, mut_vals, mut_Tells}
+pub use denote.SharingLaws.{beside_shr_laws, nothing_shr_laws, said_shr_laws}
+pub use denote.Signature.{plain, types_at}
+pub use denote.Steps.{nothing, peeks, opens, closes}
+pub use denote.Struct.Laws.{field_copy, RawPtr-copy}
+pub use denote.Struct.Lending.{Lends, Lends-both, Lends-nothing, Lends-said, Lends-first, of_Lends, lent_out}
+pub use denote.Struct.Owning.{shape}
+pub use denote.Struct.Struct.{Struct}
+pub use denote.Triple.Entry.{alive}
+pub use denote.Triple.Walked.{Stays, stay_dropped, walk_of, Goes-dropped, stay_ref, Goes-ref}
+pub use contract.Monad.{fact, fact_i}
+pub use contract.Running.{tables}
+pub use Rattle.core.proofs.atomic.Steps.{tail}
+pub use Rattle.core.proofs.slots.Bodies.{after}
+pub use Rattle.core.proofs.slots.Lent.{pointer_in, pointer_out}
+pub use Rattle.core.specs.Allocator.{array_of, owned_block, block_if_ok}
+pub use Rattle.core.specs.Sync.RawAtomic.{asks, always}
+pub use Rattle.logbook.proofs.Fields.{lends_twice}
+pub use Rattle.piper_protocol.specs.ReaderIndices.{ReaderIndices}
+pub use Rattle.piper_protocol.specs.WriterIndices.{WriterIndices, room_in, left_in}
+pub use Rattle.piper_ring.specs.Places.{byte, unset, place, run_lent, places_lent}
+pub use Rattle.piper_ring.specs.ReadView.{ReadView, read_view_of, in_one_piece}
+pub use Rattle.piper_ring.specs.Shared.{announced, raised, Names, State, Holds, half, other, flag, word, writer_knows, reader_knows, ends, Inner, common, words_type, slots, deeds, gone, where_gone, until_both, arrived_first, blanks, memory, reader_owns, reader_lends, writer_owns, writer_lends, took, idle, heap_token, word_room, slot_rooms, all_rooms, state_holds, began, Placed, Consumed, coded_stream, coded_consumed, published, consumed, waits_for, wakes_for, waits_back, wakes_back, ring_of}
+pub use Rattle.piper_ring.specs.SlotViews.{of_reader_waits, of_reader_wakes, of_writer_wakes, of_writer_waits}
+pub use Rattle.piper_ring.specs.Slots.{held_at, Waits, Wakes, IsWhere, Slot, with_waiter, code_of, slot, slot_at, Looks, Takes, GivesBack, PublishesWaker, Reclaims, IsRemembered}
+pub use Rattle.piper_ring.specs.Streams.{Stream, Reaches, streams, reaches_same, open_reaches, reaches_trans}
+pub use Rattle.piper_ring.specs.WriteView.{WriteView}
+pub use Rattle.rtrb.proofs.Asks.{Lies}
+pub use Rattle.rtrb.proofs.Calls.{fm, seq_cst, found, finds, swaps, stored, has_stored, stores, loads}
+pub use Rattle.rtrb.proofs.Positions.{slot_small, position_inside}
+pub use Rattle.rtrb.proofs.Spans.{run_join, span_join, span_map}
+pub use Rattle.rtrb.proofs.Values.{pair_val, pair_of}
+pub use Rattle.rtrb.proofs.Walks.{proved, leaves}
+pub use Rattle.rtrb.specs.Fifo.{position_of, slot_of}
+pub use Rattle.rtrb.specs.Shared.{run, span}
+pub use Rattle.std_alloc.proofs.RcSteps.{word-Good}
+pub use Rattle.token_cell.proofs.Fields.{right_val, RightData, right_made, right_told}
+pub use Rattle.token_cell.specs.TokenCell.{right}
