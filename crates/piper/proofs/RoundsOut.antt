@@ -37,9 +37,9 @@ module _ (form : Form) (s n : ℕ) (called took : Next ReadPoint) (here : called
   drain_round stored woken stored_is woken_is = woken_is ∙ ap (λ (p : ReadPoint). read_step p (waker false)) (takes_writer stored stored_is)
 
 -- the sum of the bytes fits, since the ring's capacity does
-pub sum_fits : {S : Type 0} (takes : Passes S) (a b whole : ReadView) (s t : S) (sum n : ℕ) → Drained takes a b s t sum → whole ≡ a → length whole.known ≤ whole.capacity → 2 * whole.capacity < 2 ^ 64
+pub sum_fits : {S : Type 0} (takes : Passes S) (a b whole : ReadView) (s t : S) (sum n most : ℕ) → Drained takes a b s t sum → whole ≡ a → length whole.known ≤ most → 2 * most < 2 ^ 64
     → n ≤ in_one_piece b → sum + n < 2 ^ 64
-sum_fits takes a b whole s t sum n d is_whole known capacity within =
+sum_fits takes a b whole s t sum n most d is_whole known small within =
     omega (arith, ap (λ (r : ReadView). length r.known) is_whole, ap length d.known, length-append d.moved b.known, d.count)
 
 module _ {S : Type 0} (takes : Passes S) (in_order : PassesInOrder takes) (a b : ReadView) (s t u : S) (sum : ℕ) (d : Drained takes a b s t sum) where

@@ -17,7 +17,6 @@ impl WriteHalf {
         ensures looked { WriterLooked self.old self.new }
         ensures words { WriterGotBack mine result self.old self.new }
     {
-        self.end.learn();
         let is_closed = self.end.look_closed();
         let none = self.end.knows_none();
         let call = WriteCall::look(Purpose::Poll).looked_closed(none, is_closed);
@@ -101,7 +100,6 @@ impl WriteHalf {
                 mine,
             };
         }
-        self.end.learn();
         let is_closed = self.end.look_closed_after(&self.slots);
         let call = call.loaded_closed(is_closed);
         Polled {
@@ -150,7 +148,6 @@ impl WriteHalf {
         ensures none { result.0 ≡ 0 → (result.1 ≡ None) × (self.new.slots ≡ self.old.slots) }
         ensures some { 0 < result.0 → TookReader result.1 self.old.slots self.new }
     {
-        self.end.learn();
         if self.end.look_closed() {
             self.end.write_buf(0);
             return (0, None);
@@ -186,7 +183,6 @@ impl WriteHalf {
     pub(crate) fn look_closed(&mut self) -> bool
         ensures { WriterAsked result self.old self.new }
     {
-        self.end.learn();
         self.end.look_closed()
     }
 

@@ -206,7 +206,8 @@ impl Reader {
         ensures woke { WakesWriter self.old self.new }
         ensures rest { SameReaderButWoke self.old self.new }
     {
-        self.end().learn();
+        // No more can be moved than the capacity, so the sum doesn't overflow.
+        let _ = self.end().capacity();
         let mut call = call;
         let mut sum = 0;
         'rounds: loop {

@@ -217,7 +217,8 @@ impl Writer {
         ensures woke { WakesReader self.old self.new }
         ensures rest { SameWriterButWoke self.old self.new }
     {
-        self.end().learn();
+        // No more can be moved than the capacity, so the sum doesn't overflow.
+        let _ = self.end().capacity();
         let mut call = call;
         let mut sum = 0;
         'rounds: loop {

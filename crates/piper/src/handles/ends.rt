@@ -34,7 +34,6 @@ impl Reader {
         ensures rest { SameReaderButTold self.old self.new }
     {
         self.end.heed(mark);
-        self.end.learn();
     }
 
     /// Both handles held by one thread: then the reader knows of all that was published, and the
@@ -53,7 +52,6 @@ impl Reader {
         ensures writer_woken { MeetWriter other.old other.new self.old }
         ensures rest { MeetSame self.old self.new other.old other.new }
     {
-        other.end.learn();
         self.end.meet_slots(
             &mut self.registrations,
             &other.end,
@@ -77,7 +75,6 @@ impl Reader {
         self.end
             .meet_finished(&mut self.registrations, &mut left.registrations);
         self.end.heed(&left.told);
-        self.end.learn();
     }
 }
 

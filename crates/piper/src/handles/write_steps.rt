@@ -37,7 +37,6 @@ impl Writer {
         ensures end { WriterSaw self.old.end self.new.end }
         ensures rest { SameWriter self.old self.new }
     {
-        self.end.learn();
         let is_closed = self.end.look_closed();
         let none = self.end.knows_none();
         (call.looked_closed(none, is_closed), is_closed, none)
@@ -57,7 +56,6 @@ impl Writer {
         ensures end { WriterSaw self.old.end self.new.end }
         ensures rest { SameWriter self.old self.new }
     {
-        self.end.learn();
         let is_closed = self.end.look_closed_after(&self.registrations);
         (call.loaded_closed(is_closed), is_closed)
     }

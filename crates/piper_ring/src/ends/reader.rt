@@ -49,20 +49,13 @@ impl ReadEnd {
     ghost use Rattle.piper_ring.specs.WriteView.{HasMoreRoom};
     ghost use Rattle.piper_ring.specs.Shared.{flag, ring_of};
 
-    /// The capacity of the ring.
+    /// The capacity of the ring. No more bytes are known than that.
     pub fn capacity(&self) -> usize
-        ensures { result ≡ self.now.capacity }
+        ensures value { result ≡ self.now.capacity }
+        ensures bounds { (0 < result) × (2 * result < 2 ^ 64) }
+        ensures known { length self.now.known ≤ result }
     {
         self.parts.indices.capacity()
-    }
-
-    /// It does nothing: its clauses are what holds of every end that reads.
-    pub fn learn(&self)
-        ensures capacity { (0 < self.now.capacity) × (2 * self.now.capacity < 2 ^ 64) }
-        ensures known { length self.now.known ≤ self.now.capacity }
-        ensures end { KnowsEnd self.now → HasTheRest self.now }
-    {
-        let _ = &self.parts;
     }
 
     /// How many bytes this end knows of.
@@ -143,7 +136,8 @@ impl ReadEnd {
         ensures shut { flag self.new.told_shut
             ≡ max (flag self.old.told_shut) (flag mark.now.shut) }
         ensures agree { Agree (self.new.taken ++ self.new.known) mark.now.bytes }
-        ensures end { mark.now.shut ≡ true → self.new.all ≡ mark.now.bytes }
+        ensures end { mark.now.shut ≡ true
+            → (self.new.all ≡ mark.now.bytes) × HasTheRest self.new }
         ensures kept { SameButTold self.old self.new }
     {
         self.parts.told.heed(mark);
@@ -211,7 +205,7 @@ impl ReadEnd {
         ensures shut { flag self.new.saw ≤ flag other.new.shut }
         ensures told { flag self.new.told_shut ≤ flag other.new.shut }
         ensures end { KnowsEnd self.new → self.new.all ≡ other.new.sent }
-        ensures other_shut { flag other.new.saw ≤ flag other.new.shut }
+        ensures other_shut { other.new.saw ≡ other.new.shut }
         ensures reader { KnowsMore self.old self.new }
         ensures writer { HasMoreRoom other.old other.new }
     {
@@ -231,6 +225,7 @@ impl ReadEnd {
     /// on where the pipe ends.
     pub fn look_closed(&mut self) -> bool
         ensures saw { result ≡ self.new.saw }
+        ensures end { IsTrue result → HasTheRest self.new }
         ensures stays { flag self.old.saw ≤ flag self.new.saw }
         ensures told { flag self.old.told_shut ≤ flag self.new.saw }
         ensures kept { SameButSaw self.old self.new }
@@ -244,6 +239,7 @@ impl ReadEnd {
         requires { more.now.names ≡ self.old.ring.names }
         ensures more { flag more.now.shut ≤ flag self.new.saw }
         ensures saw { result ≡ self.new.saw }
+        ensures end { HasTheRest self.new }
         ensures stays { flag self.old.saw ≤ flag self.new.saw }
         ensures told { flag self.old.told_shut ≤ flag self.new.saw }
         ensures kept { SameButSaw self.old self.new }

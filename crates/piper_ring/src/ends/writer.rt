@@ -47,21 +47,13 @@ impl WriteEnd {
     ghost use Rattle.std.specs.Borrow.{sem};
     ghost use Rattle.piper_ring.specs.Shared.{flag, ring_of};
 
-    /// The capacity of the ring.
+    /// The capacity of the ring. No more room is known than that.
     pub fn capacity(&self) -> usize
-        ensures { result ≡ self.now.capacity }
+        ensures value { result ≡ self.now.capacity }
+        ensures bounds { (0 < result) × (2 * result < 2 ^ 64) }
+        ensures room { self.now.room ≤ result }
     {
         self.parts.indices.capacity()
-    }
-
-    /// It does nothing: its clauses are what holds of every end that writes.
-    pub fn learn(&self)
-        ensures capacity { (0 < self.now.capacity) × (2 * self.now.capacity < 2 ^ 64) }
-        ensures room { self.now.room ≤ self.now.capacity }
-        ensures lent { length self.now.lent ≤ self.now.room }
-        ensures shut { self.now.shut ≡ true → (self.now.lent ≡ []) × (self.now.saw ≡ true) }
-    {
-        let _ = self.parts.indices.capacity();
     }
 
     /// How many bytes this end knows to have room for.
@@ -168,9 +160,11 @@ impl WriteEnd {
         parts.indices.sees(head as usize);
     }
 
-    /// Checks whether the pipe is closed, and keeps what it saw.
+    /// Checks whether the pipe is closed, and keeps what it saw. What this end closed it finds
+    /// closed.
     pub fn look_closed(&mut self) -> bool
         ensures saw { result ≡ self.new.saw }
+        ensures shut { self.new.shut ≡ true → self.new.saw ≡ true }
         ensures stays { flag self.old.saw ≤ flag self.new.saw }
         ensures kept { SameButSaw self.old self.new }
     {
@@ -185,6 +179,7 @@ impl WriteEnd {
         requires open { self.old.saw ≡ false }
         ensures more { flag more.now.seen ≤ flag self.new.saw }
         ensures saw { result ≡ self.new.saw }
+        ensures shut { self.new.shut ≡ false }
         ensures kept { SameButSaw self.old self.new }
     {
         let parts = &mut self.parts;

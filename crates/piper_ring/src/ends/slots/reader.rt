@@ -8,7 +8,7 @@ use crate::ring::marks::LastReadMark;
 use token_cell::TokenCell;
 
 impl ReadEnd {
-    ghost use Rattle.piper_ring.specs.ReadView.{KnowsEnd, KnowsMore, SameButSaw};
+    ghost use Rattle.piper_ring.specs.ReadView.{HasTheRest, KnowsEnd, KnowsMore, SameButSaw};
     ghost use Rattle.piper_ring.specs.Shared.{flag};
     ghost use Rattle.piper_ring.specs.SlotsView.{Registers, HasToDo, IsPending, HasNews, IsReaderAtRest, SameReaderPlace, IsWriterPending, HasRoomNews};
 
@@ -146,6 +146,7 @@ impl ReadEnd {
         requires { slots.now.names ≡ self.old.ring.names }
         ensures after { flag slots.now.shut ≤ flag self.new.saw }
         ensures saw { result ≡ self.new.saw }
+        ensures end { IsTrue result → HasTheRest self.new }
         ensures stays { flag self.old.saw ≤ flag self.new.saw }
         ensures told { flag self.old.told_shut ≤ flag self.new.saw }
         ensures kept { SameButSaw self.old self.new }

@@ -148,6 +148,7 @@ impl WriteEnd {
         requires open { self.old.saw ≡ false }
         ensures after { flag slots.now.over ≤ flag self.new.saw }
         ensures saw { result ≡ self.new.saw }
+        ensures shut { self.new.shut ≡ false }
         ensures kept { SameButSaw self.old self.new }
     {
         self.look_closed_knowing(&slots.parts.saw)

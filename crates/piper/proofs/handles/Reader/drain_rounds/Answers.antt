@@ -20,7 +20,7 @@ rounds-init g c =
 pub destination_took-round-requires-clause-fits : goal.destination_took-round-requires-clause-fits
 destination_took-round-requires-clause-fits g c =
     rw (c.before_round-call.ensures, c.rounds.invariant.at)
-    (sum_fits _ _ _ _ _ _ _ _ c.rounds.invariant.drained c.end.ensures c.learn.ensures.known c.learn.ensures.capacity.1 c.in-Ok.ensures.bound)
+    (sum_fits _ _ _ _ _ _ _ _ _ c.rounds.invariant.drained c.end.ensures c.capacity.ensures.known c.capacity.ensures.bounds.1 c.in-Ok.ensures.bound)
 
 pub wake_writer-call-requires : goal.wake_writer-call-requires
 wake_writer-call-requires g c =
@@ -30,7 +30,7 @@ wake_writer-call-requires g c =
 
 pub overflow_add-sum : goal.overflow_add-sum
 overflow_add-sum g c =
-    omega (arith, sum_fits _ _ _ _ _ _ _ _ c.rounds.invariant.drained c.end.ensures c.learn.ensures.known c.learn.ensures.capacity.1 c.in-Ok.ensures.bound)
+    omega (arith, sum_fits _ _ _ _ _ _ _ _ _ c.rounds.invariant.drained c.end.ensures c.capacity.ensures.known c.capacity.ensures.bounds.1 c.in-Ok.ensures.bound)
 
 pub rounds-smaller : goal.rounds-smaller
 rounds-smaller g c = rw c.wake_writer-call.ensures.end (omega (arith, ap length c.store_head-round.ensures.known, length-drop c.in-Ok.n c.rounds.self.end.known, c.in-Ok.ensures.bound))

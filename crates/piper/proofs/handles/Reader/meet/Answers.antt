@@ -1,14 +1,13 @@
 -- A writer that waits where there is room had its waker taken after the reader's last look.
-use Rattle.std.proofs.Common.{◌∙◌, ap, length, length-append, inl, arith}
-use Rattle.piper.proofs.RoomOrNone.{room_or_none, not_shut, and_open}
+use Rattle.std.proofs.Common.{◌∙◌, sym, ap, length, length-append, inl, arith}
+use Rattle.piper.proofs.RoomOrNone.{room_or_none, and_open}
 use Rattle.piper.proofs.handles.Reader.meet.Goals as goal
 
 pub returns-clause-writer_woken : goal.returns-clause-writer_woken
 returns-clause-writer_woken c = λ waits rests.
     let met = c.meet.ensures in
     let slots = c.meet_slots.ensures in
-    let shut = c.learn.ensures.shut in
-    let is_open = met.writer.shut ∙ not_shut c.args.other.now.end.shut c.args.other.now.end.saw (λ shut'. (shut shut').1) waits.stays_open in
+    let is_open = sym met.other_shut ∙ met.writer.saw ∙ waits.stays_open in
     and_open _ _ _
     (room_or_none _ (length c.args.other.now.end.sent) c.args.self.now.registrations.count _ _ _ met.room
     (omega (arith, ap length met.fifo, length-append c.meet.new.self.taken c.meet.new.self.known, rests.count, ap length met.reader.taken, ap length met.writer.sent))

@@ -129,7 +129,7 @@ end-requires-in-Err g c =
 pub source_gave-round-requires : goal.source_gave-round-requires
 source_gave-round-requires g c =
     let here = c.before_round-call.ensures ∙ c.rounds.invariant.at in
-    rw here (record { next = refl; fits = omega (arith, c.in-Ok.ensures.most, c.learn.ensures.room, ap (λ (w : WriteView). w.room) c.end.ensures) })
+    rw here (record { next = refl; fits = omega (arith, c.in-Ok.ensures.most, c.capacity.ensures.room, c.capacity.ensures.bounds, ap (λ (w : WriteView). w.room) c.end.ensures) })
 
 pub end-requires-then-n-eq0 : goal.end-requires-then-n-eq0
 end-requires-then-n-eq0 g c =
