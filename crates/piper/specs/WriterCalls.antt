@@ -27,7 +27,8 @@ abbrev pub MayBeUnread : Writer → ℕ → Type 0
 MayBeUnread writer n = EndMayHave writer.end n
 
 -- a call for at most `max` bytes may lend n: none once the writer closed the pipe, and else all that
--- is asked for and fits, or at least 4,096 of it
+-- is asked for and fits, or as much of it as one call may set to zero: twice what was published and
+-- is lent, and 4,096 more
 abbrev pub MayLend : Writer → ℕ → ℕ → Type 0
 MayLend writer max n = Lendable writer.end max n
 

@@ -1,5 +1,5 @@
 -- What the parts of a writer's end say of its indices.
-use Rattle.std.proofs.Common.{◌≡◌, ℕ, ◌+◌, ◌-◌, ◌≤◌, Bool, true, false, if◌then◌else◌, length, min, arith, sym, subst, ap, ◌∙◌}
+use Rattle.std.proofs.Common.{◌≡◌, ℕ, ◌+◌, ◌-◌, ◌<◌, ◌≤◌, ◌⊎◌, inl, inr, ⊎_elim, eq-or-lt_of_le, Bool, true, false, if◌then◌else◌, length, min, arith, sym, subst, ap, ◌∙◌}
 use Rattle.piper_protocol.specs.Index.{distance}
 use Rattle.piper_protocol.specs.LendBound.{lend_bound}
 use Rattle.piper_protocol.specs.WriterIndices.{WriterIndices, room_in, left_in, lendable_in}
@@ -32,3 +32,15 @@ module _ (e : WriteParts) (i : IsWriteEnd e) where
   pub room_apart : room_in e.indices ≡ e.seat.limit - length e.seat.sent
   room_apart = let cap : ℕ = e.indices.capacity in let s : ℕ = length e.seat.sent in let below : s ≤ e.seat.limit = sent_below in let low : cap ≤ e.seat.limit = i.freed.0 in let near : e.seat.limit ≤ s + cap = i.freed.1 in
       let far : distance cap e.indices.head e.indices.tail ≡ s - (e.seat.limit - cap) = apart cap _ _ (e.seat.limit - cap) s (omega arith) (omega arith) i.cached.1 i.cached.0 in omega arith
+
+  -- all that was published or is lent is set, or all places are
+  all_set : (length e.seat.sent + length e.room.lent.bytes ≤ e.indices.zeroed) ⊎ (e.indices.zeroed ≡ e.indices.capacity)
+  all_set = let r = e.room in let zeroed : e.indices.zeroed ≡ r.blank.first = i.room.1 in let cap : r.lent.capacity ≡ e.indices.capacity = i.placed.2 ∙ sym i.fits.0 in
+      let first : r.lent.first ≡ length e.seat.sent = i.placed.3 in let ready : r.ready.first ≡ r.lent.first + length r.lent.bytes = i.room.0.chain.0 in
+      ⊎_elim (λ all. inr (zeroed ∙ all ∙ cap)) (λ less. let turn : r.ready.first + length r.ready.bytes ≡ r.blank.first = i.room.0.first_turn less in inl (omega arith)) (eq-or-lt_of_le i.room.0.zeroing.0)
+
+  -- a pipe that is open lends all that is asked for and fits, or as much of it as may be set at once
+  pub lends_most : (most n : ℕ) → n ≡ lendable_in most e.indices → e.indices.is_shut ≡ false
+      → min (lend_bound (length e.seat.sent + length e.room.lent.bytes)) (min most (min (e.seat.limit - length e.seat.sent) (left_in e.indices))) ≤ n
+  lends_most most n is open_still = let all = lends_all most e.indices n is open_still in let room = room_apart in let near : e.seat.limit ≤ length e.seat.sent + e.indices.capacity = i.freed.1 in
+      ⊎_elim (λ set. omega arith) (λ whole. omega arith) all_set

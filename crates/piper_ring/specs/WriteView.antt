@@ -2,6 +2,7 @@
 use Rattle.std.specs.Prelude.{◌≡◌, ℕ, ◌+◌, ◌-◌, ◌^◌, ◌<◌, ◌≤◌, Bool, true, false, List, [], length, min, refl}
 use Rattle.std.specs.Coded.{Coded, code_by, coded×, coded_list, coded_ℕ, coded_bool}
 use Rattle.rtrb.specs.Fifo.{position_of, slot_of as offset_of}
+use Rattle.piper_protocol.specs.LendBound.{lend_bound}
 use Rattle.piper_ring.specs.Shared.{Ring, ring_of, ring_code}
 use Rattle.piper_ring.specs.RoomOrder.{IsRoom, end_of}
 pub use Rattle.piper_ring.specs.Streams.{either}
@@ -59,11 +60,13 @@ abbrev pub room_in_one_piece : WriteView → ℕ
 room_in_one_piece w = min w.room (w.capacity - write_place w)
 
 -- a call for at most `max` bytes may lend n: none once the writer closed the pipe,
--- and else all that is asked for and fits, or at least 4,096 of it
+-- and else all that is asked for and fits, or as much of it as one call may set to zero: twice what
+-- was published and is lent, and 4,096 more
 abbrev pub Lendable : WriteView → ℕ → ℕ → Type 0
 Lendable w max n =
     (w.shut ≡ true → n ≡ 0) × (n ≤ min max (room_in_one_piece w))
-    × (w.shut ≡ false → min 4096 (min max (room_in_one_piece w)) ≤ n)
+    × (w.shut ≡ false → min (lend_bound (length w.sent + length w.lent))
+    (min max (room_in_one_piece w)) ≤ n)
 
 -- n bytes may be unread: the room that the end knows of is free,
 -- and the bytes that it was told of are consumed

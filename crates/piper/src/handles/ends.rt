@@ -131,7 +131,8 @@ impl Writer {
     /// lent before; what is in the bytes is not said.
     ///
     /// Nothing is lent once the writer closed the pipe. Else all that is asked for and fits is
-    /// lent, or at least 4,096 bytes of it: the memory is zeroed on the way.
+    /// lent, or as much of it as a call may zero on the way: at least twice what was published and
+    /// is lent, and 4,096 bytes more.
     pub fn write_buf(&mut self, max: usize) -> &mut [u8]
         ensures* writes { sem 𝓛 (lends_room self.entry result) }
         ensures length { MayLend self.old max (length result.now) }
