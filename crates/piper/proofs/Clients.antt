@@ -1,8 +1,11 @@
 -- What clients draw from the clauses of the calls that don't wait.
-use Rattle.std.proofs.Common.{◌≡◌, ◌∙◌, ◌+◌, ◌<◌, ◌≤◌, ℕ, Bool, true, false, true≢false, List, [], ◌++◌, take, length, refl, sym, ap, append-nil, length-append, length-take-le, arith}
-use Rattle.std.proofs.lemmas.List.{nil_from_length, take_all}
+use Rattle.std.proofs.Common.{◌≡◌, ◌∙◌, ◌+◌, ◌-◌, ◌<◌, ◌≤◌, ℕ, Bool, true, false, true≢false, List, [], ◌++◌, take, drop, length, refl, sym, ap, append-nil, length-append, length-take-le, arith}
+use Rattle.std.proofs.Math.Seq.{take-add}
+use Rattle.std.proofs.lemmas.Grind.{common_steps}
+use Rattle.std.proofs.lemmas.List.{append_cancel_left, nil_from_length, take_all, take_rest}
+use borrow.Rule.Slice.PartMut.{put_mid}
 use native.Mathlib.Decide.{dec_lt}
-use Rattle.piper.specs.ReaderCalls.{Drained}
+use Rattle.piper.specs.ReaderCalls.{Drained, MeetClosed, MeetSame}
 use Rattle.piper.specs.WriterCalls.{Filled}
 use Rattle.piper.specs.declared.handles.Reader.{Reader}
 use Rattle.piper.specs.declared.handles.Writer.{Writer}
@@ -39,3 +42,22 @@ drained_all n a b old new drained some fits same =
     none_left (length b.end.known) n (length old) (λ less. ap length (drained.most less)) drained.count (omega (arith, count, ap length came, length-append (take n new) b.end.known, fits)) in
     let none : b.end.known ≡ [] = nil_from_length b.end.known left in
     (sym (append-nil (take n new)) ∙ sym (ap (λ xs. take n new ++ xs) none) ∙ came, none)
+
+-- what a fill published of a slice, into an open pipe of which all was taken before, a drain takes
+-- after the handles met
+pub filled_and_drained : (n m : ℕ) (q r s : Reader) (v w x : Writer) (source old new : List ℕ) → Filled n v w source → MeetSame q r w x → MeetClosed r x → r.end.taken ++ r.end.known ≡ x.end.sent
+    → Drained m r s old new → q.end.taken ≡ v.end.sent → x.end.shut ≡ false → 0 < n → length source ≤ length old → length new ≡ length old
+    → take m new ≡ take m source
+filled_and_drained n m q r s v w x source old new filled met closed fifo drained emptied unshut some room long =
+    let sent = filled.all (sym met.writer.saw ∙ saw_none _ _ closed.writer unshut) in
+    let known : r.end.known ≡ take n source = append_cancel_left r.end.taken _ _ (cc) in
+    let count = filled.count in
+    let found : 0 < length r.end.known = grind (arith, common_steps) in
+    let all = drained_all _ _ _ _ _ drained found (grind (arith, common_steps)) long in
+    all.0 ∙ known ∙ ap (λ k. take k source) (grind (arith, common_steps))
+
+-- a place whose first i bytes are those of the text, once a part from there on begins with the next
+-- m bytes of the text
+pub next_part : (i m k : ℕ) (xs ys text : List ℕ) → i ≤ length xs → m ≤ length ys → take i xs ≡ take i text → take m ys ≡ take m (take (length text - i) (drop i text))
+    → take (i + m) (put_mid i k xs ys) ≡ take (i + m) text
+next_part i m k xs ys text within fits front next = grind (arith, common_steps, take-add, take_rest)

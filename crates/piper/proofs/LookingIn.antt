@@ -1,7 +1,6 @@
 -- A fill's look, after which nothing was moved.
-use Rattle.std.proofs.Common.{◌≡◌, ℕ, ◌<◌, ◌⊎◌, [], length, true, false, Result, refl, sym, ap, ◌∙◌, append-nil, arith}
+use Rattle.std.proofs.Common.{◌≡◌, ℕ, ◌<◌, ◌⊎◌, [], length, true, Result, refl, sym, ap, ◌∙◌, append-nil, arith}
 use Rattle.futures.specs.declared.task.Poll.{Poll}
-use Rattle.piper_ring.specs.Shared.{flag}
 use Rattle.piper_ring.specs.WriteView.{WriteView}
 use Rattle.piper.specs.CopyAnswers.{Copies}
 use Rattle.piper.specs.Fills.{Fills}

@@ -49,7 +49,8 @@ pub record Polled {E : Type 0} (r : Poll (Result Bool E)) (a b : Reader) : Type 
   pub found : ReaderFound r b.end
   pub looked : ReaderLooked a.end b.end
 
--- once the end was reported a poll reports it again; and what the reader knows to be all is all
+-- once the end was reported a poll reports it again, or is refused memory; and what the reader knows
+-- to be all is all
 pub record PollsEnd {A E : Type 0} (r : Poll (Result A E)) (a b : Reader) : Type 0 where
   pub after : AtEnd a → After r (AtEnd b) b.end.known
   pub all : KeepsAll a b
@@ -155,8 +156,8 @@ pub record DrainsAtOnce {E : Type 0} (r : Poll (Result ℕ (Inner E))) (a b : Re
 abbrev pub WakesWriter : Reader → Reader → Type 0
 WakesWriter a b = NotifiesWriter a → NotifiesWriter b
 
--- the same reader of the same pipe, but for bytes that it took and knows of, and for how it waits:
--- it may have seen closed now
+-- the same reader of the same pipe, but for bytes that it took and knows of, for how it waits, and
+-- for what its generator draws next: it may have seen closed now
 pub record SameReaderButMoved (a b : Reader) : Type 0 where
   pub slots : b.slots ≡ a.slots
   pub end : ReaderCopied a.end b.end
@@ -201,8 +202,8 @@ pub record MeetClosed (b : Reader) (d : Writer) : Type 0 where
   pub writer : d.end.saw ≡ true → d.end.shut ≡ true
   pub all : KnowsEnd b.end → b.end.all ≡ d.end.sent
 
--- and that the reader is not forgotten: where it was pending, the writer took and woke its waker
--- since, or the reader has nothing to do
+-- and that the reader is not forgotten: where it was pending, and the writer checked its slot after
+-- its last store, the writer took and woke its waker since, or the reader has nothing to do
 abbrev pub MeetReader : Reader → Reader → Writer → Type 0
 MeetReader a b writer =
     IsPending a.end a.registrations → NotifiesReader writer → ReaderIsRemembered a b writer

@@ -116,8 +116,8 @@ pub record FillsAtOnce {E : Type 0} (r : Poll (Result ℕ (Inner E))) (a b : Wri
 abbrev pub WakesReader : Writer → Writer → Type 0
 WakesReader a b = NotifiesReader a → NotifiesReader b
 
--- the same writer of the same pipe, but for bytes that it published and its room, and for how it
--- waits: it may have seen closed now, and lends nothing
+-- the same writer of the same pipe, but for bytes that it published and its room, for how it waits,
+-- and for what its generator draws next: it may have seen closed now, and lends nothing
 pub record SameWriterButMoved (a b : Writer) : Type 0 where
   pub slots : b.slots ≡ a.slots
   pub end : WriterCopied a.end b.end

@@ -20,8 +20,8 @@ impl Reader {
     ghost use Rattle.piper.specs.ReaderCalls.{AtEnd, MayBeUnread, Polled, PollsEnd, SameReaderButConsumed};
     ghost use Rattle.piper.specs.Waits.{ReaderPends, ReaderWokeLast};
 
-    /// How many bytes are unread now: at least those that the reader knows of or was told of. The
-    /// writer may publish more at any time.
+    /// How many bytes are unread now: no fewer than those that the reader knows of, nor than those
+    /// that it was told of, and no more than fit. The writer may publish more at any time.
     pub fn len(&self) -> usize
         ensures { MayBeUnread self.now result }
     {
@@ -64,8 +64,8 @@ impl Reader {
     /// Returns `true` once a byte is known, which `peek_buf` then lends; and `false` once the pipe
     /// is closed and all that was ever published has been taken: this is final. Until then the call
     /// is pending, and the task is woken when bytes are published or the pipe is closed. It checks
-    /// for more bytes only where none is known. Where no waker can be made the answer is want of
-    /// memory.
+    /// for more bytes only where none is known. Where it has to wait and no waker can be made it
+    /// fails with `OutOfMemory`: it makes one before it knows whether the pipe is closed.
     pub fn poll(&mut self, cx: &mut Context<'_>) -> Poll<Result<bool, OutOfMemory>>
         ensures found { Polled result self.old self.new }
         ensures end { PollsEnd result self.old self.new }
@@ -117,7 +117,7 @@ impl Reader {
         self.wake_writer(call).done();
     }
 
-    /// Evidence of what was consumed, for the writer to heed.
+    /// Evidence of how many bytes were consumed, for the writer to heed.
     pub fn mark(&self) -> ReadMark
         ensures ring { result.names ≡ (ring self.now).names }
         ensures count { result.count ≡ length (taken self.now) }
@@ -127,9 +127,9 @@ impl Reader {
 
     /// Closes the pipe and wakes the writer. The memory is freed if the writer is gone.
     ///
-    /// The answer is evidence, for the writer to take in (`meet_finished`): all that was ever
-    /// consumed, that the pipe is closed, and that after the store that closed, whoever was
-    /// registered in the writer's slot was taken, and its waker called.
+    /// The result is evidence, for the writer's `meet_finished`: how many bytes were ever consumed,
+    /// and that the writer's slot was checked after the store that closed. Whoever was registered
+    /// there was taken, and is woken. Bytes that are unread are lost.
     pub fn drop(self) -> FinishedReader
         ensures ring { result.told.consumed.names ≡ (ring self).names }
         ensures count { result.told.consumed.count ≡ length (taken self) }

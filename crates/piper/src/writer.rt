@@ -61,8 +61,8 @@ impl Writer {
     ///
     /// Returns `false` once the pipe is closed; and else `true` once there is room, which
     /// `write_buf` then lends. Until then the call is pending, and the task is woken when bytes are
-    /// consumed or the pipe is closed. It checks for more room only where none is known. Where no
-    /// waker can be made the answer is want of memory.
+    /// consumed or the pipe is closed. It checks for more room only where none is known. Where it
+    /// has to wait and no waker can be made it fails with `OutOfMemory`.
     pub fn poll(&mut self, cx: &mut Context<'_>) -> Poll<Result<bool, OutOfMemory>>
         ensures found { Polled result self.old self.new }
         ensures pending { OnPending result (WriterPends self.old self.new cx.new) }
@@ -133,9 +133,9 @@ impl Writer {
     /// Closes the pipe and wakes the reader, who can still read what is unread. The memory is freed
     /// if the reader is gone.
     ///
-    /// The answer is evidence, for the reader to take in (`meet_finished`): all that was ever
-    /// published, that the pipe is closed, and that after the store that closed, whoever was
-    /// registered in the reader's slot was taken, and its waker called.
+    /// The result is evidence, for the reader's `meet_finished`: which bytes were ever published,
+    /// that the pipe is closed, and that the reader's slot was checked after the store that closed.
+    /// Whoever was registered there was taken, and is woken.
     pub fn drop(self) -> FinishedWriter
         ensures ring { result.told.names ≡ (ring self).names }
         ensures bytes { result.told.bytes ≡ sent self }

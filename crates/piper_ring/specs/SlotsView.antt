@@ -11,12 +11,13 @@ use Rattle.piper_ring.specs.declared.ends.slots.WriteSlotParts.{WriteSlotParts}
 pub record ReadSlotsView : Type 0 where
   -- the names of the ring
   pub names : Names
-  -- whether the place of the reader's waker is with it
+  -- whether the reader holds the place of its waker: if not, its waker is registered in the slot, or
+  -- the place is with the writer, or on its way back
   pub owns : Bool
   -- how often it registered
   pub tickets : ℕ
-  -- what the writer had stored when it last checked the slot before that: what it had published,
-  -- and whether it had closed the pipe
+  -- what the writer had stored at its last check of the slot before that registration: what it had
+  -- published, and whether it had closed the pipe
   pub bytes : List ℕ
   pub shut : Bool
   -- the ticket of the writer's that it took last
@@ -67,8 +68,8 @@ pub record WriteSlotsView : Type 0 where
   pub owns : Bool
   -- how often it registered
   pub tickets : ℕ
-  -- what the reader had stored when it last checked the slot before that: what it had consumed, and
-  -- whether it had closed the pipe
+  -- what the reader had stored at its last check of the slot before that registration: what it had
+  -- consumed, and whether it had closed the pipe
   pub count : ℕ
   pub over : Bool
   -- the ticket of the reader's that it took last

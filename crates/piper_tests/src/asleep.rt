@@ -33,12 +33,32 @@ where
     let (_drained, mut full) = owned_pipe(rt.alloc(), 1).expect(rt, "memory");
     full.try_fill(b".");
     sleeps(rt, "read", (&mut reader).read(kept(rt, rt.alloc(), b"..")));
-    sleeps(rt, "read_exact", (&mut reader).read_exact(Vec::new(rt.alloc()), 2));
-    sleeps(rt, "read_to_end", (&mut reader).read_to_end(Vec::new(rt.alloc())));
-    sleeps(rt, "read_until", (&mut reader).read_until(b'\n', Vec::new(rt.alloc())));
-    sleeps(rt, "drain_into", (&mut reader).drain_into(Vec::new(rt.alloc())));
+    sleeps(
+        rt,
+        "read_exact",
+        (&mut reader).read_exact(Vec::new(rt.alloc()), 2),
+    );
+    sleeps(
+        rt,
+        "read_to_end",
+        (&mut reader).read_to_end(Vec::new(rt.alloc())),
+    );
+    sleeps(
+        rt,
+        "read_until",
+        (&mut reader).read_until(b'\n', Vec::new(rt.alloc())),
+    );
+    sleeps(
+        rt,
+        "drain_into",
+        (&mut reader).drain_into(Vec::new(rt.alloc())),
+    );
     sleeps(rt, "lines", (&mut reader).lines(rt.alloc(), 8).next());
-    sleeps(rt, "frames", FrameStream::new(rt.alloc(), &mut reader, 8).next());
+    sleeps(
+        rt,
+        "frames",
+        FrameStream::new(rt.alloc(), &mut reader, 8).next(),
+    );
     sleeps(rt, "copy", copy(&mut reader, &mut full));
 }
 

@@ -30,12 +30,12 @@ impl Reader {
     /// Moves known bytes into a writer, and returns how many that took.
     ///
     /// It begins with the look of `poll`: 0 is the end of a closed pipe, or says that the writer
-    /// took none, and where nothing is known the call is pending, or wants memory. Once in a
-    /// hundred calls, as the reader's generator draws, it yields in place of the rounds: it moves
-    /// nothing and asks for another poll. A round hands the writer at most 131,072 bytes in one
-    /// piece; the rounds end once nothing is known or the writer takes none. Where the writer
-    /// fails, what it took in the rounds before stays taken, and its error is returned; no clause
-    /// can report that error.
+    /// took none. Where no byte is known and the pipe is open it is pending, and where no waker can
+    /// be made for that it fails with `Memory`. Once in a hundred calls, as the reader's generator
+    /// draws, it yields in place of the rounds: it moves nothing and asks for another poll. A round
+    /// hands the writer at most 131,072 bytes in one piece; the rounds end once nothing is known or
+    /// the writer takes none. Where the writer fails, what it took in the rounds before stays taken,
+    /// and its error is returned; no clause can report that error.
     pub fn poll_drain<W: Write>(
         &mut self,
         cx: &mut Context<'_>,
@@ -60,8 +60,8 @@ impl Reader {
         }
     }
 
-    /// Moves known bytes into the front of `dest`, and returns how many: as many as its look left
-    /// known and as fit.
+    /// Moves known bytes into the front of `dest`, and returns how many: as many as fit of those that
+    /// it knows of after its look. With an empty `dest` it waits, too, while none is known.
     ///
     /// It looks, draws and waits as `poll_drain` does: 0 is the end of a closed pipe, or `dest` has
     /// no room and a byte is known.
@@ -89,7 +89,8 @@ impl Reader {
     }
 
     /// Moves known bytes into the front of `dest`, as many as fit, and returns how many. It checks
-    /// for more only where none is known, and doesn't wait: 0 is no end.
+    /// for more only where none is known, and doesn't wait: 0 doesn't mean the end, since nothing may
+    /// be known, or `dest` has no room.
     pub fn try_drain(&mut self, dest: &mut [u8]) -> usize
         ensures drained { Drained result self.old self.new dest.old dest.new }
         ensures end { KeepsEnd self.old self.new }
@@ -110,7 +111,7 @@ impl Reader {
     /// knows of no byte and didn't see the pipe closed.
     ///
     /// A failure is the destination's own error: what it took in the rounds before stays taken, and
-    /// nothing else moved.
+    /// the write that failed took nothing.
     #[inline(always)]
     pub fn drain_inner<W: WriteLike>(
         &mut self,

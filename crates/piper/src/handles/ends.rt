@@ -21,9 +21,9 @@ impl Reader {
     }
 
     /// From now on it knows what the mark reports: a look finds at least the bytes that were
-    /// published before it, and a pipe that the writer closed before it is seen closed. Its bytes
-    /// and those that the reader took and knows of are beginnings of one stream, and those of a
-    /// mark that reports of the end are all bytes that were ever published.
+    /// published before it, and a pipe that the writer closed before it is seen closed. The mark's
+    /// bytes agree with those that the reader took and knows of, as far as both go. Where the mark
+    /// says that the writer closed the pipe, they are all bytes that were ever published.
     pub fn heed(&mut self, mark: &WriteMark)
         requires { mark.now.names ≡ (ring self.old).names }
         ensures told { told self.new ≡ max (told self.old) (length mark.now.bytes) }
@@ -38,10 +38,11 @@ impl Reader {
 
     /// Both handles held by one thread: then the reader knows of all that was published, and the
     /// writer of all the free room, and where either saw the pipe closed the writer closed it: what
-    /// the reader took for all bytes is what the writer published. It takes no memory.
+    /// the reader holds to be all bytes is what the writer published. It allocates nothing.
     ///
-    /// And nobody who waits is forgotten: of a side that is pending in its slot, the other took and
-    /// woke the waker since, or the side has nothing to do.
+    /// And nobody who waits is forgotten: where a side is pending in its slot, and the other has
+    /// checked that slot since its last store, the other took the waker and called it, or the side
+    /// has nothing to do.
     pub fn meet(&mut self, other: &mut Writer)
         requires { of_writer.ring other.old ≡ ring self.old }
         ensures fifo { taken self.new ++ known self.new ≡ of_writer.sent other.new }
@@ -60,8 +61,9 @@ impl Reader {
         self.end.meet(&mut other.end);
     }
 
-    /// Takes in what is left of the writer that was dropped: `heed` of its last mark. And it was not
-    /// forgotten: where it waits in its slot, the writer took and woke its waker as it left.
+    /// Heeds the last mark of the writer that was dropped; its bytes become known at the next look.
+    /// And the reader was not forgotten: where it waits in its slot, the writer took its waker and
+    /// called it as it left. `left` stays as it was: the proof alone needs a `&mut`.
     pub fn meet_finished(&mut self, left: &mut FinishedWriter)
         requires { left.old.told.names ≡ (ring self.old).names }
         ensures woken { WasWoken self.old left.old }
@@ -111,8 +113,9 @@ impl Writer {
         self.end.heed_last(mark);
     }
 
-    /// Takes in what is left of the reader that was dropped: `heed_last` of its last mark. And it
-    /// was not forgotten: where it waits in its slot, the reader took and woke its waker as it left.
+    /// Heeds the last mark of the reader that was dropped (`heed_last`). And the writer was not
+    /// forgotten: where it waits in its slot, the reader took its waker and called it as it left.
+    /// `left` stays as it was: the proof alone needs a `&mut`.
     pub fn meet_finished(&mut self, left: &mut FinishedReader)
         requires { left.old.told.consumed.names ≡ (ring self.old).names }
         ensures woken { WasWoken self.old left.old }
