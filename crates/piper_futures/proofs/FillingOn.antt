@@ -38,11 +38,11 @@ fills_then l0 l1 l2 s0 s1 s2 saw0 false saw2 first second =
       λ seen. let later = first.6 seen in cc,
     )
 
-module _ {W S : Type 0} (sent : W → List ℕ) (saw : W → Bool) (fails : W → Context → PipeError → Type 0) (remaining : S → Option (List ℕ)) where
+module _ {W S : Type 0} (sent : W → List ℕ) (saw : W → Bool) (woken : W → Type 0) (fails : W → Context → PipeError → Type 0) (remaining : S → Option (List ℕ)) where
   -- what may be given after a poll may be given before it
-  pub filled_then : (w0 w1 : W) (s0 s1 : S) → FillsOn (remaining s0) (remaining s1) (sent w0) (sent w1) (saw w0) (saw w1) → (output : Result (W × S × Copied) (Failed (W × S)))
-      → FilledAll sent saw fails remaining w1 s1 output → FilledAll sent saw fails remaining w0 s0 output
-  filled_then w0 w1 s0 s1 first (Ok done) gave =
-      (fills_then (remaining s0) (remaining s1) (remaining done.1) (sent w0) (sent w1) (sent done.0) (saw w0) (saw w1) (saw done.0) first gave.0, gave.1)
-  filled_then w0 w1 s0 s1 first (Err failed) gave =
-      (fills_then (remaining s0) (remaining s1) (remaining failed.left.1) (sent w0) (sent w1) (sent failed.left.0) (saw w0) (saw w1) (saw failed.left.0) first gave.0, gave.1)
+  pub filled_then : (w0 w1 : W) (s0 s1 : S) → FillsOn (remaining s0) (remaining s1) (sent w0) (sent w1) (saw w0) (saw w1) → (woken w0 → woken w1) → (output : Result (W × S × Copied) (Failed (W × S)))
+      → FilledAll sent saw woken fails remaining w1 s1 output → FilledAll sent saw woken fails remaining w0 s0 output
+  filled_then w0 w1 s0 s1 first stays (Ok done) gave =
+      (fills_then (remaining s0) (remaining s1) (remaining done.1) (sent w0) (sent w1) (sent done.0) (saw w0) (saw w1) (saw done.0) first gave.0, gave.1, λ before. gave.2 (stays before))
+  filled_then w0 w1 s0 s1 first stays (Err failed) gave =
+      (fills_then (remaining s0) (remaining s1) (remaining failed.left.1) (sent w0) (sent w1) (sent failed.left.0) (saw w0) (saw w1) (saw failed.left.0) first gave.0, gave.1, λ before. gave.2 (stays before))

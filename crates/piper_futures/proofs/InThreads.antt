@@ -1,5 +1,5 @@
 -- What a fill or a drain gives is what its thread gives.
-use Rattle.std.proofs.Common.{◌≡◌, ◌∙◌, sym, ap, subst, true, ℕ, List, length, Option, Some, Result, Ok, Err}
+use Rattle.std.proofs.Common.{◌≡◌, ◌∙◌, sym, ap, subst, true, ℕ, Bool, List, length, Option, Some, Result, Ok, Err}
 use Rattle.std.specs.Prelude.{IsSomeAnd}
 use Rattle.futures.specs.declared.task.context.Context.{Context}
 use Rattle.piper.specs.declared.error.PipeError.{PipeError}
@@ -14,9 +14,9 @@ use Rattle.piper_futures.specs.declared.failed.Failed.{Failed}
 use Rattle.piper_futures.specs.declared.threads.Drained.{Drained}
 use Rattle.piper_futures.specs.declared.threads.Filled.{Filled}
 
-module _ {S : Type 0} (remaining : S → Option (List ℕ)) (fails : OwnedWriter → Context → PipeError → Type 0) where
+module _ {S : Type 0} (remaining : S → Option (List ℕ)) (woken : OwnedWriter → Type 0) (fails : OwnedWriter → Context → PipeError → Type 0) where
   abbrev All : OwnedWriter → S → Result (OwnedWriter × S × Copied) (Failed (OwnedWriter × S)) → Type 0
-  All w s output = FilledAll (λ (o : OwnedWriter). o.end.sent) (λ (o : OwnedWriter). o.end.saw) fails remaining w s output
+  All w s output = FilledAll (λ (o : OwnedWriter). o.end.sent) (λ (o : OwnedWriter). o.end.saw) woken fails remaining w s output
 
   abbrev Given : Option (OwnedWriter × S) → Result (OwnedWriter × S × Copied) (Failed (OwnedWriter × S)) → Type 0
   Given state output = IsSomeAnd state (λ ends. All ends.0 ends.1 output)
@@ -32,7 +32,7 @@ module _ {S : Type 0} (remaining : S → Option (List ℕ)) (fails : OwnedWriter
       }
 
   why_filled : (w : OwnedWriter) (s : S) (copied : Copied)
-      → FillEnded (λ (o : OwnedWriter). o.end.sent) (λ (o : OwnedWriter). o.end.saw) fails remaining w s copied → WhyFilled (remaining s) copied
+      → FillEnded (λ (o : OwnedWriter). o.end.sent) (λ (o : OwnedWriter). o.end.saw) woken fails remaining w s copied → WhyFilled (remaining s) copied
   why_filled w s ToTheEnd why = why
   why_filled w s UntilClosed why = tt
 
@@ -52,10 +52,10 @@ module _ {S : Type 0} (remaining : S → Option (List ℕ)) (fails : OwnedWriter
       let all : All w s (Err failed) = subst (λ o. All w s o) is (subst (λ st. Given st output) began given) in
       filled_to w failed.left.0 s failed.left.1 left all.0 source bytes shut
 
-module _ {D : Type 0} (contents : D → Option (List ℕ)) (fails : OwnedReader → Context → PipeError → Type 0) where
+module _ {D : Type 0} (contents : D → Option (List ℕ)) (told : OwnedReader → Bool) (woken : OwnedReader → Type 0) (fails : OwnedReader → Context → PipeError → Type 0) where
   abbrev AllOut : OwnedReader → D → Result (OwnedReader × D) (Failed (OwnedReader × D)) → Type 0
   AllOut r d output =
-      DrainedAll (λ (o : OwnedReader). o.end.taken) (λ (o : OwnedReader). o.end.known) (λ (o : OwnedReader). o.end.saw) fails contents r d output
+      DrainedAll (λ (o : OwnedReader). o.end.taken) (λ (o : OwnedReader). o.end.known) (λ (o : OwnedReader). o.end.saw) told woken fails contents r d output
 
   abbrev GivenOut : Option (OwnedReader × D) → Result (OwnedReader × D) (Failed (OwnedReader × D)) → Type 0
   GivenOut state output = IsSomeAnd state (λ ends. AllOut ends.0 ends.1 output)

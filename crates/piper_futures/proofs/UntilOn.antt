@@ -6,6 +6,8 @@ use Rattle.std.specs.declared.alloc.Global.{Global}
 use Rattle.futures.specs.declared.task.context.Context.{Context}
 use Rattle.piper.specs.declared.error.PipeError.{PipeError}
 use Rattle.piper_lines.specs.AtEnd.{AtEnd}
+use Rattle.piper_lines.specs.Stays.{ReaderStays}
+use Rattle.piper_lines.proofs.Staying.{reader_stays}
 use Rattle.piper_futures.specs.Until.{GrowsBy, IsThrough, Lacks, ReadThrough}
 use Rattle.piper_futures.specs.declared.failed.Failed.{Failed}
 
@@ -43,14 +45,17 @@ joins : (byte : ℕ) (End : Type 0) (xs ys : List ℕ) → Lacks byte xs → IsT
 joins byte End xs ys front (inl through) = inl (IsThrough-append byte xs ys front through)
 joins byte End xs ys front (inr lacks) = inr (Lacks-append byte xs ys front lacks.0, lacks.1)
 
-module _ {R : Type 0} (taken known : R → List ℕ) (saw : R → Bool) (fails : R → Context → PipeError → Type 0) (byte : ℕ) where
+module _ {R : Type 0} (taken known : R → List ℕ) (saw told : R → Bool) (woken : R → Type 0) (fails : R → Context → PipeError → Type 0) (byte : ℕ) where
   -- what may be given after a poll may be given before it
-  pub read_through_then : (r0 r1 : R) (b0 b1 : Vec ℕ Global) → GrowsBy (taken r0) (taken r1) b0.items b1.items (Lacks byte) → (output : Result (R × Vec ℕ Global) (Failed (R × Vec ℕ Global)))
-      → ReadThrough taken known saw fails byte r1 b1 output → ReadThrough taken known saw fails byte r0 b0 output
-  read_through_then r0 r1 b0 b1 first (Ok done) gave =
-      grows_by_more (taken r0) (taken r1) (taken done.0) b0.items b1.items done.1.items (Lacks byte) (λ more. IsThrough byte more ⊎ (Lacks byte more × AtEnd (known done.0) (saw done.0)))
-      (λ more. IsThrough byte more ⊎ (Lacks byte more × AtEnd (known done.0) (saw done.0))) (joins byte (AtEnd (known done.0) (saw done.0))) first gave
-  read_through_then r0 r1 b0 b1 first (Err failed) gave = (
+  pub read_through_then : (r0 r1 : R) (b0 b1 : Vec ℕ Global) → GrowsBy (taken r0) (taken r1) b0.items b1.items (Lacks byte) → ReaderStays told woken r0 r1 → (output : Result (R × Vec ℕ Global) (Failed (R × Vec ℕ Global)))
+      → ReadThrough taken known saw told woken fails byte r1 b1 output → ReadThrough taken known saw told woken fails byte r0 b0 output
+  read_through_then r0 r1 b0 b1 first stays (Ok done) gave = (
+    grows_by_more (taken r0) (taken r1) (taken done.0) b0.items b1.items done.1.items (Lacks byte) (λ more. IsThrough byte more ⊎ (Lacks byte more × AtEnd (known done.0) (saw done.0)))
+        (λ more. IsThrough byte more ⊎ (Lacks byte more × AtEnd (known done.0) (saw done.0))) (joins byte (AtEnd (known done.0) (saw done.0))) first gave.0,
+    reader_stays told woken r0 r1 done.0 stays gave.1,
+  )
+  read_through_then r0 r1 b0 b1 first stays (Err failed) gave = (
     grows_by_more (taken r0) (taken r1) (taken failed.left.0) b0.items b1.items failed.left.1.items (Lacks byte) (Lacks byte) (Lacks byte) (Lacks-append byte) first gave.0,
     gave.1,
+    reader_stays told woken r0 r1 failed.left.0 stays gave.2,
   )

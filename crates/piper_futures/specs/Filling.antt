@@ -22,7 +22,7 @@ FillsOn left_before left_after sent_before sent_after saw_before saw_after =
     × (sent_after ≡ sent_before ++ front) × (saw_after ≡ false → lost ≡ [])
     × (saw_before ≡ true → front ++ lost ≡ []) × (saw_before ≡ true → saw_after ≡ true)
 
-module _ {W S : Type 0} (sent : W → List ℕ) (saw : W → Bool)
+module _ {W S : Type 0} (sent : W → List ℕ) (saw : W → Bool) (woken : W → Type 0)
     (fails : W → Context → PipeError → Type 0) (remaining : S → Option (List ℕ)) where
   -- why it ended holds of the ends that come back
   abbrev pub FillEnded : W → S → Copied → Type 0
@@ -33,8 +33,9 @@ module _ {W S : Type 0} (sent : W → List ℕ) (saw : W → Bool)
   abbrev pub FilledAll : W → S → Result (W × S × Copied) (Failed (W × S)) → Type 0
   FilledAll w s (Ok done) =
       FillsOn (remaining s) (remaining done.1) (sent w) (sent done.0) (saw w) (saw done.0)
-      × FillEnded done.0 done.1 done.2
+      × FillEnded done.0 done.1 done.2 × (woken w → woken done.0)
   FilledAll w s (Err failed) =
       FillsOn (remaining s) (remaining failed.left.1) (sent w) (sent failed.left.0)
       (saw w) (saw failed.left.0)
       × (FailsOnce fails failed.left.0 failed.error ⊎ IsIo failed.error)
+      × (woken w → woken failed.left.0)

@@ -8,6 +8,7 @@ use Rattle.piper.specs.Polls.{Reads}
 use Rattle.piper_lines.specs.AtEnd.{AtEnd}
 use Rattle.piper_lines.specs.Moves.{Grows}
 use Rattle.piper_lines.specs.Refusals.{IsReported}
+use Rattle.piper_lines.specs.Stays.{ReaderStays}
 use Rattle.piper_futures.specs.Writing.{FailsOnce}
 use Rattle.piper_futures.specs.declared.failed.Failed.{Failed}
 use Rattle.piper_futures.specs.declared.read_all.ReadToEnd.{ReadToEnd}
@@ -27,10 +28,11 @@ StartsReadingUpTo future reader bytes size =
 abbrev pub StartsReadingAll : {R : Type 0} → ReadToEnd R → R → Vec ℕ Global → Type 0
 StartsReadingAll future reader bytes = future.state ≡ Some (reader, bytes)
 
-module _ {R : Type 0} (taken known : R → List ℕ) (saw : R → Bool) where
-  -- what the reader gave between two of its states is at the end of the bytes
+module _ {R : Type 0} (taken known : R → List ℕ) (saw told : R → Bool) (woken : R → Type 0) where
+  -- what the reader gave between two of its states is at the end of the bytes, and what it has told
+  -- and whom it has woken stays so
   abbrev pub ReadsOn : R → List ℕ → R → List ℕ → Type 0
-  ReadsOn r0 b0 r1 b1 = Grows (taken r0) (taken r1) b0 b1
+  ReadsOn r0 b0 r1 b1 = Grows (taken r0) (taken r1) b0 b1 × ReaderStays told woken r0 r1
 
   -- all came, up to the end; or the reader failed, or memory was refused where more was known
   abbrev pub ReadAll : (R → Context → PipeError → Type 0) → R → Vec ℕ Global
@@ -53,10 +55,13 @@ module _ {R : Type 0} (taken known : R → List ℕ) (saw : R → Bool) where
 
 -- what was read at once is at the front of the places, and the rest of them stays; or the reader
 -- failed, and gave nothing
-abbrev pub ReadSome : {R : Type 0} → (R → List ℕ) → (R → Bool) → (R → Context → PipeError → Type 0)
-    → R → List ℕ → Result (R × Vec ℕ Global × ℕ) (Failed (R × Vec ℕ Global)) → Type 0
-ReadSome taken saw fails r places (Ok done) =
-    Reads {E = PipeError} (Ready (Ok done.2)) places done.1.items (taken r) (taken done.0) (saw done.0)
-ReadSome taken saw fails r places (Err failed) =
-    (taken failed.left.0 ≡ taken r) × (failed.left.1.items ≡ places)
-    × FailsOnce fails failed.left.0 failed.error
+module _ {R : Type 0} (taken : R → List ℕ) (saw told : R → Bool) (woken : R → Type 0)
+    (fails : R → Context → PipeError → Type 0) where
+  abbrev pub ReadSome : R → List ℕ → Result (R × Vec ℕ Global × ℕ) (Failed (R × Vec ℕ Global))
+      → Type 0
+  ReadSome r places (Ok done) =
+      Reads {E = PipeError} (Ready (Ok done.2)) places done.1.items (taken r) (taken done.0) (saw done.0)
+      × ReaderStays told woken r done.0
+  ReadSome r places (Err failed) =
+      (taken failed.left.0 ≡ taken r) × (failed.left.1.items ≡ places)
+      × FailsOnce fails failed.left.0 failed.error × ReaderStays told woken r failed.left.0

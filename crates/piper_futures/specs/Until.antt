@@ -7,6 +7,7 @@ use Rattle.futures.specs.declared.task.Poll.TheVariants.{Ready, Pending}
 use Rattle.piper.specs.declared.error.PipeError.{PipeError}
 use Rattle.piper_lines.specs.AtEnd.{AtEnd}
 use Rattle.piper_lines.specs.Refusals.{IsReported}
+use Rattle.piper_lines.specs.Stays.{ReaderStays}
 use Rattle.piper_futures.specs.Writing.{FailsOnce}
 use Rattle.piper_futures.specs.declared.failed.Failed.{Failed}
 use Rattle.piper_futures.specs.declared.read_through.ReadUntil.{ReadUntil}
@@ -43,13 +44,15 @@ Reaches answer byte taken_before taken_after before after known saw =
 
 -- the bytes that came are those through the first delimiter, or all up to the end;
 -- or the reader failed, or memory was refused where more was known
-module _ {R : Type 0} (taken known : R → List ℕ) (saw : R → Bool)
+module _ {R : Type 0} (taken known : R → List ℕ) (saw told : R → Bool) (woken : R → Type 0)
     (fails : R → Context → PipeError → Type 0) (byte : ℕ) where
   abbrev pub ReadThrough : R → Vec ℕ Global
       → Result (R × Vec ℕ Global) (Failed (R × Vec ℕ Global)) → Type 0
   ReadThrough r bytes (Ok done) =
       GrowsBy (taken r) (taken done.0) bytes.items done.1.items (λ more.
       IsThrough byte more ⊎ (Lacks byte more × AtEnd (known done.0) (saw done.0)))
+      × ReaderStays told woken r done.0
   ReadThrough r bytes (Err failed) =
       GrowsBy (taken r) (taken failed.left.0) bytes.items failed.left.1.items (Lacks byte)
       × IsReported failed.error (FailsOnce fails failed.left.0) (0 < length (known failed.left.0))
+      × ReaderStays told woken r failed.left.0

@@ -3,6 +3,7 @@ use Rattle.std.specs.Prelude.{◌≡◌, ℕ, ◌<◌, ◌≤◌, Bool, true, Li
 use Rattle.futures.specs.declared.task.context.Context.{Context}
 use Rattle.piper.specs.declared.error.PipeError.{PipeError}
 use Rattle.piper_lines.specs.Sends.{Sends}
+use Rattle.piper_lines.specs.Stays.{WriterStays}
 use Rattle.piper_futures.specs.declared.failed.Failed.{Failed}
 use Rattle.piper_futures.specs.declared.write_end.Closing.{Closing}
 use Rattle.piper_futures.specs.declared.write_end.Flushing.{Flushing}
@@ -25,12 +26,12 @@ StartsClosing future writer = future.writer ≡ Some writer
 abbrev pub FailsOnce : {E : Type 0} → (E → Context → PipeError → Type 0) → E → PipeError → Type 0
 FailsOnce fails end error = (cx : Context) × fails end cx error
 
-module _ {W : Type 0} (sent : W → List ℕ) (saw : W → Bool) where
+module _ {W : Type 0} (sent : W → List ℕ) (saw : W → Bool) (woken : W → Type 0) where
   -- from one state of the writer to another the bytes were sent that are between these two counts
   abbrev pub WritesOn : List ℕ → W → ℕ → W → ℕ → Type 0
   WritesOn bytes w0 n0 w1 n1 =
       (n1 ≤ length bytes) × Sends (drop n0 bytes) (drop n1 bytes) (sent w0) (sent w1) (saw w0) (saw w1)
-      × (saw w0 ≡ true → saw w1 ≡ true)
+      × WriterStays saw woken w0 w1
 
   -- all were written, or the pipe was seen closed; or the writer failed
   abbrev pub WroteAll : (W → Context → PipeError → Type 0) → List ℕ → W → ℕ
@@ -42,7 +43,7 @@ module _ {W : Type 0} (sent : W → List ℕ) (saw : W → Bool) where
 
   -- the writer sent nothing
   abbrev pub Idles : W → W → Type 0
-  Idles w0 w1 = (sent w1 ≡ sent w0) × (saw w0 ≡ true → saw w1 ≡ true)
+  Idles w0 w1 = (sent w1 ≡ sent w0) × WriterStays saw woken w0 w1
 
   -- it comes back, with P where it has not failed, and sent nothing
   abbrev pub ComesBack : (W → Context → PipeError → Type 0) → (W → Type 0) → W

@@ -1,10 +1,10 @@
 //! All bytes of a reader, moved into a writer of std.
-ghost use Rattle.std.specs.Prelude.{◌≡◌, ◌⊎◌, IsSome, IsSomeAnd, Ok, true};
+ghost use Rattle.std.specs.Prelude.{◌≡◌, ◌<◌, ◌⊎◌, length, IsSome, IsSomeAnd, Ok};
 ghost use Rattle.futures.specs.Task.{Covers, Keeps};
 ghost use Rattle.futures.specs.Poll.{OnPending};
-ghost use Rattle.piper.specs.Contexts.{AsksAgain};
 ghost use Rattle.piper.specs.Polls.{IfReadyErr};
 ghost use Rattle.piper_lines.specs.AtEnd.{AtEnd};
+ghost use Rattle.piper_lines.specs.Stays.{Pends, ReaderStays};
 ghost use Rattle.piper_futures.specs.Draining.{DrainedAll, DrainsOn, StartsDraining};
 ghost use Rattle.piper_futures.specs.Moving.{IsIo};
 
@@ -48,7 +48,7 @@ impl<R: AsyncBufRead + Drop, D: Write + Drop> Future for Draining<R, D> {
     ghost needs = { λ future s. IsSomeAnd future.state (λ state. R.needs state.0 s) };
 
     ghost gives = { λ future output. IsSomeAnd future.state (λ state.
-        DrainedAll R.taken R.known R.saw R.fails D.contents state.0 state.1 output) };
+        DrainedAll R.taken R.known R.saw R.told R.woken R.fails D.contents state.0 state.1 output) };
 
     fn poll(&mut self, cx: &mut Context<'_>) -> Poll<Self::Output> {
         let Some((reader, dest)) = &mut self.state else {
@@ -80,9 +80,11 @@ pub fn poll_drain_into<R: AsyncBufRead, D: Write>(
     ensures ended { result ≡ Poll.Ready (Ok (record {})) →
         AtEnd (R.known reader.new) (R.saw reader.new) }
     ensures ends { result ≡ Poll.Ready (Ok (record {})) → R.ended reader.new }
-    ensures error { IfReadyErr result (λ e. R.fails reader.new cx.new e ⊎ IsIo e) }
-    ensures told { R.told reader.new ≡ R.told reader.old }
-    ensures heeded { OnPending result (R.told reader.new ≡ true → AsksAgain cx.new) }
+    ensures error { IfReadyErr result (λ e. R.fails reader.new cx.new e
+        ⊎ (IsIo e × (0 < length (R.known reader.new)))) }
+    ensures stays { ReaderStays R.told R.woken reader.old reader.new }
+    ensures pends { OnPending result (Pends (R.known reader.new) (R.told reader.new)
+        (length (R.taken reader.old) < length (R.taken reader.new)) cx.new) }
     ensures covered { OnPending result (Covers cx.new (R.needs reader.new)) }
     ensures kept { Keeps cx.old cx.new }
 {

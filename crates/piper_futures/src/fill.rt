@@ -3,6 +3,7 @@ ghost use Rattle.std.specs.Prelude.{◌≡◌, ◌⊎◌, IsSome, IsSomeAnd, tru
 ghost use Rattle.std.specs.Io.KnownBytes.{IsAtEnd};
 ghost use Rattle.futures.specs.Task.{Covers, Keeps};
 ghost use Rattle.futures.specs.Poll.{OnPending};
+ghost use Rattle.piper.specs.Handles.{NotifiesReader};
 ghost use Rattle.piper.specs.OfWriter.{saw, sent};
 ghost use Rattle.piper.specs.Polls.{IfReadyErr};
 ghost use Rattle.piper_futures.specs.Filling.{FilledAll, FillsOn, StartsFilling};
@@ -37,6 +38,7 @@ pub trait AsyncFill: AsyncWrite {
         ensures closed { result ≡ Poll.Ready (Ok Copied.UntilClosed) → Self.saw self.new ≡ true }
         ensures error { IfReadyErr result (λ e. Self.fails self.new cx.new e ⊎ IsIo e) }
         ensures covered { OnPending result (Covers cx.new (Self.needs self.new)) }
+        ensures woken { Self.woken self.old → Self.woken self.new }
         ensures kept { Keeps cx.old cx.new };
 }
 
@@ -62,6 +64,7 @@ fn why_none(writer: &mut Writer, cx: &mut Context<'_>) -> Copied
     ensures closed { result ≡ Copied.UntilClosed → saw writer.new ≡ true }
     ensures sent { sent writer.new ≡ sent writer.old }
     ensures stays { saw writer.old ≡ true → saw writer.new ≡ true }
+    ensures woken { NotifiesReader writer.old → NotifiesReader writer.new }
     ensures kept { Keeps cx.old cx.new }
 {
     if !writer.is_closed() {
@@ -121,7 +124,7 @@ impl<W: AsyncFill + Drop, S: Read + Drop> Future for Filling<W, S> {
     ghost needs = { λ future s. IsSomeAnd future.state (λ state. W.needs state.0 s) };
 
     ghost gives = { λ future output. IsSomeAnd future.state (λ state.
-        FilledAll W.sent W.saw W.fails S.remaining state.0 state.1 output) };
+        FilledAll W.sent W.saw W.woken W.fails S.remaining state.0 state.1 output) };
 
     fn poll(&mut self, cx: &mut Context<'_>) -> Poll<Self::Output> {
         let Some((writer, source)) = &mut self.state else {

@@ -1,12 +1,12 @@
 //! All bytes of a reader.
-ghost use Rattle.std.specs.Prelude.{◌≡◌, ◌<◌, length, Ok, true, IsSome, IsSomeAnd};
+ghost use Rattle.std.specs.Prelude.{◌≡◌, ◌<◌, length, Ok, IsSome, IsSomeAnd};
 ghost use Rattle.futures.specs.Task.{Covers, Keeps};
 ghost use Rattle.futures.specs.Poll.{OnPending};
-ghost use Rattle.piper.specs.Contexts.{AsksAgain};
 ghost use Rattle.piper.specs.Polls.{IfReadyErr};
 ghost use Rattle.piper_lines.specs.AtEnd.{AtEnd};
 ghost use Rattle.piper_lines.specs.Moves.{Grows};
 ghost use Rattle.piper_lines.specs.Refusals.{IsReported};
+ghost use Rattle.piper_lines.specs.Stays.{Pends, ReaderStays};
 ghost use Rattle.piper_futures.specs.Reading.{ReadAll, StartsReadingAll};
 
 use crate::debug::gathering;
@@ -46,7 +46,7 @@ impl<R: AsyncBufRead + Drop> Future for ReadToEnd<R> {
     ghost needs = { λ future s. IsSomeAnd future.state (λ state. R.needs state.0 s) };
 
     ghost gives = { λ future output. IsSomeAnd future.state (λ state.
-        ReadAll R.taken R.known R.saw R.fails state.0 state.1 output) };
+        ReadAll R.taken R.known R.saw R.told R.woken R.fails state.0 state.1 output) };
 
     fn poll(&mut self, cx: &mut Context<'_>) -> Poll<Self::Output> {
         let Some((reader, bytes)) = &mut self.state else {
@@ -79,8 +79,9 @@ pub fn poll_read_to_end<R: AsyncBufRead>(
     ensures ends { result ≡ Poll.Ready (Ok (record {})) → R.ended reader.new }
     ensures error { IfReadyErr result (λ e. IsReported e (R.fails reader.new cx.new)
         (0 < length (R.known reader.new))) }
-    ensures told { R.told reader.new ≡ R.told reader.old }
-    ensures heeded { OnPending result (R.told reader.new ≡ true → AsksAgain cx.new) }
+    ensures stays { ReaderStays R.told R.woken reader.old reader.new }
+    ensures pends { OnPending result (Pends (R.known reader.new) (R.told reader.new)
+        (length (R.taken reader.old) < length (R.taken reader.new)) cx.new) }
     ensures covered { OnPending result (Covers cx.new (R.needs reader.new)) }
     ensures kept { Keeps cx.old cx.new }
 {

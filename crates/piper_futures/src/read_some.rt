@@ -35,7 +35,7 @@ impl<R: AsyncRead + Drop> Future for ReadOnce<R> {
     ghost needs = { λ future s. IsSomeAnd future.state (λ state. R.needs state.0 s) };
 
     ghost gives = { λ future output. IsSomeAnd future.state (λ state.
-        ReadSome R.taken R.saw R.fails state.0 state.1.items output) };
+        ReadSome R.taken R.saw R.told R.woken R.fails state.0 state.1.items output) };
 
     fn poll(&mut self, cx: &mut Context<'_>) -> Poll<Self::Output> {
         let Some((reader, places)) = &mut self.state else {

@@ -2,9 +2,9 @@
 ghost use Rattle.std.specs.Prelude.{◌≡◌, ◌<◌, ◌≤◌, length, take, Ok, true, false, IsSome, IsSomeAnd, MatchBool};
 ghost use Rattle.futures.specs.Task.{Covers, Keeps};
 ghost use Rattle.futures.specs.Poll.{OnPending};
-ghost use Rattle.piper.specs.Contexts.{AsksAgain};
 ghost use Rattle.piper.specs.Polls.{IfReadyErr};
 ghost use Rattle.piper_lines.specs.Refusals.{IsReported};
+ghost use Rattle.piper_lines.specs.Stays.{Pends, ReaderStays};
 ghost use Rattle.piper_futures.specs.Until.{IsThrough, Lacks, ReadThrough, Reaches, StartsReadingThrough};
 
 use crate::debug::gathering;
@@ -49,7 +49,8 @@ impl<R: AsyncBufRead + Drop> Future for ReadUntil<R> {
     ghost needs = { λ future s. IsSomeAnd future.state (λ state. R.needs state.0 s) };
 
     ghost gives = { λ future output. IsSomeAnd future.state (λ state.
-        ReadThrough R.taken R.known R.saw R.fails future.byte state.0 state.1 output) };
+        ReadThrough R.taken R.known R.saw R.told R.woken R.fails future.byte
+        state.0 state.1 output) };
 
     fn poll(&mut self, cx: &mut Context<'_>) -> Poll<Self::Output> {
         let Some((reader, bytes)) = &mut self.state else {
@@ -82,8 +83,9 @@ pub fn poll_read_until<R: AsyncBufRead>(
     ensures ends { result ≡ Poll.Ready (Ok false) → R.ended reader.new }
     ensures error { IfReadyErr result (λ e. IsReported e (R.fails reader.new cx.new)
         (0 < length (R.known reader.new))) }
-    ensures told { R.told reader.new ≡ R.told reader.old }
-    ensures heeded { OnPending result (R.told reader.new ≡ true → AsksAgain cx.new) }
+    ensures stays { ReaderStays R.told R.woken reader.old reader.new }
+    ensures pends { OnPending result (Pends (R.known reader.new) (R.told reader.new)
+        (length (R.taken reader.old) < length (R.taken reader.new)) cx.new) }
     ensures covered { OnPending result (Covers cx.new (R.needs reader.new)) }
     ensures kept { Keeps cx.old cx.new }
 {
@@ -111,6 +113,7 @@ pub fn poll_read_until<R: AsyncBufRead>(
 // How many bytes there are through the first that is `byte` and that there is one, or all of them.
 fn through(byte: u8, bytes: &[u8]) -> (usize, bool)
     ensures within { result.0 ≤ length bytes.now }
+    ensures some { 0 < length bytes.now → 0 < result.0 }
     ensures through { MatchBool result.1 (IsThrough byte (take result.0 bytes.now))
         (Lacks byte (take result.0 bytes.now)) }
 {

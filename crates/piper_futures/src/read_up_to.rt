@@ -41,7 +41,7 @@ impl<R: AsyncBufRead + Drop> Future for ReadExact<R> {
     ghost needs = { λ future s. IsSomeAnd future.state (λ state. R.needs state.0 s) };
 
     ghost gives = { λ future output. IsSomeAnd future.state (λ state.
-        ReadUpTo R.taken R.known R.saw future.size R.fails state.0 state.1 output) };
+        ReadUpTo R.taken R.known R.saw R.told R.woken future.size R.fails state.0 state.1 output) };
 
     fn poll(&mut self, cx: &mut Context<'_>) -> Poll<Self::Output> {
         let Some((reader, bytes)) = &mut self.state else {

@@ -45,7 +45,7 @@ impl<W: AsyncWrite + Drop> Future for Flushing<W> {
     ghost needs = { λ future s. IsSomeAnd future.writer (λ writer. W.needs writer s) };
 
     ghost gives = { λ future output. IsSomeAnd future.writer (λ writer.
-        ComesBack W.sent W.saw W.fails (λ _. ⊤) writer output) };
+        ComesBack W.sent W.saw W.woken W.fails (λ _. ⊤) writer output) };
 
     fn poll(&mut self, cx: &mut Context<'_>) -> Poll<Self::Output> {
         let Some(writer) = &mut self.writer else {
@@ -70,7 +70,7 @@ impl<W: AsyncWrite + Drop> Future for Closing<W> {
     ghost needs = { λ future s. IsSomeAnd future.writer (λ writer. W.needs writer s) };
 
     ghost gives = { λ future output. IsSomeAnd future.writer (λ writer.
-        ComesBack W.sent W.saw W.fails (λ closed. W.saw closed ≡ true) writer output) };
+        ComesBack W.sent W.saw W.woken W.fails (λ closed. W.saw closed ≡ true) writer output) };
 
     fn poll(&mut self, cx: &mut Context<'_>) -> Poll<Self::Output> {
         let Some(writer) = &mut self.writer else {

@@ -41,7 +41,7 @@ impl<W: AsyncWrite + Drop> Future for WriteAll<'_, W> {
     ghost needs = { λ future s. IsSomeAnd future.writer (λ writer. W.needs writer s) };
 
     ghost gives = { λ future output. IsSomeAnd future.writer (λ writer.
-        WroteAll W.sent W.saw W.fails future.bytes.now writer future.written output) };
+        WroteAll W.sent W.saw W.woken W.fails future.bytes.now writer future.written output) };
 
     fn poll(&mut self, cx: &mut Context<'_>) -> Poll<Self::Output> {
         let Some(writer) = &mut self.writer else {

@@ -5,3 +5,4 @@ pub mod Growing
 pub mod LineEnds
 pub mod Moving
 pub mod Sending
+pub mod Staying

@@ -1,5 +1,5 @@
 -- Bytes that move, step by step.
-use Rattle.std.proofs.Common.{◌≡◌, ℕ, zero, suc, ◌<◌, List, [], ◌++◌, length, ap, ◌∙◌, sym, subst, append_assoc, append-nil, length-append, refl, arith}
+use Rattle.std.proofs.Common.{◌≡◌, ℕ, zero, suc, ◌<◌, ◌≤◌, List, [], ◌++◌, length, ap, ◌∙◌, sym, subst, append_assoc, append-nil, length-append, refl, arith}
 use Rattle.std.proofs.lemmas.List.{nil_from_length}
 use Rattle.piper_lines.specs.Moves.{Moves, PassesMoves}
 
@@ -19,6 +19,11 @@ moves_then t0 t1 t2 k0 k1 k2 out more first second = (
 -- none passed and none moved
 pub passes_none : (t kept out : List ℕ) (skips : ℕ) → PassesMoves t t skips skips (out ++ kept) out kept
 passes_none t kept out skips = (t, ([], sym (append-nil t), omega arith), moves_none t kept out, λ some. refl)
+
+-- none is given back
+pub passes_longer : (t0 t1 k0 out k1 : List ℕ) (s0 s1 : ℕ) → PassesMoves t0 t1 s0 s1 k0 out k1 → length t0 ≤ length t1
+passes_longer t0 t1 k0 out k1 s0 s1 passes =
+    omega (arith, ap length passes.1.1, length-append t0 passes.1.0, ap length passes.2.1, length-append passes.0 passes.2.0)
 
 -- all have passed, so that more move
 passes_more : (t0 t1 t2 k0 k1 k2 out more : List ℕ) (s0 s2 : ℕ) → PassesMoves t0 t1 s0 0 k0 out k1 → PassesMoves t1 t2 0 s2 k1 more k2

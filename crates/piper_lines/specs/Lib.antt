@@ -14,4 +14,5 @@ pub mod Refusals
 pub mod Sends
 pub mod Shown
 pub mod Split
+pub mod Stays
 pub mod Text

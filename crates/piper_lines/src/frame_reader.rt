@@ -1,11 +1,11 @@
 //! Frames, taken whole from a reader that gives bytes as they come.
-ghost use Rattle.std.specs.Prelude.{◌≡◌, ◌+◌, ◌<◌, ◌≤◌, [], length, true};
+ghost use Rattle.std.specs.Prelude.{◌≡◌, ◌+◌, ◌<◌, ◌≤◌, [], length};
 ghost use Rattle.std.specs.Borrow.{sem};
 ghost use Rattle.futures.specs.Task.{Covers, Keeps};
 ghost use Rattle.futures.specs.Poll.{OnPending};
-ghost use Rattle.piper.specs.Contexts.{AsksAgain};
 ghost use Rattle.piper.specs.Polls.{IfReadyErr};
 ghost use Rattle.piper_lines.specs.Header.{header_size, encoded_length, usual_header};
+ghost use Rattle.piper_lines.specs.Stays.{Pends, ReaderStays};
 
 use crate::gather::{fill_up, pass_over};
 use crate::header::{ByteOrder, FrameHeader};
@@ -146,11 +146,12 @@ impl<R: AsyncBufRead> Frames<R> {
             (LacksFrameRoom (format_of self.old) limit (header_room_of self.old)
             (body_room_of self.old) (header_of self.new) (body_of self.new)
             (R.known (reader_of self.new)))) }
-        ensures pending { OnPending result ((R.told (reader_of self.new) ≡ true → AsksAgain cx.new)
-            × Covers cx.new (R.needs (reader_of self.new))) }
+        ensures pending { OnPending result (Covers cx.new (R.needs (reader_of self.new))
+            × Pends (R.known (reader_of self.new)) (R.told (reader_of self.new))
+            (length (R.taken (reader_of self.old)) < length (R.taken (reader_of self.new))) cx.new) }
         ensures kept { Keeps cx.old cx.new }
         ensures rest { (format_of self.new ≡ format_of self.old)
-            × (R.told (reader_of self.new) ≡ R.told (reader_of self.old)) }
+            × ReaderStays R.told R.woken (reader_of self.old) (reader_of self.new) }
     {
         frame.clear();
         match pass_over(&mut self.reader, cx, &mut self.to_skip) {

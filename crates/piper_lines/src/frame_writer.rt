@@ -7,6 +7,7 @@ ghost use Rattle.piper_lines.specs.Header.{usual_header, CanEncode};
 ghost use Rattle.piper_lines.specs.Shown.{shown_of};
 ghost use Rattle.piper.specs.Polls.{IfReadyErr};
 ghost use Rattle.piper_lines.specs.Sends.{Sends};
+ghost use Rattle.piper_lines.specs.Stays.{WriterStays};
 
 use crate::header::{ByteOrder, FrameHeader};
 use crate::length_bytes::LengthBytes;
@@ -86,9 +87,10 @@ impl<'a> WriteFrame<'a> {
             (W.sent writer.old) (W.sent writer.new) (W.saw writer.old) (W.saw writer.new) }
         ensures whole { result ≡ Poll.Ready (Ok Written.Whole) → left_of self.new ≡ [] }
         ensures closed { result ≡ Poll.Ready (Ok Written.Closed) → W.saw writer.new ≡ true }
-        ensures stays { W.saw writer.old ≡ true → W.saw writer.new ≡ true }
+        ensures stays { WriterStays W.saw W.woken writer.old writer.new }
         ensures error { IfReadyErr result (W.fails writer.new cx.new) }
-        ensures covered { OnPending result (Covers cx.new (W.needs writer.new)) }
+        ensures pending { OnPending result (Covers cx.new (W.needs writer.new)
+            × ¬ (W.saw writer.old ≡ true)) }
         ensures kept { Keeps cx.old cx.new }
     {
         poll_write_both(

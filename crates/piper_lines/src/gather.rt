@@ -5,7 +5,7 @@ ghost use Rattle.futures.specs.Poll.{OnPending};
 ghost use Rattle.piper_lines.specs.AtEnd.{AtEnd};
 ghost use Rattle.piper_lines.specs.Moves.{Grows, Passes};
 ghost use Rattle.piper_lines.specs.Refusals.{IsReported, LacksRoom};
-ghost use Rattle.piper.specs.Contexts.{AsksAgain};
+ghost use Rattle.piper_lines.specs.Stays.{Pends, ReaderStays, WaitsForBytes};
 ghost use Rattle.piper.specs.Polls.{IfReadyErr};
 
 use futures::task::{Context, Poll};
@@ -37,9 +37,9 @@ pub fn fill_up<R: AsyncBufRead>(
         × (gathered.new.items ≡ gathered.old.items) × OnPending result ⊥ }
     ensures error { IfReadyErr result (λ e. IsReported e (R.fails reader.new cx.new)
         (LacksRoom size (vec_capacity gathered.old) gathered.new.items (R.known reader.new))) }
-    ensures pending { OnPending result ((R.told reader.new ≡ false)
-        × Covers cx.new (R.needs reader.new)) }
-    ensures rest { Keeps cx.old cx.new × (R.told reader.new ≡ R.told reader.old) }
+    ensures pending { OnPending result (Covers cx.new (R.needs reader.new)
+        × WaitsForBytes (R.known reader.new) (R.told reader.new)) }
+    ensures rest { Keeps cx.old cx.new × ReaderStays R.told R.woken reader.old reader.new }
 {
     while gathered.len() < size {
         let lent = match reader.poll_fill_buf(cx) {
@@ -74,8 +74,9 @@ pub(crate) fn pass_over<R: AsyncBufRead>(
     ensures none { left.old ≡ 0 →
         (reader.new ≡ reader.old) × (result ≡ Poll.Ready (Ok true)) }
     ensures error { IfReadyErr result (R.fails reader.new cx.new) }
-    ensures told { R.told reader.new ≡ R.told reader.old }
-    ensures heeded { OnPending result (R.told reader.new ≡ true → AsksAgain cx.new) }
+    ensures stays { ReaderStays R.told R.woken reader.old reader.new }
+    ensures pends { OnPending result (Pends (R.known reader.new) (R.told reader.new)
+        (length (R.taken reader.old) < length (R.taken reader.new)) cx.new) }
     ensures covered { OnPending result (Covers cx.new (R.needs reader.new)) }
     ensures kept { Keeps cx.old cx.new }
 {

@@ -7,6 +7,7 @@ ghost use Rattle.piper_lines.specs.Line.{Lacks, IsLine, line_feed};
 ghost use Rattle.piper_lines.specs.Moves.{Moves, Grows};
 ghost use Rattle.piper_lines.specs.LineAnswers.{EndsAgain, Gathers, Hands, OnEnd};
 ghost use Rattle.piper_lines.specs.Refusals.{IsReported, LacksRoom};
+ghost use Rattle.piper_lines.specs.Stays.{ReaderStays, WaitsForBytes};
 ghost use Rattle.piper.specs.Polls.{IfReadyErr};
 
 use futures::task::{Context, Poll};
@@ -122,11 +123,11 @@ impl<R: AsyncBufRead> Lines<R> {
         ensures after { IsSpent R.ended self.old → IsSpent R.ended self.new × EndsAgain result }
         ensures error { IfReadyErr result (λ e. IsReported e (R.fails (reader_of self.new) cx.new)
             (LacksRoom limit (room_of self.old) (kept_of self.new) (R.known (reader_of self.new)))) }
-        ensures pending { OnPending result ((R.told (reader_of self.new) ≡ false)
-            × Covers cx.new (R.needs (reader_of self.new))) }
+        ensures pending { OnPending result (Covers cx.new (R.needs (reader_of self.new))
+            × WaitsForBytes (R.known (reader_of self.new)) (R.told (reader_of self.new))) }
         ensures kept { Keeps cx.old cx.new }
         ensures rest { (end_of self.new ≡ end_of self.old)
-            × (R.told (reader_of self.new) ≡ R.told (reader_of self.old)) }
+            × ReaderStays R.told R.woken (reader_of self.old) (reader_of self.new) }
     {
         line.clear();
         mem::swap(line, &mut self.kept);
@@ -157,7 +158,7 @@ fn gather<R: AsyncBufRead>(
         R.ended reader.new × (line.new.items ≡ []) × EndsAgain result }
     ensures error { IfReadyErr result (λ e. IsReported e (R.fails reader.new cx.new)
         (LacksRoom limit (vec_capacity line.old) line.new.items (R.known reader.new))) }
-    ensures told { R.told reader.new ≡ R.told reader.old }
+    ensures stays { ReaderStays R.told R.woken reader.old reader.new }
     ensures heeded { OnPending result (R.told reader.new ≡ false) }
     ensures covered { OnPending result (Covers cx.new (R.needs reader.new)) }
     ensures kept { Keeps cx.old cx.new }

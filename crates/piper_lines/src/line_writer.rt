@@ -5,6 +5,7 @@ ghost use Rattle.futures.specs.Poll.{OnPending};
 ghost use Rattle.piper_lines.specs.Line.{Lacks, line_feed};
 ghost use Rattle.piper.specs.Polls.{IfReadyErr};
 ghost use Rattle.piper_lines.specs.Sends.{Sends};
+ghost use Rattle.piper_lines.specs.Stays.{WriterStays};
 
 use crate::write_all::{Written, poll_write_both};
 use futures::task::{Context, Poll};
@@ -79,9 +80,10 @@ impl<'a> WriteLine<'a> {
             (W.sent writer.old) (W.sent writer.new) (W.saw writer.old) (W.saw writer.new) }
         ensures whole { result ≡ Poll.Ready (Ok Written.Whole) → left_of self.new ≡ [] }
         ensures closed { result ≡ Poll.Ready (Ok Written.Closed) → W.saw writer.new ≡ true }
-        ensures stays { W.saw writer.old ≡ true → W.saw writer.new ≡ true }
+        ensures stays { WriterStays W.saw W.woken writer.old writer.new }
         ensures error { IfReadyErr result (W.fails writer.new cx.new) }
-        ensures covered { OnPending result (Covers cx.new (W.needs writer.new)) }
+        ensures pending { OnPending result (Covers cx.new (W.needs writer.new)
+            × ¬ (W.saw writer.old ≡ true)) }
         ensures kept { Keeps cx.old cx.new }
     {
         poll_write_both(

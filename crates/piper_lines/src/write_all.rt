@@ -4,6 +4,7 @@ ghost use Rattle.futures.specs.Task.{Covers, Keeps};
 ghost use Rattle.futures.specs.Poll.{OnPending};
 ghost use Rattle.piper.specs.Polls.{IfReadyErr};
 ghost use Rattle.piper_lines.specs.Sends.{Sends};
+ghost use Rattle.piper_lines.specs.Stays.{WriterStays};
 
 use futures::task::{Context, Poll};
 use piper::PipeError;
@@ -35,10 +36,10 @@ pub fn poll_write_all<W: AsyncWrite>(
         (W.sent writer.old) (W.sent writer.new) (W.saw writer.old) (W.saw writer.new) }
     ensures whole { result ≡ Poll.Ready (Ok Written.Whole) → written.new ≡ length bytes.now }
     ensures closed { result ≡ Poll.Ready (Ok Written.Closed) → W.saw writer.new ≡ true }
-    ensures stays { W.saw writer.old ≡ true → W.saw writer.new ≡ true }
+    ensures stays { WriterStays W.saw W.woken writer.old writer.new }
     ensures error { IfReadyErr result (W.fails writer.new cx.new) }
-    ensures pending { OnPending result ((written.new < length bytes.now)
-        × Covers cx.new (W.needs writer.new)) }
+    ensures pending { OnPending result (Covers cx.new (W.needs writer.new)
+        × (written.new < length bytes.now) × ¬ (W.saw writer.old ≡ true)) }
     ensures kept { Keeps cx.old cx.new }
 {
     while *written < bytes.len() {
@@ -71,9 +72,10 @@ pub(crate) fn poll_write_both<W: AsyncWrite>(
     ensures whole { result ≡ Poll.Ready (Ok Written.Whole) →
         (front_written.new ≡ length front.now) × (back_written.new ≡ length back.now) }
     ensures closed { result ≡ Poll.Ready (Ok Written.Closed) → W.saw writer.new ≡ true }
-    ensures stays { W.saw writer.old ≡ true → W.saw writer.new ≡ true }
+    ensures stays { WriterStays W.saw W.woken writer.old writer.new }
     ensures error { IfReadyErr result (W.fails writer.new cx.new) }
-    ensures covered { OnPending result (Covers cx.new (W.needs writer.new)) }
+    ensures pending { OnPending result (Covers cx.new (W.needs writer.new)
+        × ¬ (W.saw writer.old ≡ true)) }
     ensures kept { Keeps cx.old cx.new }
 {
     match poll_write_all(writer, cx, front, front_written) {

@@ -1,5 +1,16 @@
 -- What a stream of frames has.
-use Rattle.std.specs.Prelude.{ℕ, Bool}
+use Rattle.std.specs.Prelude.{ℕ, ◌<◌, ◌⊎◌, Bool, List, length, Option, Some, None, Ok, Err, ⊤}
+use Rattle.futures.specs.Runs.{EndsIf}
+use Rattle.futures.specs.declared.task.Poll.{Poll}
+use Rattle.futures.specs.declared.task.Poll.TheVariants.{Ready, Pending}
+use Rattle.futures.specs.declared.task.context.Context.{Context}
+use Rattle.piper.specs.declared.error.PipeError.{PipeError}
+use Rattle.piper_lines.specs.FrameReader.{reader_of, format_of, kept_of, header_of, body_of, header_room_of, body_room_of}
+use Rattle.piper_lines.specs.Refusals.{IsReported, LacksFrameRoom}
+use Rattle.piper_lines.specs.Stays.{Pends}
+use Rattle.piper_streams.specs.FrameRuns.{FrameRuns}
+use Rattle.piper_streams.specs.LineRuns.{Item}
+use Rattle.piper_streams.specs.Told.{IsOfFrame}
 use Rattle.piper_lines.specs.declared.frame_reader.Frames.{Frames}
 use Rattle.piper_streams.specs.declared.frame_stream.FrameStream.{FrameStream}
 
@@ -14,3 +25,28 @@ frame_limit_of stream = stream.limit
 -- the stream has ended
 abbrev pub is_over : {R : Type 0} → FrameStream R → Bool
 is_over stream = stream.is_ended
+
+-- what may come from it
+abbrev pub YieldsFrames : {R : Type 0} → (R → List ℕ) → (R → List ℕ) → (R → Bool)
+    → (R → Context → PipeError → Type 0) → FrameStream R → List Item → Option Item → Type 0
+YieldsFrames taken known saw fails stream =
+    EndsIf stream.is_ended (FrameRuns taken known saw fails (format_of stream.frames) stream.limit
+    (reader_of stream.frames) (kept_of stream.frames))
+
+-- why a poll failed: the frame that is kept is too long, or was cut off, or the reader failed, or
+-- memory was refused; and why one is pending: the reader has nothing to give yet
+module _ {R : Type 0} (taken known : R → List ℕ) (saw told : R → Bool)
+    (fails : R → Context → PipeError → Type 0) where
+  abbrev pub TellsFrame : Poll (Option Item) → FrameStream R → FrameStream R → Context → Type 0
+  TellsFrame (Ready None) a b cx = ⊤
+  TellsFrame (Ready (Some (Ok body))) a b cx = ⊤
+  TellsFrame (Ready (Some (Err e))) a b cx =
+      IsOfFrame (format_of (frames_of a)) (frame_limit_of a) (header_of (frames_of b))
+      (known (reader_of (frames_of b))) (saw (reader_of (frames_of b))) e
+      ⊎ IsReported e (fails (reader_of (frames_of b)) cx)
+      (LacksFrameRoom (format_of (frames_of a)) (frame_limit_of a) (header_room_of (frames_of a))
+      (body_room_of (frames_of a)) (header_of (frames_of b)) (body_of (frames_of b))
+      (known (reader_of (frames_of b))))
+  TellsFrame Pending a b cx =
+      Pends (known (reader_of (frames_of b))) (told (reader_of (frames_of b)))
+      (length (taken (reader_of (frames_of a))) < length (taken (reader_of (frames_of b)))) cx

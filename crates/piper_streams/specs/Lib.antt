@@ -5,3 +5,4 @@ pub mod LineStream
 pub mod Sent
 pub mod SentFrames
 pub mod SentLines
+pub mod Told

@@ -1,10 +1,15 @@
 -- What a sink of frames was sent.
-use Rattle.std.specs.Prelude.{ℕ, Bool, false, List, [], Vec}
+use Rattle.std.specs.Prelude.{◌≡◌, ◌⊎◌, ℕ, Bool, false, List, [], Vec}
+use Rattle.std.specs.declared.io.ErrorKind.TheVariants.{InvalidInput}
 use Rattle.std.specs.declared.alloc.Global.{Global}
+use Rattle.piper.specs.declared.error.PipeError.{PipeError}
+use Rattle.piper.specs.declared.error.PipeError.TheVariants.{Memory}
+use Rattle.piper_lines.specs.Header.{CanEncode}
 use Rattle.piper_lines.specs.declared.header.FrameHeader.{FrameHeader}
 use Rattle.piper_lines.specs.Sends.{Sends}
 use Rattle.piper_lines.specs.Split.{joined_frames}
 use Rattle.piper_streams.specs.Sent.{left_of, writer_of}
+use Rattle.piper_streams.specs.Told.{IsOfKind}
 use Rattle.piper_streams.specs.declared.write_sink.WriteSink.{WriteSink}
 use Rattle.piper_streams.specs.declared.write_sink.frame_sink.FrameSink.{FrameSink}
 
@@ -23,3 +28,7 @@ abbrev pub FramesSent : {W : Type 0} → (W → List ℕ) → (W → Bool) → F
 FramesSent sent saw frames bodies =
     Sends (joined_frames (header_of frames) bodies) (left_of (frames_below frames)) []
     (sent (writer_of (frames_below frames))) false (saw (writer_of (frames_below frames)))
+
+-- a body of so many bytes is refused: the header can't report them, or there is no memory
+abbrev pub IsRefused : FrameHeader → ℕ → PipeError → Type 0
+IsRefused format n e = (IsOfKind InvalidInput e × ¬ CanEncode format n) ⊎ (e ≡ Memory)

@@ -1,9 +1,11 @@
 //! The frames of a reader, one after another.
-ghost use Rattle.std.specs.Prelude.{◌≡◌, [], true, false};
-ghost use Rattle.futures.specs.Runs.{EndsIf};
+ghost use Rattle.std.specs.Prelude.{◌≡◌, [], true, false, IfSome};
+ghost use Rattle.futures.specs.Poll.{IfReady, OnPending};
+ghost use Rattle.futures.specs.Runs.{After, Within};
+ghost use Rattle.futures.specs.Task.{Covers, Keeps};
 ghost use Rattle.piper_lines.specs.FrameReader.{reader_of, format_of, kept_of, skips_of};
 ghost use Rattle.piper_lines.specs.Header.{usual_header};
-ghost use Rattle.piper_streams.specs.FrameRuns.{FrameRuns};
+ghost use Rattle.piper_lines.specs.Stays.{ReaderStays};
 
 use futures::Stream;
 use futures::task::{Context, Poll};
@@ -83,14 +85,30 @@ impl<R: AsyncBufRead + Drop> FrameStream<R> {
 }
 
 impl<R: AsyncBufRead + Drop> Stream for FrameStream<R> {
+    ghost use Rattle.piper_streams.specs.FrameStream.{TellsFrame, YieldsFrames, frames_of};
+
     type Item = Result<Vec<u8>, PipeError>;
 
     ghost needs = { λ stream s. R.needs (reader_of stream.frames) s };
 
-    ghost yields = { λ stream. EndsIf stream.is_ended (FrameRuns R.taken R.known R.saw
-        (format_of stream.frames) stream.limit (reader_of stream.frames) (kept_of stream.frames)) };
+    ghost yields = { YieldsFrames R.taken R.known R.saw R.fails };
 
-    fn poll_next(&mut self, cx: &mut Context<'_>) -> Poll<Option<Self::Item>> {
+    fn poll_next(&mut self, cx: &mut Context<'_>) -> Poll<Option<Self::Item>>
+        ensures value { IfReady result (YieldsFrames R.taken R.known R.saw R.fails self.old []) }
+        ensures rest { IfReady result (λ o. IfSome o (λ x.
+            After (YieldsFrames R.taken R.known R.saw R.fails self.old) x
+            (YieldsFrames R.taken R.known R.saw R.fails self.new))) }
+        ensures same { OnPending result (Within
+            (YieldsFrames R.taken R.known R.saw R.fails self.old)
+            (YieldsFrames R.taken R.known R.saw R.fails self.new)) }
+        ensures registered { OnPending result
+            (Covers cx.new (R.needs (reader_of (frames_of self.new)))) }
+        ensures kept { Keeps cx.old cx.new }
+        ensures tells { TellsFrame R.taken R.known R.saw R.told R.fails
+            result self.old self.new cx.new }
+        ensures stays { ReaderStays R.told R.woken
+            (reader_of (frames_of self.old)) (reader_of (frames_of self.new)) }
+    {
         if self.is_ended {
             return Poll::Ready(None);
         }

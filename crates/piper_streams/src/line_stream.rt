@@ -1,9 +1,11 @@
 //! The lines of a reader, one after another.
-ghost use Rattle.std.specs.Prelude.{◌≡◌, ◌<◌, [], length, true, false};
-ghost use Rattle.futures.specs.Runs.{EndsIf};
+ghost use Rattle.std.specs.Prelude.{◌≡◌, ◌<◌, [], length, true, false, IfSome};
+ghost use Rattle.futures.specs.Poll.{IfReady, OnPending};
+ghost use Rattle.futures.specs.Runs.{After, Within};
+ghost use Rattle.futures.specs.Task.{Covers, Keeps};
 ghost use Rattle.piper_lines.specs.LineReader.{reader_of, end_of, kept_of};
 ghost use Rattle.piper_lines.specs.Line.{line_feed};
-ghost use Rattle.piper_streams.specs.LineRuns.{LineRuns};
+ghost use Rattle.piper_lines.specs.Stays.{ReaderStays};
 
 use futures::Stream;
 use futures::task::{Context, Poll};
@@ -76,14 +78,28 @@ impl<R: AsyncBufRead + Drop> LineStream<R> {
 }
 
 impl<R: AsyncBufRead + Drop> Stream for LineStream<R> {
+    ghost use Rattle.piper_streams.specs.LineStream.{TellsLine, YieldsLines, lines_of};
+
     type Item = Result<Vec<u8>, PipeError>;
 
     ghost needs = { λ stream s. R.needs (reader_of stream.lines) s };
 
-    ghost yields = { λ stream. EndsIf stream.is_ended (LineRuns R.taken R.known R.saw
-        (end_of stream.lines) stream.limit (reader_of stream.lines) (kept_of stream.lines)) };
+    ghost yields = { YieldsLines R.taken R.known R.saw R.fails };
 
-    fn poll_next(&mut self, cx: &mut Context<'_>) -> Poll<Option<Self::Item>> {
+    fn poll_next(&mut self, cx: &mut Context<'_>) -> Poll<Option<Self::Item>>
+        ensures value { IfReady result (YieldsLines R.taken R.known R.saw R.fails self.old []) }
+        ensures rest { IfReady result (λ o. IfSome o (λ x.
+            After (YieldsLines R.taken R.known R.saw R.fails self.old) x
+            (YieldsLines R.taken R.known R.saw R.fails self.new))) }
+        ensures same { OnPending result (Within (YieldsLines R.taken R.known R.saw R.fails self.old)
+            (YieldsLines R.taken R.known R.saw R.fails self.new)) }
+        ensures registered { OnPending result
+            (Covers cx.new (R.needs (reader_of (lines_of self.new)))) }
+        ensures kept { Keeps cx.old cx.new }
+        ensures tells { TellsLine R.known R.told R.fails result self.old self.new cx.new }
+        ensures stays { ReaderStays R.told R.woken
+            (reader_of (lines_of self.old)) (reader_of (lines_of self.new)) }
+    {
         if self.is_ended {
             return Poll::Ready(None);
         }

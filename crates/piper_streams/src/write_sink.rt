@@ -1,7 +1,8 @@
 //! Bytes that are sent piece by piece.
-ghost use Rattle.std.specs.Prelude.{◌≡◌, ◌≤◌, [], length, true, Ok};
+ghost use Rattle.std.specs.Prelude.{◌≡◌, ◌≤◌, ◌++◌, [], ◌∷◌, length, true, Ok, OnOk};
 ghost use Rattle.futures.specs.Task.{Covers, Keeps};
-ghost use Rattle.futures.specs.Poll.{OnPending};
+ghost use Rattle.futures.specs.Poll.{IfReady, OnPending};
+ghost use Rattle.futures.specs.Sent.{UnlessFailed};
 ghost use Rattle.piper_lines.specs.Sends.{Sends};
 
 mod frame_sink;
@@ -61,7 +62,7 @@ impl<W: AsyncWrite + Drop> WriteSink<W> {
 }
 
 impl<W: AsyncWrite + Drop> WriteSink<W> {
-    ghost use Rattle.piper_streams.specs.Sent.{left_of, writer_of};
+    ghost use Rattle.piper_streams.specs.Sent.{left_of, writer_of, TellsSent};
 
     // Writes what is left of the piece.
     fn poll_write(&mut self, cx: &mut Context<'_>) -> Poll<Result<(), PipeError>>
@@ -69,8 +70,10 @@ impl<W: AsyncWrite + Drop> WriteSink<W> {
             (W.sent (writer_of self.old)) (W.sent (writer_of self.new))
             (W.saw (writer_of self.old)) (W.saw (writer_of self.new)) }
         ensures whole { result ≡ Poll.Ready (Ok (record {})) → left_of self.new ≡ [] }
-        ensures stays { W.saw (writer_of self.old) ≡ true → W.saw (writer_of self.new) ≡ true }
-        ensures covered { OnPending result (Covers cx.new (W.needs (writer_of self.new))) }
+        ensures tells { TellsSent result W.fails W.saw W.woken
+            (writer_of self.old) (writer_of self.new) cx.new }
+        ensures pending { OnPending result (Covers cx.new (W.needs (writer_of self.new))
+            × ¬ (W.saw (writer_of self.old) ≡ true)) }
         ensures kept { Keeps cx.old cx.new }
     {
         match poll_write_all(
@@ -90,7 +93,7 @@ impl<W: AsyncWrite + Drop> WriteSink<W> {
 }
 
 impl<W: AsyncWrite + Drop> Sink<Vec<u8>> for WriteSink<W> {
-    ghost use Rattle.piper_streams.specs.Sent.{left_of, writer_of, WasSent};
+    ghost use Rattle.piper_streams.specs.Sent.{left_of, writer_of, TellsSent, WasSent};
 
     type Error = PipeError;
 
@@ -104,24 +107,55 @@ impl<W: AsyncWrite + Drop> Sink<Vec<u8>> for WriteSink<W> {
 
     ghost needs = { λ sink. W.needs (writer_of sink) };
 
-    fn poll_ready(&mut self, cx: &mut Context<'_>) -> Poll<Result<(), PipeError>> {
+    fn poll_ready(&mut self, cx: &mut Context<'_>) -> Poll<Result<(), PipeError>>
+        ensures ready { IfReady result (λ r. OnOk r (left_of self.new ≡ [])) }
+        ensures history { UnlessFailed result
+            ((xs : _) → WasSent W.sent W.saw self.old xs → WasSent W.sent W.saw self.new xs) }
+        ensures registered { OnPending result (Covers cx.new (W.needs (writer_of self.new))) }
+        ensures kept { Keeps cx.old cx.new }
+        ensures tells { TellsSent result W.fails W.saw W.woken
+            (writer_of self.old) (writer_of self.new) cx.new }
+    {
         self.poll_write(cx)
     }
 
-    fn start_send(&mut self, item: Vec<u8>) -> Result<(), PipeError> {
+    fn start_send(&mut self, item: Vec<u8>) -> Result<(), PipeError>
+        requires { left_of self.old ≡ [] }
+        ensures answer { result ≡ Ok (record {}) }
+        ensures history { (xs : _) → WasSent W.sent W.saw self.old xs
+            → WasSent W.sent W.saw self.new (xs ++ item ∷ []) }
+        ensures writer { writer_of self.new ≡ writer_of self.old }
+    {
         self.written = 0;
         self.piece = item;
         Ok(())
     }
 
-    fn poll_flush(&mut self, cx: &mut Context<'_>) -> Poll<Result<(), PipeError>> {
+    fn poll_flush(&mut self, cx: &mut Context<'_>) -> Poll<Result<(), PipeError>>
+        ensures flushed { IfReady result (λ r. OnOk r (left_of self.new ≡ [])) }
+        ensures history { UnlessFailed result
+            ((xs : _) → WasSent W.sent W.saw self.old xs → WasSent W.sent W.saw self.new xs) }
+        ensures registered { OnPending result (Covers cx.new (W.needs (writer_of self.new))) }
+        ensures kept { Keeps cx.old cx.new }
+        ensures tells { TellsSent result W.fails W.saw W.woken
+            (writer_of self.old) (writer_of self.new) cx.new }
+    {
         match self.poll_write(cx) {
             Poll::Ready(Ok(())) => self.writer.poll_flush(cx),
             unfinished => unfinished,
         }
     }
 
-    fn poll_close(&mut self, cx: &mut Context<'_>) -> Poll<Result<(), PipeError>> {
+    fn poll_close(&mut self, cx: &mut Context<'_>) -> Poll<Result<(), PipeError>>
+        ensures closed { IfReady result (λ r. OnOk r ((left_of self.new ≡ [])
+            × (W.saw (writer_of self.new) ≡ true))) }
+        ensures history { UnlessFailed result
+            ((xs : _) → WasSent W.sent W.saw self.old xs → WasSent W.sent W.saw self.new xs) }
+        ensures registered { OnPending result (Covers cx.new (W.needs (writer_of self.new))) }
+        ensures kept { Keeps cx.old cx.new }
+        ensures tells { TellsSent result W.fails W.saw W.woken
+            (writer_of self.old) (writer_of self.new) cx.new }
+    {
         match self.poll_write(cx) {
             Poll::Ready(Ok(())) => self.writer.poll_close(cx),
             unfinished => unfinished,

@@ -7,6 +7,7 @@ ghost use Rattle.piper.specs.Contexts.{AsksAgain};
 ghost use Rattle.piper.specs.Polls.{IfReadyErr};
 ghost use Rattle.piper_lines.specs.AtEnd.{AtEnd};
 ghost use Rattle.piper_lines.specs.Refusals.{IsReported, LacksRoom};
+ghost use Rattle.piper_lines.specs.Stays.{ReaderStays, WriterStays};
 
 use futures::task::{Context, Poll};
 use piper::PipeError;
@@ -76,8 +77,8 @@ impl LineEcho {
         ensures error { IfReadyErr result (λ e. W.fails writer.new cx.new e
             ⊎ IsReported e (R.fails (reader_of lines.new) cx.new)
             (LacksRoom limit 0 (kept_of lines.new) (R.known (reader_of lines.new)))) }
-        ensures stays { W.saw writer.old ≡ true → W.saw writer.new ≡ true }
-        ensures told { R.told (reader_of lines.new) ≡ R.told (reader_of lines.old) }
+        ensures stays { WriterStays W.saw W.woken writer.old writer.new }
+        ensures told { ReaderStays R.told R.woken (reader_of lines.old) (reader_of lines.new) }
         ensures pending { OnPending result ((R.told (reader_of lines.new) ≡ true →
             (0 < length (left_of self.new)) ⊎ AsksAgain cx.new) × Covers cx.new
             (WaitsFor (R.needs (reader_of lines.new)) (W.needs writer.new) (left_of self.new))) }

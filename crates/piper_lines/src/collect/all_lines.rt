@@ -1,8 +1,7 @@
 //! All lines of a reader.
-ghost use Rattle.std.specs.Prelude.{◌≡◌, ◌<◌, ◌≤◌, ◌++◌, ◌⊎◌, [], length, true, vec_capacity, vec_len};
+ghost use Rattle.std.specs.Prelude.{◌≡◌, ◌<◌, ◌≤◌, ◌++◌, ◌⊎◌, [], length, vec_capacity, vec_len};
 ghost use Rattle.futures.specs.Task.{Covers, Keeps};
 ghost use Rattle.futures.specs.Poll.{OnPending};
-ghost use Rattle.piper.specs.Contexts.{AsksAgain};
 ghost use Rattle.piper.specs.Polls.{IfReadyOk, IfReadyErr};
 ghost use Rattle.piper_lines.specs.AtEnd.{AtEnd};
 ghost use Rattle.piper_lines.specs.Split.{joined, Adds, IsPiece};
@@ -10,6 +9,7 @@ ghost use Rattle.piper_lines.specs.LineReader.{IsSpent, reader_of, end_of, kept_
 ghost use Rattle.piper_lines.specs.Moves.{Moves};
 ghost use Rattle.piper_lines.specs.Refusals.{IsReported, LacksRoom};
 ghost use Rattle.piper_lines.specs.Collected.{rest_of};
+ghost use Rattle.piper_lines.specs.Stays.{Pends, ReaderStays};
 
 use super::{MOST_PIECES, push};
 use crate::line_reader::Lines;
@@ -41,9 +41,10 @@ pub fn poll_lines<R: AsyncBufRead>(
         (LacksRoom limit 0 (kept_of lines.new) (R.known (reader_of lines.new))
         ⊎ (vec_capacity out.old ≤ vec_len out.new))) }
     ensures end { end_of lines.new ≡ end_of lines.old }
-    ensures told { R.told (reader_of lines.new) ≡ R.told (reader_of lines.old) }
-    ensures pending { OnPending result ((R.told (reader_of lines.new) ≡ true → AsksAgain cx.new)
-        × Covers cx.new (R.needs (reader_of lines.new))) }
+    ensures stays { ReaderStays R.told R.woken (reader_of lines.old) (reader_of lines.new) }
+    ensures pending { OnPending result (Covers cx.new (R.needs (reader_of lines.new))
+        × Pends (R.known (reader_of lines.new)) (R.told (reader_of lines.new))
+        (length out.old.items < length out.new.items) cx.new) }
     ensures kept { Keeps cx.old cx.new }
 {
     for _ in 0..MOST_PIECES {

@@ -1,7 +1,10 @@
 //! Frames that are sent body by body.
-ghost use Rattle.std.specs.Prelude.{◌≡◌, [], true};
+ghost use Rattle.std.specs.Prelude.{◌≡◌, ◌++◌, [], ◌∷◌, length, true, IfErr, OnErr, OnOk};
 ghost use Rattle.piper_lines.specs.Header.{usual_header};
-ghost use Rattle.piper_streams.specs.Sent.{left_of, writer_of};
+ghost use Rattle.futures.specs.Poll.{IfReady, OnPending};
+ghost use Rattle.futures.specs.Sent.{UnlessFailed};
+ghost use Rattle.futures.specs.Task.{Covers, Keeps};
+ghost use Rattle.piper_streams.specs.Sent.{left_of, writer_of, TellsSent};
 
 use super::WriteSink;
 use futures::Sink;
@@ -66,7 +69,7 @@ impl<W: AsyncWrite + Drop> FrameSink<W> {
 }
 
 impl<W: AsyncWrite + Drop> Sink<Vec<u8>> for FrameSink<W> {
-    ghost use Rattle.piper_streams.specs.SentFrames.{FramesSent};
+    ghost use Rattle.piper_streams.specs.SentFrames.{FramesSent, IsRefused, frames_below, header_of};
 
     type Error = PipeError;
 
@@ -81,11 +84,27 @@ impl<W: AsyncWrite + Drop> Sink<Vec<u8>> for FrameSink<W> {
 
     ghost needs = { λ frames. W.needs (writer_of frames.sink) };
 
-    fn poll_ready(&mut self, cx: &mut Context<'_>) -> Poll<Result<(), PipeError>> {
+    fn poll_ready(&mut self, cx: &mut Context<'_>) -> Poll<Result<(), PipeError>>
+        ensures ready { IfReady result (λ r. OnOk r (left_of (frames_below self.new) ≡ [])) }
+        ensures history { UnlessFailed result
+            ((xs : _) → FramesSent W.sent W.saw self.old xs → FramesSent W.sent W.saw self.new xs) }
+        ensures registered { OnPending result
+            (Covers cx.new (W.needs (writer_of (frames_below self.new)))) }
+        ensures kept { Keeps cx.old cx.new }
+        ensures tells { TellsSent result W.fails W.saw W.woken
+            (writer_of (frames_below self.old)) (writer_of (frames_below self.new)) cx.new }
+    {
         self.sink.poll_write(cx)
     }
 
-    fn start_send(&mut self, item: Vec<u8>) -> Result<(), PipeError> {
+    fn start_send(&mut self, item: Vec<u8>) -> Result<(), PipeError>
+        requires { left_of (frames_below self.old) ≡ [] }
+        ensures error { IfErr result (IsRefused (header_of self.old) (length item.items)) }
+        ensures history { OnOk result ((xs : _) → FramesSent W.sent W.saw self.old xs
+            → FramesSent W.sent W.saw self.new (xs ++ item ∷ [])) }
+        ensures refused { OnErr result (self.new ≡ self.old) }
+        ensures writer { writer_of (frames_below self.new) ≡ writer_of (frames_below self.old) }
+    {
         if !self.format.can_encode(item.len()) {
             return Err(PipeError::Io(ErrorKind::InvalidInput.into()));
         }
@@ -102,14 +121,33 @@ impl<W: AsyncWrite + Drop> Sink<Vec<u8>> for FrameSink<W> {
         Ok(())
     }
 
-    fn poll_flush(&mut self, cx: &mut Context<'_>) -> Poll<Result<(), PipeError>> {
+    fn poll_flush(&mut self, cx: &mut Context<'_>) -> Poll<Result<(), PipeError>>
+        ensures flushed { IfReady result (λ r. OnOk r (left_of (frames_below self.new) ≡ [])) }
+        ensures history { UnlessFailed result
+            ((xs : _) → FramesSent W.sent W.saw self.old xs → FramesSent W.sent W.saw self.new xs) }
+        ensures registered { OnPending result
+            (Covers cx.new (W.needs (writer_of (frames_below self.new)))) }
+        ensures kept { Keeps cx.old cx.new }
+        ensures tells { TellsSent result W.fails W.saw W.woken
+            (writer_of (frames_below self.old)) (writer_of (frames_below self.new)) cx.new }
+    {
         match self.sink.poll_write(cx) {
             Poll::Ready(Ok(())) => self.sink.writer.poll_flush(cx),
             unfinished => unfinished,
         }
     }
 
-    fn poll_close(&mut self, cx: &mut Context<'_>) -> Poll<Result<(), PipeError>> {
+    fn poll_close(&mut self, cx: &mut Context<'_>) -> Poll<Result<(), PipeError>>
+        ensures closed { IfReady result (λ r. OnOk r ((left_of (frames_below self.new) ≡ [])
+            × (W.saw (writer_of (frames_below self.new)) ≡ true))) }
+        ensures history { UnlessFailed result
+            ((xs : _) → FramesSent W.sent W.saw self.old xs → FramesSent W.sent W.saw self.new xs) }
+        ensures registered { OnPending result
+            (Covers cx.new (W.needs (writer_of (frames_below self.new)))) }
+        ensures kept { Keeps cx.old cx.new }
+        ensures tells { TellsSent result W.fails W.saw W.woken
+            (writer_of (frames_below self.old)) (writer_of (frames_below self.new)) cx.new }
+    {
         match self.sink.poll_write(cx) {
             Poll::Ready(Ok(())) => self.sink.writer.poll_close(cx),
             unfinished => unfinished,

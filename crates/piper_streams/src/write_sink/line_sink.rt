@@ -1,7 +1,10 @@
 //! Lines that are sent text by text.
-ghost use Rattle.std.specs.Prelude.{◌≡◌, [], true};
+ghost use Rattle.std.specs.Prelude.{◌≡◌, ◌++◌, [], ◌∷◌, true, IfErr, OnErr, OnOk};
 ghost use Rattle.piper_lines.specs.Line.{line_feed};
-ghost use Rattle.piper_streams.specs.Sent.{left_of, writer_of};
+ghost use Rattle.futures.specs.Poll.{IfReady, OnPending};
+ghost use Rattle.futures.specs.Sent.{UnlessFailed};
+ghost use Rattle.futures.specs.Task.{Covers, Keeps};
+ghost use Rattle.piper_streams.specs.Sent.{left_of, writer_of, TellsSent};
 
 use super::WriteSink;
 use futures::Sink;
@@ -56,7 +59,7 @@ impl<W: AsyncWrite + Drop> LineSink<W> {
 }
 
 impl<W: AsyncWrite + Drop> Sink<Vec<u8>> for LineSink<W> {
-    ghost use Rattle.piper_streams.specs.SentLines.{LinesSent};
+    ghost use Rattle.piper_streams.specs.SentLines.{LinesSent, lines_below};
 
     type Error = PipeError;
 
@@ -71,11 +74,27 @@ impl<W: AsyncWrite + Drop> Sink<Vec<u8>> for LineSink<W> {
 
     ghost needs = { λ lines. W.needs (writer_of lines.sink) };
 
-    fn poll_ready(&mut self, cx: &mut Context<'_>) -> Poll<Result<(), PipeError>> {
+    fn poll_ready(&mut self, cx: &mut Context<'_>) -> Poll<Result<(), PipeError>>
+        ensures ready { IfReady result (λ r. OnOk r (left_of (lines_below self.new) ≡ [])) }
+        ensures history { UnlessFailed result
+            ((xs : _) → LinesSent W.sent W.saw self.old xs → LinesSent W.sent W.saw self.new xs) }
+        ensures registered { OnPending result
+            (Covers cx.new (W.needs (writer_of (lines_below self.new)))) }
+        ensures kept { Keeps cx.old cx.new }
+        ensures tells { TellsSent result W.fails W.saw W.woken
+            (writer_of (lines_below self.old)) (writer_of (lines_below self.new)) cx.new }
+    {
         self.sink.poll_write(cx)
     }
 
-    fn start_send(&mut self, item: Vec<u8>) -> Result<(), PipeError> {
+    fn start_send(&mut self, item: Vec<u8>) -> Result<(), PipeError>
+        requires { left_of (lines_below self.old) ≡ [] }
+        ensures error { IfErr result (λ e. e ≡ PipeError.Memory) }
+        ensures history { OnOk result ((xs : _) → LinesSent W.sent W.saw self.old xs
+            → LinesSent W.sent W.saw self.new (xs ++ item ∷ [])) }
+        ensures refused { OnErr result (self.new ≡ self.old) }
+        ensures writer { writer_of (lines_below self.new) ≡ writer_of (lines_below self.old) }
+    {
         let mut line = item;
         if line.push(self.end).is_err() {
             return Err(PipeError::Memory);
@@ -85,14 +104,33 @@ impl<W: AsyncWrite + Drop> Sink<Vec<u8>> for LineSink<W> {
         Ok(())
     }
 
-    fn poll_flush(&mut self, cx: &mut Context<'_>) -> Poll<Result<(), PipeError>> {
+    fn poll_flush(&mut self, cx: &mut Context<'_>) -> Poll<Result<(), PipeError>>
+        ensures flushed { IfReady result (λ r. OnOk r (left_of (lines_below self.new) ≡ [])) }
+        ensures history { UnlessFailed result
+            ((xs : _) → LinesSent W.sent W.saw self.old xs → LinesSent W.sent W.saw self.new xs) }
+        ensures registered { OnPending result
+            (Covers cx.new (W.needs (writer_of (lines_below self.new)))) }
+        ensures kept { Keeps cx.old cx.new }
+        ensures tells { TellsSent result W.fails W.saw W.woken
+            (writer_of (lines_below self.old)) (writer_of (lines_below self.new)) cx.new }
+    {
         match self.sink.poll_write(cx) {
             Poll::Ready(Ok(())) => self.sink.writer.poll_flush(cx),
             unfinished => unfinished,
         }
     }
 
-    fn poll_close(&mut self, cx: &mut Context<'_>) -> Poll<Result<(), PipeError>> {
+    fn poll_close(&mut self, cx: &mut Context<'_>) -> Poll<Result<(), PipeError>>
+        ensures closed { IfReady result (λ r. OnOk r ((left_of (lines_below self.new) ≡ [])
+            × (W.saw (writer_of (lines_below self.new)) ≡ true))) }
+        ensures history { UnlessFailed result
+            ((xs : _) → LinesSent W.sent W.saw self.old xs → LinesSent W.sent W.saw self.new xs) }
+        ensures registered { OnPending result
+            (Covers cx.new (W.needs (writer_of (lines_below self.new)))) }
+        ensures kept { Keeps cx.old cx.new }
+        ensures tells { TellsSent result W.fails W.saw W.woken
+            (writer_of (lines_below self.old)) (writer_of (lines_below self.new)) cx.new }
+    {
         match self.sink.poll_write(cx) {
             Poll::Ready(Ok(())) => self.sink.writer.poll_close(cx),
             unfinished => unfinished,

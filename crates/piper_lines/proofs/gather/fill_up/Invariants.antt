@@ -2,6 +2,7 @@
 use Rattle.std.proofs.Common.{◌≡◌, ◌≤◌, ◌-◌, length, vec_capacity}
 use Rattle.futures.specs.Task.{Keeps}
 use Rattle.piper_lines.specs.Moves.{Grows}
+use Rattle.piper_lines.specs.Stays.{ReaderStays}
 use Rattle.piper_lines.proofs.gather.fill_up.Given as goal
 
 abbrev pub invariant-loop-reader : goal.invariant-loop-reader
@@ -10,7 +11,7 @@ invariant-loop-reader g l = record {
   within : length l.gathered.items ≤ l.size;
   room : vec_capacity l.fn.gathered ≤ vec_capacity l.gathered;
   ended : g.R.AsyncBufRead.ended l.fn.reader → g.R.AsyncBufRead.ended l.reader × (l.gathered.items ≡ l.fn.gathered.items);
-  told : g.R.AsyncBufRead.told l.reader ≡ g.R.AsyncBufRead.told l.fn.reader;
+  stays : ReaderStays g.R.AsyncBufRead.told g.R.AsyncBufRead.woken l.fn.reader l.reader;
   kept : Keeps l.fn.cx l.cx;
 }
 

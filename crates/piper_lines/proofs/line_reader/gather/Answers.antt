@@ -15,7 +15,7 @@ returns-then-is_found-clause-gathers g c =
     )
 
 pub loop-end-init : goal.loop-end-init
-loop-end-init g c = record { grown = grows_none _ _; unfinished = c.requires.unfinished; within = inr refl; room = omega arith; ended = λ before. (before, refl); told = refl; kept = λ fact held. held }
+loop-end-init g c = record { grown = grows_none _ _; unfinished = c.requires.unfinished; within = inr refl; room = omega arith; ended = λ before. (before, refl); stays = (refl, λ woken. woken); kept = λ fact held. held }
 
 pub loop-end-smaller : goal.loop-end-smaller
 loop-end-smaller g c =
@@ -43,6 +43,6 @@ loop-end-preserved g c =
           let piece : c.in-Ready-Ok.lent.now ≡ take (g.R.AsyncBufRead.piece reader) (g.R.AsyncBufRead.known reader) = search rules in
           let some : 0 < length c.in-Ready-Ok.lent.now = search rules in
           absurd (lends_some (g.R.AsyncBufRead.known reader) c.in-Ready-Ok.lent.now (g.R.AsyncBufRead.piece reader) piece some none);
-      told = search rules;
+      stays = search rules;
       kept = λ fact held. c.poll_fill_buf.ensures.kept fact (c.loop-end.invariant.kept fact held);
     }

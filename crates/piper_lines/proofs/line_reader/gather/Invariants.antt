@@ -3,6 +3,7 @@ use Rattle.std.proofs.Common.{◌≡◌, ◌≤◌, ◌⊎◌, ◌-◌, length, 
 use Rattle.futures.specs.Task.{Keeps}
 use Rattle.piper_lines.specs.Line.{Lacks}
 use Rattle.piper_lines.specs.Moves.{Grows}
+use Rattle.piper_lines.specs.Stays.{ReaderStays}
 use Rattle.piper_lines.proofs.line_reader.gather.Given as goal
 
 abbrev pub invariant-loop-end : goal.invariant-loop-end
@@ -12,7 +13,7 @@ invariant-loop-end g l = record {
   within : (length l.line.items ≤ l.limit) ⊎ (l.line.items ≡ l.fn.line.items);
   room : vec_capacity l.fn.line ≤ vec_capacity l.line;
   ended : g.R.AsyncBufRead.ended l.fn.reader → g.R.AsyncBufRead.ended l.reader × (l.line.items ≡ l.fn.line.items);
-  told : g.R.AsyncBufRead.told l.reader ≡ g.R.AsyncBufRead.told l.fn.reader;
+  stays : ReaderStays g.R.AsyncBufRead.told g.R.AsyncBufRead.woken l.fn.reader l.reader;
   kept : Keeps l.fn.cx l.cx;
 }
 

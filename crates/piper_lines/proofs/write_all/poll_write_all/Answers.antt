@@ -8,7 +8,7 @@ pub loop-written-init : goal.loop-written-init
 loop-written-init g c = record {
   within = search rules;
   sends = sends_none (drop c.args.written.now c.args.bytes.now) (g.W.AsyncWrite.sent c.args.writer.now) _ _;
-  stays = λ seen. seen;
+  stays = (λ seen. seen, λ woken. woken);
   kept = λ fact held. held;
 }
 
@@ -21,10 +21,10 @@ loop-written-preserved g c =
     let unseen : ¬ (g.W.AsyncWrite.saw c.loop-written.writer ≡ true) = λ saw.
     let over = c.poll_write.ensures.over saw in
     let none : n ≡ 0 = cc in c.in-Ready-Ok.n-test.1 none in
-    let sends = sends_more _ left _ _ _ written.1.0 n _ _ _ c.loop-written.invariant.sends c.loop-written.invariant.stays unseen written.1.1 written.1.2 written.1.3 in
+    let sends = sends_more _ left _ _ _ written.1.0 n _ _ _ c.loop-written.invariant.sends c.loop-written.invariant.stays.0 unseen written.1.1 written.1.2 written.1.3 in
     record {
       within = omega (arith, written.0, length-drop c.loop-written.written c.args.bytes.now);
       sends = subst (λ ws. Sends (drop c.args.written.now c.args.bytes.now) ws (g.W.AsyncWrite.sent c.args.writer.now) (g.W.AsyncWrite.sent c.poll_write.new.self) (g.W.AsyncWrite.saw c.args.writer.now) (g.W.AsyncWrite.saw c.poll_write.new.self)) (drop-drop n c.loop-written.written c.args.bytes.now) sends;
-      stays = λ seen. c.poll_write.ensures.stays (c.loop-written.invariant.stays seen);
+      stays = (λ seen. c.poll_write.ensures.stays (c.loop-written.invariant.stays.0 seen), λ woken. c.poll_write.ensures.woken (c.loop-written.invariant.stays.1 woken));
       kept = λ fact held. c.poll_write.ensures.kept fact (c.loop-written.invariant.kept fact held);
     }

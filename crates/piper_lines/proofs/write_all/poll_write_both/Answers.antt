@@ -11,7 +11,7 @@ returns-in-Ready-Ok-Whole-clause-sends g c =
     let whole = c.poll_write_all.ensures.whole is_whole in
     let none : drop c.poll_write_all.new.written c.args.front.now ≡ [] = drop_all _ c.args.front.now (omega arith) in
     sends_both _ _ _ _ _ _ _ _ _ _ c.poll_write_all.ensures.sends none c.poll_write_all-in-Ready-Ok-Whole.ensures.sends
-    c.poll_write_all.ensures.stays c.poll_write_all-in-Ready-Ok-Whole.ensures.stays
+    c.poll_write_all.ensures.stays.0 c.poll_write_all-in-Ready-Ok-Whole.ensures.stays.0
 
 pub returns-in_default-clause-sends : goal.returns-in_default-clause-sends
 returns-in_default-clause-sends g c = sends_front _ _ _ _ _ _ _ c.poll_write_all.ensures.sends

@@ -7,7 +7,7 @@ use Rattle.piper_futures.proofs.fill.FillingFuture.poll.Goals as goal
 
 pub returns-in-Pending-clause-same : goal.returns-in-Pending-clause-same
 returns-in-Pending-clause-same g c = λ output gave.
-    let before = filled_then g.W.AsyncWrite.sent g.W.AsyncWrite.saw g.W.AsyncWrite.fails g.S.Read.remaining _ _ _ _ c.poll_fill_from.ensures.fills output gave in
+    let before = filled_then g.W.AsyncWrite.sent g.W.AsyncWrite.saw g.W.AsyncWrite.woken g.W.AsyncWrite.fails g.S.Read.remaining _ _ _ _ c.poll_fill_from.ensures.fills c.poll_fill_from.ensures.woken output gave in
     search rules
 
 pub returns-in-Ready-Err-clause-value : goal.returns-in-Ready-Err-clause-value

@@ -1,10 +1,11 @@
-use Rattle.std.proofs.Common.{◌≡◌, ◌≤◌, ◌++◌, ◌∷◌, [], inl, inr, List, ℕ, Vec, length, Ok, ap, ◌∙◌, refl, arith}
+use Rattle.std.proofs.Common.{◌≡◌, ◌≤◌, ◌++◌, ◌∷◌, [], inl, inr, List, ℕ, Vec, length, Ok, ap, ◌∙◌, refl, arith, length-append}
 use Rattle.std.specs.declared.alloc.Global.{Global}
 use Rattle.futures.specs.declared.task.Poll.TheVariants.{Ready}
 use Rattle.piper_lines.specs.declared.frame_reader.FrameAnswer.TheVariants.{Frame, TooLong, Truncated, End}
 use Rattle.piper_lines.specs.Split.{joined_frames}
 use Rattle.piper_lines.specs.FrameReader.{reader_of, format_of, kept_of, skips_of}
-use Rattle.piper_lines.proofs.Moving.{passes_none}
+use Rattle.piper_lines.proofs.Moving.{passes_none, passes_longer}
+use Rattle.piper_lines.proofs.Staying.{pends_so}
 use Rattle.piper_lines.proofs.Collecting.{passes_no_frame, passes_frame, adds_none, adds_piece}
 use Rattle.piper_lines.proofs.collect.all_frames.poll_frames.Goals as goal
 
@@ -15,7 +16,8 @@ loop-init g c = record {
   body = inl refl;
   room = omega arith;
   format = refl;
-  told = refl;
+  more = omega arith;
+  stays = (refl, λ woken. woken);
   kept = λ fact held. held;
 }
 
@@ -46,6 +48,14 @@ returns-in-Ready-Ok-End-clause-moved g c =
     let moved = rw is_told at c.poll_frame.ensures.moved in
     passes_no_frame (format_of c.args.frames.now) _ _ _ _ _ _ _ _ _ c.loop.out.items c.reserve.new.self.items c.loop.invariant.moved moved c.reserve.ensures.items
 
+pub returns-in-Pending-clause-pending : goal.returns-in-Pending-clause-pending
+returns-in-Pending-clause-pending g c =
+    let pending = c.in-Pending.ensures.pending in
+    let longer : length (g.R.AsyncBufRead.taken (reader_of c.args.frames.now)) ≤ length (g.R.AsyncBufRead.taken (reader_of c.loop.frames)) =
+    passes_longer (g.R.AsyncBufRead.taken (reader_of c.args.frames.now)) (g.R.AsyncBufRead.taken (reader_of c.loop.frames)) (joined_frames (format_of c.args.frames.now) c.args.out.now.items ++ kept_of c.args.frames.now) (joined_frames (format_of c.args.frames.now) c.loop.out.items) (kept_of c.loop.frames)
+    (skips_of c.args.frames.now) (skips_of c.loop.frames) c.loop.invariant.moved in
+    (pending.0, pends_so _ _ _ _ _ (λ grew. inr (omega (arith, grew, longer))) pending.1)
+
 pub loop-preserved : goal.loop-preserved
 loop-preserved g c =
     let body : Vec ℕ Global = c.poll_frame.new.frame in
@@ -59,7 +69,8 @@ loop-preserved g c =
       body = inr hands.1.1;
       room = omega (arith, c.loop.invariant.room, c.reserve.ensures.capacity, c.push.ensures.capacity);
       format = c.poll_frame.ensures.rest.0 ∙ c.loop.invariant.format;
-      told = c.poll_frame.ensures.rest.1 ∙ c.loop.invariant.told;
+      more = omega (arith, c.loop.invariant.more, ap length pushed, length-append c.loop.out.items (body ∷ []));
+      stays = (c.poll_frame.ensures.rest.1.0 ∙ c.loop.invariant.stays.0, λ woken. c.poll_frame.ensures.rest.1.1 (c.loop.invariant.stays.1 woken));
       kept = λ fact held. c.poll_frame.ensures.kept fact (c.loop.invariant.kept fact held);
     }
 

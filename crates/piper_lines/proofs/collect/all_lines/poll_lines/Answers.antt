@@ -1,4 +1,4 @@
-use Rattle.std.proofs.Common.{◌≡◌, ◌<◌, ◌++◌, ◌∷◌, [], List, ℕ, Vec, length, ap, ◌∙◌, sym, subst, refl, arith}
+use Rattle.std.proofs.Common.{◌≡◌, ◌<◌, ◌++◌, ◌∷◌, [], List, ℕ, Vec, length, ap, ◌∙◌, sym, subst, refl, arith, length-append}
 use Rattle.std.specs.declared.alloc.Global.{Global}
 use Rattle.piper.specs.declared.error.PipeError.{PipeError}
 use Rattle.piper_lines.specs.Moves.{Moves}
@@ -15,7 +15,8 @@ loop-init g c = record {
   short = λ short. short;
   room = omega arith;
   end = refl;
-  told = refl;
+  more = omega arith;
+  stays = (refl, λ woken. woken);
   kept = λ fact held. held;
 }
 
@@ -53,6 +54,7 @@ loop-preserved g c =
       short = λ short. omega (arith, ap length piece.0);
       room = omega (arith, c.loop.invariant.room, c.reserve.ensures.capacity, c.push.ensures.capacity);
       end = c.poll_line.ensures.rest.0 ∙ c.loop.invariant.end;
-      told = c.poll_line.ensures.rest.1 ∙ c.loop.invariant.told;
+      more = omega (arith, c.loop.invariant.more, ap length pushed, length-append c.loop.out.items (line ∷ []));
+      stays = (c.poll_line.ensures.rest.1.0 ∙ c.loop.invariant.stays.0, λ woken. c.poll_line.ensures.rest.1.1 (c.loop.invariant.stays.1 woken));
       kept = λ fact held. c.poll_line.ensures.kept fact (c.loop.invariant.kept fact held);
     }

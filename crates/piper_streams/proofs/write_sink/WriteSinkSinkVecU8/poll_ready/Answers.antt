@@ -5,4 +5,4 @@ use Rattle.piper_streams.proofs.write_sink.WriteSinkSinkVecU8.poll_ready.Goals a
 pub returns-clause-history : goal.returns-clause-history
 returns-clause-history g c =
     unless_failed c.poll_write.result _ (λ pieces sent.
-    sent_then (joined pieces) _ _ _ _ _ _ sent c.poll_write.ensures.sends c.poll_write.ensures.stays)
+    sent_then (joined pieces) _ _ _ _ _ _ sent c.poll_write.ensures.sends c.poll_write.ensures.tells.1.0)

@@ -5,4 +5,4 @@ use Rattle.piper_streams.proofs.write_sink.frame_sink.FrameSinkSinkVecU8.poll_re
 pub returns-clause-history : goal.returns-clause-history
 returns-clause-history g c =
     unless_failed c.poll_write.result _ (λ bodies sent.
-    sent_then (joined_frames c.args.self.now.format bodies) _ _ _ _ _ _ sent c.poll_write.ensures.sends c.poll_write.ensures.stays)
+    sent_then (joined_frames c.args.self.now.format bodies) _ _ _ _ _ _ sent c.poll_write.ensures.sends c.poll_write.ensures.tells.1.0)

@@ -6,9 +6,9 @@ use Rattle.piper_streams.proofs.write_sink.line_sink.LineSinkSinkVecU8.poll_clos
 pub returns-in-Ready-Ok-clause-history : goal.returns-in-Ready-Ok-clause-history
 returns-in-Ready-Ok-clause-history g c =
     unless_failed c.poll_close.result _ (λ texts sent.
-    sent_same (flat_map (line_of c.args.self.now.end) texts) _ _ _ _ _ (sent_then (flat_map (line_of c.args.self.now.end) texts) _ _ _ _ _ _ sent c.poll_write.ensures.sends c.poll_write.ensures.stays) c.poll_close.ensures.stays c.poll_close.ensures.sent)
+    sent_same (flat_map (line_of c.args.self.now.end) texts) _ _ _ _ _ (sent_then (flat_map (line_of c.args.self.now.end) texts) _ _ _ _ _ _ sent c.poll_write.ensures.sends c.poll_write.ensures.tells.1.0) c.poll_close.ensures.stays c.poll_close.ensures.sent)
 
 pub returns-in_default-2-clause-history : goal.returns-in_default-2-clause-history
 returns-in_default-2-clause-history g c =
     unless_failed c.poll_write.result _ (λ texts sent.
-    sent_then (flat_map (line_of c.args.self.now.end) texts) _ _ _ _ _ _ sent c.poll_write.ensures.sends c.poll_write.ensures.stays)
+    sent_then (flat_map (line_of c.args.self.now.end) texts) _ _ _ _ _ _ sent c.poll_write.ensures.sends c.poll_write.ensures.tells.1.0)

@@ -6,4 +6,4 @@ use Rattle.piper_streams.proofs.write_sink.line_sink.LineSinkSinkVecU8.poll_read
 pub returns-clause-history : goal.returns-clause-history
 returns-clause-history g c =
     unless_failed c.poll_write.result _ (λ texts sent.
-    sent_then (flat_map (line_of c.args.self.now.end) texts) _ _ _ _ _ _ sent c.poll_write.ensures.sends c.poll_write.ensures.stays)
+    sent_then (flat_map (line_of c.args.self.now.end) texts) _ _ _ _ _ _ sent c.poll_write.ensures.sends c.poll_write.ensures.tells.1.0)

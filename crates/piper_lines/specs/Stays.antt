@@ -1,0 +1,21 @@
+-- What calls over a reader or a writer leave as it was, and why they are pending.
+use Rattle.std.specs.Prelude.{◌≡◌, ◌⊎◌, Bool, true, false, List, [], ℕ}
+use Rattle.futures.specs.declared.task.context.Context.{Context}
+use Rattle.piper.specs.Contexts.{AsksAgain}
+
+-- a reader is told of no more than before, and whoever it has woken stays woken
+abbrev pub ReaderStays : {R : Type 0} → (R → Bool) → (R → Type 0) → R → R → Type 0
+ReaderStays told woken a b = (told b ≡ told a) × (woken a → woken b)
+
+-- what a writer saw closed stays seen, and whoever it has woken stays woken
+abbrev pub WriterStays : {W : Type 0} → (W → Bool) → (W → Type 0) → W → W → Type 0
+WriterStays saw woken a b = (saw a ≡ true → saw b ≡ true) × (woken a → woken b)
+
+-- a reader has nothing to give yet: it knows of no byte, and was not told of the end
+abbrev pub WaitsForBytes : List ℕ → Bool → Type 0
+WaitsForBytes known told = (known ≡ []) × (told ≡ false)
+
+-- why a poll is pending: its reader has nothing to give yet, or the poll went on by Moved, and asked
+-- for another one itself
+abbrev pub Pends : List ℕ → Bool → Type 0 → Context → Type 0
+Pends known told Moved cx = WaitsForBytes known told ⊎ (Moved × AsksAgain cx)
