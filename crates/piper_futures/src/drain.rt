@@ -48,7 +48,8 @@ impl<R: AsyncBufRead + Drop, D: Write + Drop> Future for Draining<R, D> {
     ghost needs = { λ future s. IsSomeAnd future.state (λ state. R.needs state.0 s) };
 
     ghost gives = { λ future output. IsSomeAnd future.state (λ state.
-        DrainedAll R.taken R.known R.saw R.told R.woken R.fails D.contents state.0 state.1 output) };
+        DrainedAll R.taken R.known R.saw R.told R.woken R.fails D.contents
+        state.0 state.1 output) };
 
     fn poll(&mut self, cx: &mut Context<'_>) -> Poll<Self::Output> {
         let Some((reader, dest)) = &mut self.state else {

@@ -23,9 +23,10 @@ pub trait AsyncFill: AsyncWrite {
     /// Publishes what `source` gives, up to its end or the close of the pipe, and returns which it
     /// was; where both hold, it may be either.
     ///
-    /// It asks for another poll where bytes came. After an answer other than that the pipe is
-    /// closed, all that `source` gave is published, and the next poll goes on from there. An error
-    /// is want of memory for a waker, or the source's own, as it came.
+    /// It asks for another poll where bytes came, and waits for no pipe that was seen closed. After
+    /// an answer other than that the pipe is closed, all that `source` gave is published, and the
+    /// next poll goes on from there. An error is want of memory for a waker, or the source's own,
+    /// as it came.
     fn poll_fill_from<S: Read>(
         &mut self,
         cx: &mut Context<'_>,
@@ -37,7 +38,8 @@ pub trait AsyncFill: AsyncWrite {
             IsAtEnd (S.remaining source.new) }
         ensures closed { result ≡ Poll.Ready (Ok Copied.UntilClosed) → Self.saw self.new ≡ true }
         ensures error { IfReadyErr result (λ e. Self.fails self.new cx.new e ⊎ IsIo e) }
-        ensures covered { OnPending result (Covers cx.new (Self.needs self.new)) }
+        ensures pending { OnPending result (Covers cx.new (Self.needs self.new)
+            × ¬ (Self.saw self.old ≡ true)) }
         ensures woken { Self.woken self.old → Self.woken self.new }
         ensures kept { Keeps cx.old cx.new };
 }

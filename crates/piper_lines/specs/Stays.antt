@@ -15,7 +15,7 @@ WriterStays saw woken a b = (saw a ≡ true → saw b ≡ true) × (woken a → 
 abbrev pub WaitsForBytes : List ℕ → Bool → Type 0
 WaitsForBytes known told = (known ≡ []) × (told ≡ false)
 
--- why a poll is pending: its reader has nothing to give yet, or the poll went on by Moved, and asked
--- for another one itself
+-- why a poll is pending: its reader has nothing to give yet, or the poll went on by Moved, and
+-- asked for another one itself
 abbrev pub Pends : List ℕ → Bool → Type 0 → Context → Type 0
 Pends known told Moved cx = WaitsForBytes known told ⊎ (Moved × AsksAgain cx)

@@ -148,7 +148,8 @@ impl<R: AsyncBufRead> Frames<R> {
             (R.known (reader_of self.new)))) }
         ensures pending { OnPending result (Covers cx.new (R.needs (reader_of self.new))
             × Pends (R.known (reader_of self.new)) (R.told (reader_of self.new))
-            (length (R.taken (reader_of self.old)) < length (R.taken (reader_of self.new))) cx.new) }
+            (length (R.taken (reader_of self.old)) < length (R.taken (reader_of self.new)))
+            cx.new) }
         ensures kept { Keeps cx.old cx.new }
         ensures rest { (format_of self.new ≡ format_of self.old)
             × ReaderStays R.told R.woken (reader_of self.old) (reader_of self.new) }

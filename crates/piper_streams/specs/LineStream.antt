@@ -40,6 +40,7 @@ module _ {R : Type 0} (known : R → List ℕ) (told : R → Bool)
   TellsLine (Ready (Some (Ok line))) a b cx = ⊤
   TellsLine (Ready (Some (Err e))) a b cx =
       IsReported e (fails (reader_of (lines_of b)) cx)
-      (LacksRoom (limit_of a) (room_of (lines_of a)) (kept_of (lines_of b)) (known (reader_of (lines_of b))))
+      (LacksRoom (limit_of a) (room_of (lines_of a)) (kept_of (lines_of b))
+      (known (reader_of (lines_of b))))
   TellsLine Pending a b cx =
       WaitsForBytes (known (reader_of (lines_of b))) (told (reader_of (lines_of b)))

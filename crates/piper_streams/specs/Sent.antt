@@ -28,7 +28,7 @@ WasSent sent saw sink pieces =
 
 -- a poll fails as the writer below did, or since the pipe was seen closed; and what the writer saw,
 -- and whom it has woken, stays so
-abbrev pub TellsSent : {W A : Type 0} → Poll (Result A PipeError) → (W → Context → PipeError → Type 0)
-    → (W → Bool) → (W → Type 0) → W → W → Context → Type 0
+abbrev pub TellsSent : {W A : Type 0} → Poll (Result A PipeError)
+    → (W → Context → PipeError → Type 0) → (W → Bool) → (W → Type 0) → W → W → Context → Type 0
 TellsSent result fails saw woken a b cx =
     IfReadyErr result (IsOfWriter fails saw b cx) × WriterStays saw woken a b

@@ -45,7 +45,8 @@ pub fn poll_frames<R: AsyncBufRead>(
     ensures pending { OnPending result (Covers cx.new (R.needs (reader_of frames.new))
         × Pends (R.known (reader_of frames.new)) (R.told (reader_of frames.new))
         ((length out.old.items < length out.new.items)
-        ⊎ (length (R.taken (reader_of frames.old)) < length (R.taken (reader_of frames.new)))) cx.new) }
+        ⊎ (length (R.taken (reader_of frames.old)) < length (R.taken (reader_of frames.new))))
+        cx.new) }
     ensures kept { Keeps cx.old cx.new }
 {
     for _ in 0..MOST_PIECES {
