@@ -27,9 +27,9 @@ Written by `tools/write_api.py` from the sources: change those, and run it. A ca
 of its caller (`requires`) and what it gives (`ensures`). A trait's clauses hold of each type that \
 has the trait; a type's own stand in their place. [CONTRACTS.md](CONTRACTS.md) says how clauses are \
 read, and [the last section](#what-the-clauses-of-piper-say) has the definitions of those of `piper`; \
-the `ghost use` lines of a source name the files of `specs/` that define the others. A seed \
-is where a handle's generator begins, from which a polling copy that could go on draws whether it \
-yields, as it does for one number in a hundred.
+the `ghost use` lines of a source name the files of `specs/` that define the others. A polling copy \
+that could go on draws a number from its handle's generator, and yields if that is a multiple of \
+100; a seed is where the generator begins.
 """
 
 
@@ -292,7 +292,13 @@ def crate_page(crate):
 def defined(crate, name, is_kept):
     """The definitions of a file of `specs/`, with their comments, but for those that are left out."""
     text = (TOP / f"crates/{crate}/specs/{name}.antt").read_text()
-    lines = [line for line in text.splitlines() if not re.match(r"(pub )?use ", line)]
+    uses = [line for line in text.splitlines() if re.match(r"(pub )?use ", line)]
+    lines = [line for line in text.splitlines() if line not in uses]
+    # A name that the file takes under another one is printed as its own, after its file's.
+    for whole, names in re.findall(r"use ([\w.]+)\.\{(.*)\}", "\n".join(uses)):
+        for own, other in re.findall(r"(\w+) as (\w+)", names):
+            here = f"{whole.rsplit('.', 1)[1]}.{own}"
+            lines = [re.sub(rf"(?<![\w.]){other}\b(?!\.)", here, line) for line in lines]
     parts = [part for part in "\n".join(lines).strip().split("\n\n") if is_kept(part)]
     return ["", f"### `{name}`", *block("\n\n".join(parts).splitlines())]
 
@@ -308,7 +314,9 @@ def definitions():
     below = [line for name in BELOW for line in defined("piper_ring", name, is_said)]
     return ["", "## What the clauses of `piper` say", "",
             "A clause writes `of_writer.ring` for `ring` of `OfWriter`, where both sides have the name. "
-            "The last of these files are those of `piper_ring`.", *own, *below]
+            "The last of these files are those of `piper_ring`. `flag` is 1 of true and 0 of false; "
+            "`either` is true where one of the two is; `in_one_piece`: how many of the bytes that an "
+            "end knows of are contiguous; `generator`: what a seed makes.", *own, *below]
 
 
 def page():
