@@ -7,17 +7,6 @@ use Rattle.piper.specs.Polls.{Carries}
 pub carries_none : (taken sent : List ℕ) (saw : Bool) → Carries taken taken sent sent saw
 carries_none taken sent saw = ([], [], sym (append-nil taken), sym (append-nil sent), λ _. refl)
 
--- what was seen closed stays seen
-unseen : (saw0 saw1 : Bool) → (saw0 ≡ true → saw1 ≡ true) → saw1 ≡ false → saw0 ≡ false
-unseen false saw1 stays not_seen = refl
-unseen true saw1 stays not_seen = let seen = stays refl in cc
-
--- since then none was carried, but closed may have been seen
-pub carries_same : (t0 t1 t2 s0 s1 s2 : List ℕ) (saw1 saw2 : Bool) → Carries t0 t1 s0 s1 saw1 → (saw1 ≡ true → saw2 ≡ true)
-    → t2 ≡ t1 → s2 ≡ s1 → Carries t0 t2 s0 s2 saw2
-carries_same t0 t1 t2 s0 s1 s2 saw1 saw2 c stays t s =
-    (c.0, c.1, t ∙ c.2, s ∙ c.3, λ not_seen. c.4 (unseen saw1 saw2 stays not_seen))
-
 -- n bytes more were taken, of a piece that the writer was handed, and the first m of them were
 -- published
 pub carries_more : (t0 t1 t2 s0 s1 s2 piece : List ℕ) (m n : ℕ) (saw1 saw2 : Bool) → Carries t0 t1 s0 s1 saw1 → ¬ (saw1 ≡ true)

@@ -9,8 +9,7 @@ use Rattle.futures.specs.declared.task.Poll.{Poll}
 use Rattle.futures.specs.declared.task.Poll.TheVariants.{Ready, Pending}
 use Rattle.piper.specs.Drains.{EndIsUnseen}
 use Rattle.piper.specs.Ends.{IsEnded}
-use Rattle.piper.specs.Looks.{ReaderFound}
-use Rattle.piper.specs.Polls.{After, TakesNone}
+use Rattle.piper.specs.Polls.{TakesNone}
 
 -- who saw the end knows where it is
 knows : (told saw : Bool) → saw ≡ true → either told saw ≡ true
@@ -65,9 +64,3 @@ ended_after Pending a b same stays unseen ended =
     let now = stays ended in
     let taken : b.taken ≡ a.taken = ended_takes a b same ended now in
     (now, taken, absurd (true≢false (sym now.saw ∙ (unseen (omega (arith, ap length taken, ap length now.known))).0)))
-
--- and so does a poll
-pub ended_poll : {E : Type 0} (r : Poll (Result Bool E)) (b : ReadView) → ReaderFound r b → IsEnded b → After r (IsEnded b) b.known
-ended_poll (Ready (Ok found)) b answer ended = (ended, ended.known, tt)
-ended_poll (Ready (Err e)) b answer ended = (ended, ended.known, tt)
-ended_poll Pending b answer ended = (ended, ended.known, absurd (true≢false (sym ended.saw ∙ answer.saw)))

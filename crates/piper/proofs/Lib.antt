@@ -1,6 +1,5 @@
 pub mod Carrying
 mod Rounds
-mod Drawn
 mod Front
 mod Copied
 pub mod Ended

@@ -230,6 +230,7 @@ impl AsyncRead for OwnedReader {
 impl AsyncBufRead for OwnedReader {
     ghost use Rattle.piper_ring.specs.ReadView.{in_one_piece};
     ghost use Rattle.piper.specs.Handles.{NotifiesWriter, read_source};
+    ghost use Rattle.piper.specs.OfReader.{front, known, taken};
     ghost use Rattle.piper.specs.ReaderCalls.{AtEnd, LendsPiece, PollsPiece, SameReaderButConsumed};
     ghost use Rattle.piper.specs.contracts.owned.OwnedReader.{the_row};
 
@@ -262,9 +263,9 @@ impl AsyncBufRead for OwnedReader {
     }
 
     fn consume(&mut self, amt: usize)
-        requires { amt ≤ in_one_piece self.old.end }
-        ensures taken { self.new.end.taken ≡ self.old.end.taken ++ take amt self.old.end.known }
-        ensures known { self.new.end.known ≡ drop amt self.old.end.known }
+        requires { amt ≤ front self.old }
+        ensures taken { taken self.new ≡ taken self.old ++ take amt (known self.old) }
+        ensures known { known self.new ≡ drop amt (known self.old) }
         ensures end { AtEnd self.old → AtEnd self.new }
         ensures woken { NotifiesWriter self.new }
         ensures rest { SameReaderButConsumed self.old self.new }
