@@ -76,9 +76,10 @@ where
     H: RandomSource + AllocGlobal + Drop,
 {
     for number in 1..u64::MAX {
-        let Some(line) = lines.next()? else {
+        if !lines.next()? {
             break;
-        };
+        }
+        let line = lines.line();
         reply.clear();
         let played = match parse(line) {
             Ok(None) => continue,
@@ -116,9 +117,10 @@ where
     H: RandomSource + AllocGlobal + Clone + Drop,
 {
     for number in 1..u64::MAX {
-        let Some(line) = lines.next()? else {
+        if !lines.next()? {
             break;
-        };
+        }
+        let line = lines.line();
         match twin.play(number, line)? {
             Compared::Silent => {}
             Compared::Alike => write_reply(&twin.handles, output)?,

@@ -1,4 +1,7 @@
+pub mod AskedFor
 pub mod Going
 pub mod Lines
+pub mod ReadLines
 pub mod SaidLines
+pub mod Scripts
 pub mod Trials

@@ -1,9 +1,12 @@
 pub mod Arguments
+pub mod AskedBy
 pub mod Ended
+pub mod Lines
 pub mod Makes
 pub mod Output
 pub mod Played
 pub mod Refused
+pub mod Script
 pub mod Steps
 pub mod StepsToRun
 pub mod Trial

@@ -1,5 +1,5 @@
 -- What a replay writes to its output.
-use Rattle.std.specs.Prelude.{◌≡◌, ℕ, ◌⊎◌, List, [], ◌++◌, codes, Option, ⊤}
+use Rattle.std.specs.Prelude.{◌≡◌, ℕ, ◌⊎◌, List, [], ◌++◌, codes, Option, None, MatchOption, ⊤}
 use Rattle.std.specs.List.{flat_map}
 use Rattle.std.specs.Io.KnownBytes.{Appends, Keeps}
 use Rattle.piper_protocol.specs.declared.calls.Step.{Step}
@@ -14,7 +14,7 @@ use Rattle.piper_script.specs.Event.{event_line}
 use Rattle.piper_script.specs.Reply.{printed_list, printed_refusal}
 use Rattle.piper_script.specs.Stop.{stop_of}
 use Rattle.piper_interpreter.specs.Played.{PlaysLine}
-use Rattle.piper_interpreter.specs.StepsToRun.{SaysStep}
+use Rattle.piper_interpreter.specs.StepsToRun.{Asked, AsksAll, SaysStep}
 
 -- what a run leaves unread
 abbrev pub unread_line : List ℕ → List ℕ
@@ -63,10 +63,16 @@ pub record WritesRun (capacity : ℕ) (steps : List Step)
   pub runs : Runs (fresh capacity) [] steps pipe events
   pub written : Appends old new (run_text events pipe.unread)
 
--- what happened in some run was written, or nothing
-abbrev pub WritesRunAtMost : Option (List ℕ) → Option (List ℕ) → Type 0
-WritesRunAtMost old new =
-    Keeps old new ⊎ ((capacity : ℕ) × (steps : List Step) × WritesRun capacity steps old new)
+-- what happened in the run that is asked for was written, and nothing where none is
+abbrev pub WritesAsked : Asked → Option (List ℕ) → Option (List ℕ) → Type 0
+WritesAsked asked old new =
+    MatchOption asked.capacity (Keeps old new) (λ capacity. WritesRun capacity asked.steps old new)
+
+-- the steps that all lines of the script say were run, and what happened was written
+pub record RunsScript (script old new : Option (List ℕ)) : Type 0 where
+  pub asked : Asked
+  pub asks : AsksAll script (record { capacity = None; steps = [] }) asked
+  pub writes : WritesAsked asked old new
 
 -- the line was played, and all that it prints was written
 pub record AnswersLine (line : List ℕ) (old new : Option Pipe)

@@ -1,13 +1,15 @@
--- What a line adds to a script of steps, and which line says a step.
-use Rattle.std.specs.Prelude.{◌≡◌, ℕ, ◌≤◌, ◌<◌, List, [], ◌∷◌, ◌++◌, length, replicate, Option, None, Some}
-use Rattle.std.specs.List.{HoldsAt, AllWithin}
+-- What the lines of a script of steps add to it, and which line says a step.
+use Rattle.std.specs.Prelude.{◌≡◌, ℕ, ◌≤◌, ◌<◌, List, [], ◌∷◌, ◌++◌, ◌⊎◌, length, replicate, codes, nat_eq, IsTrue, Option, None, Some, IfSome}
+use Rattle.std.specs.List.{HoldsAt, AllWithin, FoldsTo, starts_with}
 use Rattle.piper_protocol.specs.declared.calls.Call.{Call}
 use Rattle.piper_protocol.specs.declared.calls.Step.{Step}
 use Rattle.piper_protocol.specs.declared.calls.Step.TheVariants as step
 use Rattle.piper_script.specs.declared.command.Steps.TheVariants.{One, Count}
 use Rattle.piper_script.specs.declared.command.Command.{Command}
 use Rattle.piper_script.specs.declared.command.Command.TheVariants.{Pipe, Put, Begin, Go}
+use Rattle.piper_script.specs.Command.{IsSilent}
 use Rattle.piper_script.specs.Meaning.{Means}
+use Rattle.piper_interpreter.specs.Lines.{lines_of}
 use Rattle.piper_interpreter.specs.Played.{Says}
 
 -- the most steps that all lines of a script say together
@@ -36,11 +38,37 @@ AddsSaid None capacity now before after = (now ≡ capacity) × (after ≡ befor
 AddsSaid (Some (Pipe said)) capacity now before after = (now ≡ Some said) × (after ≡ before)
 AddsSaid (Some command) capacity now before after = AddsSteps command capacity now before after
 
+abbrev pub BeginsWith : List ℕ → List ℕ → Type 0
+BeginsWith word line = IsTrue (starts_with nat_eq line word)
+
+-- whatever its numbers, a command of this name is allowed: first a pipe, and then steps
+abbrev pub Fits : Option ℕ → List ℕ → Type 0
+Fits None line = IsSilent line ⊎ BeginsWith (codes "pipe ") line
+Fits (Some capacity) line =
+    IsSilent line ⊎ (BeginsWith (codes "begin ") line
+    ⊎ (BeginsWith (codes "go ") line ⊎ BeginsWith (codes "put ") line))
+
 pub record AddsLine (line : List ℕ) (capacity now : Option ℕ)
     (before after : List Step) : Type 0 where
   pub said : Option Command
   pub says : Says line said
   pub adds : AddsSaid said capacity now before after
+
+-- the pipe that lines ask for, if they do, and the steps that they say
+pub record Asked : Type 0 where
+  pub capacity : Option ℕ
+  pub steps : List Step
+
+abbrev pub AsksNext : Asked → List ℕ → Asked → Type 0
+AsksNext before line after =
+    Fits before.capacity line
+    × AddsLine line before.capacity after.capacity before.steps after.steps
+
+-- the lines of the script, each once and in order, ask for this after what was asked for before
+pub record AsksAll (script : Option (List ℕ)) (before after : Asked) : Type 0 where
+  pub lines : List (List ℕ)
+  pub all : IfSome script (λ bytes. lines ≡ lines_of bytes)
+  pub asks : FoldsTo AsksNext before lines after
 
 -- how many steps there are up to the end of these lines, of which each has its number and its end
 abbrev pub last_end : ℕ → List (ℕ × ℕ) → ℕ

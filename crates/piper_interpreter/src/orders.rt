@@ -65,9 +65,10 @@ impl CallsToOrder {
         log: &mut Log,
     ) -> Result<(), Stop> {
         for number in 1..u64::MAX {
-            let Some(line) = lines.next()? else {
+            if !lines.next()? {
                 break;
-            };
+            }
+            let line = lines.line();
             self.line = number;
             self.add_line(alloc, player, line, log)?;
         }

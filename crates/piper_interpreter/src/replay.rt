@@ -1,10 +1,13 @@
 //! The engine: a script in, its output out.
 
-ghost use Rattle.std.specs.Prelude.{◌≡◌, ◌↔◌, codes, IsNone, IsOk, IfSome, IfErr, OnOk};
+ghost use Rattle.std.specs.Prelude.{◌≡◌, ◌≤◌, ◌↔◌, [], length, codes, IsNone, IsOk, IfSome, IfErr, OnOk};
 ghost use Rattle.piper_interpreter.specs.Ended.{EndsWith, IsEndOf};
 ghost use Rattle.piper_interpreter.specs.Arguments.{IsWrong, AsksFor};
+ghost use Rattle.piper_interpreter.specs.Lines.{unread_of};
 ghost use Rattle.piper_interpreter.specs.Output.{AnswersLine, Reports};
 ghost use Rattle.piper_interpreter.specs.Played.{PlaysLine};
+ghost use Rattle.piper_interpreter.specs.Script.{PlaysScript, RefusesScript, StopsScript};
+ghost use Rattle.piper_script.specs.Limits.{longest_line};
 
 use crate::orders::run_all;
 use crate::player::Player;
@@ -117,6 +120,10 @@ pub fn replay<I: Read, O: Write>(
     ensures wrong { IsWrong words.now →
         EndsWith result 1 (codes "usage: piper_replay [run|all]") }
     ensures silent { IsWrong words.now → O.contents output.new ≡ O.contents output.old }
+    ensures played { words.now ≡ [] → result.status ≡ 0 →
+        PlaysScript (I.remaining input.old) (O.contents output.old) (O.contents output.new) }
+    ensures refused { words.now ≡ [] → result.status ≡ 1 →
+        RefusesScript (I.remaining input.old) (O.contents output.old) (O.contents output.new) }
 {
     let played = match mode_of(words) {
         None => return Ended::WRONG_ARGUMENTS,
@@ -138,29 +145,39 @@ pub fn end_of(played: Result<(), Stop>) -> Ended
     }
 }
 
-fn play<I: Read, O: Write>(alloc: Global, input: &mut I, output: &mut O) -> Result<(), Stop> {
+// Plays each line before the next one is read.
+#[tactic(auto, using(crate::proofs::Scripts::plays_kept, crate::proofs::Scripts::stops_kept))]
+fn play<I: Read, O: Write>(alloc: Global, input: &mut I, output: &mut O) -> Result<(), Stop>
+    ensures played { OnOk result
+        (PlaysScript (I.remaining input.old) (O.contents output.old) (O.contents output.new)) }
+    ensures stopped { IfErr result (λ stop.
+        StopsScript stop (I.remaining input.old) (O.contents output.old) (O.contents output.new)) }
+{
     let mut lines = Lines::new(alloc, input)?;
-    play_lines(
-        &mut lines,
-        &mut Player::new(alloc),
-        &mut Reply::new(alloc),
-        output,
-    )
+    play_lines(alloc, &mut lines, output)
 }
 
+#[tactic(auto, using(crate::proofs::Scripts::played_all, crate::proofs::Scripts::stops_there))]
 fn play_lines<I: Read, O: Write>(
+    alloc: Global,
     lines: &mut Lines<'_, I>,
-    player: &mut Player,
-    reply: &mut Reply,
     output: &mut O,
-) -> Result<(), Stop> {
+) -> Result<(), Stop>
+    ensures played { OnOk result (PlaysScript (unread_of I.remaining lines.old)
+        (O.contents output.old) (O.contents output.new)) }
+    ensures stopped { IfErr result (λ stop. StopsScript stop (unread_of I.remaining lines.old)
+        (O.contents output.old) (O.contents output.new)) }
+{
+    let mut player = Player::new(alloc);
+    let mut reply = Reply::new(alloc);
     for number in 1..u64::MAX {
-        let Some(line) = lines.next()? else {
-            break;
-        };
-        answer_line(player, number, line, reply, output)?;
+        if !lines.next()? {
+            return Ok(());
+        }
+        answer_line(&mut player, number, lines.line(), &mut reply, output)?;
     }
-    Ok(())
+    // No input has so many lines.
+    Err(Stop::Read)
 }
 
 // Plays the line of this number, and writes what it prints in place of what `reply` holds, and then
@@ -174,6 +191,7 @@ fn answer_line<O: Write>(
 ) -> Result<(), Stop>
     ensures answers { OnOk result (AnswersLine line.now player.old player.new
         (O.contents output.old) (O.contents output.new)) }
+    ensures within { OnOk result (length line.now ≤ longest_line) }
     ensures reported { IfErr result (λ stop.
         Reports number stop (O.contents output.old) (O.contents output.new)) }
 {
@@ -188,7 +206,8 @@ fn answer_line<O: Write>(
 }
 
 fn play_line(player: &mut Player, line: &[u8], reply: &mut Reply) -> Result<(), Stop>
-    ensures { OnOk result (PlaysLine line.now player.old player.new reply.old reply.new) }
+    ensures plays { OnOk result (PlaysLine line.now player.old player.new reply.old reply.new) }
+    ensures within { OnOk result (length line.now ≤ longest_line) }
 {
     if let Some(command) = parse(line)? {
         player.play(command, reply)?;

@@ -1,9 +1,11 @@
 //! The mode `run`: a script of steps is read whole, and then run on a new machine.
 
-ghost use Rattle.std.specs.Prelude.{◌≡◌, ◌≤◌, ◌<◌, ◌+◌, [], ◌∷◌, ◌++◌, ℕ, replicate, vec_len, vec_capacity, None, IfOk, IfErr, OnOk, OnErr};
+ghost use Rattle.std.specs.Prelude.{◌≡◌, ◌≤◌, ◌<◌, ◌+◌, [], ◌∷◌, ◌++◌, ℕ, replicate, vec_len, vec_capacity, None, IfOk, IfErr, OnOk, OnErr, IsTrue, ◌↔◌, ◌⊎◌, length};
 ghost use Rattle.std.specs.Option.{ForSome};
-ghost use Rattle.piper_interpreter.specs.Output.{Reports, ReportsRun, WritesRun, WritesRunAtMost, event_lines, run_text, unread_line};
-ghost use Rattle.piper_interpreter.specs.StepsToRun.{AddsLine, SaysStep, last_end, most_steps_of_a_script};
+ghost use Rattle.piper_interpreter.specs.Lines.{unread_of};
+ghost use Rattle.piper_interpreter.specs.Output.{Reports, ReportsRun, RunsScript, WritesRun, event_lines, run_text, unread_line};
+ghost use Rattle.piper_interpreter.specs.StepsToRun.{AddsLine, AsksAll, Fits, SaysStep, last_end, most_steps_of_a_script};
+ghost use Rattle.piper_script.specs.Limits.{longest_line};
 ghost use Rattle.piper_protocol.specs.Index.{IsCapacity};
 ghost use Rattle.piper_protocol.specs.Log.{events};
 
@@ -37,6 +39,8 @@ struct StepsToRun {
 }
 
 impl StepsToRun {
+    ghost use Rattle.piper_interpreter.specs.AskedBy.{asked_by};
+
     fn new(alloc: Global) -> StepsToRun
         ensures capacity { result.capacity ≡ None }
         ensures steps { result.steps.items ≡ [] }
@@ -51,25 +55,37 @@ impl StepsToRun {
     }
 
     // Reads a script to its end.
-    fn read<I: Read>(&mut self, alloc: Global, input: &mut I) -> Result<(), Stop> {
+    #[tactic(auto, using(crate::proofs::AskedFor::asks_kept))]
+    fn read<I: Read>(&mut self, alloc: Global, input: &mut I) -> Result<(), Stop>
+        ensures { OnOk result (AsksAll (I.remaining input.old)
+            (asked_by self.old) (asked_by self.new)) }
+    {
         let mut lines = Lines::new(alloc, input)?;
         self.add_lines(alloc, &mut lines)
     }
 
-    fn add_lines<I: Read>(&mut self, alloc: Global, lines: &mut Lines<'_, I>) -> Result<(), Stop> {
+    #[tactic(auto, using(crate::proofs::AskedFor::asked_all))]
+    fn add_lines<I: Read>(&mut self, alloc: Global, lines: &mut Lines<'_, I>) -> Result<(), Stop>
+        ensures { OnOk result (AsksAll (unread_of I.remaining lines.old)
+            (asked_by self.old) (asked_by self.new)) }
+    {
         for number in 1..u64::MAX {
-            let Some(line) = lines.next()? else {
-                break;
-            };
+            if !lines.next()? {
+                return Ok(());
+            }
             self.line = number;
-            self.add_line(alloc, line)?;
+            self.add_line(alloc, lines.line())?;
         }
-        Ok(())
+        // No input has so many lines.
+        Err(Stop::Read)
     }
 
     fn add_line(&mut self, alloc: Global, line: &[u8]) -> Result<(), Stop>
-        ensures { OnOk result (AddsLine line.now self.old.capacity self.new.capacity
+        ensures adds { OnOk result (AddsLine line.now self.old.capacity self.new.capacity
             self.old.steps.items self.new.steps.items) }
+        ensures within { OnOk result (length line.now ≤ longest_line) }
+        ensures fits { length line.now ≤ longest_line → Fits self.old.capacity line.now
+            ⊎ (result ≡ Err (Stop.Refused Refusal.Syntax)) }
     {
         if line.len() <= MOST_OF_A_LINE && !self.takes(line) {
             return Err(Stop::Refused(Refusal::Syntax));
@@ -87,7 +103,9 @@ impl StepsToRun {
     }
 
     // Whether a command of this name is allowed here, whatever its numbers.
-    fn takes(&self, line: &[u8]) -> bool {
+    fn takes(&self, line: &[u8]) -> bool
+        ensures { IsTrue result ↔ Fits self.now.capacity line.now }
+    {
         is_silent(line)
             || match self.capacity {
                 None => line.starts_with(b"pipe "),
@@ -180,10 +198,10 @@ fn push_line(lines: &mut Vec<(u64, usize)>, number: u64, end: usize)
 
 /// Reads the script that `input` gives to its end, runs its steps on a new machine, and writes what
 /// happened to `output`.
-#[tactic(auto, using(crate::proofs::Lines::nothing_is_written, crate::proofs::Lines::some_run_is_written, crate::proofs::Lines::some_line_is_reported))]
+#[tactic(auto, using(crate::proofs::Lines::none_is_written, crate::proofs::Lines::asked_is_written, crate::proofs::Lines::some_line_is_reported))]
 pub fn run<I: Read, O: Write>(alloc: Global, input: &mut I, output: &mut O) -> Result<(), Stop>
     ensures written { OnOk result
-        (WritesRunAtMost (O.contents output.old) (O.contents output.new)) }
+        (RunsScript (I.remaining input.old) (O.contents output.old) (O.contents output.new)) }
     ensures reported { IfErr result (λ stop. (line : ℕ)
         × Reports line stop (O.contents output.old) (O.contents output.new)) }
 {

@@ -1,16 +1,22 @@
 //! The lines of a script in, and replies out.
 
-ghost use Rattle.std.specs.Prelude.{◌≡◌, IsErr, IfErr, OnOk};
-ghost use Rattle.std.specs.Io.KnownBytes.{Appends};
+ghost use Rattle.std.specs.Prelude.{◌≡◌, ◌⊎◌, IsErr, IfErr, IfOk, OnOk};
+ghost use Rattle.std.specs.Io.KnownBytes.{Appends, Keeps};
+ghost use Rattle.piper_interpreter.specs.Lines.{ReadsByte, ReadsNext, line_of, unread_of};
 ghost use Rattle.piper_interpreter.specs.Output.{EndsAs, Reports};
 
 use piper_script::parser::MOST_OF_A_LINE;
 use piper_script::reply::Reply;
 use piper_script::stop::Stop;
 use std::alloc::Global;
-use std::io::{BufRead, BufReader, Read, Write};
+use std::io::{BufReader, ErrorKind, Read, Write};
+
+/// The most bytes of a line that are read: one that is too long is known by the last of them.
+const MOST_TO_READ: usize = MOST_OF_A_LINE + 1;
 
 /// The lines of a script, read one after another.
+///
+/// In clauses, `line_of` is the line that was read last, and `unread_of` what is left of the script.
 #[derive(Drop)]
 pub struct Lines<'input, I: Read> {
     reader: BufReader<&'input mut I>,
@@ -20,31 +26,61 @@ pub struct Lines<'input, I: Read> {
 impl<'input, I: Read> Lines<'input, I> {
     /// The lines of the script that `input` gives. With room for a whole line from the start,
     /// reading one takes no memory.
-    pub fn new(alloc: Global, input: &'input mut I) -> Result<Lines<'input, I>, Stop> {
-        let line = Vec::with_capacity(alloc, MOST_OF_A_LINE + 1)?;
+    pub fn new(alloc: Global, input: &'input mut I) -> Result<Lines<'input, I>, Stop>
+        ensures all { IfOk result (λ lines.
+            Keeps (I.remaining input.old) (unread_of I.remaining lines)) }
+        ensures memory { IfErr result (λ stop. stop ≡ Stop.Memory) }
+    {
+        let line = Vec::with_capacity(alloc, MOST_TO_READ)?;
         let reader = BufReader::new(alloc, input).map_err(|_| Stop::Memory)?;
         Ok(Lines { reader, line })
     }
 
-    /// The next line without its LF, unless the script has ended. Of a line that is too long only
-    /// the beginning is read.
-    pub fn next(&mut self) -> Result<Option<&[u8]>, Stop> {
+    /// Reads the next line, without its LF, and returns whether there was one. Of a line that is
+    /// too long only the beginning is read.
+    pub fn next(&mut self) -> Result<bool, Stop>
+        ensures read { IfOk result (λ is_line. ReadsNext is_line (line_of self.new)
+            (unread_of I.remaining self.old) (unread_of I.remaining self.new)) }
+        ensures failed { IfErr result (λ stop. (stop ≡ Stop.Read) ⊎ (stop ≡ Stop.Memory)) }
+    {
         self.line.clear();
-        let count = self
-            .reader
-            .by_ref()
-            .take(MOST_OF_A_LINE as u64 + 1)
-            .read_until(b'\n', &mut self.line)
-            .map_err(|_| Stop::Read)?;
-        if self.line.last() == Some(&b'\n') {
-            self.line.pop();
+        for _ in 0..MOST_TO_READ {
+            match read_byte(&mut self.reader)? {
+                None => return Ok(!self.line().is_empty()),
+                Some(b'\n') => return Ok(true),
+                Some(byte) => self.line.push(byte).map_err(|_| Stop::Memory)?,
+            }
         }
-        Ok(if count > 0 {
-            Some(self.line.as_slice())
-        } else {
-            None
-        })
+        Ok(true)
     }
+
+    /// The line that was read last.
+    pub fn line(&self) -> &[u8]
+        ensures { result.now ≡ line_of self.now }
+    {
+        self.line.as_slice()
+    }
+}
+
+// Reads a byte, unless the input has ended.
+fn read_byte<R: Read>(reader: &mut R) -> Result<Option<u8>, Stop>
+    ensures read { IfOk result (λ byte.
+        ReadsByte byte (R.remaining reader.old) (R.remaining reader.new)) }
+    ensures failed { IfErr result (λ stop. stop ≡ Stop.Read) }
+{
+    let mut place = [0];
+    for _ in 0..u64::MAX {
+        match reader.read(&mut place) {
+            Ok(0) => return Ok(None),
+            Ok(_) => return Ok(Some(place[0])),
+            Err(error) => {
+                if error.kind() != ErrorKind::Interrupted {
+                    return Err(Stop::Read);
+                }
+            }
+        }
+    }
+    Err(Stop::Read)
 }
 
 /// Writes and flushes the reply.
