@@ -4,7 +4,7 @@
 #     tests/programs.sh [FOLDER]
 #
 # FOLDER has the built programs; if it is left out, each is taken from out/ of its crate, where `rt run` builds it. It needs
-# bash, the coreutils and util-linux's prlimit (and setpriv where root runs it). Each case runs under a time limit, and what
+# bash, the coreutils, cc and util-linux's prlimit (and setpriv where root runs it). Each case runs under a time limit, and what
 # would hang fails so. The last line is `N passed, M failed`.
 set -u
 here=$(cd "$(dirname "$0")" && pwd)
@@ -149,6 +149,8 @@ if cc -O2 -shared -fPIC -o blocks.so "$here/blocks.c" -ldl; then
         try_blocks "$order" './piper_compare handles'
     done
     try_blocks 'a client' ./proved_order
+else
+    echo 'left out, for want of a C compiler: the blocks of a pipe'
 fi
 
 # The help, the version and an unknown word of each program.
