@@ -1,5 +1,5 @@
 -- What the traits of readers and writers say, of a drain and a fill whose clauses say more.
-use Rattle.std.proofs.Common.{◌≡◌, ℕ, zero, suc, ◌+◌, ◌<◌, ◌≤◌, ◌++◌, Bool, true, false, true≢false, List, take, length, Result, Ok, Err, refl, sym, ap, ◌∙◌, length-append, length-take, length-take-le, arith}
+use Rattle.std.proofs.Common.{◌≡◌, ℕ, zero, suc, ◌+◌, ◌<◌, ◌≤◌, ◌++◌, ◌⊎◌, inl, inr, Bool, true, false, true≢false, List, take, length, Result, Ok, Err, refl, sym, ap, ◌∙◌, length-append, length-take, length-take-le, arith}
 use Rattle.futures.specs.Poll.{OnPending}
 use Rattle.futures.specs.Task.{Covers}
 use Rattle.futures.specs.declared.task.context.Context.{Context}
@@ -10,6 +10,7 @@ use Rattle.piper.specs.Contexts.{AsksAgain}
 use Rattle.piper.specs.Drains.{found_len}
 use Rattle.piper.specs.Handles.{read_source, write_source}
 use Rattle.piper.specs.Polls.{Reads, Writes}
+use Rattle.piper.specs.Waits.{ReaderIsWaiting, ReaderPends, ReaderWaits, WriterIsWaiting, WriterWaits}
 use Rattle.piper.specs.ReaderCalls.{AtEnd, Drained, DrainPends, DrainsEnd, DrainsSlice, SameReaderButMoved}
 use Rattle.piper.specs.WriterCalls.{Filled, FillPends, FillsSlice, SameWriterButMoved}
 use Rattle.piper.specs.declared.handles.Reader.{Reader}
@@ -37,13 +38,28 @@ asks : (found : ℕ) (told : Bool) (P Q : Type 0) → (found ≡ 0 → P × (tol
 asks zero told P Q none some seen = absurd (true≢false (sym seen ∙ (none refl).1))
 asks (suc found) told P Q none some seen = some (omega arith)
 
+-- a pending copy that found nothing is registered, or asked for another poll, and one that found some asked
+registered_or_asked : {W I Q A : Type 0} → (W → I) → W ⊎ (Q × A) → I ⊎ Q
+registered_or_asked f (inl waits) = inl (f waits)
+registered_or_asked f (inr asked) = inr asked.0
+
+waits_or_asks : {W I Q A : Type 0} (found : ℕ) → (W → I) → (found ≡ 0 → W ⊎ (Q × A)) → (0 < found → Q) → I ⊎ Q
+waits_or_asks zero f none some = registered_or_asked f (none refl)
+waits_or_asks (suc found) f none some = inr (some (omega arith))
+
 pub read_pends : {E : Type 0} (r : Poll (Result ℕ E)) (a b : Reader) (cx : Context) → SameReaderButMoved a b → OnPending r (DrainPends a b cx)
-    → OnPending r (Covers cx (λ s. s ≡ read_source b) × (a.end.told_shut ≡ true → AsksAgain cx))
+    → OnPending r (Covers cx (λ s. s ≡ read_source b) × (a.end.told_shut ≡ true → AsksAgain cx) × ReaderIsWaiting b cx)
 read_pends (Ready x) a b cx same h = tt
 read_pends Pending a b cx same h = (
   rw same.slots h.covered,
   λ told. asks (found_len a.end b.end) b.end.told_shut _ _ h.unseen h.yields (same.end.end.told_shut ∙ told),
+  waits_or_asks (found_len a.end b.end) (λ (w : ReaderWaits a b). w.pending) h.registered h.yields,
 )
+
+-- a poll that is pending is registered, or asked for another one
+pub poll_waits : {A : Type 0} (r : Poll A) (a b : Reader) (cx : Context) → OnPending r (ReaderPends a b cx) → OnPending r (ReaderIsWaiting b cx)
+poll_waits (Ready x) a b cx h = tt
+poll_waits Pending a b cx h = registered_or_asked (λ (w : ReaderWaits a b). w.pending) h.registered
 
 -- the first m and the first n of some bytes are as many, where both were published after the same
 pub as_many : (before after xs : List ℕ) (m n : ℕ) → m ≤ n → n ≤ length xs → after ≡ before ++ take m xs → after ≡ before ++ take n xs → m ≡ n
@@ -77,6 +93,9 @@ write_full (Ready (Err x)) a b bytes f told some = absurd (cc)
 write_full Pending a b bytes f told some = absurd (cc)
 
 pub write_pends : {E : Type 0} (r : Poll (Result ℕ E)) (a b : Writer) (cx : Context) → SameWriterButMoved a b → OnPending r (FillPends a b cx)
-    → OnPending r (Covers cx (λ s. s ≡ write_source b))
+    → OnPending r (Covers cx (λ s. s ≡ write_source b) × WriterIsWaiting b cx)
 write_pends (Ready x) a b cx same h = tt
-write_pends Pending a b cx same h = rw same.slots h.covered
+write_pends Pending a b cx same h = (
+  rw same.slots h.covered,
+  waits_or_asks b.end.room (λ (w : WriterWaits a b). w.pending) h.registered h.yields,
+)

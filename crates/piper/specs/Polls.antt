@@ -1,6 +1,8 @@
 -- What a poll of a reader or a writer leaves.
-use Rattle.std.specs.Prelude.{◌≡◌, ℕ, ◌+◌, ◌<◌, ◌≤◌, Bool, true, false, List, [], ◌++◌, take, drop, length, Result, Ok, Err, ⊤}
+use Rattle.std.specs.Prelude.{◌≡◌, ℕ, ◌+◌, ◌<◌, ◌≤◌, ◌⊎◌, Bool, true, false, List, [], ◌++◌, take, drop, length, Result, Ok, Err, ⊤}
 use Rattle.futures.specs.Poll.{OnPending}
+use Rattle.futures.specs.declared.task.context.Context.{Context}
+use Rattle.piper.specs.Contexts.{AsksAgain}
 use Rattle.futures.specs.declared.task.Poll.{Poll}
 use Rattle.futures.specs.declared.task.Poll.TheVariants.{Ready, Pending}
 use denote.Ref.{Bor}
@@ -69,3 +71,9 @@ abbrev pub Carries : List ℕ → List ℕ → List ℕ → List ℕ → Bool �
 Carries taken_before taken_after sent_before sent_after saw =
     (front : List ℕ) × (rest : List ℕ) × (taken_after ≡ taken_before ++ (front ++ rest))
     × (sent_after ≡ sent_before ++ front) × (saw ≡ false → rest ≡ [])
+
+-- why a copy is pending: a call of its reader or of its writer was; or it has carried 64 pieces, each
+-- of a byte at least, and asked for another poll itself
+abbrev pub CopyPends : Type 0 → Type 0 → List ℕ → List ℕ → Context → Type 0
+CopyPends read_waits write_waits before after cx =
+    (read_waits ⊎ write_waits) ⊎ (AsksAgain cx × (length before + 64 ≤ length after))

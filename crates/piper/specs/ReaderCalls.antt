@@ -19,7 +19,7 @@ use Rattle.piper.specs.Handles.{NotifiesReader, NotifiesWriter, SameReader, Same
 use Rattle.piper.specs.Like.{Passes}
 use Rattle.piper.specs.Looks.{ReaderFound, ReaderLooked}
 use Rattle.piper.specs.Polls.{After, IfReadyErr, IfReadyOk, Lends, TakesNone}
-use Rattle.piper.specs.Waits.{ReaderIsRemembered, ReaderPends, WriterIsRemembered, ReaderRegistered}
+use Rattle.piper.specs.Waits.{ReaderIsRemembered, ReaderIsWaiting, ReaderPends, WriterIsRemembered, ReaderRegistered}
 use Rattle.piper.specs.declared.error.Inner.{Inner}
 use Rattle.piper.specs.declared.error.PipeError.{PipeError}
 use Rattle.piper.specs.declared.finished.FinishedWriter.{FinishedWriter}
@@ -56,8 +56,7 @@ pub record PollsEnd {A E : Type 0} (r : Poll (Result A E)) (a b : Reader) : Type
   pub all : KeepsAll a b
 
 -- a poll lent the first piece of the known bytes: no byte was taken; an empty piece is the end,
--- which is final; a pending poll has armed its task, and was not told of the end; and one that fails
--- wants memory
+-- which is final; a pending poll waits, and was not told of the end; and one that fails wants memory
 abbrev pub LendsPiece : Poll (Result (Bor (List ℕ)) PipeError)
     → Reader → Reader → Context → Type 0
 LendsPiece r a b cx =
@@ -69,7 +68,7 @@ LendsPiece r a b cx =
     × (a.end.saw ≡ true → b.end.saw ≡ true)
     × IfReadyErr r (WantsWaker cx)
     × (b.end.told_shut ≡ a.end.told_shut)
-    × OnPending r (b.end.told_shut ≡ false)
+    × OnPending r ((b.end.told_shut ≡ false) × ReaderIsWaiting b cx)
     × OnPending r (Covers cx (λ s. s ≡ read_source b))
     × (NotifiesWriter a → NotifiesWriter b)
 

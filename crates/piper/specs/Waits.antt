@@ -49,6 +49,14 @@ pub record WriterPends (a b : Writer) (cx : Context) : Type 0 where
   pub covered : Covers cx (λ s. s ≡ write_source a)
   pub registered : WriterRegistered a b cx
 
+-- why a call of a trait is pending: the reader is registered and has nothing to do, or its task asked
+-- for another poll itself
+abbrev pub ReaderIsWaiting : Reader → Context → Type 0
+ReaderIsWaiting r cx = IsPending r.end r.registrations ⊎ AsksAgain cx
+
+abbrev pub WriterIsWaiting : Writer → Context → Type 0
+WriterIsWaiting w cx = IsWriterPending w.end w.registrations ⊎ AsksAgain cx
+
 -- once a reader met its writer as b: the writer took its last ticket,
 -- or the reader has nothing to do, since no byte is unread and the pipe is open
 abbrev pub ReaderIsRemembered : Reader → Reader → Writer → Type 0

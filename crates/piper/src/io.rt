@@ -35,6 +35,9 @@ pub trait AsyncRead {
     // holds of each source that a pending read waits for
     ghost needs: { Self → ℕ → Type 0 };
 
+    // a call with this context was pending, and left it so
+    ghost waits: { Self → Context → Type 0 } = { λ _ _. ⊤ };
+
     // a call with this context has failed with this error, and left it so
     ghost fails: { Self → Context → PipeError → Type 0 } = { λ _ _ _. ⊤ };
 
@@ -52,7 +55,7 @@ pub trait AsyncRead {
             TakesNone result (ended self.new) (taken self.old) (taken self.new) }
         ensures stays { (told self.new ≡ told self.old) × (saw self.old ≡ true → saw self.new ≡ true) }
         ensures pending { OnPending result (Covers cx.new (needs self.new)
-            × (told self.old ≡ true → AsksAgain cx.new)) }
+            × (told self.old ≡ true → AsksAgain cx.new) × waits self.new cx.new) }
         ensures error { IfReadyErr result (fails self.new cx.new) }
         ensures woken { woken self.old → woken self.new }
         ensures kept { Keeps cx.old cx.new };
@@ -84,6 +87,9 @@ pub trait AsyncBufRead {
     // holds of each source that a pending call waits for
     ghost needs: { Self → ℕ → Type 0 };
 
+    // a call with this context was pending, and left it so
+    ghost waits: { Self → Context → Type 0 } = { λ _ _. ⊤ };
+
     // a call with this context has failed with this error, and left it so
     ghost fails: { Self → Context → PipeError → Type 0 } = { λ _ _ _. ⊤ };
 
@@ -104,7 +110,7 @@ pub trait AsyncBufRead {
             × (saw self.old ≡ true → saw new ≡ true)
             × IfReadyErr result (fails new cx.new)
             × (told new ≡ told self.old)
-            × OnPending result (told new ≡ false)
+            × OnPending result ((told new ≡ false) × waits new cx.new)
             × OnPending result (Covers cx.new (needs new))
             × (woken self.old → woken new))) }
         ensures kept { Keeps cx.old cx.new };
@@ -134,6 +140,9 @@ pub trait AsyncWrite {
     // holds of each source that a pending call waits for
     ghost needs: { Self → ℕ → Type 0 };
 
+    // a call with this context was pending, and left it so
+    ghost waits: { Self → Context → Type 0 } = { λ _ _. ⊤ };
+
     // a call with this context has failed with this error, and left it so
     ghost fails: { Self → Context → PipeError → Type 0 } = { λ _ _ _. ⊤ };
 
@@ -153,7 +162,8 @@ pub trait AsyncWrite {
         ensures error { IfReadyErr result (fails self.new cx.new) }
         ensures over { saw self.old ≡ true → result ≡ Poll.Ready (Ok 0) }
         ensures stays { saw self.old ≡ true → saw self.new ≡ true }
-        ensures covered { OnPending result (Covers cx.new (needs self.new)) }
+        ensures pending { OnPending result
+            (Covers cx.new (needs self.new) × waits self.new cx.new) }
         ensures woken { woken self.old → woken self.new }
         ensures kept { Keeps cx.old cx.new };
 
@@ -163,7 +173,8 @@ pub trait AsyncWrite {
         ensures error { IfReadyErr result (fails self.new cx.new) }
         ensures sent { sent self.new ≡ sent self.old }
         ensures saw { saw self.new ≡ saw self.old }
-        ensures covered { OnPending result (Covers cx.new (needs self.new)) }
+        ensures pending { OnPending result
+            (Covers cx.new (needs self.new) × waits self.new cx.new) }
         ensures woken { woken self.old → woken self.new }
         ensures kept { Keeps cx.old cx.new };
 
@@ -174,7 +185,8 @@ pub trait AsyncWrite {
         ensures error { IfReadyErr result (fails self.new cx.new) }
         ensures sent { sent self.new ≡ sent self.old }
         ensures stays { saw self.old ≡ true → saw self.new ≡ true }
-        ensures covered { OnPending result (Covers cx.new (needs self.new)) }
+        ensures pending { OnPending result
+            (Covers cx.new (needs self.new) × waits self.new cx.new) }
         ensures woken { woken self.old → woken self.new }
         ensures kept { Keeps cx.old cx.new };
 }

@@ -6,6 +6,7 @@ ghost use Rattle.futures.specs.Poll.{OnPending};
 ghost use Rattle.futures.specs.Task.{Keeps};
 ghost use Rattle.piper.specs.Contexts.{WantsWaker};
 ghost use Rattle.piper.specs.Ends.{IsEnded};
+ghost use Rattle.piper.specs.Waits.{ReaderIsWaiting, WriterIsWaiting};
 ghost use Rattle.piper.specs.Handles.{AreFresh, ArePair, DrawFrom};
 
 use crate::error::PipeError;
@@ -209,6 +210,8 @@ impl AsyncRead for OwnedReader {
 
     ghost needs = { λ owned s. s ≡ read_source owned };
 
+    ghost waits = { ReaderIsWaiting };
+
     ghost fails = { λ _ cx e. WantsWaker cx e };
 
     ghost woken = { NotifiesWriter };
@@ -248,6 +251,8 @@ impl AsyncBufRead for OwnedReader {
 
     ghost needs = { λ owned s. s ≡ read_source owned };
 
+    ghost waits = { ReaderIsWaiting };
+
     ghost fails = { λ _ cx e. WantsWaker cx e };
 
     ghost woken = { NotifiesWriter };
@@ -285,6 +290,8 @@ impl AsyncWrite for OwnedWriter {
     ghost saw = { λ owned. owned.end.saw };
 
     ghost needs = { λ owned s. s ≡ write_source owned };
+
+    ghost waits = { WriterIsWaiting };
 
     ghost fails = { λ _ cx e. WantsWaker cx e };
 

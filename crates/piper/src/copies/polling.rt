@@ -6,6 +6,7 @@ ghost use Rattle.futures.specs.Poll.{OnPending};
 ghost use Rattle.futures.specs.Task.{Keeps};
 ghost use Rattle.piper.specs.Contexts.{WantsWaker};
 ghost use Rattle.piper.specs.Ends.{IsEnded};
+ghost use Rattle.piper.specs.Waits.{ReaderIsWaiting, WriterIsWaiting};
 
 use crate::error::PipeError;
 use crate::handles::{Reader, Writer};
@@ -27,6 +28,8 @@ impl AsyncRead for Reader {
     ghost ended = { λ r. IsEnded r.end };
 
     ghost needs = { λ r s. s ≡ read_source r };
+
+    ghost waits = { ReaderIsWaiting };
 
     ghost fails = { λ _ cx e. WantsWaker cx e };
 
@@ -71,6 +74,8 @@ impl AsyncBufRead for Reader {
 
     ghost needs = { λ r s. s ≡ read_source r };
 
+    ghost waits = { ReaderIsWaiting };
+
     ghost fails = { λ _ cx e. WantsWaker cx e };
 
     ghost woken = { NotifiesWriter };
@@ -114,6 +119,8 @@ impl AsyncWrite for Writer {
     ghost saw = { λ w. w.end.saw };
 
     ghost needs = { λ w s. s ≡ write_source w };
+
+    ghost waits = { WriterIsWaiting };
 
     ghost fails = { λ _ cx e. WantsWaker cx e };
 

@@ -14,6 +14,8 @@ impl<R: AsyncRead> AsyncRead for &mut R {
 
     ghost needs = { λ r. R.needs r.now };
 
+    ghost waits = { λ r. R.waits r.now };
+
     ghost fails = { λ r. R.fails r.now };
 
     ghost woken = { λ r. R.woken r.now };
@@ -42,6 +44,8 @@ impl<R: AsyncBufRead> AsyncBufRead for &mut R {
 
     ghost needs = { λ r. R.needs r.now };
 
+    ghost waits = { λ r. R.waits r.now };
+
     ghost fails = { λ r. R.fails r.now };
 
     ghost woken = { λ r. R.woken r.now };
@@ -61,6 +65,8 @@ impl<W: AsyncWrite> AsyncWrite for &mut W {
     ghost saw = { λ w. W.saw w.now };
 
     ghost needs = { λ w. W.needs w.now };
+
+    ghost waits = { λ w. W.waits w.now };
 
     ghost fails = { λ w. W.fails w.now };
 

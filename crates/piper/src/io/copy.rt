@@ -2,7 +2,7 @@
 ghost use Rattle.std.specs.Prelude.{◌≡◌, ◌⊎◌, [], true, Ok};
 ghost use Rattle.futures.specs.Task.{Covers, Keeps};
 ghost use Rattle.futures.specs.Poll.{OnPending};
-ghost use Rattle.piper.specs.Polls.{Carries, IfReadyErr};
+ghost use Rattle.piper.specs.Polls.{Carries, CopyPends, IfReadyErr};
 
 use super::{AsyncBufRead, AsyncWrite};
 use crate::error::PipeError;
@@ -46,7 +46,9 @@ pub fn poll_copy<R: AsyncBufRead, W: AsyncWrite>(
         R.fails reader.new cx.new e ⊎ W.fails writer.new cx.new e) }
     ensures pending { OnPending result (
         (R.told reader.new ≡ true → Covers cx.new (W.needs writer.new))
-        × (Covers cx.new (R.needs reader.new) ⊎ Covers cx.new (W.needs writer.new))) }
+        × (Covers cx.new (R.needs reader.new) ⊎ Covers cx.new (W.needs writer.new))
+        × CopyPends (R.waits reader.new cx.new) (W.waits writer.new cx.new)
+        (R.taken reader.old) (R.taken reader.new) cx.new) }
     ensures kept { Keeps cx.old cx.new }
 {
     for _ in 0..MOST_PIECES {

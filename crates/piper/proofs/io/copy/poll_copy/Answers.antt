@@ -1,4 +1,4 @@
-use Rattle.std.proofs.Common.{rules, ◌≡◌, ◌++◌, List, ℕ, take, true, refl, arith}
+use Rattle.std.proofs.Common.{rules, ◌≡◌, ◌++◌, List, ℕ, take, length, length-append, length-take, true, refl, ap, arith}
 use Rattle.std.proofs.lemmas.Grind.{common_steps}
 use Rattle.piper.proofs.Carrying.{carries_none, carries_more}
 use Rattle.piper.proofs.io.copy.poll_copy.Goals as goal
@@ -11,6 +11,7 @@ loop-init g c = record {
   told = refl;
   reader_woken = λ woken. woken;
   writer_woken = λ woken. woken;
+  moved = omega arith;
   kept = λ fact held. held;
 }
 
@@ -30,5 +31,6 @@ loop-preserved g c =
       told = search rules;
       reader_woken = search rules;
       writer_woken = search rules;
+      moved = omega (arith, c.loop.invariant.moved, ap length taken, length-append (g.R.AsyncBufRead.taken c.loop.reader) (take n piece), length-take n piece, written.0, c.in-Ready-Ok-poll_write.n-test.1);
       kept = search rules;
     }

@@ -1,5 +1,5 @@
 -- What was taken so far was published.
-use Rattle.std.proofs.Common.{◌≡◌, true}
+use Rattle.std.proofs.Common.{◌≡◌, ◌+◌, ◌≤◌, length, true}
 use Rattle.futures.specs.Task.{Keeps}
 use Rattle.piper.specs.Polls.{Carries}
 use Rattle.piper.proofs.io.copy.poll_copy.Given as goal
@@ -12,5 +12,6 @@ invariant-loop g l = record {
   told : g.R.AsyncBufRead.told l.reader ≡ g.R.AsyncBufRead.told l.initial.reader;
   reader_woken : g.R.AsyncBufRead.woken l.initial.reader → g.R.AsyncBufRead.woken l.reader;
   writer_woken : g.W.AsyncWrite.woken l.initial.writer → g.W.AsyncWrite.woken l.writer;
+  moved : length (g.R.AsyncBufRead.taken l.initial.reader) + l.counter ≤ length (g.R.AsyncBufRead.taken l.reader);
   kept : Keeps l.initial.cx l.cx;
 }
