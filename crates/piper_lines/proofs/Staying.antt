@@ -11,6 +11,6 @@ pub writer_stays : {W : Type 0} (saw : W → Bool) (woken : W → Type 0) (w0 w1
 writer_stays saw woken w0 w1 w2 first second = (λ before. second.0 (first.0 before), λ before. second.1 (first.1 before))
 
 -- for the same reason, of which more is said
-pub pends_so : (known : List ℕ) (told : Bool) (cx : Context) (P Q : Type 0) → (P → Q) → Pends known told P cx → Pends known told Q cx
-pends_so known told cx P Q f (inl waits) = inl waits
-pends_so known told cx P Q f (inr asked) = inr (f asked.0, asked.1)
+pub pends_so : {R : Type 0} (known : R → List ℕ) (told : R → Bool) (waits : R → Context → Type 0) (r : R) (cx : Context) (P Q : Type 0) → (P → Q) → Pends known told waits r P cx → Pends known told waits r Q cx
+pends_so known told waits r cx P Q f (inl still) = inl still
+pends_so known told waits r cx P Q f (inr asked) = inr (f asked.0, asked.1)

@@ -11,11 +11,15 @@ ReaderStays told woken a b = (told b ≡ told a) × (woken a → woken b)
 abbrev pub WriterStays : {W : Type 0} → (W → Bool) → (W → Type 0) → W → W → Type 0
 WriterStays saw woken a b = (saw a ≡ true → saw b ≡ true) × (woken a → woken b)
 
--- a reader has nothing to give yet: it knows of no byte, and was not told of the end
-abbrev pub WaitsForBytes : List ℕ → Bool → Type 0
-WaitsForBytes known told = (known ≡ []) × (told ≡ false)
+-- a reader has nothing to give yet: it knows of no byte, was not told of the end, and its last call
+-- was pending with this context
+abbrev pub WaitsForBytes : {R : Type 0} → (R → List ℕ) → (R → Bool) → (R → Context → Type 0) → R
+    → Context → Type 0
+WaitsForBytes known told waits r cx = (known r ≡ []) × (told r ≡ false) × waits r cx
 
 -- why a poll is pending: its reader has nothing to give yet, or the poll went on by Moved, and
 -- asked for another one itself
-abbrev pub Pends : List ℕ → Bool → Type 0 → Context → Type 0
-Pends known told Moved cx = WaitsForBytes known told ⊎ (Moved × AsksAgain cx)
+abbrev pub Pends : {R : Type 0} → (R → List ℕ) → (R → Bool) → (R → Context → Type 0) → R
+    → Type 0 → Context → Type 0
+Pends known told waits r Moved cx =
+    WaitsForBytes known told waits r cx ⊎ (Moved × AsksAgain cx)

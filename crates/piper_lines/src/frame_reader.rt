@@ -147,7 +147,7 @@ impl<R: AsyncBufRead> Frames<R> {
             (body_room_of self.old) (header_of self.new) (body_of self.new)
             (R.known (reader_of self.new)))) }
         ensures pending { OnPending result (Covers cx.new (R.needs (reader_of self.new))
-            × Pends (R.known (reader_of self.new)) (R.told (reader_of self.new))
+            × Pends R.known R.told R.waits (reader_of self.new)
             (length (R.taken (reader_of self.old)) < length (R.taken (reader_of self.new)))
             cx.new) }
         ensures kept { Keeps cx.old cx.new }

@@ -38,7 +38,7 @@ pub fn fill_up<R: AsyncBufRead>(
     ensures error { IfReadyErr result (λ e. IsReported e (R.fails reader.new cx.new)
         (LacksRoom size (vec_capacity gathered.old) gathered.new.items (R.known reader.new))) }
     ensures pending { OnPending result (Covers cx.new (R.needs reader.new)
-        × WaitsForBytes (R.known reader.new) (R.told reader.new)) }
+        × WaitsForBytes R.known R.told R.waits reader.new cx.new) }
     ensures rest { Keeps cx.old cx.new × ReaderStays R.told R.woken reader.old reader.new }
 {
     while gathered.len() < size {
@@ -75,7 +75,7 @@ pub(crate) fn pass_over<R: AsyncBufRead>(
         (reader.new ≡ reader.old) × (result ≡ Poll.Ready (Ok true)) }
     ensures error { IfReadyErr result (R.fails reader.new cx.new) }
     ensures stays { ReaderStays R.told R.woken reader.old reader.new }
-    ensures pends { OnPending result (Pends (R.known reader.new) (R.told reader.new)
+    ensures pends { OnPending result (Pends R.known R.told R.waits reader.new
         (length (R.taken reader.old) < length (R.taken reader.new)) cx.new) }
     ensures covered { OnPending result (Covers cx.new (R.needs reader.new)) }
     ensures kept { Keeps cx.old cx.new }

@@ -83,7 +83,7 @@ impl<'a> WriteLine<'a> {
         ensures stays { WriterStays W.saw W.woken writer.old writer.new }
         ensures error { IfReadyErr result (W.fails writer.new cx.new) }
         ensures pending { OnPending result (Covers cx.new (W.needs writer.new)
-            × ¬ (W.saw writer.old ≡ true)) }
+            × W.waits writer.new cx.new × ¬ (W.saw writer.old ≡ true)) }
         ensures kept { Keeps cx.old cx.new }
     {
         poll_write_both(

@@ -39,6 +39,7 @@ pub fn poll_write_all<W: AsyncWrite>(
     ensures stays { WriterStays W.saw W.woken writer.old writer.new }
     ensures error { IfReadyErr result (W.fails writer.new cx.new) }
     ensures pending { OnPending result (Covers cx.new (W.needs writer.new)
+        × W.waits writer.new cx.new
         × (written.new < length bytes.now) × ¬ (W.saw writer.old ≡ true)) }
     ensures kept { Keeps cx.old cx.new }
 {
@@ -75,7 +76,7 @@ pub(crate) fn poll_write_both<W: AsyncWrite>(
     ensures stays { WriterStays W.saw W.woken writer.old writer.new }
     ensures error { IfReadyErr result (W.fails writer.new cx.new) }
     ensures pending { OnPending result (Covers cx.new (W.needs writer.new)
-        × ¬ (W.saw writer.old ≡ true)) }
+        × W.waits writer.new cx.new × ¬ (W.saw writer.old ≡ true)) }
     ensures kept { Keeps cx.old cx.new }
 {
     match poll_write_all(writer, cx, front, front_written) {

@@ -43,7 +43,7 @@ pub fn poll_frames<R: AsyncBufRead>(
     ensures format { format_of frames.new ≡ format_of frames.old }
     ensures stays { ReaderStays R.told R.woken (reader_of frames.old) (reader_of frames.new) }
     ensures pending { OnPending result (Covers cx.new (R.needs (reader_of frames.new))
-        × Pends (R.known (reader_of frames.new)) (R.told (reader_of frames.new))
+        × Pends R.known R.told R.waits (reader_of frames.new)
         ((length out.old.items < length out.new.items)
         ⊎ (length (R.taken (reader_of frames.old)) < length (R.taken (reader_of frames.new))))
         cx.new) }

@@ -43,7 +43,7 @@ pub fn poll_lines<R: AsyncBufRead>(
     ensures end { end_of lines.new ≡ end_of lines.old }
     ensures stays { ReaderStays R.told R.woken (reader_of lines.old) (reader_of lines.new) }
     ensures pending { OnPending result (Covers cx.new (R.needs (reader_of lines.new))
-        × Pends (R.known (reader_of lines.new)) (R.told (reader_of lines.new))
+        × Pends R.known R.told R.waits (reader_of lines.new)
         (length out.old.items < length out.new.items) cx.new) }
     ensures kept { Keeps cx.old cx.new }
 {
