@@ -1,5 +1,5 @@
 -- What a drain into a writer of std gives.
-use Rattle.std.specs.Prelude.{◌≡◌, ◌<◌, ◌⊎◌, ℕ, Bool, List, ◌++◌, length, Option, Some, Result, Ok, Err}
+use Rattle.std.specs.Prelude.{◌≡◌, ◌<◌, ◌⊎◌, ℕ, Bool, List, ◌++◌, length, Option, Some, IsSomeAnd, Result, Ok, Err}
 use Rattle.std.specs.Io.KnownBytes.{Appends}
 use Rattle.futures.specs.declared.task.context.Context.{Context}
 use Rattle.piper.specs.declared.error.PipeError.{PipeError}
@@ -13,6 +13,10 @@ use Rattle.piper_futures.specs.declared.drain.Draining.{Draining}
 -- it is about to move from the reader to the writer of std
 abbrev pub StartsDraining : {R D : Type 0} → Draining R D → R → D → Type 0
 StartsDraining future reader dest = future.state ≡ Some (reader, dest)
+
+-- the reader and the writer of std that the future holds
+abbrev pub drain_ends : {R D : Type 0} → Draining R D → Option (R × D)
+drain_ends future = future.state
 
 -- what was taken since was written, in order
 abbrev pub DrainsOn : List ℕ → List ℕ → Option (List ℕ) → Option (List ℕ) → Type 0
@@ -32,3 +36,7 @@ module _ {R D : Type 0} (taken known : R → List ℕ) (saw told : R → Bool) (
       × (FailsOnce fails failed.left.0 failed.error
       ⊎ (IsIo failed.error × (0 < length (known failed.left.0))))
       × ReaderStays told woken r failed.left.0
+
+  -- what the future may give, of the ends that it holds
+  abbrev pub GivesDrained : Draining R D → Result (R × D) (Failed (R × D)) → Type 0
+  GivesDrained future output = IsSomeAnd future.state (λ state. DrainedAll state.0 state.1 output)

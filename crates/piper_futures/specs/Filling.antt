@@ -1,7 +1,8 @@
 -- What a fill from a reader of std gives.
-use Rattle.std.specs.Prelude.{◌≡◌, ◌⊎◌, ℕ, Bool, true, false, List, [], ◌++◌, Option, Some, Result, Ok, Err}
+use Rattle.std.specs.Prelude.{◌≡◌, ◌<◌, ◌⊎◌, ℕ, length, Bool, true, false, List, [], ◌++◌, Option, Some, IsSomeAnd, Result, Ok, Err}
 use Rattle.std.specs.Io.KnownBytes.{Consumes, IsAtEnd}
 use Rattle.futures.specs.declared.task.context.Context.{Context}
+use Rattle.piper.specs.Contexts.{AsksAgain}
 use Rattle.piper.specs.declared.error.PipeError.{PipeError}
 use Rattle.piper.specs.declared.io.copy.Copied.{Copied}
 use Rattle.piper.specs.declared.io.copy.Copied.TheVariants.{ToTheEnd, UntilClosed}
@@ -13,6 +14,18 @@ use Rattle.piper_futures.specs.declared.fill.Filling.{Filling}
 -- it is about to move from the source to the writer
 abbrev pub StartsFilling : {W S : Type 0} → Filling W S → W → S → Type 0
 StartsFilling future writer source = future.state ≡ Some (writer, source)
+
+-- the writer and the source that the future holds
+abbrev pub fill_ends : {W S : Type 0} → Filling W S → Option (W × S)
+fill_ends future = future.state
+
+-- why a fill is pending: its writer is; or bytes came, which are published unless the pipe was seen
+-- closed, and it asked for another poll itself
+abbrev pub FillWaits : {W : Type 0} → (W → List ℕ) → (W → Bool) → (W → Context → Type 0)
+    → W → W → Context → Type 0
+FillWaits sent saw waits a b cx =
+    waits b cx
+    ⊎ (((length (sent a) < length (sent b)) ⊎ (saw b ≡ true)) × AsksAgain cx)
 
 -- the front of what the source gave was published, and all of it unless the pipe
 -- was seen closed; where it was seen closed before, the source gave none
@@ -39,3 +52,7 @@ module _ {W S : Type 0} (sent : W → List ℕ) (saw : W → Bool) (woken : W �
       (saw w) (saw failed.left.0)
       × (FailsOnce fails failed.left.0 failed.error ⊎ IsIo failed.error)
       × (woken w → woken failed.left.0)
+
+  -- what the future may give, of the ends that it holds
+  abbrev pub GivesFilled : Filling W S → Result (W × S × Copied) (Failed (W × S)) → Type 0
+  GivesFilled future output = IsSomeAnd future.state (λ state. FilledAll state.0 state.1 output)

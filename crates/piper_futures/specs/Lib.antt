@@ -2,6 +2,7 @@ pub mod Carrying
 pub mod Draining
 pub mod Filling
 pub mod Moving
+pub mod Polling
 pub mod Reading
 pub mod Threads
 pub mod Until

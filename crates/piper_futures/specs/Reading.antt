@@ -1,5 +1,5 @@
 -- What a future that reads gives.
-use Rattle.std.specs.Prelude.{◌≡◌, ℕ, ◌<◌, ◌≤◌, Bool, List, length, Some, Result, Ok, Err, Vec}
+use Rattle.std.specs.Prelude.{◌≡◌, ℕ, ◌<◌, ◌≤◌, Bool, List, length, Option, Some, IsSomeAnd, Result, Ok, Err, Vec}
 use Rattle.std.specs.declared.alloc.Global.{Global}
 use Rattle.futures.specs.declared.task.context.Context.{Context}
 use Rattle.piper.specs.declared.error.PipeError.{PipeError}
@@ -53,6 +53,32 @@ module _ {R : Type 0} (taken known : R → List ℕ) (saw told : R → Bool) (wo
       ReadsOn r bytes.items failed.left.0 failed.left.1.items
       × IsReported failed.error (FailsOnce fails failed.left.0) (0 < length (known failed.left.0))
 
+-- the reader that a future holds, with the bytes that came
+abbrev pub once_ends : {R : Type 0} → ReadOnce R → Option (R × Vec ℕ Global)
+once_ends future = future.state
+
+abbrev pub exact_ends : {R : Type 0} → ReadExact R → Option (R × Vec ℕ Global)
+exact_ends future = future.state
+
+abbrev pub all_ends : {R : Type 0} → ReadToEnd R → Option (R × Vec ℕ Global)
+all_ends future = future.state
+
+-- no more bytes came than are wanted
+abbrev pub WantsMore : {R : Type 0} → ReadExact R → Type 0
+WantsMore future = IsSomeAnd future.state (λ state. length state.1.items ≤ future.size)
+
+-- what a future may give, of the reader that it holds
+module _ {R : Type 0} (taken known : R → List ℕ) (saw told : R → Bool) (woken : R → Type 0)
+    (fails : R → Context → PipeError → Type 0) where
+  abbrev pub GivesAll : ReadToEnd R → Result (R × Vec ℕ Global) (Failed (R × Vec ℕ Global)) → Type 0
+  GivesAll future output = IsSomeAnd future.state (λ state.
+      ReadAll taken known saw told woken fails state.0 state.1 output)
+
+  abbrev pub GivesExact : ReadExact R → Result (R × Vec ℕ Global) (Failed (R × Vec ℕ Global))
+      → Type 0
+  GivesExact future output = IsSomeAnd future.state (λ state.
+      ReadUpTo taken known saw told woken future.size fails state.0 state.1 output)
+
 -- what was read at once is at the front of the places, and the rest of them stays; or the reader
 -- failed, and gave nothing
 module _ {R : Type 0} (taken : R → List ℕ) (saw told : R → Bool) (woken : R → Type 0)
@@ -65,3 +91,7 @@ module _ {R : Type 0} (taken : R → List ℕ) (saw told : R → Bool) (woken : 
   ReadSome r places (Err failed) =
       (taken failed.left.0 ≡ taken r) × (failed.left.1.items ≡ places)
       × FailsOnce fails failed.left.0 failed.error × ReaderStays told woken r failed.left.0
+
+  abbrev pub GivesOnce : ReadOnce R → Result (R × Vec ℕ Global × ℕ) (Failed (R × Vec ℕ Global))
+      → Type 0
+  GivesOnce future output = IsSomeAnd future.state (λ state. ReadSome state.0 state.1.items output)

@@ -1,5 +1,5 @@
 -- What a read through a delimiter gives.
-use Rattle.std.specs.Prelude.{◌≡◌, ◌≢◌, ◌<◌, ◌⊎◌, ℕ, Bool, true, false, List, [], ◌∷◌, ◌++◌, All, length, Some, Result, Ok, Err, Vec}
+use Rattle.std.specs.Prelude.{◌≡◌, ◌≢◌, ◌<◌, ◌⊎◌, ℕ, Bool, true, false, List, [], ◌∷◌, ◌++◌, All, length, Option, Some, IsSomeAnd, Result, Ok, Err, Vec}
 use Rattle.std.specs.declared.alloc.Global.{Global}
 use Rattle.futures.specs.declared.task.context.Context.{Context}
 use Rattle.futures.specs.declared.task.Poll.{Poll}
@@ -16,6 +16,10 @@ use Rattle.piper_futures.specs.declared.read_through.ReadUntil.{ReadUntil}
 abbrev pub StartsReadingThrough : {R : Type 0} → ReadUntil R → R → ℕ → Vec ℕ Global → Type 0
 StartsReadingThrough future reader byte bytes =
     (future.state ≡ Some (reader, bytes)) × (future.byte ≡ byte)
+
+-- the reader that the future holds, with the bytes that came
+abbrev pub until_ends : {R : Type 0} → ReadUntil R → Option (R × Vec ℕ Global)
+until_ends future = future.state
 
 -- none of the bytes is the delimiter
 abbrev pub Lacks : ℕ → List ℕ → Type 0
@@ -45,14 +49,20 @@ Reaches answer byte taken_before taken_after before after known saw =
 -- the bytes that came are those through the first delimiter, or all up to the end;
 -- or the reader failed, or memory was refused where more was known
 module _ {R : Type 0} (taken known : R → List ℕ) (saw told : R → Bool) (woken : R → Type 0)
-    (fails : R → Context → PipeError → Type 0) (byte : ℕ) where
-  abbrev pub ReadThrough : R → Vec ℕ Global
+    (fails : R → Context → PipeError → Type 0) where
+  abbrev pub ReadThrough : ℕ → R → Vec ℕ Global
       → Result (R × Vec ℕ Global) (Failed (R × Vec ℕ Global)) → Type 0
-  ReadThrough r bytes (Ok done) =
+  ReadThrough byte r bytes (Ok done) =
       GrowsBy (taken r) (taken done.0) bytes.items done.1.items (λ more.
       IsThrough byte more ⊎ (Lacks byte more × AtEnd (known done.0) (saw done.0)))
       × ReaderStays told woken r done.0
-  ReadThrough r bytes (Err failed) =
+  ReadThrough byte r bytes (Err failed) =
       GrowsBy (taken r) (taken failed.left.0) bytes.items failed.left.1.items (Lacks byte)
       × IsReported failed.error (FailsOnce fails failed.left.0) (0 < length (known failed.left.0))
       × ReaderStays told woken r failed.left.0
+
+  -- what the future may give, of the reader that it holds
+  abbrev pub GivesThrough : ReadUntil R → Result (R × Vec ℕ Global) (Failed (R × Vec ℕ Global))
+      → Type 0
+  GivesThrough future output = IsSomeAnd future.state (λ state.
+      ReadThrough future.byte state.0 state.1 output)

@@ -1,5 +1,5 @@
 -- What a future that writes gives.
-use Rattle.std.specs.Prelude.{◌≡◌, ℕ, ◌<◌, ◌≤◌, Bool, true, List, drop, length, Some, Result, Ok, Err}
+use Rattle.std.specs.Prelude.{◌≡◌, ℕ, ◌<◌, ◌≤◌, Bool, true, List, drop, length, Option, Some, IsSome, IsSomeAnd, Result, Ok, Err, ⊤}
 use Rattle.futures.specs.declared.task.context.Context.{Context}
 use Rattle.piper.specs.declared.error.PipeError.{PipeError}
 use Rattle.piper_lines.specs.Sends.{Sends}
@@ -21,6 +21,20 @@ StartsFlushing future writer = future.writer ≡ Some writer
 -- it is about to close it
 abbrev pub StartsClosing : {W : Type 0} → Closing W → W → Type 0
 StartsClosing future writer = future.writer ≡ Some writer
+
+-- the writer that a future holds
+abbrev pub write_end : {W : Type 0} → WriteAll W → Option W
+write_end future = future.writer
+
+abbrev pub flush_end : {W : Type 0} → Flushing W → Option W
+flush_end future = future.writer
+
+abbrev pub close_end : {W : Type 0} → Closing W → Option W
+close_end future = future.writer
+
+-- there is a writer, and no more bytes are counted as written than there are
+abbrev pub WritesWithin : {W : Type 0} → WriteAll W → Type 0
+WritesWithin future = IsSome future.writer × (future.written ≤ length future.bytes.now)
 
 -- the error is the end's own, in some poll
 abbrev pub FailsOnce : {E : Type 0} → (E → Context → PipeError → Type 0) → E → PipeError → Type 0
@@ -50,3 +64,19 @@ module _ {W : Type 0} (sent : W → List ℕ) (saw : W → Bool) (woken : W → 
       → Result W (Failed W) → Type 0
   ComesBack fails P w (Ok done) = Idles w done × P done
   ComesBack fails P w (Err failed) = Idles w failed.left × FailsOnce fails failed.left failed.error
+
+  -- what a future may give, of the writer that it holds
+  abbrev pub GivesWritten : (W → Context → PipeError → Type 0) → WriteAll W
+      → Result (W × ℕ) (Failed (W × ℕ)) → Type 0
+  GivesWritten fails future output = IsSomeAnd future.writer (λ writer.
+      WroteAll fails future.bytes.now writer future.written output)
+
+  abbrev pub GivesFlushed : (W → Context → PipeError → Type 0) → Flushing W
+      → Result W (Failed W) → Type 0
+  GivesFlushed fails future output = IsSomeAnd future.writer (λ writer.
+      ComesBack fails (λ _. ⊤) writer output)
+
+  abbrev pub GivesClosed : (W → Context → PipeError → Type 0) → Closing W
+      → Result W (Failed W) → Type 0
+  GivesClosed fails future output = IsSomeAnd future.writer (λ writer.
+      ComesBack fails (λ closed. saw closed ≡ true) writer output)

@@ -1,6 +1,8 @@
 //! All bytes of a reader, copied to a writer.
-ghost use Rattle.std.specs.Prelude.{IsSome, IsSomeAnd};
-ghost use Rattle.piper_futures.specs.Carrying.{CopiedAll, StartsCopy};
+ghost use Rattle.std.specs.Prelude.{IsSome};
+ghost use Rattle.futures.specs.Poll.{IfReady, OnPending};
+ghost use Rattle.futures.specs.Task.{IsArmed, Keeps};
+ghost use Rattle.piper_futures.specs.Carrying.{CopyWaits, GivesCopied, StartsCopy, copy_ends};
 
 use crate::failed::Failed;
 use futures::Future;
@@ -31,12 +33,26 @@ pub fn copy<R: AsyncBufRead + Drop, W: AsyncWrite + Drop>(reader: R, writer: W) 
 impl<R: AsyncBufRead + Drop, W: AsyncWrite + Drop> Future for Copying<R, W> {
     type Output = Result<(R, W, Copied), Failed<(R, W)>>;
 
-    ghost can_poll = { λ future. IsSome future.state };
+    ghost can_poll = { λ future. IsSome (copy_ends future) };
 
-    ghost gives = { λ future output. IsSomeAnd future.state (λ state.
-        CopiedAll R.taken R.known R.saw R.fails W.sent W.saw W.fails state.0 state.1 output) };
+    ghost gives = { GivesCopied R.taken R.known R.saw R.told R.woken R.fails
+        W.sent W.saw W.woken W.fails };
 
-    fn poll(&mut self, cx: &mut Context<'_>) -> Poll<Self::Output> {
+    fn poll(&mut self, cx: &mut Context<'_>) -> Poll<Self::Output>
+        requires { IsSome (copy_ends self.old) }
+        ensures value { IfReady result (GivesCopied R.taken R.known R.saw R.told R.woken R.fails
+            W.sent W.saw W.woken W.fails self.old) }
+        ensures again { OnPending result (IsSome (copy_ends self.new)) }
+        ensures same { OnPending result ((x : _) →
+            GivesCopied R.taken R.known R.saw R.told R.woken R.fails
+            W.sent W.saw W.woken W.fails self.new x
+            → GivesCopied R.taken R.known R.saw R.told R.woken R.fails
+            W.sent W.saw W.woken W.fails self.old x) }
+        ensures registered { OnPending result (IsArmed cx.new) }
+        ensures waits { OnPending result (CopyWaits R.taken R.waits W.waits
+            (copy_ends self.old) (copy_ends self.new) cx.new) }
+        ensures kept { Keeps cx.old cx.new }
+    {
         let Some((reader, writer)) = &mut self.state else {
             unreachable!()
         };

@@ -1,12 +1,13 @@
 //! All bytes of a reader, moved into a writer of std.
-ghost use Rattle.std.specs.Prelude.{◌≡◌, ◌<◌, ◌⊎◌, length, IsSome, IsSomeAnd, Ok};
+ghost use Rattle.std.specs.Prelude.{◌≡◌, ◌<◌, ◌⊎◌, length, IsSome, Ok};
 ghost use Rattle.futures.specs.Task.{Covers, Keeps};
-ghost use Rattle.futures.specs.Poll.{OnPending};
+ghost use Rattle.futures.specs.Poll.{IfReady, OnPending};
 ghost use Rattle.piper.specs.Polls.{IfReadyErr};
 ghost use Rattle.piper_lines.specs.AtEnd.{AtEnd};
 ghost use Rattle.piper_lines.specs.Stays.{Pends, ReaderStays};
-ghost use Rattle.piper_futures.specs.Draining.{DrainedAll, DrainsOn, StartsDraining};
+ghost use Rattle.piper_futures.specs.Draining.{DrainsOn, GivesDrained, StartsDraining, drain_ends};
 ghost use Rattle.piper_futures.specs.Moving.{IsIo};
+ghost use Rattle.piper_futures.specs.Polling.{Needs, WaitsOrTook};
 
 use crate::debug::moving;
 use crate::failed::Failed;
@@ -43,15 +44,24 @@ pub fn drain_into<R: AsyncBufRead + Drop, D: Write + Drop>(reader: R, dest: D) -
 impl<R: AsyncBufRead + Drop, D: Write + Drop> Future for Draining<R, D> {
     type Output = Result<(R, D), Failed<(R, D)>>;
 
-    ghost can_poll = { λ future. IsSome future.state };
+    ghost can_poll = { λ future. IsSome (drain_ends future) };
 
-    ghost needs = { λ future s. IsSomeAnd future.state (λ state. R.needs state.0 s) };
+    ghost needs = { λ future. Needs R.needs (drain_ends future) };
 
-    ghost gives = { λ future output. IsSomeAnd future.state (λ state.
-        DrainedAll R.taken R.known R.saw R.told R.woken R.fails D.contents
-        state.0 state.1 output) };
+    ghost gives = { GivesDrained R.taken R.known R.saw R.told R.woken R.fails D.contents };
 
-    fn poll(&mut self, cx: &mut Context<'_>) -> Poll<Self::Output> {
+    fn poll(&mut self, cx: &mut Context<'_>) -> Poll<Self::Output>
+        requires { IsSome (drain_ends self.old) }
+        ensures value { IfReady result
+            (GivesDrained R.taken R.known R.saw R.told R.woken R.fails D.contents self.old) }
+        ensures again { OnPending result (IsSome (drain_ends self.new)) }
+        ensures same { OnPending result ((x : _) → GivesDrained R.taken R.known R.saw R.told R.woken R.fails D.contents self.new x
+            → GivesDrained R.taken R.known R.saw R.told R.woken R.fails D.contents self.old x) }
+        ensures registered { OnPending result (Covers cx.new (Needs R.needs (drain_ends self.new))) }
+        ensures waits { OnPending result (WaitsOrTook R.taken R.known R.told R.waits
+            (drain_ends self.old) (drain_ends self.new) cx.new) }
+        ensures kept { Keeps cx.old cx.new }
+    {
         let Some((reader, dest)) = &mut self.state else {
             unreachable!()
         };
@@ -84,7 +94,7 @@ pub fn poll_drain_into<R: AsyncBufRead, D: Write>(
     ensures error { IfReadyErr result (λ e. R.fails reader.new cx.new e
         ⊎ (IsIo e × (0 < length (R.known reader.new)))) }
     ensures stays { ReaderStays R.told R.woken reader.old reader.new }
-    ensures pends { OnPending result (Pends (R.known reader.new) (R.told reader.new)
+    ensures pends { OnPending result (Pends R.known R.told R.waits reader.new
         (length (R.taken reader.old) < length (R.taken reader.new)) cx.new) }
     ensures covered { OnPending result (Covers cx.new (R.needs reader.new)) }
     ensures kept { Keeps cx.old cx.new }

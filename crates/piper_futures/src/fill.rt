@@ -2,12 +2,13 @@
 ghost use Rattle.std.specs.Prelude.{◌≡◌, ◌⊎◌, IsSome, IsSomeAnd, true, false, Ok};
 ghost use Rattle.std.specs.Io.KnownBytes.{IsAtEnd};
 ghost use Rattle.futures.specs.Task.{Covers, Keeps};
-ghost use Rattle.futures.specs.Poll.{OnPending};
+ghost use Rattle.futures.specs.Poll.{IfReady, OnPending};
 ghost use Rattle.piper.specs.Handles.{NotifiesReader};
 ghost use Rattle.piper.specs.OfWriter.{saw, sent};
 ghost use Rattle.piper.specs.Polls.{IfReadyErr};
-ghost use Rattle.piper_futures.specs.Filling.{FilledAll, FillsOn, StartsFilling};
+ghost use Rattle.piper_futures.specs.Filling.{FillsOn, FillWaits, GivesFilled, StartsFilling, fill_ends};
 ghost use Rattle.piper_futures.specs.Moving.{IsIo};
+ghost use Rattle.piper_futures.specs.Polling.{Needs};
 
 use crate::debug::moving;
 use crate::failed::Failed;
@@ -39,6 +40,7 @@ pub trait AsyncFill: AsyncWrite {
         ensures closed { result ≡ Poll.Ready (Ok Copied.UntilClosed) → Self.saw self.new ≡ true }
         ensures error { IfReadyErr result (λ e. Self.fails self.new cx.new e ⊎ IsIo e) }
         ensures pending { OnPending result (Covers cx.new (Self.needs self.new)
+            × FillWaits Self.sent Self.saw Self.waits self.old self.new cx.new
             × ¬ (Self.saw self.old ≡ true)) }
         ensures woken { Self.woken self.old → Self.woken self.new }
         ensures kept { Keeps cx.old cx.new };
@@ -121,14 +123,24 @@ pub fn fill_from<W: AsyncFill + Drop, S: Read + Drop>(writer: W, source: S) -> F
 impl<W: AsyncFill + Drop, S: Read + Drop> Future for Filling<W, S> {
     type Output = Result<(W, S, Copied), Failed<(W, S)>>;
 
-    ghost can_poll = { λ future. IsSome future.state };
+    ghost can_poll = { λ future. IsSome (fill_ends future) };
 
-    ghost needs = { λ future s. IsSomeAnd future.state (λ state. W.needs state.0 s) };
+    ghost needs = { λ future. Needs W.needs (fill_ends future) };
 
-    ghost gives = { λ future output. IsSomeAnd future.state (λ state.
-        FilledAll W.sent W.saw W.woken W.fails S.remaining state.0 state.1 output) };
+    ghost gives = { GivesFilled W.sent W.saw W.woken W.fails S.remaining };
 
-    fn poll(&mut self, cx: &mut Context<'_>) -> Poll<Self::Output> {
+    fn poll(&mut self, cx: &mut Context<'_>) -> Poll<Self::Output>
+        requires { IsSome (fill_ends self.old) }
+        ensures value { IfReady result
+            (GivesFilled W.sent W.saw W.woken W.fails S.remaining self.old) }
+        ensures again { OnPending result (IsSome (fill_ends self.new)) }
+        ensures same { OnPending result ((x : _) → GivesFilled W.sent W.saw W.woken W.fails S.remaining self.new x
+            → GivesFilled W.sent W.saw W.woken W.fails S.remaining self.old x) }
+        ensures registered { OnPending result (Covers cx.new (Needs W.needs (fill_ends self.new))) }
+        ensures waits { OnPending result (IsSomeAnd (fill_ends self.old) (λ a. IsSomeAnd (fill_ends self.new)
+            (λ b. FillWaits W.sent W.saw W.waits a.0 b.0 cx.new))) }
+        ensures kept { Keeps cx.old cx.new }
+    {
         let Some((writer, source)) = &mut self.state else {
             unreachable!()
         };

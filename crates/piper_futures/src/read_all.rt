@@ -1,13 +1,14 @@
 //! All bytes of a reader.
-ghost use Rattle.std.specs.Prelude.{◌≡◌, ◌<◌, length, Ok, IsSome, IsSomeAnd};
+ghost use Rattle.std.specs.Prelude.{◌≡◌, ◌<◌, length, Ok, IsSome};
 ghost use Rattle.futures.specs.Task.{Covers, Keeps};
-ghost use Rattle.futures.specs.Poll.{OnPending};
+ghost use Rattle.futures.specs.Poll.{IfReady, OnPending};
 ghost use Rattle.piper.specs.Polls.{IfReadyErr};
 ghost use Rattle.piper_lines.specs.AtEnd.{AtEnd};
 ghost use Rattle.piper_lines.specs.Moves.{Grows};
 ghost use Rattle.piper_lines.specs.Refusals.{IsReported};
 ghost use Rattle.piper_lines.specs.Stays.{Pends, ReaderStays};
-ghost use Rattle.piper_futures.specs.Reading.{ReadAll, StartsReadingAll};
+ghost use Rattle.piper_futures.specs.Polling.{Needs, WaitsOrTook};
+ghost use Rattle.piper_futures.specs.Reading.{GivesAll, StartsReadingAll, all_ends};
 
 use crate::debug::gathering;
 use crate::failed::Failed;
@@ -41,14 +42,24 @@ pub fn read_to_end<R: AsyncBufRead + Drop>(reader: R, bytes: Vec<u8>) -> ReadToE
 impl<R: AsyncBufRead + Drop> Future for ReadToEnd<R> {
     type Output = Result<(R, Vec<u8>), Failed<(R, Vec<u8>)>>;
 
-    ghost can_poll = { λ future. IsSome future.state };
+    ghost can_poll = { λ future. IsSome (all_ends future) };
 
-    ghost needs = { λ future s. IsSomeAnd future.state (λ state. R.needs state.0 s) };
+    ghost needs = { λ future. Needs R.needs (all_ends future) };
 
-    ghost gives = { λ future output. IsSomeAnd future.state (λ state.
-        ReadAll R.taken R.known R.saw R.told R.woken R.fails state.0 state.1 output) };
+    ghost gives = { GivesAll R.taken R.known R.saw R.told R.woken R.fails };
 
-    fn poll(&mut self, cx: &mut Context<'_>) -> Poll<Self::Output> {
+    fn poll(&mut self, cx: &mut Context<'_>) -> Poll<Self::Output>
+        requires { IsSome (all_ends self.old) }
+        ensures value { IfReady result
+            (GivesAll R.taken R.known R.saw R.told R.woken R.fails self.old) }
+        ensures again { OnPending result (IsSome (all_ends self.new)) }
+        ensures same { OnPending result ((x : _) → GivesAll R.taken R.known R.saw R.told R.woken R.fails self.new x
+            → GivesAll R.taken R.known R.saw R.told R.woken R.fails self.old x) }
+        ensures registered { OnPending result (Covers cx.new (Needs R.needs (all_ends self.new))) }
+        ensures waits { OnPending result (WaitsOrTook R.taken R.known R.told R.waits
+            (all_ends self.old) (all_ends self.new) cx.new) }
+        ensures kept { Keeps cx.old cx.new }
+    {
         let Some((reader, bytes)) = &mut self.state else {
             unreachable!()
         };
@@ -80,7 +91,7 @@ pub fn poll_read_to_end<R: AsyncBufRead>(
     ensures error { IfReadyErr result (λ e. IsReported e (R.fails reader.new cx.new)
         (0 < length (R.known reader.new))) }
     ensures stays { ReaderStays R.told R.woken reader.old reader.new }
-    ensures pends { OnPending result (Pends (R.known reader.new) (R.told reader.new)
+    ensures pends { OnPending result (Pends R.known R.told R.waits reader.new
         (length (R.taken reader.old) < length (R.taken reader.new)) cx.new) }
     ensures covered { OnPending result (Covers cx.new (R.needs reader.new)) }
     ensures kept { Keeps cx.old cx.new }

@@ -1,6 +1,9 @@
 //! What a reader has now.
-ghost use Rattle.std.specs.Prelude.{IsSome, IsSomeAnd};
-ghost use Rattle.piper_futures.specs.Reading.{ReadSome, StartsReading};
+ghost use Rattle.std.specs.Prelude.{IsSome};
+ghost use Rattle.futures.specs.Poll.{IfReady, OnPending};
+ghost use Rattle.futures.specs.Task.{Covers, Keeps};
+ghost use Rattle.piper_futures.specs.Polling.{Needs, Waits};
+ghost use Rattle.piper_futures.specs.Reading.{GivesOnce, StartsReading, once_ends};
 
 use crate::debug::gathering;
 use crate::failed::Failed;
@@ -30,14 +33,23 @@ pub fn read<R: AsyncRead + Drop>(reader: R, places: Vec<u8>) -> ReadOnce<R>
 impl<R: AsyncRead + Drop> Future for ReadOnce<R> {
     type Output = Result<(R, Vec<u8>, usize), Failed<(R, Vec<u8>)>>;
 
-    ghost can_poll = { λ future. IsSome future.state };
+    ghost can_poll = { λ future. IsSome (once_ends future) };
 
-    ghost needs = { λ future s. IsSomeAnd future.state (λ state. R.needs state.0 s) };
+    ghost needs = { λ future. Needs R.needs (once_ends future) };
 
-    ghost gives = { λ future output. IsSomeAnd future.state (λ state.
-        ReadSome R.taken R.saw R.told R.woken R.fails state.0 state.1.items output) };
+    ghost gives = { GivesOnce R.taken R.saw R.told R.woken R.fails };
 
-    fn poll(&mut self, cx: &mut Context<'_>) -> Poll<Self::Output> {
+    fn poll(&mut self, cx: &mut Context<'_>) -> Poll<Self::Output>
+        requires { IsSome (once_ends self.old) }
+        ensures value { IfReady result
+            (GivesOnce R.taken R.saw R.told R.woken R.fails self.old) }
+        ensures again { OnPending result (IsSome (once_ends self.new)) }
+        ensures same { OnPending result ((x : _) → GivesOnce R.taken R.saw R.told R.woken R.fails self.new x
+            → GivesOnce R.taken R.saw R.told R.woken R.fails self.old x) }
+        ensures registered { OnPending result (Covers cx.new (Needs R.needs (once_ends self.new))) }
+        ensures waits { OnPending result (Waits R.waits (once_ends self.new) cx.new) }
+        ensures kept { Keeps cx.old cx.new }
+    {
         let Some((reader, places)) = &mut self.state else {
             unreachable!()
         };

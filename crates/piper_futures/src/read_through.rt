@@ -1,11 +1,12 @@
 //! Bytes through a delimiter.
-ghost use Rattle.std.specs.Prelude.{◌≡◌, ◌<◌, ◌≤◌, length, take, Ok, true, false, IsSome, IsSomeAnd, MatchBool};
+ghost use Rattle.std.specs.Prelude.{◌≡◌, ◌<◌, ◌≤◌, length, take, Ok, true, false, IsSome, MatchBool};
 ghost use Rattle.futures.specs.Task.{Covers, Keeps};
-ghost use Rattle.futures.specs.Poll.{OnPending};
+ghost use Rattle.futures.specs.Poll.{IfReady, OnPending};
 ghost use Rattle.piper.specs.Polls.{IfReadyErr};
 ghost use Rattle.piper_lines.specs.Refusals.{IsReported};
 ghost use Rattle.piper_lines.specs.Stays.{Pends, ReaderStays};
-ghost use Rattle.piper_futures.specs.Until.{IsThrough, Lacks, ReadThrough, Reaches, StartsReadingThrough};
+ghost use Rattle.piper_futures.specs.Polling.{Needs, WaitsOrTook};
+ghost use Rattle.piper_futures.specs.Until.{GivesThrough, IsThrough, Lacks, Reaches, StartsReadingThrough, until_ends};
 
 use crate::debug::gathering;
 use crate::failed::Failed;
@@ -44,15 +45,24 @@ pub fn read_until<R: AsyncBufRead + Drop>(reader: R, byte: u8, bytes: Vec<u8>) -
 impl<R: AsyncBufRead + Drop> Future for ReadUntil<R> {
     type Output = Result<(R, Vec<u8>), Failed<(R, Vec<u8>)>>;
 
-    ghost can_poll = { λ future. IsSome future.state };
+    ghost can_poll = { λ future. IsSome (until_ends future) };
 
-    ghost needs = { λ future s. IsSomeAnd future.state (λ state. R.needs state.0 s) };
+    ghost needs = { λ future. Needs R.needs (until_ends future) };
 
-    ghost gives = { λ future output. IsSomeAnd future.state (λ state.
-        ReadThrough R.taken R.known R.saw R.told R.woken R.fails future.byte
-        state.0 state.1 output) };
+    ghost gives = { GivesThrough R.taken R.known R.saw R.told R.woken R.fails };
 
-    fn poll(&mut self, cx: &mut Context<'_>) -> Poll<Self::Output> {
+    fn poll(&mut self, cx: &mut Context<'_>) -> Poll<Self::Output>
+        requires { IsSome (until_ends self.old) }
+        ensures value { IfReady result
+            (GivesThrough R.taken R.known R.saw R.told R.woken R.fails self.old) }
+        ensures again { OnPending result (IsSome (until_ends self.new)) }
+        ensures same { OnPending result ((x : _) → GivesThrough R.taken R.known R.saw R.told R.woken R.fails self.new x
+            → GivesThrough R.taken R.known R.saw R.told R.woken R.fails self.old x) }
+        ensures registered { OnPending result (Covers cx.new (Needs R.needs (until_ends self.new))) }
+        ensures waits { OnPending result (WaitsOrTook R.taken R.known R.told R.waits
+            (until_ends self.old) (until_ends self.new) cx.new) }
+        ensures kept { Keeps cx.old cx.new }
+    {
         let Some((reader, bytes)) = &mut self.state else {
             unreachable!()
         };
@@ -84,7 +94,7 @@ pub fn poll_read_until<R: AsyncBufRead>(
     ensures error { IfReadyErr result (λ e. IsReported e (R.fails reader.new cx.new)
         (0 < length (R.known reader.new))) }
     ensures stays { ReaderStays R.told R.woken reader.old reader.new }
-    ensures pends { OnPending result (Pends (R.known reader.new) (R.told reader.new)
+    ensures pends { OnPending result (Pends R.known R.told R.waits reader.new
         (length (R.taken reader.old) < length (R.taken reader.new)) cx.new) }
     ensures covered { OnPending result (Covers cx.new (R.needs reader.new)) }
     ensures kept { Keeps cx.old cx.new }

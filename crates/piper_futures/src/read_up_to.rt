@@ -1,6 +1,9 @@
 //! A number of bytes.
-ghost use Rattle.std.specs.Prelude.{◌≤◌, length, IsSomeAnd};
-ghost use Rattle.piper_futures.specs.Reading.{ReadUpTo, StartsReadingUpTo};
+ghost use Rattle.std.specs.Prelude.{◌≤◌, length};
+ghost use Rattle.futures.specs.Poll.{IfReady, OnPending};
+ghost use Rattle.futures.specs.Task.{Covers, Keeps};
+ghost use Rattle.piper_futures.specs.Polling.{Needs, Waits};
+ghost use Rattle.piper_futures.specs.Reading.{GivesExact, StartsReadingUpTo, WantsMore, exact_ends};
 
 use crate::debug::gathering;
 use crate::failed::Failed;
@@ -35,15 +38,23 @@ pub fn read_exact<R: AsyncBufRead + Drop>(reader: R, bytes: Vec<u8>, size: usize
 impl<R: AsyncBufRead + Drop> Future for ReadExact<R> {
     type Output = Result<(R, Vec<u8>), Failed<(R, Vec<u8>)>>;
 
-    ghost can_poll = { λ future. IsSomeAnd future.state (λ state.
-        length state.1.items ≤ future.size) };
+    ghost can_poll = { WantsMore };
 
-    ghost needs = { λ future s. IsSomeAnd future.state (λ state. R.needs state.0 s) };
+    ghost needs = { λ future. Needs R.needs (exact_ends future) };
 
-    ghost gives = { λ future output. IsSomeAnd future.state (λ state.
-        ReadUpTo R.taken R.known R.saw R.told R.woken future.size R.fails state.0 state.1 output) };
+    ghost gives = { GivesExact R.taken R.known R.saw R.told R.woken R.fails };
 
-    fn poll(&mut self, cx: &mut Context<'_>) -> Poll<Self::Output> {
+    fn poll(&mut self, cx: &mut Context<'_>) -> Poll<Self::Output>
+        requires { WantsMore self.old }
+        ensures value { IfReady result
+            (GivesExact R.taken R.known R.saw R.told R.woken R.fails self.old) }
+        ensures again { OnPending result (WantsMore self.new) }
+        ensures same { OnPending result ((x : _) → GivesExact R.taken R.known R.saw R.told R.woken R.fails self.new x
+            → GivesExact R.taken R.known R.saw R.told R.woken R.fails self.old x) }
+        ensures registered { OnPending result (Covers cx.new (Needs R.needs (exact_ends self.new))) }
+        ensures waits { OnPending result (Waits R.waits (exact_ends self.new) cx.new) }
+        ensures kept { Keeps cx.old cx.new }
+    {
         let Some((reader, bytes)) = &mut self.state else {
             unreachable!()
         };

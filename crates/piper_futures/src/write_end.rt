@@ -1,6 +1,8 @@
 //! A writer's flush and its close.
-ghost use Rattle.std.specs.Prelude.{◌≡◌, true, IsSome, IsSomeAnd, ⊤};
-ghost use Rattle.piper_futures.specs.Writing.{ComesBack, StartsFlushing, StartsClosing};
+ghost use Rattle.std.specs.Prelude.{IsSome, IsSomeAnd};
+ghost use Rattle.futures.specs.Poll.{IfReady, OnPending};
+ghost use Rattle.futures.specs.Task.{Covers, Keeps};
+ghost use Rattle.piper_futures.specs.Writing.{GivesClosed, GivesFlushed, StartsClosing, StartsFlushing, close_end, flush_end};
 
 use crate::failed::Failed;
 use futures::Future;
@@ -40,14 +42,25 @@ pub fn close<W: AsyncWrite + Drop>(writer: W) -> Closing<W>
 impl<W: AsyncWrite + Drop> Future for Flushing<W> {
     type Output = Result<W, Failed<W>>;
 
-    ghost can_poll = { λ future. IsSome future.writer };
+    ghost can_poll = { λ future. IsSome (flush_end future) };
 
-    ghost needs = { λ future s. IsSomeAnd future.writer (λ writer. W.needs writer s) };
+    ghost needs = { λ future s. IsSomeAnd (flush_end future) (λ writer. W.needs writer s) };
 
-    ghost gives = { λ future output. IsSomeAnd future.writer (λ writer.
-        ComesBack W.sent W.saw W.woken W.fails (λ _. ⊤) writer output) };
+    ghost gives = { GivesFlushed W.sent W.saw W.woken W.fails };
 
-    fn poll(&mut self, cx: &mut Context<'_>) -> Poll<Self::Output> {
+    fn poll(&mut self, cx: &mut Context<'_>) -> Poll<Self::Output>
+        requires { IsSome (flush_end self.old) }
+        ensures value { IfReady result
+            (GivesFlushed W.sent W.saw W.woken W.fails self.old) }
+        ensures again { OnPending result (IsSome (flush_end self.new)) }
+        ensures same { OnPending result ((x : _) → GivesFlushed W.sent W.saw W.woken W.fails self.new x
+            → GivesFlushed W.sent W.saw W.woken W.fails self.old x) }
+        ensures registered { OnPending result (Covers cx.new (λ s. IsSomeAnd (flush_end self.new)
+            (λ writer. W.needs writer s))) }
+        ensures waits { OnPending result (IsSomeAnd (flush_end self.new)
+            (λ writer. W.waits writer cx.new)) }
+        ensures kept { Keeps cx.old cx.new }
+    {
         let Some(writer) = &mut self.writer else {
             unreachable!()
         };
@@ -65,14 +78,25 @@ impl<W: AsyncWrite + Drop> Future for Flushing<W> {
 impl<W: AsyncWrite + Drop> Future for Closing<W> {
     type Output = Result<W, Failed<W>>;
 
-    ghost can_poll = { λ future. IsSome future.writer };
+    ghost can_poll = { λ future. IsSome (close_end future) };
 
-    ghost needs = { λ future s. IsSomeAnd future.writer (λ writer. W.needs writer s) };
+    ghost needs = { λ future s. IsSomeAnd (close_end future) (λ writer. W.needs writer s) };
 
-    ghost gives = { λ future output. IsSomeAnd future.writer (λ writer.
-        ComesBack W.sent W.saw W.woken W.fails (λ closed. W.saw closed ≡ true) writer output) };
+    ghost gives = { GivesClosed W.sent W.saw W.woken W.fails };
 
-    fn poll(&mut self, cx: &mut Context<'_>) -> Poll<Self::Output> {
+    fn poll(&mut self, cx: &mut Context<'_>) -> Poll<Self::Output>
+        requires { IsSome (close_end self.old) }
+        ensures value { IfReady result
+            (GivesClosed W.sent W.saw W.woken W.fails self.old) }
+        ensures again { OnPending result (IsSome (close_end self.new)) }
+        ensures same { OnPending result ((x : _) → GivesClosed W.sent W.saw W.woken W.fails self.new x
+            → GivesClosed W.sent W.saw W.woken W.fails self.old x) }
+        ensures registered { OnPending result (Covers cx.new (λ s. IsSomeAnd (close_end self.new)
+            (λ writer. W.needs writer s))) }
+        ensures waits { OnPending result (IsSomeAnd (close_end self.new)
+            (λ writer. W.waits writer cx.new)) }
+        ensures kept { Keeps cx.old cx.new }
+    {
         let Some(writer) = &mut self.writer else {
             unreachable!()
         };

@@ -1,6 +1,8 @@
 //! Bytes, written whole.
-ghost use Rattle.std.specs.Prelude.{◌≤◌, length, IsSome, IsSomeAnd};
-ghost use Rattle.piper_futures.specs.Writing.{WroteAll, StartsWriting};
+ghost use Rattle.std.specs.Prelude.{IsSomeAnd};
+ghost use Rattle.futures.specs.Poll.{IfReady, OnPending};
+ghost use Rattle.futures.specs.Task.{Covers, Keeps};
+ghost use Rattle.piper_futures.specs.Writing.{GivesWritten, StartsWriting, WritesWithin, write_end};
 
 use crate::failed::Failed;
 use futures::Future;
@@ -35,15 +37,25 @@ pub fn write_all<'a, W: AsyncWrite + Drop>(writer: W, bytes: &'a [u8]) -> WriteA
 impl<W: AsyncWrite + Drop> Future for WriteAll<'_, W> {
     type Output = Result<(W, usize), Failed<(W, usize)>>;
 
-    ghost can_poll = { λ future. IsSome future.writer
-        × (future.written ≤ length future.bytes.now) };
+    ghost can_poll = { WritesWithin };
 
-    ghost needs = { λ future s. IsSomeAnd future.writer (λ writer. W.needs writer s) };
+    ghost needs = { λ future s. IsSomeAnd (write_end future) (λ writer. W.needs writer s) };
 
-    ghost gives = { λ future output. IsSomeAnd future.writer (λ writer.
-        WroteAll W.sent W.saw W.woken W.fails future.bytes.now writer future.written output) };
+    ghost gives = { GivesWritten W.sent W.saw W.woken W.fails };
 
-    fn poll(&mut self, cx: &mut Context<'_>) -> Poll<Self::Output> {
+    fn poll(&mut self, cx: &mut Context<'_>) -> Poll<Self::Output>
+        requires { WritesWithin self.old }
+        ensures value { IfReady result
+            (GivesWritten W.sent W.saw W.woken W.fails self.old) }
+        ensures again { OnPending result (WritesWithin self.new) }
+        ensures same { OnPending result ((x : _) → GivesWritten W.sent W.saw W.woken W.fails self.new x
+            → GivesWritten W.sent W.saw W.woken W.fails self.old x) }
+        ensures registered { OnPending result (Covers cx.new (λ s. IsSomeAnd (write_end self.new)
+            (λ writer. W.needs writer s))) }
+        ensures waits { OnPending result (IsSomeAnd (write_end self.new)
+            (λ writer. W.waits writer cx.new)) }
+        ensures kept { Keeps cx.old cx.new }
+    {
         let Some(writer) = &mut self.writer else {
             unreachable!()
         };
