@@ -1,20 +1,7 @@
 -- Two pipes between the same two ends, one for each way.
-use Rattle.std.specs.Prelude.{◌≡◌, ℕ, ◌+◌, true, false, List, ◌++◌, length, Result}
-use Rattle.std.specs.Io.{StartsWith}
-use denote.Ref.{Bor}
-use Rattle.futures.specs.Task.{Covers}
-use Rattle.futures.specs.Poll.{OnPending}
-use Rattle.futures.specs.declared.task.Poll.{Poll}
-use Rattle.futures.specs.declared.task.context.Context.{Context}
-use Rattle.piper.specs.ReadView.{SameReadEnd, in_one_piece}
-use Rattle.piper.specs.Contexts.{WantsWaker}
-use Rattle.piper.specs.Ends.{IsEnded}
-use Rattle.piper.specs.Handles.{AreFresh, ArePair, DrawFrom, read_source}
-use Rattle.piper.specs.Looks.{ReaderLooked}
-use Rattle.piper.specs.ReaderCalls.{MeetClosed, MeetMore, MeetReader, MeetSame, MeetWriter, WakesWriter}
-use Rattle.piper.specs.Waits.{ReaderPends}
-use Rattle.piper.specs.Polls.{After, Lends, IfReadyOk, IfReadyErr}
-use Rattle.piper.specs.declared.error.PipeError.{PipeError}
+use Rattle.std.specs.Prelude.{◌≡◌, ℕ, ◌+◌, ◌++◌, length}
+use Rattle.piper.specs.Handles.{AreFresh, ArePair, DrawFrom}
+use Rattle.piper.specs.ReaderCalls.{MeetClosed, MeetMore, MeetReader, MeetSame, MeetWriter}
 use Rattle.piper.specs.declared.handles.Reader.{Reader}
 use Rattle.piper.specs.declared.handles.Writer.{Writer}
 use Rattle.piper_duplex.specs.declared.end.End.{End}

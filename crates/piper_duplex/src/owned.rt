@@ -8,6 +8,7 @@ ghost use Rattle.piper.specs.OfReader as of_reader;
 ghost use Rattle.piper.specs.OfWriter as of_writer;
 ghost use Rattle.piper.specs.ReaderCalls.{AtEnd};
 ghost use Rattle.piper.specs.WriterCalls.{SameWriterButShut};
+ghost use Rattle.piper.specs.Waits.{ReaderIsWaiting, WriterIsWaiting};
 ghost use Rattle.piper_duplex.specs.Crosswise.{IsNewPipe, reading as reading_of, writing as writing_of};
 ghost use Rattle.piper_duplex.specs.OwnedEnds.{reading, writing};
 
@@ -98,6 +99,8 @@ impl AsyncRead for OwnedEnd {
 
     ghost needs = { λ e s. s ≡ read_source (reading e) };
 
+    ghost waits = { λ e. ReaderIsWaiting (reading e) };
+
     ghost fails = { λ _ cx e. WantsWaker cx e };
 
     ghost woken = { λ e. NotifiesWriter (reading e) };
@@ -126,6 +129,8 @@ impl AsyncBufRead for OwnedEnd {
 
     ghost needs = { λ e s. s ≡ read_source (reading e) };
 
+    ghost waits = { λ e. ReaderIsWaiting (reading e) };
+
     ghost fails = { λ _ cx e. WantsWaker cx e };
 
     ghost woken = { λ e. NotifiesWriter (reading e) };
@@ -145,6 +150,8 @@ impl AsyncWrite for OwnedEnd {
     ghost saw = { λ e. of_writer.saw (writing e) };
 
     ghost needs = { λ e s. s ≡ write_source (writing e) };
+
+    ghost waits = { λ e. WriterIsWaiting (writing e) };
 
     ghost fails = { λ _ cx e. WantsWaker cx e };
 

@@ -36,7 +36,7 @@ YieldsFrames taken known saw fails stream =
 -- why a poll failed: the frame that is kept is too long, or was cut off, or the reader failed, or
 -- memory was refused; and why one is pending: the reader has nothing to give yet
 module _ {R : Type 0} (taken known : R → List ℕ) (saw told : R → Bool)
-    (fails : R → Context → PipeError → Type 0) where
+    (fails : R → Context → PipeError → Type 0) (waits : R → Context → Type 0) where
   abbrev pub TellsFrame : Poll (Option Item) → FrameStream R → FrameStream R → Context → Type 0
   TellsFrame (Ready None) a b cx = ⊤
   TellsFrame (Ready (Some (Ok body))) a b cx = ⊤
@@ -48,5 +48,5 @@ module _ {R : Type 0} (taken known : R → List ℕ) (saw told : R → Bool)
       (body_room_of (frames_of a)) (header_of (frames_of b)) (body_of (frames_of b))
       (known (reader_of (frames_of b))))
   TellsFrame Pending a b cx =
-      Pends (known (reader_of (frames_of b))) (told (reader_of (frames_of b)))
+      Pends known told waits (reader_of (frames_of b))
       (length (taken (reader_of (frames_of a))) < length (taken (reader_of (frames_of b)))) cx

@@ -1,6 +1,7 @@
 -- What a sink was sent.
 use Rattle.std.specs.Prelude.{ℕ, Bool, false, List, [], drop, Result, Vec}
 use Rattle.std.specs.declared.alloc.Global.{Global}
+use Rattle.futures.specs.Poll.{OnPending}
 use Rattle.futures.specs.declared.task.Poll.{Poll}
 use Rattle.futures.specs.declared.task.context.Context.{Context}
 use Rattle.piper.specs.Polls.{IfReadyErr}
@@ -26,9 +27,11 @@ abbrev pub WasSent : {W : Type 0} → (W → List ℕ) → (W → Bool) → Writ
 WasSent sent saw sink pieces =
     Sends (joined pieces) (left_of sink) [] (sent (writer_of sink)) false (saw (writer_of sink))
 
--- a poll fails as the writer below did, or since the pipe was seen closed; and what the writer saw,
--- and whom it has woken, stays so
+-- a poll fails as the writer below did, or since the pipe was seen closed; it is pending where the
+-- writer was; and what the writer saw, and whom it has woken, stays so
 abbrev pub TellsSent : {W A : Type 0} → Poll (Result A PipeError)
-    → (W → Context → PipeError → Type 0) → (W → Bool) → (W → Type 0) → W → W → Context → Type 0
-TellsSent result fails saw woken a b cx =
+    → (W → Context → PipeError → Type 0) → (W → Context → Type 0) → (W → Bool) → (W → Type 0)
+    → W → W → Context → Type 0
+TellsSent result fails waits saw woken a b cx =
     IfReadyErr result (IsOfWriter fails saw b cx) × WriterStays saw woken a b
+    × OnPending result (waits b cx)

@@ -104,7 +104,7 @@ impl<R: AsyncBufRead + Drop> Stream for FrameStream<R> {
         ensures registered { OnPending result
             (Covers cx.new (R.needs (reader_of (frames_of self.new)))) }
         ensures kept { Keeps cx.old cx.new }
-        ensures tells { TellsFrame R.taken R.known R.saw R.told R.fails
+        ensures tells { TellsFrame R.taken R.known R.saw R.told R.fails R.waits
             result self.old self.new cx.new }
         ensures stays { ReaderStays R.told R.woken
             (reader_of (frames_of self.old)) (reader_of (frames_of self.new)) }

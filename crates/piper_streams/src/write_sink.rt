@@ -70,7 +70,7 @@ impl<W: AsyncWrite + Drop> WriteSink<W> {
             (W.sent (writer_of self.old)) (W.sent (writer_of self.new))
             (W.saw (writer_of self.old)) (W.saw (writer_of self.new)) }
         ensures whole { result ≡ Poll.Ready (Ok (record {})) → left_of self.new ≡ [] }
-        ensures tells { TellsSent result W.fails W.saw W.woken
+        ensures tells { TellsSent result W.fails W.waits W.saw W.woken
             (writer_of self.old) (writer_of self.new) cx.new }
         ensures pending { OnPending result (Covers cx.new (W.needs (writer_of self.new))
             × ¬ (W.saw (writer_of self.old) ≡ true)) }
@@ -113,7 +113,7 @@ impl<W: AsyncWrite + Drop> Sink<Vec<u8>> for WriteSink<W> {
             ((xs : _) → WasSent W.sent W.saw self.old xs → WasSent W.sent W.saw self.new xs) }
         ensures registered { OnPending result (Covers cx.new (W.needs (writer_of self.new))) }
         ensures kept { Keeps cx.old cx.new }
-        ensures tells { TellsSent result W.fails W.saw W.woken
+        ensures tells { TellsSent result W.fails W.waits W.saw W.woken
             (writer_of self.old) (writer_of self.new) cx.new }
     {
         self.poll_write(cx)
@@ -137,7 +137,7 @@ impl<W: AsyncWrite + Drop> Sink<Vec<u8>> for WriteSink<W> {
             ((xs : _) → WasSent W.sent W.saw self.old xs → WasSent W.sent W.saw self.new xs) }
         ensures registered { OnPending result (Covers cx.new (W.needs (writer_of self.new))) }
         ensures kept { Keeps cx.old cx.new }
-        ensures tells { TellsSent result W.fails W.saw W.woken
+        ensures tells { TellsSent result W.fails W.waits W.saw W.woken
             (writer_of self.old) (writer_of self.new) cx.new }
     {
         match self.poll_write(cx) {
@@ -153,7 +153,7 @@ impl<W: AsyncWrite + Drop> Sink<Vec<u8>> for WriteSink<W> {
             ((xs : _) → WasSent W.sent W.saw self.old xs → WasSent W.sent W.saw self.new xs) }
         ensures registered { OnPending result (Covers cx.new (W.needs (writer_of self.new))) }
         ensures kept { Keeps cx.old cx.new }
-        ensures tells { TellsSent result W.fails W.saw W.woken
+        ensures tells { TellsSent result W.fails W.waits W.saw W.woken
             (writer_of self.old) (writer_of self.new) cx.new }
     {
         match self.poll_write(cx) {

@@ -13,6 +13,7 @@ ghost use Rattle.piper.specs.OfWriter as of_writer;
 ghost use Rattle.piper.specs.Polls.{IfReadyErr};
 ghost use Rattle.piper.specs.ReaderCalls.{AtEnd, DrainPends, DrainsEnd, DrainsSlice, LendsPiece, PollsPiece, SameReaderButConsumed, SameReaderButMoved, WakesWriter};
 ghost use Rattle.piper.specs.WriterCalls.{FillPends, FillsEnd, FillsSlice, SameWriterButMoved, SameWriterButShut, WakesReader};
+ghost use Rattle.piper.specs.Waits.{ReaderIsWaiting, WriterIsWaiting};
 ghost use Rattle.piper_duplex.specs.Crosswise.{reading, writing};
 
 use super::End;
@@ -30,6 +31,8 @@ impl AsyncRead for End {
     ghost ended = { λ e. AtEnd (reading e) };
 
     ghost needs = { λ e s. s ≡ read_source (reading e) };
+
+    ghost waits = { λ e. ReaderIsWaiting (reading e) };
 
     ghost fails = { λ _ cx e. WantsWaker cx e };
 
@@ -72,6 +75,8 @@ impl AsyncBufRead for End {
 
     ghost needs = { λ e s. s ≡ read_source (reading e) };
 
+    ghost waits = { λ e. ReaderIsWaiting (reading e) };
+
     ghost fails = { λ _ cx e. WantsWaker cx e };
 
     ghost woken = { λ e. NotifiesWriter (reading e) };
@@ -111,6 +116,8 @@ impl AsyncWrite for End {
     ghost saw = { λ e. of_writer.saw (writing e) };
 
     ghost needs = { λ e s. s ≡ write_source (writing e) };
+
+    ghost waits = { λ e. WriterIsWaiting (writing e) };
 
     ghost fails = { λ _ cx e. WantsWaker cx e };
 

@@ -81,7 +81,7 @@ impl<W: AsyncWrite + Drop> Sink<Vec<u8>> for LineSink<W> {
         ensures registered { OnPending result
             (Covers cx.new (W.needs (writer_of (lines_below self.new)))) }
         ensures kept { Keeps cx.old cx.new }
-        ensures tells { TellsSent result W.fails W.saw W.woken
+        ensures tells { TellsSent result W.fails W.waits W.saw W.woken
             (writer_of (lines_below self.old)) (writer_of (lines_below self.new)) cx.new }
     {
         self.sink.poll_write(cx)
@@ -111,7 +111,7 @@ impl<W: AsyncWrite + Drop> Sink<Vec<u8>> for LineSink<W> {
         ensures registered { OnPending result
             (Covers cx.new (W.needs (writer_of (lines_below self.new)))) }
         ensures kept { Keeps cx.old cx.new }
-        ensures tells { TellsSent result W.fails W.saw W.woken
+        ensures tells { TellsSent result W.fails W.waits W.saw W.woken
             (writer_of (lines_below self.old)) (writer_of (lines_below self.new)) cx.new }
     {
         match self.sink.poll_write(cx) {
@@ -128,7 +128,7 @@ impl<W: AsyncWrite + Drop> Sink<Vec<u8>> for LineSink<W> {
         ensures registered { OnPending result
             (Covers cx.new (W.needs (writer_of (lines_below self.new)))) }
         ensures kept { Keeps cx.old cx.new }
-        ensures tells { TellsSent result W.fails W.saw W.woken
+        ensures tells { TellsSent result W.fails W.waits W.saw W.woken
             (writer_of (lines_below self.old)) (writer_of (lines_below self.new)) cx.new }
     {
         match self.sink.poll_write(cx) {

@@ -13,7 +13,7 @@ poll_write-tells c =
       error = own.error;
       over = own.end.over;
       stays = saw_stays _ _ own.writer.end.saw;
-      covered = write_pends c.result a b _ own.writer own.pending;
+      pending = write_pends c.result a b _ own.writer own.pending;
       woken = own.woken;
       kept = own.kept;
     }
