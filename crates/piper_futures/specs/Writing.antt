@@ -1,5 +1,5 @@
 -- What a future that writes gives.
-use Rattle.std.specs.Prelude.{◌≡◌, ℕ, ◌<◌, ◌≤◌, Bool, true, List, drop, length, Option, Some, IsSome, IsSomeAnd, Result, Ok, Err, ⊤}
+use Rattle.std.specs.Prelude.{◌≡◌, ℕ, ◌<◌, ◌≤◌, Bool, true, List, drop, length, Option, Some, IsSome, IsSomeAnd, Result, Ok, Err}
 use Rattle.futures.specs.declared.task.context.Context.{Context}
 use Rattle.piper.specs.declared.error.PipeError.{PipeError}
 use Rattle.piper_lines.specs.Sends.{Sends}
@@ -71,12 +71,13 @@ module _ {W : Type 0} (sent : W → List ℕ) (saw : W → Bool) (woken : W → 
   GivesWritten fails future output = IsSomeAnd future.writer (λ writer.
       WroteAll fails future.bytes.now writer future.written output)
 
-  abbrev pub GivesFlushed : (W → Context → PipeError → Type 0) → Flushing W
+  -- a writer that comes back without an error is flushed; and after a close its pipe is closed, too
+  abbrev pub GivesFlushed : (W → Context → PipeError → Type 0) → (W → Type 0) → Flushing W
       → Result W (Failed W) → Type 0
-  GivesFlushed fails future output = IsSomeAnd future.writer (λ writer.
-      ComesBack fails (λ _. ⊤) writer output)
+  GivesFlushed fails flushed future output = IsSomeAnd future.writer (λ writer.
+      ComesBack fails flushed writer output)
 
-  abbrev pub GivesClosed : (W → Context → PipeError → Type 0) → Closing W
+  abbrev pub GivesClosed : (W → Context → PipeError → Type 0) → (W → Type 0) → Closing W
       → Result W (Failed W) → Type 0
-  GivesClosed fails future output = IsSomeAnd future.writer (λ writer.
-      ComesBack fails (λ closed. saw closed ≡ true) writer output)
+  GivesClosed fails flushed future output = IsSomeAnd future.writer (λ writer.
+      ComesBack fails (λ closed. (saw closed ≡ true) × flushed closed) writer output)

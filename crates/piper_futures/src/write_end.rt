@@ -46,15 +46,15 @@ impl<W: AsyncWrite + Drop> Future for Flushing<W> {
 
     ghost needs = { λ future s. IsSomeAnd (flush_end future) (λ writer. W.needs writer s) };
 
-    ghost gives = { GivesFlushed W.sent W.saw W.woken W.fails };
+    ghost gives = { GivesFlushed W.sent W.saw W.woken W.fails W.flushed };
 
     fn poll(&mut self, cx: &mut Context<'_>) -> Poll<Self::Output>
         requires { IsSome (flush_end self.old) }
         ensures value { IfReady result
-            (GivesFlushed W.sent W.saw W.woken W.fails self.old) }
+            (GivesFlushed W.sent W.saw W.woken W.fails W.flushed self.old) }
         ensures again { OnPending result (IsSome (flush_end self.new)) }
-        ensures same { OnPending result ((x : _) → GivesFlushed W.sent W.saw W.woken W.fails self.new x
-            → GivesFlushed W.sent W.saw W.woken W.fails self.old x) }
+        ensures same { OnPending result ((x : _) → GivesFlushed W.sent W.saw W.woken W.fails W.flushed self.new x
+            → GivesFlushed W.sent W.saw W.woken W.fails W.flushed self.old x) }
         ensures registered { OnPending result (Covers cx.new (λ s. IsSomeAnd (flush_end self.new)
             (λ writer. W.needs writer s))) }
         ensures waits { OnPending result (IsSomeAnd (flush_end self.new)
@@ -82,15 +82,15 @@ impl<W: AsyncWrite + Drop> Future for Closing<W> {
 
     ghost needs = { λ future s. IsSomeAnd (close_end future) (λ writer. W.needs writer s) };
 
-    ghost gives = { GivesClosed W.sent W.saw W.woken W.fails };
+    ghost gives = { GivesClosed W.sent W.saw W.woken W.fails W.flushed };
 
     fn poll(&mut self, cx: &mut Context<'_>) -> Poll<Self::Output>
         requires { IsSome (close_end self.old) }
         ensures value { IfReady result
-            (GivesClosed W.sent W.saw W.woken W.fails self.old) }
+            (GivesClosed W.sent W.saw W.woken W.fails W.flushed self.old) }
         ensures again { OnPending result (IsSome (close_end self.new)) }
-        ensures same { OnPending result ((x : _) → GivesClosed W.sent W.saw W.woken W.fails self.new x
-            → GivesClosed W.sent W.saw W.woken W.fails self.old x) }
+        ensures same { OnPending result ((x : _) → GivesClosed W.sent W.saw W.woken W.fails W.flushed self.new x
+            → GivesClosed W.sent W.saw W.woken W.fails W.flushed self.old x) }
         ensures registered { OnPending result (Covers cx.new (λ s. IsSomeAnd (close_end self.new)
             (λ writer. W.needs writer s))) }
         ensures waits { OnPending result (IsSomeAnd (close_end self.new)

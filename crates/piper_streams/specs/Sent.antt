@@ -1,5 +1,5 @@
 -- What a sink was sent.
-use Rattle.std.specs.Prelude.{ℕ, Bool, false, List, [], drop, Result, Vec}
+use Rattle.std.specs.Prelude.{◌≡◌, ℕ, Bool, true, false, List, [], drop, Result, Vec}
 use Rattle.std.specs.declared.alloc.Global.{Global}
 use Rattle.futures.specs.Poll.{OnPending}
 use Rattle.futures.specs.declared.task.Poll.{Poll}
@@ -26,6 +26,14 @@ abbrev pub WasSent : {W : Type 0} → (W → List ℕ) → (W → Bool) → Writ
     → List (Vec ℕ Global) → Type 0
 WasSent sent saw sink pieces =
     Sends (joined pieces) (left_of sink) [] (sent (writer_of sink)) false (saw (writer_of sink))
+
+-- nothing is left of the piece, and the writer below is flushed
+abbrev pub IsFlushed : {W : Type 0} → (W → Type 0) → WriteSink W → Type 0
+IsFlushed flushed sink = (left_of sink ≡ []) × flushed (writer_of sink)
+
+-- and its pipe is closed
+abbrev pub IsClosed : {W : Type 0} → (W → Type 0) → (W → Bool) → WriteSink W → Type 0
+IsClosed flushed saw sink = IsFlushed flushed sink × (saw (writer_of sink) ≡ true)
 
 -- a poll fails as the writer below did, or since the pipe was seen closed; it is pending where the
 -- writer was; and what the writer saw, and whom it has woken, stays so

@@ -93,7 +93,7 @@ impl<W: AsyncWrite + Drop> WriteSink<W> {
 }
 
 impl<W: AsyncWrite + Drop> Sink<Vec<u8>> for WriteSink<W> {
-    ghost use Rattle.piper_streams.specs.Sent.{left_of, writer_of, TellsSent, WasSent};
+    ghost use Rattle.piper_streams.specs.Sent.{left_of, writer_of, IsClosed, IsFlushed, TellsSent, WasSent};
 
     type Error = PipeError;
 
@@ -101,9 +101,9 @@ impl<W: AsyncWrite + Drop> Sink<Vec<u8>> for WriteSink<W> {
 
     ghost took = { WasSent W.sent W.saw };
 
-    ghost is_flushed = { λ sink. left_of sink ≡ [] };
+    ghost is_flushed = { IsFlushed W.flushed };
 
-    ghost is_closed = { λ sink. (left_of sink ≡ []) × (W.saw (writer_of sink) ≡ true) };
+    ghost is_closed = { IsClosed W.flushed W.saw };
 
     ghost needs = { λ sink. W.needs (writer_of sink) };
 
@@ -132,7 +132,7 @@ impl<W: AsyncWrite + Drop> Sink<Vec<u8>> for WriteSink<W> {
     }
 
     fn poll_flush(&mut self, cx: &mut Context<'_>) -> Poll<Result<(), PipeError>>
-        ensures flushed { IfReady result (λ r. OnOk r (left_of self.new ≡ [])) }
+        ensures flushed { IfReady result (λ r. OnOk r (IsFlushed W.flushed self.new)) }
         ensures history { UnlessFailed result
             ((xs : _) → WasSent W.sent W.saw self.old xs → WasSent W.sent W.saw self.new xs) }
         ensures registered { OnPending result (Covers cx.new (W.needs (writer_of self.new))) }
@@ -147,8 +147,7 @@ impl<W: AsyncWrite + Drop> Sink<Vec<u8>> for WriteSink<W> {
     }
 
     fn poll_close(&mut self, cx: &mut Context<'_>) -> Poll<Result<(), PipeError>>
-        ensures closed { IfReady result (λ r. OnOk r ((left_of self.new ≡ [])
-            × (W.saw (writer_of self.new) ≡ true))) }
+        ensures closed { IfReady result (λ r. OnOk r (IsClosed W.flushed W.saw self.new)) }
         ensures history { UnlessFailed result
             ((xs : _) → WasSent W.sent W.saw self.old xs → WasSent W.sent W.saw self.new xs) }
         ensures registered { OnPending result (Covers cx.new (W.needs (writer_of self.new))) }

@@ -4,7 +4,7 @@ ghost use Rattle.piper_lines.specs.Header.{usual_header};
 ghost use Rattle.futures.specs.Poll.{IfReady, OnPending};
 ghost use Rattle.futures.specs.Sent.{UnlessFailed};
 ghost use Rattle.futures.specs.Task.{Covers, Keeps};
-ghost use Rattle.piper_streams.specs.Sent.{left_of, writer_of, TellsSent};
+ghost use Rattle.piper_streams.specs.Sent.{left_of, writer_of, IsClosed, IsFlushed, TellsSent};
 
 use super::WriteSink;
 use futures::Sink;
@@ -77,10 +77,9 @@ impl<W: AsyncWrite + Drop> Sink<Vec<u8>> for FrameSink<W> {
 
     ghost took = { FramesSent W.sent W.saw };
 
-    ghost is_flushed = { λ frames. left_of frames.sink ≡ [] };
+    ghost is_flushed = { λ frames. IsFlushed W.flushed frames.sink };
 
-    ghost is_closed = { λ frames.
-        (left_of frames.sink ≡ []) × (W.saw (writer_of frames.sink) ≡ true) };
+    ghost is_closed = { λ frames. IsClosed W.flushed W.saw frames.sink };
 
     ghost needs = { λ frames. W.needs (writer_of frames.sink) };
 
@@ -122,7 +121,8 @@ impl<W: AsyncWrite + Drop> Sink<Vec<u8>> for FrameSink<W> {
     }
 
     fn poll_flush(&mut self, cx: &mut Context<'_>) -> Poll<Result<(), PipeError>>
-        ensures flushed { IfReady result (λ r. OnOk r (left_of (frames_below self.new) ≡ [])) }
+        ensures flushed { IfReady result (λ r.
+            OnOk r (IsFlushed W.flushed (frames_below self.new))) }
         ensures history { UnlessFailed result
             ((xs : _) → FramesSent W.sent W.saw self.old xs → FramesSent W.sent W.saw self.new xs) }
         ensures registered { OnPending result
@@ -138,8 +138,8 @@ impl<W: AsyncWrite + Drop> Sink<Vec<u8>> for FrameSink<W> {
     }
 
     fn poll_close(&mut self, cx: &mut Context<'_>) -> Poll<Result<(), PipeError>>
-        ensures closed { IfReady result (λ r. OnOk r ((left_of (frames_below self.new) ≡ [])
-            × (W.saw (writer_of (frames_below self.new)) ≡ true))) }
+        ensures closed { IfReady result (λ r.
+            OnOk r (IsClosed W.flushed W.saw (frames_below self.new))) }
         ensures history { UnlessFailed result
             ((xs : _) → FramesSent W.sent W.saw self.old xs → FramesSent W.sent W.saw self.new xs) }
         ensures registered { OnPending result

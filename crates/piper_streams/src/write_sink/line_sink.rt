@@ -4,7 +4,7 @@ ghost use Rattle.piper_lines.specs.Line.{line_feed};
 ghost use Rattle.futures.specs.Poll.{IfReady, OnPending};
 ghost use Rattle.futures.specs.Sent.{UnlessFailed};
 ghost use Rattle.futures.specs.Task.{Covers, Keeps};
-ghost use Rattle.piper_streams.specs.Sent.{left_of, writer_of, TellsSent};
+ghost use Rattle.piper_streams.specs.Sent.{left_of, writer_of, IsClosed, IsFlushed, TellsSent};
 
 use super::WriteSink;
 use futures::Sink;
@@ -67,10 +67,9 @@ impl<W: AsyncWrite + Drop> Sink<Vec<u8>> for LineSink<W> {
 
     ghost took = { LinesSent W.sent W.saw };
 
-    ghost is_flushed = { λ lines. left_of lines.sink ≡ [] };
+    ghost is_flushed = { λ lines. IsFlushed W.flushed lines.sink };
 
-    ghost is_closed = { λ lines.
-        (left_of lines.sink ≡ []) × (W.saw (writer_of lines.sink) ≡ true) };
+    ghost is_closed = { λ lines. IsClosed W.flushed W.saw lines.sink };
 
     ghost needs = { λ lines. W.needs (writer_of lines.sink) };
 
@@ -105,7 +104,8 @@ impl<W: AsyncWrite + Drop> Sink<Vec<u8>> for LineSink<W> {
     }
 
     fn poll_flush(&mut self, cx: &mut Context<'_>) -> Poll<Result<(), PipeError>>
-        ensures flushed { IfReady result (λ r. OnOk r (left_of (lines_below self.new) ≡ [])) }
+        ensures flushed { IfReady result (λ r.
+            OnOk r (IsFlushed W.flushed (lines_below self.new))) }
         ensures history { UnlessFailed result
             ((xs : _) → LinesSent W.sent W.saw self.old xs → LinesSent W.sent W.saw self.new xs) }
         ensures registered { OnPending result
@@ -121,8 +121,8 @@ impl<W: AsyncWrite + Drop> Sink<Vec<u8>> for LineSink<W> {
     }
 
     fn poll_close(&mut self, cx: &mut Context<'_>) -> Poll<Result<(), PipeError>>
-        ensures closed { IfReady result (λ r. OnOk r ((left_of (lines_below self.new) ≡ [])
-            × (W.saw (writer_of (lines_below self.new)) ≡ true))) }
+        ensures closed { IfReady result (λ r.
+            OnOk r (IsClosed W.flushed W.saw (lines_below self.new))) }
         ensures history { UnlessFailed result
             ((xs : _) → LinesSent W.sent W.saw self.old xs → LinesSent W.sent W.saw self.new xs) }
         ensures registered { OnPending result
