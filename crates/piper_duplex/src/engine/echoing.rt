@@ -2,11 +2,11 @@
 ghost use Rattle.std.specs.Prelude.{◌≡◌, ◌<◌, ◌≤◌, ◌⊎◌, [], length, true, Ok};
 ghost use Rattle.futures.specs.Task.{Covers, Keeps};
 ghost use Rattle.futures.specs.Poll.{OnPending};
-ghost use Rattle.piper_lines.specs.LineReader.{IsSpent, reader_of, kept_of};
-ghost use Rattle.piper.specs.Contexts.{AsksAgain};
+ghost use Rattle.piper_lines.specs.LineReader.{IsSpent, reader_of, end_of, kept_of};
 ghost use Rattle.piper.specs.Polls.{IfReadyErr};
 ghost use Rattle.piper_lines.specs.AtEnd.{AtEnd};
 ghost use Rattle.piper_lines.specs.Refusals.{IsReported, LacksRoom};
+ghost use Rattle.piper_lines.specs.Split.{IsPiece};
 ghost use Rattle.piper_lines.specs.Stays.{ReaderStays, WriterStays};
 
 use futures::task::{Context, Poll};
@@ -29,8 +29,7 @@ pub enum Echoed {
 
 /// The line that an echo has on its way back.
 ///
-/// In clauses, `left_of` are the bytes of it that are not written yet, and `held_of` these and what
-/// is kept of the next line.
+/// In clauses, `left_of` are the bytes of it that are not written yet.
 #[derive(Drop)]
 pub struct LineEcho {
     line: Vec<u8>,
@@ -39,7 +38,7 @@ pub struct LineEcho {
 }
 
 impl LineEcho {
-    ghost use Rattle.piper_duplex.specs.Echoes.{Echoes, WaitsFor, held_of, left_of};
+    ghost use Rattle.piper_duplex.specs.Echoes.{EchoPends, Echoes, IsRest, WaitsFor, left_of};
 
     /// No line is on its way yet, and no memory is asked for.
     pub fn new(alloc: Global) -> LineEcho
@@ -67,21 +66,30 @@ impl LineEcho {
         limit: usize,
     ) -> Poll<Result<Echoed, PipeError>>
         requires { 0 < limit }
-        ensures echoes { Echoes (R.taken (reader_of lines.old)) (R.taken (reader_of lines.new))
-            (held_of self.old lines.old) (held_of self.new lines.new)
+        ensures echoes { Echoes
+            (λ piece. length (kept_of lines.old) < limit →
+            IsPiece (end_of lines.old) limit piece)
+            (λ piece. IsRest (end_of lines.old) piece × IsSpent R.ended lines.new)
+            (R.taken (reader_of lines.old)) (R.taken (reader_of lines.new))
+            (kept_of lines.old) (kept_of lines.new) (left_of self.old) (left_of self.new)
             (W.sent writer.old) (W.sent writer.new) (W.saw writer.old) (W.saw writer.new) }
-        ensures ended { result ≡ Poll.Ready (Ok Echoed.ToTheEnd) → (held_of self.new lines.new ≡ [])
+        ensures ended { result ≡ Poll.Ready (Ok Echoed.ToTheEnd) → (left_of self.new ≡ [])
             × AtEnd (R.known (reader_of lines.new)) (R.saw (reader_of lines.new))
             × IsSpent R.ended lines.new }
+        ensures after { IsSpent R.ended lines.old → IsSpent R.ended lines.new
+            × (R.taken (reader_of lines.new) ≡ R.taken (reader_of lines.old)) }
         ensures closed { result ≡ Poll.Ready (Ok Echoed.UntilClosed) → W.saw writer.new ≡ true }
         ensures error { IfReadyErr result (λ e. W.fails writer.new cx.new e
             ⊎ IsReported e (R.fails (reader_of lines.new) cx.new)
             (LacksRoom limit 0 (kept_of lines.new) (R.known (reader_of lines.new)))) }
-        ensures stays { WriterStays W.saw W.woken writer.old writer.new }
-        ensures told { ReaderStays R.told R.woken (reader_of lines.old) (reader_of lines.new) }
-        ensures pending { OnPending result ((R.told (reader_of lines.new) ≡ true →
-            (0 < length (left_of self.new)) ⊎ AsksAgain cx.new) × Covers cx.new
-            (WaitsFor (R.needs (reader_of lines.new)) (W.needs writer.new) (left_of self.new))) }
+        ensures pending { OnPending result (Covers cx.new
+            (WaitsFor (R.needs (reader_of lines.new)) (W.needs writer.new) (left_of self.new))
+            × EchoPends (left_of self.new) (W.saw writer.old)
+            (R.known (reader_of lines.new)) (R.told (reader_of lines.new))
+            (length (R.taken (reader_of lines.old)) < length (R.taken (reader_of lines.new)))
+            cx.new) }
+        ensures stays { WriterStays W.saw W.woken writer.old writer.new
+            × ReaderStays R.told R.woken (reader_of lines.old) (reader_of lines.new) }
         ensures kept { Keeps cx.old cx.new }
     {
         for _ in 0..MOST_LINES {
@@ -92,11 +100,14 @@ impl LineEcho {
                 Poll::Ready(Ok(Written::Whole)) => {}
             }
             self.written = 0;
-            match lines.poll_line(cx, &mut self.line, limit) {
+            let answer = match lines.poll_line(cx, &mut self.line, limit) {
                 Poll::Pending => return Poll::Pending,
                 Poll::Ready(Err(error)) => return Poll::Ready(Err(error)),
-                Poll::Ready(Ok(LineAnswer::End)) => return Poll::Ready(Ok(Echoed::ToTheEnd)),
-                Poll::Ready(Ok(_)) => {}
+                Poll::Ready(Ok(answer)) => answer,
+            };
+            match answer {
+                LineAnswer::End => return Poll::Ready(Ok(Echoed::ToTheEnd)),
+                _ => {}
             }
         }
         cx.yield_now()
