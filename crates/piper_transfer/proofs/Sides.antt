@@ -1,11 +1,12 @@
 -- What a side does in one step after another.
-use Rattle.std.proofs.Common.{◌≡◌, ◌<◌, ◌+◌, ℕ, List, [], ◌++◌, Option, refl, sym, ap, ◌∙◌, append_assoc, append-nil, arith, length, length-append}
+use Rattle.std.proofs.Common.{◌≡◌, ◌<◌, ◌+◌, ℕ, List, [], ◌++◌, Option, refl, sym, ap, ◌∙◌, append_assoc, append-nil, arith, subst, length, length-append}
 use Rattle.std.proofs.KnownBytes.{Consumes-nil, Consumes-trans, Appends-nil, Appends-trans, Appends-kept}
 use Rattle.std.specs.Io.KnownBytes.{Keeps}
 use Rattle.piper.specs.ReadView.{ReadView}
 use Rattle.piper.specs.WriteView.{WriteView}
 use Rattle.piper.specs.Looks.{ReaderLooked, WriterLooked}
-use Rattle.piper_transfer.specs.Transfer.{Fed, Poured, PouredAll}
+use Rattle.piper_transfer.specs.Taken.{StaysTaken}
+use Rattle.piper_transfer.specs.Transfer.{Fed, Gets, Poured, PouredAll}
 
 pub fed_none : (i : Option (List ℕ)) (a : WriteView) → Fed i i a a
 fed_none i a = record { given = []; consumed = Consumes-nil i; sent = sym (append-nil a.sent); ring = refl }
@@ -29,34 +30,58 @@ fed_looked i j a b c p look = fed_same i j a b c p look.sent look.end.ring
 pub fed_round : (i j k : Option (List ℕ)) (a b c d : WriteView) → Fed i j a b → WriterLooked b c → Fed j k c d → Fed i k a d
 fed_round i j k a b c d p look q = fed_more i j k a c d (fed_looked i j a b c p look) q
 
-pub poured_none : (i : Option (List ℕ)) (a : ReadView) → PouredAll i i a a
-poured_none i a = record { written = []; appended = Appends-nil i; taken = sym (append-nil a.taken); ring = refl }
+-- the output was given nothing, or one piece after another
+pub gets_none : {D : Type 0} (C : D → Option (List ℕ)) (T : D → List (List ℕ) → List ℕ → Type 0) (d : D) → Gets C T d d []
+gets_none C T d = record { appended = Appends-nil (C d); more = λ names m taken. subst (T d names) (sym (append-nil m)) taken }
+
+gets_more : {D : Type 0} (C : D → Option (List ℕ)) (T : D → List (List ℕ) → List ℕ → Type 0) (d e f : D) (xs ys : List ℕ)
+    → Gets C T d e xs → Gets C T e f ys → Gets C T d f (xs ++ ys)
+gets_more C T d e f xs ys p q = record {
+  appended = Appends-trans (C d) (C e) (C f) xs ys p.appended q.appended;
+  more = λ names m taken. subst (T f names) (append_assoc m xs ys) (q.more names (m ++ xs) (p.more names m taken));
+}
+
+-- an output that keeps what it has, as where it is flushed
+gets_kept : {D : Type 0} (C : D → Option (List ℕ)) (T : D → List (List ℕ) → List ℕ → Type 0) (d e f : D) (xs : List ℕ)
+    → Gets C T d e xs → Keeps (C e) (C f) → StaysTaken T e f → Gets C T d f xs
+gets_kept C T d e f xs p kept stays = record {
+  appended = Appends-kept (C d) (C e) (C f) xs p.appended kept;
+  more = λ names m taken. stays names (m ++ xs) (p.more names m taken);
+}
+
+pub poured_none : {D : Type 0} (C : D → Option (List ℕ)) (T : D → List (List ℕ) → List ℕ → Type 0) (d : D) (a : ReadView) → PouredAll C T d d a a
+poured_none C T d a = record { written = []; gets = gets_none C T d; taken = sym (append-nil a.taken); ring = refl }
 
 -- nothing was written, and nothing dropped
-pub poured_nothing : (i : Option (List ℕ)) (a : ReadView) → Poured i i a a
-poured_nothing i a = record { written = []; lost = []; appended = Appends-nil i; taken = sym (append-nil a.taken); ring = refl }
+pub poured_nothing : {D : Type 0} (C : D → Option (List ℕ)) (T : D → List (List ℕ) → List ℕ → Type 0) (d : D) (a : ReadView) → Poured C T d d a a
+poured_nothing C T d a = record { written = []; lost = []; gets = gets_none C T d; taken = sym (append-nil a.taken); ring = refl }
 
-pub poured_more : (i j k : Option (List ℕ)) (a b c : ReadView) → PouredAll i j a b → PouredAll j k b c → PouredAll i k a c
-poured_more i j k a b c p q = record {
+pub poured_more : {D : Type 0} (C : D → Option (List ℕ)) (T : D → List (List ℕ) → List ℕ → Type 0) (d e f : D) (a b c : ReadView)
+    → PouredAll C T d e a b → PouredAll C T e f b c → PouredAll C T d f a c
+poured_more C T d e f a b c p q = record {
   written = p.written ++ q.written;
-  appended = Appends-trans i j k p.written q.written p.appended q.appended;
+  gets = gets_more C T d e f p.written q.written p.gets q.gets;
   taken = q.taken ∙ ap (λ xs. xs ++ q.written) p.taken ∙ append_assoc a.taken p.written q.written;
   ring = q.ring ∙ p.ring;
 }
 
-pub poured_same : (i j : Option (List ℕ)) (a b c : ReadView) → PouredAll i j a b → c.taken ≡ b.taken → c.ring ≡ b.ring → PouredAll i j a c
-poured_same i j a b c p taken ring = record { written = p.written; appended = p.appended; taken = taken ∙ p.taken; ring = ring ∙ p.ring }
+pub poured_same : {D : Type 0} (C : D → Option (List ℕ)) (T : D → List (List ℕ) → List ℕ → Type 0) (d e : D) (a b c : ReadView)
+    → PouredAll C T d e a b → c.taken ≡ b.taken → c.ring ≡ b.ring → PouredAll C T d e a c
+poured_same C T d e a b c p taken ring = record { written = p.written; gets = p.gets; taken = taken ∙ p.taken; ring = ring ∙ p.ring }
 
 -- what was written before a look, and after it
-pub poured_looked : (i j : Option (List ℕ)) (a b c : ReadView) → PouredAll i j a b → ReaderLooked b c → PouredAll i j a c
-poured_looked i j a b c p look = poured_same i j a b c p look.taken look.end.ring
+pub poured_looked : {D : Type 0} (C : D → Option (List ℕ)) (T : D → List (List ℕ) → List ℕ → Type 0) (d e : D) (a b c : ReadView)
+    → PouredAll C T d e a b → ReaderLooked b c → PouredAll C T d e a c
+poured_looked C T d e a b c p look = poured_same C T d e a b c p look.taken look.end.ring
 
-pub poured_round : (i j k : Option (List ℕ)) (a b c d : ReadView) → PouredAll i j a b → ReaderLooked b c → PouredAll j k c d → PouredAll i k a d
-poured_round i j k a b c d p look q = poured_more i j k a c d (poured_looked i j a b c p look) q
+pub poured_round : {D : Type 0} (C : D → Option (List ℕ)) (T : D → List (List ℕ) → List ℕ → Type 0) (d e f : D) (a b c r : ReadView)
+    → PouredAll C T d e a b → ReaderLooked b c → PouredAll C T e f c r → PouredAll C T d f a r
+poured_round C T d e f a b c r p look q = poured_more C T d e f a c r (poured_looked C T d e a b c p look) q
 
 -- an output that keeps what it has, as where it is flushed
-pub poured_kept : (i j k : Option (List ℕ)) (a b : ReadView) → PouredAll i j a b → Keeps j k → PouredAll i k a b
-poured_kept i j k a b p kept = record { written = p.written; appended = Appends-kept i j k p.written p.appended kept; taken = p.taken; ring = p.ring }
+pub poured_kept : {D : Type 0} (C : D → Option (List ℕ)) (T : D → List (List ℕ) → List ℕ → Type 0) (d e f : D) (a b : ReadView)
+    → PouredAll C T d e a b → Keeps (C e) (C f) → StaysTaken T e f → PouredAll C T d f a b
+poured_kept C T d e f a b p kept stays = record { written = p.written; gets = gets_kept C T d e f p.written p.gets kept stays; taken = p.taken; ring = p.ring }
 
 -- where all that was known was taken, all that was published is
 pub taken_all : (r0 r1 r2 : ReadView) (w0 w1 : WriteView)

@@ -3,17 +3,19 @@ use Rattle.std.proofs.Common.{◌≡◌, ℕ, Bool, true, List, [], ◌++◌, Op
 use Rattle.std.proofs.lemmas.List.{append_cancel_left}
 use Rattle.std.specs.Prelude.{OnOk}
 use Rattle.std.specs.Io.KnownBytes.{Consumes, IsAtEnd}
-use Rattle.std.proofs.KnownBytes.{Consumes-nil, Appends-nil}
+use Rattle.std.proofs.KnownBytes.{Consumes-nil}
 use Rattle.piper.proofs.Ended.{ended_knows}
 use Rattle.piper.specs.Ends.{ReaderRefreshed}
 use Rattle.piper.specs.ReadView.{ReadView, KnowsEnd}
 use Rattle.piper.specs.WriteView.{WriteView, either}
+use Rattle.piper_transfer.proofs.Sides.{gets_none}
 use Rattle.piper_transfer.specs.Transfer.{Fed, IsDrained, Poured, PouredAll, Transfers, WritesAll}
 use Rattle.piper_transfer.specs.declared.error.TransferError.{TransferError}
 
 -- nothing was moved
-pub nothing_moved : (r : Result Unit TransferError) (i o : Option (List ℕ)) → OnOk r (IsAtEnd i) → Transfers r i i o o
-nothing_moved r i o ended = record { written = []; left = []; given = Consumes-nil i; appended = Appends-nil o; all = λ _. refl; ended = ended }
+pub nothing_moved : {D : Type 0} (C : D → Option (List ℕ)) (T : D → List (List ℕ) → List ℕ → Type 0) (d : D) (r : Result Unit TransferError) (i : Option (List ℕ))
+    → OnOk r (IsAtEnd i) → Transfers r i i C T d d
+nothing_moved C T d r i ended = record { written = []; left = []; given = Consumes-nil i; gets = gets_none C T d; all = λ _. refl; ended = ended }
 
 -- what the input gave is what was published, and so what was taken and what is still known
 pub given_is_seen : (i j : Option (List ℕ)) (w0 w1 : WriteView) (r : ReadView) (xs : List ℕ) → w0.sent ≡ [] → Fed i j w0 w1 → r.taken ++ r.known ≡ w1.sent → r.taken ≡ xs → Consumes i j (xs ++ r.known)
@@ -22,32 +24,32 @@ given_is_seen i j w0 w1 r xs fresh fed fifo taken =
     subst (Consumes i j) (sym given ∙ sym fifo ∙ ap (λ ys. ys ++ r.known) taken) fed.consumed
 
 -- the output failed: bytes were lost, and some may still be known
-pub output_failed : (r : Result Unit TransferError) (i j o p : Option (List ℕ)) (w0 w1 : WriteView) (r0 r1 r2 : ReadView)
-    → w0.sent ≡ [] → r0.taken ≡ [] → Fed i j w0 w1 → Poured o p r0 r1 → r2.taken ≡ r1.taken → r2.taken ++ r2.known ≡ w1.sent
-    → ¬ WritesAll r → OnOk r (IsAtEnd j) → Transfers r i j o p
-output_failed r i j o p w0 w1 r0 r1 r2 new_writer new_reader fed poured same fifo failed ended =
+pub output_failed : {D : Type 0} (C : D → Option (List ℕ)) (T : D → List (List ℕ) → List ℕ → Type 0) (d e : D) (r : Result Unit TransferError) (i j : Option (List ℕ)) (w0 w1 : WriteView) (r0 r1 r2 : ReadView)
+    → w0.sent ≡ [] → r0.taken ≡ [] → Fed i j w0 w1 → Poured C T d e r0 r1 → r2.taken ≡ r1.taken → r2.taken ++ r2.known ≡ w1.sent
+    → ¬ WritesAll r → OnOk r (IsAtEnd j) → Transfers r i j C T d e
+output_failed C T d e r i j w0 w1 r0 r1 r2 new_writer new_reader fed poured same fifo failed ended =
     let taken : r2.taken ≡ poured.written ++ poured.lost = same ∙ poured.taken ∙ ap (λ xs. xs ++ (poured.written ++ poured.lost)) new_reader in
     let given : Consumes i j ((poured.written ++ poured.lost) ++ r2.known) = given_is_seen i j w0 w1 r2 (poured.written ++ poured.lost) new_writer fed fifo taken in
     record {
       written = poured.written;
       left = poured.lost ++ r2.known;
       given = subst (Consumes i j) (append_assoc poured.written poured.lost r2.known) given;
-      appended = poured.appended;
+      gets = poured.gets;
       all = λ writes. absurd (failed writes);
       ended = ended;
     }
 
 -- nothing was lost: what is left is what is still known
-pub nothing_lost : (r : Result Unit TransferError) (i j o p : Option (List ℕ)) (w0 w1 : WriteView) (r0 r1 : ReadView)
-    → w0.sent ≡ [] → r0.taken ≡ [] → Fed i j w0 w1 → PouredAll o p r0 r1 → r1.taken ++ r1.known ≡ w1.sent
-    → (WritesAll r → r1.known ≡ []) → OnOk r (IsAtEnd j) → Transfers r i j o p
-nothing_lost r i j o p w0 w1 r0 r1 new_writer new_reader fed poured fifo all ended =
+pub nothing_lost : {D : Type 0} (C : D → Option (List ℕ)) (T : D → List (List ℕ) → List ℕ → Type 0) (d e : D) (r : Result Unit TransferError) (i j : Option (List ℕ)) (w0 w1 : WriteView) (r0 r1 : ReadView)
+    → w0.sent ≡ [] → r0.taken ≡ [] → Fed i j w0 w1 → PouredAll C T d e r0 r1 → r1.taken ++ r1.known ≡ w1.sent
+    → (WritesAll r → r1.known ≡ []) → OnOk r (IsAtEnd j) → Transfers r i j C T d e
+nothing_lost C T d e r i j w0 w1 r0 r1 new_writer new_reader fed poured fifo all ended =
     let taken : r1.taken ≡ poured.written = poured.taken ∙ ap (λ xs. xs ++ poured.written) new_reader in
     record {
       written = poured.written;
       left = r1.known;
       given = given_is_seen i j w0 w1 r1 poured.written new_writer fed fifo taken;
-      appended = poured.appended;
+      gets = poured.gets;
       all = all;
       ended = ended;
     }

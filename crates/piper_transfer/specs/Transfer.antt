@@ -7,6 +7,7 @@ use Rattle.std.specs.Io.KnownBytes.{Consumes, Appends, IsAtEnd}
 use Rattle.piper.specs.Ends.{IsEnded}
 use Rattle.piper.specs.ReadView.{ReadView}
 use Rattle.piper.specs.WriteView.{WriteView}
+use Rattle.piper_transfer.specs.Taken.{TakesMore}
 use Rattle.piper_transfer.specs.declared.error.TransferError.{TransferError}
 use Rattle.piper_transfer.specs.declared.error.TransferError.TheVariants.{Read, Write, Full, Memory, Turns}
 
@@ -21,18 +22,35 @@ pub record Fed (input_old input_new : Option (List ℕ)) (a b : WriteView) : Typ
   pub sent : b.sent ≡ a.sent ++ given
   pub ring : b.ring ≡ a.ring
 
+-- the output was given these bytes: they follow what it held, and what it had taken
+pub record Gets {D : Type 0}
+    (contents : D → Option (List ℕ))
+    (took : D → List (List ℕ) → List ℕ → Type 0)
+    (old new : D)
+    (bs : List ℕ) : Type 0 where
+  pub appended : Appends (contents old) (contents new) bs
+  pub more : TakesMore took old new bs
+
 -- the output was given the front of what was taken from the reading end; the rest was dropped
-pub record Poured (output_old output_new : Option (List ℕ)) (a b : ReadView) : Type 0 where
+pub record Poured {D : Type 0}
+    (contents : D → Option (List ℕ))
+    (took : D → List (List ℕ) → List ℕ → Type 0)
+    (old new : D)
+    (a b : ReadView) : Type 0 where
   pub written : List ℕ
   pub lost : List ℕ
-  pub appended : Appends output_old output_new written
+  pub gets : Gets contents took old new written
   pub taken : b.taken ≡ a.taken ++ (written ++ lost)
   pub ring : b.ring ≡ a.ring
 
 -- nothing of what was taken from the reading end was dropped
-pub record PouredAll (output_old output_new : Option (List ℕ)) (a b : ReadView) : Type 0 where
+pub record PouredAll {D : Type 0}
+    (contents : D → Option (List ℕ))
+    (took : D → List (List ℕ) → List ℕ → Type 0)
+    (old new : D)
+    (a b : ReadView) : Type 0 where
   pub written : List ℕ
-  pub appended : Appends output_old output_new written
+  pub gets : Gets contents took old new written
   pub taken : b.taken ≡ a.taken ++ written
   pub ring : b.ring ≡ a.ring
 
@@ -87,12 +105,15 @@ IsOfSide read written full Memory = ⊤
 IsOfSide read written full (Turns e) = ⊤
 
 -- what the output was given is a front of what the input gave
-pub record Transfers
+pub record Transfers {D : Type 0}
     (r : Result Unit TransferError)
-    (input_old input_new output_old output_new : Option (List ℕ)) : Type 0 where
+    (input_old input_new : Option (List ℕ))
+    (contents : D → Option (List ℕ))
+    (took : D → List (List ℕ) → List ℕ → Type 0)
+    (old new : D) : Type 0 where
   pub written : List ℕ
   pub left : List ℕ
   pub given : Consumes input_old input_new (written ++ left)
-  pub appended : Appends output_old output_new written
+  pub gets : Gets contents took old new written
   pub all : WritesAll r → left ≡ []
   pub ended : OnOk r (IsAtEnd input_new)

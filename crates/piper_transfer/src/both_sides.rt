@@ -3,6 +3,7 @@ ghost use Rattle.std.specs.Prelude.{◌≡◌, ◌<◌, ◌≤◌, ◌*◌, ◌^
 ghost use Rattle.std.specs.Io.KnownBytes.{IsAtEnd, Keeps};
 ghost use Rattle.piper.specs.Ends.{IsEnded};
 ghost use Rattle.piper.specs.Opened.{FreshReadEnd, FreshWriteEnd};
+ghost use Rattle.piper_transfer.specs.Taken.{StaysTaken};
 ghost use Rattle.piper_transfer.specs.Transfer.{Fed, IsDrained, IsOfDestination, IsOfMemory, IsOfSide, IsOfSource};
 ghost use Rattle.piper_transfer.specs.Transfer.{IsOpen, Poured, PouredAll, Transfers, WritesAll};
 
@@ -62,7 +63,7 @@ where
     S: Source + Send,
     D: Destination,
     ensures moved { Transfers result (S.remaining source.old) (S.remaining source.new)
-        (D.contents dest.old) (D.contents dest.new) }
+        D.contents D.took dest.old dest.new }
     ensures flushed { WritesAll result → D.flushed dest.new }
     ensures reported { IfErr result
         (IsOfSide (S.fails source.new) (D.fails dest.new) (D.full dest.new)) }
@@ -116,6 +117,7 @@ where
     R: Wait + Clock,
     D: Destination,
     ensures kept { Keeps (D.contents dest.old) (D.contents dest.new) }
+    ensures taken { StaysTaken D.took dest.old dest.new }
     ensures flushed { OnOk result (D.flushed dest.new) }
     ensures reported { IfErr result (IsOfDestination (D.fails dest.new) (D.full dest.new)) }
 {
@@ -143,9 +145,9 @@ where
     ensures fed { Fed (S.remaining source.old) (S.remaining source.new)
         input.old.writer.end input.new.writer.end }
     ensures input_ended { OnOk result.0 (IsAtEnd (S.remaining source.new)) }
-    ensures poured { Poured (D.contents dest.old) (D.contents dest.new)
+    ensures poured { Poured D.contents D.took dest.old dest.new
         output.old.reader.end output.new.reader.end }
-    ensures all { OnOk result.1 (PouredAll (D.contents dest.old) (D.contents dest.new)
+    ensures all { OnOk result.1 (PouredAll D.contents D.took dest.old dest.new
         output.old.reader.end output.new.reader.end) }
     ensures drained { OnOk result.1 (IsDrained output.new.reader.end input.new.writer.end) }
     ensures input_told { IfErr result.0 (IsOfSource (S.fails source.new)) }
@@ -192,10 +194,10 @@ where
         writer.old.end writer.new.end }
     ensures input_ended { IfSome result.0 (λ r. OnOk r (IsAtEnd (S.remaining source.new))) }
     ensures fill_given_up { IfNone result.0 (IsOpen writer.new.end) }
-    ensures poured { Poured (D.contents dest.old) (D.contents dest.new)
+    ensures poured { Poured D.contents D.took dest.old dest.new
         output.old.reader.end output.new.reader.end }
-    ensures all { IfSome result.1 (λ r. OnOk r (PouredAll (D.contents dest.old)
-        (D.contents dest.new) output.old.reader.end output.new.reader.end)) }
+    ensures all { IfSome result.1 (λ r. OnOk r (PouredAll D.contents D.took dest.old dest.new
+        output.old.reader.end output.new.reader.end)) }
     ensures drained { IfSome result.1 (λ r. OnOk r (IsEnded output.new.reader.end)) }
     ensures input_told { IfSome result.0 (λ r. IfErr r (IsOfSource (S.fails source.new))) }
     ensures reported { IfSome result.1 (λ r. IfErr r

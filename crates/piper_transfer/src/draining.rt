@@ -35,9 +35,9 @@ where
     R: Wait + Clock,
     D: Destination,
     requires chunk { 0 < chunk }
-    ensures poured { Poured (D.contents dest.old) (D.contents dest.new)
+    ensures poured { Poured D.contents D.took dest.old dest.new
         output.old.reader.end output.new.reader.end }
-    ensures all { IfSome result (λ r. OnOk r (PouredAll (D.contents dest.old) (D.contents dest.new)
+    ensures all { IfSome result (λ r. OnOk r (PouredAll D.contents D.took dest.old dest.new
         output.old.reader.end output.new.reader.end)) }
     ensures ended { IfSome result (λ r. OnOk r (IsEnded output.new.reader.end)) }
     ensures reported { IfSome result (λ r. IfErr r
@@ -66,9 +66,9 @@ where
     R: Wait + Clock,
     D: Destination,
     requires chunk { 0 < chunk }
-    ensures poured { Poured (D.contents dest.old) (D.contents dest.new)
+    ensures poured { Poured D.contents D.took dest.old dest.new
         output.old.reader.end output.new.reader.end }
-    ensures all { OnOk result (PouredAll (D.contents dest.old) (D.contents dest.new)
+    ensures all { OnOk result (PouredAll D.contents D.took dest.old dest.new
         output.old.reader.end output.new.reader.end) }
     ensures ended { OnOk result (IsEnded output.new.reader.end) }
     ensures reported { IfErr result (IsOfDestination (D.fails dest.new) (D.full dest.new)) }
@@ -111,7 +111,7 @@ where
     R: Wait + Clock,
     D: Destination,
     requires chunk { 0 < chunk }
-    ensures poured { PouredAll (D.contents dest.old) (D.contents dest.new)
+    ensures poured { PouredAll D.contents D.took dest.old dest.new
         reader.old.end reader.new.end }
     ensures ended { OnOk result (IsEnded reader.new.end) }
     ensures reported { IfErr result (IsOfDestination (D.fails dest.new) (D.full dest.new)) }
@@ -159,7 +159,7 @@ where
     R: Wait + Clock,
     D: Destination,
     requires chunk { 0 < chunk }
-    ensures poured { PouredAll (D.contents dest.old) (D.contents dest.new)
+    ensures poured { PouredAll D.contents D.took dest.old dest.new
         reader.old.end reader.new.end }
     ensures ended { IfReady result (λ r. OnOk r (IsEnded reader.new.end)) }
     ensures reported { IfReady result (λ r. IfErr r
@@ -193,7 +193,7 @@ where
     D: Destination,
     requires chunk { 0 < chunk }
     requires some { 0 < length reader.old.end.known }
-    ensures poured { PouredAll (D.contents dest.old) (D.contents dest.new)
+    ensures poured { PouredAll D.contents D.took dest.old dest.new
         reader.old.end reader.new.end }
     ensures known { StaysKnown reader.old.end reader.new.end }
     ensures capacity { reader.new.end.capacity ≡ reader.old.end.capacity }
@@ -216,7 +216,7 @@ where
     D: Destination,
     requires chunk { 0 < chunk }
     requires some { 0 < length reader.old.end.known }
-    ensures poured { PouredAll (D.contents dest.old) (D.contents dest.new)
+    ensures poured { PouredAll D.contents D.took dest.old dest.new
         reader.old.end reader.new.end }
     ensures known { StaysKnown reader.old.end reader.new.end }
     ensures capacity { reader.new.end.capacity ≡ reader.old.end.capacity }

@@ -2,6 +2,7 @@
 ghost use Rattle.std.specs.Prelude.{◌≡◌, ◌<◌, ℕ, List, length, Option, None, Ok, OnOk, IfErr, ⊤};
 ghost use Rattle.std.specs.Io.{ReadsAtMost, WritesAtMost};
 ghost use Rattle.std.specs.Io.KnownBytes.{Keeps, ReadConsumes, WriteAppends};
+ghost use Rattle.piper_transfer.specs.Taken.{StaysTaken, WriteTakes};
 
 use std::io;
 use std::io::{Read, Write};
@@ -28,13 +29,16 @@ pub trait Source {
 
 /// What a transfer writes.
 ///
-/// It is a writer that can say what it has flushed, and which errors it fails with. A writer of
-/// which that is not to be said is one as a `Plain`.
+/// It is a writer that can say what became of the bytes that it took, what it has flushed, and
+/// which errors it fails with. A writer of which that is not to be said is one as a `Plain`.
 pub trait Destination {
     ghost use Rattle.std.specs.declared.io.Error.{Error};
 
     // the bytes that it holds, where they are known
     ghost contents: { Self → Option (List ℕ) } = { λ _. None };
+
+    // its parts have these names, if it has any, and its writes have taken these bytes
+    ghost took: { Self → List (List ℕ) → List ℕ → Type 0 } = { λ _ _ _. ⊤ };
 
     // a flush has succeeded, and left it so
     ghost flushed: { Self → Type 0 } = { λ _. ⊤ };
@@ -49,12 +53,14 @@ pub trait Destination {
     fn write(&mut self, buf: &[u8]) -> io::Result<usize>
         ensures bound { WritesAtMost result buf.now }
         ensures bytes { WriteAppends (contents self.old) (contents self.new) result buf.now }
+        ensures taken { WriteTakes took self.old self.new result buf.now }
         ensures full { result ≡ Ok 0 → 0 < length buf.now → full self.new }
         ensures error { IfErr result (fails self.new) };
 
     /// Sends what was written on its way.
     fn flush(&mut self) -> io::Result<()>
         ensures bytes { Keeps (contents self.old) (contents self.new) }
+        ensures taken { StaysTaken took self.old self.new }
         ensures done { OnOk result (flushed self.new) }
         ensures error { IfErr result (fails self.new) };
 }

@@ -38,7 +38,7 @@ where
     ensures fed { Fed (S.remaining source.old) (S.remaining source.new)
         writer.old.end writer.new.end }
     ensures input_ended { OnOk result.0 (IsAtEnd (S.remaining source.new)) }
-    ensures poured { PouredAll (D.contents dest.old) (D.contents dest.new)
+    ensures poured { PouredAll D.contents D.took dest.old dest.new
         reader.old.end reader.new.end }
     ensures all { OnOk result.1 (reader.new.end.taken ≡ writer.new.end.sent) }
     ensures input_told { IfErr result.0 (IsOfSource (S.fails source.new)) }
@@ -81,7 +81,7 @@ where
     requires pair { writer.old.end.ring ≡ reader.old.end.ring }
     requires some { 0 < reader.old.end.capacity }
     ensures writer { WriterRefreshed writer.old.end writer.new.end }
-    ensures poured { PouredAll (D.contents dest.old) (D.contents dest.new)
+    ensures poured { PouredAll D.contents D.took dest.old dest.new
         reader.old.end reader.new.end }
     ensures capacity { reader.new.end.capacity ≡ reader.old.end.capacity }
     ensures room { OnOk result (0 < writer.new.end.room) }
@@ -110,7 +110,7 @@ where
     requires pair { writer.old.end.ring ≡ reader.old.end.ring }
     requires some { 0 < reader.old.end.capacity }
     ensures writer { WriterRefreshed writer.old.end writer.new.end }
-    ensures poured { PouredAll (D.contents dest.old) (D.contents dest.new)
+    ensures poured { PouredAll D.contents D.took dest.old dest.new
         reader.old.end reader.new.end }
     ensures capacity { reader.new.end.capacity ≡ reader.old.end.capacity }
     ensures all { OnOk result (reader.new.end.taken ≡ writer.new.end.sent) }
@@ -135,7 +135,7 @@ where
     R: Wait + Clock,
     D: Destination,
     requires chunk { 0 < chunk }
-    ensures poured { PouredAll (D.contents dest.old) (D.contents dest.new)
+    ensures poured { PouredAll D.contents D.took dest.old dest.new
         reader.old.end reader.new.end }
     ensures known { StaysKnown reader.old.end reader.new.end }
     ensures capacity { reader.new.end.capacity ≡ reader.old.end.capacity }

@@ -3,6 +3,7 @@
 ghost use Rattle.std.specs.Prelude.{◌≡◌, ◌<◌, ◌↔◌, IsTrue, length, false, Ok, OnOk, IfErr};
 ghost use Rattle.std.specs.Io.{ReadsAtMost, WritesAtMost};
 ghost use Rattle.std.specs.Io.KnownBytes.{Keeps, ReadConsumes, WriteAppends};
+ghost use Rattle.piper_transfer.specs.Taken.{StaysTaken, WriteTakes};
 ghost use Rattle.piper_transfer.specs.Transfer.{IsLasting, IsOfSource};
 
 use crate::ends::{Destination, Source};
@@ -93,6 +94,7 @@ where
     D: Destination,
     ensures bound { WritesAtMost result buf.now }
     ensures bytes { WriteAppends (D.contents dest.old) (D.contents dest.new) result buf.now }
+    ensures taken { WriteTakes D.took dest.old dest.new result buf.now }
     ensures full { result ≡ Ok 0 → 0 < length buf.now → D.full dest.new }
     ensures error { IfErr result (D.fails dest.new) }
     ensures lasting { IfErr result IsLasting }
@@ -113,6 +115,7 @@ where
     R: Wait + Clock,
     D: Destination,
     ensures bytes { Keeps (D.contents dest.old) (D.contents dest.new) }
+    ensures taken { StaysTaken D.took dest.old dest.new }
     ensures done { OnOk result (D.flushed dest.new) }
     ensures error { IfErr result (D.fails dest.new) }
     ensures lasting { IfErr result IsLasting }

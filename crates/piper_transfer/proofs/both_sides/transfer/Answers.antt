@@ -18,7 +18,7 @@ returns-in_err-input g c =
     let memory : IfErr c.from_residual.result IsOfMemory = search rules in
     let never : OnOk c.from_residual.result ⊥ = search rules in
     record {
-      moved = nothing_moved c.from_residual.result _ _ (search rules);
+      moved = nothing_moved g.D.Destination.contents g.D.Destination.took _ c.from_residual.result _ (search rules);
       flushed = λ writes. absurd (refused_writes_none c.from_residual.result never memory writes);
       reported = refused_is_told c.from_residual.result _ _ _ memory;
     }
@@ -35,8 +35,9 @@ returns g c =
     let r2 = c.meet.new.self.end in
     let i = remaining c.args.source.now in
     let j = remaining both.new.source in
-    let o = contents c.args.dest.now in
-    let p = contents both.new.dest in
+    let took = g.D.Destination.took in
+    let o = c.args.dest.now in
+    let p = both.new.dest in
     let s = g.S.Source.fails both.new.source in
     let new_writer = c.in_ok-input.ensures.input.sent in
     let new_reader = c.in_ok-input.ensures.output.taken in
@@ -47,9 +48,9 @@ returns g c =
     let fifo = c.meet.ensures.fifo ∙ sent in
     elim c.match-drained.branch [
       | in-Ok w ↦
-          let q = contents w.flush.new.dest in
-          let drained : PouredAll o p r0 r1 = search rules in
-          let poured : PouredAll o q r0 r2 = poured_kept o p q r0 r2 (poured_same o p r0 r1 r2 drained met.taken met.end.ring) w.flush.ensures.kept in
+          let q = w.flush.new.dest in
+          let drained : PouredAll contents took o p r0 r1 = search rules in
+          let poured : PouredAll contents took o q r0 r2 = poured_kept contents took o p q r0 r2 (poured_same contents took o p r0 r1 r2 drained met.taken met.end.ring) w.flush.ensures.kept w.flush.ensures.taken in
           let whole : IsDrained r1 w1 = rw w.in-Ok.is at both.ensures.drained in
           let none : r2.known ≡ [] = none_known r1 r2 w1 c.meet.new.other.end whole met c.meet.ensures.fifo sent c.meet.ensures.closed.all
           (subst (λ (r : ReadView). KnowsEnd r → r2.all ≡ r.all) reads c.meet.ensures.more.all) in
@@ -58,7 +59,7 @@ returns g c =
           let d = g.D.Destination.fails w.flush.new.dest in
           let full = g.D.Destination.full w.flush.new.dest in
           rw w.dest-is (record {
-            moved = nothing_lost c.match-drained.ended i j o q w0 w1 r0 r2 new_writer new_reader both.ensures.fed poured fifo (λ _. none) ended;
+            moved = nothing_lost contents took o q c.match-drained.ended i j w0 w1 r0 r2 new_writer new_reader both.ensures.fed poured fifo (λ _. none) ended;
             flushed = flushed_first w.flush.result both.result.0 c.match-drained.ended d full _ same w.flush.ensures.flushed w.flush.ensures.reported;
             reported = flush_is_told w.flush.result both.result.0 c.match-drained.ended s d full same w.flush.ensures.reported both.ensures.input_told;
           })
@@ -69,7 +70,7 @@ returns g c =
           let failed : ¬ WritesAll c.match-drained.ended = failed_writes_not c.match-drained.ended w.in-Err.error d full w.ended-is reported in
           let ended : OnOk c.match-drained.ended (IsAtEnd j) = rw w.ended-is tt in
           rw w.dest-is (record {
-            moved = output_failed c.match-drained.ended i j o p w0 w1 r0 r1 r2 new_writer new_reader both.ensures.fed both.ensures.poured met.taken fifo failed ended;
+            moved = output_failed contents took o p c.match-drained.ended i j w0 w1 r0 r1 r2 new_writer new_reader both.ensures.fed both.ensures.poured met.taken fifo failed ended;
             flushed = λ writes. absurd (failed writes);
             reported = failure_is_told c.match-drained.ended w.in-Err.error s d full w.ended-is reported;
           })

@@ -3,4 +3,4 @@ use Rattle.piper_transfer.proofs.Sides.{poured_nothing}
 use Rattle.piper_transfer.proofs.draining.drain_from.Goals as goal
 
 pub returns-then-not-wait-clause-poured : goal.returns-then-not-wait-clause-poured
-returns-then-not-wait-clause-poured g c = poured_nothing _ _
+returns-then-not-wait-clause-poured g c = poured_nothing _ _ _ _

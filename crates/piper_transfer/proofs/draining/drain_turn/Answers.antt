@@ -3,19 +3,19 @@ use Rattle.piper_transfer.proofs.Sides.{poured_none, poured_looked, poured_round
 use Rattle.piper_transfer.proofs.draining.drain_turn.Goals as goal
 
 pub loop-init : goal.loop-init
-loop-init g c = (tt, tt, poured_none _ _)
+loop-init g c = (tt, tt, poured_none _ _ _ _)
 
 pub returns-in-Pending-clause-poured : goal.returns-in-Pending-clause-poured
-returns-in-Pending-clause-poured g c = poured_looked _ _ _ _ _ c.loop.invariant.2 c.poll.ensures.found.looked
+returns-in-Pending-clause-poured g c = poured_looked _ _ _ _ _ _ _ c.loop.invariant.2 c.poll.ensures.found.looked
 
 pub returns-in-Ready-Ok-false-clause-poured : goal.returns-in-Ready-Ok-false-clause-poured
-returns-in-Ready-Ok-false-clause-poured g c = poured_looked _ _ _ _ _ c.loop.invariant.2 c.poll.ensures.found.looked
+returns-in-Ready-Ok-false-clause-poured g c = poured_looked _ _ _ _ _ _ _ c.loop.invariant.2 c.poll.ensures.found.looked
 
 pub returns-in-Ready-Err-clause-poured : goal.returns-in-Ready-Err-clause-poured
-returns-in-Ready-Err-clause-poured g c = poured_looked _ _ _ _ _ c.loop.invariant.2 c.poll.ensures.found.looked
+returns-in-Ready-Err-clause-poured g c = poured_looked _ _ _ _ _ _ _ c.loop.invariant.2 c.poll.ensures.found.looked
 
 pub returns-in-Err-clause-poured : goal.returns-in-Err-clause-poured
-returns-in-Err-clause-poured g c = poured_round _ _ _ _ _ _ _ c.loop.invariant.2 c.poll.ensures.found.looked c.write_some.ensures.poured
+returns-in-Err-clause-poured g c = poured_round _ _ _ _ _ _ _ _ _ c.loop.invariant.2 c.poll.ensures.found.looked c.write_some.ensures.poured
 
 pub loop-preserved : goal.loop-preserved
-loop-preserved g c = (tt, tt, poured_round _ _ _ _ _ _ _ c.loop.invariant.2 c.poll.ensures.found.looked c.write_some.ensures.poured)
+loop-preserved g c = (tt, tt, poured_round _ _ _ _ _ _ _ _ _ c.loop.invariant.2 c.poll.ensures.found.looked c.write_some.ensures.poured)

@@ -7,6 +7,6 @@ use Rattle.piper_transfer.proofs.one_thread.drain_known.Given as goal
 abbrev pub invariant-loop : goal.invariant-loop
 invariant-loop g l =
     (goal.iterator-loop g).can_next l.iterator' × (goal.iterator-loop g).is_finite l.iterator'
-    × PouredAll (g.D.Destination.contents l.initial.dest) (g.D.Destination.contents l.dest) l.initial.reader.end l.reader.end
+    × PouredAll g.D.Destination.contents g.D.Destination.took l.initial.dest l.dest l.initial.reader.end l.reader.end
     × StaysKnown l.initial.reader.end l.reader.end
     × (l.reader.end.capacity ≡ l.initial.reader.end.capacity)

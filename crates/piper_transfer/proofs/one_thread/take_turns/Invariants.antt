@@ -9,5 +9,5 @@ invariant-loop g l =
     (goal.iterator-loop g).can_next l.iterator' × (goal.iterator-loop g).is_finite l.iterator'
     × Fed (g.S.Source.remaining l.initial.source) (g.S.Source.remaining l.source) l.initial.writer.end l.writer.end
     × IsOpen l.writer.end
-    × PouredAll (g.D.Destination.contents l.initial.dest) (g.D.Destination.contents l.dest) l.initial.reader.end l.reader.end
+    × PouredAll g.D.Destination.contents g.D.Destination.took l.initial.dest l.dest l.initial.reader.end l.reader.end
     × (l.writer.end.ring ≡ l.reader.end.ring) × (0 < l.reader.end.capacity)
