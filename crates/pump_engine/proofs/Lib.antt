@@ -1,2 +1,5 @@
+mod Copied
+mod Passed
 mod Said
+mod Tees
 mod Worked

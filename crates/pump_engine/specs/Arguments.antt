@@ -1,6 +1,6 @@
 -- What the words on the command line ask for. `clap` says what each argument then has.
-use Rattle.std.specs.Prelude.{◌≡◌, ◌<◌, ◌≤◌, ℕ, true, false, List, [], ◌∷◌, Option, Some, None, IsSome, IsNone, codes, unwrap_or}
-use Rattle.clap.specs.Words.{AddsArg, App, Row, Rule, Text, app_of, fault_of, first_of, one_of, matches_of, takes}
+use Rattle.std.specs.Prelude.{◌≡◌, ◌<◌, ◌≤◌, ℕ, true, false, List, [], ◌∷◌, Option, Some, None, IsSome, IsNone, codes, map, unwrap_or}
+use Rattle.clap.specs.Words.{AddsArg, App, Row, Rule, Text, all_of, app_of, fault_of, first_of, one_of, matches_of, takes}
 use Rattle.clap.specs.Simple.{on_top, with_rule}
 use Rattle.clap.specs.Words.{first_value, found_of, new_app, new_rule}
 use Rattle.clap.specs.declared.builder.action.ArgAction.TheVariants.{Append, Set, SetTrue}
@@ -89,6 +89,10 @@ IsSizeOf text n = WritesSize text n × (0 < n) × (n ≤ greatest)
 abbrev pub IsSize : Text → Type 0
 IsSize text = (n : ℕ) × IsSizeOf text n
 
+-- the files that get copies
+abbrev pub tees_of : List Text → List Text
+tees_of words = unwrap_or (all_of (codes "tee") (said_by words)) []
+
 -- what these words ask for
 pub record AskFor (words : List Text) (arguments : Arguments) : Type 0 where
   pub capacity : IsSizeOf (capacity_text words) arguments.sizes.capacity
@@ -108,6 +112,7 @@ pub record AskFor (words : List Text) (arguments : Arguments) : Type 0 where
   pub output : first_of (codes "output") (said_by words) ≡ None → arguments.texts.output ≡ None
   pub no_sum : one_of (codes "sha256") (said_by words) ≡ Some (codes "false")
       → arguments.shows_sum ≡ false
+  pub tees : map (λ name. name.now) arguments.tees.items ≡ tees_of words
   pub force : one_of (codes "force") (said_by words) ≡ Some (codes "true")
       → arguments.overwrites ≡ true
   pub no_force : one_of (codes "force") (said_by words) ≡ Some (codes "false")

@@ -1,5 +1,5 @@
 -- What a line of progress says.
-use Rattle.std.specs.Prelude.{ℕ, ◌*◌, ◌/◌, ◌%◌, List, [], ◌++◌, Option, Some, None, codes, decimal, min, nat_le, if◌then◌else◌}
+use Rattle.std.specs.Prelude.{ℕ, ◌*◌, ◌/◌, ◌%◌, List, ◌++◌, Option, Some, None, codes, decimal, min, nat_le, if◌then◌else◌}
 use Rattle.std.specs.Duration.{as_nanos}
 use Rattle.std.specs.declared.time.Duration.{Duration}
 use Rattle.pump_engine.specs.declared.lines.Done.{Done}

@@ -1,6 +1,7 @@
 -- What a whole run does.
-use Rattle.std.specs.Prelude.{◌≡◌, ◌⊎◌, ℕ, Bool, List, Option, Result, IfErr}
-use Rattle.piper_transfer.specs.Transfer.{Transfers, WritesAll}
+use Rattle.std.specs.Prelude.{◌≡◌, ◌⊎◌, ℕ, Bool, List, [], ◌++◌, Option, Result, IfErr, OnOk}
+use Rattle.std.specs.Io.KnownBytes.{Appends, Consumes, IsAtEnd}
+use Rattle.piper_transfer.specs.Transfer.{WritesAll}
 use Rattle.piper_transfer.specs.declared.error.TransferError.{TransferError}
 use Rattle.pump_engine.specs.Ended.{EndsAs, IsEarly}
 use Rattle.pump_engine.specs.declared.ended.Ended.{Ended}
@@ -13,22 +14,30 @@ pub record StopsEarly
   pub input : input_new ≡ input_old
   pub output : output_new ≡ output_old
 
--- it ended as a transfer did: the output was flushed where that one wrote all, and the error that
--- is reported is one of the side that it names, whatever became of the copies
+-- it ended as a transfer did: what was written is a front of what the input gave, and all of it
+-- where the transfer wrote all; then it was flushed. The copies and the sum got what was written,
+-- and the error that is reported is one of the side that it names, whatever became of the copies
 pub record EndsWithTransfer
     (input_old input_new output_old output_new : Option (List ℕ))
+    (IsCopied : List ℕ → Type 0)
     (is_flushed : Type 0)
     (IsFailed : TransferError → Type 0)
     (has_copy_failed : Bool)
     (e : Ended) : Type 0 where
   pub answer : Result Unit TransferError
   pub ends : EndsAs answer has_copy_failed e
-  pub moved : Transfers answer input_old input_new output_old output_new
+  pub written : List ℕ
+  pub left : List ℕ
+  pub given : Consumes input_old input_new (written ++ left)
+  pub appended : Appends output_old output_new written
+  pub copied : IsCopied written
+  pub all : WritesAll answer → left ≡ []
+  pub ended : OnOk answer (IsAtEnd input_new)
   pub flushed : WritesAll answer → is_flushed
   pub reported : IfErr answer IsFailed
 
 -- one of the two
 abbrev pub Runs : (input_old input_new output_old output_new : Option (List ℕ))
-    → Type 0 → (TransferError → Type 0) → Bool → Ended → Type 0
-Runs i j o p is_flushed IsFailed has_copy_failed e =
-    StopsEarly i j o p e ⊎ EndsWithTransfer i j o p is_flushed IsFailed has_copy_failed e
+    → (List ℕ → Type 0) → Type 0 → (TransferError → Type 0) → Bool → Ended → Type 0
+Runs i j o p IsCopied is_flushed IsFailed has_copy_failed e =
+    StopsEarly i j o p e ⊎ EndsWithTransfer i j o p IsCopied is_flushed IsFailed has_copy_failed e

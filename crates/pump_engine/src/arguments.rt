@@ -1,6 +1,6 @@
 //! The words on the command line.
-ghost use Rattle.std.specs.Prelude.{◌≡◌, IfOk, IfErr, codes, map, option_map, string_bytes};
-ghost use Rattle.clap.specs.Words.{app_of, first_value, found_of, kind_of};
+ghost use Rattle.std.specs.Prelude.{◌≡◌, [], IfOk, IfErr, codes, map, option_map, string_bytes, unwrap_or};
+ghost use Rattle.clap.specs.Words.{app_of, first_value, found_of, kind_of, matched_of, raw_values};
 ghost use Rattle.pump_engine.specs.Arguments.{AddsRule, file_rule, flag_rule, pump_command, size_rule, tee_rule};
 ghost use Rattle.pump_engine.specs.Arguments.{AskFor, AreTaken, IsSize, IsSizeOf, text_or};
 ghost use Rattle.pump_engine.specs.Ended.{IsOfWords};
@@ -102,7 +102,9 @@ fn texts_of<'a>(matches: &ArgMatches<'a>) -> Texts<'a>
 }
 
 fn tees<'a>(alloc: Global, matches: &ArgMatches<'a>) -> Result<Vec<&'a str>, Error>
-    ensures { IfErr result (λ error. kind_of error ≡ ErrorKind.OutOfMemory) }
+    ensures refused { IfErr result (λ error. kind_of error ≡ ErrorKind.OutOfMemory) }
+    ensures texts { IfOk result (λ tees. map (λ text. text.now) tees.items
+        ≡ unwrap_or (option_map raw_values (matched_of (found_of matches.now) (codes "tee"))) []) }
 {
     let mut tees = Vec::new(alloc);
     if let Some(texts) = matches.get_strs("tee") {

@@ -1,6 +1,11 @@
 //! What is done with the bytes that pass: they are copied, summed up, and slowed down.
-ghost use Rattle.std.specs.Prelude.{◌≡◌, ◌<◌, ◌≤◌};
+ghost use Rattle.std.specs.Prelude.{◌≡◌, ◌<◌, ◌≤◌, ◌++◌, ◌∷◌, [], ℕ, List, IfSome};
+ghost use Rattle.std.specs.List.{All};
+ghost use Rattle.pump_engine.specs.Asked.{sum_asked};
+ghost use Rattle.pump_engine.specs.Copies.{HavePassed, IsCopy, IsSumOf, has_failed, name_of_sum, names_of};
+ghost use Rattle.sha2.specs.Sha256.{sha256};
 
+use crate::files::NamedFile;
 use crate::pace::Pace;
 use crate::sinks::Sink;
 use sha2::{Digest, Sha256};
@@ -8,49 +13,69 @@ use std::time::Clock;
 
 /// What is done with the bytes that the output took.
 #[derive(Drop)]
-pub struct Copies<'a, R: Clock + Eprint> {
+pub struct Copies<'a, R: Clock + Eprint, F: NamedFile> {
     rt: &'a R,
     /// The files that get them, too.
-    tees: Vec<Sink>,
-    sum: Option<Sha256>,
-    pace: Option<Pace>,
-    /// Whether a file did not get them, which was reported.
-    pub has_failed: bool,
+    pub tees: Vec<Sink<F>>,
+    /// The sum of what passed, if it is wanted.
+    pub sum: Option<Sha256>,
+    /// The sum of all that passed, once it was reported.
+    pub digest: Option<[u8; 32]>,
+    pub pace: Option<Pace>,
 }
 
-impl<'a, R: Clock + Eprint> Copies<'a, R> {
+impl<'a, R: Clock + Eprint, F: NamedFile> Copies<'a, R, F> {
     /// Nothing is done with them until that is asked for.
-    pub fn new(rt: &'a R, tees: Vec<Sink>) -> Copies<'a, R> {
+    pub fn new(rt: &'a R, tees: Vec<Sink<F>>) -> Copies<'a, R, F>
+        ensures { result.tees ≡ tees }
+    {
         Copies {
             rt,
             tees,
             sum: None,
+            digest: None,
             pace: None,
-            has_failed: false,
         }
+    }
+
+    /// Whether a file did not get them, which was reported.
+    pub(crate) fn has_failed(&self) -> bool
+        ensures { result ≡ has_failed self.now.tees.items }
+    {
+        self.tees.iter().any(|tee| tee.has_failed)
     }
 
     /// Their files, whether their sum is wanted, and how many may pass in a second.
-    pub(crate) fn ask(&mut self, tees: Vec<Sink>, wants_sum: bool, rate: Option<usize>) {
+    pub(crate) fn ask(&mut self, tees: Vec<Sink<F>>, wants_sum: bool, rate: Option<usize>)
+        ensures asked { All (IsCopy F.name F.written F.fails []) tees.items
+            → HavePassed F.name F.written F.fails self.new
+                (sum_asked wants_sum ∷ names_of tees.items) [] }
+    {
         self.tees = tees;
-        if wants_sum {
-            self.sum = Some(Sha256::new());
-        }
+        self.sum = if wants_sum { Some(Sha256::new()) } else { None };
+        self.digest = None;
         self.pace = rate.map(Pace::new);
     }
 
-    /// The sum of all that passed, if it was wanted.
-    pub(crate) fn sum(&mut self) -> Option<[u8; 32]>
-        ensures { self.new.has_failed ≡ self.old.has_failed }
+    /// Reports the sum of all that passed, if it is wanted.
+    pub(crate) fn report_sum(&mut self)
+        ensures copies { (names : List (List ℕ)) (passed : List ℕ)
+            → HavePassed F.name F.written F.fails self.old names passed
+            → HavePassed F.name F.written F.fails self.new names passed }
+        ensures tees { self.new.tees ≡ self.old.tees }
     {
-        let sum = self.sum.take()?;
-        Some(sum.finalize())
+        if let Some(digest) = digest_of(&self.sum) {
+            print_digest(self.rt, digest);
+            self.digest = Some(digest);
+        }
     }
 
     /// So many bytes are about to pass. Returns how many of them may.
     pub(crate) fn begin(&mut self, count: usize) -> usize
         ensures most { result ≤ count }
         ensures some { 0 < count → 0 < result }
+        ensures same { (self.new.tees ≡ self.old.tees) × (self.new.sum ≡ self.old.sum)
+            × (self.new.digest ≡ self.old.digest) }
     {
         match &mut self.pace {
             Some(pace) => {
@@ -63,26 +88,92 @@ impl<'a, R: Clock + Eprint> Copies<'a, R> {
 
     /// These bytes have passed. A file that can't be written is reported by its name, and gets no
     /// more; the others go on.
-    pub(crate) fn keep(&mut self, passed: &[u8]) {
-        for tee in self.tees.iter_mut() {
-            if !tee.give(self.rt, passed) {
-                self.has_failed = true;
-            }
-        }
-        if let Some(sum) = &mut self.sum {
-            sum.update(passed);
-        }
-        if let Some(pace) = &mut self.pace {
-            pace.keep(self.rt, passed.len());
-        }
+    pub(crate) fn keep(&mut self, bytes: &[u8])
+        ensures { (names : List (List ℕ)) (passed : List ℕ)
+            → HavePassed F.name F.written F.fails self.old names passed
+            → HavePassed F.name F.written F.fails self.new names (passed ++ bytes.now) }
+    {
+        give_all(self.rt, self.tees.as_mut_slice(), bytes);
+        add_to_sum(&mut self.sum, bytes);
+        self.digest = None;
+        keep_pace(self.rt, &mut self.pace, bytes.len());
     }
 
     /// Flushes the files, and reports of those that can't be.
-    pub(crate) fn flush(&mut self) {
-        for tee in self.tees.iter_mut() {
-            if !tee.finish(self.rt) {
-                self.has_failed = true;
-            }
+    pub(crate) fn flush(&mut self)
+        ensures { (names : List (List ℕ)) (passed : List ℕ)
+            → HavePassed F.name F.written F.fails self.old names passed
+            → HavePassed F.name F.written F.fails self.new names passed }
+    {
+        finish_all(self.rt, self.tees.as_mut_slice());
+    }
+}
+
+ghost use Rattle.pump_engine.specs.Copies.{IsCopy, names_of};
+
+// These bytes have passed.
+fn add_to_sum(sum: &mut Option<Sha256>, bytes: &[u8])
+    ensures sum { (passed : List ℕ) → IsSumOf passed sum.old
+        → IsSumOf (passed ++ bytes.now) sum.new }
+    ensures name { name_of_sum sum.new ≡ name_of_sum sum.old }
+{
+    if let Some(hasher) = sum {
+        hasher.update(bytes);
+    }
+}
+
+fn digest_of(sum: &Option<Sha256>) -> Option<[u8; 32]>
+    ensures { IfSome result (λ digest. (passed : List ℕ) → IsSumOf passed sum.now
+        → digest ≡ sha256 passed) }
+{
+    match sum {
+        Some(hasher) => {
+            let hasher = hasher.clone().ok()?;
+            Some(hasher.finalize())
         }
+        None => None,
+    }
+}
+
+fn keep_pace(clock: &impl Clock, pace: &mut Option<Pace>, count: usize) {
+    if let Some(pace) = pace {
+        pace.keep(clock, count);
+    }
+}
+
+fn print_digest(rt: &impl Eprint, digest: [u8; 32]) {
+    // There is nowhere left to say that standard error is closed.
+    let _ = eprint!(rt; "SHA-256: ");
+    for byte in &digest {
+        let _ = eprint!(rt; "{:02x}", byte);
+    }
+    let _ = eprintln!(rt; "");
+}
+
+// Gives each file these bytes.
+fn give_all<R, F>(rt: &R, tees: &mut [Sink<F>], bytes: &[u8])
+where
+    R: Eprint,
+    F: NamedFile,
+    ensures copies { (passed : List ℕ) → All (IsCopy F.name F.written F.fails passed) tees.old
+        → All (IsCopy F.name F.written F.fails (passed ++ bytes.now)) tees.new }
+    ensures names { names_of tees.new ≡ names_of tees.old }
+{
+    for tee in tees.iter_mut() {
+        tee.give(rt, bytes);
+    }
+}
+
+// Flushes each file.
+fn finish_all<R, F>(rt: &R, tees: &mut [Sink<F>])
+where
+    R: Eprint,
+    F: NamedFile,
+    ensures copies { (passed : List ℕ) → All (IsCopy F.name F.written F.fails passed) tees.old
+        → All (IsCopy F.name F.written F.fails passed) tees.new }
+    ensures names { names_of tees.new ≡ names_of tees.old }
+{
+    for tee in tees.iter_mut() {
+        tee.finish(rt);
     }
 }

@@ -1,40 +1,40 @@
 //! What the program reads and writes: the standard streams or files.
-ghost use Rattle.std.specs.Prelude.{◌≡◌};
+ghost use Rattle.std.specs.Prelude.{◌≡◌, ℕ, List};
+ghost use Rattle.pump_engine.specs.Copies.{HavePassed};
 ghost use Rattle.pump_engine.specs.Ends.{drain_bytes, inlet_bytes, DrainFails, InletFails};
 ghost use Rattle.pump_engine.specs.Ends.{IsFlushed, IsFull};
 
 use crate::copies::Copies;
+use crate::files::NamedFile;
 use crate::outcome::{Failure, Outcome};
 use crate::progress::{Progress, Watched};
 use crate::sinks::Sink;
 use piper_transfer::{Destination, Meter, Source, TransferError, grants_thread, is_lasting};
-use std::fs::File;
 use std::io;
-use std::io::{Read, Write};
 use std::sync::Wait;
 use std::thread::Threads;
 use std::time::Clock;
 
 /// What is read.
 #[derive(Drop)]
-pub enum Inlet<S: Source + Drop> {
+pub enum Inlet<S: Source + Drop, F: NamedFile> {
     Standard(S),
-    File(File),
+    File(F),
 }
 
 /// What is written.
 #[derive(Drop)]
-pub enum Drain<D: Destination + Drop> {
+pub enum Drain<D: Destination + Drop, F: NamedFile> {
     Standard(D),
-    File(Sink),
+    File(Sink<F>),
 }
 
 /// What is written, with all that is to be done with the bytes that pass.
 #[derive(Drop)]
-pub struct Outlet<'a, R: Wait + Clock + Eprint, D: Destination + Drop> {
+pub struct Outlet<'a, R: Wait + Clock + Eprint, D: Destination + Drop, F: NamedFile> {
     pub rt: &'a R,
-    pub drain: Drain<D>,
-    pub copies: Copies<'a, R>,
+    pub drain: Drain<D, F>,
+    pub copies: Copies<'a, R, F>,
     /// Where a failure of the drain is reported at once.
     pub outcome: &'a Outcome,
     pub meter: &'a Meter,
@@ -42,7 +42,12 @@ pub struct Outlet<'a, R: Wait + Clock + Eprint, D: Destination + Drop> {
     pub progress: Option<Progress>,
 }
 
-impl<R: Wait + Threads + Clock + Eprint, D: Destination + Drop> Outlet<'_, R, D> {
+impl<R, D, F> Outlet<'_, R, D, F>
+where
+    R: Wait + Threads + Clock + Eprint,
+    D: Destination + Drop,
+    F: NamedFile,
+{
     /// What a thread that watches is to report. Where none is granted, the output reports it.
     pub(crate) fn ask_progress(&mut self, asked: Option<Watched>) -> Option<Watched>
         ensures { (self.new.drain ≡ self.old.drain) × (self.new.copies ≡ self.old.copies) }
@@ -59,75 +64,88 @@ impl<R: Wait + Threads + Clock + Eprint, D: Destination + Drop> Outlet<'_, R, D>
     /// that was wanted and all that the input gave was written.
     pub(crate) fn report_rest(&mut self, moved: &Result<(), TransferError>)
         ensures drain { self.new.drain ≡ self.old.drain }
-        ensures copies { self.new.copies.has_failed ≡ self.old.copies.has_failed }
+        ensures copies { (names : List (List ℕ)) (passed : List ℕ)
+            → HavePassed F.name F.written F.fails self.old.copies names passed
+            → HavePassed F.name F.written F.fails self.new.copies names passed }
+        ensures failed { self.new.copies.tees ≡ self.old.copies.tees }
+    {
+        self.report_last();
+        if matches!(moved, Ok(()) | Err(TransferError::Read(_))) {
+            self.copies.report_sum();
+        }
+    }
+
+    fn report_last(&mut self)
+        ensures { (self.new.drain ≡ self.old.drain) × (self.new.copies ≡ self.old.copies) }
     {
         if let Some(progress) = &mut self.progress {
             progress.report(self.rt, self.meter, true);
         }
-        let Some(sum) = self.copies.sum() else {
-            return;
-        };
-        if matches!(moved, Ok(()) | Err(TransferError::Read(_))) {
-            report_sum(self.rt, sum);
-        }
     }
 }
 
-// Reports the sum of what passed.
-fn report_sum(rt: &impl Eprint, digest: [u8; 32]) {
-    // There is nowhere left to say that standard error is closed.
-    let _ = eprint!(rt; "SHA-256: ");
-    for byte in &digest {
-        let _ = eprint!(rt; "{:02x}", byte);
+fn report_if_due<R>(rt: &R, progress: &mut Option<Progress>, meter: &Meter)
+where
+    R: Wait + Clock + Eprint,
+{
+    if let Some(progress) = progress {
+        progress.report_if_due(rt, meter);
     }
-    let _ = eprintln!(rt; "");
 }
 
-impl<S: Source + Drop> Source for Inlet<S> {
-    ghost remaining = { inlet_bytes S.remaining };
+impl<S: Source + Drop, F: NamedFile> Source for Inlet<S, F> {
+    ghost remaining = { inlet_bytes S.remaining F.remaining };
 
-    ghost fails = { InletFails S.fails };
+    ghost fails = { InletFails S.fails F.fails };
 
     fn read(&mut self, buf: &mut [u8]) -> io::Result<usize> {
         match self {
             Inlet::Standard(standard) => standard.read(buf),
-            Inlet::File(file) => Read::read(file, buf),
+            Inlet::File(file) => file.read(buf),
         }
     }
 }
 
-impl<D: Destination + Drop> Destination for Drain<D> {
-    ghost contents = { drain_bytes D.contents };
+impl<D: Destination + Drop, F: NamedFile> Destination for Drain<D, F> {
+    ghost contents = { drain_bytes D.contents F.written };
 
     ghost flushed = { IsFlushed D.flushed };
 
     ghost full = { IsFull D.full };
 
-    ghost fails = { DrainFails D.fails };
+    ghost fails = { DrainFails D.fails F.fails };
 
     fn write(&mut self, buf: &[u8]) -> io::Result<usize> {
         match self {
             Drain::Standard(standard) => standard.write(buf),
-            Drain::File(sink) => Write::write(sink, buf),
+            Drain::File(sink) => sink.write(buf),
         }
     }
 
     fn flush(&mut self) -> io::Result<()> {
         match self {
             Drain::Standard(standard) => standard.flush(),
-            Drain::File(sink) => Write::flush(sink),
+            Drain::File(sink) => sink.flush(),
         }
     }
 }
 
-impl<R: Wait + Clock + Eprint, D: Destination + Drop> Destination for Outlet<'_, R, D> {
-    ghost contents = { λ o. drain_bytes D.contents o.drain };
+impl<R, D, F> Destination for Outlet<'_, R, D, F>
+where
+    R: Wait + Clock + Eprint,
+    D: Destination + Drop,
+    F: NamedFile,
+{
+    ghost contents = { λ o. drain_bytes D.contents F.written o.drain };
+
+    // the copies got just what the output took
+    ghost took = { λ o. HavePassed F.name F.written F.fails o.copies };
 
     ghost flushed = { λ o. IsFlushed D.flushed o.drain };
 
     ghost full = { λ o. IsFull D.full o.drain };
 
-    ghost fails = { λ o. DrainFails D.fails o.drain };
+    ghost fails = { λ o. DrainFails D.fails F.fails o.drain };
 
     // A copy that fails changes nothing of what the drain gets.
     fn write(&mut self, buf: &[u8]) -> io::Result<usize> {
@@ -139,9 +157,7 @@ impl<R: Wait + Clock + Eprint, D: Destination + Drop> Destination for Outlet<'_,
             }
             Ok(count) => {
                 self.copies.keep(&buf[..count]);
-                if let Some(progress) = &mut self.progress {
-                    progress.report_if_due(self.rt, self.meter);
-                }
+                report_if_due(self.rt, &mut self.progress, self.meter);
                 Ok(count)
             }
             Err(error) => {

@@ -6,6 +6,7 @@ pub mod arguments;
 pub mod copies;
 pub mod ended;
 pub mod ends;
+pub mod files;
 mod lines;
 mod opening;
 pub mod outcome;

@@ -3,12 +3,13 @@ ghost use Rattle.std.specs.Prelude.{⊤};
 
 use crate::copies::Copies;
 use crate::ends::{Drain, Inlet, Outlet};
+use crate::files::{NamedFile, Opens};
 use crate::outcome::Outcome;
 use crate::running::run;
 use crate::streams::Streams;
 use piper_transfer::{Destination, Meter, Source};
 use std::alloc::{AllocGlobal, Global};
-use std::fs::{File, Files};
+use std::fs::Files;
 use std::marker::Send;
 use std::random::RandomSource;
 use std::sync::{Arc, Wait};
@@ -31,7 +32,7 @@ impl Promise<()> for Nothing {
 ///
 /// It is for a thread of its own, that is not joined. So the program can end where its output has
 /// failed, though a read is under way that no byte comes for.
-pub fn run_and_report<R, S, D>(
+pub fn run_and_report<R, F, S, D>(
     rt: R,
     words: Vec<String>,
     source: S,
@@ -40,12 +41,13 @@ pub fn run_and_report<R, S, D>(
     outcome: Arc<Outcome, Global>,
 )
 where
-    R: Wait + Threads + Clock + RandomSource + AllocGlobal + Files<File = File>,
+    R: Wait + Threads + Clock + RandomSource + AllocGlobal + Files + Opens<F>,
     R: Eprint + Clone + Drop + Send + Sync,
+    F: NamedFile + Send,
     S: Source + Send + Drop,
     D: Destination + Drop,
 {
-    let mut input = Inlet::Standard(source);
+    let mut input: Inlet<S, F> = Inlet::Standard(source);
     let meter = Meter::new();
     let mut output = Outlet {
         rt: &rt,

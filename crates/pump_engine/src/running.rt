@@ -1,8 +1,9 @@
 //! The whole run, from the words on the command line to how it ends.
-ghost use Rattle.std.specs.Prelude.{◌≡◌, ◌≢◌, [], OnErr, IfOk, IfErr, map, string_bytes};
+ghost use Rattle.std.specs.Prelude.{◌≡◌, ◌≢◌, [], OnErr, OnOk, IfOk, IfErr, map, string_bytes};
 ghost use Rattle.clap.specs.Words.{fault_of};
 ghost use Rattle.piper_transfer.specs.Transfer.{IsOfSide, Transfers, WritesAll};
 ghost use Rattle.pump_engine.specs.Arguments.{NamesNoFile, ShowsAsAsked, pump_command};
+ghost use Rattle.pump_engine.specs.Copies.{HaveGot, has_failed};
 ghost use Rattle.pump_engine.specs.Ended.{IsEarly};
 ghost use Rattle.pump_engine.specs.Ends.{drain_bytes, inlet_bytes, InletFails, IsFlushed};
 ghost use Rattle.pump_engine.specs.Ends.{DrainFails, IsFull};
@@ -11,13 +12,14 @@ ghost use Rattle.pump_engine.specs.Running.{Runs};
 use crate::arguments::read_words;
 use crate::ended::Ended;
 use crate::ends::{Inlet, Outlet};
+use crate::files::{NamedFile, Opens};
 use crate::opening::{open_files, size_of};
 use crate::plan::{numbers_of, refuse_closed};
 use crate::progress::{Over, Watched, watch};
 use crate::streams::Streams;
 use piper_transfer::{Destination, Meter, Sizes, Source, TransferError, transfer};
 use std::alloc::AllocGlobal;
-use std::fs::{File, Files};
+use std::fs::Files;
 use std::marker::Send;
 use std::random::RandomSource;
 use std::sync::Wait;
@@ -38,27 +40,31 @@ struct Task {
 /// Words that are refused end it before a byte is moved. Else it ends as the transfer does: with
 /// success only where all that the input gave was written and flushed. Progress, told or not,
 /// changes neither.
-pub fn run<R, S, D>(
+pub fn run<R, F, S, D>(
     rt: &R,
     words: &[String],
-    input: &mut Inlet<S>,
-    output: &mut Outlet<'_, R, D>,
+    input: &mut Inlet<S, F>,
+    output: &mut Outlet<'_, R, D, F>,
     streams: Streams,
 ) -> Ended
 where
-    R: Wait + Threads + Clock + RandomSource + AllocGlobal + Files<File = File>,
+    R: Wait + Threads + Clock + RandomSource + AllocGlobal + Files + Opens<F>,
     R: Eprint + Clone + Drop + Send + Sync,
+    F: NamedFile + Send,
     S: Source + Send + Drop,
     D: Destination + Drop,
     ensures refused { fault_of pump_command (map string_bytes words.now) ≢ [] →
         IsEarly result × (input.new ≡ input.old) × (output.new.drain ≡ output.old.drain) }
     ensures runs { NamesNoFile (map string_bytes words.now) →
-        Runs (inlet_bytes S.remaining input.old) (inlet_bytes S.remaining input.new)
-        (drain_bytes D.contents output.old.drain) (drain_bytes D.contents output.new.drain)
+        Runs (inlet_bytes S.remaining F.remaining input.old)
+        (inlet_bytes S.remaining F.remaining input.new)
+        (drain_bytes D.contents F.written output.old.drain)
+        (drain_bytes D.contents F.written output.new.drain)
+        (HaveGot F.name F.written F.fails (map string_bytes words.now) output.new.copies)
         (IsFlushed D.flushed output.new.drain)
-        (IsOfSide (InletFails S.fails input.new)
-        (DrainFails D.fails output.new.drain)
-        (IsFull D.full output.new.drain)) output.new.copies.has_failed result }
+        (IsOfSide (InletFails S.fails F.fails input.new)
+        (DrainFails D.fails F.fails output.new.drain)
+        (IsFull D.full output.new.drain)) (has_failed output.new.copies.tees.items) result }
 {
     let task = match prepare(rt, words, input, output, streams) {
         Ok(task) => task,
@@ -68,19 +74,20 @@ where
     let watched = output.ask_progress(task.asked);
     let moved = pump(rt, input, output, task.sizes, meter, watched);
     output.report_rest(&moved);
-    Ended::of(moved, output.copies.has_failed)
+    Ended::of(moved, output.copies.has_failed())
 }
 
 // Reads the words, and opens the files that they name.
-fn prepare<R, S, D>(
+fn prepare<R, F, S, D>(
     rt: &R,
     words: &[String],
-    input: &mut Inlet<S>,
-    output: &mut Outlet<'_, R, D>,
+    input: &mut Inlet<S, F>,
+    output: &mut Outlet<'_, R, D, F>,
     streams: Streams,
 ) -> Result<Task, Ended>
 where
-    R: Wait + Clock + Eprint + AllocGlobal + Files<File = File>,
+    R: Wait + Clock + Eprint + AllocGlobal + Files + Opens<F>,
+    F: NamedFile,
     S: Source + Drop,
     D: Destination + Drop,
     ensures early { IfErr result IsEarly }
@@ -91,6 +98,8 @@ where
         (input.new ≡ input.old) × (output.new.drain ≡ output.old.drain) }
     ensures shown { IfOk result (λ task.
         ShowsAsAsked (map string_bytes words.now) task.asked) }
+    ensures copies { OnOk result (HaveGot F.name F.written F.fails
+        (map string_bytes words.now) output.new.copies []) }
 {
     let arguments = match read_words(rt.alloc(), words) {
         Ok(arguments) => arguments,
@@ -126,7 +135,7 @@ where
     S: Source + Send,
     D: Destination,
     ensures moved { Transfers result (S.remaining source.old) (S.remaining source.new)
-        (D.contents dest.old) (D.contents dest.new) }
+        D.contents D.took dest.old dest.new }
     ensures flushed { WritesAll result → D.flushed dest.new }
     ensures reported { IfErr result
         (IsOfSide (S.fails source.new) (D.fails dest.new) (D.full dest.new)) }

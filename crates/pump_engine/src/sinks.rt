@@ -1,10 +1,14 @@
 //! Files that are written. What one held is cut off at the first write, and not where it is opened.
-ghost use Rattle.std.specs.Prelude.{◌≡◌, false, IfOk, string_bytes};
+ghost use Rattle.std.specs.Prelude.{◌≡◌, ◌++◌, ℕ, List, [], false, true, OnOk, IfOk, IfErr, string_bytes};
+ghost use Rattle.std.specs.Io.{WritesAtMost};
+ghost use Rattle.std.specs.Io.KnownBytes.{append_known};
+ghost use Rattle.pump_engine.specs.Copies.{IsCopy, SameSink};
+ghost use Rattle.pump_engine.specs.Files.{Writes};
 
+use crate::files::{NamedFile, Opens};
 use std::alloc::Global;
-use std::fs::{File, Files, Metadata, OpenFile, OpenOptions};
+use std::fs::Metadata;
 use std::io;
-use std::io::Write;
 use std::os::unix::fs::MetadataExt;
 
 /// A regular file, whatever its name is.
@@ -16,7 +20,7 @@ pub struct FileId {
 
 /// A file that is written.
 #[derive(Drop)]
-pub struct Sink {
+pub struct Sink<F: NamedFile> {
     pub name: String,
     /// Which file it is, if it is a regular one.
     pub id: Option<FileId>,
@@ -24,9 +28,9 @@ pub struct Sink {
     pub held: u64,
     /// Whether what it held was cut off, or it was flushed.
     pub has_begun: bool,
-    /// Whether a write or a flush failed by which it was given bytes.
-    has_failed: bool,
-    file: File,
+    /// Whether a write or a flush failed by which it was given a copy.
+    pub has_failed: bool,
+    pub file: F,
 }
 
 /// Which regular file it is; `None` of a pipe, a terminal or another device.
@@ -40,16 +44,17 @@ pub fn id_of(attributes: &Metadata) -> Option<FileId> {
     })
 }
 
-impl Sink {
+impl<F: NamedFile> Sink<F> {
     /// Opens the file, or makes it where there is none. It keeps what it holds.
-    pub fn open<R>(rt: &R, alloc: Global, name: &str) -> io::Result<Sink>
+    pub fn open<R>(rt: &R, alloc: Global, name: &str) -> io::Result<Sink<F>>
     where
-        R: Files<File = File>,
+        R: Opens<F>,
         ensures kept { IfOk result (λ sink. sink.has_begun ≡ false) }
         ensures named { IfOk result (λ sink. string_bytes sink.name ≡ name.now) }
+        ensures copy { IfOk result (IsCopy F.name F.written F.fails []) }
     {
-        let file = OpenOptions::new().write(true).create(true).open(rt, name)?;
-        let attributes = file.metadata()?;
+        let file = rt.open_to_write(name)?;
+        let attributes = file.attributes()?;
         let id = id_of(&attributes);
         Ok(Sink {
             name: String::from_str(alloc, name)?,
@@ -61,55 +66,87 @@ impl Sink {
         })
     }
 
-    /// Writes all these bytes, and returns whether that was done. Where it is not, it reports so,
-    /// once, by the file's name, and the file gets no more.
-    pub(crate) fn give(&mut self, rt: &impl Eprint, bytes: &[u8]) -> bool {
+    /// Writes all these bytes. Where that fails, it reports so, once, by the file's name, and the
+    /// file gets no more.
+    pub(crate) fn give(&mut self, rt: &impl Eprint, bytes: &[u8])
+        ensures copy { (passed : List ℕ) → IsCopy F.name F.written F.fails passed self.old
+            → IsCopy F.name F.written F.fails (passed ++ bytes.now) self.new }
+        ensures name { self.new.name ≡ self.old.name }
+    {
         if self.has_failed {
-            return false;
+            return;
         }
-        let given = self.write_all(bytes);
-        self.keep(rt, given)
+        match self.write_all(bytes) {
+            Ok(()) => {}
+            Err(error) => self.give_up(rt, error),
+        }
     }
 
     /// Flushes the file, likewise.
-    pub(crate) fn finish(&mut self, rt: &impl Eprint) -> bool {
+    pub(crate) fn finish(&mut self, rt: &impl Eprint)
+        ensures copy { (passed : List ℕ) → IsCopy F.name F.written F.fails passed self.old
+            → IsCopy F.name F.written F.fails passed self.new }
+        ensures name { self.new.name ≡ self.old.name }
+    {
         if self.has_failed {
-            return false;
+            return;
         }
-        let flushed = self.flush();
-        self.keep(rt, flushed)
+        match self.flush() {
+            Ok(()) => {}
+            Err(error) => self.give_up(rt, error),
+        }
     }
 
-    fn keep(&mut self, rt: &impl Eprint, given: io::Result<()>) -> bool {
-        let Err(error) = given else {
-            return true;
-        };
+    fn give_up(&mut self, rt: &impl Eprint, error: io::Error)
+        ensures { self.new ≡ record self.old { has_failed = true } }
+    {
         self.has_failed = true;
         // There is nowhere left to say that standard error is closed.
         let _ = eprintln!(rt; "piper_pump: {}: {error}; it gets no more", self.name);
-        false
     }
 
     // Cuts off what it held, once.
-    fn begin(&mut self) -> io::Result<()> {
+    fn begin(&mut self) -> io::Result<()>
+        ensures same { SameSink F.name self.old self.new }
+        ensures bytes { F.written self.new.file ≡ F.written self.old.file }
+        ensures error { IfErr result (F.fails self.new.file) }
+    {
         if !self.has_begun {
             if 0 < self.held {
-                self.file.set_len(0)?;
+                self.file.cut()?;
             }
             self.has_begun = true;
         }
         Ok(())
     }
-}
 
-/// The first write or flush cuts off what the file held.
-impl Write for Sink {
-    fn write(&mut self, buf: &[u8]) -> io::Result<usize> {
+    /// Writes bytes from the front of `buf`, and returns how many.
+    pub(crate) fn write(&mut self, buf: &[u8]) -> io::Result<usize>
+        ensures same { SameSink F.name self.old self.new }
+        ensures bound { WritesAtMost result buf.now }
+        ensures bytes { Writes (F.written self.old.file) (F.written self.new.file) result buf.now }
+        ensures error { IfErr result (F.fails self.new.file) }
+    {
         self.begin()?;
         self.file.write(buf)
     }
 
-    fn flush(&mut self) -> io::Result<()> {
+    fn write_all(&mut self, buf: &[u8]) -> io::Result<()>
+        ensures same { SameSink F.name self.old self.new }
+        ensures bytes { OnOk result
+            (F.written self.new.file ≡ append_known (F.written self.old.file) buf.now) }
+        ensures error { IfErr result (F.fails self.new.file) }
+    {
+        self.begin()?;
+        self.file.write_all(buf)
+    }
+
+    /// Sends what was written on its way.
+    pub(crate) fn flush(&mut self) -> io::Result<()>
+        ensures same { SameSink F.name self.old self.new }
+        ensures bytes { F.written self.new.file ≡ F.written self.old.file }
+        ensures error { IfErr result (F.fails self.new.file) }
+    {
         self.begin()?;
         self.file.flush()
     }

@@ -1,6 +1,8 @@
-use Rattle.std.proofs.Common.{rules, ap, subst, sym, codes, map, string_bytes, true, List, ◌≡◌, ◌∙◌}
+use Rattle.std.proofs.Common.{rules, ap, subst, sym, codes, map, string_bytes, true, [], List, Option, ◌≡◌, ◌∙◌}
+use Rattle.std.specs.Prelude.{unwrap_or}
 use Rattle.std.proofs.lemmas.Result.{IfErr-weaker}
-use Rattle.clap.specs.Words.{App, Text, app_of, takes}
+use Rattle.clap.specs.Words.{App, Text, all_of, app_of, found_of, takes}
+use Rattle.clap.proofs.WalkLemmas.{raw_values-rows}
 use Rattle.pump_engine.specs.Arguments.{IsSize, IsSizeOf}
 use Rattle.pump_engine.proofs.Said.{flag_said, found_said, taken_is_sound, text_left_out, text_said}
 use Rattle.pump_engine.proofs.arguments.read_words.Goals as goal
@@ -45,6 +47,8 @@ returns-clause-asked c =
       sound = taken_is_sound _ words c.in_ok-command.ensures.taken c.in_ok-matches.ensures.kinds;
       input = λ none. text_left_out words c.in_ok-matches.matches (codes "input") _ said c.texts_of.ensures.input none;
       output = λ none. text_left_out words c.in_ok-matches.matches (codes "output") _ said c.texts_of.ensures.output none;
+      tees = c.in_ok-tees.ensures.texts ∙ ap (λ (t : Option (List Text)). unwrap_or t [])
+          (raw_values-rows (found_of c.in_ok-matches.matches) (codes "tee") ∙ ap (all_of (codes "tee")) said);
       no_sum = λ reported. c.get_flag-3.ensures.other (flag_said words c.in_ok-matches.matches (codes "sha256") said ∙ reported);
       force = λ reported. c.get_flag-4.ensures.value (flag_said words c.in_ok-matches.matches (codes "force") said ∙ reported);
       no_force = λ reported. c.get_flag-4.ensures.other (flag_said words c.in_ok-matches.matches (codes "force") said ∙ reported);

@@ -1,0 +1,12 @@
+-- Each name up to the index has its file, and none of these was given a byte.
+use Rattle.std.proofs.Common.{◌≡◌, [], map, take}
+use Rattle.std.specs.List.{All}
+use Rattle.pump_engine.specs.Copies.{IsCopy, names_of}
+use Rattle.pump_engine.proofs.opening.open_tees.Given as goal
+
+abbrev pub invariant-loop-name : goal.invariant-loop-name
+invariant-loop-name g l =
+    record {
+      named : names_of l.tees.items ≡ map (λ name. name.now) (take l.name-index l.names);
+      copies : All (IsCopy g.F.NamedFile.name g.F.NamedFile.written g.F.NamedFile.fails []) l.tees.items;
+    }

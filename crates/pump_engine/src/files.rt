@@ -1,0 +1,111 @@
+//! Files that are opened by their names.
+ghost use Rattle.std.specs.Prelude.{◌≡◌, ℕ, List, [], Option, None, OnOk, IfOk, IfErr, ⊤};
+ghost use Rattle.std.specs.Io.{ReadsAtMost, WritesAtMost};
+ghost use Rattle.std.specs.Io.KnownBytes.{append_known, ReadConsumes};
+ghost use Rattle.pump_engine.specs.Files.{IsJust, Writes};
+
+use std::fs::{File, Files, Metadata, OpenFile, OpenOptions};
+use std::io;
+use std::io::{Read, Write};
+
+/// A file that was opened by its name.
+///
+/// It can say by which one, what was written to it since then, and which errors it fails with. Of
+/// the system's files nothing of that is said.
+pub trait NamedFile: Drop {
+    ghost use Rattle.std.specs.declared.io.Error.{Error};
+
+    // the name that it was opened by, where that is known
+    ghost name: { Self → Option (List ℕ) } = { λ _. None };
+
+    // the bytes that reads will give from here on, where they are known
+    ghost remaining: { Self → Option (List ℕ) } = { λ _. None };
+
+    // what was written to it since it was opened, where that is known
+    ghost written: { Self → Option (List ℕ) } = { λ _. None };
+
+    // a call has failed with this error, and left it so
+    ghost fails: { Self → Error → Type 0 } = { λ _ _. ⊤ };
+
+    /// What the system reports of it.
+    fn attributes(&self) -> io::Result<Metadata>;
+
+    /// Reads bytes to the front of `buf`, and returns how many; 0 where `buf` has room is the end.
+    fn read(&mut self, buf: &mut [u8]) -> io::Result<usize>
+        ensures bound { ReadsAtMost result buf.new }
+        ensures bytes { ReadConsumes (remaining self.old) (remaining self.new) result buf.new }
+        ensures error { IfErr result (fails self.new) };
+
+    /// Cuts off what it held where it was opened.
+    fn cut(&mut self) -> io::Result<()>
+        ensures name { name self.new ≡ name self.old }
+        ensures bytes { written self.new ≡ written self.old }
+        ensures error { IfErr result (fails self.new) };
+
+    /// Writes bytes from the front of `buf`, and returns how many.
+    fn write(&mut self, buf: &[u8]) -> io::Result<usize>
+        ensures name { name self.new ≡ name self.old }
+        ensures bound { WritesAtMost result buf.now }
+        ensures bytes { Writes (written self.old) (written self.new) result buf.now }
+        ensures error { IfErr result (fails self.new) };
+
+    /// Writes all of `buf`.
+    fn write_all(&mut self, buf: &[u8]) -> io::Result<()>
+        ensures name { name self.new ≡ name self.old }
+        ensures bytes { OnOk result (written self.new ≡ append_known (written self.old) buf.now) }
+        ensures error { IfErr result (fails self.new) };
+
+    /// Sends what was written on its way.
+    fn flush(&mut self) -> io::Result<()>
+        ensures name { name self.new ≡ name self.old }
+        ensures bytes { written self.new ≡ written self.old }
+        ensures error { IfErr result (fails self.new) };
+}
+
+/// Opens files by their names.
+pub trait Opens<F: NamedFile> {
+    /// Opens it to be read.
+    fn open(&self, name: &str) -> io::Result<F>
+        ensures name { IfOk result (λ file. IsJust (F.name file) name.now) };
+
+    /// Opens it to be written, or makes it where there is none. It keeps what it holds.
+    fn open_to_write(&self, name: &str) -> io::Result<F>
+        ensures name { IfOk result (λ file. IsJust (F.name file) name.now) }
+        ensures bytes { IfOk result (λ file. IsJust (F.written file) []) };
+}
+
+impl NamedFile for File {
+    fn attributes(&self) -> io::Result<Metadata> {
+        self.metadata()
+    }
+
+    fn read(&mut self, buf: &mut [u8]) -> io::Result<usize> {
+        Read::read(self, buf)
+    }
+
+    fn cut(&mut self) -> io::Result<()> {
+        self.set_len(0)
+    }
+
+    fn write(&mut self, buf: &[u8]) -> io::Result<usize> {
+        Write::write(self, buf)
+    }
+
+    fn write_all(&mut self, buf: &[u8]) -> io::Result<()> {
+        Write::write_all(self, buf)
+    }
+
+    fn flush(&mut self) -> io::Result<()> {
+        Write::flush(self)
+    }
+}
+
+impl<R: Files<File = File>> Opens<File> for R {
+    fn open(&self, name: &str) -> io::Result<File> {
+        OpenOptions::new().read(true).open(self, name)
+    }
+
+    fn open_to_write(&self, name: &str) -> io::Result<File> {
+        OpenOptions::new().write(true).create(true).open(self, name)
+    }
+}
