@@ -49,7 +49,7 @@ impl<'a, R: Clock + Eprint, F: NamedFile> Copies<'a, R, F> {
     pub(crate) fn ask(&mut self, tees: Vec<Sink<F>>, wants_sum: bool, rate: Option<usize>)
         ensures asked { All (IsCopy F.name F.written F.fails []) tees.items
             → HavePassed F.name F.written F.fails self.new
-                (sum_asked wants_sum ∷ names_of tees.items) [] }
+            (sum_asked wants_sum ∷ names_of tees.items) [] }
     {
         self.tees = tees;
         self.sum = if wants_sum { Some(Sha256::new()) } else { None };
