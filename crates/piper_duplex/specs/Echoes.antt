@@ -46,10 +46,11 @@ abbrev pub WaitsFor : (ℕ → Type 0) → (ℕ → Type 0) → List ℕ → ℕ
 WaitsFor reads writes [] s = reads s
 WaitsFor reads writes (byte ∷ left) s = writes s
 
--- why an echo is pending: the writer took no more of a line; or none is left, and the reader has
+-- why an echo is pending: its writer is, of a line that is left; or none is left, and the reader has
 -- nothing to give; or some moved, and it asked for another poll itself
-abbrev pub EchoPends : List ℕ → Bool → List ℕ → Bool → Type 0 → Context → Type 0
-EchoPends left saw known told Moved cx =
-    ((0 < length left) × ¬ (saw ≡ true))
-    ⊎ ((left ≡ []) × WaitsForBytes known told)
+abbrev pub EchoPends : {R : Type 0} → (R → List ℕ) → (R → Bool) → (R → Context → Type 0) → R
+    → Type 0 → List ℕ → Bool → Type 0 → Context → Type 0
+EchoPends known told waits r write_waits left saw Moved cx =
+    ((0 < length left) × ¬ (saw ≡ true) × write_waits)
+    ⊎ ((left ≡ []) × WaitsForBytes known told waits r cx)
     ⊎ (Moved × AsksAgain cx)

@@ -84,8 +84,8 @@ impl LineEcho {
             (LacksRoom limit 0 (kept_of lines.new) (R.known (reader_of lines.new)))) }
         ensures pending { OnPending result (Covers cx.new
             (WaitsFor (R.needs (reader_of lines.new)) (W.needs writer.new) (left_of self.new))
-            × EchoPends (left_of self.new) (W.saw writer.old)
-            (R.known (reader_of lines.new)) (R.told (reader_of lines.new))
+            × EchoPends R.known R.told R.waits (reader_of lines.new)
+            (W.waits writer.new cx.new) (left_of self.new) (W.saw writer.old)
             (length (R.taken (reader_of lines.old)) < length (R.taken (reader_of lines.new)))
             cx.new) }
         ensures stays { WriterStays W.saw W.woken writer.old writer.new
