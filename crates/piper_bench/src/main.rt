@@ -22,6 +22,7 @@ mod peers;
 mod pipes;
 mod request;
 mod rings;
+mod through;
 mod to_and_fro;
 mod work;
 

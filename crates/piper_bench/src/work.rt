@@ -4,8 +4,9 @@ ghost use Rattle.std.specs.Prelude.{IfSome, IsSome, ◌≡◌, ◌<◌, ◌≤�
 use crate::lines::through_lines;
 use crate::means::{Peer, Way, What};
 use crate::peers::{stream_in_turn, through_channel, through_stream};
-use crate::pipes::{Copies, InPlace, TryForms, through_pipe};
+use crate::pipes::{Copies, InPlace, TryForms};
 use crate::rings::{BYTE, Input, Output, get_all, in_turn, put_all, yields};
+use crate::through::through_pipe;
 use crate::to_and_fro::{Ends, Handles, Streams, to_and_fro};
 use crossbeam_channel::{Receiver, Sender, bounded};
 use futures::test::MockTask;
