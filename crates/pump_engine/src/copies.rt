@@ -109,8 +109,6 @@ impl<'a, R: Clock + Eprint, F: NamedFile> Copies<'a, R, F> {
     }
 }
 
-ghost use Rattle.pump_engine.specs.Copies.{IsCopy, names_of};
-
 // These bytes have passed.
 fn add_to_sum(sum: &mut Option<Sha256>, bytes: &[u8])
     ensures sum { (passed : List ℕ) → IsSumOf passed sum.old
