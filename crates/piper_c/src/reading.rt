@@ -40,33 +40,17 @@ impl ReadHalf {
                 mine: Some(mine),
             };
         }
-        let before = self.reclaim_waker();
-        if !self.slots.has_place() {
+        let reclaimed = self.end.reclaim_waker(&mut self.slots, &self.places.reader);
+        let Ok(before) = reclaimed else {
             return Polled {
                 outcome: outcome_of(call.registered(false).end()),
-                before,
+                before: None,
                 mine: Some(mine),
             };
-        }
+        };
         self.end
             .publish_waker(&mut self.slots, &self.places.reader, mine);
         self.look_again(call.registered(true), before)
-    }
-
-    /// Takes the place of its own words back, where the other side doesn't have it just now, and the
-    /// words that are still there.
-    fn reclaim_waker(&mut self) -> Option<Waiter>
-        ensures back { IsSome result → (self.old.slots.owns ≡ false) × (self.new.slots.owns ≡ true) }
-        ensures nowhere { self.new.slots.owns ≡ false → result ≡ None }
-        ensures kept { self.new.slots ≡ record self.old.slots { owns = self.new.slots.owns } }
-        ensures stays { self.new.slots.owns ≡ false → self.new.slots ≡ self.old.slots }
-        ensures rest { (self.new.end ≡ self.old.end) × (self.new.places ≡ self.old.places) }
-    {
-        // A side that was woken finds its place handed back: so that is asked first.
-        if self.end.reclaim(&mut self.slots) {
-            return None;
-        }
-        self.end.cancel(&mut self.slots, &self.places.reader)
     }
 
     /// Checks once more, once its words are in the slot.
@@ -114,7 +98,7 @@ impl ReadHalf {
         if !self.slots.maybe_registered() {
             return None;
         }
-        self.end.cancel(&mut self.slots, &self.places.reader)
+        self.end.cancel(&mut self.slots, &self.places.reader).ok()
     }
 
     /// Checks for a byte or for the end, and leaves no words.
@@ -217,7 +201,7 @@ impl ReadHalf {
             mut slots,
             places,
         } = self;
-        let mine = end.cancel(&mut slots, &places.reader);
+        let mine = end.cancel(&mut slots, &places.reader).ok();
         let call = ReadCall::drop().stored_closed();
         let (_last, taken) = end.finish_waking(&mut slots, &places.writer);
         let wake = match taken {

@@ -1,5 +1,5 @@
 -- What the parts of a writer's end say of its indices.
-use Rattle.std.proofs.Common.{◌≡◌, ℕ, ◌+◌, ◌-◌, ◌<◌, ◌≤◌, ◌⊎◌, inl, inr, ⊎_elim, eq-or-lt_of_le, Bool, true, false, if◌then◌else◌, length, min, arith, sym, subst, ap, ◌∙◌}
+use Rattle.std.proofs.Common.{◌≡◌, ℕ, ◌+◌, ◌-◌, ◌≤◌, ◌⊎◌, inl, inr, ⊎_elim, eq-or-lt_of_le, Bool, true, false, if◌then◌else◌, length, min, arith, sym, subst, ap, ◌∙◌}
 use Rattle.piper_protocol.specs.Index.{distance}
 use Rattle.piper_protocol.specs.LendBound.{lend_bound}
 use Rattle.piper_protocol.specs.WriterIndices.{WriterIndices, room_in, left_in, lendable_in}

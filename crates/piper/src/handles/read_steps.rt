@@ -1,6 +1,6 @@
 //! The steps of the reader: one function for each kind, which makes the one access of its end or of
 //! a slot and takes the open call one step on.
-ghost use Rattle.std.specs.Prelude.{◌≡◌, ◌<◌, ◌≤◌, ◌++◌, ◌↔◌, ◌⊎◌, length, take, drop, IsTrue, IsFalse, true, false};
+ghost use Rattle.std.specs.Prelude.{◌≡◌, ◌<◌, ◌≤◌, ◌++◌, ◌↔◌, ◌⊎◌, length, take, drop, None, IsSome, IfOk, IfErr, IsTrue, IsFalse, true, false};
 ghost use Rattle.futures.specs.Task.{Covers, Keeps};
 ghost use Rattle.piper_protocol.specs.Table.{goes_on, read_action, read_step, reader_draws_after, reader_looks_for};
 ghost use Rattle.piper_ring.specs.ReadView.{KnowsEnd, in_one_piece};
@@ -19,7 +19,7 @@ use piper_protocol::calls::Side;
 use piper_protocol::memory::OutOfMemory;
 use piper_protocol::read_call::ReadCall;
 use piper_protocol::table::{Action, Found, Purpose, ReadPoint};
-use piper_ring::{LastReadMark, ReadMark};
+use piper_ring::{Away, LastReadMark, ReadMark};
 
 impl Reader {
     ghost use Rattle.piper.specs.Handles.{NotifiesWriter, SameReader, SameReaderButWaits, SameReaderButWoke, read_source};
@@ -88,55 +88,36 @@ impl Reader {
         ensures end { self.new.end ≡ self.old.end }
         ensures rest { SameReaderButWaits self.old self.new }
     {
-        let is_granted = self.register_or_yield(cx);
+        let is_granted = self.register_or_yield(cx).is_ok();
         (call.registered(is_granted), is_granted)
     }
 
     /// Registers in the reader's slot, as `register` says. It takes no open call, which would then
-    /// lie in memory.
+    /// lie in memory. With an `Away` the task has asked for another poll in place of that.
     #[inline(never)]
-    fn register_or_yield(&mut self, cx: &mut Context<'_>) -> bool
+    fn register_or_yield(&mut self, cx: &mut Context<'_>) -> Result<Option<Away>, OutOfMemory>
         ensures covered { Covers cx.new (λ s. s ≡ read_source self.old) }
-        ensures registered { IsTrue result →
-            Registers self.old.registrations self.new.registrations
-            ⊎ (AsksAgain cx.new × ReaderIsAway self.old self.new) }
-        ensures refused { IsFalse result → cx.new.lacks_waker ≡ true }
+        ensures registered { IfOk result (λ away. away ≡ None →
+            Registers self.old.registrations self.new.registrations) }
+        ensures away { IfOk result (λ away. IsSome away →
+            AsksAgain cx.new × ReaderIsAway self.old self.new) }
+        ensures refused { IfErr result (λ _. cx.new.lacks_waker ≡ true) }
         ensures kept { Keeps cx.old cx.new }
         ensures end { self.new.end ≡ self.old.end }
         ensures rest { SameReaderButWaits self.old self.new }
     {
-        let held = self.reclaim_waker();
-        if !self.registrations.has_place() {
-            let _pending: Poll<()> = cx.yield_now();
-            return true;
-        }
         let slot = &self.slots.reader;
-        match slot.grant(cx, held) {
-            Ok(waker) => {
-                self.end
-                    .publish_waker(&mut self.registrations, &slot.place, waker);
-                true
+        let held = match self.end.reclaim_waker(&mut self.registrations, &slot.place) {
+            Ok(held) => held,
+            Err(away) => {
+                let _pending: Poll<()> = cx.yield_now();
+                return Ok(Some(away));
             }
-            Err(OutOfMemory) => false,
-        }
-    }
-
-    /// Takes the place of the reader's waker back, where the writer doesn't have it just now, and
-    /// the waker that is still registered there.
-    pub(crate) fn reclaim_waker(&mut self) -> Option<Waker>
-        ensures registrations { self.new.registrations
-            ≡ record self.old.registrations { owns = self.new.registrations.owns } }
-        ensures away { self.new.registrations.owns ≡ false →
-            self.old.registrations.owns ≡ false }
-        ensures end { self.new.end ≡ self.old.end }
-        ensures rest { SameReaderButWaits self.old self.new }
-    {
-        // Who was woken finds the place handed back: so that is asked first.
-        if self.end.reclaim(&mut self.registrations) {
-            return None;
-        }
+        };
+        let waker = slot.grant(cx, held)?;
         self.end
-            .cancel(&mut self.registrations, &self.slots.reader.place)
+            .publish_waker(&mut self.registrations, &slot.place, waker);
+        Ok(None)
     }
 
     /// Empties the reader's slot after the look of a poll, unless its place is known to be empty.
@@ -162,8 +143,11 @@ impl Reader {
         ensures end { self.new.end ≡ self.old.end }
         ensures rest { SameReaderButWaits self.old self.new }
     {
-        if self.end.is_registered(&mut self.registrations) {
-            drop(self.reclaim_waker());
+        if self.end.is_registered(&mut self.registrations).is_ok() {
+            drop(
+                self.end
+                    .reclaim_waker(&mut self.registrations, &self.slots.reader.place),
+            );
         }
     }
 

@@ -1,6 +1,6 @@
 //! The steps of the writer: one function for each kind, which makes the one access of its end or of
 //! a slot and takes the open call one step on.
-ghost use Rattle.std.specs.Prelude.{◌≡◌, ◌+◌, ◌<◌, ◌≤◌, ◌++◌, ◌↔◌, ◌⊎◌, length, take, drop, IsTrue, IsFalse, true, false};
+ghost use Rattle.std.specs.Prelude.{◌≡◌, ◌+◌, ◌<◌, ◌≤◌, ◌++◌, ◌↔◌, ◌⊎◌, length, take, drop, None, IsSome, IfOk, IfErr, IsTrue, IsFalse, true, false};
 ghost use Rattle.futures.specs.Task.{Covers, Keeps};
 ghost use Rattle.piper_protocol.specs.Table.{begins_look, look_begun, write_action, write_step};
 ghost use Rattle.piper_ring.specs.Shared.{flag};
@@ -18,7 +18,7 @@ use piper_protocol::calls::Side;
 use piper_protocol::memory::OutOfMemory;
 use piper_protocol::table::{Action, Found, Purpose, WritePoint};
 use piper_protocol::write_call::WriteCall;
-use piper_ring::WriteMark;
+use piper_ring::{Away, WriteMark};
 
 impl Writer {
     ghost use Rattle.piper.specs.Handles.{NotifiesReader, SameWriter, SameWriterButWaits, SameWriterButWoke, write_source};
@@ -94,55 +94,36 @@ impl Writer {
         ensures end { self.new.end ≡ self.old.end }
         ensures rest { SameWriterButWaits self.old self.new }
     {
-        let is_granted = self.register_or_yield(cx);
+        let is_granted = self.register_or_yield(cx).is_ok();
         (call.registered(is_granted), is_granted)
     }
 
     /// Registers in the writer's slot, as `register` says. It takes no open call, which would then
-    /// lie in memory.
+    /// lie in memory. With an `Away` the task has asked for another poll in place of that.
     #[inline(never)]
-    fn register_or_yield(&mut self, cx: &mut Context<'_>) -> bool
+    fn register_or_yield(&mut self, cx: &mut Context<'_>) -> Result<Option<Away>, OutOfMemory>
         ensures covered { Covers cx.new (λ s. s ≡ write_source self.old) }
-        ensures registered { IsTrue result →
-            WriterRegisters self.old.registrations self.new.registrations
-            ⊎ (AsksAgain cx.new × WriterIsAway self.old self.new) }
-        ensures refused { IsFalse result → cx.new.lacks_waker ≡ true }
+        ensures registered { IfOk result (λ away. away ≡ None →
+            WriterRegisters self.old.registrations self.new.registrations) }
+        ensures away { IfOk result (λ away. IsSome away →
+            AsksAgain cx.new × WriterIsAway self.old self.new) }
+        ensures refused { IfErr result (λ _. cx.new.lacks_waker ≡ true) }
         ensures kept { Keeps cx.old cx.new }
         ensures end { self.new.end ≡ self.old.end }
         ensures rest { SameWriterButWaits self.old self.new }
     {
-        let held = self.reclaim_waker();
-        if !self.registrations.has_place() {
-            let _pending: Poll<()> = cx.yield_now();
-            return true;
-        }
         let slot = &self.slots.writer;
-        match slot.grant(cx, held) {
-            Ok(waker) => {
-                self.end
-                    .publish_waker(&mut self.registrations, &slot.place, waker);
-                true
+        let held = match self.end.reclaim_waker(&mut self.registrations, &slot.place) {
+            Ok(held) => held,
+            Err(away) => {
+                let _pending: Poll<()> = cx.yield_now();
+                return Ok(Some(away));
             }
-            Err(OutOfMemory) => false,
-        }
-    }
-
-    /// Takes the place of the writer's waker back, where the reader doesn't have it just now, and
-    /// the waker that is still registered there.
-    pub(crate) fn reclaim_waker(&mut self) -> Option<Waker>
-        ensures registrations { self.new.registrations
-            ≡ record self.old.registrations { owns = self.new.registrations.owns } }
-        ensures away { self.new.registrations.owns ≡ false →
-            self.old.registrations.owns ≡ false }
-        ensures end { self.new.end ≡ self.old.end }
-        ensures rest { SameWriterButWaits self.old self.new }
-    {
-        // Who was woken finds the place handed back: so that is asked first.
-        if self.end.reclaim(&mut self.registrations) {
-            return None;
-        }
+        };
+        let waker = slot.grant(cx, held)?;
         self.end
-            .cancel(&mut self.registrations, &self.slots.writer.place)
+            .publish_waker(&mut self.registrations, &slot.place, waker);
+        Ok(None)
     }
 
     /// Empties the writer's slot after the look of a poll, unless its place is known to be empty.
@@ -167,8 +148,11 @@ impl Writer {
         ensures end { self.new.end ≡ self.old.end }
         ensures rest { SameWriterButWaits self.old self.new }
     {
-        if self.end.is_registered(&mut self.registrations) {
-            drop(self.reclaim_waker());
+        if self.end.is_registered(&mut self.registrations).is_ok() {
+            drop(
+                self.end
+                    .reclaim_waker(&mut self.registrations, &self.slots.writer.place),
+            );
         }
     }
 
@@ -179,7 +163,10 @@ impl Writer {
         ensures end { self.new.end ≡ self.old.end }
         ensures rest { SameWriterButWaits self.old self.new }
     {
-        let taken = Taken::new(self.reclaim_waker());
+        let own = self
+            .end
+            .reclaim_waker(&mut self.registrations, &self.slots.writer.place);
+        let taken = Taken::new(own.unwrap_or(None));
         write_wake(call.took_own(taken.is_found()), taken)
     }
 

@@ -102,14 +102,6 @@ impl Drop for WriteRegistrations {
 }
 
 impl ReadRegistrations {
-    /// Whether the place of the reader's waker is with its end: then it is registered nowhere.
-    #[inline(always)]
-    pub fn has_place(&self) -> bool
-        ensures { result ≡ self.now.owns }
-    {
-        self.parts.right.is_some()
-    }
-
     /// Whether the reader's waker may be registered in its slot, as far as is known without a look
     /// there: `is_registered` looks.
     #[inline(always)]
@@ -121,14 +113,6 @@ impl ReadRegistrations {
 }
 
 impl WriteRegistrations {
-    /// Whether the place of the writer's waker is with its end: then it is registered nowhere.
-    #[inline(always)]
-    pub fn has_place(&self) -> bool
-        ensures { result ≡ self.now.owns }
-    {
-        self.parts.right.is_some()
-    }
-
     /// Whether the writer's waker may be registered in its slot, as far as is known without a look
     /// there: `is_registered` looks.
     #[inline(always)]

@@ -3,6 +3,7 @@ ghost use Rattle.std.specs.Prelude.{◌≡◌, ◌+◌, ◌<◌, ◌≤◌, leng
 
 use crate::ends::slots::{ReadRegistrations, WriteRegistrations};
 use crate::ends::writer::WriteEnd;
+use crate::ring::claims::{Away, NotBack, NotRegistered, Registered};
 use crate::ring::marks::WriteMark;
 use token_cell::TokenCell;
 
@@ -16,61 +17,74 @@ impl WriteEnd {
         &self,
         slots: &mut WriteRegistrations,
         place: &TokenCell<Option<T>>,
-    ) -> Option<T>
+    ) -> Result<T, NotRegistered>
         requires ring { slots.old.names ≡ self.now.ring.names }
         requires place { place.now ≡ slots.old.names.writer_place }
-        ensures back { IsSome result → (slots.old.owns ≡ false) × (slots.new.owns ≡ true) }
-        ensures none { result ≡ None → slots.new ≡ slots.old }
-        ensures kept { slots.new ≡ record slots.old { owns = slots.new.owns } }
+        ensures back { IfOk result (λ _. slots.old.owns ≡ false) }
+        ensures owns { IfOk result (λ _. slots.new ≡ record slots.old { owns = true }) }
+        ensures none { IfErr result (λ _. slots.new ≡ slots.old) }
     {
         let parts = &mut slots.parts;
-        if parts.right.is_some() {
-            return None;
+        if let Some(right) = &parts.right {
+            return Err(NotRegistered::with_place(right));
         }
-        let (found, mut right) = self.parts.seat.cancel(&mut parts.waits);
-        if found == 0 {
-            return None;
-        }
+        let mut right = self.parts.seat.claim_waker(&mut parts.waits)?;
         let waker = place.take(&mut right);
         parts.right = Some(right);
         parts.maybe_registered = false;
-        Some(waker)
+        Ok(waker)
     }
 
-    /// Whether the place of this end's waker is with it: it takes back a place that the reader
-    /// handed back.
-    pub fn reclaim(&self, slots: &mut WriteRegistrations) -> bool
+    /// Takes back a place that the reader handed back, where this end doesn't have it.
+    fn reclaim(&self, slots: &mut WriteRegistrations) -> Result<(), NotBack>
         requires { slots.old.names ≡ self.now.ring.names }
-        ensures owns { result ≡ slots.new.owns }
-        ensures stays { slots.old.owns ≡ true → IsTrue result }
-        ensures refused { IsFalse result → slots.new ≡ slots.old }
-        ensures kept { slots.new ≡ record slots.old { owns = slots.new.owns } }
+        ensures owns { IfOk result (λ _. slots.new ≡ record slots.old { owns = true }) }
+        ensures refused { IfErr result (λ _. (slots.old.owns ≡ false) × (slots.new ≡ slots.old)) }
     {
         let parts = &mut slots.parts;
-        if parts.right.is_some() {
-            return true;
+        if parts.right.is_none() {
+            parts.right = Some(self.parts.seat.claim_place(&mut parts.waits)?);
+            parts.maybe_registered = false;
         }
-        let (found, right) = self.parts.seat.reclaim(&mut parts.waits);
-        if found == 0 {
-            return false;
-        }
-        parts.right = Some(right);
-        parts.maybe_registered = false;
-        true
+        Ok(())
     }
 
-    /// Whether this end's waker is still registered in its slot. A waker that the reader took is
-    /// not asked for again until this end registers anew.
-    pub fn is_registered(&self, slots: &mut WriteRegistrations) -> bool
+    /// Takes the place of its waker back, with the waker that is still registered there, if one is.
+    /// It fails where the reader has the place just now.
+    pub fn reclaim_waker<T>(
+        &self,
+        slots: &mut WriteRegistrations,
+        place: &TokenCell<Option<T>>,
+    ) -> Result<Option<T>, Away>
+        requires ring { slots.old.names ≡ self.now.ring.names }
+        requires place { place.now ≡ slots.old.names.writer_place }
+        ensures owns { IfOk result (λ _. slots.new ≡ record slots.old { owns = true }) }
+        ensures found { IfOk result (λ waker. IsSome waker → slots.old.owns ≡ false) }
+        ensures away { IfErr result (λ _. (slots.old.owns ≡ false) × (slots.new ≡ slots.old)) }
+    {
+        // Who was woken finds the place handed back: so that is asked first.
+        match self.reclaim(slots) {
+            Ok(()) => Ok(None),
+            Err(not_back) => match self.cancel(slots, place) {
+                Ok(waker) => Ok(Some(waker)),
+                Err(not_registered) => Err(Away::new(not_back, not_registered)),
+            },
+        }
+    }
+
+    /// Whether this end's waker is still registered in its slot.
+    pub fn is_registered(&self, slots: &mut WriteRegistrations) -> Result<Registered, NotRegistered>
         requires { slots.old.names ≡ self.now.ring.names }
-        ensures nowhere { slots.old.owns ≡ true → IsFalse result }
+        ensures registered { IfOk result (λ _. slots.old.owns ≡ false) }
         ensures kept { slots.new ≡ slots.old }
     {
         let parts = &mut slots.parts;
-        if parts.maybe_registered {
-            parts.maybe_registered = self.parts.seat.is_registered(&mut parts.waits) != 0;
+        if let Some(right) = &parts.right {
+            return Err(NotRegistered::with_place(right));
         }
-        parts.maybe_registered
+        let found = self.parts.seat.find_waker(&mut parts.waits);
+        parts.maybe_registered = found.is_ok();
+        found
     }
 
     /// Registers: puts `waker` in its place and publishes it in this end's slot, where the reader's
@@ -112,14 +126,8 @@ impl WriteEnd {
         ensures refused { IfErr result (λ _. slots.new ≡ slots.old) }
         ensures owned { slots.old.owns ≡ true → IsOk result }
     {
-        let before = match self.cancel(slots, place) {
-            Some(before) => Some(before),
-            None => {
-                if !self.reclaim(slots) {
-                    return Err(waker);
-                }
-                None
-            }
+        let Ok(before) = self.reclaim_waker(slots, place) else {
+            return Err(waker);
         };
         self.publish_waker(slots, place, waker);
         Ok(before)
