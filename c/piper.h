@@ -125,8 +125,8 @@ bool piper_open(size_t capacity, piper_reader *reader, piper_writer *writer);
 piper_polled piper_reader_poll(piper_reader *reader, piper_words mine);
 
 /* Checks for a byte, or for the end, and leaves no words; words that a poll left stay where they
- * are. It puts the address of the known bytes into `*at` and returns how many they are, as `peek`
- * does. */
+ * are. Where the outcome is PIPER_READY it puts the address of the known bytes into `*at` and returns
+ * how many they are, as `peek` does; else it returns 0, and leaves `*at` as it is. */
 piper_seen piper_reader_look(piper_reader *reader, const uint8_t **at);
 
 /* The known bytes that lie in one piece, the next one first: puts their address into `*at` and

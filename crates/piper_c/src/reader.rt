@@ -45,7 +45,8 @@ pub extern "C" fn piper_reader_poll(
     }
 }
 
-/// Checks for a byte or for the end, and leaves nothing. It gives what `peek` does, too.
+/// Checks for a byte or for the end, and leaves nothing. Where it finds a byte it gives what `peek`
+/// does, too.
 #[unsafe(no_mangle)]
 pub extern "C" fn piper_reader_look(
     alloc: Global,
@@ -57,9 +58,15 @@ pub extern "C" fn piper_reader_look(
 {
     let mut half = reader.take(alloc);
     let outcome = half.look();
-    let known = half.end.peek_buf();
-    *at = address(known);
-    let len = known.len();
+    let len = match outcome {
+        Outcome::Ready => {
+            let known = half.end.peek_buf();
+            *at = address(known);
+            known.len()
+        }
+        // Who is about to wait has no use for an address.
+        _ => 0,
+    };
     reader.put(half);
     PiperSeen {
         outcome: outcome.code(),

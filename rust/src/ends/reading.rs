@@ -80,11 +80,14 @@ impl ReadEnd {
         let mut at = ptr::null();
         // SAFETY: the handle is open and ours alone, and `at` is a value of ours.
         let seen = unsafe { sys::piper_reader_look(self.raw.get_mut(), &mut at) };
-        // SAFETY: the look gave this address.
-        let at = unsafe { address(at as *mut u8) };
-        self.known = Some(Piece { at, len: seen.len });
         match found(seen.outcome) {
-            Poll::Ready(found) => Poll::Ready(found),
+            Poll::Ready(true) => {
+                // SAFETY: a look that found a byte gave this address.
+                let at = unsafe { address(at as *mut u8) };
+                self.known = Some(Piece { at, len: seen.len });
+                Poll::Ready(true)
+            }
+            Poll::Ready(false) => Poll::Ready(false),
             Poll::Pending => self.leave(waker),
         }
     }
