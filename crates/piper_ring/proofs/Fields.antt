@@ -10,7 +10,7 @@ use denote.Struct.Struct.{within}
 use Rattle.piper_ring.specs.contracts.ring.memory.Memory as Memory
 use Rattle.piper_ring.specs.contracts.ring.seats.ReadSeat as ReadSeat
 use Rattle.piper_ring.specs.contracts.ring.seats.WriteSeat as WriteSeat
-use Rattle.piper_ring.specs.contracts.ring.seats.Remains as Remains
+use Rattle.piper_ring.specs.contracts.ring.remains.Remains as Remains
 use Rattle.piper_ring.specs.contracts.ring.places.Places as Places
 use Rattle.piper_ring.specs.contracts.ring.places.Blank as Blank
 use Rattle.piper_ring.specs.contracts.ring.places.Base as Base

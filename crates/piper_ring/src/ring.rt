@@ -4,5 +4,6 @@ pub(crate) mod claims;
 pub(crate) mod marks;
 pub(crate) mod memory;
 pub(crate) mod places;
+pub(crate) mod remains;
 pub(crate) mod seats;
 pub(crate) mod slots;

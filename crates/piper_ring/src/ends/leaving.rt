@@ -5,7 +5,8 @@ ghost use Rattle.piper_ring.specs.Shared.{flag};
 ghost use Rattle.piper_ring.specs.Stretches.{IsBlankFrom};
 
 use crate::ring::places::{Base, Blank};
-use crate::ring::seats::{ReadSeat, Remains, WORDS_ALIGN, WORDS_SIZE, WriteSeat};
+use crate::ring::remains::Remains;
+use crate::ring::seats::{ReadSeat, WORDS_ALIGN, WORDS_SIZE, WriteSeat};
 use std::alloc::Global;
 
 /// The reader's end, which has closed the ring. The places of the bytes that it knew of go to

@@ -3,12 +3,13 @@
 ghost use Rattle.std.specs.Prelude.{◌≡◌, ℕ, ◌+◌, ◌-◌, ◌<◌, ◌≤◌, ◌++◌, Bool, true, false, List, [], length};
 ghost use denote.RawPtr.{Ptr};
 ghost use Rattle.rtrb.specs.Fifo.{position_of};
-ghost use Rattle.piper_ring.specs.Shared.{Names, names_code, reader_owns, reader_lends, writer_owns, writer_lends, remains_own, flag};
+ghost use Rattle.piper_ring.specs.Shared.{Names, names_code, reader_owns, reader_lends, writer_owns, writer_lends, flag};
 ghost use Rattle.piper_ring.specs.SlotViews.{IsUnused, LooksFirst, IsUnusedBack, LooksFirstBack};
 
 use crate::ring::marks::{ReadMark, Saw, WriteMark};
 use crate::ring::memory::Memory;
 use crate::ring::places::{Base, Blank, Places};
+use crate::ring::remains::Remains;
 use crate::ring::slots::{ReaderWaits, ReaderWakes, WriterWaits, WriterWakes};
 use std::marker::{Brand, Model, PhantomData, Send, Sync};
 use std::sync::atomic::Ordering::SeqCst;
@@ -80,41 +81,6 @@ impl Model for WriteSeat {
 unsafe impl Send for WriteSeat {}
 
 unsafe impl Sync for WriteSeat {}
-
-/// What the end gets that leaves: all of the ring's memory where it is the last, else nothing.
-pub(crate) struct Remains {
-    words: *mut u64,
-    pub(crate) ghost at: { Ptr },
-    pub(crate) ghost names: { Names } by { names_code },
-    pub(crate) ghost last: { Bool },
-}
-
-impl Model for Remains {
-    ghost also_owns = { λ r. remains_own r.words r.at r.names r.last };
-}
-
-impl Remains {
-    /// Ends the end that left first. The other end still uses the memory.
-    pub(crate) fn finish(self)
-        requires { self.last ≡ false }
-    {
-        let Remains { words: _ } = self;
-    }
-
-    /// The memory as the heap gave it: that of the words, and that of the bytes.
-    pub(crate) fn into_memory(self, base: Base) -> (Memory, Memory)
-        requires { (self.last ≡ true) × (base.ptr ≡ self.at) }
-        ensures words { (result.0.size ≡ 216) × (result.0.align ≡ 8) }
-        ensures bytes { (result.1.size ≡ self.names.capacity) × (result.1.align ≡ 1) }
-    {
-        let Remains { words } = self;
-        let words = Memory {
-            start: words as *mut u8,
-        };
-        let bytes = Memory { start: base.ptr };
-        (words, bytes)
-    }
-}
 
 /// The two seats of an empty open ring, its places, all of them the writer's room and none of them
 /// set, and where they begin, with what each side knows of the slots, which are empty. The wakers

@@ -8,7 +8,7 @@ use Rattle.piper_ring.proofs.Steps.{flag_small}
 use Rattle.piper_ring.proofs.Leaving.{Left, reader_leaves}
 use Rattle.piper_ring.specs.contracts.ring.places.Blank as Blank
 use Rattle.piper_ring.specs.contracts.ring.seats.ReadSeat as ReadSeat
-use Rattle.piper_ring.specs.contracts.ring.seats.Remains as Remains
+use Rattle.piper_ring.specs.contracts.ring.remains.Remains as Remains
 use Rattle.piper_ring.specs.contracts.ring.seats.ReadSeat.leave.{ended, clauses}
 use Rattle.piper_ring.specs.contracts.ring.seats.ReadSeat.leave.Key.{name as #self}
 use Rattle.piper_ring.proofs.ring.seats.ReadSeat.leave.Statement.{statement}

@@ -8,7 +8,7 @@ use Rattle.piper_ring.proofs.Steps.{flag_small}
 use Rattle.piper_ring.proofs.Leaving.{Left, writer_leaves}
 use Rattle.piper_ring.specs.contracts.ring.places.Blank as Blank
 use Rattle.piper_ring.specs.contracts.ring.seats.WriteSeat as WriteSeat
-use Rattle.piper_ring.specs.contracts.ring.seats.Remains as Remains
+use Rattle.piper_ring.specs.contracts.ring.remains.Remains as Remains
 use Rattle.piper_ring.specs.contracts.ring.seats.WriteSeat.leave.{ended, clauses}
 use Rattle.piper_ring.specs.contracts.ring.seats.WriteSeat.leave.Key.{name as #self}
 use Rattle.piper_ring.proofs.ring.seats.WriteSeat.leave.Statement.{statement}

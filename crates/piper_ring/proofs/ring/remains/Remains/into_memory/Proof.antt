@@ -6,11 +6,11 @@ use Rattle.piper_ring.proofs.Fields.{seat_val, remains_told, MemoryData, memory_
 use Rattle.piper_ring.proofs.ring.places.Base.TheLaws.{lowers}
 use Rattle.piper_ring.specs.contracts.ring.memory.Memory as Memory
 use Rattle.piper_ring.specs.contracts.ring.places.Base as Base
-use Rattle.piper_ring.specs.contracts.ring.seats.Remains as Remains
-use Rattle.piper_ring.specs.contracts.ring.seats.Remains.into_memory.{ended, clauses}
-use Rattle.piper_ring.specs.contracts.ring.seats.Remains.into_memory.Key.{name as #self}
-use Rattle.piper_ring.proofs.ring.seats.Remains.into_memory.Statement.{statement}
-use Rattle.piper_ring.proofs.ring.seats.Remains.into_memory.Code as code
+use Rattle.piper_ring.specs.contracts.ring.remains.Remains as Remains
+use Rattle.piper_ring.specs.contracts.ring.remains.Remains.into_memory.{ended, clauses}
+use Rattle.piper_ring.specs.contracts.ring.remains.Remains.into_memory.Key.{name as #self}
+use Rattle.piper_ring.proofs.ring.remains.Remains.into_memory.Statement.{statement}
+use Rattle.piper_ring.proofs.ring.remains.Remains.into_memory.Code as code
 
 pub into_memory_spec : {M : Type 1} → statement M
 into_memory_spec 𝓤 𝓛 𝓜 𝓡 wired =
