@@ -1,1 +1,2 @@
+mod Talking
 mod WritingBack

@@ -1,3 +1,4 @@
+pub mod Client
 pub mod Crosswise
 pub mod Echoes
 pub mod OwnedEnds

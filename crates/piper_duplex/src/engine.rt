@@ -1,4 +1,5 @@
 //! The engine of an echo program: the task that echoes, and the session of a client with it.
+mod client;
 mod echoing;
 mod session;
 mod waiting;

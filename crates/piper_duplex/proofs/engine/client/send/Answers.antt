@@ -1,0 +1,19 @@
+use Rattle.piper_lines.proofs.Sending.{sends_none, sends_then}
+use Rattle.piper_duplex.proofs.engine.client.send.Goals as goal
+
+pub returns-in_err-turns-clause-sends : goal.returns-in_err-turns-clause-sends
+returns-in_err-turns-clause-sends g c = sends_none _ _ _ _
+
+pub loop-init : goal.loop-init
+loop-init g c = (tt, tt, c.requires, sends_none _ _ _ _, λ seen. seen)
+
+pub loop-preserved : goal.loop-preserved
+loop-preserved g c =
+    let wrote = c.poll_write_all-turn.ensures in
+    (tt, tt, wrote.within, sends_then _ _ _ _ _ _ _ _ _ c.loop.invariant.3 wrote.sends c.loop.invariant.4 wrote.stays.0, λ seen. wrote.stays.0 (c.loop.invariant.4 seen))
+
+pub returns-in-Ready-Ok-Whole-clause-sends : goal.returns-in-Ready-Ok-Whole-clause-sends
+returns-in-Ready-Ok-Whole-clause-sends g c = sends_then _ _ _ _ _ _ _ _ _ c.loop.invariant.3 c.poll_write_all-turn.ensures.sends c.loop.invariant.4 c.poll_write_all-turn.ensures.stays.0
+
+pub returns-in-Ready-clause-sends : goal.returns-in-Ready-clause-sends
+returns-in-Ready-clause-sends g c = sends_then _ _ _ _ _ _ _ _ _ c.loop.invariant.3 c.poll_write_all-turn.ensures.sends c.loop.invariant.4 c.poll_write_all-turn.ensures.stays.0
