@@ -1,14 +1,7 @@
 -- The client of an echo: what it sends of its input, and what it prints of what comes back.
-use Rattle.std.specs.Prelude.{◌≡◌, Bool, List, [], ◌++◌, ℕ, Option}
-use Rattle.std.specs.Io.KnownBytes.{Appends, Consumes}
+use Rattle.std.specs.Prelude.{◌≡◌, ◌+◌, ℕ, Bool, List, [], ◌++◌, length, Option, Result, IfOk}
+use Rattle.std.specs.Io.KnownBytes.{Appends, Consumes, IsAtEnd}
 use Rattle.piper_lines.specs.Sends.{Sends}
-
--- what was sent is what the input gave, in order, and all of it unless the pipe was seen closed
-pub record SendsOn (input_before input_after : Option (List ℕ))
-    (sent_before sent_after : List ℕ) (saw_before saw_after : Bool) : Type 0 where
-  pub given : List ℕ
-  pub read : Consumes input_before input_after given
-  pub sent : Sends given [] sent_before sent_after saw_before saw_after
 
 -- what was printed is what was taken, in order
 pub record Prints (taken_before taken_after : List ℕ)
@@ -16,3 +9,25 @@ pub record Prints (taken_before taken_after : List ℕ)
   pub bytes : List ℕ
   pub taken : taken_after ≡ taken_before ++ bytes
   pub printed : Appends output_before output_after bytes
+
+-- what was sent is what the input gave, in order, but for what is left, and all of it unless the pipe
+-- was seen closed; an answer `Ok n` says that none is left, and that all but n bytes came back
+pub record SendsOn {E : Type 0} (answer : Result ℕ E) (input_before input_after : Option (List ℕ))
+    (sent_before sent_after : List ℕ) (saw_before saw_after : Bool)
+    (taken_before taken_after : List ℕ) : Type 0 where
+  pub given : List ℕ
+  pub left : List ℕ
+  pub read : Consumes input_before input_after given
+  pub sent : Sends given left sent_before sent_after saw_before saw_after
+  pub all : IfOk answer (λ n. (left ≡ [])
+      × (length taken_before + length given ≡ length taken_after + n))
+
+-- the input gave all that it had, and as many bytes were printed
+pub record CameBack (input_before input_after output_before output_after : Option (List ℕ))
+    : Type 0 where
+  pub given : List ℕ
+  pub printed : List ℕ
+  pub read : Consumes input_before input_after given
+  pub ended : IsAtEnd input_after
+  pub written : Appends output_before output_after printed
+  pub all : length printed ≡ length given

@@ -1,13 +1,14 @@
 //! Text through a duplex stream and back: one thread sends its lines, and another writes them back.
-ghost use Rattle.std.specs.Prelude.{◌≡◌, ◌<◌, ◌⊎◌, [], length, IfErr};
+ghost use Rattle.std.specs.Prelude.{◌≡◌, ◌<◌, ◌⊎◌, [], length, IfErr, OnOk};
+ghost use Rattle.piper_duplex.specs.Client.{CameBack};
 
 use crate::end::duplex;
-use crate::engine::client::{print, talk};
+use crate::engine::client::{print_line, talk};
 use crate::engine::waiting::EchoAll;
 use futures::executor::block_on;
-use piper::{OwnedReader, OwnedWriter};
+use piper::{OwnedReader, OwnedWriter, Reader, Writer};
 use std::alloc::{AllocGlobal, Global};
-use std::io::{BufReader, Read, Write};
+use std::io::{Read, Write};
 use std::marker::Send;
 use std::random::RandomSource;
 use std::sync::Wait;
@@ -63,8 +64,9 @@ impl Ended {
 /// which a thread writes each line back, and prints what comes back to `output`. `words` are the
 /// arguments of the command line; there are to be none.
 ///
-/// A line is printed before the next one is read. One that is longer than 65,536 bytes goes through
-/// in pieces of that many.
+/// A line is printed before the next one is sent. One that is longer than 65,536 bytes goes through
+/// in pieces of that many. The status 0 says that the input is at its end, and that as many bytes
+/// were printed as it gave.
 pub fn echo<R, I, O>(
     rt: &R,
     alloc: Global,
@@ -78,6 +80,8 @@ where
     O: Write,
     ensures words { 0 < length words.now → result.status ≡ 1 }
     ensures none { words.now ≡ [] → (result.status ≡ 0) ⊎ (result.status ≡ 2) }
+    ensures all { result.status ≡ 0 → CameBack (I.remaining input.old) (I.remaining input.new)
+        (O.contents output.old) (O.contents output.new) }
 {
     if !words.is_empty() {
         return Ended::WRONG_ARGUMENTS;
@@ -94,9 +98,10 @@ where
     R: Wait + Threads + RandomSource + AllocGlobal + Clone + Drop + Send + 'static,
     I: Read,
     O: Write,
-    ensures { IfErr result (λ e. e.status ≡ 2) }
+    ensures all { OnOk result (CameBack (I.remaining input.old) (I.remaining input.new)
+        (O.contents output.old) (O.contents output.new)) }
+    ensures failed { IfErr result (λ e. e.status ≡ 2) }
 {
-    let mut input = BufReader::new(alloc, input).map_err(|_| Ended::OUT_OF_MEMORY)?;
     let theirs = rt.clone().map_err(|_| Ended::OUT_OF_MEMORY)?;
     let (first, second) = duplex(alloc, CAPACITY, CAPACITY, 1).map_err(|_| Ended::OUT_OF_MEMORY)?;
     let (reader, writer) = second.into_halves();
@@ -108,11 +113,30 @@ where
         first.drop();
         return Err(Ended::NO_THREAD);
     };
-    let (mut reader, mut writer) = first.into_halves();
-    let sent = talk(rt, &mut reader, &mut writer, &mut input, output);
-    writer.drop();
-    let printed = sent.and_then(|()| print(rt, &mut reader, usize::MAX, output));
+    let (mut reader, writer) = first.into_halves();
+    let printed = exchange(rt, &mut reader, writer, input, output);
     reader.drop();
     child.join(rt);
-    printed.map(|_| ())
+    printed
+}
+
+// Sends the input, closes the way there, and prints all that comes back.
+fn exchange<R, I, O>(
+    rt: &R,
+    reader: &mut Reader,
+    mut writer: Writer,
+    input: &mut I,
+    output: &mut O,
+) -> Result<(), Ended>
+where
+    R: Wait + RandomSource + AllocGlobal,
+    I: Read,
+    O: Write,
+    ensures all { OnOk result (CameBack (I.remaining input.old) (I.remaining input.new)
+        (O.contents output.old) (O.contents output.new)) }
+    ensures failed { IfErr result (λ e. e.status ≡ 2) }
+{
+    let sent = talk(rt, reader, &mut writer, input, output);
+    writer.drop();
+    print_line(rt, reader, sent?, output)
 }

@@ -6,6 +6,6 @@ use Rattle.piper_duplex.proofs.engine.client.poll_print.Given as goal
 abbrev pub invariant-loop : goal.invariant-loop
 invariant-loop g l = record {
   printed : Prints (g.A.AsyncBufRead.taken l.initial.reader) (g.A.AsyncBufRead.taken l.reader) (g.O.Write.contents l.initial.output) (g.O.Write.contents l.output);
-  within : l.count ≤ l.most;
+  within : l.count ≤ l.size;
   counted : length (g.A.AsyncBufRead.taken l.reader) + l.initial.count ≡ length (g.A.AsyncBufRead.taken l.initial.reader) + l.count;
 }
