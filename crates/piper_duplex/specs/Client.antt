@@ -10,8 +10,8 @@ pub record Prints (taken_before taken_after : List ℕ)
   pub taken : taken_after ≡ taken_before ++ bytes
   pub printed : Appends output_before output_after bytes
 
--- what was sent is what the input gave, in order, but for what is left, and all of it unless the pipe
--- was seen closed; an answer `Ok n` says that none is left, and that all but n bytes came back
+-- what was sent is what the input gave, in order, but for what is left, and all of it unless the
+-- pipe was seen closed; an answer `Ok n` says that none is left, and that all but n bytes came back
 pub record SendsOn {E : Type 0} (answer : Result ℕ E) (input_before input_after : Option (List ℕ))
     (sent_before sent_after : List ℕ) (saw_before saw_after : Bool)
     (taken_before taken_after : List ℕ) : Type 0 where

@@ -260,7 +260,8 @@ where
 // Writes once. A write that was interrupted has written none.
 fn write_some<O: Write>(output: &mut O, bytes: &[u8]) -> Result<usize, Ended>
     ensures bound { IfOk result (λ n. n ≤ length bytes.now) }
-    ensures written { WriteAppends (O.contents output.old) (O.contents output.new) result bytes.now }
+    ensures written { WriteAppends (O.contents output.old) (O.contents output.new)
+        result bytes.now }
     ensures failed { IfErr result (λ e. e.status ≡ 2) }
 {
     match output.write(bytes) {
