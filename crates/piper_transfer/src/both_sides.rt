@@ -160,7 +160,7 @@ where
     let (turns, writer) = (&input.turns, &mut input.writer);
     match on_two_threads(rt, source, turns, writer, output, dest, chunk, meter) {
         (Some(filled), Some(drained)) => (filled, drained),
-        (Some(filled), None) => (filled, drain(rt, output, dest, chunk, meter)),
+        (Some(filled), None) => (filled, drain(rt, output, dest, chunk, meter.of_output())),
         (None, Some(drained)) => (Err(stopped()), drained),
         (None, None) => {
             let (writer, reader) = (&mut input.writer, &mut output.reader);

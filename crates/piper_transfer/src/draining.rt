@@ -8,7 +8,7 @@ ghost use Rattle.piper_transfer.specs.Transfer.{IsLasting, IsOfDestination, Pour
 
 use crate::ends::Destination;
 use crate::error::TransferError;
-use crate::meter::Meter;
+use crate::meter::{InputTold, Meter, OutputMeter};
 use crate::patience::write_patiently;
 use crate::start::Start;
 use crate::turns::{Output, Turns};
@@ -48,7 +48,7 @@ where
     if !start.wait(rt) {
         return None;
     }
-    Some(drain(rt, output, dest, chunk, meter))
+    Some(drain(rt, output, dest, chunk, meter.of_output()))
 }
 
 /// Writes the pipe's bytes to the output, at most `chunk` at a time, up to the pipe's end.
@@ -60,7 +60,7 @@ pub(crate) fn drain<R, D>(
     output: &mut Output,
     dest: &mut D,
     chunk: usize,
-    meter: &Meter,
+    meter: OutputMeter<'_>,
 ) -> Result<(), TransferError>
 where
     R: Wait + Clock,
@@ -89,13 +89,14 @@ where
 }
 
 // Tells the other side to end, and makes room: it wakes if it waits for some.
-fn give_up(reader: &mut Reader, meter: &Meter)
+fn give_up(reader: &mut Reader, meter: OutputMeter<'_>) -> InputTold
     ensures taken { (lost : List ℕ) × (reader.new.end.taken ≡ reader.old.end.taken ++ lost) }
     ensures ring { reader.new.end.ring ≡ reader.old.end.ring }
 {
-    meter.end_output();
+    let told = meter.end_output();
     let known = reader.peek_buf().len();
     reader.consume(known);
+    told
 }
 
 fn drain_in_turns<R, D>(
@@ -105,7 +106,7 @@ fn drain_in_turns<R, D>(
     reader: &mut Reader,
     dest: &mut D,
     chunk: usize,
-    meter: &Meter,
+    meter: OutputMeter<'_>,
 ) -> Result<(), TransferError>
 where
     R: Wait + Clock,
@@ -117,12 +118,12 @@ where
     ensures reported { IfErr result (IsOfDestination (D.fails dest.new) (D.full dest.new)) }
 {
     for _ in rt.forever() {
-        meter.output.begin_wait(rt);
+        meter.side.begin_wait(rt);
         let Some(mut cx) = turns.next(rt) else {
             return Err(TransferError::Memory);
         };
         await_level(rt, reader, level);
-        meter.output.end_wait(rt);
+        meter.side.end_wait(rt);
         let turn = drain_turn(rt, &mut cx, reader, dest, chunk, meter);
         cx.end(&turn);
         if let Poll::Ready(ended) = turn {
@@ -153,7 +154,7 @@ fn drain_turn<R, D>(
     reader: &mut Reader,
     dest: &mut D,
     chunk: usize,
-    meter: &Meter,
+    meter: OutputMeter<'_>,
 ) -> Poll<Result<(), TransferError>>
 where
     R: Wait + Clock,
@@ -186,7 +187,7 @@ pub(crate) fn write_some<R, D>(
     reader: &mut Reader,
     dest: &mut D,
     chunk: usize,
-    meter: &Meter,
+    meter: OutputMeter<'_>,
 ) -> Result<(), TransferError>
 where
     R: Wait + Clock,
@@ -202,7 +203,7 @@ where
     match write_chunk(rt, reader, dest, chunk) {
         Ok(0) => Err(TransferError::Full),
         Ok(count) => {
-            meter.output.add_bytes(count);
+            meter.side.add_bytes(count);
             Ok(())
         }
         Err(error) => Err(TransferError::Write(error)),

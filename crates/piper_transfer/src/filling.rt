@@ -7,7 +7,7 @@ ghost use Rattle.piper_transfer.specs.Transfer.{Fed, IsOfSource, IsOpen};
 
 use crate::ends::Source;
 use crate::error::{TransferError, stopped};
-use crate::meter::Meter;
+use crate::meter::{InputMeter, Meter};
 use crate::patience::read_patiently;
 use crate::piece::Piece;
 use crate::start::Start;
@@ -42,7 +42,7 @@ where
     if !start.begin(rt) {
         return None;
     }
-    Some(fill_in_turns(rt, turns, source, writer, chunk, meter))
+    Some(fill_in_turns(rt, turns, source, writer, chunk, meter.of_input()))
 }
 
 // Reads the input into the pipe, at most `chunk` bytes at a time, up to its end, and closes the
@@ -53,7 +53,7 @@ fn fill_in_turns<R, S>(
     source: &mut S,
     writer: &mut Writer,
     chunk: usize,
-    meter: &Meter,
+    meter: InputMeter<'_>,
 ) -> Result<(), TransferError>
 where
     R: Wait + Clock,
@@ -66,11 +66,11 @@ where
     ensures reported { IfErr result (IsOfSource (S.fails source.new)) }
 {
     for _ in rt.forever() {
-        meter.input.begin_wait(rt);
+        meter.side.begin_wait(rt);
         let Some(mut cx) = turns.next(rt) else {
             return Err(TransferError::Memory);
         };
-        meter.input.end_wait(rt);
+        meter.side.end_wait(rt);
         let turn = fill_turn(rt, &mut cx, source, writer, chunk, meter);
         cx.end(&turn);
         if let Poll::Ready(ended) = turn {
@@ -87,7 +87,7 @@ fn fill_turn<R, S>(
     source: &mut S,
     writer: &mut Writer,
     chunk: usize,
-    meter: &Meter,
+    meter: InputMeter<'_>,
 ) -> Poll<Result<(), TransferError>>
 where
     R: Wait + Clock,
@@ -128,7 +128,7 @@ pub(crate) fn read_chunk<R, S>(
     source: &mut S,
     writer: &mut Writer,
     most: usize,
-    meter: &Meter,
+    meter: InputMeter<'_>,
 ) -> Result<usize, TransferError>
 where
     R: Wait + Clock,
@@ -144,7 +144,7 @@ where
 {
     let count = read_patiently(rt, source, writer.write_buf(most), meter)?;
     writer.produced(count);
-    meter.input.add_bytes(count);
+    meter.side.add_bytes(count);
     Ok(count)
 }
 

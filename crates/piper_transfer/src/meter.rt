@@ -23,6 +23,26 @@ pub struct Meter {
     is_output_over: AtomicBool,
 }
 
+/// What the side that reads the input gets of the meter: what it has done itself, and whether the
+/// output is over.
+#[derive(Clone, Copy)]
+pub(crate) struct InputMeter<'a> {
+    pub(crate) side: &'a Side,
+    is_output_over: &'a AtomicBool,
+}
+
+/// What the side that writes the output gets of the meter: what it has done itself, and how it
+/// tells the other one to end.
+#[derive(Clone, Copy)]
+pub(crate) struct OutputMeter<'a> {
+    pub(crate) side: &'a Side,
+    is_output_over: &'a AtomicBool,
+}
+
+/// Evidence that the input's side was told to end.
+#[derive(Clone, Copy)]
+pub(crate) struct InputTold(());
+
 impl Side {
     fn new() -> Side {
         Side {
@@ -84,11 +104,34 @@ impl Meter {
         }
     }
 
+    /// What the side gets of it that reads the input.
+    pub(crate) fn of_input(&self) -> InputMeter<'_> {
+        InputMeter {
+            side: &self.input,
+            is_output_over: &self.is_output_over,
+        }
+    }
+
+    /// What the side gets of it that writes the output.
+    pub(crate) fn of_output(&self) -> OutputMeter<'_> {
+        OutputMeter {
+            side: &self.output,
+            is_output_over: &self.is_output_over,
+        }
+    }
+}
+
+impl InputMeter<'_> {
+    /// Whether the output takes no more, so that no more is to be read.
     pub(crate) fn is_output_over(&self) -> bool {
         self.is_output_over.load(Ordering::SeqCst)
     }
+}
 
-    pub(crate) fn end_output(&self) {
+impl OutputMeter<'_> {
+    /// Tells the input's side to end.
+    pub(crate) fn end_output(&self) -> InputTold {
         self.is_output_over.store(true, Ordering::SeqCst);
+        InputTold(())
     }
 }

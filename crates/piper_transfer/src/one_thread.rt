@@ -9,7 +9,7 @@ use crate::draining::write_some;
 use crate::ends::{Destination, Source};
 use crate::error::{TransferError, stopped};
 use crate::filling::read_chunk;
-use crate::meter::Meter;
+use crate::meter::{Meter, OutputMeter};
 use crate::piece::Piece;
 use piper::{Reader, Writer};
 use std::sync::Wait;
@@ -44,19 +44,20 @@ where
     ensures input_told { IfErr result.0 (IsOfSource (S.fails source.new)) }
     ensures reported { IfErr result.1 (IsOfDestination (D.fails dest.new) (D.full dest.new)) }
 {
+    let (input, output) = (meter.of_input(), meter.of_output());
     let mut piece = Piece::first(chunk);
     for _ in rt.forever() {
-        if let Err(error) = pass_on_from(rt, writer, reader, dest, chunk, level, meter) {
+        if let Err(error) = pass_on_from(rt, writer, reader, dest, chunk, level, output) {
             return (Err(stopped()), Err(error));
         }
-        match read_chunk(rt, source, writer, piece.len(), meter) {
+        match read_chunk(rt, source, writer, piece.len(), input) {
             Ok(0) => {
-                let written = pass_on(rt, writer, reader, dest, chunk, meter);
+                let written = pass_on(rt, writer, reader, dest, chunk, output);
                 return (Ok(()), written);
             }
             Ok(count) => piece = piece.after(count),
             Err(error) => {
-                let written = pass_on(rt, writer, reader, dest, chunk, meter);
+                let written = pass_on(rt, writer, reader, dest, chunk, output);
                 return (Err(error), written);
             }
         }
@@ -72,7 +73,7 @@ fn pass_on_from<R, D>(
     dest: &mut D,
     chunk: usize,
     level: usize,
-    meter: &Meter,
+    meter: OutputMeter<'_>,
 ) -> Result<(), TransferError>
 where
     R: Wait + Clock,
@@ -101,7 +102,7 @@ fn pass_on<R, D>(
     reader: &mut Reader,
     dest: &mut D,
     chunk: usize,
-    meter: &Meter,
+    meter: OutputMeter<'_>,
 ) -> Result<(), TransferError>
 where
     R: Wait + Clock,
@@ -129,7 +130,7 @@ fn drain_known<R, D>(
     reader: &mut Reader,
     dest: &mut D,
     chunk: usize,
-    meter: &Meter,
+    meter: OutputMeter<'_>,
 ) -> Result<(), TransferError>
 where
     R: Wait + Clock,

@@ -8,7 +8,7 @@ ghost use Rattle.piper_transfer.specs.Transfer.{IsLasting, IsOfSource};
 
 use crate::ends::{Destination, Source};
 use crate::error::{TransferError, stopped};
-use crate::meter::Meter;
+use crate::meter::InputMeter;
 use std::io::ErrorKind;
 use std::sync::Wait;
 use std::time::{Clock, Duration};
@@ -64,7 +64,7 @@ pub(crate) fn read_patiently<R, S>(
     rt: &R,
     source: &mut S,
     buf: &mut [u8],
-    meter: &Meter,
+    meter: InputMeter<'_>,
 ) -> Result<usize, TransferError>
 where
     R: Wait + Clock,
