@@ -1,9 +1,11 @@
 //! The side that writes the pipe's bytes to the output.
-ghost use Rattle.std.specs.Prelude.{◌≡◌, ◌<◌, ◌++◌, ℕ, List, length, Ok, OnOk, IfErr, IfSome, IfNone};
+ghost use Rattle.std.specs.Prelude.{◌≡◌, ◌<◌, ◌≤◌, ◌++◌, ℕ, List, length};
+ghost use Rattle.std.specs.Prelude.{Ok, OnOk, IfErr, IfSome, IfNone};
 ghost use Rattle.futures.specs.Task.{IsArmed};
 ghost use Rattle.futures.specs.Poll.{IfReady, OnPending};
 ghost use Rattle.piper.specs.Drains.{StaysKnown};
 ghost use Rattle.piper.specs.Ends.{IsEnded};
+ghost use Rattle.piper.specs.ReaderCalls.{MayBeUnread};
 ghost use Rattle.piper_transfer.specs.Transfer.{IsLasting, IsOfDestination, Poured, PouredAll};
 
 use crate::ends::Destination;
@@ -133,14 +135,19 @@ where
     unreachable!()
 }
 
-// Waits until the pipe holds so many bytes, or is closed.
-fn await_level<R>(rt: &R, reader: &Reader, level: usize)
+// Waits until the pipe holds so many bytes, and returns how many it holds; or until it is closed.
+fn await_level<R>(rt: &R, reader: &Reader, level: usize) -> Option<usize>
 where
     R: Wait + Clock,
+    ensures { IfSome result (λ held. (level ≤ held) × MayBeUnread reader.now held) }
 {
     for _ in rt.forever() {
-        if level <= reader.len() || reader.is_closed() {
-            return;
+        let held = reader.len();
+        if level <= held {
+            return Some(held);
+        }
+        if reader.is_closed() {
+            return None;
         }
         thread::sleep(rt, Duration::from_millis(LEVEL_PAUSE));
     }
