@@ -1,6 +1,7 @@
 //! Calls of an input or an output that are made again: at once where they were interrupted, and
 //! after a short sleep where they would block.
-ghost use Rattle.std.specs.Prelude.{◌≡◌, ◌<◌, ◌↔◌, IsTrue, length, false, Ok, OnOk, IfErr};
+ghost use Rattle.std.specs.Prelude.{◌≡◌, ◌<◌, ◌≤◌, ◌↔◌, IsTrue, length, false, Ok, OnOk, IfErr};
+ghost use Rattle.std.specs.Duration.{as_nanos};
 ghost use Rattle.std.specs.Io.{ReadsAtMost, WritesAtMost};
 ghost use Rattle.std.specs.Io.KnownBytes.{Keeps, ReadConsumes, WriteAppends};
 ghost use Rattle.piper_transfer.specs.Taken.{StaysTaken, WriteTakes};
@@ -25,6 +26,7 @@ const LONGEST: u64 = 10;
 #[derive(Clone, Copy)]
 struct Patience {
     milliseconds: u64,
+    ghost bounds: { (1 ≤ milliseconds) × (milliseconds ≤ 10) },
 }
 
 impl Patience {
@@ -32,6 +34,14 @@ impl Patience {
         Patience {
             milliseconds: SHORTEST,
         }
+    }
+
+    // How long the next sleep takes: 1 to 10 milliseconds.
+    fn pause(self) -> Duration
+        ensures shortest { 1_000_000 ≤ as_nanos result }
+        ensures longest { as_nanos result ≤ 10_000_000 }
+    {
+        Duration::from_millis(self.milliseconds)
     }
 
     // Whether a call that failed so is to be made again. Where it would block, the call is made
@@ -42,7 +52,7 @@ impl Patience {
         match error.kind() {
             ErrorKind::Interrupted => true,
             ErrorKind::WouldBlock => {
-                thread::sleep(clock, Duration::from_millis(self.milliseconds));
+                thread::sleep(clock, self.pause());
                 self.milliseconds = self.milliseconds.saturating_mul(2).min(LONGEST);
                 true
             }
