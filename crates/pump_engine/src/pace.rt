@@ -1,5 +1,6 @@
 //! A rate that is kept: so many bytes a second at most.
-ghost use Rattle.std.specs.Prelude.{◌<◌, ◌≤◌};
+ghost use Rattle.std.specs.Prelude.{◌≡◌, ◌<◌, ◌≤◌, ◌-◌, ◌*◌, ◌/◌, ◌^◌, max, min};
+ghost use Rattle.std.specs.Duration.{as_nanos};
 
 use std::thread;
 use std::time::{Clock, Duration, Instant};
@@ -53,9 +54,7 @@ impl Pace {
         let Some(since) = self.since else {
             return;
         };
-        let owed = count as u128 * 1_000_000_000 / (self.rate as u128).max(1);
-        let owed = Duration::from_nanos(owed.min(u64::MAX as u128) as u64);
-        self.owed = self.owed.saturating_add(owed);
+        self.owed = self.owed.saturating_add(time_of(count, self.rate));
         if self.owed.saturating_sub(self.checked) < Duration::from_millis(STEP) {
             return;
         }
@@ -67,4 +66,12 @@ impl Pace {
             self.since = None;
         }
     }
+}
+
+// How long so many bytes take at so many a second.
+fn time_of(count: usize, rate: usize) -> Duration
+    ensures { as_nanos result ≡ min (count * 1_000_000_000 / max rate 1) (2 ^ 64 - 1) }
+{
+    let nanoseconds = count as u128 * 1_000_000_000 / (rate as u128).max(1);
+    Duration::from_nanos(nanoseconds.min(u64::MAX as u128) as u64)
 }
