@@ -20,6 +20,11 @@ pub struct Over {
     changed: Condvar,
 }
 
+/// What came of something that is watched, once it was reported to be over.
+pub struct Reported<T> {
+    value: T,
+}
+
 impl Over {
     pub fn new() -> Over {
         Over {
@@ -28,10 +33,13 @@ impl Over {
         }
     }
 
-    /// Reports that it is over.
-    pub fn report(&self, rt: &impl Wait) {
+    /// Reports that it is over, and hands on what came of it.
+    pub fn report<T>(&self, rt: &impl Wait, value: T) -> Reported<T>
+        ensures { result.value ≡ value }
+    {
         *self.is_over.lock(rt) = true;
         self.changed.notify_all();
+        Reported { value }
     }
 
     // Waits until it is over, or the time is up. Returns whether it is over.
@@ -41,6 +49,15 @@ impl Over {
             .changed
             .wait_timeout_while(rt, held, pause, |is_over| !*is_over);
         *held
+    }
+}
+
+impl<T> Reported<T> {
+    pub fn into_inner(self) -> T
+        ensures { result ≡ self.value }
+    {
+        let Reported { value } = self;
+        value
     }
 }
 

@@ -148,11 +148,7 @@ where
     let (_, moved) = join_mut(
         rt,
         &mut || watch(rt, meter, watched, done),
-        &mut || {
-            let moved = transfer(rt, source, dest, sizes, meter);
-            done.report(rt);
-            moved
-        },
+        &mut || done.report(rt, transfer(rt, source, dest, sizes, meter)),
     );
-    moved
+    moved.into_inner()
 }
