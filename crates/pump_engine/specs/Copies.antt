@@ -26,6 +26,14 @@ pub record SameSink {F : Type 0} (name : F → Option (List ℕ)) (old new : Sin
   pub file : name new.file ≡ name old.file
   pub failed : new.has_failed ≡ old.has_failed
 
+-- the file was flushed, or a call of it has failed
+abbrev pub IsFlushedOrFailed : {F : Type 0} → (F → Type 0) → Sink F → Type 0
+IsFlushedOrFailed flushed sink = sink.has_failed ≡ false → flushed sink.file
+
+-- each of the files was flushed, if no call of it has failed
+abbrev pub AreFlushed : {F : Type 0} → (F → Type 0) → List (Sink F) → Type 0
+AreFlushed flushed sinks = All (IsFlushedOrFailed flushed) sinks
+
 -- the sum, if it is wanted, is that of these bytes
 abbrev pub IsSumOf : List ℕ → Option Sha256 → Type 0
 IsSumOf passed sum = IfSome sum (λ hasher. Holds256 hasher passed)

@@ -30,9 +30,9 @@ KeepsHeld (drain.Standard d) = ⊤
 KeepsHeld (drain.File sink) = sink.has_begun ≡ false
 
 -- it was flushed
-abbrev pub IsFlushed : {D F : Type 0} → (D → Type 0) → Drain D F → Type 0
-IsFlushed flushed (drain.Standard d) = flushed d
-IsFlushed flushed (drain.File f) = ⊤
+abbrev pub IsFlushed : {D F : Type 0} → (D → Type 0) → (F → Type 0) → Drain D F → Type 0
+IsFlushed flushed file_flushed (drain.Standard d) = flushed d
+IsFlushed flushed file_flushed (drain.File sink) = file_flushed sink.file
 
 -- a write of some bytes has taken none
 abbrev pub IsFull : {D F : Type 0} → (D → Type 0) → Drain D F → Type 0

@@ -15,8 +15,9 @@ pub record StopsEarly
   pub output : output_new ≡ output_old
 
 -- it ended as a transfer did: what was written is a front of what the input gave, and all of it
--- where the transfer wrote all; then it was flushed. The copies and the sum got what was written,
--- and the error that is reported is one of the side that it names, whatever became of the copies
+-- where the transfer wrote all; then it was flushed, as were the copies that have not failed. The
+-- copies and the sum got what was written, and the error that is reported is one of the side that
+-- it names, whatever became of the copies
 pub record EndsWithTransfer
     (input_old input_new output_old output_new : Option (List ℕ))
     (IsCopied : List ℕ → Type 0)

@@ -2,7 +2,8 @@
 ghost use Rattle.std.specs.Prelude.{◌≡◌, ◌<◌, ◌≤◌, ◌++◌, ◌∷◌, [], ℕ, List, IfSome};
 ghost use Rattle.std.specs.List.{All};
 ghost use Rattle.pump_engine.specs.Asked.{sum_asked};
-ghost use Rattle.pump_engine.specs.Copies.{HavePassed, IsCopy, IsSumOf, has_failed, name_of_sum, names_of};
+ghost use Rattle.pump_engine.specs.Copies.{AreFlushed, HavePassed, IsCopy, IsSumOf};
+ghost use Rattle.pump_engine.specs.Copies.{has_failed, name_of_sum, names_of};
 ghost use Rattle.sha2.specs.Sha256.{sha256};
 
 use crate::files::NamedFile;
@@ -101,9 +102,10 @@ impl<'a, R: Clock + Eprint, F: NamedFile> Copies<'a, R, F> {
 
     /// Flushes the files, and reports of those that can't be.
     pub(crate) fn flush(&mut self)
-        ensures { (names : List (List ℕ)) (passed : List ℕ)
+        ensures copies { (names : List (List ℕ)) (passed : List ℕ)
             → HavePassed F.name F.written F.fails self.old names passed
             → HavePassed F.name F.written F.fails self.new names passed }
+        ensures flushed { AreFlushed F.flushed self.new.tees.items }
     {
         finish_all(self.rt, self.tees.as_mut_slice());
     }
@@ -170,6 +172,7 @@ where
     ensures copies { (passed : List ℕ) → All (IsCopy F.name F.written F.fails passed) tees.old
         → All (IsCopy F.name F.written F.fails passed) tees.new }
     ensures names { names_of tees.new ≡ names_of tees.old }
+    ensures flushed { AreFlushed F.flushed tees.new }
 {
     for tee in tees.iter_mut() {
         tee.finish(rt);

@@ -1,6 +1,6 @@
 //! What the program reads and writes: the standard streams or files.
 ghost use Rattle.std.specs.Prelude.{◌≡◌, ℕ, List};
-ghost use Rattle.pump_engine.specs.Copies.{HavePassed};
+ghost use Rattle.pump_engine.specs.Copies.{AreFlushed, HavePassed};
 ghost use Rattle.pump_engine.specs.Ends.{drain_bytes, inlet_bytes, DrainFails, InletFails};
 ghost use Rattle.pump_engine.specs.Ends.{IsFlushed, IsFull};
 
@@ -109,7 +109,7 @@ impl<S: Source + Drop, F: NamedFile> Source for Inlet<S, F> {
 impl<D: Destination + Drop, F: NamedFile> Destination for Drain<D, F> {
     ghost contents = { drain_bytes D.contents F.written };
 
-    ghost flushed = { IsFlushed D.flushed };
+    ghost flushed = { IsFlushed D.flushed F.flushed };
 
     ghost full = { IsFull D.full };
 
@@ -141,7 +141,9 @@ where
     // the copies got just what the output took
     ghost took = { λ o. HavePassed F.name F.written F.fails o.copies };
 
-    ghost flushed = { λ o. IsFlushed D.flushed o.drain };
+    // the drain was flushed, and each copy that has not failed
+    ghost flushed = { λ o. IsFlushed D.flushed F.flushed o.drain
+        × AreFlushed F.flushed o.copies.tees.items };
 
     ghost full = { λ o. IsFull D.full o.drain };
 

@@ -10,8 +10,8 @@ use std::io::{Read, Write};
 
 /// A file that was opened by its name.
 ///
-/// It can say by which one, what was written to it since then, and which errors it fails with. Of
-/// the system's files nothing of that is said.
+/// It can say by which one, what was written to it since then, whether that is flushed, and which
+/// errors it fails with. Of the system's files nothing of that is said.
 pub trait NamedFile: Drop {
     ghost use Rattle.std.specs.declared.io.Error.{Error};
 
@@ -23,6 +23,9 @@ pub trait NamedFile: Drop {
 
     // what was written to it since it was opened, where that is known
     ghost written: { Self → Option (List ℕ) } = { λ _. None };
+
+    // a flush has succeeded, and left it so
+    ghost flushed: { Self → Type 0 } = { λ _. ⊤ };
 
     // a call has failed with this error, and left it so
     ghost fails: { Self → Error → Type 0 } = { λ _ _. ⊤ };
@@ -59,6 +62,7 @@ pub trait NamedFile: Drop {
     fn flush(&mut self) -> io::Result<()>
         ensures name { name self.new ≡ name self.old }
         ensures bytes { written self.new ≡ written self.old }
+        ensures done { OnOk result (flushed self.new) }
         ensures error { IfErr result (fails self.new) };
 }
 

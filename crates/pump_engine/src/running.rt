@@ -3,7 +3,7 @@ ghost use Rattle.std.specs.Prelude.{◌≡◌, ◌≢◌, [], OnErr, OnOk, IfOk,
 ghost use Rattle.clap.specs.Words.{fault_of};
 ghost use Rattle.piper_transfer.specs.Transfer.{IsOfSide, Transfers, WritesAll};
 ghost use Rattle.pump_engine.specs.Arguments.{NamesNoFile, ShowsAsAsked, pump_command};
-ghost use Rattle.pump_engine.specs.Copies.{HaveGot, has_failed};
+ghost use Rattle.pump_engine.specs.Copies.{AreFlushed, HaveGot, has_failed};
 ghost use Rattle.pump_engine.specs.Ended.{IsEarly};
 ghost use Rattle.pump_engine.specs.Ends.{drain_bytes, inlet_bytes, InletFails, IsFlushed};
 ghost use Rattle.pump_engine.specs.Ends.{DrainFails, IsFull};
@@ -38,8 +38,8 @@ struct Task {
 /// named. One that was closed, and would be used, ends it.
 ///
 /// Words that are refused end it before a byte is moved. Else it ends as the transfer does: with
-/// success only where all that the input gave was written and flushed. Progress, told or not,
-/// changes neither.
+/// success only where all that the input gave was written and flushed, and each copy, too.
+/// Progress, told or not, changes neither.
 pub fn run<R, F, S, D>(
     rt: &R,
     words: &[String],
@@ -61,7 +61,8 @@ where
         (drain_bytes D.contents F.written output.old.drain)
         (drain_bytes D.contents F.written output.new.drain)
         (HaveGot F.name F.written F.fails (map string_bytes words.now) output.new.copies)
-        (IsFlushed D.flushed output.new.drain)
+        (IsFlushed D.flushed F.flushed output.new.drain
+        × AreFlushed F.flushed output.new.copies.tees.items)
         (IsOfSide (InletFails S.fails F.fails input.new)
         (DrainFails D.fails F.fails output.new.drain)
         (IsFull D.full output.new.drain)) (has_failed output.new.copies.tees.items) result }

@@ -2,7 +2,7 @@
 ghost use Rattle.std.specs.Prelude.{◌≡◌, ◌++◌, ℕ, List, [], false, true, OnOk, IfOk, IfErr, string_bytes};
 ghost use Rattle.std.specs.Io.{WritesAtMost};
 ghost use Rattle.std.specs.Io.KnownBytes.{append_known};
-ghost use Rattle.pump_engine.specs.Copies.{IsCopy, SameSink};
+ghost use Rattle.pump_engine.specs.Copies.{IsCopy, IsFlushedOrFailed, SameSink};
 ghost use Rattle.pump_engine.specs.Files.{Writes};
 
 use crate::files::{NamedFile, Opens};
@@ -87,6 +87,7 @@ impl<F: NamedFile> Sink<F> {
         ensures copy { (passed : List ℕ) → IsCopy F.name F.written F.fails passed self.old
             → IsCopy F.name F.written F.fails passed self.new }
         ensures name { self.new.name ≡ self.old.name }
+        ensures flushed { IsFlushedOrFailed F.flushed self.new }
     {
         if self.has_failed {
             return;
@@ -145,6 +146,7 @@ impl<F: NamedFile> Sink<F> {
     pub(crate) fn flush(&mut self) -> io::Result<()>
         ensures same { SameSink F.name self.old self.new }
         ensures bytes { F.written self.new.file ≡ F.written self.old.file }
+        ensures done { OnOk result (F.flushed self.new.file) }
         ensures error { IfErr result (F.fails self.new.file) }
     {
         self.begin()?;

@@ -1,7 +1,7 @@
 use Rattle.std.proofs.Common.{◌<◌, length, rules, string_bytes, ap, arith, ◌∙◌}
 use Rattle.std.proofs.Math.Seq.{map-set_same}
 use Rattle.std.proofs.lemmas.List.Elements.{AllWithin-more_set}
-use Rattle.pump_engine.specs.Copies.{IsCopy}
+use Rattle.pump_engine.specs.Copies.{IsCopy, IsFlushedOrFailed}
 use Rattle.pump_engine.proofs.Tees.{AllWithin-rest_set}
 use Rattle.pump_engine.proofs.copies.finish_all.Goals as goal
 
@@ -17,8 +17,13 @@ loop-tee-preserved g c =
           (c.finish.ensures.copy passed (before.rest passed all i c.tee-item.result (omega arith) inside));
       rest = λ passed all. AllWithin-rest_set (Copy passed) tees i c.finish.new.self (before.rest passed all);
       names = map-set_same _ tees i c.finish.new.self c.tee-item.result (ap string_bytes c.finish.ensures.name) ∙ before.names;
+      flushed = AllWithin-more_set tees i c.finish.new.self inside (IsFlushedOrFailed g.F.NamedFile.flushed) before.flushed c.finish.ensures.flushed;
     }
 
 pub returns-clause-copies : goal.returns-clause-copies
 returns-clause-copies g c = λ passed all k d inside.
     c.loop-tee.invariant.given passed all k d (omega arith) (search rules)
+
+pub returns-clause-flushed : goal.returns-clause-flushed
+returns-clause-flushed g c = λ k d inside.
+    c.loop-tee.invariant.flushed k d (omega arith) (search rules)

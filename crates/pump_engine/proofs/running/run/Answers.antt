@@ -2,7 +2,7 @@ use Rattle.std.proofs.Common.{[], inr, sym, subst, ◌++◌, ◌∙◌}
 use Rattle.std.specs.Prelude.{IfErr}
 use Rattle.std.specs.Io.KnownBytes.{Appends, Consumes}
 use Rattle.piper_transfer.specs.Transfer.{IsOfSide}
-use Rattle.pump_engine.specs.Copies.{HavePassed}
+use Rattle.pump_engine.specs.Copies.{AreFlushed, HavePassed}
 use Rattle.pump_engine.specs.Ended.{EndsAs}
 use Rattle.pump_engine.specs.Ends.{drain_bytes, inlet_bytes, DrainFails, InletFails, IsFlushed, IsFull}
 use Rattle.pump_engine.proofs.running.run.Goals as goal
@@ -34,7 +34,11 @@ returns-clause-runs g c = λ unnamed.
       };
       all = moved.all;
       ended = moved.ended;
-      flushed = λ writes. subst (IsFlushed g.D.Destination.flushed) (sym ended.drain) (c.pump-moved.ensures.flushed writes);
+      flushed = λ writes.
+          let flushed = c.pump-moved.ensures.flushed writes in (
+            subst (IsFlushed g.D.Destination.flushed file.flushed) (sym ended.drain) flushed.0,
+            subst (λ tees. AreFlushed file.flushed tees.items) (sym ended.failed) flushed.1,
+          );
       reported = subst (λ d. IfErr answer (IsOfSide (InletFails g.S.Source.fails file.fails c.pump-moved.new.source)
           (DrainFails g.D.Destination.fails file.fails d) (IsFull g.D.Destination.full d))) (sym ended.drain) c.pump-moved.ensures.reported;
     })

@@ -1,11 +1,11 @@
 use Rattle.std.proofs.Common.{rules, ◌≡◌, ◌∷◌, length, ap, subst, sym, ◌∙◌}
 use Rattle.std.proofs.lemmas.List.{with_items_is}
 use Rattle.std.specs.List.{All}
-use Rattle.pump_engine.specs.Copies.{IsCopy, name_of_sum, names_of}
+use Rattle.pump_engine.specs.Copies.{AreFlushed, IsCopy, name_of_sum, names_of}
 use Rattle.pump_engine.proofs.copies.Copies.flush.Goals as goal
 
-pub returns : goal.returns
-returns g c = λ parts m passed.
+pub returns-clause-copies : goal.returns-clause-copies
+returns-clause-copies g c = λ parts m passed.
     let Copy = IsCopy g.F.NamedFile.name g.F.NamedFile.written g.F.NamedFile.fails in
     let lent = c.as_mut_slice.ensures.value in
     let size : length c.finish_all.new.tees ≡ c.args.self.now.tees.len = search rules in
@@ -17,3 +17,9 @@ returns g c = λ parts m passed.
       sum = passed.sum;
       digest = passed.digest;
     }
+
+pub returns-clause-flushed : goal.returns-clause-flushed
+returns-clause-flushed g c =
+    let size : length c.finish_all.new.tees ≡ c.args.self.now.tees.len = search rules in
+    let back = with_items_is c.args.self.now.tees c.finish_all.new.tees size in
+    subst (AreFlushed g.F.NamedFile.flushed) (sym back) c.finish_all.ensures.flushed
