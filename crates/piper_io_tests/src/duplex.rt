@@ -1,4 +1,5 @@
 //! The duplex stream, and the echo over it.
 mod ends;
 mod failing;
+mod flushed;
 mod texts;

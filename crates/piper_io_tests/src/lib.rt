@@ -10,6 +10,8 @@ mod compare;
 #[cfg(test)]
 mod duplex;
 #[cfg(test)]
+mod flushed;
+#[cfg(test)]
 mod frames;
 #[cfg(test)]
 mod going_on;
