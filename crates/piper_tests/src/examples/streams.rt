@@ -68,18 +68,20 @@ fn of_std(rt: &impl Abort) {
 
 #[test]
 fn what_readers_and_writers_do(rt: HostRuntime) -> Result<(), Fail> {
-    let (mut reader, mut writer) = owned_pipe(rt.alloc(), 8)?;
-    let (mut last, mut second) = owned_pipe(rt.alloc(), 8)?;
+    let (mut reader, mut writer) = owned_pipe(rt.alloc(), 128)?;
+    let (mut last, mut second) = owned_pipe(rt.alloc(), 128)?;
     let task = MockTask::new(&rt)?;
     task.enter(|cx| {
         poll_write_and_poll_read(&rt, cx, &mut reader, &mut writer);
         poll_fill_buf(&rt, cx, &mut reader, &mut writer);
     });
+    // A poll that copied piece by piece of one byte would ask for another one before all have come.
+    same(&rt, writer.try_fill(&[b'c'; 100]), 100);
     drop(writer);
     task.enter(|cx| poll_copies(&rt, cx, &mut reader, &mut second));
-    let mut place = [0; 4];
-    same(&rt, last.try_drain(&mut place), 1);
-    same_bytes(&rt, &place, b"b\0\0\0");
+    let mut place = [0; 128];
+    same(&rt, last.try_drain(&mut place), 101);
+    same_bytes(&rt, &place[..3], b"bcc");
     of_std(&rt);
     Ok(())
 }
