@@ -19,7 +19,7 @@ use Rattle.piper.specs.Handles.{NotifiesReader, NotifiesWriter, SameReader, Same
 use Rattle.piper.specs.Like.{Passes}
 use Rattle.piper.specs.Looks.{ReaderFound, ReaderLooked}
 use Rattle.piper.specs.Polls.{After, IfReadyErr, IfReadyOk, Lends, TakesNone}
-use Rattle.piper.specs.Waits.{ReaderIsRemembered, ReaderIsWaiting, ReaderPends, WriterIsRemembered, ReaderRegistered}
+use Rattle.piper.specs.Waits.{ReaderIsRemembered, ReaderIsWaiting, ReaderPends, WriterIsRemembered, ReaderLeavesNone, ReaderRegistered}
 use Rattle.piper.specs.declared.error.Inner.{Inner}
 use Rattle.piper.specs.declared.error.PipeError.{PipeError}
 use Rattle.piper.specs.declared.finished.FinishedWriter.{FinishedWriter}
@@ -44,10 +44,12 @@ KeepsAll a b = KnowsEnd a.end → b.end.all ≡ a.end.all
 abbrev pub Looks : Reader → Reader → Type 0
 Looks a b = ReaderLooked a.end b.end
 
--- a poll looked, which takes no byte, and returns what it found
+-- a poll looked, which takes no byte, and returns what it found; where that is a byte, it leaves no
+-- waker in its slot
 pub record Polled {E : Type 0} (r : Poll (Result Bool E)) (a b : Reader) : Type 0 where
   pub found : ReaderFound r b.end
   pub looked : ReaderLooked a.end b.end
+  pub leaves : IfReadyOk r (λ some. some ≡ true → ReaderLeavesNone b)
 
 -- once the end was reported a poll reports it again, or is refused memory; and what the reader knows
 -- to be all is all

@@ -30,6 +30,14 @@ ReaderIsAway a b = (a.registrations.owns ≡ false) × (b.registrations.owns ≡
 abbrev pub WriterIsAway : Writer → Writer → Type 0
 WriterIsAway a b = (a.registrations.owns ≡ false) × (b.registrations.owns ≡ false)
 
+-- no waker of the side's is left in its slot: none was registered, or it was taken back, or found to
+-- be gone
+abbrev pub ReaderLeavesNone : Reader → Type 0
+ReaderLeavesNone reader = reader.registrations.maybe_registered ≡ false
+
+abbrev pub WriterLeavesNone : Writer → Type 0
+WriterLeavesNone writer = writer.registrations.maybe_registered ≡ false
+
 -- a reader that has nothing to do waits in its slot; only where its place is away its task asked for
 -- another poll itself
 abbrev pub ReaderRegistered : Reader → Reader → Context → Type 0

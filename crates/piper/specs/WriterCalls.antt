@@ -16,7 +16,8 @@ use Rattle.piper.specs.Fills.{Fills, FillsFrom, FoundRoom, LosesOneRound, OnNoCo
 use Rattle.piper.specs.Handles.{NotifiesReader, SameWriter, SameWriterButSlots, SameWriterButWoke, write_source}
 use Rattle.piper.specs.Like.{Passes}
 use Rattle.piper.specs.Looks.{WriterFound, WriterLooked}
-use Rattle.piper.specs.Waits.{WriterRegistered}
+use Rattle.piper.specs.Polls.{IfReadyOk}
+use Rattle.piper.specs.Waits.{WriterLeavesNone, WriterRegistered}
 use Rattle.piper.specs.declared.error.Inner.{Inner}
 use Rattle.piper.specs.declared.finished.FinishedReader.{FinishedReader}
 use Rattle.piper.specs.declared.handles.Writer.{Writer}
@@ -42,10 +43,12 @@ WasWoken writer left =
     IsWriterPending writer.end writer.registrations
     → left.registrations.taken ≡ writer.registrations.tickets
 
--- a poll looked, which publishes nothing, and returns what it found
+-- a poll looked, which publishes nothing, and returns what it found; where that is room, it leaves no
+-- waker in its slot
 pub record Polled {E : Type 0} (r : Poll (Result Bool E)) (a b : Writer) : Type 0 where
   pub found : WriterFound r b.end
   pub looked : WriterLooked a.end b.end
+  pub leaves : IfReadyOk r (λ some. some ≡ true → WriterLeavesNone b)
 
 -- n bytes were taken from the front of a slice, and published: all of them unless the pipe was seen
 -- closed, and else all but those of one round. They are as many as there is room for, which is

@@ -17,7 +17,7 @@ impl Writer {
     ghost use Rattle.piper.specs.Counts.{WriterCompares};
     ghost use Rattle.piper.specs.Handles.{NotifiesReader, SameWriterButWaits};
     ghost use Rattle.piper.specs.OfWriter.{ring, capacity, sent, room, lent, shut, saw};
-    ghost use Rattle.piper.specs.Waits.{WriterPends, WriterWokeLast};
+    ghost use Rattle.piper.specs.Waits.{WriterLeavesNone, WriterPends, WriterWokeLast};
     ghost use Rattle.piper.specs.WriterCalls.{MayBeUnread, Polled, SameWriterButPublished, SameWriterButShut};
 
     /// How many bytes are unread now: it counts all of those that the writer learned of from marks
@@ -111,6 +111,7 @@ impl Writer {
     pub fn poll_close(&mut self, cx: &mut Context<'_>) -> Poll<Result<(), OutOfMemory>>
         ensures answer { result ≡ Poll.Ready (Ok (record {})) }
         ensures woken { NotifiesReader self.new }
+        ensures leaves { WriterLeavesNone self.new }
         ensures context { Keeps cx.old cx.new }
         ensures rest { SameWriterButShut self.old self.new }
     {

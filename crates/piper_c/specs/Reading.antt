@@ -49,7 +49,7 @@ pub record ReaderLooked (a b : ReadHalf) : Type 0 where
 -- a poll gives back the words that it took out of its slot, and those that it didn't leave
 pub record ReaderGotBack (mine : Waiter) (p : Polled) (a b : ReadHalf) : Type 0 where
   pub words : GotBack mine p a.slots.owns b.slots.owns a.slots.tickets b.slots.tickets
-  pub again : p.outcome ≡ Again → b.slots ≡ a.slots
+  pub again : p.outcome ≡ Again → b.slots ≡ record a.slots { maybe_registered = false }
 
 -- the reader, but for the bytes that it took and knows of
 pub record ReaderConsumed (a b : ReadView) : Type 0 where
@@ -99,7 +99,7 @@ pub record ReaderTold (mine : PiperWords) (p : PiperPolled) (a b : ReadHalf) : T
   pub found : ReaderFound outcome b
   pub looked : ReaderLooked a b
   pub words : HandedBack mine p a.slots.owns b.slots.owns a.slots.tickets b.slots.tickets
-  pub again : p.outcome ≡ 3 → b.slots ≡ a.slots
+  pub again : p.outcome ≡ 3 → b.slots ≡ record a.slots { maybe_registered = false }
 
 -- after all that b consumed, the writer's slot was checked: words come out exactly where
 -- it took a ticket of the writer's

@@ -46,7 +46,7 @@ pub record WriterLooked (a b : WriteHalf) : Type 0 where
 -- a poll gives back the words that it took out of its slot, and those that it didn't leave
 pub record WriterGotBack (mine : Waiter) (p : Polled) (a b : WriteHalf) : Type 0 where
   pub words : GotBack mine p a.slots.owns b.slots.owns a.slots.tickets b.slots.tickets
-  pub again : p.outcome ≡ Again → b.slots ≡ a.slots
+  pub again : p.outcome ≡ Again → b.slots ≡ record a.slots { maybe_registered = false }
 
 -- the writer, but for the bytes that it published, and the room and the slice that they were in
 pub record WriterPublished (a b : WriteView) : Type 0 where
@@ -108,7 +108,7 @@ pub record WriterTold (mine : PiperWords) (p : PiperPolled) (a b : WriteHalf) : 
   pub found : WriterFound outcome b
   pub looked : WriterLooked a b
   pub words : HandedBack mine p a.slots.owns b.slots.owns a.slots.tickets b.slots.tickets
-  pub again : p.outcome ≡ 3 → b.slots ≡ a.slots
+  pub again : p.outcome ≡ 3 → b.slots ≡ record a.slots { maybe_registered = false }
 
 -- after all that b published, the reader's slot was checked: words come out exactly where
 -- it took a ticket of the reader's

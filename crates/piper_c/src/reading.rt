@@ -64,7 +64,8 @@ impl ReadHalf {
         ensures back { IsSome result.mine → self.new.slots.owns ≡ true }
         ensures pending { result.outcome ≡ Outcome.Pending → result.mine ≡ None }
         ensures left { result.outcome ≡ Outcome.Again → false ≡ true }
-        ensures kept { self.new.slots ≡ record self.old.slots { owns = self.new.slots.owns } }
+        ensures kept { self.new.slots ≡ record self.old.slots
+            { owns = self.new.slots.owns; maybe_registered = self.new.slots.maybe_registered } }
     {
         let is_closed = self.end.look_closed_after(&self.slots);
         let call = call.loaded_closed(is_closed);
@@ -90,8 +91,10 @@ impl ReadHalf {
     fn take_own(&mut self, call: ReadCall) -> Option<Waiter>
         requires next { call.point ≡ ReadPoint.LookTake Purpose.Poll }
         ensures back { IsSome result → (self.old.slots.owns ≡ false) × (self.new.slots.owns ≡ true) }
-        ensures none { result ≡ None → self.new.slots ≡ self.old.slots }
-        ensures kept { self.new.slots ≡ record self.old.slots { owns = self.new.slots.owns } }
+        ensures none { result ≡ None → self.new.slots.owns ≡ self.old.slots.owns }
+        ensures leaves { self.new.slots.maybe_registered ≡ false }
+        ensures kept { self.new.slots ≡ record self.old.slots
+            { owns = self.new.slots.owns; maybe_registered = false } }
         ensures rest { (self.new.end ≡ self.old.end) × (self.new.places ≡ self.old.places) }
     {
         let _ready = call.took_own().end();

@@ -71,7 +71,8 @@ impl WriteHalf {
         ensures back { IsSome result.mine → self.new.slots.owns ≡ true }
         ensures pending { result.outcome ≡ Outcome.Pending → result.mine ≡ None }
         ensures left { result.outcome ≡ Outcome.Again → false ≡ true }
-        ensures kept { self.new.slots ≡ record self.old.slots { owns = self.new.slots.owns } }
+        ensures kept { self.new.slots ≡ record self.old.slots
+            { owns = self.new.slots.owns; maybe_registered = self.new.slots.maybe_registered } }
     {
         self.end.reload_after(&self.slots);
         let none = self.end.knows_none();
@@ -97,8 +98,10 @@ impl WriteHalf {
     fn take_own(&mut self, call: WriteCall) -> Option<Waiter>
         requires next { call.point ≡ WritePoint.LookTake Purpose.Poll }
         ensures back { IsSome result → (self.old.slots.owns ≡ false) × (self.new.slots.owns ≡ true) }
-        ensures none { result ≡ None → self.new.slots ≡ self.old.slots }
-        ensures kept { self.new.slots ≡ record self.old.slots { owns = self.new.slots.owns } }
+        ensures none { result ≡ None → self.new.slots.owns ≡ self.old.slots.owns }
+        ensures leaves { self.new.slots.maybe_registered ≡ false }
+        ensures kept { self.new.slots ≡ record self.old.slots
+            { owns = self.new.slots.owns; maybe_registered = false } }
         ensures rest { (self.new.end ≡ self.old.end) × (self.new.places ≡ self.old.places) }
     {
         let _ready = call.took_own(false).end();
@@ -216,7 +219,8 @@ impl WriteHalf {
     fn reclaim_last(&mut self, call: WriteCall) -> Option<Waiter>
         requires { call.point ≡ WritePoint.TakeWriter }
         ensures back { IsSome result → self.old.slots.owns ≡ false }
-        ensures kept { self.new.slots ≡ record self.old.slots { owns = self.new.slots.owns } }
+        ensures kept { self.new.slots ≡ record self.old.slots
+            { owns = self.new.slots.owns; maybe_registered = false } }
         ensures rest { (self.new.end ≡ self.old.end) × (self.new.places ≡ self.old.places) }
     {
         match self.end.cancel(&mut self.slots, &self.places.writer) {

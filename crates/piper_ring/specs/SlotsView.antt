@@ -14,6 +14,9 @@ pub record ReadSlotsView : Type 0 where
   -- whether the reader holds the place of its waker: if not, its waker is registered in the slot, or
   -- the place is with the writer, or on its way back
   pub owns : Bool
+  -- whether its waker may be registered in its slot: it registered, and found it there at each look
+  -- since
+  pub maybe_registered : Bool
   -- how often it registered
   pub tickets : ℕ
   -- what the writer had stored at its last check of the slot before that registration: what it had
@@ -27,10 +30,11 @@ pub record ReadSlotsView : Type 0 where
   pub count : ℕ
   pub over : Bool
 
-abbrev pub read_slots : Names → Bool → ℕ → List ℕ → Bool → ℕ → ℕ → Bool → ReadSlotsView
-read_slots z o t b s k c e = record {
+abbrev pub read_slots : Names → Bool → Bool → ℕ → List ℕ → Bool → ℕ → ℕ → Bool → ReadSlotsView
+read_slots z o m t b s k c e = record {
   names = z;
   owns = o;
+  maybe_registered = m;
   tickets = t;
   bytes = b;
   shut = s;
@@ -41,16 +45,21 @@ read_slots z o t b s k c e = record {
 
 abbrev pub read_slots_code : Coded ReadSlotsView
 read_slots_code =
-    code_by ((Names × (Bool × ℕ)) × ((List ℕ × Bool) × (ℕ × (ℕ × Bool))))
-    (coded× (coded× names_code (coded× coded_bool coded_ℕ))
+    code_by (((Names × Bool) × (Bool × ℕ)) × ((List ℕ × Bool) × (ℕ × (ℕ × Bool))))
+    (coded× (coded× (coded× names_code coded_bool) (coded× coded_bool coded_ℕ))
     (coded× (coded× (coded_list coded_ℕ) coded_bool)
     (coded× coded_ℕ (coded× coded_ℕ coded_bool))))
-    (λ s. ((s.names, (s.owns, s.tickets)), ((s.bytes, s.shut), (s.taken, (s.count, s.over)))))
-    (λ p. read_slots p.0.0 p.0.1.0 p.0.1.1 p.1.0.0 p.1.0.1 p.1.1.0 p.1.1.1.0 p.1.1.1.1) (λ _. refl)
+    (λ s. (
+      ((s.names, s.owns), (s.maybe_registered, s.tickets)),
+      ((s.bytes, s.shut), (s.taken, (s.count, s.over))),
+    ))
+    (λ p. read_slots p.0.0.0 p.0.0.1 p.0.1.0 p.0.1.1 p.1.0.0 p.1.0.1 p.1.1.0 p.1.1.1.0 p.1.1.1.1)
+    (λ _. refl)
 
 abbrev pub read_slots_view : ReadSlotParts → ReadSlotsView
 read_slots_view s =
-    read_slots s.waits.names s.waits.owns s.waits.tickets s.waits.bytes s.waits.shut
+    read_slots s.waits.names s.waits.owns s.maybe_registered s.waits.tickets
+    s.waits.bytes s.waits.shut
     s.wakes.taken s.wakes.count s.wakes.over
 
 pub record IsReadSlots (s : ReadSlotParts) : Type 0 where
@@ -66,6 +75,9 @@ pub record WriteSlotsView : Type 0 where
   pub names : Names
   -- whether the place of the writer's waker is with it
   pub owns : Bool
+  -- whether its waker may be registered in its slot: it registered, and found it there at each look
+  -- since
+  pub maybe_registered : Bool
   -- how often it registered
   pub tickets : ℕ
   -- what the reader had stored at its last check of the slot before that registration: what it had
@@ -79,10 +91,11 @@ pub record WriteSlotsView : Type 0 where
   pub bytes : List ℕ
   pub shut : Bool
 
-abbrev pub write_slots : Names → Bool → ℕ → ℕ → Bool → ℕ → List ℕ → Bool → WriteSlotsView
-write_slots z o t c e k b s = record {
+abbrev pub write_slots : Names → Bool → Bool → ℕ → ℕ → Bool → ℕ → List ℕ → Bool → WriteSlotsView
+write_slots z o m t c e k b s = record {
   names = z;
   owns = o;
+  maybe_registered = m;
   tickets = t;
   count = c;
   over = e;
@@ -93,16 +106,21 @@ write_slots z o t c e k b s = record {
 
 abbrev pub write_slots_code : Coded WriteSlotsView
 write_slots_code =
-    code_by ((Names × (Bool × ℕ)) × ((ℕ × Bool) × (ℕ × (List ℕ × Bool))))
-    (coded× (coded× names_code (coded× coded_bool coded_ℕ))
+    code_by (((Names × Bool) × (Bool × ℕ)) × ((ℕ × Bool) × (ℕ × (List ℕ × Bool))))
+    (coded× (coded× (coded× names_code coded_bool) (coded× coded_bool coded_ℕ))
     (coded× (coded× coded_ℕ coded_bool)
     (coded× coded_ℕ (coded× (coded_list coded_ℕ) coded_bool))))
-    (λ s. ((s.names, (s.owns, s.tickets)), ((s.count, s.over), (s.taken, (s.bytes, s.shut)))))
-    (λ p. write_slots p.0.0 p.0.1.0 p.0.1.1 p.1.0.0 p.1.0.1 p.1.1.0 p.1.1.1.0 p.1.1.1.1) (λ _. refl)
+    (λ s. (
+      ((s.names, s.owns), (s.maybe_registered, s.tickets)),
+      ((s.count, s.over), (s.taken, (s.bytes, s.shut))),
+    ))
+    (λ p. write_slots p.0.0.0 p.0.0.1 p.0.1.0 p.0.1.1 p.1.0.0 p.1.0.1 p.1.1.0 p.1.1.1.0 p.1.1.1.1)
+    (λ _. refl)
 
 abbrev pub write_slots_view : WriteSlotParts → WriteSlotsView
 write_slots_view s =
-    write_slots s.waits.names s.waits.owns s.waits.tickets s.waits.count s.waits.over
+    write_slots s.waits.names s.waits.owns s.maybe_registered s.waits.tickets
+    s.waits.count s.waits.over
     s.wakes.taken s.wakes.bytes s.wakes.shut
 
 pub record IsWriteSlots (s : WriteSlotParts) : Type 0 where
@@ -119,7 +137,7 @@ pub record IsWriteSlots (s : WriteSlotParts) : Type 0 where
 abbrev pub SameReaderPlace : ReadSlotsView → ReadSlotsView → Type 0
 SameReaderPlace a b =
     (b.names ≡ a.names) × (b.owns ≡ a.owns) × (b.tickets ≡ a.tickets) × (b.bytes ≡ a.bytes)
-    × (b.shut ≡ a.shut)
+    × (b.shut ≡ a.shut) × (b.maybe_registered ≡ a.maybe_registered)
 
 -- whom the side took stays the same, and so does what it had stored when it last checked
 abbrev pub SameReaderLooks : ReadSlotsView → ReadSlotsView → Type 0
@@ -156,7 +174,7 @@ HasNews r s = (length r.taken < length s.bytes) ⊎ (s.shut ≡ true)
 abbrev pub SameWriterPlace : WriteSlotsView → WriteSlotsView → Type 0
 SameWriterPlace a b =
     (b.names ≡ a.names) × (b.owns ≡ a.owns) × (b.tickets ≡ a.tickets) × (b.count ≡ a.count)
-    × (b.over ≡ a.over)
+    × (b.over ≡ a.over) × (b.maybe_registered ≡ a.maybe_registered)
 
 abbrev pub SameWriterLooks : WriteSlotsView → WriteSlotsView → Type 0
 SameWriterLooks a b =

@@ -3,6 +3,7 @@ ghost use Rattle.std.specs.Prelude.{◌≡◌, ◌↔◌, IsTrue, false};
 ghost use Rattle.piper_protocol.specs.Table.{reader_is_true, writer_is_true};
 ghost use Rattle.piper_ring.specs.SlotsView.{SameReaderLooks, SameWriterLooks};
 ghost use Rattle.piper.specs.Draws.{DrawsYield, drawn_from};
+ghost use Rattle.piper.specs.Waits.{ReaderLeavesNone, WriterLeavesNone};
 
 use super::{Reader, Writer};
 use piper_protocol::read_call::ReadCall;
@@ -20,6 +21,7 @@ impl Reader {
         ensures step { result.0 ≡ reader_is_true (Purpose.Copy (Form.Polling result.1)) }
         ensures draw { IsTrue result.1 ↔ DrawsYield self.old.rng }
         ensures rng { self.new.rng ≡ drawn_from self.old.rng }
+        ensures leaves { ReaderLeavesNone self.new }
         ensures slots { self.new.slots ≡ self.old.slots }
         ensures looks { SameReaderLooks self.old.registrations self.new.registrations }
         ensures end { self.new.end ≡ self.old.end }
@@ -41,6 +43,7 @@ impl Writer {
         ensures step { result.0 ≡ writer_is_true (Purpose.Copy (Form.Polling result.1)) }
         ensures draw { IsTrue result.1 ↔ DrawsYield self.old.rng }
         ensures rng { self.new.rng ≡ drawn_from self.old.rng }
+        ensures leaves { WriterLeavesNone self.new }
         ensures slots { self.new.slots ≡ self.old.slots }
         ensures looks { SameWriterLooks self.old.registrations self.new.registrations }
         ensures end { self.new.end ≡ self.old.end }

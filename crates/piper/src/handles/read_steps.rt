@@ -23,7 +23,7 @@ use piper_ring::{Away, LastReadMark, ReadMark};
 
 impl Reader {
     ghost use Rattle.piper.specs.Handles.{NotifiesWriter, SameReader, SameReaderButWaits, SameReaderButWoke, read_source};
-    ghost use Rattle.piper.specs.Waits.{ReaderIsAway};
+    ghost use Rattle.piper.specs.Waits.{ReaderIsAway, ReaderLeavesNone};
 
     /// Opens a call that begins with a look, and reports whether no byte is known.
     #[inline(always)]
@@ -126,6 +126,7 @@ impl Reader {
         requires next { read_action call.point ≡ Action.Take Side.Reader }
         requires poll { reader_draws_after call.point ≡ false }
         ensures step { result ≡ read_step call.point Found.Nothing }
+        ensures leaves { ReaderLeavesNone self.new }
         ensures end { self.new.end ≡ self.old.end }
         ensures rest { SameReaderButWaits self.old self.new }
     {
@@ -140,6 +141,7 @@ impl Reader {
     #[cold]
     #[inline(never)]
     pub(crate) fn let_own_go(&mut self)
+        ensures leaves { ReaderLeavesNone self.new }
         ensures end { self.new.end ≡ self.old.end }
         ensures rest { SameReaderButWaits self.old self.new }
     {

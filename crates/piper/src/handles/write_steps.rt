@@ -22,7 +22,7 @@ use piper_ring::{Away, WriteMark};
 
 impl Writer {
     ghost use Rattle.piper.specs.Handles.{NotifiesReader, SameWriter, SameWriterButWaits, SameWriterButWoke, write_source};
-    ghost use Rattle.piper.specs.Waits.{WriterIsAway};
+    ghost use Rattle.piper.specs.Waits.{WriterIsAway, WriterLeavesNone};
 
     /// Loads closed where a look begins, and reports what the flag was, and whether no room is
     /// known. A pipe that the writer closed is closed.
@@ -131,6 +131,7 @@ impl Writer {
     pub(crate) fn take_own(&mut self, call: WriteCall) -> WriteCall
         requires next { call.point ≡ WritePoint.LookTake Purpose.Poll }
         ensures step { result ≡ write_step call.point (Found.Waker false) }
+        ensures leaves { WriterLeavesNone self.new }
         ensures end { self.new.end ≡ self.old.end }
         ensures rest { SameWriterButWaits self.old self.new }
     {
@@ -145,6 +146,7 @@ impl Writer {
     #[cold]
     #[inline(never)]
     pub(crate) fn let_own_go(&mut self)
+        ensures leaves { WriterLeavesNone self.new }
         ensures end { self.new.end ≡ self.old.end }
         ensures rest { SameWriterButWaits self.old self.new }
     {
@@ -160,6 +162,7 @@ impl Writer {
     pub(crate) fn take_and_wake_own(&mut self, call: WriteCall) -> WriteCall
         requires next { call.point ≡ WritePoint.TakeWriter }
         ensures step { result ≡ write_step call.point (Found.Waker false) }
+        ensures leaves { WriterLeavesNone self.new }
         ensures end { self.new.end ≡ self.old.end }
         ensures rest { SameWriterButWaits self.old self.new }
     {

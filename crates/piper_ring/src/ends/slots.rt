@@ -106,7 +106,8 @@ impl ReadRegistrations {
     /// there: `is_registered` looks.
     #[inline(always)]
     pub fn maybe_registered(&self) -> bool
-        ensures { self.now.owns ≡ true → IsFalse result }
+        ensures known { result ≡ self.now.maybe_registered }
+        ensures owned { self.now.owns ≡ true → IsFalse result }
     {
         self.parts.maybe_registered
     }
@@ -117,7 +118,8 @@ impl WriteRegistrations {
     /// there: `is_registered` looks.
     #[inline(always)]
     pub fn maybe_registered(&self) -> bool
-        ensures { self.now.owns ≡ true → IsFalse result }
+        ensures known { result ≡ self.now.maybe_registered }
+        ensures owned { self.now.owns ≡ true → IsFalse result }
     {
         self.parts.maybe_registered
     }

@@ -22,24 +22,28 @@ impl ReadEnd {
         requires ring { slots.old.names ≡ self.now.ring.names }
         requires place { place.now ≡ slots.old.names.reader_place }
         ensures back { IfOk result (λ _. slots.old.owns ≡ false) }
-        ensures owns { IfOk result (λ _. slots.new ≡ record slots.old { owns = true }) }
-        ensures none { IfErr result (λ _. slots.new ≡ slots.old) }
+        ensures owns { IfOk result (λ _.
+            slots.new ≡ record slots.old { owns = true; maybe_registered = false }) }
+        ensures none { IfErr result (λ _.
+            slots.new ≡ record slots.old { maybe_registered = false }) }
     {
         let parts = &mut slots.parts;
         if let Some(right) = &parts.right {
             return Err(NotRegistered::with_place(right));
         }
-        let mut right = self.parts.seat.claim_waker(&mut parts.waits)?;
+        let claimed = self.parts.seat.claim_waker(&mut parts.waits);
+        parts.maybe_registered = false;
+        let mut right = claimed?;
         let waker = place.take(&mut right);
         parts.right = Some(right);
-        parts.maybe_registered = false;
         Ok(waker)
     }
 
     /// Takes back a place that the writer handed back, where this end doesn't have it.
     fn reclaim(&self, slots: &mut ReadRegistrations) -> Result<(), NotBack>
         requires { slots.old.names ≡ self.now.ring.names }
-        ensures owns { IfOk result (λ _. slots.new ≡ record slots.old { owns = true }) }
+        ensures owns { IfOk result (λ _.
+            slots.new ≡ record slots.old { owns = true; maybe_registered = false }) }
         ensures refused { IfErr result (λ _. (slots.old.owns ≡ false) × (slots.new ≡ slots.old)) }
     {
         let parts = &mut slots.parts;
@@ -59,9 +63,11 @@ impl ReadEnd {
     ) -> Result<Option<T>, Away>
         requires ring { slots.old.names ≡ self.now.ring.names }
         requires place { place.now ≡ slots.old.names.reader_place }
-        ensures owns { IfOk result (λ _. slots.new ≡ record slots.old { owns = true }) }
+        ensures owns { IfOk result (λ _.
+            slots.new ≡ record slots.old { owns = true; maybe_registered = false }) }
         ensures found { IfOk result (λ waker. IsSome waker → slots.old.owns ≡ false) }
-        ensures away { IfErr result (λ _. (slots.old.owns ≡ false) × (slots.new ≡ slots.old)) }
+        ensures away { IfErr result (λ _. (slots.old.owns ≡ false)
+            × (slots.new ≡ record slots.old { maybe_registered = false })) }
     {
         // Who was woken finds the place handed back: so that is asked first.
         match self.reclaim(slots) {
@@ -76,8 +82,10 @@ impl ReadEnd {
     /// Whether this end's waker is still registered in its slot.
     pub fn is_registered(&self, slots: &mut ReadRegistrations) -> Result<Registered, NotRegistered>
         requires { slots.old.names ≡ self.now.ring.names }
-        ensures registered { IfOk result (λ _. slots.old.owns ≡ false) }
-        ensures kept { slots.new ≡ slots.old }
+        ensures registered { IfOk result (λ _. (slots.old.owns ≡ false)
+            × (slots.new ≡ record slots.old { maybe_registered = true })) }
+        ensures none { IfErr result (λ _.
+            slots.new ≡ record slots.old { maybe_registered = false }) }
     {
         let parts = &mut slots.parts;
         if let Some(right) = &parts.right {
@@ -122,7 +130,8 @@ impl ReadEnd {
         requires ring { slots.old.names ≡ self.now.ring.names }
         requires place { place.now ≡ slots.old.names.reader_place }
         ensures registered { IfOk result (λ _. Registers slots.old slots.new) }
-        ensures refused { IfErr result (λ _. slots.new ≡ slots.old) }
+        ensures refused { IfErr result (λ _.
+            slots.new ≡ record slots.old { maybe_registered = false }) }
         ensures owned { slots.old.owns ≡ true → IsOk result }
     {
         let Ok(before) = self.reclaim_waker(slots, place) else {

@@ -13,7 +13,7 @@ rounds-init g c =
       drained = drained_none _ _ _ (g.met.W.WriteLike.takes_nothing c.args.dest.now);
       failures = refl;
       all = refl;
-      rest = record { slots = refl; rng = refl; waits = (refl, refl, refl, refl, refl) };
+      rest = record { slots = refl; rng = refl; waits = (refl, refl, refl, refl, refl, refl) };
       woke = λ woke. woke;
     }
 
