@@ -26,6 +26,9 @@ pub trait ReadLike {
     // how many reads failed, modulo 2^64
     ghost failures: { Self → ℕ };
 
+    // for how many bytes it asks next
+    ghost wants: { Self → ℕ };
+
     /// Reads bytes to the front of `dest`, and returns how many. A read that fails gives none,
     /// though `dest` may be changed.
     fn read(&mut self, dest: &mut [u8]) -> Result<usize, Self::Error>
@@ -37,12 +40,9 @@ pub trait ReadLike {
 
     /// For how many bytes it asks next: for 0 only where it has none left to give. One that can't
     /// say asks for any number of them.
-    #[inline(always)]
     fn asks(&self) -> usize
-        ensures { result ≡ 0 → is_dry self.now }
-    {
-        usize::MAX
-    }
+        ensures wanted { result ≡ wants self.now }
+        ensures dry { result ≡ 0 → is_dry self.now };
 
     ghost gives_nothing: { PassesNothing gives };
 
@@ -66,6 +66,9 @@ pub trait WriteLike {
     // how many writes failed, modulo 2^64
     ghost failures: { Self → ℕ };
 
+    // for how many bytes it asks next
+    ghost wants: { Self → ℕ };
+
     /// Writes bytes from the front of `source`, and returns how many. A write that fails takes
     /// none.
     fn write(&mut self, source: &[u8]) -> Result<usize, Self::Error>
@@ -77,12 +80,9 @@ pub trait WriteLike {
 
     /// For how many bytes it asks next: for 0 only where it takes no more. One that can't say asks
     /// for any number of them.
-    #[inline(always)]
     fn asks(&self) -> usize
-        ensures { result ≡ 0 → is_full self.now }
-    {
-        usize::MAX
-    }
+        ensures wanted { result ≡ wants self.now }
+        ensures full { result ≡ 0 → is_full self.now };
 
     ghost takes_nothing: { PassesNothing takes };
 

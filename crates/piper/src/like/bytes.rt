@@ -38,6 +38,8 @@ impl ReadLike for ReadBytes<'_> {
 
     ghost is_dry = { λ s. length s.rest.now ≡ 0 };
 
+    ghost wants = { λ s. length s.rest.now };
+
     ghost fails = { λ _ _ _. ⊥ };
 
     ghost failures = { λ _. 0 };
@@ -65,8 +67,8 @@ impl ReadLike for ReadBytes<'_> {
 
     #[inline(always)]
     fn asks(&self) -> usize
+        ensures wanted { result ≡ length self.now.rest.now }
         ensures dry { result ≡ 0 → length self.now.rest.now ≡ 0 }
-        ensures all { result ≡ length self.now.rest.now }
     {
         self.rest.len()
     }
@@ -92,6 +94,8 @@ impl WriteLike for WriteBytes<'_> {
         × (new.bytes.now ≡ written old.bytes.now old.place bytes) };
 
     ghost is_full = { λ w. length w.bytes.now ≡ w.place };
+
+    ghost wants = { λ w. length w.bytes.now - w.place };
 
     ghost fails = { λ _ _ _. ⊥ };
 
@@ -127,8 +131,8 @@ impl WriteLike for WriteBytes<'_> {
 
     #[inline(always)]
     fn asks(&self) -> usize
+        ensures wanted { result ≡ length self.now.bytes.now - self.now.place }
         ensures full { result ≡ 0 → length self.now.bytes.now ≡ self.now.place }
-        ensures all { result + self.now.place ≡ length self.now.bytes.now }
     {
         self.bytes.len() - self.place
     }

@@ -1,5 +1,5 @@
 //! Readers and writers of std as sources and destinations, with a count of their failures.
-ghost use Rattle.std.specs.Prelude.{◌≡◌, ◌+◌, ◌%◌, ◌^◌, refl, ⊤};
+ghost use Rattle.std.specs.Prelude.{◌≡◌, ◌+◌, ◌-◌, ◌%◌, ◌^◌, refl, ⊤};
 ghost use Rattle.std.specs.Io.KnownBytes.{Consumes, Appends, IsAtEnd};
 ghost use Rattle.std.proofs.Common.{◌∙◌};
 ghost use Rattle.std.proofs.KnownBytes.{Consumes-nil, Consumes-trans, Appends-nil, Appends-trans};
@@ -48,6 +48,8 @@ impl<R: Read> ReadLike for StdRead<'_, R> {
 
     ghost failures = { λ s. s.failures };
 
+    ghost wants = { λ _. 2 ^ 64 - 1 };
+
     ghost gives_nothing = { λ s. (refl, Consumes-nil (R.remaining s.object.now)) };
 
     ghost gives_in_order = { λ a xs b ys c p q. (q.0 ∙ p.0, Consumes-trans _ _ _ xs ys p.1 q.1) };
@@ -58,6 +60,11 @@ impl<R: Read> ReadLike for StdRead<'_, R> {
             self.failures = self.failures.wrapping_add(1);
         }
         result
+    }
+
+    #[inline(always)]
+    fn asks(&self) -> usize {
+        usize::MAX
     }
 }
 
@@ -87,6 +94,8 @@ impl<W: Write> WriteLike for StdWrite<'_, W> {
 
     ghost failures = { λ w. w.failures };
 
+    ghost wants = { λ _. 2 ^ 64 - 1 };
+
     ghost takes_nothing = { λ w. (refl, Appends-nil (W.contents w.object.now)) };
 
     ghost takes_in_order = { λ a xs b ys c p q. (q.0 ∙ p.0, Appends-trans _ _ _ xs ys p.1 q.1) };
@@ -97,5 +106,10 @@ impl<W: Write> WriteLike for StdWrite<'_, W> {
             self.failures = self.failures.wrapping_add(1);
         }
         result
+    }
+
+    #[inline(always)]
+    fn asks(&self) -> usize {
+        usize::MAX
     }
 }

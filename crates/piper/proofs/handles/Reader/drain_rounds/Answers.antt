@@ -51,7 +51,7 @@ pub returns-then-asks-eq0-clause-drained : goal.returns-then-asks-eq0-clause-dra
 returns-then-asks-eq0-clause-drained g c =
     let told : c.copied.result ≡ Ready (Ok c.rounds.sum) = search rules in
     rw told (drain_ended _ g.met.W.WriteLike.takes_in_order _ _ _ _ _ _ c.rounds.invariant.drained _ _
-    (g.met.W.WriteLike.takes_nothing c.rounds.dest) (inr (c.asks.ensures c.if-asks-eq0.true)))
+    (g.met.W.WriteLike.takes_nothing c.rounds.dest) (inr (c.asks.ensures.full c.if-asks-eq0.true)))
 
 pub rounds-preserved : goal.rounds-preserved
 rounds-preserved g c =

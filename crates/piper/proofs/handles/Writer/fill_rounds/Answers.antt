@@ -52,7 +52,7 @@ returns-then-asks-eq0 g c =
     rw told (record {
       filled = fill_ended _ g.met.R.ReadLike.gives_in_order _ _ _ _ _ _ _ before.filled
           (record { end = record { ring = refl; capacity = refl; told = refl }; sent = refl; room = refl; shut = refl; saw = refl }) _ _
-          (g.met.R.ReadLike.gives_nothing c.rounds.source) (inr (c.asks-asks.ensures c.if-asks-eq0.true))
+          (g.met.R.ReadLike.gives_nothing c.rounds.source) (inr (c.asks-asks.ensures.dry c.if-asks-eq0.true))
           (λ full. omega (arith, before.total, c.requires.some, full));
       failures = before.failures;
       «open» = tt;
