@@ -8,6 +8,7 @@ pub mod Lending
 pub mod Clients
 mod LookingOut
 mod LookingIn
+mod OfStd
 mod RoundsIn
 mod RoundsOut
 mod Wrote

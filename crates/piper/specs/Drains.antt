@@ -1,12 +1,12 @@
 -- Drains of the reader into any destination.
-use Rattle.std.specs.Prelude.{◌≡◌, ℕ, ◌+◌, ◌-◌, ◌<◌, ◌⊎◌, false, List, [], ◌++◌, length, Option, Result, ⊤}
+use Rattle.std.specs.Prelude.{◌≡◌, ℕ, ◌+◌, ◌-◌, ◌<◌, ◌⊎◌, false, List, [], ◌++◌, length, Result}
 use Rattle.futures.specs.declared.task.Poll.{Poll}
 use Rattle.futures.specs.Poll.{OnPending}
 use Rattle.piper_ring.specs.ReadView.{ReadView}
 use Rattle.piper.specs.Copies.{ReaderCopied}
 use Rattle.piper.specs.CopyAnswers.{Copies}
 use Rattle.piper.specs.Ends.{IsEnded, ReaderConsumed, ReaderIsUpToDate}
-use Rattle.piper.specs.Like.{Passes, appends_to}
+use Rattle.piper.specs.Like.{Passes}
 use Rattle.piper.specs.Polls.{OnReadyOk}
 use Rattle.piper.specs.declared.error.Inner.{Inner}
 
@@ -51,9 +51,3 @@ pub record Drains {S E : Type 0}
   pub copied : Copies takes fails r s t moved
   pub most : OnReadyOk r ((b.known ≡ []) ⊎ is_full t)
   pub end : ReaderCopied a b
-
--- a drain into a writer of std: what that holds may be known,
--- and neither whether it takes more nor its errors are
-abbrev pub DrainsInto : {S E : Type 0} → (S → Option (List ℕ)) → Poll (Result ℕ (Inner E))
-    → ReadView → ReadView → S → S → Type 0
-DrainsInto contents r a b s t = Drains (appends_to contents) (λ _. ⊤) (λ _ _ _. ⊤) r a b s t

@@ -9,7 +9,7 @@ use Rattle.piper_protocol.specs.declared.scripted.TheConstants.{MOST_A_ROUND}
 use Rattle.piper.specs.Copies.{IsReplaced}
 use Rattle.piper.specs.CopyAnswers.{Copies}
 use Rattle.piper.specs.Ends.{WriterIsUpToDate}
-use Rattle.piper.specs.Like.{Passes, consumes_of}
+use Rattle.piper.specs.Like.{Passes}
 use Rattle.piper.specs.Polls.{IfReadyOk}
 use Rattle.piper.specs.declared.error.Inner.{Inner}
 use Rattle.piper.specs.declared.error.Inner.TheVariants.{Memory, Like}
@@ -66,12 +66,6 @@ pub record Fills {S E : Type 0}
   pub copied : Copies gives fails r s t (published ++ lost)
   pub most : IfReadyOk r (λ n. (((0 < n) × (b.room ≡ 0)) ⊎ is_dry t) ⊎ (b.saw ≡ true))
   pub end : WriterFilled a b
-
--- a fill from a reader of std: what that has left may be known, and its errors are not
-abbrev pub FillsFrom : {S E : Type 0} → (S → Option (List ℕ)) → Poll (Result ℕ (Inner E))
-    → WriteView → WriteView → S → S → Type 0
-FillsFrom remaining r a b s t =
-    Fills (consumes_of remaining) (λ u. IsAtEnd (remaining u)) (λ _ _ _. ⊤) r a b s t
 
 -- by its answer and what it leaves: the look of the fill was true
 abbrev pub FoundRoom : {E : Type 0} → Poll (Result ℕ (Inner E)) → WriteView → Type 0

@@ -12,11 +12,11 @@ use Rattle.piper_ring.specs.SlotsView.{IsPending, IsWriterPending, SameReaderPla
 use Rattle.piper.specs.Contexts.{AsksAgain, WantsWaker}
 use Rattle.piper.specs.Copies.{ReaderCopied}
 use Rattle.piper.specs.CopyAnswers.{OnMemory}
-use Rattle.piper.specs.Drains.{Drains, DrainsInto, EndIsTrue, EndIsUnseen, found_len}
+use Rattle.piper.specs.Drains.{Drains, EndIsTrue, EndIsUnseen, found_len}
 use Rattle.piper.specs.Draws.{Draws, Undrawn}
 use Rattle.piper.specs.Ends.{IsEnded, ReaderConsumed, ReaderHeeded, ReaderIsUpToDate, ReaderRefreshed, WriterRefreshed}
 use Rattle.piper.specs.Handles.{NotifiesReader, NotifiesWriter, SameReader, SameReaderButWaits, SameWriter, SameReaderButWoke, read_source}
-use Rattle.piper.specs.Like.{Passes}
+use Rattle.piper.specs.Like.{Passes, appends_to}
 use Rattle.piper.specs.Looks.{ReaderFound, ReaderLooked}
 use Rattle.piper.specs.Polls.{After, IfReadyErr, IfReadyOk, Lends, TakesNone}
 use Rattle.piper.specs.Waits.{ReaderIsRemembered, ReaderIsWaiting, ReaderPends, WriterIsRemembered, ReaderLeavesNone, ReaderRegistered}
@@ -109,9 +109,10 @@ abbrev pub DrainsLike : {S E : Type 0} → Passes S → (S → Type 0) → (S �
     → Poll (Result ℕ (Inner E)) → Reader → Reader → S → S → Type 0
 DrainsLike takes is_full fails r a b s t = Drains takes is_full fails r a.end b.end s t
 
-abbrev pub DrainsStd : {S E : Type 0} → (S → Option (List ℕ)) → Poll (Result ℕ (Inner E))
-    → Reader → Reader → S → S → Type 0
-DrainsStd contents r a b s t = DrainsInto contents r a.end b.end s t
+abbrev pub DrainsStd : {S E : Type 0} → (S → Option (List ℕ)) → (S → Type 0)
+    → (S → E → S → Type 0) → Poll (Result ℕ (Inner E)) → Reader → Reader → S → S → Type 0
+DrainsStd contents is_full fails r a b s t =
+    Drains (appends_to contents) is_full fails r a.end b.end s t
 
 -- a drain that returns a count found a byte, or the end; and once the end was reported it takes
 -- nothing and doesn't wait. What the reader knows to be all is all

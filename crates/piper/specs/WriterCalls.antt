@@ -1,5 +1,6 @@
 -- What the calls of a writer do: each definition is shared by all forms of a call.
 use Rattle.std.specs.Prelude.{◌≡◌, ℕ, ◌<◌, ◌≤◌, ◌++◌, true, false, Bool, List, length, take, Option, Result, Ok}
+use Rattle.std.specs.Io.KnownBytes.{IsAtEnd}
 use Rattle.futures.specs.Task.{Covers, Keeps}
 use Rattle.futures.specs.Poll.{OnPending}
 use Rattle.futures.specs.declared.task.context.Context.{Context}
@@ -12,9 +13,9 @@ use Rattle.piper.specs.Copies.{IsReplaced, WriterCopied}
 use Rattle.piper.specs.CopyAnswers.{OnMemory}
 use Rattle.piper.specs.Draws.{Draws, Undrawn}
 use Rattle.piper.specs.Ends.{WriterHeeded, WriterIsUpToDate, WriterPublished, WriterShut}
-use Rattle.piper.specs.Fills.{Fills, FillsFrom, FoundRoom, LosesOneRound, OnNoCount}
+use Rattle.piper.specs.Fills.{Fills, FoundRoom, LosesOneRound, OnNoCount}
 use Rattle.piper.specs.Handles.{NotifiesReader, SameWriter, SameWriterButSlots, SameWriterButWoke, write_source}
-use Rattle.piper.specs.Like.{Passes}
+use Rattle.piper.specs.Like.{Passes, consumes_of}
 use Rattle.piper.specs.Looks.{WriterFound, WriterLooked}
 use Rattle.piper.specs.Polls.{IfReadyOk}
 use Rattle.piper.specs.Waits.{WriterLeavesNone, WriterRegistered}
@@ -80,9 +81,10 @@ abbrev pub FillsLike : {S E : Type 0} → Passes S → (S → Type 0) → (S →
     → Poll (Result ℕ (Inner E)) → Writer → Writer → S → S → Type 0
 FillsLike gives is_dry fails r a b s t = Fills gives is_dry fails r a.end b.end s t
 
-abbrev pub FillsStd : {S E : Type 0} → (S → Option (List ℕ)) → Poll (Result ℕ (Inner E))
-    → Writer → Writer → S → S → Type 0
-FillsStd remaining r a b s t = FillsFrom remaining r a.end b.end s t
+abbrev pub FillsStd : {S E : Type 0} → (S → Option (List ℕ)) → (S → E → S → Type 0)
+    → Poll (Result ℕ (Inner E)) → Writer → Writer → S → S → Type 0
+FillsStd remaining fails r a b s t =
+    Fills (consumes_of remaining) (λ u. IsAtEnd (remaining u)) fails r a.end b.end s t
 
 -- once the pipe was seen closed a fill returns 0, and a call that returns no count saw it open
 pub record FillsEnd {E : Type 0} (r : Poll (Result ℕ E)) (a b : Writer) : Type 0 where

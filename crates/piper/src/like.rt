@@ -4,9 +4,11 @@ ghost use Rattle.piper.specs.Like.{PassesNothing, PassesInOrder, Counts, passed}
 
 mod bytes;
 mod slices;
+mod std_ends;
 mod streams;
 
 pub use bytes::{ReadBytes, WriteBytes};
+pub use std_ends::{StdReader, StdWriter};
 pub use streams::{StdRead, StdWrite};
 
 /// A source of bytes.

@@ -14,14 +14,13 @@ ghost use Rattle.piper.specs.Looks.{OnRefused};
 use super::copied;
 use crate::error::{Inner, PipeError};
 use crate::handles::Reader;
-use crate::like::{StdWrite, WriteBytes, WriteLike};
+use crate::like::{StdWrite, StdWriter, WriteBytes, WriteLike};
 use crate::looks::NoWork;
 use futures::task::{Context, Poll};
 use piper_protocol::read_call::ReadCall;
 use piper_protocol::scripted::MOST_A_ROUND;
 use piper_protocol::table::{Form, Purpose, ReadPoint};
 use piper_ring::OutOfMemory;
-use std::io::Write;
 
 impl Reader {
     ghost use Rattle.piper.specs.Handles.{SameReaderButWoke};
@@ -35,13 +34,13 @@ impl Reader {
     /// draws, it yields in place of the rounds: it moves nothing and asks for another poll. A round
     /// hands the writer at most 131,072 bytes in one piece; the rounds end once nothing is known or
     /// the writer takes none. Where the writer fails, what it took in the rounds before stays taken,
-    /// and its error is returned; no clause can report that error.
-    pub fn poll_drain<W: Write>(
+    /// and its error is returned.
+    pub fn poll_drain<W: StdWriter>(
         &mut self,
         cx: &mut Context<'_>,
         dest: &mut W,
     ) -> Poll<Result<usize, PipeError>>
-        ensures drained { DrainsStd W.contents (inner_of result)
+        ensures drained { DrainsStd W.contents W.full W.fails (inner_of result)
             self.old self.new dest.old dest.new }
         ensures end { DrainsEnd result self.old self.new }
         ensures draws { DrawsToYield result self.old self.new }

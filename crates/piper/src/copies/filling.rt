@@ -12,14 +12,13 @@ ghost use Rattle.piper.specs.Looks.{OnRefused};
 use super::copied;
 use crate::error::{Inner, PipeError};
 use crate::handles::Writer;
-use crate::like::{ReadBytes, ReadLike, StdRead};
+use crate::like::{ReadBytes, ReadLike, StdRead, StdReader};
 use crate::looks::NoWork;
 use futures::task::{Context, Poll};
 use piper_protocol::scripted::MOST_A_ROUND;
 use piper_protocol::table::{Form, Purpose, WritePoint};
 use piper_protocol::write_call::WriteCall;
 use piper_ring::OutOfMemory;
-use std::io::Read;
 
 impl Writer {
     ghost use Rattle.piper.specs.Handles.{SameWriter, SameWriterButWoke};
@@ -34,14 +33,13 @@ impl Writer {
     /// and asks for another poll. A round lends the reader at most 131,072 places in one piece; the
     /// rounds end once there is no room, the reader gives none, or the pipe is seen closed, and
     /// what was given in that last round is counted and lost. Where the reader fails, what it gave
-    /// in the rounds before stays published, and its error is returned; no clause can report that
-    /// error. Nothing is lent afterwards.
-    pub fn poll_fill<R: Read>(
+    /// in the rounds before stays published, and its error is returned. Nothing is lent afterwards.
+    pub fn poll_fill<R: StdReader>(
         &mut self,
         cx: &mut Context<'_>,
         source: &mut R,
     ) -> Poll<Result<usize, PipeError>>
-        ensures filled { FillsStd R.remaining (inner_of result)
+        ensures filled { FillsStd R.remaining R.fails (inner_of result)
             self.old self.new source.old source.new }
         ensures end { FillsEnd result self.old self.new }
         ensures draws { DrawsToYield (inner_of result) self.old self.new }

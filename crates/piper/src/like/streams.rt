@@ -1,28 +1,27 @@
 //! Readers and writers of std as sources and destinations, with a count of their failures.
-ghost use Rattle.std.specs.Prelude.{◌≡◌, ◌+◌, ◌-◌, ◌%◌, ◌^◌, refl, ⊤};
+ghost use Rattle.std.specs.Prelude.{◌≡◌, ◌+◌, ◌-◌, ◌%◌, ◌^◌, refl};
 ghost use Rattle.std.specs.Io.KnownBytes.{Consumes, Appends, IsAtEnd};
 ghost use Rattle.std.proofs.Common.{◌∙◌};
 ghost use Rattle.std.proofs.KnownBytes.{Consumes-nil, Consumes-trans, Appends-nil, Appends-trans};
 
-use super::{ReadLike, WriteLike};
+use super::{ReadLike, StdReader, StdWriter, WriteLike};
 use std::io;
-use std::io::{Read, Write};
 
 /// A reader as a source.
 #[derive(Drop)]
-pub struct StdRead<'a, R: Read> {
+pub struct StdRead<'a, R: StdReader> {
     pub object: &'a mut R,
     pub failures: u64,
 }
 
 /// A writer as a destination.
 #[derive(Drop)]
-pub struct StdWrite<'a, W: Write> {
+pub struct StdWrite<'a, W: StdWriter> {
     pub object: &'a mut W,
     pub failures: u64,
 }
 
-impl<'a, R: Read> StdRead<'a, R> {
+impl<'a, R: StdReader> StdRead<'a, R> {
     /// It has not failed yet.
     pub fn new(object: &'a mut R) -> StdRead<'a, R>
         ensures same { result.object.ghost_name ≡ object.entry.ghost_name }
@@ -36,7 +35,7 @@ impl<'a, R: Read> StdRead<'a, R> {
     }
 }
 
-impl<R: Read> ReadLike for StdRead<'_, R> {
+impl<R: StdReader> ReadLike for StdRead<'_, R> {
     type Error = io::Error;
 
     ghost gives = { λ old bytes new. (new.object.ghost_name ≡ old.object.ghost_name)
@@ -44,7 +43,8 @@ impl<R: Read> ReadLike for StdRead<'_, R> {
 
     ghost is_dry = { λ s. IsAtEnd (R.remaining s.object.now) };
 
-    ghost fails = { λ old _ new. new.failures ≡ (old.failures + 1) % 2 ^ 64 };
+    ghost fails = { λ old e new. (new.failures ≡ (old.failures + 1) % 2 ^ 64)
+        × R.fails old.object.now e new.object.now };
 
     ghost failures = { λ s. s.failures };
 
@@ -55,7 +55,7 @@ impl<R: Read> ReadLike for StdRead<'_, R> {
     ghost gives_in_order = { λ a xs b ys c p q. (q.0 ∙ p.0, Consumes-trans _ _ _ xs ys p.1 q.1) };
 
     fn read(&mut self, dest: &mut [u8]) -> io::Result<usize> {
-        let result = self.object.read(dest);
+        let result = self.object.read_once(dest);
         if result.is_err() {
             self.failures = self.failures.wrapping_add(1);
         }
@@ -68,7 +68,7 @@ impl<R: Read> ReadLike for StdRead<'_, R> {
     }
 }
 
-impl<'a, W: Write> StdWrite<'a, W> {
+impl<'a, W: StdWriter> StdWrite<'a, W> {
     /// It has not failed yet.
     pub fn new(object: &'a mut W) -> StdWrite<'a, W>
         ensures same { result.object.ghost_name ≡ object.entry.ghost_name }
@@ -82,15 +82,16 @@ impl<'a, W: Write> StdWrite<'a, W> {
     }
 }
 
-impl<W: Write> WriteLike for StdWrite<'_, W> {
+impl<W: StdWriter> WriteLike for StdWrite<'_, W> {
     type Error = io::Error;
 
     ghost takes = { λ old bytes new. (new.object.ghost_name ≡ old.object.ghost_name)
         × Appends (W.contents old.object.now) (W.contents new.object.now) bytes };
 
-    ghost is_full = { λ _. ⊤ };
+    ghost is_full = { λ w. W.full w.object.now };
 
-    ghost fails = { λ old _ new. new.failures ≡ (old.failures + 1) % 2 ^ 64 };
+    ghost fails = { λ old e new. (new.failures ≡ (old.failures + 1) % 2 ^ 64)
+        × W.fails old.object.now e new.object.now };
 
     ghost failures = { λ w. w.failures };
 
@@ -101,7 +102,7 @@ impl<W: Write> WriteLike for StdWrite<'_, W> {
     ghost takes_in_order = { λ a xs b ys c p q. (q.0 ∙ p.0, Appends-trans _ _ _ xs ys p.1 q.1) };
 
     fn write(&mut self, source: &[u8]) -> io::Result<usize> {
-        let result = self.object.write(source);
+        let result = self.object.write_once(source);
         if result.is_err() {
             self.failures = self.failures.wrapping_add(1);
         }

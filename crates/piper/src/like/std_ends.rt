@@ -1,0 +1,64 @@
+//! Readers and writers of std with rows for what their own traits don't say: with which errors a
+//! call failed, and that a write took none. Each of them has these rows. What they say of it is
+//! known to no function that is generic over it, so one whose clause says that a call failed has
+//! made that call, and has the error from it.
+ghost use Rattle.std.specs.Prelude.{◌≡◌, ◌<◌, length, Ok, IfErr, ⊤};
+ghost use Rattle.std.specs.Io.{ReadsAtMost, WritesAtMost};
+ghost use Rattle.std.specs.Io.KnownBytes.{ReadConsumes, WriteAppends};
+
+use std::io;
+use std::io::{Read, Write};
+
+/// A reader of std: each is one.
+pub trait StdReader: Read {
+    ghost use Rattle.std.specs.declared.io.Error.{Error};
+
+    // a read on the one state failed with this error, and left the other
+    ghost fails: { Self → Error → Self → Type 0 };
+
+    /// Reads once.
+    fn read_once(&mut self, dest: &mut [u8]) -> io::Result<usize>
+        ensures bound { ReadsAtMost result dest.new }
+        ensures bytes { ReadConsumes (Self.remaining self.old) (Self.remaining self.new)
+            result dest.new }
+        ensures error { IfErr result (λ e. fails self.old e self.new) };
+}
+
+/// A writer of std: each is one.
+pub trait StdWriter: Write {
+    ghost use Rattle.std.specs.declared.io.Error.{Error};
+
+    // a write of some bytes took none, and left it so
+    ghost full: { Self → Type 0 };
+
+    // a write on the one state failed with this error, and left the other
+    ghost fails: { Self → Error → Self → Type 0 };
+
+    /// Writes once.
+    fn write_once(&mut self, source: &[u8]) -> io::Result<usize>
+        ensures bound { WritesAtMost result source.now }
+        ensures bytes { WriteAppends (Self.contents self.old) (Self.contents self.new)
+            result source.now }
+        ensures full { result ≡ Ok 0 → 0 < length source.now → full self.new }
+        ensures error { IfErr result (λ e. fails self.old e self.new) };
+}
+
+impl<R: Read> StdReader for R {
+    ghost fails = { λ _ _ _. ⊤ };
+
+    #[inline(always)]
+    fn read_once(&mut self, dest: &mut [u8]) -> io::Result<usize> {
+        self.read(dest)
+    }
+}
+
+impl<W: Write> StdWriter for W {
+    ghost full = { λ _. ⊤ };
+
+    ghost fails = { λ _ _ _. ⊤ };
+
+    #[inline(always)]
+    fn write_once(&mut self, source: &[u8]) -> io::Result<usize> {
+        self.write(source)
+    }
+}
