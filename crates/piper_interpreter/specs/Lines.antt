@@ -4,6 +4,7 @@ use Rattle.std.specs.Io.Buffered.{reader_remaining}
 use Rattle.std.specs.Io.KnownBytes.{Consumes, IsAtEnd}
 use Rattle.piper_script.specs.Limits.{longest_line}
 use Rattle.piper_interpreter.specs.declared.stream.Lines.{Lines}
+use Rattle.piper_interpreter.specs.declared.stream.LinesInTurn.{LinesInTurn}
 
 -- the line that was read last
 abbrev pub line_of : {I : Type 0} → Lines I → List ℕ
@@ -12,6 +13,14 @@ line_of lines = lines.line.items
 -- the bytes that are not read yet, where those of the input are known
 abbrev pub unread_of : {I : Type 0} → (I → Option (List ℕ)) → Lines I → Option (List ℕ)
 unread_of remaining lines = reader_remaining (λ input. remaining input.now) lines.reader
+
+-- the same of the lines of a script that is answered line by line
+abbrev pub line_in_turn : {I : Type 0} → LinesInTurn I → List ℕ
+line_in_turn turns = line_of turns.lines
+
+abbrev pub unread_in_turn : {I : Type 0} → (I → Option (List ℕ)) → LinesInTurn I
+    → Option (List ℕ)
+unread_in_turn remaining turns = unread_of remaining turns.lines
 
 -- the byte comes at the front of the first of these lines
 abbrev pub begin_line : ℕ → List (List ℕ) → List (List ℕ)

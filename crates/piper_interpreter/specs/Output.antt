@@ -33,6 +33,11 @@ abbrev pub Reports : ℕ → Stop → Option (List ℕ) → Option (List ℕ) �
 Reports line (Refused refusal) old new = Appends old new (printed_refusal line refusal)
 Reports line stop old new = ⊤
 
+-- where a replay stops at a line that is refused, all that it wrote is flushed
+abbrev pub FlushesRefusal : Type 0 → Stop → Type 0
+FlushesRefusal is_flushed (Refused refusal) = is_flushed
+FlushesRefusal is_flushed stop = ⊤
+
 -- a step was refused, and the line that says it was written with its refusal
 pub record ReportsStep (capacity : ℕ) (steps : List Step) (lines : List (ℕ × ℕ))
     (refusal : Refusal) (old new : Option (List ℕ)) : Type 0 where

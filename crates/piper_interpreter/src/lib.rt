@@ -2,6 +2,7 @@
 #![tactic(auto)]
 
 mod orders;
+pub mod output;
 pub mod player;
 pub mod replay;
 mod runner;

@@ -1,9 +1,11 @@
 //! The mode `all`: two open calls, and every order of their steps.
 
-ghost use Rattle.std.specs.Prelude.{OnOk};
+ghost use Rattle.std.specs.Prelude.{◌≡◌, ◌⊎◌, IfErr, OnOk};
 ghost use Rattle.piper_protocol.specs.Log.{events};
+ghost use Rattle.piper_interpreter.specs.Output.{FlushesRefusal};
 ghost use Rattle.piper_interpreter.specs.Played.{LogsLine};
 
+use crate::output::Output;
 use crate::player::Player;
 use crate::stream::{Lines, stopped};
 use crate::trial::{Length, Move, Trial, other, turn_to_next};
@@ -218,11 +220,11 @@ fn explore(
 
 /// Reads the script that `input` gives to its end, makes the steps of its two calls in every order,
 /// and writes each distinct outcome to `output`.
-pub fn run_all<I: Read, O: Write>(
-    alloc: Global,
-    input: &mut I,
-    output: &mut O,
-) -> Result<(), Stop> {
+pub fn run_all<I: Read, O: Output>(alloc: Global, input: &mut I, output: &mut O) -> Result<(), Stop>
+    ensures flushed { O.flushed output.old → OnOk result (O.flushed output.new) }
+    ensures refusal { O.flushed output.old →
+        IfErr result (FlushesRefusal (O.flushed output.new)) }
+{
     let mut script = CallsToOrder::new(alloc);
     if let Err(stop) = script.read(alloc, input) {
         return stopped(alloc, script.line, stop, output);
@@ -236,17 +238,31 @@ pub fn run_all<I: Read, O: Write>(
     }
 }
 
-// Prints the outcomes, each on a line of its own.
-fn print<O: Write>(
+// Prints the outcomes, each on a line of its own, and flushes them.
+fn print<O: Output>(alloc: Global, outcomes: &BTreeSet<Vec<u8>>, output: &mut O) -> Result<(), Stop>
+    ensures flushed { OnOk result (O.flushed output.new) }
+    ensures failed { IfErr result (λ stop. (stop ≡ Stop.Memory) ⊎ (stop ≡ Stop.Write)) }
+{
+    write_outcomes(alloc, outcomes, output)?;
+    output.flush_all().map_err(|_| Stop::Write)
+}
+
+// Writes them through a buffer, in which nothing is left.
+fn write_outcomes<O: Write>(
     alloc: Global,
     outcomes: &BTreeSet<Vec<u8>>,
     output: &mut O,
-) -> Result<(), Stop> {
+) -> Result<(), Stop>
+    ensures failed { IfErr result (λ stop. (stop ≡ Stop.Memory) ⊎ (stop ≡ Stop.Write)) }
+{
     let mut output = BufWriter::new(alloc, output).map_err(|_| Stop::Memory)?;
     for outcome in outcomes.iter() {
         output
             .write_all(outcome.as_slice())
             .map_err(|_| Stop::Write)?;
     }
-    output.flush().map_err(|_| Stop::Write)
+    match output.into_inner() {
+        Ok(_) => Ok(()),
+        Err(_) => Err(Stop::Write),
+    }
 }

@@ -3,16 +3,17 @@
 ghost use Rattle.std.specs.Prelude.{◌≡◌, ◌≤◌, ◌↔◌, [], length, codes, IsNone, IsOk, IfSome, IfErr, OnOk};
 ghost use Rattle.piper_interpreter.specs.Ended.{EndsWith, IsEndOf};
 ghost use Rattle.piper_interpreter.specs.Arguments.{IsWrong, AsksFor};
-ghost use Rattle.piper_interpreter.specs.Lines.{unread_of};
-ghost use Rattle.piper_interpreter.specs.Output.{AnswersLine, Reports};
+ghost use Rattle.piper_interpreter.specs.Lines.{unread_in_turn};
+ghost use Rattle.piper_interpreter.specs.Output.{AnswersLine, FlushesRefusal, Reports};
 ghost use Rattle.piper_interpreter.specs.Played.{PlaysLine};
 ghost use Rattle.piper_interpreter.specs.Script.{PlaysScript, RefusesScript, StopsScript};
 ghost use Rattle.piper_script.specs.Limits.{longest_line};
 
 use crate::orders::run_all;
+use crate::output::Output;
 use crate::player::Player;
 use crate::runner::run;
-use crate::stream::{Lines, write_reply};
+use crate::stream::{LinesInTurn, write_reply};
 use piper_script::command::Refusal;
 use piper_script::parser::parse;
 use piper_script::reply::Reply;
@@ -147,31 +148,38 @@ pub fn end_of(played: Result<(), Stop>) -> Ended
 
 // Plays each line before the next one is read.
 #[tactic(auto, using(crate::proofs::Scripts::plays_kept, crate::proofs::Scripts::stops_kept))]
-fn play<I: Read, O: Write>(alloc: Global, input: &mut I, output: &mut O) -> Result<(), Stop>
+fn play<I: Read, O: Output>(alloc: Global, input: &mut I, output: &mut O) -> Result<(), Stop>
+    requires { O.flushed output.old }
     ensures played { OnOk result
         (PlaysScript (I.remaining input.old) (O.contents output.old) (O.contents output.new)) }
     ensures stopped { IfErr result (λ stop.
         StopsScript stop (I.remaining input.old) (O.contents output.old) (O.contents output.new)) }
+    ensures flushed { OnOk result (O.flushed output.new) }
+    ensures refusal { IfErr result (FlushesRefusal (O.flushed output.new)) }
 {
-    let mut lines = Lines::new(alloc, input)?;
+    let mut lines = LinesInTurn::new(alloc, input)?;
     play_lines(alloc, &mut lines, output)
 }
 
 #[tactic(auto, using(crate::proofs::Scripts::played_all, crate::proofs::Scripts::stops_there))]
-fn play_lines<I: Read, O: Write>(
+fn play_lines<I: Read, O: Output>(
     alloc: Global,
-    lines: &mut Lines<'_, I>,
+    lines: &mut LinesInTurn<'_, I>,
     output: &mut O,
 ) -> Result<(), Stop>
-    ensures played { OnOk result (PlaysScript (unread_of I.remaining lines.old)
+    requires { O.flushed output.old }
+    ensures played { OnOk result (PlaysScript (unread_in_turn I.remaining lines.old)
         (O.contents output.old) (O.contents output.new)) }
-    ensures stopped { IfErr result (λ stop. StopsScript stop (unread_of I.remaining lines.old)
+    ensures stopped { IfErr result (λ stop.
+        StopsScript stop (unread_in_turn I.remaining lines.old)
         (O.contents output.old) (O.contents output.new)) }
+    ensures flushed { OnOk result (O.flushed output.new) }
+    ensures refusal { IfErr result (FlushesRefusal (O.flushed output.new)) }
 {
     let mut player = Player::new(alloc);
     let mut reply = Reply::new(alloc);
     for number in 1..u64::MAX {
-        if !lines.next()? {
+        if !lines.next(output)? {
             return Ok(());
         }
         answer_line(&mut player, number, lines.line(), &mut reply, output)?;
@@ -182,7 +190,7 @@ fn play_lines<I: Read, O: Write>(
 
 // Plays the line of this number, and writes what it prints in place of what `reply` holds, and then
 // to `output`.
-fn answer_line<O: Write>(
+fn answer_line<O: Output>(
     player: &mut Player,
     number: u64,
     line: &[u8],
@@ -194,6 +202,8 @@ fn answer_line<O: Write>(
     ensures within { OnOk result (length line.now ≤ longest_line) }
     ensures reported { IfErr result (λ stop.
         Reports number stop (O.contents output.old) (O.contents output.new)) }
+    ensures flushed { OnOk result (O.flushed output.new) }
+    ensures refusal { IfErr result (FlushesRefusal (O.flushed output.new)) }
 {
     reply.clear();
     let played = play_line(player, line, reply);

@@ -3,12 +3,13 @@
 ghost use Rattle.std.specs.Prelude.{◌≡◌, ◌≤◌, ◌<◌, ◌+◌, [], ◌∷◌, ◌++◌, ℕ, replicate, vec_len, vec_capacity, None, IfOk, IfErr, OnOk, OnErr, IsTrue, ◌↔◌, ◌⊎◌, length};
 ghost use Rattle.std.specs.Option.{ForSome};
 ghost use Rattle.piper_interpreter.specs.Lines.{unread_of};
-ghost use Rattle.piper_interpreter.specs.Output.{Reports, ReportsRun, RunsScript, WritesRun, event_lines, run_text, unread_line};
+ghost use Rattle.piper_interpreter.specs.Output.{FlushesRefusal, Reports, ReportsRun, RunsScript, WritesRun, event_lines, run_text, unread_line};
 ghost use Rattle.piper_interpreter.specs.StepsToRun.{AddsLine, AsksAll, Fits, SaysStep, last_end, most_steps_of_a_script};
 ghost use Rattle.piper_script.specs.Limits.{longest_line};
 ghost use Rattle.piper_protocol.specs.Index.{IsCapacity};
 ghost use Rattle.piper_protocol.specs.Log.{events};
 
+use crate::output::Output;
 use crate::stream::{Lines, stopped, write_reply};
 use piper_machine::calls::{Side, Step};
 use piper_machine::events::{Event, Log};
@@ -19,7 +20,7 @@ use piper_script::parser::{MOST_OF_A_LINE, is_silent, parse};
 use piper_script::reply::Reply;
 use piper_script::stop::Stop;
 use std::alloc::{AllocError, Global};
-use std::io::{Read, Write};
+use std::io::Read;
 
 /// The most steps of a script.
 const MOST_STEPS: usize = 1_048_576;
@@ -199,11 +200,13 @@ fn push_line(lines: &mut Vec<(u64, usize)>, number: u64, end: usize)
 /// Reads the script that `input` gives to its end, runs its steps on a new machine, and writes what
 /// happened to `output`.
 #[tactic(auto, using(crate::proofs::Lines::none_is_written, crate::proofs::Lines::asked_is_written, crate::proofs::Lines::some_line_is_reported))]
-pub fn run<I: Read, O: Write>(alloc: Global, input: &mut I, output: &mut O) -> Result<(), Stop>
+pub fn run<I: Read, O: Output>(alloc: Global, input: &mut I, output: &mut O) -> Result<(), Stop>
     ensures written { OnOk result
         (RunsScript (I.remaining input.old) (O.contents output.old) (O.contents output.new)) }
     ensures reported { IfErr result (λ stop. (line : ℕ)
         × Reports line stop (O.contents output.old) (O.contents output.new)) }
+    ensures flushed { O.flushed output.old → OnOk result (O.flushed output.new) }
+    ensures refusal { IfErr result (FlushesRefusal (O.flushed output.new)) }
 {
     let mut script = StepsToRun::new(alloc);
     if let Err(stop) = script.read(alloc, input) {
@@ -218,7 +221,7 @@ pub fn run<I: Read, O: Write>(alloc: Global, input: &mut I, output: &mut O) -> R
 // Runs the steps of a script on a new machine, and writes what happened, or the line that is
 // refused.
 #[tactic(auto, using(crate::proofs::Lines::run_is_written, crate::proofs::Lines::refused_step_is_reported))]
-fn run_steps<O: Write>(
+fn run_steps<O: Output>(
     alloc: Global,
     capacity: usize,
     script: &StepsToRun,
@@ -230,6 +233,8 @@ fn run_steps<O: Write>(
     ensures reported { IfErr result (λ stop.
         ReportsRun stop capacity script.now.steps.items script.now.lines.items
         (O.contents output.old) (O.contents output.new)) }
+    ensures flushed { OnOk result (O.flushed output.new) }
+    ensures refusal { IfErr result (FlushesRefusal (O.flushed output.new)) }
 {
     match machine::run(alloc, capacity, script.steps.as_slice()) {
         Ok((machine, log)) => {
