@@ -1,2 +1,3 @@
+mod LinesOut
 mod Talking
 mod WritingBack

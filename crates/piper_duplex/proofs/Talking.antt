@@ -4,7 +4,7 @@ use Rattle.std.proofs.Math.Seq.{drop-append-le}
 use Rattle.std.specs.Io.KnownBytes.{Consumes, IsAtEnd}
 use Rattle.std.proofs.KnownBytes.{Appends-nil, Appends-trans, Consumes-nil, Consumes-trans}
 use Rattle.piper_lines.specs.Sends.{Sends}
-use Rattle.piper_lines.proofs.Sending.{sends_none, sends_both, sends_front, sends_then}
+use Rattle.piper_lines.proofs.Sending.{sends_none, sends_both, sends_front}
 use Rattle.piper_duplex.specs.Client.{CameBack, Prints, SendsOn}
 
 -- nothing was taken, and nothing printed
@@ -22,20 +22,18 @@ prints_then t0 t1 t2 o0 o1 o2 first second = record {
 with_rest : (xs : List ℕ) (n k : ℕ) → n ≤ length (take k xs) → drop n (take k xs) ++ drop k xs ≡ drop n xs
 with_rest xs n k within = sym (drop-append-le n (take k xs) (drop k xs) within) ∙ ap (λ ws. drop n ws) (take-append-drop k xs)
 
--- after what was sent before, some of the first k bytes were sent
-pub sends_part : (xs s0 s1 s2 : List ℕ) (k n m : ℕ) (saw0 saw1 saw2 : Bool) → n ≤ length (take k xs) → m ≤ length (take k xs)
-    → Sends xs (drop n xs) s0 s1 saw0 saw1 → Sends (drop n (take k xs)) (drop m (take k xs)) s1 s2 saw1 saw2
-    → (saw0 ≡ true → saw1 ≡ true) → (saw1 ≡ true → saw2 ≡ true) → Sends xs (drop m xs) s0 s2 saw0 saw2
-sends_part xs s0 s1 s2 k n m saw0 saw1 saw2 before after first second stays0 stays1 =
-    let whole = sends_front (drop n (take k xs)) (drop m (take k xs)) (drop k xs) s1 s2 saw1 saw2 second in
+-- of what is left after n bytes, some of the first k bytes were sent
+pub sends_part : (xs s1 s2 : List ℕ) (k n m : ℕ) (saw1 saw2 : Bool) → n ≤ length (take k xs) → m ≤ length (take k xs)
+    → Sends (drop n (take k xs)) (drop m (take k xs)) s1 s2 saw1 saw2 → Sends (drop n xs) (drop m xs) s1 s2 saw1 saw2
+sends_part xs s1 s2 k n m saw1 saw2 before after sends =
+    let whole = sends_front (drop n (take k xs)) (drop m (take k xs)) (drop k xs) s1 s2 saw1 saw2 sends in
     let from : Sends (drop n xs) (drop m (take k xs) ++ drop k xs) s1 s2 saw1 saw2 = subst (λ ws. Sends ws (drop m (take k xs) ++ drop k xs) s1 s2 saw1 saw2) (with_rest xs n k before) whole in
-    let next : Sends (drop n xs) (drop m xs) s1 s2 saw1 saw2 = subst (λ ws. Sends (drop n xs) ws s1 s2 saw1 saw2) (with_rest xs m k after) from in
-    sends_then xs (drop n xs) (drop m xs) s0 s1 s2 saw0 saw1 saw2 first next stays0 stays1
+    subst (λ ws. Sends (drop n xs) ws s1 s2 saw1 saw2) (with_rest xs m k after) from
 
 module _ {E : Type 0} where
   -- nothing was read, and nothing sent
-  pub sent_none : (i : Option (List ℕ)) (s : List ℕ) (saw : Bool) (t : List ℕ) → SendsOn {E = E} (Ok 0) i i s s saw saw t t
-  sent_none i s saw t = record { given = []; left = []; read = Consumes-nil i; sent = sends_none [] s saw saw; all = (refl, omega arith) }
+  pub sent_none : (n : ℕ) (i : Option (List ℕ)) (s : List ℕ) (saw : Bool) (t : List ℕ) → n ≡ 0 → SendsOn {E = E} (Ok n) i i s s saw saw t t
+  sent_none n i s saw t none = record { given = []; left = []; read = Consumes-nil i; sent = sends_none [] s saw saw; all = (refl, omega (arith, none)) }
 
   counted : (answer : Result ℕ E) (n : ℕ) (t0 t1 t2 given bytes left : List ℕ) → length t0 + length given ≡ length t1 + n
       → IfOk answer (λ m. (left ≡ []) × (length t1 + n + length bytes ≡ length t2 + m))
@@ -55,6 +53,17 @@ module _ {E : Type 0} where
     sent = subst (λ ws. Sends (first.given ++ bytes) (ws ++ left) s0 s2 saw0 saw2) first.all.0
         (sends_both first.given first.left bytes left s0 s1 s2 saw0 saw1 saw2 first.sent first.all.0 sends stays0 stays1);
     all = counted answer n t0 t1 t2 first.given bytes left first.all.1 all;
+  }
+
+  -- nothing more was read
+  pub sent_all : (n m : ℕ) (i0 i1 i2 : Option (List ℕ)) (bytes s0 s1 : List ℕ) (saw0 saw1 : Bool) (t0 t1 : List ℕ)
+      → SendsOn {E = E} (Ok n) i0 i1 s0 s1 saw0 saw1 t0 t1 → Consumes i1 i2 bytes → bytes ≡ [] → m ≡ n → SendsOn {E = E} (Ok m) i0 i2 s0 s1 saw0 saw1 t0 t1
+  sent_all n m i0 i1 i2 bytes s0 s1 saw0 saw1 t0 t1 first read none same = record {
+    given = first.given;
+    left = first.left;
+    read = subst (λ xs. Consumes i0 i2 xs) (append-nil first.given) (Consumes-trans i0 i1 i2 first.given [] first.read (subst (λ xs. Consumes i1 i2 xs) none read));
+    sent = first.sent;
+    all = (first.all.0, omega (arith, first.all.1, same));
   }
 
   -- once the n bytes are printed that were still to come, as many are printed as were read

@@ -1,7 +1,14 @@
 -- The client of an echo: what it sends of its input, and what it prints of what comes back.
-use Rattle.std.specs.Prelude.{◌≡◌, ◌+◌, ℕ, Bool, List, [], ◌++◌, length, Option, Result, IfOk}
+use Rattle.std.specs.Prelude.{◌≡◌, ◌⊎◌, ◌+◌, ℕ, Bool, true, false, List, [], ◌++◌, length, Option, Result, IfOk}
 use Rattle.std.specs.Io.KnownBytes.{Appends, Consumes, IsAtEnd}
+use Rattle.piper_lines.specs.Line.{IsLine, Lacks, line_feed}
 use Rattle.piper_lines.specs.Sends.{Sends}
+
+-- the next bytes of a line: through the first LF, or up to where the line is full, and then the
+-- line is whole; or before either
+abbrev pub IsOfLine : Bool → Type 0 → List ℕ → Type 0
+IsOfLine true IsFull bytes = IsLine line_feed bytes ⊎ (Lacks line_feed bytes × IsFull)
+IsOfLine false IsFull bytes = Lacks line_feed bytes
 
 -- what was printed is what was taken, in order
 pub record Prints (taken_before taken_after : List ℕ)

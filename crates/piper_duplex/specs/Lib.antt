@@ -1,4 +1,5 @@
 pub mod Client
 pub mod Crosswise
 pub mod Echoes
+pub mod Failures
 pub mod OwnedEnds

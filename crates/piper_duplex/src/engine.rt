@@ -1,6 +1,9 @@
 //! The engine of an echo program: the task that echoes, and the session of a client with it.
 mod client;
 mod echoing;
+mod line;
+mod output;
+mod printing;
 mod session;
 mod waiting;
 

@@ -1,13 +1,17 @@
 //! Ends that are dropped automatically, for a thread or a task that takes one with it.
-ghost use Rattle.std.specs.Prelude.{◌≡◌, ◌*◌, ◌^◌, ◌<◌, IfOk, Ok};
+ghost use Rattle.std.specs.Prelude.{◌≡◌, ◌*◌, ◌^◌, ◌<◌, ◌≤◌, ◌++◌, take, drop, IfOk, Ok};
+ghost use Rattle.std.specs.Borrow.{sem};
+ghost use Rattle.std.specs.Io.BufRead.{Rests};
 ghost use Rattle.futures.specs.Task.{Keeps};
+ghost use Rattle.futures.specs.Poll.{OnPending};
 ghost use Rattle.piper.specs.Contexts.{WantsWaker};
 ghost use Rattle.piper.specs.Handles.{NotifiesReader, NotifiesWriter, read_source, write_source};
 ghost use Rattle.piper.specs.OfReader.{front, known, taken, told_shut};
 ghost use Rattle.piper.specs.OfReader as of_reader;
 ghost use Rattle.piper.specs.OfWriter as of_writer;
-ghost use Rattle.piper.specs.ReaderCalls.{AtEnd};
-ghost use Rattle.piper.specs.WriterCalls.{SameWriterButShut};
+ghost use Rattle.piper.specs.Polls.{IfReadyErr};
+ghost use Rattle.piper.specs.ReaderCalls.{AtEnd, DrainPends, DrainsEnd, DrainsSlice, LendsPiece, PollsPiece, SameReaderButConsumed, SameReaderButMoved, WakesWriter};
+ghost use Rattle.piper.specs.WriterCalls.{FillPends, FillsEnd, FillsSlice, SameWriterButMoved, SameWriterButShut, WakesReader};
 ghost use Rattle.piper.specs.Waits.{ReaderIsWaiting, WriterIsWaiting};
 ghost use Rattle.piper_duplex.specs.Crosswise.{IsNewPipe, reading as reading_of, writing as writing_of};
 ghost use Rattle.piper_duplex.specs.OwnedEnds.{reading, writing};
@@ -105,16 +109,25 @@ impl AsyncRead for OwnedEnd {
 
     ghost woken = { λ e. NotifiesWriter (reading e) };
 
-    fn poll_read(
-        &mut self,
-        cx: &mut Context<'_>,
-        dest: &mut [u8],
-    ) -> Poll<Result<usize, PipeError>> {
+    fn poll_read(&mut self, cx: &mut Context<'_>, dest: &mut [u8]) -> Poll<Result<usize, PipeError>>
+        ensures drained { DrainsSlice result (reading self.old) (reading self.new)
+            dest.old dest.new }
+        ensures end { DrainsEnd result (reading self.old) (reading self.new) }
+        ensures pending { OnPending result
+            (DrainPends (reading self.old) (reading self.new) cx.new) }
+        ensures error { IfReadyErr result (WantsWaker cx.new) }
+        ensures woken { WakesWriter (reading self.old) (reading self.new) }
+        ensures kept { Keeps cx.old cx.new }
+        ensures reader { SameReaderButMoved (reading self.old) (reading self.new) }
+        ensures writer { writing self.new ≡ writing self.old }
+    {
         self.reader.poll_read(cx, dest)
     }
 }
 
 impl AsyncBufRead for OwnedEnd {
+    ghost use Rattle.piper_duplex.specs.contracts.owned.OwnedEnd.{the_row};
+
     ghost known = { λ e. known (reading e) };
 
     ghost piece = { λ e. front (reading e) };
@@ -135,11 +148,27 @@ impl AsyncBufRead for OwnedEnd {
 
     ghost woken = { λ e. NotifiesWriter (reading e) };
 
-    fn poll_fill_buf(&mut self, cx: &mut Context<'_>) -> Poll<Result<&[u8], PipeError>> {
+    fn poll_fill_buf(&mut self, cx: &mut Context<'_>) -> Poll<Result<&[u8], PipeError>>
+        // said of the end as it is once the slice is given back
+        ensures* lent { sem 𝓛 (Rests the_row self.entry
+            (λ new. (writing new ≡ writing self.old)
+            × PollsPiece result (reading self.old) (reading new) cx.new
+            × LendsPiece result (reading self.old) (reading new) cx.new)) }
+        ensures kept { Keeps cx.old cx.new }
+    {
         self.reader.poll_fill_buf(cx)
     }
 
-    fn consume(&mut self, amt: usize) {
+    fn consume(&mut self, amt: usize)
+        requires { amt ≤ front (reading self.old) }
+        ensures known { known (reading self.new) ≡ drop amt (known (reading self.old)) }
+        ensures taken { taken (reading self.new)
+            ≡ taken (reading self.old) ++ take amt (known (reading self.old)) }
+        ensures end { AtEnd (reading self.old) → AtEnd (reading self.new) }
+        ensures woken { NotifiesWriter (reading self.new) }
+        ensures reader { SameReaderButConsumed (reading self.old) (reading self.new) }
+        ensures writer { writing self.new ≡ writing self.old }
+    {
         AsyncBufRead::consume(&mut self.reader, amt);
     }
 }
@@ -157,11 +186,17 @@ impl AsyncWrite for OwnedEnd {
 
     ghost woken = { λ e. NotifiesReader (writing e) };
 
-    fn poll_write(
-        &mut self,
-        cx: &mut Context<'_>,
-        source: &[u8],
-    ) -> Poll<Result<usize, PipeError>> {
+    fn poll_write(&mut self, cx: &mut Context<'_>, source: &[u8]) -> Poll<Result<usize, PipeError>>
+        ensures filled { FillsSlice result (writing self.old) (writing self.new) source.now }
+        ensures end { FillsEnd result (writing self.old) (writing self.new) }
+        ensures pending { OnPending result
+            (FillPends (writing self.old) (writing self.new) cx.new) }
+        ensures error { IfReadyErr result (WantsWaker cx.new) }
+        ensures woken { WakesReader (writing self.old) (writing self.new) }
+        ensures kept { Keeps cx.old cx.new }
+        ensures writer { SameWriterButMoved (writing self.old) (writing self.new) }
+        ensures reader { reading self.new ≡ reading self.old }
+    {
         self.writer.poll_write(cx, source)
     }
 

@@ -1,9 +1,12 @@
 //! Text through a duplex stream and back: one thread sends its lines, and another writes them back.
 ghost use Rattle.std.specs.Prelude.{◌≡◌, ◌<◌, ◌⊎◌, [], length, IfErr, OnOk};
 ghost use Rattle.piper_duplex.specs.Client.{CameBack};
+ghost use Rattle.piper_duplex.specs.Failures.{EchoFails, LacksMemory, LacksThread, TalkFails};
 
-use crate::end::duplex;
-use crate::engine::client::{print_line, talk};
+use crate::end::{End, duplex};
+use crate::engine::client::talk;
+use crate::engine::output::Output;
+use crate::engine::printing::print_line;
 use crate::engine::waiting::EchoAll;
 use futures::executor::block_on;
 use piper::{OwnedReader, OwnedWriter, Reader, Writer};
@@ -13,7 +16,7 @@ use std::marker::Send;
 use std::random::RandomSource;
 use std::sync::Wait;
 use std::thread;
-use std::thread::Threads;
+use std::thread::{JoinHandle, Threads};
 
 /// How many bytes each way of the stream can hold. So many pass at a time, with a change of threads
 /// each way, so that time goes into those.
@@ -79,7 +82,7 @@ where
     I: Read,
     O: Write,
     ensures words { 0 < length words.now → result.status ≡ 1 }
-    ensures none { words.now ≡ [] → (result.status ≡ 0) ⊎ (result.status ≡ 2) }
+    ensures none { words.now ≡ [] → (result.status ≡ 0) ⊎ EchoFails result }
     ensures all { result.status ≡ 0 → CameBack (I.remaining input.old) (I.remaining input.new)
         (O.contents output.old) (O.contents output.new) }
 {
@@ -100,24 +103,44 @@ where
     O: Write,
     ensures all { OnOk result (CameBack (I.remaining input.old) (I.remaining input.new)
         (O.contents output.old) (O.contents output.new)) }
-    ensures failed { IfErr result (λ e. e.status ≡ 2) }
+    ensures failed { IfErr result EchoFails }
 {
-    let theirs = rt.clone().map_err(|_| Ended::OUT_OF_MEMORY)?;
-    let (first, second) = duplex(alloc, CAPACITY, CAPACITY, 1).map_err(|_| Ended::OUT_OF_MEMORY)?;
-    let (reader, writer) = second.into_halves();
-    let echo = EchoAll::new(alloc, OwnedReader::new(reader), OwnedWriter::new(writer));
-    let spawned = thread::spawn(rt, move || {
-        let _ = block_on(&theirs, echo);
-    });
-    let Ok(child) = spawned else {
-        first.drop();
-        return Err(Ended::NO_THREAD);
+    let (theirs, first, second) = prepare(rt, alloc)?;
+    let child = match start(rt, alloc, theirs, second) {
+        Ok(child) => child,
+        Err(ended) => {
+            first.drop();
+            return Err(ended);
+        }
     };
     let (mut reader, writer) = first.into_halves();
     let printed = exchange(rt, &mut reader, writer, input, output);
     reader.drop();
     child.join(rt);
     printed
+}
+
+// A runtime for the thread that echoes, and the ends of a stream. Only memory is asked for.
+fn prepare<R: Clone + Drop>(rt: &R, alloc: Global) -> Result<(R, End, End), Ended>
+    ensures { IfErr result LacksMemory }
+{
+    let theirs = rt.clone().map_err(|_| Ended::OUT_OF_MEMORY)?;
+    let (first, second) = duplex(alloc, CAPACITY, CAPACITY, 1).map_err(|_| Ended::OUT_OF_MEMORY)?;
+    Ok((theirs, first, second))
+}
+
+// Starts the thread that echoes what comes to this end. Only a thread is asked for.
+fn start<R>(rt: &R, alloc: Global, theirs: R, end: End) -> Result<JoinHandle<()>, Ended>
+where
+    R: Wait + Threads + RandomSource + AllocGlobal + Drop + Send + 'static,
+    ensures { IfErr result LacksThread }
+{
+    let (reader, writer) = end.into_halves();
+    let echo = EchoAll::new(alloc, OwnedReader::new(reader), OwnedWriter::new(writer));
+    let spawned = thread::spawn(rt, move || {
+        let _ = block_on(&theirs, echo);
+    });
+    spawned.map_err(|_| Ended::NO_THREAD)
 }
 
 // Sends the input, closes the way there, and prints all that comes back.
@@ -131,10 +154,12 @@ fn exchange<R, I, O>(
 where
     R: Wait + RandomSource + AllocGlobal,
     I: Read,
-    O: Write,
+    O: Output,
+    requires { O.flushed output.old }
     ensures all { OnOk result (CameBack (I.remaining input.old) (I.remaining input.new)
         (O.contents output.old) (O.contents output.new)) }
-    ensures failed { IfErr result (λ e. e.status ≡ 2) }
+    ensures flushed { OnOk result (O.flushed output.new) }
+    ensures failed { IfErr result TalkFails }
 {
     let sent = talk(rt, reader, &mut writer, input, output);
     writer.drop();

@@ -1,7 +1,7 @@
 -- What was taken so far was printed, and counted.
 use Rattle.std.proofs.Common.{◌≡◌, ◌+◌, ◌≤◌, length}
 use Rattle.piper_duplex.specs.Client.{Prints}
-use Rattle.piper_duplex.proofs.engine.client.poll_print.Given as goal
+use Rattle.piper_duplex.proofs.engine.printing.poll_print.Given as goal
 
 abbrev pub invariant-loop : goal.invariant-loop
 invariant-loop g l = record {

@@ -1,5 +1,5 @@
 use Rattle.piper_lines.proofs.Sending.{sends_none, sends_then}
-use Rattle.piper_duplex.proofs.engine.client.send.Goals as goal
+use Rattle.piper_duplex.proofs.engine.line.send.Goals as goal
 
 pub returns-in_err-turns-clause-sends : goal.returns-in_err-turns-clause-sends
 returns-in_err-turns-clause-sends g c = sends_none _ _ _ _

@@ -1,7 +1,7 @@
 -- What was counted so far was sent.
 use Rattle.std.proofs.Common.{◌≡◌, ◌≤◌, true, drop, length}
 use Rattle.piper_lines.specs.Sends.{Sends}
-use Rattle.piper_duplex.proofs.engine.client.send.Given as goal
+use Rattle.piper_duplex.proofs.engine.line.send.Given as goal
 
 abbrev pub invariant-loop : goal.invariant-loop
 invariant-loop g l =

@@ -1,0 +1,19 @@
+-- The trait says less than the clauses of the end.
+use Rattle.piper.proofs.Ended.{saw_stays}
+use Rattle.piper.proofs.Traits.{read_end, read_pends, reads}
+use Rattle.piper_duplex.proofs.owned.OwnedEndAsyncRead.TheImpl.Goals as goal
+
+pub poll_read-tells : goal.poll_read-tells
+poll_read-tells c =
+    let own = c.ensures in
+    let a = c.args.self.now.reader in
+    let b = c.new.self.now.reader in record {
+      read = reads c.result a b _ _ own.drained own.end;
+      end = read_end c.result a b _ _ own.drained own.end;
+      after = own.end.after;
+      stays = (own.reader.end.end.told_shut, saw_stays _ _ own.reader.end.saw);
+      pending = read_pends c.result a b _ own.reader own.pending;
+      error = own.error;
+      woken = own.woken;
+      kept = own.kept;
+    }

@@ -1,0 +1,19 @@
+-- The trait says less than the clauses of the end.
+use Rattle.piper.proofs.Ended.{saw_stays}
+use Rattle.piper.proofs.Traits.{write_full, write_pends, writes}
+use Rattle.piper_duplex.proofs.owned.OwnedEndAsyncWrite.TheImpl.Goals as goal
+
+pub poll_write-tells : goal.poll_write-tells
+poll_write-tells c =
+    let own = c.ensures in
+    let a = c.args.self.now.writer in
+    let b = c.new.self.now.writer in record {
+      written = writes c.result a b _ own.filled;
+      full = write_full c.result a b _ own.filled;
+      error = own.error;
+      over = own.end.over;
+      stays = saw_stays _ _ own.writer.end.saw;
+      pending = write_pends c.result a b _ own.writer own.pending;
+      woken = own.woken;
+      kept = own.kept;
+    }

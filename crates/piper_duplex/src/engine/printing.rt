@@ -1,0 +1,118 @@
+//! What comes back from an echo is printed.
+ghost use Rattle.std.specs.Prelude.{◌≡◌, ◌+◌, ◌≤◌, ◌⊎◌, length, Ok, OnOk, IfOk, IfErr};
+ghost use Rattle.std.specs.Io.KnownBytes.{WriteAppends};
+ghost use Rattle.futures.specs.Task.{IsArmed};
+ghost use Rattle.futures.specs.Poll.{OnPending};
+ghost use Rattle.piper.specs.Polls.{IfReadyErr};
+ghost use Rattle.piper_duplex.specs.Client.{Prints};
+ghost use Rattle.piper_duplex.specs.Failures.{CannotWrite, PrintFails};
+
+use crate::engine::output::Output;
+use crate::engine::session::Ended;
+use crate::engine::waiting::turns;
+use futures::task::{Context, Poll};
+use piper::io::AsyncBufRead;
+use std::alloc::AllocGlobal;
+use std::io::{ErrorKind, Write};
+use std::random::RandomSource;
+use std::sync::Wait;
+
+/// How many writes a poll makes at most before it asks for another one.
+const MOST_WRITES: u32 = 64;
+
+/// Prints and flushes so many bytes, once they come back.
+pub(crate) fn print_line<R, A, O>(
+    rt: &R,
+    reader: &mut A,
+    size: usize,
+    output: &mut O,
+) -> Result<(), Ended>
+where
+    R: Wait + RandomSource + AllocGlobal,
+    A: AsyncBufRead,
+    O: Output,
+    ensures printed { Prints (A.taken reader.old) (A.taken reader.new)
+        (O.contents output.old) (O.contents output.new) }
+    ensures whole { OnOk result
+        (length (A.taken reader.new) ≡ length (A.taken reader.old) + size) }
+    ensures flushed { OnOk result (O.flushed output.new) }
+    ensures failed { IfErr result PrintFails }
+{
+    let turns = turns(rt).map_err(|_| Ended::OUT_OF_MEMORY)?;
+    let mut count = 0;
+    for _ in rt.forever() {
+        let Some(mut cx) = turns.next(rt) else {
+            return Err(Ended::OUT_OF_MEMORY);
+        };
+        let turn = poll_print(reader, &mut cx, size, &mut count, output);
+        cx.end(&turn);
+        match turn {
+            Poll::Pending => {}
+            Poll::Ready(Ok(())) => return output.flush_all().map_err(|_| Ended::WRITE_FAILED),
+            Poll::Ready(Err(ended)) => return Err(ended),
+        }
+    }
+    unreachable!()
+}
+
+// Prints what comes until there are `size` bytes, and adds how many that were to `count`. Bytes are
+// taken once they are printed.
+fn poll_print<A, O>(
+    reader: &mut A,
+    cx: &mut Context<'_>,
+    size: usize,
+    count: &mut usize,
+    output: &mut O,
+) -> Poll<Result<(), Ended>>
+where
+    A: AsyncBufRead,
+    O: Write,
+    requires { count.old ≤ size }
+    ensures printed { Prints (A.taken reader.old) (A.taken reader.new)
+        (O.contents output.old) (O.contents output.new) }
+    ensures within { count.new ≤ size }
+    ensures counted { length (A.taken reader.new) + count.old
+        ≡ length (A.taken reader.old) + count.new }
+    ensures whole { result ≡ Poll.Ready (Ok (record {})) → count.new ≡ size }
+    ensures armed { OnPending result (IsArmed cx.new) }
+    ensures failed { IfReadyErr result PrintFails }
+{
+    for _ in 0..MOST_WRITES {
+        if *count == size {
+            return Poll::Ready(Ok(()));
+        }
+        let bytes = match reader.poll_fill_buf(cx) {
+            Poll::Pending => return Poll::Pending,
+            Poll::Ready(Err(_)) => return Poll::Ready(Err(Ended::OUT_OF_MEMORY)),
+            Poll::Ready(Ok(bytes)) => bytes,
+        };
+        if bytes.is_empty() {
+            // The thread that echoes was refused memory.
+            return Poll::Ready(Err(Ended::OUT_OF_MEMORY));
+        }
+        let room = bytes.len().min(size - *count);
+        match write_some(output, &bytes[..room]) {
+            Ok(written) => {
+                reader.consume(written);
+                *count += written;
+            }
+            Err(ended) => return Poll::Ready(Err(ended)),
+        }
+    }
+    cx.yield_now()
+}
+
+// Writes once. A write that was interrupted has written none.
+fn write_some<O: Write>(output: &mut O, bytes: &[u8]) -> Result<usize, Ended>
+    ensures bound { IfOk result (λ n. n ≤ length bytes.now) }
+    ensures written { WriteAppends (O.contents output.old) (O.contents output.new)
+        result bytes.now }
+    ensures failed { IfErr result CannotWrite }
+{
+    match output.write(bytes) {
+        Ok(0) => Err(Ended::WRITE_FAILED),
+        Ok(count) => Ok(count),
+        Err(error) if error.kind() == ErrorKind::Interrupted => Ok(0),
+        Err(_) => Err(Ended::WRITE_FAILED),
+    }
+}
