@@ -17,7 +17,7 @@ use std::alloc::AllocGlobal;
 use std::random::RandomSource;
 use std::sync::Wait;
 
-/// The line that is sent, or that comes back.
+/// The line that is sent, or that comes back. The next one is sent once this one is printed.
 #[derive(Drop)]
 pub(crate) struct Line {
     /// How many of its bytes were sent.

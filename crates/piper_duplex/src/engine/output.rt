@@ -7,8 +7,8 @@ use std::io::Write;
 
 /// A writer that can say whether all that was printed is flushed.
 ///
-/// Each writer is one, and what it says is not known. So a function for any output is proved to
-/// flush it by `flush_all` where its clauses say `flushed`.
+/// Each writer is one. What `flushed` says of it is known to no function that is generic over its
+/// output, so one whose clause says `flushed` has called `flush_all` after its last write.
 pub(crate) trait Output: Write {
     // all that was printed is flushed
     ghost flushed: { Self → Type 0 };
