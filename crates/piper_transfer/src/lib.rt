@@ -18,7 +18,7 @@ mod turns;
 pub use both_sides::{Sizes, transfer};
 pub use ends::{Destination, Plain, Source};
 pub use error::TransferError;
-pub use meter::{Meter, Side};
+pub use meter::{Meter, OfInput, OfOutput, Side};
 pub use patience::is_lasting;
 pub use size::{NotASize, parse_size};
 pub use start::grants_thread;

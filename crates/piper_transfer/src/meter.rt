@@ -3,23 +3,33 @@ use std::sync::atomic::{AtomicBool, AtomicU64, Ordering};
 use std::sync::{Mutex, Wait};
 use std::time::{Clock, Duration, Instant};
 
-/// What a side of a transfer has done so far.
+/// That a `Side` is the one that reads the input.
+#[derive(Clone, Copy)]
+pub struct OfInput(());
+
+/// That a `Side` is the one that writes the output.
+#[derive(Clone, Copy)]
+pub struct OfOutput(());
+
+/// What a side of a transfer has done so far. `K` says which side it is, so that neither is taken
+/// for the other.
 #[derive(Drop)]
-pub struct Side {
+pub struct Side<K> {
     bytes: AtomicU64,
     // The waits that have ended, in nanoseconds.
     waited: AtomicU64,
     // When the wait began that is under way.
     since: Mutex<Option<Instant>>,
+    _kind: K,
 }
 
 /// What both sides of a transfer have done so far. Other threads may read it at any time.
 #[derive(Drop)]
 pub struct Meter {
     /// The side that reads the input; it waits for room.
-    pub input: Side,
+    pub input: Side<OfInput>,
     /// The side that writes the output; it waits for bytes.
-    pub output: Side,
+    pub output: Side<OfOutput>,
     is_output_over: AtomicBool,
 }
 
@@ -27,7 +37,7 @@ pub struct Meter {
 /// output is over.
 #[derive(Clone, Copy)]
 pub(crate) struct InputMeter<'a> {
-    pub(crate) side: &'a Side,
+    pub(crate) side: &'a Side<OfInput>,
     is_output_over: &'a AtomicBool,
 }
 
@@ -35,7 +45,7 @@ pub(crate) struct InputMeter<'a> {
 /// tells the other one to end.
 #[derive(Clone, Copy)]
 pub(crate) struct OutputMeter<'a> {
-    pub(crate) side: &'a Side,
+    pub(crate) side: &'a Side<OfOutput>,
     is_output_over: &'a AtomicBool,
 }
 
@@ -43,12 +53,13 @@ pub(crate) struct OutputMeter<'a> {
 #[derive(Clone, Copy)]
 pub(crate) struct InputTold(());
 
-impl Side {
-    fn new() -> Side {
+impl<K> Side<K> {
+    fn new(_kind: K) -> Side<K> {
         Side {
             bytes: AtomicU64::new(0),
             waited: AtomicU64::new(0),
             since: Mutex::new(None),
+            _kind,
         }
     }
 
@@ -98,8 +109,8 @@ impl Meter {
     /// Nothing was moved yet.
     pub fn new() -> Meter {
         Meter {
-            input: Side::new(),
-            output: Side::new(),
+            input: Side::new(OfInput(())),
+            output: Side::new(OfOutput(())),
             is_output_over: AtomicBool::new(false),
         }
     }
