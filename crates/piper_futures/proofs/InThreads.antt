@@ -1,5 +1,5 @@
 -- What a fill or a drain gives is what its thread gives.
-use Rattle.std.proofs.Common.{◌≡◌, ◌∙◌, sym, ap, subst, true, ℕ, Bool, List, length, Option, Some, Result, Ok, Err}
+use Rattle.std.proofs.Common.{◌≡◌, ◌∙◌, ◌⊎◌, ⊎_elim, inl, inr, sym, ap, subst, true, ℕ, Bool, List, length, Option, Some, Result, Ok, Err}
 use Rattle.std.specs.Prelude.{IsSomeAnd}
 use Rattle.futures.specs.declared.task.context.Context.{Context}
 use Rattle.piper.specs.declared.error.PipeError.{PipeError}
@@ -9,6 +9,8 @@ use Rattle.piper.specs.declared.owned.OwnedReader.{OwnedReader}
 use Rattle.piper.specs.declared.owned.OwnedWriter.{OwnedWriter}
 use Rattle.piper_futures.specs.Draining.{DrainsOn, DrainedAll}
 use Rattle.piper_futures.specs.Filling.{FillsOn, FillEnded, FilledAll}
+use Rattle.piper_futures.specs.Moving.{IsIo}
+use Rattle.piper_futures.specs.Writing.{FailsOnce}
 use Rattle.piper_futures.specs.Threads.{FilledTo, DrainedTo, WhyFilled}
 use Rattle.piper_futures.specs.declared.failed.Failed.{Failed}
 use Rattle.piper_futures.specs.declared.threads.Drained.{Drained}
@@ -47,10 +49,10 @@ module _ {S : Type 0} (remaining : S → Option (List ℕ)) (woken : OwnedWriter
 
   pub fill_failed : (state : Option (OwnedWriter × S)) (w : OwnedWriter) (s : S) (failed : Failed (OwnedWriter × S)) (output : Result (OwnedWriter × S × Copied) (Failed (OwnedWriter × S))) (left : Filled S)
       → state ≡ Some (w, s) → output ≡ Err failed → Given state output → left.source ≡ failed.left.1 → left.told.bytes ≡ failed.left.0.end.sent → left.told.shut ≡ true
-      → FilledTo remaining w s left
+      → FilledTo remaining w s left × (FailsOnce fails failed.left.0 failed.error ⊎ IsIo failed.error)
   fill_failed state w s failed output left began is given source bytes shut =
       let all : All w s (Err failed) = subst (λ o. All w s o) is (subst (λ st. Given st output) began given) in
-      filled_to w failed.left.0 s failed.left.1 left all.0 source bytes shut
+      (filled_to w failed.left.0 s failed.left.1 left all.0 source bytes shut, all.1)
 
 module _ {D : Type 0} (contents : D → Option (List ℕ)) (told : OwnedReader → Bool) (woken : OwnedReader → Type 0) (fails : OwnedReader → Context → PipeError → Type 0) where
   abbrev AllOut : OwnedReader → D → Result (OwnedReader × D) (Failed (OwnedReader × D)) → Type 0
@@ -75,7 +77,7 @@ module _ {D : Type 0} (contents : D → Option (List ℕ)) (told : OwnedReader �
 
   pub drain_failed : (state : Option (OwnedReader × D)) (r : OwnedReader) (d : D) (failed : Failed (OwnedReader × D)) (output : Result (OwnedReader × D) (Failed (OwnedReader × D))) (left : Drained D)
       → state ≡ Some (r, d) → output ≡ Err failed → GivenOut state output → left.dest ≡ failed.left.1 → left.told.consumed.count ≡ length failed.left.0.end.taken
-      → DrainedTo contents r d left
+      → DrainedTo contents r d left × (FailsOnce fails failed.left.0 failed.error ⊎ IsIo failed.error)
   drain_failed state r d failed output left began is given dest count =
       let all : AllOut r d (Err failed) = subst (λ o. AllOut r d o) is (subst (λ st. GivenOut st output) began given) in
-      drained_to r failed.left.0 d failed.left.1 left all.0 dest count
+      (drained_to r failed.left.0 d failed.left.1 left all.0 dest count, ⊎_elim (λ own. inl own) (λ std. inr std.0) all.1)

@@ -36,7 +36,7 @@ module _ {R : Type 0} (taken known : R → List ℕ) (saw told : R → Bool) (wo
   read_up_to_then size fails r0 r1 b0 b1 first (Ok done) gave =
       (reads_then r0 r1 done.0 b0.items b1.items done.1.items first gave.0, gave.1, gave.2)
   read_up_to_then size fails r0 r1 b0 b1 first (Err failed) gave =
-      (reads_then r0 r1 failed.left.0 b0.items b1.items failed.left.1.items first gave.0, gave.1)
+      (reads_then r0 r1 failed.left.0 b0.items b1.items failed.left.1.items first gave.0, gave.1, gave.2)
 
 -- where the reader gave nothing, what may be given after a poll may be given before it
 pub read_some_then : {R : Type 0} (taken : R → List ℕ) (saw told : R → Bool) (woken : R → Type 0) (fails : R → Context → PipeError → Type 0) (r0 r1 : R) (p0 p1 : List ℕ)

@@ -20,12 +20,14 @@ abbrev pub fill_ends : {W S : Type 0} → Filling W S → Option (W × S)
 fill_ends future = future.state
 
 -- why a fill is pending: its writer is; or bytes came, which are published unless the pipe was seen
--- closed, and it asked for another poll itself
+-- closed meanwhile, and it asked for another poll itself. A pipe that was seen closed before is not
+-- waited for
 abbrev pub FillWaits : {W : Type 0} → (W → List ℕ) → (W → Bool) → (W → Context → Type 0)
     → W → W → Context → Type 0
 FillWaits sent saw waits a b cx =
-    waits b cx
-    ⊎ (((length (sent a) < length (sent b)) ⊎ (saw b ≡ true)) × AsksAgain cx)
+    (waits b cx
+    ⊎ (((length (sent a) < length (sent b)) ⊎ (saw b ≡ true)) × AsksAgain cx))
+    × ¬ (saw a ≡ true)
 
 -- the front of what the source gave was published, and all of it unless the pipe
 -- was seen closed; where it was seen closed before, the source gave none

@@ -51,6 +51,7 @@ module _ {R : Type 0} (taken known : R → List ℕ) (saw told : R → Bool) (wo
       × (length done.1.items < size → AtEnd (known done.0) (saw done.0))
   ReadUpTo size fails r bytes (Err failed) =
       ReadsOn r bytes.items failed.left.0 failed.left.1.items
+      × (length failed.left.1.items ≤ size)
       × IsReported failed.error (FailsOnce fails failed.left.0) (0 < length (known failed.left.0))
 
 -- the reader that a future holds, with the bytes that came

@@ -1,6 +1,10 @@
 -- What comes of threads that fill a pipe, or drain one.
-use Rattle.std.specs.Prelude.{◌≡◌, Bool, true, ⊤, List, ℕ, length, ◌++◌, Option, None, Some, Result, Ok, Err}
+use Rattle.std.specs.Prelude.{◌≡◌, ◌⊎◌, Bool, true, ⊤, List, ℕ, length, ◌++◌, Option, None, Some, Result, Ok, Err}
 use Rattle.std.specs.Io.KnownBytes.{IsAtEnd, Appends}
+use Rattle.futures.specs.declared.task.context.Context.{Context}
+use Rattle.piper.specs.Contexts.{WantsWaker}
+use Rattle.piper.specs.Handles.{NotifiesWriter}
+use Rattle.piper.specs.declared.error.PipeError.{PipeError}
 use Rattle.piper.specs.declared.io.copy.Copied.{Copied}
 use Rattle.piper.specs.declared.io.copy.Copied.TheVariants.{ToTheEnd, UntilClosed}
 use Rattle.piper.specs.declared.owned.OwnedReader.{OwnedReader}
@@ -8,6 +12,7 @@ use Rattle.piper.specs.declared.owned.OwnedWriter.{OwnedWriter}
 use Rattle.piper_lines.specs.AtEnd.{AtEnd}
 use Rattle.piper_futures.specs.Draining.{DrainsOn}
 use Rattle.piper_futures.specs.Filling.{FillsOn}
+use Rattle.piper_futures.specs.Moving.{IsIo}
 use Rattle.piper_futures.specs.declared.failed.Failed.{Failed}
 use Rattle.piper_futures.specs.declared.threads.Drained.{Drained}
 use Rattle.piper_futures.specs.declared.threads.Filled.{Filled}
@@ -16,6 +21,10 @@ use Rattle.piper_futures.specs.declared.threads.Filled.{Filled}
 abbrev pub WhyFilled : Option (List ℕ) → Copied → Type 0
 WhyFilled left ToTheEnd = IsAtEnd left
 WhyFilled left UntilClosed = ⊤
+
+-- it is want of memory for a waker
+abbrev pub IsOfWaker : PipeError → Type 0
+IsOfWaker e = (cx : Context) × WantsWaker cx e
 
 module _ {S : Type 0} (remaining : S → Option (List ℕ)) where
   -- the writer's last mark reports the front of what the source gave, after what was published
@@ -27,9 +36,11 @@ module _ {S : Type 0} (remaining : S → Option (List ℕ)) where
         w.end.saw saw
     pub closed : left.told.shut ≡ true
 
-  abbrev pub LeftByFill : OwnedWriter → S → Option (Filled S) → Type 0
-  LeftByFill w s None = ⊤
-  LeftByFill w s (Some left) = FilledTo w s left
+  -- by what is left: the thread's own wait failed; or its fill did, for want of memory for a waker,
+  -- or with an error of std
+  abbrev pub LeftByFill : OwnedWriter → S → Option (Filled S) → PipeError → Type 0
+  LeftByFill w s None e = IsIo e
+  LeftByFill w s (Some left) e = FilledTo w s left × (IsOfWaker e ⊎ IsIo e)
 
   -- all was moved into the pipe; or the writer wanted memory, or the source failed, and what it
   -- gave before was moved
@@ -37,7 +48,7 @@ module _ {S : Type 0} (remaining : S → Option (List ℕ)) where
       → Result (Filled S × Copied) (Failed (Option (Filled S))) → Type 0
   FilledAndClosed w s (Ok done) =
       FilledTo w s done.0 × WhyFilled (remaining done.0.source) done.1
-  FilledAndClosed w s (Err failed) = LeftByFill w s failed.left
+  FilledAndClosed w s (Err failed) = LeftByFill w s failed.left failed.error
 
 module _ {D : Type 0} (contents : D → Option (List ℕ)) where
   -- all that was taken since was written, in order
@@ -46,9 +57,10 @@ module _ {D : Type 0} (contents : D → Option (List ℕ)) where
     pub count : left.told.consumed.count ≡ length (r.end.taken ++ moved)
     pub written : Appends (contents d) (contents left.dest) moved
 
-  abbrev pub LeftByDrain : OwnedReader → D → Option (Drained D) → Type 0
-  LeftByDrain r d None = ⊤
-  LeftByDrain r d (Some left) = DrainedTo r d left
+  -- likewise
+  abbrev pub LeftByDrain : OwnedReader → D → Option (Drained D) → PipeError → Type 0
+  LeftByDrain r d None e = IsIo e
+  LeftByDrain r d (Some left) e = DrainedTo r d left × (IsOfWaker e ⊎ IsIo e)
 
   -- all was moved out of the pipe, up to its end; or the reader or the writer of std failed, and
   -- what was taken before was written
@@ -57,4 +69,5 @@ module _ {D : Type 0} (contents : D → Option (List ℕ)) where
   DrainedOrClosed r d (Ok done) =
       DrainsOn r.end.taken done.0.end.taken (contents d) (contents done.1)
       × AtEnd done.0.end.known done.0.end.saw
-  DrainedOrClosed r d (Err failed) = LeftByDrain r d failed.left
+      × (NotifiesWriter r → NotifiesWriter done.0)
+  DrainedOrClosed r d (Err failed) = LeftByDrain r d failed.left failed.error

@@ -40,8 +40,7 @@ pub trait AsyncFill: AsyncWrite {
         ensures closed { result ≡ Poll.Ready (Ok Copied.UntilClosed) → Self.saw self.new ≡ true }
         ensures error { IfReadyErr result (λ e. Self.fails self.new cx.new e ⊎ IsIo e) }
         ensures pending { OnPending result (Covers cx.new (Self.needs self.new)
-            × FillWaits Self.sent Self.saw Self.waits self.old self.new cx.new
-            × ¬ (Self.saw self.old ≡ true)) }
+            × FillWaits Self.sent Self.saw Self.waits self.old self.new cx.new) }
         ensures woken { Self.woken self.old → Self.woken self.new }
         ensures kept { Keeps cx.old cx.new };
 }

@@ -7,7 +7,7 @@ use Rattle.piper_futures.proofs.threads.drain_or_close.Goals as goal
 pub returns-in-Ok-Ok : goal.returns-in-Ok-Ok
 returns-in-Ok-Ok g c =
     let all = drain_ended g.D.Write.contents (λ (o : OwnedReader). o.end.told_shut) NotifiesWriter _ _ c.args.reader c.args.dest c.in-Ok-Ok.ends _ c.drain_into.ensures c.in-Ok-Ok.field-0-is c.in-Ok-Ok.ensures in
-    (all.0, all.1)
+    (all.0, all.1, all.2.1)
 
 pub returns-in-Ok-Err : goal.returns-in-Ok-Err
 returns-in-Ok-Err g c =
