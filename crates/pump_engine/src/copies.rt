@@ -1,5 +1,5 @@
 //! What is done with the bytes that pass: they are copied, summed up, and slowed down.
-ghost use Rattle.std.specs.Prelude.{◌≡◌, ◌<◌, ◌≤◌, ◌++◌, ◌∷◌, [], ℕ, List, IfSome};
+ghost use Rattle.std.specs.Prelude.{◌≡◌, ◌<◌, ◌≤◌, ◌++◌, ◌∷◌, [], ℕ, List, IfSome, option_map};
 ghost use Rattle.std.specs.List.{All};
 ghost use Rattle.pump_engine.specs.Asked.{sum_asked};
 ghost use Rattle.pump_engine.specs.Copies.{AreFlushed, HavePassed, IsCopy, IsSumOf};
@@ -51,6 +51,8 @@ impl<'a, R: Clock + Eprint, F: NamedFile> Copies<'a, R, F> {
         ensures asked { All (IsCopy F.name F.written F.fails []) tees.items
             → HavePassed F.name F.written F.fails self.new
             (sum_asked wants_sum ∷ names_of tees.items) [] }
+        ensures tees { self.new.tees ≡ tees }
+        ensures rate { option_map (λ pace. pace.rate) self.new.pace ≡ rate }
     {
         self.tees = tees;
         self.sum = if wants_sum { Some(Sha256::new()) } else { None };
@@ -77,6 +79,8 @@ impl<'a, R: Clock + Eprint, F: NamedFile> Copies<'a, R, F> {
         ensures some { 0 < count → 0 < result }
         ensures same { (self.new.tees ≡ self.old.tees) × (self.new.sum ≡ self.old.sum)
             × (self.new.digest ≡ self.old.digest) }
+        ensures rate { option_map (λ pace. pace.rate) self.new.pace
+            ≡ option_map (λ pace. pace.rate) self.old.pace }
     {
         match &mut self.pace {
             Some(pace) => {
@@ -90,9 +94,11 @@ impl<'a, R: Clock + Eprint, F: NamedFile> Copies<'a, R, F> {
     /// These bytes have passed. A file that can't be written is reported by its name, and gets no
     /// more; the others go on.
     pub(crate) fn keep(&mut self, bytes: &[u8])
-        ensures { (names : List (List ℕ)) (passed : List ℕ)
+        ensures copies { (names : List (List ℕ)) (passed : List ℕ)
             → HavePassed F.name F.written F.fails self.old names passed
             → HavePassed F.name F.written F.fails self.new names (passed ++ bytes.now) }
+        ensures rate { option_map (λ pace. pace.rate) self.new.pace
+            ≡ option_map (λ pace. pace.rate) self.old.pace }
     {
         give_all(self.rt, self.tees.as_mut_slice(), bytes);
         add_to_sum(&mut self.sum, bytes);
@@ -135,7 +141,9 @@ fn digest_of(sum: &Option<Sha256>) -> Option<[u8; 32]>
     }
 }
 
-fn keep_pace(clock: &impl Clock, pace: &mut Option<Pace>, count: usize) {
+fn keep_pace(clock: &impl Clock, pace: &mut Option<Pace>, count: usize)
+    ensures { option_map (λ pace. pace.rate) pace.new ≡ option_map (λ pace. pace.rate) pace.old }
+{
     if let Some(pace) = pace {
         pace.keep(clock, count);
     }

@@ -22,7 +22,9 @@ pub struct Pace {
 }
 
 impl Pace {
-    pub fn new(rate: usize) -> Pace {
+    pub fn new(rate: usize) -> Pace
+        ensures { result.rate ≡ rate }
+    {
         Pace {
             rate,
             since: None,
@@ -35,12 +37,15 @@ impl Pace {
     pub fn most(&self, count: usize) -> usize
         ensures most { result ≤ count }
         ensures some { 0 < count → 0 < result }
+        ensures tenth { result ≡ min count (max (self.now.rate / 10) 1) }
     {
         count.min((self.rate / 10).max(1))
     }
 
     /// So many bytes are about to pass: the time begins to count if none did lately.
-    pub fn begin(&mut self, clock: &impl Clock) {
+    pub fn begin(&mut self, clock: &impl Clock)
+        ensures { self.new.rate ≡ self.old.rate }
+    {
         if self.since.is_none() {
             self.since = Instant::now(clock).ok();
             self.owed = Duration::ZERO;
@@ -50,7 +55,9 @@ impl Pace {
 
     /// So many bytes have passed: sleeps until their time is over. Of the time in which none came a
     /// tenth of a second at most is made up for.
-    pub fn keep(&mut self, clock: &impl Clock, count: usize) {
+    pub fn keep(&mut self, clock: &impl Clock, count: usize)
+        ensures { self.new.rate ≡ self.old.rate }
+    {
         let Some(since) = self.since else {
             return;
         };

@@ -4,8 +4,8 @@ use Rattle.std.specs.List.{All}
 use Rattle.pump_engine.specs.Copies.{IsCopy, names_of}
 use Rattle.pump_engine.proofs.copies.Copies.keep.Goals as goal
 
-pub returns : goal.returns
-returns g c = λ parts m passed.
+pub returns-clause-copies : goal.returns-clause-copies
+returns-clause-copies g c = λ parts m passed.
     let Copy = IsCopy g.F.NamedFile.name g.F.NamedFile.written g.F.NamedFile.fails in
     let lent = c.as_mut_slice.ensures.value in
     let size : length c.give_all.new.tees ≡ c.args.self.now.tees.len = search rules in
