@@ -1,4 +1,5 @@
 mod Copied
+mod Named
 mod Passed
 mod Said
 mod Tees

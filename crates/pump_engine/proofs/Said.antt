@@ -9,7 +9,7 @@ use Rattle.clap.specs.declared.parser.matches.ArgMatches.{ArgMatches}
 use Rattle.clap.proofs.WalkLemmas.{first_value-rows, one_text-rows}
 use Rattle.piper_transfer.specs.Size.{WritesSize, greatest}
 use Rattle.piper_transfer.specs.declared.size.NotASize.{NotASize}
-use Rattle.pump_engine.specs.Arguments.{AddsRule, IsSize, pump_command, said_by, size_text, text_or}
+use Rattle.pump_engine.specs.Arguments.{AddsRule, IsSize, IsText, pump_command, said_by, size_text, text_or}
 
 -- its rules ask for nothing but what `clap` gives as a function of the words
 command_is_simple : is_simple pump_command ≡ true
@@ -67,12 +67,7 @@ pub taken_is_sound : (a : App) (words : List Text) → a ≡ pump_command → (i
 taken_is_sound a words is_pump sound =
     subst (λ (b : App). is_simple_and_free b ≡ true → fault_of b words ≡ []) is_pump sound command_is_free
 
--- no text was found where the words have none
-pub no_text : (found : Option (Bor Text)) → option_map (λ s. s.now) found ≡ None → found ≡ None
-no_text None p = refl
-no_text (Some s) p = cc
-
-pub text_left_out : (words : List Text) (m : ArgMatches) (option : Text) (found : Option (Bor Text)) → rows_of (found_of m) ≡ said_by words
-    → option_map (λ s. s.now) found ≡ first_value (found_of m) option → first_of option (said_by words) ≡ None → found ≡ None
-text_left_out words m option found said finds none =
-    no_text found (finds ∙ first_value-rows (found_of m) option ∙ ap (first_of option) said ∙ none)
+pub text_found : (words : List Text) (m : ArgMatches) (option : Text) (found : Option (Bor Text)) → rows_of (found_of m) ≡ said_by words
+    → option_map (λ s. s.now) found ≡ first_value (found_of m) option → IsText option words found
+text_found words m option found said finds =
+    finds ∙ first_value-rows (found_of m) option ∙ ap (first_of option) said

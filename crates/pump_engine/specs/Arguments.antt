@@ -1,13 +1,15 @@
 -- What the words on the command line ask for. `clap` says what each argument then has.
-use Rattle.std.specs.Prelude.{◌≡◌, ◌<◌, ◌≤◌, ℕ, true, false, List, [], ◌∷◌, Option, Some, None, IsSome, IsNone, codes, map, unwrap_or}
+use Rattle.std.specs.Prelude.{◌≡◌, ◌<◌, ◌≤◌, ℕ, true, false, List, [], ◌∷◌, Option, Some, None, IsSome, IsNone, codes, map, option_map, unwrap_or}
 use Rattle.clap.specs.Words.{AddsArg, App, Row, Rule, Text, all_of, app_of, fault_of, first_of, one_of, matches_of, takes}
 use Rattle.clap.specs.Simple.{on_top, with_rule}
+use denote.Ref.{Bor}
 use Rattle.clap.specs.Words.{first_value, found_of, new_app, new_rule}
 use Rattle.clap.specs.declared.builder.action.ArgAction.TheVariants.{Append, Set, SetTrue}
 use Rattle.clap.specs.declared.builder.arg.Arg.{Arg}
 use Rattle.clap.specs.declared.builder.command.Command.{Command}
 use Rattle.clap.specs.declared.parser.matches.ArgMatches.{ArgMatches}
 use Rattle.piper_transfer.specs.Size.{WritesSize, greatest}
+use Rattle.piper_transfer.specs.declared.both_sides.Sizes.{Sizes}
 use Rattle.pump_engine.specs.declared.arguments.Arguments.{Arguments}
 
 -- a flag of this name, as `--progress`
@@ -93,6 +95,14 @@ IsSize text = (n : ℕ) × IsSizeOf text n
 abbrev pub tees_of : List Text → List Text
 tees_of words = unwrap_or (all_of (codes "tee") (said_by words)) []
 
+-- a text, without the loan that it is behind
+abbrev pub text_in : Option (Bor Text) → Option Text
+text_in text = option_map (λ s. s.now) text
+
+-- the text that the words have after this option, if they have one
+abbrev pub IsText : Text → List Text → Option (Bor Text) → Type 0
+IsText option words text = text_in text ≡ first_of option (said_by words)
+
 -- what these words ask for
 pub record AskFor (words : List Text) (arguments : Arguments) : Type 0 where
   pub capacity : IsSizeOf (capacity_text words) arguments.sizes.capacity
@@ -108,8 +118,11 @@ pub record AskFor (words : List Text) (arguments : Arguments) : Type 0 where
   pub sum : one_of (codes "sha256") (said_by words) ≡ Some (codes "true")
       → arguments.shows_sum ≡ true
   pub sound : fault_of pump_command words ≡ []
-  pub input : first_of (codes "input") (said_by words) ≡ None → arguments.texts.input ≡ None
-  pub output : first_of (codes "output") (said_by words) ≡ None → arguments.texts.output ≡ None
+  pub rate : IsText (codes "rate") words arguments.texts.rate
+  pub size : IsText (codes "size") words arguments.texts.size
+  pub start_at : IsText (codes "start-at") words arguments.texts.start_at
+  pub input : IsText (codes "input") words arguments.texts.input
+  pub output : IsText (codes "output") words arguments.texts.output
   pub no_sum : one_of (codes "sha256") (said_by words) ≡ Some (codes "false")
       → arguments.shows_sum ≡ false
   pub tees : map (λ name. name.now) arguments.tees.items ≡ tees_of words
@@ -117,6 +130,11 @@ pub record AskFor (words : List Text) (arguments : Arguments) : Type 0 where
       → arguments.overwrites ≡ true
   pub no_force : one_of (codes "force") (said_by words) ≡ Some (codes "false")
       → arguments.overwrites ≡ false
+
+-- the pipe holds so many bytes, and moves so many at a time, as these words ask for
+pub record AreSizedBy (words : List Text) (sizes : Sizes) : Type 0 where
+  pub capacity : IsSizeOf (capacity_text words) sizes.capacity
+  pub chunk : IsSizeOf (chunk_text words) sizes.chunk
 
 -- these words ask for something: `clap` takes them, and what represents a size writes one
 pub record AreTaken (words : List Text) : Type 0 where

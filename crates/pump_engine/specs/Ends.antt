@@ -35,9 +35,9 @@ IsFlushed flushed file_flushed (drain.Standard d) = flushed d
 IsFlushed flushed file_flushed (drain.File sink) = file_flushed sink.file
 
 -- a write of some bytes has taken none
-abbrev pub IsFull : {D F : Type 0} → (D → Type 0) → Drain D F → Type 0
-IsFull full (drain.Standard d) = full d
-IsFull full (drain.File f) = ⊤
+abbrev pub IsFull : {D F : Type 0} → (D → Type 0) → (F → Type 0) → Drain D F → Type 0
+IsFull full file_full (drain.Standard d) = full d
+IsFull full file_full (drain.File sink) = file_full sink.file
 
 -- a write or a flush has failed with this error
 abbrev pub DrainFails : {D F : Type 0} → (D → Error → Type 0) → (F → Error → Type 0)

@@ -4,5 +4,8 @@ pub mod Copies
 pub mod Ended
 pub mod Ends
 pub mod Files
+pub mod Opening
+pub mod Outcome
+pub mod Plan
 pub mod Progress
 pub mod Running

@@ -87,6 +87,12 @@ pub fn read_words<'a>(alloc: Global, words: &'a [String]) -> Result<Arguments<'a
 }
 
 fn texts_of<'a>(matches: &ArgMatches<'a>) -> Texts<'a>
+    ensures rate { option_map (λ s. s.now) result.rate
+        ≡ first_value (found_of matches.now) (codes "rate") }
+    ensures size { option_map (λ s. s.now) result.size
+        ≡ first_value (found_of matches.now) (codes "size") }
+    ensures start_at { option_map (λ s. s.now) result.start_at
+        ≡ first_value (found_of matches.now) (codes "start-at") }
     ensures input { option_map (λ s. s.now) result.input
         ≡ first_value (found_of matches.now) (codes "input") }
     ensures output { option_map (λ s. s.now) result.output

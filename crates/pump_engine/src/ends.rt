@@ -111,7 +111,7 @@ impl<D: Destination + Drop, F: NamedFile> Destination for Drain<D, F> {
 
     ghost flushed = { IsFlushed D.flushed F.flushed };
 
-    ghost full = { IsFull D.full };
+    ghost full = { IsFull D.full F.full };
 
     ghost fails = { DrainFails D.fails F.fails };
 
@@ -145,7 +145,7 @@ where
     ghost flushed = { λ o. IsFlushed D.flushed F.flushed o.drain
         × AreFlushed F.flushed o.copies.tees.items };
 
-    ghost full = { λ o. IsFull D.full o.drain };
+    ghost full = { λ o. IsFull D.full F.full o.drain };
 
     ghost fails = { λ o. DrainFails D.fails F.fails o.drain };
 

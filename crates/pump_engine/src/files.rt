@@ -1,5 +1,5 @@
 //! Files that are opened by their names.
-ghost use Rattle.std.specs.Prelude.{◌≡◌, ℕ, List, [], Option, None, OnOk, IfOk, IfErr, ⊤};
+ghost use Rattle.std.specs.Prelude.{◌≡◌, ◌<◌, ℕ, List, [], length, Option, None, Ok, OnOk, IfOk, IfErr, ⊤};
 ghost use Rattle.std.specs.Io.{ReadsAtMost, WritesAtMost};
 ghost use Rattle.std.specs.Io.KnownBytes.{append_known, ReadConsumes};
 ghost use Rattle.pump_engine.specs.Files.{IsJust, Writes};
@@ -10,8 +10,8 @@ use std::io::{Read, Write};
 
 /// A file that was opened by its name.
 ///
-/// It can say by which one, what was written to it since then, whether that is flushed, and which
-/// errors it fails with. Of the system's files nothing of that is said.
+/// It can say by which one, what was written to it since then, whether that is flushed, and how its
+/// calls fail. Of the system's files nothing of that is said.
 pub trait NamedFile: Drop {
     ghost use Rattle.std.specs.declared.io.Error.{Error};
 
@@ -26,6 +26,9 @@ pub trait NamedFile: Drop {
 
     // a flush has succeeded, and left it so
     ghost flushed: { Self → Type 0 } = { λ _. ⊤ };
+
+    // a write of some bytes has taken none, and left it so
+    ghost full: { Self → Type 0 } = { λ _. ⊤ };
 
     // a call has failed with this error, and left it so
     ghost fails: { Self → Error → Type 0 } = { λ _ _. ⊤ };
@@ -50,6 +53,7 @@ pub trait NamedFile: Drop {
         ensures name { name self.new ≡ name self.old }
         ensures bound { WritesAtMost result buf.now }
         ensures bytes { Writes (written self.old) (written self.new) result buf.now }
+        ensures full { result ≡ Ok 0 → 0 < length buf.now → full self.new }
         ensures error { IfErr result (fails self.new) };
 
     /// Writes all of `buf`.

@@ -7,6 +7,7 @@ pub mod copies;
 pub mod ended;
 pub mod ends;
 pub mod files;
+mod found;
 mod lines;
 mod opening;
 pub mod outcome;

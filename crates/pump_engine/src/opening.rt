@@ -1,18 +1,23 @@
 //! The files that are named: they are opened, and those that may not be written are refused, before
 //! one of them changes.
-ghost use Rattle.std.specs.Prelude.{◌≡◌, ◌++◌, ◌∷◌, [], None, Ok, OnErr, OnOk, IfErr, IfOk, IfSome, false, map, string_bytes};
+ghost use Rattle.std.specs.Prelude.{◌≡◌, ◌++◌, ◌∷◌, [], None, Ok, OnErr, OnOk, IfErr, IfOk, IfSome, IsSomeAnd, false, map, string_bytes};
 ghost use Rattle.std.specs.List.{All};
+ghost use Rattle.pump_engine.specs.Arguments.{text_in};
 ghost use Rattle.pump_engine.specs.Copies.{HavePassed, IsCopy, names_of};
 ghost use Rattle.pump_engine.specs.Asked.{parts_wanted};
 ghost use Rattle.pump_engine.specs.Ended.{IsEarly, IsToldOf};
 ghost use Rattle.pump_engine.specs.Ends.{KeepsHeld};
+ghost use Rattle.pump_engine.specs.Files.{IsJust};
+ghost use Rattle.pump_engine.specs.Opening.{AreApart, AreDistinct, HoldNothing, OpensNamed};
+ghost use Rattle.pump_engine.specs.Opening.{ReadsNamed, WritesNamed, founds_of, ids_of};
 
 use crate::arguments::Arguments;
 use crate::ended::{Ended, Unopened};
 use crate::ends::{Drain, Inlet, Outlet};
 use crate::files::{NamedFile, Opens};
+use crate::found::{FileId, Found, STANDARD_INPUT};
 use crate::plan::named;
-use crate::sinks::{FileId, Sink, id_of};
+use crate::sinks::Sink;
 use piper_transfer::{Destination, Source};
 use std::alloc::{AllocGlobal, Global};
 use std::fs::{Files, Metadata};
@@ -20,29 +25,34 @@ use std::sync::Wait;
 use std::time::Clock;
 use std::{fs, io};
 
-/// The names that the system gives to what is under the numbers of the standard streams.
-const STANDARD_INPUT: &str = "/proc/self/fd/0";
+/// What was found of what is read, and of what is written: files, or the standard streams.
+#[derive(Clone, Copy)]
+pub struct Places {
+    pub input: Found,
+    pub output: Found,
+}
 
-const STANDARD_OUTPUT: &str = "/proc/self/fd/1";
-
-/// What is read and written.
+/// The files that are read and written in place of the standard streams, and the others that are
+/// written.
 #[derive(Drop)]
 struct Opened<F: NamedFile> {
     input: Option<F>,
     output: Option<Sink<F>>,
     tees: Vec<Sink<F>>,
+    places: Places,
 }
 
 /// Opens the files that are named, and takes them in place of what represents them; none is changed
 /// by that. Where one can't be opened, both stay. A regular file is refused that is the input or
-/// another output, too; and one that holds bytes, unless those are to be overwritten.
+/// another output, too; and one that holds bytes, unless those are to be overwritten. Returns what
+/// the system reports of what is read, and of what is written.
 pub fn open_files<R, F, S, D>(
     rt: &R,
     arguments: &Arguments<'_>,
     rate: Option<usize>,
     input: &mut Inlet<S, F>,
     output: &mut Outlet<'_, R, D, F>,
-) -> Result<(), Ended>
+) -> Result<Places, Ended>
 where
     R: Files + Opens<F> + Wait + Clock + Eprint + AllocGlobal,
     F: NamedFile,
@@ -51,41 +61,74 @@ where
     ensures early { IfErr result IsEarly }
     ensures stays { OnErr result
         ((input.new ≡ input.old) × (output.new.drain ≡ output.old.drain)) }
-    ensures input { arguments.now.texts.input ≡ None → input.new ≡ input.old }
-    ensures output { arguments.now.texts.output ≡ None → output.new.drain ≡ output.old.drain }
+    ensures input { OnOk result (ReadsNamed F.name (text_in arguments.now.texts.input)
+        input.old input.new) }
+    ensures output { IfOk result (λ places. WritesNamed F.name
+        (text_in arguments.now.texts.output) places.output output.old.drain output.new.drain) }
     ensures kept { KeepsHeld output.old.drain → OnOk result (KeepsHeld output.new.drain) }
     ensures copies { OnOk result (HavePassed F.name F.written F.fails output.new.copies
         (parts_wanted arguments.now) []) }
+    ensures apart { IfOk result (λ places. AreApart
+        (places.input ∷ places.output ∷ founds_of output.new.copies.tees.items)) }
+    ensures spared { arguments.now.overwrites ≡ false → IfOk result (λ places.
+        HoldNothing (text_in arguments.now.texts.output) places.output
+        output.new.copies.tees.items) }
 {
     let opened = open_all(rt, arguments)?;
-    refuse_shared(rt, &opened)?;
-    if !arguments.overwrites {
-        refuse_overwritten(rt.alloc(), &opened)?;
-    }
+    refuse_shared(rt.alloc(), &opened)?;
+    refuse_overwritten(rt.alloc(), arguments.overwrites, &opened)?;
     let Opened {
         input: source,
         output: dest,
         tees,
+        places,
     } = opened;
-    if let Some(file) = source {
+    take_input(input, source);
+    take_output(&mut output.drain, dest);
+    output.copies.ask(tees, arguments.shows_sum, rate);
+    Ok(places)
+}
+
+// The file is read in place of what was read before, if there is one.
+fn take_input<S, F>(input: &mut Inlet<S, F>, file: Option<F>)
+where
+    F: NamedFile,
+    S: Source + Drop,
+    ensures none { file ≡ None → input.new ≡ input.old }
+    ensures some { IfSome file (λ f. input.new ≡ Inlet.File f) }
+{
+    if let Some(file) = file {
         *input = Inlet::File(file);
     }
-    if let Some(sink) = dest {
-        output.drain = Drain::File(sink);
+}
+
+// Likewise, of what is written.
+fn take_output<D, F>(output: &mut Drain<D, F>, sink: Option<Sink<F>>)
+where
+    F: NamedFile,
+    D: Destination + Drop,
+    ensures none { sink ≡ None → output.new ≡ output.old }
+    ensures some { IfSome sink (λ s. output.new ≡ Drain.File s) }
+    ensures kept { KeepsHeld output.old → IfSome sink (λ s. s.has_begun ≡ false)
+        → KeepsHeld output.new }
+{
+    if let Some(sink) = sink {
+        *output = Drain::File(sink);
     }
-    output.copies.ask(tees, arguments.shows_sum, rate);
-    Ok(())
 }
 
 // Opens the files that are named.
 fn open_all<R, F>(rt: &R, arguments: &Arguments<'_>) -> Result<Opened<F>, Ended>
 where
-    R: Opens<F> + AllocGlobal,
+    R: Files + Opens<F> + AllocGlobal,
     F: NamedFile,
     ensures early { IfErr result IsEarly }
-    ensures input { arguments.now.texts.input ≡ None → IfOk result (λ opened. opened.input ≡ None) }
-    ensures output { arguments.now.texts.output ≡ None
-        → IfOk result (λ opened. opened.output ≡ None) }
+    ensures input { IfOk result (λ opened. OpensNamed F.name
+        (text_in arguments.now.texts.input) opened.input) }
+    ensures output { IfOk result (λ opened. OpensNamed (λ sink. F.name sink.file)
+        (text_in arguments.now.texts.output) opened.output) }
+    ensures found { IfOk result (λ opened. IfSome opened.output
+        (λ sink. sink.found ≡ opened.places.output)) }
     ensures kept { IfOk result (λ opened. IfSome opened.output
         (λ sink. sink.has_begun ≡ false)) }
     ensures names { IfOk result (λ opened. names_of opened.tees.items
@@ -94,16 +137,34 @@ where
         All (IsCopy F.name F.written F.fails []) opened.tees.items) }
 {
     let input = open_input(rt, rt.alloc(), named(arguments.texts.input))?;
-    let output = match named(arguments.texts.output) {
-        Some(name) => Some(open_sink(rt, rt.alloc(), name)?),
-        None => None,
-    };
+    let output = open_output(rt, rt.alloc(), named(arguments.texts.output))?;
     let tees = open_tees(rt, rt.alloc(), arguments.tees.as_slice())?;
+    let places = Places {
+        input: found_of_input(rt, &input),
+        output: found_of_output(rt, &output),
+    };
     Ok(Opened {
         input,
         output,
         tees,
+        places,
     })
+}
+
+fn found_of_input(files: &impl Files, input: &Option<impl NamedFile>) -> Found {
+    match input {
+        Some(file) => Found::of_input(file),
+        None => Found::at_input(files),
+    }
+}
+
+fn found_of_output<F: NamedFile>(files: &impl Files, output: &Option<Sink<F>>) -> Found
+    ensures { IfSome output.now (λ sink. sink.found ≡ result) }
+{
+    match output {
+        Some(sink) => sink.found,
+        None => Found::at_output(files),
+    }
 }
 
 // Opens the file that is read, if one is named.
@@ -114,6 +175,8 @@ where
     ensures early { IfErr result IsEarly }
     ensures named { IfErr result (λ e. IfSome name.entry (λ text. IsToldOf text.now e)) }
     ensures none { name.entry ≡ None → result ≡ Ok None }
+    ensures file { IfSome name.entry (λ text. IfOk result (λ opened.
+        IsSomeAnd opened (λ file. IsJust (F.name file) text.now))) }
 {
     match name {
         None => Ok(None),
@@ -121,6 +184,23 @@ where
             Ok(file) => Ok(Some(file)),
             Err(error) => Err(Ended::NoInput(Unopened::new(alloc, name, error)?)),
         },
+    }
+}
+
+// Opens the file that is written in place of standard output, if one is named.
+fn open_output<R, F>(rt: &R, alloc: Global, name: Option<&str>) -> Result<Option<Sink<F>>, Ended>
+where
+    R: Opens<F>,
+    F: NamedFile,
+    ensures early { IfErr result IsEarly }
+    ensures none { name.entry ≡ None → result ≡ Ok None }
+    ensures file { IfSome name.entry (λ text. IfOk result (λ opened.
+        IsSomeAnd opened (λ sink. IsJust (F.name sink.file) text.now))) }
+    ensures kept { IfOk result (λ opened. IfSome opened (λ sink. sink.has_begun ≡ false)) }
+{
+    match name {
+        None => Ok(None),
+        Some(name) => Ok(Some(open_sink(rt, alloc, name)?)),
     }
 }
 
@@ -169,44 +249,32 @@ fn add_tee<F: NamedFile>(tees: &mut Vec<Sink<F>>, sink: Sink<F>) -> Result<(), E
 }
 
 // Refuses a regular file that is the input or another output, too.
-fn refuse_shared<R, F>(rt: &R, opened: &Opened<F>) -> Result<(), Ended>
-where
-    R: Files + AllocGlobal,
-    F: NamedFile,
-    ensures { IfErr result IsEarly }
+fn refuse_shared<F: NamedFile>(alloc: Global, opened: &Opened<F>) -> Result<(), Ended>
+    ensures early { IfErr result IsEarly }
+    ensures apart { OnOk result (AreApart (opened.now.places.input ∷ opened.now.places.output
+        ∷ founds_of opened.now.tees.items)) }
 {
-    let mut known = Vec::new(rt.alloc());
-    match &opened.input {
-        Some(file) => add(&mut known, "the input", id_of_file(file))?,
-        None => add(&mut known, "standard input", id_at(rt, STANDARD_INPUT))?,
-    }
-    match &opened.output {
-        Some(sink) => add(&mut known, sink.name.as_str(), sink.id)?,
-        None => add(&mut known, "standard output", id_at(rt, STANDARD_OUTPUT))?,
-    }
+    let mut known = Vec::new(alloc);
+    let name = match &opened.output {
+        Some(sink) => sink.name.as_str(),
+        None => "standard output",
+    };
+    add(&mut known, "the input", opened.places.input)?;
+    add(&mut known, name, opened.places.output)?;
     for tee in opened.tees.iter() {
-        add(&mut known, tee.name.as_str(), tee.id)?;
+        add(&mut known, tee.name.as_str(), tee.found)?;
     }
     Ok(())
 }
 
-fn id_of_file(file: &impl NamedFile) -> Option<FileId> {
-    let attributes = file.attributes().ok()?;
-    id_of(&attributes)
-}
-
-// Which regular file is open under a number that has this name in the system.
-fn id_at(files: &impl Files, name: &str) -> Option<FileId> {
-    let attributes = fs::metadata(files, name).ok()?;
-    id_of(&attributes)
-}
-
 // Adds a file to those that are known, unless it is one of them.
-fn add(known: &mut Vec<FileId>, name: &str, id: Option<FileId>) -> Result<(), Ended>
+fn add(known: &mut Vec<FileId>, name: &str, found: Found) -> Result<(), Ended>
     ensures early { IfErr result IsEarly }
     ensures named { IfErr result (IsToldOf name.now) }
+    ensures added { OnOk result (known.new.items ≡ known.old.items ++ ids_of (found ∷ [])) }
+    ensures distinct { OnOk result (AreDistinct known.old.items → AreDistinct known.new.items) }
 {
-    let Some(id) = id else {
+    let Some(id) = found.id else {
         return Ok(());
     };
     if known.contains(&id) {
@@ -216,10 +284,19 @@ fn add(known: &mut Vec<FileId>, name: &str, id: Option<FileId>) -> Result<(), En
     known.push(id).map_err(|_| Ended::Memory)
 }
 
-// Refuses files that hold bytes, which would be overwritten.
-fn refuse_overwritten<F: NamedFile>(alloc: Global, opened: &Opened<F>) -> Result<(), Ended>
-    ensures { IfErr result IsEarly }
+// Refuses files that hold bytes, unless those are to be overwritten.
+fn refuse_overwritten<F>(alloc: Global, overwrites: bool, opened: &Opened<F>) -> Result<(), Ended>
+where
+    F: NamedFile,
+    ensures early { IfErr result IsEarly }
+    ensures output { overwrites ≡ false → OnOk result (IfSome opened.now.output
+        (λ sink. sink.found.held ≡ 0)) }
+    ensures tees { overwrites ≡ false → OnOk result
+        (All (λ sink. sink.found.held ≡ 0) opened.now.tees.items) }
 {
+    if overwrites {
+        return Ok(());
+    }
     if let Some(sink) = &opened.output {
         refuse_held(alloc, sink)?;
     }
@@ -232,8 +309,9 @@ fn refuse_overwritten<F: NamedFile>(alloc: Global, opened: &Opened<F>) -> Result
 fn refuse_held<F: NamedFile>(alloc: Global, sink: &Sink<F>) -> Result<(), Ended>
     ensures early { IfErr result IsEarly }
     ensures named { IfErr result (IsToldOf (string_bytes sink.now.name)) }
+    ensures none { OnOk result (sink.now.found.held ≡ 0) }
 {
-    if sink.held == 0 {
+    if sink.found.held == 0 {
         return Ok(());
     }
     let error = io::Error::other("it holds bytes, which --force overwrites");

@@ -1,5 +1,7 @@
 //! What the first thread waits for: the end of the run, or a failed output, after which the run can
 //! end late, since a read that is under way is not cut short.
+ghost use Rattle.pump_engine.specs.Outcome.{IsOfLasting};
+
 use crate::ended::Ended;
 use piper_transfer::TransferError;
 use std::sync::{Condvar, Mutex, Wait};
@@ -52,8 +54,10 @@ impl Outcome {
         }
     }
 
-    /// Reports that the output has failed.
-    pub(crate) fn fail(&self, rt: &impl Wait, failure: Failure) {
+    /// Reports that the output has failed: not that a write is to be made again.
+    pub(crate) fn fail(&self, rt: &impl Wait, failure: Failure)
+        requires { IsOfLasting failure }
+    {
         *self.reported.lock(rt) = Told::Failed(failure);
         self.changed.notify_all();
     }

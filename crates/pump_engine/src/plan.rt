@@ -1,7 +1,9 @@
 //! What is done, from what the words ask for: the rate, the size and the level in numbers, and
 //! whether there is an input and an output.
-ghost use Rattle.std.specs.Prelude.{◌≡◌, None, IfErr};
+ghost use Rattle.std.specs.Prelude.{◌≡◌, ◌≢◌, ◌≤◌, Some, None, IfErr, IfOk, IfNone, IfSome, codes};
+ghost use Rattle.pump_engine.specs.Arguments.{IsSizeOf, text_in};
 ghost use Rattle.pump_engine.specs.Ended.{IsEarly};
+ghost use Rattle.pump_engine.specs.Plan.{IsRead, IsTotalOf};
 
 use crate::arguments::Texts;
 use crate::ended::{Ended, Unopened, not_taken};
@@ -28,9 +30,14 @@ pub struct Numbers {
     pub total: Option<u64>,
 }
 
-/// Reads the numbers after the options.
+/// Reads the numbers after the options. The capacity and the chunk are those that are given.
 pub fn numbers_of(alloc: Global, sizes: Sizes, texts: Texts<'_>) -> Result<Numbers, Ended>
-    ensures { IfErr result IsEarly }
+    ensures early { IfErr result IsEarly }
+    ensures capacity { IfOk result (λ n. n.sizes.capacity ≡ sizes.capacity) }
+    ensures chunk { IfOk result (λ n. n.sizes.chunk ≡ sizes.chunk) }
+    ensures rate { IfOk result (λ n. IsRead IsSizeOf texts.entry.rate n.rate) }
+    ensures total { IfOk result (λ n. IsRead IsTotalOf texts.entry.size n.total) }
+    ensures level { IfOk result (λ n. texts.entry.start_at ≡ None → n.sizes.level ≡ 0) }
 {
     let rate = match texts.rate {
         Some(text) => Some(size(alloc, text)?),
@@ -60,7 +67,8 @@ pub fn numbers_of(alloc: Global, sizes: Sizes, texts: Texts<'_>) -> Result<Numbe
 
 // How many bytes may pass in a second.
 fn size(alloc: Global, text: &str) -> Result<usize, Ended>
-    ensures { IfErr result IsEarly }
+    ensures early { IfErr result IsEarly }
+    ensures read { IfOk result (IsSizeOf text.now) }
 {
     match parse_size(text) {
         Ok(size) => Ok(size),
@@ -70,7 +78,8 @@ fn size(alloc: Global, text: &str) -> Result<usize, Ended>
 
 // How many bytes come: a size, or none.
 fn total(alloc: Global, text: &str) -> Result<u64, Ended>
-    ensures { IfErr result IsEarly }
+    ensures early { IfErr result IsEarly }
+    ensures read { IfOk result (IsTotalOf text.now) }
 {
     if text == "0" {
         return Ok(0);
@@ -83,7 +92,8 @@ fn total(alloc: Global, text: &str) -> Result<u64, Ended>
 
 // From 0 to 100.
 fn percent(alloc: Global, text: &str) -> Result<u8, Ended>
-    ensures { IfErr result IsEarly }
+    ensures early { IfErr result IsEarly }
+    ensures most { IfOk result (λ percent. percent ≤ 100) }
 {
     match text.parse::<u8>() {
         Ok(percent) if percent <= 100 => Ok(percent),
@@ -93,7 +103,9 @@ fn percent(alloc: Global, text: &str) -> Result<u8, Ended>
 
 /// The file that is named; `-` represents the standard stream.
 pub fn named<'a>(text: Option<&'a str>) -> Option<&'a str>
-    ensures { text.entry ≡ None → result ≡ None }
+    ensures file { IfSome result (λ name. (text_in text.entry ≡ Some name.now)
+        × (name.now ≢ codes "-")) }
+    ensures stream { IfNone result ((t : _) → text_in text.entry ≡ Some t → t ≡ codes "-") }
 {
     match text {
         Some("-") => None,

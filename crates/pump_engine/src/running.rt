@@ -1,19 +1,20 @@
 //! The whole run, from the words on the command line to how it ends.
-ghost use Rattle.std.specs.Prelude.{◌≡◌, ◌≢◌, [], OnErr, OnOk, IfOk, IfErr, map, string_bytes};
-ghost use Rattle.clap.specs.Words.{fault_of};
+ghost use Rattle.std.specs.Prelude.{◌≡◌, ◌≢◌, ◌∷◌, [], OnErr, OnOk, IfOk, IfErr, codes, map, string_bytes};
+ghost use Rattle.clap.specs.Words.{fault_of, first_of};
 ghost use Rattle.piper_transfer.specs.Transfer.{IsOfSide, Transfers, WritesAll};
-ghost use Rattle.pump_engine.specs.Arguments.{NamesNoFile, ShowsAsAsked, pump_command};
+ghost use Rattle.pump_engine.specs.Arguments.{AreSizedBy, NamesNoFile, ShowsAsAsked, pump_command, said_by};
 ghost use Rattle.pump_engine.specs.Copies.{AreFlushed, HaveGot, has_failed};
 ghost use Rattle.pump_engine.specs.Ended.{IsEarly};
 ghost use Rattle.pump_engine.specs.Ends.{drain_bytes, inlet_bytes, InletFails, IsFlushed};
 ghost use Rattle.pump_engine.specs.Ends.{DrainFails, IsFull};
+ghost use Rattle.pump_engine.specs.Opening.{AreApart, ReadsNamed, WritesNamed, founds_of};
 ghost use Rattle.pump_engine.specs.Running.{Runs};
 
 use crate::arguments::read_words;
 use crate::ended::Ended;
 use crate::ends::{Inlet, Outlet};
 use crate::files::{NamedFile, Opens};
-use crate::opening::{open_files, size_of};
+use crate::opening::{Places, open_files, size_of};
 use crate::plan::{numbers_of, refuse_closed};
 use crate::progress::{Over, Watched, watch};
 use crate::streams::Streams;
@@ -29,6 +30,7 @@ use std::time::Clock;
 /// What the words ask for, once the files that they name are opened.
 #[derive(Clone, Copy)]
 struct Task {
+    places: Places,
     sizes: Sizes,
     /// What is told of the transfer, if progress is asked for.
     asked: Option<Watched>,
@@ -65,7 +67,7 @@ where
         × AreFlushed F.flushed output.new.copies.tees.items)
         (IsOfSide (InletFails S.fails F.fails input.new)
         (DrainFails D.fails F.fails output.new.drain)
-        (IsFull D.full output.new.drain)) (has_failed output.new.copies.tees.items) result }
+        (IsFull D.full F.full output.new.drain)) (has_failed output.new.copies.tees.items) result }
 {
     let task = match prepare(rt, words, input, output, streams) {
         Ok(task) => task,
@@ -101,6 +103,14 @@ where
         ShowsAsAsked (map string_bytes words.now) task.asked) }
     ensures copies { OnOk result (HaveGot F.name F.written F.fails
         (map string_bytes words.now) output.new.copies []) }
+    ensures sizes { IfOk result (λ task. AreSizedBy (map string_bytes words.now) task.sizes) }
+    ensures input { OnOk result (ReadsNamed F.name
+        (first_of (codes "input") (said_by (map string_bytes words.now))) input.old input.new) }
+    ensures output { IfOk result (λ task. WritesNamed F.name
+        (first_of (codes "output") (said_by (map string_bytes words.now))) task.places.output
+        output.old.drain output.new.drain) }
+    ensures apart { IfOk result (λ task. AreApart (task.places.input ∷ task.places.output
+        ∷ founds_of output.new.copies.tees.items)) }
 {
     let arguments = match read_words(rt.alloc(), words) {
         Ok(arguments) => arguments,
@@ -108,7 +118,7 @@ where
     };
     let numbers = numbers_of(rt.alloc(), arguments.sizes, arguments.texts)?;
     refuse_closed(rt.alloc(), arguments.texts, streams)?;
-    open_files(rt, &arguments, numbers.rate, input, output)?;
+    let places = open_files(rt, &arguments, numbers.rate, input, output)?;
     let watched = Watched {
         capacity: numbers.sizes.capacity,
         total: numbers.total.or(size_of(rt, input)),
@@ -116,6 +126,7 @@ where
     };
     let shows_progress = arguments.shows_progress && !arguments.is_quiet;
     Ok(Task {
+        places,
         sizes: numbers.sizes,
         asked: if shows_progress { Some(watched) } else { None },
     })

@@ -1,47 +1,26 @@
 //! Files that are written. What one held is cut off at the first write, and not where it is opened.
-ghost use Rattle.std.specs.Prelude.{◌≡◌, ◌++◌, ℕ, List, [], false, true, OnOk, IfOk, IfErr, string_bytes};
+ghost use Rattle.std.specs.Prelude.{◌≡◌, ◌<◌, ◌++◌, ℕ, List, [], length, false, true, Ok, OnOk, IfOk, IfErr, string_bytes};
 ghost use Rattle.std.specs.Io.{WritesAtMost};
 ghost use Rattle.std.specs.Io.KnownBytes.{append_known};
 ghost use Rattle.pump_engine.specs.Copies.{IsCopy, IsFlushedOrFailed, SameSink};
 ghost use Rattle.pump_engine.specs.Files.{Writes};
 
 use crate::files::{NamedFile, Opens};
+use crate::found::Found;
 use std::alloc::Global;
-use std::fs::Metadata;
 use std::io;
-use std::os::unix::fs::MetadataExt;
-
-/// A regular file, whatever its name is.
-#[derive(Clone, Copy, PartialEq, Eq)]
-pub struct FileId {
-    device: u64,
-    inode: u64,
-}
 
 /// A file that is written.
 #[derive(Drop)]
 pub struct Sink<F: NamedFile> {
     pub name: String,
-    /// Which file it is, if it is a regular one.
-    pub id: Option<FileId>,
-    /// How many bytes it held where it was opened.
-    pub held: u64,
+    /// Which file it is, and how many bytes it held, where it was opened.
+    pub found: Found,
     /// Whether what it held was cut off, or it was flushed.
     pub has_begun: bool,
     /// Whether a write or a flush failed by which it was given a copy.
     pub has_failed: bool,
     pub file: F,
-}
-
-/// Which regular file it is; `None` of a pipe, a terminal or another device.
-pub fn id_of(attributes: &Metadata) -> Option<FileId> {
-    if !attributes.is_file() {
-        return None;
-    }
-    Some(FileId {
-        device: attributes.dev(),
-        inode: attributes.ino(),
-    })
 }
 
 impl<F: NamedFile> Sink<F> {
@@ -54,12 +33,10 @@ impl<F: NamedFile> Sink<F> {
         ensures copy { IfOk result (IsCopy F.name F.written F.fails []) }
     {
         let file = rt.open_to_write(name)?;
-        let attributes = file.attributes()?;
-        let id = id_of(&attributes);
+        let found = Found::of_output(&file)?;
         Ok(Sink {
             name: String::from_str(alloc, name)?,
-            id,
-            held: if id.is_some() { attributes.len() } else { 0 },
+            found,
             has_begun: false,
             has_failed: false,
             file,
@@ -113,7 +90,7 @@ impl<F: NamedFile> Sink<F> {
         ensures error { IfErr result (F.fails self.new.file) }
     {
         if !self.has_begun {
-            if 0 < self.held {
+            if 0 < self.found.held {
                 self.file.cut()?;
             }
             self.has_begun = true;
@@ -126,6 +103,7 @@ impl<F: NamedFile> Sink<F> {
         ensures same { SameSink F.name self.old self.new }
         ensures bound { WritesAtMost result buf.now }
         ensures bytes { Writes (F.written self.old.file) (F.written self.new.file) result buf.now }
+        ensures full { result ≡ Ok 0 → 0 < length buf.now → F.full self.new.file }
         ensures error { IfErr result (F.fails self.new.file) }
     {
         self.begin()?;

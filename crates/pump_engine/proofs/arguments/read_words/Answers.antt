@@ -4,7 +4,7 @@ use Rattle.std.proofs.lemmas.Result.{IfErr-weaker}
 use Rattle.clap.specs.Words.{App, Text, all_of, app_of, found_of, takes}
 use Rattle.clap.proofs.WalkLemmas.{raw_values-rows}
 use Rattle.pump_engine.specs.Arguments.{IsSize, IsSizeOf}
-use Rattle.pump_engine.proofs.Said.{flag_said, found_said, taken_is_sound, text_left_out, text_said}
+use Rattle.pump_engine.proofs.Said.{flag_said, found_said, taken_is_sound, text_found, text_said}
 use Rattle.pump_engine.proofs.arguments.read_words.Goals as goal
 
 pub returns-in_err-matches-clause-taken : goal.returns-in_err-matches-clause-taken
@@ -45,8 +45,11 @@ returns-clause-asked c =
       loud = λ reported. c.get_flag-2.ensures.other (flag_said words c.in_ok-matches.matches (codes "quiet") said ∙ reported);
       sum = λ reported. c.get_flag-3.ensures.value (flag_said words c.in_ok-matches.matches (codes "sha256") said ∙ reported);
       sound = taken_is_sound _ words c.in_ok-command.ensures.taken c.in_ok-matches.ensures.kinds;
-      input = λ none. text_left_out words c.in_ok-matches.matches (codes "input") _ said c.texts_of.ensures.input none;
-      output = λ none. text_left_out words c.in_ok-matches.matches (codes "output") _ said c.texts_of.ensures.output none;
+      rate = text_found words c.in_ok-matches.matches (codes "rate") _ said c.texts_of.ensures.rate;
+      size = text_found words c.in_ok-matches.matches (codes "size") _ said c.texts_of.ensures.size;
+      start_at = text_found words c.in_ok-matches.matches (codes "start-at") _ said c.texts_of.ensures.start_at;
+      input = text_found words c.in_ok-matches.matches (codes "input") _ said c.texts_of.ensures.input;
+      output = text_found words c.in_ok-matches.matches (codes "output") _ said c.texts_of.ensures.output;
       tees = c.in_ok-tees.ensures.texts ∙ ap (λ (t : Option (List Text)). unwrap_or t [])
           (raw_values-rows (found_of c.in_ok-matches.matches) (codes "tee") ∙ ap (all_of (codes "tee")) said);
       no_sum = λ reported. c.get_flag-3.ensures.other (flag_said words c.in_ok-matches.matches (codes "sha256") said ∙ reported);

@@ -40,5 +40,5 @@ returns-clause-runs g c = λ unnamed.
             subst (λ tees. AreFlushed file.flushed tees.items) (sym ended.failed) flushed.1,
           );
       reported = subst (λ d. IfErr answer (IsOfSide (InletFails g.S.Source.fails file.fails c.pump-moved.new.source)
-          (DrainFails g.D.Destination.fails file.fails d) (IsFull g.D.Destination.full d))) (sym ended.drain) c.pump-moved.ensures.reported;
+          (DrainFails g.D.Destination.fails file.fails d) (IsFull g.D.Destination.full file.full d))) (sym ended.drain) c.pump-moved.ensures.reported;
     })

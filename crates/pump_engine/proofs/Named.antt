@@ -1,0 +1,43 @@
+-- What is read and written once files are opened.
+use Rattle.std.proofs.Common.{◌≡◌, ◌≢◌, refl, sym, subst, ℕ, List, Option, Some, None, codes}
+use Rattle.std.specs.Prelude.{IfSome, IsSomeAnd}
+use Rattle.pump_engine.specs.Opening.{IsDrainOf, IsInletOf, OpensNamed, ReadsNamed, WritesNamed}
+use Rattle.pump_engine.specs.declared.ends.Drain.{Drain}
+use Rattle.pump_engine.specs.declared.ends.Drain.TheVariants as drain
+use Rattle.pump_engine.specs.declared.ends.Inlet.{Inlet}
+use Rattle.pump_engine.specs.declared.ends.Inlet.TheVariants as inlet
+use Rattle.pump_engine.specs.declared.found.Found.{Found}
+use Rattle.pump_engine.specs.declared.sinks.Sink.{Sink}
+
+pub reads_named : {S F : Type 0} (name : F → Option (List ℕ)) (word : Option (List ℕ)) (opened : Option F) (old new : Inlet S F) → OpensNamed name word opened
+    → (opened ≡ None → new ≡ old) → IfSome opened (λ f. new ≡ inlet.File f) → ReadsNamed name word old new
+reads_named name word None old new opens none some = record {
+  left_out = λ _. none refl;
+  dash = λ t p q. none refl;
+  file = λ t p q. absurd (opens.file t p q);
+}
+reads_named {S} {F} name word (Some f) old new opens none some = record {
+  left_out = λ p. none (opens.left_out p);
+  dash = λ t p q. none (opens.dash t p q);
+  file = λ t p q. subst (λ (i : Inlet S F). IsInletOf name t i) (sym some) (opens.file t p q);
+}
+
+pub writes_named : {D F : Type 0} (name : F → Option (List ℕ)) (word : Option (List ℕ)) (opened : Option (Sink F)) (found : Found) (old new : Drain D F)
+    → OpensNamed (λ sink. name sink.file) word opened → (opened ≡ None → new ≡ old) → IfSome opened (λ s. new ≡ drain.File s)
+    → IfSome opened (λ s. s.found ≡ found) → WritesNamed name word found old new
+writes_named name word None found old new opens none some is = record {
+  left_out = λ _. none refl;
+  dash = λ t p q. none refl;
+  file = λ t p q. absurd (opens.file t p q);
+}
+writes_named {D} {F} name word (Some s) found old new opens none some is = record {
+  left_out = λ p. none (opens.left_out p);
+  dash = λ t p q. none (opens.dash t p q);
+  file = λ t p q. subst (λ (d : Drain D F). IsDrainOf name t found d) (sym some) (opens.file t p q, is);
+}
+
+-- the output that is named held no byte
+pub none_held : {F : Type 0} (name : F → Option (List ℕ)) (word : Option (List ℕ)) (opened : Option (Sink F)) (found : Found) → OpensNamed (λ sink. name sink.file) word opened
+    → IfSome opened (λ s. s.found ≡ found) → IfSome opened (λ s. s.found.held ≡ 0) → (t : List ℕ) → word ≡ Some t → t ≢ codes "-" → found.held ≡ 0
+none_held name word None found opens is none t p q = absurd (opens.file t p q)
+none_held name word (Some s) found opens is none t p q = subst (λ (x : Found). x.held ≡ 0) is none

@@ -1,0 +1,27 @@
+use Rattle.std.proofs.Common.{◌≡◌, ◌∷◌, sym, subst}
+use Rattle.std.specs.List.{All}
+use Rattle.pump_engine.specs.Arguments.{text_in}
+use Rattle.pump_engine.specs.Opening.{AreApart, founds_of}
+use Rattle.pump_engine.proofs.Named.{none_held, reads_named, writes_named}
+use Rattle.pump_engine.proofs.opening.open_files.Goals as goal
+
+pub returns-clause-input : goal.returns-clause-input
+returns-clause-input g c =
+    reads_named g.F.NamedFile.name (text_in c.args.arguments.now.texts.input) c.in_ok-opened.opened.input _ _ c.in_ok-opened.ensures.input c.take_input.ensures.none c.take_input.ensures.some
+
+pub returns-clause-output : goal.returns-clause-output
+returns-clause-output g c =
+    writes_named g.F.NamedFile.name (text_in c.args.arguments.now.texts.output) c.in_ok-opened.opened.output c.in_ok-opened.opened.places.output _ _ c.in_ok-opened.ensures.output
+    c.take_output.ensures.none c.take_output.ensures.some c.in_ok-opened.ensures.found
+
+pub returns-clause-apart : goal.returns-clause-apart
+returns-clause-apart g c =
+    let places = c.in_ok-opened.opened.places in
+    subst (λ tees. AreApart (places.input ∷ places.output ∷ founds_of tees.items)) (sym c.ask.ensures.tees) c.in_ok-refuse_shared.ensures.apart
+
+pub returns-clause-spared : goal.returns-clause-spared
+returns-clause-spared g c = λ unasked. record {
+  named = none_held g.F.NamedFile.name (text_in c.args.arguments.now.texts.output) c.in_ok-opened.opened.output c.in_ok-opened.opened.places.output c.in_ok-opened.ensures.output
+      c.in_ok-opened.ensures.found (c.in_ok-refuse_overwritten.ensures.output unasked);
+  others = subst (λ tees. All (λ sink. sink.found.held ≡ 0) tees.items) (sym c.ask.ensures.tees) (c.in_ok-refuse_overwritten.ensures.tees unasked);
+}

@@ -1,0 +1,74 @@
+-- The files that are opened: by which names, that no two are one file, and that none holds bytes.
+use Rattle.std.specs.Prelude.{◌≡◌, ◌≢◌, ℕ, List, Option, Some, None, IsSomeAnd, codes, map}
+use Rattle.std.specs.List.{All, AllPairs, filter_map}
+use Rattle.pump_engine.specs.Files.{IsJust}
+use Rattle.pump_engine.specs.declared.ends.Drain.{Drain}
+use Rattle.pump_engine.specs.declared.ends.Drain.TheVariants as drain
+use Rattle.pump_engine.specs.declared.ends.Inlet.{Inlet}
+use Rattle.pump_engine.specs.declared.ends.Inlet.TheVariants as inlet
+use Rattle.pump_engine.specs.declared.found.FileId.{FileId}
+use Rattle.pump_engine.specs.declared.found.Found.{Found}
+use Rattle.pump_engine.specs.declared.sinks.Sink.{Sink}
+
+-- the file that this word names was opened, which has that name, where its name is known; none was
+-- where the word is left out or is `-`
+pub record OpensNamed {F : Type 0}
+    (name : F → Option (List ℕ))
+    (word : Option (List ℕ))
+    (opened : Option F) : Type 0 where
+  pub left_out : word ≡ None → opened ≡ None
+  pub dash : (t : List ℕ) → word ≡ Some t → t ≡ codes "-" → opened ≡ None
+  pub file : (t : List ℕ) → word ≡ Some t → t ≢ codes "-"
+      → IsSomeAnd opened (λ f. IsJust (name f) t)
+
+-- it is a file of this name
+abbrev pub IsInletOf : {S F : Type 0} → (F → Option (List ℕ)) → List ℕ → Inlet S F → Type 0
+IsInletOf name text (inlet.Standard s) = ⊥
+IsInletOf name text (inlet.File f) = IsJust (name f) text
+
+abbrev pub IsDrainOf : {D F : Type 0} → (F → Option (List ℕ)) → List ℕ → Found → Drain D F → Type 0
+IsDrainOf name text found (drain.Standard d) = ⊥
+IsDrainOf name text found (drain.File sink) = IsJust (name sink.file) text × (sink.found ≡ found)
+
+-- what is read is the file that this word names; a word that is left out, or `-`, changes nothing
+pub record ReadsNamed {S F : Type 0}
+    (name : F → Option (List ℕ))
+    (word : Option (List ℕ))
+    (old new : Inlet S F) : Type 0 where
+  pub left_out : word ≡ None → new ≡ old
+  pub dash : (t : List ℕ) → word ≡ Some t → t ≡ codes "-" → new ≡ old
+  pub file : (t : List ℕ) → word ≡ Some t → t ≢ codes "-" → IsInletOf name t new
+
+-- what is written is the file that this word names, of which this was found; likewise
+pub record WritesNamed {D F : Type 0}
+    (name : F → Option (List ℕ))
+    (word : Option (List ℕ))
+    (found : Found)
+    (old new : Drain D F) : Type 0 where
+  pub left_out : word ≡ None → new ≡ old
+  pub dash : (t : List ℕ) → word ≡ Some t → t ≡ codes "-" → new ≡ old
+  pub file : (t : List ℕ) → word ≡ Some t → t ≢ codes "-" → IsDrainOf name t found new
+
+-- what was found where these files were opened
+abbrev pub founds_of : {F : Type 0} → List (Sink F) → List Found
+founds_of sinks = map (λ sink. sink.found) sinks
+
+-- which of them are regular files
+abbrev pub ids_of : List Found → List FileId
+ids_of founds = filter_map (λ found. found.id) founds
+
+-- none of these is another one
+abbrev pub AreDistinct : List FileId → Type 0
+AreDistinct ids = AllPairs (λ x y. x ≢ y) ids
+
+-- no two of them are one regular file
+abbrev pub AreApart : List Found → Type 0
+AreApart founds = AreDistinct (ids_of founds)
+
+-- the file that this word names held no byte where it was opened, and neither did these
+pub record HoldNothing {F : Type 0}
+    (word : Option (List ℕ))
+    (found : Found)
+    (sinks : List (Sink F)) : Type 0 where
+  pub named : (t : List ℕ) → word ≡ Some t → t ≢ codes "-" → found.held ≡ 0
+  pub others : All (λ sink. sink.found.held ≡ 0) sinks

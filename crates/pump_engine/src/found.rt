@@ -1,0 +1,79 @@
+//! What the system reports of a file where it is opened: which one it is, and how much it holds.
+use crate::files::NamedFile;
+use std::fs::{Files, Metadata};
+use std::os::unix::fs::MetadataExt;
+use std::{fs, io};
+
+/// The names that the system gives to what is under the numbers of the standard streams.
+pub(crate) const STANDARD_INPUT: &str = "/proc/self/fd/0";
+
+const STANDARD_OUTPUT: &str = "/proc/self/fd/1";
+
+/// A regular file, whatever its name is.
+#[derive(Clone, Copy, PartialEq, Eq)]
+pub struct FileId {
+    device: u64,
+    inode: u64,
+}
+
+/// What was found. The functions of this file alone make one, so each comes from the system.
+#[derive(Clone, Copy)]
+pub struct Found {
+    /// Which regular file it is; `None` of a pipe, a terminal or another device, and where the
+    /// system does not say.
+    pub id: Option<FileId>,
+    /// How many bytes it held; 0 of what is no regular file.
+    pub held: u64,
+    made: (),
+}
+
+impl Found {
+    /// Of a file that is written.
+    pub(crate) fn of_output(file: &impl NamedFile) -> io::Result<Found> {
+        let attributes = file.attributes()?;
+        Ok(of_attributes(Some(&attributes)))
+    }
+
+    /// Of the file that is read.
+    pub(crate) fn of_input(file: &impl NamedFile) -> Found {
+        match file.attributes() {
+            Ok(attributes) => of_attributes(Some(&attributes)),
+            Err(_) => of_attributes(None),
+        }
+    }
+
+    /// Of standard input.
+    pub(crate) fn at_input(files: &impl Files) -> Found {
+        at(files, STANDARD_INPUT)
+    }
+
+    /// Of standard output.
+    pub(crate) fn at_output(files: &impl Files) -> Found {
+        at(files, STANDARD_OUTPUT)
+    }
+}
+
+fn at(files: &impl Files, name: &str) -> Found {
+    match fs::metadata(files, name) {
+        Ok(attributes) => of_attributes(Some(&attributes)),
+        Err(_) => of_attributes(None),
+    }
+}
+
+fn of_attributes(attributes: Option<&Metadata>) -> Found {
+    match attributes {
+        Some(attributes) if attributes.is_file() => Found {
+            id: Some(FileId {
+                device: attributes.dev(),
+                inode: attributes.ino(),
+            }),
+            held: attributes.len(),
+            made: (),
+        },
+        _ => Found {
+            id: None,
+            held: 0,
+            made: (),
+        },
+    }
+}
