@@ -1,5 +1,5 @@
 mod Copied
-mod Named
+pub mod Named
 mod Passed
 mod Said
 mod Tees

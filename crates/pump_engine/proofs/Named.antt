@@ -1,7 +1,10 @@
 -- What is read and written once files are opened.
 use Rattle.std.proofs.Common.{◌≡◌, ◌≢◌, refl, sym, subst, ℕ, List, Option, Some, None, codes}
-use Rattle.std.specs.Prelude.{IfSome, IsSomeAnd}
+use Rattle.std.specs.Prelude.{IfSome}
+use Rattle.pump_engine.specs.Ended.{IsEarly, IsOfOption, IsUnopened}
 use Rattle.pump_engine.specs.Opening.{IsDrainOf, IsInletOf, OpensNamed, ReadsNamed, WritesNamed}
+use Rattle.pump_engine.specs.declared.ended.Ended.{Ended}
+use Rattle.pump_engine.specs.declared.ended.Ended.TheVariants as ended
 use Rattle.pump_engine.specs.declared.ends.Drain.{Drain}
 use Rattle.pump_engine.specs.declared.ends.Drain.TheVariants as drain
 use Rattle.pump_engine.specs.declared.ends.Inlet.{Inlet}
@@ -41,3 +44,16 @@ pub none_held : {F : Type 0} (name : F → Option (List ℕ)) (word : Option (Li
     → IfSome opened (λ s. s.found ≡ found) → IfSome opened (λ s. s.found.held ≡ 0) → (t : List ℕ) → word ≡ Some t → t ≢ codes "-" → found.held ≡ 0
 none_held name word None found opens is none t p q = absurd (opens.file t p q)
 none_held name word (Some s) found opens is none t p q = subst (λ (x : Found). x.held ≡ 0) is none
+
+-- what files that can't be opened end, ends early
+pub early_unopened : (e : Ended) → IsUnopened e → IsEarly e
+early_unopened (ended.NoInput file) told = tt
+early_unopened (ended.NoOutput file) told = tt
+early_unopened ended.Memory told = tt
+early_unopened other told = absurd told
+
+-- and so does what a word ends that is no number
+pub early_option : (option text : List ℕ) (e : Ended) → IsOfOption option text e → IsEarly e
+early_option option text (ended.Value word) told = tt
+early_option option text ended.Memory told = tt
+early_option option text other told = absurd told

@@ -9,6 +9,7 @@ use Rattle.piper_transfer.specs.declared.error.TransferError.{TransferError}
 use Rattle.piper_transfer.specs.declared.error.TransferError.TheVariants.{Read, Write, Full, Memory, Turns}
 use Rattle.pump_engine.specs.declared.ended.Ended.{Ended}
 use Rattle.pump_engine.specs.declared.ended.Ended.TheVariants as ended
+use Rattle.pump_engine.specs.declared.streams.Streams.{Streams}
 
 -- a transfer with this answer ends the program so. Where all was moved, a file that did not get its
 -- copy is reported. A write that fails with a broken pipe says that the program which read the
@@ -34,12 +35,32 @@ IsOfWords other = ⊥
 -- the program ends before the first byte: for its words, a file that can't be opened, or memory
 abbrev pub IsEarly : Ended → Type 0
 IsEarly (ended.Words error) = ⊤
-IsEarly ended.NotText = ⊤
 IsEarly (ended.Value option) = ⊤
 IsEarly (ended.NoInput file) = ⊤
 IsEarly (ended.NoOutput file) = ⊤
 IsEarly ended.Memory = ⊤
 IsEarly other = ⊥
+
+-- a file can't be opened, or memory was refused
+abbrev pub IsUnopened : Ended → Type 0
+IsUnopened (ended.NoInput file) = ⊤
+IsUnopened (ended.NoOutput file) = ⊤
+IsUnopened ended.Memory = ⊤
+IsUnopened other = ⊥
+
+-- the text that is after this option is no number that it takes, or memory was refused
+abbrev pub IsOfOption : List ℕ → List ℕ → Ended → Type 0
+IsOfOption option text (ended.Value word) =
+    (word.option.now ≡ option) × (string_bytes word.text ≡ text)
+IsOfOption option text ended.Memory = ⊤
+IsOfOption option text other = ⊥
+
+-- the stream that is reported was closed, or memory was refused
+abbrev pub IsOfClosed : Streams → Ended → Type 0
+IsOfClosed streams (ended.NoInput file) = streams.has_input ≡ false
+IsOfClosed streams (ended.NoOutput file) = streams.has_output ≡ false
+IsOfClosed streams ended.Memory = ⊤
+IsOfClosed streams other = ⊥
 
 -- what is reported names this file, unless it is reported that memory was refused
 abbrev pub IsToldOf : List ℕ → Ended → Type 0

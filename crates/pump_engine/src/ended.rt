@@ -1,7 +1,7 @@
 //! How the program ends: what it says, and its exit status.
 ghost use Rattle.std.specs.Prelude.{◌≡◌, ◌⊎◌, IfErr, IfOk, string_bytes};
 ghost use Rattle.std.specs.Process.{exit_status};
-ghost use Rattle.pump_engine.specs.Ended.{EndsAs, HasStatus, IsEarly, IsShown};
+ghost use Rattle.pump_engine.specs.Ended.{EndsAs, HasStatus, IsOfOption, IsShown};
 
 use piper_transfer::TransferError;
 use std::alloc::Global;
@@ -41,7 +41,7 @@ pub struct NotTaken {
 
 /// That this word follows the option, which takes such numbers.
 pub fn not_taken(alloc: Global, option: &'static str, text: &str, range: &'static str) -> Ended
-    ensures { IsEarly result }
+    ensures { IsOfOption option.now text.now result }
 {
     match String::from_str(alloc, text) {
         Ok(text) => Ended::Value(NotTaken {

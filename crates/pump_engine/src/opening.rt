@@ -5,7 +5,7 @@ ghost use Rattle.std.specs.List.{All};
 ghost use Rattle.pump_engine.specs.Arguments.{text_in};
 ghost use Rattle.pump_engine.specs.Copies.{HavePassed, IsCopy, names_of};
 ghost use Rattle.pump_engine.specs.Asked.{parts_wanted};
-ghost use Rattle.pump_engine.specs.Ended.{IsEarly, IsToldOf};
+ghost use Rattle.pump_engine.specs.Ended.{IsToldOf, IsUnopened};
 ghost use Rattle.pump_engine.specs.Ends.{KeepsHeld};
 ghost use Rattle.pump_engine.specs.Files.{IsJust};
 ghost use Rattle.pump_engine.specs.Opening.{AreApart, AreDistinct, HoldNothing, OpensNamed};
@@ -58,7 +58,7 @@ where
     F: NamedFile,
     S: Source + Drop,
     D: Destination + Drop,
-    ensures early { IfErr result IsEarly }
+    ensures early { IfErr result IsUnopened }
     ensures stays { OnErr result
         ((input.new ≡ input.old) × (output.new.drain ≡ output.old.drain)) }
     ensures input { OnOk result (ReadsNamed F.name (text_in arguments.now.texts.input)
@@ -122,7 +122,7 @@ fn open_all<R, F>(rt: &R, arguments: &Arguments<'_>) -> Result<Opened<F>, Ended>
 where
     R: Files + Opens<F> + AllocGlobal,
     F: NamedFile,
-    ensures early { IfErr result IsEarly }
+    ensures early { IfErr result IsUnopened }
     ensures input { IfOk result (λ opened. OpensNamed F.name
         (text_in arguments.now.texts.input) opened.input) }
     ensures output { IfOk result (λ opened. OpensNamed (λ sink. F.name sink.file)
@@ -172,7 +172,7 @@ fn open_input<R, F>(rt: &R, alloc: Global, name: Option<&str>) -> Result<Option<
 where
     R: Opens<F>,
     F: NamedFile,
-    ensures early { IfErr result IsEarly }
+    ensures early { IfErr result IsUnopened }
     ensures named { IfErr result (λ e. IfSome name.entry (λ text. IsToldOf text.now e)) }
     ensures none { name.entry ≡ None → result ≡ Ok None }
     ensures file { IfSome name.entry (λ text. IfOk result (λ opened.
@@ -192,7 +192,7 @@ fn open_output<R, F>(rt: &R, alloc: Global, name: Option<&str>) -> Result<Option
 where
     R: Opens<F>,
     F: NamedFile,
-    ensures early { IfErr result IsEarly }
+    ensures early { IfErr result IsUnopened }
     ensures none { name.entry ≡ None → result ≡ Ok None }
     ensures file { IfSome name.entry (λ text. IfOk result (λ opened.
         IsSomeAnd opened (λ sink. IsJust (F.name sink.file) text.now))) }
@@ -209,7 +209,7 @@ fn open_sink<R, F>(rt: &R, alloc: Global, name: &str) -> Result<Sink<F>, Ended>
 where
     R: Opens<F>,
     F: NamedFile,
-    ensures early { IfErr result IsEarly }
+    ensures early { IfErr result IsUnopened }
     ensures named { IfErr result (IsToldOf name.now) }
     ensures name { IfOk result (λ sink. string_bytes sink.name ≡ name.now) }
     ensures kept { IfOk result (λ sink. sink.has_begun ≡ false) }
@@ -226,7 +226,7 @@ fn open_tees<R, F>(rt: &R, alloc: Global, names: &[&str]) -> Result<Vec<Sink<F>>
 where
     R: Opens<F>,
     F: NamedFile,
-    ensures early { IfErr result IsEarly }
+    ensures early { IfErr result IsUnopened }
     ensures names { IfOk result (λ tees. names_of tees.items ≡ map (λ name. name.now) names.now) }
     ensures copies { IfOk result (λ tees. All (IsCopy F.name F.written F.fails []) tees.items) }
 {
@@ -239,7 +239,7 @@ where
 }
 
 fn add_tee<F: NamedFile>(tees: &mut Vec<Sink<F>>, sink: Sink<F>) -> Result<(), Ended>
-    ensures early { IfErr result IsEarly }
+    ensures early { IfErr result IsUnopened }
     ensures items { OnOk result (tees.new.items ≡ tees.old.items ++ sink ∷ []) }
 {
     match tees.push(sink) {
@@ -250,7 +250,7 @@ fn add_tee<F: NamedFile>(tees: &mut Vec<Sink<F>>, sink: Sink<F>) -> Result<(), E
 
 // Refuses a regular file that is the input or another output, too.
 fn refuse_shared<F: NamedFile>(alloc: Global, opened: &Opened<F>) -> Result<(), Ended>
-    ensures early { IfErr result IsEarly }
+    ensures early { IfErr result IsUnopened }
     ensures apart { OnOk result (AreApart (opened.now.places.input ∷ opened.now.places.output
         ∷ founds_of opened.now.tees.items)) }
 {
@@ -269,7 +269,7 @@ fn refuse_shared<F: NamedFile>(alloc: Global, opened: &Opened<F>) -> Result<(), 
 
 // Adds a file to those that are known, unless it is one of them.
 fn add(known: &mut Vec<FileId>, name: &str, found: Found) -> Result<(), Ended>
-    ensures early { IfErr result IsEarly }
+    ensures early { IfErr result IsUnopened }
     ensures named { IfErr result (IsToldOf name.now) }
     ensures added { OnOk result (known.new.items ≡ known.old.items ++ ids_of (found ∷ [])) }
     ensures distinct { OnOk result (AreDistinct known.old.items → AreDistinct known.new.items) }
@@ -288,7 +288,7 @@ fn add(known: &mut Vec<FileId>, name: &str, found: Found) -> Result<(), Ended>
 fn refuse_overwritten<F>(alloc: Global, overwrites: bool, opened: &Opened<F>) -> Result<(), Ended>
 where
     F: NamedFile,
-    ensures early { IfErr result IsEarly }
+    ensures early { IfErr result IsUnopened }
     ensures output { overwrites ≡ false → OnOk result (IfSome opened.now.output
         (λ sink. sink.found.held ≡ 0)) }
     ensures tees { overwrites ≡ false → OnOk result
@@ -307,7 +307,7 @@ where
 }
 
 fn refuse_held<F: NamedFile>(alloc: Global, sink: &Sink<F>) -> Result<(), Ended>
-    ensures early { IfErr result IsEarly }
+    ensures early { IfErr result IsUnopened }
     ensures named { IfErr result (IsToldOf (string_bytes sink.now.name)) }
     ensures none { OnOk result (sink.now.found.held ≡ 0) }
 {

@@ -1,9 +1,9 @@
 //! What is done, from what the words ask for: the rate, the size and the level in numbers, and
 //! whether there is an input and an output.
-ghost use Rattle.std.specs.Prelude.{◌≡◌, ◌≢◌, ◌≤◌, Some, None, IfErr, IfOk, IfNone, IfSome, codes};
+ghost use Rattle.std.specs.Prelude.{◌≡◌, ◌≢◌, ◌≤◌, Some, None, IfErr, IfOk, OnOk, IfNone, IfSome, codes, true};
 ghost use Rattle.pump_engine.specs.Arguments.{IsSizeOf, text_in};
-ghost use Rattle.pump_engine.specs.Ended.{IsEarly};
-ghost use Rattle.pump_engine.specs.Plan.{IsRead, IsTotalOf};
+ghost use Rattle.pump_engine.specs.Ended.{IsEarly, IsOfClosed, IsOfOption};
+ghost use Rattle.pump_engine.specs.Plan.{IsOfStream, IsRead, IsTotalOf};
 
 use crate::arguments::Texts;
 use crate::ended::{Ended, Unopened, not_taken};
@@ -66,8 +66,10 @@ pub fn numbers_of(alloc: Global, sizes: Sizes, texts: Texts<'_>) -> Result<Numbe
 }
 
 // How many bytes may pass in a second.
+#[tactic(auto, using(crate::proofs::Named::early_option))]
 fn size(alloc: Global, text: &str) -> Result<usize, Ended>
     ensures early { IfErr result IsEarly }
+    ensures named { IfErr result (IsOfOption (codes "--rate <N>") text.now) }
     ensures read { IfOk result (IsSizeOf text.now) }
 {
     match parse_size(text) {
@@ -77,8 +79,10 @@ fn size(alloc: Global, text: &str) -> Result<usize, Ended>
 }
 
 // How many bytes come: a size, or none.
+#[tactic(auto, using(crate::proofs::Named::early_option))]
 fn total(alloc: Global, text: &str) -> Result<u64, Ended>
     ensures early { IfErr result IsEarly }
+    ensures named { IfErr result (IsOfOption (codes "--size <N>") text.now) }
     ensures read { IfOk result (IsTotalOf text.now) }
 {
     if text == "0" {
@@ -91,8 +95,10 @@ fn total(alloc: Global, text: &str) -> Result<u64, Ended>
 }
 
 // From 0 to 100.
+#[tactic(auto, using(crate::proofs::Named::early_option))]
 fn percent(alloc: Global, text: &str) -> Result<u8, Ended>
     ensures early { IfErr result IsEarly }
+    ensures named { IfErr result (IsOfOption (codes "--start-at <N>") text.now) }
     ensures most { IfOk result (λ percent. percent ≤ 100) }
 {
     match text.parse::<u8>() {
@@ -115,7 +121,12 @@ pub fn named<'a>(text: Option<&'a str>) -> Option<&'a str>
 
 /// Refuses a standard stream that was closed, where no file is named in its place.
 pub fn refuse_closed(alloc: Global, texts: Texts<'_>, streams: Streams) -> Result<(), Ended>
-    ensures { IfErr result IsEarly }
+    ensures early { IfErr result IsEarly }
+    ensures closed { IfErr result (IsOfClosed streams) }
+    ensures input { OnOk result (IsOfStream (text_in texts.entry.input)
+        → streams.has_input ≡ true) }
+    ensures output { OnOk result (IsOfStream (text_in texts.entry.output)
+        → streams.has_output ≡ true) }
 {
     let closed = io::Error::other("it is closed");
     if named(texts.input).is_none() && !streams.has_input {

@@ -81,6 +81,7 @@ where
 }
 
 // Reads the words, and opens the files that they name.
+#[tactic(auto, using(crate::proofs::Named::early_unopened))]
 fn prepare<R, F, S, D>(
     rt: &R,
     words: &[String],

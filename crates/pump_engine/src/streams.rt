@@ -1,5 +1,5 @@
 //! The standard streams, as they were where the program began.
-ghost use Rattle.std.specs.Prelude.{IfErr};
+ghost use Rattle.std.specs.Prelude.{◌≡◌, IfErr, IfOk, IsSome, false};
 ghost use Rattle.pump_engine.specs.Ended.{IsEarly};
 
 use crate::ended::{Ended, Unopened};
@@ -51,7 +51,10 @@ impl Streams {
     pub fn fill<R>(&self, rt: &R) -> Result<Fillers, Ended>
     where
         R: Files<File = File> + AllocGlobal,
-        ensures { IfErr result IsEarly }
+        ensures early { IfErr result IsEarly }
+        ensures input { IfOk result (λ f. self.now.has_input ≡ false → IsSome f._input) }
+        ensures output { IfOk result (λ f. self.now.has_output ≡ false → IsSome f._output) }
+        ensures error { IfOk result (λ f. self.now.has_error ≡ false → IsSome f._error) }
     {
         // The system gives the lowest number that is free.
         let _input = open_unless(rt, self.has_input, OpenOptions::new().write(true))?;
@@ -68,7 +71,8 @@ impl Streams {
 fn open_unless<R>(rt: &R, is_open: bool, how: &OpenOptions) -> Result<Option<File>, Ended>
 where
     R: Files<File = File> + AllocGlobal,
-    ensures { IfErr result IsEarly }
+    ensures early { IfErr result IsEarly }
+    ensures filled { IfOk result (λ file. is_open ≡ false → IsSome file) }
 {
     if is_open {
         return Ok(None);
