@@ -4,13 +4,12 @@ ghost use Rattle.std.specs.Io.{ReadsAtMost, WritesAtMost};
 ghost use Rattle.std.specs.Io.KnownBytes.{Keeps, ReadConsumes, WriteAppends};
 ghost use Rattle.piper_transfer.specs.Taken.{StaysTaken, WriteTakes};
 
+use piper::like::{StdReader, StdWriter};
 use std::io;
-use std::io::{Read, Write};
 
 /// What a transfer reads.
 ///
-/// It is a reader that can say which errors it fails with. A reader of which that is not to be
-/// said is one as a `Plain`.
+/// It is a reader that can say which errors it fails with. A reader of std is one as a `Plain`.
 pub trait Source {
     ghost use Rattle.std.specs.declared.io.Error.{Error};
 
@@ -30,7 +29,7 @@ pub trait Source {
 /// What a transfer writes.
 ///
 /// It is a writer that can say what became of the bytes that it took, what it has flushed, and
-/// which errors it fails with. A writer of which that is not to be said is one as a `Plain`.
+/// which errors it fails with. A writer of std is one as a `Plain`.
 pub trait Destination {
     ghost use Rattle.std.specs.declared.io.Error.{Error};
 
@@ -65,27 +64,34 @@ pub trait Destination {
         ensures error { IfErr result (fails self.new) };
 }
 
-/// Any reader as a source, and any writer as a destination. Nothing is said of its failures, nor
-/// of what it has flushed.
+/// Any reader of std as a source, and any writer as a destination.
 #[derive(Drop)]
 pub struct Plain<T>(pub T);
 
-impl<R: Read> Source for Plain<R> {
+impl<R: StdReader> Source for Plain<R> {
     ghost remaining = { λ p. R.remaining p.0 };
 
+    ghost fails = { λ p e. (old : _) × R.fails old e p.0 };
+
     fn read(&mut self, buf: &mut [u8]) -> io::Result<usize> {
-        self.0.read(buf)
+        self.0.read_once(buf)
     }
 }
 
-impl<W: Write> Destination for Plain<W> {
+impl<W: StdWriter> Destination for Plain<W> {
     ghost contents = { λ p. W.contents p.0 };
 
+    ghost full = { λ p. W.full p.0 };
+
+    ghost flushed = { λ p. W.flushed p.0 };
+
+    ghost fails = { λ p e. (old : _) × W.fails old e p.0 };
+
     fn write(&mut self, buf: &[u8]) -> io::Result<usize> {
-        self.0.write(buf)
+        self.0.write_once(buf)
     }
 
     fn flush(&mut self) -> io::Result<()> {
-        self.0.flush()
+        self.0.flush_once()
     }
 }

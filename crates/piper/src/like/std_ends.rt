@@ -1,10 +1,10 @@
 //! Readers and writers of std with rows for what their own traits don't say: with which errors a
-//! call failed, and that a write took none. Each of them has these rows. What they say of it is
+//! call failed, that a write took none, and what was flushed. Each of them has these rows. What they say of it is
 //! known to no function that is generic over it, so one whose clause says that a call failed has
 //! made that call, and has the error from it.
-ghost use Rattle.std.specs.Prelude.{◌≡◌, ◌<◌, length, Ok, IfErr, ⊤};
+ghost use Rattle.std.specs.Prelude.{◌≡◌, ◌<◌, length, Ok, OnOk, IfErr, ⊤};
 ghost use Rattle.std.specs.Io.{ReadsAtMost, WritesAtMost};
-ghost use Rattle.std.specs.Io.KnownBytes.{ReadConsumes, WriteAppends};
+ghost use Rattle.std.specs.Io.KnownBytes.{Keeps, ReadConsumes, WriteAppends};
 
 use std::io;
 use std::io::{Read, Write};
@@ -31,7 +31,10 @@ pub trait StdWriter: Write {
     // a write of some bytes took none, and left it so
     ghost full: { Self → Type 0 };
 
-    // a write on the one state failed with this error, and left the other
+    // a flush succeeded, and left it so
+    ghost flushed: { Self → Type 0 };
+
+    // a write or a flush on the one state failed with this error, and left the other
     ghost fails: { Self → Error → Self → Type 0 };
 
     /// Writes once.
@@ -40,6 +43,12 @@ pub trait StdWriter: Write {
         ensures bytes { WriteAppends (Self.contents self.old) (Self.contents self.new)
             result source.now }
         ensures full { result ≡ Ok 0 → 0 < length source.now → full self.new }
+        ensures error { IfErr result (λ e. fails self.old e self.new) };
+
+    /// Sends what was written on its way.
+    fn flush_once(&mut self) -> io::Result<()>
+        ensures bytes { Keeps (Self.contents self.old) (Self.contents self.new) }
+        ensures done { OnOk result (flushed self.new) }
         ensures error { IfErr result (λ e. fails self.old e self.new) };
 }
 
@@ -55,10 +64,17 @@ impl<R: Read> StdReader for R {
 impl<W: Write> StdWriter for W {
     ghost full = { λ _. ⊤ };
 
+    ghost flushed = { λ _. ⊤ };
+
     ghost fails = { λ _ _ _. ⊤ };
 
     #[inline(always)]
     fn write_once(&mut self, source: &[u8]) -> io::Result<usize> {
         self.write(source)
+    }
+
+    #[inline(always)]
+    fn flush_once(&mut self) -> io::Result<()> {
+        self.flush()
     }
 }
