@@ -2,7 +2,6 @@
 mod client;
 mod echoing;
 mod line;
-mod output;
 mod printing;
 mod session;
 mod waiting;

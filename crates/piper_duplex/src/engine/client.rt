@@ -8,9 +8,9 @@ ghost use Rattle.piper_duplex.specs.Client.{Prints, SendsOn};
 ghost use Rattle.piper_duplex.specs.Failures.{CannotRead, PrintFails, TalkFails};
 
 use crate::engine::line::Line;
-use crate::engine::output::Output;
 use crate::engine::session::Ended;
 use piper::io::{AsyncBufRead, AsyncWrite};
+use piper::like::StdWriter;
 use std::alloc::AllocGlobal;
 use std::io::{ErrorKind, Read};
 use std::random::RandomSource;
@@ -33,7 +33,7 @@ where
     A: AsyncBufRead,
     B: AsyncWrite,
     I: Read,
-    O: Output,
+    O: StdWriter,
     requires { O.flushed output.old }
     ensures sent { SendsOn result (I.remaining input.old) (I.remaining input.new)
         (B.sent writer.old) (B.sent writer.new) (B.saw writer.old) (B.saw writer.new)
@@ -85,7 +85,7 @@ where
     R: Wait + RandomSource + AllocGlobal,
     A: AsyncBufRead,
     B: AsyncWrite,
-    O: Output,
+    O: StdWriter,
     requires next { line.old.is_whole ≡ false }
     requires flushed { O.flushed output.old }
     ensures sent { (left : List ℕ) × OnOk result (left ≡ []) × Sends bytes.now left

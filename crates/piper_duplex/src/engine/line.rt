@@ -5,13 +5,13 @@ ghost use Rattle.piper_lines.specs.Sends.{Sends};
 ghost use Rattle.piper_duplex.specs.Client.{IsOfLine, Prints};
 ghost use Rattle.piper_duplex.specs.Failures.{LacksMemory, PrintFails};
 
-use crate::engine::output::Output;
 use crate::engine::printing::print_line;
 use crate::engine::session::Ended;
 use crate::engine::waiting::{MOST_OF_A_LINE, turns};
 use futures::task::Poll;
 use memchr::memchr;
 use piper::io::{AsyncBufRead, AsyncWrite};
+use piper::like::StdWriter;
 use piper_lines::{Written, poll_write_all};
 use std::alloc::AllocGlobal;
 use std::random::RandomSource;
@@ -74,7 +74,7 @@ impl Line {
     where
         R: Wait + RandomSource + AllocGlobal,
         W: AsyncWrite,
-        O: Output,
+        O: StdWriter,
         requires printed { self.old.is_whole ≡ false }
         requires flushed { O.flushed output.now }
         requires some { at.old < length bytes.now }
@@ -106,7 +106,7 @@ impl Line {
     where
         R: Wait + RandomSource + AllocGlobal,
         A: AsyncBufRead,
-        O: Output,
+        O: StdWriter,
         ensures printed { Prints (A.taken reader.old) (A.taken reader.new)
             (O.contents output.old) (O.contents output.new) }
         ensures all { OnOk result

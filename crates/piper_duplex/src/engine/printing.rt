@@ -7,11 +7,11 @@ ghost use Rattle.piper.specs.Polls.{IfReadyErr};
 ghost use Rattle.piper_duplex.specs.Client.{Prints};
 ghost use Rattle.piper_duplex.specs.Failures.{CannotWrite, PrintFails};
 
-use crate::engine::output::Output;
 use crate::engine::session::Ended;
 use crate::engine::waiting::turns;
 use futures::task::{Context, Poll};
 use piper::io::AsyncBufRead;
+use piper::like::StdWriter;
 use std::alloc::AllocGlobal;
 use std::io::{ErrorKind, Write};
 use std::random::RandomSource;
@@ -30,7 +30,7 @@ pub(crate) fn print_line<R, A, O>(
 where
     R: Wait + RandomSource + AllocGlobal,
     A: AsyncBufRead,
-    O: Output,
+    O: StdWriter,
     ensures printed { Prints (A.taken reader.old) (A.taken reader.new)
         (O.contents output.old) (O.contents output.new) }
     ensures whole { OnOk result
@@ -48,7 +48,7 @@ where
         cx.end(&turn);
         match turn {
             Poll::Pending => {}
-            Poll::Ready(Ok(())) => return output.flush_all().map_err(|_| Ended::WRITE_FAILED),
+            Poll::Ready(Ok(())) => return output.flush_once().map_err(|_| Ended::WRITE_FAILED),
             Poll::Ready(Err(ended)) => return Err(ended),
         }
     }

@@ -5,10 +5,10 @@ ghost use Rattle.piper_duplex.specs.Failures.{EchoFails, LacksMemory, LacksThrea
 
 use crate::end::{End, duplex};
 use crate::engine::client::talk;
-use crate::engine::output::Output;
 use crate::engine::printing::print_line;
 use crate::engine::waiting::EchoAll;
 use futures::executor::block_on;
+use piper::like::StdWriter;
 use piper::{OwnedReader, OwnedWriter, Reader, Writer};
 use std::alloc::{AllocGlobal, Global};
 use std::io::{Read, Write};
@@ -154,7 +154,7 @@ fn exchange<R, I, O>(
 where
     R: Wait + RandomSource + AllocGlobal,
     I: Read,
-    O: Output,
+    O: StdWriter,
     requires { O.flushed output.old }
     ensures all { OnOk result (CameBack (I.remaining input.old) (I.remaining input.new)
         (O.contents output.old) (O.contents output.new)) }

@@ -9,7 +9,7 @@ abbrev pub invariant-loop-at : goal.invariant-loop-at
 invariant-loop-at g l = record {
   within : l.at ≤ length l.bytes;
   next : l.line.is_whole ≡ false;
-  flushed : g.O.Output.flushed l.output;
+  flushed : g.O.StdWriter.flushed l.output;
   sent : Sends l.bytes (drop l.at l.bytes) (g.B.AsyncWrite.sent l.fn.writer) (g.B.AsyncWrite.sent l.writer) (g.B.AsyncWrite.saw l.fn.writer) (g.B.AsyncWrite.saw l.writer);
   stays : g.B.AsyncWrite.saw l.fn.writer ≡ true → g.B.AsyncWrite.saw l.writer ≡ true;
   printed : Prints (g.A.AsyncBufRead.taken l.fn.reader) (g.A.AsyncBufRead.taken l.reader) (g.O.Write.contents l.fn.output) (g.O.Write.contents l.output);
