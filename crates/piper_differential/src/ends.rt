@@ -1,5 +1,5 @@
 //! Sources and destinations that do what a script says, for the copies of the handles.
-ghost use Rattle.std.specs.Prelude.{◌≡◌, ◌≤◌, length, IfOk, ⊤};
+ghost use Rattle.std.specs.Prelude.{◌≡◌, ◌-◌, ◌^◌, ◌≤◌, length, IfOk, ⊤};
 ghost use Rattle.piper.specs.Like.{Counts};
 
 use piper::like::{ReadLike, WriteLike};
@@ -110,12 +110,18 @@ impl ReadLike for Source<'_> {
 
     ghost failures = { λ source. source.failures };
 
+    ghost wants = { λ _. 2 ^ 64 - 1 };
+
     ghost gives_nothing = { λ _. tt };
 
     ghost gives_in_order = { λ _ _ _ _ _ _ _. tt };
 
     fn read(&mut self, dest: &mut [u8]) -> Result<usize, Failed> {
         self.give(dest)
+    }
+
+    fn asks(&self) -> usize {
+        usize::MAX
     }
 }
 
@@ -130,11 +136,17 @@ impl WriteLike for Destination<'_> {
 
     ghost failures = { λ dest. dest.failures };
 
+    ghost wants = { λ _. 2 ^ 64 - 1 };
+
     ghost takes_nothing = { λ _. tt };
 
     ghost takes_in_order = { λ _ _ _ _ _ _ _. tt };
 
     fn write(&mut self, source: &[u8]) -> Result<usize, Failed> {
         self.take(source.len())
+    }
+
+    fn asks(&self) -> usize {
+        usize::MAX
     }
 }

@@ -1,6 +1,6 @@
 //! Readers and writers that move little, fail or stop at a chosen call, and record how they were
 //! called.
-ghost use Rattle.std.specs.Prelude.{◌≡◌, ◌≤◌, length, IfOk, ⊤};
+ghost use Rattle.std.specs.Prelude.{◌≡◌, ◌-◌, ◌^◌, ◌≤◌, length, IfOk, ⊤};
 ghost use Rattle.piper.specs.Like.{Counts};
 
 use piper::like::{ReadLike, WriteLike};
@@ -136,12 +136,18 @@ impl ReadLike for End {
 
     ghost failures = { λ end. end.failures };
 
+    ghost wants = { λ _. 2 ^ 64 - 1 };
+
     ghost gives_nothing = { λ _. tt };
 
     ghost gives_in_order = { λ _ _ _ _ _ _ _. tt };
 
     fn read(&mut self, dest: &mut [u8]) -> Result<usize, ErrorKind> {
         self.give(dest)
+    }
+
+    fn asks(&self) -> usize {
+        usize::MAX
     }
 }
 
@@ -156,11 +162,17 @@ impl WriteLike for End {
 
     ghost failures = { λ end. end.failures };
 
+    ghost wants = { λ _. 2 ^ 64 - 1 };
+
     ghost takes_nothing = { λ _. tt };
 
     ghost takes_in_order = { λ _ _ _ _ _ _ _. tt };
 
     fn write(&mut self, source: &[u8]) -> Result<usize, ErrorKind> {
         self.take(source)
+    }
+
+    fn asks(&self) -> usize {
+        usize::MAX
     }
 }
