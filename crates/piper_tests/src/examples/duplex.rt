@@ -2,7 +2,7 @@
 use crate::compare::{confirm, ready, same};
 use crate::running::same_bytes;
 use futures::test::MockTask;
-use piper::io::AsyncBufRead;
+use piper::io::AsyncRead;
 use piper::{OwnedReader, OwnedWriter, owned_pipe};
 use piper_duplex::{Echoed, Ended, LineEcho, OwnedEnd, duplex, echo, owned_duplex};
 use piper_lines::Lines;
@@ -51,10 +51,10 @@ fn sends_and_goes(rt: &impl Abort, task: &MockTask, near: OwnedEnd, mut far: Own
         writer.try_fill(b"ab")
     };
     same(rt, send(), 2);
-    let lent = task.enter(|cx| far
-        .poll_fill_buf(cx)
-        .map(|piece| piece.map(|piece| piece.len())));
-    ready(rt, lent, 2);
+    let mut place = [0; 4];
+    let read = task.enter(|cx| far.poll_read(cx, &mut place));
+    ready(rt, read, 2);
+    same_bytes(rt, &place, b"ab\0\0");
 }
 
 #[test]
