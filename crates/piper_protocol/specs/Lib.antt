@@ -3,6 +3,7 @@ pub mod LendBound
 pub mod ReaderIndices
 pub mod WriterIndices
 pub mod Open
+pub mod Reported
 pub mod Call
 pub mod Answer
 pub mod Log

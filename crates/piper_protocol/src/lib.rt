@@ -13,6 +13,7 @@ pub mod read_indices;
 mod read_point;
 pub mod read_side;
 pub mod refusals;
+pub mod reported;
 pub mod scripted;
 pub mod slot;
 pub mod table;

@@ -1,6 +1,7 @@
 //! Want of memory.
 ghost use Rattle.std.specs.Prelude.{◌≡◌};
 
+use std::alloc::AllocError;
 use std::io;
 use thiserror::Error;
 
@@ -8,6 +9,17 @@ use thiserror::Error;
 #[derive(Clone, Copy, Debug, PartialEq, Eq, Error)]
 #[error("out of memory")]
 pub struct OutOfMemory;
+
+/// So that `?` takes what std was refused to this error, with the evidence that it was.
+impl From<AllocError> for OutOfMemory {
+    ghost use Rattle.piper_protocol.specs.Reported.{HasFailed};
+
+    ghost from_gives = { λ _ error. HasFailed error };
+
+    fn from(_refused: AllocError) -> OutOfMemory {
+        OutOfMemory
+    }
+}
 
 /// So that `?` takes a refusal to an `io::Result`, by its kind.
 impl From<OutOfMemory> for io::Error {

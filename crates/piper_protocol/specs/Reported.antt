@@ -1,0 +1,24 @@
+-- What a call of std returned, which std itself says nothing of. Both definitions are sealed: no proof
+-- looks into them, and only those of `reported` and of `OutOfMemory::from` use the lemmas below. So a
+-- clause that cites one holds only of what came through there.
+use Rattle.std.specs.Prelude.{⊤, Result, Ok, Err, IfErr}
+
+-- a call of std returned this
+pub IsReported : {T E : Type 0} → Result T E → Type 0
+IsReported result = ⊤
+
+-- a call of std failed with this
+pub HasFailed : {E : Type 0} → E → Type 0
+HasFailed error = ⊤
+
+pub as_reported : {T E : Type 0} (result : Result T E) → IsReported result
+unfolding IsReported
+as_reported result = tt
+
+pub as_failed : {E : Type 0} (error : E) → HasFailed error
+unfolding HasFailed
+as_failed error = tt
+
+pub as_failure : {T E : Type 0} (result : Result T E) → IfErr result HasFailed
+as_failure (Ok x) = tt
+as_failure (Err e) = as_failed e
