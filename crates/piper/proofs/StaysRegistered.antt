@@ -28,6 +28,7 @@ still a b d cx end registrations (inl w) = inl (record {
     looked = rw (registrations, end.sent, end.end.capacity) w.pending.looked;
     goes_on = rw registrations w.pending.goes_on;
   };
+  calm = w.calm;
 })
 still a b d cx end registrations (inr away) = inr (away.0, (away.1.0, rw registrations away.1.1))
 

@@ -53,13 +53,13 @@ read_pends (Ready x) a b cx same h = tt
 read_pends Pending a b cx same h = (
   rw same.slots h.covered,
   λ told. asks (found_len a.end b.end) b.end.told_shut _ _ h.unseen h.yields (same.end.end.told_shut ∙ told),
-  waits_or_asks (found_len a.end b.end) (λ (w : ReaderWaits a b). w.pending) h.registered h.yields,
+  waits_or_asks (found_len a.end b.end) (λ (w : ReaderWaits a b cx). w.pending) h.registered h.yields,
 )
 
 -- a poll that is pending is registered, or asked for another one
 pub poll_waits : {A : Type 0} (r : Poll A) (a b : Reader) (cx : Context) → OnPending r (ReaderPends a b cx) → OnPending r (ReaderIsWaiting b cx)
 poll_waits (Ready x) a b cx h = tt
-poll_waits Pending a b cx h = registered_or_asked (λ (w : ReaderWaits a b). w.pending) h.registered
+poll_waits Pending a b cx h = registered_or_asked (λ (w : ReaderWaits a b cx). w.pending) h.registered
 
 -- the first m and the first n of some bytes are as many, where both were published after the same
 pub as_many : (before after xs : List ℕ) (m n : ℕ) → m ≤ n → n ≤ length xs → after ≡ before ++ take m xs → after ≡ before ++ take n xs → m ≡ n
@@ -97,5 +97,5 @@ pub write_pends : {E : Type 0} (r : Poll (Result ℕ E)) (a b : Writer) (cx : Co
 write_pends (Ready x) a b cx same h = tt
 write_pends Pending a b cx same h = (
   rw same.slots h.covered,
-  waits_or_asks b.end.room (λ (w : WriterWaits a b). w.pending) h.registered h.yields,
+  waits_or_asks b.end.room (λ (w : WriterWaits a b cx). w.pending) h.registered h.yields,
 )

@@ -1,8 +1,7 @@
 -- Fills of the writer from any source.
-use Rattle.std.specs.Prelude.{◌≡◌, ℕ, ◌<◌, ◌≤◌, ◌+◌, ◌⊎◌, true, false, List, [], ◌++◌, length, min, Option, Result, Ok, Err, ⊤}
+use Rattle.std.specs.Prelude.{◌≡◌, ℕ, ◌<◌, ◌≤◌, ◌+◌, ◌⊎◌, true, false, List, [], ◌++◌, length, min, Result, Ok, Err, ⊤}
 use Rattle.futures.specs.declared.task.Poll.{Poll}
 use Rattle.futures.specs.declared.task.Poll.TheVariants.{Ready, Pending}
-use Rattle.std.specs.Io.KnownBytes.{IsAtEnd}
 use Rattle.piper_ring.specs.Shared.{flag}
 use Rattle.piper_ring.specs.WriteView.{WriteView, SameWriteEnd, room_in_one_piece}
 use Rattle.piper_protocol.specs.declared.scripted.TheConstants.{MOST_A_ROUND}

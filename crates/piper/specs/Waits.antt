@@ -3,7 +3,7 @@ use Rattle.std.specs.Prelude.{◌≡◌, ◌+◌, ◌⊎◌, true, false, [], le
 use Rattle.futures.specs.Task.{Covers}
 use Rattle.futures.specs.declared.task.context.Context.{Context}
 use Rattle.piper_ring.specs.SlotsView.{IsPending, IsWriterPending}
-use Rattle.piper.specs.Contexts.{AsksAgain}
+use Rattle.piper.specs.Contexts.{AsksAgain, IsCalm}
 use Rattle.piper.specs.Handles.{read_source, write_source}
 use Rattle.piper.specs.Looks.{NothingYet}
 use Rattle.piper.specs.declared.handles.Reader.{Reader}
@@ -12,15 +12,17 @@ use Rattle.piper.specs.declared.finished.FinishedReader.{FinishedReader}
 use Rattle.piper.specs.declared.finished.FinishedWriter.{FinishedWriter}
 
 -- the reader waits: since a it has registered in its slot, under a new ticket, and its look after
--- that found nothing to do
-pub record ReaderWaits (a b : Reader) : Type 0 where
+-- that found nothing to do; its task didn't ask for another poll itself
+pub record ReaderWaits (a b : Reader) (cx : Context) : Type 0 where
   pub ticket : b.registrations.tickets ≡ a.registrations.tickets + 1
   pub pending : IsPending b.end b.registrations
+  pub calm : IsCalm cx
 
 -- the writer waits
-pub record WriterWaits (a b : Writer) : Type 0 where
+pub record WriterWaits (a b : Writer) (cx : Context) : Type 0 where
   pub ticket : b.registrations.tickets ≡ a.registrations.tickets + 1
   pub pending : IsWriterPending b.end b.registrations
+  pub calm : IsCalm cx
 
 -- the place of the side's waker is with the other side, or on its way back, before and after the
 -- call: so no waker could be left there
@@ -41,10 +43,10 @@ WriterLeavesNone writer = writer.registrations.maybe_registered ≡ false
 -- a reader that has nothing to do waits in its slot; only where its place is away its task asked for
 -- another poll itself
 abbrev pub ReaderRegistered : Reader → Reader → Context → Type 0
-ReaderRegistered a b cx = ReaderWaits a b ⊎ (AsksAgain cx × ReaderIsAway a b)
+ReaderRegistered a b cx = ReaderWaits a b cx ⊎ (AsksAgain cx × ReaderIsAway a b)
 
 abbrev pub WriterRegistered : Writer → Writer → Context → Type 0
-WriterRegistered a b cx = WriterWaits a b ⊎ (AsksAgain cx × WriterIsAway a b)
+WriterRegistered a b cx = WriterWaits a b cx ⊎ (AsksAgain cx × WriterIsAway a b)
 
 -- a reader whose poll is pending: there is nothing to do yet; its task is armed at the reader's
 -- source, and is registered there, or asked for another poll itself since its place is away

@@ -1,5 +1,5 @@
 //! Handles that are dropped automatically, for a thread or a task that takes one with it.
-ghost use Rattle.std.specs.Prelude.{◌≡◌, ◌*◌, ◌^◌, ◌<◌, ◌≤◌, ◌++◌, take, drop, IfOk, Ok};
+ghost use Rattle.std.specs.Prelude.{◌≡◌, ◌*◌, ◌^◌, ◌<◌, ◌≤◌, ◌++◌, take, drop, IfErr, IfOk, Ok};
 ghost use Rattle.std.specs.Borrow.{sem};
 ghost use Rattle.std.specs.Io.BufRead.{Rests};
 ghost use Rattle.futures.specs.Poll.{OnPending};
@@ -8,6 +8,7 @@ ghost use Rattle.piper.specs.Contexts.{WantsWaker};
 ghost use Rattle.piper.specs.Ends.{IsEnded};
 ghost use Rattle.piper.specs.Waits.{ReaderIsWaiting, WriterIsWaiting};
 ghost use Rattle.piper.specs.Handles.{AreFresh, ArePair, DrawFrom};
+ghost use Rattle.piper_protocol.specs.Reported.{HasFailed};
 
 use crate::error::PipeError;
 use crate::handles::{Reader, Writer, pipe};
@@ -60,6 +61,7 @@ pub fn owned_pipe(alloc: Global, cap: usize) -> Result<(OwnedReader, OwnedWriter
     ensures pair { IfOk result (λ (reader, writer). ArePair reader writer) }
     ensures fresh { IfOk result (λ (reader, writer). AreFresh cap reader writer) }
     ensures draws { IfOk result (λ (reader, writer). DrawFrom 0 reader writer) }
+    ensures refused { IfErr result HasFailed }
 {
     let (reader, writer) = pipe(alloc, cap, DEFAULT_SEED)?;
     Ok((OwnedReader { reader }, OwnedWriter { writer }))

@@ -14,6 +14,7 @@ use piper_protocol::table::Purpose;
 use piper_ring::{LastReadMark, OutOfMemory, ReadMark};
 
 impl Reader {
+    ghost use Rattle.piper_ring.specs.Loads.{FoundClosed};
     ghost use Rattle.piper.specs.Counts.{ReaderCompares};
     ghost use Rattle.piper.specs.Handles.{NotifiesWriter, SameReaderButWaits};
     ghost use Rattle.piper.specs.OfReader.{ring, capacity, taken, known, front, saw, told_shut};
@@ -55,6 +56,7 @@ impl Reader {
     pub fn is_closed(&self) -> bool
         ensures saw { saw self.now ≡ true → IsTrue result }
         ensures told { told_shut self.now ≡ true → IsTrue result }
+        ensures found { FoundClosed (ring self.now).names result }
     {
         self.end().is_closed()
     }

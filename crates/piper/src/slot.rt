@@ -1,6 +1,7 @@
 //! The place of a side's waker, which two threads share.
 ghost use Rattle.std.specs.Prelude.{◌≡◌, ℕ, OnErr, is_some, true, false};
 ghost use Rattle.futures.specs.Task.{Covers, Keeps};
+ghost use Rattle.piper.specs.Contexts.{JustRegistered};
 
 use futures::task::{Context, Poll, Source, Waker};
 use piper_protocol::memory::OutOfMemory;
@@ -45,6 +46,7 @@ impl Slot {
         held: Option<Waker>,
     ) -> Result<Waker, OutOfMemory>
         ensures covered { Covers cx.new (λ s. s ≡ source_of self.now) }
+        ensures calm { JustRegistered held cx.new }
         ensures refused { OnErr result (cx.new.lacks_waker ≡ true) }
         ensures kept { Keeps cx.old cx.new }
     {

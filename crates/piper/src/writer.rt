@@ -14,6 +14,7 @@ use piper_protocol::write_call::WriteCall;
 use piper_ring::{OutOfMemory, WriteMark};
 
 impl Writer {
+    ghost use Rattle.piper_ring.specs.Loads.{FoundClosed};
     ghost use Rattle.piper.specs.Counts.{WriterCompares};
     ghost use Rattle.piper.specs.Handles.{NotifiesReader, SameWriterButWaits};
     ghost use Rattle.piper.specs.OfWriter.{ring, capacity, sent, room, lent, shut, saw};
@@ -52,7 +53,8 @@ impl Writer {
     /// Whether the pipe is closed now: a handle was dropped, or this one closed the pipe. Once the
     /// writer saw it closed, or closed it, the answer is `true`.
     pub fn is_closed(&self) -> bool
-        ensures { saw self.now ≡ true → IsTrue result }
+        ensures saw { saw self.now ≡ true → IsTrue result }
+        ensures found { FoundClosed (ring self.now).names result }
     {
         self.end().is_closed()
     }

@@ -1,6 +1,8 @@
 -- The two sides of a new pipe.
-use Rattle.std.specs.Prelude.{◌≡◌, ℕ}
+use Rattle.std.specs.Prelude.{◌≡◌, ℕ, ◌^◌, ◌≤◌, ◌⊎◌}
 use Rattle.std.specs.Arc.{arc_value}
+use Rattle.piper_protocol.specs.Reported.{HasFailed}
+use Rattle.piper_protocol.specs.declared.memory.OutOfMemory.{OutOfMemory}
 use Rattle.piper_ring.specs.Opened.{FreshReadEnd, FreshReadSlots, FreshWriteEnd, FreshWriteSlots}
 use Rattle.piper_c.specs.declared.halves.ReadHalf.{ReadHalf}
 use Rattle.piper_c.specs.declared.halves.WriteHalf.{WriteHalf}
@@ -19,3 +21,11 @@ pub record IsFreshReader (capacity : ℕ) (r : ReadHalf) : Type 0 where
 pub record IsFreshWriter (capacity : ℕ) (w : WriteHalf) : Type 0 where
   pub end : FreshWriteEnd capacity w.end
   pub slots : FreshWriteSlots w.end.ring.names w.slots
+
+-- no pipe holds so many bytes: none, or more than half of the addresses
+abbrev pub IsNoCapacity : ℕ → Type 0
+IsNoCapacity capacity = (capacity ≡ 0) ⊎ (2 ^ 63 ≤ capacity)
+
+-- an allocation was refused
+abbrev pub MemoryIsRefused : Type 0
+MemoryIsRefused = (refused : OutOfMemory) × HasFailed refused

@@ -1,6 +1,7 @@
 -- What the calls of the reading side find, and what they leave of it.
 use Rattle.std.specs.Prelude.{◌≡◌, ℕ, ◌<◌, ◌≤◌, ◌++◌, take, drop, Bool, true, false, List, [], ◌⊎◌, length, Option}
 use Rattle.piper_ring.specs.Shared.{flag}
+use Rattle.piper_ring.specs.Loads.{FoundClosed}
 use Rattle.piper_ring.specs.ReadView.{ReadView, SameReadEnd, SameButSaw, in_one_piece}
 use Rattle.piper_ring.specs.SlotsView.{ReadSlotsView, IsPending, IsReaderAtRest, SameReaderLooks, SameReaderPlace}
 use Rattle.piper_c.specs.declared.halves.ReadHalf.{ReadHalf}
@@ -74,6 +75,7 @@ pub record LeftReading (a : ReadHalf) (taken : Option Waiter) (left : ReadSlotsV
 -- the pipe was checked for its end: what the answer says was seen, and what was seen once stays
 pub record ReaderAsked (is_closed : Bool) (a b : ReadHalf) : Type 0 where
   pub saw : is_closed ≡ b.end.saw
+  pub found : FoundClosed a.end.ring.names is_closed
   pub stays : flag a.end.saw ≤ flag b.end.saw
   pub end : SameButSaw a.end b.end
   pub slots : b.slots ≡ a.slots

@@ -1,6 +1,7 @@
 -- What the calls of the writing side find, and what they leave of it.
 use Rattle.std.specs.Prelude.{◌≡◌, ℕ, ◌<◌, ◌≤◌, ◌+◌, ◌++◌, ◌⊎◌, take, drop, Bool, true, false, List, [], length, Option, Some, None}
 use Rattle.piper_ring.specs.Shared.{flag}
+use Rattle.piper_ring.specs.Loads.{FoundClosed}
 use Rattle.piper_ring.specs.WriteView.{WriteView, SameWriteEnd, SameButSaw}
 use Rattle.piper_ring.specs.SlotsView.{WriteSlotsView, IsWriterPending, IsAtRest, SameWriterLooks, SameWriterPlace}
 use Rattle.piper_c.specs.declared.halves.WriteHalf.{WriteHalf}
@@ -76,6 +77,7 @@ pub record LeftWriting (a : WriteHalf) (taken : Option Waiter) (left : WriteSlot
 -- the pipe was checked for its end: what the answer says was seen, and what was seen once stays
 pub record WriterAsked (is_closed : Bool) (a b : WriteHalf) : Type 0 where
   pub saw : is_closed ≡ b.end.saw
+  pub found : FoundClosed a.end.ring.names is_closed
   pub stays : flag a.end.saw ≤ flag b.end.saw
   pub shut : a.end.shut ≡ true → is_closed ≡ true
   pub end : SameButSaw a.end b.end

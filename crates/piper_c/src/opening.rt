@@ -1,13 +1,14 @@
 //! A pipe is opened.
-ghost use Rattle.std.specs.Prelude.{◌≡◌, ◌*◌, ◌^◌, ◌<◌, IfOk, IsTrue, IsFalse, None};
+ghost use Rattle.std.specs.Prelude.{◌≡◌, ◌*◌, ◌^◌, ◌<◌, ◌⊎◌, IfErr, IfOk, IsTrue, IsFalse, None};
+ghost use Rattle.piper_protocol.specs.Reported.{HasFailed};
 ghost use Rattle.piper_c.specs.Handles.{Holds};
-ghost use Rattle.piper_c.specs.Opened.{ArePair, IsFreshReader, IsFreshWriter};
+ghost use Rattle.piper_c.specs.Opened.{ArePair, IsFreshReader, IsFreshWriter, IsNoCapacity, MemoryIsRefused};
 
 use crate::halves::{ReadHalf, WriteHalf};
 use crate::handles::{PiperReader, PiperWriter};
 use crate::words::Places;
 use piper_ring::{OutOfMemory, open_with_slots};
-use std::alloc::Global;
+use std::alloc::{AllocError, Global};
 use std::sync::Arc;
 
 /// The most bytes that a pipe can hold.
@@ -28,6 +29,7 @@ pub extern "C" fn piper_open(
     ensures pair { IsTrue result →
         Holds reader.new.half (λ r. Holds writer.new.half (λ w. ArePair r w)) }
     ensures refused { IsFalse result → (reader.new.half ≡ None) × (writer.new.half ≡ None) }
+    ensures why { IsFalse result → IsNoCapacity capacity ⊎ MemoryIsRefused }
 {
     *reader = PiperReader::none();
     *writer = PiperWriter::none();
@@ -53,6 +55,7 @@ fn open_boxed(
     ensures pair { IfOk result (λ (r, w). ArePair r.value w.value) }
     ensures reader { IfOk result (λ (r, _). IsFreshReader capacity r.value) }
     ensures writer { IfOk result (λ (_, w). IsFreshWriter capacity w.value) }
+    ensures refused { IfErr result HasFailed }
 {
     let (read, write) = open_halves(alloc, capacity)?;
     let read = boxed(alloc, read)?;
@@ -61,9 +64,10 @@ fn open_boxed(
 }
 
 fn boxed<T: Drop>(alloc: Global, value: T) -> Result<Box<T, Global>, OutOfMemory>
-    ensures { IfOk result (λ b. b.value ≡ value) }
+    ensures value { IfOk result (λ b. b.value ≡ value) }
+    ensures refused { IfErr result HasFailed }
 {
-    Box::new(alloc, value).map_err(|_| OutOfMemory)
+    Ok(Box::new(alloc, value).map_err(AllocError::from)?)
 }
 
 /// The two sides of a new pipe. Where memory is refused, all that was got is given back.
@@ -72,10 +76,11 @@ fn open_halves(alloc: Global, capacity: usize) -> Result<(ReadHalf, WriteHalf), 
     ensures pair { IfOk result (λ (r, w). ArePair r w) }
     ensures reader { IfOk result (λ (r, _). IsFreshReader capacity r) }
     ensures writer { IfOk result (λ (_, w). IsFreshWriter capacity w) }
+    ensures refused { IfErr result HasFailed }
 {
     let (places, reader_right, writer_right) = Places::new();
-    let places = Arc::new(alloc, places).map_err(|_| OutOfMemory)?;
-    let reader_places = Arc::try_clone(&places).map_err(|_| OutOfMemory)?;
+    let places = Arc::new(alloc, places).map_err(AllocError::from)?;
+    let reader_places = Arc::try_clone(&places)?;
     let (read_end, write_end, read_slots, write_slots) = open_with_slots(
         alloc,
         capacity,

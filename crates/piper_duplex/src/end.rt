@@ -1,5 +1,6 @@
 //! The two ends of a duplex stream. Each reads from the one pipe and writes into the other.
-ghost use Rattle.std.specs.Prelude.{◌≡◌, ◌*◌, ◌^◌, ◌<◌, IfOk, length};
+ghost use Rattle.std.specs.Prelude.{◌≡◌, ◌*◌, ◌^◌, ◌<◌, IfErr, IfOk, length};
+ghost use Rattle.piper_protocol.specs.Reported.{HasFailed};
 ghost use Rattle.piper.specs.Waits.{ReaderWokeLast, WriterWokeLast};
 ghost use Rattle.piper.specs.OfReader.{ring, taken};
 ghost use Rattle.piper.specs.OfWriter as of_writer;
@@ -37,6 +38,7 @@ pub fn duplex(
         (λ (first, second). IsNewPipe cap_a seed (reading second) (writing first)) }
     ensures back { IfOk result
         (λ (first, second). IsNewPipe cap_b seed (reading first) (writing second)) }
+    ensures refused { IfErr result HasFailed }
 {
     let (there_reader, there_writer) = pipe(alloc, cap_a, seed)?;
     let (back_reader, back_writer) = match pipe(alloc, cap_b, seed) {

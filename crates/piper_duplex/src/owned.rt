@@ -1,5 +1,6 @@
 //! Ends that are dropped automatically, for a thread or a task that takes one with it.
-ghost use Rattle.std.specs.Prelude.{◌≡◌, ◌*◌, ◌^◌, ◌<◌, ◌≤◌, ◌++◌, take, drop, IfOk, Ok};
+ghost use Rattle.std.specs.Prelude.{◌≡◌, ◌*◌, ◌^◌, ◌<◌, ◌≤◌, ◌++◌, take, drop, IfErr, IfOk, Ok};
+ghost use Rattle.piper_protocol.specs.Reported.{HasFailed};
 ghost use Rattle.std.specs.Borrow.{sem};
 ghost use Rattle.std.specs.Io.BufRead.{Rests};
 ghost use Rattle.futures.specs.Task.{Keeps};
@@ -50,6 +51,7 @@ pub fn owned_duplex(
         (λ (first, second). IsNewPipe cap_a 0 (reading second) (writing first)) }
     ensures back { IfOk result
         (λ (first, second). IsNewPipe cap_b 0 (reading first) (writing second)) }
+    ensures refused { IfErr result HasFailed }
 {
     let (first, second) = duplex(alloc, cap_a, cap_b, DEFAULT_SEED)?;
     Ok((OwnedEnd::new(first), OwnedEnd::new(second)))

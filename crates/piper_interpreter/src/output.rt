@@ -1,7 +1,9 @@
 //! What replies are written to.
 ghost use Rattle.std.specs.Prelude.{OnOk, ⊤};
 ghost use Rattle.std.specs.Io.KnownBytes.{Keeps};
+ghost use Rattle.piper_protocol.specs.Reported.{IsReported};
 
+use piper_protocol::reported::reported;
 use std::io;
 use std::io::Write;
 
@@ -16,13 +18,14 @@ pub trait Output: Write {
     /// Sends what was written on its way.
     fn flush_all(&mut self) -> io::Result<()>
         ensures bytes { Keeps (Self.contents self.old) (Self.contents self.new) }
-        ensures flushed { OnOk result (flushed self.new) };
+        ensures flushed { OnOk result (flushed self.new) }
+        ensures reported { IsReported result };
 }
 
 impl<W: Write> Output for W {
     ghost flushed = { λ _. ⊤ };
 
     fn flush_all(&mut self) -> io::Result<()> {
-        self.flush()
+        reported(self.flush())
     }
 }

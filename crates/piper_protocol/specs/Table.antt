@@ -1,5 +1,5 @@
 -- The call table: which step a side makes at each point of a call, and where what it found leads.
-use Rattle.std.specs.Prelude.{◌≡◌, ℕ, ◌+◌, ◌<◌, ◌^◌, ⊤, Bool, true, false, Option, None, Some, ◌==◌, Result, Ok, Err}
+use Rattle.std.specs.Prelude.{ℕ, ◌+◌, ◌<◌, ◌^◌, ⊤, Bool, true, false, Option, None, Some, ◌==◌, Result, Ok, Err}
 use Rattle.piper_protocol.specs.declared.calls.Side.TheVariants.{Reader, Writer}
 use Rattle.piper_protocol.specs.declared.calls.Query.{Query}
 use Rattle.piper_protocol.specs.declared.calls.Query.TheVariants.{Len, IsEmpty, IsFull}
@@ -19,7 +19,7 @@ use Rattle.piper_protocol.specs.declared.table.AfterRead.TheVariants as after_re
 use Rattle.piper_protocol.specs.declared.table.AfterWrite.{AfterWrite}
 use Rattle.piper_protocol.specs.declared.table.AfterWrite.TheVariants as after_write
 use Rattle.piper_protocol.specs.declared.table.Found.{Found}
-use Rattle.piper_protocol.specs.declared.table.Found.TheVariants.{Nothing as nothing, Unread as unread, Refreshed as refreshed, Flag as flag, Granted as granted, Waker as waker, Moved as moved, Failed as failed}
+use Rattle.piper_protocol.specs.declared.table.Found.TheVariants.{Unread as unread, Refreshed as refreshed, Flag as flag, Granted as granted, Waker as waker, Moved as moved, Failed as failed}
 use Rattle.piper_protocol.specs.declared.table.ReadPoint.{ReadPoint}
 use Rattle.piper_protocol.specs.declared.table.ReadPoint.TheVariants as at
 use Rattle.piper_protocol.specs.declared.table.WritePoint.{WritePoint}

@@ -3,6 +3,7 @@ pub mod Streams
 pub mod Words
 pub mod Slots
 pub mod Shared
+pub mod Loads
 pub mod Memory
 pub mod Lends
 pub mod ReadView

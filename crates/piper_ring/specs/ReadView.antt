@@ -5,6 +5,7 @@ use Rattle.rtrb.specs.Fifo.{position_of, slot_of as offset_of}
 use mathlib.Core.List.{IsPrefix}
 use Rattle.piper_ring.specs.Shared.{Ring, ring_of, ring_code}
 use Rattle.piper_ring.specs.Streams.{Reaches, either}
+use Rattle.piper_ring.specs.Loads.{FoundPublished}
 use Rattle.piper_ring.specs.declared.ends.reader.ReadParts.{ReadParts}
 
 pub record ReadView : Type 0 where
@@ -71,13 +72,14 @@ HasTheRest r = (rest : List ℕ) × ((r.taken ++ r.known) ++ rest ≡ r.all)
 abbrev pub Agree : List ℕ → List ℕ → Type 0
 Agree xs ys = (all : List ℕ) × IsPrefix xs all × IsPrefix ys all
 
--- n bytes may be unread: all that the end knows of, all that it was told of, and no more than fit;
--- and just those up to the end where that is known
+-- n bytes may be unread, as a load of the tail found: all that the end knows of, all that it was told
+-- of, and no more than fit; and just those up to the end where that is known
 pub record MayBeUnread (r : ReadView) (n : ℕ) : Type 0 where
   pub known : length r.known ≤ n
   pub told : r.told ≤ length r.taken + n
   pub fits : n ≤ r.capacity
   pub end : KnowsEnd r → length r.taken + n ≡ length r.all
+  pub found : FoundPublished r.ring.names (length r.taken + n)
 
 -- b is the same end as a, and nothing was told to it since
 pub record SameReadEnd (a b : ReadView) : Type 0 where

@@ -5,6 +5,7 @@ use Rattle.rtrb.specs.Fifo.{position_of, slot_of as offset_of}
 use Rattle.piper_protocol.specs.LendBound.{lend_bound}
 use Rattle.piper_ring.specs.Shared.{Ring, ring_of, ring_code}
 use Rattle.piper_ring.specs.RoomOrder.{IsRoom, end_of}
+use Rattle.piper_ring.specs.Loads.{FoundConsumed}
 pub use Rattle.piper_ring.specs.Streams.{either}
 use Rattle.piper_ring.specs.declared.ends.writer.WriteParts.{WriteParts}
 
@@ -68,11 +69,12 @@ Lendable w max n =
     × (w.shut ≡ false → min (lend_bound (length w.sent + length w.lent))
     (min max (room_in_one_piece w)) ≤ n)
 
--- n bytes may be unread: the room that the end knows of is free,
--- and the bytes that it was told of are consumed
+-- n bytes may be unread, as a load of the head found: the room that the end knows of is free, and the
+-- bytes that it was told of are consumed
 pub record MayBeUnread (w : WriteView) (n : ℕ) : Type 0 where
   pub room : n + w.room ≤ w.capacity
   pub told : n + w.told ≤ length w.sent
+  pub found : FoundConsumed w.ring.names (length w.sent - n)
 
 -- b is the same end as a, and nothing was told to it since
 pub record SameWriteEnd (a b : WriteView) : Type 0 where

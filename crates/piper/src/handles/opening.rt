@@ -1,5 +1,6 @@
 //! A pipe is opened.
-ghost use Rattle.std.specs.Prelude.{◌*◌, ◌^◌, ◌<◌, IfOk};
+ghost use Rattle.std.specs.Prelude.{◌*◌, ◌^◌, ◌<◌, IfErr, IfOk};
+ghost use Rattle.piper_protocol.specs.Reported.{HasFailed};
 ghost use Rattle.piper.specs.Handles.{AreFresh, ArePair, DrawFrom};
 
 use super::{Reader, Slots, Writer};
@@ -7,7 +8,7 @@ use crate::slot::Slot;
 use piper_ring::{OutOfMemory, open_with_slots};
 use rand_core::SeedableRng;
 use rand_pcg::Pcg32;
-use std::alloc::Global;
+use std::alloc::{AllocError, Global};
 use std::sync::Arc;
 
 /// Creates a bounded single-producer single-consumer pipe: a ring of `cap` bytes that can be read
@@ -20,12 +21,13 @@ pub fn pipe(alloc: Global, cap: usize, seed: u64) -> Result<(Reader, Writer), Ou
     ensures pair { IfOk result (λ (reader, writer). ArePair reader writer) }
     ensures fresh { IfOk result (λ (reader, writer). AreFresh cap reader writer) }
     ensures draws { IfOk result (λ (reader, writer). DrawFrom seed reader writer) }
+    ensures refused { IfErr result HasFailed }
 {
     let (reader, reader_right) = Slot::new();
     let (writer, writer_right) = Slot::new();
     let slots = Slots { reader, writer };
-    let slots = Arc::new(alloc, slots).map_err(|_| OutOfMemory)?;
-    let reader_slots = Arc::try_clone(&slots).map_err(|_| OutOfMemory)?;
+    let slots = Arc::new(alloc, slots).map_err(AllocError::from)?;
+    let reader_slots = Arc::try_clone(&slots)?;
     let (read_end, write_end, read_slots, write_slots) = open_with_slots(
         alloc,
         cap,

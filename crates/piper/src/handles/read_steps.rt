@@ -6,7 +6,7 @@ ghost use Rattle.piper_protocol.specs.Table.{goes_on, read_action, read_step, re
 ghost use Rattle.piper_ring.specs.ReadView.{KnowsEnd, in_one_piece};
 ghost use Rattle.piper_ring.specs.Shared.{flag};
 ghost use Rattle.piper_ring.specs.SlotsView.{Registers};
-ghost use Rattle.piper.specs.Contexts.{AsksAgain};
+ghost use Rattle.piper.specs.Contexts.{AsksAgain, IsCalm};
 ghost use Rattle.piper.specs.Slots.{found_in};
 ghost use Rattle.piper.specs.Calls.{read_woken};
 ghost use Rattle.piper.specs.Ends.{HasAll, IsEnded, ReaderIsUpToDate, ReaderRefreshed, ReaderSaw, ReaderConsumed};
@@ -81,7 +81,7 @@ impl Reader {
         ensures step { result.0 ≡ read_step call.point (Found.Granted result.1) }
         ensures covered { Covers cx.new (λ s. s ≡ read_source self.old) }
         ensures registered { IsTrue result.1 →
-            Registers self.old.registrations self.new.registrations
+            (Registers self.old.registrations self.new.registrations × IsCalm cx.new)
             ⊎ (AsksAgain cx.new × ReaderIsAway self.old self.new) }
         ensures refused { IsFalse result.1 → cx.new.lacks_waker ≡ true }
         ensures kept { Keeps cx.old cx.new }
@@ -98,7 +98,7 @@ impl Reader {
     fn register_or_yield(&mut self, cx: &mut Context<'_>) -> Result<Option<Away>, OutOfMemory>
         ensures covered { Covers cx.new (λ s. s ≡ read_source self.old) }
         ensures registered { IfOk result (λ away. away ≡ None →
-            Registers self.old.registrations self.new.registrations) }
+            Registers self.old.registrations self.new.registrations × IsCalm cx.new) }
         ensures away { IfOk result (λ away. IsSome away →
             AsksAgain cx.new × ReaderIsAway self.old self.new) }
         ensures refused { IfErr result (λ _. cx.new.lacks_waker ≡ true) }

@@ -5,7 +5,7 @@ ghost use Rattle.futures.specs.Task.{Covers, Keeps};
 ghost use Rattle.piper_protocol.specs.Table.{begins_look, look_begun, write_action, write_step};
 ghost use Rattle.piper_ring.specs.Shared.{flag};
 ghost use Rattle.piper_ring.specs.SlotsView.{WriterRegisters};
-ghost use Rattle.piper.specs.Contexts.{AsksAgain};
+ghost use Rattle.piper.specs.Contexts.{AsksAgain, IsCalm};
 ghost use Rattle.piper.specs.Slots.{found_in};
 ghost use Rattle.piper.specs.Calls.{write_woken};
 ghost use Rattle.piper.specs.Ends.{WriterIsUpToDate, WriterRefreshed, WriterSaw, WriterPublished, WriterUnlent, WriterShut};
@@ -87,7 +87,7 @@ impl Writer {
         ensures step { result.0 ≡ write_step call.point (Found.Granted result.1) }
         ensures covered { Covers cx.new (λ s. s ≡ write_source self.old) }
         ensures registered { IsTrue result.1 →
-            WriterRegisters self.old.registrations self.new.registrations
+            (WriterRegisters self.old.registrations self.new.registrations × IsCalm cx.new)
             ⊎ (AsksAgain cx.new × WriterIsAway self.old self.new) }
         ensures refused { IsFalse result.1 → cx.new.lacks_waker ≡ true }
         ensures kept { Keeps cx.old cx.new }
@@ -104,7 +104,7 @@ impl Writer {
     fn register_or_yield(&mut self, cx: &mut Context<'_>) -> Result<Option<Away>, OutOfMemory>
         ensures covered { Covers cx.new (λ s. s ≡ write_source self.old) }
         ensures registered { IfOk result (λ away. away ≡ None →
-            WriterRegisters self.old.registrations self.new.registrations) }
+            WriterRegisters self.old.registrations self.new.registrations × IsCalm cx.new) }
         ensures away { IfOk result (λ away. IsSome away →
             AsksAgain cx.new × WriterIsAway self.old self.new) }
         ensures refused { IfErr result (λ _. cx.new.lacks_waker ≡ true) }

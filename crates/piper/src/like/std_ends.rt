@@ -5,7 +5,9 @@
 ghost use Rattle.std.specs.Prelude.{◌≡◌, ◌<◌, length, Ok, OnOk, IfErr, ⊤};
 ghost use Rattle.std.specs.Io.{ReadsAtMost, WritesAtMost};
 ghost use Rattle.std.specs.Io.KnownBytes.{Keeps, ReadConsumes, WriteAppends};
+ghost use Rattle.piper_protocol.specs.Reported.{IsReported};
 
+use piper_protocol::reported::reported;
 use std::io;
 use std::io::{Read, Write};
 
@@ -21,7 +23,8 @@ pub trait StdReader: Read {
         ensures bound { ReadsAtMost result dest.new }
         ensures bytes { ReadConsumes (Self.remaining self.old) (Self.remaining self.new)
             result dest.new }
-        ensures error { IfErr result (λ e. fails self.old e self.new) };
+        ensures error { IfErr result (λ e. fails self.old e self.new) }
+        ensures reported { IsReported result };
 }
 
 /// A writer of std: each is one.
@@ -43,13 +46,15 @@ pub trait StdWriter: Write {
         ensures bytes { WriteAppends (Self.contents self.old) (Self.contents self.new)
             result source.now }
         ensures full { result ≡ Ok 0 → 0 < length source.now → full self.new }
-        ensures error { IfErr result (λ e. fails self.old e self.new) };
+        ensures error { IfErr result (λ e. fails self.old e self.new) }
+        ensures reported { IsReported result };
 
     /// Sends what was written on its way.
     fn flush_once(&mut self) -> io::Result<()>
         ensures bytes { Keeps (Self.contents self.old) (Self.contents self.new) }
         ensures done { OnOk result (flushed self.new) }
-        ensures error { IfErr result (λ e. fails self.old e self.new) };
+        ensures error { IfErr result (λ e. fails self.old e self.new) }
+        ensures reported { IsReported result };
 }
 
 impl<R: Read> StdReader for R {
@@ -57,7 +62,7 @@ impl<R: Read> StdReader for R {
 
     #[inline(always)]
     fn read_once(&mut self, dest: &mut [u8]) -> io::Result<usize> {
-        self.read(dest)
+        reported(self.read(dest))
     }
 }
 
@@ -70,11 +75,11 @@ impl<W: Write> StdWriter for W {
 
     #[inline(always)]
     fn write_once(&mut self, source: &[u8]) -> io::Result<usize> {
-        self.write(source)
+        reported(self.write(source))
     }
 
     #[inline(always)]
     fn flush_once(&mut self) -> io::Result<()> {
-        self.flush()
+        reported(self.flush())
     }
 }

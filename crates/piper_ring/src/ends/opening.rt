@@ -1,5 +1,6 @@
 //! A ring is opened.
-ghost use Rattle.std.specs.Prelude.{◌≡◌, ℕ, ◌*◌, ◌<◌, ◌^◌, [], true, false, IfOk};
+ghost use Rattle.std.specs.Prelude.{◌≡◌, ℕ, ◌*◌, ◌<◌, ◌^◌, [], true, false, IfErr, IfOk};
+ghost use Rattle.piper_protocol.specs.Reported.{HasFailed};
 ghost use Rattle.piper_ring.specs.Opened.{FreshReadEnd, FreshReadSlots, FreshWriteEnd, FreshWriteSlots};
 
 use crate::ends::reader::{ReadEnd, ReadParts};
@@ -21,6 +22,7 @@ pub fn open_ring(alloc: Global, capacity: usize) -> Result<(ReadEnd, WriteEnd), 
     ensures pair { IfOk result (λ r. r.1.ring ≡ r.0.ring) }
     ensures reader { IfOk result (λ r. FreshReadEnd capacity r.0) }
     ensures writer { IfOk result (λ r. FreshWriteEnd capacity r.1) }
+    ensures refused { IfErr result HasFailed }
 {
     let (_, reader_token) = TokenCell::<Option<()>>::empty();
     let (_, writer_token) = TokenCell::<Option<()>>::empty();
@@ -47,6 +49,7 @@ pub fn open_with_slots(
     ensures write_slots { IfOk result (λ r. FreshWriteSlots r.0.ring.names r.3) }
     ensures places { IfOk result (λ r. (r.0.ring.names.reader_place ≡ reader_token.name)
         × (r.0.ring.names.writer_place ≡ writer_token.name)) }
+    ensures refused { IfErr result HasFailed }
 {
     let (words, bytes) = claim(&alloc, capacity)?;
     let (
@@ -112,6 +115,7 @@ fn claim(alloc: &Global, capacity: usize) -> Result<(Memory, Memory), OutOfMemor
     requires { (0 < capacity) × (2 * capacity < 2 ^ 64) }
     ensures words { IfOk result (λ m. (m.0.size ≡ 216) × (m.0.align ≡ 8)) }
     ensures bytes { IfOk result (λ m. (m.1.size ≡ capacity) × (m.1.align ≡ 1)) }
+    ensures refused { IfErr result HasFailed }
 {
     let words = Memory::claim(alloc, WORDS_SIZE, WORDS_ALIGN)?;
     match Memory::claim(alloc, capacity, 1) {

@@ -47,6 +47,7 @@ impl Model for ReadEnd {
 impl ReadEnd {
     ghost use Rattle.piper_ring.specs.ReadView.{SameReadEnd, KnowsMore, SameButTold, SameButSaw, MayBeUnread, KnowsEnd, HasTheRest, Agree, in_one_piece};
     ghost use Rattle.piper_ring.specs.WriteView.{HasMoreRoom};
+    ghost use Rattle.piper_ring.specs.Loads.{FoundClosed};
     ghost use Rattle.piper_ring.specs.Shared.{flag, ring_of};
 
     /// The capacity of the ring. No more bytes are known than that.
@@ -101,6 +102,7 @@ impl ReadEnd {
     pub fn is_closed(&self) -> bool
         ensures saw { self.now.saw ≡ true → IsTrue result }
         ensures told { self.now.told_shut ≡ true → IsTrue result }
+        ensures found { FoundClosed self.now.ring.names result }
     {
         let mut saw = self.parts.saw.again();
         self.parts.seat.load_closed(&mut saw, &self.parts.told) != 0
@@ -228,6 +230,7 @@ impl ReadEnd {
         ensures end { IsTrue result → HasTheRest self.new }
         ensures stays { flag self.old.saw ≤ flag self.new.saw }
         ensures told { flag self.old.told_shut ≤ flag self.new.saw }
+        ensures found { FoundClosed self.old.ring.names result }
         ensures kept { SameButSaw self.old self.new }
     {
         let told = self.parts.told.again();
@@ -242,6 +245,7 @@ impl ReadEnd {
         ensures end { HasTheRest self.new }
         ensures stays { flag self.old.saw ≤ flag self.new.saw }
         ensures told { flag self.old.told_shut ≤ flag self.new.saw }
+        ensures found { FoundClosed self.old.ring.names result }
         ensures kept { SameButSaw self.old self.new }
     {
         let parts = &mut self.parts;

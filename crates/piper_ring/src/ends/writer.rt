@@ -42,6 +42,7 @@ impl Model for WriteEnd {
 }
 
 impl WriteEnd {
+    ghost use Rattle.piper_ring.specs.Loads.{FoundClosed};
     ghost use Rattle.piper_ring.specs.WriteView.{SameWriteEnd, HasMoreRoom, SameButTold, SameButSaw, SameButHeard, MayBeUnread, Lendable};
     ghost use Rattle.piper_ring.specs.LendsBuffer.{lends_buffer};
     ghost use Rattle.std.specs.Borrow.{sem};
@@ -96,7 +97,8 @@ impl WriteEnd {
     /// Whether the pipe is closed now. Once this end saw it closed, or closed it, the answer is
     /// `true`.
     pub fn is_closed(&self) -> bool
-        ensures { self.now.saw ≡ true → IsTrue result }
+        ensures saw { self.now.saw ≡ true → IsTrue result }
+        ensures found { FoundClosed self.now.ring.names result }
     {
         let mut saw = self.parts.saw.again();
         self.parts.seat.load_closed(&mut saw) != 0
@@ -166,6 +168,7 @@ impl WriteEnd {
         ensures saw { result ≡ self.new.saw }
         ensures shut { self.new.shut ≡ true → self.new.saw ≡ true }
         ensures stays { flag self.old.saw ≤ flag self.new.saw }
+        ensures found { FoundClosed self.old.ring.names result }
         ensures kept { SameButSaw self.old self.new }
     {
         let parts = &mut self.parts;

@@ -1,5 +1,6 @@
 //! Memory of the heap that no ring uses: before one is opened, and once both of its ends are gone.
-ghost use Rattle.std.specs.Prelude.{◌≡◌, ℕ, IfOk};
+ghost use Rattle.std.specs.Prelude.{◌≡◌, ℕ, IfErr, IfOk};
+ghost use Rattle.piper_protocol.specs.Reported.{HasFailed};
 ghost use Rattle.piper_ring.specs.Memory.{IsClaim, unused};
 
 use piper_protocol::memory::OutOfMemory;
@@ -21,7 +22,8 @@ impl Memory {
     /// `size` bytes that begin at a multiple of `align`.
     pub(crate) fn claim(heap: &Global, size: usize, align: usize) -> Result<Memory, OutOfMemory>
         requires { IsClaim size align }
-        ensures { IfOk result (λ m. (m.size ≡ size) × (m.align ≡ align)) }
+        ensures block { IfOk result (λ m. (m.size ≡ size) × (m.align ≡ align)) }
+        ensures refused { IfErr result HasFailed }
     {
         match heap.allocate(size, align) {
             Err(_) => Err(OutOfMemory),

@@ -4,6 +4,7 @@ ghost use Rattle.std.specs.Prelude.{◌≡◌, ℕ, ◌+◌, ◌-◌, ◌<◌, �
 ghost use denote.RawPtr.{Ptr};
 ghost use Rattle.rtrb.specs.Fifo.{position_of};
 ghost use Rattle.piper_ring.specs.Shared.{Names, names_code, reader_owns, reader_lends, writer_owns, writer_lends, flag};
+ghost use Rattle.piper_ring.specs.Loads.{FoundClosed, FoundConsumed, FoundPublished};
 ghost use Rattle.piper_ring.specs.SlotViews.{IsUnused, LooksFirst, IsUnusedBack, LooksFirstBack};
 
 use crate::ring::marks::{ReadMark, Saw, WriteMark};
@@ -181,6 +182,7 @@ impl ReadSeat {
         ensures within { length result.1.bytes ≤ self.now.head + self.now.names.capacity }
         ensures told { length told.now.bytes ≤ length result.1.bytes }
         ensures end { told.now.shut ≡ true → result.1.bytes ≡ told.now.bytes }
+        ensures found { FoundPublished self.now.names (length result.1.bytes) }
     {
         // SAFETY: the seat owns or shares the ring's words (`also_owns`, `also_shares`), which live
         // until the last end is gone.
@@ -208,6 +210,7 @@ impl ReadSeat {
         ensures answer { result ≡ flag saw.new.shut }
         ensures stays { Reaches (saw.old.bytes, saw.old.shut) (saw.new.bytes, saw.new.shut) }
         ensures told { flag told.now.shut ≤ result }
+        ensures found { FoundClosed self.now.names saw.new.shut }
     {
         // SAFETY: the seat owns or shares the ring's words (`also_owns`, `also_shares`), which live
         // until the last end is gone.
@@ -307,6 +310,7 @@ impl WriteSeat {
         ensures sent { result.1.count ≤ length self.now.sent }
         ensures room { self.now.limit ≤ result.1.count + self.now.names.capacity }
         ensures told { told.now.count ≤ result.1.count }
+        ensures found { FoundConsumed self.now.names result.1.count }
     {
         // SAFETY: the seat owns or shares the ring's words (`also_owns`, `also_shares`), which live
         // until the last end is gone.
@@ -332,6 +336,7 @@ impl WriteSeat {
         ensures answer { result ≡ flag saw.new.seen }
         ensures stays { flag saw.old.seen ≤ result }
         ensures shut { flag self.now.shut ≤ result }
+        ensures found { FoundClosed self.now.names saw.new.seen }
     {
         // SAFETY: the seat owns or shares the ring's words (`also_owns`, `also_shares`), which live
         // until the last end is gone.

@@ -9,6 +9,7 @@ use crate::ring::marks::LastReadMark;
 use token_cell::TokenCell;
 
 impl ReadEnd {
+    ghost use Rattle.piper_ring.specs.Loads.{CameBack};
     ghost use Rattle.piper_ring.specs.ReadView.{HasTheRest, KnowsEnd, KnowsMore, SameButSaw};
     ghost use Rattle.piper_ring.specs.Shared.{flag};
     ghost use Rattle.piper_ring.specs.SlotsView.{Registers, HasToDo, IsPending, HasNews, IsReaderAtRest, SameReaderPlace, IsWriterPending, HasRoomNews};
@@ -66,6 +67,7 @@ impl ReadEnd {
         ensures owns { IfOk result (λ _.
             slots.new ≡ record slots.old { owns = true; maybe_registered = false }) }
         ensures found { IfOk result (λ waker. IsSome waker → slots.old.owns ≡ false) }
+        ensures back { IfOk result CameBack }
         ensures away { IfErr result (λ _. (slots.old.owns ≡ false)
             × (slots.new ≡ record slots.old { maybe_registered = false })) }
     {

@@ -8,6 +8,7 @@ use crate::ring::marks::WriteMark;
 use token_cell::TokenCell;
 
 impl WriteEnd {
+    ghost use Rattle.piper_ring.specs.Loads.{CameBack};
     ghost use Rattle.piper_ring.specs.Shared.{flag};
     ghost use Rattle.piper_ring.specs.WriteView.{HasMoreRoom, SameButSaw};
     ghost use Rattle.piper_ring.specs.SlotsView.{WriterRegisters, WriterHasToDo, IsWriterPending, IsAtRest, SameWriterPlace, HasRoomNews};
@@ -65,6 +66,7 @@ impl WriteEnd {
         ensures owns { IfOk result (λ _.
             slots.new ≡ record slots.old { owns = true; maybe_registered = false }) }
         ensures found { IfOk result (λ waker. IsSome waker → slots.old.owns ≡ false) }
+        ensures back { IfOk result CameBack }
         ensures away { IfErr result (λ _. (slots.old.owns ≡ false)
             × (slots.new ≡ record slots.old { maybe_registered = false })) }
     {

@@ -1,6 +1,6 @@
 -- `claim` asks the heap, and keeps what it hands over. Assumes `Logic`.
 use Rattle.piper_ring.proofs.Kit.{◌≡◌, ℕ, ◌<◌, ◌^◌, [], ◌∷◌, refl, lit<, w64, Ty, named, Val, vint, vptr, vstruct, vnil, of_list, WT, SProp, emp, Share, ftrue, flft, ‵, raw, ◌⊛◌, some, given, later, await, pick, at_ret, ◌$◌, ◌∵◌, !, qed, by, move, keep, drop, split, split3, join, fjoin, fpack, learn, use0, use1, use2, stop, fld, lit, of_opd, no_more, and_then, first, exec, returns, enter, alloc_all, pass_all, free_all, look_at, get, get_in, sets, sets_last, env, agg, whole, fact, fact_i, tables, RefOf, usize, yes, Is, RattleType, owns, Ptr, block_ptr, uint_vals, uint_Tells, shr_vals, shr_Tells, types_at, plain, nothing, Struct, Stays, stay_dropped, walk_of, Goes-dropped, after as from_on, block_if_ok, fm, proved, leaves, heap_token}
-use Rattle.std.proofs.Common.{IfOk, Ok, Err}
+use Rattle.std.proofs.Common.{IfOk, IfErr, Ok, Err}
 use mir.Syntax.{Body}
 use prog.Wp.{Wp, after_seq, at_return}
 use types.Kit.{Post as Next, any_q}
@@ -17,6 +17,7 @@ use Rattle.core.specs.contracts.result.Result as Either
 use Rattle.std_heap.specs.contracts.Global as Heap
 use Rattle.std_heap.proofs.GlobalAllocator.allocate.Met as allocates
 use Rattle.rtrb.proofs.Values.{ok_of, err_of}
+use Rattle.piper_protocol.specs.Reported.{HasFailed, as_failed}
 use Rattle.piper_protocol.specs.contracts.memory.OutOfMemory as Want
 use Rattle.piper_ring.specs.Memory.{IsClaim, purpose}
 use Rattle.piper_ring.proofs.Fields.{seat_val, MemoryData, memory_made}
@@ -36,7 +37,7 @@ claim_spec 𝓤 𝓛 𝓜 𝓡 wired =
     (λ κs. (shr_vals, (uint_vals w64, (uint_vals w64, tt)))) (λ κs. (shr_Tells (named 0) κs.0 Heap.the_row, (uint_Tells w64, (uint_Tells w64, tt)))) (λ κs qs bounds a gh are.
     let h = a.0 in let hp : ℕ × ℕ = h.ref_ptr in let n : ℕ = a.1.0 in let w : ℕ = a.1.1.0 in let κ = κs.0 in let q : Share = qs.0 in let τ : Ty = purpose n w in
     let y : (walk_of 𝓛 En hs c).Ghost = ((κs, qs, bounds, a, (vptr hp.0 hp.1 ∷ [], (vint w64 n ∷ [], (vint w64 w ∷ [], tt)))), gh) in let Post : Val → SProp 𝓤 = (walk_of 𝓛 En hs c).post y in
-    let As : Result.Denot → Type 0 = λ r. IfOk r (λ m. (m.size ≡ n) × (m.align ≡ w)) in let t : (Asks 𝓛 𝓜 𝓡).Ghost = asking 𝓛 𝓜 𝓡 κ q h n w τ in
+    let As : Result.Denot → Type 0 = λ r. IfOk r (λ m. (m.size ≡ n) × (m.align ≡ w)) in let Refused : Result.Denot → Type 0 = λ r. IfErr r HasFailed in let t : (Asks 𝓛 𝓜 𝓡).Ghost = asking 𝓛 𝓜 𝓡 κ q h n w τ in
     qed 𝓛 (((‵ (flft κ q) ⊛ ‵ ftrue) ⊛ ‵ (owns (types_at En.signature.params κs) a y.0.4)) ∷ given (IsClaim n w) (‵ ftrue) ∷ []) ∵
     keep ! (1 ∷ 0 ∷ []) $ learn ! (λ asked. drop ! $ split ! $ split ! $ keep ! (2 ∷ 0 ∷ []) $ use2 𝓛 (raw ((Asks 𝓛 𝓜 𝓡).pre t)) (may_ask 𝓛 𝓜 𝓡 κ q h n w τ asked.0) $
     enter ! 𝓣.C 𝓣.Λ fn (vptr hp.0 hp.1 ∷ vint w64 n ∷ vint w64 w ∷ []) Post $
@@ -53,7 +54,7 @@ claim_spec 𝓤 𝓛 𝓜 𝓡 wired =
     sets ! (of_opd ! (get_in ! (vrt ! refl (fld ! refl (stop !))) (in_variant ! 0 0 refl refl (whole !)))) refl (tt, tt) $
     sets ! (agg ! (and_then ! (get ! refl) (no_more !))) refl (tt, (tt, tt)) $ sets_last ! (agg ! (and_then ! (lit ! tt) (and_then ! (get ! refl) (no_more !)))) refl (tt, fine) $
     exec ! 𝓣.C 𝓣.Λ Ev (from_on 2 fn.body) (at_ret Ev Post) $ sets ! (of_opd ! (get ! refl)) refl (tt, fine) $
-    move ! (1 ∷ []) $ nothing ! $ move ! (1 ∷ 0 ∷ []) $ join ! $ use0 𝓛 (raw (fact 𝓤 (As (Ok new)))) (fact_i 𝓤 (As (Ok new)) (emp 𝓤) (refl, refl)) $ nothing ! $ nothing ! $ fjoin ! $ nothing ! $ fjoin ! $ nothing ! $ fjoin ! $
+    move ! (1 ∷ []) $ nothing ! $ move ! (1 ∷ 0 ∷ []) $ join ! $ use0 𝓛 (raw (fact 𝓤 (Refused (Ok new)))) (fact_i 𝓤 (Refused (Ok new)) (emp 𝓤) tt) $ use0 𝓛 (raw (fact 𝓤 (As (Ok new)))) (fact_i 𝓤 (As (Ok new)) (emp 𝓤) (refl, refl)) $ join ! $ nothing ! $ nothing ! $ fjoin ! $ nothing ! $ fjoin ! $ nothing ! $ fjoin ! $
     returns ! (look_at ! 0 refl) $ free_all ! refl $ keep ! (2 ∷ 0 ∷ 3 ∷ 1 ∷ []) $ by ! (leaves 𝓛 En hs c y out (Ok new) (tt, (tt, (tt, tt))) (tt, (tt, (tt, tt)))))
     (λ e. let out : Val = live 1 (of_list (vstruct vnil ∷ [])) in let fine : WT out = (record { fits = lit< tt }, (tt, tt)) in
     lands_as ! e refl (tt, fine) $ first ! $ switches_on ! (get_tag ! (vrt ! refl (fld ! refl (stop !))) (whole !)) $ exec ! 𝓣.C 𝓣.Λ Ev (arm_body 0 cases) Rest $
@@ -61,5 +62,5 @@ claim_spec 𝓤 𝓛 𝓜 𝓡 wired =
     exec ! 𝓣.C 𝓣.Λ Ev (from_on 2 fn.body) (at_ret Ev Post) $ sets ! (of_opd ! (get ! refl)) refl (tt, fine) $
     owned ! (Struct (Declared.shape Want.the_type)) (Is (Struct (Declared.shape Want.the_type))) (Struct-Makes 𝓛 (Declared.shape Want.the_type) tt) tt (vstruct vnil ∷ []) (tt, (refl, tt)) $
     use1 𝓛 (‵ (Result.own_val (Err (record {})) (out ∷ []))) (err_of 𝓛 Memory.the_row Want.the_row (record {}) (vstruct vnil)) $
-    move ! (1 ∷ []) $ nothing ! $ move ! (1 ∷ 0 ∷ []) $ join ! $ use0 𝓛 (raw (fact 𝓤 (As (Err (record {}))))) (fact_i 𝓤 (As (Err (record {}))) (emp 𝓤) tt) $ nothing ! $ nothing ! $ fjoin ! $ nothing ! $ fjoin ! $ nothing ! $ fjoin ! $
+    move ! (1 ∷ []) $ nothing ! $ move ! (1 ∷ 0 ∷ []) $ join ! $ use0 𝓛 (raw (fact 𝓤 (Refused (Err (record {}))))) (fact_i 𝓤 (Refused (Err (record {}))) (emp 𝓤) (as_failed (record {}))) $ use0 𝓛 (raw (fact 𝓤 (As (Err (record {}))))) (fact_i 𝓤 (As (Err (record {}))) (emp 𝓤) tt) $ join ! $ nothing ! $ nothing ! $ fjoin ! $ nothing ! $ fjoin ! $ nothing ! $ fjoin ! $
     returns ! (look_at ! 0 refl) $ free_all ! refl $ keep ! (2 ∷ 0 ∷ 3 ∷ 1 ∷ []) $ by ! (leaves 𝓛 En hs c y out (Err (record {})) (tt, (tt, (tt, tt))) (tt, (tt, (tt, tt))))))))))

@@ -1,6 +1,7 @@
 -- `load_closed` is one load, beside a share of what the reader knows. Assumes `Logic`.
 use Rattle.piper_ring.proofs.Kit.{arith, lit<, ◌≡◌, ℕ, ◌+◌, ◌^◌, ◌≤◌, List, [], ◌∷◌, false, sym, refl, ap, w64, named, Val, vint, vptr, SProp, emp, via, Share, Fml, ftrue, flft, fhide, ‵, raw, ◌⊛◌, given, mean, at_ret, ◌$◌, ◌∵◌, !, qed, by, move, keep, drop, split, split3, join, fsplit, fsplit3, fjoin, fjoin3, fpick, fpack, learn, use0, use1, use3, rewrite, feq_i, flt_i, stop, fld, load, look, lit, of_opd, bin, no_more, and_then, first, blocks, exec, Calls-last, returns, enter, alloc_all, pass_all, free_all, look_at, get, through, sets, lands_last, env, agg, shr_bor-open, obor_close, fact, fact_i, tables, yes, RattleType, owns, types_at, plain, Ptr, RawPtr, block_ptr, block_of, count_of, at_block, RefOf, shr_vals, shr_Tells, mut_vals, mut_Tells, hidden_shr, hide, unhide, nothing, opens, closes, Struct, shape, lent_out, Stays, stay_dropped, stay_ref, walk_of, Goes-dropped, Goes-ref, tail, pointer_in, pointer_out, proved, leaves, seq_cst, fm, found, finds, loads, announced, Names, flag, Placed, common, reader_knows, reader_lends, Stream, Reaches}
 use Rattle.core.specs.contracts.marker.PhantomData as marker
+use Rattle.piper_ring.specs.Loads.{FoundClosed, as_closed}
 use Rattle.piper_ring.specs.contracts.ring.marks.WriteMark as Mark
 use Rattle.piper_ring.proofs.Rights.{reader_halves}
 use Rattle.piper_ring.proofs.Closing.{AfterEnd, reader_looks}
@@ -49,6 +50,8 @@ load_closed_spec 𝓤 𝓛 𝓜 𝓡 wired =
     let k' : SRow.Denot = record k { bytes = over.0; shut = over.1 } in
     rewrite ! 1 (λ (m : Names). ‵ (announced m over.0 over.1)) {x = k.names} {y = z} (sym asked.0) refl $ move ! (2 ∷ 1 ∷ []) $ fjoin ! $ move ! (2 ∷ 0 ∷ 3 ∷ 4 ∷ 5 ∷ []) $ closes ! tt SRow k' vs' b' o' $
     feq_i ! (List Val) (vptr b' o' ∷ []) (vptr b' o' ∷ []) refl $ fjoin3 ! $ nothing ! $ nothing ! $ fjoin ! $ move ! (1 ∷ 0 ∷ []) $ fjoin ! $ nothing ! $ fjoin ! $ nothing ! $ move ! (4 ∷ 0 ∷ []) $ join ! $ move ! (2 ∷ 0 ∷ []) $ join ! $ move ! (2 ∷ 0 ∷ []) $ join ! $
-    let answer : n ≡ flag over.1 = told.0 in let heard : flag t.shut ≤ flag over.1 = told.2 in use0 𝓛 (raw (fact 𝓤 (flag t.shut ≤ n))) (fact_i 𝓤 (flag t.shut ≤ n) (emp 𝓤) (omega arith)) $ use0 𝓛 (raw (fact 𝓤 (Reaches old over))) (fact_i 𝓤 (Reaches old over) (emp 𝓤) told.1) $ join ! $
+    let answer : n ≡ flag over.1 = told.0 in let heard : flag t.shut ≤ flag over.1 = told.2 in
+    use0 𝓛 (raw (fact 𝓤 (FoundClosed z over.1))) (fact_i 𝓤 (FoundClosed z over.1) (emp 𝓤) (as_closed z over.1)) $
+    use0 𝓛 (raw (fact 𝓤 (flag t.shut ≤ n))) (fact_i 𝓤 (flag t.shut ≤ n) (emp 𝓤) (omega arith)) $ join ! $ use0 𝓛 (raw (fact 𝓤 (Reaches old over))) (fact_i 𝓤 (Reaches old over) (emp 𝓤) told.1) $ join ! $
     use0 𝓛 (raw (fact 𝓤 (n ≡ flag over.1))) (fact_i 𝓤 (n ≡ flag over.1) (emp 𝓤) answer) $ join ! $ use0 𝓛 (raw (fact 𝓤 (k.names ≡ k.names))) (fact_i 𝓤 (k.names ≡ k.names) (emp 𝓤) refl) $ join ! $ flt_i ! n (2 ^ 64) fits $ feq_i ! (List Val) (vint w64 n ∷ []) (vint w64 n ∷ []) refl $ fjoin ! $
     returns ! (look_at ! 0 refl) $ free_all ! refl $ keep ! (2 ∷ 3 ∷ 0 ∷ 1 ∷ []) $ by ! (leaves 𝓛 En hs c y (vint w64 n) n (tt, (k', (tt, tt))) (tt, (tt, (tt, tt)))))))))))))))

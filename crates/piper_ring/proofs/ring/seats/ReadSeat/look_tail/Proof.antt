@@ -1,6 +1,7 @@
 -- `look_tail` is one load of the tail, beside a share of what the reader knows. Assumes `Logic`.
 use Rattle.piper_ring.proofs.Kit.{lit<, ◌≡◌, ℕ, ◌+◌, ◌≤◌, ◌^◌, List, [], ◌∷◌, true, false, length, refl, w64, named, Val, vint, vptr, SProp, emp, via, Share, Fml, ftrue, flft, fhide, ‵, raw, ◌⊛◌, given, learn, split3, rewrite, use3, mean, at_ret, ◌$◌, ◌∵◌, !, qed, by, move, keep, drop, split, join, fsplit, fjoin, fpick, fpack, use0, use1, use2, feq_i, flt_i, stop, fld, load, look, lit, of_opd, bin, no_more, and_then, first, blocks, exec, Calls-last, returns, enter, alloc_all, pass_all, free_all, look_at, get, through, sets, lands_last, env, agg, shr_bor-open, obor_close, fact, fact_i, tables, yes, RattleType, owns, types_at, plain, Ptr, block_ptr, block_of, count_of, at_block, RefOf, u64, shr_vals, shr_Tells, hidden_shr, hide, unhide, nothing, Struct, shape, lent_out, Stays, stay_dropped, walk_of, Goes-dropped, tail, pointer_in, pointer_out, position_of, proved, leaves, pair_val, pair_of, seq_cst, fm, found, finds, loads, announced, Names, flag, Placed, common, reader_knows, reader_lends}
 use denote.Builtin.{RawPtr}
+use Rattle.piper_ring.specs.Loads.{FoundPublished, as_published}
 use Rattle.core.specs.contracts.marker.PhantomData as marker
 use Rattle.piper_ring.proofs.Fields.{ghost_val, SentData, sent_made}
 use Rattle.piper_ring.specs.contracts.ring.marks.WriteMark as Mark
@@ -48,7 +49,8 @@ look_tail_spec 𝓤 𝓛 𝓜 𝓡 wired =
     use0 𝓛 (‵ (SentData.own_val (record {}, tt) (ghost_val ∷ []))) (sent_made 𝓛) $ fjoin ! $
     flt_i ! n (2 ^ 64) fits $ feq_i ! (List Val) (vint w64 n ∷ []) (vint w64 n ∷ []) refl $ fjoin ! $
     use2 𝓛 (‵ ((denote.Struct.Tuple.Tuple (u64 ∷ Mark.the_row ∷ [])).own_val (n, mark) (pair_val (vint w64 n) ghost_val ∷ []))) (pair_of 𝓛 u64 Mark.the_row n mark (vint w64 n) ghost_val) $
-    use0 𝓛 (raw (fact 𝓤 (t.shut ≡ true → xs ≡ t.bytes))) (fact_i 𝓤 (t.shut ≡ true → xs ≡ t.bytes) (emp 𝓤) saw.4) $
+    use0 𝓛 (raw (fact 𝓤 (FoundPublished z (length xs)))) (fact_i 𝓤 (FoundPublished z (length xs)) (emp 𝓤) (as_published z (length xs))) $
+    use0 𝓛 (raw (fact 𝓤 (t.shut ≡ true → xs ≡ t.bytes))) (fact_i 𝓤 (t.shut ≡ true → xs ≡ t.bytes) (emp 𝓤) saw.4) $ join ! $
     use0 𝓛 (raw (fact 𝓤 (length t.bytes ≤ length xs))) (fact_i 𝓤 (length t.bytes ≤ length xs) (emp 𝓤) saw.3) $ join ! $
     use0 𝓛 (raw (fact 𝓤 (length xs ≤ h.head + z.capacity))) (fact_i 𝓤 (length xs ≤ h.head + z.capacity) (emp 𝓤) saw.2) $ join ! $
     use0 𝓛 (raw (fact 𝓤 (h.seen ≤ length xs))) (fact_i 𝓤 (h.seen ≤ length xs) (emp 𝓤) saw.1) $ join ! $

@@ -4,6 +4,7 @@ use Rattle.piper_ring.proofs.Rights.{writer_halves}
 use Rattle.piper_ring.proofs.Steps.{flag_small}
 use Rattle.piper_ring.proofs.Closing.{AfterClosed, writer_looks}
 use Rattle.piper_ring.proofs.Fields.{ghost_val, SawData}
+use Rattle.piper_ring.specs.Loads.{FoundClosed, as_closed}
 use Rattle.piper_ring.specs.contracts.ring.marks.Saw as Saw
 use Rattle.piper_ring.specs.contracts.ring.seats.WriteSeat as Seat
 use Rattle.piper_ring.specs.contracts.ring.seats.WriteSeat.load_closed.{ended, clauses}
@@ -46,6 +47,8 @@ load_closed_spec 𝓤 𝓛 𝓜 𝓡 wired =
     let k' : SRow.Denot = record k { seen = over } in
     rewrite ! 1 (λ (m : Names). ‵ (raised m.closed over)) {x = k.names} {y = z} (sym asked) refl $ move ! (2 ∷ 1 ∷ []) $ fjoin ! $ move ! (2 ∷ 0 ∷ 3 ∷ 4 ∷ 5 ∷ []) $ closes ! tt SRow k' vs' b' o' $
     feq_i ! (List Val) (vptr b' o' ∷ []) (vptr b' o' ∷ []) refl $ fjoin3 ! $ nothing ! $ move ! (1 ∷ 0 ∷ []) $ fjoin ! $ nothing ! $ fjoin ! $ nothing ! $ move ! (2 ∷ 0 ∷ []) $ join ! $ move ! (2 ∷ 0 ∷ []) $ join ! $
-    let answer : n ≡ flag over = told.0 in let least : flag k.seen ≤ flag over = told.1 in let own : flag h.shut ≤ flag over = told.2 in use0 𝓛 (raw (fact 𝓤 (flag h.shut ≤ n))) (fact_i 𝓤 (flag h.shut ≤ n) (emp 𝓤) (omega arith)) $ use0 𝓛 (raw (fact 𝓤 (flag k.seen ≤ n))) (fact_i 𝓤 (flag k.seen ≤ n) (emp 𝓤) (omega arith)) $ join ! $
+    let answer : n ≡ flag over = told.0 in let least : flag k.seen ≤ flag over = told.1 in let own : flag h.shut ≤ flag over = told.2 in
+    use0 𝓛 (raw (fact 𝓤 (FoundClosed z over))) (fact_i 𝓤 (FoundClosed z over) (emp 𝓤) (as_closed z over)) $
+    use0 𝓛 (raw (fact 𝓤 (flag h.shut ≤ n))) (fact_i 𝓤 (flag h.shut ≤ n) (emp 𝓤) (omega arith)) $ join ! $ use0 𝓛 (raw (fact 𝓤 (flag k.seen ≤ n))) (fact_i 𝓤 (flag k.seen ≤ n) (emp 𝓤) (omega arith)) $ join ! $
     use0 𝓛 (raw (fact 𝓤 (n ≡ flag over))) (fact_i 𝓤 (n ≡ flag over) (emp 𝓤) answer) $ join ! $ use0 𝓛 (raw (fact 𝓤 (k.names ≡ k.names))) (fact_i 𝓤 (k.names ≡ k.names) (emp 𝓤) refl) $ join ! $ flt_i ! n (2 ^ 64) fits $ feq_i ! (List Val) (vint w64 n ∷ []) (vint w64 n ∷ []) refl $ fjoin ! $
     returns ! (look_at ! 0 refl) $ free_all ! refl $ keep ! (2 ∷ 3 ∷ 0 ∷ 1 ∷ []) $ by ! (leaves 𝓛 En hs c y (vint w64 n) n (tt, (k', tt)) (tt, (tt, tt))))))))))))))

@@ -3,6 +3,7 @@ use Rattle.piper_ring.proofs.Kit.{false, lit<, ◌≡◌, ℕ, ◌+◌, ◌≤�
 use denote.Builtin.{RawPtr}
 use Rattle.core.specs.contracts.marker.PhantomData as marker
 use Rattle.piper_ring.proofs.Fields.{ghost_val, TookData, took_made}
+use Rattle.piper_ring.specs.Loads.{FoundConsumed, as_consumed}
 use Rattle.piper_ring.specs.contracts.ring.marks.ReadMark as Mark
 use Rattle.piper_ring.proofs.Rights.{writer_halves}
 use Rattle.piper_ring.proofs.Steps.{flag_small, AfterPeek, looks_head}
@@ -48,7 +49,8 @@ look_head_spec 𝓤 𝓛 𝓜 𝓡 wired =
     use0 𝓛 (‵ (TookData.own_val (record {}, tt) (ghost_val ∷ []))) (took_made 𝓛) $ fjoin ! $
     flt_i ! n (2 ^ 64) fits $ feq_i ! (List Val) (vint w64 n ∷ []) (vint w64 n ∷ []) refl $ fjoin ! $
     use2 𝓛 (‵ ((denote.Struct.Tuple.Tuple (u64 ∷ Mark.the_row ∷ [])).own_val (n, mark) (pair_val (vint w64 n) ghost_val ∷ []))) (pair_of 𝓛 u64 Mark.the_row n mark (vint w64 n) ghost_val) $
-    use0 𝓛 (raw (fact 𝓤 (t.count ≤ m))) (fact_i 𝓤 (t.count ≤ m) (emp 𝓤) saw.3) $ use0 𝓛 (raw (fact 𝓤 (h.limit ≤ m + z.capacity))) (fact_i 𝓤 (h.limit ≤ m + z.capacity) (emp 𝓤) saw.2) $ join ! $
+    use0 𝓛 (raw (fact 𝓤 (FoundConsumed z m))) (fact_i 𝓤 (FoundConsumed z m) (emp 𝓤) (as_consumed z m)) $
+    use0 𝓛 (raw (fact 𝓤 (t.count ≤ m))) (fact_i 𝓤 (t.count ≤ m) (emp 𝓤) saw.3) $ join ! $ use0 𝓛 (raw (fact 𝓤 (h.limit ≤ m + z.capacity))) (fact_i 𝓤 (h.limit ≤ m + z.capacity) (emp 𝓤) saw.2) $ join ! $
     use0 𝓛 (raw (fact 𝓤 (m ≤ length h.sent))) (fact_i 𝓤 (m ≤ length h.sent) (emp 𝓤) saw.1) $ join ! $
     use0 𝓛 (raw (fact 𝓤 (n ≡ position_of z.capacity m))) (fact_i 𝓤 (n ≡ position_of z.capacity m) (emp 𝓤) saw.0) $ join ! $ use0 𝓛 (raw (fact 𝓤 (z ≡ z))) (fact_i 𝓤 (z ≡ z) (emp 𝓤) refl) $ join ! $ nothing ! $ nothing ! $ fjoin ! $ nothing ! $ fjoin ! $
     returns ! (look_at ! 0 refl) $ free_all ! refl $ keep ! (3 ∷ 0 ∷ 2 ∷ 1 ∷ []) $ by ! (leaves 𝓛 En hs c y (pair_val (vint w64 n) ghost_val) (n, mark) (tt, (tt, tt)) (tt, (tt, tt)))))))))))))
