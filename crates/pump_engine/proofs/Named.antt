@@ -49,11 +49,11 @@ none_held name word (Some s) found opens is none t p q = subst (λ (x : Found). 
 pub early_unopened : (e : Ended) → IsUnopened e → IsEarly e
 early_unopened (ended.NoInput file) told = tt
 early_unopened (ended.NoOutput file) told = tt
-early_unopened ended.Memory told = tt
+early_unopened ended.Memory told = told
 early_unopened other told = absurd told
 
 -- and so does what a word ends that is no number
 pub early_option : (option text : List ℕ) (e : Ended) → IsOfOption option text e → IsEarly e
 early_option option text (ended.Value word) told = tt
-early_option option text ended.Memory told = tt
+early_option option text ended.Memory told = told
 early_option option text other told = absurd told

@@ -5,6 +5,7 @@ use Rattle.std.specs.declared.io.ErrorKind.TheVariants.{BrokenPipe}
 use Rattle.clap.specs.Words.{kind_of}
 use Rattle.clap.specs.declared.error.kind.ErrorKind.TheVariants.{DisplayHelp, DisplayVersion}
 use Rattle.clap.specs.declared.error.Error.{Error}
+use Rattle.piper_protocol.specs.Reported.{HasFailed}
 use Rattle.piper_transfer.specs.declared.error.TransferError.{TransferError}
 use Rattle.piper_transfer.specs.declared.error.TransferError.TheVariants.{Read, Write, Full, Memory, Turns}
 use Rattle.pump_engine.specs.declared.ended.Ended.{Ended}
@@ -25,48 +26,55 @@ EndsAs (Err Full) has_copy_failed e = e ≡ ended.Output Full
 EndsAs (Err Memory) has_copy_failed e = e ≡ ended.Memory
 EndsAs (Err (Turns failed)) has_copy_failed e = e ≡ ended.Memory
 
--- the program ends before it moves a byte: for its words, or for want of memory
+-- the words on the command line can't be had: one is no text, or memory was refused
 abbrev pub IsOfWords : Ended → Type 0
-IsOfWords (ended.Words error) = ⊤
-IsOfWords ended.NotText = ⊤
-IsOfWords ended.Memory = ⊤
+IsOfWords ended.NotText = HasFailed ended.NotText
+IsOfWords ended.Memory = HasFailed ended.Memory
 IsOfWords other = ⊥
 
--- the program ends before the first byte: for its words, a file that can't be opened, or memory
+-- the program ends before the first byte: for its words, for a file that can't be opened, or because
+-- memory was refused
 abbrev pub IsEarly : Ended → Type 0
 IsEarly (ended.Words error) = ⊤
 IsEarly (ended.Value option) = ⊤
 IsEarly (ended.NoInput file) = ⊤
 IsEarly (ended.NoOutput file) = ⊤
-IsEarly ended.Memory = ⊤
+IsEarly ended.Memory = HasFailed ended.Memory
 IsEarly other = ⊥
 
 -- a file can't be opened, or memory was refused
 abbrev pub IsUnopened : Ended → Type 0
 IsUnopened (ended.NoInput file) = ⊤
 IsUnopened (ended.NoOutput file) = ⊤
-IsUnopened ended.Memory = ⊤
+IsUnopened ended.Memory = HasFailed ended.Memory
 IsUnopened other = ⊥
+
+-- a call of std failed with the error that is reported of a file, or memory was refused
+abbrev pub IsOfFailure : Ended → Type 0
+IsOfFailure (ended.NoInput file) = HasFailed file.error
+IsOfFailure (ended.NoOutput file) = HasFailed file.error
+IsOfFailure ended.Memory = HasFailed ended.Memory
+IsOfFailure other = ⊥
 
 -- the text that is after this option is no number that it takes, or memory was refused
 abbrev pub IsOfOption : List ℕ → List ℕ → Ended → Type 0
 IsOfOption option text (ended.Value word) =
     (word.option.now ≡ option) × (string_bytes word.text ≡ text)
-IsOfOption option text ended.Memory = ⊤
+IsOfOption option text ended.Memory = HasFailed ended.Memory
 IsOfOption option text other = ⊥
 
 -- the stream that is reported was closed, or memory was refused
 abbrev pub IsOfClosed : Streams → Ended → Type 0
 IsOfClosed streams (ended.NoInput file) = streams.has_input ≡ false
 IsOfClosed streams (ended.NoOutput file) = streams.has_output ≡ false
-IsOfClosed streams ended.Memory = ⊤
+IsOfClosed streams ended.Memory = HasFailed ended.Memory
 IsOfClosed streams other = ⊥
 
 -- what is reported names this file, unless it is reported that memory was refused
 abbrev pub IsToldOf : List ℕ → Ended → Type 0
 IsToldOf name (ended.NoInput file) = string_bytes file.name ≡ name
 IsToldOf name (ended.NoOutput file) = string_bytes file.name ≡ name
-IsToldOf name ended.Memory = ⊤
+IsToldOf name ended.Memory = HasFailed ended.Memory
 IsToldOf name other = ⊥
 
 -- the words on the command line ask for the help or the version

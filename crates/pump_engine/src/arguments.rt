@@ -1,5 +1,7 @@
 //! The words on the command line.
-ghost use Rattle.std.specs.Prelude.{◌≡◌, [], IfOk, IfErr, codes, map, option_map, string_bytes, unwrap_or};
+ghost use Rattle.std.specs.Prelude.{◌≡◌, ◌≢◌, [], IfOk, IfErr, codes, map, option_map, string_bytes, unwrap_or};
+ghost use Rattle.std.specs.IoError.{error_kind};
+ghost use Rattle.std.specs.declared.io.ErrorKind.TheVariants.{InvalidData};
 ghost use Rattle.clap.specs.Words.{app_of, first_value, found_of, kind_of, matched_of, raw_values};
 ghost use Rattle.pump_engine.specs.Arguments.{AddsRule, file_rule, flag_rule, pump_command, size_rule, tee_rule};
 ghost use Rattle.pump_engine.specs.Arguments.{AskFor, AreTaken, IsSize, IsSizeOf, text_or};
@@ -8,6 +10,7 @@ ghost use Rattle.pump_engine.specs.Ended.{IsOfWords};
 use crate::ended::Ended;
 use clap::error::ErrorKind;
 use clap::{Arg, ArgAction, ArgMatches, Command, Error};
+use piper_protocol::reported::reported;
 use piper_transfer::{Sizes, parse_size};
 use std::alloc::{AllocGlobal, Global};
 use std::env::Env;
@@ -53,10 +56,19 @@ pub struct Texts<'a> {
 pub fn words<R: Env + AllocGlobal>(rt: &R) -> Result<Vec<String>, Ended>
     ensures ended { IfErr result IsOfWords }
 {
-    match env::args(rt) {
-        Ok(words) => words.collect(rt.alloc()).map_err(|_| Ended::Memory),
-        Err(error) if error.kind() == io::ErrorKind::InvalidData => Err(Ended::NotText),
-        Err(_) => Err(Ended::Memory),
+    let words = reported(env::args(rt).map_err(ended_by))?;
+    reported(words.collect(rt.alloc()).map_err(|_| Ended::Memory))
+}
+
+// How the program ends where the words can't be read.
+fn ended_by(error: io::Error) -> Ended
+    ensures text { error_kind error ≡ InvalidData → result ≡ Ended.NotText }
+    ensures memory { error_kind error ≢ InvalidData → result ≡ Ended.Memory }
+{
+    if error.kind() == io::ErrorKind::InvalidData {
+        Ended::NotText
+    } else {
+        Ended::Memory
     }
 }
 

@@ -1,8 +1,10 @@
 //! How the program ends: what it says, and its exit status.
 ghost use Rattle.std.specs.Prelude.{◌≡◌, ◌⊎◌, IfErr, IfOk, string_bytes};
 ghost use Rattle.std.specs.Process.{exit_status};
+ghost use Rattle.piper_protocol.specs.Reported.{HasFailed};
 ghost use Rattle.pump_engine.specs.Ended.{EndsAs, HasStatus, IsOfOption, IsShown};
 
+use piper_protocol::reported::reported;
 use piper_transfer::TransferError;
 use std::alloc::Global;
 use std::io;
@@ -22,11 +24,10 @@ impl Unopened {
         ensures named { IfOk result (λ file. string_bytes file.name ≡ name.now) }
         ensures error { IfOk result (λ file. file.error ≡ error) }
         ensures memory { IfErr result (λ e. e ≡ Ended.Memory) }
+        ensures refused { IfErr result HasFailed }
     {
-        match String::from_str(alloc, name) {
-            Ok(name) => Ok(Unopened { name, error }),
-            Err(_) => Err(Ended::Memory),
-        }
+        let name = reported(String::from_str(alloc, name).map_err(|_| Ended::Memory))?;
+        Ok(Unopened { name, error })
     }
 }
 
@@ -43,13 +44,13 @@ pub struct NotTaken {
 pub fn not_taken(alloc: Global, option: &'static str, text: &str, range: &'static str) -> Ended
     ensures { IsOfOption option.now text.now result }
 {
-    match String::from_str(alloc, text) {
+    match reported(String::from_str(alloc, text).map_err(|_| Ended::Memory)) {
         Ok(text) => Ended::Value(NotTaken {
             option,
             text,
             range,
         }),
-        Err(_) => Ended::Memory,
+        Err(refused) => refused,
     }
 }
 

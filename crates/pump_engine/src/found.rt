@@ -1,4 +1,7 @@
 //! What the system reports of a file where it is opened: which one it is, and how much it holds.
+ghost use Rattle.std.specs.Prelude.{IfErr};
+ghost use Rattle.piper_protocol.specs.Reported.{HasFailed};
+
 use crate::files::NamedFile;
 use std::fs::{Files, Metadata};
 use std::os::unix::fs::MetadataExt;
@@ -29,7 +32,9 @@ pub struct Found {
 
 impl Found {
     /// Of a file that is written.
-    pub(crate) fn of_output(file: &impl NamedFile) -> io::Result<Found> {
+    pub(crate) fn of_output(file: &impl NamedFile) -> io::Result<Found>
+        ensures failed { IfErr result HasFailed }
+    {
         let attributes = file.attributes()?;
         Ok(of_attributes(Some(&attributes)))
     }

@@ -5,7 +5,7 @@ ghost use Rattle.std.specs.List.{All};
 ghost use Rattle.pump_engine.specs.Arguments.{text_in};
 ghost use Rattle.pump_engine.specs.Copies.{HavePassed, IsCopy, names_of};
 ghost use Rattle.pump_engine.specs.Asked.{parts_wanted};
-ghost use Rattle.pump_engine.specs.Ended.{IsToldOf, IsUnopened};
+ghost use Rattle.pump_engine.specs.Ended.{IsOfFailure, IsToldOf, IsUnopened};
 ghost use Rattle.pump_engine.specs.Ends.{KeepsHeld};
 ghost use Rattle.pump_engine.specs.Files.{IsJust};
 ghost use Rattle.pump_engine.specs.Opening.{AreApart, AreDistinct, HoldNothing, OpensNamed};
@@ -18,6 +18,7 @@ use crate::files::{NamedFile, Opens};
 use crate::found::{FileId, Found, STANDARD_INPUT};
 use crate::plan::named;
 use crate::sinks::Sink;
+use piper_protocol::reported::reported;
 use piper_transfer::{Destination, Source};
 use std::alloc::{AllocGlobal, Global};
 use std::fs::{Files, Metadata};
@@ -174,6 +175,7 @@ where
     F: NamedFile,
     ensures early { IfErr result IsUnopened }
     ensures named { IfErr result (λ e. IfSome name.entry (λ text. IsToldOf text.now e)) }
+    ensures failed { IfErr result IsOfFailure }
     ensures none { name.entry ≡ None → result ≡ Ok None }
     ensures file { IfSome name.entry (λ text. IfOk result (λ opened.
         IsSomeAnd opened (λ file. IsJust (F.name file) text.now))) }
@@ -197,6 +199,7 @@ where
     ensures file { IfSome name.entry (λ text. IfOk result (λ opened.
         IsSomeAnd opened (λ sink. IsJust (F.name sink.file) text.now))) }
     ensures kept { IfOk result (λ opened. IfSome opened (λ sink. sink.has_begun ≡ false)) }
+    ensures failed { IfErr result IsOfFailure }
 {
     match name {
         None => Ok(None),
@@ -214,6 +217,7 @@ where
     ensures name { IfOk result (λ sink. string_bytes sink.name ≡ name.now) }
     ensures kept { IfOk result (λ sink. sink.has_begun ≡ false) }
     ensures copy { IfOk result (IsCopy F.name F.written F.fails []) }
+    ensures failed { IfErr result IsOfFailure }
 {
     match Sink::open(rt, alloc, name) {
         Ok(sink) => Ok(sink),
@@ -229,6 +233,7 @@ where
     ensures early { IfErr result IsUnopened }
     ensures names { IfOk result (λ tees. names_of tees.items ≡ map (λ name. name.now) names.now) }
     ensures copies { IfOk result (λ tees. All (IsCopy F.name F.written F.fails []) tees.items) }
+    ensures failed { IfErr result IsOfFailure }
 {
     let mut tees = Vec::new(alloc);
     for name in names {
@@ -241,11 +246,9 @@ where
 fn add_tee<F: NamedFile>(tees: &mut Vec<Sink<F>>, sink: Sink<F>) -> Result<(), Ended>
     ensures early { IfErr result IsUnopened }
     ensures items { OnOk result (tees.new.items ≡ tees.old.items ++ sink ∷ []) }
+    ensures failed { IfErr result IsOfFailure }
 {
-    match tees.push(sink) {
-        Ok(()) => Ok(()),
-        Err(_) => Err(Ended::Memory),
-    }
+    reported(tees.push(sink).map_err(|_| Ended::Memory))
 }
 
 // Refuses a regular file that is the input or another output, too.
@@ -281,7 +284,7 @@ fn add(known: &mut Vec<FileId>, name: &str, found: Found) -> Result<(), Ended>
         let error = io::Error::other("it is the input or another output, too");
         return Err(Ended::NoOutput(Unopened::new(*known.allocator(), name, error)?));
     }
-    known.push(id).map_err(|_| Ended::Memory)
+    reported(known.push(id).map_err(|_| Ended::Memory))
 }
 
 // Refuses files that hold bytes, unless those are to be overwritten.

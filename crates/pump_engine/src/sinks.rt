@@ -2,11 +2,13 @@
 ghost use Rattle.std.specs.Prelude.{◌≡◌, ◌<◌, ◌++◌, ℕ, List, [], length, false, true, Ok, OnOk, IfOk, IfErr, string_bytes};
 ghost use Rattle.std.specs.Io.{WritesAtMost};
 ghost use Rattle.std.specs.Io.KnownBytes.{append_known};
+ghost use Rattle.piper_protocol.specs.Reported.{HasFailed};
 ghost use Rattle.pump_engine.specs.Copies.{IsCopy, IsFlushedOrFailed, SameSink};
 ghost use Rattle.pump_engine.specs.Files.{Writes};
 
 use crate::files::{NamedFile, Opens};
 use crate::found::Found;
+use piper_protocol::reported::reported;
 use std::alloc::Global;
 use std::io;
 
@@ -31,11 +33,12 @@ impl<F: NamedFile> Sink<F> {
         ensures kept { IfOk result (λ sink. sink.has_begun ≡ false) }
         ensures named { IfOk result (λ sink. string_bytes sink.name ≡ name.now) }
         ensures copy { IfOk result (IsCopy F.name F.written F.fails []) }
+        ensures failed { IfErr result HasFailed }
     {
         let file = rt.open_to_write(name)?;
         let found = Found::of_output(&file)?;
         Ok(Sink {
-            name: String::from_str(alloc, name)?,
+            name: reported(String::from_str(alloc, name).map_err(io::Error::from))?,
             found,
             has_begun: false,
             has_failed: false,

@@ -1,8 +1,9 @@
 //! The standard streams, as they were where the program began.
 ghost use Rattle.std.specs.Prelude.{◌≡◌, IfErr, IfOk, IsSome, false};
-ghost use Rattle.pump_engine.specs.Ended.{IsEarly};
+ghost use Rattle.pump_engine.specs.Ended.{IsEarly, IsOfFailure};
 
 use crate::ended::{Ended, Unopened};
+use piper_protocol::reported::reported;
 use std::alloc::AllocGlobal;
 use std::fs::{File, Files, OpenOptions};
 use std::os::fd::AsFd;
@@ -55,6 +56,7 @@ impl Streams {
         ensures input { IfOk result (λ f. self.now.has_input ≡ false → IsSome f._input) }
         ensures output { IfOk result (λ f. self.now.has_output ≡ false → IsSome f._output) }
         ensures error { IfOk result (λ f. self.now.has_error ≡ false → IsSome f._error) }
+        ensures failed { IfErr result IsOfFailure }
     {
         // The system gives the lowest number that is free.
         let _input = open_unless(rt, self.has_input, OpenOptions::new().write(true))?;
@@ -73,11 +75,12 @@ where
     R: Files<File = File> + AllocGlobal,
     ensures early { IfErr result IsEarly }
     ensures filled { IfOk result (λ file. is_open ≡ false → IsSome file) }
+    ensures failed { IfErr result IsOfFailure }
 {
     if is_open {
         return Ok(None);
     }
-    match how.open(rt, NULL) {
+    match reported(how.open(rt, NULL)) {
         Ok(file) => Ok(Some(file)),
         Err(error) => Err(Ended::NoOutput(Unopened::new(rt.alloc(), NULL, error)?)),
     }
