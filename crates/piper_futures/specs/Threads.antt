@@ -5,10 +5,12 @@ use Rattle.futures.specs.declared.task.context.Context.{Context}
 use Rattle.piper.specs.Contexts.{WantsWaker}
 use Rattle.piper.specs.Handles.{NotifiesWriter}
 use Rattle.piper.specs.declared.error.PipeError.{PipeError}
+use Rattle.piper.specs.declared.error.PipeError.TheVariants.{Io}
 use Rattle.piper.specs.declared.io.copy.Copied.{Copied}
 use Rattle.piper.specs.declared.io.copy.Copied.TheVariants.{ToTheEnd, UntilClosed}
 use Rattle.piper.specs.declared.owned.OwnedReader.{OwnedReader}
 use Rattle.piper.specs.declared.owned.OwnedWriter.{OwnedWriter}
+use Rattle.piper_protocol.specs.Reported.{HasFailed}
 use Rattle.piper_lines.specs.AtEnd.{AtEnd}
 use Rattle.piper_futures.specs.Draining.{DrainsOn}
 use Rattle.piper_futures.specs.Filling.{FillsOn}
@@ -26,6 +28,11 @@ WhyFilled left UntilClosed = ⊤
 abbrev pub IsOfWaker : PipeError → Type 0
 IsOfWaker e = (cx : Context) × WantsWaker cx e
 
+-- a thread's wait failed with it
+abbrev pub IsOfWait : PipeError → Type 0
+IsOfWait (Io e) = HasFailed e
+IsOfWait other = ⊥
+
 module _ {S : Type 0} (remaining : S → Option (List ℕ)) where
   -- the writer's last mark reports the front of what the source gave, after what was published
   -- before, and all of it unless the pipe was seen closed
@@ -39,7 +46,7 @@ module _ {S : Type 0} (remaining : S → Option (List ℕ)) where
   -- by what is left: the thread's own wait failed; or its fill did, for want of memory for a waker,
   -- or with an error of std
   abbrev pub LeftByFill : OwnedWriter → S → Option (Filled S) → PipeError → Type 0
-  LeftByFill w s None e = IsIo e
+  LeftByFill w s None e = IsOfWait e
   LeftByFill w s (Some left) e = FilledTo w s left × (IsOfWaker e ⊎ IsIo e)
 
   -- all was moved into the pipe; or the writer wanted memory, or the source failed, and what it
@@ -59,7 +66,7 @@ module _ {D : Type 0} (contents : D → Option (List ℕ)) where
 
   -- likewise
   abbrev pub LeftByDrain : OwnedReader → D → Option (Drained D) → PipeError → Type 0
-  LeftByDrain r d None e = IsIo e
+  LeftByDrain r d None e = IsOfWait e
   LeftByDrain r d (Some left) e = DrainedTo r d left × (IsOfWaker e ⊎ IsIo e)
 
   -- all was moved out of the pipe, up to its end; or the reader or the writer of std failed, and

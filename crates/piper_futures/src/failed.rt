@@ -4,11 +4,13 @@ ghost use Rattle.std.specs.Prelude.{◌≡◌};
 use piper::PipeError;
 use std::fmt::{Formatter, Write};
 use std::{fmt, io};
+use thiserror::Error;
 
 /// What a future owned when it failed, and the error.
 ///
 /// Shown, it is the error alone.
-#[derive(Drop)]
+#[derive(Drop, Error)]
+#[error("{error}")]
 pub struct Failed<T> {
     /// The ends that the future was given, and the bytes that it took.
     pub left: T,
@@ -19,12 +21,6 @@ pub struct Failed<T> {
 impl<T> fmt::Debug for Failed<T> {
     fn fmt<W: Write>(&self, f: &mut Formatter<W>) -> fmt::Result {
         fmt::Debug::fmt(&self.error, f)
-    }
-}
-
-impl<T> fmt::Display for Failed<T> {
-    fn fmt<W: Write>(&self, f: &mut Formatter<W>) -> fmt::Result {
-        fmt::Display::fmt(&self.error, f)
     }
 }
 

@@ -1,8 +1,9 @@
 //! Threads that read for a pipe, or write for one: a call of std that blocks may not be made in a
 //! task.
-ghost use Rattle.std.specs.Prelude.{◌≡◌, IfOk, length, true};
+ghost use Rattle.std.specs.Prelude.{◌≡◌, IfOk, IfErr, length, true};
 ghost use Rattle.piper.specs.OfReader.{taken};
 ghost use Rattle.piper.specs.OfWriter.{sent};
+ghost use Rattle.piper_protocol.specs.Reported.{HasFailed};
 ghost use Rattle.piper_futures.specs.Threads.{FilledAndClosed, DrainedOrClosed};
 
 use crate::drain::drain_into;
@@ -11,6 +12,7 @@ use crate::fill::fill_from;
 use futures::executor::block_on;
 use piper::io::Copied;
 use piper::{LastReadMark, OwnedReader, OwnedWriter, PipeError, WriteMark};
+use piper_protocol::reported::reported;
 use std::alloc::AllocGlobal;
 use std::io::{Read, Write};
 use std::marker::{Send, Sync};
@@ -76,16 +78,17 @@ pub fn spawn_fill<H, S>(
 where
     H: Threads + Wait + RandomSource + AllocGlobal + Clone + Drop + Send + Sync + 'static,
     S: Read + Drop + Send + 'static,
-    ensures { IfOk result (λ handle. (handle.promise.writer.value ≡ writer)
+    ensures promised { IfOk result (λ handle. (handle.promise.writer.value ≡ writer)
         × (handle.promise.source.value ≡ source)) }
+    ensures failed { IfErr result HasFailed }
 {
-    let theirs = rt.clone()?;
+    let theirs = reported(rt.clone().map_err(io::Error::from))?;
     let promise = Fills {
         writer: Snapshot::of(&writer),
         source: Snapshot::of(&source),
     };
-    let child = thread::spawn_with(rt, promise, move || fill_and_close(&theirs, writer, source))?;
-    Ok(child)
+    let spawned = thread::spawn_with(rt, promise, move || fill_and_close(&theirs, writer, source));
+    reported(spawned.map_err(io::Error::from))
 }
 
 /// Starts a thread that moves all bytes of the pipe into `dest`, as `drain_into` does. The thread's
@@ -102,16 +105,17 @@ pub fn spawn_drain<H, D>(
 where
     H: Threads + Wait + RandomSource + AllocGlobal + Clone + Drop + Send + Sync + 'static,
     D: Write + Drop + Send + 'static,
-    ensures { IfOk result (λ handle. (handle.promise.reader.value ≡ reader)
+    ensures promised { IfOk result (λ handle. (handle.promise.reader.value ≡ reader)
         × (handle.promise.dest.value ≡ dest)) }
+    ensures failed { IfErr result HasFailed }
 {
-    let theirs = rt.clone()?;
+    let theirs = reported(rt.clone().map_err(io::Error::from))?;
     let promise = Drains {
         reader: Snapshot::of(&reader),
         dest: Snapshot::of(&dest),
     };
-    let child = thread::spawn_with(rt, promise, move || drain_or_close(&theirs, reader, dest))?;
-    Ok(child)
+    let spawned = thread::spawn_with(rt, promise, move || drain_or_close(&theirs, reader, dest));
+    reported(spawned.map_err(io::Error::from))
 }
 
 /// Moves all that `source` gives into the pipe, and drops the writer.
@@ -125,7 +129,7 @@ where
     S: Read + Drop,
     ensures { FilledAndClosed S.remaining writer source result }
 {
-    match block_on(rt, fill_from(writer, source)) {
+    match reported(block_on(rt, fill_from(writer, source))) {
         Ok(Ok((writer, source, copied))) => Ok((closed_by_writer(writer, source), copied)),
         Ok(Err(failed)) => {
             let Failed { left, error } = failed;
@@ -160,7 +164,7 @@ where
     D: Write + Drop,
     ensures { DrainedOrClosed D.contents reader dest result }
 {
-    match block_on(rt, drain_into(reader, dest)) {
+    match reported(block_on(rt, drain_into(reader, dest))) {
         Ok(Ok(ends)) => Ok(ends),
         Ok(Err(failed)) => {
             let Failed { left, error } = failed;
