@@ -6,6 +6,8 @@ pub mod Ends
 pub mod Files
 pub mod Opening
 pub mod Outcome
+pub mod Pace
 pub mod Plan
 pub mod Progress
 pub mod Running
+pub mod Streams

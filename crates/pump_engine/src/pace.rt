@@ -1,7 +1,9 @@
 //! A rate that is kept: so many bytes a second at most.
-ghost use Rattle.std.specs.Prelude.{◌≡◌, ◌<◌, ◌≤◌, ◌-◌, ◌*◌, ◌/◌, ◌^◌, max, min};
-ghost use Rattle.std.specs.Duration.{as_nanos};
+ghost use Rattle.std.specs.Prelude.{◌≡◌, ◌<◌, ◌≤◌, ◌+◌, ◌/◌, IsSome, None, max, min};
+ghost use Rattle.std.specs.Duration.{as_nanos, max_nanos};
+ghost use Rattle.pump_engine.specs.Pace.{BeginsNow, nanos_of};
 
+use piper_protocol::reported::reported;
 use std::thread;
 use std::time::{Clock, Duration, Instant};
 
@@ -44,10 +46,12 @@ impl Pace {
 
     /// So many bytes are about to pass: the time begins to count if none did lately.
     pub fn begin(&mut self, clock: &impl Clock)
-        ensures { self.new.rate ≡ self.old.rate }
+        ensures rate { self.new.rate ≡ self.old.rate }
+        ensures begins { self.old.since ≡ None → BeginsNow self.new }
+        ensures goes_on { IsSome self.old.since → self.new ≡ self.old }
     {
         if self.since.is_none() {
-            self.since = Instant::now(clock).ok();
+            self.since = reported(Instant::now(clock)).ok();
             self.owed = Duration::ZERO;
             self.checked = Duration::ZERO;
         }
@@ -56,7 +60,10 @@ impl Pace {
     /// So many bytes have passed: sleeps until their time is over. Of the time in which none came a
     /// tenth of a second at most is made up for.
     pub fn keep(&mut self, clock: &impl Clock, count: usize)
-        ensures { self.new.rate ≡ self.old.rate }
+        ensures rate { self.new.rate ≡ self.old.rate }
+        ensures owed { IsSome self.old.since → as_nanos self.new.owed
+            ≡ min (as_nanos self.old.owed + nanos_of count self.old.rate) max_nanos }
+        ensures none { self.old.since ≡ None → self.new ≡ self.old }
     {
         let Some(since) = self.since else {
             return;
@@ -77,7 +84,7 @@ impl Pace {
 
 // How long so many bytes take at so many a second.
 fn time_of(count: usize, rate: usize) -> Duration
-    ensures { as_nanos result ≡ min (count * 1_000_000_000 / max rate 1) (2 ^ 64 - 1) }
+    ensures { as_nanos result ≡ nanos_of count rate }
 {
     let nanoseconds = count as u128 * 1_000_000_000 / (rate as u128).max(1);
     Duration::from_nanos(nanoseconds.min(u64::MAX as u128) as u64)

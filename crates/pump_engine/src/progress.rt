@@ -1,8 +1,10 @@
 //! Lines on standard error that report how far a transfer is.
-ghost use Rattle.std.specs.Prelude.{◌≡◌, ◌-◌, ◌*◌, ◌/◌, ◌^◌, min, max, Some};
+ghost use Rattle.std.specs.Prelude.{◌≡◌, ◌-◌, ◌*◌, ◌/◌, ◌^◌, min, max, IsSome, Some};
 ghost use Rattle.std.specs.Duration.{as_nanos};
+ghost use Rattle.pump_engine.specs.Pace.{IsOfClock};
 
 use crate::lines::{Done, Line};
+use piper_protocol::reported::reported;
 use piper_transfer::Meter;
 use std::sync::{Condvar, Mutex, Wait};
 use std::time::{Clock, Duration, Instant};
@@ -99,8 +101,14 @@ where
 }
 
 impl Progress {
-    pub fn new(clock: &impl Clock, watched: Watched) -> Progress {
-        let now = Instant::now(clock).ok();
+    /// Nothing is reported yet.
+    pub fn new(clock: &impl Clock, watched: Watched) -> Progress
+        ensures watched { result.watched ≡ watched }
+        ensures begun { IsOfClock result.begun }
+        ensures reported { result.reported ≡ result.begun }
+        ensures bytes { result.bytes ≡ 0 }
+    {
+        let now = reported(Instant::now(clock)).ok();
         Progress {
             watched,
             begun: now,
@@ -112,7 +120,10 @@ impl Progress {
 
     /// Prints a line if the last one was printed a quarter of a second ago, where no other thread
     /// does that.
-    pub fn report_if_due<R: Wait + Clock + Eprint>(&mut self, rt: &R, meter: &Meter) {
+    pub fn report_if_due<R: Wait + Clock + Eprint>(&mut self, rt: &R, meter: &Meter)
+        ensures watched { self.new.watched ≡ self.old.watched }
+        ensures begun { self.new.begun ≡ self.old.begun }
+    {
         let since = match self.reported {
             Some(reported) => reported.elapsed(rt).unwrap_or(Duration::ZERO),
             None => Duration::ZERO,
@@ -123,7 +134,12 @@ impl Progress {
     }
 
     /// Prints a line: of the time since the last one, or of the whole.
-    pub fn report<R: Wait + Clock + Eprint>(&mut self, rt: &R, meter: &Meter, is_last: bool) {
+    pub fn report<R: Wait + Clock + Eprint>(&mut self, rt: &R, meter: &Meter, is_last: bool)
+        ensures watched { self.new.watched ≡ self.old.watched }
+        ensures begun { self.new.begun ≡ self.old.begun }
+        ensures average { IsSome self.new.average }
+        ensures reported { IsOfClock self.new.reported }
+    {
         let bytes = meter.output.bytes();
         let (moved, since) = if is_last {
             (bytes, self.begun)
@@ -143,7 +159,7 @@ impl Progress {
         let done = self.done(bytes, is_last);
         print(rt, &line, done, self.watched.redraws, is_last);
         self.bytes = bytes;
-        self.reported = Instant::now(rt).ok();
+        self.reported = reported(Instant::now(rt)).ok();
     }
 
     // How much of all that comes has passed, and how long the rest takes; that is left out at the

@@ -1,6 +1,10 @@
 //! The standard streams, as they were where the program began.
-ghost use Rattle.std.specs.Prelude.{◌≡◌, IfErr, IfOk, IsSome, false};
+ghost use Rattle.std.specs.Prelude.{◌≡◌, IfErr, IfOk, IsSome, Result, false};
+ghost use Rattle.std.specs.declared.fd.OwnedFd.{OwnedFd};
+ghost use Rattle.std.specs.declared.io.Error.{Error};
+ghost use Rattle.piper_protocol.specs.Reported.{IsReported};
 ghost use Rattle.pump_engine.specs.Ended.{IsEarly, IsOfFailure};
+ghost use Rattle.pump_engine.specs.Streams.{TellsOpen};
 
 use crate::ended::{Ended, Unopened};
 use piper_protocol::reported::reported;
@@ -36,8 +40,10 @@ pub struct Fillers {
 }
 
 /// Whether this stream is open.
-pub fn is_open(stream: &impl AsFd) -> bool {
-    match stream.as_fd().try_clone_to_owned() {
+pub fn is_open(stream: &impl AsFd) -> bool
+    ensures { (copied : Result OwnedFd Error) × IsReported copied × TellsOpen copied result }
+{
+    match reported(stream.as_fd().try_clone_to_owned()) {
         Ok(_) => true,
         Err(error) => error.raw_os_error() != Some(NOT_OPEN),
     }

@@ -1,0 +1,24 @@
+-- A rate that is kept, and the clock that it is kept by.
+use Rattle.std.specs.Prelude.{◌≡◌, ℕ, ◌*◌, ◌/◌, ◌-◌, ◌^◌, max, min, Option, Result}
+use Rattle.std.specs.Duration.{as_nanos}
+use Rattle.std.specs.Result.{result_ok}
+use Rattle.std.specs.declared.io.Error.{Error}
+use Rattle.std.specs.declared.time.Instant.{Instant}
+use Rattle.piper_protocol.specs.Reported.{IsReported}
+use Rattle.pump_engine.specs.declared.pace.Pace.{Pace}
+
+-- the clock was read, and gave this time, or none where that failed
+pub record IsOfClock (time : Option Instant) : Type 0 where
+  pub read : Result Instant Error
+  pub is_read : IsReported read
+  pub is : time ≡ result_ok read
+
+-- its time counts from now, and no byte has passed since
+pub record BeginsNow (pace : Pace) : Type 0 where
+  pub since : IsOfClock pace.since
+  pub owed : as_nanos pace.owed ≡ 0
+  pub checked : as_nanos pace.checked ≡ 0
+
+-- for how many nanoseconds so many bytes last at so many a second
+abbrev pub nanos_of : ℕ → ℕ → ℕ
+nanos_of count rate = min (count * 1_000_000_000 / max rate 1) (2 ^ 64 - 1)
