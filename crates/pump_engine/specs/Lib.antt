@@ -4,6 +4,7 @@ pub mod Copies
 pub mod Ended
 pub mod Ends
 pub mod Files
+pub mod Found
 pub mod Opening
 pub mod Outcome
 pub mod Pace

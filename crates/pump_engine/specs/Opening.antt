@@ -1,6 +1,9 @@
 -- The files that are opened: by which names, that no two are one file, and that none holds bytes.
-use Rattle.std.specs.Prelude.{◌≡◌, ◌≢◌, ℕ, List, Option, Some, None, IsSomeAnd, codes, map}
+use Rattle.std.specs.Prelude.{◌≡◌, ◌≢◌, ◌≤◌, ℕ, List, Option, Some, None, IsSomeAnd, Result, Ok, Err, codes, map}
+use Rattle.std.specs.Fs.{IsFile, file_type, metadata_len}
 use Rattle.std.specs.List.{All, AllPairs, filter_map}
+use Rattle.std.specs.declared.fs.Metadata.{Metadata}
+use Rattle.std.specs.declared.io.Error.{Error}
 use Rattle.pump_engine.specs.Files.{IsJust}
 use Rattle.pump_engine.specs.declared.ends.Drain.{Drain}
 use Rattle.pump_engine.specs.declared.ends.Drain.TheVariants as drain
@@ -72,3 +75,11 @@ pub record HoldNothing {F : Type 0}
     (sinks : List (Sink F)) : Type 0 where
   pub named : (t : List ℕ) → word ≡ Some t → t ≢ codes "-" → found.held ≡ 0
   pub others : All (λ sink. sink.found.held ≡ 0) sinks
+
+-- what the system reported of the input tells how many bytes it has: a regular file at most those
+-- that it holds, and of another none are known
+abbrev pub TellsSize : Result Metadata Error → Option ℕ → Type 0
+TellsSize (Ok m) size =
+    (IsFile (file_type m) → IsSomeAnd size (λ n. n ≤ metadata_len m))
+    × (¬ IsFile (file_type m) → size ≡ None)
+TellsSize (Err e) size = size ≡ None

@@ -1,8 +1,10 @@
 //! What the system reports of a file where it is opened: which one it is, and how much it holds.
-ghost use Rattle.std.specs.Prelude.{IfErr};
+ghost use Rattle.std.specs.Prelude.{IfErr, IfOk};
 ghost use Rattle.piper_protocol.specs.Reported.{HasFailed};
+ghost use Rattle.pump_engine.specs.Found.{IsFound, TellsFound};
 
 use crate::files::NamedFile;
+use piper_protocol::reported::reported;
 use std::fs::{Files, Metadata};
 use std::os::unix::fs::MetadataExt;
 use std::{fs, io};
@@ -33,41 +35,41 @@ pub struct Found {
 impl Found {
     /// Of a file that is written.
     pub(crate) fn of_output(file: &impl NamedFile) -> io::Result<Found>
+        ensures found { IfOk result IsFound }
         ensures failed { IfErr result HasFailed }
     {
         let attributes = file.attributes()?;
-        Ok(of_attributes(Some(&attributes)))
+        Ok(of_answer(&Ok(attributes)))
     }
 
     /// Of the file that is read.
-    pub(crate) fn of_input(file: &impl NamedFile) -> Found {
-        match file.attributes() {
-            Ok(attributes) => of_attributes(Some(&attributes)),
-            Err(_) => of_attributes(None),
-        }
+    pub(crate) fn of_input(file: &impl NamedFile) -> Found
+        ensures { IsFound result }
+    {
+        of_answer(&file.attributes())
     }
 
     /// Of standard input.
-    pub(crate) fn at_input(files: &impl Files) -> Found {
-        at(files, STANDARD_INPUT)
+    pub(crate) fn at_input(files: &impl Files) -> Found
+        ensures { IsFound result }
+    {
+        of_answer(&reported(fs::metadata(files, STANDARD_INPUT)))
     }
 
     /// Of standard output.
-    pub(crate) fn at_output(files: &impl Files) -> Found {
-        at(files, STANDARD_OUTPUT)
+    pub(crate) fn at_output(files: &impl Files) -> Found
+        ensures { IsFound result }
+    {
+        of_answer(&reported(fs::metadata(files, STANDARD_OUTPUT)))
     }
 }
 
-fn at(files: &impl Files, name: &str) -> Found {
-    match fs::metadata(files, name) {
-        Ok(attributes) => of_attributes(Some(&attributes)),
-        Err(_) => of_attributes(None),
-    }
-}
-
-fn of_attributes(attributes: Option<&Metadata>) -> Found {
-    match attributes {
-        Some(attributes) if attributes.is_file() => Found {
+// What the system's answer tells.
+fn of_answer(answer: &io::Result<Metadata>) -> Found
+    ensures { TellsFound answer.now result }
+{
+    match answer {
+        Ok(attributes) if attributes.is_file() => Found {
             id: Some(FileId {
                 device: attributes.dev(),
                 inode: attributes.ino(),

@@ -1,7 +1,11 @@
 //! The files that are named: they are opened, and those that may not be written are refused, before
 //! one of them changes.
-ghost use Rattle.std.specs.Prelude.{◌≡◌, ◌++◌, ◌∷◌, [], None, Ok, OnErr, OnOk, IfErr, IfOk, IfSome, IsSomeAnd, false, map, string_bytes};
+ghost use Rattle.std.specs.Prelude.{◌≡◌, ◌++◌, ◌∷◌, [], None, Ok, OnErr, OnOk, IfErr, IfOk, IfSome, IsSomeAnd, Result, Some, false, map, string_bytes};
+ghost use Rattle.std.specs.Fs.{IsFile, file_type, metadata_len};
 ghost use Rattle.std.specs.List.{All};
+ghost use Rattle.std.specs.declared.fs.Metadata.{Metadata};
+ghost use Rattle.std.specs.declared.io.Error.{Error};
+ghost use Rattle.piper_protocol.specs.Reported.{IsReported};
 ghost use Rattle.pump_engine.specs.Arguments.{text_in};
 ghost use Rattle.pump_engine.specs.Copies.{HavePassed, IsCopy, names_of};
 ghost use Rattle.pump_engine.specs.Asked.{parts_wanted};
@@ -9,7 +13,7 @@ ghost use Rattle.pump_engine.specs.Ended.{IsOfFailure, IsToldOf, IsUnopened};
 ghost use Rattle.pump_engine.specs.Ends.{KeepsHeld};
 ghost use Rattle.pump_engine.specs.Files.{IsJust};
 ghost use Rattle.pump_engine.specs.Opening.{AreApart, AreDistinct, HoldNothing, OpensNamed};
-ghost use Rattle.pump_engine.specs.Opening.{ReadsNamed, WritesNamed, founds_of, ids_of};
+ghost use Rattle.pump_engine.specs.Opening.{ReadsNamed, TellsSize, WritesNamed, founds_of, ids_of};
 
 use crate::arguments::Arguments;
 use crate::ended::{Ended, Unopened};
@@ -327,17 +331,22 @@ where
     R: Files + AllocGlobal,
     F: NamedFile,
     S: Source + Drop,
+    ensures { (read : Result Metadata Error) × IsReported read × TellsSize read result }
 {
     match input {
         Inlet::File(file) => len_of(&file.attributes().ok()?),
         Inlet::Standard(_) => {
-            let len = len_of(&fs::metadata(rt, STANDARD_INPUT).ok()?)?;
+            let len = len_of(&reported(fs::metadata(rt, STANDARD_INPUT)).ok()?)?;
             Some(len.saturating_sub(position(rt).unwrap_or(0)))
         }
     }
 }
 
-fn len_of(attributes: &Metadata) -> Option<u64> {
+fn len_of(attributes: &Metadata) -> Option<u64>
+    ensures file { IsFile (file_type attributes.now)
+        → result ≡ Some (metadata_len attributes.now) }
+    ensures other { ¬ IsFile (file_type attributes.now) → result ≡ None }
+{
     if attributes.is_file() {
         Some(attributes.len())
     } else {

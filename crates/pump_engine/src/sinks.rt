@@ -5,6 +5,7 @@ ghost use Rattle.std.specs.Io.KnownBytes.{append_known};
 ghost use Rattle.piper_protocol.specs.Reported.{HasFailed};
 ghost use Rattle.pump_engine.specs.Copies.{IsCopy, IsFlushedOrFailed, SameSink};
 ghost use Rattle.pump_engine.specs.Files.{Writes};
+ghost use Rattle.pump_engine.specs.Found.{IsFound};
 
 use crate::files::{NamedFile, Opens};
 use crate::found::Found;
@@ -33,6 +34,7 @@ impl<F: NamedFile> Sink<F> {
         ensures kept { IfOk result (λ sink. sink.has_begun ≡ false) }
         ensures named { IfOk result (λ sink. string_bytes sink.name ≡ name.now) }
         ensures copy { IfOk result (IsCopy F.name F.written F.fails []) }
+        ensures found { IfOk result (λ sink. IsFound sink.found) }
         ensures failed { IfErr result HasFailed }
     {
         let file = rt.open_to_write(name)?;
