@@ -32,8 +32,8 @@ IsOfWords ended.NotText = HasFailed ended.NotText
 IsOfWords ended.Memory = HasFailed ended.Memory
 IsOfWords other = ⊥
 
--- the program ends before the first byte: for its words, for a file that can't be opened, or because
--- memory was refused
+-- the program ends before the first byte: for its words, for a file that can't be opened, or for
+-- want of memory, which was refused
 abbrev pub IsEarly : Ended → Type 0
 IsEarly (ended.Words error) = ⊤
 IsEarly (ended.Value option) = ⊤

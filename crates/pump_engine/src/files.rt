@@ -13,7 +13,7 @@ use std::io::{Read, Write};
 /// A file that was opened by its name.
 ///
 /// It can say by which one, what was written to it since then, whether that is flushed, and how its
-/// calls fail. Of the system's files nothing of that is said, but that each answer is one of theirs.
+/// calls fail. Of the system's files nothing of that is said, but each answer is one of theirs.
 pub trait NamedFile: Drop {
     ghost use Rattle.std.specs.declared.io.Error.{Error};
 
