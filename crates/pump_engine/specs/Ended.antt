@@ -10,7 +10,6 @@ use Rattle.piper_transfer.specs.declared.error.TransferError.{TransferError}
 use Rattle.piper_transfer.specs.declared.error.TransferError.TheVariants.{Read, Write, Full, Memory, Turns}
 use Rattle.pump_engine.specs.declared.ended.Ended.{Ended}
 use Rattle.pump_engine.specs.declared.ended.Ended.TheVariants as ended
-use Rattle.pump_engine.specs.declared.streams.Streams.{Streams}
 
 -- a transfer with this answer ends the program so. Where all was moved, a file that did not get its
 -- copy is reported. A write that fails with a broken pipe says that the program which read the
@@ -63,12 +62,10 @@ IsOfOption option text (ended.Value word) =
 IsOfOption option text ended.Memory = HasFailed ended.Memory
 IsOfOption option text other = ⊥
 
--- the stream that is reported was closed, or memory was refused
-abbrev pub IsOfClosed : Streams → Ended → Type 0
-IsOfClosed streams (ended.NoInput file) = streams.has_input ≡ false
-IsOfClosed streams (ended.NoOutput file) = streams.has_output ≡ false
-IsOfClosed streams ended.Memory = HasFailed ended.Memory
-IsOfClosed streams other = ⊥
+-- a word that is no number is reported with these, which the option takes
+abbrev pub IsOfRange : List ℕ → Ended → Type 0
+IsOfRange range (ended.Value word) = word.range.now ≡ range
+IsOfRange range other = ⊤
 
 -- what is reported names this file, unless it is reported that memory was refused
 abbrev pub IsToldOf : List ℕ → Ended → Type 0

@@ -1,5 +1,5 @@
 -- A rate that is kept, and the clock that it is kept by.
-use Rattle.std.specs.Prelude.{◌≡◌, ℕ, ◌*◌, ◌/◌, ◌-◌, ◌^◌, max, min, Option, Result}
+use Rattle.std.specs.Prelude.{◌≡◌, ℕ, ◌*◌, ◌/◌, ◌-◌, ◌^◌, max, min, Option, Result, option_map}
 use Rattle.std.specs.Duration.{as_nanos}
 use Rattle.std.specs.Result.{result_ok}
 use Rattle.std.specs.declared.io.Error.{Error}
@@ -18,6 +18,10 @@ pub record BeginsNow (pace : Pace) : Type 0 where
   pub since : IsOfClock pace.since
   pub owed : as_nanos pace.owed ≡ 0
   pub checked : as_nanos pace.checked ≡ 0
+
+-- bytes pass at this rate, if one is asked for
+abbrev pub HasRate : Option ℕ → Option Pace → Type 0
+HasRate rate pace = option_map (λ p. p.rate) pace ≡ rate
 
 -- for how many nanoseconds so many bytes last at so many a second
 abbrev pub nanos_of : ℕ → ℕ → ℕ

@@ -2,7 +2,7 @@
 ghost use Rattle.std.specs.Prelude.{◌≡◌, ◌⊎◌, IfErr, IfOk, string_bytes};
 ghost use Rattle.std.specs.Process.{exit_status};
 ghost use Rattle.piper_protocol.specs.Reported.{HasFailed};
-ghost use Rattle.pump_engine.specs.Ended.{EndsAs, HasStatus, IsOfOption, IsShown};
+ghost use Rattle.pump_engine.specs.Ended.{EndsAs, HasStatus, IsOfOption, IsOfRange, IsShown};
 
 use piper_protocol::reported::reported;
 use piper_transfer::TransferError;
@@ -42,7 +42,8 @@ pub struct NotTaken {
 
 /// That this word follows the option, which takes such numbers.
 pub fn not_taken(alloc: Global, option: &'static str, text: &str, range: &'static str) -> Ended
-    ensures { IsOfOption option.now text.now result }
+    ensures named { IsOfOption option.now text.now result }
+    ensures range { IsOfRange range.now result }
 {
     match reported(String::from_str(alloc, text).map_err(|_| Ended::Memory)) {
         Ok(text) => Ended::Value(NotTaken {

@@ -14,6 +14,7 @@ ghost use Rattle.pump_engine.specs.Ends.{KeepsHeld};
 ghost use Rattle.pump_engine.specs.Files.{IsJust};
 ghost use Rattle.pump_engine.specs.Opening.{AreApart, AreDistinct, HoldNothing, OpensNamed};
 ghost use Rattle.pump_engine.specs.Opening.{ReadsNamed, TellsSize, WritesNamed, founds_of, ids_of};
+ghost use Rattle.pump_engine.specs.Pace.{HasRate};
 
 use crate::arguments::Arguments;
 use crate::ended::{Ended, Unopened};
@@ -72,7 +73,7 @@ where
         (text_in arguments.now.texts.output) places.output output.old.drain output.new.drain) }
     ensures kept { KeepsHeld output.old.drain → OnOk result (KeepsHeld output.new.drain) }
     ensures copies { OnOk result (HavePassed F.name F.written F.fails output.new.copies
-        (parts_wanted arguments.now) []) }
+        (parts_wanted arguments.now) [] × HasRate rate output.new.copies.pace) }
     ensures apart { IfOk result (λ places. AreApart
         (places.input ∷ places.output ∷ founds_of output.new.copies.tees.items)) }
     ensures spared { arguments.now.overwrites ≡ false → IfOk result (λ places.

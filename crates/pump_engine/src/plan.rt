@@ -2,8 +2,8 @@
 //! whether there is an input and an output.
 ghost use Rattle.std.specs.Prelude.{◌≡◌, ◌≢◌, ◌≤◌, Some, None, IfErr, IfOk, OnOk, IfNone, IfSome, codes, true};
 ghost use Rattle.pump_engine.specs.Arguments.{IsSizeOf, text_in};
-ghost use Rattle.pump_engine.specs.Ended.{IsEarly, IsOfClosed, IsOfOption};
-ghost use Rattle.pump_engine.specs.Plan.{IsOfStream, IsRead, IsTotalOf};
+ghost use Rattle.pump_engine.specs.Ended.{IsEarly, IsOfOption};
+ghost use Rattle.pump_engine.specs.Plan.{IsOfClosed, IsOfStream, IsRead, IsTotalOf};
 
 use crate::arguments::Texts;
 use crate::ended::{Ended, Unopened, not_taken};
@@ -122,7 +122,7 @@ pub fn named<'a>(text: Option<&'a str>) -> Option<&'a str>
 /// Refuses a standard stream that was closed, where no file is named in its place.
 pub fn refuse_closed(alloc: Global, texts: Texts<'_>, streams: Streams) -> Result<(), Ended>
     ensures early { IfErr result IsEarly }
-    ensures closed { IfErr result (IsOfClosed streams) }
+    ensures closed { IfErr result (IsOfClosed texts.entry streams) }
     ensures input { OnOk result (IsOfStream (text_in texts.entry.input)
         → streams.has_input ≡ true) }
     ensures output { OnOk result (IsOfStream (text_in texts.entry.output)
