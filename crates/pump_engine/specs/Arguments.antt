@@ -95,7 +95,7 @@ IsSize text = (n : ℕ) × IsSizeOf text n
 abbrev pub tees_of : List Text → List Text
 tees_of words = unwrap_or (all_of (codes "tee") (said_by words)) []
 
--- a text, without the loan that it is behind
+-- the text that is borrowed, if there is one
 abbrev pub text_in : Option (Bor Text) → Option Text
 text_in text = option_map (λ s. s.now) text
 
