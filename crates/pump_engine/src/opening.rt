@@ -12,6 +12,7 @@ ghost use Rattle.pump_engine.specs.Asked.{parts_wanted};
 ghost use Rattle.pump_engine.specs.Ended.{IsOfFailure, IsToldOf, IsUnopened};
 ghost use Rattle.pump_engine.specs.Ends.{KeepsHeld};
 ghost use Rattle.pump_engine.specs.Files.{IsJust};
+ghost use Rattle.pump_engine.specs.Found.{IsFound};
 ghost use Rattle.pump_engine.specs.Opening.{AreApart, AreDistinct, HoldNothing, OpensNamed};
 ghost use Rattle.pump_engine.specs.Opening.{ReadsNamed, TellsSize, WritesNamed, founds_of, ids_of};
 ghost use Rattle.pump_engine.specs.Pace.{HasRate};
@@ -157,7 +158,9 @@ where
     })
 }
 
-fn found_of_input(files: &impl Files, input: &Option<impl NamedFile>) -> Found {
+fn found_of_input(files: &impl Files, input: &Option<impl NamedFile>) -> Found
+    ensures { IsFound result }
+{
     match input {
         Some(file) => Found::of_input(file),
         None => Found::at_input(files),
