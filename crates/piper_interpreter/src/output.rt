@@ -1,7 +1,7 @@
 //! What replies are written to.
 ghost use Rattle.std.specs.Prelude.{OnOk, ⊤};
 ghost use Rattle.std.specs.Io.KnownBytes.{Keeps};
-ghost use Rattle.piper_protocol.specs.Reported.{IsReported};
+ghost use Rattle.piper_protocol.specs.Reported.{IsOfStd};
 
 use piper_protocol::reported::reported;
 use std::io;
@@ -19,7 +19,7 @@ pub trait Output: Write {
     fn flush_all(&mut self) -> io::Result<()>
         ensures bytes { Keeps (Self.contents self.old) (Self.contents self.new) }
         ensures flushed { OnOk result (flushed self.new) }
-        ensures reported { IsReported result };
+        ensures reported { IsOfStd result };
 }
 
 impl<W: Write> Output for W {

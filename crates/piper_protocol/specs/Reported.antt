@@ -5,15 +5,15 @@
 use Rattle.std.specs.Prelude.{⊤, Result, Ok, Err, IfErr}
 
 -- a call of std returned this
-pub IsReported : {T E : Type 0} → Result T E → Type 0
-IsReported result = ⊤
+pub IsOfStd : {T E : Type 0} → Result T E → Type 0
+IsOfStd result = ⊤
 
 -- a call of std failed with this
 pub HasFailed : {E : Type 0} → E → Type 0
 HasFailed error = ⊤
 
-pub as_reported : {T E : Type 0} (result : Result T E) → IsReported result
-unfolding IsReported
+pub as_reported : {T E : Type 0} (result : Result T E) → IsOfStd result
+unfolding IsOfStd
 as_reported result = tt
 
 pub as_failed : {E : Type 0} (error : E) → HasFailed error

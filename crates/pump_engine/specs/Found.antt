@@ -3,7 +3,7 @@ use Rattle.std.specs.Prelude.{◌≡◌, None, IsSome, Result, Ok, Err}
 use Rattle.std.specs.Fs.{IsFile, file_type, metadata_len}
 use Rattle.std.specs.declared.fs.Metadata.{Metadata}
 use Rattle.std.specs.declared.io.Error.{Error}
-use Rattle.piper_protocol.specs.Reported.{IsReported}
+use Rattle.piper_protocol.specs.Reported.{IsOfStd}
 use Rattle.pump_engine.specs.declared.found.Found.{Found}
 
 -- no regular file, which holds nothing
@@ -21,5 +21,5 @@ TellsFound (Err e) found = IsOther found
 -- the system was asked, and this is what its answer tells
 pub record IsFound (found : Found) : Type 0 where
   pub read : Result Metadata Error
-  pub is_read : IsReported read
+  pub is_read : IsOfStd read
   pub tells : TellsFound read found

@@ -4,13 +4,13 @@ use Rattle.std.specs.Duration.{as_nanos}
 use Rattle.std.specs.Result.{result_ok}
 use Rattle.std.specs.declared.io.Error.{Error}
 use Rattle.std.specs.declared.time.Instant.{Instant}
-use Rattle.piper_protocol.specs.Reported.{IsReported}
+use Rattle.piper_protocol.specs.Reported.{IsOfStd}
 use Rattle.pump_engine.specs.declared.pace.Pace.{Pace}
 
 -- the clock was read, and gave this time, or none where that failed
 pub record IsOfClock (time : Option Instant) : Type 0 where
   pub read : Result Instant Error
-  pub is_read : IsReported read
+  pub is_read : IsOfStd read
   pub is : time ≡ result_ok read
 
 -- its time counts from now, and no byte has passed since

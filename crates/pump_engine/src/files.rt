@@ -2,7 +2,7 @@
 ghost use Rattle.std.specs.Prelude.{◌≡◌, ◌<◌, ℕ, List, [], length, Option, None, Ok, OnOk, IfOk, IfErr, ⊤};
 ghost use Rattle.std.specs.Io.{ReadsAtMost, WritesAtMost};
 ghost use Rattle.std.specs.Io.KnownBytes.{append_known, ReadConsumes};
-ghost use Rattle.piper_protocol.specs.Reported.{HasFailed, IsReported};
+ghost use Rattle.piper_protocol.specs.Reported.{HasFailed, IsOfStd};
 ghost use Rattle.pump_engine.specs.Files.{IsJust, Writes};
 
 use piper_protocol::reported::reported;
@@ -37,7 +37,7 @@ pub trait NamedFile: Drop {
 
     /// What the system reports of it.
     fn attributes(&self) -> io::Result<Metadata>
-        ensures reported { IsReported result }
+        ensures reported { IsOfStd result }
         ensures failed { IfErr result HasFailed };
 
     /// Reads bytes to the front of `buf`, and returns how many; 0 where `buf` has room is the end.
@@ -45,14 +45,14 @@ pub trait NamedFile: Drop {
         ensures bound { ReadsAtMost result buf.new }
         ensures bytes { ReadConsumes (remaining self.old) (remaining self.new) result buf.new }
         ensures error { IfErr result (fails self.new) }
-        ensures reported { IsReported result };
+        ensures reported { IsOfStd result };
 
     /// Cuts off what it held where it was opened.
     fn cut(&mut self) -> io::Result<()>
         ensures name { name self.new ≡ name self.old }
         ensures bytes { written self.new ≡ written self.old }
         ensures error { IfErr result (fails self.new) }
-        ensures reported { IsReported result };
+        ensures reported { IsOfStd result };
 
     /// Writes bytes from the front of `buf`, and returns how many.
     fn write(&mut self, buf: &[u8]) -> io::Result<usize>
@@ -61,14 +61,14 @@ pub trait NamedFile: Drop {
         ensures bytes { Writes (written self.old) (written self.new) result buf.now }
         ensures full { result ≡ Ok 0 → 0 < length buf.now → full self.new }
         ensures error { IfErr result (fails self.new) }
-        ensures reported { IsReported result };
+        ensures reported { IsOfStd result };
 
     /// Writes all of `buf`.
     fn write_all(&mut self, buf: &[u8]) -> io::Result<()>
         ensures name { name self.new ≡ name self.old }
         ensures bytes { OnOk result (written self.new ≡ append_known (written self.old) buf.now) }
         ensures error { IfErr result (fails self.new) }
-        ensures reported { IsReported result };
+        ensures reported { IsOfStd result };
 
     /// Sends what was written on its way.
     fn flush(&mut self) -> io::Result<()>
@@ -76,7 +76,7 @@ pub trait NamedFile: Drop {
         ensures bytes { written self.new ≡ written self.old }
         ensures done { OnOk result (flushed self.new) }
         ensures error { IfErr result (fails self.new) }
-        ensures reported { IsReported result };
+        ensures reported { IsOfStd result };
 }
 
 /// Opens files by their names.
@@ -84,14 +84,14 @@ pub trait Opens<F: NamedFile> {
     /// Opens it to be read.
     fn open(&self, name: &str) -> io::Result<F>
         ensures name { IfOk result (λ file. IsJust (F.name file) name.now) }
-        ensures reported { IsReported result }
+        ensures reported { IsOfStd result }
         ensures failed { IfErr result HasFailed };
 
     /// Opens it to be written, or makes it where there is none. It keeps what it holds.
     fn open_to_write(&self, name: &str) -> io::Result<F>
         ensures name { IfOk result (λ file. IsJust (F.name file) name.now) }
         ensures bytes { IfOk result (λ file. IsJust (F.written file) []) }
-        ensures reported { IsReported result }
+        ensures reported { IsOfStd result }
         ensures failed { IfErr result HasFailed };
 }
 

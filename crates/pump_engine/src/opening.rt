@@ -5,7 +5,7 @@ ghost use Rattle.std.specs.Fs.{IsFile, file_type, metadata_len};
 ghost use Rattle.std.specs.List.{All};
 ghost use Rattle.std.specs.declared.fs.Metadata.{Metadata};
 ghost use Rattle.std.specs.declared.io.Error.{Error};
-ghost use Rattle.piper_protocol.specs.Reported.{IsReported};
+ghost use Rattle.piper_protocol.specs.Reported.{IsOfStd};
 ghost use Rattle.pump_engine.specs.Arguments.{text_in};
 ghost use Rattle.pump_engine.specs.Copies.{HavePassed, IsCopy, names_of};
 ghost use Rattle.pump_engine.specs.Asked.{parts_wanted};
@@ -335,7 +335,7 @@ where
     R: Files + AllocGlobal,
     F: NamedFile,
     S: Source + Drop,
-    ensures { (read : Result Metadata Error) × IsReported read × TellsSize read result }
+    ensures { (read : Result Metadata Error) × IsOfStd read × TellsSize read result }
 {
     match input {
         Inlet::File(file) => len_of(&file.attributes().ok()?),

@@ -2,7 +2,7 @@
 ghost use Rattle.std.specs.Prelude.{◌≡◌, IfErr, IfOk, IsSome, Result, false};
 ghost use Rattle.std.specs.declared.fd.OwnedFd.{OwnedFd};
 ghost use Rattle.std.specs.declared.io.Error.{Error};
-ghost use Rattle.piper_protocol.specs.Reported.{IsReported};
+ghost use Rattle.piper_protocol.specs.Reported.{IsOfStd};
 ghost use Rattle.pump_engine.specs.Ended.{IsEarly, IsOfFailure};
 ghost use Rattle.pump_engine.specs.Streams.{TellsOpen};
 
@@ -41,7 +41,7 @@ pub struct Fillers {
 
 /// Whether this stream is open.
 pub fn is_open(stream: &impl AsFd) -> bool
-    ensures { (copied : Result OwnedFd Error) × IsReported copied × TellsOpen copied result }
+    ensures { (copied : Result OwnedFd Error) × IsOfStd copied × TellsOpen copied result }
 {
     match reported(stream.as_fd().try_clone_to_owned()) {
         Ok(_) => true,

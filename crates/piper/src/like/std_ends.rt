@@ -5,7 +5,7 @@
 ghost use Rattle.std.specs.Prelude.{◌≡◌, ◌<◌, length, Ok, OnOk, IfErr, ⊤};
 ghost use Rattle.std.specs.Io.{ReadsAtMost, WritesAtMost};
 ghost use Rattle.std.specs.Io.KnownBytes.{Keeps, ReadConsumes, WriteAppends};
-ghost use Rattle.piper_protocol.specs.Reported.{IsReported};
+ghost use Rattle.piper_protocol.specs.Reported.{IsOfStd};
 
 use piper_protocol::reported::reported;
 use std::io;
@@ -24,7 +24,7 @@ pub trait StdReader: Read {
         ensures bytes { ReadConsumes (Self.remaining self.old) (Self.remaining self.new)
             result dest.new }
         ensures error { IfErr result (λ e. fails self.old e self.new) }
-        ensures reported { IsReported result };
+        ensures reported { IsOfStd result };
 }
 
 /// A writer of std: each is one.
@@ -47,14 +47,14 @@ pub trait StdWriter: Write {
             result source.now }
         ensures full { result ≡ Ok 0 → 0 < length source.now → full self.new }
         ensures error { IfErr result (λ e. fails self.old e self.new) }
-        ensures reported { IsReported result };
+        ensures reported { IsOfStd result };
 
     /// Sends what was written on its way.
     fn flush_once(&mut self) -> io::Result<()>
         ensures bytes { Keeps (Self.contents self.old) (Self.contents self.new) }
         ensures done { OnOk result (flushed self.new) }
         ensures error { IfErr result (λ e. fails self.old e self.new) }
-        ensures reported { IsReported result };
+        ensures reported { IsOfStd result };
 }
 
 impl<R: Read> StdReader for R {
