@@ -9,7 +9,7 @@ use Rattle.piper.specs.declared.owned.OwnedReader.{OwnedReader}
 use Rattle.piper.specs.declared.owned.OwnedWriter.{OwnedWriter}
 use Rattle.piper_futures.specs.Draining.{DrainsOn, DrainedAll}
 use Rattle.piper_futures.specs.Filling.{FillsOn, FillEnded, FilledAll}
-use Rattle.piper_futures.specs.Moving.{IsIo}
+use Rattle.piper_futures.specs.Moving.{IsIo, IsOfWrite}
 use Rattle.piper_futures.specs.Writing.{FailsOnce}
 use Rattle.piper_futures.specs.Threads.{FilledTo, DrainedTo, WhyFilled}
 use Rattle.piper_futures.specs.declared.failed.Failed.{Failed}
@@ -81,7 +81,7 @@ module _ {D : Type 0} (contents : D → Option (List ℕ)) (told : OwnedReader �
 
   pub drain_failed : (state : Option (OwnedReader × D)) (r : OwnedReader) (d : D) (failed : Failed (OwnedReader × D)) (output : Result (OwnedReader × D) (Failed (OwnedReader × D))) (left : Drained D)
       → state ≡ Some (r, d) → output ≡ Err failed → GivenOut state output → left.dest ≡ failed.left.1 → left.told.consumed.count ≡ length failed.left.0.end.taken
-      → DrainedTo contents r d left × (FailsOnce fails failed.left.0 failed.error ⊎ IsIo failed.error)
+      → DrainedTo contents r d left × (FailsOnce fails failed.left.0 failed.error ⊎ IsOfWrite failed.error)
   drain_failed state r d failed output left began is given dest count =
       let all : AllOut r d (Err failed) = subst (λ o. AllOut r d o) is (subst (λ st. GivenOut st output) began given) in
       (drained_to r failed.left.0 d failed.left.1 left all.0 dest count, ⊎_elim (λ own. inl own) (λ std. inr std.0) all.1)

@@ -5,7 +5,7 @@ use Rattle.futures.specs.declared.task.context.Context.{Context}
 use Rattle.piper.specs.declared.error.PipeError.{PipeError}
 use Rattle.piper_lines.specs.AtEnd.{AtEnd}
 use Rattle.piper_lines.specs.Stays.{ReaderStays}
-use Rattle.piper_futures.specs.Moving.{IsIo}
+use Rattle.piper_futures.specs.Moving.{IsOfWrite}
 use Rattle.piper_futures.specs.Writing.{FailsOnce}
 use Rattle.piper_futures.specs.declared.failed.Failed.{Failed}
 use Rattle.piper_futures.specs.declared.drain.Draining.{Draining}
@@ -34,7 +34,7 @@ module _ {R D : Type 0} (taken known : R → List ℕ) (saw told : R → Bool) (
   DrainedAll r d (Err failed) =
       DrainsOn (taken r) (taken failed.left.0) (contents d) (contents failed.left.1)
       × (FailsOnce fails failed.left.0 failed.error
-      ⊎ (IsIo failed.error × (0 < length (known failed.left.0))))
+      ⊎ (IsOfWrite failed.error × (0 < length (known failed.left.0))))
       × ReaderStays told woken r failed.left.0
 
   -- what the future may give, of the ends that it holds

@@ -14,7 +14,7 @@ use Rattle.piper_protocol.specs.Reported.{HasFailed}
 use Rattle.piper_lines.specs.AtEnd.{AtEnd}
 use Rattle.piper_futures.specs.Draining.{DrainsOn}
 use Rattle.piper_futures.specs.Filling.{FillsOn}
-use Rattle.piper_futures.specs.Moving.{IsIo}
+use Rattle.piper_futures.specs.Moving.{IsIo, IsOfWrite}
 use Rattle.piper_futures.specs.declared.failed.Failed.{Failed}
 use Rattle.piper_futures.specs.declared.threads.Drained.{Drained}
 use Rattle.piper_futures.specs.declared.threads.Filled.{Filled}
@@ -67,7 +67,7 @@ module _ {D : Type 0} (contents : D → Option (List ℕ)) where
   -- likewise
   abbrev pub LeftByDrain : OwnedReader → D → Option (Drained D) → PipeError → Type 0
   LeftByDrain r d None e = IsOfWait e
-  LeftByDrain r d (Some left) e = DrainedTo r d left × (IsOfWaker e ⊎ IsIo e)
+  LeftByDrain r d (Some left) e = DrainedTo r d left × (IsOfWaker e ⊎ IsOfWrite e)
 
   -- all was moved out of the pipe, up to its end; or the reader or the writer of std failed, and
   -- what was taken before was written

@@ -6,7 +6,7 @@ ghost use Rattle.piper.specs.Polls.{IfReadyErr};
 ghost use Rattle.piper_lines.specs.AtEnd.{AtEnd};
 ghost use Rattle.piper_lines.specs.Stays.{Pends, ReaderStays};
 ghost use Rattle.piper_futures.specs.Draining.{DrainsOn, GivesDrained, StartsDraining, drain_ends};
-ghost use Rattle.piper_futures.specs.Moving.{IsIo};
+ghost use Rattle.piper_futures.specs.Moving.{IsOfWrite};
 ghost use Rattle.piper_futures.specs.Polling.{Needs, WaitsOrTook};
 
 use crate::debug::moving;
@@ -15,6 +15,7 @@ use futures::Future;
 use futures::task::{Context, Poll};
 use piper::PipeError;
 use piper::io::AsyncBufRead;
+use piper::like::StdWriter;
 use std::fmt::{self, Debug, Formatter};
 use std::io::{self, Write};
 
@@ -92,7 +93,7 @@ pub fn poll_drain_into<R: AsyncBufRead, D: Write>(
         AtEnd (R.known reader.new) (R.saw reader.new) }
     ensures ends { result ≡ Poll.Ready (Ok (record {})) → R.ended reader.new }
     ensures error { IfReadyErr result (λ e. R.fails reader.new cx.new e
-        ⊎ (IsIo e × (0 < length (R.known reader.new)))) }
+        ⊎ (IsOfWrite e × (0 < length (R.known reader.new)))) }
     ensures stays { ReaderStays R.told R.woken reader.old reader.new }
     ensures pends { OnPending result (Pends R.known R.told R.waits reader.new
         (length (R.taken reader.old) < length (R.taken reader.new)) cx.new) }
@@ -108,7 +109,7 @@ pub fn poll_drain_into<R: AsyncBufRead, D: Write>(
         if piece.is_empty() {
             return Poll::Ready(Ok(()));
         }
-        match dest.write(piece) {
+        match dest.write_once(piece) {
             Err(error) => return Poll::Ready(Err(PipeError::Io(error))),
             Ok(0) => return Poll::Ready(Err(PipeError::Io(io::ErrorKind::WriteZero.into()))),
             Ok(count) => reader.consume(count),

@@ -5,7 +5,7 @@
 ghost use Rattle.std.specs.Prelude.{◌≡◌, ◌<◌, length, Ok, OnOk, IfErr, ⊤};
 ghost use Rattle.std.specs.Io.{ReadsAtMost, WritesAtMost};
 ghost use Rattle.std.specs.Io.KnownBytes.{Keeps, ReadConsumes, WriteAppends};
-ghost use Rattle.piper_protocol.specs.Reported.{IsOfStd};
+ghost use Rattle.piper_protocol.specs.Reported.{HasFailed, IsOfStd};
 
 use piper_protocol::reported::reported;
 use std::io;
@@ -58,7 +58,7 @@ pub trait StdWriter: Write {
 }
 
 impl<R: Read> StdReader for R {
-    ghost fails = { λ _ _ _. ⊤ };
+    ghost fails = { λ _ e _. HasFailed e };
 
     #[inline(always)]
     fn read_once(&mut self, dest: &mut [u8]) -> io::Result<usize> {
@@ -71,7 +71,7 @@ impl<W: Write> StdWriter for W {
 
     ghost flushed = { λ _. ⊤ };
 
-    ghost fails = { λ _ _ _. ⊤ };
+    ghost fails = { λ _ e _. HasFailed e };
 
     #[inline(always)]
     fn write_once(&mut self, source: &[u8]) -> io::Result<usize> {

@@ -1,5 +1,5 @@
 use Rattle.std.proofs.Common.{rules, ◌≡◌, ◌<◌, ◌⊎◌, length, sym}
-use Rattle.piper_futures.specs.Moving.{IsIo}
+use Rattle.piper_futures.specs.Moving.{IsOfWrite}
 use Rattle.piper_futures.specs.Writing.{FailsOnce}
 use Rattle.piper_futures.proofs.DrainingOn.{drained_then}
 use Rattle.piper_futures.proofs.Failing.{fails_while}
@@ -13,6 +13,6 @@ returns-in-Pending-clause-same g c = λ output gave.
 pub returns-in-Ready-Err-clause-value : goal.returns-in-Ready-Err-clause-value
 returns-in-Ready-Err-clause-value g c =
     let same : c.unwrap-left.result.0 ≡ c.poll_drain_into.new.reader = search rules in
-    let own : FailsOnce g.R.AsyncBufRead.fails c.unwrap-left.result.0 c.in-Ready-Err.error ⊎ (IsIo c.in-Ready-Err.error × (0 < length (g.R.AsyncBufRead.known c.unwrap-left.result.0))) =
+    let own : FailsOnce g.R.AsyncBufRead.fails c.unwrap-left.result.0 c.in-Ready-Err.error ⊎ (IsOfWrite c.in-Ready-Err.error × (0 < length (g.R.AsyncBufRead.known c.unwrap-left.result.0))) =
     fails_while g.R.AsyncBufRead.fails g.R.AsyncBufRead.known _ _ _ _ (sym same) (rw c.in-Ready-Err.field-0-is at c.in-Ready-Err.ensures.error) in
     search rules
