@@ -1,5 +1,5 @@
 -- Which side's error is reported, and whether all was written then.
-use Rattle.std.proofs.Common.{◌≡◌, Result, Ok, Err, sym, subst}
+use Rattle.std.proofs.Common.{◌≡◌, Result, Ok, Err, inl, sym, subst}
 use Rattle.std.specs.Prelude.{IfErr, OnOk}
 use Rattle.std.specs.Result.{result_and}
 use Rattle.std.specs.declared.io.Error.{Error}
@@ -27,22 +27,22 @@ of_memory : (s d : Error → Type 0) (full : Type 0) (e : TransferError) → IsO
 of_memory s d full (Read x) reported = absurd reported
 of_memory s d full (Write x) reported = absurd reported
 of_memory s d full Full reported = absurd reported
-of_memory s d full Memory reported = tt
-of_memory s d full (Turns x) reported = tt
+of_memory s d full Memory reported = inl reported
+of_memory s d full (Turns x) reported = reported
 
 pub of_destination : (s d : Error → Type 0) (full : Type 0) (e : TransferError) → IsOfDestination d full e → IsOfSide s d full e
 of_destination s d full (Read x) reported = absurd reported
 of_destination s d full (Write x) reported = reported
 of_destination s d full Full reported = reported
-of_destination s d full Memory reported = tt
-of_destination s d full (Turns x) reported = tt
+of_destination s d full Memory reported = inl reported
+of_destination s d full (Turns x) reported = reported
 
 of_source : (s d : Error → Type 0) (full : Type 0) (e : TransferError) → IsOfSource s e → IsOfSide s d full e
 of_source s d full (Read x) reported = reported
 of_source s d full (Write x) reported = absurd reported
 of_source s d full Full reported = absurd reported
-of_source s d full Memory reported = tt
-of_source s d full (Turns x) reported = tt
+of_source s d full Memory reported = reported
+of_source s d full (Turns x) reported = reported
 
 -- a pipe that was refused: nothing is written
 pub refused_writes_none : (r : Result Unit TransferError) → OnOk r ⊥ → IfErr r IsOfMemory → ¬ WritesAll r

@@ -4,6 +4,7 @@ use Rattle.std.specs.IoError.{error_kind}
 use Rattle.std.specs.declared.io.Error.{Error}
 use Rattle.std.specs.declared.io.ErrorKind.TheVariants.{Interrupted, WouldBlock}
 use Rattle.std.specs.Io.KnownBytes.{Consumes, Appends, IsAtEnd}
+use Rattle.piper_protocol.specs.Reported.{HasFailed}
 use Rattle.piper.specs.Ends.{IsEnded}
 use Rattle.piper.specs.ReadView.{ReadView}
 use Rattle.piper.specs.WriteView.{WriteView}
@@ -74,11 +75,21 @@ pub record IsLasting (e : Error) : Type 0 where
   pub heard : error_kind e ≢ Interrupted
   pub due : error_kind e ≢ WouldBlock
 
--- the side that reads the input may report this error: a read has failed so, or memory was refused
+-- a side was told to end, since the other one had failed. It is sealed: no proof looks into it, and
+-- only that of `stopped` uses the lemma below
+pub IsStopped : TransferError → Type 0
+IsStopped error = ⊤
+
+pub as_stopped : (error : TransferError) → IsStopped error
+unfolding IsStopped
+as_stopped error = tt
+
+-- the side that reads the input may report this error: a read has failed so, memory was refused, or
+-- the side was told to end
 abbrev pub IsOfSource : (Error → Type 0) → TransferError → Type 0
 IsOfSource fails (Read e) = fails e × IsLasting e
-IsOfSource fails Memory = ⊤
-IsOfSource fails (Turns e) = ⊤
+IsOfSource fails Memory = HasFailed Memory ⊎ IsStopped Memory
+IsOfSource fails (Turns e) = HasFailed e
 IsOfSource fails other = ⊥
 
 -- the side that writes the output may report this error: a write or a flush has failed so, a write
@@ -87,13 +98,13 @@ abbrev pub IsOfDestination : (Error → Type 0) → Type 0 → TransferError →
 IsOfDestination fails full (Read e) = ⊥
 IsOfDestination fails full (Write e) = fails e × IsLasting e
 IsOfDestination fails full Full = full
-IsOfDestination fails full Memory = ⊤
-IsOfDestination fails full (Turns e) = ⊤
+IsOfDestination fails full Memory = HasFailed Memory
+IsOfDestination fails full (Turns e) = HasFailed e
 
 -- memory was refused: for the pipe, for a waker, or for the turns of a thread
 abbrev pub IsOfMemory : TransferError → Type 0
-IsOfMemory Memory = ⊤
-IsOfMemory (Turns e) = ⊤
+IsOfMemory Memory = HasFailed Memory
+IsOfMemory (Turns e) = HasFailed e
 IsOfMemory other = ⊥
 
 -- the error is of the side that it names
@@ -101,8 +112,8 @@ abbrev pub IsOfSide : (Error → Type 0) → (Error → Type 0) → Type 0 → T
 IsOfSide read written full (Read e) = read e × IsLasting e
 IsOfSide read written full (Write e) = written e × IsLasting e
 IsOfSide read written full Full = full
-IsOfSide read written full Memory = ⊤
-IsOfSide read written full (Turns e) = ⊤
+IsOfSide read written full Memory = HasFailed Memory ⊎ IsStopped Memory
+IsOfSide read written full (Turns e) = HasFailed e
 
 -- what the output was given is a front of what the input gave
 pub record Transfers {D : Type 0}

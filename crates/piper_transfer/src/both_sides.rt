@@ -17,6 +17,7 @@ use crate::patience::flush_patiently;
 use crate::start::{Start, grants_thread};
 use crate::turns::{Input, Output, Turns};
 use piper::{Writer, pipe};
+use piper_protocol::reported::reported;
 use std::alloc::AllocGlobal;
 use std::marker::Send;
 use std::random::RandomSource;
@@ -96,9 +97,8 @@ where
 {
     let input_turns = Turns::new(rt).map_err(TransferError::Turns)?;
     let output_turns = Turns::new(rt).map_err(TransferError::Turns)?;
-    let Ok((reader, writer)) = pipe(rt.alloc(), capacity, 1) else {
-        return Err(TransferError::Memory);
-    };
+    let opened = pipe(rt.alloc(), capacity, 1).map_err(|_| TransferError::Memory);
+    let (reader, writer) = reported(opened)?;
     let input = Input {
         turns: input_turns,
         writer,

@@ -16,6 +16,7 @@ use crate::start::Start;
 use crate::turns::{Output, Turns};
 use futures::task::{Context, Poll};
 use piper::Reader;
+use piper_protocol::reported::reported;
 use std::sync::Wait;
 use std::time::{Clock, Duration};
 use std::{io, thread};
@@ -121,9 +122,7 @@ where
 {
     for _ in rt.forever() {
         meter.side.begin_wait(rt);
-        let Some(mut cx) = turns.next(rt) else {
-            return Err(TransferError::Memory);
-        };
+        let mut cx = reported(turns.next(rt).ok_or(TransferError::Memory))?;
         await_level(rt, reader, level);
         meter.side.end_wait(rt);
         let turn = drain_turn(rt, &mut cx, reader, dest, chunk, meter);
@@ -175,11 +174,14 @@ where
     ensures armed { OnPending result (IsArmed cx.new) }
 {
     for _ in rt.forever() {
-        match reader.poll(cx) {
+        let looked = match reader.poll(cx) {
             Poll::Pending => return Poll::Pending,
-            Poll::Ready(Ok(true)) => {}
-            Poll::Ready(Ok(false)) => return Poll::Ready(Ok(())),
-            Poll::Ready(Err(_)) => return Poll::Ready(Err(TransferError::Memory)),
+            Poll::Ready(looked) => reported(looked.map_err(|_| TransferError::Memory)),
+        };
+        match looked {
+            Ok(true) => {}
+            Ok(false) => return Poll::Ready(Ok(())),
+            Err(error) => return Poll::Ready(Err(error)),
         }
         if let Err(error) = write_some(rt, reader, dest, chunk, meter) {
             return Poll::Ready(Err(error));

@@ -1,5 +1,6 @@
 //! Why a transfer stopped before the input's end.
 ghost use Rattle.std.specs.Prelude.{◌≡◌};
+ghost use Rattle.piper_transfer.specs.Transfer.{IsStopped};
 
 use std::io;
 use thiserror::Error;
@@ -28,7 +29,8 @@ pub enum TransferError {
 /// What a side returns that was asked to end because the other one has failed. The other one's
 /// error is reported then, and never this one.
 pub(crate) fn stopped() -> TransferError
-    ensures { result ≡ TransferError.Memory }
+    ensures value { result ≡ TransferError.Memory }
+    ensures stopped { IsStopped result }
 {
     TransferError::Memory
 }

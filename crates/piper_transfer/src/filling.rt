@@ -14,6 +14,7 @@ use crate::start::Start;
 use crate::turns::Turns;
 use futures::task::{Context, Poll};
 use piper::Writer;
+use piper_protocol::reported::reported;
 use std::sync::Wait;
 use std::time::Clock;
 
@@ -67,9 +68,7 @@ where
 {
     for _ in rt.forever() {
         meter.side.begin_wait(rt);
-        let Some(mut cx) = turns.next(rt) else {
-            return Err(TransferError::Memory);
-        };
+        let mut cx = reported(turns.next(rt).ok_or(TransferError::Memory))?;
         meter.side.end_wait(rt);
         let turn = fill_turn(rt, &mut cx, source, writer, chunk, meter);
         cx.end(&turn);
@@ -106,11 +105,14 @@ where
         if meter.is_output_over() {
             return close(cx, writer, Err(stopped()));
         }
-        match writer.poll(cx) {
+        let looked = match writer.poll(cx) {
             Poll::Pending => return Poll::Pending,
-            Poll::Ready(Ok(true)) => {}
-            Poll::Ready(Ok(false)) => return close(cx, writer, Err(stopped())),
-            Poll::Ready(Err(_)) => return close(cx, writer, Err(TransferError::Memory)),
+            Poll::Ready(looked) => reported(looked.map_err(|_| TransferError::Memory)),
+        };
+        match looked {
+            Ok(true) => {}
+            Ok(false) => return close(cx, writer, Err(stopped())),
+            Err(error) => return close(cx, writer, Err(error)),
         }
         match read_chunk(rt, source, writer, piece.len(), meter) {
             Ok(0) => return close(cx, writer, Ok(())),

@@ -1,8 +1,10 @@
 //! A thread that polls a pipe and sleeps until its waker is called.
-ghost use Rattle.std.specs.Prelude.{◌≡◌};
+ghost use Rattle.std.specs.Prelude.{◌≡◌, IfErr};
+ghost use Rattle.piper_protocol.specs.Reported.{HasFailed};
 
 use futures::task::{Context, Doorbell, Queue};
 use piper::{Reader, Writer};
+use piper_protocol::reported::reported;
 use std::alloc::AllocGlobal;
 use std::io;
 use std::random::RandomSource;
@@ -16,9 +18,11 @@ pub(crate) struct Turns {
 }
 
 impl Turns {
-    pub(crate) fn new(rt: &(impl RandomSource + AllocGlobal)) -> io::Result<Turns> {
-        let queue = Queue::new(rt, Doorbell::parking())?;
-        queue.add()?.schedule();
+    pub(crate) fn new(rt: &(impl RandomSource + AllocGlobal)) -> io::Result<Turns>
+        ensures { IfErr result HasFailed }
+    {
+        let queue = reported(Queue::new(rt, Doorbell::parking()))?;
+        reported(queue.add().map_err(io::Error::from))?.schedule();
         Ok(Turns { queue })
     }
 

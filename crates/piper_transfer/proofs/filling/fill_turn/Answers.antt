@@ -12,16 +12,16 @@ returns-then-is_output_over-clause-fed g c = fed_same _ _ _ _ _ c.loop.invariant
 pub returns-in-Pending-clause-fed : goal.returns-in-Pending-clause-fed
 returns-in-Pending-clause-fed g c = fed_looked _ _ _ _ _ c.loop.invariant.2 c.poll.ensures.found.looked
 
-pub returns-in-Ready-Ok-false-clause-fed : goal.returns-in-Ready-Ok-false-clause-fed
-returns-in-Ready-Ok-false-clause-fed g c =
+pub returns-in-Ok-false-clause-fed : goal.returns-in-Ok-false-clause-fed
+returns-in-Ok-false-clause-fed g c =
     let looked = c.poll.ensures.found.looked in
-    let closed = c.close-in-Ready-Ok-false.ensures in
+    let closed = c.close-in-Ok-false.ensures in
     fed_same _ _ _ _ _ c.loop.invariant.2 (closed.sent ∙ looked.sent) (closed.ring ∙ looked.end.ring)
 
-pub returns-in-Ready-Err-clause-fed : goal.returns-in-Ready-Err-clause-fed
-returns-in-Ready-Err-clause-fed g c =
+pub returns-in-Err-clause-fed : goal.returns-in-Err-clause-fed
+returns-in-Err-clause-fed g c =
     let looked = c.poll.ensures.found.looked in
-    let closed = c.close-in-Ready-Err.ensures in
+    let closed = c.close-in-Err.ensures in
     fed_same _ _ _ _ _ c.loop.invariant.2 (closed.sent ∙ looked.sent) (closed.ring ∙ looked.end.ring)
 
 pub returns-in-Ok-eq0-clause-fed : goal.returns-in-Ok-eq0-clause-fed
@@ -30,10 +30,10 @@ returns-in-Ok-eq0-clause-fed g c =
     let closed = c.close-in-Ok-eq0.ensures in
     fed_same _ _ _ _ _ read closed.sent closed.ring
 
-pub returns-in-Err-clause-fed : goal.returns-in-Err-clause-fed
-returns-in-Err-clause-fed g c =
+pub returns-in-Err-read_chunk-clause-fed : goal.returns-in-Err-read_chunk-clause-fed
+returns-in-Err-read_chunk-clause-fed g c =
     let read = fed_round _ _ _ _ _ _ _ c.loop.invariant.2 c.poll.ensures.found.looked c.read_chunk.ensures.fed in
-    let closed = c.close-in-Err.ensures in
+    let closed = c.close-in-Err-read_chunk.ensures in
     fed_same _ _ _ _ _ read closed.sent closed.ring
 
 pub loop-preserved : goal.loop-preserved
