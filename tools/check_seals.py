@@ -1,5 +1,5 @@
 #!/usr/bin/env python3
-"""Says whether a proof uses a sealed definition that may not.
+"""Says whether a sealed definition is used by who may not.
 
 What such a definition holds of is evidence that a certain call was made. The lemma that gives it is
 for the proof of that call alone, and each use of it elsewhere is reported.
@@ -37,8 +37,8 @@ SEALS = {
 
 
 def uses():
-    """Each file with a lemma of these in it, as (lemma, path below crates/)."""
-    for path in sorted((TOP / "crates").glob("*/[sp]*/**/*.antt")):
+    """Each source, spec or proof with a lemma of these in it, as (lemma, path below crates/)."""
+    for path in sorted((TOP / "crates").glob("*/[sp]*/**/*.*t")):
         words = set(re.findall(r"[\w-]+", path.read_text()))
         for lemma in sorted(words & SEALS.keys()):
             yield lemma, str(path.relative_to(TOP / "crates").with_suffix(""))
@@ -51,7 +51,7 @@ def main():
         if path == home or str(Path(path).parent) in proofs:
             seen.add((lemma, path))
         else:
-            wrong.append(f"{path}.antt uses {lemma}")
+            wrong.append(f"{path} uses {lemma}")
     missing = [lemma for lemma, (home, _proofs) in SEALS.items() if (lemma, home) not in seen]
     wrong += [f"{lemma} is not where this tool looks for it" for lemma in missing]
     print("\n".join(wrong + [f"{len(SEALS)} sealed lemmas, {len(wrong)} wrong uses"]))
