@@ -5,7 +5,7 @@ use Rattle.futures.specs.declared.task.Poll.{Poll}
 use Rattle.futures.specs.declared.task.Poll.TheVariants.{Ready}
 use Rattle.piper_protocol.specs.declared.table.Found.TheVariants.{Nothing as nothing, Moved as moved, Waker as waker, Flag as flag}
 use Rattle.piper_protocol.specs.Table.{Next, goes_on, ends, count_answer, write_step, writer_moved, writer_rounds}
-use Rattle.piper_protocol.specs.declared.events.Answer.{Answer}
+use Rattle.piper_protocol.specs.declared.answer.Answer.{Answer}
 use Rattle.piper_protocol.specs.declared.table.Form.{Form}
 use Rattle.piper_protocol.specs.declared.table.Form.TheVariants.{Try, Polling}
 use Rattle.piper_protocol.specs.declared.table.AfterWrite.TheVariants as after_write

@@ -1,7 +1,7 @@
 -- Once the waker that was taken is called, the call goes on as where none was registered in the
 -- slot.
 use Rattle.std.proofs.Common.{◌≡◌, Bool, true, false, refl}
-use Rattle.piper_protocol.specs.declared.calls.Side.TheVariants.{Reader, Writer}
+use Rattle.piper_protocol.specs.declared.table.Side.TheVariants.{Reader, Writer}
 use Rattle.piper_protocol.specs.declared.table.Action.TheVariants as does
 use Rattle.piper_protocol.specs.declared.table.AfterWrite.TheVariants as after_write
 use Rattle.piper_protocol.specs.declared.table.Found.TheVariants.{Waker as waker}

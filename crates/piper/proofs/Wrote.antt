@@ -7,7 +7,7 @@ use Rattle.piper.specs.Ends.{WriterIsUpToDate}
 use Rattle.piper.specs.Fills.{most_of_round}
 use Rattle.piper.specs.WriterCalls.{Filled, OnlyLooked}
 use Rattle.piper.specs.declared.handles.Writer.{Writer}
-use Rattle.piper_protocol.specs.declared.scripted.TheConstants.{MOST_A_ROUND}
+use Rattle.piper_protocol.specs.declared.table.TheConstants.{MOST_A_ROUND}
 
 -- of the first n bytes some were lost: those that were published are the front of the slice
 pub wrote : (bytes published lost rest before after : List ℕ) (n : ℕ) (saw : Bool) (most : ℕ) → bytes ≡ (published ++ lost) ++ rest → length (published ++ lost) ≡ n

@@ -6,7 +6,7 @@ use Rattle.piper.specs.Contexts.{AsksAgain}
 use Rattle.futures.specs.declared.task.Poll.{Poll}
 use Rattle.futures.specs.declared.task.Poll.TheVariants.{Ready, Pending}
 use denote.Ref.{Bor}
-use Rattle.piper_protocol.specs.declared.scripted.TheConstants.{MOST_A_ROUND}
+use Rattle.piper_protocol.specs.declared.table.TheConstants.{MOST_A_ROUND}
 
 -- P holds where the poll was ready and nothing failed
 abbrev pub OnReadyOk : {A E : Type 0} → Poll (Result A E) → Type 0 → Type 0

@@ -8,8 +8,7 @@ mod polling;
 
 use crate::error::Inner;
 use futures::task::Poll;
-use piper_protocol::events::Answer;
-use piper_protocol::polling::Polled;
+use piper_protocol::answer::{Answer, Polled};
 
 /// What a copy returns that did not fail.
 #[inline(always)]

@@ -1,8 +1,8 @@
 -- What a poll finds.
 use Rattle.std.specs.Prelude.{ℕ, true, false}
-use Rattle.piper_protocol.specs.declared.events.Answer.{Answer}
-use Rattle.piper_protocol.specs.declared.events.Answer.TheVariants as answer
-use Rattle.piper_protocol.specs.declared.polling.Polled.TheVariants as polled
+use Rattle.piper_protocol.specs.declared.answer.Answer.{Answer}
+use Rattle.piper_protocol.specs.declared.answer.Answer.TheVariants as answer
+use Rattle.piper_protocol.specs.declared.answer.Polled.TheVariants as polled
 use Rattle.piper_c.specs.declared.outcome.Outcome.{Outcome}
 use Rattle.piper_c.specs.declared.outcome.Outcome.TheVariants.{Pending, Ready, End, Again, Refused}
 

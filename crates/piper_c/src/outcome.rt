@@ -2,8 +2,7 @@
 ghost use Rattle.std.specs.Prelude.{◌≡◌, Bool};
 
 use crate::words::{PiperWords, Waiter};
-use piper_protocol::events::Answer;
-use piper_protocol::polling::Polled as Answered;
+use piper_protocol::answer::{Answer, Polled as Answered};
 
 /// What a poll found. `code` is its number for C.
 #[derive(Clone, Copy)]

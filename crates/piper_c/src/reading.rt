@@ -5,9 +5,8 @@ ghost use Rattle.piper_ring.specs.ReadView.{in_one_piece};
 use crate::halves::ReadHalf;
 use crate::outcome::{Outcome, Polled, outcome_of};
 use crate::words::Waiter;
-use piper_protocol::calls::Side;
 use piper_protocol::read_call::ReadCall;
-use piper_protocol::table::{AfterRead, Purpose, ReadPoint};
+use piper_protocol::table::{AfterRead, Purpose, ReadPoint, Side};
 use piper_ring::ReadRegistrations;
 
 impl ReadHalf {

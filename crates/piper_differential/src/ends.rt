@@ -3,7 +3,8 @@ ghost use Rattle.std.specs.Prelude.{◌≡◌, ◌-◌, ◌^◌, ◌≤◌, leng
 ghost use Rattle.piper.specs.Like.{Counts};
 
 use piper::like::{ReadLike, WriteLike};
-use piper_protocol::scripted::{DestAct, Failed, SourceAct};
+use piper_protocol::answer::Failed;
+use piper_sides::scripted::{DestAct, SourceAct};
 use std::io;
 use std::io::{ErrorKind, Read, Write};
 

@@ -5,7 +5,7 @@ use crate::halt::Halt;
 use crate::pair::Pair;
 use piper_interpreter::showing::{room_of, write_made};
 use piper_interpreter::whole::room_for;
-use piper_protocol::calls::Side;
+use piper_protocol::table::Side;
 use piper_script::command::{Command, Refusal, SaidCall, SaidLuck};
 use piper_script::reply::Reply;
 use std::alloc::AllocGlobal;

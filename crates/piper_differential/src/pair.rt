@@ -6,11 +6,12 @@ use crate::tasks::{Tasks, rest};
 use crate::{reading, writing};
 use futures::test::MockTask;
 use piper::{OwnedReader, OwnedWriter, pipe};
-use piper_protocol::calls::{Call, Side};
-use piper_protocol::events::Answer;
-use piper_protocol::polling::{Context, Polled};
+use piper_protocol::answer::{Answer, Polled};
+use piper_protocol::table::Side;
 use piper_script::command::{MOST, Refusal};
 use piper_script::stop::Stop;
+use piper_sides::calls::Call;
+use piper_sides::polling::Context;
 use std::alloc::{AllocError, AllocGlobal, Global};
 use std::random::RandomSource;
 

@@ -5,11 +5,11 @@ use crate::halt::Halt;
 use futures::task::Poll;
 use futures::test::MockTask;
 use piper::{Inner, OutOfMemory, PipeError, Reader};
-use piper_protocol::calls::{Call, Query};
-use piper_protocol::events::Answer;
-use piper_protocol::polling::Polled;
-use piper_protocol::scripted::{DestAct, Failed};
+use piper_protocol::answer::{Answer, Failed, Polled};
+use piper_protocol::table::Query;
 use piper_script::command::Refusal;
+use piper_sides::calls::Call;
+use piper_sides::scripted::DestAct;
 
 /// Makes a call without a waker, and returns what it returns. Bytes that it takes go to the front
 /// of `dest`.

@@ -5,9 +5,10 @@ use crate::halt::Halt;
 use crate::reading::{copied, copied_inner, copied_slice, reported};
 use futures::test::MockTask;
 use piper::Writer;
-use piper_protocol::calls::{Call, Query};
-use piper_protocol::events::Answer;
+use piper_protocol::answer::Answer;
+use piper_protocol::table::Query;
 use piper_script::command::Refusal;
+use piper_sides::calls::Call;
 
 /// Makes a call without a waker, and returns what it returns. `lent` is how much is left of what is
 /// lent.

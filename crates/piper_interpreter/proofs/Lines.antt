@@ -4,9 +4,9 @@ use Rattle.std.specs.Io.KnownBytes.{Appends, Keeps}
 use Rattle.std.proofs.KnownBytes.{Keeps-refl}
 use Rattle.std.proofs.lemmas.List.{take_more, flat_map_more}
 use Rattle.std.proofs.lemmas.Option.{slice_get_within}
-use Rattle.piper_protocol.specs.declared.calls.Step.{Step}
-use Rattle.piper_protocol.specs.declared.events.Event.{Event}
-use Rattle.piper_protocol.specs.declared.refusals.StepRefusal.{StepRefusal}
+use Rattle.piper_sides.specs.declared.calls.Step.{Step}
+use Rattle.piper_sides.specs.declared.events.Event.{Event}
+use Rattle.piper_sides.specs.declared.refusals.StepRefusal.{StepRefusal}
 use Rattle.piper_machine.specs.Pipe.{Pipe, fresh}
 use Rattle.piper_machine.specs.Run.{Runs, RefusedAt}
 use Rattle.piper_script.specs.declared.stop.Stop.{Stop}

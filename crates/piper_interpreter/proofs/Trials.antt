@@ -4,14 +4,14 @@ use Rattle.std.specs.Option.{unwrap_or}
 use Rattle.std.specs.List.{filter_map, cons_option, last_or}
 use Rattle.std.proofs.lemmas.List.{take_more, append-nil, get_or_default, map-append, length-take, take-take}
 use Rattle.std.proofs.lemmas.List.Elements.{filter_map-append, All-cons}
-use Rattle.piper_protocol.specs.declared.calls.Side.{Side}
-use Rattle.piper_protocol.specs.declared.events.Answer.TheVariants.{Done}
-use Rattle.piper_protocol.specs.declared.events.Event.{Event}
+use Rattle.piper_protocol.specs.declared.table.Side.{Side}
+use Rattle.piper_protocol.specs.declared.answer.Answer.TheVariants.{Done}
+use Rattle.piper_sides.specs.declared.events.Event.{Event}
 use Rattle.piper_machine.specs.BySteps.{named_by, names_of}
 use Rattle.piper_interpreter.specs.declared.trial.Move.{Move}
 use Rattle.piper_interpreter.specs.Trial.{answer_in, answer_of, HasNoOther, IsLastOther, Tried, GoesMoves}
-use Rattle.piper_protocol.specs.declared.calls.Step.{Step}
-use Rattle.piper_protocol.specs.declared.calls.Step.TheVariants.{Go}
+use Rattle.piper_sides.specs.declared.calls.Step.{Step}
+use Rattle.piper_sides.specs.declared.calls.Step.TheVariants.{Go}
 use Rattle.piper_machine.specs.Run.{Made, Runs}
 use Rattle.piper_machine.proofs.Runs.{runs_more}
 

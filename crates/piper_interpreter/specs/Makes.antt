@@ -1,13 +1,13 @@
 -- What a call made whole returns, and the pipe that it leaves.
 use Rattle.std.specs.Prelude.{◌≡◌, ℕ, length, Some, Result, Ok}
-use Rattle.piper_protocol.specs.declared.calls.Side.TheVariants.{Reader, Writer}
-use Rattle.piper_protocol.specs.declared.calls.Call.{Call}
-use Rattle.piper_protocol.specs.declared.calls.Call.TheVariants as call
-use Rattle.piper_protocol.specs.declared.events.Answer.{Answer}
-use Rattle.piper_protocol.specs.declared.events.Answer.TheVariants.{Count, Flag, Poll, Copy, Lent, Done}
-use Rattle.piper_protocol.specs.declared.polling.Polled.{Polled}
-use Rattle.piper_protocol.specs.declared.polling.Polled.TheVariants.{Pending, Ready, Memory}
-use Rattle.piper_protocol.specs.declared.scripted.Failed.{Failed}
+use Rattle.piper_protocol.specs.declared.table.Side.TheVariants.{Reader, Writer}
+use Rattle.piper_sides.specs.declared.calls.Call.{Call}
+use Rattle.piper_sides.specs.declared.calls.Call.TheVariants as call
+use Rattle.piper_protocol.specs.declared.answer.Answer.{Answer}
+use Rattle.piper_protocol.specs.declared.answer.Answer.TheVariants.{Count, Flag, Poll, Copy, Lent, Done}
+use Rattle.piper_protocol.specs.declared.answer.Polled.{Polled}
+use Rattle.piper_protocol.specs.declared.answer.Polled.TheVariants.{Pending, Ready, Memory}
+use Rattle.piper_protocol.specs.declared.answer.Failed.{Failed}
 use Rattle.piper_protocol.specs.Table.{query_answer}
 use Rattle.piper_machine.specs.Pipe.{Pipe, begun}
 use Rattle.piper_machine.specs.Query.{unread_count, is_closed}

@@ -1,14 +1,14 @@
 -- What a command does to the pipe that is played on, and what it prints after what was printed
 -- before.
 use Rattle.std.specs.Prelude.{◌≡◌, ℕ, List, [], ◌++◌, codes, take, Option, None, Some, Ok}
-use Rattle.piper_protocol.specs.declared.calls.Side.{Side}
-use Rattle.piper_protocol.specs.declared.calls.Call.{Call}
-use Rattle.piper_protocol.specs.declared.calls.Call.TheVariants.{TryDrain, PollDrainBytes}
-use Rattle.piper_protocol.specs.declared.calls.Step.TheVariants as step
-use Rattle.piper_protocol.specs.declared.polling.Polled.TheVariants.{Ready}
-use Rattle.piper_protocol.specs.declared.events.Answer.{Answer}
-use Rattle.piper_protocol.specs.declared.events.Answer.TheVariants.{Count, Copy}
-use Rattle.piper_protocol.specs.declared.events.Event.{Event}
+use Rattle.piper_protocol.specs.declared.table.Side.{Side}
+use Rattle.piper_sides.specs.declared.calls.Call.{Call}
+use Rattle.piper_sides.specs.declared.calls.Call.TheVariants.{TryDrain, PollDrainBytes}
+use Rattle.piper_sides.specs.declared.calls.Step.TheVariants as step
+use Rattle.piper_protocol.specs.declared.answer.Polled.TheVariants.{Ready}
+use Rattle.piper_protocol.specs.declared.answer.Answer.{Answer}
+use Rattle.piper_protocol.specs.declared.answer.Answer.TheVariants.{Count, Copy}
+use Rattle.piper_sides.specs.declared.events.Event.{Event}
 use Rattle.piper_machine.specs.Pipe.{Pipe, fresh}
 use Rattle.piper_machine.specs.Places.{peeked}
 use Rattle.piper_machine.specs.Run.{Made}

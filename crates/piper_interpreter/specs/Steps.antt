@@ -1,9 +1,9 @@
 -- Steps of one side's open call, made one after another.
 use Rattle.std.specs.Prelude.{◌≡◌, ◌≢◌, ◌≤◌, ◌<◌, ℕ, List, replicate}
-use Rattle.piper_protocol.specs.declared.calls.Side.{Side}
-use Rattle.piper_protocol.specs.declared.calls.Step.TheVariants.{Go}
-use Rattle.piper_protocol.specs.declared.events.Event.{Event}
-use Rattle.piper_protocol.specs.declared.calls.SideState.TheVariants.{Busy}
+use Rattle.piper_protocol.specs.declared.table.Side.{Side}
+use Rattle.piper_sides.specs.declared.calls.Step.TheVariants.{Go}
+use Rattle.piper_sides.specs.declared.events.Event.{Event}
+use Rattle.piper_sides.specs.declared.calls.SideState.TheVariants.{Busy}
 use Rattle.piper_machine.specs.Pipe.{Pipe}
 use Rattle.piper_machine.specs.Refusal.{state_of}
 use Rattle.piper_machine.specs.Run.{Runs}

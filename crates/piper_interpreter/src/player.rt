@@ -1,7 +1,7 @@
 //! Plays commands on a machine.
 
 ghost use Rattle.std.specs.Prelude.{◌≡◌, ◌++◌, length, IfOk, IfErr, OnOk, OnErr};
-ghost use Rattle.piper_protocol.specs.Log.{events};
+ghost use Rattle.piper_sides.specs.Log.{events};
 ghost use Rattle.piper_script.specs.Command.{IsCallInLimits, IsInLimits};
 ghost use Rattle.piper_interpreter.specs.Played.{Plays, NeedsPipe, IsOneMove, IsRefused, OnPipe, ShowsPeek, ShowsWhole, MakesWhole, Puts, Opens, ShowsSteps, shown, shown_text};
 ghost use Rattle.piper_interpreter.specs.Refused.{RefusesLine};
@@ -10,10 +10,11 @@ ghost use Rattle.piper_interpreter.specs.Whole.{IsReady};
 use crate::showing::{room_of, write_made};
 use crate::steps::make;
 use crate::whole::{answer, check, room_for};
-use piper_machine::calls::{Call, Side, Step};
-use piper_machine::events::{Answer, Log};
+use piper_machine::answer::{Answer, Polled};
+use piper_machine::calls::{Call, Step};
+use piper_machine::events::Log;
 use piper_machine::machine::Machine;
-use piper_machine::polling::Polled;
+use piper_machine::table::Side;
 use piper_script::command::{Command, Refusal, SaidCall, Steps};
 use piper_script::reply::Reply;
 use piper_script::stop::Stop;

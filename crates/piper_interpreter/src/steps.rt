@@ -1,15 +1,16 @@
 //! Steps of a side's open call.
 
 ghost use Rattle.std.specs.Prelude.{◌≡◌, OnOk, OnErr, IfErr};
-ghost use Rattle.piper_protocol.specs.Log.{events};
+ghost use Rattle.piper_sides.specs.Log.{events};
 ghost use Rattle.piper_machine.specs.Run.{Made, IsRefusal};
 ghost use Rattle.piper_interpreter.specs.Steps.{Goes, GoesAs, GoesFewer, GoesBefore};
 
 use crate::whole::state;
-use piper_machine::calls::{Side, SideState, Step};
+use piper_machine::calls::{SideState, Step};
 use piper_machine::events::Log;
 use piper_machine::machine::Machine;
 use piper_machine::refusals::StepRefusal;
+use piper_machine::table::Side;
 use piper_script::command::Steps;
 
 /// Makes so many steps of the side. Those before a refused one are made.

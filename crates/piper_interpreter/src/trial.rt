@@ -3,16 +3,18 @@
 ghost use Rattle.std.specs.Prelude.{◌≡◌, ◌≢◌, ◌<◌, ◌≤◌, ◌+◌, ◌↔◌, [], IsTrue, IsNone, IfOk, IfSome, OnOk, All, min, true, take, vec_len};
 ghost use Rattle.std.specs.Bool.{MatchBool};
 ghost use Rattle.std.specs.Option.{MatchOption, option_to_list};
-ghost use Rattle.piper_protocol.specs.Log.{events};
+ghost use Rattle.piper_sides.specs.Log.{events};
 ghost use Rattle.piper_machine.specs.BySteps.{named_by, names_of};
 ghost use Rattle.piper_machine.specs.Run.{Made};
 ghost use Rattle.piper_script.specs.Event.{outcome_line};
 ghost use Rattle.piper_interpreter.specs.Trial.{Tried, steps_by, IsLong, IsOpen, other_of, alone, answer_in, answer_of, HasNoOther, IsLastOther, IsNext, IsLast, HasEnded, GoesAsLong};
 
 use crate::whole::state;
-use piper_machine::calls::{Side, SideState, Step};
-use piper_machine::events::{Answer, Event, Log};
+use piper_machine::answer::Answer;
+use piper_machine::calls::{SideState, Step};
+use piper_machine::events::{Event, Log};
 use piper_machine::machine::Machine;
+use piper_machine::table::Side;
 use piper_script::reply::Reply;
 use piper_script::stop::Stop;
 use std::alloc::{AllocError, Global};
@@ -50,7 +52,7 @@ pub struct Trial {
 }
 
 impl Model for Trial {
-    ghost use Rattle.piper_protocol.specs.Log.{events};
+    ghost use Rattle.piper_sides.specs.Log.{events};
     ghost use Rattle.piper_interpreter.specs.Trial.{Tried};
 
     ghost Value = { Tried };

@@ -5,12 +5,11 @@ ghost use Rattle.piper_machine.specs.Refusal.{IsIdle, state_of, refusal_of};
 ghost use Rattle.piper_interpreter.specs.Makes.{Makes, room_for, slice_copied, drained_by, IsSilent};
 ghost use Rattle.piper_interpreter.specs.Whole.{IsReady};
 
-use piper_machine::calls::{Call, Query, Side, SideState, Step};
-use piper_machine::events::Answer;
+use piper_machine::answer::{Answer, Failed, Polled};
+use piper_machine::calls::{Call, SideState, Step};
 use piper_machine::machine::Machine;
-use piper_machine::polling::Polled;
 use piper_machine::refusals::StepRefusal;
-use piper_machine::scripted::Failed;
+use piper_machine::table::{Query, Side};
 
 /// What the side is about.
 pub fn state(machine: &Machine, side: Side) -> SideState

@@ -1,9 +1,9 @@
 -- A step of a side leaves what remains of its call, and it brings the answer nearer.
 use Rattle.std.proofs.Common.{◌≡◌, ℕ, ◌+◌, ◌-◌, ◌<◌, ◌≤◌, List, length, Bool, true, false, Option, None, Some, if◌then◌else◌, ◌==◌, is_some, lit<, lit≤, refl, ap, ◌∙◌, arith, length-append}
-use Rattle.piper_protocol.specs.declared.calls.Side.TheVariants.{Reader, Writer}
-use Rattle.piper_protocol.specs.declared.calls.SideState.TheVariants.{Busy}
-use Rattle.piper_protocol.specs.declared.events.Answer.{Answer}
-use Rattle.piper_protocol.specs.declared.events.Answer.TheVariants.{Done}
+use Rattle.piper_protocol.specs.declared.table.Side.TheVariants.{Reader, Writer}
+use Rattle.piper_sides.specs.declared.calls.SideState.TheVariants.{Busy}
+use Rattle.piper_protocol.specs.declared.answer.Answer.{Answer}
+use Rattle.piper_protocol.specs.declared.answer.Answer.TheVariants.{Done}
 use Rattle.piper_protocol.specs.declared.table.Purpose.TheVariants as purpose
 use Rattle.piper_protocol.specs.declared.table.AfterRead.{AfterRead}
 use Rattle.piper_protocol.specs.declared.table.AfterRead.TheVariants as after_read
@@ -13,14 +13,14 @@ use Rattle.piper_protocol.specs.declared.table.ReadPoint.{ReadPoint}
 use Rattle.piper_protocol.specs.declared.table.ReadPoint.TheVariants as at
 use Rattle.piper_protocol.specs.declared.table.WritePoint.{WritePoint}
 use Rattle.piper_protocol.specs.declared.table.WritePoint.TheVariants as on
-use Rattle.piper_protocol.specs.Open.{is_granted}
+use Rattle.piper_sides.specs.Open.{is_granted}
 use Rattle.piper_machine.specs.Pipe.{Pipe}
 use Rattle.piper_machine.specs.Move.{with_waker}
 use Rattle.piper_machine.specs.Refusal.{reader_state, writer_state}
 use Rattle.piper_protocol.specs.Table.{Next, goes_on, read_action, write_action, reader_looked, reader_looked_again, reader_registered, writer_taken, writer_is_open, writer_looked, writer_looked_again, writer_registered, reader_taken, own_taken}
 use Rattle.piper_machine.specs.Action.{refreshed_by, registered_in}
 use Rattle.piper_machine.specs.Step.{Stepped, went, call_after, source_after, destination_after, stepped}
-use Rattle.piper_protocol.specs.declared.calls.Step.TheVariants.{Go}
+use Rattle.piper_sides.specs.declared.calls.Step.TheVariants.{Go}
 use Rattle.piper_machine.specs.Alone.{Ended, heard, reader_alone, read_steps, read_wakes, is_draining, is_drain_round, is_filling, is_fill_round, writer_alone, write_steps, write_wakes, reader_looks_alone, reader_again_alone, reader_granted_alone, reader_done_alone, writer_ended, writer_open_alone, writer_looks_alone, writer_granted_alone, writer_again_alone, writer_done_alone, steps_after, wakes_after}
 
 -- what remains after a step of the reader: all that is left, or the answer that the step gave

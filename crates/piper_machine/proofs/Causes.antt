@@ -1,8 +1,8 @@
 -- Who has closed: the reader by its drop; or the writer, by its drop or its close, and then it
 -- publishes nothing more.
 use Rattle.std.proofs.Common.{◌≡◌, ◌⊎◌, inl, inr, ℕ, ◌-◌, List, length, Bool, true, false, ◌==◌, is_some, Result, Ok, Err, refl}
-use Rattle.piper_protocol.specs.declared.calls.Side.TheVariants.{Reader, Writer}
-use Rattle.piper_protocol.specs.declared.scripted.Failed.{Failed}
+use Rattle.piper_protocol.specs.declared.table.Side.TheVariants.{Reader, Writer}
+use Rattle.piper_protocol.specs.declared.answer.Failed.{Failed}
 use Rattle.piper_protocol.specs.declared.table.Form.{Form}
 use Rattle.piper_protocol.specs.declared.table.Form.TheVariants.{Try, Polling}
 use Rattle.piper_protocol.specs.declared.table.Purpose.{Purpose}
@@ -15,7 +15,7 @@ use Rattle.piper_protocol.specs.declared.table.ReadPoint.{ReadPoint}
 use Rattle.piper_protocol.specs.declared.table.ReadPoint.TheVariants as at
 use Rattle.piper_protocol.specs.declared.table.WritePoint.{WritePoint}
 use Rattle.piper_protocol.specs.declared.table.WritePoint.TheVariants as on
-use Rattle.piper_protocol.specs.Open.{is_granted}
+use Rattle.piper_sides.specs.Open.{is_granted}
 use Rattle.piper_protocol.specs.Table.{writer_taken, read_done, writer_is_open, writer_looked, writer_looked_again, writer_registered, reader_taken, own_taken, write_done, write_after, writer_moved, writer_rounds, writer_draws}
 use Rattle.piper_machine.specs.Pipe.{Pipe}
 use Rattle.piper_machine.specs.Step.{went, offering}

@@ -7,28 +7,27 @@ use Rattle.std.proofs.lemmas.List.{take-append-drop}
 use Rattle.std.proofs.lemmas.Grind.{flat_map-append}
 use Rattle.std.proofs.lemmas.Bool.{cases_lt}
 use Rattle.std.proofs.lemmas.Bool.Decides.{nat_tests}
-use Rattle.piper_protocol.specs.declared.calls.Side.{Side}
-use Rattle.piper_protocol.specs.declared.calls.Side.TheVariants.{Reader, Writer}
-use Rattle.piper_protocol.specs.declared.calls.Step.{Step}
-use Rattle.piper_protocol.specs.declared.calls.Step.TheVariants.{Begin, Go, Put}
-use Rattle.piper_protocol.specs.declared.events.Answer.{Answer}
-use Rattle.piper_protocol.specs.declared.events.Event.{Event}
-use Rattle.piper_protocol.specs.declared.events.Event.TheVariants.{Began}
-use Rattle.piper_protocol.specs.declared.polling.Context.{Context}
+use Rattle.piper_protocol.specs.declared.table.Side.{Side}
+use Rattle.piper_protocol.specs.declared.table.Side.TheVariants.{Reader, Writer}
+use Rattle.piper_sides.specs.declared.calls.Step.{Step}
+use Rattle.piper_sides.specs.declared.calls.Step.TheVariants.{Begin, Go, Put}
+use Rattle.piper_protocol.specs.declared.answer.Answer.{Answer}
+use Rattle.piper_sides.specs.declared.events.Event.{Event}
+use Rattle.piper_sides.specs.declared.events.Event.TheVariants.{Began}
+use Rattle.piper_sides.specs.declared.polling.Context.{Context}
 use Rattle.piper_protocol.specs.declared.table.Action.{Action}
 use Rattle.piper_protocol.specs.declared.table.Action.TheVariants as does
 use Rattle.piper_protocol.specs.declared.table.ReadPoint.{ReadPoint}
 use Rattle.piper_protocol.specs.declared.table.ReadPoint.TheVariants as at
 use Rattle.piper_protocol.specs.Index.{place_of}
-use Rattle.piper_protocol.specs.Call.{side_of, kind_of, waker_of}
+use Rattle.piper_sides.specs.Call.{side_of, kind_of, waker_of}
 use Rattle.piper_machine.specs.Pipe.{Pipe}
 use Rattle.piper_machine.specs.Places.{peeked_count}
 use Rattle.piper_machine.specs.Sound.{IsSound}
-use Rattle.piper_protocol.specs.Side.{head_store}
-use Rattle.piper_protocol.specs.Table.{read_action, write_action}
+use Rattle.piper_protocol.specs.Table.{head_store, read_action, write_action}
 use Rattle.piper_machine.specs.Action.{performed, logged_of, registration_of, registration, wake_of, yield_of, woken_if}
 use Rattle.piper_machine.specs.Step.{went, opened, stepped, offering, answer_at_once}
-use Rattle.piper_protocol.specs.Log.{answer_event}
+use Rattle.piper_sides.specs.Log.{answer_event}
 use Rattle.piper_machine.specs.Run.{Made}
 use Rattle.piper_machine.proofs.Opened.{opened-leaves}
 use Rattle.piper_machine.proofs.Counting.{writer_never-head}

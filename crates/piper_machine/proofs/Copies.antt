@@ -2,14 +2,14 @@
 use Rattle.std.proofs.Common.{◌≡◌, ℕ, ◌+◌, ◌-◌, ◌<◌, ◌≤◌, min, List, [], ◌∷◌, ◌++◌, take, drop, length, Bool, true, false, Option, None, Some, ◌==◌, is_some, refl, sym, ap, ◌∙◌, arith, Result, Ok, Err, length-take-le}
 use Rattle.std.proofs.lemmas.Bool.Decides.{nat_tests}
 use Rattle.std.proofs.lemmas.List.{drop-drop, take_at}
-use Rattle.piper_protocol.specs.declared.calls.Side.TheVariants.{Reader, Writer}
-use Rattle.piper_protocol.specs.declared.polling.Polled.TheVariants.{Ready}
-use Rattle.piper_protocol.specs.declared.scripted.Failed.{Failed}
-use Rattle.piper_protocol.specs.declared.scripted.DestAct.{DestAct}
-use Rattle.piper_protocol.specs.declared.scripted.DestAct.TheVariants as dest
-use Rattle.piper_protocol.specs.declared.scripted.SourceAct.{SourceAct}
-use Rattle.piper_protocol.specs.declared.scripted.SourceAct.TheVariants as source
-use Rattle.piper_protocol.specs.declared.scripted.TheConstants.{MOST_A_ROUND}
+use Rattle.piper_protocol.specs.declared.table.Side.TheVariants.{Reader, Writer}
+use Rattle.piper_protocol.specs.declared.answer.Polled.TheVariants.{Ready}
+use Rattle.piper_protocol.specs.declared.answer.Failed.{Failed}
+use Rattle.piper_sides.specs.declared.scripted.DestAct.{DestAct}
+use Rattle.piper_sides.specs.declared.scripted.DestAct.TheVariants as dest
+use Rattle.piper_sides.specs.declared.scripted.SourceAct.{SourceAct}
+use Rattle.piper_sides.specs.declared.scripted.SourceAct.TheVariants as source
+use Rattle.piper_protocol.specs.declared.table.TheConstants.{MOST_A_ROUND}
 use Rattle.piper_protocol.specs.declared.table.Form.{Form}
 use Rattle.piper_protocol.specs.declared.table.Form.TheVariants.{Try, Polling}
 use Rattle.piper_protocol.specs.declared.table.Purpose.TheVariants as purpose
@@ -20,8 +20,8 @@ use Rattle.piper_protocol.specs.declared.table.ReadPoint.TheVariants as at
 use Rattle.piper_protocol.specs.declared.table.WritePoint.{WritePoint}
 use Rattle.piper_protocol.specs.declared.table.WritePoint.TheVariants as on
 use Rattle.piper_protocol.specs.Index.{place_of}
-use Rattle.piper_protocol.specs.Open.{is_granted}
-use Rattle.piper_protocol.specs.Table.{Next, goes_on, count_answer, failed_answer, write_action, reader_looked, reader_looked_again, reader_registered, reader_is_true, reader_moved, writer_taken, read_after, writer_is_open, writer_looked, writer_looked_again, writer_registered, writer_is_true, writer_moved, writer_rounds, reader_taken}
+use Rattle.piper_sides.specs.Open.{is_granted}
+use Rattle.piper_protocol.specs.Table.{Next, goes_on, count_answer, failed_answer, write_action, reader_looked, reader_looked_again, reader_registered, reader_is_true, reader_moved, writer_taken, read_after, writer_is_open, writer_looked, writer_looked_again, writer_registered, writer_is_true, writer_moved, writer_rounds, reader_taken, tail_store}
 use Rattle.piper_machine.specs.declared.destination.Destination.{Destination}
 use Rattle.piper_machine.specs.declared.destination.Destination.TheVariants.{Slice, Acts}
 use Rattle.piper_machine.specs.Pipe.{Pipe}
@@ -32,8 +32,7 @@ use Rattle.piper_machine.specs.Round.{taken, found_of, unspent}
 use Rattle.piper_machine.specs.Action.{refreshed_by, registered_in, round_count, destination_called}
 use Rattle.piper_machine.specs.Lend.{Lendable}
 use Rattle.piper_machine.specs.Step.{Stepped, stepped, filled_out, MayOffer}
-use Rattle.piper_protocol.specs.declared.calls.Step.TheVariants.{Go}
-use Rattle.piper_protocol.specs.Side.{tail_store}
+use Rattle.piper_sides.specs.declared.calls.Step.TheVariants.{Go}
 use Rattle.piper_machine.specs.Alone.{Ended, heard, moved_answer, reader_left, reader_ended, reader_alone, reader_moves_alone, is_draining, reader_looks_alone, reader_again_alone, reader_granted_alone, reader_done_alone, reader_takes_alone, writer_ended, writer_filled, writer_open_alone, writer_looks_alone, writer_granted_alone, writer_again_alone, writer_takes_alone, writer_done_alone, writer_rounds_alone, writer_alone, writer_moves_alone, is_filling}
 use Rattle.piper_machine.proofs.Indices.{place_below}
 use Rattle.piper_machine.proofs.Alone.{reader_rest, read_step, reader_rest_at, writer_rest, writer_rest_at}

@@ -1,14 +1,14 @@
 -- What each side knows, and how many steps its call has made, and calls of its destination or
 -- source: what one step does to them.
 use Rattle.std.proofs.Common.{◌≡◌, ℕ, ◌+◌, ◌*◌, ◌≤◌, List, ◌++◌, Bool, true, false, Option, None, Some, ◌==◌, refl, sym, subst, ◌∙◌, arith}
-use Rattle.piper_protocol.specs.declared.calls.Side.{Side}
-use Rattle.piper_protocol.specs.declared.calls.Side.TheVariants.{Reader, Writer}
-use Rattle.piper_protocol.specs.declared.calls.Call.{Call}
-use Rattle.piper_protocol.specs.declared.calls.Call.TheVariants as call
-use Rattle.piper_protocol.specs.declared.calls.Step.{Step}
-use Rattle.piper_protocol.specs.declared.calls.Step.TheVariants.{Begin, Go, Put}
-use Rattle.piper_protocol.specs.declared.events.Answer.{Answer}
-use Rattle.piper_protocol.specs.declared.events.Event.{Event}
+use Rattle.piper_protocol.specs.declared.table.Side.{Side}
+use Rattle.piper_protocol.specs.declared.table.Side.TheVariants.{Reader, Writer}
+use Rattle.piper_sides.specs.declared.calls.Call.{Call}
+use Rattle.piper_sides.specs.declared.calls.Call.TheVariants as call
+use Rattle.piper_sides.specs.declared.calls.Step.{Step}
+use Rattle.piper_sides.specs.declared.calls.Step.TheVariants.{Begin, Go, Put}
+use Rattle.piper_protocol.specs.declared.answer.Answer.{Answer}
+use Rattle.piper_sides.specs.declared.events.Event.{Event}
 use Rattle.piper_protocol.specs.declared.table.Form.{Form}
 use Rattle.piper_protocol.specs.declared.table.Form.TheVariants.{Try, Polling}
 use Rattle.piper_protocol.specs.declared.table.Purpose.TheVariants as purpose
@@ -19,8 +19,8 @@ use Rattle.piper_protocol.specs.declared.table.WritePoint.{WritePoint}
 use Rattle.piper_protocol.specs.declared.table.WritePoint.TheVariants as on
 use Rattle.piper_protocol.specs.declared.table.Action.{Action}
 use Rattle.piper_protocol.specs.declared.table.Action.TheVariants as does
-use Rattle.piper_protocol.specs.declared.refusals.StepRefusal.{StepRefusal}
-use Rattle.piper_protocol.specs.Log.{answer_event}
+use Rattle.piper_sides.specs.declared.refusals.StepRefusal.{StepRefusal}
+use Rattle.piper_sides.specs.Log.{answer_event}
 use Rattle.piper_protocol.specs.Table.{read_action, write_action, reader_looks_for}
 use Rattle.piper_machine.specs.Pipe.{Pipe}
 use Rattle.piper_machine.specs.Action.{performed, logged_of}

@@ -4,12 +4,12 @@ use Rattle.std.proofs.Common.{◌≡◌, ℕ, ◌+◌, ◌-◌, ◌<◌, ◌≤�
 use Rattle.std.proofs.lemmas.Bool.Decides.{nat_tests}
 use Rattle.std.proofs.lemmas.List.{drop-drop}
 use borrow.Rule.Slice.PartMut.{put_mid}
-use Rattle.piper_protocol.specs.declared.calls.Side.TheVariants.{Reader}
-use Rattle.piper_protocol.specs.declared.calls.OpenCall.{OpenCall}
-use Rattle.piper_protocol.specs.declared.calls.SideState.TheVariants.{Busy}
-use Rattle.piper_protocol.specs.declared.events.Answer.{Answer}
-use Rattle.piper_protocol.specs.declared.polling.Context.{Context}
-use Rattle.piper_protocol.specs.declared.scripted.DestAct.TheVariants as dest
+use Rattle.piper_protocol.specs.declared.table.Side.TheVariants.{Reader}
+use Rattle.piper_sides.specs.declared.calls.OpenCall.{OpenCall}
+use Rattle.piper_sides.specs.declared.calls.SideState.TheVariants.{Busy}
+use Rattle.piper_protocol.specs.declared.answer.Answer.{Answer}
+use Rattle.piper_sides.specs.declared.polling.Context.{Context}
+use Rattle.piper_sides.specs.declared.scripted.DestAct.TheVariants as dest
 use Rattle.piper_protocol.specs.declared.table.Action.{Action}
 use Rattle.piper_protocol.specs.declared.table.Action.TheVariants as does
 use Rattle.piper_protocol.specs.declared.table.Form.{Form}
@@ -18,11 +18,10 @@ use Rattle.piper_protocol.specs.declared.table.Purpose.TheVariants as purpose
 use Rattle.piper_protocol.specs.declared.table.AfterRead.TheVariants as after_read
 use Rattle.piper_protocol.specs.declared.table.ReadPoint.{ReadPoint}
 use Rattle.piper_protocol.specs.declared.table.ReadPoint.TheVariants as at
-use Rattle.piper_protocol.specs.Open.{is_granted}
-use Rattle.piper_protocol.specs.Side.{head_store}
+use Rattle.piper_sides.specs.Open.{is_granted}
+use Rattle.piper_protocol.specs.Table.{Next, goes_on, head_store, moved_in, read_action, read_after, reader_is_true, reader_looked, reader_looked_again, reader_looks_for, reader_moved, reader_registered, writer_taken}
 use Rattle.piper_protocol.specs.declared.table.Found.{Found}
 use Rattle.piper_protocol.specs.declared.table.Found.TheVariants.{Nothing as nothing, Refreshed as refreshed, Granted as granted, Waker as waker}
-use Rattle.piper_protocol.specs.Table.{moved_in, Next, goes_on, read_action, read_after, reader_looks_for, reader_looked, reader_looked_again, reader_registered, reader_is_true, reader_moved, writer_taken}
 use Rattle.piper_machine.specs.declared.destination.Destination.{Destination}
 use Rattle.piper_machine.specs.declared.destination.Destination.TheVariants.{Slice, Acts}
 use Rattle.piper_machine.specs.Pipe.{Pipe, begun}
@@ -31,9 +30,9 @@ use Rattle.piper_machine.specs.Move.{with_waker}
 use Rattle.piper_machine.specs.Copy.{Copied, count_of, copied_after, drawn, drain_moves, drain}
 use Rattle.piper_machine.specs.Look.{reader_look, reader_looks, reader_registers}
 use Rattle.piper_machine.specs.Refresh.{reader_refreshed}
-use Rattle.piper_protocol.specs.declared.polling.Polled.{Polled}
-use Rattle.piper_protocol.specs.declared.polling.Polled.TheVariants.{Ready, Pending, Memory}
-use Rattle.piper_protocol.specs.declared.scripted.DestAct.{DestAct}
+use Rattle.piper_protocol.specs.declared.answer.Polled.{Polled}
+use Rattle.piper_protocol.specs.declared.answer.Polled.TheVariants.{Ready, Pending, Memory}
+use Rattle.piper_sides.specs.declared.scripted.DestAct.{DestAct}
 use Rattle.piper_machine.specs.Round.{taken, found_of, left_of_acts, left_of_destination}
 use Rattle.piper_machine.specs.Refusal.{reader_state}
 use Rattle.piper_machine.specs.Action.{round_count, destination_called}

@@ -1,20 +1,20 @@
 -- A machine after a step of one of its sides: it is a machine again, and which pipe it represents.
 use Rattle.std.proofs.Common.{◌≡◌, ◌+◌, ◌-◌, ◌≤◌, ℕ, Bool, true, false, List, [], take, Option, None, Some, IsSome, refl, ap, ◌∙◌, arith}
-use Rattle.piper_protocol.specs.declared.calls.OpenCall.{OpenCall}
-use Rattle.piper_protocol.specs.declared.events.Answer.{Answer}
-use Rattle.piper_protocol.specs.declared.scripted.SourceAct.{SourceAct}
+use Rattle.piper_sides.specs.declared.calls.OpenCall.{OpenCall}
+use Rattle.piper_protocol.specs.declared.answer.Answer.{Answer}
+use Rattle.piper_sides.specs.declared.scripted.SourceAct.{SourceAct}
 use Rattle.piper_machine.specs.declared.destination.Destination.{Destination}
 use Rattle.piper_machine.specs.declared.destination.Destination.TheVariants.{Slice}
 use Rattle.piper_protocol.specs.declared.table.ReadPoint.{ReadPoint}
 use Rattle.piper_protocol.specs.declared.table.ReadPoint.TheVariants as at
 use Rattle.piper_protocol.specs.declared.table.WritePoint.{WritePoint}
 use Rattle.piper_protocol.specs.declared.table.WritePoint.TheVariants as on
-use Rattle.piper_protocol.specs.Open.{no_call}
+use Rattle.piper_sides.specs.Open.{no_call}
 use Rattle.piper_protocol.specs.Index.{distance, place_of, advanced}
-use Rattle.piper_protocol.specs.Side.{Reading, Writing, IsReading, IsWriting, known_of, room_of, tail_store}
-use Rattle.piper_protocol.specs.SideSteps.{writing_answer}
+use Rattle.piper_protocol.specs.Table.{Next, tail_store, write_after}
+use Rattle.piper_sides.specs.Side.{Reading, Writing, IsReading, IsWriting, known_of, room_of}
+use Rattle.piper_sides.specs.SideSteps.{writing_answer}
 use Rattle.piper_protocol.specs.declared.table.Found.{Found}
-use Rattle.piper_protocol.specs.Table.{Next, write_after}
 use Rattle.piper_machine.specs.Pipe.{Pipe}
 use Rattle.piper_machine.specs.Step.{filled_out, lent_count_after, round_answer}
 use Rattle.piper_machine.specs.Machine.{pipe_of, IsMachine}

@@ -1,6 +1,6 @@
 -- A step of a side is its access, and then where the call table leads by what that found.
 use Rattle.std.proofs.Common.{◌≡◌, ◌≤◌, ℕ, List, length, false, true, refl, arith}
-use Rattle.piper_protocol.specs.declared.calls.Side.TheVariants.{Reader, Writer}
+use Rattle.piper_protocol.specs.declared.table.Side.TheVariants.{Reader, Writer}
 use Rattle.piper_protocol.specs.declared.table.Action.{Action}
 use Rattle.piper_protocol.specs.declared.table.Action.TheVariants as does
 use Rattle.piper_protocol.specs.declared.table.AfterWrite.TheVariants as after_write
@@ -8,8 +8,7 @@ use Rattle.piper_protocol.specs.declared.table.ReadPoint.{ReadPoint}
 use Rattle.piper_protocol.specs.declared.table.ReadPoint.TheVariants as at
 use Rattle.piper_protocol.specs.declared.table.WritePoint.{WritePoint}
 use Rattle.piper_protocol.specs.declared.table.WritePoint.TheVariants as on
-use Rattle.piper_protocol.specs.Side.{head_store, publishes}
-use Rattle.piper_protocol.specs.Table.{moved_in, read_action, write_action}
+use Rattle.piper_protocol.specs.Table.{head_store, moved_in, publishes, read_action, write_action}
 use Rattle.piper_machine.specs.Action.{found_by, performed, round_count}
 use Rattle.piper_machine.specs.Pipe.{Pipe}
 use Rattle.piper_machine.specs.Places.{peeked_count}

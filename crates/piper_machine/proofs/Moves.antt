@@ -5,8 +5,8 @@ use Rattle.std.proofs.lemmas.List.{drop-take, drop-drop, take-take, drop_at}
 use Rattle.std.proofs.lemmas.Bool.{cases_lt}
 use Rattle.std.proofs.Math.Seq.{take-append-add}
 use Rattle.std.proofs.lemmas.Bool.Decides.{nat_tests}
-use Rattle.piper_protocol.specs.declared.calls.OpenCall.{OpenCall}
-use Rattle.piper_protocol.specs.declared.scripted.SourceAct.{SourceAct}
+use Rattle.piper_sides.specs.declared.calls.OpenCall.{OpenCall}
+use Rattle.piper_sides.specs.declared.scripted.SourceAct.{SourceAct}
 use Rattle.piper_machine.specs.declared.destination.Destination.{Destination}
 use Rattle.piper_protocol.specs.declared.table.ReadPoint.{ReadPoint}
 use Rattle.piper_protocol.specs.declared.table.WritePoint.{WritePoint}
@@ -16,7 +16,7 @@ use Rattle.piper_machine.specs.Lend.{Lendable, lend_limit}
 use Rattle.piper_machine.specs.Move.{published, consumed}
 use Rattle.piper_protocol.specs.declared.table.Found.TheVariants.{Refreshed as refreshed}
 use Rattle.piper_protocol.specs.Table.{write_after}
-use Rattle.piper_protocol.specs.Side.{Reading, Writing, known_of, room_of, left_of, lend_length}
+use Rattle.piper_sides.specs.Side.{Reading, Writing, known_of, room_of, left_of, lend_length}
 use Rattle.piper_machine.specs.Buffer.{between, written}
 use Rattle.piper_machine.specs.Machine.{pipe_of, IsMachine}
 use Rattle.piper_machine.specs.declared.machine.Machine.TheInside.{Inside}

@@ -1,12 +1,12 @@
 -- A call of the source: what it was lent is read back off the pipe that the step leaves.
 use Rattle.std.proofs.Common.{◌≡◌, ℕ, List, [], ◌∷◌, ◌++◌, length, min, Bool, true, false, Option, ◌==◌, refl, sym, ap, subst, ◌∙◌, arith}
 use Rattle.std.proofs.lemmas.Bool.Decides.{nat_tests}
-use Rattle.piper_protocol.specs.declared.calls.Side.TheVariants.{Writer}
-use Rattle.piper_protocol.specs.declared.calls.Step.TheVariants.{Go}
-use Rattle.piper_protocol.specs.declared.events.Answer.{Answer}
-use Rattle.piper_protocol.specs.declared.scripted.SourceAct.{SourceAct}
-use Rattle.piper_protocol.specs.declared.scripted.SourceAct.TheVariants as source
-use Rattle.piper_protocol.specs.declared.scripted.TheConstants.{MOST_A_ROUND}
+use Rattle.piper_protocol.specs.declared.table.Side.TheVariants.{Writer}
+use Rattle.piper_sides.specs.declared.calls.Step.TheVariants.{Go}
+use Rattle.piper_protocol.specs.declared.answer.Answer.{Answer}
+use Rattle.piper_sides.specs.declared.scripted.SourceAct.{SourceAct}
+use Rattle.piper_sides.specs.declared.scripted.SourceAct.TheVariants as source
+use Rattle.piper_protocol.specs.declared.table.TheConstants.{MOST_A_ROUND}
 use Rattle.piper_protocol.specs.declared.table.Action.TheVariants as does
 use Rattle.piper_protocol.specs.declared.table.Form.{Form}
 use Rattle.piper_protocol.specs.declared.table.WritePoint.{WritePoint}
@@ -18,8 +18,8 @@ use Rattle.piper_machine.specs.Pipe.{Pipe}
 use Rattle.piper_machine.specs.Lend.{Lendable, lending}
 use Rattle.piper_machine.specs.Round.{given, found_of}
 use Rattle.piper_machine.specs.Action.{logged_of, source_called}
-use Rattle.piper_protocol.specs.declared.events.Event.{Event}
-use Rattle.piper_protocol.specs.Log.{answer_event}
+use Rattle.piper_sides.specs.declared.events.Event.{Event}
+use Rattle.piper_sides.specs.Log.{answer_event}
 use Rattle.piper_machine.specs.Run.{IsStepped}
 use Rattle.piper_machine.specs.Step.{stepped, offering, call_after, source_after, filled_out, round_left, round_answer, MayOffer}
 

@@ -1,8 +1,8 @@
 -- The opening of a call leaves the bytes, the counts and the closed flag as they are.
 use Rattle.std.proofs.Common.{◌≡◌, ℕ, List, refl}
-use Rattle.piper_protocol.specs.declared.calls.Side.TheVariants.{Reader}
-use Rattle.piper_protocol.specs.declared.calls.Call.{Call}
-use Rattle.piper_protocol.specs.declared.calls.Call.TheVariants as call
+use Rattle.piper_protocol.specs.declared.table.Side.TheVariants.{Reader}
+use Rattle.piper_sides.specs.declared.calls.Call.{Call}
+use Rattle.piper_sides.specs.declared.calls.Call.TheVariants as call
 use Rattle.piper_machine.specs.Pipe.{Pipe}
 use Rattle.piper_machine.specs.Step.{opened}
 

@@ -3,10 +3,10 @@
 use Rattle.std.proofs.Common.{◌≡◌, ℕ, zero, suc, List, [], ◌∷◌, length, drop, Bool, true, false, Option, None, Some, ◌==◌, Result, Ok, Err, refl, sym, ap, subst, ◌∙◌, arith}
 use Rattle.std.specs.Bool.{⊤}
 use Rattle.std.proofs.lemmas.Bool.Decides.{nat_tests}
-use Rattle.piper_protocol.specs.declared.calls.Side.TheVariants.{Reader, Writer}
-use Rattle.piper_protocol.specs.declared.calls.Query.{Query}
-use Rattle.piper_protocol.specs.declared.polling.Context.{Context}
-use Rattle.piper_protocol.specs.declared.scripted.Failed.{Failed}
+use Rattle.piper_protocol.specs.declared.table.Side.TheVariants.{Reader, Writer}
+use Rattle.piper_protocol.specs.declared.table.Query.{Query}
+use Rattle.piper_sides.specs.declared.polling.Context.{Context}
+use Rattle.piper_protocol.specs.declared.answer.Failed.{Failed}
 use Rattle.piper_protocol.specs.declared.table.Form.{Form}
 use Rattle.piper_protocol.specs.declared.table.Form.TheVariants.{Try, Polling}
 use Rattle.piper_protocol.specs.declared.table.Purpose.{Purpose}
@@ -16,8 +16,8 @@ use Rattle.piper_protocol.specs.declared.table.AfterRead.TheVariants as after_re
 use Rattle.piper_protocol.specs.declared.table.ReadPoint.{ReadPoint}
 use Rattle.piper_protocol.specs.declared.table.ReadPoint.TheVariants as at
 use Rattle.piper_protocol.specs.Table.{Next, read_action, reader_looks_for, reader_looked, reader_looked_again, reader_moved, read_after, yield_answer, read_done}
-use Rattle.piper_protocol.specs.Log.{answer_event}
-use Rattle.piper_protocol.specs.Open.{is_yield_granted}
+use Rattle.piper_sides.specs.Log.{answer_event}
+use Rattle.piper_sides.specs.Open.{is_yield_granted}
 use Rattle.piper_machine.specs.Pipe.{Pipe}
 use Rattle.piper_machine.specs.Action.{logged_of, registration_of, wake_of, yield_of, refreshed_by, round_count, destination_called}
 use Rattle.piper_machine.specs.Step.{call_after, destination_after, went}

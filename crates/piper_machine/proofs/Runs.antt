@@ -1,7 +1,7 @@
 -- A run goes on by one step.
 use Rattle.std.proofs.Common.{List, [], ◌∷◌, ◌++◌, refl, subst}
-use Rattle.piper_protocol.specs.declared.calls.Step.{Step}
-use Rattle.piper_protocol.specs.declared.events.Event.{Event}
+use Rattle.piper_sides.specs.declared.calls.Step.{Step}
+use Rattle.piper_sides.specs.declared.events.Event.{Event}
 use Rattle.piper_machine.specs.Pipe.{Pipe}
 use Rattle.piper_machine.specs.Run.{Made, Runs}
 

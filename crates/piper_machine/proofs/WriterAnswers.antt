@@ -4,19 +4,19 @@ use Rattle.std.specs.Prelude.{IsSomeAnd}
 use Rattle.std.proofs.Common.{◌≡◌, ℕ, ◌+◌, ◌-◌, ◌≤◌, min, List, [], ◌∷◌, ◌++◌, take, drop, length, Bool, true, false, Option, None, Some, ◌==◌, is_some, refl, sym, ap, subst, ◌∙◌, arith, append_assoc, append-nil, length-append, length-take-le, take-append-drop, take_all}
 use Rattle.std.proofs.lemmas.List.{take-append-le}
 use Rattle.std.proofs.lemmas.Bool.Decides.{nat_tests}
-use Rattle.piper_protocol.specs.declared.calls.Side.TheVariants.{Writer}
-use Rattle.piper_protocol.specs.declared.calls.Call.{Call}
-use Rattle.piper_protocol.specs.declared.calls.Call.TheVariants as call
-use Rattle.piper_protocol.specs.declared.events.Answer.{Answer}
-use Rattle.piper_protocol.specs.declared.events.Answer.TheVariants as answer
-use Rattle.piper_protocol.specs.declared.events.Event.{Event}
-use Rattle.piper_protocol.specs.declared.events.Event.TheVariants.{Looked}
-use Rattle.piper_protocol.specs.declared.events.Seen.{Seen}
-use Rattle.piper_protocol.specs.declared.events.Seen.TheVariants as seen
-use Rattle.piper_protocol.specs.declared.polling.Polled.{Polled}
-use Rattle.piper_protocol.specs.declared.polling.Polled.TheVariants.{Ready, Pending, Memory}
-use Rattle.piper_protocol.specs.declared.scripted.SourceAct.{SourceAct}
-use Rattle.piper_protocol.specs.declared.scripted.SourceAct.TheVariants as source
+use Rattle.piper_protocol.specs.declared.table.Side.TheVariants.{Writer}
+use Rattle.piper_sides.specs.declared.calls.Call.{Call}
+use Rattle.piper_sides.specs.declared.calls.Call.TheVariants as call
+use Rattle.piper_protocol.specs.declared.answer.Answer.{Answer}
+use Rattle.piper_protocol.specs.declared.answer.Answer.TheVariants as answer
+use Rattle.piper_sides.specs.declared.events.Event.{Event}
+use Rattle.piper_sides.specs.declared.events.Event.TheVariants.{Looked}
+use Rattle.piper_sides.specs.declared.events.Seen.{Seen}
+use Rattle.piper_sides.specs.declared.events.Seen.TheVariants as seen
+use Rattle.piper_protocol.specs.declared.answer.Polled.{Polled}
+use Rattle.piper_protocol.specs.declared.answer.Polled.TheVariants.{Ready, Pending, Memory}
+use Rattle.piper_sides.specs.declared.scripted.SourceAct.{SourceAct}
+use Rattle.piper_sides.specs.declared.scripted.SourceAct.TheVariants as source
 use Rattle.piper_protocol.specs.declared.table.Form.{Form}
 use Rattle.piper_protocol.specs.declared.table.Form.TheVariants.{Try, Polling}
 use Rattle.piper_protocol.specs.declared.table.Purpose.{Purpose}
@@ -26,11 +26,10 @@ use Rattle.piper_protocol.specs.declared.table.AfterWrite.{AfterWrite}
 use Rattle.piper_protocol.specs.declared.table.AfterWrite.TheVariants as after_read
 use Rattle.piper_protocol.specs.declared.table.WritePoint.{WritePoint}
 use Rattle.piper_protocol.specs.declared.table.WritePoint.TheVariants as at
-use Rattle.piper_protocol.specs.Open.{is_granted, is_yield_granted}
-use Rattle.piper_protocol.specs.Side.{tail_store}
+use Rattle.piper_sides.specs.Open.{is_granted, is_yield_granted}
+use Rattle.piper_protocol.specs.Table.{Next, copy_answer, count_answer, end_or_pending, failed_answer, look_answer, own_taken, query_answer, reader_taken, tail_store, write_after, write_done, writer_found, writer_is_open, writer_is_true, writer_looked, writer_looked_again, writer_moved, writer_registered, writer_rounds, yield_answer}
 use Rattle.piper_protocol.specs.declared.table.Found.TheVariants.{Nothing as nothing, Granted as granted}
-use Rattle.piper_protocol.specs.Table.{Next, look_answer, write_after, query_answer, copy_answer, count_answer, failed_answer, end_or_pending, yield_answer, writer_found, writer_is_open, writer_looked, writer_looked_again, writer_registered, writer_is_true, writer_moved, writer_rounds, reader_taken, write_done, own_taken}
-use Rattle.piper_protocol.specs.Log.{answer_event}
+use Rattle.piper_sides.specs.Log.{answer_event}
 use Rattle.piper_machine.specs.Pipe.{Pipe}
 use Rattle.piper_machine.specs.Round.{given, found_of, moved_by, unspent, left_of_source}
 use Rattle.piper_machine.specs.Source.{bytes_of}

@@ -2,11 +2,11 @@
 -- true only where room is known.
 use Rattle.std.proofs.Common.{◌≡◌, ℕ, ◌+◌, ◌-◌, ◌<◌, ◌≤◌, min, List, [], ◌∷◌, length, Bool, true, false, None, ◌==◌, is_some, Result, Ok, Err, refl, arith}
 use Rattle.std.specs.Prelude.{⊤}
-use Rattle.piper_protocol.specs.declared.calls.Side.TheVariants.{Writer}
-use Rattle.piper_protocol.specs.declared.polling.Polled.TheVariants.{Ready, Memory}
-use Rattle.piper_protocol.specs.declared.scripted.Failed.{Failed}
-use Rattle.piper_protocol.specs.declared.scripted.SourceAct.{SourceAct}
-use Rattle.piper_protocol.specs.declared.scripted.SourceAct.TheVariants as source
+use Rattle.piper_protocol.specs.declared.table.Side.TheVariants.{Writer}
+use Rattle.piper_protocol.specs.declared.answer.Polled.TheVariants.{Ready, Memory}
+use Rattle.piper_protocol.specs.declared.answer.Failed.{Failed}
+use Rattle.piper_sides.specs.declared.scripted.SourceAct.{SourceAct}
+use Rattle.piper_sides.specs.declared.scripted.SourceAct.TheVariants as source
 use Rattle.piper_protocol.specs.declared.table.Form.{Form}
 use Rattle.piper_protocol.specs.declared.table.Form.TheVariants.{Try, Polling}
 use Rattle.piper_protocol.specs.declared.table.Purpose.{Purpose}
@@ -15,7 +15,7 @@ use Rattle.piper_protocol.specs.declared.table.AfterWrite.{AfterWrite}
 use Rattle.piper_protocol.specs.declared.table.AfterWrite.TheVariants as after_read
 use Rattle.piper_protocol.specs.declared.table.WritePoint.{WritePoint}
 use Rattle.piper_protocol.specs.declared.table.WritePoint.TheVariants as at
-use Rattle.piper_protocol.specs.Open.{is_granted, is_yield_granted}
+use Rattle.piper_sides.specs.Open.{is_granted, is_yield_granted}
 use Rattle.piper_protocol.specs.Table.{Next, goes_on, ends, look_answer, end_or_pending, write_action, write_after, write_done, writer_is_open, writer_looked, writer_looked_again, writer_registered, writer_is_true, writer_moved, writer_rounds, reader_taken, own_taken}
 use Rattle.piper_machine.specs.Pipe.{Pipe}
 use Rattle.piper_machine.specs.Round.{given, found_of}

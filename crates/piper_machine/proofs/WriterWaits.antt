@@ -3,12 +3,12 @@
 use Rattle.std.proofs.Common.{◌≡◌, ℕ, ◌-◌, ◌≤◌, List, [], ◌++◌, length, take, Bool, true, false, Option, None, Some, ◌==◌, Result, Ok, Err, refl, sym, ap, subst, ◌∙◌, arith, length-append, length-take-le}
 use Rattle.std.specs.Bool.{⊤}
 use Rattle.std.proofs.lemmas.Bool.Decides.{nat_tests}
-use Rattle.piper_protocol.specs.declared.calls.Side.TheVariants.{Reader, Writer}
-use Rattle.piper_protocol.specs.declared.calls.Query.{Query}
-use Rattle.piper_protocol.specs.declared.events.Answer.TheVariants.{Done}
-use Rattle.piper_protocol.specs.declared.polling.Context.{Context}
-use Rattle.piper_protocol.specs.declared.scripted.Failed.{Failed}
-use Rattle.piper_protocol.specs.declared.scripted.SourceAct.{SourceAct}
+use Rattle.piper_protocol.specs.declared.table.Side.TheVariants.{Reader, Writer}
+use Rattle.piper_protocol.specs.declared.table.Query.{Query}
+use Rattle.piper_protocol.specs.declared.answer.Answer.TheVariants.{Done}
+use Rattle.piper_sides.specs.declared.polling.Context.{Context}
+use Rattle.piper_protocol.specs.declared.answer.Failed.{Failed}
+use Rattle.piper_sides.specs.declared.scripted.SourceAct.{SourceAct}
 use Rattle.piper_protocol.specs.declared.table.Form.{Form}
 use Rattle.piper_protocol.specs.declared.table.Form.TheVariants.{Try, Polling}
 use Rattle.piper_protocol.specs.declared.table.Purpose.{Purpose}
@@ -18,8 +18,8 @@ use Rattle.piper_protocol.specs.declared.table.AfterWrite.TheVariants as after_r
 use Rattle.piper_protocol.specs.declared.table.WritePoint.{WritePoint}
 use Rattle.piper_protocol.specs.declared.table.WritePoint.TheVariants as at
 use Rattle.piper_protocol.specs.Table.{Next, write_action, end_or_pending, look_answer, writer_is_open, writer_looked, writer_looked_again, writer_moved, writer_rounds, write_after, yield_answer, ends, write_done}
-use Rattle.piper_protocol.specs.Log.{answer_event}
-use Rattle.piper_protocol.specs.Open.{is_yield_granted}
+use Rattle.piper_sides.specs.Log.{answer_event}
+use Rattle.piper_sides.specs.Open.{is_yield_granted}
 use Rattle.piper_machine.specs.Pipe.{Pipe}
 use Rattle.piper_machine.specs.Sound.{IsSound}
 use Rattle.piper_machine.specs.Action.{logged_of, registration_of, wake_of, yield_of, refreshed_by}

@@ -1,20 +1,20 @@
 -- A call made by steps, none of which is the other side's, is the call run whole.
 use Rattle.std.specs.Prelude.{◌≡◌, ℕ, ◌≤◌, List, [], ◌∷◌, ◌++◌, length, replicate, Result, Ok, Err, Some}
-use Rattle.piper_protocol.specs.declared.calls.Side.{Side}
-use Rattle.piper_protocol.specs.declared.calls.Side.TheVariants.{Reader, Writer}
-use Rattle.piper_protocol.specs.declared.calls.SideState.TheVariants.{Busy}
-use Rattle.piper_protocol.specs.declared.calls.Call.{Call}
-use Rattle.piper_protocol.specs.declared.calls.Call.TheVariants as call
-use Rattle.piper_protocol.specs.declared.calls.Step.TheVariants.{Begin, Go}
-use Rattle.piper_protocol.specs.declared.events.Answer.{Answer}
-use Rattle.piper_protocol.specs.declared.events.Answer.TheVariants.{Count, Flag, Poll, Copy, Lent, Done}
-use Rattle.piper_protocol.specs.declared.events.Event.{Event}
-use Rattle.piper_protocol.specs.declared.events.Event.TheVariants.{Woken, Answered}
-use Rattle.piper_protocol.specs.declared.polling.Context.{Context}
-use Rattle.piper_protocol.specs.declared.polling.Polled.{Polled}
-use Rattle.piper_protocol.specs.declared.polling.Polled.TheVariants.{Pending, Ready, Memory}
-use Rattle.piper_protocol.specs.declared.scripted.Failed.{Failed}
-use Rattle.piper_protocol.specs.Call.{side_of}
+use Rattle.piper_protocol.specs.declared.table.Side.{Side}
+use Rattle.piper_protocol.specs.declared.table.Side.TheVariants.{Reader, Writer}
+use Rattle.piper_sides.specs.declared.calls.SideState.TheVariants.{Busy}
+use Rattle.piper_sides.specs.declared.calls.Call.{Call}
+use Rattle.piper_sides.specs.declared.calls.Call.TheVariants as call
+use Rattle.piper_sides.specs.declared.calls.Step.TheVariants.{Begin, Go}
+use Rattle.piper_protocol.specs.declared.answer.Answer.{Answer}
+use Rattle.piper_protocol.specs.declared.answer.Answer.TheVariants.{Count, Flag, Poll, Copy, Lent, Done}
+use Rattle.piper_sides.specs.declared.events.Event.{Event}
+use Rattle.piper_sides.specs.declared.events.Event.TheVariants.{Woken, Answered}
+use Rattle.piper_sides.specs.declared.polling.Context.{Context}
+use Rattle.piper_protocol.specs.declared.answer.Polled.{Polled}
+use Rattle.piper_protocol.specs.declared.answer.Polled.TheVariants.{Pending, Ready, Memory}
+use Rattle.piper_protocol.specs.declared.answer.Failed.{Failed}
+use Rattle.piper_sides.specs.Call.{side_of}
 use Rattle.piper_protocol.specs.Table.{query_answer}
 use Rattle.piper_machine.specs.Pipe.{Pipe, begun}
 use Rattle.piper_machine.specs.Query.{unread_count, is_closed}

@@ -1,8 +1,8 @@
 -- Conservation: the bytes consumed, followed by those unread, are those published.
 use Rattle.std.specs.Prelude.{◌≡◌, ℕ, ◌≤◌, ◌%◌, List, [], ◌++◌, length}
 use Rattle.std.specs.List.{flat_map}
-use Rattle.piper_protocol.specs.declared.events.Event.{Event}
-use Rattle.piper_protocol.specs.declared.events.Event.TheVariants.{Published, Consumed}
+use Rattle.piper_sides.specs.declared.events.Event.{Event}
+use Rattle.piper_sides.specs.declared.events.Event.TheVariants.{Published, Consumed}
 use Rattle.piper_machine.specs.Pipe.{Pipe}
 
 abbrev pub consumed_in : Event → List ℕ

@@ -1,11 +1,11 @@
 -- What a call saw of the close, and where a call of the reader finds the end: it checks closed and
 -- finds it, and after that it finds no byte.
 use Rattle.std.specs.Prelude.{List, [], ◌∷◌, Bool, false}
-use Rattle.piper_protocol.specs.declared.calls.Side.{Side}
-use Rattle.piper_protocol.specs.declared.calls.Side.TheVariants.{Reader, Writer}
-use Rattle.piper_protocol.specs.declared.events.Event.{Event}
-use Rattle.piper_protocol.specs.declared.events.Event.TheVariants.{Began, Looked}
-use Rattle.piper_protocol.specs.declared.events.Seen.TheVariants.{Tail, Closed}
+use Rattle.piper_protocol.specs.declared.table.Side.{Side}
+use Rattle.piper_protocol.specs.declared.table.Side.TheVariants.{Reader, Writer}
+use Rattle.piper_sides.specs.declared.events.Event.{Event}
+use Rattle.piper_sides.specs.declared.events.Event.TheVariants.{Began, Looked}
+use Rattle.piper_sides.specs.declared.events.Seen.TheVariants.{Tail, Closed}
 
 -- whether a side's last call checked closed and found it
 abbrev pub saw_closed_after : Side → Bool → Event → Bool

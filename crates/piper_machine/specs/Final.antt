@@ -1,12 +1,12 @@
 -- A reported end is final: after it no byte comes any more.
 use Rattle.std.specs.Prelude.{◌≡◌, ◌⊎◌, List, [], ◌∷◌, ◌++◌, All, true, false, Ok, ⊤}
-use Rattle.piper_protocol.specs.declared.calls.Side.TheVariants.{Reader}
-use Rattle.piper_protocol.specs.declared.events.Event.{Event}
-use Rattle.piper_protocol.specs.declared.events.Event.TheVariants.{Looked, Published, Consumed, Answered}
-use Rattle.piper_protocol.specs.declared.events.Seen.TheVariants.{Head, Tail, Closed}
-use Rattle.piper_protocol.specs.declared.events.Answer.{Answer}
-use Rattle.piper_protocol.specs.declared.events.Answer.TheVariants.{Count, Poll, Copy}
-use Rattle.piper_protocol.specs.declared.polling.Polled.TheVariants.{Ready, Memory}
+use Rattle.piper_protocol.specs.declared.table.Side.TheVariants.{Reader}
+use Rattle.piper_sides.specs.declared.events.Event.{Event}
+use Rattle.piper_sides.specs.declared.events.Event.TheVariants.{Looked, Published, Consumed, Answered}
+use Rattle.piper_sides.specs.declared.events.Seen.TheVariants.{Head, Tail, Closed}
+use Rattle.piper_protocol.specs.declared.answer.Answer.{Answer}
+use Rattle.piper_protocol.specs.declared.answer.Answer.TheVariants.{Count, Poll, Copy}
+use Rattle.piper_protocol.specs.declared.answer.Polled.TheVariants.{Ready, Memory}
 use Rattle.piper_machine.specs.Pipe.{Pipe}
 use Rattle.piper_machine.specs.End.{saw_closed, found_none}
 

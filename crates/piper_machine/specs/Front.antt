@@ -1,8 +1,8 @@
 -- Every front of a run: at each moment, between any two steps,
 -- the laws hold of the pipe and log that the steps so far led to.
 use Rattle.std.specs.Prelude.{ℕ, List, [], take, drop}
-use Rattle.piper_protocol.specs.declared.calls.Step.{Step}
-use Rattle.piper_protocol.specs.declared.events.Event.{Event}
+use Rattle.piper_sides.specs.declared.calls.Step.{Step}
+use Rattle.piper_sides.specs.declared.events.Event.{Event}
 use Rattle.piper_machine.specs.Pipe.{Pipe, fresh}
 use Rattle.piper_machine.specs.Sound.{IsSound}
 use Rattle.piper_machine.specs.Run.{Runs}

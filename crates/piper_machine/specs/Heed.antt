@@ -1,9 +1,9 @@
 -- A close that is seen is heeded: a call of the writer that checked closed and found it publishes
 -- nothing after that.
 use Rattle.std.specs.Prelude.{◌≡◌, ℕ, List, ◌∷◌, ◌++◌, false}
-use Rattle.piper_protocol.specs.declared.calls.Side.TheVariants.{Writer}
-use Rattle.piper_protocol.specs.declared.events.Event.{Event}
-use Rattle.piper_protocol.specs.declared.events.Event.TheVariants.{Published}
+use Rattle.piper_protocol.specs.declared.table.Side.TheVariants.{Writer}
+use Rattle.piper_sides.specs.declared.events.Event.{Event}
+use Rattle.piper_sides.specs.declared.events.Event.TheVariants.{Published}
 use Rattle.piper_machine.specs.End.{saw_closed}
 
 -- wherever bytes are published

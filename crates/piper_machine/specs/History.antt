@@ -1,9 +1,9 @@
 -- What a log tells the reader: whether the pipe was closed, and what its call saw last.
 use Rattle.std.specs.Prelude.{ℕ, List, [], ◌∷◌, Bool, true, false, Option, None, Some}
-use Rattle.piper_protocol.specs.declared.calls.Side.TheVariants.{Reader}
-use Rattle.piper_protocol.specs.declared.events.Event.{Event}
-use Rattle.piper_protocol.specs.declared.events.Event.TheVariants.{Began, Looked, Closed}
-use Rattle.piper_protocol.specs.declared.events.Seen.TheVariants.{Tail}
+use Rattle.piper_protocol.specs.declared.table.Side.TheVariants.{Reader}
+use Rattle.piper_sides.specs.declared.events.Event.{Event}
+use Rattle.piper_sides.specs.declared.events.Event.TheVariants.{Began, Looked, Closed}
+use Rattle.piper_sides.specs.declared.events.Seen.TheVariants.{Tail}
 
 -- a look of the reader at the writer's index
 pub record Look : Type 0 where

@@ -1,13 +1,13 @@
 -- What a side knows of the other, as its own events show: the reader how many bytes are unread, the
 -- writer how much room there is.
 use Rattle.std.specs.Prelude.{◌≡◌, ℕ, ◌-◌, ◌≤◌, List, [], ◌∷◌, length, Bool, true, false}
-use Rattle.piper_protocol.specs.declared.calls.Side.{Side}
-use Rattle.piper_protocol.specs.declared.calls.Side.TheVariants.{Reader, Writer}
-use Rattle.piper_protocol.specs.declared.calls.Kind.{Kind}
-use Rattle.piper_protocol.specs.declared.calls.Kind.TheVariants as kind
-use Rattle.piper_protocol.specs.declared.events.Event.{Event}
-use Rattle.piper_protocol.specs.declared.events.Event.TheVariants.{Began, Looked, Published, Consumed}
-use Rattle.piper_protocol.specs.declared.events.Seen.TheVariants.{Head, Tail}
+use Rattle.piper_protocol.specs.declared.table.Side.{Side}
+use Rattle.piper_protocol.specs.declared.table.Side.TheVariants.{Reader, Writer}
+use Rattle.piper_sides.specs.declared.calls.Kind.{Kind}
+use Rattle.piper_sides.specs.declared.calls.Kind.TheVariants as kind
+use Rattle.piper_sides.specs.declared.events.Event.{Event}
+use Rattle.piper_sides.specs.declared.events.Event.TheVariants.{Began, Looked, Published, Consumed}
+use Rattle.piper_sides.specs.declared.events.Seen.TheVariants.{Head, Tail}
 use Rattle.piper_machine.specs.Pipe.{Pipe}
 
 pub record Knowledge : Type 0 where

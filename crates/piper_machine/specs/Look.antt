@@ -1,10 +1,10 @@
 -- The look that a polling or copying call begins with,
 -- run whole: is there something to read, or room to write?
 use Rattle.std.specs.Prelude.{ℕ, Bool, true, false, Option, None, Some, ◌==◌}
-use Rattle.piper_protocol.specs.declared.polling.Context.{Context}
-use Rattle.piper_protocol.specs.declared.polling.Luck.{Luck}
-use Rattle.piper_protocol.specs.declared.polling.Polled.{Polled}
-use Rattle.piper_protocol.specs.declared.polling.Polled.TheVariants.{Pending, Ready, Memory}
+use Rattle.piper_sides.specs.declared.polling.Context.{Context}
+use Rattle.piper_sides.specs.declared.polling.Luck.{Luck}
+use Rattle.piper_protocol.specs.declared.answer.Polled.{Polled}
+use Rattle.piper_protocol.specs.declared.answer.Polled.TheVariants.{Pending, Ready, Memory}
 use Rattle.piper_protocol.specs.Table.{end_or_pending}
 use Rattle.piper_machine.specs.Pipe.{Pipe}
 use Rattle.piper_machine.specs.Refresh.{reader_refreshed, writer_refreshed}

@@ -2,12 +2,12 @@
 use Rattle.std.specs.Prelude.{◌≡◌, ◌≤◌, [], length, take, drop, true}
 use Rattle.piper_protocol.specs.declared.table.ReadPoint.TheVariants as at
 use Rattle.piper_protocol.specs.declared.table.WritePoint.TheVariants as on
-use Rattle.piper_protocol.specs.Open.{no_call}
+use Rattle.piper_sides.specs.Open.{no_call}
 use Rattle.piper_protocol.specs.Index.{distance, place_of}
 use Rattle.piper_machine.specs.declared.destination.Destination.TheVariants.{Slice}
 use Rattle.piper_machine.specs.Buffer.{between}
 use Rattle.piper_machine.specs.Pipe.{Pipe}
-use Rattle.piper_protocol.specs.Side.{IsReading, IsWriting, known_of, room_of}
+use Rattle.piper_sides.specs.Side.{IsReading, IsWriting, known_of, room_of}
 use Rattle.piper_machine.specs.declared.machine.Machine.TheInside.{Inside}
 
 abbrev pub pipe_of : Inside → Pipe

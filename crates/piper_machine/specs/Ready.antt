@@ -1,12 +1,12 @@
 -- A poll that returns true leaves its side something to do: a byte that the reader knows of, or
 -- room that the writer knows of.
 use Rattle.std.specs.Prelude.{ℕ, ◌≤◌, List, [], ◌∷◌, true, ⊤}
-use Rattle.piper_protocol.specs.declared.calls.Side.{Side}
-use Rattle.piper_protocol.specs.declared.calls.Side.TheVariants.{Reader, Writer}
-use Rattle.piper_protocol.specs.declared.events.Event.{Event}
-use Rattle.piper_protocol.specs.declared.events.Event.TheVariants.{Answered}
-use Rattle.piper_protocol.specs.declared.events.Answer.TheVariants.{Poll}
-use Rattle.piper_protocol.specs.declared.polling.Polled.TheVariants as polled
+use Rattle.piper_protocol.specs.declared.table.Side.{Side}
+use Rattle.piper_protocol.specs.declared.table.Side.TheVariants.{Reader, Writer}
+use Rattle.piper_sides.specs.declared.events.Event.{Event}
+use Rattle.piper_sides.specs.declared.events.Event.TheVariants.{Answered}
+use Rattle.piper_protocol.specs.declared.answer.Answer.TheVariants.{Poll}
+use Rattle.piper_protocol.specs.declared.answer.Polled.TheVariants as polled
 use Rattle.piper_machine.specs.Known.{Knowledge, knowledge_after, knowledge_first}
 
 abbrev pub IsReadyAnswer : Side → Knowledge → Event → Type 0

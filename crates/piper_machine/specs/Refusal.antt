@@ -1,23 +1,23 @@
 -- Why a step is refused. Where several reasons hold, the first in the order of the lines is
 -- returned; want of memory comes last.
 use Rattle.std.specs.Prelude.{◌≡◌, length, Bool, true, false, Option, None, Some, nat_le, nat_lt}
-use Rattle.piper_protocol.specs.declared.calls.Side.{Side}
-use Rattle.piper_protocol.specs.declared.calls.Side.TheVariants.{Reader, Writer}
-use Rattle.piper_protocol.specs.declared.calls.SideState.{SideState}
-use Rattle.piper_protocol.specs.declared.calls.SideState.TheVariants as state
-use Rattle.piper_protocol.specs.declared.calls.Call.{Call}
-use Rattle.piper_protocol.specs.declared.calls.Call.TheVariants as call
-use Rattle.piper_protocol.specs.declared.calls.Step.{Step}
-use Rattle.piper_protocol.specs.declared.calls.Step.TheVariants.{Begin, Go, Put}
-use Rattle.piper_protocol.specs.declared.refusals.StepRefusal.{StepRefusal}
-use Rattle.piper_protocol.specs.declared.refusals.StepRefusal.TheVariants.{Busy, Idle, Dropped, PastLent, PastPeek, BadDraw}
+use Rattle.piper_protocol.specs.declared.table.Side.{Side}
+use Rattle.piper_protocol.specs.declared.table.Side.TheVariants.{Reader, Writer}
+use Rattle.piper_sides.specs.declared.calls.SideState.{SideState}
+use Rattle.piper_sides.specs.declared.calls.SideState.TheVariants as state
+use Rattle.piper_sides.specs.declared.calls.Call.{Call}
+use Rattle.piper_sides.specs.declared.calls.Call.TheVariants as call
+use Rattle.piper_sides.specs.declared.calls.Step.{Step}
+use Rattle.piper_sides.specs.declared.calls.Step.TheVariants.{Begin, Go, Put}
+use Rattle.piper_sides.specs.declared.refusals.StepRefusal.{StepRefusal}
+use Rattle.piper_sides.specs.declared.refusals.StepRefusal.TheVariants.{Busy, Idle, Dropped, PastLent, PastPeek, BadDraw}
 use Rattle.piper_protocol.specs.declared.table.ReadPoint.{ReadPoint}
 use Rattle.piper_protocol.specs.declared.table.ReadPoint.TheVariants as at
 use Rattle.piper_protocol.specs.declared.table.WritePoint.{WritePoint}
 use Rattle.piper_protocol.specs.declared.table.WritePoint.TheVariants as on
 use Rattle.piper_machine.specs.Pipe.{Pipe}
 use Rattle.piper_machine.specs.Places.{peeked_count}
-use Rattle.piper_protocol.specs.Call.{side_of, has_good_draw}
+use Rattle.piper_sides.specs.Call.{side_of, has_good_draw}
 
 abbrev pub reader_state : ReadPoint → SideState
 reader_state at.Idle = state.Idle

@@ -1,12 +1,12 @@
 -- One call of a source or a destination in a round of a copy, and what is left of it for the next.
 use Rattle.std.specs.Prelude.{ℕ, ◌-◌, min, List, [], ◌∷◌, drop, length, Result, Ok, Err}
-use Rattle.piper_protocol.specs.declared.scripted.Failed.{Failed}
-use Rattle.piper_protocol.specs.declared.scripted.SourceAct.{SourceAct}
-use Rattle.piper_protocol.specs.declared.scripted.SourceAct.TheVariants as source
-use Rattle.piper_protocol.specs.declared.scripted.DestAct.{DestAct}
-use Rattle.piper_protocol.specs.declared.scripted.DestAct.TheVariants as dest
-use Rattle.piper_protocol.specs.declared.calls.Call.{Call}
-use Rattle.piper_protocol.specs.declared.calls.Call.TheVariants as call
+use Rattle.piper_protocol.specs.declared.answer.Failed.{Failed}
+use Rattle.piper_sides.specs.declared.scripted.SourceAct.{SourceAct}
+use Rattle.piper_sides.specs.declared.scripted.SourceAct.TheVariants as source
+use Rattle.piper_sides.specs.declared.scripted.DestAct.{DestAct}
+use Rattle.piper_sides.specs.declared.scripted.DestAct.TheVariants as dest
+use Rattle.piper_sides.specs.declared.calls.Call.{Call}
+use Rattle.piper_sides.specs.declared.calls.Call.TheVariants as call
 use Rattle.piper_protocol.specs.declared.table.Found.{Found}
 use Rattle.piper_protocol.specs.declared.table.Found.TheVariants.{Moved as moved, Failed as failed}
 use Rattle.piper_machine.specs.declared.destination.Destination.{Destination}

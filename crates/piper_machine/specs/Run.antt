@@ -1,12 +1,12 @@
 -- Runs: lists of steps, made one after another on a fresh pipe with an empty log.
 use Rattle.std.specs.Prelude.{◌≡◌, ℕ, List, [], ◌∷◌, ◌++◌, take, slice_get, None, Some, ⊤, Bool, true, false}
-use Rattle.piper_protocol.specs.declared.calls.Step.{Step}
-use Rattle.piper_protocol.specs.declared.calls.Step.TheVariants.{Put}
-use Rattle.piper_protocol.specs.declared.events.Event.{Event}
-use Rattle.piper_protocol.specs.declared.refusals.StepRefusal.{StepRefusal}
-use Rattle.piper_protocol.specs.declared.refusals.StepRefusal.TheVariants.{Memory}
-use Rattle.piper_protocol.specs.declared.refusals.RunRefusal.{RunRefusal}
-use Rattle.piper_protocol.specs.declared.refusals.RunRefusal.TheVariants.{NoMachine, At}
+use Rattle.piper_sides.specs.declared.calls.Step.{Step}
+use Rattle.piper_sides.specs.declared.calls.Step.TheVariants.{Put}
+use Rattle.piper_sides.specs.declared.events.Event.{Event}
+use Rattle.piper_sides.specs.declared.refusals.StepRefusal.{StepRefusal}
+use Rattle.piper_sides.specs.declared.refusals.StepRefusal.TheVariants.{Memory}
+use Rattle.piper_sides.specs.declared.refusals.RunRefusal.{RunRefusal}
+use Rattle.piper_sides.specs.declared.refusals.RunRefusal.TheVariants.{NoMachine, At}
 use Rattle.piper_machine.specs.Pipe.{Pipe, fresh}
 use Rattle.piper_machine.specs.Step.{stepped, MayLend}
 use Rattle.piper_machine.specs.Refusal.{refusal_of}

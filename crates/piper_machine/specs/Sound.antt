@@ -2,7 +2,7 @@
 use Rattle.std.specs.Prelude.{◌≡◌, ◌-◌, ◌<◌, ◌≤◌, length, [], true}
 use Rattle.piper_machine.specs.Pipe.{Pipe}
 use Rattle.piper_machine.specs.Places.{places_left, peeked_count}
-use Rattle.piper_protocol.specs.Side.{head_store, tail_store}
+use Rattle.piper_protocol.specs.Table.{head_store, tail_store}
 
 pub record IsSound (p : Pipe) : Type 0 where
   pub unread : length p.unread ≤ p.capacity

@@ -1,27 +1,27 @@
 -- One step of a run: a call is opened,
 -- a side makes its next step, or a byte is put into what is lent.
 use Rattle.std.specs.Prelude.{ℕ, List, [], ◌∷◌, ◌++◌, length, slice_set, Bool, true, Option, None, Some, ◌==◌, ⊤}
-use Rattle.piper_protocol.specs.declared.calls.Side.{Side}
-use Rattle.piper_protocol.specs.declared.calls.Side.TheVariants.{Reader, Writer}
-use Rattle.piper_protocol.specs.declared.calls.OpenCall.{OpenCall}
-use Rattle.piper_protocol.specs.declared.calls.Call.{Call}
-use Rattle.piper_protocol.specs.declared.calls.Call.TheVariants as call
-use Rattle.piper_protocol.specs.declared.calls.Query.{Query}
-use Rattle.piper_protocol.specs.declared.polling.Context.{Context}
-use Rattle.piper_protocol.specs.declared.calls.Step.{Step}
-use Rattle.piper_protocol.specs.declared.calls.Step.TheVariants.{Begin, Go, Put}
-use Rattle.piper_protocol.specs.declared.events.Answer.{Answer}
-use Rattle.piper_protocol.specs.declared.events.Answer.TheVariants.{Lent}
-use Rattle.piper_protocol.specs.declared.events.Event.{Event}
-use Rattle.piper_protocol.specs.declared.events.Event.TheVariants.{Began}
+use Rattle.piper_protocol.specs.declared.table.Side.{Side}
+use Rattle.piper_protocol.specs.declared.table.Side.TheVariants.{Reader, Writer}
+use Rattle.piper_sides.specs.declared.calls.OpenCall.{OpenCall}
+use Rattle.piper_sides.specs.declared.calls.Call.{Call}
+use Rattle.piper_sides.specs.declared.calls.Call.TheVariants as call
+use Rattle.piper_protocol.specs.declared.table.Query.{Query}
+use Rattle.piper_sides.specs.declared.polling.Context.{Context}
+use Rattle.piper_sides.specs.declared.calls.Step.{Step}
+use Rattle.piper_sides.specs.declared.calls.Step.TheVariants.{Begin, Go, Put}
+use Rattle.piper_protocol.specs.declared.answer.Answer.{Answer}
+use Rattle.piper_protocol.specs.declared.answer.Answer.TheVariants.{Lent}
+use Rattle.piper_sides.specs.declared.events.Event.{Event}
+use Rattle.piper_sides.specs.declared.events.Event.TheVariants.{Began}
 use Rattle.piper_protocol.specs.declared.table.Action.{Action}
 use Rattle.piper_protocol.specs.declared.table.Action.TheVariants as does
 use Rattle.piper_protocol.specs.declared.table.Form.{Form}
 use Rattle.piper_protocol.specs.declared.table.Form.TheVariants.{Try, Polling}
 use Rattle.piper_protocol.specs.declared.table.Purpose.TheVariants.{Poll, Copy}
-use Rattle.piper_protocol.specs.declared.scripted.SourceAct.{SourceAct}
-use Rattle.piper_protocol.specs.declared.scripted.SourceAct.TheVariants as source
-use Rattle.piper_protocol.specs.declared.scripted.TheConstants.{MOST_A_ROUND}
+use Rattle.piper_sides.specs.declared.scripted.SourceAct.{SourceAct}
+use Rattle.piper_sides.specs.declared.scripted.SourceAct.TheVariants as source
+use Rattle.piper_protocol.specs.declared.table.TheConstants.{MOST_A_ROUND}
 use Rattle.piper_machine.specs.declared.destination.Destination.{Destination}
 use Rattle.piper_machine.specs.declared.destination.Destination.TheVariants.{Slice, Acts}
 use Rattle.piper_protocol.specs.declared.table.AfterRead.TheVariants as after_read
@@ -29,10 +29,10 @@ use Rattle.piper_protocol.specs.declared.table.AfterWrite.TheVariants as after_w
 use Rattle.piper_protocol.specs.declared.table.ReadPoint.TheVariants as at
 use Rattle.piper_protocol.specs.declared.table.WritePoint.{WritePoint}
 use Rattle.piper_protocol.specs.declared.table.WritePoint.TheVariants as on
-use Rattle.piper_protocol.specs.Open.{no_call, called_with}
-use Rattle.piper_protocol.specs.Log.{answer_event}
+use Rattle.piper_sides.specs.Open.{no_call, called_with}
+use Rattle.piper_sides.specs.Log.{answer_event}
 use Rattle.piper_machine.specs.Pipe.{Pipe}
-use Rattle.piper_protocol.specs.Call.{side_of, kind_of, waker_of}
+use Rattle.piper_sides.specs.Call.{side_of, kind_of, waker_of}
 use Rattle.piper_machine.specs.Look.{context}
 use Rattle.piper_machine.specs.Lend.{Lendable, lending}
 use Rattle.piper_protocol.specs.declared.table.Found.{Found}

@@ -2,8 +2,9 @@
 ghost use Rattle.std.specs.Prelude.{◌≡◌, IfOk};
 ghost use Rattle.piper_machine.specs.Round.{taken, taken_by_acts, left_of_acts, left_of_destination};
 
+use piper_protocol::answer::Failed;
 use piper_protocol::memory::OutOfMemory;
-use piper_protocol::scripted::{DestAct, Failed};
+use piper_sides::scripted::DestAct;
 use std::alloc::Global;
 use std::marker::Model;
 
@@ -16,7 +17,7 @@ pub struct Acts {
 
 impl Model for Acts {
     ghost use Rattle.std.specs.Prelude.{List, drop};
-    ghost use Rattle.piper_protocol.specs.declared.scripted.DestAct.{DestAct};
+    ghost use Rattle.piper_sides.specs.declared.scripted.DestAct.{DestAct};
 
     ghost Value = { List DestAct };
 

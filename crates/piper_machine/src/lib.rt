@@ -6,5 +6,6 @@ pub mod machine;
 mod source;
 
 pub use piper_protocol::memory::OutOfMemory;
-pub use piper_protocol::slot::SlotState;
-pub use piper_protocol::{bytes, calls, events, index, memory, polling, refusals, scripted, slot};
+pub use piper_protocol::{answer, index, memory, table};
+pub use piper_sides::slot::SlotState;
+pub use piper_sides::{bytes, calls, events, polling, refusals, scripted, slot};

@@ -1,7 +1,7 @@
 //! A pipe with both its sides, for one owner.
 ghost use Rattle.std.specs.Prelude.{◌≡◌, ◌<◌, ◌≤◌, ◌+◌, ◌-◌, ◌++◌, length, take, drop, IfOk, min, false};
 ghost use Rattle.piper_protocol.specs.Index.{IsCapacity};
-ghost use Rattle.piper_protocol.specs.Side.{tail_store};
+ghost use Rattle.piper_protocol.specs.Table.{tail_store};
 ghost use Rattle.piper_machine.specs.Pipe.{fresh};
 ghost use Rattle.piper_machine.specs.Buffer.{written};
 ghost use Rattle.piper_machine.specs.Places.{peeked, peeked_count, IsPeekHeld, IsLentHeld};
@@ -12,15 +12,14 @@ ghost use Rattle.piper_machine.specs.Lend.{Lendable, lending};
 
 use crate::destination::Destination;
 use crate::source::Source;
-use piper_protocol::calls::OpenCall;
 use piper_protocol::index;
 use piper_protocol::memory::OutOfMemory;
-use piper_protocol::read_side::ReadSide;
-use piper_protocol::scripted::MOST_A_ROUND;
-use piper_protocol::slot::SlotState;
-use piper_protocol::table::{ReadPoint, WritePoint};
-use piper_protocol::woken::Woken;
-use piper_protocol::write_side::WriteSide;
+use piper_protocol::table::{MOST_A_ROUND, ReadPoint, WritePoint};
+use piper_sides::calls::OpenCall;
+use piper_sides::read_side::ReadSide;
+use piper_sides::slot::SlotState;
+use piper_sides::woken::Woken;
+use piper_sides::write_side::WriteSide;
 use std::alloc::Global;
 use std::marker::Model;
 

@@ -3,9 +3,9 @@ ghost use Rattle.std.specs.Prelude.{◌≡◌, ◌≤◌, ℕ, [], ◌∷◌, le
 ghost use Rattle.piper_machine.specs.Round.{unspent, left_of_source};
 ghost use Rattle.piper_machine.specs.Source.{IsSource, source_left, bytes_of, is_failing};
 
-use piper_protocol::bytes::Bytes;
 use piper_protocol::memory::OutOfMemory;
-use piper_protocol::scripted::{ActList, SourceAct};
+use piper_sides::bytes::Bytes;
+use piper_sides::scripted::{ActList, SourceAct};
 use std::alloc::Global;
 use std::marker::Model;
 
@@ -19,7 +19,7 @@ pub struct Source {
 
 impl Model for Source {
     ghost use Rattle.std.specs.Prelude.{List};
-    ghost use Rattle.piper_protocol.specs.declared.scripted.SourceAct.{SourceAct};
+    ghost use Rattle.piper_sides.specs.declared.scripted.SourceAct.{SourceAct};
     ghost use Rattle.piper_machine.specs.Source.{source_left, IsSource};
 
     ghost Value = { List SourceAct };

@@ -3,15 +3,15 @@
 
 ghost use Rattle.std.specs.Prelude.{◌≡◌, ◌≤◌, ◌+◌, ◌*◌, ◌⊎◌, ℕ, List, ◌++◌, ◌∷◌, [], length, replicate, true, IfOk, IfErr, Err};
 ghost use Rattle.piper_protocol.specs.Index.{IsCapacity};
-ghost use Rattle.piper_protocol.specs.Log.{events};
-ghost use Rattle.piper_protocol.specs.declared.calls.Side.{Side};
-ghost use Rattle.piper_protocol.specs.declared.events.Event.{Event};
-ghost use Rattle.piper_protocol.specs.declared.refusals.StepRefusal.{StepRefusal};
-ghost use Rattle.piper_protocol.specs.declared.calls.Side.TheVariants.{Reader};
-ghost use Rattle.piper_protocol.specs.declared.calls.Call.TheVariants as call;
-ghost use Rattle.piper_protocol.specs.declared.calls.Query.TheVariants.{Len};
-ghost use Rattle.piper_protocol.specs.declared.calls.Step.TheVariants.{Begin, Go};
-ghost use Rattle.piper_protocol.specs.declared.events.Answer.TheVariants.{Count};
+ghost use Rattle.piper_sides.specs.Log.{events};
+ghost use Rattle.piper_protocol.specs.declared.table.Side.{Side};
+ghost use Rattle.piper_sides.specs.declared.events.Event.{Event};
+ghost use Rattle.piper_sides.specs.declared.refusals.StepRefusal.{StepRefusal};
+ghost use Rattle.piper_protocol.specs.declared.table.Side.TheVariants.{Reader};
+ghost use Rattle.piper_sides.specs.declared.calls.Call.TheVariants as call;
+ghost use Rattle.piper_protocol.specs.declared.table.Query.TheVariants.{Len};
+ghost use Rattle.piper_sides.specs.declared.calls.Step.TheVariants.{Begin, Go};
+ghost use Rattle.piper_protocol.specs.declared.answer.Answer.TheVariants.{Count};
 ghost use Rattle.piper_machine.specs.Pipe.{Pipe, fresh, begun};
 ghost use Rattle.piper_machine.specs.Query.{unread_count};
 ghost use Rattle.piper_machine.specs.Run.{Runs, RefusedAt};

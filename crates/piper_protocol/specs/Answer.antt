@@ -1,10 +1,10 @@
 -- What an answer says, to a caller who knows of which kind it is.
 use Rattle.std.specs.Prelude.{ℕ, Bool, false, Result}
-use Rattle.piper_protocol.specs.declared.events.Answer.{Answer}
-use Rattle.piper_protocol.specs.declared.events.Answer.TheVariants.{Count, Flag, Poll, Copy}
-use Rattle.piper_protocol.specs.declared.polling.Polled.{Polled}
-use Rattle.piper_protocol.specs.declared.polling.Polled.TheVariants.{Memory}
-use Rattle.piper_protocol.specs.declared.scripted.Failed.{Failed}
+use Rattle.piper_protocol.specs.declared.answer.Answer.{Answer}
+use Rattle.piper_protocol.specs.declared.answer.Answer.TheVariants.{Count, Flag, Poll, Copy}
+use Rattle.piper_protocol.specs.declared.answer.Polled.{Polled}
+use Rattle.piper_protocol.specs.declared.answer.Polled.TheVariants.{Memory}
+use Rattle.piper_protocol.specs.declared.answer.Failed.{Failed}
 
 abbrev pub count_in : Answer → ℕ
 count_in (Count n) = n

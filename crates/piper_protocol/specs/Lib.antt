@@ -2,11 +2,6 @@ pub mod Index
 pub mod LendBound
 pub mod ReaderIndices
 pub mod WriterIndices
-pub mod Open
 pub mod Reported
-pub mod Call
 pub mod Answer
-pub mod Log
 pub mod Table
-pub mod Side
-pub mod SideSteps

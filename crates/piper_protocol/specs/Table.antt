@@ -1,13 +1,13 @@
 -- The call table: which step a side makes at each point of a call, and where what it found leads.
 use Rattle.std.specs.Prelude.{ℕ, ◌+◌, ◌<◌, ◌^◌, ⊤, Bool, true, false, Option, None, Some, ◌==◌, Result, Ok, Err}
-use Rattle.piper_protocol.specs.declared.calls.Side.TheVariants.{Reader, Writer}
-use Rattle.piper_protocol.specs.declared.calls.Query.{Query}
-use Rattle.piper_protocol.specs.declared.calls.Query.TheVariants.{Len, IsEmpty, IsFull}
-use Rattle.piper_protocol.specs.declared.events.Answer.{Answer}
-use Rattle.piper_protocol.specs.declared.events.Answer.TheVariants.{Count, Flag, Poll, Copy, Done}
-use Rattle.piper_protocol.specs.declared.polling.Polled.{Polled}
-use Rattle.piper_protocol.specs.declared.polling.Polled.TheVariants.{Pending, Ready, Memory}
-use Rattle.piper_protocol.specs.declared.scripted.Failed.{Failed}
+use Rattle.piper_protocol.specs.declared.table.Side.TheVariants.{Reader, Writer}
+use Rattle.piper_protocol.specs.declared.table.Query.{Query}
+use Rattle.piper_protocol.specs.declared.table.Query.TheVariants.{Len, IsEmpty, IsFull}
+use Rattle.piper_protocol.specs.declared.answer.Answer.{Answer}
+use Rattle.piper_protocol.specs.declared.answer.Answer.TheVariants.{Count, Flag, Poll, Copy, Done}
+use Rattle.piper_protocol.specs.declared.answer.Polled.{Polled}
+use Rattle.piper_protocol.specs.declared.answer.Polled.TheVariants.{Pending, Ready, Memory}
+use Rattle.piper_protocol.specs.declared.answer.Failed.{Failed}
 use Rattle.piper_protocol.specs.declared.table.Action.{Action}
 use Rattle.piper_protocol.specs.declared.table.Action.TheVariants as does
 use Rattle.piper_protocol.specs.declared.table.Form.{Form}
@@ -338,3 +338,46 @@ ends_fill on.Yield = true
 ends_fill (on.CallSource form sum) = true
 ends_fill (on.RoundClosed n form sum) = true
 ends_fill point = false
+
+-- what a point says of the bytes that its call moves
+
+-- how many bytes a store gives up that is next
+abbrev pub head_store : ReadPoint → ℕ
+head_store (at.StoreHead n next) = n
+head_store point = 0
+
+-- how many bytes a store publishes that is next
+abbrev pub tail_store : WritePoint → ℕ
+tail_store (on.RoundClosed n form sum) = n
+tail_store (on.StoreTail n next) = n
+tail_store point = 0
+
+-- whether the step that comes next publishes bytes
+abbrev pub publishes : WritePoint → Bool
+publishes (on.StoreTail n next) = true
+publishes point = false
+
+-- how many bytes the open copy has moved, with those of a store that is next
+abbrev pub read_round : AfterRead → ℕ
+read_round (after_read.Round form sum) = sum
+read_round next = 0
+
+abbrev pub read_sum : ReadPoint → ℕ
+read_sum (at.CallDestination form sum) = sum
+read_sum (at.StoreHead n next) = read_round next
+read_sum (at.TakeWriter next) = read_round next
+read_sum (at.WakeWriter next) = read_round next
+read_sum point = 0
+
+abbrev pub write_round : AfterWrite → ℕ
+write_round (after_write.Round form sum) = sum
+write_round next = 0
+
+abbrev pub write_sum : WritePoint → ℕ
+write_sum (on.CallSource form sum) = sum
+write_sum (on.RoundClosed n form sum) = sum
+write_sum (on.StoreTail n next) = write_round next
+write_sum (on.TakeReader next) = write_round next
+write_sum (on.WakeReader next) = write_round next
+write_sum (on.StoreClosed next) = write_round next
+write_sum point = 0

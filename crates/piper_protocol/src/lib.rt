@@ -1,24 +1,16 @@
-//! The two sides of a bounded pipe of bytes, and the types that describe their calls and steps.
+//! What a pipe's handles and its model have in common: the indices of both ends, the call table, and
+//! what calls answer.
 #![tactic(auto)]
 
-pub mod bytes;
-pub mod calls;
-pub mod events;
+pub mod answer;
 pub mod index;
 pub mod memory;
 pub mod open_call;
-pub mod polling;
 pub mod read_call;
 pub mod read_indices;
-mod read_point;
-pub mod read_side;
-pub mod refusals;
+pub mod read_point;
 pub mod reported;
-pub mod scripted;
-pub mod slot;
 pub mod table;
-pub mod woken;
 pub mod write_call;
 pub mod write_indices;
-mod write_point;
-pub mod write_side;
+pub mod write_point;

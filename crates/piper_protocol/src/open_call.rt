@@ -2,7 +2,7 @@
 ghost use Rattle.std.specs.Prelude.{◌≡◌, Some, IsSome};
 ghost use Rattle.piper_protocol.specs.Table.{ends, goes_on};
 
-use crate::events::Answer;
+use crate::answer::Answer;
 use std::marker::Model;
 
 /// A side's open call: its point in the call table, and its answer once it has one.

@@ -2,22 +2,21 @@
 //!
 //! Each is a row or two of the call table, and says `unreachable!()` of the points that its
 //! condition rules out. So the compiler knows where a call is, and leaves nothing of it at run
-//! time. `ReadPoint::after` chooses among them by what a step found.
+//! time. The model reads the table by
+//! itself: `read_rows` of `piper_sides`.
 ghost use Rattle.std.specs.Prelude.{◌≡◌, ◌+◌, ◌^◌, ◌<◌, false};
-ghost use Rattle.piper_protocol.specs.Table.{ends, goes_on, read_action, read_done, read_step, reader_draws_after, reader_is_true, reader_looks_for};
-ghost use Rattle.piper_protocol.specs.Side.{read_sum};
+ghost use Rattle.piper_protocol.specs.Table.{ends, goes_on, read_action, read_done, read_step, read_sum, reader_draws_after, reader_is_true, reader_looks_for};
 
-use crate::calls::Side;
-use crate::events::Answer;
+use crate::answer::{Answer, Polled};
 use crate::open_call::{CallAt, goes_on};
-use crate::polling::Polled;
 use crate::read_point::{found_none, found_some};
 use crate::table::ReadPoint::{
     CallDestination, Dropped, Idle, LookClosed, LookRegister, LookTail, LookTailAgain, LookTake,
-    QueryClosed, QueryHead, QueryTail, StoreClosed, StoreHead, TakeWriter, WakeWriter, Yield,
+    QueryClosed, StoreClosed, StoreHead, TakeWriter, WakeWriter, Yield,
 };
 use crate::table::{
-    Action, AfterRead, Form, Found, Purpose, ReadPoint, end_or_pending, failed_answer, yield_answer,
+    Action, AfterRead, Form, Found, Purpose, ReadPoint, Side, end_or_pending, failed_answer,
+    yield_answer,
 };
 
 /// A reader's open call.
@@ -98,20 +97,6 @@ impl CallAt<ReadPoint> {
         goes_on(CallDestination(form, sum))
     }
 
-    // The head was loaded, in a query.
-    #[inline(always)]
-    pub(crate) fn loaded_head(mut self) -> CallAt<ReadPoint>
-        requires { read_action self.point ≡ Action.LoadHead }
-        ensures { result ≡ read_step self.point Found.Nothing }
-    {
-        self.answer = None;
-        match self.point {
-            QueryHead(query) => self.point = QueryTail(query),
-            _ => unreachable!(),
-        }
-        self
-    }
-
     /// The tail was loaded in a look, and no byte is known even now (`none`), or some is.
     #[inline(always)]
     pub fn refreshed(mut self, none: bool) -> CallAt<ReadPoint>
@@ -162,18 +147,9 @@ impl CallAt<ReadPoint> {
 
     /// The reader's own slot was emptied, after the look of a poll.
     #[inline(always)]
-    pub fn took_own(self) -> CallAt<ReadPoint>
+    pub fn took_own(mut self) -> CallAt<ReadPoint>
         requires next { read_action self.point ≡ Action.Take Side.Reader }
         requires poll { reader_draws_after self.point ≡ false }
-        ensures { result ≡ read_step self.point Found.Nothing }
-    {
-        self.took_own_having_drawn()
-    }
-
-    // The reader's own slot was emptied. A copy goes on as its point says that it drew.
-    #[inline(always)]
-    pub(crate) fn took_own_having_drawn(mut self) -> CallAt<ReadPoint>
-        requires { read_action self.point ≡ Action.Take Side.Reader }
         ensures { result ≡ read_step self.point Found.Nothing }
     {
         match self.point {

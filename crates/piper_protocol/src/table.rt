@@ -2,10 +2,25 @@
 ghost use Rattle.std.specs.Prelude.{◌≡◌};
 ghost use Rattle.piper_protocol.specs.Table.{query_answer, copy_answer, count_answer, end_or_pending, failed_answer, look_answer, yield_answer};
 
-use crate::calls::{Query, Side};
-use crate::events::Answer;
-use crate::polling::Polled;
-use crate::scripted::Failed;
+use crate::answer::{Answer, Failed, Polled};
+
+/// The most bytes that one round of a copy moves.
+pub const MOST_A_ROUND: usize = 131_072;
+
+/// A side of the pipe.
+#[derive(Clone, Copy, Debug, PartialEq, Eq)]
+pub enum Side {
+    Reader,
+    Writer,
+}
+
+/// A question on the number of unread bytes.
+#[derive(Clone, Copy, Debug, PartialEq, Eq)]
+pub enum Query {
+    Len,
+    IsEmpty,
+    IsFull,
+}
 
 /// The step that a side makes next.
 #[derive(Clone, Copy, Debug, PartialEq, Eq)]

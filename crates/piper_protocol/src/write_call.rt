@@ -2,22 +2,20 @@
 //!
 //! Each is a row or two of the call table, and says `unreachable!()` of the points that its
 //! condition rules out. So the compiler knows where a call is, and leaves nothing of it at run
-//! time. `WritePoint::after` chooses among them by what a step found.
+//! time. The model reads the table by
+//! itself: `write_rows` of `piper_sides`.
 ghost use Rattle.std.specs.Prelude.{◌≡◌, ◌+◌, ◌^◌, ◌<◌, true, false};
-ghost use Rattle.piper_protocol.specs.Table.{begins_look, ends, goes_on, look_begun, write_action, write_done, write_step, writer_draws_after, writer_is_true};
-ghost use Rattle.piper_protocol.specs.Side.{write_sum};
+ghost use Rattle.piper_protocol.specs.Table.{begins_look, ends, goes_on, look_begun, write_action, write_done, write_step, write_sum, writer_draws_after, writer_is_true};
 
-use crate::calls::Side;
-use crate::events::Answer;
+use crate::answer::{Answer, Polled};
 use crate::open_call::{CallAt, goes_on};
-use crate::polling::Polled;
 use crate::table::WritePoint::{
-    CallSource, Dropped, Idle, LookClosedAgain, LookHead, LookHeadAgain, LookRegister, LookTake,
-    QueryClosed, QueryHead, QueryTail, RoundClosed, StoreClosed, StoreTail, TakeReader, TakeWriter,
-    WakeReader, WakeWriter, Yield,
+    CallSource, Dropped, Idle, LookClosed, LookClosedAgain, LookHead, LookHeadAgain, LookRegister,
+    LookTake, QueryClosed, RoundClosed, StoreClosed, StoreTail, TakeReader, TakeWriter, WakeReader,
+    WakeWriter, Yield,
 };
 use crate::table::{
-    Action, AfterWrite, Form, Found, Purpose, WritePoint, end_or_pending, failed_answer,
+    Action, AfterWrite, Form, Found, Purpose, Side, WritePoint, end_or_pending, failed_answer,
     yield_answer,
 };
 use crate::write_point::{found_none, found_some};
@@ -112,11 +110,20 @@ impl CallAt<WritePoint> {
     /// Closed was loaded where a look begins, and the flag was this. No room is known (`none`), or
     /// some is.
     #[inline(always)]
-    pub fn looked_closed(self, none: bool, is_closed: bool) -> CallAt<WritePoint>
+    pub fn looked_closed(mut self, none: bool, is_closed: bool) -> CallAt<WritePoint>
         requires { begins_look self.point ≡ true }
         ensures { result ≡ look_begun none self.point is_closed }
     {
-        self.place().look_begun(none, is_closed)
+        self.answer = None;
+        match self.point {
+            LookClosed(purpose) if is_closed => self.ends(purpose.look_answer(Polled::Ready(
+                false,
+            ))),
+            LookClosed(purpose) if none => self.point = LookHead(purpose),
+            LookClosed(purpose) => self.point = found_some(purpose),
+            _ => unreachable!(),
+        }
+        self
     }
 
     /// Closed was loaded in a query, at the end of a look or in a round, and the flag was this.
@@ -132,20 +139,6 @@ impl CallAt<WritePoint> {
             LookClosedAgain(purpose) => self.ends(purpose.look_answer(end_or_pending(is_closed))),
             RoundClosed(_, form, sum) if is_closed => self.ends(form.count_answer(sum)),
             RoundClosed(n, form, sum) => self.point = StoreTail(n, AfterWrite::Round(form, sum)),
-            _ => unreachable!(),
-        }
-        self
-    }
-
-    // The head was loaded in a query, which found so many bytes unread.
-    #[inline(always)]
-    pub(crate) fn counted(mut self, count: usize) -> CallAt<WritePoint>
-        requires { write_action self.point ≡ Action.LoadHead }
-        ensures { result ≡ write_step self.point (Found.Unread count) }
-    {
-        self.answer = None;
-        match self.point {
-            QueryHead(query) => self.point = QueryTail(query, count),
             _ => unreachable!(),
         }
         self
@@ -185,18 +178,9 @@ impl CallAt<WritePoint> {
     /// The writer's own slot was emptied, after the look of a poll or in a close, and a waker was
     /// in it or not.
     #[inline(always)]
-    pub fn took_own(self, is_found: bool) -> CallAt<WritePoint>
+    pub fn took_own(mut self, is_found: bool) -> CallAt<WritePoint>
         requires next { write_action self.point ≡ Action.Take Side.Writer }
         requires no_copy { writer_draws_after self.point ≡ false }
-        ensures { result ≡ write_step self.point (Found.Waker is_found) }
-    {
-        self.took_own_having_drawn(is_found)
-    }
-
-    // The writer's own slot was emptied. A copy goes on as its point says that it drew.
-    #[inline(always)]
-    pub(crate) fn took_own_having_drawn(mut self, is_found: bool) -> CallAt<WritePoint>
-        requires { write_action self.point ≡ Action.Take Side.Writer }
         ensures { result ≡ write_step self.point (Found.Waker is_found) }
     {
         self.answer = None;

@@ -4,12 +4,12 @@ use Rattle.std.specs.Int.{IsInRange}
 use Rattle.std.specs.Option.{MatchOption, unwrap_or}
 use Rattle.std.proofs.lemmas.List.Elements.{All-nil, All-same, All-weaker, All-append, All-cons, All-head, All-tail}
 use Rattle.std.proofs.lemmas.Str.Pattern.{IsSplitOnceResult, split_after, split_parts}
-use Rattle.piper_protocol.specs.declared.calls.Side.{Side}
-use Rattle.piper_protocol.specs.declared.calls.Side.TheVariants.{Reader, Writer}
+use Rattle.piper_protocol.specs.declared.table.Side.{Side}
+use Rattle.piper_protocol.specs.declared.table.Side.TheVariants.{Reader, Writer}
 use Rattle.piper_script.specs.declared.command.Refusal.{Refusal}
 use Rattle.piper_script.specs.declared.command.SaidLuck.{SaidLuck}
-use Rattle.piper_protocol.specs.declared.scripted.DestAct.{DestAct}
-use Rattle.piper_protocol.specs.declared.scripted.DestAct.TheVariants as dest
+use Rattle.piper_sides.specs.declared.scripted.DestAct.{DestAct}
+use Rattle.piper_sides.specs.declared.scripted.DestAct.TheVariants as dest
 use Rattle.piper_script.specs.declared.list.Item.{Item}
 use Rattle.piper_script.specs.Joined.{joined_or}
 use Rattle.piper_script.specs.List.{list_text, IsItem, IsListText}

@@ -1,8 +1,8 @@
 -- How commands are written, and their limits.
 use Rattle.std.specs.Prelude.{ℕ, ◌≤◌, List, [], ◌∷◌, ◌++◌, codes, decimal, ◌≡◌, ◌≢◌, ◌⊎◌, All, Bool, true, false, Option, slice_get, Some, None, IfSome, drop}
 use Rattle.std.specs.Str.{IsUtf8}
-use Rattle.piper_protocol.specs.declared.calls.Side.{Side}
-use Rattle.piper_protocol.specs.declared.calls.Side.TheVariants.{Reader, Writer}
+use Rattle.piper_protocol.specs.declared.table.Side.{Side}
+use Rattle.piper_protocol.specs.declared.table.Side.TheVariants.{Reader, Writer}
 use Rattle.piper_script.specs.Limits.{greatest_byte, greatest_number, greatest_name}
 use Rattle.piper_script.specs.declared.command.SaidLuck.{SaidLuck}
 use Rattle.piper_script.specs.declared.command.Steps.{Steps}

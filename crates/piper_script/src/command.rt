@@ -2,7 +2,7 @@
 
 use crate::acts::{Dests, Sources};
 use crate::list::List;
-use piper_protocol::calls::Side;
+use piper_protocol::table::Side;
 use std::fmt;
 
 /// The most that a number of a script may be, and the most bytes that the lists of one line hold.

@@ -1,7 +1,7 @@
 //! From the bytes of a line to what they say.
 
 ghost use Rattle.std.specs.Prelude.{◌≡◌, ℕ, Bool, IsOk, IsOkAnd, ◌≤◌, ◌<◌, ◌++◌, ◌∷◌, length, codes, decimal, IsTrue, ◌↔◌, IfOk, IfErr, IfSome, IfNone, drop};
-ghost use Rattle.piper_protocol.specs.declared.calls.Side.{Side};
+ghost use Rattle.piper_protocol.specs.declared.table.Side.{Side};
 ghost use Rattle.piper_script.specs.declared.acts.Dests.{Dests};
 ghost use Rattle.piper_script.specs.declared.acts.Sources.{Sources};
 ghost use Rattle.piper_script.specs.declared.command.Command.{Command};
@@ -17,7 +17,7 @@ use crate::acts::{Dests, Sources};
 use crate::command::{Command, MOST, Refusal, SaidCall, SaidLuck, Steps};
 use crate::list::{List, both, byte};
 use crate::number::{name, number};
-use piper_protocol::calls::Side;
+use piper_protocol::table::Side;
 use std::str;
 
 /// The most bytes of a line, without the LF that ends it.

@@ -6,9 +6,7 @@ ghost use Rattle.piper_script.specs.Reply.{list_with_length, woken_text, flag_te
 
 use crate::command::Refusal;
 use itoa::{Buffer, Integer};
-use piper_protocol::events::Answer;
-use piper_protocol::polling::Polled;
-use piper_protocol::scripted::Failed;
+use piper_protocol::answer::{Answer, Failed, Polled};
 use std::alloc::{AllocError, Global};
 use std::fmt::Write;
 use std::marker::Model;

@@ -5,7 +5,7 @@ ghost use Rattle.piper_script.specs.declared.stop.Stop.TheVariants.{Refused, Mem
 
 use crate::command::Refusal;
 use piper_protocol::memory::OutOfMemory;
-use piper_protocol::refusals::StepRefusal;
+use piper_sides::refusals::StepRefusal;
 use std::alloc::AllocError;
 
 /// Why a replay stops before the end of its script.

@@ -18,8 +18,7 @@ use crate::like::{StdWrite, StdWriter, WriteBytes, WriteLike};
 use crate::looks::NoWork;
 use futures::task::{Context, Poll};
 use piper_protocol::read_call::ReadCall;
-use piper_protocol::scripted::MOST_A_ROUND;
-use piper_protocol::table::{Form, Purpose, ReadPoint};
+use piper_protocol::table::{Form, MOST_A_ROUND, Purpose, ReadPoint};
 use piper_ring::OutOfMemory;
 
 impl Reader {

@@ -15,8 +15,7 @@ use crate::handles::Writer;
 use crate::like::{ReadBytes, ReadLike, StdRead, StdReader};
 use crate::looks::NoWork;
 use futures::task::{Context, Poll};
-use piper_protocol::scripted::MOST_A_ROUND;
-use piper_protocol::table::{Form, Purpose, WritePoint};
+use piper_protocol::table::{Form, MOST_A_ROUND, Purpose, WritePoint};
 use piper_protocol::write_call::WriteCall;
 use piper_ring::OutOfMemory;
 

@@ -15,10 +15,9 @@ use super::Reader;
 use crate::finished::FinishedReader;
 use crate::slot::Taken;
 use futures::task::{Context, Poll, Waker};
-use piper_protocol::calls::Side;
 use piper_protocol::memory::OutOfMemory;
 use piper_protocol::read_call::ReadCall;
-use piper_protocol::table::{Action, Found, Purpose, ReadPoint};
+use piper_protocol::table::{Action, Found, Purpose, ReadPoint, Side};
 use piper_ring::{Away, LastReadMark, ReadMark};
 
 impl Reader {

@@ -14,9 +14,8 @@ use super::Writer;
 use crate::finished::FinishedWriter;
 use crate::slot::Taken;
 use futures::task::{Context, Poll, Waker};
-use piper_protocol::calls::Side;
 use piper_protocol::memory::OutOfMemory;
-use piper_protocol::table::{Action, Found, Purpose, WritePoint};
+use piper_protocol::table::{Action, Found, Purpose, Side, WritePoint};
 use piper_protocol::write_call::WriteCall;
 use piper_ring::{Away, WriteMark};
 

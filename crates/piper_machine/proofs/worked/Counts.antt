@@ -1,7 +1,7 @@
 -- As many bytes move as are asked for, unread and free: what `fill`, `drain` and the queries count.
 use Rattle.std.specs.Prelude.{◌≡◌, [], ◌∷◌, replicate, true, refl}
-use Rattle.piper_protocol.specs.declared.calls.Side.TheVariants.{Reader, Writer}
-use Rattle.piper_protocol.specs.declared.calls.Query.TheVariants.{Len, IsFull}
+use Rattle.piper_protocol.specs.declared.table.Side.TheVariants.{Reader, Writer}
+use Rattle.piper_protocol.specs.declared.table.Query.TheVariants.{Len, IsFull}
 use Rattle.piper_machine.specs.Pipe.{fresh}
 use Rattle.piper_machine.proofs.worked.Script.{◌to◌, Fill, Drain, Ask, Count, Bytes, Flag, answers}
 

@@ -1,16 +1,16 @@
 -- A poll that returns false to the reader, what the log says of its last look, and where each side
 -- is on the way.
 use Rattle.std.specs.Prelude.{◌≡◌, List, [], ◌∷◌, ◌++◌, take, true, false, None, Some, refl}
-use Rattle.piper_protocol.specs.declared.calls.Side.TheVariants.{Reader, Writer}
-use Rattle.piper_protocol.specs.declared.calls.Call.TheVariants as call
-use Rattle.piper_protocol.specs.declared.calls.Kind.TheVariants as kind
-use Rattle.piper_protocol.specs.declared.calls.Step.{Step}
-use Rattle.piper_protocol.specs.declared.calls.Step.TheVariants.{Begin, Go}
-use Rattle.piper_protocol.specs.declared.events.Event.{Event}
-use Rattle.piper_protocol.specs.declared.events.Event.TheVariants.{Began, Looked, Closed, Registered, Woken, Answered}
-use Rattle.piper_protocol.specs.declared.events.Seen.TheVariants as seen
-use Rattle.piper_protocol.specs.declared.events.Answer.TheVariants as answer
-use Rattle.piper_protocol.specs.declared.polling.Polled.TheVariants as polled
+use Rattle.piper_protocol.specs.declared.table.Side.TheVariants.{Reader, Writer}
+use Rattle.piper_sides.specs.declared.calls.Call.TheVariants as call
+use Rattle.piper_sides.specs.declared.calls.Kind.TheVariants as kind
+use Rattle.piper_sides.specs.declared.calls.Step.{Step}
+use Rattle.piper_sides.specs.declared.calls.Step.TheVariants.{Begin, Go}
+use Rattle.piper_sides.specs.declared.events.Event.{Event}
+use Rattle.piper_sides.specs.declared.events.Event.TheVariants.{Began, Looked, Closed, Registered, Woken, Answered}
+use Rattle.piper_sides.specs.declared.events.Seen.TheVariants as seen
+use Rattle.piper_protocol.specs.declared.answer.Answer.TheVariants as answer
+use Rattle.piper_protocol.specs.declared.answer.Polled.TheVariants as polled
 use Rattle.piper_machine.specs.Pipe.{Pipe, fresh}
 use Rattle.piper_machine.specs.History.{unwritten, history_from}
 use Rattle.piper_machine.specs.Waiting.{IsBlocked, is_between}

@@ -1,9 +1,9 @@
 -- Bytes that are read in a peeked slice and written in a lent one.
 use Rattle.std.specs.Prelude.{◌≡◌, ℕ, List, [], ◌∷◌, true, refl}
-use Rattle.piper_protocol.specs.declared.calls.Side.TheVariants.{Reader, Writer}
-use Rattle.piper_protocol.specs.declared.calls.Call.TheVariants as call
-use Rattle.piper_protocol.specs.declared.calls.Step.TheVariants as step
-use Rattle.piper_protocol.specs.declared.refusals.StepRefusal.TheVariants.{PastLent}
+use Rattle.piper_protocol.specs.declared.table.Side.TheVariants.{Reader, Writer}
+use Rattle.piper_sides.specs.declared.calls.Call.TheVariants as call
+use Rattle.piper_sides.specs.declared.calls.Step.TheVariants as step
+use Rattle.piper_sides.specs.declared.refusals.StepRefusal.TheVariants.{PastLent}
 use Rattle.piper_machine.specs.Pipe.{fresh}
 use Rattle.piper_machine.proofs.worked.Script.{◌to◌, Fill, Drain, Poll, by, Peek, Consume, Lend, Put, Produced, Done, Count, Bytes, Flag, Ready, Pending, ◌woken◌, answers, after, IsRefused}
 

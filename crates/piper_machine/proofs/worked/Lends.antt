@@ -9,7 +9,7 @@ use Rattle.piper_machine.specs.Sound.{IsSound}
 use Rattle.piper_machine.specs.Lend.{Lendable, lend_limit, lending}
 use Rattle.piper_machine.specs.Places.{places_left}
 use Rattle.piper_machine.specs.Move.{produce}
-use Rattle.piper_protocol.specs.Side.{fresh_writing, Writing, room_of, left_of, lend_length, lent_out}
+use Rattle.piper_sides.specs.Side.{fresh_writing, Writing, room_of, left_of, lend_length, lent_out}
 use Rattle.piper_protocol.specs.LendBound.{lend_bound}
 use Rattle.piper_machine.proofs.Soundness.{some_lent}
 use Rattle.piper_machine.proofs.worked.Script.{Call, Lend, Produced, lent_count}

@@ -1,12 +1,12 @@
 -- Lines that are refused, and by which name where several hold. Nothing comes after a refused line.
 use Rattle.std.specs.Prelude.{◌≡◌, [], ◌∷◌, Some, None, true, refl}
-use Rattle.piper_protocol.specs.declared.calls.Side.TheVariants.{Reader, Writer}
-use Rattle.piper_protocol.specs.declared.calls.Query.TheVariants.{Len}
-use Rattle.piper_protocol.specs.declared.calls.Call.TheVariants as call
-use Rattle.piper_protocol.specs.declared.calls.Kind.TheVariants as kind
-use Rattle.piper_protocol.specs.declared.events.Event.TheVariants.{Began}
-use Rattle.piper_protocol.specs.declared.refusals.StepRefusal.TheVariants.{Busy, Idle, Dropped, PastLent, PastPeek, BadDraw}
-use Rattle.piper_protocol.specs.declared.polling.Context.{Context}
+use Rattle.piper_protocol.specs.declared.table.Side.TheVariants.{Reader, Writer}
+use Rattle.piper_protocol.specs.declared.table.Query.TheVariants.{Len}
+use Rattle.piper_sides.specs.declared.calls.Call.TheVariants as call
+use Rattle.piper_sides.specs.declared.calls.Kind.TheVariants as kind
+use Rattle.piper_sides.specs.declared.events.Event.TheVariants.{Began}
+use Rattle.piper_sides.specs.declared.refusals.StepRefusal.TheVariants.{Busy, Idle, Dropped, PastLent, PastPeek, BadDraw}
+use Rattle.piper_sides.specs.declared.polling.Context.{Context}
 use Rattle.piper_machine.specs.Pipe.{fresh}
 use Rattle.piper_machine.specs.Look.{context}
 use Rattle.piper_machine.proofs.worked.Script.{◌to◌, Fill, Drain, Poll, by, Peek, Consume, Lend, Put, Produced, Close, Drop, Done, Count, Bytes, Flag, Ready}

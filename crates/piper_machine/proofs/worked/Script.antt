@@ -2,18 +2,18 @@
 -- given pipe on. Its calls and returns are those of the replayer's scripts.
 use Rattle.std.specs.Prelude.{◌≡◌, ℕ, suc, zero, ◌+◌, ◌-◌, List, [], ◌∷◌, take, length, replicate, slice_set, Bool, true, false, Some, Result, if◌then◌else◌}
 use Rattle.std.specs.declared.result.Result.TheVariants as result
-use Rattle.piper_protocol.specs.declared.calls.Side.{Side}
-use Rattle.piper_protocol.specs.declared.calls.Side.TheVariants.{Reader, Writer}
-use Rattle.piper_protocol.specs.declared.calls.Query.{Query}
-use Rattle.piper_protocol.specs.declared.calls.Query.TheVariants as ask
-use Rattle.piper_protocol.specs.declared.polling.Polled.{Polled}
-use Rattle.piper_protocol.specs.declared.polling.Polled.TheVariants as polled
-use Rattle.piper_protocol.specs.declared.scripted.SourceAct.{SourceAct}
-use Rattle.piper_protocol.specs.declared.scripted.DestAct.{DestAct}
-use Rattle.piper_protocol.specs.declared.scripted.Failed as failed
-use Rattle.piper_protocol.specs.declared.polling.Context.{Context}
-use Rattle.piper_protocol.specs.declared.calls.Step.{Step}
-use Rattle.piper_protocol.specs.declared.refusals.StepRefusal.{StepRefusal}
+use Rattle.piper_protocol.specs.declared.table.Side.{Side}
+use Rattle.piper_protocol.specs.declared.table.Side.TheVariants.{Reader, Writer}
+use Rattle.piper_protocol.specs.declared.table.Query.{Query}
+use Rattle.piper_protocol.specs.declared.table.Query.TheVariants as ask
+use Rattle.piper_protocol.specs.declared.answer.Polled.{Polled}
+use Rattle.piper_protocol.specs.declared.answer.Polled.TheVariants as polled
+use Rattle.piper_sides.specs.declared.scripted.SourceAct.{SourceAct}
+use Rattle.piper_sides.specs.declared.scripted.DestAct.{DestAct}
+use Rattle.piper_protocol.specs.declared.answer.Failed as failed
+use Rattle.piper_sides.specs.declared.polling.Context.{Context}
+use Rattle.piper_sides.specs.declared.calls.Step.{Step}
+use Rattle.piper_sides.specs.declared.refusals.StepRefusal.{StepRefusal}
 use Rattle.piper_machine.specs.Pipe.{Pipe, begun}
 use Rattle.piper_machine.specs.Places.{peeked}
 use Rattle.piper_machine.specs.Query.{unread_count, is_empty, is_full, is_closed}

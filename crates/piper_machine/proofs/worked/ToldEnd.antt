@@ -1,17 +1,17 @@
 -- A reported end, and what may be logged after it.
 use Rattle.std.specs.Prelude.{◌≡◌, List, [], ◌∷◌, ◌++◌, true, false, None, Some, Ok, refl}
 use Rattle.std.proofs.Common.{inl, inr}
-use Rattle.piper_protocol.specs.declared.calls.Side.TheVariants.{Reader, Writer}
-use Rattle.piper_protocol.specs.declared.calls.Query.TheVariants.{Len}
-use Rattle.piper_protocol.specs.declared.calls.Call.TheVariants as call
-use Rattle.piper_protocol.specs.declared.calls.Kind.TheVariants as kind
-use Rattle.piper_protocol.specs.declared.calls.Step.{Step}
-use Rattle.piper_protocol.specs.declared.calls.Step.TheVariants.{Begin, Go}
-use Rattle.piper_protocol.specs.declared.events.Event.{Event}
-use Rattle.piper_protocol.specs.declared.events.Event.TheVariants.{Began, Looked, Published, Closed, Registered, Answered}
-use Rattle.piper_protocol.specs.declared.events.Seen.TheVariants as seen
-use Rattle.piper_protocol.specs.declared.events.Answer.TheVariants as answer
-use Rattle.piper_protocol.specs.declared.polling.Polled.TheVariants as polled
+use Rattle.piper_protocol.specs.declared.table.Side.TheVariants.{Reader, Writer}
+use Rattle.piper_protocol.specs.declared.table.Query.TheVariants.{Len}
+use Rattle.piper_sides.specs.declared.calls.Call.TheVariants as call
+use Rattle.piper_sides.specs.declared.calls.Kind.TheVariants as kind
+use Rattle.piper_sides.specs.declared.calls.Step.{Step}
+use Rattle.piper_sides.specs.declared.calls.Step.TheVariants.{Begin, Go}
+use Rattle.piper_sides.specs.declared.events.Event.{Event}
+use Rattle.piper_sides.specs.declared.events.Event.TheVariants.{Began, Looked, Published, Closed, Registered, Answered}
+use Rattle.piper_sides.specs.declared.events.Seen.TheVariants as seen
+use Rattle.piper_protocol.specs.declared.answer.Answer.TheVariants as answer
+use Rattle.piper_protocol.specs.declared.answer.Polled.TheVariants as polled
 use Rattle.piper_machine.specs.Pipe.{fresh}
 use Rattle.piper_machine.specs.End.{saw_closed, found_none}
 use Rattle.piper_machine.specs.Final.{told_end, IsAfterEnd}

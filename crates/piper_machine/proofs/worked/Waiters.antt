@@ -2,16 +2,16 @@
 -- come to.
 use Rattle.std.specs.Prelude.{◌≡◌, ℕ, List, [], ◌∷◌, take, true, false, None, Some, Ok, refl}
 use Rattle.std.proofs.Common.{inl, inr}
-use Rattle.piper_protocol.specs.declared.calls.Side.TheVariants.{Reader, Writer}
-use Rattle.piper_protocol.specs.declared.calls.Query.TheVariants.{Len}
-use Rattle.piper_protocol.specs.declared.calls.Call.TheVariants as call
-use Rattle.piper_protocol.specs.declared.calls.Kind.TheVariants as kind
-use Rattle.piper_protocol.specs.declared.calls.Step.{Step}
-use Rattle.piper_protocol.specs.declared.calls.Step.TheVariants.{Begin, Go}
-use Rattle.piper_protocol.specs.declared.events.Event.{Event}
-use Rattle.piper_protocol.specs.declared.events.Event.TheVariants.{Began, Published, Registered, Woken, Answered}
-use Rattle.piper_protocol.specs.declared.events.Answer.TheVariants as answer
-use Rattle.piper_protocol.specs.declared.polling.Polled.TheVariants as polled
+use Rattle.piper_protocol.specs.declared.table.Side.TheVariants.{Reader, Writer}
+use Rattle.piper_protocol.specs.declared.table.Query.TheVariants.{Len}
+use Rattle.piper_sides.specs.declared.calls.Call.TheVariants as call
+use Rattle.piper_sides.specs.declared.calls.Kind.TheVariants as kind
+use Rattle.piper_sides.specs.declared.calls.Step.{Step}
+use Rattle.piper_sides.specs.declared.calls.Step.TheVariants.{Begin, Go}
+use Rattle.piper_sides.specs.declared.events.Event.{Event}
+use Rattle.piper_sides.specs.declared.events.Event.TheVariants.{Began, Published, Registered, Woken, Answered}
+use Rattle.piper_protocol.specs.declared.answer.Answer.TheVariants as answer
+use Rattle.piper_protocol.specs.declared.answer.Polled.TheVariants as polled
 use Rattle.piper_protocol.specs.declared.table.WritePoint.TheVariants as on
 use Rattle.piper_machine.specs.Pipe.{Pipe, fresh}
 use Rattle.piper_machine.specs.Wait.{Wait, wait_of}

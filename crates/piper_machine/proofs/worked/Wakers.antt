@@ -1,6 +1,6 @@
 -- Who is woken, by what, and when a waker is left where it is.
 use Rattle.std.specs.Prelude.{◌≡◌, [], ◌∷◌, Some, true, false, refl}
-use Rattle.piper_protocol.specs.declared.calls.Side.TheVariants.{Reader, Writer}
+use Rattle.piper_protocol.specs.declared.table.Side.TheVariants.{Reader, Writer}
 use Rattle.piper_machine.specs.Pipe.{Pipe, fresh}
 use Rattle.piper_machine.specs.Lend.{lending}
 use Rattle.piper_machine.specs.Move.{published, consumed, reader_woken, writer_woken}

@@ -1,10 +1,10 @@
 -- Bytes keep their order where they pass the end of the buffer.
 use Rattle.std.specs.Prelude.{◌≡◌, List, [], ◌∷◌, true, refl}
-use Rattle.piper_protocol.specs.declared.calls.Side.TheVariants.{Reader, Writer}
-use Rattle.piper_protocol.specs.declared.calls.Query.TheVariants.{Len, IsFull}
-use Rattle.piper_protocol.specs.declared.calls.Call.TheVariants as call
-use Rattle.piper_protocol.specs.declared.calls.Step.TheVariants as step
-use Rattle.piper_protocol.specs.declared.refusals.StepRefusal.TheVariants.{PastPeek}
+use Rattle.piper_protocol.specs.declared.table.Side.TheVariants.{Reader, Writer}
+use Rattle.piper_protocol.specs.declared.table.Query.TheVariants.{Len, IsFull}
+use Rattle.piper_sides.specs.declared.calls.Call.TheVariants as call
+use Rattle.piper_sides.specs.declared.calls.Step.TheVariants as step
+use Rattle.piper_sides.specs.declared.refusals.StepRefusal.TheVariants.{PastPeek}
 use Rattle.piper_machine.specs.Pipe.{fresh}
 use Rattle.piper_machine.proofs.worked.Script.{◌to◌, Fill, Drain, Ask, Poll, by, Peek, Drop, Done, Count, Bytes, Flag, Ready, Call, answers, after, IsRefused}
 

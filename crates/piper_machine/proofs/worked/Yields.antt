@@ -1,11 +1,11 @@
 -- A copying poll yields exactly at a draw of 0, and returns `memory` exactly where a clone is
 -- needed and refused.
 use Rattle.std.specs.Prelude.{◌≡◌, List, [], ◌∷◌, refl}
-use Rattle.piper_protocol.specs.declared.calls.Side.TheVariants.{Reader, Writer}
-use Rattle.piper_protocol.specs.declared.calls.Call.TheVariants as call
-use Rattle.piper_protocol.specs.declared.calls.Step.TheVariants as step
-use Rattle.piper_protocol.specs.declared.refusals.StepRefusal.TheVariants.{PastLent}
-use Rattle.piper_protocol.specs.declared.scripted.SourceAct.TheVariants as source
+use Rattle.piper_protocol.specs.declared.table.Side.TheVariants.{Reader, Writer}
+use Rattle.piper_sides.specs.declared.calls.Call.TheVariants as call
+use Rattle.piper_sides.specs.declared.calls.Step.TheVariants as step
+use Rattle.piper_sides.specs.declared.refusals.StepRefusal.TheVariants.{PastLent}
+use Rattle.piper_sides.specs.declared.scripted.SourceAct.TheVariants as source
 use Rattle.piper_machine.specs.Pipe.{fresh}
 use Rattle.piper_machine.proofs.worked.Script.{◌to◌, Call, Fill, Drain, Poll, by, yielding, unregistered, refused_yield, Lend, PollFill, PollDrain, FillFrom, Count, Bytes, Ready, Pending, Memory, ◌woken◌, answers, after, IsRefused}
 

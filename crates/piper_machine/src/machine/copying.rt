@@ -12,11 +12,11 @@ ghost use Rattle.piper_machine.specs.BySteps.{IsWholeBySteps, without_failure};
 use super::Machine;
 use crate::destination::{self, Destination};
 use crate::source::{self, Source};
-use piper_protocol::calls::Call;
-use piper_protocol::events::Answer;
-use piper_protocol::polling::{Context, Luck, Polled};
-use piper_protocol::scripted::{DestAct, Failed, MOST_A_ROUND, SourceAct};
-use piper_protocol::table::{Action, ReadPoint, WritePoint};
+use piper_protocol::answer::{Answer, Failed, Polled};
+use piper_protocol::table::{Action, MOST_A_ROUND, ReadPoint, WritePoint};
+use piper_sides::calls::Call;
+use piper_sides::polling::{Context, Luck};
+use piper_sides::scripted::{DestAct, SourceAct};
 
 // A copy between the pipe and a slice cannot fail.
 fn without_failure(copied: Polled<Result<usize, Failed>>) -> Polled<usize>

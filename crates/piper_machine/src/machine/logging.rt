@@ -1,16 +1,16 @@
 //! What is logged of a step before it is made.
 ghost use Rattle.std.specs.Prelude.{◌≡◌, ◌≤◌, ℕ, length, take, IfOk};
-ghost use Rattle.piper_protocol.specs.Log.{listed};
+ghost use Rattle.piper_sides.specs.Log.{listed};
 ghost use Rattle.piper_machine.specs.Places.{peeked_count};
 ghost use Rattle.piper_machine.specs.Action.{call_of, logged_of, refresh_event, wake_of, yield_of, registration_of};
 
 use super::Machine;
-use piper_protocol::bytes::Bytes;
-use piper_protocol::calls::{OpenCall, Side};
-use piper_protocol::events::{Event, Seen};
 use piper_protocol::memory::OutOfMemory;
-use piper_protocol::polling::Context;
-use piper_protocol::table::Action;
+use piper_protocol::table::{Action, Side};
+use piper_sides::bytes::Bytes;
+use piper_sides::calls::OpenCall;
+use piper_sides::events::{Event, Seen};
+use piper_sides::polling::Context;
 
 // What a refresh of the side is logged as.
 fn refresh_event(side: Side, count: usize) -> Event

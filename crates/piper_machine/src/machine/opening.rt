@@ -1,7 +1,7 @@
 //! The opening of calls.
 ghost use Rattle.std.specs.Prelude.{◌≡◌, OnOk, OnErr, IfOk, IfErr};
-ghost use Rattle.piper_protocol.specs.Call.{side_of};
-ghost use Rattle.piper_protocol.specs.Log.{events};
+ghost use Rattle.piper_sides.specs.Call.{side_of};
+ghost use Rattle.piper_sides.specs.Log.{events};
 ghost use Rattle.piper_machine.specs.Round.{destination_of, source_of};
 ghost use Rattle.piper_machine.specs.Step.{opened, query_opened, is_closed_opened, poll_opened, drop_opened, drain_opened, fill_opened, form_of, answer_at_once, MayLend};
 ghost use Rattle.piper_machine.specs.Refusal.{past, IsIdle};
@@ -10,12 +10,15 @@ ghost use Rattle.piper_machine.specs.Run.{IsStepped};
 use super::Machine;
 use crate::destination::{Acts, Destination};
 use crate::source::Source;
-use piper_protocol::calls::{Call, OpenCall, Query, Side, Step};
-use piper_protocol::events::{Answer, Event, Log, answered};
+use piper_protocol::answer::Answer;
 use piper_protocol::memory::OutOfMemory;
-use piper_protocol::polling::Context;
-use piper_protocol::refusals::StepRefusal;
-use piper_protocol::table::{AfterRead, AfterWrite, Form, Purpose, ReadPoint, WritePoint};
+use piper_protocol::table::{
+    AfterRead, AfterWrite, Form, Purpose, Query, ReadPoint, Side, WritePoint,
+};
+use piper_sides::calls::{Call, OpenCall, Step};
+use piper_sides::events::{Event, Log, answered};
+use piper_sides::polling::Context;
+use piper_sides::refusals::StepRefusal;
 use std::mem;
 
 // In which form a copying call is made.

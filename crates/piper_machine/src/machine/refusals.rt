@@ -3,9 +3,9 @@ ghost use Rattle.std.specs.Prelude.{◌≡◌};
 ghost use Rattle.piper_machine.specs.Refusal.{state_of, reader_state, writer_state, cannot_begin, cannot_go, unless, or_else, past, refusal_of};
 
 use super::Machine;
-use piper_protocol::calls::{Call, Side, SideState, Step};
-use piper_protocol::refusals::StepRefusal;
-use piper_protocol::table::{ReadPoint, WritePoint};
+use piper_protocol::table::{ReadPoint, Side, WritePoint};
+use piper_sides::calls::{Call, SideState, Step};
+use piper_sides::refusals::StepRefusal;
 
 // Why no call can be opened.
 fn cannot_begin(state: SideState) -> Option<StepRefusal>

@@ -1,7 +1,7 @@
 //! Runs: steps of both sides in any order, and the log of what happened.
 ghost use Rattle.std.specs.Prelude.{◌≡◌, ◌<◌, ◌≤◌, ℕ, [], length, OnOk, OnErr, IfOk, IfErr, slice_set};
 ghost use Rattle.piper_protocol.specs.Index.{IsCapacity};
-ghost use Rattle.piper_protocol.specs.Log.{events, listed, HasRoom};
+ghost use Rattle.piper_sides.specs.Log.{events, listed, HasRoom};
 ghost use Rattle.piper_machine.specs.Lend.{lending};
 ghost use Rattle.piper_machine.specs.Places.{peeked_count};
 ghost use Rattle.piper_machine.specs.Action.{logged_of};
@@ -24,10 +24,10 @@ ghost use Rattle.piper_machine.specs.Front.{Front};
 ghost use Rattle.piper_machine.specs.Run.{Made, IsStepped, Runs, IsRefusal, IsRunRefusal};
 
 use super::Machine;
-use piper_protocol::calls::{Side, Step};
-use piper_protocol::events::{Event, Log, answered};
-use piper_protocol::refusals::{RunRefusal, StepRefusal};
-use piper_protocol::table::{Action, WritePoint};
+use piper_protocol::table::{Action, Side, WritePoint};
+use piper_sides::calls::Step;
+use piper_sides::events::{Event, Log, answered};
+use piper_sides::refusals::{RunRefusal, StepRefusal};
 use std::alloc::Global;
 
 impl Machine {

@@ -1,24 +1,23 @@
 //! The steps of the two sides, one at a time.
 ghost use Rattle.std.specs.Prelude.{IsSome, ◌≡◌, ◌≢◌, ◌≤◌, ℕ, [], length, Bool, true, false};
-ghost use Rattle.piper_protocol.specs.Open.{is_granted, is_yield_granted, no_call};
-ghost use Rattle.piper_protocol.specs.Side.{Writing, head_store, publishes, tail_store};
+ghost use Rattle.piper_sides.specs.Open.{is_granted, is_yield_granted, no_call};
+ghost use Rattle.piper_protocol.specs.Table.{head_store, moved_in, publishes, read_action, tail_store, write_action};
+ghost use Rattle.piper_sides.specs.Side.{Writing};
 ghost use Rattle.piper_machine.specs.Lend.{Lendable, lending};
 ghost use Rattle.piper_machine.specs.Round.{given, found_of, moved_by};
 ghost use Rattle.piper_machine.specs.Action.{found_by, performed, registered_in, source_called};
 ghost use Rattle.piper_machine.specs.Places.{peeked_count};
-ghost use Rattle.piper_protocol.specs.Table.{moved_in, read_action, write_action};
 ghost use Rattle.piper_machine.specs.Step.{reader_stepped, writer_stepped, went, stepped, offering, call_after, source_after, destination_after, lent_count_after, round_left, round_answer, drain_left, drain_answer, MayLend};
 
 use super::Machine;
 use crate::destination::Destination;
 use crate::source::Source;
-use piper_protocol::calls::{OpenCall, Side, Step};
-use piper_protocol::events::Answer;
-use piper_protocol::polling::Context;
-use piper_protocol::scripted::{Failed, MOST_A_ROUND};
-use piper_protocol::slot::SlotState;
-use piper_protocol::table::{Action, Found};
-use piper_protocol::write_side::WriteSide;
+use piper_protocol::answer::{Answer, Failed};
+use piper_protocol::table::{Action, Found, MOST_A_ROUND, Side};
+use piper_sides::calls::{OpenCall, Step};
+use piper_sides::polling::Context;
+use piper_sides::slot::SlotState;
+use piper_sides::write_side::WriteSide;
 use std::alloc::Global;
 use std::mem;
 

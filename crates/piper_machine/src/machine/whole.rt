@@ -1,7 +1,7 @@
 //! Calls run whole: the side is driven to its answer while the other side makes no step.
 ghost use Rattle.std.specs.Prelude.{◌≡◌, ◌<◌, ◌≤◌, ◌+◌, ◌↔◌, [], length, IsTrue, true, false, Some};
 ghost use Rattle.piper_machine.specs.Pipe.{begun};
-ghost use Rattle.piper_protocol.specs.Open.{no_call};
+ghost use Rattle.piper_sides.specs.Open.{no_call};
 ghost use Rattle.piper_machine.specs.Query.{unread_count, is_empty, is_full, is_closed};
 ghost use Rattle.piper_machine.specs.Buffer.{written};
 ghost use Rattle.piper_machine.specs.Lend.{Lendable, lending};
@@ -18,10 +18,10 @@ ghost use Rattle.piper_machine.specs.Alone.{heard, yield_waker, reader_alone, wr
 
 use super::{Machine, write_at};
 use crate::destination::Destination;
-use piper_protocol::calls::{Call, Query, Side, SideState};
-use piper_protocol::events::Answer;
-use piper_protocol::polling::{Context, Luck, Polled};
-use piper_protocol::table::{Action, AfterRead, AfterWrite, ReadPoint, WritePoint};
+use piper_protocol::answer::{Answer, Polled};
+use piper_protocol::table::{Action, AfterRead, AfterWrite, Query, ReadPoint, Side, WritePoint};
+use piper_sides::calls::{Call, SideState};
+use piper_sides::polling::{Context, Luck};
 
 // The waker that a yield of this call calls.
 fn yield_waker(context: Option<Context>) -> Option<u32>

@@ -1,7 +1,7 @@
 use Rattle.std.proofs.Common.{[], ◌∷◌, ◌++◌, ap, sym, ◌∙◌}
-use Rattle.piper_protocol.specs.declared.calls.Side.TheVariants.{Reader}
-use Rattle.piper_protocol.specs.declared.events.Answer.TheVariants.{Count}
-use Rattle.piper_protocol.specs.declared.events.Event.TheVariants.{Answered}
+use Rattle.piper_protocol.specs.declared.table.Side.TheVariants.{Reader}
+use Rattle.piper_protocol.specs.declared.answer.Answer.TheVariants.{Count}
+use Rattle.piper_sides.specs.declared.events.Event.TheVariants.{Answered}
 use Rattle.piper_machine_examples.proofs.len_alone.Goals as goal
 
 pub returns-clause-by_steps : goal.returns-clause-by_steps

@@ -2,13 +2,12 @@
 ghost use Rattle.std.specs.Prelude.{◌≡◌, ◌≢◌, ◌*◌, ◌<◌, ◌≤◌, ◌↔◌, ℕ, Bool, IsTrue, true, false};
 ghost use Rattle.piper_protocol.specs.ReaderIndices.{known_in, tail_seen, head_passed};
 ghost use Rattle.piper_protocol.specs.Table.{read_action, read_step};
-ghost use Rattle.piper_protocol.specs.declared.polling.Polled.TheVariants.{Ready, Memory};
+ghost use Rattle.piper_protocol.specs.declared.answer.Polled.TheVariants.{Ready, Memory};
 
-use piper_protocol::calls::Side;
-use piper_protocol::polling::Polled;
+use piper_protocol::answer::Polled;
 use piper_protocol::read_call::ReadCall;
 use piper_protocol::read_indices::ReadIndices;
-use piper_protocol::table::{Action, Found, Purpose, ReadPoint};
+use piper_protocol::table::{Action, Found, Purpose, ReadPoint, Side};
 
 /// What a reader reaches of the pipe that it shares, by one access each.
 pub trait ReadWords {

@@ -3,11 +3,10 @@ ghost use Rattle.std.specs.Prelude.{◌≡◌, ◌≢◌, ◌*◌, ◌<◌, ◌�
 ghost use Rattle.piper_protocol.specs.Index.{distance};
 ghost use Rattle.piper_protocol.specs.WriterIndices.{room_in, head_seen, tail_passed};
 ghost use Rattle.piper_protocol.specs.Table.{look_begun, write_action, write_step};
-ghost use Rattle.piper_protocol.specs.declared.polling.Polled.TheVariants.{Pending, Ready, Memory};
+ghost use Rattle.piper_protocol.specs.declared.answer.Polled.TheVariants.{Pending, Ready, Memory};
 
-use piper_protocol::calls::Side;
-use piper_protocol::polling::Polled;
-use piper_protocol::table::{Action, Found, Purpose, WritePoint};
+use piper_protocol::answer::Polled;
+use piper_protocol::table::{Action, Found, Purpose, Side, WritePoint};
 use piper_protocol::write_call::WriteCall;
 use piper_protocol::write_indices::WriteIndices;
 

@@ -1,6 +1,7 @@
 //! What the contracts leave open: that there is memory, and that a list of steps is accepted.
 use crate::compare::same;
-use piper_machine::calls::{Call, Query, Side, SideState, Step};
+use piper_machine::calls::{Call, SideState, Step};
+use piper_machine::table::{Query, Side};
 use piper_machine_examples::{len_alone, made_by_the_laws, through};
 use std::test::Fail;
 

@@ -5,13 +5,14 @@ ghost use Rattle.piper_machine.specs.Pipe.{fresh};
 
 use crate::compare::same;
 use piper_machine::machine::{Machine, run};
-use piper_protocol::bytes::Bytes;
-use piper_protocol::calls::{Call, Side, Step};
-use piper_protocol::events::{Event, Log};
 use piper_protocol::memory::OutOfMemory;
-use piper_protocol::polling::Luck;
-use piper_protocol::refusals::{RunRefusal, StepRefusal};
-use piper_protocol::scripted::{ActList, SourceAct};
+use piper_protocol::table::Side;
+use piper_sides::bytes::Bytes;
+use piper_sides::calls::{Call, Step};
+use piper_sides::events::{Event, Log};
+use piper_sides::polling::Luck;
+use piper_sides::refusals::{RunRefusal, StepRefusal};
+use piper_sides::scripted::{ActList, SourceAct};
 use std::alloc::Global;
 use std::process::Abort;
 

@@ -1,9 +1,10 @@
 //! What no contract says: that memory is granted, and what an error prints.
 use crate::compare::same;
-use piper_protocol::bytes::Bytes;
-use piper_protocol::calls::Side;
-use piper_protocol::events::{Answer, Event, Log, answered};
+use piper_protocol::answer::Answer;
 use piper_protocol::memory::OutOfMemory;
+use piper_protocol::table::Side;
+use piper_sides::bytes::Bytes;
+use piper_sides::events::{Event, Log, answered};
 use std::test::Fail;
 
 #[test]

@@ -1,5 +1,5 @@
 use Rattle.std.proofs.Common.{◌≡◌, refl}
-use Rattle.piper_protocol.specs.declared.calls.Side.TheVariants.{Reader, Writer}
+use Rattle.piper_protocol.specs.declared.table.Side.TheVariants.{Reader, Writer}
 use Rattle.piper_script.specs.declared.command.SaidCall.{SaidCall}
 use Rattle.piper_script.specs.declared.command.SaidCall.TheVariants.{Len, IsEmpty, IsFull, IsClosed, Poll, Fill, Drain, PollFill, PollDrain, FillFrom, DrainTo, Consume, Lend, Produced, Close, Drop}
 use Rattle.piper_script.specs.Command.{call_name}

@@ -1,5 +1,5 @@
 use Rattle.std.proofs.Common.{◌≡◌, Option, None, sym, ap, ◌∙◌, arith}
-use Rattle.piper_protocol.specs.declared.events.Answer.{Answer}
+use Rattle.piper_protocol.specs.declared.answer.Answer.{Answer}
 use Rattle.piper_machine.specs.Alone.{Ended}
 use Rattle.piper_machine.proofs.Alone.{read_step, reader_rest, reader-rest, reader-nearer}
 use Rattle.piper_machine.proofs.machine.Machine.drive_reader.Goals as goal

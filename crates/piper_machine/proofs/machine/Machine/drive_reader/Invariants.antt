@@ -1,5 +1,5 @@
 use Rattle.std.proofs.Common.{◌≡◌, ◌≤◌, ◌+◌, length, false}
-use Rattle.piper_protocol.specs.declared.calls.SideState.TheVariants.{Busy}
+use Rattle.piper_sides.specs.declared.calls.SideState.TheVariants.{Busy}
 use Rattle.piper_machine.specs.Refusal.{reader_state}
 use Rattle.piper_machine.specs.Alone.{reader_alone, is_draining, read_wakes}
 use Rattle.piper_machine.proofs.Alone.{reads_left}

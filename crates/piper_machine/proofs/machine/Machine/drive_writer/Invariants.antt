@@ -1,5 +1,5 @@
 use Rattle.std.proofs.Common.{◌≡◌, ◌≤◌, ◌+◌, length, false}
-use Rattle.piper_protocol.specs.declared.calls.SideState.TheVariants.{Busy}
+use Rattle.piper_sides.specs.declared.calls.SideState.TheVariants.{Busy}
 use Rattle.piper_machine.specs.Refusal.{writer_state}
 use Rattle.piper_machine.specs.Alone.{writer_alone, is_filling, write_wakes}
 use Rattle.piper_machine.proofs.Alone.{writes_left}

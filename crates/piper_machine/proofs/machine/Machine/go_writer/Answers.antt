@@ -1,7 +1,7 @@
 use Rattle.std.proofs.Common.{Option, ap, ◌∙◌}
-use Rattle.piper_protocol.specs.declared.calls.Side.TheVariants.{Writer}
-use Rattle.piper_protocol.specs.declared.events.Answer.{Answer}
-use Rattle.piper_protocol.specs.Log.{events, listed, answer_event}
+use Rattle.piper_protocol.specs.declared.table.Side.TheVariants.{Writer}
+use Rattle.piper_protocol.specs.declared.answer.Answer.{Answer}
+use Rattle.piper_sides.specs.Log.{events, listed, answer_event}
 use Rattle.piper_machine.specs.Action.{logged_of}
 use Rattle.piper_machine.proofs.Offering.{writer_made}
 use Rattle.piper_machine.proofs.machine.Machine.go_writer.Goals as goal

@@ -1,6 +1,6 @@
 use Rattle.std.proofs.Common.{◌∙◌, ap}
 use Rattle.piper_protocol.specs.Answer.{copied_in}
-use Rattle.piper_protocol.specs.declared.calls.Call.TheVariants as call
+use Rattle.piper_sides.specs.declared.calls.Call.TheVariants as call
 use Rattle.piper_machine.specs.Look.{context}
 use Rattle.piper_machine.specs.Alone.{Ended}
 use Rattle.piper_machine.proofs.Resting.{drains-to}

@@ -1,6 +1,6 @@
 use Rattle.std.proofs.Common.{◌≡◌, ◌∙◌, List, ℕ, length, None, sym, ap, subst}
 use Rattle.piper_protocol.specs.Answer.{count_in}
-use Rattle.piper_protocol.specs.declared.calls.Call.TheVariants as call
+use Rattle.piper_sides.specs.declared.calls.Call.TheVariants as call
 use Rattle.piper_machine.specs.Copy.{try_drain, count_of}
 use Rattle.piper_machine.specs.Alone.{Ended}
 use Rattle.piper_machine.proofs.Draining.{IsCounted, drain-counts, counted-bytes}

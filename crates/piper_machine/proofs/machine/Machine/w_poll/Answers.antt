@@ -1,7 +1,7 @@
 use Rattle.std.proofs.Common.{◌∙◌, ap}
 use Rattle.piper_protocol.specs.Answer.{polled_in}
-use Rattle.piper_protocol.specs.declared.calls.Call.TheVariants as call
-use Rattle.piper_protocol.specs.declared.calls.Side.TheVariants.{Writer}
+use Rattle.piper_sides.specs.declared.calls.Call.TheVariants as call
+use Rattle.piper_protocol.specs.declared.table.Side.TheVariants.{Writer}
 use Rattle.piper_machine.specs.Pipe.{Pipe}
 use Rattle.piper_machine.specs.Look.{context}
 use Rattle.piper_machine.specs.Alone.{Ended}

@@ -1,9 +1,9 @@
 use Rattle.std.proofs.Common.{rules, ◌≡◌, ℕ, [], ◌∷◌, ◌++◌, ◌+◌, take, drop, refl, sym, ap, subst, ◌∙◌}
 use Rattle.std.proofs.lemmas.List.{take_more, take_all, drop_more}
 use Rattle.std.proofs.lemmas.Option.{slice_get_read}
-use Rattle.piper_protocol.specs.declared.calls.Step.{Step}
+use Rattle.piper_sides.specs.declared.calls.Step.{Step}
 use Rattle.piper_machine.specs.Pipe.{fresh}
-use Rattle.piper_protocol.specs.Log.{events}
+use Rattle.piper_sides.specs.Log.{events}
 use Rattle.piper_machine.specs.Run.{Runs}
 use Rattle.piper_machine.specs.Conservation.{IsConserved}
 use Rattle.piper_machine.specs.Front.{Front}

@@ -1,6 +1,6 @@
 use Rattle.std.proofs.Common.{◌≡◌, ℕ, take, drop, []}
 use Rattle.piper_machine.specs.Pipe.{fresh}
-use Rattle.piper_protocol.specs.Log.{events}
+use Rattle.piper_sides.specs.Log.{events}
 use Rattle.piper_machine.specs.Run.{Runs}
 use Rattle.piper_machine.specs.Conservation.{IsConserved}
 use Rattle.piper_machine.specs.Known.{IsKnown}

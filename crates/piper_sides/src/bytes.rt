@@ -1,7 +1,7 @@
 //! Bytes that own their memory.
 ghost use Rattle.std.specs.Prelude.{◌≡◌, IfOk};
 
-use crate::memory::OutOfMemory;
+use piper_protocol::memory::OutOfMemory;
 use std::alloc::Global;
 use std::marker::Model;
 

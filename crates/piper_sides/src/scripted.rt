@@ -2,12 +2,9 @@
 ghost use Rattle.std.specs.Prelude.{◌≡◌, [], ◌∷◌, ◌++◌, OnOk, OnErr, IfOk};
 
 use crate::bytes::Bytes;
-use crate::memory::OutOfMemory;
+use piper_protocol::memory::OutOfMemory;
 use std::alloc::Global;
 use std::marker::Model;
-
-/// The most bytes that one round of a copy moves.
-pub const MOST_A_ROUND: usize = 131_072;
 
 /// What a scripted source does.
 #[derive(Drop)]
@@ -26,10 +23,6 @@ pub enum DestAct {
     /// Fails.
     Fail,
 }
-
-/// A scripted source or destination failed.
-#[derive(Clone, Copy, Debug, PartialEq, Eq)]
-pub struct Failed;
 
 /// What a source or destination does, act by act.
 #[derive(Drop)]

@@ -12,17 +12,6 @@ pub struct Luck {
     pub yield_granted: bool,
 }
 
-/// The answer of a polling call.
-#[derive(Clone, Copy, Debug, PartialEq, Eq)]
-pub enum Polled<T> {
-    /// Not yet: the waker is registered, or was woken by a yield.
-    Pending,
-    /// The call is done.
-    Ready(T),
-    /// A waker's clone was needed and refused. No byte has moved.
-    Memory,
-}
-
 /// The context of a polling call. The try forms have none.
 #[derive(Clone, Copy)]
 pub struct Context {

@@ -4,10 +4,10 @@ ghost use Rattle.std.specs.Prelude.{IsSome, ◌≡◌, ◌≢◌, ℕ, ◌+◌, 
 ghost use Rattle.piper_protocol.specs.Table.{moved_in, write_action};
 ghost use Rattle.piper_protocol.specs.Index.{IsCapacity, distance, place_of, advanced};
 
-use crate::events::Answer;
-use crate::open_call::CallAt;
-use crate::table::{Action, Found, WritePoint};
-use crate::write_indices::WriteIndices;
+use crate::write_rows;
+use piper_protocol::answer::Answer;
+use piper_protocol::table::{Action, Found, WritePoint};
+use piper_protocol::write_indices::WriteIndices;
 use std::marker::Model;
 
 /// What the writer keeps. It knows no buffer, no slot, no waker and no runtime.
@@ -22,8 +22,8 @@ pub struct WriteSide {
 }
 
 impl Model for WriteSide {
-    ghost use Rattle.piper_protocol.specs.Side.{Writing, IsWriting};
-    ghost use Rattle.piper_protocol.specs.SideSteps.{writing_of};
+    ghost use Rattle.piper_sides.specs.Side.{Writing, IsWriting};
+    ghost use Rattle.piper_sides.specs.SideSteps.{writing_of};
 
     ghost Value = { Writing };
 
@@ -33,8 +33,9 @@ impl Model for WriteSide {
 }
 
 impl WriteSide {
-    ghost use Rattle.piper_protocol.specs.Side.{IsWriting, fresh_writing, room_of, left_of, lend_length, lent_out, publishes, tail_store, write_sum};
-    ghost use Rattle.piper_protocol.specs.SideSteps.{writing_after, writing_answer, head_found};
+    ghost use Rattle.piper_protocol.specs.Table.{publishes, tail_store, write_sum};
+    ghost use Rattle.piper_sides.specs.Side.{IsWriting, fresh_writing, room_of, left_of, lend_length, lent_out};
+    ghost use Rattle.piper_sides.specs.SideSteps.{writing_after, writing_answer, head_found};
 
     /// The writer of an empty pipe.
     pub fn new(capacity: usize) -> Self
@@ -134,7 +135,7 @@ impl WriteSide {
         ensures within { (n : ℕ) → result ≡ Action.StoreTail n → n ≤ self.now.lent }
         ensures no_head { (n : ℕ) → result ≢ Action.StoreHead n }
     {
-        self.point.action()
+        write_rows::next(self.point)
     }
 
     /// The step that comes next was made and found this, and no index moved with it.
@@ -148,8 +149,8 @@ impl WriteSide {
         ensures rests { IsSome result → tail_store self.new.point ≡ 0 }
         ensures sound { IsWriting self.new }
     {
-        let none = self.indices.knows_none();
-        let CallAt { point, answer } = self.point.after(self.indices.capacity(), none, found);
+        let room = self.indices.room();
+        let (point, answer) = write_rows::after(self.point, self.indices.capacity(), room, found);
         self.point = point;
         answer
     }
@@ -169,10 +170,14 @@ impl WriteSide {
         ensures sound { IsWriting self.new }
     {
         self.indices.sees(head);
-        let none = self.indices.knows_none();
-        let CallAt { point, answer } = self
-            .point
-            .after(self.indices.capacity(), none, Found::Refreshed { none });
+        let room = self.indices.room();
+        let none = room == 0;
+        let (point, answer) = write_rows::after(
+            self.point,
+            self.indices.capacity(),
+            room,
+            Found::Refreshed { none },
+        );
         self.point = point;
         answer
     }
@@ -190,10 +195,13 @@ impl WriteSide {
         ensures sound { IsWriting self.new }
     {
         self.indices.publishes(n);
-        let none = self.indices.knows_none();
-        let CallAt { point, answer } = self
-            .point
-            .after(self.indices.capacity(), none, Found::Nothing);
+        let room = self.indices.room();
+        let (point, answer) = write_rows::after(
+            self.point,
+            self.indices.capacity(),
+            room,
+            Found::Nothing,
+        );
         self.point = point;
         answer
     }
@@ -210,10 +218,13 @@ impl WriteSide {
         ensures sound { IsWriting self.new }
     {
         self.indices.shut();
-        let none = self.indices.knows_none();
-        let CallAt { point, answer } = self
-            .point
-            .after(self.indices.capacity(), none, Found::Nothing);
+        let room = self.indices.room();
+        let (point, answer) = write_rows::after(
+            self.point,
+            self.indices.capacity(),
+            room,
+            Found::Nothing,
+        );
         self.point = point;
         answer
     }

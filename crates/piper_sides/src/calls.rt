@@ -1,17 +1,11 @@
 //! The calls of the two sides, as they are opened and made step by step.
 ghost use Rattle.std.specs.Prelude.{◌≡◌, ◌↔◌, ◌<◌, IsTrue};
-ghost use Rattle.piper_protocol.specs.Call.{side_of, kind_of, context_of, waker_of, has_good_draw};
+ghost use Rattle.piper_sides.specs.Call.{side_of, kind_of, context_of, waker_of, has_good_draw};
 
 use crate::bytes::Bytes;
 use crate::polling::{Context, Luck};
 use crate::scripted::{ActList, DestAct, SourceAct};
-
-/// A side of the pipe.
-#[derive(Clone, Copy, Debug, PartialEq, Eq)]
-pub enum Side {
-    Reader,
-    Writer,
-}
+use piper_protocol::table::{Query, Side};
 
 /// What a side is about.
 #[derive(Clone, Copy, Debug, PartialEq, Eq)]
@@ -22,14 +16,6 @@ pub enum SideState {
     Busy,
     /// It was dropped.
     Dropped,
-}
-
-/// A question on the number of unread bytes.
-#[derive(Clone, Copy, Debug, PartialEq, Eq)]
-pub enum Query {
-    Len,
-    IsEmpty,
-    IsFull,
 }
 
 /// A call. Those that both sides have name their side.
@@ -99,7 +85,7 @@ pub struct OpenCall {
 }
 
 impl OpenCall {
-    ghost use Rattle.piper_protocol.specs.Open.{no_call};
+    ghost use Rattle.piper_sides.specs.Open.{no_call};
 
     /// No call is open.
     pub fn none() -> Self

@@ -1,12 +1,12 @@
 //! What happens in a run, and the log that keeps it.
 ghost use Rattle.std.specs.Prelude.{◌≡◌, ◌<◌, ◌≤◌, ◌+◌, ◌++◌, ◌∷◌, [], OnOk, vec_len, vec_capacity};
-ghost use Rattle.piper_protocol.specs.Log.{listed, answer_event};
+ghost use Rattle.piper_sides.specs.Log.{listed, answer_event};
 
 use crate::bytes::Bytes;
-use crate::calls::{Kind, Side};
-use crate::memory::OutOfMemory;
-use crate::polling::Polled;
-use crate::scripted::Failed;
+use crate::calls::Kind;
+use piper_protocol::answer::Answer;
+use piper_protocol::memory::OutOfMemory;
+use piper_protocol::table::Side;
 use std::alloc::Global;
 
 /// What a load found: the number of unread bytes at that moment, or the closed flag.
@@ -18,62 +18,6 @@ pub enum Seen {
     Tail(usize),
     /// The closed flag was loaded.
     Closed(bool),
-}
-
-/// What a call returns.
-#[derive(Clone, Copy, Debug, PartialEq, Eq)]
-pub enum Answer {
-    Count(usize),
-    Flag(bool),
-    Poll(Polled<bool>),
-    /// Of a copying call with a context: a count, or that the source or destination failed.
-    Copy(Polled<Result<usize, Failed>>),
-    Lent(usize),
-    Done,
-}
-
-impl Answer {
-    ghost use Rattle.piper_protocol.specs.Answer.{count_in, flag_in, polled_in, copied_in};
-
-    /// The count that is returned, or 0.
-    pub fn count(self) -> usize
-        ensures { result ≡ count_in self }
-    {
-        match self {
-            Answer::Count(n) => n,
-            _ => 0,
-        }
-    }
-
-    /// The flag that is returned, or false.
-    pub fn flag(self) -> bool
-        ensures { result ≡ flag_in self }
-    {
-        match self {
-            Answer::Flag(flag) => flag,
-            _ => false,
-        }
-    }
-
-    /// What a poll returns, or want of memory.
-    pub fn polled(self) -> Polled<bool>
-        ensures { result ≡ polled_in self }
-    {
-        match self {
-            Answer::Poll(polled) => polled,
-            _ => Polled::Memory,
-        }
-    }
-
-    /// What a copying call with a context returns, or want of memory.
-    pub fn copied(self) -> Polled<Result<usize, Failed>>
-        ensures { result ≡ copied_in self }
-    {
-        match self {
-            Answer::Copy(copied) => copied,
-            _ => Polled::Memory,
-        }
-    }
 }
 
 /// What a step did that the other side, or the caller, can notice.
@@ -97,7 +41,7 @@ pub struct Log {
 }
 
 impl Log {
-    ghost use Rattle.piper_protocol.specs.Log.{events, listed, HasRoom};
+    ghost use Rattle.piper_sides.specs.Log.{events, listed, HasRoom};
 
     /// Nothing has happened yet.
     pub fn new(alloc: Global) -> Self

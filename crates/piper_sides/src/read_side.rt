@@ -4,10 +4,10 @@ ghost use Rattle.std.specs.Prelude.{IsSome, ◌≡◌, ◌≢◌, ℕ, true, ◌
 ghost use Rattle.piper_protocol.specs.Index.{IsCapacity, distance, place_of, advanced};
 ghost use Rattle.piper_protocol.specs.Table.{moved_in, read_action, reader_looks_for};
 
-use crate::events::Answer;
-use crate::open_call::CallAt;
-use crate::read_indices::ReadIndices;
-use crate::table::{Action, Found, Purpose, ReadPoint};
+use crate::read_rows;
+use piper_protocol::answer::Answer;
+use piper_protocol::read_indices::ReadIndices;
+use piper_protocol::table::{Action, Found, Purpose, ReadPoint};
 use std::marker::Model;
 
 /// What the reader keeps. It knows no buffer, no slot, no waker and no runtime.
@@ -22,8 +22,8 @@ pub struct ReadSide {
 }
 
 impl Model for ReadSide {
-    ghost use Rattle.piper_protocol.specs.Side.{Reading, IsReading};
-    ghost use Rattle.piper_protocol.specs.SideSteps.{reading_of};
+    ghost use Rattle.piper_sides.specs.Side.{Reading, IsReading};
+    ghost use Rattle.piper_sides.specs.SideSteps.{reading_of};
 
     ghost Value = { Reading };
 
@@ -33,8 +33,9 @@ impl Model for ReadSide {
 }
 
 impl ReadSide {
-    ghost use Rattle.piper_protocol.specs.Side.{IsReading, fresh_reading, head_store, known_of, peekable_of, read_sum};
-    ghost use Rattle.piper_protocol.specs.SideSteps.{reading_after, reading_answer, tail_found};
+    ghost use Rattle.piper_protocol.specs.Table.{head_store, read_sum};
+    ghost use Rattle.piper_sides.specs.Side.{IsReading, fresh_reading, known_of, peekable_of};
+    ghost use Rattle.piper_sides.specs.SideSteps.{reading_after, reading_answer, tail_found};
 
     /// The reader of an empty pipe.
     pub fn new(capacity: usize) -> Self
@@ -121,7 +122,7 @@ impl ReadSide {
         ensures no_tail { (n : ℕ) → result ≢ Action.StoreTail n }
         ensures not_shut { result ≢ Action.StoreClosed true }
     {
-        self.point.action()
+        read_rows::next(self.point)
     }
 
     /// The step that comes next was made and found this, and no index moved with it.
@@ -134,7 +135,7 @@ impl ReadSide {
         ensures open { self.new.point ≡ ReadPoint.Idle → IsSome result }
         ensures sound { IsReading self.new }
     {
-        let CallAt { point, answer } = self.point.after(self.indices.capacity(), found);
+        let (point, answer) = read_rows::after(self.point, self.indices.capacity(), found);
         self.point = point;
         answer
     }
@@ -153,9 +154,11 @@ impl ReadSide {
     {
         self.indices.sees(tail);
         let none = self.indices.knows_none();
-        let CallAt { point, answer } = self
-            .point
-            .after(self.indices.capacity(), Found::Refreshed { none });
+        let (point, answer) = read_rows::after(
+            self.point,
+            self.indices.capacity(),
+            Found::Refreshed { none },
+        );
         self.point = point;
         answer
     }
@@ -172,7 +175,7 @@ impl ReadSide {
         ensures sound { IsReading self.new }
     {
         self.indices.gives(n);
-        let CallAt { point, answer } = self.point.after(self.indices.capacity(), Found::Nothing);
+        let (point, answer) = read_rows::after(self.point, self.indices.capacity(), Found::Nothing);
         self.point = point;
         answer
     }

@@ -5,12 +5,9 @@ use Rattle.piper_protocol.specs.declared.table.ReadPoint.{ReadPoint}
 use Rattle.piper_protocol.specs.declared.table.ReadPoint.TheVariants as at
 use Rattle.piper_protocol.specs.declared.table.WritePoint.{WritePoint}
 use Rattle.piper_protocol.specs.declared.table.WritePoint.TheVariants as on
-use Rattle.piper_protocol.specs.declared.table.AfterRead.{AfterRead}
-use Rattle.piper_protocol.specs.declared.table.AfterRead.TheVariants as after_read
-use Rattle.piper_protocol.specs.declared.table.AfterWrite.{AfterWrite}
-use Rattle.piper_protocol.specs.declared.table.AfterWrite.TheVariants as after_write
 use Rattle.piper_protocol.specs.Index.{IsCapacity, distance, place_of}
 use Rattle.piper_protocol.specs.LendBound.{lend_bound}
+use Rattle.piper_protocol.specs.Table.{head_store, tail_store, read_sum, write_sum}
 
 pub record Reading : Type 0 where
   pub capacity : ℕ
@@ -72,47 +69,6 @@ fresh_writing capacity = record {
   is_shut = false;
   point = on.Idle;
 }
-
--- how many bytes a store gives up that is next
-abbrev pub head_store : ReadPoint → ℕ
-head_store (at.StoreHead n next) = n
-head_store point = 0
-
--- how many bytes a store publishes that is next
-abbrev pub tail_store : WritePoint → ℕ
-tail_store (on.RoundClosed n form sum) = n
-tail_store (on.StoreTail n next) = n
-tail_store point = 0
-
--- whether the step that comes next publishes bytes
-abbrev pub publishes : WritePoint → Bool
-publishes (on.StoreTail n next) = true
-publishes point = false
-
--- how many bytes the open copy has moved, with those of a store that is next
-abbrev pub read_round : AfterRead → ℕ
-read_round (after_read.Round form sum) = sum
-read_round next = 0
-
-abbrev pub read_sum : ReadPoint → ℕ
-read_sum (at.CallDestination form sum) = sum
-read_sum (at.StoreHead n next) = read_round next
-read_sum (at.TakeWriter next) = read_round next
-read_sum (at.WakeWriter next) = read_round next
-read_sum point = 0
-
-abbrev pub write_round : AfterWrite → ℕ
-write_round (after_write.Round form sum) = sum
-write_round next = 0
-
-abbrev pub write_sum : WritePoint → ℕ
-write_sum (on.CallSource form sum) = sum
-write_sum (on.RoundClosed n form sum) = sum
-write_sum (on.StoreTail n next) = write_round next
-write_sum (on.TakeReader next) = write_round next
-write_sum (on.WakeReader next) = write_round next
-write_sum (on.StoreClosed next) = write_round next
-write_sum point = 0
 
 pub record IsReading (r : Reading) : Type 0 where
   pub capacity : IsCapacity r.capacity

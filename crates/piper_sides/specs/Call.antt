@@ -1,12 +1,12 @@
 -- What a call is, apart from what it does.
 use Rattle.std.specs.Prelude.{ℕ, Bool, true, Option, None, Some, nat_lt}
-use Rattle.piper_protocol.specs.declared.calls.Side.{Side}
-use Rattle.piper_protocol.specs.declared.calls.Side.TheVariants.{Reader, Writer}
-use Rattle.piper_protocol.specs.declared.calls.Call.{Call}
-use Rattle.piper_protocol.specs.declared.calls.Call.TheVariants as call
-use Rattle.piper_protocol.specs.declared.polling.Context.{Context}
-use Rattle.piper_protocol.specs.declared.calls.Kind.{Kind}
-use Rattle.piper_protocol.specs.declared.calls.Kind.TheVariants as kind
+use Rattle.piper_protocol.specs.declared.table.Side.{Side}
+use Rattle.piper_protocol.specs.declared.table.Side.TheVariants.{Reader, Writer}
+use Rattle.piper_sides.specs.declared.calls.Call.{Call}
+use Rattle.piper_sides.specs.declared.calls.Call.TheVariants as call
+use Rattle.piper_sides.specs.declared.polling.Context.{Context}
+use Rattle.piper_sides.specs.declared.calls.Kind.{Kind}
+use Rattle.piper_sides.specs.declared.calls.Kind.TheVariants as kind
 
 abbrev pub side_of : Call → Side
 side_of (call.Query side query) = side

@@ -1,10 +1,10 @@
 -- The events of a log.
 use Rattle.std.specs.Prelude.{◌+◌, ◌≤◌, vec_len, vec_capacity, List, [], ◌∷◌, Option, None, Some}
-use Rattle.piper_protocol.specs.declared.calls.Side.{Side}
-use Rattle.piper_protocol.specs.declared.events.Answer.{Answer}
-use Rattle.piper_protocol.specs.declared.events.Event.{Event}
-use Rattle.piper_protocol.specs.declared.events.Event.TheVariants.{Answered}
-use Rattle.piper_protocol.specs.declared.events.Log.{Log}
+use Rattle.piper_protocol.specs.declared.table.Side.{Side}
+use Rattle.piper_protocol.specs.declared.answer.Answer.{Answer}
+use Rattle.piper_sides.specs.declared.events.Event.{Event}
+use Rattle.piper_sides.specs.declared.events.Event.TheVariants.{Answered}
+use Rattle.piper_sides.specs.declared.events.Log.{Log}
 
 abbrev pub events : Log → List Event
 events log = log.items.items

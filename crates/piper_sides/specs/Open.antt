@@ -1,7 +1,7 @@
 -- What an open call holds besides its point.
 use Rattle.std.specs.Prelude.{Option, None, Some, Bool, false}
-use Rattle.piper_protocol.specs.declared.polling.Context.{Context}
-use Rattle.piper_protocol.specs.declared.calls.OpenCall.{OpenCall}
+use Rattle.piper_sides.specs.declared.polling.Context.{Context}
+use Rattle.piper_sides.specs.declared.calls.OpenCall.{OpenCall}
 
 abbrev pub no_call : OpenCall
 no_call = record { context = None; taken = None }

@@ -1,0 +1,16 @@
+//! The two sides of the model: what each knows and its open call, and the words of its steps, events
+//! and scripts.
+#![tactic(auto)]
+
+pub mod bytes;
+pub mod calls;
+pub mod events;
+pub mod polling;
+mod read_rows;
+pub mod read_side;
+pub mod refusals;
+pub mod scripted;
+pub mod slot;
+pub mod woken;
+mod write_rows;
+pub mod write_side;
