@@ -1,30 +1,16 @@
 //! Owners of the handles: the calls of a handle, made on its owner, and what `{:?}` prints of both.
-ghost use Rattle.std.specs.Prelude.{◌<◌, ◌*◌, ◌^◌};
-ghost use Rattle.piper.specs.Handles.{ArePair};
-
 use crate::pair::same;
 use piper::{OwnedReader, OwnedWriter, owned_pipe};
 use std::alloc::AllocGlobal;
 use std::process::Abort;
 use std::sync::Wait;
 
-/// A new pipe of so many bytes, with these in it.
-pub(crate) fn holding<H>(rt: &H, capacity: usize, bytes: &[u8]) -> (OwnedReader, OwnedWriter)
-where
-    H: Abort + Wait + AllocGlobal,
-    requires { (0 < capacity) × (2 * capacity < 2 ^ 64) }
-    ensures { ArePair result.0 result.1 }
-{
-    let (reader, mut writer) = owned_pipe(rt.alloc(), capacity).expect(rt, "a pipe");
-    same(rt, &"taken", writer.try_fill(bytes), bytes.len());
-    (reader, writer)
-}
-
 fn calls_as_its_handle<H>(rt: &H)
 where
     H: Abort + Wait + AllocGlobal,
 {
-    let (mut reader, mut writer) = holding(rt, 8, b"abc");
+    let (mut reader, mut writer) = owned_pipe(rt.alloc(), 8).expect(rt, "a pipe");
+    same(rt, &"taken", writer.try_fill(b"abc"), 3);
     let mut place = [0; 2];
     same(rt, &"came", reader.try_drain(&mut place), 2);
     same(rt, &"came", place.as_slice(), b"ab");
@@ -42,7 +28,7 @@ fn gives_its_handle_back<H>(rt: &H)
 where
     H: Abort + Wait + AllocGlobal,
 {
-    let (reader, writer) = holding(rt, 8, b"");
+    let (reader, writer) = owned_pipe(rt.alloc(), 8).expect(rt, "a pipe");
     let reader = OwnedReader::new(reader.into_inner());
     same(rt, &"closed", writer.is_closed(), false);
     drop(reader);
@@ -60,7 +46,8 @@ fn is_printed<H>(rt: &H)
 where
     H: Abort + Wait + AllocGlobal,
 {
-    let (mut reader, writer) = holding(rt, 8, b"abc");
+    let (mut reader, mut writer) = owned_pipe(rt.alloc(), 8).expect(rt, "a pipe");
+    same(rt, &"taken", writer.try_fill(b"abc"), 3);
     reader.try_drain(&mut [0; 2]);
     let printed = format!(in rt.alloc(); "{reader:?}, {writer:?}").expect(rt, "memory");
     let wanted =

@@ -1,5 +1,5 @@
 //! What the Rust crate tests of its own pipe on one thread. What it tests across threads is in
-//! crossing.rt.
+//! crossing.rt of `piper_layer_tests`.
 use crate::pair::{Act, plays};
 
 #[test]

@@ -1,11 +1,13 @@
 //! Futures, streams and sinks own their ends and give them back.
-use crate::owners::holding;
-use crate::pair::same;
+ghost use Rattle.std.specs.Prelude.{◌<◌, ◌*◌, ◌^◌};
+ghost use Rattle.piper.specs.Handles.{ArePair};
+
+use crate::compare::{confirm, same};
 use crate::running::{come, ends, kept, next_of, same_bytes, sends};
 use futures::StreamExt;
 use futures::executor::block_on;
 use piper::io::Copied;
-use piper::{OwnedReader, OwnedWriter, PipeError};
+use piper::{OwnedReader, OwnedWriter, PipeError, owned_pipe};
 use piper_futures::{close, copy, drain_into, fill_from, read_to_end, read_until, write_all};
 use piper_lines::{ByteOrder, FrameHeader, into_line_text};
 use piper_streams::{FrameSink, FrameStream, LineSink, LineStream, WriteSink};
@@ -14,6 +16,18 @@ use std::io::{self, ErrorKind};
 use std::process::Abort;
 use std::random::RandomSource;
 use std::sync::Wait;
+
+/// A new pipe of so many bytes, with these in it.
+fn holding<H>(rt: &H, capacity: usize, bytes: &[u8]) -> (OwnedReader, OwnedWriter)
+where
+    H: Abort + Wait + AllocGlobal,
+    requires { (0 < capacity) × (2 * capacity < 2 ^ 64) }
+    ensures { ArePair result.0 result.1 }
+{
+    let (reader, mut writer) = owned_pipe(rt.alloc(), capacity).expect(rt, "a pipe");
+    same(rt, writer.try_fill(bytes), bytes.len());
+    (reader, writer)
+}
 
 fn ends_what_was_written<H>(rt: &H)
 where
@@ -24,7 +38,7 @@ where
     let writer = ends(rt, close(writer));
     let (reader, bytes) = ends(rt, read_to_end(reader, Vec::new(rt.alloc())));
     let seen = (count, writer.is_closed(), reader.len());
-    same(rt, &"written, closed and left", seen, (11, true, 0));
+    same(rt, seen, (11, true, 0));
     same_bytes(rt, &bytes, b"hello world");
 }
 
@@ -39,7 +53,7 @@ where
     H: Abort + Wait + RandomSource + AllocGlobal,
 {
     let (from, _to, why) = ends(rt, copy(from, to));
-    same(rt, &"copied", (why, from.len()), want);
+    same(rt, (why, from.len()), want);
 }
 
 fn copies_to_the_end<H>(rt: &H)
@@ -85,7 +99,7 @@ where
     drop(sends(rt, sink, &[b"three"]));
     let mut lines = LineStream::new(rt.alloc(), reader, 10);
     come(rt, &mut lines, &[b"one\n", b"two\n", b"three"]);
-    same(rt, &"the end", next_of(rt, &mut lines).is_none(), true);
+    confirm(rt, next_of(rt, &mut lines).is_none());
 }
 
 #[test]
@@ -111,8 +125,8 @@ where
     let mut frames = FrameStream::new(rt.alloc(), reader, 4);
     come(rt, &mut frames, &[b"one", b""]);
     let long = kind_of(next_of(rt, &mut frames));
-    same(rt, &"too long", long, Some(ErrorKind::InvalidData));
-    same(rt, &"the end", next_of(rt, &mut frames).is_none(), true);
+    same(rt, long, Some(ErrorKind::InvalidData));
+    confirm(rt, next_of(rt, &mut frames).is_none());
 }
 
 #[test]
@@ -128,8 +142,8 @@ where
     drop(writer);
     let mut frames = FrameStream::new(rt.alloc(), reader, 4);
     let ended = kind_of(next_of(rt, &mut frames));
-    same(rt, &"cut off", ended, Some(ErrorKind::UnexpectedEof));
-    same(rt, &"the end", next_of(rt, &mut frames).is_none(), true);
+    same(rt, ended, Some(ErrorKind::UnexpectedEof));
+    confirm(rt, next_of(rt, &mut frames).is_none());
 }
 
 #[test]
@@ -147,7 +161,7 @@ where
     drop(sends(rt, sink, &[&[7; 300], &[8; 1_500]]));
     let mut frames = FrameStream::new(rt.alloc(), reader, 1_500);
     come(rt, &mut frames, &[&[7; 300], &[8; 1_500]]);
-    same(rt, &"the end", next_of(rt, &mut frames).is_none(), true);
+    confirm(rt, next_of(rt, &mut frames).is_none());
 }
 
 #[test]
@@ -201,7 +215,7 @@ where
         rt.panic("five bytes are written into three places")
     };
     let is_full = matches!(&failed.error, PipeError::Io(e) if e.kind() == io::ErrorKind::WriteZero);
-    same(rt, &"full", is_full, true);
+    confirm(rt, is_full);
     let (reader, _dest) = failed.left;
     let (_reader, rest) = ends(rt, read_to_end(reader, Vec::new(rt.alloc())));
     same_bytes(rt, &place, b"abc");
@@ -220,7 +234,7 @@ where
 {
     let source = b"one, two, three".as_slice();
     let (writer, rest, why) = ends(rt, fill_from(writer, source));
-    same(rt, &"filled", (why, rest.len()), want);
+    same(rt, (why, rest.len()), want);
     writer
 }
 

@@ -1,7 +1,8 @@
 //! A future or a stream that has nothing to do sleeps: its poll is pending, and its task is not
 //! woken by the poll itself.
-use crate::pair::{same, task_at_last};
+use crate::compare::same;
 use crate::running::kept;
+use futures::test::MockTask;
 use futures::{Future, StreamExt};
 use piper::owned_pipe;
 use piper_futures::{AsyncBufReadExt, AsyncReadExt, AsyncWriteExt, copy};
@@ -19,10 +20,9 @@ where
     requires { F.can_poll future }
 {
     let mut future = future;
-    let task = task_at_last(rt);
+    let task = MockTask::new(rt).expect(rt, "a task");
     let is_pending = task.enter(|cx| future.poll(cx).is_pending());
-    same(rt, &what, is_pending, true);
-    same(rt, &what, task.is_woken(), false);
+    same(rt, (what, is_pending, task.is_woken()), (what, true, false));
 }
 
 fn readers_sleep<R>(rt: &R)
