@@ -2,8 +2,7 @@
 //!
 //! Each is a row or two of the call table, and says `unreachable!()` of the points that its
 //! condition rules out. So the compiler knows where a call is, and leaves nothing of it at run
-//! time. The model reads the table by
-//! itself: `read_rows` of `piper_sides`.
+//! time. The model has rows of its own: `read_rows` of `piper_sides`.
 ghost use Rattle.std.specs.Prelude.{◌≡◌, ◌+◌, ◌^◌, ◌<◌, false};
 ghost use Rattle.piper_protocol.specs.Table.{ends, goes_on, read_action, read_done, read_step, read_sum, reader_draws_after, reader_is_true, reader_looks_for};
 

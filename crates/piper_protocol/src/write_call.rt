@@ -2,8 +2,7 @@
 //!
 //! Each is a row or two of the call table, and says `unreachable!()` of the points that its
 //! condition rules out. So the compiler knows where a call is, and leaves nothing of it at run
-//! time. The model reads the table by
-//! itself: `write_rows` of `piper_sides`.
+//! time. The model has rows of its own: `write_rows` of `piper_sides`.
 ghost use Rattle.std.specs.Prelude.{◌≡◌, ◌+◌, ◌^◌, ◌<◌, true, false};
 ghost use Rattle.piper_protocol.specs.Table.{begins_look, ends, goes_on, look_begun, write_action, write_done, write_step, write_sum, writer_draws_after, writer_is_true};
 
