@@ -1,5 +1,6 @@
 -- A drain's look, after which nothing was moved, or rounds moved what it found.
 use Rattle.std.proofs.Common.{◌≡◌, ℕ, ◌<◌, ◌⊎◌, [], ◌++◌, length, Result, Ok, Err, sym, ap, ◌∙◌, subst, append-nil, length-append, arith}
+use Rattle.std.proofs.lemmas.List.{nil_from_length}
 use Rattle.futures.specs.declared.task.Poll.{Poll}
 use Rattle.futures.specs.declared.task.Poll.TheVariants.{Ready, Pending}
 use Rattle.piper_ring.specs.Shared.{flag}
@@ -10,6 +11,21 @@ use Rattle.piper.specs.Like.{Passes}
 use Rattle.piper.specs.Looks.{ReaderLooked}
 use Rattle.piper.specs.Polls.{OnReadyOk}
 use Rattle.piper.specs.declared.error.Inner.{Inner}
+
+-- two looks are one, where the first found no byte
+pub looked_twice : (a b c : ReadView) → ReaderLooked a b → length b.known ≡ 0 → ReaderLooked b c → ReaderLooked a c
+looked_twice a b c first none second = record {
+  end = record {
+    ring = second.end.ring ∙ first.end.ring;
+    capacity = second.end.capacity ∙ first.end.capacity;
+    told = second.end.told ∙ first.end.told;
+    told_shut = second.end.told_shut ∙ first.end.told_shut;
+  };
+  taken = second.taken ∙ first.taken;
+  known = λ some. absurd (omega (arith, some, none, ap (λ (v : ReadView). length v.known) (first.known some)));
+  fresh = λ _. second.fresh (nil_from_length b.known none);
+  saw = omega (arith, first.saw, second.saw);
+}
 
 module _ {S E : Type 0} (takes : Passes S) (is_full : S → Type 0) (fails : S → E → S → Type 0) where
   -- nothing was moved after the look

@@ -1,5 +1,5 @@
 -- A round adds to the rounds before it, or ends them.
-use Rattle.std.proofs.Common.{rules, ◌≡◌, ◌∙◌, Ok, ap, refl, length, length-drop, inr, arith}
+use Rattle.std.proofs.Common.{rules, ◌≡◌, ◌+◌, ◌%◌, ◌^◌, ◌∙◌, ℕ, Ok, ap, refl, length, length-drop, inr, arith}
 use Rattle.piper_protocol.specs.Table.{read_action}
 use Rattle.futures.specs.declared.task.Poll.TheVariants.{Ready}
 use Rattle.piper.proofs.RoundsOut.{drain_round, takes_writer, sum_fits, drain_ended, drain_failed, drained_more, drained_none}
@@ -35,23 +35,47 @@ overflow_add-sum g c =
 pub rounds-smaller : goal.rounds-smaller
 rounds-smaller g c = rw c.wake_writer-call.ensures.end (omega (arith, ap length c.store_head-round.ensures.known, length-drop c.in-Ok.n c.rounds.self.end.known, c.in-Ok.ensures.bound))
 
-pub returns-in-Err-clause-drained : goal.returns-in-Err-clause-drained
-returns-in-Err-clause-drained g c =
+pub returns-in-Err : goal.returns-in-Err
+returns-in-Err g c =
+    let before = c.rounds.invariant in
     let none = rw c.in-Err.is at c.drain_round.ensures.bytes in
-    drain_failed _ g.met.W.WriteLike.takes_in_order _ _ _ _ _ _ c.rounds.invariant.drained _ _ c.in-Err.error none c.in-Err.ensures.error
+    record {
+      drained = drain_failed _ g.met.W.WriteLike.takes_in_order _ _ _ _ _ _ before.drained _ _ c.in-Err.error none c.in-Err.ensures.error;
+      failures = c.in-Err.ensures.failures ∙ ap (λ (m : ℕ). (m + 1) % 2 ^ 64) before.failures;
+      ready = tt;
+      all = before.all;
+      woke = before.woke;
+      rest = before.rest;
+    }
 
-pub returns-then-n-eq0-clause-drained : goal.returns-then-n-eq0-clause-drained
-returns-then-n-eq0-clause-drained g c =
+pub returns-then-n-eq0 : goal.returns-then-n-eq0
+returns-then-n-eq0 g c =
+    let before = c.rounds.invariant in
     let told : c.copied-then-n-eq0.result ≡ Ready (Ok c.rounds.sum) = search rules in
-    let zero : c.drain_round.result ≡ Ok 0 = search rules in
+    let zero : c.drain_round.result ≡ Ok 0 = c.in-Ok.is ∙ ap (λ (m : ℕ). Ok m) c.if-n-eq0.true in
     let none = rw zero at c.drain_round.ensures.bytes in
-    rw told (drain_ended _ g.met.W.WriteLike.takes_in_order _ _ _ _ _ _ c.rounds.invariant.drained _ _ none (c.drain_round.ensures.full zero))
+    rw told (record {
+      drained = drain_ended _ g.met.W.WriteLike.takes_in_order _ _ _ _ _ _ before.drained _ _ none (c.drain_round.ensures.full zero);
+      failures = c.in-Ok.ensures.failures ∙ before.failures;
+      ready = tt;
+      all = before.all;
+      woke = before.woke;
+      rest = before.rest;
+    })
 
-pub returns-then-asks-eq0-clause-drained : goal.returns-then-asks-eq0-clause-drained
-returns-then-asks-eq0-clause-drained g c =
+pub returns-then-asks-eq0 : goal.returns-then-asks-eq0
+returns-then-asks-eq0 g c =
+    let before = c.rounds.invariant in
     let told : c.copied.result ≡ Ready (Ok c.rounds.sum) = search rules in
-    rw told (drain_ended _ g.met.W.WriteLike.takes_in_order _ _ _ _ _ _ c.rounds.invariant.drained _ _
-    (g.met.W.WriteLike.takes_nothing c.rounds.dest) (inr (c.asks.ensures.full c.if-asks-eq0.true)))
+    rw told (record {
+      drained = drain_ended _ g.met.W.WriteLike.takes_in_order _ _ _ _ _ _ before.drained _ _
+          (g.met.W.WriteLike.takes_nothing c.rounds.dest) (inr (c.asks.ensures.full c.if-asks-eq0.true));
+      failures = before.failures;
+      ready = tt;
+      all = before.all;
+      woke = before.woke;
+      rest = before.rest;
+    })
 
 pub rounds-preserved : goal.rounds-preserved
 rounds-preserved g c =

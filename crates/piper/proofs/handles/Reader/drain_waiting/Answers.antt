@@ -29,3 +29,18 @@ pub returns-clause-ended : goal.returns-clause-ended
 returns-clause-ended g c =
     ended_found c.drain_rounds.result c.args.self.now.end c.drain_rounds.new.self.end
     (found_some _ _ _ _ _ _ _ _ _ _ c.poll_inner.ensures.looked c.take_own_and_draw-call.ensures.end c.drain_rounds.ensures.drained c.in-Ok.ensures.answer)
+
+pub returns-in-Err-Closed-clause-failures : goal.returns-in-Err-Closed-clause-failures
+returns-in-Err-Closed-clause-failures g c = refl
+
+pub returns-in-Err-Pending-clause-failures : goal.returns-in-Err-Pending-clause-failures
+returns-in-Err-Pending-clause-failures g c = refl
+
+pub returns-in-Err-Refused-clause-failures : goal.returns-in-Err-Refused-clause-failures
+returns-in-Err-Refused-clause-failures g c = refl
+
+pub returns-then-yields-clause-failures : goal.returns-then-yields-clause-failures
+returns-then-yields-clause-failures g c = refl
+
+pub returns-clause-failures : goal.returns-clause-failures
+returns-clause-failures g c = c.drain_rounds.ensures.failures

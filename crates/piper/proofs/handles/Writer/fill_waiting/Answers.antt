@@ -20,3 +20,18 @@ returns-in-Err-Refused-clause-filled g c =
 pub returns-then-yields-clause-filled : goal.returns-then-yields-clause-filled
 returns-then-yields-clause-filled g c =
     rw c.take_own_and_draw-call.ensures.end (fills_none _ _ _ Pending _ _ _ c.poll_inner.ensures.looked (refl, refl) tt)
+
+pub returns-in-Err-Closed-clause-failures : goal.returns-in-Err-Closed-clause-failures
+returns-in-Err-Closed-clause-failures g c = refl
+
+pub returns-in-Err-Pending-clause-failures : goal.returns-in-Err-Pending-clause-failures
+returns-in-Err-Pending-clause-failures g c = refl
+
+pub returns-in-Err-Refused-clause-failures : goal.returns-in-Err-Refused-clause-failures
+returns-in-Err-Refused-clause-failures g c = refl
+
+pub returns-then-yields-clause-failures : goal.returns-then-yields-clause-failures
+returns-then-yields-clause-failures g c = refl
+
+pub returns-clause-failures : goal.returns-clause-failures
+returns-clause-failures g c = c.fill_rounds.ensures.failures

@@ -1,27 +1,25 @@
--- The reader failed with this error after what it gave.
-use Rattle.std.proofs.Common.{rules, refl, ◌≡◌, ◌+◌, ◌++◌, ◌%◌, ◌^◌}
-use Rattle.std.specs.Io.KnownBytes.{Consumes}
-use Rattle.futures.specs.declared.task.Poll.TheVariants.{Ready}
-use Rattle.piper.proofs.OfStd.{failed_held}
+-- What the reader gave is what the struct that holds it gave.
+use Rattle.std.proofs.Common.{rules}
+use Rattle.piper.proofs.OfStd.{filled_held}
 use Rattle.piper.specs.declared.like.streams.StdRead.{StdRead}
 use Rattle.piper.proofs.handles.Writer.poll_fill.Goals as goal
 
+pub returns-in-Ready-Ok-clause-filled : goal.returns-in-Ready-Ok-clause-filled
+returns-in-Ready-Ok-clause-filled g c =
+    filled_held (λ (s : StdRead g.row.R.Denot). s.object.now) _ _ _ _ _ g.R.StdReader.fails (λ a xs b passed. passed.1) (λ a dry. dry) (λ a e b failed. failed.1)
+    _ _ (search rules) c.new-source.result c.fill_inner.new.source _ _ c.new-source.ensures.object (search rules) _ _ c.fill_inner.ensures.filled
+
+pub returns-in-Ready-Err-Memory-clause-filled : goal.returns-in-Ready-Err-Memory-clause-filled
+returns-in-Ready-Err-Memory-clause-filled g c =
+    filled_held (λ (s : StdRead g.row.R.Denot). s.object.now) _ _ _ _ _ g.R.StdReader.fails (λ a xs b passed. passed.1) (λ a dry. dry) (λ a e b failed. failed.1)
+    _ _ (search rules) c.new-source.result c.fill_inner.new.source _ _ c.new-source.ensures.object (search rules) _ _ c.fill_inner.ensures.filled
+
 pub returns-in-Ready-Err-Like-clause-filled : goal.returns-in-Ready-Err-Like-clause-filled
 returns-in-Ready-Err-Like-clause-filled g c =
-    let d = c.in-Ready-Err-Like.ensures.filled in
-    let held = failed_held (λ (held : StdRead g.row.R.Denot). held.object.now) _ _ (Ready c.in-Ready-Err-Like.field-0) c.new-source.result c.fill_inner.new.source (d.published ++ d.lost) d.copied _ _
-    (λ (a : StdRead g.row.R.Denot) xs (b : StdRead g.row.R.Denot) (passed : (b.object.ghost_name ≡ a.object.ghost_name) × Consumes (g.R.Read.remaining a.object.now) (g.R.Read.remaining b.object.now) xs). passed.1)
-    (λ (a : StdRead g.row.R.Denot) e (b : StdRead g.row.R.Denot) (failed : (b.failures ≡ (a.failures + 1) % 2 ^ 64) × g.R.StdReader.fails a.object.now e b.object.now). failed.1)
-    c.in-Ready-Err-Like.error _ _ (search rules) c.new-source.ensures.object refl in
-    record {
-      published = d.published;
-      lost = d.lost;
-      sent = d.sent;
-      all = d.all;
-      last = d.last;
-      room = d.room;
-      fresh = d.fresh;
-      copied = (search (rules, held.0), (held.1.0, held.1.1, search (rules, held.1.2)));
-      most = tt;
-      end = d.end;
-    }
+    filled_held (λ (s : StdRead g.row.R.Denot). s.object.now) _ _ _ _ _ g.R.StdReader.fails (λ a xs b passed. passed.1) (λ a dry. dry) (λ a e b failed. failed.1)
+    _ _ (search rules) c.new-source.result c.fill_inner.new.source _ _ c.new-source.ensures.object (search rules) _ _ c.fill_inner.ensures.filled
+
+pub returns-in-Pending-clause-filled : goal.returns-in-Pending-clause-filled
+returns-in-Pending-clause-filled g c =
+    filled_held (λ (s : StdRead g.row.R.Denot). s.object.now) _ _ _ _ _ g.R.StdReader.fails (λ a xs b passed. passed.1) (λ a dry. dry) (λ a e b failed. failed.1)
+    _ _ (search rules) c.new-source.result c.fill_inner.new.source _ _ c.new-source.ensures.object (search rules) _ _ c.fill_inner.ensures.filled
