@@ -68,17 +68,15 @@ impl Room {
         ensures same { SameRoom self.old self.new }
         ensures lent { length self.new.lent.bytes ≡ len }
     {
-        let mut front = self.lent.take();
-        front.join(self.ready.take());
+        self.unlend();
         let end = from + len;
         if zeroed != capacity && zeroed < end {
-            zero(&mut front, &mut self.blank, base, zeroed, end);
+            zero(&mut self.ready, &mut self.blank, base, zeroed, end);
         }
         if zeroed.max(end) == capacity {
-            front.join(self.later.take());
+            self.ready.join(self.later.take());
         }
-        self.lent.put(front.split(len));
-        self.ready.put(front);
+        self.lent.put(self.ready.split(len));
     }
 
     /// All its places, whose bytes nobody speaks of any more.
