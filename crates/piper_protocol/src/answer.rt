@@ -2,7 +2,7 @@
 ghost use Rattle.std.specs.Prelude.{◌≡◌};
 
 /// The answer of a polling call.
-#[derive(Clone, Copy, Debug, PartialEq, Eq)]
+#[derive(Clone, Copy)]
 pub enum Polled<T> {
     /// Not yet: the waker is registered, or was woken by a yield.
     Pending,
@@ -13,11 +13,11 @@ pub enum Polled<T> {
 }
 
 /// A scripted source or destination failed.
-#[derive(Clone, Copy, Debug, PartialEq, Eq)]
+#[derive(Clone, Copy)]
 pub struct Failed;
 
 /// What a call returns.
-#[derive(Clone, Copy, Debug, PartialEq, Eq)]
+#[derive(Clone, Copy)]
 pub enum Answer {
     Count(usize),
     Flag(bool),

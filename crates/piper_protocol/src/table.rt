@@ -8,14 +8,14 @@ use crate::answer::{Answer, Failed, Polled};
 pub const MOST_A_ROUND: usize = 131_072;
 
 /// A side of the pipe.
-#[derive(Clone, Copy, Debug, PartialEq, Eq)]
+#[derive(Clone, Copy, PartialEq, Eq)]
 pub enum Side {
     Reader,
     Writer,
 }
 
 /// A question on the number of unread bytes.
-#[derive(Clone, Copy, Debug, PartialEq, Eq)]
+#[derive(Clone, Copy)]
 pub enum Query {
     Len,
     IsEmpty,
@@ -23,7 +23,7 @@ pub enum Query {
 }
 
 /// The step that a side makes next.
-#[derive(Clone, Copy, Debug, PartialEq, Eq)]
+#[derive(Clone, Copy)]
 pub enum Action {
     /// None: no call is open.
     Rest,

@@ -46,7 +46,7 @@ pub enum Call {
 }
 
 /// Which call it is, without its arguments.
-#[derive(Clone, Copy, Debug, PartialEq, Eq)]
+#[derive(Clone, Copy)]
 pub enum Kind {
     Query(Query),
     IsClosed,

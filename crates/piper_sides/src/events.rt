@@ -10,7 +10,7 @@ use piper_protocol::table::Side;
 use std::alloc::Global;
 
 /// What a load found: the number of unread bytes at that moment, or the closed flag.
-#[derive(Clone, Copy, Debug, PartialEq, Eq)]
+#[derive(Clone, Copy)]
 pub enum Seen {
     /// The head was loaded.
     Head(usize),
@@ -21,7 +21,7 @@ pub enum Seen {
 }
 
 /// What a step did that the other side, or the caller, can notice.
-#[derive(Debug, Drop)]
+#[derive(Drop)]
 pub enum Event {
     /// A call was opened, with the waker handed to it.
     Began(Side, Kind, Option<u32>),
