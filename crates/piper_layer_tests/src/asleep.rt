@@ -25,13 +25,11 @@ where
     same(rt, (what, is_pending, task.is_woken()), (what, true, false));
 }
 
-fn readers_sleep<R>(rt: &R)
+fn reads_sleep<R>(rt: &R)
 where
     R: Abort + RandomSource + AllocGlobal,
 {
     let (mut reader, _writer) = owned_pipe(rt.alloc(), 8).expect(rt, "memory");
-    let (_drained, mut full) = owned_pipe(rt.alloc(), 1).expect(rt, "memory");
-    full.try_fill(b".");
     sleeps(rt, "read", (&mut reader).read(kept(rt, rt.alloc(), b"..")));
     sleeps(
         rt,
@@ -48,16 +46,32 @@ where
         "read_until",
         (&mut reader).read_until(b'\n', Vec::new(rt.alloc())),
     );
-    sleeps(
-        rt,
-        "drain_into",
-        (&mut reader).drain_into(Vec::new(rt.alloc())),
-    );
+}
+
+fn streams_sleep<R>(rt: &R)
+where
+    R: Abort + RandomSource + AllocGlobal,
+{
+    let (mut reader, _writer) = owned_pipe(rt.alloc(), 8).expect(rt, "memory");
     sleeps(rt, "lines", (&mut reader).lines(rt.alloc(), 8).next());
     sleeps(
         rt,
         "frames",
         FrameStream::new(rt.alloc(), &mut reader, 8).next(),
+    );
+}
+
+fn copies_sleep<R>(rt: &R)
+where
+    R: Abort + RandomSource + AllocGlobal,
+{
+    let (mut reader, _writer) = owned_pipe(rt.alloc(), 8).expect(rt, "memory");
+    let (_drained, mut full) = owned_pipe(rt.alloc(), 1).expect(rt, "memory");
+    full.try_fill(b".");
+    sleeps(
+        rt,
+        "drain_into",
+        (&mut reader).drain_into(Vec::new(rt.alloc())),
     );
     sleeps(rt, "copy", copy(&mut reader, &mut full));
 }
@@ -75,7 +89,9 @@ where
 
 #[test]
 fn a_reader_with_nothing_to_read_sleeps(rt: HostRuntime) {
-    readers_sleep(&rt);
+    reads_sleep(&rt);
+    streams_sleep(&rt);
+    copies_sleep(&rt);
 }
 
 #[test]
