@@ -1,7 +1,7 @@
--- What a call of std returned, which std itself says nothing of. Both definitions are sealed: no proof
--- looks into them, and only those of `reported`, of `OutOfMemory::from` and of the ring's
--- `Memory::claim` use the lemmas below. So a clause that cites one holds only of what came through
--- there.
+-- What a call of std returned, or one that only hands on what std returned: std itself says nothing of
+-- it. Both definitions are sealed: no proof looks into them, and only those of `reported`, of
+-- `OutOfMemory::from` and of the ring's `Memory::claim` use the lemmas below. So a clause that cites
+-- one holds only of what came through there.
 use Rattle.std.specs.Prelude.{⊤, Result, Ok, Err, IfErr}
 
 -- a call of std returned this
