@@ -7,7 +7,7 @@ ghost use Rattle.std.specs.Prelude.{◌≡◌, ◌+◌, ◌^◌, ◌<◌, true, 
 ghost use Rattle.piper_protocol.specs.Table.{begins_look, ends, goes_on, look_begun, write_action, write_done, write_step, write_sum, writer_draws_after, writer_is_true};
 
 use crate::answer::{Answer, Polled};
-use crate::open_call::{CallAt, goes_on};
+use crate::open_call::{CallAt, ends, goes_on};
 use crate::table::WritePoint::{
     CallSource, Dropped, Idle, LookClosed, LookClosedAgain, LookHead, LookHeadAgain, LookRegister,
     LookTake, QueryClosed, RoundClosed, StoreClosed, StoreTail, TakeReader, TakeWriter, WakeReader,
@@ -109,20 +109,19 @@ impl CallAt<WritePoint> {
     /// Closed was loaded where a look begins, and the flag was this. No room is known (`none`), or
     /// some is.
     #[inline(always)]
-    pub fn looked_closed(mut self, none: bool, is_closed: bool) -> CallAt<WritePoint>
+    pub fn looked_closed(self, none: bool, is_closed: bool) -> CallAt<WritePoint>
         requires { begins_look self.point ≡ true }
         ensures { result ≡ look_begun none self.point is_closed }
     {
-        self.answer = None;
-        match self.point {
-            LookClosed(purpose) if is_closed => self.ends(purpose.look_answer(Polled::Ready(
-                false,
-            ))),
-            LookClosed(purpose) if none => self.point = LookHead(purpose),
-            LookClosed(purpose) => self.point = found_some(purpose),
+        match self.place() {
+            LookClosed(purpose) if is_closed => ends(
+                Idle,
+                purpose.look_answer(Polled::Ready(false)),
+            ),
+            LookClosed(purpose) if none => goes_on(LookHead(purpose)),
+            LookClosed(purpose) => goes_on(found_some(purpose)),
             _ => unreachable!(),
         }
-        self
     }
 
     /// Closed was loaded in a query, at the end of a look or in a round, and the flag was this.
