@@ -1,6 +1,5 @@
 //! A duplex stream, and an echo of lines over one.
-use crate::compare::{confirm, ready, same};
-use crate::running::same_bytes;
+use crate::compare::{confirm, ready, same, same_bytes};
 use futures::test::MockTask;
 use piper::io::AsyncRead;
 use piper::{OwnedReader, OwnedWriter, owned_pipe};

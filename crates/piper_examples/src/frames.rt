@@ -1,6 +1,5 @@
 //! Frames, read and written whole, with a header of any kind.
-use crate::compare::{confirm, ready, same};
-use crate::running::same_bytes;
+use crate::compare::{confirm, ready, same, same_bytes};
 use futures::task::{Context, Poll};
 use futures::test::MockTask;
 use piper::io::{AsyncBufRead, AsyncWrite};

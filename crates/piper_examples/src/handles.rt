@@ -1,7 +1,6 @@
 //! What both handles of a pipe do. An owner, as `owned_pipe` gives it, has all of it, too. Each
 //! example leaves the pipe empty.
-use crate::compare::{confirm, ready, same};
-use crate::running::same_bytes;
+use crate::compare::{confirm, ready, same, same_bytes};
 use futures::task::Context;
 use futures::test::MockTask;
 use piper::like::{ReadBytes, ReadLike, WriteBytes, WriteLike};

@@ -1,6 +1,5 @@
 //! The traits of readers and writers that may be pending, and the copy between two of them.
-use crate::compare::{confirm, ready, same};
-use crate::running::same_bytes;
+use crate::compare::{confirm, ready, same, same_bytes};
 use futures::task::{Context, Poll};
 use futures::test::MockTask;
 use piper::io::{AsyncBufRead, AsyncRead, AsyncWrite, Copied, poll_copy};

@@ -1,6 +1,5 @@
-//! Examples of the public calls of `piper`, `piper_lines` and `piper_duplex`; and tests of the
-//! futures, streams and sinks over the pipe, and of the machine. They are a crate of their own, so
-//! that these crates are proved once; what needs `piper` alone is in `piper_tests`.
+//! Tests of the futures, streams and sinks over the pipe, and of the machine. They are a crate of
+//! their own, so that these crates are proved once; what needs `piper` alone is in `piper_tests`.
 #![tactic(auto)]
 
 #[cfg(test)]
@@ -9,8 +8,6 @@ mod asleep;
 mod compare;
 #[cfg(test)]
 mod crossing;
-#[cfg(test)]
-mod examples;
 #[cfg(test)]
 mod machine;
 #[cfg(test)]
