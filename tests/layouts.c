@@ -25,12 +25,12 @@ struct layout {
 };
 
 static const struct layout layouts[] = {
-    {"three blocks, wide: this crate", {216, 64, 56}, 168,
+    {"words and bytes in one block, wide: this crate", {280, 0, 56}, 152,
+     {0, 8}, {0, 208}, {0, 136}, {0, 0}, {0, 144}, {0, 72}, {0, 216}, {2, 0}},
+    {"three blocks, wide", {216, 64, 56}, 168,
      {0, 8}, {0, 208}, {0, 136}, {0, 0}, {0, 144}, {0, 72}, {1, 0}, {2, 0}},
     {"three blocks, close", {64, 64, 56}, 168,
      {0, 0}, {0, 8}, {0, 16}, {0, 24}, {0, 32}, {0, 48}, {1, 0}, {2, 0}},
-    {"words and bytes in one block, wide", {280, 0, 56}, 152,
-     {0, 8}, {0, 208}, {0, 136}, {0, 0}, {0, 144}, {0, 72}, {0, 216}, {2, 0}},
     {"one block, bytes between the indices", {160, 0, 56}, 168,
      {0, 80}, {0, 152}, {0, 16}, {0, 40}, {0, 24}, {0, 0}, {0, 88}, {2, 0}},
     {"words and bytes in one block, close", {128, 0, 56}, 168,

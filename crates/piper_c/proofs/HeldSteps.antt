@@ -20,7 +20,7 @@ use denote.Memory.{part_at}
 use denote.RawPtr.{Ptr, block_ptr, block_of, count_of, at_block, lies_at}
 use denote.RawPtr.Bytes.{bytes, bytes_apart}
 use Rattle.std_alloc.specs.Box.Ownership.{box_owns}
-use Rattle.piper_ring.specs.Shared.{heap_token}
+use Rattle.piper_ring.specs.Block.{heap_token}
 use Rattle.piper_c.specs.Held.{held, held_writer, room_owns, comes_back, refilled, all_but_room, with_room}
 use Rattle.piper_c.specs.Handles.{IsWholeWriter}
 use Rattle.piper_c.specs.Lending.{IsLoanOf, IsWhole}

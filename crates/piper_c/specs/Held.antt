@@ -13,7 +13,7 @@ use denote.RattleType.{RattleType}
 use denote.RawPtr.{Ptr, InBlock, block_of, count_of, lies_at}
 use denote.Slice.{coded_holeys, heres}
 use Rattle.std_alloc.specs.Box.Ownership.{box_owns}
-use Rattle.piper_ring.specs.Shared.{heap_token}
+use Rattle.piper_ring.specs.Block.{heap_token}
 use Rattle.piper_ring.specs.Places.{fact}
 use Rattle.piper_ring.specs.LendsBuffer.{with_lent}
 use Rattle.piper_ring.specs.WriteView.{write_view}

@@ -1,8 +1,9 @@
 -- The seats may cross threads and be shared by them. Assumes nothing.
-use Rattle.piper_ring.proofs.Kit.{ℕ, Bool, true, false, List, ◌+◌, ◌-◌, length, Share, Fml, latest, at_least, Ptr, u8, IsSend, Common, sendable, array_of, words_type, slots, deeds, Names, State, flag, gone, where_gone, until_both, writer_knows, reader_knows, arrived_first, ends, blanks, memory, Inner, common, reader_owns, reader_lends, writer_owns, writer_lends, held_at}
+use Rattle.piper_ring.proofs.Kit.{ℕ, Bool, true, false, List, ◌+◌, ◌-◌, length, Share, Fml, latest, at_least, Ptr, u8, IsSend, Common, sendable, slots, deeds, Names, State, flag, gone, where_gone, until_both, writer_knows, reader_knows, arrived_first, ends, blanks, memory, Inner, common, reader_owns, reader_lends, writer_owns, writer_lends, held_at}
 use Rattle.std.proofs.Common.{drop}
 use base.Shift.{Keyless}
 use Rattle.std.proofs.Crossing.{frees}
+use Rattle.piper_ring.specs.Block.{purpose, size_of_block}
 use Rattle.piper_ring.specs.Shared.{spare}
 use Rattle.piper_ring.proofs.Evidence.{announced-Keyless, took-Keyless, raised-Keyless}
 use Rattle.token_cell.proofs.Crosses.{right-Keyless}
@@ -32,7 +33,7 @@ module _ (w p : Ptr) (z : Names) where
   )
 
   deeds-Keyless : Keyless (deeds w p z)
-  deeds-Keyless = (((((tt, (tt, (tt, tt))), (tt, (tt, (tt, tt)))), tt), (frees.frees (record { memory = record { seal = tt } }) words_type w, frees.frees (record { memory = record { seal = tt } }) (array_of u8 z.capacity) p)), slots-Keyless)
+  deeds-Keyless = ((((((tt, (tt, (tt, tt))), (tt, (tt, (tt, tt)))), tt), tt), frees.frees (record { memory = record { seal = tt } }) (purpose (size_of_block z.capacity)) w), slots-Keyless)
 
   spare-Keyless : IsSend u8 → (k n : ℕ) → Keyless (spare w p z k n)
   spare-Keyless s k n xs = ((λ _. tt), run-Keyless p z.capacity s k xs)

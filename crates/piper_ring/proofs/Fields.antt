@@ -132,20 +132,20 @@ ReaderWakesData = Struct (shape ReaderWakes.the_type)
 pub reader_wakes_made : {M : Type 1} {𝓤 : Ura M} (𝓛 : Logic 𝓤) → ent 𝓤 (emp 𝓤) (sem 𝓛 (ReaderWakesData.own_val (record {}, tt) (ghost_val ∷ [])))
 reader_wakes_made 𝓛 = makes_shadow 𝓛 (ReaderWakesData.own_val (record {}, tt) (ghost_val ∷ [])) (λ vss. (tt, ((λ uss. (tt, tt)), tt))) ((vstruct vnil ∷ [], tt), (refl, ((tt, (refl, tt)), tt)))
 
--- a tuple of eight
-abbrev pub eight_val : Val → Val → Val → Val → Val → Val → Val → Val → Val
-eight_val a b c d e f g h = vstruct (vcons a (vcons b (vcons c (vcons d (vcons e (vcons f (vcons g (vcons h vnil))))))))
+-- a tuple of seven
+abbrev pub seven_val : Val → Val → Val → Val → Val → Val → Val → Val
+seven_val a b c d e f g = vstruct (vcons a (vcons b (vcons c (vcons d (vcons e (vcons f (vcons g vnil)))))))
 
-module _ {M : Type 1} {𝓤 : Ura M} (𝓛 : Logic 𝓤) (R S T U R' S' T' U' : RattleType) where
+module _ {M : Type 1} {𝓤 : Ura M} (𝓛 : Logic 𝓤) (R S T U R' S' T' : RattleType) where
   abbrev Rows : List RattleType
-  Rows = R ∷ S ∷ T ∷ U ∷ R' ∷ S' ∷ T' ∷ U' ∷ []
+  Rows = R ∷ S ∷ T ∷ U ∷ R' ∷ S' ∷ T' ∷ []
 
-  pub eight_of : (x : R.Denot) (y : S.Denot) (z : T.Denot) (w : U.Denot) (x' : R'.Denot) (y' : S'.Denot) (z' : T'.Denot) (w' : U'.Denot) (a b c d e f g h : Val)
+  pub seven_of : (x : R.Denot) (y : S.Denot) (z : T.Denot) (w : U.Denot) (x' : R'.Denot) (y' : S'.Denot) (z' : T'.Denot) (a b c d e f g : Val)
       → ent 𝓤 (sep 𝓤 (sem 𝓛 (R.own_val x (a ∷ []))) (sep 𝓤 (sem 𝓛 (S.own_val y (b ∷ []))) (sep 𝓤 (sem 𝓛 (T.own_val z (c ∷ []))) (sep 𝓤 (sem 𝓛 (U.own_val w (d ∷ [])))
-      (sep 𝓤 (sem 𝓛 (R'.own_val x' (e ∷ []))) (sep 𝓤 (sem 𝓛 (S'.own_val y' (f ∷ []))) (sep 𝓤 (sem 𝓛 (T'.own_val z' (g ∷ []))) (sem 𝓛 (U'.own_val w' (h ∷ []))))))))))
-      (sem 𝓛 ((Tuple Rows).own_val (x, y, z, w, x', y', z', w') (eight_val a b c d e f g h ∷ [])))
-  eight_of x y z w x' y' z' w' a b c d e f g h = let v : Val = eight_val a b c d e f g h in
-      qed 𝓛 (‵ (R.own_val x (a ∷ [])) ∷ ‵ (S.own_val y (b ∷ [])) ∷ ‵ (T.own_val z (c ∷ [])) ∷ ‵ (U.own_val w (d ∷ [])) ∷ ‵ (R'.own_val x' (e ∷ [])) ∷ ‵ (S'.own_val y' (f ∷ [])) ∷ ‵ (T'.own_val z' (g ∷ [])) ∷ ‵ (U'.own_val w' (h ∷ [])) ∷ []) ∵
-      nothing ! $ move ! (8 ∷ 0 ∷ []) $ fjoin ! $ move ! (7 ∷ 0 ∷ []) $ fjoin ! $ move ! (6 ∷ 0 ∷ []) $ fjoin ! $ move ! (5 ∷ 0 ∷ []) $ fjoin ! $ move ! (4 ∷ 0 ∷ []) $ fjoin ! $ move ! (3 ∷ 0 ∷ []) $ fjoin ! $ move ! (2 ∷ 0 ∷ []) $ fjoin ! $ move ! (1 ∷ 0 ∷ []) $ fjoin ! $
+      (sep 𝓤 (sem 𝓛 (R'.own_val x' (e ∷ []))) (sep 𝓤 (sem 𝓛 (S'.own_val y' (f ∷ []))) (sem 𝓛 (T'.own_val z' (g ∷ [])))))))))
+      (sem 𝓛 ((Tuple Rows).own_val (x, y, z, w, x', y', z') (seven_val a b c d e f g ∷ [])))
+  seven_of x y z w x' y' z' a b c d e f g = let v : Val = seven_val a b c d e f g in
+      qed 𝓛 (‵ (R.own_val x (a ∷ [])) ∷ ‵ (S.own_val y (b ∷ [])) ∷ ‵ (T.own_val z (c ∷ [])) ∷ ‵ (U.own_val w (d ∷ [])) ∷ ‵ (R'.own_val x' (e ∷ [])) ∷ ‵ (S'.own_val y' (f ∷ [])) ∷ ‵ (T'.own_val z' (g ∷ [])) ∷ []) ∵
+      nothing ! $ move ! (7 ∷ 0 ∷ []) $ fjoin ! $ move ! (6 ∷ 0 ∷ []) $ fjoin ! $ move ! (5 ∷ 0 ∷ []) $ fjoin ! $ move ! (4 ∷ 0 ∷ []) $ fjoin ! $ move ! (3 ∷ 0 ∷ []) $ fjoin ! $ move ! (2 ∷ 0 ∷ []) $ fjoin ! $ move ! (1 ∷ 0 ∷ []) $ fjoin ! $
       feq_i ! (List Val) (v ∷ []) (v ∷ []) refl $ fjoin ! $
-      fpack ! (Valss Rows) (within (Declared.shape (tuple_type Rows)) (x, (y, (z, (w, (x', (y', (z', (w', tt)))))))) (v ∷ [])) (a ∷ [], (b ∷ [], (c ∷ [], (d ∷ [], (e ∷ [], (f ∷ [], (g ∷ [], (h ∷ [], tt)))))))) $ done !
+      fpack ! (Valss Rows) (within (Declared.shape (tuple_type Rows)) (x, (y, (z, (w, (x', (y', (z', tt))))))) (v ∷ [])) (a ∷ [], (b ∷ [], (c ∷ [], (d ∷ [], (e ∷ [], (f ∷ [], (g ∷ [], tt))))))) $ done !

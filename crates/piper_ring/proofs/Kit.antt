@@ -50,9 +50,10 @@ pub use Rattle.core.specs.Sync.RawAtomic.{asks, always}
 pub use Rattle.logbook.proofs.Fields.{lends_twice}
 pub use Rattle.piper_protocol.specs.ReaderIndices.{ReaderIndices}
 pub use Rattle.piper_protocol.specs.WriterIndices.{WriterIndices, room_in, left_in}
+pub use Rattle.piper_ring.specs.Block.{heap_token, words_type}
 pub use Rattle.piper_ring.specs.Places.{byte, unset, place, run_lent, places_lent}
 pub use Rattle.piper_ring.specs.ReadView.{ReadView, read_view_of, in_one_piece}
-pub use Rattle.piper_ring.specs.Shared.{announced, raised, Names, State, Holds, half, other, flag, word, writer_knows, reader_knows, ends, Inner, common, words_type, slots, deeds, gone, where_gone, until_both, arrived_first, blanks, memory, reader_owns, reader_lends, writer_owns, writer_lends, took, idle, heap_token, word_room, slot_rooms, all_rooms, state_holds, began, Placed, Consumed, coded_stream, coded_consumed, published, consumed, waits_for, wakes_for, waits_back, wakes_back, ring_of}
+pub use Rattle.piper_ring.specs.Shared.{announced, raised, Names, State, Holds, half, other, flag, word, writer_knows, reader_knows, ends, Inner, common, slots, deeds, gone, where_gone, until_both, arrived_first, blanks, memory, reader_owns, reader_lends, writer_owns, writer_lends, took, idle, word_room, slot_rooms, all_rooms, state_holds, began, Placed, Consumed, coded_stream, coded_consumed, published, consumed, waits_for, wakes_for, waits_back, wakes_back, ring_of}
 pub use Rattle.piper_ring.specs.SlotViews.{of_reader_waits, of_reader_wakes, of_writer_wakes, of_writer_waits}
 pub use Rattle.piper_ring.specs.Slots.{held_at, Waits, Wakes, IsWhere, Slot, with_waiter, code_of, slot, slot_at, Looks, Takes, GivesBack, PublishesWaker, Reclaims, IsRemembered}
 pub use Rattle.piper_ring.specs.Streams.{Stream, Reaches, streams, reaches_same, open_reaches, reaches_trans}

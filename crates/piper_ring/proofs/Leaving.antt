@@ -1,13 +1,13 @@
 -- An end leaves: it closes the ring, and then gives up its places; the second one to leave gets all
 -- of the memory. Assumes `Logic`.
-use Rattle.piper_ring.proofs.Kit.{◌≡◌, ℕ, zero, suc, ◌+◌, ◌-◌, ◌*◌, ◌≤◌, Bool, true, false, List, [], ◌∷◌, length, sym, refl, ap, ◌∙◌, subst, arith, Ura, numbers, latest, SProp, ent, sep, upd, ex, via, upd_i, Share, Fml, ftrue, fsep, Logic, sem, latest_grows, latest_shows, ‵, raw, ◌⊛◌, some, given, ◌$◌, ◌∵◌, !, qed, by, move, keep, split, split3, fsplit, fsplit3, fjoin, fjoin3, fpick, fpack, pick, learn, show, frame, assume, settle, suffices, rewrite, use1, use2, use3, done, drop as forget, Ptr, block_ptr, block_of, count_of, nothing, asks, always, Lies, length-drop, span_join, span_map, span, array_of, Ty, w64, ty_int, lone, apply∗, id⊢, froom, fex, unset, full_share, u8, slot_of as offset_of, Names, State, Holds, half, other, flag, gone, until_both, where_gone, word, word_room, words_type, slot_rooms, all_rooms, slots, blanks, memory, writer_knows, reader_knows, ends, raised, state_holds, Inner, common}
+use Rattle.piper_ring.proofs.Kit.{◌≡◌, ℕ, zero, suc, ◌+◌, ◌-◌, ◌*◌, ◌≤◌, Bool, true, false, List, [], ◌∷◌, length, sym, refl, ap, ◌∙◌, subst, arith, Ura, numbers, latest, SProp, ent, sep, upd, ex, via, upd_i, Share, Fml, ftrue, fsep, Logic, sem, latest_grows, latest_shows, ‵, raw, ◌⊛◌, some, given, ◌$◌, ◌∵◌, !, qed, by, move, keep, split, split3, fsplit, fsplit3, fjoin, fjoin3, fpick, fpack, pick, learn, show, frame, assume, settle, suffices, rewrite, use1, use2, use3, done, drop as forget, Ptr, block_ptr, block_of, count_of, nothing, asks, always, Lies, length-drop, span_join, span_map, span, array_of, Ty, w64, ty_int, lone, apply∗, id⊢, froom, fex, unset, full_share, u8, slot_of as offset_of, Names, State, Holds, half, other, flag, gone, until_both, where_gone, word, word_room, slot_rooms, all_rooms, slots, blanks, memory, writer_knows, reader_knows, ends, raised, state_holds, Inner, common}
 use Rattle.std.proofs.Common.{drop}
 use Rattle.rtrb.proofs.Spans.{ring_in}
 use Rattle.piper_ring.proofs.PlacesParts.{forgets}
 use mir.Raw.{raw as bare}
 use Rattle.piper_ring.specs.Places.{fact}
 use Rattle.piper_ring.proofs.Steps.{flag_small, Rest, OneStays, ReaderSees, WriterSees, reader_opens, writer_opens, closes, inside, raise}
-use Rattle.piper_ring.specs.Shared.{one_gone, whole}
+use Rattle.piper_ring.specs.Shared.{block_room, bytes_room, one_gone, whole}
 
 pub here : (i : ℕ) → i ≤ 1 → gone i ≡ false
 here zero le = refl
@@ -99,8 +99,8 @@ module _ {M : Type 1} {𝓤 : Ura M} (𝓛 : Logic 𝓤) (w p : Ptr) (z : Names)
       move ! (4 ∷ 0 ∷ []) $ use2 𝓛 (‵ (span U s.head (sl - s.head))) (span_join 𝓛 U (s.seen - s.head) s.head s.seen (length pend) (sl - s.head) (omega arith) (omega arith)) $
       move ! (0 ∷ 2 ∷ []) $ use2 𝓛 (‵ (span U s.head (s.limit - s.head))) (span_join 𝓛 U (sl - s.head) s.head sl (s.limit - sl) (s.limit - s.head) (omega arith) (omega arith)) $
       use2 𝓛 (‵ (span U s.head cap)) (span_join 𝓛 U (s.limit - s.head) s.head s.limit (length ys) cap (omega arith) (omega arith)) $
-      use1 𝓛 (‵ (froom (array_of u8 cap) (block_of p) (count_of p))) (as_array s.head) $ move ! (1 ∷ []) $ fsplit ! $ fsplit3 ! $ move ! (3 ∷ []) $ use1 𝓛 (‵ (slot_rooms w)) slots_end $ move ! (5 ∷ 0 ∷ []) $ fjoin ! $ move ! (0 ∷ 1 ∷ []) $
-      use2 𝓛 (‵ (froom words_type b o)) (apply∗ 𝓤 ⟦ all_rooms w ⟧ ⟦ froom words_type b o ⟧) $ fjoin ! $ move ! (2 ∷ 1 ∷ []) $ fjoin ! $ move ! (1 ∷ 0 ∷ []) $ fjoin ! $ done !))
+      use1 𝓛 (‵ (froom (array_of u8 cap) (block_of p) (count_of p))) (as_array s.head) $ move ! (1 ∷ []) $ fsplit ! $ fsplit ! $ move ! (2 ∷ []) $ use1 𝓛 (‵ (slot_rooms w)) slots_end $ move ! (4 ∷ 0 ∷ []) $ fjoin ! $ move ! (0 ∷ 3 ∷ []) $ fjoin ! $
+      use2 𝓛 (‵ (block_room w p z)) (apply∗ 𝓤 ⟦ fsep (all_rooms w) (bytes_room w p z) ⟧ ⟦ block_room w p z ⟧) $ fjoin ! $ done !))
 
   abbrev one : ℕ → ℕ
   one _ = 1

@@ -1,4 +1,5 @@
 pub mod Kit
+pub mod Block
 pub mod Fields
 pub mod PlacesLaws
 pub mod PlacesParts

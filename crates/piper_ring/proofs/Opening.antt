@@ -1,5 +1,5 @@
--- A ring is opened: the words are cut out of their block, the bytes are places, and the invariant
--- is made. Assumes `Logic`.
+-- A ring is opened: the words are cut out of their room, the bytes are places, and the invariant is
+-- made. Assumes `Logic`.
 use Rattle.piper_ring.proofs.Kit.{◌≡◌, ℕ, zero, suc, ◌+◌, ◌-◌, ◌*◌, ◌<◌, ◌^◌, true, false, List, [], ◌∷◌, length, sym, refl, ap, ◌∙◌, subst, arith, Ura, full_share, Order, numbers, latest, at_least, SProp, ent, sep, emp, ex, via, id⊢, Fml, ftrue, fsep, finv, fobs, Logic, sem, latest_shows, assume, ‵, ◌⊛◌, some, later, ◌$◌, ◌∵◌, !, qed, by, move, split, split3, fsplit, fsplit3, fjoin, fjoin3, fpack, pick, show, frame, rewrite, check, use0, use1, use2, use3, updating, await, now, done, Ptr, nothing, Ty, ty_int, w64, u8, lone, block_of, count_of, array_of, fwand, froom, span, slot_of as offset_of, span_map, unset, Stream, streams, reaches_same, Names, State, Holds, half, other, word, word_room, words_type, slot_rooms, all_rooms, idle, Inner, Placed, common, reader_owns, writer_owns, Waits, Wakes, IsWhere, Slot, with_waiter, code_of, slot, slot_at, Consumed, coded_stream, coded_consumed, published, consumed, took, waits_for, wakes_for, waits_back, wakes_back}
 use types.Growing.{latest_new}
 use denote.RawPtr.{InBlock}
@@ -9,6 +9,7 @@ use mir.Raw.{raw as bare}
 use denote.RawPtr.Room.{past as beyond, room_cut, room_glue}
 use Rattle.rtrb.proofs.Spans.{ring_out}
 use Rattle.rtrb.proofs.Positions.{position_zero}
+use Rattle.piper_ring.specs.Block.{behind, size_of_block}
 use Rattle.piper_ring.specs.Shared.{names_of, titles}
 use types.Tokens.{name_new}
 use Rattle.std.specs.Coded.{Coded}
@@ -61,7 +62,7 @@ module _ {M : Type 1} {𝓤 : Ura M} (𝓛 : Logic 𝓤) (w p : Ptr) (cap : ℕ)
   abbrev pub Rejoin : Fml
   Rejoin = fwand (all_rooms w) (froom words_type b o)
 
-  -- the block of the words is the eight words in use, and what makes a block of them again
+  -- the room of the words is the eight words in use, and what makes it of them again
   pub words_out : ⟦ froom words_type b o ⟧ ⊢ ⟦ word_room w 8 ⟧ ∗ ⟦ word_room w 208 ⟧ ∗ ⟦ word_room w 136 ⟧ ∗ ⟦ word_room w 0 ⟧ ∗ ⟦ slot_rooms w ⟧ ∗ ⟦ Rejoin ⟧
   words_out = let first_word : 0 + o ≡ o = omega arith in
       qed 𝓛 (‵ (froom words_type b o) ∷ []) ∵ use1 𝓛 (‵ (many 27 o)) (𝓛.laws.raw-room (ty_array u 27) b o) $ rewrite ! 0 (λ (at : ℕ). ‵ (many 27 at)) (sym first_word) refl $
@@ -88,7 +89,7 @@ module _ {M : Type 1} {𝓤 : Ura M} (𝓛 : Logic 𝓤) (w p : Ptr) (cap : ℕ)
   abbrev τ : Ty
   τ = lone u8.mir
 
-  -- the block of the bytes is one turn of places
+  -- the room of the bytes is one turn of places
   pub as_places : ⟦ froom (array_of u8 cap) (block_of p) (count_of p) ⟧ ⊢ ⟦ span (unset p cap) 0 cap ⟧
   as_places = let F : ℕ → Fml = λ i. froom (bare τ) (block_of p) (offset_of cap i * 1 + count_of p) in
       via 𝓤 _ (ring_out 𝓛 τ (block_of p) (count_of p) cap) (span_map 𝓛 F (unset p cap) cap 0 0 (λ a e is le lt. let same : a ≡ e = omega arith in let flat : offset_of cap a * 1 + count_of p ≡ offset_of cap a + count_of p = omega arith in
@@ -142,7 +143,7 @@ module _ {M : Type 1} {𝓤 : Ura M} (𝓛 : Logic 𝓤) (w p : Ptr) (cap : ℕ)
 
   -- the words are 0 and the rights to free are there: an empty ring, all of whose places are the
   -- writer's room
-  pub begins : (mine theirs : ℕ) → InBlock w × InBlock p × (cap < 2 ^ 63) → ⟦ zero_words ⟧ ∗ ⟦ Deeds ⟧ ∗ ⟦ slot_words ⟧ ⊢ H.⇛ (ex 𝓤 (Made mine theirs))
+  pub begins : (mine theirs : ℕ) → InBlock w × (p ≡ behind w) × (size_of_block cap < 2 ^ 63) → ⟦ zero_words ⟧ ∗ ⟦ Deeds ⟧ ∗ ⟦ slot_words ⟧ ⊢ H.⇛ (ex 𝓤 (Made mine theirs))
   begins mine theirs at = let fresh : State = record { sent = []; limit = cap; head = 0; seen = 0; closed = false; shut = false; reader_stage = 0; writer_stage = 0 } in
       let new : (n : ℕ) → ent 𝓤 (emp 𝓤) (H.⇛ (ex 𝓤 (Begun n))) = starts in
       qed 𝓛 (‵ zero_words ∷ ‵ Deeds ∷ ‵ slot_words ∷ []) {P = H.⇛ (ex 𝓤 (Made mine theirs))} (updating ! $

@@ -25,8 +25,8 @@ lends_all most w n is open_still = is ∙ ap (λ (b : Bool). if b then 0 else mi
 module _ (e : WriteParts) (i : IsWriteEnd e) where
   -- all that was published is below the limit of the room
   pub sent_below : length e.seat.sent ≤ e.seat.limit
-  sent_below = let r = e.room in let a : r.lent.first ≡ length e.seat.sent = i.placed.3 in let b : r.ready.first ≡ r.lent.first + length r.lent.bytes = i.room.0.chain.0 in let c : r.ready.first + length r.ready.bytes + r.blank.count ≡ r.later.first = i.room.0.chain.1 in
-      let d : r.later.first + length r.later.bytes ≡ e.seat.limit = i.placed.4 in omega arith
+  sent_below = let r = e.room in let a : r.lent.first ≡ length e.seat.sent = i.placed.2 in let b : r.ready.first ≡ r.lent.first + length r.lent.bytes = i.room.0.chain.0 in let c : r.ready.first + length r.ready.bytes + r.blank.count ≡ r.later.first = i.room.0.chain.1 in
+      let d : r.later.first + length r.later.bytes ≡ e.seat.limit = i.placed.3 in omega arith
 
   -- the room is what the end's two indices leave
   pub room_apart : room_in e.indices ≡ e.seat.limit - length e.seat.sent
@@ -35,8 +35,8 @@ module _ (e : WriteParts) (i : IsWriteEnd e) where
 
   -- all that was published or is lent is set, or all places are
   all_set : (length e.seat.sent + length e.room.lent.bytes ≤ e.indices.zeroed) ⊎ (e.indices.zeroed ≡ e.indices.capacity)
-  all_set = let r = e.room in let zeroed : e.indices.zeroed ≡ r.blank.first = i.room.1 in let cap : r.lent.capacity ≡ e.indices.capacity = i.placed.2 ∙ sym i.fits.0 in
-      let first : r.lent.first ≡ length e.seat.sent = i.placed.3 in let ready : r.ready.first ≡ r.lent.first + length r.lent.bytes = i.room.0.chain.0 in
+  all_set = let r = e.room in let zeroed : e.indices.zeroed ≡ r.blank.first = i.room.1 in let cap : r.lent.capacity ≡ e.indices.capacity = i.placed.1 ∙ sym i.fits.0 in
+      let first : r.lent.first ≡ length e.seat.sent = i.placed.2 in let ready : r.ready.first ≡ r.lent.first + length r.lent.bytes = i.room.0.chain.0 in
       ⊎_elim (λ all. inr (zeroed ∙ all ∙ cap)) (λ less. let turn : r.ready.first + length r.ready.bytes ≡ r.blank.first = i.room.0.first_turn less in inl (omega arith)) (eq-or-lt_of_le i.room.0.zeroing.0)
 
   -- a pipe that is open lends all that is asked for and fits, or as much of it as may be set at once

@@ -1,10 +1,10 @@
 pub mod Places
 pub mod Streams
 pub mod Words
+pub mod Block
 pub mod Slots
 pub mod Shared
 pub mod Loads
-pub mod Memory
 pub mod Lends
 pub mod ReadView
 pub mod RoomOrder

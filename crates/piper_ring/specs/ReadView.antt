@@ -118,8 +118,8 @@ pub record IsReadEnd (e : ReadParts) : Type 0 where
       (e.indices.capacity ≡ e.seat.names.capacity) × (0 < e.indices.capacity)
       × (e.indices.capacity < 2 ^ 63)
   pub placed :
-      (e.base.ptr ≡ e.seat.at) × (e.known.at ≡ e.seat.at)
-      × (e.known.capacity ≡ e.seat.names.capacity) × (e.known.first ≡ e.seat.head)
+      (e.known.at ≡ e.seat.at) × (e.known.capacity ≡ e.seat.names.capacity)
+      × (e.known.first ≡ e.seat.head)
   pub counts :
       (e.seat.seen ≡ e.seat.head + length e.known.bytes)
       × (length e.known.bytes ≤ e.indices.capacity)

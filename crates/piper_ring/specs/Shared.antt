@@ -1,22 +1,21 @@
 -- What the two ends of a ring own, and what lies between them under an invariant.
 -- Bytes are counted from the first one sent. The reader owns the places
 -- of the bytes that it knows of, the writer those of its known room;
--- the invariant owns the words, all other places, and the rights to free the memory.
+-- the invariant owns the words, all other places, and the right to free the memory.
 use Rattle.std.specs.Prelude.{◌≡◌, ℕ, zero, suc, ◌+◌, ◌-◌, ◌^◌, ◌<◌, ◌≤◌, Bool, true, false, List, length, drop, refl}
-use mir.Syntax.{Ty}
 use base.Fraction.{full_share}
 use base.Share.{left, right}
 use base.Stored.{coded_ℕ}
 use base.Growing.{numbers, latest, at_least}
 use base.Fml.{Lft, Share, Fml, ftrue, fsep, fwand, fex, froom, finv, fobs}
-use denote.Builtin.{u8, u64}
+use denote.Builtin.{u8}
 use denote.RawPtr.{Ptr, coded_ptr, block_of, count_of, InBlock}
 use denote.Sharing.{said, beside, one}
 use Rattle.core.specs.Allocator.{array_of}
 use Rattle.std.specs.Coded.{Coded, code_by, coded×, coded_list, coded_bool}
-use Rattle.std_heap.specs.contracts.GlobalAllocator.TheImpl.{ghosts}
 use Rattle.rtrb.specs.Fifo.{position_of}
 use Rattle.rtrb.specs.Shared.{run, span}
+use Rattle.piper_ring.specs.Block.{behind, heap_token, purpose, size_of_block}
 use Rattle.piper_ring.specs.Places.{fact, byte, unset}
 pub use Rattle.piper_ring.specs.Streams.{Stream}
 use Rattle.piper_ring.specs.Streams.{streams}
@@ -156,10 +155,6 @@ pub record Holds (capacity : ℕ) (s : State) : Type 0 where
   pub shutting : flag s.shut ≤ flag s.closed
   pub stages : (s.reader_stage ≤ 2) × (s.writer_stage ≤ 2)
 
--- of cache lines: head, the writer's slot, closed with the reader's slot, and tail
-abbrev pub words_type : Ty
-words_type = array_of u64 27
-
 abbrev pub four_rooms : Ptr → Fml
 four_rooms w =
     fsep (word_room w 8) (fsep (word_room w 208) (fsep (word_room w 136) (word_room w 0)))
@@ -171,10 +166,6 @@ slot_rooms w =
 
 abbrev pub all_rooms : Ptr → Fml
 all_rooms w = fsep (four_rooms w) (slot_rooms w)
-
--- the right to give a block back to the heap, which is the same for each handle of it
-abbrev pub heap_token : Ty → Ptr → Fml
-heap_token = ghosts.dealloc_token (record { memory = record { seal = tt } })
 
 -- the bytes sent begin with xs, and where `shut`, the writer closed the ring after them
 abbrev pub announced : Names → List ℕ → Bool → Fml
@@ -250,11 +241,20 @@ module _ (w p : Ptr) (z : Names) where
   abbrev pub spare : ℕ → ℕ → Fml
   spare limit n = fex (List ℕ) (idle limit n)
 
-  -- the bytes between the words, and the rights to free the two blocks
+  -- room for all of the ring's bytes
+  abbrev pub bytes_room : Fml
+  bytes_room = froom (array_of u8 z.capacity) (block_of p) (count_of p)
+
+  -- the ring's block, whatever lies in it
+  abbrev pub block_room : Fml
+  block_room = froom (purpose (size_of_block z.capacity)) (block_of w) (count_of w)
+
+  abbrev pub block_token : Fml
+  block_token = heap_token (purpose (size_of_block z.capacity)) w
+
+  -- what lies between the words, and behind the bytes, and the right to free the block
   abbrev pub titles : Fml
-  titles =
-      fsep (fwand (all_rooms w) (froom words_type (block_of w) (count_of w)))
-      (fsep (heap_token words_type w) (heap_token (array_of u8 z.capacity) p))
+  titles = fsep (fwand (fsep (all_rooms w) bytes_room) block_room) block_token
 
   abbrev pub slots : Fml
   slots = fsep reader_slot writer_slot
@@ -266,7 +266,7 @@ module _ (w p : Ptr) (z : Names) where
   abbrev pub blanks : ℕ → ℕ → Fml
   blanks = span (unset p z.capacity)
 
-  -- what each end gave up when it left, and the rights to free the memory
+  -- what each end gave up when it left, and the right to free the memory
   abbrev pub given_up : State → Fml
   given_up s =
       fsep (where_gone (gone s.reader_stage) (blanks s.head (s.seen - s.head)))
@@ -308,7 +308,7 @@ module _ (w p : Ptr) (z : Names) where
   Inner = fex State state_holds
 
   abbrev pub Placed : Type 0
-  Placed = InBlock w × InBlock p × (z.capacity < 2 ^ 63)
+  Placed = InBlock w × (p ≡ behind w) × (size_of_block z.capacity < 2 ^ 63)
 
   abbrev pub common : Fml
   common = fsep (fact Placed) (finv Inner)
@@ -333,13 +333,9 @@ module _ (w p : Ptr) (z : Names) where
   abbrev pub writer_lends : List ℕ → ℕ → Bool → Lft → Fml
   writer_lends sent limit shut = beside (said common) (one (λ q. writer_knows q sent limit shut 0))
 
-  -- all of the ring's memory, as the heap gave it: the block of the
-  -- words and the block of the bytes, each with the right to free it
+  -- all of the ring's memory, as the heap gave it, with the right to free it
   abbrev pub whole : Fml
-  whole =
-      fsep (fsep (froom words_type (block_of w) (count_of w)) (heap_token words_type w))
-      (fsep (froom (array_of u8 z.capacity) (block_of p) (count_of p))
-      (heap_token (array_of u8 z.capacity) p))
+  whole = fsep block_room block_token
 
   -- what an end gets when it leaves: all, where the other end was gone before
   abbrev pub remains_own : Bool → Fml

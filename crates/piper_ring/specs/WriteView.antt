@@ -125,8 +125,7 @@ pub record IsWriteEnd (e : WriteParts) : Type 0 where
       × (e.indices.capacity < 2 ^ 63)
   pub room : IsRoom e.room × (e.indices.zeroed ≡ e.room.blank.first)
   pub placed :
-      (e.base.ptr ≡ e.seat.at) × (e.room.lent.at ≡ e.seat.at)
-      × (e.room.lent.capacity ≡ e.seat.names.capacity)
+      (e.room.lent.at ≡ e.seat.at) × (e.room.lent.capacity ≡ e.seat.names.capacity)
       × (e.room.lent.first ≡ length e.seat.sent) × (end_of e.room.later ≡ e.seat.limit)
   pub freed :
       (e.indices.capacity ≤ e.seat.limit)

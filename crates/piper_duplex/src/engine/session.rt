@@ -140,7 +140,10 @@ where
     let spawned = thread::spawn(rt, move || {
         let _ = block_on(&theirs, echo);
     });
-    spawned.map_err(|_| Ended::NO_THREAD)
+    match spawned {
+        Ok(child) => Ok(child),
+        Err(_) => Err(Ended::NO_THREAD),
+    }
 }
 
 // Sends the input, closes the way there, and prints all that comes back.

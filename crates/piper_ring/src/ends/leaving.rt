@@ -1,12 +1,13 @@
 //! The ends once they closed the ring and are about to leave. The second one to leave frees the
 //! memory.
-ghost use Rattle.std.specs.Prelude.{◌≡◌, ◌+◌, length, true};
+ghost use Rattle.std.specs.Prelude.{◌≡◌, ◌+◌, ◌*◌, ◌<◌, ◌^◌, length, true};
 ghost use Rattle.piper_ring.specs.Shared.{flag};
 ghost use Rattle.piper_ring.specs.Stretches.{IsBlankFrom};
 
-use crate::ring::places::{Base, Blank};
+use crate::ring::memory::block_size;
+use crate::ring::places::Blank;
 use crate::ring::remains::Remains;
-use crate::ring::seats::{ReadSeat, WORDS_ALIGN, WORDS_SIZE, WriteSeat};
+use crate::ring::seats::{ReadSeat, WriteSeat};
 use std::alloc::Global;
 
 /// The reader's end, which has closed the ring. The places of the bytes that it knew of go to
@@ -14,11 +15,10 @@ use std::alloc::Global;
 pub(crate) struct LeavingReader {
     pub(crate) seat: ReadSeat,
     pub(crate) known: Blank,
-    pub(crate) base: Base,
     pub(crate) alloc: Global,
     pub(crate) capacity: usize,
     ghost closed: { seat.leaving ≡ true },
-    ghost fits: { (capacity ≡ seat.names.capacity) × (base.ptr ≡ seat.at) },
+    ghost fits: { capacity ≡ seat.names.capacity },
     ghost placed: { IsBlankFrom seat.at seat.names.capacity seat.head seat.seen known },
 }
 
@@ -28,12 +28,11 @@ impl LeavingReader {
         let LeavingReader {
             seat,
             known,
-            base,
             alloc,
             capacity,
         } = self;
         let (found, remains) = seat.leave(known);
-        release(found, remains, base, alloc, capacity);
+        release(found, remains, alloc, capacity);
     }
 }
 
@@ -41,11 +40,10 @@ impl LeavingReader {
 pub(crate) struct LeavingWriter {
     pub(crate) seat: WriteSeat,
     pub(crate) room: Blank,
-    pub(crate) base: Base,
     pub(crate) alloc: Global,
     pub(crate) capacity: usize,
     ghost closed: { seat.shut ≡ true },
-    ghost fits: { (capacity ≡ seat.names.capacity) × (base.ptr ≡ seat.at) },
+    ghost fits: { capacity ≡ seat.names.capacity },
     ghost placed: { IsBlankFrom seat.at seat.names.capacity (length seat.sent) seat.limit room },
 }
 
@@ -55,25 +53,24 @@ impl LeavingWriter {
         let LeavingWriter {
             seat,
             room,
-            base,
             alloc,
             capacity,
         } = self;
         let (found, remains) = seat.leave(room);
-        release(found, remains, base, alloc, capacity);
+        release(found, remains, alloc, capacity);
     }
 }
 
 /// Frees what an end got when it left: all of the memory where `found` is 1, else nothing.
-fn release(found: u64, remains: Remains, base: Base, alloc: Global, capacity: usize)
-    requires { (found ≡ flag remains.last) × (base.ptr ≡ remains.at)
-        × (capacity ≡ remains.names.capacity) }
+fn release(found: u64, remains: Remains, alloc: Global, capacity: usize)
+    requires { (found ≡ flag remains.last) × (capacity ≡ remains.names.capacity)
+        × (2 * capacity < 2 ^ 64) }
 {
     if found == 0 {
         remains.finish();
     } else {
-        let (words, bytes) = remains.into_memory(base);
-        bytes.surrender(&alloc, capacity, 1);
-        words.surrender(&alloc, WORDS_SIZE, WORDS_ALIGN);
+        remains
+            .into_memory()
+            .surrender(&alloc, block_size(capacity));
     }
 }

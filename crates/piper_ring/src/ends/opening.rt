@@ -1,18 +1,19 @@
 //! A ring is opened.
 ghost use Rattle.std.specs.Prelude.{◌≡◌, ℕ, ◌*◌, ◌<◌, ◌^◌, [], true, false, IfErr, IfOk};
 ghost use Rattle.piper_protocol.specs.Reported.{HasFailed};
+ghost use Rattle.piper_ring.specs.Block.{size_of_block};
 ghost use Rattle.piper_ring.specs.Opened.{FreshReadEnd, FreshReadSlots, FreshWriteEnd, FreshWriteSlots};
 
 use crate::ends::reader::{ReadEnd, ReadParts};
 use crate::ends::room::Room;
 use crate::ends::slots::{ReadRegistrations, ReadSlotParts, WriteRegistrations, WriteSlotParts};
 use crate::ends::writer::{WriteEnd, WriteParts};
-use crate::ring::memory::Memory;
-use crate::ring::seats::{WORDS_ALIGN, WORDS_SIZE, open};
+use crate::ring::memory::{Memory, block_size};
+use crate::ring::seats::open;
 use piper_protocol::memory::OutOfMemory;
 use piper_protocol::read_indices::ReadIndices;
 use piper_protocol::write_indices::WriteIndices;
-use std::alloc::Global;
+use std::alloc::{AllocError, Global};
 use token_cell::{Token, TokenCell};
 
 /// The two ends of a new ring for `capacity` bytes. Where memory is refused, all that was got is
@@ -51,17 +52,9 @@ pub fn open_with_slots(
         × (r.0.ring.names.writer_place ≡ writer_token.name)) }
     ensures refused { IfErr result HasFailed }
 {
-    let (words, bytes) = claim(&alloc, capacity)?;
-    let (
-        read_seat,
-        write_seat,
-        mut blank,
-        base,
-        reader_waits,
-        writer_wakes,
-        writer_waits,
-        reader_wakes,
-    ) = open(words, bytes, &reader_token, &writer_token);
+    let block = claim(&alloc, capacity)?;
+    let (read_seat, write_seat, mut blank, reader_waits, writer_wakes, writer_waits, reader_wakes) =
+        open(block, capacity, &reader_token, &writer_token);
     let told_reader = write_seat.mark();
     let told_writer = read_seat.mark();
     let read_saw = told_reader.again();
@@ -88,7 +81,6 @@ pub fn open_with_slots(
         told: told_reader,
         saw: read_saw,
         heard,
-        base,
         alloc,
         indices: ReadIndices::new(capacity),
     };
@@ -97,7 +89,6 @@ pub fn open_with_slots(
         room: Room::new(blank, capacity),
         told: told_writer,
         saw: write_saw,
-        base,
         alloc,
         indices: WriteIndices::new(capacity),
     };
@@ -109,20 +100,19 @@ pub fn open_with_slots(
     ))
 }
 
-/// The memory of the words, and that of the bytes. Where the second is refused, the first is given
-/// back.
-fn claim(alloc: &Global, capacity: usize) -> Result<(Memory, Memory), OutOfMemory>
+/// No block of the heap has more bytes than `isize::MAX`.
+const MOST_SIZE: usize = 0x7fff_ffff_ffff_ffff;
+
+/// The memory for a ring of `capacity` bytes. What no block can hold is refused as the heap refuses
+/// what it doesn't have.
+fn claim(alloc: &Global, capacity: usize) -> Result<Memory, OutOfMemory>
     requires { (0 < capacity) × (2 * capacity < 2 ^ 64) }
-    ensures words { IfOk result (λ m. (m.0.size ≡ 216) × (m.0.align ≡ 8)) }
-    ensures bytes { IfOk result (λ m. (m.1.size ≡ capacity) × (m.1.align ≡ 1)) }
+    ensures block { IfOk result (λ block. block.size ≡ size_of_block capacity) }
     ensures refused { IfErr result HasFailed }
 {
-    let words = Memory::claim(alloc, WORDS_SIZE, WORDS_ALIGN)?;
-    match Memory::claim(alloc, capacity, 1) {
-        Ok(bytes) => Ok((words, bytes)),
-        Err(refused) => {
-            words.surrender(alloc, WORDS_SIZE, WORDS_ALIGN);
-            Err(refused)
-        }
+    let size = block_size(capacity);
+    if size > MOST_SIZE {
+        return Err(AllocError.into());
     }
+    Memory::claim(alloc, size)
 }

@@ -4,7 +4,7 @@ ghost use Rattle.std.specs.Prelude.{◌≡◌, ℕ, ◌+◌, ◌-◌, ◌*◌, �
 use crate::ends::leaving::LeavingReader;
 use crate::ends::writer::WriteEnd;
 use crate::ring::marks::{LastReadMark, ReadMark, Saw, WriteMark};
-use crate::ring::places::{Base, Places};
+use crate::ring::places::Places;
 use crate::ring::seats::ReadSeat;
 use piper_protocol::read_indices::ReadIndices;
 use std::alloc::Global;
@@ -21,7 +21,6 @@ pub(crate) struct ReadParts {
     pub(crate) saw: WriteMark,
     /// All that it knows of what was published: what it loaded, was reported and saw.
     pub(crate) heard: WriteMark,
-    pub(crate) base: Base,
     pub(crate) alloc: Global,
     /// A copy of the head, which only this end stores, and the tail as this end last saw it.
     pub(crate) indices: ReadIndices,
@@ -117,7 +116,7 @@ impl ReadEnd {
     {
         let indices = &self.parts.indices;
         let (from, len) = (indices.front(), indices.peekable());
-        self.parts.known.slice(self.parts.base, from, len)
+        self.parts.known.slice(self.parts.seat.base(), from, len)
     }
 
     /// Evidence of what was consumed, for the other end.
@@ -300,7 +299,6 @@ impl ReadEnd {
             told: _,
             saw: _,
             heard: _,
-            base,
             alloc,
             indices,
         } = parts;
@@ -308,7 +306,6 @@ impl ReadEnd {
         let leaving = LeavingReader {
             seat,
             known: known.forget(),
-            base,
             alloc,
             capacity: indices.capacity(),
         };

@@ -4,7 +4,6 @@ ghost use Rattle.std.specs.Prelude.{◌≡◌, ℕ, ◌+◌, ◌-◌, ◌*◌, �
 use crate::ends::leaving::LeavingWriter;
 use crate::ends::room::Room;
 use crate::ring::marks::{LastReadMark, ReadMark, Saw, WriteMark};
-use crate::ring::places::Base;
 use crate::ring::seats::WriteSeat;
 use piper_protocol::write_indices::WriteIndices;
 use std::alloc::Global;
@@ -17,7 +16,6 @@ pub(crate) struct WriteParts {
     /// What the marks tell that it heeded.
     pub(crate) told: ReadMark,
     pub(crate) saw: Saw,
-    pub(crate) base: Base,
     pub(crate) alloc: Global,
     /// A copy of the tail, which only this end stores, and the head as this end last saw it; how
     /// much is lent and set, and whether this end closed the pipe for good.
@@ -255,7 +253,7 @@ impl WriteEnd {
         ensures length { Lendable self.old max (length result.now) }
         ensures some { self.old.shut ≡ false → 0 < self.old.room → 0 < max → 0 < length result.now }
     {
-        let (base, capacity) = (self.parts.base, self.parts.indices.capacity());
+        let (base, capacity) = (self.parts.seat.base(), self.parts.indices.capacity());
         let (from, zeroed) = (self.parts.indices.front(), self.parts.indices.zeroed());
         let len = self.parts.indices.lend(max);
         self.parts.room.lend(base, capacity, zeroed, from, len);
@@ -303,7 +301,6 @@ impl WriteEnd {
             room,
             told: _,
             saw: _,
-            base,
             alloc,
             indices,
         } = parts;
@@ -312,7 +309,6 @@ impl WriteEnd {
         LeavingWriter {
             seat,
             room: room.forget(capacity, indices.zeroed()),
-            base,
             alloc,
             capacity,
         }

@@ -1,43 +1,54 @@
 //! Memory of the heap that no ring uses: before one is opened, and once both of its ends are gone.
-ghost use Rattle.std.specs.Prelude.{◌≡◌, ℕ, IfErr, IfOk};
+ghost use Rattle.std.specs.Prelude.{◌≡◌, ℕ, ◌*◌, ◌<◌, ◌^◌, IfErr, IfOk};
 ghost use Rattle.piper_protocol.specs.Reported.{HasFailed};
-ghost use Rattle.piper_ring.specs.Memory.{IsClaim, unused};
+ghost use Rattle.piper_ring.specs.Block.{IsClaim, size_of_block, unused};
 
 use piper_protocol::memory::OutOfMemory;
 use std::alloc::{Allocator, Global};
 use std::marker::Model;
 
-/// Bytes of the heap in which nothing lies, and the right to free them.
+/// How many bytes the words of a ring take. Its bytes lie behind them, in the same block.
+pub(crate) const WORDS_SIZE: usize = 216;
+
+const WORD_SIZE: usize = 8;
+
+/// How many bytes the block of a ring takes: its words, and its bytes up to a whole word.
+pub(crate) fn block_size(capacity: usize) -> usize
+    requires { 2 * capacity < 2 ^ 64 }
+    ensures { result ≡ size_of_block capacity }
+{
+    WORDS_SIZE + (capacity + 7) / WORD_SIZE * WORD_SIZE
+}
+
+/// A block of the heap in which nothing lies, and the right to free it.
 pub(crate) struct Memory {
     pub(crate) start: *mut u8,
     pub(crate) ghost size: { ℕ },
-    pub(crate) ghost align: { ℕ },
 }
 
 impl Model for Memory {
-    ghost also_owns = { λ m. unused m.size m.align m.start };
+    ghost also_owns = { λ m. unused m.size m.start };
 }
 
 impl Memory {
-    /// `size` bytes that begin at a multiple of `align`.
-    pub(crate) fn claim(heap: &Global, size: usize, align: usize) -> Result<Memory, OutOfMemory>
-        requires { IsClaim size align }
-        ensures block { IfOk result (λ m. (m.size ≡ size) × (m.align ≡ align)) }
+    /// A block of `size` bytes that begins at a multiple of a word.
+    pub(crate) fn claim(heap: &Global, size: usize) -> Result<Memory, OutOfMemory>
+        requires { IsClaim size }
+        ensures block { IfOk result (λ m. m.size ≡ size) }
         ensures refused { IfErr result HasFailed }
     {
-        match heap.allocate(size, align) {
+        match heap.allocate(size, WORD_SIZE) {
             Err(_) => Err(OutOfMemory),
             Ok(start) => Ok(Memory { start }),
         }
     }
 
-    /// Hands the bytes back to the heap.
-    pub(crate) fn surrender(self, heap: &Global, size: usize, align: usize)
-        requires { IsClaim size align × (self.size ≡ size) × (self.align ≡ align) }
+    /// Hands the block back to the heap.
+    pub(crate) fn surrender(self, heap: &Global, size: usize)
+        requires { IsClaim size × (self.size ≡ size) }
     {
         let Memory { start } = self;
-        // SAFETY: `also_owns` owns the block that `claim` got, and the condition gives its size and
-        // alignment.
-        unsafe { heap.deallocate(start, size, align) }
+        // SAFETY: `also_owns` owns the block that `claim` got, and the condition gives its size.
+        unsafe { heap.deallocate(start, size, WORD_SIZE) }
     }
 }

@@ -4,11 +4,12 @@ ghost use Rattle.std.specs.Prelude.{◌≡◌, ℕ, ◌+◌, ◌-◌, ◌<◌, �
 ghost use denote.RawPtr.{Ptr};
 ghost use Rattle.rtrb.specs.Fifo.{position_of};
 ghost use Rattle.piper_ring.specs.Shared.{Names, names_code, reader_owns, reader_lends, writer_owns, writer_lends, flag};
+ghost use Rattle.piper_ring.specs.Block.{size_of_block};
 ghost use Rattle.piper_ring.specs.Loads.{FoundClosed, FoundConsumed, FoundPublished};
 ghost use Rattle.piper_ring.specs.SlotViews.{IsUnused, LooksFirst, IsUnusedBack, LooksFirstBack};
 
 use crate::ring::marks::{ReadMark, Saw, WriteMark};
-use crate::ring::memory::Memory;
+use crate::ring::memory::{Memory, WORDS_SIZE};
 use crate::ring::places::{Base, Blank, Places};
 use crate::ring::remains::Remains;
 use crate::ring::slots::{ReaderWaits, ReaderWakes, WriterWaits, WriterWakes};
@@ -21,10 +22,6 @@ use token_cell::Token;
 /// tail, which are stored while bytes flow, are never in one pair. Between them are the words that
 /// the reader loads after it stored the head, and those that the writer loads before and after it
 /// stores the tail: each a line away from the word beside it, which the same side stores.
-pub(crate) const WORDS_SIZE: usize = 216;
-
-pub(crate) const WORDS_ALIGN: usize = 8;
-
 const LEFT_WORD: usize = 0;
 
 const HEAD_WORD: usize = 1;
@@ -83,45 +80,42 @@ unsafe impl Send for WriteSeat {}
 
 unsafe impl Sync for WriteSeat {}
 
-/// The two seats of an empty open ring, its places, all of them the writer's room and none of them
-/// set, and where they begin, with what each side knows of the slots, which are empty. The wakers
-/// lie in the places to which these are the rights.
+/// The two seats of an empty open ring and its places, all of them the writer's room and none of
+/// them set, with what each side knows of the slots, which are empty. The wakers lie in the places
+/// to which these are the rights.
 pub(crate) fn open(
-    words: Memory,
-    bytes: Memory,
+    block: Memory,
+    capacity: usize,
     reader_token: &Token,
     writer_token: &Token,
 ) -> (
     ReadSeat,
     WriteSeat,
     Blank,
-    Base,
     ReaderWaits,
     WriterWakes,
     WriterWaits,
     ReaderWakes,
 )
-    requires { (words.align ≡ 8) × (bytes.align ≡ 1) }
-    ensures ring { (result.0.words ≡ words.start) × (result.0.at ≡ bytes.start)
-        × (result.0.names.capacity ≡ bytes.size) }
+    requires { block.size ≡ size_of_block capacity }
+    ensures ring { (result.0.words ≡ block.start) × (result.0.names.capacity ≡ capacity) }
     ensures places { (result.0.names.reader_place ≡ reader_token.now.name)
         × (result.0.names.writer_place ≡ writer_token.now.name) }
     ensures reader { (result.0.head ≡ 0) × (result.0.seen ≡ 0) × (result.0.have ≡ [])
         × (result.0.leaving ≡ false) }
-    ensures pair { (result.1.words ≡ result.0.words) × (result.1.at ≡ bytes.start)
+    ensures pair { (result.1.words ≡ result.0.words) × (result.1.at ≡ result.0.at)
         × (result.1.names ≡ result.0.names) }
-    ensures writer { (result.1.sent ≡ []) × (result.1.limit ≡ bytes.size)
+    ensures writer { (result.1.sent ≡ []) × (result.1.limit ≡ capacity)
         × (result.1.shut ≡ false) }
-    ensures room { (result.2.at ≡ bytes.start) × (result.2.capacity ≡ bytes.size)
-        × (result.2.first ≡ 0) × (result.2.count ≡ bytes.size) }
-    ensures base { result.3.ptr ≡ bytes.start }
-    ensures reader_waits { IsUnused result.0.names result.4 }
-    ensures writer_wakes { LooksFirst result.0.names result.5 }
-    ensures writer_waits { IsUnusedBack result.0.names result.6 }
-    ensures reader_wakes { LooksFirstBack result.0.names result.7 }
+    ensures room { (result.2.at ≡ result.0.at) × (result.2.capacity ≡ capacity)
+        × (result.2.first ≡ 0) × (result.2.count ≡ capacity) }
+    ensures reader_waits { IsUnused result.0.names result.3 }
+    ensures writer_wakes { LooksFirst result.0.names result.4 }
+    ensures writer_waits { IsUnusedBack result.0.names result.5 }
+    ensures reader_wakes { LooksFirstBack result.0.names result.6 }
 {
-    let Memory { start: ptr } = bytes;
-    let Memory { start } = words;
+    let _ = capacity;
+    let Memory { start } = block;
     let start = start as *mut u64;
     // SAFETY: the condition says that the block is owned here, is aligned to 8 and has room for 27
     // words.
@@ -146,7 +140,6 @@ pub(crate) fn open(
         reader,
         writer,
         room,
-        Base { ptr },
         reader_waits,
         writer_wakes,
         writer_waits,
@@ -157,6 +150,17 @@ pub(crate) fn open(
 impl ReadSeat {
     ghost use Rattle.piper_ring.specs.Stretches.{BeginsAt, IsBlankFrom, ReadGains, AreOfOneRing};
     ghost use Rattle.piper_ring.specs.Streams.{Reaches};
+
+    /// Where the ring's bytes begin.
+    #[inline(always)]
+    pub(crate) fn base(&self) -> Base
+        ensures { result.ptr ≡ self.now.at }
+    {
+        // SAFETY: the seat owns or shares the ring's words (`also_owns`, `also_shares`), and the
+        // bytes lie behind them in the same block.
+        let ptr = unsafe { (self.words as *mut u8).add(WORDS_SIZE) };
+        Base { ptr }
+    }
 
     /// Evidence of what was consumed.
     pub(crate) fn mark(&self) -> ReadMark
@@ -292,6 +296,16 @@ impl ReadSeat {
 
 impl WriteSeat {
     ghost use Rattle.piper_ring.specs.Stretches.{BeginsAt, IsBlankFrom, WriteGains};
+
+    /// Where the ring's bytes begin.
+    #[inline(always)]
+    pub(crate) fn base(&self) -> Base
+        ensures { result.ptr ≡ self.now.at }
+    {
+        // SAFETY: as the reader's.
+        let ptr = unsafe { (self.words as *mut u8).add(WORDS_SIZE) };
+        Base { ptr }
+    }
 
     /// Evidence of what was published.
     pub(crate) fn mark(&self) -> WriteMark

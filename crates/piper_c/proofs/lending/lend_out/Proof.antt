@@ -40,7 +40,7 @@ use Rattle.std_alloc.specs.Box.Ownership.{box_owns}
 use Rattle.std_alloc.proofs.RcSteps.{word-Good}
 use Rattle.rtrb.proofs.Calls.{fm}
 use Rattle.rtrb.proofs.Walks.{proved, leaves}
-use Rattle.piper_ring.specs.Shared.{heap_token}
+use Rattle.piper_ring.specs.Block.{heap_token}
 use Rattle.piper_ring.specs.Places.{fact as fact'}
 use Rattle.piper_ring.specs.WriteView.{Lendable}
 use Rattle.piper_c.specs.contracts.halves.WriteHalf as Half

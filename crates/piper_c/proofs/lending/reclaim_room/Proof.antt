@@ -22,7 +22,7 @@ use denote.Triple.Walked.{Stays, stay_dropped, walk_of, Goes-dropped}
 use Rattle.std_alloc.specs.Box.Ownership.{box_owns}
 use Rattle.std_alloc.proofs.RcSteps.{word-Good}
 use Rattle.rtrb.proofs.Walks.{proved, leaves}
-use Rattle.piper_ring.specs.Shared.{heap_token}
+use Rattle.piper_ring.specs.Block.{heap_token}
 use Rattle.piper_c.specs.contracts.halves.WriteHalf as Half
 use Rattle.piper_c.specs.contracts.handles.PiperWriter as Handle
 use Rattle.piper_c.specs.contracts.handles.PiperRoom as Room

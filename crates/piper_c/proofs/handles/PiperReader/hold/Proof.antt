@@ -40,7 +40,7 @@ use Rattle.std_heap.specs.contracts.Global as Heap
 use Rattle.std_heap.specs.contracts.GlobalAllocator.TheImpl.{ghosts, dict}
 use Rattle.std_heap.proofs.Global.TheLaws as Owns
 use Rattle.std_heap.proofs.GlobalAllocator.TheImpl.Met.{passed}
-use Rattle.piper_ring.specs.Shared.{heap_token}
+use Rattle.piper_ring.specs.Block.{heap_token}
 use Rattle.piper_c.specs.contracts.halves.ReadHalf as Half
 use Rattle.piper_c.proofs.halves.ReadHalf.TheLaws.{the_within}
 use Rattle.piper_c.specs.contracts.handles.PiperReader as Handle

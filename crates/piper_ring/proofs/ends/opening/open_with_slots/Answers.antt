@@ -10,13 +10,13 @@ same_as : (m n : WriteMark) → m ≡ n → Reaches (m.bytes, m.shut) (n.bytes, 
 same_as m n e = subst (λ (k : WriteMark). Reaches (m.bytes, m.shut) (k.bytes, k.shut)) e (reaches_same (m.bytes, m.shut))
 
 pub invariant_of-result : goal.invariant_of-result
-invariant_of-result c = let o = c.open-read_seat.ensures in let seat = c.open-read_seat.result.0 in let n = c.none.ensures in let size : c.in_ok-words.bytes.size ≡ c.args.capacity = c.in_ok-words.ensures.bytes.0 in let cap : ℕ = c.args.capacity in
+invariant_of-result c = let o = c.open-read_seat.ensures in let seat = c.open-read_seat.result.0 in let n = c.none.ensures in let cap : ℕ = c.args.capacity in
     let most : 2 * cap < 2 ^ 64 = c.requires.capacity.1 in let first : c.none.result.first ≡ c.open-read_seat.result.2.first + 0 = (λ j. (n.none j).first) in let start : c.open-read_seat.result.2.first ≡ 0 = o.room.2 in let none : length c.none.result.bytes ≡ 0 = ap length (λ j. (n.none j).bytes) in
     let head : seat.head ≡ 0 = o.reader.0 in let seen : seat.seen ≡ 0 = o.reader.1 in let pos : 0 < cap = c.requires.capacity.0 in
     let named = c.mark-told_reader.ensures.0 ∙ o.pair.2 in let fresh = c.new.ensures.fresh in let same : c.new.result.capacity ≡ cap = ap (λ (r : ReaderIndices). r.capacity) fresh in let low : c.new.result.head ≡ 0 = ap (λ (r : ReaderIndices). r.head) fresh in let high : c.new.result.tail ≡ 0 = ap (λ (r : ReaderIndices). r.tail) fresh in
     record {
-      fits = (same ∙ sym (o.ring.2 ∙ size), omega arith, omega arith);
-      placed = (o.base ∙ sym o.ring.1, (λ j. (n.none j).at) ∙ o.room.0 ∙ sym o.ring.1, (λ j. (n.none j).capacity) ∙ o.room.1 ∙ sym o.ring.2, omega arith);
+      fits = (same ∙ sym o.ring.1, omega arith, omega arith);
+      placed = ((λ j. (n.none j).at) ∙ o.room.0, (λ j. (n.none j).capacity) ∙ o.room.1 ∙ sym o.ring.1, omega arith);
       counts = (omega arith, omega arith);
       cached = (low ∙ position_none c.new.result.capacity seat.head head, high ∙ position_none c.new.result.capacity seat.seen seen);
       heard = (named, ap (λ (m : WriteMark). m.names) c.again-read_saw.ensures ∙ named, ap (λ (m : WriteMark). m.names) c.again-heard.ensures ∙ named);
@@ -27,16 +27,16 @@ invariant_of-result c = let o = c.open-read_seat.ensures in let seat = c.open-re
 
 pub invariant_of-result-2 : goal.invariant_of-result-2
 invariant_of-result-2 c = let o = c.open-read_seat.ensures in let seat = c.open-read_seat.result.1 in let blank : Blank = c.open-read_seat.result.2 in let left : c.none.new.self ≡ blank = c.none.ensures.same in let room = c.new-2.ensures in
-    let size : c.in_ok-words.bytes.size ≡ c.args.capacity = c.in_ok-words.ensures.bytes.0 in let cap : ℕ = c.args.capacity in let most : 2 * cap < 2 ^ 64 = c.requires.capacity.1 in let pos : 0 < cap = c.requires.capacity.0 in
+    let cap : ℕ = c.args.capacity in let most : 2 * cap < 2 ^ 64 = c.requires.capacity.1 in let pos : 0 < cap = c.requires.capacity.0 in
     let at : c.new-2.result.lent.at ≡ blank.at = room.place.0 ∙ ap (λ (b : Blank). b.at) left in let many : c.new-2.result.lent.capacity ≡ blank.capacity = room.place.1 ∙ ap (λ (b : Blank). b.capacity) left in
     let first : c.new-2.result.lent.first ≡ 0 = room.whole.0 in let last : c.new-2.result.later.first + length c.new-2.result.later.bytes ≡ cap = room.whole.1 in
-    let limit : seat.limit ≡ cap = o.writer.1 ∙ size in let sent : length seat.sent ≡ 0 = ap length o.writer.0 in let full : seat.names.capacity ≡ c.in_ok-words.bytes.size = ap (λ (z : Names). z.capacity) o.pair.2 ∙ o.ring.2 in
+    let limit : seat.limit ≡ cap = o.writer.1 in let sent : length seat.sent ≡ 0 = ap length o.writer.0 in let full : seat.names.capacity ≡ cap = ap (λ (z : Names). z.capacity) o.pair.2 ∙ o.ring.1 in
     let fresh = c.new-3.ensures.fresh in let same : c.new-3.result.capacity ≡ cap = ap (λ (w : WriterIndices). w.capacity) fresh in let own : c.new-3.result.tail ≡ 0 = ap (λ (w : WriterIndices). w.tail) fresh in let other : c.new-3.result.head ≡ 0 = ap (λ (w : WriterIndices). w.head) fresh in
     let none : seat.limit - c.new-3.result.capacity ≡ 0 = omega arith in
     record {
-      fits = (same ∙ sym (full ∙ size), omega arith, omega arith);
+      fits = (same ∙ sym full, omega arith, omega arith);
       room = (room.room, ap (λ (w : WriterIndices). w.zeroed) fresh ∙ sym room.zeroed);
-      placed = (o.base ∙ sym o.pair.1, at ∙ o.room.0 ∙ sym o.pair.1, many ∙ o.room.1 ∙ sym full, omega arith, omega arith);
+      placed = (at ∙ o.room.0 ∙ sym o.pair.1, many ∙ o.room.1 ∙ sym full, omega arith, omega arith);
       freed = (omega arith, omega arith);
       cached = (own ∙ position_none _ (length seat.sent) sent, other ∙ position_none _ (seat.limit - c.new-3.result.capacity) none);
       lending = ap (λ (w : WriterIndices). w.lent) fresh ∙ sym (ap length room.lent);

@@ -14,20 +14,20 @@ store_head-requires c = let e = c.self.inside.parts in let i = c.self.invariant 
     let le : n ≤ length K = within_known (read_view_of e) n (subst (λ (r : ReadView). n ≤ in_one_piece r) (sym c.self.view_is) c.requires) in let back : length c.split-back.result.bytes ≡ n = ap length (λ j. (d.front j).bytes) ∙ length-take-le n K le in
     let sum : e.seat.seen ≡ e.seat.head + length K = i.counts.0 in let more : e.seat.head + length c.split-back.result.bytes ≤ e.seat.seen = omega arith in
     let cap = i.fits.0 in let there = c.head.ensures.value ∙ further e.indices.capacity _ e.seat.head n _ c.gives.ensures.remainder i.cached.0 in
-    (((λ j. (d.front j).at) ∙ i.placed.1, (λ j. (d.front j).capacity) ∙ i.placed.2, (λ j. (d.front j).first) ∙ i.placed.3), more, there ∙ sym (λ j. position_of (sym cap j) (e.seat.head + back j)))
+    (((λ j. (d.front j).at) ∙ i.placed.0, (λ j. (d.front j).capacity) ∙ i.placed.1, (λ j. (d.front j).first) ∙ i.placed.2), more, there ∙ sym (λ j. position_of (sym cap j) (e.seat.head + back j)))
 
 pub invariant_of-self : goal.invariant_of-self
 invariant_of-self c = let e = c.self.inside.parts in let i = c.self.invariant in let s = c.store_head.ensures in let d = c.split-back.ensures in let n : ℕ = c.args.n in let K : List ℕ = e.known.bytes in let head : ℕ = e.seat.head in
     let le : n ≤ length K = within_known (read_view_of e) n (subst (λ (r : ReadView). n ≤ in_one_piece r) (sym c.self.view_is) c.requires) in let back : length c.split-back.result.bytes ≡ n = ap length (λ j. (d.front j).bytes) ∙ length-take-le n K le in
     let top : c.store_head.new.self.head ≡ head + n = (λ j. (s j).head) ∙ ap (λ (m : ℕ). head + m) back in let rest : length c.split-back.new.self.bytes ≡ length K - n = ap length (λ j. (d.rest j).bytes) ∙ length-drop n K in
-    let sum : e.seat.seen ≡ head + length K = i.counts.0 in let near : length K ≤ e.indices.capacity = i.counts.1 in let first : e.known.first ≡ head = i.placed.3 in let on : c.split-back.new.self.first ≡ e.known.first + n = (λ j. (d.rest j).first) in
+    let sum : e.seat.seen ≡ head + length K = i.counts.0 in let near : length K ≤ e.indices.capacity = i.counts.1 in let first : e.known.first ≡ head = i.placed.2 in let on : c.split-back.new.self.first ≡ e.known.first + n = (λ j. (d.rest j).first) in
     let all : length e.seat.have ≡ head + length K = all_counted e.seat.have K head n i.whole.0 i.whole.1 in let seen : c.store_head.new.self.seen ≡ e.seat.seen = (λ j. (s j).seen) in let same : length c.store_head.new.self.have ≡ length e.seat.have = ap length (λ j. (s j).have) in
     let g = c.gives.new.self in let cap : g.capacity ≡ e.indices.capacity = ap (λ (r : ReaderIndices). r.capacity) c.gives.ensures.after in let tail : g.tail ≡ e.indices.tail = ap (λ (r : ReaderIndices). r.tail) c.gives.ensures.after in
     let pos : 0 < e.indices.capacity = i.fits.1 in let small : e.indices.capacity < 2 ^ 63 = i.fits.2 in
     let there : g.head ≡ position_of g.capacity c.store_head.new.self.head = further e.indices.capacity _ head n _ c.gives.ensures.remainder i.cached.0 ∙ sym (λ j. position_of (cap j) (top j)) in
     record {
       fits = (cap ∙ i.fits.0 ∙ ap (λ (z : Names). z.capacity) (sym (λ j. (s j).names)), omega arith, omega arith);
-      placed = (i.placed.0 ∙ sym (λ j. (s j).at), (λ j. (d.rest j).at) ∙ i.placed.1 ∙ sym (λ j. (s j).at), (λ j. (d.rest j).capacity) ∙ i.placed.2 ∙ ap (λ (z : Names). z.capacity) (sym (λ j. (s j).names)), omega arith);
+      placed = ((λ j. (d.rest j).at) ∙ i.placed.0 ∙ sym (λ j. (s j).at), (λ j. (d.rest j).capacity) ∙ i.placed.1 ∙ ap (λ (z : Names). z.capacity) (sym (λ j. (s j).names)), omega arith);
       counts = (omega arith, omega arith);
       cached = (there, tail ∙ i.cached.1 ∙ sym (λ j. position_of (cap j) ((s j).seen)));
       heard = (i.heard.0 ∙ sym (λ j. (s j).names), i.heard.1 ∙ sym (λ j. (s j).names), i.heard.2 ∙ sym (λ j. (s j).names));

@@ -29,8 +29,8 @@ sees-requires-2-clause-lent c = let e = c.self.inside.parts in let i = c.self.in
     let all : length e.seat.have + length c.meet-arrived.result.0.bytes ≡ s = sym (length-append e.seat.have c.meet-arrived.result.0.bytes) ∙ ap length m.published in let low : e.seat.head ≤ length e.seat.have = i.whole.0 in
     let at : c.head.result ≡ position_of cap e.seat.head = c.head.ensures.value ∙ ap (λ (r : ReaderIndices). r.head) c.sees.ensures.after ∙ i.cached.0 ∙ ap (λ (n : ℕ). position_of n e.seat.head) same in
     let far : distance cap c.head.result w.indices.tail ≡ s - e.seat.head = apart cap _ _ e.seat.head s (omega arith) (omega arith) at o.cached.0 in
-    let first : w.room.lent.first ≡ s = o.placed.3 in let ready : w.room.ready.first ≡ w.room.lent.first + length w.room.lent.bytes = o.room.0.chain.0 in let rest : w.room.ready.first + length w.room.ready.bytes + w.room.blank.count ≡ w.room.later.first = o.room.0.chain.1 in
-    let last : w.room.later.first + length w.room.later.bytes ≡ w.seat.limit = o.placed.4 in let many : w.indices.lent ≡ length w.room.lent.bytes = o.lending in omega arith
+    let first : w.room.lent.first ≡ s = o.placed.2 in let ready : w.room.ready.first ≡ w.room.lent.first + length w.room.lent.bytes = o.room.0.chain.0 in let rest : w.room.ready.first + length w.room.ready.bytes + w.room.blank.count ≡ w.room.later.first = o.room.0.chain.1 in
+    let last : w.room.later.first + length w.room.later.bytes ≡ w.seat.limit = o.placed.3 in let many : w.indices.lent ≡ length w.room.lent.bytes = o.lending in omega arith
 
 pub invariant_of-self : goal.invariant_of-self
 invariant_of-self c = let e = c.self.inside.parts in let i = c.self.invariant in let w = c.other.inside.parts in let o = c.other.invariant in let m = c.meet-arrived.ensures in let s = m.reader in let k = c.join.ensures in let h = c.heed.ensures in let after = c.sees.ensures.after in
@@ -46,7 +46,7 @@ invariant_of-self c = let e = c.self.inside.parts in let i = c.self.invariant in
     let mark : c.mark.result.bytes ≡ c.meet-arrived.new.self.have = c.mark.ensures.1 ∙ (λ j. (m.writer j).sent) ∙ sym have in let long : length c.meet-arrived.new.self.have ≡ length sent = ap length have in
     record {
       fits = (cap ∙ i.fits.0 ∙ ap (λ (z : Names). z.capacity) (sym (λ j. (s j).names)), omega arith, omega arith);
-      placed = (i.placed.0 ∙ sym (λ j. (s j).at), (λ j. (k j).at) ∙ i.placed.1 ∙ sym (λ j. (s j).at), (λ j. (k j).capacity) ∙ i.placed.2 ∙ ap (λ (z : Names). z.capacity) (sym (λ j. (s j).names)), (λ j. (k j).first) ∙ i.placed.3 ∙ sym top);
+      placed = ((λ j. (k j).at) ∙ i.placed.0 ∙ sym (λ j. (s j).at), (λ j. (k j).capacity) ∙ i.placed.1 ∙ ap (λ (z : Names). z.capacity) (sym (λ j. (s j).names)), (λ j. (k j).first) ∙ i.placed.2 ∙ sym top);
       counts = (omega arith, omega arith);
       cached = (ap (λ (r : ReaderIndices). r.head) after ∙ i.cached.0 ∙ sym (λ j. position_of (cap j) (top j)), ap (λ (r : ReaderIndices). r.tail) after ∙ c.tail.ensures.value ∙ o.cached.0 ∙ (λ j. position_of ((theirs ∙ sym cap) j) (sym seen j)));
       heard = (i.heard.0 ∙ sym (λ j. (s j).names), i.heard.1 ∙ sym (λ j. (s j).names), h.ring ∙ i.heard.2 ∙ sym (λ j. (s j).names));
@@ -61,7 +61,7 @@ invariant_of-other c = let e = c.self.inside.parts in let i = c.self.invariant i
     let cap : c.sees-2.new.self.capacity ≡ w.indices.capacity = ap (λ (x : WriterIndices). x.capacity) after in let theirs : e.indices.capacity ≡ w.indices.capacity = i.fits.0 ∙ ap (λ (z : Names). z.capacity) (sym names) ∙ sym o.fits.0 in let own : e.indices.capacity ≡ e.seat.names.capacity = i.fits.0 in
     let more : List ℕ = c.meet-arrived.result.1.bytes in let head : ℕ = e.seat.head in let sl : ℕ = length w.seat.sent in
     let limit : c.meet-arrived.new.other.limit ≡ head + e.seat.names.capacity = (λ j. (s j).limit) in let turn : w.seat.limit + length more ≡ head + e.seat.names.capacity = m.room in let sent : length c.meet-arrived.new.other.sent ≡ sl = ap length (λ j. (s j).sent) in
-    let grown : length c.join-2.new.self.bytes ≡ length r.later.bytes + length more = ap length (λ j. (k j).bytes) ∙ length-append r.later.bytes more in let last : r.later.first + length r.later.bytes ≡ w.seat.limit = o.placed.4 in let first : c.join-2.new.self.first ≡ r.later.first = (λ j. (k j).first) in
+    let grown : length c.join-2.new.self.bytes ≡ length r.later.bytes + length more = ap length (λ j. (k j).bytes) ∙ length-append r.later.bytes more in let last : r.later.first + length r.later.bytes ≡ w.seat.limit = o.placed.3 in let first : c.join-2.new.self.first ≡ r.later.first = (λ j. (k j).first) in
     let all : length e.seat.have + length c.meet-arrived.result.0.bytes ≡ sl = sym (length-append e.seat.have c.meet-arrived.result.0.bytes) ∙ ap length m.published in let low : head ≤ length e.seat.have = i.whole.0 in let pos : 0 < w.indices.capacity = o.fits.1 in let small : w.indices.capacity < 2 ^ 63 = o.fits.2 in
     let at : c.head.result ≡ position_of w.indices.capacity head = c.head.ensures.value ∙ ap (λ (x : ReaderIndices). x.head) c.sees.ensures.after ∙ i.cached.0 ∙ ap (λ (n : ℕ). position_of n head) theirs in let back : head ≡ c.meet-arrived.new.other.limit - c.sees-2.new.self.capacity = omega arith in
     record {
@@ -76,7 +76,7 @@ invariant_of-other c = let e = c.self.inside.parts in let i = c.self.invariant i
         },
         ap (λ (x : WriterIndices). x.zeroed) after ∙ o.room.1,
       );
-      placed = (o.placed.0 ∙ sym (λ j. (s j).at), o.placed.1 ∙ sym (λ j. (s j).at), o.placed.2 ∙ ap (λ (z : Names). z.capacity) (sym (λ j. (s j).names)), o.placed.3 ∙ sym sent, omega arith);
+      placed = (o.placed.0 ∙ sym (λ j. (s j).at), o.placed.1 ∙ ap (λ (z : Names). z.capacity) (sym (λ j. (s j).names)), o.placed.2 ∙ sym sent, omega arith);
       freed = (omega arith, omega arith);
       cached = (ap (λ (x : WriterIndices). x.tail) after ∙ o.cached.0 ∙ sym (λ j. position_of (cap j) (sent j)), ap (λ (x : WriterIndices). x.head) after ∙ at ∙ (λ j. position_of (sym cap j) (back j)));
       lending = ap (λ (x : WriterIndices). x.lent) after ∙ o.lending;

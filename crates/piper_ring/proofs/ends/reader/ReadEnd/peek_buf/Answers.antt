@@ -7,8 +7,8 @@ use Rattle.piper_ring.proofs.ends.reader.ReadEnd.peek_buf.Goals as goal
 pub slice-requires : goal.slice-requires
 slice-requires c = let e = c.self.inside.parts in let i = c.self.invariant in let cap : ℕ = e.indices.capacity in let from : ℕ = c.front-from.result in let many : ℕ = length e.known.bytes in
     let is : c.peekable-len.result ≡ min many (cap - from) = c.peekable-len.ensures ∙ (λ j. min (known_apart e i j) (cap - sym c.front-from.ensures.value j)) in let below : from < cap = c.front-from.ensures.below in
-    let same : cap ≡ e.known.capacity = i.fits.0 ∙ sym i.placed.2 in
-    (i.placed.0 ∙ sym i.placed.1, omega arith, offset_at cap _ e.seat.head _ i.cached.0 c.front-from.ensures.remainder ∙ (λ j. offset_of (same j) (sym i.placed.3 j)), omega arith)
+    let same : cap ≡ e.known.capacity = i.fits.0 ∙ sym i.placed.1 in
+    (c.base.ensures ∙ sym i.placed.0, omega arith, offset_at cap _ e.seat.head _ i.cached.0 c.front-from.ensures.remainder ∙ (λ j. offset_of (same j) (sym i.placed.2 j)), omega arith)
 
 pub returns-clause-bytes : goal.returns-clause-bytes
 returns-clause-bytes c = let e = c.self.inside.parts in let i = c.self.invariant in let cap : ℕ = e.indices.capacity in let from : ℕ = c.front-from.result in let many : ℕ = length e.known.bytes in

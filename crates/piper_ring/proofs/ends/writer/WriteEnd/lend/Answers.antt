@@ -11,18 +11,18 @@ use Rattle.piper_ring.proofs.ends.writer.WriteEnd.lend.Goals as goal
 pub lend-requires : goal.lend-requires
 lend-requires c = let e = c.self.inside.parts in let i = c.self.invariant in let cap : ℕ = e.indices.capacity in let s : ℕ = length e.seat.sent in let from : ℕ = c.front-from.result in let len : ℕ = c.lend-len.result in
     let at : from ≡ offset_of cap s = offset_at cap _ s _ i.cached.0 c.front-from.ensures.remainder in let inside : from < cap = c.front-from.ensures.below in let whole : c.capacity-capacity.result ≡ cap = c.capacity-capacity.ensures.value in
-    let first : e.room.lent.first ≡ s = i.placed.3 in let last : e.room.later.first + length e.room.later.bytes ≡ e.seat.limit = i.placed.4 in let below : s ≤ e.seat.limit = sent_below e i in
+    let first : e.room.lent.first ≡ s = i.placed.2 in let last : e.room.later.first + length e.room.later.bytes ≡ e.seat.limit = i.placed.3 in let below : s ≤ e.seat.limit = sent_below e i in
     let most : len ≤ min (min c.args.max (lend_bound e.indices.zeroed)) (min (room_in e.indices) (left_in e.indices)) = lends_within c.args.max e.indices len c.lend-len.ensures.count in
     let room : room_in e.indices ≡ e.seat.limit - s = room_apart e i in let left : left_in e.indices ≡ cap - from = ap (λ (k : ℕ). cap - k) (sym c.front-from.ensures.value) in
-    (i.room.0, c.zeroed-zeroed.ensures ∙ i.room.1, i.placed.0 ∙ sym i.placed.1, whole ∙ i.fits.0 ∙ sym i.placed.2, (λ lt. let small : s < cap = omega arith in at ∙ slot_small cap s small ∙ sym first), omega arith, omega arith)
+    (i.room.0, c.zeroed-zeroed.ensures ∙ i.room.1, c.base-base.ensures ∙ sym i.placed.0, whole ∙ i.fits.0 ∙ sym i.placed.1, (λ lt. let small : s < cap = omega arith in at ∙ slot_small cap s small ∙ sym first), omega arith, omega arith)
 
 pub slice_mut-requires : goal.slice_mut-requires
 slice_mut-requires c = let e = c.self.inside.parts in let i = c.self.invariant in let cap : ℕ = e.indices.capacity in let s : ℕ = length e.seat.sent in let from : ℕ = c.front-from.result in let len : ℕ = c.lend-len.result in let same = c.lend.ensures.same in
-    let at : from ≡ offset_of cap s = offset_at cap _ s _ i.cached.0 c.front-from.ensures.remainder in let inside : from < cap = c.front-from.ensures.below in let all : c.lend.new.self.lent.capacity ≡ cap = same.capacity ∙ i.placed.2 ∙ sym i.fits.0 in
+    let at : from ≡ offset_of cap s = offset_at cap _ s _ i.cached.0 c.front-from.ensures.remainder in let inside : from < cap = c.front-from.ensures.below in let all : c.lend.new.self.lent.capacity ≡ cap = same.capacity ∙ i.placed.1 ∙ sym i.fits.0 in
     let most : len ≤ min (min c.args.max (lend_bound e.indices.zeroed)) (min (room_in e.indices) (left_in e.indices)) = lends_within c.args.max e.indices len c.lend-len.ensures.count in
     let left : left_in e.indices ≡ cap - from = ap (λ (k : ℕ). cap - k) (sym c.front-from.ensures.value) in
     let many : len ≡ length c.lend.new.self.lent.bytes = sym c.lend.ensures.lent in
-    ((i.placed.0 ∙ sym i.placed.1 ∙ sym same.memory, omega arith, at ∙ sym (λ j. offset_of (all j) ((same.first ∙ i.placed.3) j)), omega arith), many)
+    ((c.base-base.ensures ∙ sym i.placed.0 ∙ sym same.memory, omega arith, at ∙ sym (λ j. offset_of (all j) ((same.first ∙ i.placed.2) j)), omega arith), many)
 
 pub returns : goal.returns
 returns c = let e = c.self.inside.parts in let i = c.self.invariant in let w = e.indices in let cap : ℕ = w.capacity in let s : ℕ = length e.seat.sent in let from : ℕ = c.front-from.result in let len : ℕ = c.lend-len.result in let count = c.lend-len.ensures.count in

@@ -7,6 +7,7 @@ use Rattle.piper_ring.specs.Places as P
 use Rattle.piper_ring.proofs.Fields.{SentData, SawData, ghost_val, PlacesData, places_made}
 use Rattle.piper_ring.specs.Stretches.{AreOfOneRing}
 use Rattle.piper_ring.proofs.Meet.{Apart, joins}
+use Rattle.piper_ring.proofs.Block.{placed_bytes}
 use Rattle.piper_ring.proofs.Rights.{common_twice}
 use Rattle.piper_ring.specs.contracts.ring.places.Places as Places
 use Rattle.piper_ring.specs.contracts.ring.seats.ReadSeat as Reads
@@ -50,8 +51,8 @@ meet_spec 𝓤 𝓛 𝓜 𝓡 wired =
     move ! (5 ∷ 0 ∷ 6 ∷ 7 ∷ 8 ∷ []) $ closes ! tt WRow k' vs' b' o' $ feq_i ! (List Val) (vptr b' o' ∷ []) (vptr b' o' ∷ []) refl $ fjoin3 ! $
     nothing ! $ nothing ! $ fjoin ! $ nothing ! $ fjoin ! $ move ! (1 ∷ 0 ∷ []) $ fjoin ! $ move ! (2 ∷ 0 ∷ []) $ fjoin ! $ nothing ! $ move ! (7 ∷ 0 ∷ []) $ join ! $ move ! (6 ∷ 0 ∷ []) $ join ! $ move ! (2 ∷ 0 ∷ []) $ join ! $ move ! (2 ∷ 0 ∷ []) $ join ! $
     let one : KRow.Denot = record { mark = record {}; at = p; capacity = z.capacity; first = h.seen; bytes = r.0 } in let two : KRow.Denot = record { mark = record {}; at = p; capacity = z.capacity; first = k.limit; bytes = r.1 } in
-    move ! (2 ∷ []) $ nothing ! $ fpack ! (P.Placed p z.capacity) (λ _. ftrue) (at.1, at.2) $ fjoin ! $ use0 𝓛 (‵ Data) (places_made 𝓛) $ fjoin ! $
-    move ! (3 ∷ []) $ nothing ! $ fpack ! (P.Placed p z.capacity) (λ _. ftrue) (at.1, at.2) $ fjoin ! $ use0 𝓛 (‵ Data) (places_made 𝓛) $ fjoin ! $ move ! (1 ∷ 0 ∷ []) $
+    move ! (2 ∷ []) $ nothing ! $ fpack ! (P.Placed p z.capacity) (λ _. ftrue) (placed_bytes w p z at) $ fjoin ! $ use0 𝓛 (‵ Data) (places_made 𝓛) $ fjoin ! $
+    move ! (3 ∷ []) $ nothing ! $ fpack ! (P.Placed p z.capacity) (λ _. ftrue) (placed_bytes w p z at) $ fjoin ! $ use0 𝓛 (‵ Data) (places_made 𝓛) $ fjoin ! $ move ! (1 ∷ 0 ∷ []) $
     use2 𝓛 (‵ ((denote.Struct.Tuple.Tuple (KRow ∷ KRow ∷ [])).own_val (one, two) (pair_val ghost_val ghost_val ∷ []))) (pair_of 𝓛 KRow KRow one two ghost_val ghost_val) $
     sets ! (agg ! (no_more !)) refl (tt, tt) $ sets ! (agg ! (and_then ! (get ! refl) (no_more !))) refl (tt, (tt, tt)) $
     sets ! (agg ! (no_more !)) refl (tt, tt) $ sets ! (agg ! (and_then ! (get ! refl) (no_more !))) refl (tt, (tt, tt)) $
