@@ -1,4 +1,4 @@
-//! What a polling call is handed, and what it returns.
+//! What a polling call is handed.
 
 /// The outcomes of a polling call that lie outside the pipe: its draw, and whether memory is
 /// granted.
