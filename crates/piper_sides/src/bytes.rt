@@ -1,5 +1,6 @@
 //! Bytes that own their memory.
-ghost use Rattle.std.specs.Prelude.{◌≡◌, IfOk};
+ghost use Rattle.std.specs.Prelude.{◌≡◌, IfOk, IfErr};
+ghost use Rattle.piper_protocol.specs.Reported.{HasFailed};
 
 use piper_protocol::memory::OutOfMemory;
 use std::alloc::Global;
@@ -22,9 +23,10 @@ impl Model for Bytes {
 impl Bytes {
     /// A copy of `bytes`.
     pub fn copy_of(alloc: Global, bytes: &[u8]) -> Result<Self, OutOfMemory>
-        ensures { IfOk result (λ copy. copy ≡ bytes.now) }
+        ensures copy { IfOk result (λ copy. copy ≡ bytes.now) }
+        ensures refused { IfErr result HasFailed }
     {
-        let items = bytes.to_vec(alloc).map_err(|_| OutOfMemory)?;
+        let items = bytes.to_vec(alloc)?;
         Ok(Bytes { items })
     }
 

@@ -1,5 +1,6 @@
 //! What happens in a run, and the log that keeps it.
-ghost use Rattle.std.specs.Prelude.{◌≡◌, ◌<◌, ◌≤◌, ◌+◌, ◌++◌, ◌∷◌, [], OnOk, vec_len, vec_capacity};
+ghost use Rattle.std.specs.Prelude.{◌≡◌, ◌<◌, ◌≤◌, ◌+◌, ◌++◌, ◌∷◌, [], OnOk, IfErr, vec_len, vec_capacity};
+ghost use Rattle.piper_protocol.specs.Reported.{HasFailed};
 ghost use Rattle.piper_sides.specs.Log.{listed, answer_event};
 
 use crate::bytes::Bytes;
@@ -63,8 +64,10 @@ impl Log {
     pub fn reserve(&mut self) -> Result<(), OutOfMemory>
         ensures ok { OnOk result (HasRoom self.new) }
         ensures same { events self.new ≡ events self.old }
+        ensures refused { IfErr result HasFailed }
     {
-        self.items.reserve(2).map_err(|_| OutOfMemory)
+        self.items.reserve(2)?;
+        Ok(())
     }
 
     /// Adds the events of one step, for which room was made before.

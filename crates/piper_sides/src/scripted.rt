@@ -1,9 +1,10 @@
 //! Sources and destinations that follow a script.
-ghost use Rattle.std.specs.Prelude.{◌≡◌, [], ◌∷◌, ◌++◌, OnOk, OnErr, IfOk};
+ghost use Rattle.std.specs.Prelude.{◌≡◌, [], ◌∷◌, ◌++◌, OnOk, OnErr, IfErr};
+ghost use Rattle.piper_protocol.specs.Reported.{HasFailed};
 
 use crate::bytes::Bytes;
 use piper_protocol::memory::OutOfMemory;
-use std::alloc::Global;
+use std::alloc::{AllocError, Global};
 use std::marker::Model;
 
 /// What a scripted source does.
@@ -52,8 +53,10 @@ impl<A: Drop> ActList<A> {
     pub fn push(&mut self, act: A) -> Result<(), OutOfMemory>
         ensures ok { OnOk result (self.new ≡ self.old ++ act ∷ []) }
         ensures same { OnErr result (self.new ≡ self.old) }
+        ensures refused { IfErr result HasFailed }
     {
-        self.acts.push(act).map_err(|_| OutOfMemory)
+        self.acts.push(act).map_err(AllocError::from)?;
+        Ok(())
     }
 
     /// The acts, in their order.
