@@ -1,5 +1,6 @@
 //! What is left of the destination of an open drain.
-ghost use Rattle.std.specs.Prelude.{◌≡◌, IfOk};
+ghost use Rattle.std.specs.Prelude.{◌≡◌, IfOk, IfErr};
+ghost use Rattle.piper_protocol.specs.Reported.{HasFailed};
 ghost use Rattle.piper_machine.specs.Round.{taken, taken_by_acts, left_of_acts, left_of_destination};
 
 use piper_protocol::answer::Failed;
@@ -47,9 +48,10 @@ pub fn next<'a>(acts: &'a [DestAct], most: usize) -> (Result<usize, Failed>, &'a
 impl Acts {
     /// A copy of a script, none of which is spent.
     pub fn of(alloc: Global, acts: &[DestAct]) -> Result<Self, OutOfMemory>
-        ensures { IfOk result (λ copy. copy ≡ acts.now) }
+        ensures copy { IfOk result (λ copy. copy ≡ acts.now) }
+        ensures refused { IfErr result HasFailed }
     {
-        let script = acts.to_vec(alloc).map_err(|_| OutOfMemory)?;
+        let script = acts.to_vec(alloc)?;
         Ok(Acts { script, spent: 0 })
     }
 

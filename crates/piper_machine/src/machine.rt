@@ -1,5 +1,6 @@
 //! A pipe with both its sides, for one owner.
-ghost use Rattle.std.specs.Prelude.{◌≡◌, ◌<◌, ◌≤◌, ◌+◌, ◌-◌, ◌++◌, length, take, drop, IfOk, min, false};
+ghost use Rattle.std.specs.Prelude.{◌≡◌, ◌<◌, ◌≤◌, ◌+◌, ◌-◌, ◌++◌, length, take, drop, IfOk, IfErr, min, false};
+ghost use Rattle.piper_protocol.specs.Reported.{HasFailed};
 ghost use Rattle.piper_protocol.specs.Index.{IsCapacity};
 ghost use Rattle.piper_protocol.specs.Table.{tail_store};
 ghost use Rattle.piper_machine.specs.Pipe.{fresh};
@@ -73,11 +74,12 @@ fn write_at(bytes: &mut Vec<u8>, place: usize, source: &[u8])
 
 // The two pieces one after the other.
 fn joined(alloc: Global, first: &[u8], rest: &[u8]) -> Result<Vec<u8>, OutOfMemory>
-    ensures { IfOk result (λ bytes. bytes.items ≡ first.now ++ rest.now) }
+    ensures bytes { IfOk result (λ bytes. bytes.items ≡ first.now ++ rest.now) }
+    ensures refused { IfErr result HasFailed }
 {
-    let mut bytes = Vec::with_capacity(alloc, first.len() + rest.len()).map_err(|_| OutOfMemory)?;
-    bytes.extend_from_slice(first).map_err(|_| OutOfMemory)?;
-    bytes.extend_from_slice(rest).map_err(|_| OutOfMemory)?;
+    let mut bytes = Vec::with_capacity(alloc, first.len() + rest.len())?;
+    bytes.extend_from_slice(first)?;
+    bytes.extend_from_slice(rest)?;
     Ok(bytes)
 }
 
@@ -85,9 +87,10 @@ impl Machine {
     /// An empty pipe of `cap` bytes.
     pub fn new(alloc: Global, cap: usize) -> Result<Self, OutOfMemory>
         requires { IsCapacity cap }
-        ensures { IfOk result (λ machine. machine ≡ fresh cap) }
+        ensures fresh { IfOk result (λ machine. machine ≡ fresh cap) }
+        ensures refused { IfErr result HasFailed }
     {
-        let bytes = vec![in alloc; 0; cap].map_err(|_| OutOfMemory)?;
+        let bytes = vec![in alloc; 0; cap]?;
         Ok(Machine {
             alloc,
             bytes,
@@ -225,7 +228,8 @@ impl Machine {
 
     /// A copy of the unread bytes, oldest first.
     pub fn unread(&self) -> Result<Vec<u8>, OutOfMemory>
-        ensures { IfOk result (λ bytes. bytes.items ≡ self.now.unread) }
+        ensures bytes { IfOk result (λ bytes. bytes.items ≡ self.now.unread) }
+        ensures refused { IfErr result HasFailed }
     {
         let (first, rest) = self.pieces();
         joined(self.alloc, first, rest)

@@ -1,5 +1,6 @@
 //! What is left of the source of an open fill.
-ghost use Rattle.std.specs.Prelude.{◌≡◌, ◌≤◌, ℕ, [], ◌∷◌, length, drop, IfOk};
+ghost use Rattle.std.specs.Prelude.{◌≡◌, ◌≤◌, ℕ, [], ◌∷◌, length, drop, IfOk, IfErr};
+ghost use Rattle.piper_protocol.specs.Reported.{HasFailed};
 ghost use Rattle.piper_machine.specs.Round.{unspent, left_of_source};
 ghost use Rattle.piper_machine.specs.Source.{IsSource, source_left, bytes_of, is_failing};
 
@@ -83,7 +84,8 @@ impl Source {
 
     /// A source that gives a copy of these bytes.
     pub fn of_bytes(alloc: Global, bytes: &[u8]) -> Result<Self, OutOfMemory>
-        ensures { IfOk result (λ source. source ≡ SourceAct.Bytes bytes.now ∷ []) }
+        ensures copy { IfOk result (λ source. source ≡ SourceAct.Bytes bytes.now ∷ []) }
+        ensures refused { IfErr result HasFailed }
     {
         let mut script = ActList::new(alloc);
         script.push(SourceAct::Bytes(Bytes::copy_of(alloc, bytes)?))?;
@@ -96,7 +98,8 @@ impl Source {
 
     /// A copy of a script, none of which was given.
     pub fn of_acts(alloc: Global, acts: &[SourceAct]) -> Result<Self, OutOfMemory>
-        ensures { IfOk result (λ source. source ≡ acts.now) }
+        ensures copy { IfOk result (λ source. source ≡ acts.now) }
+        ensures refused { IfErr result HasFailed }
     {
         let mut script = ActList::new(alloc);
         for act in acts {

@@ -3,6 +3,7 @@
 
 ghost use Rattle.std.specs.Prelude.{◌≡◌, ◌≤◌, ◌+◌, ◌*◌, ◌⊎◌, ℕ, List, ◌++◌, ◌∷◌, [], length, replicate, true, IfOk, IfErr, Err};
 ghost use Rattle.piper_protocol.specs.Index.{IsCapacity};
+ghost use Rattle.piper_protocol.specs.Reported.{HasFailed};
 ghost use Rattle.piper_sides.specs.Log.{events};
 ghost use Rattle.piper_protocol.specs.declared.table.Side.{Side};
 ghost use Rattle.piper_sides.specs.declared.events.Event.{Event};
@@ -44,6 +45,7 @@ pub fn through(alloc: Global, bytes: &[u8], dest: &mut [u8]) -> Result<usize, Ou
     ensures count { IfOk result (λ n. n ≡ length bytes.now) }
     ensures same { IfOk result (λ n. dest.new ≡ bytes.now) }
     ensures untouched { IfErr result (λ _. dest.new ≡ dest.old) }
+    ensures refused { IfErr result HasFailed }
 {
     let mut machine = Machine::new(alloc, bytes.len())?;
     machine.w_try_fill(bytes);
