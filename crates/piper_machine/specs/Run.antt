@@ -1,5 +1,7 @@
 -- Runs: lists of steps, made one after another on a fresh pipe with an empty log.
 use Rattle.std.specs.Prelude.{◌≡◌, ℕ, List, [], ◌∷◌, ◌++◌, take, slice_get, None, Some, ⊤, Bool, true, false}
+use Rattle.piper_protocol.specs.Reported.{HasFailed}
+use Rattle.piper_protocol.specs.declared.memory.OutOfMemory.{OutOfMemory}
 use Rattle.piper_sides.specs.declared.calls.Step.{Step}
 use Rattle.piper_sides.specs.declared.calls.Step.TheVariants.{Put}
 use Rattle.piper_sides.specs.declared.events.Event.{Event}
@@ -39,6 +41,15 @@ abbrev pub IsRefusal : Step → Pipe → StepRefusal → Type 0
 IsRefusal s p Memory = (refusal_of s p ≡ None) × (asks_for_memory s ≡ true)
 IsRefusal s p r = refusal_of s p ≡ Some r
 
+-- an allocation was refused
+abbrev pub MemoryIsRefused : Type 0
+MemoryIsRefused = (refused : OutOfMemory) × HasFailed refused
+
+-- where want of memory is the reason, an allocation was refused
+abbrev pub IsOfMemory : StepRefusal → Type 0
+IsOfMemory Memory = MemoryIsRefused
+IsOfMemory r = ⊤
+
 -- the first i steps were made from a fresh pipe, and the next one is refused so
 pub record RefusedAt (capacity : ℕ) (steps : List Step) (i : ℕ) (r : StepRefusal) : Type 0 where
   pub pipe : Pipe
@@ -47,7 +58,8 @@ pub record RefusedAt (capacity : ℕ) (steps : List Step) (i : ℕ) (r : StepRef
   pub runs : Runs (fresh capacity) [] (take i steps) pipe events
   pub next : slice_get steps i ≡ Some step
   pub refused : IsRefusal step pipe r
+  pub memory : IsOfMemory r
 
 abbrev pub IsRunRefusal : ℕ → List Step → RunRefusal → Type 0
-IsRunRefusal capacity steps NoMachine = ⊤
+IsRunRefusal capacity steps NoMachine = MemoryIsRefused
 IsRunRefusal capacity steps (At i r) = RefusedAt capacity steps i r

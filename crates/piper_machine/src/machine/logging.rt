@@ -1,5 +1,6 @@
 //! What is logged of a step before it is made.
-ghost use Rattle.std.specs.Prelude.{◌≡◌, ◌≤◌, ℕ, length, take, IfOk};
+ghost use Rattle.std.specs.Prelude.{◌≡◌, ◌≤◌, ℕ, length, take, IfOk, IfErr};
+ghost use Rattle.piper_protocol.specs.Reported.{HasFailed};
 ghost use Rattle.piper_sides.specs.Log.{listed};
 ghost use Rattle.piper_machine.specs.Places.{peeked_count};
 ghost use Rattle.piper_machine.specs.Action.{call_of, logged_of, refresh_event, wake_of, yield_of, registration_of};
@@ -64,7 +65,8 @@ impl Machine {
     pub(super) fn event(&self, side: Side, action: Action) -> Result<Option<Event>, OutOfMemory>
         requires head { (n : ℕ) → action ≡ Action.StoreHead n → n ≤ peeked_count self.now }
         requires tail { (n : ℕ) → action ≡ Action.StoreTail n → n ≤ length self.now.lent }
-        ensures { IfOk result (λ event. listed event ≡ logged_of side action self.now) }
+        ensures event { IfOk result (λ event. listed event ≡ logged_of side action self.now) }
+        ensures refused { IfErr result HasFailed }
     {
         let call = self.call(side);
         let event = match action {
@@ -87,7 +89,8 @@ impl Machine {
     // A copy of the first unread bytes.
     fn front_bytes(&self, n: usize) -> Result<Bytes, OutOfMemory>
         requires { n ≤ peeked_count self.now }
-        ensures { IfOk result (λ bytes. bytes ≡ take n self.now.unread) }
+        ensures bytes { IfOk result (λ bytes. bytes ≡ take n self.now.unread) }
+        ensures refused { IfErr result HasFailed }
     {
         Bytes::copy_of(self.alloc, &self.r_peek()[..n])
     }
@@ -95,7 +98,8 @@ impl Machine {
     // A copy of the first lent bytes.
     fn lent_bytes(&self, n: usize) -> Result<Bytes, OutOfMemory>
         requires { n ≤ length self.now.lent }
-        ensures { IfOk result (λ bytes. bytes ≡ take n self.now.lent) }
+        ensures bytes { IfOk result (λ bytes. bytes ≡ take n self.now.lent) }
+        ensures refused { IfErr result HasFailed }
     {
         Bytes::copy_of(self.alloc, &self.w_lent()[..n])
     }

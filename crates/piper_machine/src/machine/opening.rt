@@ -1,11 +1,12 @@
 //! The opening of calls.
 ghost use Rattle.std.specs.Prelude.{◌≡◌, OnOk, OnErr, IfOk, IfErr};
+ghost use Rattle.piper_protocol.specs.Reported.{HasFailed};
 ghost use Rattle.piper_sides.specs.Call.{side_of};
 ghost use Rattle.piper_sides.specs.Log.{events};
 ghost use Rattle.piper_machine.specs.Round.{destination_of, source_of};
 ghost use Rattle.piper_machine.specs.Step.{opened, query_opened, is_closed_opened, poll_opened, drop_opened, drain_opened, fill_opened, form_of, answer_at_once, MayLend};
 ghost use Rattle.piper_machine.specs.Refusal.{past, IsIdle};
-ghost use Rattle.piper_machine.specs.Run.{IsStepped};
+ghost use Rattle.piper_machine.specs.Run.{IsStepped, MemoryIsRefused};
 
 use super::Machine;
 use crate::destination::{Acts, Destination};
@@ -36,7 +37,8 @@ fn form(context: Option<Context>) -> Form
 impl Machine {
     // A copy of what the call's destination takes.
     fn destination_of(&self, call: &Call) -> Result<Destination, OutOfMemory>
-        ensures { IfOk result (λ destination. destination ≡ destination_of call.now) }
+        ensures destination { IfOk result (λ destination. destination ≡ destination_of call.now) }
+        ensures refused { IfErr result HasFailed }
     {
         Ok(match call {
             Call::TryDrain(size) | Call::PollDrainBytes(_, _, size) => Destination::Slice(*size),
@@ -50,7 +52,8 @@ impl Machine {
 
     // A copy of what the call's source gives.
     fn source_of(&self, call: &Call) -> Result<Source, OutOfMemory>
-        ensures { IfOk result (λ source. source ≡ source_of call.now) }
+        ensures source { IfOk result (λ source. source ≡ source_of call.now) }
+        ensures refused { IfErr result HasFailed }
     {
         match call {
             Call::TryFill(bytes) | Call::PollFillBytes(_, _, bytes) => Source::of_bytes(
@@ -188,6 +191,7 @@ impl Machine {
         ensures same { OnErr result (self.new ≡ self.old) }
         ensures same_log { OnErr result (events log.new ≡ events log.old) }
         ensures memory { IfErr result (λ refusal. refusal ≡ StepRefusal.Memory) }
+        ensures refused { OnErr result MemoryIsRefused }
     {
         let mut destination = self.destination_of(call).map_err(|_| StepRefusal::Memory)?;
         let mut source = self.source_of(call).map_err(|_| StepRefusal::Memory)?;

@@ -21,7 +21,7 @@ ghost use Rattle.piper_machine.specs.Remembered.{AreRemembered};
 ghost use Rattle.piper_machine.specs.Answered.{AreAnswered};
 ghost use Rattle.piper_machine.specs.Sound.{IsSound};
 ghost use Rattle.piper_machine.specs.Front.{Front};
-ghost use Rattle.piper_machine.specs.Run.{Made, IsStepped, Runs, IsRefusal, IsRunRefusal};
+ghost use Rattle.piper_machine.specs.Run.{Made, IsStepped, Runs, IsRefusal, IsRunRefusal, IsOfMemory, MemoryIsRefused};
 
 use super::Machine;
 use piper_protocol::table::{Action, Side, WritePoint};
@@ -74,6 +74,7 @@ impl Machine {
         ensures same { OnErr result (self.new ≡ self.old) }
         ensures same_log { OnErr result (events log.new ≡ events log.old) }
         ensures memory { IfErr result (λ refusal. refusal ≡ StepRefusal.Memory) }
+        ensures refused { OnErr result MemoryIsRefused }
     {
         let action = self.next(side);
         let event = self.event(side, action).map_err(|_| StepRefusal::Memory)?;
@@ -103,6 +104,7 @@ impl Machine {
         ensures made { OnOk result
             (Made self.old step.now self.new (events log.old) (events log.new)) }
         ensures refused { IfErr result (λ refusal. IsRefusal step.now self.old refusal) }
+        ensures memory { IfErr result IsOfMemory }
         ensures known_kept { IsWriterStep step.now → KeepsKnown self.old self.new }
         ensures same { OnErr result (self.new ≡ self.old) }
         ensures same_log { OnErr result (events log.new ≡ events log.old) }

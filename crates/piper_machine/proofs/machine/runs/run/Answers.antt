@@ -91,6 +91,7 @@ returns-in-Err-clause-refused c = record {
   runs = c.loop-i.invariant.runs;
   next = slice_get_read c.args.steps.now _ c.loop-i.i c.index-steps-i.result refl c.loop-i-test.true c.index-steps-i.is;
   refused = c.in-Err.ensures.refused;
+  memory = c.in-Err.ensures.memory;
 }
 
 pub returns-clause-runs : goal.returns-clause-runs
