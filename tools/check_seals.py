@@ -32,6 +32,10 @@ SEALS = {
         [f"piper_ring/proofs/ends/{end}/reclaim_waker" for end in ("reader/ReadEnd", "writer/WriteEnd")],
     ),
     "just_registered": ("piper/specs/Contexts", ["piper/proofs/slot/Slot/grant"]),
+    "as_over": (
+        "piper_transfer/specs/Transfer",
+        ["piper_transfer/proofs/meter/InputMeter/is_output_over"],
+    ),
     "as_stopped": ("piper_transfer/specs/Transfer", ["piper_transfer/proofs/error/stopped"]),
 }
 

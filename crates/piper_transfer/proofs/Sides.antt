@@ -2,7 +2,7 @@
 use Rattle.std.proofs.Common.{◌≡◌, ◌<◌, ◌+◌, ℕ, List, [], ◌++◌, Option, refl, sym, ap, ◌∙◌, append_assoc, append-nil, arith, subst, length, length-append}
 use Rattle.std.proofs.KnownBytes.{Consumes-nil, Consumes-trans, Appends-nil, Appends-trans, Appends-kept}
 use Rattle.std.specs.Io.KnownBytes.{Keeps}
-use Rattle.piper.specs.ReadView.{ReadView}
+use Rattle.piper.specs.ReadView.{ReadView, SameReadEnd}
 use Rattle.piper.specs.WriteView.{WriteView}
 use Rattle.piper.specs.Looks.{ReaderLooked, WriterLooked}
 use Rattle.piper_transfer.specs.Taken.{StaysTaken}
@@ -50,11 +50,11 @@ gets_kept C T d e f xs p kept stays = record {
 }
 
 pub poured_none : {D : Type 0} (C : D → Option (List ℕ)) (T : D → List (List ℕ) → List ℕ → Type 0) (d : D) (a : ReadView) → PouredAll C T d d a a
-poured_none C T d a = record { written = []; gets = gets_none C T d; taken = sym (append-nil a.taken); ring = refl }
+poured_none C T d a = record { written = []; gets = gets_none C T d; taken = sym (append-nil a.taken); ring = refl; capacity = refl }
 
 -- nothing was written, and nothing dropped
 pub poured_nothing : {D : Type 0} (C : D → Option (List ℕ)) (T : D → List (List ℕ) → List ℕ → Type 0) (d : D) (a : ReadView) → Poured C T d d a a
-poured_nothing C T d a = record { written = []; lost = []; gets = gets_none C T d; taken = sym (append-nil a.taken); ring = refl }
+poured_nothing C T d a = record { written = []; lost = []; gets = gets_none C T d; taken = sym (append-nil a.taken); ring = refl; capacity = refl }
 
 pub poured_more : {D : Type 0} (C : D → Option (List ℕ)) (T : D → List (List ℕ) → List ℕ → Type 0) (d e f : D) (a b c : ReadView)
     → PouredAll C T d e a b → PouredAll C T e f b c → PouredAll C T d f a c
@@ -63,16 +63,29 @@ poured_more C T d e f a b c p q = record {
   gets = gets_more C T d e f p.written q.written p.gets q.gets;
   taken = q.taken ∙ ap (λ xs. xs ++ q.written) p.taken ∙ append_assoc a.taken p.written q.written;
   ring = q.ring ∙ p.ring;
+  capacity = q.capacity ∙ p.capacity;
 }
 
 pub poured_same : {D : Type 0} (C : D → Option (List ℕ)) (T : D → List (List ℕ) → List ℕ → Type 0) (d e : D) (a b c : ReadView)
-    → PouredAll C T d e a b → c.taken ≡ b.taken → c.ring ≡ b.ring → PouredAll C T d e a c
-poured_same C T d e a b c p taken ring = record { written = p.written; gets = p.gets; taken = taken ∙ p.taken; ring = ring ∙ p.ring }
+    → PouredAll C T d e a b → c.taken ≡ b.taken → SameReadEnd b c → PouredAll C T d e a c
+poured_same C T d e a b c p taken end =
+    record { written = p.written; gets = p.gets; taken = taken ∙ p.taken; ring = end.ring ∙ p.ring; capacity = end.capacity ∙ p.capacity }
+
+-- where nothing was dropped, that is none of what was taken
+pub poured_of_all : {D : Type 0} (C : D → Option (List ℕ)) (T : D → List (List ℕ) → List ℕ → Type 0) (d e : D) (a b : ReadView) → PouredAll C T d e a b → Poured C T d e a b
+poured_of_all C T d e a b p = record {
+  written = p.written;
+  lost = [];
+  gets = p.gets;
+  taken = p.taken ∙ ap (λ xs. a.taken ++ xs) (sym (append-nil p.written));
+  ring = p.ring;
+  capacity = p.capacity;
+}
 
 -- what was written before a look, and after it
 pub poured_looked : {D : Type 0} (C : D → Option (List ℕ)) (T : D → List (List ℕ) → List ℕ → Type 0) (d e : D) (a b c : ReadView)
     → PouredAll C T d e a b → ReaderLooked b c → PouredAll C T d e a c
-poured_looked C T d e a b c p look = poured_same C T d e a b c p look.taken look.end.ring
+poured_looked C T d e a b c p look = poured_same C T d e a b c p look.taken look.end
 
 pub poured_round : {D : Type 0} (C : D → Option (List ℕ)) (T : D → List (List ℕ) → List ℕ → Type 0) (d e f : D) (a b c r : ReadView)
     → PouredAll C T d e a b → ReaderLooked b c → PouredAll C T e f c r → PouredAll C T d f a r
@@ -81,7 +94,7 @@ poured_round C T d e f a b c r p look q = poured_more C T d e f a c r (poured_lo
 -- an output that keeps what it has, as where it is flushed
 pub poured_kept : {D : Type 0} (C : D → Option (List ℕ)) (T : D → List (List ℕ) → List ℕ → Type 0) (d e f : D) (a b : ReadView)
     → PouredAll C T d e a b → Keeps (C e) (C f) → StaysTaken T e f → PouredAll C T d f a b
-poured_kept C T d e f a b p kept stays = record { written = p.written; gets = gets_kept C T d e f p.written p.gets kept stays; taken = p.taken; ring = p.ring }
+poured_kept C T d e f a b p kept stays = record { written = p.written; gets = gets_kept C T d e f p.written p.gets kept stays; taken = p.taken; ring = p.ring; capacity = p.capacity }
 
 -- where all that was known was taken, all that was published is
 pub taken_all : (r0 r1 r2 : ReadView) (w0 w1 : WriteView)

@@ -1,5 +1,5 @@
 -- What a transfer moves, and what each of its sides does.
-use Rattle.std.specs.Prelude.{◌≡◌, ◌≢◌, ℕ, List, [], ◌++◌, ◌⊎◌, Option, Result, Ok, Err, OnOk, ⊤, false}
+use Rattle.std.specs.Prelude.{◌≡◌, ◌≢◌, ℕ, List, [], ◌++◌, ◌⊎◌, Bool, Option, Result, Ok, Err, OnOk, ⊤, true, false}
 use Rattle.std.specs.IoError.{error_kind}
 use Rattle.std.specs.declared.io.Error.{Error}
 use Rattle.std.specs.declared.io.ErrorKind.TheVariants.{Interrupted, WouldBlock}
@@ -9,8 +9,11 @@ use Rattle.piper.specs.Ends.{IsEnded}
 use Rattle.piper.specs.ReadView.{ReadView}
 use Rattle.piper.specs.WriteView.{WriteView}
 use Rattle.piper_transfer.specs.Taken.{TakesMore}
+use Rattle.piper_transfer.specs.declared.error.Stop.{Stop}
+use Rattle.piper_transfer.specs.declared.error.Stop.TheVariants.{Over, Closed}
 use Rattle.piper_transfer.specs.declared.error.TransferError.{TransferError}
 use Rattle.piper_transfer.specs.declared.error.TransferError.TheVariants.{Read, Write, Full, Memory, Turns}
+use Rattle.piper_transfer.specs.declared.meter.InputMeter.{InputMeter}
 
 -- its handle neither closed the pipe nor saw it closed
 abbrev pub IsOpen : WriteView → Type 0
@@ -43,6 +46,7 @@ pub record Poured {D : Type 0}
   pub gets : Gets contents took old new written
   pub taken : b.taken ≡ a.taken ++ (written ++ lost)
   pub ring : b.ring ≡ a.ring
+  pub capacity : b.capacity ≡ a.capacity
 
 -- nothing of what was taken from the reading end was dropped
 pub record PouredAll {D : Type 0}
@@ -54,6 +58,7 @@ pub record PouredAll {D : Type 0}
   pub gets : Gets contents took old new written
   pub taken : b.taken ≡ a.taken ++ written
   pub ring : b.ring ≡ a.ring
+  pub capacity : b.capacity ≡ a.capacity
 
 -- all that the writing end published was taken: the reading end reported the end, or met the other
 abbrev pub IsDrained : ReadView → WriteView → Type 0
@@ -75,14 +80,29 @@ pub record IsLasting (e : Error) : Type 0 where
   pub heard : error_kind e ≢ Interrupted
   pub due : error_kind e ≢ WouldBlock
 
--- a side was told to end, since the other one had failed. It is sealed: no proof looks into it, and
+-- a load of this meter found whether the output is over. It is sealed: no proof looks into it, and
+-- only that of `is_output_over` uses the lemma below
+pub FoundOver : InputMeter → Bool → Type 0
+FoundOver meter is_over = ⊤
+
+pub as_over : (meter : InputMeter) (is_over : Bool) → FoundOver meter is_over
+unfolding FoundOver
+as_over meter is_over = tt
+
+-- it is so: the meter was found to say that the output is over; or the writer saw the pipe closed,
+-- and didn't close it
+abbrev pub IsReason : Stop → Type 0
+IsReason (Over meter) = FoundOver meter true
+IsReason (Closed writer) = (writer.now.end.saw ≡ true) × (writer.now.end.shut ≡ false)
+
+-- the side that reads the input ended for such a reason. It is sealed: no proof looks into it, and
 -- only that of `stopped` uses the lemma below
 pub IsStopped : TransferError → Type 0
 IsStopped error = ⊤
 
-pub as_stopped : (error : TransferError) → IsStopped error
+pub as_stopped : (stop : Stop) (error : TransferError) → IsReason stop → IsStopped error
 unfolding IsStopped
-as_stopped error = tt
+as_stopped stop error reason = tt
 
 -- the side that reads the input may report this error: a read has failed so, memory was refused, or
 -- the side was told to end

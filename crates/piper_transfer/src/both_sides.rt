@@ -9,7 +9,7 @@ ghost use Rattle.piper_transfer.specs.Transfer.{IsOpen, Poured, PouredAll, Trans
 
 use crate::draining::{drain, drain_from};
 use crate::ends::{Destination, Source};
-use crate::error::{TransferError, stopped};
+use crate::error::TransferError;
 use crate::filling::fill_from;
 use crate::meter::Meter;
 use crate::one_thread::take_turns;
@@ -71,13 +71,13 @@ where
 {
     let (mut input, mut output) = open(rt, sizes.capacity, sizes.level)?;
     let chunk = sizes.chunk.min(sizes.capacity);
-    let (filled, drained) = run_sides(rt, source, &mut input, &mut output, dest, chunk, meter);
+    let both = run_sides(rt, source, &mut input, &mut output, dest, chunk, meter);
     let (mut reader, mut writer) = (output.into_reader(), input.into_writer());
     // Now that both handles are held by one thread, what is left where the output failed is known;
     // else nothing is.
     reader.meet(&mut writer);
-    let ended = match drained {
-        Ok(()) => flush(rt, dest).and(filled),
+    let ended = match both {
+        Ok(filled) => flush(rt, dest).and(filled),
         Err(error) => Err(error),
     };
     reader.drop();
@@ -124,7 +124,8 @@ where
     flush_patiently(rt, dest).map_err(TransferError::Write)
 }
 
-// Runs both sides to their end: on a thread each, or in turn where a second one is refused.
+// Runs both sides to their end: on a thread each, or in turn where a second one is refused. Returns
+// how the input ended, or how the output failed.
 fn run_sides<R, S, D>(
     rt: &R,
     source: &mut S,
@@ -133,7 +134,7 @@ fn run_sides<R, S, D>(
     dest: &mut D,
     chunk: usize,
     meter: &Meter,
-) -> (Result<(), TransferError>, Result<(), TransferError>)
+) -> Result<Result<(), TransferError>, TransferError>
 where
     R: Wait + Threads + Clock + Clone + Drop + Send + Sync,
     S: Source + Send,
@@ -144,14 +145,14 @@ where
     requires some { 0 < output.old.reader.end.capacity }
     ensures fed { Fed (S.remaining source.old) (S.remaining source.new)
         input.old.writer.end input.new.writer.end }
-    ensures input_ended { OnOk result.0 (IsAtEnd (S.remaining source.new)) }
+    ensures input_ended { IfOk result (λ filled. OnOk filled (IsAtEnd (S.remaining source.new))) }
     ensures poured { Poured D.contents D.took dest.old dest.new
         output.old.reader.end output.new.reader.end }
-    ensures all { OnOk result.1 (PouredAll D.contents D.took dest.old dest.new
+    ensures all { OnOk result (PouredAll D.contents D.took dest.old dest.new
         output.old.reader.end output.new.reader.end) }
-    ensures drained { OnOk result.1 (IsDrained output.new.reader.end input.new.writer.end) }
-    ensures input_told { IfErr result.0 (IsOfSource (S.fails source.new)) }
-    ensures reported { IfErr result.1 (IsOfDestination (D.fails dest.new) (D.full dest.new)) }
+    ensures drained { OnOk result (IsDrained output.new.reader.end input.new.writer.end) }
+    ensures input_told { IfOk result (λ filled. IfErr filled (IsOfSource (S.fails source.new))) }
+    ensures reported { IfErr result (IsOfDestination (D.fails dest.new) (D.full dest.new)) }
 {
     if !grants_thread(rt) {
         let (writer, reader) = (&mut input.writer, &mut output.reader);
@@ -159,9 +160,16 @@ where
     }
     let (turns, writer) = (&input.turns, &mut input.writer);
     match on_two_threads(rt, source, turns, writer, output, dest, chunk, meter) {
-        (Some(filled), Some(drained)) => (filled, drained),
-        (Some(filled), None) => (filled, drain(rt, output, dest, chunk, meter.of_output())),
-        (None, Some(drained)) => (Err(stopped()), drained),
+        (Some(filled), Some(drained)) => drained.and(Ok(filled)),
+        (Some(filled), None) => {
+            drain(rt, output, dest, chunk, meter.of_output()).and(Ok(filled))
+        }
+        (None, Some(Err(error))) => Err(error),
+        // Nothing has failed, so the input is read all the same.
+        (None, Some(Ok(()))) => {
+            let (writer, reader) = (&mut input.writer, &mut output.reader);
+            take_turns(rt, source, writer, reader, dest, chunk, output.level, meter)
+        }
         (None, None) => {
             let (writer, reader) = (&mut input.writer, &mut output.reader);
             take_turns(rt, source, writer, reader, dest, chunk, output.level, meter)

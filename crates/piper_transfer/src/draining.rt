@@ -85,18 +85,26 @@ where
         chunk,
         meter,
     );
-    if ended.is_err() {
-        give_up(&mut output.reader, meter);
+    if let Err(error) = &ended {
+        give_up(&mut output.reader, dest, error, meter);
     }
     ended
 }
 
-// Tells the other side to end, and makes room: it wakes if it waits for some.
-fn give_up(reader: &mut Reader, meter: OutputMeter<'_>) -> InputTold
+// Tells the other side to end, since this one failed so, and makes room: it wakes if it waits for
+// some.
+fn give_up<D: Destination>(
+    reader: &mut Reader,
+    dest: &D,
+    error: &TransferError,
+    meter: OutputMeter<'_>,
+) -> InputTold
+    requires failed { IsOfDestination (D.fails dest.now) (D.full dest.now) error.now }
     ensures taken { (lost : List ℕ) × (reader.new.end.taken ≡ reader.old.end.taken ++ lost) }
     ensures ring { reader.new.end.ring ≡ reader.old.end.ring }
+    ensures capacity { reader.new.end.capacity ≡ reader.old.end.capacity }
 {
-    let told = meter.end_output();
+    let told = meter.end_output(dest, error);
     let known = reader.peek_buf().len();
     reader.consume(known);
     told
@@ -206,7 +214,6 @@ where
     ensures poured { PouredAll D.contents D.took dest.old dest.new
         reader.old.end reader.new.end }
     ensures known { StaysKnown reader.old.end reader.new.end }
-    ensures capacity { reader.new.end.capacity ≡ reader.old.end.capacity }
     ensures reported { IfErr result (IsOfDestination (D.fails dest.new) (D.full dest.new)) }
 {
     match write_chunk(rt, reader, dest, chunk) {
@@ -229,7 +236,6 @@ where
     ensures poured { PouredAll D.contents D.took dest.old dest.new
         reader.old.end reader.new.end }
     ensures known { StaysKnown reader.old.end reader.new.end }
-    ensures capacity { reader.new.end.capacity ≡ reader.old.end.capacity }
     ensures full { result ≡ Ok 0 → D.full dest.new }
     ensures error { IfErr result (D.fails dest.new) }
     ensures lasting { IfErr result IsLasting }

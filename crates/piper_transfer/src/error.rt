@@ -1,7 +1,9 @@
 //! Why a transfer stopped before the input's end.
 ghost use Rattle.std.specs.Prelude.{◌≡◌};
-ghost use Rattle.piper_transfer.specs.Transfer.{IsStopped};
+ghost use Rattle.piper_transfer.specs.Transfer.{IsReason, IsStopped};
 
+use crate::meter::InputMeter;
+use piper::Writer;
 use std::io;
 use thiserror::Error;
 
@@ -26,9 +28,19 @@ pub enum TransferError {
     Turns(io::Error),
 }
 
-/// What a side returns that was asked to end because the other one has failed. The other one's
-/// error is reported then, and never this one.
-pub(crate) fn stopped() -> TransferError
+/// Why the side that reads the input ends before the input does.
+#[derive(Clone, Copy)]
+pub(crate) enum Stop<'a> {
+    /// The meter said that the output is over.
+    Over(InputMeter<'a>),
+    /// The writer saw the pipe closed, and did not close it.
+    Closed(&'a Writer),
+}
+
+/// What that side returns then, and never without such a reason. Where the other side has failed, its
+/// error is reported, and not this one.
+pub(crate) fn stopped(_stop: Stop<'_>) -> TransferError
+    requires reason { IsReason _stop }
     ensures value { result ≡ TransferError.Memory }
     ensures stopped { IsStopped result }
 {

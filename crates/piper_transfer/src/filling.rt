@@ -6,7 +6,7 @@ ghost use Rattle.futures.specs.Poll.{IfReady, OnPending};
 ghost use Rattle.piper_transfer.specs.Transfer.{Fed, IsOfSource, IsOpen};
 
 use crate::ends::Source;
-use crate::error::{TransferError, stopped};
+use crate::error::{Stop, TransferError, stopped};
 use crate::meter::{InputMeter, Meter};
 use crate::patience::read_patiently;
 use crate::piece::Piece;
@@ -103,7 +103,7 @@ where
     let mut piece = Piece::first(chunk);
     for _ in rt.forever() {
         if meter.is_output_over() {
-            return close(cx, writer, Err(stopped()));
+            return close(cx, writer, Err(stopped(Stop::Over(meter))));
         }
         let looked = match writer.poll(cx) {
             Poll::Pending => return Poll::Pending,
@@ -111,7 +111,10 @@ where
         };
         match looked {
             Ok(true) => {}
-            Ok(false) => return close(cx, writer, Err(stopped())),
+            Ok(false) => {
+                let error = stopped(Stop::Closed(writer));
+                return close(cx, writer, Err(error));
+            }
             Err(error) => return close(cx, writer, Err(error)),
         }
         match read_chunk(rt, source, writer, piece.len(), meter) {

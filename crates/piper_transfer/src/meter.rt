@@ -1,4 +1,8 @@
 //! What a transfer has done so far, for a thread that watches it.
+ghost use Rattle.piper_transfer.specs.Transfer.{FoundOver, IsOfDestination};
+
+use crate::ends::Destination;
+use crate::error::TransferError;
 use std::sync::atomic::{AtomicBool, AtomicU64, Ordering};
 use std::sync::{Mutex, Wait};
 use std::time::{Clock, Duration, Instant};
@@ -134,14 +138,20 @@ impl Meter {
 
 impl InputMeter<'_> {
     /// Whether the output takes no more, so that no more is to be read.
-    pub(crate) fn is_output_over(&self) -> bool {
+    pub(crate) fn is_output_over(&self) -> bool
+        ensures found { FoundOver self.now result }
+    {
         self.is_output_over.load(Ordering::SeqCst)
     }
 }
 
 impl OutputMeter<'_> {
-    /// Tells the input's side to end.
-    pub(crate) fn end_output(&self) -> InputTold {
+    /// Tells the input's side to end, since the output failed so.
+    pub(crate) fn end_output<D>(&self, _dest: &D, _error: &TransferError) -> InputTold
+    where
+        D: Destination,
+        requires failed { IsOfDestination (D.fails _dest.now) (D.full _dest.now) _error.now }
+    {
         self.is_output_over.store(true, Ordering::SeqCst);
         InputTold(())
     }

@@ -1,5 +1,5 @@
 //! Both sides in turn on one thread, for where a second one is refused.
-ghost use Rattle.std.specs.Prelude.{◌≡◌, ◌<◌, [], OnOk, IfErr};
+ghost use Rattle.std.specs.Prelude.{◌≡◌, ◌<◌, [], OnOk, IfOk, IfErr};
 ghost use Rattle.std.specs.Io.KnownBytes.{IsAtEnd};
 ghost use Rattle.piper.specs.Drains.{StaysKnown};
 ghost use Rattle.piper.specs.Ends.{WriterRefreshed};
@@ -7,7 +7,7 @@ ghost use Rattle.piper_transfer.specs.Transfer.{Fed, IsOfDestination, IsOfSource
 
 use crate::draining::write_some;
 use crate::ends::{Destination, Source};
-use crate::error::{TransferError, stopped};
+use crate::error::TransferError;
 use crate::filling::read_chunk;
 use crate::meter::{Meter, OutputMeter};
 use crate::piece::Piece;
@@ -16,7 +16,8 @@ use std::sync::Wait;
 use std::time::Clock;
 
 /// Reads the input to its end, and writes what the pipe holds each time that it holds `level` bytes
-/// or is full; of a `level` of 0 that is what each read gave, before the next one is made.
+/// or is full; of a `level` of 0 that is what each read gave, before the next one is made. It returns
+/// how the input ended, or how the output failed.
 pub(crate) fn take_turns<R, S, D>(
     rt: &R,
     source: &mut S,
@@ -26,7 +27,7 @@ pub(crate) fn take_turns<R, S, D>(
     chunk: usize,
     level: usize,
     meter: &Meter,
-) -> (Result<(), TransferError>, Result<(), TransferError>)
+) -> Result<Result<(), TransferError>, TransferError>
 where
     R: Wait + Clock,
     S: Source,
@@ -37,28 +38,26 @@ where
     requires some { 0 < reader.old.end.capacity }
     ensures fed { Fed (S.remaining source.old) (S.remaining source.new)
         writer.old.end writer.new.end }
-    ensures input_ended { OnOk result.0 (IsAtEnd (S.remaining source.new)) }
+    ensures input_ended { IfOk result (λ filled. OnOk filled (IsAtEnd (S.remaining source.new))) }
     ensures poured { PouredAll D.contents D.took dest.old dest.new
         reader.old.end reader.new.end }
-    ensures all { OnOk result.1 (reader.new.end.taken ≡ writer.new.end.sent) }
-    ensures input_told { IfErr result.0 (IsOfSource (S.fails source.new)) }
-    ensures reported { IfErr result.1 (IsOfDestination (D.fails dest.new) (D.full dest.new)) }
+    ensures all { OnOk result (reader.new.end.taken ≡ writer.new.end.sent) }
+    ensures input_told { IfOk result (λ filled. IfErr filled (IsOfSource (S.fails source.new))) }
+    ensures reported { IfErr result (IsOfDestination (D.fails dest.new) (D.full dest.new)) }
 {
     let (input, output) = (meter.of_input(), meter.of_output());
     let mut piece = Piece::first(chunk);
     for _ in rt.forever() {
-        if let Err(error) = pass_on_from(rt, writer, reader, dest, chunk, level, output) {
-            return (Err(stopped()), Err(error));
-        }
+        pass_on_from(rt, writer, reader, dest, chunk, level, output)?;
         match read_chunk(rt, source, writer, piece.len(), input) {
             Ok(0) => {
-                let written = pass_on(rt, writer, reader, dest, chunk, output);
-                return (Ok(()), written);
+                pass_on(rt, writer, reader, dest, chunk, output)?;
+                return Ok(Ok(()));
             }
             Ok(count) => piece = piece.after(count),
             Err(error) => {
-                let written = pass_on(rt, writer, reader, dest, chunk, output);
-                return (Err(error), written);
+                pass_on(rt, writer, reader, dest, chunk, output)?;
+                return Ok(Err(error));
             }
         }
     }
@@ -84,7 +83,6 @@ where
     ensures writer { WriterRefreshed writer.old.end writer.new.end }
     ensures poured { PouredAll D.contents D.took dest.old dest.new
         reader.old.end reader.new.end }
-    ensures capacity { reader.new.end.capacity ≡ reader.old.end.capacity }
     ensures room { OnOk result (0 < writer.new.end.room) }
     ensures reported { IfErr result (IsOfDestination (D.fails dest.new) (D.full dest.new)) }
 {
@@ -113,7 +111,6 @@ where
     ensures writer { WriterRefreshed writer.old.end writer.new.end }
     ensures poured { PouredAll D.contents D.took dest.old dest.new
         reader.old.end reader.new.end }
-    ensures capacity { reader.new.end.capacity ≡ reader.old.end.capacity }
     ensures all { OnOk result (reader.new.end.taken ≡ writer.new.end.sent) }
     ensures room { OnOk result (0 < writer.new.end.room) }
     ensures reported { IfErr result (IsOfDestination (D.fails dest.new) (D.full dest.new)) }
@@ -139,7 +136,6 @@ where
     ensures poured { PouredAll D.contents D.took dest.old dest.new
         reader.old.end reader.new.end }
     ensures known { StaysKnown reader.old.end reader.new.end }
-    ensures capacity { reader.new.end.capacity ≡ reader.old.end.capacity }
     ensures all { OnOk result (reader.new.end.known ≡ []) }
     ensures reported { IfErr result (IsOfDestination (D.fails dest.new) (D.full dest.new)) }
 {

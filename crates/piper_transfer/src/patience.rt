@@ -8,7 +8,7 @@ ghost use Rattle.piper_transfer.specs.Taken.{StaysTaken, WriteTakes};
 ghost use Rattle.piper_transfer.specs.Transfer.{IsLasting, IsOfSource};
 
 use crate::ends::{Destination, Source};
-use crate::error::{TransferError, stopped};
+use crate::error::{Stop, TransferError, stopped};
 use crate::meter::InputMeter;
 use std::io::ErrorKind;
 use std::sync::Wait;
@@ -90,7 +90,7 @@ where
             Err(error) if !patience.outlasts(rt, &error) => {
                 return Err(TransferError::Read(error));
             }
-            Err(_) if meter.is_output_over() => return Err(stopped()),
+            Err(_) if meter.is_output_over() => return Err(stopped(Stop::Over(meter))),
             Err(_) => {}
         }
     }

@@ -6,7 +6,7 @@ use Rattle.piper.specs.ReadView.{ReadView, KnowsEnd}
 use Rattle.piper.specs.WriteView.{WriteView}
 use Rattle.piper.specs.declared.handles.Reader.{Reader}
 use Rattle.piper.specs.declared.handles.Writer.{Writer}
-use Rattle.piper_transfer.specs.Transfer.{IsDrained, IsOfDestination, IsOfMemory, PouredAll, WritesAll}
+use Rattle.piper_transfer.specs.Transfer.{IsDrained, IsOfDestination, IsOfMemory, IsOfSource, PouredAll, WritesAll}
 use Rattle.piper_transfer.proofs.Sides.{poured_kept, poured_same}
 use Rattle.piper_transfer.proofs.Told.{refused_writes_none, refused_is_told, flushed_first, flush_is_told, ends_with_both, failed_writes_not, failure_is_told}
 use Rattle.piper_transfer.proofs.Whole.{nothing_moved, none_known, output_failed, nothing_lost}
@@ -27,7 +27,7 @@ pub returns : goal.returns
 returns g c =
     let remaining = g.S.Source.remaining in
     let contents = g.D.Destination.contents in
-    let both = c.run_sides-filled in
+    let both = c.run_sides-both in
     let w0 = c.in_ok-input.input.writer.end in
     let w1 = both.new.input.writer.end in
     let r0 = c.in_ok-input.output.reader.end in
@@ -46,32 +46,35 @@ returns g c =
     let met : ReaderRefreshed r1 r2 = subst (λ (r : ReadView). ReaderRefreshed r r2) reads c.meet.ensures.rest.reader in
     let sent : c.meet.new.other.end.sent ≡ w1.sent = c.meet.ensures.rest.writer.sent ∙ ap (λ (w : WriteView). w.sent) writes in
     let fifo = c.meet.ensures.fifo ∙ sent in
-    elim c.match-drained.branch [
+    elim c.match-both.branch [
       | in-Ok w ↦
           let q = w.flush.new.dest in
           let drained : PouredAll contents took o p r0 r1 = search rules in
-          let poured : PouredAll contents took o q r0 r2 = poured_kept contents took o p q r0 r2 (poured_same contents took o p r0 r1 r2 drained met.taken met.end.ring) w.flush.ensures.kept w.flush.ensures.taken in
+          let poured : PouredAll contents took o q r0 r2 = poured_kept contents took o p q r0 r2 (poured_same contents took o p r0 r1 r2 drained met.taken met.end) w.flush.ensures.kept w.flush.ensures.taken in
+          let filled = w.in-Ok.filled in
           let whole : IsDrained r1 w1 = rw w.in-Ok.is at both.ensures.drained in
+          let input_ended : OnOk filled (IsAtEnd j) = rw w.in-Ok.is at both.ensures.input_ended in
+          let input_told : IfErr filled (IsOfSource s) = rw w.in-Ok.is at both.ensures.input_told in
           let none : r2.known ≡ [] = none_known r1 r2 w1 c.meet.new.other.end whole met c.meet.ensures.fifo sent c.meet.ensures.closed.all
           (subst (λ (r : ReadView). KnowsEnd r → r2.all ≡ r.all) reads c.meet.ensures.more.all) in
-          let same : c.match-drained.ended ≡ result_and w.flush.result both.result.0 = search rules in
-          let ended = ends_with_both w.flush.result both.result.0 c.match-drained.ended (IsAtEnd j) same both.ensures.input_ended in
+          let same : c.match-both.ended ≡ result_and w.flush.result filled = search rules in
+          let ended = ends_with_both w.flush.result filled c.match-both.ended (IsAtEnd j) same input_ended in
           let d = g.D.Destination.fails w.flush.new.dest in
           let full = g.D.Destination.full w.flush.new.dest in
           rw w.dest-is (record {
-            moved = nothing_lost contents took o q c.match-drained.ended i j w0 w1 r0 r2 new_writer new_reader both.ensures.fed poured fifo (λ _. none) ended;
-            flushed = flushed_first w.flush.result both.result.0 c.match-drained.ended d full _ same w.flush.ensures.flushed w.flush.ensures.reported;
-            reported = flush_is_told w.flush.result both.result.0 c.match-drained.ended s d full same w.flush.ensures.reported both.ensures.input_told;
+            moved = nothing_lost contents took o q c.match-both.ended i j w0 w1 r0 r2 new_writer new_reader both.ensures.fed poured fifo (λ _. none) ended;
+            flushed = flushed_first w.flush.result filled c.match-both.ended d full _ same w.flush.ensures.flushed w.flush.ensures.reported;
+            reported = flush_is_told w.flush.result filled c.match-both.ended s d full same w.flush.ensures.reported input_told;
           })
       | in-Err w ↦
           let d = g.D.Destination.fails both.new.dest in
           let full = g.D.Destination.full both.new.dest in
           let reported : IsOfDestination d full w.in-Err.error = search rules in
-          let failed : ¬ WritesAll c.match-drained.ended = failed_writes_not c.match-drained.ended w.in-Err.error d full w.ended-is reported in
-          let ended : OnOk c.match-drained.ended (IsAtEnd j) = rw w.ended-is tt in
+          let failed : ¬ WritesAll c.match-both.ended = failed_writes_not c.match-both.ended w.in-Err.error d full w.ended-is reported in
+          let ended : OnOk c.match-both.ended (IsAtEnd j) = rw w.ended-is tt in
           rw w.dest-is (record {
-            moved = output_failed contents took o p c.match-drained.ended i j w0 w1 r0 r1 r2 new_writer new_reader both.ensures.fed both.ensures.poured met.taken fifo failed ended;
+            moved = output_failed contents took o p c.match-both.ended i j w0 w1 r0 r1 r2 new_writer new_reader both.ensures.fed both.ensures.poured met.taken fifo failed ended;
             flushed = λ writes. absurd (failed writes);
-            reported = failure_is_told c.match-drained.ended w.in-Err.error s d full w.ended-is reported;
+            reported = failure_is_told c.match-both.ended w.in-Err.error s d full w.ended-is reported;
           })
     ]

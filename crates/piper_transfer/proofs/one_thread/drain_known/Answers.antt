@@ -8,4 +8,4 @@ returns-in_err-write_some-clause-poured g c = poured_more _ _ _ _ _ _ _ _ c.loop
 
 pub loop-preserved : goal.loop-preserved
 loop-preserved g c =
-    (tt, tt, poured_more _ _ _ _ _ _ _ _ c.loop.invariant.2 c.write_some.ensures.poured, c.write_some.ensures.known ∙ c.loop.invariant.3, c.write_some.ensures.capacity ∙ c.loop.invariant.4)
+    (tt, tt, poured_more _ _ _ _ _ _ _ _ c.loop.invariant.2 c.write_some.ensures.poured, c.write_some.ensures.known ∙ c.loop.invariant.3)

@@ -1,5 +1,4 @@
 -- What was taken out of the pipe so far was written, and the rest is known.
-use Rattle.std.specs.Prelude.{◌≡◌}
 use Rattle.piper.specs.Drains.{StaysKnown}
 use Rattle.piper_transfer.specs.Transfer.{PouredAll}
 use Rattle.piper_transfer.proofs.one_thread.drain_known.Given as goal
@@ -9,4 +8,3 @@ invariant-loop g l =
     (goal.iterator-loop g).can_next l.iterator' × (goal.iterator-loop g).is_finite l.iterator'
     × PouredAll g.D.Destination.contents g.D.Destination.took l.initial.dest l.dest l.initial.reader.end l.reader.end
     × StaysKnown l.initial.reader.end l.reader.end
-    × (l.reader.end.capacity ≡ l.initial.reader.end.capacity)
