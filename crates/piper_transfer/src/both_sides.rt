@@ -71,6 +71,7 @@ where
 {
     let (mut input, mut output) = open(rt, sizes.capacity, sizes.level)?;
     let chunk = sizes.chunk.min(sizes.capacity);
+    meter.begin();
     let both = run_sides(rt, source, &mut input, &mut output, dest, chunk, meter);
     let (mut reader, mut writer) = (output.into_reader(), input.into_writer());
     // Now that both handles are held by one thread, what is left where the output failed is known;

@@ -119,6 +119,11 @@ impl Meter {
         }
     }
 
+    /// A transfer begins: its output is not over, though that of an earlier one may have been.
+    pub(crate) fn begin(&self) {
+        self.is_output_over.store(false, Ordering::SeqCst);
+    }
+
     /// What the side gets of it that reads the input.
     pub(crate) fn of_input(&self) -> InputMeter<'_> {
         InputMeter {

@@ -125,6 +125,23 @@ fn a_failed_write_ends_the_transfer(rt: HostRuntime) {
 }
 
 #[test]
+fn a_meter_serves_the_next_transfer(rt: HostRuntime) {
+    let sizes = Sizes {
+        capacity: 256,
+        chunk: 64,
+        level: 0,
+    };
+    let meter = Meter::new();
+    for (call, wanted) in [(0, Ended::OutputFailed), (u32::MAX, Ended::Moved)] {
+        let kind = ErrorKind::BrokenPipe;
+        let mut input = Plain(Input::new(TOTAL, NEVER));
+        let mut output = Plain(Output::new(Fault { call, kind }));
+        let moved = transfer(&rt, &mut input, &mut output, sizes, &meter);
+        same(&rt, how_it_ended(moved), wanted);
+    }
+}
+
+#[test]
 fn a_call_that_is_interrupted_or_would_block_is_made_again(rt: HostRuntime) {
     for kind in [ErrorKind::Interrupted, ErrorKind::WouldBlock] {
         for call in [0, 1, 2, 7, 50] {
