@@ -152,9 +152,9 @@ pub trait AsyncWrite {
     // all that was written is on its way: a flush, or a close, left the writer so
     ghost flushed: { Self → Type 0 } = { λ _. ⊤ };
 
-    /// Publishes bytes from the front of `source`, and returns how many; 0 where there are some
-    /// says that the pipe is closed, and so does each later answer. Bytes that were counted in the
-    /// call that sees the pipe closed may be lost.
+    /// Publishes bytes from the front of `source`, and returns how many; 0 for a `source` that is
+    /// not empty says that the pipe is closed, and so does each later answer. Bytes that were
+    /// counted in the call that sees the pipe closed may be lost.
     fn poll_write(&mut self, cx: &mut Context<'_>, source: &[u8]) -> Poll<Result<usize, PipeError>>
         ensures written { Writes result source.now (sent self.old) (sent self.new) (saw self.new) }
         ensures full { result ≡ Poll.Ready (Ok 0) →

@@ -40,8 +40,8 @@ pub trait ReadLike {
         ensures error { IfErr result (λ e. fails self.old e self.new) }
         ensures failures { Counts result (failures self.old) (failures self.new) };
 
-    /// For how many bytes it asks next: for 0 only where it has none left to give. One that can't
-    /// say asks for any number of them.
+    /// How many bytes it asks to be lent next: 0 only where it has none left to give. A source that
+    /// can't tell asks for any other number.
     fn asks(&self) -> usize
         ensures wanted { result ≡ wants self.now }
         ensures dry { result ≡ 0 → is_dry self.now };
@@ -80,8 +80,8 @@ pub trait WriteLike {
         ensures error { IfErr result (λ e. fails self.old e self.new) }
         ensures failures { Counts result (failures self.old) (failures self.new) };
 
-    /// For how many bytes it asks next: for 0 only where it takes no more. One that can't say asks
-    /// for any number of them.
+    /// How many bytes it asks for next: 0 only where it takes no more. A destination that can't
+    /// tell asks for any other number.
     fn asks(&self) -> usize
         ensures wanted { result ≡ wants self.now }
         ensures full { result ≡ 0 → is_full self.now };

@@ -54,8 +54,7 @@ impl Model for OwnedWriter {
 
 /// Creates a pipe of `cap` bytes whose handles are dropped automatically.
 ///
-/// It is `pipe` from the seed `DEFAULT_SEED`. Where memory is refused, all that was got is given
-/// back.
+/// It is `pipe` from the seed `DEFAULT_SEED`, with the same bounds of `cap` and the same error.
 pub fn owned_pipe(alloc: Global, cap: usize) -> Result<(OwnedReader, OwnedWriter), OutOfMemory>
     requires { (0 < cap) × (2 * cap < 2 ^ 64) }
     ensures pair { IfOk result (λ (reader, writer). ArePair reader writer) }
@@ -70,6 +69,7 @@ pub fn owned_pipe(alloc: Global, cap: usize) -> Result<(OwnedReader, OwnedWriter
 impl OwnedReader {
     ghost use Rattle.piper.specs.Owned.{lends_reader};
 
+    /// Takes the reader, so that a drop closes the pipe and wakes the writer.
     pub fn new(reader: Reader) -> OwnedReader
         ensures { result ≡ reader }
     {
@@ -104,6 +104,7 @@ impl OwnedReader {
 impl OwnedWriter {
     ghost use Rattle.piper.specs.Owned.{lends_writer};
 
+    /// Takes the writer, so that a drop closes the pipe and wakes the reader.
     pub fn new(writer: Writer) -> OwnedWriter
         ensures { result ≡ writer }
     {

@@ -21,8 +21,8 @@ impl Reader {
     ghost use Rattle.piper.specs.ReaderCalls.{AtEnd, MayBeUnread, Polled, PollsEnd, SameReaderButConsumed};
     ghost use Rattle.piper.specs.Waits.{ReaderPends, ReaderWokeLast};
 
-    /// How many bytes are unread now: no fewer than those that the reader knows of, nor than those
-    /// that it was told of, and no more than fit. The writer may publish more at any time.
+    /// How many bytes are unread now: at least those that the reader knows of or learned of from a
+    /// mark, and at most the capacity. The writer may publish more at any time.
     pub fn len(&self) -> usize
         ensures { MayBeUnread self.now result }
     {
@@ -66,8 +66,9 @@ impl Reader {
     /// Returns `true` once a byte is known, which `peek_buf` then lends; and `false` once the pipe
     /// is closed and all that was ever published has been taken: this is final. Until then the call
     /// is pending, and the task is woken when bytes are published or the pipe is closed. It checks
-    /// for more bytes only where none is known. Where it has to wait and no waker can be made it
-    /// fails with `OutOfMemory`: it makes one before it knows whether the pipe is closed.
+    /// for more bytes only where none is known. Where none is found and no waker can be made it
+    /// fails with `OutOfMemory`, even if the pipe is closed: the waker is made before closed is
+    /// loaded.
     pub fn poll(&mut self, cx: &mut Context<'_>) -> Poll<Result<bool, OutOfMemory>>
         ensures found { Polled result self.old self.new }
         ensures end { PollsEnd result self.old self.new }

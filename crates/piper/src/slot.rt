@@ -11,7 +11,7 @@ use token_cell::{Token, TokenCell};
 /// when it lies there no more.
 ///
 /// It doesn't say who waits: the words of the ring's slots do, with which the right to the place
-/// goes from side to side. So nobody is there when it is used, and no use waits.
+/// goes from side to side. So only the side that has the right uses the place, and no use waits.
 #[derive(Drop)]
 pub(crate) struct Slot {
     pub(crate) place: TokenCell<Option<Waker>>,
@@ -38,8 +38,8 @@ impl Slot {
     }
 
     /// A waker of the task that is polled, to be left here. `held` is the waker that was taken out
-    /// before, if there was one: that of another task is woken. Where no waker can be made, the task
-    /// has asked for another poll.
+    /// before, if there was one: that of another task is woken. Where no waker can be made, the
+    /// task has asked for another poll.
     pub(crate) fn grant(
         &self,
         cx: &mut Context<'_>,

@@ -109,7 +109,7 @@ impl Writer {
     }
 
     /// Closes the pipe for good, and wakes both sides. Nothing is lent any more, and what was lent
-    /// is taken back.
+    /// is taken back. It is ready at once and doesn't fail: the result has the form of the trait's.
     pub fn poll_close(&mut self, cx: &mut Context<'_>) -> Poll<Result<(), OutOfMemory>>
         ensures answer { result ≡ Poll.Ready (Ok (record {})) }
         ensures woken { NotifiesReader self.new }

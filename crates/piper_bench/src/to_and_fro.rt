@@ -17,8 +17,8 @@ use std::thread::Threads;
 use std::{io, thread};
 use tokio::io::{AsyncRead, AsyncWrite};
 
-/// The ends of both means that one of the threads has. Of an error it hands its kind on, as `Writing`
-/// of peers.rt does.
+/// The ends of both means that one of the threads has. Of an error it hands its kind on, as
+/// `Writing` of peers.rt does.
 pub trait Ends: Drop {
     /// Sends bytes from the front of the piece, and returns how many: none where the other thread
     /// is gone.

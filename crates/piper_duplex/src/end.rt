@@ -25,7 +25,8 @@ pub struct End {
 /// Creates a duplex stream: what the first end writes the second reads, through a pipe of `cap_a`
 /// bytes, and what the second writes the first reads, through one of `cap_b`.
 ///
-/// Both pipes take `seed`. Where memory is refused, all that was got is given back.
+/// Each capacity is at least 1 and less than 2^63. Both pipes take `seed`. Where memory is refused
+/// it fails with `OutOfMemory`, and what was allocated is freed.
 pub fn duplex(
     alloc: Global,
     cap_a: usize,
@@ -102,8 +103,8 @@ impl End {
     }
 
     /// Closes both pipes, first the one that it writes into, and wakes who waits at the other end.
-    /// What is unread there can still be read. The answer is what is left of both handles, for those
-    /// of the other end to take in.
+    /// What is unread there can still be read. Returns what is left of both handles, for
+    /// `meet_finished` of the handles of the other end.
     pub fn drop(self) -> (FinishedReader, FinishedWriter)
         ensures ring { (result.0.told.consumed.names ≡ (ring (reading self)).names)
             × (result.1.told.names ≡ (of_writer.ring (writing self)).names) }

@@ -38,8 +38,8 @@ pub struct OwnedEnd {
 /// second reads, through a pipe of `cap_a` bytes, and what the second writes the first reads,
 /// through one of `cap_b`.
 ///
-/// It is `duplex` from the seed `DEFAULT_SEED`. Where memory is refused, all that was got is given
-/// back.
+/// It is `duplex` from the seed `DEFAULT_SEED`, with the same bounds of both capacities and the
+/// same error.
 pub fn owned_duplex(
     alloc: Global,
     cap_a: usize,
@@ -58,6 +58,7 @@ pub fn owned_duplex(
 }
 
 impl OwnedEnd {
+    /// Takes the end, so that a drop closes both pipes and wakes who waits at the other end.
     pub fn new(end: End) -> OwnedEnd
         ensures reader { reading result ≡ reading_of end }
         ensures writer { writing result ≡ writing_of end }

@@ -1,4 +1,4 @@
-//! Futures over any reader that lends, and over any writer, by the names of `futures` and `tokio`.
+//! Futures over any reader that lends, and over any writer, named as in `futures` and `tokio`.
 //!
 //! Each owns its ends and gives them back, also where it fails: pass `&mut` to keep one. One that
 //! is dropped before it gives its result drops what it owns, and the bytes that it gathered with

@@ -19,7 +19,7 @@ pub struct ReadOnce<R> {
 }
 
 /// Waits for a byte, puts what came to the front of `places`, and gives both back with how many
-/// came; 0 where there are places is the end.
+/// came; 0 for `places` that are not empty is the end.
 ///
 /// Where the reader fails, what is left is the reader and the places as they were.
 pub fn read<R: AsyncRead + Drop>(reader: R, places: Vec<u8>) -> ReadOnce<R>

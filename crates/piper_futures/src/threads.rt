@@ -66,10 +66,10 @@ impl<D: Write> Promise<Result<(OwnedReader, D), Failed<Option<Drained<D>>>>> for
 
 /// Starts a thread that moves all that `source` gives into the pipe, as `fill_from` does, and then
 /// drops the writer, which closes the pipe. The thread's result comes with the join: until then
-/// what was read of the pipe may be a part.
+/// what was read of the pipe may be only a part of the source.
 ///
-/// Where no thread can be made, writer and source are dropped. A failure of the thread's own wait,
-/// which is want of memory, leaves neither.
+/// Where no thread can be made, writer and source are dropped, and also where the thread's own wait
+/// fails, which is want of memory.
 pub fn spawn_fill<H, S>(
     rt: &H,
     writer: OwnedWriter,
@@ -95,8 +95,8 @@ where
 /// result comes with the join. Where the drain fails, the thread drops the reader, which closes the
 /// pipe. What `dest` holds back is not flushed.
 ///
-/// Where no thread can be made, reader and `dest` are dropped. A failure of the thread's own wait,
-/// which is want of memory, leaves neither.
+/// Where no thread can be made, reader and `dest` are dropped, and also where the thread's own wait
+/// fails, which is want of memory.
 pub fn spawn_drain<H, D>(
     rt: &H,
     reader: OwnedReader,

@@ -107,6 +107,7 @@ impl<R: AsyncBufRead> Lines<R> {
     /// It is empty where nothing is handed out: at the end, where the poll is pending, and on an
     /// error. What was taken by then is kept, and the next poll goes on from there. Memory is asked
     /// for before bytes are taken, so a refusal loses none. A pending poll is woken by the reader.
+    /// It fails with the reader's error, or with `Memory`.
     pub fn poll_line(
         &mut self,
         cx: &mut Context<'_>,

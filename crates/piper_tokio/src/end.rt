@@ -27,8 +27,8 @@ use tokio::io::{AsyncBufRead, AsyncRead, AsyncWrite};
 /// An end of a duplex stream, as a reader and a writer of `tokio`. Where it is dropped it closes
 /// both pipes, first the one that it writes into, and wakes who waits at the other end.
 ///
-/// In clauses, `read_half` and `write_half` are what `into_halves` gives, and `reading` and `writing`
-/// their handles.
+/// In clauses, `read_half` and `write_half` are what `into_halves` gives, and `reading` and
+/// `writing` their handles.
 #[derive(Drop)]
 pub struct CompatEnd {
     writer: CompatWriter,
@@ -36,6 +36,7 @@ pub struct CompatEnd {
 }
 
 impl CompatEnd {
+    /// Takes the end, so that a drop closes both pipes and wakes who waits at the other end.
     pub fn new(end: End) -> CompatEnd
         ensures reader { reading result ≡ reading_of end }
         ensures shown { shown_by (read_half result) ≡ [] }

@@ -25,6 +25,7 @@ pub struct CompatWriter {
 }
 
 impl CompatWriter {
+    /// Takes the writer, so that a drop closes the pipe and wakes the reader.
     pub fn new(writer: Writer) -> CompatWriter
         ensures { writing result ≡ writer }
     {

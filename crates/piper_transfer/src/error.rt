@@ -37,8 +37,8 @@ pub(crate) enum Stop<'a> {
     Closed(&'a Writer),
 }
 
-/// What that side returns then, and never without such a reason. Where the other side has failed, its
-/// error is reported, and not this one.
+/// What that side returns then, and never without such a reason. Where the other side has failed,
+/// its error is reported, and not this one.
 pub(crate) fn stopped(_stop: Stop<'_>) -> TransferError
     requires reason { IsReason _stop }
     ensures value { result ≡ TransferError.Memory }

@@ -16,8 +16,8 @@ use std::sync::Wait;
 use std::time::Clock;
 
 /// Reads the input to its end, and writes what the pipe holds each time that it holds `level` bytes
-/// or is full; of a `level` of 0 that is what each read gave, before the next one is made. It returns
-/// how the input ended, or how the output failed.
+/// or is full; of a `level` of 0 that is what each read gave, before the next one is made. It
+/// returns how the input ended, or how the output failed.
 pub(crate) fn take_turns<R, S, D>(
     rt: &R,
     source: &mut S,

@@ -18,7 +18,8 @@ const LAG: u64 = 100;
 pub struct Pace {
     rate: usize,
     since: Option<Instant>,
-    // How long the bytes take that have passed since then, and what that was when the clock was read.
+    // How long the bytes take that have passed since then, and what that was when the clock was
+    // read.
     owed: Duration,
     checked: Duration,
 }

@@ -16,7 +16,8 @@ use std::sync::{Arc, Wait};
 use std::thread::{Promise, Threads};
 use std::time::Clock;
 
-/// How many bytes the stack of the run's thread has, however small the system makes those of others.
+/// How many bytes the stack of the run's thread has, however small the system makes those of
+/// others.
 pub const STACK: usize = 262_144;
 
 /// What is promised of the result of the run's thread, which has none.

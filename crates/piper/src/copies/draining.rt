@@ -32,8 +32,8 @@ impl Reader {
     /// be made for that it fails with `Memory`. Once in a hundred calls, as the reader's generator
     /// draws, it yields in place of the rounds: it moves nothing and asks for another poll. A round
     /// hands the writer at most 131,072 bytes in one piece; the rounds end once nothing is known or
-    /// the writer takes none. Where the writer fails, what it took in the rounds before stays taken,
-    /// and its error is returned.
+    /// the writer takes none. Where the writer fails, what it took in the rounds before stays
+    /// taken, and its error is returned.
     pub fn poll_drain<W: StdWriter>(
         &mut self,
         cx: &mut Context<'_>,
@@ -58,8 +58,8 @@ impl Reader {
         }
     }
 
-    /// Moves known bytes into the front of `dest`, and returns how many: as many as fit of those that
-    /// it knows of after its look. With an empty `dest` it waits, too, while none is known.
+    /// Moves known bytes into the front of `dest`, and returns how many: as many as fit of those
+    /// that it knows of after its look. With an empty `dest` it waits, too, while none is known.
     ///
     /// It looks, draws and waits as `poll_drain` does: 0 is the end of a closed pipe, or `dest` has
     /// no room and a byte is known.
@@ -87,8 +87,8 @@ impl Reader {
     }
 
     /// Moves known bytes into the front of `dest`, as many as fit, and returns how many. It checks
-    /// for more only where none is known, and doesn't wait: 0 doesn't mean the end, since nothing may
-    /// be known, or `dest` has no room.
+    /// for more only where none is known, and doesn't wait: 0 doesn't mean the end, since nothing
+    /// may be known, or `dest` has no room.
     pub fn try_drain(&mut self, dest: &mut [u8]) -> usize
         ensures drained { Drained result self.old self.new dest.old dest.new }
         ensures end { KeepsEnd self.old self.new }

@@ -27,12 +27,13 @@ impl Writer {
     /// Publishes bytes that a reader gives, and returns how many it gave.
     ///
     /// It begins with the look of `poll`: 0 says that the pipe is closed, or that the reader gave
-    /// none, and where no room is known the call is pending, or wants memory. Once in a hundred
-    /// calls, as the writer's generator draws, it yields in place of the rounds: it moves nothing
-    /// and asks for another poll. A round lends the reader at most 131,072 places in one piece; the
-    /// rounds end once there is no room, the reader gives none, or the pipe is seen closed, and
-    /// what was given in that last round is counted and lost. Where the reader fails, what it gave
-    /// in the rounds before stays published, and its error is returned. Nothing is lent afterwards.
+    /// none. Where there is no room the call is pending, or fails with `Memory` if no waker can be
+    /// made. Once in a hundred calls, as the writer's generator draws, it yields in place of the
+    /// rounds: it moves nothing and asks for another poll. A round lends the reader at most 131,072
+    /// places in one piece; the rounds end once there is no room, the reader gives none, or the
+    /// pipe is seen closed, and what was given in that last round is counted and lost. Where the
+    /// reader fails, what it gave in the rounds before stays published, and its error is returned.
+    /// Nothing is lent afterwards.
     pub fn poll_fill<R: StdReader>(
         &mut self,
         cx: &mut Context<'_>,
@@ -60,8 +61,9 @@ impl Writer {
     /// Publishes bytes from the front of `bytes`, and returns how many: as many as there is room
     /// for once it looked, and all of them if they fit.
     ///
-    /// It looks, draws and waits as `poll_fill` does: 0, where there are some, says that the pipe
-    /// is closed, and so does each later answer. Where the pipe is seen closed only once some bytes
+    /// It looks, draws and waits as `poll_fill` does: 0 for `bytes` that are not empty says that
+    /// the pipe is closed, and so does each later answer. It fails with `OutOfMemory` only where it
+    /// has to wait and no waker can be made. Where the pipe is seen closed only once some bytes
     /// were taken, the last of them, at most one round, are counted and lost. Nothing is lent
     /// afterwards.
     pub fn poll_fill_bytes(

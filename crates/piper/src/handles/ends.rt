@@ -36,9 +36,10 @@ impl Reader {
         self.end.heed(mark);
     }
 
-    /// Both handles held by one thread: then the reader knows of all that was published, and the
-    /// writer of all the free room, and where either saw the pipe closed the writer closed it: what
-    /// the reader holds to be all bytes is what the writer published. It allocates nothing.
+    /// Is called where one thread holds both handles of a pipe. After it the reader knows of all
+    /// that was published, and the writer of all the free room. Where either saw the pipe closed
+    /// the writer closed it, and what the reader holds to be all bytes is what the writer
+    /// published. It allocates nothing.
     ///
     /// And nobody who waits is forgotten: where a side is pending in its slot, and the other has
     /// checked that slot since its last store, the other took the waker and called it, or the side
@@ -133,9 +134,9 @@ impl Writer {
     /// there is room, one is asked for and the writer didn't close the pipe. It replaces what was
     /// lent before; what is in the bytes is not said.
     ///
-    /// Nothing is lent once the writer closed the pipe. Else all that is asked for and fits is
-    /// lent, or as much of it as a call may zero on the way: at least twice what was published and
-    /// is lent, and 4,096 bytes more.
+    /// Nothing is lent once the writer closed the pipe. Otherwise it lends all that is asked for
+    /// and fits in one piece. While a part of the buffer was never written it may lend less: then
+    /// at least 4,096 bytes plus twice what was published and is lent.
     pub fn write_buf(&mut self, max: usize) -> &mut [u8]
         ensures* writes { sem 𝓛 (lends_room self.entry result) }
         ensures length { MayLend self.old max (length result.now) }

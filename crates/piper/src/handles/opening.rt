@@ -14,8 +14,9 @@ use std::sync::Arc;
 /// Creates a bounded single-producer single-consumer pipe: a ring of `cap` bytes that can be read
 /// and written by two threads.
 ///
-/// The reader's generator begins at `seed`, the writer's at `seed` with its lowest bit flipped.
-/// Where memory is refused, all that was got is given back.
+/// `cap` is at least 1 and less than 2^63. The reader's generator begins at `seed`, the writer's at
+/// `seed` with its lowest bit flipped. Where memory is refused it fails with `OutOfMemory`, and
+/// what was allocated is freed.
 pub fn pipe(alloc: Global, cap: usize, seed: u64) -> Result<(Reader, Writer), OutOfMemory>
     requires { (0 < cap) × (2 * cap < 2 ^ 64) }
     ensures pair { IfOk result (λ (reader, writer). ArePair reader writer) }

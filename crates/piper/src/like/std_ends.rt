@@ -1,7 +1,7 @@
-//! Readers and writers of std with rows for what their own traits don't say: with which errors a
-//! call failed, that a write took none, and what was flushed. Each of them has these rows. What they say of it is
-//! known to no function that is generic over it, so one whose clause says that a call failed has
-//! made that call, and has the error from it.
+//! Readers and writers of std, with what their own traits don't state: with which errors a call
+//! failed, that a write took no byte, and what was flushed. Every reader and writer of std has
+//! these. A generic function can't look into them, so one whose clause says that a call failed with
+//! an error has made that call, and has the error from it.
 ghost use Rattle.std.specs.Prelude.{◌≡◌, ◌<◌, length, Ok, OnOk, IfErr, ⊤};
 ghost use Rattle.std.specs.Io.{ReadsAtMost, WritesAtMost};
 ghost use Rattle.std.specs.Io.KnownBytes.{Keeps, ReadConsumes, WriteAppends};
@@ -11,7 +11,7 @@ use piper_protocol::reported::reported;
 use std::io;
 use std::io::{Read, Write};
 
-/// A reader of std: each is one.
+/// Any reader of std.
 pub trait StdReader: Read {
     ghost use Rattle.std.specs.declared.io.Error.{Error};
 
@@ -27,7 +27,7 @@ pub trait StdReader: Read {
         ensures reported { IsOfStd result };
 }
 
-/// A writer of std: each is one.
+/// Any writer of std.
 pub trait StdWriter: Write {
     ghost use Rattle.std.specs.declared.io.Error.{Error};
 

@@ -61,8 +61,8 @@ impl Line {
         self.is_whole
     }
 
-    // Sends what comes next of the line: the bytes from `at` on through the first LF, and at most so
-    // many that the line has 65,536. The line before it was printed and flushed.
+    // Sends what comes next of the line: the bytes from `at` on through the first LF, and at most
+    // so many that the line has 65,536. The line before it was printed and flushed.
     pub(crate) fn send<R, W, O>(
         &mut self,
         rt: &R,

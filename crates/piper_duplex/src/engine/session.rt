@@ -67,9 +67,9 @@ impl Ended {
 /// which a thread writes each line back, and prints what comes back to `output`. `words` are the
 /// arguments of the command line; there are to be none.
 ///
-/// A line is printed and flushed before the next one is sent. One that is longer than 65,536 bytes goes through
-/// in pieces of that many. The status 0 says that the input is at its end, and that as many bytes
-/// were printed as it gave.
+/// A line is printed and flushed before the next one is sent. One that is longer than 65,536 bytes
+/// goes through in pieces of that many. The status 0 says that the input is at its end, and that as
+/// many bytes were printed as it gave.
 pub fn echo<R, I, O>(
     rt: &R,
     alloc: Global,

@@ -19,6 +19,7 @@ use piper::{OutOfMemory, Reader};
 use std::io;
 
 impl CompatReader {
+    /// Takes the reader, so that a drop closes the pipe and wakes the writer.
     pub fn new(reader: Reader) -> CompatReader
         ensures reader { handle_of result ≡ reader }
         ensures shown { shown_by result ≡ [] }
