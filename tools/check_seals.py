@@ -27,6 +27,22 @@ SEALS = {
         "piper_ring/specs/Loads",
         [f"piper_ring/proofs/ring/seats/{seat}/load_closed" for seat in ("ReadSeat", "WriteSeat")],
     ),
+    "as_flag": (
+        "piper_ring/specs/Loads",
+        [
+            f"piper_ring/proofs/ring/seats/{seat}/{load}"
+            for seat in ("ReadSeat", "WriteSeat")
+            for load in ("is_registered", "cancel")
+        ],
+    ),
+    "as_waiter": (
+        "piper_ring/specs/Loads",
+        [f"piper_ring/proofs/ring/seats/{seat}/take_waker" for seat in ("ReadSeat", "WriteSeat")],
+    ),
+    "as_handed_back": (
+        "piper_ring/specs/Loads",
+        [f"piper_ring/proofs/ring/seats/{seat}/reclaim" for seat in ("ReadSeat", "WriteSeat")],
+    ),
     "as_back": (
         "piper_ring/specs/Loads",
         [f"piper_ring/proofs/ends/{end}/reclaim_waker" for end in ("reader/ReadEnd", "writer/WriteEnd")],

@@ -30,7 +30,7 @@ still a b d cx end registrations (inl w) = inl (record {
   };
   calm = w.calm;
 })
-still a b d cx end registrations (inr away) = inr (away.0, (away.1.0, rw registrations away.1.1))
+still a b d cx end registrations (inr away) = inr (away.0, (away.1.0, rw registrations away.1.1, away.1.2))
 
 pending : {A : Type 0} (r : Poll A) (a b d : Writer) (cx : Context) → WriterUnlent b.end d.end → SameWriter b d
     → OnPending r (FillPends a b cx) → OnPending r (FillPends a d cx)

@@ -2,6 +2,7 @@
 use Rattle.std.specs.Prelude.{◌≡◌, ◌+◌, ◌⊎◌, true, false, [], length}
 use Rattle.futures.specs.Task.{Covers}
 use Rattle.futures.specs.declared.task.context.Context.{Context}
+use Rattle.piper_ring.specs.Loads.{IsAway}
 use Rattle.piper_ring.specs.SlotsView.{IsPending, IsWriterPending}
 use Rattle.piper.specs.Contexts.{AsksAgain, IsCalm}
 use Rattle.piper.specs.Handles.{read_source, write_source}
@@ -25,12 +26,14 @@ pub record WriterWaits (a b : Writer) (cx : Context) : Type 0 where
   pub calm : IsCalm cx
 
 -- the place of the side's waker is with the other side, or on its way back, before and after the
--- call: so no waker could be left there
+-- call, which looked for it: so no waker could be left there
 abbrev pub ReaderIsAway : Reader → Reader → Type 0
-ReaderIsAway a b = (a.registrations.owns ≡ false) × (b.registrations.owns ≡ false)
+ReaderIsAway a b =
+    (a.registrations.owns ≡ false) × (b.registrations.owns ≡ false) × IsAway a.registrations.names
 
 abbrev pub WriterIsAway : Writer → Writer → Type 0
-WriterIsAway a b = (a.registrations.owns ≡ false) × (b.registrations.owns ≡ false)
+WriterIsAway a b =
+    (a.registrations.owns ≡ false) × (b.registrations.owns ≡ false) × IsAway a.registrations.names
 
 -- no waker of the side's is left in its slot: none was registered, or it was taken back, or found to
 -- be gone

@@ -1,7 +1,7 @@
 -- What the calls of the reading side find, and what they leave of it.
 use Rattle.std.specs.Prelude.{◌≡◌, ℕ, ◌<◌, ◌≤◌, ◌++◌, take, drop, Bool, true, false, List, [], ◌⊎◌, length, Option}
 use Rattle.piper_ring.specs.Shared.{flag}
-use Rattle.piper_ring.specs.Loads.{FoundClosed}
+use Rattle.piper_ring.specs.Loads.{FoundClosed, IsAway}
 use Rattle.piper_ring.specs.ReadView.{ReadView, SameReadEnd, SameButSaw, in_one_piece}
 use Rattle.piper_ring.specs.SlotsView.{ReadSlotsView, IsPending, IsReaderAtRest, SameReaderLooks, SameReaderPlace}
 use Rattle.piper_c.specs.declared.halves.ReadHalf.{ReadHalf}
@@ -51,6 +51,7 @@ pub record ReaderLooked (a b : ReadHalf) : Type 0 where
 pub record ReaderGotBack (mine : Waiter) (p : Polled) (a b : ReadHalf) : Type 0 where
   pub words : GotBack mine p a.slots.owns b.slots.owns a.slots.tickets b.slots.tickets
   pub again : p.outcome ≡ Again → b.slots ≡ record a.slots { maybe_registered = false }
+  pub away : p.outcome ≡ Again → IsAway a.slots.names
 
 -- the reader, but for the bytes that it took and knows of
 pub record ReaderConsumed (a b : ReadView) : Type 0 where
@@ -102,6 +103,7 @@ pub record ReaderTold (mine : PiperWords) (p : PiperPolled) (a b : ReadHalf) : T
   pub looked : ReaderLooked a b
   pub words : HandedBack mine p a.slots.owns b.slots.owns a.slots.tickets b.slots.tickets
   pub again : p.outcome ≡ 3 → b.slots ≡ record a.slots { maybe_registered = false }
+  pub away : p.outcome ≡ 3 → IsAway a.slots.names
 
 -- after all that b consumed, the writer's slot was checked: words come out exactly where
 -- it took a ticket of the writer's

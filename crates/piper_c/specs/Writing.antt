@@ -1,7 +1,7 @@
 -- What the calls of the writing side find, and what they leave of it.
 use Rattle.std.specs.Prelude.{◌≡◌, ℕ, ◌<◌, ◌≤◌, ◌+◌, ◌++◌, ◌⊎◌, take, drop, Bool, true, false, List, [], length, Option, Some, None}
 use Rattle.piper_ring.specs.Shared.{flag}
-use Rattle.piper_ring.specs.Loads.{FoundClosed}
+use Rattle.piper_ring.specs.Loads.{FoundClosed, IsAway, IsUnregistered}
 use Rattle.piper_ring.specs.WriteView.{WriteView, SameWriteEnd, SameButSaw}
 use Rattle.piper_ring.specs.SlotsView.{WriteSlotsView, IsWriterPending, IsAtRest, SameWriterLooks, SameWriterPlace}
 use Rattle.piper_c.specs.declared.halves.WriteHalf.{WriteHalf}
@@ -48,6 +48,7 @@ pub record WriterLooked (a b : WriteHalf) : Type 0 where
 pub record WriterGotBack (mine : Waiter) (p : Polled) (a b : WriteHalf) : Type 0 where
   pub words : GotBack mine p a.slots.owns b.slots.owns a.slots.tickets b.slots.tickets
   pub again : p.outcome ≡ Again → b.slots ≡ record a.slots { maybe_registered = false }
+  pub away : p.outcome ≡ Again → IsAway a.slots.names
 
 -- the writer, but for the bytes that it published, and the room and the slice that they were in
 pub record WriterPublished (a b : WriteView) : Type 0 where
@@ -111,6 +112,7 @@ pub record WriterTold (mine : PiperWords) (p : PiperPolled) (a b : WriteHalf) : 
   pub looked : WriterLooked a b
   pub words : HandedBack mine p a.slots.owns b.slots.owns a.slots.tickets b.slots.tickets
   pub again : p.outcome ≡ 3 → b.slots ≡ record a.slots { maybe_registered = false }
+  pub away : p.outcome ≡ 3 → IsAway a.slots.names
 
 -- after all that b published, the reader's slot was checked: words come out exactly where
 -- it took a ticket of the reader's
@@ -125,13 +127,14 @@ pub record WriterWrites (from : List ℕ) (moved : PiperMoved) (a b : WriteHalf)
   pub some : 0 < moved.count → WakesReader moved.wake a.slots b
 
 -- the pipe is closed for good; after that the reader's slot was checked, and the writer's own words
--- come out only of its slot
+-- come out of its slot, and are not left there
 pub record WriterCloses (left : PiperLeft) (a b : WriteHalf) : Type 0 where
   pub shut : b.end.shut ≡ true
   pub sent : b.end.sent ≡ a.end.sent
   pub rests : IsAtRest b.end b.slots
   pub took : HandedOut left.wake a.slots.taken b.slots.taken
   pub mine : 0 < left.mine.vtable → a.slots.owns ≡ false
+  pub none : left.mine.vtable ≡ 0 → IsUnregistered a.slots.names a.slots.owns
   pub places : b.places ≡ a.places
 
 -- the first n bytes of room that C gave back were published, as it left them; after that the

@@ -17,7 +17,7 @@ use std::sync::Arc;
 #[derive(Drop)]
 pub struct ReadHalf {
     pub(crate) end: ReadEnd,
-    /// How it waits in its slot, and what it loaded before it checked the writer's.
+    /// How it waits in its slot, and what it had stored when it last checked the writer's.
     pub(crate) slots: ReadRegistrations,
     pub(crate) places: Arc<Places>,
     ghost of_one_ring: { slots.names ≡ end.ring.names },
@@ -28,7 +28,7 @@ pub struct ReadHalf {
 #[derive(Drop)]
 pub struct WriteHalf {
     pub(crate) end: WriteEnd,
-    /// How it waits in its slot, and what it stored before it checked the reader's.
+    /// How it waits in its slot, and what it had stored when it last checked the reader's.
     pub(crate) slots: WriteRegistrations,
     pub(crate) places: Arc<Places>,
     ghost of_one_ring: { slots.names ≡ end.ring.names },

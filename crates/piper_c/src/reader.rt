@@ -1,7 +1,8 @@
-//! The exports of the side that reads. Each takes the side out of its handle, makes a call of it and
-//! puts it back.
+//! The exports of the side that reads. Each takes the side out of its handle, makes a call of it
+//! and puts it back.
 ghost use Rattle.std.specs.Prelude.{◌≡◌, ◌<◌, IsSome, None, false};
 ghost use Rattle.piper_ring.specs.ReadView.{MayBeUnread, in_one_piece};
+ghost use Rattle.piper_ring.specs.Loads.{FoundWaiter, IsUnregistered};
 ghost use Rattle.piper_c.specs.Handles.{Holds, HoldsOn};
 ghost use Rattle.piper_c.specs.Reading.{ReaderTold, ReaderSeen, ReaderAsked, ReaderConsumes, ReaderReads};
 
@@ -157,6 +158,10 @@ pub extern "C" fn piper_reader_drop(alloc: Global, reader: &mut PiperReader) -> 
     requires { IsSome reader.old.half }
     ensures dropped { reader.new.half ≡ None }
     ensures mine { Holds reader.old.half (λ a. 0 < result.mine.vtable → a.slots.owns ≡ false) }
+    ensures none { Holds reader.old.half (λ a.
+        result.mine.vtable ≡ 0 → IsUnregistered a.slots.names a.slots.owns) }
+    ensures nobody { Holds reader.old.half (λ a.
+        result.wake.vtable ≡ 0 → FoundWaiter a.end.ring.names 0) }
 {
     let half = Box::into_inner(reader.take(alloc));
     let (wake, mine, _left) = half.leave();
@@ -166,8 +171,8 @@ pub extern "C" fn piper_reader_drop(alloc: Global, reader: &mut PiperReader) -> 
     }
 }
 
-/// The known bytes that lie in one piece: their address goes into `at`, and it returns how many they
-/// are. What C reads there is no part of what is proved.
+/// The known bytes that lie in one piece: their address goes into `at`, and it returns how many
+/// they are. What C reads there is no part of what is proved.
 #[unsafe(no_mangle)]
 pub extern "C" fn piper_reader_peek(
     alloc: Global,

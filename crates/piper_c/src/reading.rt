@@ -10,6 +10,7 @@ use piper_protocol::table::{AfterRead, Purpose, ReadPoint, Side};
 use piper_ring::ReadRegistrations;
 
 impl ReadHalf {
+    ghost use Rattle.piper_ring.specs.Loads.{FoundWaiter, IsUnregistered};
     ghost use Rattle.piper_c.specs.Reading.{ReaderFound, ReaderLooked, ReaderConsumed, ReaderGotBack, ReaderSaw, ReadsInto, ReaderAsked, TookWriter, LeftReading};
 
     /// Waits for a byte or for the end. `mine` is left where there is neither.
@@ -100,7 +101,7 @@ impl ReadHalf {
         if !self.slots.maybe_registered() {
             return None;
         }
-        self.end.cancel(&mut self.slots, &self.places.reader).ok()
+        self.end.cancel(&mut self.slots, &self.places.reader)
     }
 
     /// Checks for a byte or for the end, and leaves no words.
@@ -197,13 +198,15 @@ impl ReadHalf {
     pub(crate) fn leave(self) -> (Option<Waiter>, Option<Waiter>, ReadRegistrations)
         ensures left { LeftReading self result.0 result.2 }
         ensures mine { IsSome result.1 → self.slots.owns ≡ false }
+        ensures none { result.1 ≡ None → IsUnregistered self.slots.names self.slots.owns }
+        ensures nobody { result.0 ≡ None → FoundWaiter self.end.ring.names 0 }
     {
         let ReadHalf {
             end,
             mut slots,
             places,
         } = self;
-        let mine = end.cancel(&mut slots, &places.reader).ok();
+        let mine = end.cancel(&mut slots, &places.reader);
         let call = ReadCall::drop().stored_closed();
         let (_last, taken) = end.finish_waking(&mut slots, &places.writer);
         let wake = match taken {

@@ -1,7 +1,8 @@
-//! The exports of the side that writes. Each takes the side out of its handle, makes a call of it and
-//! puts it back.
+//! The exports of the side that writes. Each takes the side out of its handle, makes a call of it
+//! and puts it back.
 ghost use Rattle.std.specs.Prelude.{◌≡◌, ◌<◌, None, false};
 ghost use Rattle.piper_ring.specs.WriteView.{MayBeUnread};
+ghost use Rattle.piper_ring.specs.Loads.{FoundWaiter, IsUnregistered};
 ghost use Rattle.piper_c.specs.Handles.{Holds, HoldsOn, IsWholeWriter};
 ghost use Rattle.piper_c.specs.Writing.{WriterTold, WriterSeen, WriterAsked, WriterWrites, WriterCloses, WriterEnds};
 ghost use Rattle.piper_c.specs.Lending.{LendsOut, IsLoanOf, IsWithin, IsWhole, WriterOffers, WriterGoesOn};
@@ -145,6 +146,10 @@ pub extern "C" fn piper_writer_drop(alloc: Global, writer: &mut PiperWriter) -> 
     requires { IsWholeWriter writer.old.half writer.old.lent }
     ensures dropped { writer.new.half ≡ None }
     ensures mine { Holds writer.old.half (λ a. 0 < result.mine.vtable → a.slots.owns ≡ false) }
+    ensures none { Holds writer.old.half (λ a.
+        result.mine.vtable ≡ 0 → IsUnregistered a.slots.names a.slots.owns) }
+    ensures nobody { Holds writer.old.half (λ a.
+        result.wake.vtable ≡ 0 → FoundWaiter a.end.ring.names 0) }
 {
     let half = Box::into_inner(writer.take(alloc));
     let (wake, mine, _left) = half.leave();

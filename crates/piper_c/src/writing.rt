@@ -9,6 +9,7 @@ use piper_protocol::write_call::WriteCall;
 use piper_ring::WriteRegistrations;
 
 impl WriteHalf {
+    ghost use Rattle.piper_ring.specs.Loads.{FoundWaiter, IsUnregistered};
     ghost use Rattle.piper_c.specs.Writing.{LeftWriting, WriterAsked, WriterFound, WriterSaw, WritesFrom, WriterLooked, WriterPublished, WriterGotBack, TookReader, TookReaderLast};
 
     /// Waits for room or for the end. `mine` is left where there is neither.
@@ -108,7 +109,7 @@ impl WriteHalf {
         if !self.slots.maybe_registered() {
             return None;
         }
-        self.end.cancel(&mut self.slots, &self.places.writer).ok()
+        self.end.cancel(&mut self.slots, &self.places.writer)
     }
 
     /// Checks for room or for the end, and leaves no words.
@@ -150,8 +151,8 @@ impl WriteHalf {
         (n, wake)
     }
 
-    /// Publishes the first `n` bytes of what is lent, as they are. Returns who has to be woken, also
-    /// where `n` is 0.
+    /// Publishes the first `n` bytes of what is lent, as they are. Returns who has to be woken,
+    /// also where `n` is 0.
     pub(crate) fn publish(&mut self, n: usize) -> Option<Waiter>
         requires { n ≤ length self.old.end.lent }
         ensures sent { self.new.end.sent ≡ self.old.end.sent ++ take n self.old.end.lent }
@@ -201,6 +202,7 @@ impl WriteHalf {
         ensures sent { self.new.end.sent ≡ self.old.end.sent }
         ensures wake { TookReaderLast result.0 self.old.slots self.new }
         ensures mine { IsSome result.1 → self.old.slots.owns ≡ false }
+        ensures none { result.1 ≡ None → IsUnregistered self.old.slots.names self.old.slots.owns }
         ensures places { self.new.places ≡ self.old.places }
     {
         let call = WriteCall::close();
@@ -219,16 +221,17 @@ impl WriteHalf {
     fn reclaim_last(&mut self, call: WriteCall) -> Option<Waiter>
         requires { call.point ≡ WritePoint.TakeWriter }
         ensures back { IsSome result → self.old.slots.owns ≡ false }
+        ensures none { result ≡ None → IsUnregistered self.old.slots.names self.old.slots.owns }
         ensures kept { self.new.slots ≡ record self.old.slots
             { owns = self.new.slots.owns; maybe_registered = false } }
         ensures rest { (self.new.end ≡ self.old.end) × (self.new.places ≡ self.old.places) }
     {
         match self.end.cancel(&mut self.slots, &self.places.writer) {
-            Ok(mine) => {
+            Some(mine) => {
                 call.took_own(true).woke().done();
                 Some(mine)
             }
-            Err(_) => {
+            None => {
                 call.took_own(false).done();
                 None
             }
@@ -240,13 +243,15 @@ impl WriteHalf {
     pub(crate) fn leave(self) -> (Option<Waiter>, Option<Waiter>, WriteRegistrations)
         ensures left { LeftWriting self result.0 result.2 }
         ensures mine { IsSome result.1 → self.slots.owns ≡ false }
+        ensures none { result.1 ≡ None → IsUnregistered self.slots.names self.slots.owns }
+        ensures nobody { result.0 ≡ None → FoundWaiter self.end.ring.names 0 }
     {
         let WriteHalf {
             end,
             mut slots,
             places,
         } = self;
-        let mine = end.cancel(&mut slots, &places.writer).ok();
+        let mine = end.cancel(&mut slots, &places.writer);
         let call = WriteCall::drop().stored_closed(false);
         let (_last, taken) = end.finish_waking(&mut slots, &places.reader);
         let wake = match taken {

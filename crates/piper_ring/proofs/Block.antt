@@ -13,6 +13,11 @@ use Rattle.piper_ring.specs.Places as P
 pub placed_bytes : (w p : Ptr) (z : Names) → Placed w p z → P.Placed p z.capacity
 placed_bytes w p z at = let small : size_of_block z.capacity < 2 ^ 63 = at.2 in (subst InBlock (sym at.1) tt, omega arith)
 
+-- m words take 8 bytes each
+pub beyond_words : (m at : ℕ) → beyond (ty_int w64) m at ≡ m * 8 + at
+beyond_words zero at = omega arith
+beyond_words (suc m) at = beyond_words m (at + 8) ∙ omega arith
+
 module _ {M : Type 1} {𝓤 : Ura M} (𝓛 : Logic 𝓤) (w : Ptr) (cap : ℕ) where
   open 𝓛 use {H}
 
@@ -60,10 +65,6 @@ module _ {M : Type 1} {𝓤 : Ura M} (𝓛 : Logic 𝓤) (w : Ptr) (cap : ℕ) w
 
   abbrev pub BlockRoom : Fml
   BlockRoom = froom (purpose (size_of_block cap)) b o
-
-  beyond_words : (m at : ℕ) → beyond u m at ≡ m * 8 + at
-  beyond_words zero at = omega arith
-  beyond_words (suc m) at = beyond_words m (at + 8) ∙ omega arith
 
   many : size_of_block cap / 8 ≡ 27 + e
   many = omega arith

@@ -13,6 +13,7 @@ use Rattle.piper_ring.specs.Block.{behind, size_of_block}
 use Rattle.piper_ring.specs.Shared.{names_of, titles}
 use types.Tokens.{name_new}
 use Rattle.std.specs.Coded.{Coded}
+use Rattle.piper_ring.proofs.Block.{beyond_words}
 use Rattle.piper_ring.proofs.Rights.{common_twice, cut}
 use Rattle.piper_ring.proofs.Steps.{closes}
 
@@ -42,10 +43,6 @@ module _ {M : Type 1} {𝓤 : Ura M} (𝓛 : Logic 𝓤) (w p : Ptr) (cap : ℕ)
   -- room for n words from e on
   abbrev many : ℕ → ℕ → Fml
   many n e = froom (ty_array u n) b e
-
-  beyond_words : (m e : ℕ) → beyond u m e ≡ m * 8 + e
-  beyond_words zero e = omega arith
-  beyond_words (suc m) e = beyond_words m (e + 8) ∙ omega arith
 
   -- a word in use, m words behind it that nobody uses, and the n words from the next one in use on
   apart : (m n here next : ℕ) → next ≡ m * 8 + (here + 8) → ⟦ many (suc (m + n)) here ⟧ ⊢ ⟦ froom u b here ⟧ ∗ ⟦ many n next ⟧ ∗ ⟦ many m (here + 8) ⟧

@@ -31,6 +31,12 @@ filled = (true, true)
 abbrev pub emptied : Held
 emptied = (true, false)
 
+one_bit : (at : Where) → flag_of at ≤ 1
+one_bit with_waiter = omega arith
+one_bit in_slot = omega arith
+one_bit with_taker = omega arith
+one_bit handed_back = omega arith
+
 -- nothing is held, as the side's own state says
 holds_none : (y : Bool) → y ≡ false → none ≡ (y, y)
 holds_none y e i = (sym e i, sym e i)
@@ -59,12 +65,12 @@ module _ {X : Type 0} where
   abbrev pub ReclaimsHeld : Waits X → ℕ → X → Waits X → Held → Type 0
   ReclaimsHeld a n x a' u = Reclaims X a x n a' × (u ≡ (a'.0, false))
 
-  -- a load leaves the side that waits as it was
+  -- a load of the flag leaves the side that waits as it was
   abbrev pub StaysSo : Waits X → ℕ → X → Waits X → Held → Type 0
-  StaysSo a n x a' u = a' ≡ a
+  StaysSo a n x a' u = (n ≤ 1) × (a' ≡ a)
 
   stays_so : (a : Waits X) (b : Wakes X) (at : Where) → IsWhere X at a b → WaitsTo (OnFlag (λ n. n)) (StaysSo a) (flag_of at) none a b at
-  stays_so a b at h = (a, at, none, (refl, refl), h, refl, inl (refl, refl))
+  stays_so a b at h = (a, at, none, (refl, refl), h, (one_bit at, refl), inl (refl, refl))
 
   looks : (b : Wakes X) (x : X) → b.0 ≡ false → (a : Waits X) (at : Where) → IsWhere X at a b → WakesTo (OnFlag (λ n. n)) (λ n b' _. Looks X b x n b') (flag_of at) x none a b at
   looks b x rests a with_waiter h = ((b.0, (b.1.0, x)), with_waiter, none, (refl, refl), h, inl refl, (omega arith, (λ _. refl), λ n. absurd (n refl)), inl (refl, refl))

@@ -1,7 +1,8 @@
--- What a load of one of the ring's words found, and what lay in a side's place. These definitions are
--- sealed: no proof looks into them, and only those of the loads in src/ring/seats.rt, and of
--- `reclaim_waker`, use the lemmas below. So what a clause says of one of them came from such a call.
-use Rattle.std.specs.Prelude.{⊤, ℕ, Bool, Option}
+-- What a load of one of the ring's words found, and what lay in a side's place. Of these definitions
+-- those with a lemma below are sealed: no proof looks into them, and only those of the loads in
+-- src/ring/seats.rt and src/ring/slots.rt, and of `reclaim_waker`, use the lemmas. So what a clause
+-- says of one of them came from such a call.
+use Rattle.std.specs.Prelude.{◌≡◌, ◌⊎◌, ⊤, ℕ, Bool, true, Option}
 use Rattle.piper_ring.specs.Shared.{Names}
 
 -- the tail, which was loaded, was that of so many published bytes
@@ -15,6 +16,27 @@ FoundConsumed names count = ⊤
 -- the word closed, which was loaded, was so
 pub FoundClosed : Names → Bool → Type 0
 FoundClosed names closed = ⊤
+
+-- the flag of a side's slot, which that side loaded, was so: 1 where its waker was registered there
+pub FoundFlag : Names → ℕ → Type 0
+FoundFlag names flag = ⊤
+
+-- the word by which a side's place is handed back, which that side loaded, was so: 1 where it was
+pub FoundBack : Names → ℕ → Type 0
+FoundBack names back = ⊤
+
+-- the flag of the other side's slot, which was swapped out, was so: 1 where a waker was registered
+-- there
+pub FoundWaiter : Names → ℕ → Type 0
+FoundWaiter names flag = ⊤
+
+-- no waker of a side is registered in its slot: the side has its place, or found its flag to be 0
+abbrev pub IsUnregistered : Names → Bool → Type 0
+IsUnregistered names owns = (owns ≡ true) ⊎ FoundFlag names 0
+
+-- a side's place is with the other side: it was not handed back, and no waker was registered any more
+abbrev pub IsAway : Names → Type 0
+IsAway names = FoundBack names 0 × FoundFlag names 0
 
 -- a side took its place back, with this waker in it, or none
 pub CameBack : {T : Type 0} → Option T → Type 0
@@ -35,3 +57,15 @@ as_closed names closed = tt
 pub as_back : {T : Type 0} (waker : Option T) → CameBack waker
 unfolding CameBack
 as_back waker = tt
+
+pub as_flag : (names : Names) (flag : ℕ) → FoundFlag names flag
+unfolding FoundFlag
+as_flag names flag = tt
+
+pub as_handed_back : (names : Names) (back : ℕ) → FoundBack names back
+unfolding FoundBack
+as_handed_back names back = tt
+
+pub as_waiter : (names : Names) (flag : ℕ) → FoundWaiter names flag
+unfolding FoundWaiter
+as_waiter names flag = tt

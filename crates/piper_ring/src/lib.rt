@@ -10,5 +10,5 @@ pub use ends::reader::ReadEnd;
 pub use ends::slots::{ReadRegistrations, WriteRegistrations};
 pub use ends::writer::WriteEnd;
 pub use piper_protocol::memory::OutOfMemory;
-pub use ring::claims::{Away, NotRegistered, Registered};
+pub use ring::claims::Away;
 pub use ring::marks::{LastReadMark, ReadMark, WriteMark};

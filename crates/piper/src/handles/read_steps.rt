@@ -144,7 +144,7 @@ impl Reader {
         ensures end { self.new.end ≡ self.old.end }
         ensures rest { SameReaderButWaits self.old self.new }
     {
-        if self.end.is_registered(&mut self.registrations).is_ok() {
+        if self.end.is_registered(&mut self.registrations) {
             drop(
                 self.end
                     .reclaim_waker(&mut self.registrations, &self.slots.reader.place),

@@ -149,7 +149,7 @@ impl Writer {
         ensures end { self.new.end ≡ self.old.end }
         ensures rest { SameWriterButWaits self.old self.new }
     {
-        if self.end.is_registered(&mut self.registrations).is_ok() {
+        if self.end.is_registered(&mut self.registrations) {
             drop(
                 self.end
                     .reclaim_waker(&mut self.registrations, &self.slots.writer.place),

@@ -18,10 +18,12 @@ use std::sync::atomic::Ordering::SeqCst;
 use std::sync::atomic::raw;
 use token_cell::Token;
 
-/// Processors fetch cache lines of 64 bytes, and often two, a pair of 128. So the head and the
-/// tail, which are stored while bytes flow, are never in one pair. Between them are the words that
-/// the reader loads after it stored the head, and those that the writer loads before and after it
-/// stores the tail: each a line away from the word beside it, which the same side stores.
+// Where each word lies, counted in words from the first. Processors fetch cache lines of 64 bytes,
+// and often two, a pair of 128. So the head and the tail, which are stored while bytes flow, are
+// never in one pair. Between them are the words that the reader loads after it stored the head, and
+// those that the writer loads before and after it stores the tail: each a line away from the word
+// beside it, which the same side stores.
+
 const LEFT_WORD: usize = 0;
 
 const HEAD_WORD: usize = 1;

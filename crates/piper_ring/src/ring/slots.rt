@@ -1,7 +1,7 @@
 //! What each side knows of a slot, at which a side waits for the other, and its steps on the slot's
 //! two words. It takes no space, and a `&` to it gives nothing.
 ghost use Rattle.std.specs.Borrow.{ftrue};
-ghost use Rattle.std.specs.Prelude.{◌≡◌, ◌<◌, ℕ, Bool, List, None, IsSome, true, false};
+ghost use Rattle.std.specs.Prelude.{◌≡◌, ◌<◌, ◌≤◌, ℕ, Bool, List, None, IsSome, true, false};
 ghost use Rattle.piper_ring.specs.Shared.{Consumed, Names, Stream, names_code, waits_for, wakes_for, waits_back, wakes_back};
 
 use crate::ring::marks::{ReadMark, Saw, WriteMark};
@@ -123,6 +123,7 @@ impl Drop for ReaderWakes {
 }
 
 impl WriteSeat {
+    ghost use Rattle.piper_ring.specs.Loads.{FoundBack, FoundFlag, FoundWaiter};
     ghost use Rattle.piper_ring.specs.Slots.{GivesBack, PublishesWaker, IsRemembered, Looks, Reclaims, Takes};
     ghost use Rattle.piper_ring.specs.SlotViews.{IsTokenOf, of_reader_wakes, of_writer_waits, of_writer_wakes};
 
@@ -148,6 +149,7 @@ impl WriteSeat {
             result.0 (of_writer_wakes slot.new) }
         ensures right { IsTokenOf self.now.names.reader_place slot.new.holds slot.new.holds
             result.1 }
+        ensures found { FoundWaiter self.now.names result.0 }
     {
         // SAFETY: the seat owns or shares the ring's words (`also_owns`, `also_shares`), which live
         // until the last end is gone.
@@ -178,6 +180,7 @@ impl WriteSeat {
         ensures looked { (slot.new.bytes ≡ self.now.sent) × (slot.new.shut ≡ self.now.shut) }
         ensures none { result ≡ None → slot.new.taken ≡ slot.old.taken }
         ensures some { IsSome result → slot.old.taken < slot.new.taken }
+        ensures found { result ≡ None → FoundWaiter self.now.names 0 }
     {
         let (found, mut right) = self.take_waker(slot);
         if found == 0 {
@@ -208,7 +211,9 @@ impl WriteSeat {
     /// 1 where the writer's waker is registered in its slot, else 0.
     pub(crate) fn is_registered(&self, slot: &mut WriterWaits) -> u64
         requires { slot.old.names ≡ self.now.names }
-        ensures { slot.new ≡ slot.old }
+        ensures kept { slot.new ≡ slot.old }
+        ensures bit { result ≤ 1 }
+        ensures found { FoundFlag self.now.names result }
     {
         // SAFETY: the seat owns or shares the ring's words (`also_owns`, `also_shares`), which live
         // until the last end is gone.
@@ -223,6 +228,7 @@ impl WriteSeat {
         ensures back { Reclaims Consumed (of_writer_waits slot.old) (slot.old.count, slot.old.over)
             result.0 (of_writer_waits slot.new) }
         ensures right { IsTokenOf self.now.names.writer_place slot.new.owns slot.new.owns result.1 }
+        ensures found { FoundFlag self.now.names result.0 }
     {
         // SAFETY: the seat owns or shares the ring's words (`also_owns`, `also_shares`), which live
         // until the last end is gone.
@@ -238,6 +244,7 @@ impl WriteSeat {
         ensures back { Reclaims Consumed (of_writer_waits slot.old) (slot.old.count, slot.old.over)
             result.0 (of_writer_waits slot.new) }
         ensures right { IsTokenOf self.now.names.writer_place slot.new.owns false result.1 }
+        ensures found { FoundBack self.now.names result.0 }
     {
         // SAFETY: the seat owns or shares the ring's words (`also_owns`, `also_shares`), which live
         // until the last end is gone.
@@ -256,6 +263,7 @@ impl WriteSeat {
 }
 
 impl ReadSeat {
+    ghost use Rattle.piper_ring.specs.Loads.{FoundBack, FoundFlag, FoundWaiter};
     ghost use Rattle.piper_ring.specs.Slots.{GivesBack, PublishesWaker, IsRemembered, Looks, Reclaims, Takes};
     ghost use Rattle.piper_ring.specs.SlotViews.{IsTokenOf, of_reader_waits, of_reader_wakes, of_writer_wakes};
 
@@ -279,7 +287,9 @@ impl ReadSeat {
     /// 1 where the reader's waker is registered in its slot, else 0.
     pub(crate) fn is_registered(&self, slot: &mut ReaderWaits) -> u64
         requires { slot.old.names ≡ self.now.names }
-        ensures { slot.new ≡ slot.old }
+        ensures kept { slot.new ≡ slot.old }
+        ensures bit { result ≤ 1 }
+        ensures found { FoundFlag self.now.names result }
     {
         // SAFETY: the seat owns or shares the ring's words (`also_owns`, `also_shares`), which live
         // until the last end is gone.
@@ -294,6 +304,7 @@ impl ReadSeat {
         ensures back { Reclaims Stream (of_reader_waits slot.old) (slot.old.bytes, slot.old.shut)
             result.0 (of_reader_waits slot.new) }
         ensures right { IsTokenOf self.now.names.reader_place slot.new.owns slot.new.owns result.1 }
+        ensures found { FoundFlag self.now.names result.0 }
     {
         // SAFETY: the seat owns or shares the ring's words (`also_owns`, `also_shares`), which live
         // until the last end is gone.
@@ -309,6 +320,7 @@ impl ReadSeat {
         ensures back { Reclaims Stream (of_reader_waits slot.old) (slot.old.bytes, slot.old.shut)
             result.0 (of_reader_waits slot.new) }
         ensures right { IsTokenOf self.now.names.reader_place slot.new.owns false result.1 }
+        ensures found { FoundBack self.now.names result.0 }
     {
         // SAFETY: the seat owns or shares the ring's words (`also_owns`, `also_shares`), which live
         // until the last end is gone.
@@ -351,6 +363,7 @@ impl ReadSeat {
             result.0 (of_reader_wakes slot.new) }
         ensures right { IsTokenOf self.now.names.writer_place slot.new.holds slot.new.holds
             result.1 }
+        ensures found { FoundWaiter self.now.names result.0 }
     {
         // SAFETY: the seat owns or shares the ring's words (`also_owns`, `also_shares`), which live
         // until the last end is gone.
@@ -387,6 +400,7 @@ impl ReadSeat {
         ensures looked { (slot.new.count ≡ self.now.head) × (slot.new.over ≡ saw.now.seen) }
         ensures none { result ≡ None → slot.new.taken ≡ slot.old.taken }
         ensures some { IsSome result → slot.old.taken < slot.new.taken }
+        ensures found { result ≡ None → FoundWaiter self.now.names 0 }
     {
         let (found, mut right) = self.take_waker(slot, saw);
         if found == 0 {

@@ -1,14 +1,14 @@
 //! How the writer's end waits in its slot, and wakes whoever waits in the reader's.
-ghost use Rattle.std.specs.Prelude.{◌≡◌, ◌+◌, ◌<◌, ◌≤◌, length, None, IsSome, IsOk, IfOk, IfErr, true, false, IsTrue, IsFalse};
+ghost use Rattle.std.specs.Prelude.{◌≡◌, ◌+◌, ◌<◌, ◌≤◌, ◌⊎◌, length, None, IsSome, IsOk, IfOk, IfErr, true, false, IsTrue, IsFalse};
 
 use crate::ends::slots::{ReadRegistrations, WriteRegistrations};
 use crate::ends::writer::WriteEnd;
-use crate::ring::claims::{Away, NotBack, NotRegistered, Registered};
+use crate::ring::claims::Away;
 use crate::ring::marks::WriteMark;
 use token_cell::TokenCell;
 
 impl WriteEnd {
-    ghost use Rattle.piper_ring.specs.Loads.{CameBack};
+    ghost use Rattle.piper_ring.specs.Loads.{CameBack, FoundBack, FoundFlag, FoundWaiter, IsAway, IsUnregistered};
     ghost use Rattle.piper_ring.specs.Shared.{flag};
     ghost use Rattle.piper_ring.specs.WriteView.{HasMoreRoom, SameButSaw};
     ghost use Rattle.piper_ring.specs.SlotsView.{WriterRegisters, WriterHasToDo, IsWriterPending, IsAtRest, SameWriterPlace, HasRoomNews};
@@ -18,40 +18,44 @@ impl WriteEnd {
         &self,
         slots: &mut WriteRegistrations,
         place: &TokenCell<Option<T>>,
-    ) -> Result<T, NotRegistered>
+    ) -> Option<T>
         requires ring { slots.old.names ≡ self.now.ring.names }
         requires place { place.now ≡ slots.old.names.writer_place }
-        ensures back { IfOk result (λ _. slots.old.owns ≡ false) }
-        ensures owns { IfOk result (λ _.
-            slots.new ≡ record slots.old { owns = true; maybe_registered = false }) }
-        ensures none { IfErr result (λ _.
-            slots.new ≡ record slots.old { maybe_registered = false }) }
+        ensures back { IsSome result → slots.old.owns ≡ false }
+        ensures owns { IsSome result →
+            slots.new ≡ record slots.old { owns = true; maybe_registered = false } }
+        ensures none { result ≡ None → slots.new ≡ record slots.old { maybe_registered = false } }
+        ensures found { result ≡ None → IsUnregistered slots.old.names slots.old.owns }
     {
         let parts = &mut slots.parts;
-        if let Some(right) = &parts.right {
-            return Err(NotRegistered::with_place(right));
+        if parts.right.is_some() {
+            return None;
         }
         let claimed = self.parts.seat.claim_waker(&mut parts.waits);
         parts.maybe_registered = false;
         let mut right = claimed?;
         let waker = place.take(&mut right);
         parts.right = Some(right);
-        Ok(waker)
+        Some(waker)
     }
 
     /// Takes back a place that the reader handed back, where this end doesn't have it.
-    fn reclaim(&self, slots: &mut WriteRegistrations) -> Result<(), NotBack>
+    fn reclaim(&self, slots: &mut WriteRegistrations) -> bool
         requires { slots.old.names ≡ self.now.ring.names }
-        ensures owns { IfOk result (λ _.
-            slots.new ≡ record slots.old { owns = true; maybe_registered = false }) }
-        ensures refused { IfErr result (λ _. (slots.old.owns ≡ false) × (slots.new ≡ slots.old)) }
+        ensures owns { IsTrue result →
+            slots.new ≡ record slots.old { owns = true; maybe_registered = false } }
+        ensures refused { IsFalse result → (slots.old.owns ≡ false) × (slots.new ≡ slots.old) }
+        ensures found { IsFalse result → FoundBack slots.old.names 0 }
     {
         let parts = &mut slots.parts;
         if parts.right.is_none() {
-            parts.right = Some(self.parts.seat.claim_place(&mut parts.waits)?);
+            let Some(right) = self.parts.seat.claim_place(&mut parts.waits) else {
+                return false;
+            };
+            parts.right = Some(right);
             parts.maybe_registered = false;
         }
-        Ok(())
+        true
     }
 
     /// Takes the place of its waker back, with the waker that is still registered there, if one is.
@@ -67,33 +71,35 @@ impl WriteEnd {
             slots.new ≡ record slots.old { owns = true; maybe_registered = false }) }
         ensures found { IfOk result (λ waker. IsSome waker → slots.old.owns ≡ false) }
         ensures back { IfOk result CameBack }
-        ensures away { IfErr result (λ _. (slots.old.owns ≡ false)
-            × (slots.new ≡ record slots.old { maybe_registered = false })) }
+        ensures away { IfErr result (λ _. (slots.old.owns ≡ false) × IsAway slots.old.names) }
+        ensures none { IfErr result (λ _.
+            slots.new ≡ record slots.old { maybe_registered = false }) }
     {
         // Who was woken finds the place handed back: so that is asked first.
-        match self.reclaim(slots) {
-            Ok(()) => Ok(None),
-            Err(not_back) => match self.cancel(slots, place) {
-                Ok(waker) => Ok(Some(waker)),
-                Err(not_registered) => Err(Away::new(not_back, not_registered)),
-            },
+        if self.reclaim(slots) {
+            return Ok(None);
+        }
+        match self.cancel(slots, place) {
+            Some(waker) => Ok(Some(waker)),
+            None => Err(Away),
         }
     }
 
     /// Whether this end's waker is still registered in its slot.
-    pub fn is_registered(&self, slots: &mut WriteRegistrations) -> Result<Registered, NotRegistered>
+    pub fn is_registered(&self, slots: &mut WriteRegistrations) -> bool
         requires { slots.old.names ≡ self.now.ring.names }
-        ensures registered { IfOk result (λ _. (slots.old.owns ≡ false)
-            × (slots.new ≡ record slots.old { maybe_registered = true })) }
-        ensures none { IfErr result (λ _.
-            slots.new ≡ record slots.old { maybe_registered = false }) }
+        ensures registered { IsTrue result →
+            (slots.old.owns ≡ false) × FoundFlag slots.old.names 1 }
+        ensures none { IsFalse result → IsUnregistered slots.old.names slots.old.owns }
+        ensures kept { slots.new ≡ record slots.old { maybe_registered = result } }
     {
         let parts = &mut slots.parts;
-        if let Some(right) = &parts.right {
-            return Err(NotRegistered::with_place(right));
+        if parts.right.is_some() {
+            parts.maybe_registered = false;
+            return false;
         }
         let found = self.parts.seat.find_waker(&mut parts.waits);
-        parts.maybe_registered = found.is_ok();
+        parts.maybe_registered = found;
         found
     }
 
@@ -133,9 +139,9 @@ impl WriteEnd {
         requires ring { slots.old.names ≡ self.now.ring.names }
         requires place { place.now ≡ slots.old.names.writer_place }
         ensures registered { IfOk result (λ _. WriterRegisters slots.old slots.new) }
+        ensures away { IfErr result (λ _. (slots.old.owns ≡ false) × IsAway slots.old.names) }
         ensures refused { IfErr result (λ _.
             slots.new ≡ record slots.old { maybe_registered = false }) }
-        ensures owned { slots.old.owns ≡ true → IsOk result }
     {
         let Ok(before) = self.reclaim_waker(slots, place) else {
             return Err(waker);
@@ -188,7 +194,8 @@ impl WriteEnd {
         requires open { self.old.saw ≡ false }
         ensures pending { IsTrue result → IsWriterPending self.new slots.new }
         ensures ticket { IsTrue result → slots.new.tickets ≡ slots.old.tickets + 1 }
-        ensures owned { IsFalse result → slots.old.owns ≡ true → WriterHasToDo self.new }
+        ensures busy { IsFalse result →
+            WriterHasToDo self.new ⊎ ((slots.old.owns ≡ false) × IsAway slots.old.names) }
         ensures names { slots.new.names ≡ slots.old.names }
         ensures end { (self.new.ring ≡ self.old.ring) × (self.new.sent ≡ self.old.sent) }
     {
@@ -259,6 +266,7 @@ impl WriteEnd {
         ensures looked { (slots.new.bytes ≡ self.sent) × (slots.new.shut ≡ true) }
         ensures none { result.1 ≡ None → slots.new.taken ≡ slots.old.taken }
         ensures some { IsSome result.1 → slots.old.taken < slots.new.taken }
+        ensures found { result.1 ≡ None → FoundWaiter self.ring.names 0 }
         ensures own { SameWriterPlace slots.old slots.new }
     {
         let leaving = self.close();

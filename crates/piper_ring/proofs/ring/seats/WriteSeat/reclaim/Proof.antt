@@ -3,6 +3,7 @@ use Rattle.piper_ring.proofs.Kit.{false, lit<, ◌≡◌, ℕ, ◌+◌, ◌^◌,
 use Rattle.piper_ring.proofs.Rights.{writer_halves}
 use Rattle.piper_ring.proofs.Steps.{flag_small}
 use Rattle.token_cell.specs.contracts.Token as Token
+use Rattle.piper_ring.specs.Loads.{FoundBack, as_handed_back}
 use Rattle.piper_ring.proofs.Slots.{WriterWaited, writer_reclaims, ReclaimsHeld}
 use Rattle.piper_ring.specs.contracts.ring.slots.WriterWaits as Slot
 use Rattle.piper_ring.specs.contracts.ring.seats.WriteSeat as Seat
@@ -50,6 +51,7 @@ reclaim_spec 𝓤 𝓛 𝓜 𝓡 wired =
     let token : Token.the_row.Denot = record { mark = record {}; name = z.writer_place; there = r.1.1.0; filled = r.1.1.1 } in let Righted : Type 0 = (z.writer_place ≡ z.writer_place) × (r.1.1.0 ≡ v.0) × (r.1.1.1 ≡ false) in
     move ! (2 ∷ []) $ use0 𝓛 (‵ (RightData.own_val (record {}, tt) (right_val ∷ []))) (right_made 𝓛) $ fjoin ! $ flt_i ! n (2 ^ 64) fits $ feq_i ! (List Val) (vint w64 n ∷ []) (vint w64 n ∷ []) refl $ fjoin ! $
     use2 𝓛 (‵ ((denote.Struct.Tuple.Tuple (u64 ∷ Token.the_row ∷ [])).own_val (n, token) (pair_val (vint w64 n) right_val ∷ []))) (pair_of 𝓛 u64 Token.the_row n token (vint w64 n) right_val) $
-    use0 𝓛 (raw (fact 𝓤 Righted)) (fact_i 𝓤 Righted (emp 𝓤) (refl, (λ i. (told.1 i).0), λ i. (told.1 i).1)) $
+    use0 𝓛 (raw (fact 𝓤 (FoundBack z n))) (fact_i 𝓤 (FoundBack z n) (emp 𝓤) (as_handed_back z n)) $
+    use0 𝓛 (raw (fact 𝓤 Righted)) (fact_i 𝓤 Righted (emp 𝓤) (refl, (λ i. (told.1 i).0), λ i. (told.1 i).1)) $ join ! $
     use0 𝓛 (raw (fact 𝓤 (Reclaims Consumed view (k.count, k.over) n v))) (fact_i 𝓤 (Reclaims Consumed view (k.count, k.over) n v) (emp 𝓤) told.0) $ join ! $ use0 𝓛 (raw (fact 𝓤 (k.names ≡ k.names))) (fact_i 𝓤 (k.names ≡ k.names) (emp 𝓤) refl) $ join ! $
     returns ! (look_at ! 0 refl) $ free_all ! refl $ keep ! (2 ∷ 3 ∷ 1 ∷ 0 ∷ []) $ by ! (leaves 𝓛 En hs c y (pair_val (vint w64 n) right_val) (n, token) (tt, (k', tt)) (tt, (tt, tt))))))))))))))
