@@ -37,7 +37,11 @@ SEALS = {
     ),
     "as_waiter": (
         "piper_ring/specs/Loads",
-        [f"piper_ring/proofs/ring/seats/{seat}/take_waker" for seat in ("ReadSeat", "WriteSeat")],
+        [
+            f"piper_ring/proofs/ring/seats/{seat}/{load}"
+            for seat in ("ReadSeat", "WriteSeat")
+            for load in ("look_flag", "take_waker")
+        ],
     ),
     "as_handed_back": (
         "piper_ring/specs/Loads",

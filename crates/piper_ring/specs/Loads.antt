@@ -25,8 +25,7 @@ FoundFlag names flag = ⊤
 pub FoundBack : Names → ℕ → Type 0
 FoundBack names back = ⊤
 
--- the flag of the other side's slot, which was swapped out, was so: 1 where a waker was registered
--- there
+-- the flag of the other side's slot, which was loaded, was so: 1 where a waker was registered there
 pub FoundWaiter : Names → ℕ → Type 0
 FoundWaiter names flag = ⊤
 

@@ -134,6 +134,7 @@ impl WriteSeat {
         ensures ring { slot.new.names ≡ slot.old.names }
         ensures looked { Looks Stream (of_writer_wakes slot.old) (self.now.sent, self.now.shut)
             result (of_writer_wakes slot.new) }
+        ensures found { FoundWaiter self.now.names result }
     {
         // SAFETY: the seat owns or shares the ring's words (`also_owns`, `also_shares`), which live
         // until the last end is gone.
@@ -346,6 +347,7 @@ impl ReadSeat {
         ensures ring { slot.new.names ≡ slot.old.names }
         ensures looked { Looks Consumed (of_reader_wakes slot.old) (self.now.head, saw.now.seen)
             result (of_reader_wakes slot.new) }
+        ensures found { FoundWaiter self.now.names result }
     {
         // SAFETY: the seat owns or shares the ring's words (`also_owns`, `also_shares`), which live
         // until the last end is gone.

@@ -211,7 +211,7 @@ impl ReadEnd {
     pub fn nobody_waits(&self, slots: &mut ReadRegistrations) -> bool
         requires { slots.old.names ≡ self.now.ring.names }
         ensures rests { IsTrue result → IsReaderAtRest self.now slots.new }
-        ensures found { IsFalse result → slots.new ≡ slots.old }
+        ensures found { IsFalse result → (slots.new ≡ slots.old) × FoundWaiter slots.old.names 1 }
         ensures none { slots.new.taken ≡ slots.old.taken }
         ensures own { SameReaderPlace slots.old slots.new }
     {

@@ -212,7 +212,7 @@ impl WriteEnd {
     pub fn nobody_waits(&self, slots: &mut WriteRegistrations) -> bool
         requires { slots.old.names ≡ self.now.ring.names }
         ensures rests { IsTrue result → IsAtRest self.now slots.new }
-        ensures found { IsFalse result → slots.new ≡ slots.old }
+        ensures found { IsFalse result → (slots.new ≡ slots.old) × FoundWaiter slots.old.names 1 }
         ensures none { slots.new.taken ≡ slots.old.taken }
         ensures own { SameWriterPlace slots.old slots.new }
     {
