@@ -1,13 +1,14 @@
 -- What each side keeps: its own index,
 -- the other's as it last saw it, and its point inside the open call.
-use Rattle.std.specs.Prelude.{◌≡◌, ℕ, ◌+◌, ◌-◌, ◌*◌, ◌<◌, ◌≤◌, min, max, Bool, true, false, if◌then◌else◌}
+use Rattle.std.specs.Prelude.{◌≡◌, ℕ, ◌+◌, ◌*◌, ◌<◌, ◌≤◌, max, Bool, true, false}
 use Rattle.piper_protocol.specs.declared.table.ReadPoint.{ReadPoint}
 use Rattle.piper_protocol.specs.declared.table.ReadPoint.TheVariants as at
 use Rattle.piper_protocol.specs.declared.table.WritePoint.{WritePoint}
 use Rattle.piper_protocol.specs.declared.table.WritePoint.TheVariants as on
 use Rattle.piper_protocol.specs.Index.{IsCapacity, distance, place_of}
-use Rattle.piper_protocol.specs.LendBound.{lend_bound}
+use Rattle.piper_protocol.specs.ReaderIndices.{ReaderIndices, known_in, peekable_in}
 use Rattle.piper_protocol.specs.Table.{head_store, tail_store, read_sum, write_sum}
+use Rattle.piper_protocol.specs.WriterIndices.{WriterIndices, room_in, left_in, lendable_in}
 
 pub record Reading : Type 0 where
   pub capacity : ℕ
@@ -30,25 +31,33 @@ pub record Writing : Type 0 where
   pub is_shut : Bool
   pub point : WritePoint
 
--- the bytes that the reader knows of
+abbrev pub reader_indices : Reading → ReaderIndices
+reader_indices r = record { capacity = r.capacity; head = r.head; tail = r.tail }
+
+abbrev pub writer_indices : Writing → WriterIndices
+writer_indices w = record {
+  capacity = w.capacity;
+  tail = w.tail;
+  head = w.head;
+  zeroed = w.zeroed;
+  lent = w.lent;
+  is_shut = w.is_shut;
+}
+
 abbrev pub known_of : Reading → ℕ
-known_of r = distance r.capacity r.head r.tail
+known_of r = known_in (reader_indices r)
 
--- those of them that are contiguous
 abbrev pub peekable_of : Reading → ℕ
-peekable_of r = min (known_of r) (r.capacity - place_of r.capacity r.head)
+peekable_of r = peekable_in (reader_indices r)
 
--- the free places that the writer knows of
 abbrev pub room_of : Writing → ℕ
-room_of w = w.capacity - distance w.capacity w.head w.tail
+room_of w = room_in (writer_indices w)
 
--- the places from the writer's own up to the end of the buffer
 abbrev pub left_of : Writing → ℕ
-left_of w = w.capacity - place_of w.capacity w.tail
+left_of w = left_in (writer_indices w)
 
 abbrev pub lend_length : ℕ → Writing → ℕ
-lend_length most w =
-    if w.is_shut then 0 else min (min most (lend_bound w.zeroed)) (min (room_of w) (left_of w))
+lend_length most w = lendable_in most (writer_indices w)
 
 -- lent from the writer's place on, and set up to the end of that
 abbrev pub lent_out : ℕ → Writing → Writing
