@@ -17,7 +17,8 @@ const MOST_TO_READ: usize = MOST_OF_A_LINE + 1;
 
 /// The lines of a script, read one after another.
 ///
-/// In clauses, `line_of` is the line that was read last, and `unread_of` what is left of the script.
+/// In clauses, `line_of` is the line that was read last, and `unread_of` what is left of the
+/// script.
 #[derive(Drop)]
 pub struct Lines<'input, I: Read> {
     reader: BufReader<&'input mut I>,

@@ -1,5 +1,5 @@
-//! What a pipe's handles and its model have in common: the indices of both ends, the call table, and
-//! what calls answer.
+//! What a pipe's handles and its model have in common: the indices of both ends, the call table,
+//! and what calls answer.
 #![tactic(auto)]
 
 pub mod answer;

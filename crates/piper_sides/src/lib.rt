@@ -1,5 +1,5 @@
-//! The two sides of the model: what each knows and its open call, and the words of its steps, events
-//! and scripts.
+//! The two sides of the model: what each knows and its open call, and the words of its steps,
+//! events and scripts.
 #![tactic(auto)]
 
 pub mod bytes;
