@@ -137,7 +137,7 @@ impl WriteHalf {
         ensures some { 0 < result.0 → TookReader result.1 self.old.slots self.new }
     {
         if self.end.look_closed() {
-            self.end.write_buf(0);
+            self.end.unlend();
             return (0, None);
         }
         self.end.refresh();

@@ -178,7 +178,7 @@ impl Writer {
         ensures end { WriterUnlent self.old.end self.new.end }
         ensures rest { SameWriter self.old self.new }
     {
-        self.end.write_buf(0);
+        self.end.unlend();
     }
 
     /// Stores the tail, `n` bytes further on.

@@ -260,6 +260,19 @@ impl WriteEnd {
         self.parts.room.lent.slice_mut(base, from, len)
     }
 
+    /// Takes back what is lent.
+    #[inline(always)]
+    pub fn unlend(&mut self)
+        ensures lent { self.new.lent ≡ [] }
+        ensures sent { self.new.sent ≡ self.old.sent }
+        ensures room { self.new.room ≡ self.old.room }
+        ensures closed { (self.new.shut ≡ self.old.shut) × (self.new.saw ≡ self.old.saw) }
+        ensures kept { SameWriteEnd self.old self.new }
+    {
+        self.parts.room.unlend();
+        self.parts.indices.unlend();
+    }
+
     /// Closes the pipe for good. Nothing is lent then. It wakes nobody.
     pub fn shut(&mut self)
         ensures shut { (self.new.shut ≡ true) × (self.new.saw ≡ true) }
