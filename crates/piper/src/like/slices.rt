@@ -6,8 +6,9 @@ ghost use Rattle.std.specs.Prelude.{◌≡◌, length};
 /// core.
 const MOST_AT_ONCE: usize = 4096;
 
-// Copies all of the slice.
-#[inline(always)]
+// Copies all of the slice. It stays a function of its own: taken into the rounds of a copy, it has
+// the compiler compute there what only slices that overlap need.
+#[inline(never)]
 pub(super) fn copy(to: &mut [u8], from: &[u8])
     requires { length from.now ≡ length to.old }
     ensures { to.new ≡ from.now }
