@@ -1,15 +1,16 @@
 -- Lines or frames that come one after the other.
-use Rattle.std.proofs.Common.{◌≡◌, ℕ, ◌<◌, inl, inr, Bool, true, false, List, [], ◌∷◌, ◌++◌, length, Vec, Ok, ap, ◌∙◌, sym, subst, append_assoc, append-nil, arith}
+use Rattle.std.proofs.Common.{◌≡◌, ◌≢◌, ℕ, ◌<◌, inl, inr, Bool, true, false, List, [], ◌∷◌, ◌++◌, length, Vec, Ok, ap, ◌∙◌, sym, subst, append_assoc, append-nil, arith}
 use Rattle.std.specs.List.{flat_map}
 use Rattle.std.specs.declared.alloc.Global.{Global}
 use Rattle.std.proofs.lemmas.Grind.{flat_map-append}
-use Rattle.std.proofs.lemmas.List.Elements.{All-push}
+use Rattle.std.proofs.lemmas.List.Elements.{All-nil, All-push}
 use Rattle.futures.specs.declared.task.Poll.TheVariants.{Ready}
 use Rattle.piper_lines.specs.declared.header.FrameHeader.{FrameHeader}
 use Rattle.piper_lines.specs.declared.line_reader.LineAnswer.{LineAnswer}
 use Rattle.piper_lines.specs.declared.line_reader.LineAnswer.TheVariants.{Line, TooLong, Last, End}
 use Rattle.piper_lines.specs.AtEnd.{AtEnd}
 use Rattle.piper_lines.specs.Frame.{frame_bytes}
+use Rattle.piper_lines.specs.Line.{Lacks}
 use Rattle.piper_lines.specs.LineAnswers.{Hands, IsTooLong, at_end}
 use Rattle.piper_lines.specs.Moves.{Moves, PassesMoves}
 use Rattle.piper_lines.specs.Split.{IsPiece, joined, joined_frames, Adds}
@@ -44,13 +45,16 @@ hands_piece E TooLong end limit before line kept known saw more hands = (hands.1
 hands_piece E Last end limit before line kept known saw more hands = cc
 hands_piece E End end limit before line kept known saw more hands = cc
 
--- at the end nothing is kept
+lacks_none : (end : ℕ) (line : List ℕ) → line ≡ [] → Lacks end line
+lacks_none end line none = subst (λ ws. Lacks end ws) (sym none) (All-nil (λ b. b ≢ end))
+
+-- at the end nothing is kept, and what was handed out ends no line
 pub hands_end : (E : Type 0) (a : LineAnswer) (end limit : ℕ) (before line kept known : List ℕ) (saw : Bool) → at_end a ≡ true
-    → Hands {E = E} (Ready (Ok a)) end limit before line kept known saw → (kept ≡ []) × AtEnd known saw
+    → Hands {E = E} (Ready (Ok a)) end limit before line kept known saw → (kept ≡ []) × Lacks end line × AtEnd known saw
 hands_end E Line end limit before line kept known saw more hands = cc
 hands_end E TooLong end limit before line kept known saw more hands = cc
-hands_end E Last end limit before line kept known saw more hands = (hands.2, hands.3)
-hands_end E End end limit before line kept known saw more hands = (hands.1, hands.2)
+hands_end E Last end limit before line kept known saw more hands = (hands.2, hands.0, hands.3)
+hands_end E End end limit before line kept known saw more hands = (hands.1, lacks_none end line hands.0, hands.2)
 
 -- a line more
 pub moves_line : (t0 t1 t2 k0 k1 k2 line rest : List ℕ) (out1 out2 : List (Vec ℕ Global)) → Moves t0 t1 k0 (joined out1) k1

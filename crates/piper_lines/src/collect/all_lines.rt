@@ -4,6 +4,7 @@ ghost use Rattle.futures.specs.Task.{Covers, Keeps};
 ghost use Rattle.futures.specs.Poll.{OnPending};
 ghost use Rattle.piper.specs.Polls.{IfReadyOk, IfReadyErr};
 ghost use Rattle.piper_lines.specs.AtEnd.{AtEnd};
+ghost use Rattle.piper_lines.specs.Line.{Lacks};
 ghost use Rattle.piper_lines.specs.Split.{joined, Adds, IsPiece};
 ghost use Rattle.piper_lines.specs.LineReader.{IsSpent, reader_of, end_of, kept_of};
 ghost use Rattle.piper_lines.specs.Moves.{Moves};
@@ -34,7 +35,8 @@ pub fn poll_lines<R: AsyncBufRead>(
         (joined out.new.items ++ rest_of result) (kept_of lines.new) }
     ensures split { Adds (λ piece. length (kept_of lines.old) < limit →
         IsPiece (end_of lines.old) limit piece) out.old.items out.new.items }
-    ensures ended { IfReadyOk result (λ _. (kept_of lines.new ≡ [])
+    ensures ended { IfReadyOk result (λ rest. (kept_of lines.new ≡ [])
+        × Lacks (end_of lines.old) rest.items
         × AtEnd (R.known (reader_of lines.new)) (R.saw (reader_of lines.new))
         × IsSpent R.ended lines.new) }
     ensures error { IfReadyErr result (λ e. IsReported e (R.fails (reader_of lines.new) cx.new)

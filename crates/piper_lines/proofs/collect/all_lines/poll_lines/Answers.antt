@@ -36,9 +36,9 @@ returns-then-is_end-clause-moved g c =
 pub returns-then-is_end-clause-ended : goal.returns-then-is_end-clause-ended
 returns-then-is_end-clause-ended g c =
     let is_end = sym c.is_end.ensures ∙ c.if-is_end.true in
-    let hands = rw c.in-Ready-Ok.field-0-is at c.in-Ready-Ok.ensures.hands in
+    let hands = rw (c.in-Ready-Ok.field-0-is, c.loop.invariant.end) at c.in-Ready-Ok.ensures.hands in
     let ended = hands_end PipeError c.in-Ready-Ok.answer _ _ _ _ _ _ _ is_end hands in
-    (ended.0, ended.1, (rw c.in-Ready-Ok.field-0-is at c.in-Ready-Ok.ensures.ended) is_end)
+    (ended.0, ended.1, ended.2, (rw c.in-Ready-Ok.field-0-is at c.in-Ready-Ok.ensures.ended) is_end)
 
 pub loop-preserved : goal.loop-preserved
 loop-preserved g c =
