@@ -35,11 +35,13 @@ IsFlushed flushed sink = (left_of sink ≡ []) × flushed (writer_of sink)
 abbrev pub IsClosed : {W : Type 0} → (W → Type 0) → (W → Bool) → WriteSink W → Type 0
 IsClosed flushed saw sink = IsFlushed flushed sink × (saw (writer_of sink) ≡ true)
 
--- a poll fails as the writer below did, or since the pipe was seen closed; it is pending where the
--- writer was; and what the writer saw, and whom it has woken, stays so
+-- a poll fails as the writer below did, or since the pipe was seen closed while some of the piece
+-- was left; it is pending where the writer was; and what the writer saw, and whom it has woken,
+-- stays so
 abbrev pub TellsSent : {W A : Type 0} → Poll (Result A PipeError)
     → (W → Context → PipeError → Type 0) → (W → Context → Type 0) → (W → Bool) → (W → Type 0)
-    → W → W → Context → Type 0
+    → WriteSink W → WriteSink W → Context → Type 0
 TellsSent result fails waits saw woken a b cx =
-    IfReadyErr result (IsOfWriter fails saw b cx) × WriterStays saw woken a b
-    × OnPending result (waits b cx)
+    IfReadyErr result (IsOfWriter fails saw (writer_of b) (left_of b) cx)
+    × WriterStays saw woken (writer_of a) (writer_of b)
+    × OnPending result (waits (writer_of b) cx)

@@ -32,7 +32,8 @@ IsOfKept format limit kept known saw e =
     (header : List ℕ) × (body : List ℕ) × (kept ≡ header ++ body)
     × IsOfFrame format limit header known saw e
 
--- a sink tells its writer's own error, or that its writer saw the pipe closed
+-- a sink tells its writer's own error, or that its writer saw the pipe closed while some was left
 abbrev pub IsOfWriter : {W : Type 0} → (W → Context → PipeError → Type 0) → (W → Bool) → W
-    → Context → PipeError → Type 0
-IsOfWriter fails saw w cx e = fails w cx e ⊎ (IsOfKind BrokenPipe e × (saw w ≡ true))
+    → List ℕ → Context → PipeError → Type 0
+IsOfWriter fails saw w left cx e =
+    fails w cx e ⊎ (IsOfKind BrokenPipe e × (saw w ≡ true) × (0 < length left))

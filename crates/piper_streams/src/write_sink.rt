@@ -71,7 +71,7 @@ impl<W: AsyncWrite + Drop> WriteSink<W> {
             (W.saw (writer_of self.old)) (W.saw (writer_of self.new)) }
         ensures whole { result ≡ Poll.Ready (Ok (record {})) → left_of self.new ≡ [] }
         ensures tells { TellsSent result W.fails W.waits W.saw W.woken
-            (writer_of self.old) (writer_of self.new) cx.new }
+            self.old self.new cx.new }
         ensures pending { OnPending result (Covers cx.new (W.needs (writer_of self.new))
             × ¬ (W.saw (writer_of self.old) ≡ true)) }
         ensures kept { Keeps cx.old cx.new }
@@ -114,7 +114,7 @@ impl<W: AsyncWrite + Drop> Sink<Vec<u8>> for WriteSink<W> {
         ensures registered { OnPending result (Covers cx.new (W.needs (writer_of self.new))) }
         ensures kept { Keeps cx.old cx.new }
         ensures tells { TellsSent result W.fails W.waits W.saw W.woken
-            (writer_of self.old) (writer_of self.new) cx.new }
+            self.old self.new cx.new }
     {
         self.poll_write(cx)
     }
@@ -138,7 +138,7 @@ impl<W: AsyncWrite + Drop> Sink<Vec<u8>> for WriteSink<W> {
         ensures registered { OnPending result (Covers cx.new (W.needs (writer_of self.new))) }
         ensures kept { Keeps cx.old cx.new }
         ensures tells { TellsSent result W.fails W.waits W.saw W.woken
-            (writer_of self.old) (writer_of self.new) cx.new }
+            self.old self.new cx.new }
     {
         match self.poll_write(cx) {
             Poll::Ready(Ok(())) => self.writer.poll_flush(cx),
@@ -153,7 +153,7 @@ impl<W: AsyncWrite + Drop> Sink<Vec<u8>> for WriteSink<W> {
         ensures registered { OnPending result (Covers cx.new (W.needs (writer_of self.new))) }
         ensures kept { Keeps cx.old cx.new }
         ensures tells { TellsSent result W.fails W.waits W.saw W.woken
-            (writer_of self.old) (writer_of self.new) cx.new }
+            self.old self.new cx.new }
     {
         match self.poll_write(cx) {
             Poll::Ready(Ok(())) => self.writer.poll_close(cx),

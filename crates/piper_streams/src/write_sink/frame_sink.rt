@@ -91,7 +91,7 @@ impl<W: AsyncWrite + Drop> Sink<Vec<u8>> for FrameSink<W> {
             (Covers cx.new (W.needs (writer_of (frames_below self.new)))) }
         ensures kept { Keeps cx.old cx.new }
         ensures tells { TellsSent result W.fails W.waits W.saw W.woken
-            (writer_of (frames_below self.old)) (writer_of (frames_below self.new)) cx.new }
+            (frames_below self.old) (frames_below self.new) cx.new }
     {
         self.sink.poll_write(cx)
     }
@@ -129,7 +129,7 @@ impl<W: AsyncWrite + Drop> Sink<Vec<u8>> for FrameSink<W> {
             (Covers cx.new (W.needs (writer_of (frames_below self.new)))) }
         ensures kept { Keeps cx.old cx.new }
         ensures tells { TellsSent result W.fails W.waits W.saw W.woken
-            (writer_of (frames_below self.old)) (writer_of (frames_below self.new)) cx.new }
+            (frames_below self.old) (frames_below self.new) cx.new }
     {
         match self.sink.poll_write(cx) {
             Poll::Ready(Ok(())) => self.sink.writer.poll_flush(cx),
@@ -146,7 +146,7 @@ impl<W: AsyncWrite + Drop> Sink<Vec<u8>> for FrameSink<W> {
             (Covers cx.new (W.needs (writer_of (frames_below self.new)))) }
         ensures kept { Keeps cx.old cx.new }
         ensures tells { TellsSent result W.fails W.waits W.saw W.woken
-            (writer_of (frames_below self.old)) (writer_of (frames_below self.new)) cx.new }
+            (frames_below self.old) (frames_below self.new) cx.new }
     {
         match self.sink.poll_write(cx) {
             Poll::Ready(Ok(())) => self.sink.writer.poll_close(cx),

@@ -81,7 +81,7 @@ impl<W: AsyncWrite + Drop> Sink<Vec<u8>> for LineSink<W> {
             (Covers cx.new (W.needs (writer_of (lines_below self.new)))) }
         ensures kept { Keeps cx.old cx.new }
         ensures tells { TellsSent result W.fails W.waits W.saw W.woken
-            (writer_of (lines_below self.old)) (writer_of (lines_below self.new)) cx.new }
+            (lines_below self.old) (lines_below self.new) cx.new }
     {
         self.sink.poll_write(cx)
     }
@@ -112,7 +112,7 @@ impl<W: AsyncWrite + Drop> Sink<Vec<u8>> for LineSink<W> {
             (Covers cx.new (W.needs (writer_of (lines_below self.new)))) }
         ensures kept { Keeps cx.old cx.new }
         ensures tells { TellsSent result W.fails W.waits W.saw W.woken
-            (writer_of (lines_below self.old)) (writer_of (lines_below self.new)) cx.new }
+            (lines_below self.old) (lines_below self.new) cx.new }
     {
         match self.sink.poll_write(cx) {
             Poll::Ready(Ok(())) => self.sink.writer.poll_flush(cx),
@@ -129,7 +129,7 @@ impl<W: AsyncWrite + Drop> Sink<Vec<u8>> for LineSink<W> {
             (Covers cx.new (W.needs (writer_of (lines_below self.new)))) }
         ensures kept { Keeps cx.old cx.new }
         ensures tells { TellsSent result W.fails W.waits W.saw W.woken
-            (writer_of (lines_below self.old)) (writer_of (lines_below self.new)) cx.new }
+            (lines_below self.old) (lines_below self.new) cx.new }
     {
         match self.sink.poll_write(cx) {
             Poll::Ready(Ok(())) => self.sink.writer.poll_close(cx),
