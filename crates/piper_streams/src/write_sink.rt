@@ -2,7 +2,6 @@
 ghost use Rattle.std.specs.Prelude.{◌≡◌, ◌≤◌, ◌++◌, [], ◌∷◌, length, true, Ok, OnOk};
 ghost use Rattle.futures.specs.Task.{Covers, Keeps};
 ghost use Rattle.futures.specs.Poll.{IfReady, OnPending};
-ghost use Rattle.futures.specs.Sent.{UnlessFailed};
 ghost use Rattle.piper_lines.specs.Sends.{Sends};
 
 mod frame_sink;
@@ -109,8 +108,8 @@ impl<W: AsyncWrite + Drop> Sink<Vec<u8>> for WriteSink<W> {
 
     fn poll_ready(&mut self, cx: &mut Context<'_>) -> Poll<Result<(), PipeError>>
         ensures ready { IfReady result (λ r. OnOk r (left_of self.new ≡ [])) }
-        ensures history { UnlessFailed result
-            ((xs : _) → WasSent W.sent W.saw self.old xs → WasSent W.sent W.saw self.new xs) }
+        ensures history { (xs : _) → WasSent W.sent W.saw self.old xs
+            → WasSent W.sent W.saw self.new xs }
         ensures registered { OnPending result (Covers cx.new (W.needs (writer_of self.new))) }
         ensures kept { Keeps cx.old cx.new }
         ensures tells { TellsSent result W.fails W.waits W.saw W.woken
@@ -133,8 +132,8 @@ impl<W: AsyncWrite + Drop> Sink<Vec<u8>> for WriteSink<W> {
 
     fn poll_flush(&mut self, cx: &mut Context<'_>) -> Poll<Result<(), PipeError>>
         ensures flushed { IfReady result (λ r. OnOk r (IsFlushed W.flushed self.new)) }
-        ensures history { UnlessFailed result
-            ((xs : _) → WasSent W.sent W.saw self.old xs → WasSent W.sent W.saw self.new xs) }
+        ensures history { (xs : _) → WasSent W.sent W.saw self.old xs
+            → WasSent W.sent W.saw self.new xs }
         ensures registered { OnPending result (Covers cx.new (W.needs (writer_of self.new))) }
         ensures kept { Keeps cx.old cx.new }
         ensures tells { TellsSent result W.fails W.waits W.saw W.woken
@@ -148,8 +147,8 @@ impl<W: AsyncWrite + Drop> Sink<Vec<u8>> for WriteSink<W> {
 
     fn poll_close(&mut self, cx: &mut Context<'_>) -> Poll<Result<(), PipeError>>
         ensures closed { IfReady result (λ r. OnOk r (IsClosed W.flushed W.saw self.new)) }
-        ensures history { UnlessFailed result
-            ((xs : _) → WasSent W.sent W.saw self.old xs → WasSent W.sent W.saw self.new xs) }
+        ensures history { (xs : _) → WasSent W.sent W.saw self.old xs
+            → WasSent W.sent W.saw self.new xs }
         ensures registered { OnPending result (Covers cx.new (W.needs (writer_of self.new))) }
         ensures kept { Keeps cx.old cx.new }
         ensures tells { TellsSent result W.fails W.waits W.saw W.woken

@@ -2,7 +2,6 @@
 ghost use Rattle.std.specs.Prelude.{◌≡◌, ◌++◌, [], ◌∷◌, length, true, IfErr, OnErr, OnOk};
 ghost use Rattle.piper_lines.specs.Header.{usual_header};
 ghost use Rattle.futures.specs.Poll.{IfReady, OnPending};
-ghost use Rattle.futures.specs.Sent.{UnlessFailed};
 ghost use Rattle.futures.specs.Task.{Covers, Keeps};
 ghost use Rattle.piper_streams.specs.Sent.{left_of, writer_of, IsClosed, IsFlushed, TellsSent};
 
@@ -85,8 +84,8 @@ impl<W: AsyncWrite + Drop> Sink<Vec<u8>> for FrameSink<W> {
 
     fn poll_ready(&mut self, cx: &mut Context<'_>) -> Poll<Result<(), PipeError>>
         ensures ready { IfReady result (λ r. OnOk r (left_of (frames_below self.new) ≡ [])) }
-        ensures history { UnlessFailed result
-            ((xs : _) → FramesSent W.sent W.saw self.old xs → FramesSent W.sent W.saw self.new xs) }
+        ensures history { (xs : _) → FramesSent W.sent W.saw self.old xs
+            → FramesSent W.sent W.saw self.new xs }
         ensures registered { OnPending result
             (Covers cx.new (W.needs (writer_of (frames_below self.new)))) }
         ensures kept { Keeps cx.old cx.new }
@@ -123,8 +122,8 @@ impl<W: AsyncWrite + Drop> Sink<Vec<u8>> for FrameSink<W> {
     fn poll_flush(&mut self, cx: &mut Context<'_>) -> Poll<Result<(), PipeError>>
         ensures flushed { IfReady result (λ r.
             OnOk r (IsFlushed W.flushed (frames_below self.new))) }
-        ensures history { UnlessFailed result
-            ((xs : _) → FramesSent W.sent W.saw self.old xs → FramesSent W.sent W.saw self.new xs) }
+        ensures history { (xs : _) → FramesSent W.sent W.saw self.old xs
+            → FramesSent W.sent W.saw self.new xs }
         ensures registered { OnPending result
             (Covers cx.new (W.needs (writer_of (frames_below self.new)))) }
         ensures kept { Keeps cx.old cx.new }
@@ -140,8 +139,8 @@ impl<W: AsyncWrite + Drop> Sink<Vec<u8>> for FrameSink<W> {
     fn poll_close(&mut self, cx: &mut Context<'_>) -> Poll<Result<(), PipeError>>
         ensures closed { IfReady result (λ r.
             OnOk r (IsClosed W.flushed W.saw (frames_below self.new))) }
-        ensures history { UnlessFailed result
-            ((xs : _) → FramesSent W.sent W.saw self.old xs → FramesSent W.sent W.saw self.new xs) }
+        ensures history { (xs : _) → FramesSent W.sent W.saw self.old xs
+            → FramesSent W.sent W.saw self.new xs }
         ensures registered { OnPending result
             (Covers cx.new (W.needs (writer_of (frames_below self.new)))) }
         ensures kept { Keeps cx.old cx.new }

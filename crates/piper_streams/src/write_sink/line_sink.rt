@@ -2,7 +2,6 @@
 ghost use Rattle.std.specs.Prelude.{◌≡◌, ◌++◌, [], ◌∷◌, true, IfErr, OnErr, OnOk};
 ghost use Rattle.piper_lines.specs.Line.{line_feed};
 ghost use Rattle.futures.specs.Poll.{IfReady, OnPending};
-ghost use Rattle.futures.specs.Sent.{UnlessFailed};
 ghost use Rattle.futures.specs.Task.{Covers, Keeps};
 ghost use Rattle.piper_streams.specs.Sent.{left_of, writer_of, IsClosed, IsFlushed, TellsSent};
 
@@ -75,8 +74,8 @@ impl<W: AsyncWrite + Drop> Sink<Vec<u8>> for LineSink<W> {
 
     fn poll_ready(&mut self, cx: &mut Context<'_>) -> Poll<Result<(), PipeError>>
         ensures ready { IfReady result (λ r. OnOk r (left_of (lines_below self.new) ≡ [])) }
-        ensures history { UnlessFailed result
-            ((xs : _) → LinesSent W.sent W.saw self.old xs → LinesSent W.sent W.saw self.new xs) }
+        ensures history { (xs : _) → LinesSent W.sent W.saw self.old xs
+            → LinesSent W.sent W.saw self.new xs }
         ensures registered { OnPending result
             (Covers cx.new (W.needs (writer_of (lines_below self.new)))) }
         ensures kept { Keeps cx.old cx.new }
@@ -106,8 +105,8 @@ impl<W: AsyncWrite + Drop> Sink<Vec<u8>> for LineSink<W> {
     fn poll_flush(&mut self, cx: &mut Context<'_>) -> Poll<Result<(), PipeError>>
         ensures flushed { IfReady result (λ r.
             OnOk r (IsFlushed W.flushed (lines_below self.new))) }
-        ensures history { UnlessFailed result
-            ((xs : _) → LinesSent W.sent W.saw self.old xs → LinesSent W.sent W.saw self.new xs) }
+        ensures history { (xs : _) → LinesSent W.sent W.saw self.old xs
+            → LinesSent W.sent W.saw self.new xs }
         ensures registered { OnPending result
             (Covers cx.new (W.needs (writer_of (lines_below self.new)))) }
         ensures kept { Keeps cx.old cx.new }
@@ -123,8 +122,8 @@ impl<W: AsyncWrite + Drop> Sink<Vec<u8>> for LineSink<W> {
     fn poll_close(&mut self, cx: &mut Context<'_>) -> Poll<Result<(), PipeError>>
         ensures closed { IfReady result (λ r.
             OnOk r (IsClosed W.flushed W.saw (lines_below self.new))) }
-        ensures history { UnlessFailed result
-            ((xs : _) → LinesSent W.sent W.saw self.old xs → LinesSent W.sent W.saw self.new xs) }
+        ensures history { (xs : _) → LinesSent W.sent W.saw self.old xs
+            → LinesSent W.sent W.saw self.new xs }
         ensures registered { OnPending result
             (Covers cx.new (W.needs (writer_of (lines_below self.new)))) }
         ensures kept { Keeps cx.old cx.new }
