@@ -1,5 +1,5 @@
 //! Lines that are sent text by text.
-ghost use Rattle.std.specs.Prelude.{◌≡◌, ◌++◌, [], ◌∷◌, true, IfErr, OnErr, OnOk};
+ghost use Rattle.std.specs.Prelude.{◌≡◌, ◌≤◌, ◌++◌, [], ◌∷◌, true, vec_capacity, vec_len, IfErr, OnErr, OnOk};
 ghost use Rattle.piper_lines.specs.Line.{line_feed};
 ghost use Rattle.futures.specs.Poll.{IfReady, OnPending};
 ghost use Rattle.futures.specs.Task.{Covers, Keeps};
@@ -87,7 +87,8 @@ impl<W: AsyncWrite + Drop> Sink<Vec<u8>> for LineSink<W> {
 
     fn start_send(&mut self, item: Vec<u8>) -> Result<(), PipeError>
         requires { left_of (lines_below self.old) ≡ [] }
-        ensures error { IfErr result (λ e. e ≡ PipeError.Memory) }
+        ensures error { IfErr result (λ e. (e ≡ PipeError.Memory)
+            × (vec_capacity item ≤ vec_len item)) }
         ensures history { OnOk result ((xs : _) → LinesSent W.sent W.saw self.old xs
             → LinesSent W.sent W.saw self.new (xs ++ item ∷ [])) }
         ensures refused { OnErr result (self.new ≡ self.old) }
