@@ -1,5 +1,5 @@
 -- What a stream of frames has.
-use Rattle.std.specs.Prelude.{ℕ, ◌<◌, ◌⊎◌, Bool, List, length, Option, Some, None, Ok, Err, ⊤}
+use Rattle.std.specs.Prelude.{◌≡◌, ℕ, ◌<◌, ◌⊎◌, Bool, true, false, List, length, Option, Some, None, Ok, Err}
 use Rattle.futures.specs.Runs.{EndsIf}
 use Rattle.futures.specs.declared.task.Poll.{Poll}
 use Rattle.futures.specs.declared.task.Poll.TheVariants.{Ready, Pending}
@@ -33,20 +33,21 @@ YieldsFrames taken known saw fails stream =
     EndsIf stream.is_ended (FrameRuns taken known saw fails (format_of stream.frames) stream.limit
     (reader_of stream.frames) (kept_of stream.frames))
 
--- why a poll failed: the frame that is kept is too long, or was cut off, or the reader failed, or
--- memory was refused; and why one is pending: the reader has nothing to give yet
+-- why a poll failed: the frame that is kept is too long, or was cut off, and the stream is over; or
+-- the reader failed, or memory was refused, and it goes on. And why one is pending: the reader has
+-- nothing to give yet
 module _ {R : Type 0} (taken known : R → List ℕ) (saw told : R → Bool)
     (fails : R → Context → PipeError → Type 0) (waits : R → Context → Type 0) where
   abbrev pub TellsFrame : Poll (Option Item) → FrameStream R → FrameStream R → Context → Type 0
-  TellsFrame (Ready None) a b cx = ⊤
-  TellsFrame (Ready (Some (Ok body))) a b cx = ⊤
+  TellsFrame (Ready None) a b cx = is_over b ≡ true
+  TellsFrame (Ready (Some (Ok body))) a b cx = is_over b ≡ false
   TellsFrame (Ready (Some (Err e))) a b cx =
-      IsOfFrame (format_of (frames_of a)) (frame_limit_of a) (header_of (frames_of b))
-      (known (reader_of (frames_of b))) (saw (reader_of (frames_of b))) e
-      ⊎ IsReported e (fails (reader_of (frames_of b)) cx)
+      ((is_over b ≡ true) × IsOfFrame (format_of (frames_of a)) (frame_limit_of a)
+      (header_of (frames_of b)) (known (reader_of (frames_of b))) (saw (reader_of (frames_of b))) e)
+      ⊎ ((is_over b ≡ false) × IsReported e (fails (reader_of (frames_of b)) cx)
       (LacksFrameRoom (format_of (frames_of a)) (frame_limit_of a) (header_room_of (frames_of a))
       (body_room_of (frames_of a)) (header_of (frames_of b)) (body_of (frames_of b))
-      (known (reader_of (frames_of b))))
+      (known (reader_of (frames_of b)))))
   TellsFrame Pending a b cx =
       Pends known told waits (reader_of (frames_of b))
       (length (taken (reader_of (frames_of a))) < length (taken (reader_of (frames_of b)))) cx
