@@ -1,8 +1,13 @@
 -- What a fill from a reader of std gives.
 use Rattle.std.specs.Prelude.{◌≡◌, ◌<◌, ◌⊎◌, ℕ, length, Bool, true, false, List, [], ◌++◌, Option, Some, IsSomeAnd, Result, Ok, Err}
 use Rattle.std.specs.Io.KnownBytes.{Consumes, IsAtEnd}
+use Rattle.futures.specs.Poll.{OnPending}
 use Rattle.futures.specs.declared.task.context.Context.{Context}
+use Rattle.futures.specs.declared.task.Poll.{Poll}
 use Rattle.piper.specs.Contexts.{AsksAgain}
+use Rattle.piper.specs.Draws.{DrawsYield}
+use Rattle.piper.specs.WriterCalls.{FillPends, SameWriterButMoved}
+use Rattle.piper.specs.declared.handles.Writer.{Writer}
 use Rattle.piper.specs.declared.error.PipeError.{PipeError}
 use Rattle.piper.specs.declared.io.copy.Copied.{Copied}
 use Rattle.piper.specs.declared.io.copy.Copied.TheVariants.{ToTheEnd, UntilClosed}
@@ -28,6 +33,14 @@ FillWaits sent saw waits a b cx =
     (waits b cx
     ⊎ (((length (sent a) < length (sent b)) ⊎ (saw b ≡ true)) × AsksAgain cx))
     × ¬ (saw a ≡ true)
+
+-- a fill through a handle leaves it the same, and doesn't close the pipe itself. Where it is pending
+-- it published bytes, or saw the pipe closed meanwhile; or it waits as `poll_fill` does, and where
+-- there is room its generator drew a yield
+pub record FillsHandle {A : Type 0} (r : Poll A) (a b : Writer) (cx : Context) : Type 0 where
+  pub same : SameWriterButMoved a b
+  pub pends : OnPending r (((length a.end.sent < length b.end.sent) ⊎ (b.end.saw ≡ true))
+      ⊎ (FillPends a b cx × (0 < b.end.room → DrawsYield a.rng)))
 
 -- the front of what the source gave was published, and all of it unless the pipe
 -- was seen closed; where it was seen closed before, the source gave none

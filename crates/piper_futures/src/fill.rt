@@ -1,12 +1,15 @@
 //! All that a reader of std gives, moved into a pipe.
-ghost use Rattle.std.specs.Prelude.{◌≡◌, ◌⊎◌, IsSome, IsSomeAnd, true, false, Ok};
+ghost use Rattle.std.specs.Prelude.{◌≡◌, ◌⊎◌, [], IsSome, IsSomeAnd, true, false, Ok};
 ghost use Rattle.std.specs.Io.KnownBytes.{IsAtEnd};
 ghost use Rattle.futures.specs.Task.{Covers, Keeps};
 ghost use Rattle.futures.specs.Poll.{IfReady, OnPending};
-ghost use Rattle.piper.specs.Handles.{NotifiesReader};
-ghost use Rattle.piper.specs.OfWriter.{saw, sent};
+ghost use Rattle.piper.specs.Contexts.{WantsWaker};
+ghost use Rattle.piper.specs.Handles.{NotifiesReader, write_source};
+ghost use Rattle.piper.specs.OfWriter.{lent, saw, sent};
 ghost use Rattle.piper.specs.Polls.{IfReadyErr};
-ghost use Rattle.piper_futures.specs.Filling.{FillsOn, FillWaits, GivesFilled, StartsFilling, fill_ends};
+ghost use Rattle.piper.specs.Waits.{WriterIsWaiting};
+ghost use Rattle.piper.specs.WriterCalls.{SameWriterButMoved};
+ghost use Rattle.piper_futures.specs.Filling.{FillsHandle, FillsOn, FillWaits, GivesFilled, StartsFilling, fill_ends};
 ghost use Rattle.piper_futures.specs.Moving.{IsIo};
 ghost use Rattle.piper_futures.specs.Polling.{Needs};
 
@@ -50,7 +53,19 @@ impl AsyncFill for Writer {
         &mut self,
         cx: &mut Context<'_>,
         source: &mut S,
-    ) -> Poll<Result<Copied, PipeError>> {
+    ) -> Poll<Result<Copied, PipeError>>
+        ensures fills { FillsOn (S.remaining source.old) (S.remaining source.new)
+            (sent self.old) (sent self.new) (saw self.old) (saw self.new) }
+        ensures ended { result ≡ Poll.Ready (Ok Copied.ToTheEnd) →
+            IsAtEnd (S.remaining source.new) }
+        ensures closed { result ≡ Poll.Ready (Ok Copied.UntilClosed) → saw self.new ≡ true }
+        ensures error { IfReadyErr result (λ e. WantsWaker cx.new e ⊎ IsIo e) }
+        ensures pending { OnPending result (Covers cx.new (λ s. s ≡ write_source self.new)
+            × FillWaits sent saw WriterIsWaiting self.old self.new cx.new) }
+        ensures handle { FillsHandle result self.old self.new cx.new }
+        ensures woken { NotifiesReader self.old → NotifiesReader self.new }
+        ensures kept { Keeps cx.old cx.new }
+    {
         match self.poll_fill(cx, source) {
             Poll::Pending => Poll::Pending,
             Poll::Ready(Err(error)) => Poll::Ready(Err(error)),
@@ -63,10 +78,12 @@ impl AsyncFill for Writer {
 // Why a fill moved nothing: the pipe is closed, or else its source gave none. A pipe that is closed
 // is so for good, so the poll does not wait.
 fn why_none(writer: &mut Writer, cx: &mut Context<'_>) -> Copied
+    requires { lent writer.old ≡ [] }
     ensures ended { result ≡ Copied.ToTheEnd → saw writer.old ≡ false }
     ensures closed { result ≡ Copied.UntilClosed → saw writer.new ≡ true }
     ensures sent { sent writer.new ≡ sent writer.old }
     ensures stays { saw writer.old ≡ true → saw writer.new ≡ true }
+    ensures same { SameWriterButMoved writer.old writer.new }
     ensures woken { NotifiesReader writer.old → NotifiesReader writer.new }
     ensures kept { Keeps cx.old cx.new }
 {
@@ -84,7 +101,19 @@ impl AsyncFill for OwnedWriter {
         &mut self,
         cx: &mut Context<'_>,
         source: &mut S,
-    ) -> Poll<Result<Copied, PipeError>> {
+    ) -> Poll<Result<Copied, PipeError>>
+        ensures fills { FillsOn (S.remaining source.old) (S.remaining source.new)
+            (sent self.old) (sent self.new) (saw self.old) (saw self.new) }
+        ensures ended { result ≡ Poll.Ready (Ok Copied.ToTheEnd) →
+            IsAtEnd (S.remaining source.new) }
+        ensures closed { result ≡ Poll.Ready (Ok Copied.UntilClosed) → saw self.new ≡ true }
+        ensures error { IfReadyErr result (λ e. WantsWaker cx.new e ⊎ IsIo e) }
+        ensures pending { OnPending result (Covers cx.new (λ s. s ≡ write_source self.new)
+            × FillWaits sent saw WriterIsWaiting self.old self.new cx.new) }
+        ensures handle { FillsHandle result self.old self.new cx.new }
+        ensures woken { NotifiesReader self.old → NotifiesReader self.new }
+        ensures kept { Keeps cx.old cx.new }
+    {
         self.get_mut().poll_fill_from(cx, source)
     }
 }
