@@ -57,6 +57,7 @@ SEALS = {
         ["piper_transfer/proofs/meter/InputMeter/is_output_over"],
     ),
     "as_stopped": ("piper_transfer/specs/Transfer", ["piper_transfer/proofs/error/stopped"]),
+    "as_had_seen": ("piper_futures/specs/Threads", ["piper_futures/proofs/threads/closed_by_writer"]),
 }
 
 

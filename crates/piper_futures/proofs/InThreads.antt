@@ -11,7 +11,7 @@ use Rattle.piper_futures.specs.Draining.{DrainsOn, DrainedAll}
 use Rattle.piper_futures.specs.Filling.{FillsOn, FillEnded, FilledAll}
 use Rattle.piper_futures.specs.Moving.{IsIo, IsOfWrite}
 use Rattle.piper_futures.specs.Writing.{FailsOnce}
-use Rattle.piper_futures.specs.Threads.{FilledTo, DrainedTo, WhyFilled}
+use Rattle.piper_futures.specs.Threads.{FilledTo, DrainedTo, HadSeen, WhyFilled}
 use Rattle.piper_futures.specs.declared.failed.Failed.{Failed}
 use Rattle.piper_futures.specs.declared.threads.Drained.{Drained}
 use Rattle.piper_futures.specs.declared.threads.Filled.{Filled}
@@ -28,35 +28,36 @@ module _ {S : Type 0} (remaining : S → Option (List ℕ)) (woken : OwnedWriter
   Given state output = IsSomeAnd state (λ ends. All ends.0 ends.1 output)
 
   -- what comes back has the bytes of the ends that were given
-  filled_to : (w w' : OwnedWriter) (s s' : S) (left : Filled S) → FillsOn (remaining s) (remaining s') w.end.sent w'.end.sent w.end.saw w'.end.saw
-      → left.source ≡ s' → left.told.bytes ≡ w'.end.sent → left.told.shut ≡ true → FilledTo remaining w s left
-  filled_to w w' s s' left moved source bytes shut =
+  abbrev filled_to : (w w' : OwnedWriter) (s s' : S) (left : Filled S) → FillsOn (remaining s) (remaining s') w.end.sent w'.end.sent w.end.saw w'.end.saw
+      → left.source ≡ s' → left.told.bytes ≡ w'.end.sent → left.told.shut ≡ true → HadSeen left.told w'.end.saw → FilledTo remaining w s left
+  filled_to w w' s s' left moved source bytes shut seen =
       let here = subst (λ (r : S). FillsOn (remaining s) (remaining r) w.end.sent w'.end.sent w.end.saw w'.end.saw) (sym source) moved in record {
         saw = w'.end.saw;
+        seen = seen;
         moved = subst (λ (bs : List ℕ). FillsOn (remaining s) (remaining left.source) w.end.sent bs w.end.saw w'.end.saw) (sym bytes) here;
         closed = shut;
       }
 
   why_filled : (w : OwnedWriter) (s : S) (copied : Copied)
-      → FillEnded (λ (o : OwnedWriter). o.end.sent) (λ (o : OwnedWriter). o.end.saw) woken fails remaining w s copied → WhyFilled (remaining s) copied
+      → FillEnded (λ (o : OwnedWriter). o.end.sent) (λ (o : OwnedWriter). o.end.saw) woken fails remaining w s copied → WhyFilled w.end.saw (remaining s) copied
   why_filled w s ToTheEnd why = why
-  why_filled w s UntilClosed why = tt
+  why_filled w s UntilClosed why = why
 
   pub fill_ended : (state : Option (OwnedWriter × S)) (w w' : OwnedWriter) (s s' : S) (copied : Copied) (output : Result (OwnedWriter × S × Copied) (Failed (OwnedWriter × S))) (left : Filled S)
-      → state ≡ Some (w, s) → output ≡ Ok (w', s', copied) → Given state output → left.source ≡ s' → left.told.bytes ≡ w'.end.sent → left.told.shut ≡ true
-      → FilledTo remaining w s left × WhyFilled (remaining left.source) copied
-  fill_ended state w w' s s' copied output left began is given source bytes shut =
+      → state ≡ Some (w, s) → output ≡ Ok (w', s', copied) → Given state output → left.source ≡ s' → left.told.bytes ≡ w'.end.sent → left.told.shut ≡ true → HadSeen left.told w'.end.saw
+      → (to : FilledTo remaining w s left) × WhyFilled to.saw (remaining left.source) copied
+  fill_ended state w w' s s' copied output left began is given source bytes shut seen =
       let all : All w s (Ok (w', s', copied)) = subst (λ o. All w s o) is (subst (λ st. Given st output) began given) in (
-        filled_to w w' s s' left all.0 source bytes shut,
-        subst (λ (r : S). WhyFilled (remaining r) copied) (sym source) (why_filled w' s' copied all.1),
+        filled_to w w' s s' left all.0 source bytes shut seen,
+        subst (λ (r : S). WhyFilled w'.end.saw (remaining r) copied) (sym source) (why_filled w' s' copied all.1),
       )
 
   pub fill_failed : (state : Option (OwnedWriter × S)) (w : OwnedWriter) (s : S) (failed : Failed (OwnedWriter × S)) (output : Result (OwnedWriter × S × Copied) (Failed (OwnedWriter × S))) (left : Filled S)
-      → state ≡ Some (w, s) → output ≡ Err failed → Given state output → left.source ≡ failed.left.1 → left.told.bytes ≡ failed.left.0.end.sent → left.told.shut ≡ true
+      → state ≡ Some (w, s) → output ≡ Err failed → Given state output → left.source ≡ failed.left.1 → left.told.bytes ≡ failed.left.0.end.sent → left.told.shut ≡ true → HadSeen left.told failed.left.0.end.saw
       → FilledTo remaining w s left × (FailsOnce fails failed.left.0 failed.error ⊎ IsIo failed.error)
-  fill_failed state w s failed output left began is given source bytes shut =
+  fill_failed state w s failed output left began is given source bytes shut seen =
       let all : All w s (Err failed) = subst (λ o. All w s o) is (subst (λ st. Given st output) began given) in
-      (filled_to w failed.left.0 s failed.left.1 left all.0 source bytes shut, all.1)
+      (filled_to w failed.left.0 s failed.left.1 left all.0 source bytes shut seen, all.1)
 
 module _ {D : Type 0} (contents : D → Option (List ℕ)) (told : OwnedReader → Bool) (woken : OwnedReader → Type 0) (fails : OwnedReader → Context → PipeError → Type 0) where
   abbrev AllOut : OwnedReader → D → Result (OwnedReader × D) (Failed (OwnedReader × D)) → Type 0

@@ -19,10 +19,19 @@ use Rattle.piper_futures.specs.declared.failed.Failed.{Failed}
 use Rattle.piper_futures.specs.declared.threads.Drained.{Drained}
 use Rattle.piper_futures.specs.declared.threads.Filled.{Filled}
 
--- why it ended holds of what is left of the source
-abbrev pub WhyFilled : Option (List ℕ) → Copied → Type 0
-WhyFilled left ToTheEnd = IsAtEnd left
-WhyFilled left UntilClosed = ⊤
+-- the writer that left this as it was dropped had seen the pipe closed before, or had not. It is
+-- sealed: no proof looks into it, and only that of `closed_by_writer` uses the lemma below
+pub HadSeen : {T : Type 0} → T → Bool → Type 0
+HadSeen left saw = ⊤
+
+pub as_had_seen : {T : Type 0} (left : T) (saw : Bool) → HadSeen left saw
+unfolding HadSeen
+as_had_seen left saw = tt
+
+-- why it ended: its source had, or its writer saw the pipe closed
+abbrev pub WhyFilled : Bool → Option (List ℕ) → Copied → Type 0
+WhyFilled saw left ToTheEnd = IsAtEnd left
+WhyFilled saw left UntilClosed = saw ≡ true
 
 -- it is want of memory for a waker
 abbrev pub IsOfWaker : PipeError → Type 0
@@ -38,6 +47,7 @@ module _ {S : Type 0} (remaining : S → Option (List ℕ)) where
   -- before, and all of it unless the pipe was seen closed
   pub record FilledTo (w : OwnedWriter) (s : S) (left : Filled S) : Type 0 where
     pub saw : Bool
+    pub seen : HadSeen left.told saw
     pub moved :
         FillsOn (remaining s) (remaining left.source) w.end.sent left.told.bytes
         w.end.saw saw
@@ -54,7 +64,7 @@ module _ {S : Type 0} (remaining : S → Option (List ℕ)) where
   abbrev pub FilledAndClosed : OwnedWriter → S
       → Result (Filled S × Copied) (Failed (Option (Filled S))) → Type 0
   FilledAndClosed w s (Ok done) =
-      FilledTo w s done.0 × WhyFilled (remaining done.0.source) done.1
+      (to : FilledTo w s done.0) × WhyFilled to.saw (remaining done.0.source) done.1
   FilledAndClosed w s (Err failed) = LeftByFill w s failed.left failed.error
 
 module _ {D : Type 0} (contents : D → Option (List ℕ)) where

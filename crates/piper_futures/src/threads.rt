@@ -2,9 +2,9 @@
 //! task.
 ghost use Rattle.std.specs.Prelude.{◌≡◌, IfOk, IfErr, length, true};
 ghost use Rattle.piper.specs.OfReader.{taken};
-ghost use Rattle.piper.specs.OfWriter.{sent};
+ghost use Rattle.piper.specs.OfWriter.{saw, sent};
 ghost use Rattle.piper_protocol.specs.Reported.{HasFailed};
-ghost use Rattle.piper_futures.specs.Threads.{FilledAndClosed, DrainedOrClosed};
+ghost use Rattle.piper_futures.specs.Threads.{FilledAndClosed, DrainedOrClosed, HadSeen};
 
 use crate::drain::drain_into;
 use crate::failed::Failed;
@@ -148,6 +148,7 @@ fn closed_by_writer<S>(writer: OwnedWriter, source: S) -> Filled<S>
     ensures source { result.source ≡ source }
     ensures bytes { result.told.bytes ≡ sent writer }
     ensures shut { result.told.shut ≡ true }
+    ensures seen { HadSeen result.told (saw writer) }
 {
     let told = writer.into_inner().drop().told;
     Filled { source, told }
