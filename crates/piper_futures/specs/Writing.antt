@@ -36,6 +36,10 @@ close_end future = future.writer
 abbrev pub WritesWithin : {W : Type 0} → WriteAll W → Type 0
 WritesWithin future = IsSome future.writer × (future.written ≤ length future.bytes.now)
 
+-- some of the bytes are left to write
+abbrev pub HasLeft : {W : Type 0} → WriteAll W → Type 0
+HasLeft future = future.written < length future.bytes.now
+
 -- the error is the end's own, in some poll
 abbrev pub FailsOnce : {E : Type 0} → (E → Context → PipeError → Type 0) → E → PipeError → Type 0
 FailsOnce fails end error = (cx : Context) × fails end cx error

@@ -2,7 +2,7 @@
 ghost use Rattle.std.specs.Prelude.{IsSomeAnd};
 ghost use Rattle.futures.specs.Poll.{IfReady, OnPending};
 ghost use Rattle.futures.specs.Task.{Covers, Keeps};
-ghost use Rattle.piper_futures.specs.Writing.{GivesWritten, StartsWriting, WritesWithin, write_end};
+ghost use Rattle.piper_futures.specs.Writing.{GivesWritten, HasLeft, StartsWriting, WritesWithin, write_end};
 
 use crate::failed::Failed;
 use futures::Future;
@@ -48,6 +48,7 @@ impl<W: AsyncWrite + Drop> Future for WriteAll<'_, W> {
         ensures value { IfReady result
             (GivesWritten W.sent W.saw W.woken W.fails self.old) }
         ensures again { OnPending result (WritesWithin self.new) }
+        ensures left { OnPending result (HasLeft self.new) }
         ensures same { OnPending result ((x : _) → GivesWritten W.sent W.saw W.woken W.fails self.new x
             → GivesWritten W.sent W.saw W.woken W.fails self.old x) }
         ensures registered { OnPending result (Covers cx.new (λ s. IsSomeAnd (write_end self.new)
