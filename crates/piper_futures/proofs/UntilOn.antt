@@ -1,5 +1,5 @@
 -- What comes in two polls before a delimiter is in order.
-use Rattle.std.proofs.Common.{◌≡◌, ◌≢◌, ◌∙◌, ◌+◌, ◌<◌, ◌⊎◌, inl, inr, sym, ap, subst, ℕ, Bool, List, [], ◌∷◌, ◌++◌, take, length, get_or, append_assoc, length-take, arith, Result, Ok, Err, Vec}
+use Rattle.std.proofs.Common.{◌≡◌, ◌≢◌, ◌∙◌, ◌+◌, ◌<◌, ◌≤◌, ◌⊎◌, vec_capacity, inl, inr, sym, ap, subst, ℕ, Bool, List, [], ◌∷◌, ◌++◌, take, length, get_or, append_assoc, length-take, arith, Result, Ok, Err, Vec}
 use Rattle.std.proofs.lemmas.List.{take_more, get_or-take}
 use Rattle.std.proofs.lemmas.List.Elements.{All-append, All-from_get_or}
 use Rattle.std.specs.declared.alloc.Global.{Global}
@@ -9,6 +9,8 @@ use Rattle.piper_lines.specs.AtEnd.{AtEnd}
 use Rattle.piper_lines.specs.Stays.{ReaderStays}
 use Rattle.piper_lines.proofs.Staying.{reader_stays}
 use Rattle.piper_futures.specs.Until.{GrowsBy, IsThrough, Lacks, ReadThrough}
+use Rattle.piper_futures.specs.Writing.{FailsOnce}
+use Rattle.piper_futures.proofs.ReadingOn.{less_space}
 use Rattle.piper_futures.specs.declared.failed.Failed.{Failed}
 
 -- more came, of which the whole has what its end has, where the front lacks the delimiter
@@ -47,15 +49,15 @@ joins byte End xs ys front (inr lacks) = inr (Lacks-append byte xs ys front lack
 
 module _ {R : Type 0} (taken known : R → List ℕ) (saw told : R → Bool) (woken : R → Type 0) (fails : R → Context → PipeError → Type 0) (byte : ℕ) where
   -- what may be given after a poll may be given before it
-  pub read_through_then : (r0 r1 : R) (b0 b1 : Vec ℕ Global) → GrowsBy (taken r0) (taken r1) b0.items b1.items (Lacks byte) → ReaderStays told woken r0 r1 → (output : Result (R × Vec ℕ Global) (Failed (R × Vec ℕ Global)))
+  pub read_through_then : (r0 r1 : R) (b0 b1 : Vec ℕ Global) → GrowsBy (taken r0) (taken r1) b0.items b1.items (Lacks byte) → vec_capacity b0 ≤ vec_capacity b1 → ReaderStays told woken r0 r1 → (output : Result (R × Vec ℕ Global) (Failed (R × Vec ℕ Global)))
       → ReadThrough taken known saw told woken fails byte r1 b1 output → ReadThrough taken known saw told woken fails byte r0 b0 output
-  read_through_then r0 r1 b0 b1 first stays (Ok done) gave = (
+  read_through_then r0 r1 b0 b1 first room stays (Ok done) gave = (
     grows_by_more (taken r0) (taken r1) (taken done.0) b0.items b1.items done.1.items (Lacks byte) (λ more. IsThrough byte more ⊎ (Lacks byte more × AtEnd (known done.0) (saw done.0)))
         (λ more. IsThrough byte more ⊎ (Lacks byte more × AtEnd (known done.0) (saw done.0))) (joins byte (AtEnd (known done.0) (saw done.0))) first gave.0,
     reader_stays told woken r0 r1 done.0 stays gave.1,
   )
-  read_through_then r0 r1 b0 b1 first stays (Err failed) gave = (
+  read_through_then r0 r1 b0 b1 first room stays (Err failed) gave = (
     grows_by_more (taken r0) (taken r1) (taken failed.left.0) b0.items b1.items failed.left.1.items (Lacks byte) (Lacks byte) (Lacks byte) (Lacks-append byte) first gave.0,
-    gave.1,
+    less_space failed.error (FailsOnce fails failed.left.0) _ _ _ _ room gave.1,
     reader_stays told woken r0 r1 failed.left.0 stays gave.2,
   )

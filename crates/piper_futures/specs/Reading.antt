@@ -1,5 +1,5 @@
 -- What a future that reads gives.
-use Rattle.std.specs.Prelude.{◌≡◌, ℕ, ◌<◌, ◌≤◌, Bool, List, length, Option, Some, IsSomeAnd, Result, Ok, Err, Vec}
+use Rattle.std.specs.Prelude.{◌≡◌, ℕ, ◌+◌, ◌<◌, ◌≤◌, vec_capacity, Bool, List, length, Option, Some, IsSomeAnd, Result, Ok, Err, Vec}
 use Rattle.std.specs.declared.alloc.Global.{Global}
 use Rattle.futures.specs.declared.task.context.Context.{Context}
 use Rattle.piper.specs.declared.error.PipeError.{PipeError}
@@ -7,7 +7,7 @@ use Rattle.futures.specs.declared.task.Poll.TheVariants.{Ready}
 use Rattle.piper.specs.Polls.{Reads}
 use Rattle.piper_lines.specs.AtEnd.{AtEnd}
 use Rattle.piper_lines.specs.Moves.{Grows}
-use Rattle.piper_lines.specs.Refusals.{IsReported}
+use Rattle.piper_lines.specs.Refusals.{IsReported, LacksRoom}
 use Rattle.piper_lines.specs.Stays.{ReaderStays}
 use Rattle.piper_futures.specs.Writing.{FailsOnce}
 use Rattle.piper_futures.specs.declared.failed.Failed.{Failed}
@@ -28,20 +28,26 @@ StartsReadingUpTo future reader bytes size =
 abbrev pub StartsReadingAll : {R : Type 0} → ReadToEnd R → R → Vec ℕ Global → Type 0
 StartsReadingAll future reader bytes = future.state ≡ Some (reader, bytes)
 
+-- more bytes are known than there are in what came, and the memory that there was at first has no
+-- room for all of them
+abbrev pub LacksSpace : ℕ → List ℕ → List ℕ → Type 0
+LacksSpace room came known = (0 < length known) × (room < length came + length known)
+
 module _ {R : Type 0} (taken known : R → List ℕ) (saw told : R → Bool) (woken : R → Type 0) where
   -- what the reader gave between two of its states is at the end of the bytes, and what it has told
   -- and whom it has woken stays so
   abbrev pub ReadsOn : R → List ℕ → R → List ℕ → Type 0
   ReadsOn r0 b0 r1 b1 = Grows (taken r0) (taken r1) b0 b1 × ReaderStays told woken r0 r1
 
-  -- all came, up to the end; or the reader failed, or memory was refused where more was known
+  -- all came, up to the end; or the reader failed, or memory was refused for what is known
   abbrev pub ReadAll : (R → Context → PipeError → Type 0) → R → Vec ℕ Global
       → Result (R × Vec ℕ Global) (Failed (R × Vec ℕ Global)) → Type 0
   ReadAll fails r bytes (Ok done) =
       ReadsOn r bytes.items done.0 done.1.items × AtEnd (known done.0) (saw done.0)
   ReadAll fails r bytes (Err failed) =
       ReadsOn r bytes.items failed.left.0 failed.left.1.items
-      × IsReported failed.error (FailsOnce fails failed.left.0) (0 < length (known failed.left.0))
+      × IsReported failed.error (FailsOnce fails failed.left.0)
+      (LacksSpace (vec_capacity bytes) failed.left.1.items (known failed.left.0))
 
   -- as many came as were asked for, or all up to the end; or it failed as above
   abbrev pub ReadUpTo : ℕ → (R → Context → PipeError → Type 0) → R → Vec ℕ Global
@@ -52,7 +58,8 @@ module _ {R : Type 0} (taken known : R → List ℕ) (saw told : R → Bool) (wo
   ReadUpTo size fails r bytes (Err failed) =
       ReadsOn r bytes.items failed.left.0 failed.left.1.items
       × (length failed.left.1.items ≤ size)
-      × IsReported failed.error (FailsOnce fails failed.left.0) (0 < length (known failed.left.0))
+      × IsReported failed.error (FailsOnce fails failed.left.0)
+      (LacksRoom size (vec_capacity bytes) failed.left.1.items (known failed.left.0))
 
 -- the reader that a future holds, with the bytes that came
 abbrev pub once_ends : {R : Type 0} → ReadOnce R → Option (R × Vec ℕ Global)

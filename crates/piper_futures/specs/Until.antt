@@ -1,5 +1,5 @@
 -- What a read through a delimiter gives.
-use Rattle.std.specs.Prelude.{◌≡◌, ◌≢◌, ◌<◌, ◌⊎◌, ℕ, Bool, true, false, List, [], ◌∷◌, ◌++◌, All, length, Option, Some, IsSomeAnd, Result, Ok, Err, Vec}
+use Rattle.std.specs.Prelude.{◌≡◌, ◌≢◌, ◌⊎◌, ℕ, Bool, true, false, vec_capacity, List, [], ◌∷◌, ◌++◌, All, Option, Some, IsSomeAnd, Result, Ok, Err, Vec}
 use Rattle.std.specs.declared.alloc.Global.{Global}
 use Rattle.futures.specs.declared.task.context.Context.{Context}
 use Rattle.futures.specs.declared.task.Poll.{Poll}
@@ -8,6 +8,7 @@ use Rattle.piper.specs.declared.error.PipeError.{PipeError}
 use Rattle.piper_lines.specs.AtEnd.{AtEnd}
 use Rattle.piper_lines.specs.Refusals.{IsReported}
 use Rattle.piper_lines.specs.Stays.{ReaderStays}
+use Rattle.piper_futures.specs.Reading.{LacksSpace}
 use Rattle.piper_futures.specs.Writing.{FailsOnce}
 use Rattle.piper_futures.specs.declared.failed.Failed.{Failed}
 use Rattle.piper_futures.specs.declared.read_through.ReadUntil.{ReadUntil}
@@ -47,7 +48,7 @@ Reaches answer byte taken_before taken_after before after known saw =
     GrowsBy taken_before taken_after before after (Reached answer byte known saw)
 
 -- the bytes that came are those through the first delimiter, or all up to the end;
--- or the reader failed, or memory was refused where more was known
+-- or the reader failed, or memory was refused for what is known
 module _ {R : Type 0} (taken known : R → List ℕ) (saw told : R → Bool) (woken : R → Type 0)
     (fails : R → Context → PipeError → Type 0) where
   abbrev pub ReadThrough : ℕ → R → Vec ℕ Global
@@ -58,7 +59,8 @@ module _ {R : Type 0} (taken known : R → List ℕ) (saw told : R → Bool) (wo
       × ReaderStays told woken r done.0
   ReadThrough byte r bytes (Err failed) =
       GrowsBy (taken r) (taken failed.left.0) bytes.items failed.left.1.items (Lacks byte)
-      × IsReported failed.error (FailsOnce fails failed.left.0) (0 < length (known failed.left.0))
+      × IsReported failed.error (FailsOnce fails failed.left.0)
+      (LacksSpace (vec_capacity bytes) failed.left.1.items (known failed.left.0))
       × ReaderStays told woken r failed.left.0
 
   -- what the future may give, of the reader that it holds

@@ -1,5 +1,5 @@
 //! All bytes of a reader.
-ghost use Rattle.std.specs.Prelude.{◌≡◌, ◌<◌, length, Ok, IsSome};
+ghost use Rattle.std.specs.Prelude.{◌≡◌, ◌<◌, ◌≤◌, length, vec_capacity, Ok, IsSome};
 ghost use Rattle.futures.specs.Task.{Covers, Keeps};
 ghost use Rattle.futures.specs.Poll.{IfReady, OnPending};
 ghost use Rattle.piper.specs.Polls.{IfReadyErr};
@@ -8,7 +8,7 @@ ghost use Rattle.piper_lines.specs.Moves.{Grows};
 ghost use Rattle.piper_lines.specs.Refusals.{IsReported};
 ghost use Rattle.piper_lines.specs.Stays.{Pends, ReaderStays};
 ghost use Rattle.piper_futures.specs.Polling.{Needs, WaitsOrTook};
-ghost use Rattle.piper_futures.specs.Reading.{GivesAll, StartsReadingAll, all_ends};
+ghost use Rattle.piper_futures.specs.Reading.{GivesAll, LacksSpace, StartsReadingAll, all_ends};
 
 use crate::debug::gathering;
 use crate::failed::Failed;
@@ -85,11 +85,11 @@ pub fn poll_read_to_end<R: AsyncBufRead>(
 ) -> Poll<Result<(), PipeError>>
     ensures grown { Grows (R.taken reader.old) (R.taken reader.new)
         bytes.old.items bytes.new.items }
+    ensures room { vec_capacity bytes.old ≤ vec_capacity bytes.new }
     ensures ended { result ≡ Poll.Ready (Ok (record {})) →
-        AtEnd (R.known reader.new) (R.saw reader.new) }
-    ensures ends { result ≡ Poll.Ready (Ok (record {})) → R.ended reader.new }
+        AtEnd (R.known reader.new) (R.saw reader.new) × R.ended reader.new }
     ensures error { IfReadyErr result (λ e. IsReported e (R.fails reader.new cx.new)
-        (0 < length (R.known reader.new))) }
+        (LacksSpace (vec_capacity bytes.old) bytes.new.items (R.known reader.new))) }
     ensures stays { ReaderStays R.told R.woken reader.old reader.new }
     ensures pends { OnPending result (Pends R.known R.told R.waits reader.new
         (length (R.taken reader.old) < length (R.taken reader.new)) cx.new) }

@@ -1,11 +1,12 @@
 //! Bytes through a delimiter.
-ghost use Rattle.std.specs.Prelude.{◌≡◌, ◌<◌, ◌≤◌, length, take, Ok, true, false, IsSome, MatchBool};
+ghost use Rattle.std.specs.Prelude.{◌≡◌, ◌<◌, ◌≤◌, length, take, vec_capacity, Ok, true, false, IsSome, MatchBool};
 ghost use Rattle.futures.specs.Task.{Covers, Keeps};
 ghost use Rattle.futures.specs.Poll.{IfReady, OnPending};
 ghost use Rattle.piper.specs.Polls.{IfReadyErr};
 ghost use Rattle.piper_lines.specs.Refusals.{IsReported};
 ghost use Rattle.piper_lines.specs.Stays.{Pends, ReaderStays};
 ghost use Rattle.piper_futures.specs.Polling.{Needs, WaitsOrTook};
+ghost use Rattle.piper_futures.specs.Reading.{LacksSpace};
 ghost use Rattle.piper_futures.specs.Until.{GivesThrough, IsThrough, Lacks, Reaches, StartsReadingThrough, until_ends};
 
 use crate::debug::gathering;
@@ -91,8 +92,9 @@ pub fn poll_read_until<R: AsyncBufRead>(
     ensures reaches { Reaches result byte (R.taken reader.old) (R.taken reader.new)
         bytes.old.items bytes.new.items (R.known reader.new) (R.saw reader.new) }
     ensures ends { result ≡ Poll.Ready (Ok false) → R.ended reader.new }
+    ensures room { vec_capacity bytes.old ≤ vec_capacity bytes.new }
     ensures error { IfReadyErr result (λ e. IsReported e (R.fails reader.new cx.new)
-        (0 < length (R.known reader.new))) }
+        (LacksSpace (vec_capacity bytes.old) bytes.new.items (R.known reader.new))) }
     ensures stays { ReaderStays R.told R.woken reader.old reader.new }
     ensures pends { OnPending result (Pends R.known R.told R.waits reader.new
         (length (R.taken reader.old) < length (R.taken reader.new)) cx.new) }

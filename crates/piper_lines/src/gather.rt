@@ -39,7 +39,8 @@ pub fn fill_up<R: AsyncBufRead>(
         (LacksRoom size (vec_capacity gathered.old) gathered.new.items (R.known reader.new))) }
     ensures pending { OnPending result (Covers cx.new (R.needs reader.new)
         × WaitsForBytes R.known R.told R.waits reader.new cx.new) }
-    ensures rest { Keeps cx.old cx.new × ReaderStays R.told R.woken reader.old reader.new }
+    ensures rest { Keeps cx.old cx.new × ReaderStays R.told R.woken reader.old reader.new
+        × (vec_capacity gathered.old ≤ vec_capacity gathered.new) }
 {
     while gathered.len() < size {
         let lent = match reader.poll_fill_buf(cx) {

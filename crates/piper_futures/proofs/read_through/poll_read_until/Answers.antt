@@ -22,6 +22,7 @@ loop-preserved g c =
     let lacks : Lacks c.args.byte more = rw c.if-is_found.false at c.through-count.ensures.through in
     record {
       grown = grows_by_more _ _ _ _ _ _ (Lacks c.args.byte) (Lacks c.args.byte) (Lacks c.args.byte) (Lacks-append c.args.byte) c.loop.invariant.grown (more, taken, grown, lacks);
+      room = omega (arith, c.loop.invariant.room, c.extend_from_slice.ensures.capacity);
       moved = omega (arith, c.loop.invariant.moved, some, ap length taken, length-append (g.R.AsyncBufRead.taken c.loop.reader) more);
       stays = search rules;
       kept = λ fact held. c.poll_fill_buf.ensures.kept fact (c.loop.invariant.kept fact held);

@@ -1,5 +1,6 @@
-use Rattle.std.proofs.Common.{rules, ◌≡◌, ◌<◌, length, sym, subst}
+use Rattle.std.proofs.Common.{rules, ◌≡◌, vec_capacity, sym, subst}
 use Rattle.piper_lines.specs.Refusals.{IsReported}
+use Rattle.piper_futures.specs.Reading.{LacksSpace}
 use Rattle.piper_futures.specs.Writing.{FailsOnce}
 use Rattle.piper_futures.proofs.ReadingOn.{told_once}
 use Rattle.piper_futures.proofs.read_all.ReadToEndFuture.poll.Goals as goal
@@ -7,7 +8,9 @@ use Rattle.piper_futures.proofs.read_all.ReadToEndFuture.poll.Goals as goal
 pub returns-in-Ready-Err-clause-value : goal.returns-in-Ready-Err-clause-value
 returns-in-Ready-Err-clause-value g c =
     let same : c.unwrap-left.result.0 ≡ c.poll_read_to_end.new.reader = search rules in
-    let own : IsReported c.in-Ready-Err.error (FailsOnce g.R.AsyncBufRead.fails c.unwrap-left.result.0) (0 < length (g.R.AsyncBufRead.known c.unwrap-left.result.0)) =
-    subst (λ r. IsReported c.in-Ready-Err.error (FailsOnce g.R.AsyncBufRead.fails r) (0 < length (g.R.AsyncBufRead.known r))) (sym same)
-    (told_once g.R.AsyncBufRead.fails _ _ _ _ _ (λ known. known) (rw c.in-Ready-Err.field-0-is at c.in-Ready-Err.ensures.error)) in
+    let came : c.unwrap-left.result.1.items ≡ c.poll_read_to_end.new.bytes.items = search rules in
+    let own : IsReported c.in-Ready-Err.error (FailsOnce g.R.AsyncBufRead.fails c.unwrap-left.result.0) (LacksSpace (vec_capacity c.in-Some.bytes) c.unwrap-left.result.1.items (g.R.AsyncBufRead.known c.unwrap-left.result.0)) =
+    subst (λ r. IsReported c.in-Ready-Err.error (FailsOnce g.R.AsyncBufRead.fails r) (LacksSpace (vec_capacity c.in-Some.bytes) c.unwrap-left.result.1.items (g.R.AsyncBufRead.known r))) (sym same)
+    (subst (λ bs. IsReported c.in-Ready-Err.error (FailsOnce g.R.AsyncBufRead.fails c.poll_read_to_end.new.reader) (LacksSpace (vec_capacity c.in-Some.bytes) bs (g.R.AsyncBufRead.known c.poll_read_to_end.new.reader))) (sym came)
+    (told_once g.R.AsyncBufRead.fails _ _ _ _ _ (λ lacks. lacks) (rw c.in-Ready-Err.field-0-is at c.in-Ready-Err.ensures.error))) in
     search rules
