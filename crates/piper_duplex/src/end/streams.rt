@@ -11,8 +11,9 @@ ghost use Rattle.piper.specs.OfReader.{front, known, taken, told_shut};
 ghost use Rattle.piper.specs.OfReader as of_reader;
 ghost use Rattle.piper.specs.OfWriter as of_writer;
 ghost use Rattle.piper.specs.Polls.{IfReadyErr};
-ghost use Rattle.piper.specs.ReaderCalls.{AtEnd, DrainPends, DrainsEnd, DrainsSlice, LendsPiece, PollsPiece, SameReaderButConsumed, SameReaderButMoved, WakesWriter};
-ghost use Rattle.piper.specs.WriterCalls.{FillPends, FillsEnd, FillsSlice, SameWriterButMoved, SameWriterButShut, WakesReader};
+ghost use Rattle.piper.specs.ReaderCalls.{AtEnd, DrainPends, DrainsEnd, DrainsSlice, DrawsToYield as ReadDraws, LendsPiece, PollsPiece, SameReaderButConsumed, SameReaderButMoved, WakesWriter};
+ghost use Rattle.piper.specs.CopyAnswers.{inner_of};
+ghost use Rattle.piper.specs.WriterCalls.{DrawsToYield as WriteDraws, FillPends, FillsEnd, FillsSlice, SameWriterButMoved, SameWriterButShut, WakesReader};
 ghost use Rattle.piper.specs.Waits.{ReaderIsWaiting, WriterIsWaiting};
 ghost use Rattle.piper_duplex.specs.Crosswise.{reading, writing};
 
@@ -42,13 +43,14 @@ impl AsyncRead for End {
         ensures drained { DrainsSlice result (reading self.old) (reading self.new)
             dest.old dest.new }
         ensures end { DrainsEnd result (reading self.old) (reading self.new) }
+        ensures draws { ReadDraws result (reading self.old) (reading self.new) }
         ensures pending { OnPending result
             (DrainPends (reading self.old) (reading self.new) cx.new) }
         ensures error { IfReadyErr result (WantsWaker cx.new) }
         ensures woken { WakesWriter (reading self.old) (reading self.new) }
         ensures kept { Keeps cx.old cx.new }
-        ensures reader { SameReaderButMoved (reading self.old) (reading self.new) }
-        ensures writer { writing self.new ≡ writing self.old }
+        ensures rest { SameReaderButMoved (reading self.old) (reading self.new)
+            × (writing self.new ≡ writing self.old) }
     {
         match self.reader.poll_drain_bytes(cx, dest) {
             Poll::Pending => Poll::Pending,
@@ -126,13 +128,14 @@ impl AsyncWrite for End {
     fn poll_write(&mut self, cx: &mut Context<'_>, source: &[u8]) -> Poll<Result<usize, PipeError>>
         ensures filled { FillsSlice result (writing self.old) (writing self.new) source.now }
         ensures end { FillsEnd result (writing self.old) (writing self.new) }
+        ensures draws { WriteDraws (inner_of result) (writing self.old) (writing self.new) }
         ensures pending { OnPending result
             (FillPends (writing self.old) (writing self.new) cx.new) }
         ensures error { IfReadyErr result (WantsWaker cx.new) }
         ensures woken { WakesReader (writing self.old) (writing self.new) }
         ensures kept { Keeps cx.old cx.new }
-        ensures writer { SameWriterButMoved (writing self.old) (writing self.new) }
-        ensures reader { reading self.new ≡ reading self.old }
+        ensures rest { SameWriterButMoved (writing self.old) (writing self.new)
+            × (reading self.new ≡ reading self.old) }
     {
         match self.writer.poll_fill_bytes(cx, source) {
             Poll::Pending => Poll::Pending,

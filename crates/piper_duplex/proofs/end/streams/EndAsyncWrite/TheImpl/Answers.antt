@@ -12,8 +12,8 @@ poll_write-tells c =
       full = write_full c.result a b _ own.filled;
       error = own.error;
       over = own.end.over;
-      stays = saw_stays _ _ own.writer.end.saw;
-      pending = write_pends c.result a b _ own.writer own.pending;
+      stays = saw_stays _ _ own.rest.0.end.saw;
+      pending = write_pends c.result a b _ own.rest.0 own.pending;
       woken = own.woken;
       kept = own.kept;
     }
