@@ -1,12 +1,17 @@
 -- What passes through a handle of the pipe while `tokio` reads or writes it.
-use Rattle.std.specs.Prelude.{◌≡◌, ◌≤◌, ◌++◌, true, false, List, [], ℕ}
+use Rattle.std.specs.Prelude.{◌≡◌, ◌≤◌, ◌++◌, true, false, List, [], ℕ, Result, Ok, Err}
 use Rattle.std.specs.IoError.{error_kind}
 use Rattle.std.specs.declared.io.Error.{Error}
 use Rattle.std.specs.declared.io.ErrorKind.TheVariants.{OutOfMemory}
+use Rattle.std.specs.declared.convert.Infallible.{Infallible}
 use Rattle.futures.specs.declared.task.context.Context.{Context}
+use Rattle.futures.specs.declared.task.Poll.{Poll}
+use Rattle.futures.specs.declared.task.Poll.TheVariants.{Ready, Pending}
 use Rattle.piper.specs.ReadView.{SameReadEnd}
 use Rattle.piper.specs.WriteView.{SameWriteEnd}
 use Rattle.piper.specs.Shared.{flag}
+use Rattle.piper.specs.declared.error.Inner.{Inner}
+use Rattle.piper.specs.declared.error.Inner.TheVariants.{Memory}
 use Rattle.piper.specs.declared.handles.Reader.{Reader}
 use Rattle.piper.specs.declared.handles.Writer.{Writer}
 
@@ -35,3 +40,9 @@ pub record Gave (a : Writer) (xs : List ℕ) (b : Writer) : Type 0 where
 -- want of memory, since no waker could be made
 abbrev pub WantsMemory : Context → Error → Type 0
 WantsMemory cx e = (error_kind e ≡ OutOfMemory) × (cx.lacks_waker ≡ true)
+
+-- the same answer of a copy of the handles over a slice, which fails for want of memory alone
+abbrev pub inner_of_io : Poll (Result ℕ Error) → Poll (Result ℕ (Inner Infallible))
+inner_of_io (Ready (Ok n)) = Ready (Ok n)
+inner_of_io (Ready (Err e)) = Ready (Err Memory)
+inner_of_io Pending = Pending

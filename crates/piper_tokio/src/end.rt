@@ -8,12 +8,12 @@ ghost use Rattle.futures.specs.Task.{Keeps};
 ghost use Rattle.tokio.specs.Io.Moved.{bytes_moved, count_moved, OnReadyOk, IfReadyErr};
 ghost use Rattle.piper.specs.Handles.{NotifiesReader, read_source, write_source};
 ghost use Rattle.piper.specs.OfWriter.{shut, saw};
-ghost use Rattle.piper.specs.ReaderCalls.{AtEnd, DrainPends, DrainsEnd, DrainsSlice, Looks, PollsEnd, WakesWriter};
+ghost use Rattle.piper.specs.ReaderCalls.{AtEnd, DrainPends, DrainsEnd, DrainsSlice, DrawsToYield as ReadDraws, Looks, PollsEnd, WakesWriter};
 ghost use Rattle.piper.specs.Waits.{ReaderPends};
-ghost use Rattle.piper.specs.WriterCalls.{FillPends, FillsEnd, FillsSlice, SameWriterButShut, WakesReader};
+ghost use Rattle.piper.specs.WriterCalls.{DrawsToYield as WriteDraws, FillPends, FillsEnd, FillsSlice, SameWriterButShut, WakesReader};
 ghost use Rattle.piper_duplex.specs.Crosswise.{reading as reading_of, writing as writing_of};
 ghost use Rattle.piper_tokio.specs.Halves.{read_half, reading, write_half, writing};
-ghost use Rattle.piper_tokio.specs.Passing.{Took, Gave, WantsMemory};
+ghost use Rattle.piper_tokio.specs.Passing.{Took, Gave, WantsMemory, inner_of_io};
 ghost use Rattle.piper_tokio.specs.Shown.{shown_by, ShowsFront};
 ghost use Rattle.piper_tokio.specs.PassingLaws.{took_nothing, took_in_order, gave_nothing, gave_in_order};
 
@@ -80,8 +80,8 @@ impl AsyncRead for CompatEnd {
         ensures drained { DrainsSlice result (reading self.old) (reading self.new)
             buf.old buf.new × (shown_by (read_half self.new) ≡ []) }
         ensures end { DrainsEnd result (reading self.old) (reading self.new) }
-        ensures pending { OnPending result
-            (DrainPends (reading self.old) (reading self.new) cx.new) }
+        ensures pending { ReadDraws result (reading self.old) (reading self.new)
+            × OnPending result (DrainPends (reading self.old) (reading self.new) cx.new) }
         ensures memory { IfReadyErr result (WantsMemory cx.new) }
         ensures woken { WakesWriter (reading self.old) (reading self.new) }
         ensures context { Keeps cx.old cx.new }
@@ -139,8 +139,8 @@ impl AsyncWrite for CompatEnd {
             (writing self.new) × (read_half self.new ≡ read_half self.old) }
         ensures filled { FillsSlice result (writing self.old) (writing self.new) buf.now }
         ensures end { FillsEnd result (writing self.old) (writing self.new) }
-        ensures pending { OnPending result
-            (FillPends (writing self.old) (writing self.new) cx.new) }
+        ensures pending { WriteDraws (inner_of_io result) (writing self.old) (writing self.new)
+            × OnPending result (FillPends (writing self.old) (writing self.new) cx.new) }
         ensures memory { IfReadyErr result (WantsMemory cx.new) }
         ensures woken { WakesReader (writing self.old) (writing self.new) }
         ensures context { Keeps cx.old cx.new }

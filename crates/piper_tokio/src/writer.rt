@@ -7,8 +7,8 @@ ghost use Rattle.futures.specs.Task.{Keeps};
 ghost use Rattle.tokio.specs.Io.Moved.{bytes_moved, count_moved, IfReadyErr};
 ghost use Rattle.piper.specs.Handles.{NotifiesReader, write_source};
 ghost use Rattle.piper.specs.OfWriter.{shut, saw};
-ghost use Rattle.piper.specs.WriterCalls.{FillPends, FillsEnd, FillsSlice, SameWriterButShut, WakesReader};
-ghost use Rattle.piper_tokio.specs.Passing.{Gave, WantsMemory};
+ghost use Rattle.piper.specs.WriterCalls.{DrawsToYield, FillPends, FillsEnd, FillsSlice, SameWriterButShut, WakesReader};
+ghost use Rattle.piper_tokio.specs.Passing.{Gave, WantsMemory, inner_of_io};
 ghost use Rattle.piper_tokio.specs.Shown.{writing};
 ghost use Rattle.piper_tokio.specs.PassingLaws.{gave_nothing, gave_in_order};
 
@@ -76,7 +76,8 @@ impl tokio::io::AsyncWrite for CompatWriter {
         ensures bytes { Gave (writing self.old) (bytes_moved result buf.now) (writing self.new) }
         ensures filled { FillsSlice result (writing self.old) (writing self.new) buf.now }
         ensures end { FillsEnd result (writing self.old) (writing self.new) }
-        ensures pending { OnPending result (FillPends (writing self.old) (writing self.new) cx.new) }
+        ensures pending { DrawsToYield (inner_of_io result) (writing self.old) (writing self.new)
+            × OnPending result (FillPends (writing self.old) (writing self.new) cx.new) }
         ensures memory { IfReadyErr result (WantsMemory cx.new) }
         ensures woken { WakesReader (writing self.old) (writing self.new) }
         ensures context { Keeps cx.old cx.new }

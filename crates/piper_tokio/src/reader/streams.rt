@@ -7,7 +7,7 @@ ghost use Rattle.futures.specs.Task.{Keeps};
 ghost use Rattle.tokio.specs.Io.Moved.{bytes_moved, count_moved, OnReadyOk, IfReadyErr};
 ghost use Rattle.piper.specs.Handles.{NotifiesWriter, read_source};
 ghost use Rattle.piper.specs.OfReader.{known};
-ghost use Rattle.piper.specs.ReaderCalls.{AtEnd, DrainPends, DrainsEnd, DrainsSlice, Looks, PollsEnd, WakesWriter};
+ghost use Rattle.piper.specs.ReaderCalls.{AtEnd, DrainPends, DrainsEnd, DrainsSlice, DrawsToYield, Looks, PollsEnd, WakesWriter};
 ghost use Rattle.piper.specs.Waits.{ReaderPends};
 ghost use Rattle.piper_tokio.specs.Passing.{Took, WantsMemory};
 ghost use Rattle.piper_tokio.specs.Shown.{handle_of, shown_by, ShowsFront};
@@ -64,8 +64,8 @@ impl tokio::io::AsyncRead for CompatReader {
         ensures drained { DrainsSlice result (handle_of self.old) (handle_of self.new)
             buf.old buf.new × (shown_by self.new ≡ []) }
         ensures end { DrainsEnd result (handle_of self.old) (handle_of self.new) }
-        ensures pending { OnPending result
-            (DrainPends (handle_of self.old) (handle_of self.new) cx.new) }
+        ensures pending { DrawsToYield result (handle_of self.old) (handle_of self.new)
+            × OnPending result (DrainPends (handle_of self.old) (handle_of self.new) cx.new) }
         ensures memory { IfReadyErr result (WantsMemory cx.new) }
         ensures woken { WakesWriter (handle_of self.old) (handle_of self.new) }
         ensures context { Keeps cx.old cx.new }
