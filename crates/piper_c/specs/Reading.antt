@@ -22,12 +22,12 @@ pub record IsEnded (r : ReadView) : Type 0 where
   pub saw : r.saw ≡ true
   pub all : r.taken ≡ r.all
 
--- what a poll found
+-- what a poll found; it has to be made again only where the place of the words is away
 abbrev pub ReaderFound : Outcome → ReadHalf → Type 0
 ReaderFound Ready r = 0 < length r.end.known
 ReaderFound End r = IsEnded r.end
 ReaderFound Pending r = IsPending r.end r.slots
-ReaderFound Again r = r.end.known ≡ []
+ReaderFound Again r = (r.end.known ≡ []) × (r.slots.owns ≡ false)
 ReaderFound Refused r = ⊥
 
 -- what a look found that leaves no words

@@ -16,12 +16,12 @@ use Rattle.piper_c.specs.declared.words.PiperWords.{PiperWords}
 use Rattle.piper_c.specs.Outcome.{code}
 use Rattle.piper_c.specs.Waiting.{GotBack, HandedBack, Took, HandedOut}
 
--- what a poll found
+-- what a poll found; it has to be made again only where the place of the words is away
 abbrev pub WriterFound : Outcome → WriteHalf → Type 0
 WriterFound Ready w = (0 < w.end.room) × (w.end.saw ≡ false)
 WriterFound End w = w.end.saw ≡ true
 WriterFound Pending w = IsWriterPending w.end w.slots
-WriterFound Again w = (w.end.room ≡ 0) × (w.end.saw ≡ false)
+WriterFound Again w = (w.end.room ≡ 0) × (w.end.saw ≡ false) × (w.slots.owns ≡ false)
 WriterFound Refused w = ⊥
 
 -- what a look found that leaves no words
