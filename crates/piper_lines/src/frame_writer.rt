@@ -86,11 +86,13 @@ impl<'a> WriteFrame<'a> {
         ensures sends { Sends (left_of self.old) (left_of self.new)
             (W.sent writer.old) (W.sent writer.new) (W.saw writer.old) (W.saw writer.new) }
         ensures whole { result ≡ Poll.Ready (Ok Written.Whole) → left_of self.new ≡ [] }
-        ensures closed { result ≡ Poll.Ready (Ok Written.Closed) → W.saw writer.new ≡ true }
+        ensures closed { result ≡ Poll.Ready (Ok Written.Closed) →
+            (W.saw writer.new ≡ true) × (0 < length (left_of self.new)) }
         ensures stays { WriterStays W.saw W.woken writer.old writer.new }
         ensures error { IfReadyErr result (W.fails writer.new cx.new) }
         ensures pending { OnPending result (Covers cx.new (W.needs writer.new)
-            × W.waits writer.new cx.new × ¬ (W.saw writer.old ≡ true)) }
+            × W.waits writer.new cx.new × ¬ (W.saw writer.old ≡ true)
+            × (0 < length (left_of self.new))) }
         ensures kept { Keeps cx.old cx.new }
     {
         poll_write_both(

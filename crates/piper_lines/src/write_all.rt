@@ -73,11 +73,13 @@ pub(crate) fn poll_write_both<W: AsyncWrite>(
         (W.sent writer.old) (W.sent writer.new) (W.saw writer.old) (W.saw writer.new) }
     ensures whole { result ≡ Poll.Ready (Ok Written.Whole) →
         (front_written.new ≡ length front.now) × (back_written.new ≡ length back.now) }
-    ensures closed { result ≡ Poll.Ready (Ok Written.Closed) → W.saw writer.new ≡ true }
+    ensures closed { result ≡ Poll.Ready (Ok Written.Closed) → (W.saw writer.new ≡ true)
+        × (0 < length (drop front_written.new front.now ++ drop back_written.new back.now)) }
     ensures stays { WriterStays W.saw W.woken writer.old writer.new }
     ensures error { IfReadyErr result (W.fails writer.new cx.new) }
     ensures pending { OnPending result (Covers cx.new (W.needs writer.new)
-        × W.waits writer.new cx.new × ¬ (W.saw writer.old ≡ true)) }
+        × W.waits writer.new cx.new × ¬ (W.saw writer.old ≡ true)
+        × (0 < length (drop front_written.new front.now ++ drop back_written.new back.now))) }
     ensures kept { Keeps cx.old cx.new }
 {
     match poll_write_all(writer, cx, front, front_written) {
