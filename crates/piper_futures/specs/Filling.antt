@@ -34,9 +34,9 @@ FillWaits sent saw waits a b cx =
     ⊎ (((length (sent a) < length (sent b)) ⊎ (saw b ≡ true)) × AsksAgain cx))
     × ¬ (saw a ≡ true)
 
--- a fill through a handle leaves it the same, and doesn't close the pipe itself. Where it is pending
--- it published bytes, or saw the pipe closed meanwhile; or it waits as `poll_fill` does, and where
--- there is room its generator drew a yield
+-- a fill through a handle leaves it the same, and doesn't close the pipe itself. Where it is
+-- pending it published bytes, or saw the pipe closed meanwhile; or it waits as `poll_fill` does,
+-- and where there is room its generator drew a yield
 pub record FillsHandle {A : Type 0} (r : Poll A) (a b : Writer) (cx : Context) : Type 0 where
   pub same : SameWriterButMoved a b
   pub pends : OnPending r (((length a.end.sent < length b.end.sent) ⊎ (b.end.saw ≡ true))

@@ -1,12 +1,12 @@
 -- The ring's block is cut into the words and the bytes, and made one again. Assumes `Logic`.
-use Rattle.piper_ring.proofs.Kit.{◌≡◌, ℕ, zero, suc, ◌+◌, ◌-◌, ◌*◌, ◌<◌, ◌^◌, [], ◌∷◌, sym, refl, ◌∙◌, subst, arith, Ura, SProp, ent, sep, Fml, fsep, fwand, froom, Logic, sem, ‵, ◌⊛◌, ◌$◌, ◌∵◌, !, qed, by, move, split, split3, fsplit, fjoin, frame, assume, rewrite, use1, use2, done, Ptr, Ty, ty_int, w8, w64, block_of, count_of, apply∗, array_of, u8, words_type, all_rooms, Placed, Names}
+use Rattle.piper_ring.proofs.Kit.{◌≡◌, ℕ, zero, suc, ◌+◌, ◌-◌, ◌*◌, ◌<◌, ◌^◌, [], ◌∷◌, sym, refl, ◌∙◌, subst, arith, Ura, SProp, ent, sep, Fml, fsep, fwand, froom, Logic, sem, ‵, ◌⊛◌, ◌$◌, ◌∵◌, !, qed, by, move, split, fsplit, fjoin, frame, assume, rewrite, use1, use2, Ptr, Ty, ty_int, w8, w64, block_of, count_of, apply∗, array_of, u8, words_type, all_rooms, Placed, Names}
 use Rattle.std.proofs.Common.{◌/◌}
 use mir.Syntax.{ty_array}
 use denote.RawPtr.{InBlock}
 use denote.RawPtr.Room.{past as beyond, room_cut, room_glue}
 use prog.Align.{dv_one}
 use prog.Memory.{align}
-use Rattle.piper_ring.specs.Block.{behind, purpose, size_of_block}
+use Rattle.piper_ring.specs.Block.{purpose, size_of_block}
 use Rattle.piper_ring.specs.Places as P
 
 -- the bytes of a ring that lies in its block lie there, too

@@ -1,12 +1,13 @@
-//! What a side that waits asks of its slot: whether its waker is registered there, the waker
-//! itself, and the place of it.
-ghost use Rattle.std.specs.Prelude.{◌≡◌, IfSome, IsSome, None, true, false};
-ghost use Rattle.piper_ring.specs.Loads.{FoundBack, FoundFlag};
+//! What a side asks of the slots: whether its waker is registered in its own, the waker itself, and
+//! the place of it; and the waker that is registered in the other's.
+ghost use Rattle.std.specs.Prelude.{◌≡◌, ◌<◌, IfSome, IsSome, None, true, false};
+ghost use Rattle.piper_ring.specs.Loads.{FoundBack, FoundFlag, FoundWaiter};
 ghost use Rattle.piper_ring.specs.Shared.{flag};
 
+use crate::ring::marks::Saw;
 use crate::ring::seats::{ReadSeat, WriteSeat};
-use crate::ring::slots::{ReaderWaits, WriterWaits};
-use token_cell::Token;
+use crate::ring::slots::{ReaderWaits, ReaderWakes, WriterWaits, WriterWakes};
+use token_cell::{Token, TokenCell};
 
 /// The other end has the place of this end's waker: the waker was not registered any more, and the
 /// place was not handed back.
@@ -62,6 +63,32 @@ impl ReadSeat {
         }
         Some(right)
     }
+
+    /// Takes the waker that is registered in the writer's slot, if one is, out of its place, and
+    /// hands the place back.
+    pub(crate) fn take<T>(
+        &self,
+        slot: &mut ReaderWakes,
+        saw: &Saw,
+        place: &TokenCell<Option<T>>,
+    ) -> Option<T>
+        requires slot { (slot.old.names ≡ self.now.names) × (slot.old.holds ≡ false)
+            × (saw.now.names ≡ self.now.names) }
+        requires place { place.now ≡ self.now.names.writer_place }
+        ensures ring { (slot.new.names ≡ slot.old.names) × (slot.new.holds ≡ false) }
+        ensures looked { (slot.new.count ≡ self.now.head) × (slot.new.over ≡ saw.now.seen) }
+        ensures none { result ≡ None → slot.new.taken ≡ slot.old.taken }
+        ensures some { IsSome result → slot.old.taken < slot.new.taken }
+        ensures found { result ≡ None → FoundWaiter self.now.names 0 }
+    {
+        let (found, mut right) = self.take_waker(slot, saw);
+        if found == 0 {
+            return None;
+        }
+        let taken = place.take(&mut right);
+        self.give_back(slot, right);
+        Some(taken)
+    }
 }
 
 impl WriteSeat {
@@ -112,5 +139,25 @@ impl WriteSeat {
             return None;
         }
         Some(right)
+    }
+
+    /// Takes the waker that is registered in the reader's slot, if one is, out of its place, and
+    /// hands the place back.
+    pub(crate) fn take<T>(&self, slot: &mut WriterWakes, place: &TokenCell<Option<T>>) -> Option<T>
+        requires slot { (slot.old.names ≡ self.now.names) × (slot.old.holds ≡ false) }
+        requires place { place.now ≡ self.now.names.reader_place }
+        ensures ring { (slot.new.names ≡ slot.old.names) × (slot.new.holds ≡ false) }
+        ensures looked { (slot.new.bytes ≡ self.now.sent) × (slot.new.shut ≡ self.now.shut) }
+        ensures none { result ≡ None → slot.new.taken ≡ slot.old.taken }
+        ensures some { IsSome result → slot.old.taken < slot.new.taken }
+        ensures found { result ≡ None → FoundWaiter self.now.names 0 }
+    {
+        let (found, mut right) = self.take_waker(slot);
+        if found == 0 {
+            return None;
+        }
+        let taken = place.take(&mut right);
+        self.give_back(slot, right);
+        Some(taken)
     }
 }

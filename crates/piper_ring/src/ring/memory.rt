@@ -1,4 +1,5 @@
-//! Memory of the heap that no ring uses: before one is opened, and once both of its ends are gone.
+//! Where the words of a ring lie in its block, and memory of the heap that no ring uses: before one
+//! is opened, and once both of its ends are gone.
 ghost use Rattle.std.specs.Prelude.{◌≡◌, ℕ, ◌*◌, ◌<◌, ◌^◌, IfErr, IfOk};
 ghost use Rattle.piper_protocol.specs.Reported.{HasFailed};
 ghost use Rattle.piper_ring.specs.Block.{IsClaim, size_of_block, unused};
@@ -6,6 +7,28 @@ ghost use Rattle.piper_ring.specs.Block.{IsClaim, size_of_block, unused};
 use piper_protocol::memory::OutOfMemory;
 use std::alloc::{Allocator, Global};
 use std::marker::Model;
+
+// Where each word lies, counted in words from the first. Processors fetch cache lines of 64 bytes,
+// and often two, a pair of 128. So the head and the tail, which are stored while bytes flow, are
+// never in one pair. Between them are the words that the reader loads after it stored the head, and
+// those that the writer loads before and after it stores the tail: each a line away from the word
+// beside it, which the same side stores.
+
+pub(crate) const LEFT_WORD: usize = 0;
+
+pub(crate) const HEAD_WORD: usize = 1;
+
+pub(crate) const WRITER_FLAG: usize = 9;
+
+pub(crate) const WRITER_BACK: usize = 10;
+
+pub(crate) const CLOSED_WORD: usize = 17;
+
+pub(crate) const READER_FLAG: usize = 18;
+
+pub(crate) const READER_BACK: usize = 19;
+
+pub(crate) const TAIL_WORD: usize = 26;
 
 /// How many bytes the words of a ring take. Its bytes lie behind them, in the same block.
 pub(crate) const WORDS_SIZE: usize = 216;

@@ -9,7 +9,10 @@ ghost use Rattle.piper_ring.specs.Loads.{FoundClosed, FoundConsumed, FoundPublis
 ghost use Rattle.piper_ring.specs.SlotViews.{IsUnused, LooksFirst, IsUnusedBack, LooksFirstBack};
 
 use crate::ring::marks::{ReadMark, Saw, WriteMark};
-use crate::ring::memory::{Memory, WORDS_SIZE};
+use crate::ring::memory::{
+    CLOSED_WORD, HEAD_WORD, LEFT_WORD, Memory, READER_BACK, READER_FLAG, TAIL_WORD, WORDS_SIZE,
+    WRITER_BACK, WRITER_FLAG,
+};
 use crate::ring::places::{Base, Blank, Places};
 use crate::ring::remains::Remains;
 use crate::ring::slots::{ReaderWaits, ReaderWakes, WriterWaits, WriterWakes};
@@ -17,28 +20,6 @@ use std::marker::{Brand, Model, PhantomData, Send, Sync};
 use std::sync::atomic::Ordering::SeqCst;
 use std::sync::atomic::raw;
 use token_cell::Token;
-
-// Where each word lies, counted in words from the first. Processors fetch cache lines of 64 bytes,
-// and often two, a pair of 128. So the head and the tail, which are stored while bytes flow, are
-// never in one pair. Between them are the words that the reader loads after it stored the head, and
-// those that the writer loads before and after it stores the tail: each a line away from the word
-// beside it, which the same side stores.
-
-const LEFT_WORD: usize = 0;
-
-const HEAD_WORD: usize = 1;
-
-pub(crate) const WRITER_FLAG: usize = 9;
-
-pub(crate) const WRITER_BACK: usize = 10;
-
-const CLOSED_WORD: usize = 17;
-
-pub(crate) const READER_FLAG: usize = 18;
-
-pub(crate) const READER_BACK: usize = 19;
-
-const TAIL_WORD: usize = 26;
 
 /// The reader's side of the words. `have` is all that it consumed, followed by all that it knows
 /// of.

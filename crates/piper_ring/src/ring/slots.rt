@@ -1,15 +1,16 @@
 //! What each side knows of a slot, at which a side waits for the other, and its steps on the slot's
 //! two words. It takes no space, and a `&` to it gives nothing.
 ghost use Rattle.std.specs.Borrow.{ftrue};
-ghost use Rattle.std.specs.Prelude.{◌≡◌, ◌<◌, ◌≤◌, ℕ, Bool, List, None, IsSome, true, false};
+ghost use Rattle.std.specs.Prelude.{◌≡◌, ◌≤◌, ℕ, Bool, List, true, false};
 ghost use Rattle.piper_ring.specs.Shared.{Consumed, Names, Stream, names_code, waits_for, wakes_for, waits_back, wakes_back};
 
 use crate::ring::marks::{ReadMark, Saw, WriteMark};
-use crate::ring::seats::{READER_BACK, READER_FLAG, ReadSeat, WRITER_BACK, WRITER_FLAG, WriteSeat};
+use crate::ring::memory::{READER_BACK, READER_FLAG, WRITER_BACK, WRITER_FLAG};
+use crate::ring::seats::{ReadSeat, WriteSeat};
 use std::marker::{Brand, Model, PhantomData, Send, Sync};
 use std::sync::atomic::Ordering::SeqCst;
 use std::sync::atomic::raw;
-use token_cell::{Token, TokenCell};
+use token_cell::Token;
 
 /// The reader, at its own slot. `owns` is whether it has the place of the waker, `tickets` how
 /// often it registered, and the rest what the writer had published when it checked last before
@@ -170,26 +171,6 @@ impl WriteSeat {
         // SAFETY: the seat owns or shares the ring's words (`also_owns`, `also_shares`), which live
         // until the last end is gone.
         unsafe { raw::store::<Brand>(self.words.add(READER_BACK), 1, SeqCst) }
-    }
-
-    /// Takes the waker that is registered in the reader's slot, if one is, out of its place, and
-    /// hands the place back.
-    pub(crate) fn take<T>(&self, slot: &mut WriterWakes, place: &TokenCell<Option<T>>) -> Option<T>
-        requires slot { (slot.old.names ≡ self.now.names) × (slot.old.holds ≡ false) }
-        requires place { place.now ≡ self.now.names.reader_place }
-        ensures ring { (slot.new.names ≡ slot.old.names) × (slot.new.holds ≡ false) }
-        ensures looked { (slot.new.bytes ≡ self.now.sent) × (slot.new.shut ≡ self.now.shut) }
-        ensures none { result ≡ None → slot.new.taken ≡ slot.old.taken }
-        ensures some { IsSome result → slot.old.taken < slot.new.taken }
-        ensures found { result ≡ None → FoundWaiter self.now.names 0 }
-    {
-        let (found, mut right) = self.take_waker(slot);
-        if found == 0 {
-            return None;
-        }
-        let taken = place.take(&mut right);
-        self.give_back(slot, right);
-        Some(taken)
     }
 
     /// The writer's waker, which lies in its place, is registered in its slot, under the next
@@ -385,31 +366,5 @@ impl ReadSeat {
         // SAFETY: the seat owns or shares the ring's words (`also_owns`, `also_shares`), which live
         // until the last end is gone.
         unsafe { raw::store::<Brand>(self.words.add(WRITER_BACK), 1, SeqCst) }
-    }
-
-    /// Takes the waker that is registered in the writer's slot, if one is, out of its place, and
-    /// hands the place back.
-    pub(crate) fn take<T>(
-        &self,
-        slot: &mut ReaderWakes,
-        saw: &Saw,
-        place: &TokenCell<Option<T>>,
-    ) -> Option<T>
-        requires slot { (slot.old.names ≡ self.now.names) × (slot.old.holds ≡ false)
-            × (saw.now.names ≡ self.now.names) }
-        requires place { place.now ≡ self.now.names.writer_place }
-        ensures ring { (slot.new.names ≡ slot.old.names) × (slot.new.holds ≡ false) }
-        ensures looked { (slot.new.count ≡ self.now.head) × (slot.new.over ≡ saw.now.seen) }
-        ensures none { result ≡ None → slot.new.taken ≡ slot.old.taken }
-        ensures some { IsSome result → slot.old.taken < slot.new.taken }
-        ensures found { result ≡ None → FoundWaiter self.now.names 0 }
-    {
-        let (found, mut right) = self.take_waker(slot, saw);
-        if found == 0 {
-            return None;
-        }
-        let taken = place.take(&mut right);
-        self.give_back(slot, right);
-        Some(taken)
     }
 }

@@ -1,5 +1,5 @@
 -- `open` writes the four words, and puts them under the ring's invariant. Assumes `Logic`.
-use Rattle.piper_ring.proofs.Kit.{arith, all_rooms, fwand, fsep, usize, uint_vals, uint_Tells, vint, w64, ◌<◌, ◌^◌, ◌≡◌, ℕ, true, false, [], ◌∷◌, refl, ap, sym, lit<, Ty, named, Val, vptr, SProp, emp, fst∗, never, ftrue, sem, ‵, raw, ◌⊛◌, some, given, later, await, pick, at_ret, ◌$◌, ◌∵◌, !, qed, by, move, keep, drop, split, split3, join, fsplit, fsplit3, fjoin, fjoin3, fpick, fpack, learn, use0, use1, use2, use3, rewrite, stop, fld, init, lit, of_opd, bin, no_more, and_then, first, blocks, exec, assigns_last, returns, enter, alloc_all, pass_all, free_all, look_at, get, get_in, through, sets, is, env, agg, sub, whole, fact, fact_i, tables, yes, RattleType, owns, types_at, plain, Ptr, block_ptr, null_ptr, ptr_val, in_a_block, u8, RefOf, nothing, alive, Stays, stay_dropped, walk_of, Goes-dropped, array_of, owned_block, after as from_on, word-Good, span, proved, leaves, unset, Names, words_type, slot_rooms, word_room, heap_token, reader_owns, writer_owns, shr_vals, shr_Tells}
+use Rattle.piper_ring.proofs.Kit.{arith, all_rooms, fwand, fsep, usize, uint_vals, uint_Tells, vint, w64, ◌<◌, ◌^◌, ◌≡◌, ℕ, true, false, [], ◌∷◌, refl, ap, sym, lit<, Ty, named, Val, vptr, SProp, emp, fst∗, never, ftrue, sem, ‵, raw, ◌⊛◌, some, given, later, await, pick, at_ret, ◌$◌, ◌∵◌, !, qed, by, move, keep, drop, split, split3, join, fsplit, fsplit3, fjoin, fjoin3, fpick, fpack, learn, use0, use1, use2, use3, rewrite, stop, fld, init, lit, of_opd, bin, no_more, and_then, first, blocks, exec, assigns_last, returns, enter, alloc_all, pass_all, free_all, look_at, get, get_in, through, sets, is, env, agg, sub, whole, fact, fact_i, tables, yes, RattleType, owns, types_at, plain, Ptr, block_ptr, null_ptr, ptr_val, in_a_block, RefOf, nothing, alive, Stays, stay_dropped, walk_of, Goes-dropped, owned_block, after as from_on, word-Good, span, proved, leaves, unset, Names, slot_rooms, word_room, heap_token, reader_owns, writer_owns, shr_vals, shr_Tells}
 use types.Run.{assigns}
 use Rattle.piper_ring.specs.Places as P
 use Rattle.piper_ring.proofs.Fields.{seat_val, ghost_val, ReaderWaitsData, reader_waits_made, WriterWakesData, writer_wakes_made, WriterWaitsData, writer_waits_made, ReaderWakesData, reader_wakes_made, seven_val, seven_of, memory_told, ReadData, read_made, WriteData, write_made, BlankData, blank_made}

@@ -1,5 +1,5 @@
 -- `into_memory` gives the memory as the heap gave it. Assumes `Logic`.
-use Rattle.piper_ring.proofs.Kit.{◌≡◌, ℕ, ◌<◌, ◌^◌, Bool, true, [], ◌∷◌, refl, ap, ◌∙◌, lit<, Ty, Val, SProp, emp, ftrue, fat, full_share, layout, ‵, raw, ◌⊛◌, given, ◌$◌, ◌∵◌, !, qed, by, move, keep, drop, join, split, fsplit, fjoin, fpick, fpack, learn, use0, use2, rewrite, stop, fld, of_opd, no_more, and_then, returns, enter, take_at, give_at, alloc_all, pass_all, free_all, look_at, get, get_in, sets, is, env, agg, sub, whole, fact, fact_i, tables, yes, RattleType, owns, types_at, plain, Ptr, block_ptr, ptr_val, block_of, count_of, at_block, u8, nothing, alive, Stays, stay_dropped, walk_of, Goes-dropped, array_of, word-Good, pair_val, pair_of, proved, leaves, Names, words_type, heap_token, where_gone}
+use Rattle.piper_ring.proofs.Kit.{◌≡◌, ℕ, ◌<◌, ◌^◌, Bool, true, [], ◌∷◌, refl, ap, Val, SProp, emp, ftrue, ‵, raw, ◌⊛◌, given, ◌$◌, ◌∵◌, !, qed, by, move, keep, drop, split, fsplit, fjoin, fpick, fpack, learn, use0, rewrite, stop, fld, of_opd, no_more, and_then, returns, enter, alloc_all, pass_all, free_all, look_at, get, get_in, sets, is, env, agg, sub, whole, fact, fact_i, tables, yes, RattleType, owns, types_at, plain, Ptr, block_ptr, ptr_val, block_of, count_of, at_block, nothing, alive, Stays, stay_dropped, walk_of, Goes-dropped, word-Good, proved, leaves, Names, heap_token, where_gone}
 use Rattle.piper_ring.specs.Block.{purpose, size_of_block}
 use Rattle.piper_ring.specs.Shared as shared
 use Rattle.piper_ring.proofs.Fields.{seat_val, remains_told, MemoryData, memory_made}
