@@ -1,5 +1,5 @@
 -- What a write counted was given, and a front of it published.
-use Rattle.std.proofs.Common.{◌≡◌, ℕ, ◌≤◌, ◌++◌, true, List, [], take, drop, length, sym, ap, ◌∙◌, arith, take-take, take-append-drop, drop_of_length-le, length-append, length-take, length-take-le}
+use Rattle.std.proofs.Common.{◌≡◌, ℕ, ◌≤◌, ◌++◌, true, List, [], take, drop, length, sym, ap, ◌∙◌, arith, take-take, take-append-drop, drop_of_length-le, length-take}
 use Rattle.piper.specs.WriterCalls.{Filled, SameWriterButMoved}
 use Rattle.piper.specs.declared.handles.Writer.{Writer}
 use Rattle.piper.proofs.Traits.{as_many}
