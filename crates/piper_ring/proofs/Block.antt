@@ -61,17 +61,17 @@ module _ {M : Type 1} {𝓤 : Ura M} (𝓛 : Logic 𝓤) (w : Ptr) (cap : ℕ) w
   WordsRoom = froom words_type b o
 
   abbrev pub BytesRoom : Fml
-  BytesRoom = froom (array_of u8 cap) b (216 + o)
+  BytesRoom = froom (array_of u8 cap) b (224 + o)
 
   abbrev pub BlockRoom : Fml
   BlockRoom = froom (purpose (size_of_block cap)) b o
 
-  many : size_of_block cap / 8 ≡ 27 + e
+  many : size_of_block cap / 8 ≡ 28 + e
   many = omega arith
 
   -- the words that follow are the bytes and the padding behind them
-  as_bytes : ⟦ words e (216 + o) ⟧ ⊢ ⟦ BytesRoom ⟧ ∗ ⟦ fwand BytesRoom (words e (216 + o)) ⟧
-  as_bytes = let at : ℕ = 216 + o in let all : e * 8 ≡ cap + pad = omega arith in
+  as_bytes : ⟦ words e (224 + o) ⟧ ⊢ ⟦ BytesRoom ⟧ ∗ ⟦ fwand BytesRoom (words e (224 + o)) ⟧
+  as_bytes = let at : ℕ = 224 + o in let all : e * 8 ≡ cap + pad = omega arith in
       qed 𝓛 (‵ (words e at) ∷ []) ∵ use1 𝓛 (‵ (bytes (e * 8) at) ⊛ ‵ (fwand (bytes (e * 8) at) (words e at))) (𝓛.laws.room_as (ty_array u e) (ty_array v (e * 8)) b at (omega arith) (dv_one (align (ty_array u e)))) $ split ! $
       rewrite ! 0 (λ (n : ℕ). ‵ (bytes n at)) all refl $ use1 𝓛 (‵ (bytes cap at) ⊛ ‵ (bytes pad (beyond v cap at))) (room_cut 𝓛 v cap pad b at) $ split ! $
       use1 𝓛 (‵ BytesRoom) (𝓛.laws.room-raw (ty_array v cap) b at) $ frame ! $
@@ -80,14 +80,14 @@ module _ {M : Type 1} {𝓤 : Ura M} (𝓛 : Logic 𝓤) (w : Ptr) (cap : ℕ) w
 
   -- the block is the words, the bytes, and what makes a block of them again
   pub block_cut : ⟦ BlockRoom ⟧ ⊢ ⟦ WordsRoom ⟧ ∗ ⟦ BytesRoom ⟧ ∗ ⟦ fwand (fsep WordsRoom BytesRoom) BlockRoom ⟧
-  block_cut = let far : beyond u 27 o ≡ 216 + o = beyond_words 27 o in
+  block_cut = let far : beyond u 28 o ≡ 224 + o = beyond_words 28 o in
       qed 𝓛 (‵ BlockRoom ∷ []) ∵ use1 𝓛 (‵ (words (size_of_block cap / 8) o)) (𝓛.laws.raw-room (ty_array u (size_of_block cap / 8)) b o) $
-      rewrite ! 0 (λ (n : ℕ). ‵ (words n o)) many refl $ use1 𝓛 (‵ (words 27 o) ⊛ ‵ (words e (beyond u 27 o))) (room_cut 𝓛 u 27 e b o) $ split ! $
-      use1 𝓛 (‵ WordsRoom) (𝓛.laws.room-raw (ty_array u 27) b o) $ frame ! $ rewrite ! 0 (λ (at : ℕ). ‵ (words e at)) far refl $
-      use1 𝓛 (‵ BytesRoom ⊛ ‵ (fwand BytesRoom (words e (216 + o)))) as_bytes $ split ! $ frame ! $
-      assume ! (‵ (fsep WordsRoom BytesRoom)) $ fsplit ! $ move ! (1 ∷ 2 ∷ []) $ use2 𝓛 (‵ (words e (216 + o))) (apply∗ 𝓤 ⟦ BytesRoom ⟧ ⟦ words e (216 + o) ⟧) $
-      rewrite ! 0 (λ (at : ℕ). ‵ (words e at)) (sym far) refl $ move ! (1 ∷ []) $ use1 𝓛 (‵ (words 27 o)) (𝓛.laws.raw-room (ty_array u 27) b o) $
-      use2 𝓛 (‵ (words (27 + e) o)) (room_glue 𝓛 u 27 e b o) $ rewrite ! 0 (λ (n : ℕ). ‵ (words n o)) (sym many) refl $ by ! (𝓛.laws.room-raw (ty_array u (size_of_block cap / 8)) b o)
+      rewrite ! 0 (λ (n : ℕ). ‵ (words n o)) many refl $ use1 𝓛 (‵ (words 28 o) ⊛ ‵ (words e (beyond u 28 o))) (room_cut 𝓛 u 28 e b o) $ split ! $
+      use1 𝓛 (‵ WordsRoom) (𝓛.laws.room-raw (ty_array u 28) b o) $ frame ! $ rewrite ! 0 (λ (at : ℕ). ‵ (words e at)) far refl $
+      use1 𝓛 (‵ BytesRoom ⊛ ‵ (fwand BytesRoom (words e (224 + o)))) as_bytes $ split ! $ frame ! $
+      assume ! (‵ (fsep WordsRoom BytesRoom)) $ fsplit ! $ move ! (1 ∷ 2 ∷ []) $ use2 𝓛 (‵ (words e (224 + o))) (apply∗ 𝓤 ⟦ BytesRoom ⟧ ⟦ words e (224 + o) ⟧) $
+      rewrite ! 0 (λ (at : ℕ). ‵ (words e at)) (sym far) refl $ move ! (1 ∷ []) $ use1 𝓛 (‵ (words 28 o)) (𝓛.laws.raw-room (ty_array u 28) b o) $
+      use2 𝓛 (‵ (words (28 + e) o)) (room_glue 𝓛 u 28 e b o) $ rewrite ! 0 (λ (n : ℕ). ‵ (words n o)) (sym many) refl $ by ! (𝓛.laws.room-raw (ty_array u (size_of_block cap / 8)) b o)
 
   -- where the words in use make the words' room again, they and the bytes make the block again
   pub remakes : ⟦ fwand (all_rooms w) WordsRoom ⟧ ∗ ⟦ fwand (fsep WordsRoom BytesRoom) BlockRoom ⟧ ⊢ ⟦ fwand (fsep (all_rooms w) BytesRoom) BlockRoom ⟧

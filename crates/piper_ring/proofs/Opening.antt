@@ -62,26 +62,26 @@ module _ {M : Type 1} {𝓤 : Ura M} (𝓛 : Logic 𝓤) (w p : Ptr) (cap : ℕ)
   -- the room of the words is the eight words in use, and what makes it of them again
   pub words_out : ⟦ froom words_type b o ⟧ ⊢ ⟦ word_room w 8 ⟧ ∗ ⟦ word_room w 208 ⟧ ∗ ⟦ word_room w 136 ⟧ ∗ ⟦ word_room w 0 ⟧ ∗ ⟦ slot_rooms w ⟧ ∗ ⟦ Rejoin ⟧
   words_out = let first_word : 0 + o ≡ o = omega arith in
-      qed 𝓛 (‵ (froom words_type b o) ∷ []) ∵ use1 𝓛 (‵ (many 27 o)) (𝓛.laws.raw-room (ty_array u 27) b o) $ rewrite ! 0 (λ (at : ℕ). ‵ (many 27 at)) (sym first_word) refl $
-      use1 𝓛 (‵ (word_room w 0) ⊛ ‵ (many 26 (8 + o)) ⊛ ‵ (many 0 (0 + o + 8))) (apart 0 26 (0 + o) (8 + o) (omega arith)) $ split3 ! $ move ! (1 ∷ []) $
-      use1 𝓛 (‵ (word_room w 8) ⊛ ‵ (many 18 (72 + o)) ⊛ ‵ (many 7 (8 + o + 8))) (apart 7 18 (8 + o) (72 + o) (omega arith)) $ split3 ! $ frame ! $
-      use1 𝓛 (‵ (word_room w 72) ⊛ ‵ (many 17 (80 + o)) ⊛ ‵ (many 0 (72 + o + 8))) (apart 0 17 (72 + o) (80 + o) (omega arith)) $ split3 ! $ move ! (1 ∷ []) $
-      use1 𝓛 (‵ (word_room w 80) ⊛ ‵ (many 10 (136 + o)) ⊛ ‵ (many 6 (80 + o + 8))) (apart 6 10 (80 + o) (136 + o) (omega arith)) $ split3 ! $ move ! (1 ∷ []) $
-      use1 𝓛 (‵ (word_room w 136) ⊛ ‵ (many 9 (144 + o)) ⊛ ‵ (many 0 (136 + o + 8))) (apart 0 9 (136 + o) (144 + o) (omega arith)) $ split3 ! $ move ! (1 ∷ []) $
-      use1 𝓛 (‵ (word_room w 144) ⊛ ‵ (many 8 (152 + o)) ⊛ ‵ (many 0 (144 + o + 8))) (apart 0 8 (144 + o) (152 + o) (omega arith)) $ split3 ! $ move ! (1 ∷ []) $
-      use1 𝓛 (‵ (word_room w 152) ⊛ ‵ (many 1 (208 + o)) ⊛ ‵ (many 6 (152 + o + 8))) (apart 6 1 (152 + o) (208 + o) (omega arith)) $ split3 ! $ move ! (1 ∷ []) $
-      use1 𝓛 (‵ (word_room w 208) ⊛ ‵ (many 0 (216 + o)) ⊛ ‵ (many 0 (208 + o + 8))) (apart 0 0 (208 + o) (216 + o) (omega arith)) $ split3 ! $ frame ! $
+      qed 𝓛 (‵ (froom words_type b o) ∷ []) ∵ use1 𝓛 (‵ (many 28 o)) (𝓛.laws.raw-room (ty_array u 28) b o) $ rewrite ! 0 (λ (at : ℕ). ‵ (many 28 at)) (sym first_word) refl $
+      use1 𝓛 (‵ (word_room w 0) ⊛ ‵ (many 27 (8 + o)) ⊛ ‵ (many 0 (0 + o + 8))) (apart 0 27 (0 + o) (8 + o) (omega arith)) $ split3 ! $ move ! (1 ∷ []) $
+      use1 𝓛 (‵ (word_room w 8) ⊛ ‵ (many 19 (72 + o)) ⊛ ‵ (many 7 (8 + o + 8))) (apart 7 19 (8 + o) (72 + o) (omega arith)) $ split3 ! $ frame ! $
+      use1 𝓛 (‵ (word_room w 72) ⊛ ‵ (many 18 (80 + o)) ⊛ ‵ (many 0 (72 + o + 8))) (apart 0 18 (72 + o) (80 + o) (omega arith)) $ split3 ! $ move ! (1 ∷ []) $
+      use1 𝓛 (‵ (word_room w 80) ⊛ ‵ (many 11 (136 + o)) ⊛ ‵ (many 6 (80 + o + 8))) (apart 6 11 (80 + o) (136 + o) (omega arith)) $ split3 ! $ move ! (1 ∷ []) $
+      use1 𝓛 (‵ (word_room w 136) ⊛ ‵ (many 10 (144 + o)) ⊛ ‵ (many 0 (136 + o + 8))) (apart 0 10 (136 + o) (144 + o) (omega arith)) $ split3 ! $ move ! (1 ∷ []) $
+      use1 𝓛 (‵ (word_room w 144) ⊛ ‵ (many 9 (152 + o)) ⊛ ‵ (many 0 (144 + o + 8))) (apart 0 9 (144 + o) (152 + o) (omega arith)) $ split3 ! $ move ! (1 ∷ []) $
+      use1 𝓛 (‵ (word_room w 152) ⊛ ‵ (many 2 (208 + o)) ⊛ ‵ (many 6 (152 + o + 8))) (apart 6 2 (152 + o) (208 + o) (omega arith)) $ split3 ! $ move ! (1 ∷ []) $
+      use1 𝓛 (‵ (word_room w 208) ⊛ ‵ (many 0 (224 + o)) ⊛ ‵ (many 1 (208 + o + 8))) (apart 1 0 (208 + o) (224 + o) (omega arith)) $ split3 ! $ frame ! $
       move ! (6 ∷ []) $ frame ! $ move ! (12 ∷ []) $ frame ! $ move ! (9 ∷ 7 ∷ []) $ fjoin ! $ move ! (3 ∷ 0 ∷ []) $ fjoin ! $ move ! (4 ∷ 0 ∷ []) $ fjoin ! $ frame ! $
       assume ! (‵ (all_rooms w)) $ fsplit ! $ fsplit3 ! $ move ! (2 ∷ []) $ fsplit ! $ move ! (4 ∷ []) $ fsplit3 ! $ move ! (2 ∷ []) $ fsplit ! $
-      move ! (7 ∷ 8 ∷ 9 ∷ []) $ use3 𝓛 (‵ (many 1 (208 + o))) (together 0 0 (208 + o) (216 + o) (omega arith)) $
-      move ! (4 ∷ 0 ∷ 8 ∷ []) $ use3 𝓛 (‵ (many 8 (152 + o))) (together 6 1 (152 + o) (208 + o) (omega arith)) $
-      move ! (3 ∷ 0 ∷ 7 ∷ []) $ use3 𝓛 (‵ (many 9 (144 + o))) (together 0 8 (144 + o) (152 + o) (omega arith)) $
-      move ! (3 ∷ 0 ∷ 6 ∷ []) $ use3 𝓛 (‵ (many 10 (136 + o))) (together 0 9 (136 + o) (144 + o) (omega arith)) $
-      move ! (2 ∷ 0 ∷ 5 ∷ []) $ use3 𝓛 (‵ (many 17 (80 + o))) (together 6 10 (80 + o) (136 + o) (omega arith)) $
-      move ! (1 ∷ 0 ∷ 4 ∷ []) $ use3 𝓛 (‵ (many 18 (72 + o))) (together 0 17 (72 + o) (80 + o) (omega arith)) $
-      move ! (2 ∷ 0 ∷ 3 ∷ []) $ use3 𝓛 (‵ (many 26 (8 + o))) (together 7 18 (8 + o) (72 + o) (omega arith)) $
-      move ! (1 ∷ 0 ∷ 2 ∷ []) $ use3 𝓛 (‵ (many 27 (0 + o))) (together 0 26 (0 + o) (8 + o) (omega arith)) $
-      rewrite ! 0 (λ (at : ℕ). ‵ (many 27 at)) first_word refl $ by ! (𝓛.laws.room-raw (ty_array u 27) b o)
+      move ! (7 ∷ 8 ∷ 9 ∷ []) $ use3 𝓛 (‵ (many 2 (208 + o))) (together 1 0 (208 + o) (224 + o) (omega arith)) $
+      move ! (4 ∷ 0 ∷ 8 ∷ []) $ use3 𝓛 (‵ (many 9 (152 + o))) (together 6 2 (152 + o) (208 + o) (omega arith)) $
+      move ! (3 ∷ 0 ∷ 7 ∷ []) $ use3 𝓛 (‵ (many 10 (144 + o))) (together 0 9 (144 + o) (152 + o) (omega arith)) $
+      move ! (3 ∷ 0 ∷ 6 ∷ []) $ use3 𝓛 (‵ (many 11 (136 + o))) (together 0 10 (136 + o) (144 + o) (omega arith)) $
+      move ! (2 ∷ 0 ∷ 5 ∷ []) $ use3 𝓛 (‵ (many 18 (80 + o))) (together 6 11 (80 + o) (136 + o) (omega arith)) $
+      move ! (1 ∷ 0 ∷ 4 ∷ []) $ use3 𝓛 (‵ (many 19 (72 + o))) (together 0 18 (72 + o) (80 + o) (omega arith)) $
+      move ! (2 ∷ 0 ∷ 3 ∷ []) $ use3 𝓛 (‵ (many 27 (8 + o))) (together 7 19 (8 + o) (72 + o) (omega arith)) $
+      move ! (1 ∷ 0 ∷ 2 ∷ []) $ use3 𝓛 (‵ (many 28 (0 + o))) (together 0 27 (0 + o) (8 + o) (omega arith)) $
+      rewrite ! 0 (λ (at : ℕ). ‵ (many 28 at)) first_word refl $ by ! (𝓛.laws.room-raw (ty_array u 28) b o)
 
   abbrev τ : Ty
   τ = lone u8.mir

@@ -8,17 +8,18 @@ use Rattle.std_heap.specs.contracts.GlobalAllocator.TheImpl.{ghosts}
 use Rattle.core.specs.Allocator.{HasLayout, owned_block, array_of}
 use Rattle.piper_ring.specs.Places.{fact}
 
--- of cache lines: head, the writer's slot, closed with the reader's slot, and tail
+-- of cache lines: head, the writer's slot, closed with the reader's slot, and tail, and one word that
+-- is not used
 abbrev pub words_type : Ty
-words_type = array_of u64 27
+words_type = array_of u64 28
 
 -- how many bytes the block takes: the words, and the bytes up to a whole word
 abbrev pub size_of_block : ℕ → ℕ
-size_of_block capacity = 216 + (capacity + 7) / 8 * 8
+size_of_block capacity = 224 + (capacity + 7) / 8 * 8
 
 -- where the bytes begin, behind the words at w
 abbrev pub behind : Ptr → Ptr
-behind w = block_ptr (block_of w) (216 + count_of w)
+behind w = block_ptr (block_of w) (224 + count_of w)
 
 -- The heap hands memory out for a type. A block is so many words.
 abbrev pub purpose : ℕ → Ty

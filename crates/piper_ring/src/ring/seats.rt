@@ -100,7 +100,7 @@ pub(crate) fn open(
     let _ = capacity;
     let Memory { start } = block;
     let start = start as *mut u64;
-    // SAFETY: the condition says that the block is owned here, is aligned to 8 and has room for 27
+    // SAFETY: the condition says that the block is owned here, is aligned to 8 and has room for 28
     // words.
     unsafe {
         start.add(HEAD_WORD).write(0);
