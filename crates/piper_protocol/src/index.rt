@@ -48,8 +48,11 @@ pub fn advance(cap: usize, i: usize, n: usize) -> usize
     ensures remainder { result ≡ (i + n) % (2 * cap) }
     ensures below { result < 2 * cap }
 {
-    let left = 2 * cap - i;
-    if n < left { i + n } else { n - left }
+    // The index less a turn, modulo 2^64: a sum that wraps is past the end of the turn. Compiled,
+    // that takes two instructions less than a comparison with the places that are left.
+    let less = i.wrapping_sub(2 * cap);
+    let sum = less.wrapping_add(n);
+    if sum < less { sum } else { i + n }
 }
 
 /// The index one turn of the buffer further on, which is also the one a turn before.

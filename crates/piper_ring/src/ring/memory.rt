@@ -30,7 +30,7 @@ pub(crate) const READER_BACK: usize = 19;
 
 pub(crate) const TAIL_WORD: usize = 26;
 
-/// How many bytes the words of a ring take. Its bytes lie behind them, in the same block. It is a
+/// How many bytes the words of a ring take. Its bytes lie after them, in the same block. It is a
 /// multiple of 32: then the bytes are aligned as blocks of the heap are, between which they are
 /// copied, and no vector of a copy lies across two cache lines without need.
 pub(crate) const WORDS_SIZE: usize = 224;

@@ -140,7 +140,7 @@ impl ReadSeat {
         ensures { result.ptr ≡ self.now.at }
     {
         // SAFETY: the seat owns or shares the ring's words (`also_owns`, `also_shares`), and the
-        // bytes lie behind them in the same block.
+        // bytes lie after them in the same block.
         let ptr = unsafe { (self.words as *mut u8).add(WORDS_SIZE) };
         Base { ptr }
     }
