@@ -62,6 +62,7 @@ impl ReadHalf {
         ensures looked { ReaderLooked self.old self.new }
         ensures before { result.before ≡ before }
         ensures back { IsSome result.mine → self.new.slots.owns ≡ true }
+        ensures out { result.mine ≡ None → self.new.slots.owns ≡ false }
         ensures pending { result.outcome ≡ Outcome.Pending → result.mine ≡ None }
         ensures left { result.outcome ≡ Outcome.Again → false ≡ true }
         ensures kept { self.new.slots ≡ record self.old.slots

@@ -1,5 +1,5 @@
 //! The two words that a side leaves while it waits, and the places where both sides leave theirs.
-ghost use Rattle.std.specs.Prelude.{◌≡◌, ◌<◌, ◌↔◌, IsSome, IfSome, true, false};
+ghost use Rattle.std.specs.Prelude.{◌≡◌, ◌<◌, ◌↔◌, IsSome, true, false};
 
 use token_cell::{Token, TokenCell};
 
@@ -46,6 +46,8 @@ pub(crate) struct Places {
 }
 
 impl Waiter {
+    ghost use Rattle.piper_c.specs.Waiting.{IsOut};
+
     /// The words of a side that is about to wait.
     pub(crate) fn new(words: PiperWords) -> Waiter
         requires { 0 < words.vtable }
@@ -57,7 +59,7 @@ impl Waiter {
     /// Hands the words out to whoever called the library, if there are some.
     pub(crate) fn hand_out(waiter: Option<Waiter>) -> PiperWords
         ensures some { 0 < result.vtable ↔ IsSome waiter }
-        ensures words { IfSome waiter (λ w. result ≡ w.words) }
+        ensures words { IsOut waiter result }
     {
         match waiter {
             Some(Waiter { words }) => words,
