@@ -1,7 +1,7 @@
 //! A pipe is opened.
 ghost use Rattle.std.specs.Prelude.{◌≡◌, ◌*◌, ◌^◌, ◌<◌, ◌⊎◌, IfErr, IfOk, IsTrue, IsFalse, None};
 ghost use Rattle.piper_protocol.specs.Reported.{HasFailed};
-ghost use Rattle.piper_c.specs.Handles.{Holds};
+ghost use Rattle.piper_c.specs.Handles.{Holds, IsWholeWriter};
 ghost use Rattle.piper_c.specs.Opened.{ArePair, IsFreshReader, IsFreshWriter, IsNoCapacity, MemoryIsRefused};
 
 use crate::halves::{ReadHalf, WriteHalf};
@@ -26,6 +26,7 @@ pub extern "C" fn piper_open(
     ensures capacity { IsTrue result → (0 < capacity) × (2 * capacity < 2 ^ 64) }
     ensures reader { IsTrue result → Holds reader.new.half (IsFreshReader capacity) }
     ensures writer { IsTrue result → Holds writer.new.half (IsFreshWriter capacity) }
+    ensures whole { IsTrue result → IsWholeWriter writer.new.half writer.new.lent }
     ensures pair { IsTrue result →
         Holds reader.new.half (λ r. Holds writer.new.half (λ w. ArePair r w)) }
     ensures refused { IsFalse result → (reader.new.half ≡ None) × (writer.new.half ≡ None) }

@@ -1,6 +1,6 @@
 //! The exports of the side that reads. Each takes the side out of its handle, makes a call of it
 //! and puts it back.
-ghost use Rattle.std.specs.Prelude.{◌≡◌, ◌<◌, IsSome, None, false};
+ghost use Rattle.std.specs.Prelude.{◌≡◌, ◌≢◌, ◌<◌, IsSome, None, false};
 ghost use Rattle.piper_ring.specs.ReadView.{MayBeUnread, in_one_piece};
 ghost use Rattle.piper_ring.specs.Loads.{FoundWaiter, IsUnregistered};
 ghost use Rattle.piper_c.specs.Handles.{Holds, HoldsOn};
@@ -55,7 +55,8 @@ pub extern "C" fn piper_reader_look(
     at: &mut *const u8,
 ) -> PiperSeen
     requires { IsSome reader.old.half }
-    ensures { HoldsOn reader.old.half reader.new.half (λ a b. ReaderSeen result a b) }
+    ensures on { HoldsOn reader.old.half reader.new.half (λ a b. ReaderSeen result a b) }
+    ensures kept { result.outcome ≢ 1 → at.new ≡ at.old }
 {
     let mut half = reader.take(alloc);
     let outcome = half.look();
