@@ -63,10 +63,11 @@ pub record TookReader (taken : Option Waiter) (old : WriteSlotsView) (b : WriteH
   pub took : Took taken old.taken b.slots.taken
   pub own : SameWriterPlace old b.slots
 
--- the same in a close, which takes the writer's own words back, too
+-- the same in a close, which takes the writer's own words back, too, and leaves none
 pub record TookReaderLast (taken : Option Waiter) (old : WriteSlotsView) (b : WriteHalf) : Type 0 where
   pub rests : IsAtRest b.end b.slots
   pub took : Took taken old.taken b.slots.taken
+  pub own : b.slots.tickets ≡ old.tickets
 
 -- after the close by which a left, the reader's slot was checked: words come out exactly
 -- where a ticket of the reader's was taken
@@ -85,12 +86,14 @@ pub record WriterAsked (is_closed : Bool) (a b : WriteHalf) : Type 0 where
   pub slots : b.slots ≡ a.slots
   pub places : b.places ≡ a.places
 
--- n bytes were copied from the front of a slice and published, and nothing is lent
+-- n bytes were copied from the front of a slice and published, and nothing is lent; some are only
+-- where a look just found that the pipe isn't closed
 pub record WritesFrom (from : List ℕ) (n : ℕ) (a b : WriteHalf) : Type 0 where
   pub count : n ≤ length from
   pub sent : b.end.sent ≡ a.end.sent ++ take n from
   pub lent : b.end.lent ≡ []
   pub none : n ≡ 0 → (from ≡ []) ⊎ ((b.end.room ≡ 0) ⊎ (b.end.saw ≡ true))
+  pub some : 0 < n → b.end.saw ≡ false
   pub end : SameWriteEnd a.end b.end
   pub shut : b.end.shut ≡ a.end.shut
   pub places : b.places ≡ a.places
@@ -127,14 +130,17 @@ pub record WriterWrites (from : List ℕ) (moved : PiperMoved) (a b : WriteHalf)
   pub some : 0 < moved.count → WakesReader moved.wake a.slots b
 
 -- the pipe is closed for good; after that the reader's slot was checked, and the writer's own words
--- come out of its slot, and are not left there
+-- come out of its slot, and are not left there, nor are any others
 pub record WriterCloses (left : PiperLeft) (a b : WriteHalf) : Type 0 where
   pub shut : b.end.shut ≡ true
+  pub lent : b.end.lent ≡ []
+  pub end : SameWriteEnd a.end b.end
   pub sent : b.end.sent ≡ a.end.sent
   pub rests : IsAtRest b.end b.slots
   pub took : HandedOut left.wake a.slots.taken b.slots.taken
   pub mine : 0 < left.mine.vtable → a.slots.owns ≡ false
   pub none : left.mine.vtable ≡ 0 → IsUnregistered a.slots.names a.slots.owns
+  pub own : b.slots.tickets ≡ a.slots.tickets
   pub places : b.places ≡ a.places
 
 -- the first n bytes of room that C gave back were published, as it left them; after that the

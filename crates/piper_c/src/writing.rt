@@ -10,6 +10,7 @@ use piper_ring::WriteRegistrations;
 
 impl WriteHalf {
     ghost use Rattle.piper_ring.specs.Loads.{FoundWaiter, IsUnregistered};
+    ghost use Rattle.piper_ring.specs.WriteView.{SameWriteEnd};
     ghost use Rattle.piper_c.specs.Writing.{LeftWriting, WriterAsked, WriterFound, WriterSaw, WritesFrom, WriterLooked, WriterPublished, WriterGotBack, TookReader, TookReaderLast};
 
     /// Waits for room or for the end. `mine` is left where there is neither.
@@ -200,6 +201,7 @@ impl WriteHalf {
     /// Closes the pipe for good. Returns who has to be woken of each side, the reader's first.
     pub(crate) fn close(&mut self) -> (Option<Waiter>, Option<Waiter>)
         ensures shut { (self.new.end.shut ≡ true) × (self.new.end.lent ≡ []) }
+        ensures end { SameWriteEnd self.old.end self.new.end }
         ensures sent { self.new.end.sent ≡ self.old.end.sent }
         ensures wake { TookReaderLast result.0 self.old.slots self.new }
         ensures mine { IsSome result.1 → self.old.slots.owns ≡ false }
