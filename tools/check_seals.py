@@ -52,6 +52,10 @@ SEALS = {
         [f"piper_ring/proofs/ends/{end}/reclaim_waker" for end in ("reader/ReadEnd", "writer/WriteEnd")],
     ),
     "just_registered": ("piper/specs/Contexts", ["piper/proofs/slot/Slot/grant"]),
+    "as_left": (
+        "piper_c/specs/Leaving",
+        [f"piper_c/proofs/halves/{half}/leave" for half in ("ReadHalf", "WriteHalf")],
+    ),
     "as_over": (
         "piper_transfer/specs/Transfer",
         ["piper_transfer/proofs/meter/InputMeter/is_output_over"],

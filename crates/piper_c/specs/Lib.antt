@@ -1,4 +1,5 @@
 pub mod Held
+pub mod Leaving
 pub mod Lending
 pub mod Handles
 pub mod Places

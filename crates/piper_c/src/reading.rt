@@ -11,6 +11,7 @@ use piper_ring::ReadRegistrations;
 
 impl ReadHalf {
     ghost use Rattle.piper_ring.specs.Loads.{FoundWaiter, IsUnregistered};
+    ghost use Rattle.piper_c.specs.Leaving.{HasLeft};
     ghost use Rattle.piper_c.specs.Reading.{ReaderFound, ReaderLooked, ReaderConsumed, ReaderGotBack, ReaderSaw, ReadsInto, ReaderAsked, TookWriter, LeftReading};
 
     /// Waits for a byte or for the end. `mine` is left where there is neither.
@@ -198,6 +199,7 @@ impl ReadHalf {
     /// nobody took, and what is left of its slots: the writer's was checked after the close.
     pub(crate) fn leave(self) -> (Option<Waiter>, Option<Waiter>, ReadRegistrations)
         ensures left { LeftReading self result.0 result.2 }
+        ensures leaves { HasLeft self result.0 result.1 result.2 }
         ensures mine { IsSome result.1 → self.slots.owns ≡ false }
         ensures none { result.1 ≡ None → IsUnregistered self.slots.names self.slots.owns }
         ensures nobody { result.0 ≡ None → FoundWaiter self.end.ring.names 0 }

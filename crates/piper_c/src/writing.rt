@@ -10,6 +10,7 @@ use piper_ring::WriteRegistrations;
 
 impl WriteHalf {
     ghost use Rattle.piper_ring.specs.Loads.{FoundWaiter, IsUnregistered};
+    ghost use Rattle.piper_c.specs.Leaving.{HasLeft};
     ghost use Rattle.piper_ring.specs.WriteView.{SameWriteEnd};
     ghost use Rattle.piper_c.specs.Writing.{LeftWriting, WriterAsked, WriterFound, WriterSaw, WritesFrom, WriterLooked, WriterPublished, WriterGotBack, TookReader, TookReaderLast};
 
@@ -245,6 +246,7 @@ impl WriteHalf {
     /// nobody took, and what is left of its slots: the reader's was checked after the close.
     pub(crate) fn leave(self) -> (Option<Waiter>, Option<Waiter>, WriteRegistrations)
         ensures left { LeftWriting self result.0 result.2 }
+        ensures leaves { HasLeft self result.0 result.1 result.2 }
         ensures mine { IsSome result.1 → self.slots.owns ≡ false }
         ensures none { result.1 ≡ None → IsUnregistered self.slots.names self.slots.owns }
         ensures nobody { result.0 ≡ None → FoundWaiter self.end.ring.names 0 }
