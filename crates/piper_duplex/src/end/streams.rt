@@ -146,7 +146,7 @@ impl AsyncWrite for End {
 
     fn poll_flush(&mut self, cx: &mut Context<'_>) -> Poll<Result<(), PipeError>>
         ensures answer { result ≡ Poll.Ready (Ok (record {})) }
-        ensures kept { Keeps cx.old cx.new }
+        ensures kept { cx.new ≡ cx.old }
         ensures rest { self.new ≡ self.old }
     {
         // What was written is published already.
