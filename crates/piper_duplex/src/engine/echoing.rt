@@ -78,7 +78,8 @@ impl LineEcho {
             × IsSpent R.ended lines.new }
         ensures after { IsSpent R.ended lines.old → IsSpent R.ended lines.new
             × (R.taken (reader_of lines.new) ≡ R.taken (reader_of lines.old)) }
-        ensures closed { result ≡ Poll.Ready (Ok Echoed.UntilClosed) → W.saw writer.new ≡ true }
+        ensures closed { result ≡ Poll.Ready (Ok Echoed.UntilClosed) →
+            (W.saw writer.new ≡ true) × (0 < length (left_of self.new)) }
         ensures error { IfReadyErr result (λ e. W.fails writer.new cx.new e
             ⊎ IsReported e (R.fails (reader_of lines.new) cx.new)
             (LacksRoom limit 0 (kept_of lines.new) (R.known (reader_of lines.new)))) }
