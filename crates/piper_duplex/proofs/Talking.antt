@@ -1,5 +1,5 @@
 -- What a client sends and prints in one step after another.
-use Rattle.std.proofs.Common.{◌≡◌, ◌+◌, ◌≤◌, ◌∙◌, refl, sym, ap, subst, arith, Bool, true, ℕ, List, [], ◌++◌, take, drop, length, length-append, append_assoc, append-nil, take-append-drop, Option, Result, Ok, Err, IfOk, OnOk}
+use Rattle.std.proofs.Common.{◌≡◌, ◌+◌, ◌≤◌, ◌∙◌, refl, sym, ap, subst, arith, Bool, true, ℕ, List, [], ◌++◌, take, drop, length, length-append, append_assoc, append-nil, take-append-drop, Option, Result, Ok, Err, IfOk, IfErr, OnOk}
 use Rattle.std.proofs.Math.Seq.{drop-append-le}
 use Rattle.std.specs.Io.KnownBytes.{Consumes, IsAtEnd}
 use Rattle.std.proofs.KnownBytes.{Appends-nil, Appends-trans, Consumes-nil, Consumes-trans}
@@ -83,3 +83,8 @@ module _ {E : Type 0} where
 pub on_ok : {A E : Type 0} (r : Result A E) (P Q : Type 0) → OnOk r P → (P → Q) → OnOk r Q
 on_ok (Ok x) P Q holds so = so holds
 on_ok (Err e) P Q holds so = tt
+
+-- what follows from what holds of an error
+pub if_err : {A E : Type 0} (r : Result A E) (P Q : E → Type 0) → IfErr r P → ((e : E) → P e → Q e) → IfErr r Q
+if_err (Ok x) P Q holds so = tt
+if_err (Err e) P Q holds so = so e holds

@@ -1,32 +1,52 @@
--- Why an echo fails, as its line for standard error says it.
-use Rattle.std.specs.Prelude.{◌≡◌, ◌⊎◌, ℕ, List, codes}
+-- Why an echo fails, as its line for standard error says it, and the call that failed.
+use Rattle.std.specs.Prelude.{◌≡◌, ◌⊎◌, ℕ, List, Ok, codes, ⊤}
+use Rattle.std.specs.declared.io.Error.{Error}
+use Rattle.piper_protocol.specs.Reported.{HasFailed, IsOfStd}
 use Rattle.piper_duplex.specs.declared.engine.session.Ended.{Ended}
 
--- it ended with the status 2 and this line
-pub record FailsWith (text : List ℕ) (ended : Ended) : Type 0 where
-  pub same_status : ended.status ≡ 2
+-- it ended with this status and this line, which is empty where there is none
+pub record EndsWith (status : ℕ) (text : List ℕ) (ended : Ended) : Type 0 where
+  pub same_status : ended.status ≡ status
   pub same_text : ended.text.now ≡ text
+
+abbrev pub FailsWith : List ℕ → Ended → Type 0
+FailsWith = EndsWith 2
 
 abbrev pub LacksMemory : Ended → Type 0
 LacksMemory = FailsWith (codes "memory")
 
+-- a thread was asked for, and refused
 abbrev pub LacksThread : Ended → Type 0
-LacksThread = FailsWith (codes "no thread is granted")
+LacksThread ended = FailsWith (codes "no thread is granted") ended × HasFailed ended
 
-abbrev pub CannotRead : Ended → Type 0
-CannotRead = FailsWith (codes "read failed")
+-- a call failed, and left this so
+abbrev pub HasFailedAt : {S : Type 0} → (S → Error → S → Type 0) → S → Type 0
+HasFailedAt {S} fails after = (before : S) × (e : Error) × fails before e after
 
-abbrev pub CannotWrite : Ended → Type 0
-CannotWrite = FailsWith (codes "write failed")
+-- a write or a flush failed and left the output so, or a write of some bytes took none
+abbrev pub WriteHasFailed : {S : Type 0} → (S → Error → S → Type 0) → (S → Type 0) → S → Type 0
+WriteHasFailed fails full output =
+    HasFailedAt fails output ⊎ (full output × IsOfStd {T = ℕ} {E = Error} (Ok 0))
+
+-- the same of any writer of std
+abbrev pub StdWriteHasFailed : {S : Type 0} → S → Type 0
+StdWriteHasFailed = WriteHasFailed (λ _ e _. HasFailed e) (λ _. ⊤)
+
+-- the input can't be read, since Read; the output can't be written, since Written
+abbrev pub CannotRead : Type 0 → Ended → Type 0
+CannotRead Read ended = FailsWith (codes "read failed") ended × Read
+
+abbrev pub CannotWrite : Type 0 → Ended → Type 0
+CannotWrite Written ended = FailsWith (codes "write failed") ended × Written
 
 -- what is sent does not come back, or cannot be printed
-abbrev pub PrintFails : Ended → Type 0
-PrintFails ended = LacksMemory ended ⊎ CannotWrite ended
+abbrev pub PrintFails : Type 0 → Ended → Type 0
+PrintFails Written ended = LacksMemory ended ⊎ CannotWrite Written ended
 
 -- and no more of the input can be read
-abbrev pub TalkFails : Ended → Type 0
-TalkFails ended = CannotRead ended ⊎ PrintFails ended
+abbrev pub TalkFails : Type 0 → Type 0 → Ended → Type 0
+TalkFails Read Written ended = CannotRead Read ended ⊎ PrintFails Written ended
 
 -- and no thread is granted that echoes
-abbrev pub EchoFails : Ended → Type 0
-EchoFails ended = LacksThread ended ⊎ TalkFails ended
+abbrev pub EchoFails : Type 0 → Type 0 → Ended → Type 0
+EchoFails Read Written ended = LacksThread ended ⊎ TalkFails Read Written ended

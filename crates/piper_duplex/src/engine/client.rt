@@ -5,14 +5,14 @@ ghost use Rattle.std.specs.Io.{ReadsAtMost};
 ghost use Rattle.std.specs.Io.KnownBytes.{IsAtEnd, ReadConsumes};
 ghost use Rattle.piper_lines.specs.Sends.{Sends};
 ghost use Rattle.piper_duplex.specs.Client.{Prints, SendsOn};
-ghost use Rattle.piper_duplex.specs.Failures.{CannotRead, PrintFails, TalkFails};
+ghost use Rattle.piper_duplex.specs.Failures.{CannotRead, HasFailedAt, PrintFails, TalkFails, WriteHasFailed};
 
 use crate::engine::line::Line;
 use crate::engine::session::Ended;
 use piper::io::{AsyncBufRead, AsyncWrite};
-use piper::like::StdWriter;
+use piper::like::{StdReader, StdWriter};
 use std::alloc::AllocGlobal;
-use std::io::{ErrorKind, Read};
+use std::io::ErrorKind;
 use std::random::RandomSource;
 use std::sync::Wait;
 
@@ -32,7 +32,7 @@ where
     R: Wait + RandomSource + AllocGlobal,
     A: AsyncBufRead,
     B: AsyncWrite,
-    I: Read,
+    I: StdReader,
     O: StdWriter,
     requires { O.flushed output.old }
     ensures sent { SendsOn result (I.remaining input.old) (I.remaining input.new)
@@ -42,7 +42,8 @@ where
     ensures printed { Prints (A.taken reader.old) (A.taken reader.new)
         (O.contents output.old) (O.contents output.new) }
     ensures flushed { OnOk result (O.flushed output.new) }
-    ensures failed { IfErr result TalkFails }
+    ensures failed { IfErr result (TalkFails (HasFailedAt I.fails input.new)
+        (WriteHasFailed O.fails O.full output.new)) }
 {
     let mut place = [0; MOST_OF_A_READ];
     let mut line = Line::new();
@@ -57,13 +58,13 @@ where
 }
 
 // Reads once; none is the end. A read that was interrupted is made again.
-fn read_some<R: Wait, I: Read>(rt: &R, input: &mut I, place: &mut [u8]) -> Result<usize, Ended>
+fn read_some<R: Wait, I: StdReader>(rt: &R, input: &mut I, place: &mut [u8]) -> Result<usize, Ended>
     ensures bound { ReadsAtMost result place.new }
     ensures read { ReadConsumes (I.remaining input.old) (I.remaining input.new) result place.new }
-    ensures failed { IfErr result CannotRead }
+    ensures failed { IfErr result (CannotRead (HasFailedAt I.fails input.new)) }
 {
     for _ in rt.forever() {
-        match input.read(place) {
+        match input.read_once(place) {
             Ok(count) => return Ok(count),
             Err(error) if error.kind() == ErrorKind::Interrupted => {}
             Err(_) => return Err(Ended::READ_FAILED),
@@ -97,7 +98,7 @@ where
         ≡ length (A.taken reader.new) + line.new.sent) }
     ensures next { OnOk result (line.new.is_whole ≡ false) }
     ensures flushed { OnOk result (O.flushed output.new) }
-    ensures failed { IfErr result PrintFails }
+    ensures failed { IfErr result (PrintFails (WriteHasFailed O.fails O.full output.new)) }
 {
     let mut at = 0;
     while at < bytes.len() {

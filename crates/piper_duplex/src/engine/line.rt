@@ -3,7 +3,7 @@ ghost use Rattle.std.specs.Prelude.{◌≡◌, ◌+◌, ◌-◌, ◌<◌, ◌≤
 ghost use Rattle.std.specs.Prelude.{OnOk, IfErr};
 ghost use Rattle.piper_lines.specs.Sends.{Sends};
 ghost use Rattle.piper_duplex.specs.Client.{IsOfLine, Prints};
-ghost use Rattle.piper_duplex.specs.Failures.{LacksMemory, PrintFails};
+ghost use Rattle.piper_duplex.specs.Failures.{LacksMemory, PrintFails, WriteHasFailed};
 
 use crate::engine::printing::print_line;
 use crate::engine::session::Ended;
@@ -114,7 +114,7 @@ impl Line {
         ensures sent { OnOk result (self.new.sent ≡ 0) }
         ensures whole { OnOk result (self.new.is_whole ≡ false) }
         ensures flushed { OnOk result (O.flushed output.new) }
-        ensures failed { IfErr result PrintFails }
+        ensures failed { IfErr result (PrintFails (WriteHasFailed O.fails O.full output.new)) }
     {
         print_line(rt, reader, self.sent, output)?;
         *self = Line::new();

@@ -1,11 +1,11 @@
 //! What comes back from an echo is printed.
-ghost use Rattle.std.specs.Prelude.{◌≡◌, ◌+◌, ◌≤◌, ◌⊎◌, length, Ok, OnOk, IfOk, IfErr};
+ghost use Rattle.std.specs.Prelude.{◌≡◌, ◌+◌, ◌<◌, ◌≤◌, length, Ok, OnOk, IfOk, IfErr};
 ghost use Rattle.std.specs.Io.KnownBytes.{WriteAppends};
 ghost use Rattle.futures.specs.Task.{IsArmed};
 ghost use Rattle.futures.specs.Poll.{OnPending};
 ghost use Rattle.piper.specs.Polls.{IfReadyErr};
 ghost use Rattle.piper_duplex.specs.Client.{Prints};
-ghost use Rattle.piper_duplex.specs.Failures.{CannotWrite, PrintFails};
+ghost use Rattle.piper_duplex.specs.Failures.{CannotWrite, PrintFails, WriteHasFailed};
 
 use crate::engine::session::Ended;
 use crate::engine::waiting::turns;
@@ -13,7 +13,7 @@ use futures::task::{Context, Poll};
 use piper::io::AsyncBufRead;
 use piper::like::StdWriter;
 use std::alloc::AllocGlobal;
-use std::io::{ErrorKind, Write};
+use std::io::ErrorKind;
 use std::random::RandomSource;
 use std::sync::Wait;
 
@@ -36,7 +36,7 @@ where
     ensures whole { OnOk result
         (length (A.taken reader.new) ≡ length (A.taken reader.old) + size) }
     ensures flushed { OnOk result (O.flushed output.new) }
-    ensures failed { IfErr result PrintFails }
+    ensures failed { IfErr result (PrintFails (WriteHasFailed O.fails O.full output.new)) }
 {
     let turns = turns(rt).map_err(|_| Ended::OUT_OF_MEMORY)?;
     let mut count = 0;
@@ -66,7 +66,7 @@ fn poll_print<A, O>(
 ) -> Poll<Result<(), Ended>>
 where
     A: AsyncBufRead,
-    O: Write,
+    O: StdWriter,
     requires { count.old ≤ size }
     ensures printed { Prints (A.taken reader.old) (A.taken reader.new)
         (O.contents output.old) (O.contents output.new) }
@@ -75,7 +75,7 @@ where
         ≡ length (A.taken reader.old) + count.new }
     ensures whole { result ≡ Poll.Ready (Ok (record {})) → count.new ≡ size }
     ensures armed { OnPending result (IsArmed cx.new) }
-    ensures failed { IfReadyErr result PrintFails }
+    ensures failed { IfReadyErr result (PrintFails (WriteHasFailed O.fails O.full output.new)) }
 {
     for _ in 0..MOST_WRITES {
         if *count == size {
@@ -103,13 +103,14 @@ where
 }
 
 // Writes once. A write that was interrupted has written none.
-fn write_some<O: Write>(output: &mut O, bytes: &[u8]) -> Result<usize, Ended>
+fn write_some<O: StdWriter>(output: &mut O, bytes: &[u8]) -> Result<usize, Ended>
     ensures bound { IfOk result (λ n. n ≤ length bytes.now) }
     ensures written { WriteAppends (O.contents output.old) (O.contents output.new)
         result bytes.now }
-    ensures failed { IfErr result CannotWrite }
+    ensures failed { 0 < length bytes.now →
+        IfErr result (CannotWrite (WriteHasFailed O.fails O.full output.new)) }
 {
-    match output.write(bytes) {
+    match output.write_once(bytes) {
         Ok(0) => Err(Ended::WRITE_FAILED),
         Ok(count) => Ok(count),
         Err(error) if error.kind() == ErrorKind::Interrupted => Ok(0),

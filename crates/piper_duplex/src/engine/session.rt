@@ -1,17 +1,18 @@
 //! Text through a duplex stream and back: one thread sends its lines, and another writes them back.
 ghost use Rattle.std.specs.Prelude.{◌≡◌, ◌<◌, ◌⊎◌, [], length, IfErr, OnOk};
 ghost use Rattle.piper_duplex.specs.Client.{CameBack};
-ghost use Rattle.piper_duplex.specs.Failures.{EchoFails, LacksMemory, LacksThread, TalkFails};
+ghost use Rattle.piper_duplex.specs.Failures.{EchoFails, EndsWith, HasFailedAt, LacksMemory, LacksThread, StdWriteHasFailed, TalkFails, WriteHasFailed};
 
 use crate::end::{End, duplex};
 use crate::engine::client::talk;
 use crate::engine::printing::print_line;
 use crate::engine::waiting::EchoAll;
 use futures::executor::block_on;
-use piper::like::StdWriter;
+use piper::like::{StdReader, StdWriter};
 use piper::{OwnedReader, OwnedWriter, Reader, Writer};
+use piper_protocol::reported::reported;
 use std::alloc::{AllocGlobal, Global};
-use std::io::{Read, Write};
+use std::io::Write;
 use std::marker::Send;
 use std::random::RandomSource;
 use std::sync::Wait;
@@ -79,10 +80,12 @@ pub fn echo<R, I, O>(
 ) -> Ended
 where
     R: Wait + Threads + RandomSource + AllocGlobal + Clone + Drop + Send + 'static,
-    I: Read,
+    I: StdReader,
     O: Write,
-    ensures words { 0 < length words.now → result.status ≡ 1 }
-    ensures none { words.now ≡ [] → (result.status ≡ 0) ⊎ EchoFails result }
+    ensures words { 0 < length words.now → EndsWith 1 [] result
+        × (input.new ≡ input.old) × (output.new ≡ output.old) }
+    ensures none { words.now ≡ [] → EndsWith 0 [] result
+        ⊎ EchoFails (HasFailedAt I.fails input.new) (StdWriteHasFailed output.new) result }
     ensures all { result.status ≡ 0 → CameBack (I.remaining input.old) (I.remaining input.new)
         (O.contents output.old) (O.contents output.new) }
 {
@@ -99,11 +102,12 @@ where
 fn echo_through<R, I, O>(rt: &R, alloc: Global, input: &mut I, output: &mut O) -> Result<(), Ended>
 where
     R: Wait + Threads + RandomSource + AllocGlobal + Clone + Drop + Send + 'static,
-    I: Read,
+    I: StdReader,
     O: Write,
     ensures all { OnOk result (CameBack (I.remaining input.old) (I.remaining input.new)
         (O.contents output.old) (O.contents output.new)) }
-    ensures failed { IfErr result EchoFails }
+    ensures failed { IfErr result (EchoFails (HasFailedAt I.fails input.new)
+        (StdWriteHasFailed output.new)) }
 {
     let (theirs, first, second) = prepare(rt, alloc)?;
     let child = match start(rt, alloc, theirs, second) {
@@ -142,7 +146,7 @@ where
     });
     match spawned {
         Ok(child) => Ok(child),
-        Err(_) => Err(Ended::NO_THREAD),
+        Err(_) => reported(Err(Ended::NO_THREAD)),
     }
 }
 
@@ -156,13 +160,14 @@ fn exchange<R, I, O>(
 ) -> Result<(), Ended>
 where
     R: Wait + RandomSource + AllocGlobal,
-    I: Read,
+    I: StdReader,
     O: StdWriter,
     requires { O.flushed output.old }
     ensures all { OnOk result (CameBack (I.remaining input.old) (I.remaining input.new)
         (O.contents output.old) (O.contents output.new)) }
     ensures flushed { OnOk result (O.flushed output.new) }
-    ensures failed { IfErr result TalkFails }
+    ensures failed { IfErr result (TalkFails (HasFailedAt I.fails input.new)
+        (WriteHasFailed O.fails O.full output.new)) }
 {
     let sent = talk(rt, reader, &mut writer, input, output);
     writer.drop();
