@@ -10,7 +10,7 @@ ghost use Rattle.piper.specs.Handles.{NotifiesReader, read_source, write_source}
 ghost use Rattle.piper.specs.OfWriter.{shut, saw};
 ghost use Rattle.piper.specs.ReaderCalls.{AtEnd, DrainPends, DrainsEnd, DrainsSlice, DrawsToYield as ReadDraws, Looks, PollsEnd, WakesWriter};
 ghost use Rattle.piper.specs.Waits.{ReaderPends};
-ghost use Rattle.piper.specs.WriterCalls.{DrawsToYield as WriteDraws, FillPends, FillsEnd, FillsSlice, SameWriterButShut, WakesReader};
+ghost use Rattle.piper.specs.WriterCalls.{DrawsToYield as WriteDraws, FillPends, FillsEnd, FillsSlice, SameWriterButMoved, SameWriterButShut, WakesReader};
 ghost use Rattle.piper_duplex.specs.Crosswise.{reading as reading_of, writing as writing_of};
 ghost use Rattle.piper_tokio.specs.Halves.{read_half, reading, write_half, writing};
 ghost use Rattle.piper_tokio.specs.Passing.{Took, Gave, WantsMemory, inner_of_io};
@@ -137,7 +137,8 @@ impl AsyncWrite for CompatEnd {
         ensures bound { count_moved result ≤ length buf.now }
         ensures bytes { Gave (writing self.old) (bytes_moved result buf.now)
             (writing self.new) × (read_half self.new ≡ read_half self.old) }
-        ensures filled { FillsSlice result (writing self.old) (writing self.new) buf.now }
+        ensures filled { FillsSlice result (writing self.old) (writing self.new) buf.now
+            × SameWriterButMoved (writing self.old) (writing self.new) }
         ensures end { FillsEnd result (writing self.old) (writing self.new) }
         ensures pending { WriteDraws (inner_of_io result) (writing self.old) (writing self.new)
             × OnPending result (FillPends (writing self.old) (writing self.new) cx.new) }

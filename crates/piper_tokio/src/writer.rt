@@ -7,7 +7,7 @@ ghost use Rattle.futures.specs.Task.{Keeps};
 ghost use Rattle.tokio.specs.Io.Moved.{bytes_moved, count_moved, IfReadyErr};
 ghost use Rattle.piper.specs.Handles.{NotifiesReader, write_source};
 ghost use Rattle.piper.specs.OfWriter.{shut, saw};
-ghost use Rattle.piper.specs.WriterCalls.{DrawsToYield, FillPends, FillsEnd, FillsSlice, SameWriterButShut, WakesReader};
+ghost use Rattle.piper.specs.WriterCalls.{DrawsToYield, FillPends, FillsEnd, FillsSlice, SameWriterButMoved, SameWriterButShut, WakesReader};
 ghost use Rattle.piper_tokio.specs.Passing.{Gave, WantsMemory, inner_of_io};
 ghost use Rattle.piper_tokio.specs.Shown.{writing};
 ghost use Rattle.piper_tokio.specs.PassingLaws.{gave_nothing, gave_in_order};
@@ -74,7 +74,8 @@ impl tokio::io::AsyncWrite for CompatWriter {
     fn poll_write(&mut self, cx: &mut Context<'_>, buf: &[u8]) -> Poll<io::Result<usize>>
         ensures bound { count_moved result ≤ length buf.now }
         ensures bytes { Gave (writing self.old) (bytes_moved result buf.now) (writing self.new) }
-        ensures filled { FillsSlice result (writing self.old) (writing self.new) buf.now }
+        ensures filled { FillsSlice result (writing self.old) (writing self.new) buf.now
+            × SameWriterButMoved (writing self.old) (writing self.new) }
         ensures end { FillsEnd result (writing self.old) (writing self.new) }
         ensures pending { DrawsToYield (inner_of_io result) (writing self.old) (writing self.new)
             × OnPending result (FillPends (writing self.old) (writing self.new) cx.new) }
