@@ -153,7 +153,7 @@ impl AsyncWrite for CompatEnd {
         ensures answer { result ≡ Poll.Ready (Ok (record {})) }
         ensures bytes { Gave (writing self.old) [] (writing self.new)
             × (read_half self.new ≡ read_half self.old) }
-        ensures context { Keeps cx.old cx.new }
+        ensures context { cx.new ≡ cx.old }
         ensures rest { self.new ≡ self.old }
     {
         self.writer.poll_flush(cx)

@@ -93,7 +93,7 @@ impl tokio::io::AsyncWrite for CompatWriter {
     fn poll_flush(&mut self, cx: &mut Context<'_>) -> Poll<io::Result<()>>
         ensures answer { result ≡ Poll.Ready (Ok (record {})) }
         ensures bytes { Gave (writing self.old) [] (writing self.new) }
-        ensures context { Keeps cx.old cx.new }
+        ensures context { cx.new ≡ cx.old }
         ensures rest { self.new ≡ self.old }
     {
         // What was written is published already.
