@@ -1,14 +1,15 @@
 //! An end of a duplex stream, for `tokio`.
-ghost use Rattle.std.specs.Prelude.{◌≡◌, ◌≤◌, true, [], length, refl, Ok};
+ghost use Rattle.std.specs.Prelude.{◌≡◌, ◌≤◌, true, [], length, take, drop, refl, Ok};
 ghost use Rattle.std.proofs.Common.{◌∙◌};
 ghost use Rattle.std.specs.IoError.{error_kind};
 ghost use Rattle.std.specs.declared.io.ErrorKind.TheVariants.{OutOfMemory as OutOfMemoryKind};
 ghost use Rattle.futures.specs.Poll.{OnPending};
 ghost use Rattle.futures.specs.Task.{Keeps};
 ghost use Rattle.tokio.specs.Io.Moved.{bytes_moved, count_moved, OnReadyOk, IfReadyErr};
-ghost use Rattle.piper.specs.Handles.{NotifiesReader, read_source, write_source};
+ghost use Rattle.piper.specs.Handles.{NotifiesReader, NotifiesWriter, SameReaderButWaits, read_source, write_source};
+ghost use Rattle.piper.specs.OfReader.{known};
 ghost use Rattle.piper.specs.OfWriter.{shut, saw};
-ghost use Rattle.piper.specs.ReaderCalls.{AtEnd, DrainPends, DrainsEnd, DrainsSlice, DrawsToYield as ReadDraws, Looks, PollsEnd, WakesWriter};
+ghost use Rattle.piper.specs.ReaderCalls.{AtEnd, DrainPends, DrainsEnd, DrainsSlice, DrawsToYield as ReadDraws, Looks, PollsEnd, SameReaderButConsumed, WakesWriter};
 ghost use Rattle.piper.specs.Waits.{ReaderPends};
 ghost use Rattle.piper.specs.WriterCalls.{DrawsToYield as WriteDraws, FillPends, FillsEnd, FillsSlice, SameWriterButMoved, SameWriterButShut, WakesReader};
 ghost use Rattle.piper_duplex.specs.Crosswise.{reading as reading_of, writing as writing_of};
@@ -96,12 +97,14 @@ impl AsyncBufRead for CompatEnd {
     fn poll_fill_buf(&mut self, cx: &mut Context<'_>) -> Poll<io::Result<()>>
         ensures bytes { Took (reading self.old) [] (reading self.new)
             × (write_half self.new ≡ write_half self.old) }
-        ensures looked { Looks (reading self.old) (reading self.new) }
+        ensures looked { Looks (reading self.old) (reading self.new)
+            × SameReaderButWaits (reading self.old) (reading self.new) }
         ensures shown { OnReadyOk result (ShowsFront (read_half self.new)) }
         ensures end { PollsEnd result (reading self.old) (reading self.new) }
         ensures pending { OnPending result
             (ReaderPends (reading self.old) (reading self.new) cx.new) }
-        ensures memory { IfReadyErr result (WantsMemory cx.new) }
+        ensures memory { IfReadyErr result (λ e. WantsMemory cx.new e
+            × (known (reading self.new) ≡ [])) }
         ensures woken { WakesWriter (reading self.old) (reading self.new) }
         ensures context { Keeps cx.old cx.new }
     {
@@ -112,7 +115,17 @@ impl AsyncBufRead for CompatEnd {
         self.reader.buffer()
     }
 
-    fn consume(&mut self, amount: usize) {
+    fn consume(&mut self, amount: usize)
+        requires { amount ≤ length (shown_by (read_half self.old)) }
+        ensures bytes { Took (reading self.old) (take amount (shown_by (read_half self.old)))
+            (reading self.new) × (write_half self.new ≡ write_half self.old) }
+        ensures known { known (reading self.new) ≡ drop amount (known (reading self.old)) }
+        ensures end { AtEnd (reading self.old) → AtEnd (reading self.new) }
+        ensures woken { NotifiesWriter (reading self.new) }
+        ensures reader { SameReaderButConsumed (reading self.old) (reading self.new) }
+        ensures rest { shown_by (read_half self.new)
+            ≡ drop amount (shown_by (read_half self.old)) }
+    {
         self.reader.consume(amount);
     }
 }

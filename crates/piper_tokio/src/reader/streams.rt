@@ -5,9 +5,9 @@ ghost use Rattle.std.specs.declared.io.ErrorKind.TheVariants.{OutOfMemory as Out
 ghost use Rattle.futures.specs.Poll.{OnPending};
 ghost use Rattle.futures.specs.Task.{Keeps};
 ghost use Rattle.tokio.specs.Io.Moved.{bytes_moved, count_moved, OnReadyOk, IfReadyErr};
-ghost use Rattle.piper.specs.Handles.{NotifiesWriter, read_source};
+ghost use Rattle.piper.specs.Handles.{NotifiesWriter, SameReaderButWaits, read_source};
 ghost use Rattle.piper.specs.OfReader.{known};
-ghost use Rattle.piper.specs.ReaderCalls.{AtEnd, DrainPends, DrainsEnd, DrainsSlice, DrawsToYield, Looks, PollsEnd, WakesWriter};
+ghost use Rattle.piper.specs.ReaderCalls.{AtEnd, DrainPends, DrainsEnd, DrainsSlice, DrawsToYield, Looks, PollsEnd, SameReaderButConsumed, WakesWriter};
 ghost use Rattle.piper.specs.Waits.{ReaderPends};
 ghost use Rattle.piper_tokio.specs.Passing.{Took, WantsMemory};
 ghost use Rattle.piper_tokio.specs.Shown.{handle_of, shown_by, ShowsFront};
@@ -84,12 +84,14 @@ impl tokio::io::AsyncBufRead for CompatReader {
 
     fn poll_fill_buf(&mut self, cx: &mut Context<'_>) -> Poll<io::Result<()>>
         ensures bytes { Took (handle_of self.old) [] (handle_of self.new) }
-        ensures looked { Looks (handle_of self.old) (handle_of self.new) }
+        ensures looked { Looks (handle_of self.old) (handle_of self.new)
+            × SameReaderButWaits (handle_of self.old) (handle_of self.new) }
         ensures shown { OnReadyOk result (ShowsFront self.new) }
         ensures end { PollsEnd result (handle_of self.old) (handle_of self.new) }
         ensures pending { OnPending result
             (ReaderPends (handle_of self.old) (handle_of self.new) cx.new) }
-        ensures memory { IfReadyErr result (WantsMemory cx.new) }
+        ensures memory { IfReadyErr result (λ e. WantsMemory cx.new e
+            × (known (handle_of self.new) ≡ [])) }
         ensures woken { WakesWriter (handle_of self.old) (handle_of self.new) }
         ensures context { Keeps cx.old cx.new }
     {
@@ -113,7 +115,9 @@ impl tokio::io::AsyncBufRead for CompatReader {
         ensures bytes { Took (handle_of self.old) (take amount (shown_by self.old))
             (handle_of self.new) }
         ensures known { known (handle_of self.new) ≡ drop amount (known (handle_of self.old)) }
+        ensures end { AtEnd (handle_of self.old) → AtEnd (handle_of self.new) }
         ensures woken { NotifiesWriter (handle_of self.new) }
+        ensures reader { SameReaderButConsumed (handle_of self.old) (handle_of self.new) }
         ensures rest { shown_by self.new ≡ drop amount (shown_by self.old) }
     {
         self.shown -= amount;
