@@ -3,9 +3,9 @@
 ghost use Rattle.std.specs.Prelude.{◌≡◌, ◌≢◌, ◌<◌, IsSome, None, false};
 ghost use Rattle.piper_ring.specs.ReadView.{MayBeUnread, in_one_piece};
 ghost use Rattle.piper_ring.specs.Loads.{FoundWaiter, IsUnregistered};
-ghost use Rattle.piper_c.specs.Leaving.{ReaderLeaves};
+ghost use Rattle.piper_c.specs.Leaving.{Leaves};
 ghost use Rattle.piper_c.specs.Handles.{Holds, HoldsOn};
-ghost use Rattle.piper_c.specs.Reading.{ReaderTold, ReaderSeen, ReaderAsked, ReaderConsumes, ReaderReads};
+ghost use Rattle.piper_c.specs.Reading.{LeftReading, ReaderTold, ReaderSeen, ReaderAsked, ReaderConsumes, ReaderReads};
 
 use crate::handles::PiperReader;
 use crate::lending::address;
@@ -159,7 +159,7 @@ pub extern "C" fn piper_reader_is_closed(alloc: Global, reader: &mut PiperReader
 pub extern "C" fn piper_reader_drop(alloc: Global, reader: &mut PiperReader) -> PiperLeft
     requires { IsSome reader.old.half }
     ensures dropped { reader.new.half ≡ None }
-    ensures left { Holds reader.old.half (λ a. ReaderLeaves result a) }
+    ensures left { Holds reader.old.half (Leaves LeftReading result) }
     ensures mine { Holds reader.old.half (λ a. 0 < result.mine.vtable → a.slots.owns ≡ false) }
     ensures none { Holds reader.old.half (λ a.
         result.mine.vtable ≡ 0 → IsUnregistered a.slots.names a.slots.owns) }
