@@ -25,7 +25,9 @@ struct layout {
 };
 
 static const struct layout layouts[] = {
-    {"words and bytes in one block, wide: this crate", {288, 0, 56}, 152,
+    {"this crate: wakers between wide words", {288, 0, 0}, 152,
+     {0, 8}, {0, 208}, {0, 136}, {0, 0}, {0, 144}, {0, 72}, {0, 224}, {0, 16}},
+    {"wakers in a block of their own, wide", {288, 0, 56}, 152,
      {0, 8}, {0, 208}, {0, 136}, {0, 0}, {0, 144}, {0, 72}, {0, 224}, {2, 0}},
     {"three blocks, wide", {216, 64, 56}, 168,
      {0, 8}, {0, 208}, {0, 136}, {0, 0}, {0, 144}, {0, 72}, {1, 0}, {2, 0}},
@@ -37,7 +39,7 @@ static const struct layout layouts[] = {
      {0, 0}, {0, 8}, {0, 16}, {0, 24}, {0, 32}, {0, 48}, {0, 64}, {2, 0}},
     {"all in one block, wide", {336, 0, 0}, 152,
      {0, 8}, {0, 208}, {0, 136}, {0, 0}, {0, 144}, {0, 72}, {0, 224}, {0, 288}},
-    {"all in one block, wakers between the words", {264, 0, 0}, 136,
+    {"all in one block, wakers behind the head", {264, 0, 0}, 136,
      {0, 0}, {0, 192}, {0, 128}, {0, 152}, {0, 136}, {0, 64}, {0, 200}, {0, 8}},
     {"all in one block, close", {176, 0, 0}, 168,
      {0, 0}, {0, 8}, {0, 16}, {0, 24}, {0, 32}, {0, 48}, {0, 112}, {0, 64}},
@@ -82,7 +84,8 @@ static void drop(const struct layout *l, char **handles) {
         atomic_exchange(word(handles, l->closed), 1);
         atomic_exchange(word(handles, end ? l->reader_flag : l->writer_flag), 0);
         atomic_exchange(word(handles, l->left), 1);
-        atomic_fetch_add(word(handles, l->wakers), 1);
+        if (l->wakers.block) // which counts its owners
+            atomic_fetch_add(word(handles, l->wakers), 1);
     }
     for (int i = 0; i < MOST_BLOCKS; i++)
         free(handles[i]);

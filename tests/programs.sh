@@ -143,7 +143,7 @@ if cc -O2 -shared -fPIC -o blocks.so "$here/blocks.c" -ldl; then
         done
         note "all others, where one of $most is refused: $1$kept" test "$most" -gt 0 -a -z "$kept"
     }
-    for order in 'drop r/drop w' 'drop w/drop r' 'drop r' 'drop w' 'fill 1..8/drop r/drop w' 'poll r 1/drop w/drop r' \
+    for order in 'drop r/drop w' 'drop w/drop r' 'drop r' 'drop w' 'fill 1..8/drop r/drop w' 'poll r 1/drop w/drop r' 'drop w/poll r 1/drop r' \
         'fill 1..9/poll w 1/drop r/drop w' 'close/drop w/drop r' 'len r'; do
         printf 'pipe 8\n%s\n' "$order" | tr / '\n' > script
         try_blocks "$order" './piper_compare handles'

@@ -51,7 +51,7 @@ SEALS = {
         "piper_ring/specs/Loads",
         [f"piper_ring/proofs/ends/{end}/reclaim_waker" for end in ("reader/ReadEnd", "writer/WriteEnd")],
     ),
-    "just_registered": ("piper/specs/Contexts", ["piper/proofs/slot/Slot/grant"]),
+    "just_registered": ("piper/specs/Contexts", ["piper/proofs/slots/Slots/grant"]),
     "as_left": (
         "piper_c/specs/Leaving",
         [f"piper_c/proofs/halves/{half}/leave" for half in ("ReadHalf", "WriteHalf")],

@@ -1,6 +1,5 @@
 -- The two handles of a pipe.
 use Rattle.std.specs.Prelude.{◌≡◌, ℕ, List, bit_xor}
-use Rattle.std.specs.Arc.{arc_value}
 use Rattle.std.specs.Borrow.{Fml, MutBor, Array, Lends}
 use denote.Builtin.{u8}
 use Rattle.piper_ring.specs.LendsBuffer.{with_lent}
@@ -15,15 +14,15 @@ use Rattle.piper.specs.contracts.handles.Writer.{the_row}
 -- the handles of one pipe: each wakes the other's slot
 pub record ArePair (reader : Reader) (writer : Writer) : Type 0 where
   pub ring : writer.end.ring ≡ reader.end.ring
-  pub slots : arc_value writer.slots ≡ arc_value reader.slots
+  pub cells : writer.slots.cells ≡ reader.slots.cells
 
 -- the source at which a task waits that polls the reader
 abbrev pub read_source : Reader → ℕ
-read_source reader = source_of (arc_value reader.slots).reader
+read_source reader = source_of reader.slots
 
 -- the source at which a task waits that polls the writer
 abbrev pub write_source : Writer → ℕ
-write_source writer = source_of (arc_value writer.slots).writer
+write_source writer = source_of writer.slots
 
 -- the reader checked the writer's slot after all that it consumed, and took who waited there
 abbrev pub NotifiesWriter : Reader → Type 0

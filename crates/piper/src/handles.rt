@@ -1,8 +1,7 @@
 //! The two handles of a pipe. Each is an end of the ring, what it has of the slots of both sides,
 //! and what it waits and draws with.
 ghost use Rattle.std.specs.Prelude.{◌≡◌};
-ghost use Rattle.std.specs.Arc.{arc_value};
-ghost use Rattle.piper.specs.Places.{HoldPlaces};
+ghost use Rattle.piper_ring.specs.Cells.{AreCellsOf};
 
 mod draws;
 mod ends;
@@ -10,18 +9,10 @@ mod opening;
 pub(crate) mod read_steps;
 pub(crate) mod write_steps;
 
-use crate::slot::Slot;
+use crate::slots::Slots;
 pub use opening::pipe;
 use piper_ring::{ReadEnd, ReadRegistrations, WriteEnd, WriteRegistrations};
 use rand_pcg::Pcg32;
-use std::sync::Arc;
-
-/// The places of both sides' wakers.
-#[derive(Drop)]
-pub(crate) struct Slots {
-    reader: Slot,
-    writer: Slot,
-}
 
 /// The reading side of a pipe.
 ///
@@ -31,10 +22,10 @@ pub struct Reader {
     end: ReadEnd,
     /// How it waits in its slot, and what it had stored when it last checked the writer's.
     registrations: ReadRegistrations,
-    slots: Arc<Slots>,
+    slots: Slots,
     rng: Pcg32,
     ghost of_one_ring: { registrations.names ≡ end.ring.names },
-    ghost places: { HoldPlaces (arc_value slots) registrations.names },
+    ghost places: { AreCellsOf registrations.names slots.cells },
 }
 
 /// The writing side of a pipe.
@@ -45,8 +36,8 @@ pub struct Writer {
     end: WriteEnd,
     /// How it waits in its slot, and what it had stored when it last checked the reader's.
     registrations: WriteRegistrations,
-    slots: Arc<Slots>,
+    slots: Slots,
     rng: Pcg32,
     ghost of_one_ring: { registrations.names ≡ end.ring.names },
-    ghost places: { HoldPlaces (arc_value slots) registrations.names },
+    ghost places: { AreCellsOf registrations.names slots.cells },
 }

@@ -11,7 +11,7 @@ pub mod like;
 mod looks;
 mod owned;
 mod reader;
-mod slot;
+mod slots;
 mod writer;
 
 pub use error::{Inner, PipeError};

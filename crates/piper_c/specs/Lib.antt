@@ -2,7 +2,6 @@ pub mod Held
 pub mod Leaving
 pub mod Lending
 pub mod Handles
-pub mod Places
 pub mod Opened
 pub mod Outcome
 pub mod Reading

@@ -1,6 +1,5 @@
 -- The two sides of a new pipe.
 use Rattle.std.specs.Prelude.{◌≡◌, ℕ, ◌^◌, ◌≤◌, ◌⊎◌}
-use Rattle.std.specs.Arc.{arc_value}
 use Rattle.piper_protocol.specs.Reported.{HasFailed}
 use Rattle.piper_protocol.specs.declared.memory.OutOfMemory.{OutOfMemory}
 use Rattle.piper_ring.specs.Opened.{FreshReadEnd, FreshReadSlots, FreshWriteEnd, FreshWriteSlots}
@@ -10,7 +9,7 @@ use Rattle.piper_c.specs.declared.halves.WriteHalf.{WriteHalf}
 -- the sides of one pipe: each takes the words that the other leaves
 pub record ArePair (r : ReadHalf) (w : WriteHalf) : Type 0 where
   pub ring : w.end.ring ≡ r.end.ring
-  pub places : arc_value w.places ≡ arc_value r.places
+  pub places : w.places ≡ r.places
 
 -- nothing was read, and nobody has waited
 pub record IsFreshReader (capacity : ℕ) (r : ReadHalf) : Type 0 where

@@ -6,12 +6,10 @@
 //! and the steps of an open call are those of its own side. What the contracts of both say of words
 //! is stated once, in specs/Waiting.antt. An export can't be generic, and neither can its handle.
 ghost use Rattle.std.specs.Prelude.{◌≡◌};
-ghost use Rattle.std.specs.Arc.{arc_value};
-ghost use Rattle.piper_c.specs.Places.{HoldPlaces};
+ghost use Rattle.piper_ring.specs.Cells.{AreCellsOf};
 
-use crate::words::Places;
-use piper_ring::{ReadEnd, ReadRegistrations, WriteEnd, WriteRegistrations};
-use std::sync::Arc;
+use crate::words::Waiter;
+use piper_ring::{Placed, ReadEnd, ReadRegistrations, WakerCells, WriteEnd, WriteRegistrations};
 
 /// The side that reads.
 #[derive(Drop)]
@@ -19,9 +17,9 @@ pub struct ReadHalf {
     pub(crate) end: ReadEnd,
     /// How it waits in its slot, and what it had stored when it last checked the writer's.
     pub(crate) slots: ReadRegistrations,
-    pub(crate) places: Arc<Places>,
+    pub(crate) places: Placed<WakerCells<Waiter>>,
     ghost of_one_ring: { slots.names ≡ end.ring.names },
-    ghost held: { HoldPlaces (arc_value places) slots.names },
+    ghost held: { AreCellsOf slots.names places },
 }
 
 /// The side that writes.
@@ -30,7 +28,7 @@ pub struct WriteHalf {
     pub(crate) end: WriteEnd,
     /// How it waits in its slot, and what it had stored when it last checked the reader's.
     pub(crate) slots: WriteRegistrations,
-    pub(crate) places: Arc<Places>,
+    pub(crate) places: Placed<WakerCells<Waiter>>,
     ghost of_one_ring: { slots.names ≡ end.ring.names },
-    ghost held: { HoldPlaces (arc_value places) slots.names },
+    ghost held: { AreCellsOf slots.names places },
 }

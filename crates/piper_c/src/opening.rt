@@ -6,10 +6,8 @@ ghost use Rattle.piper_c.specs.Opened.{ArePair, IsFreshReader, IsFreshWriter, Is
 
 use crate::halves::{ReadHalf, WriteHalf};
 use crate::handles::{PiperReader, PiperWriter};
-use crate::words::Places;
-use piper_ring::{OutOfMemory, open_with_slots};
+use piper_ring::{OutOfMemory, Slotted, open_with_slots};
 use std::alloc::{AllocError, Global};
-use std::sync::Arc;
 
 /// The most bytes that a pipe can hold.
 const MOST: usize = (1 << 63) - 1;
@@ -79,24 +77,23 @@ fn open_halves(alloc: Global, capacity: usize) -> Result<(ReadHalf, WriteHalf), 
     ensures writer { IfOk result (λ (_, w). IsFreshWriter capacity w) }
     ensures refused { IfErr result HasFailed }
 {
-    let (places, reader_right, writer_right) = Places::new();
-    let places = Arc::new(alloc, places).map_err(AllocError::from)?;
-    let reader_places = Arc::try_clone(&places)?;
-    let (read_end, write_end, read_slots, write_slots) = open_with_slots(
-        alloc,
-        capacity,
-        reader_right,
-        writer_right,
-    )?;
+    let Slotted {
+        reader,
+        writer,
+        read_slots,
+        write_slots,
+        read_cells,
+        write_cells,
+    } = open_with_slots(alloc, capacity)?;
     let read = ReadHalf {
-        end: read_end,
+        end: reader,
         slots: read_slots,
-        places: reader_places,
+        places: read_cells,
     };
     let write = WriteHalf {
-        end: write_end,
+        end: writer,
         slots: write_slots,
-        places,
+        places: write_cells,
     };
     Ok((read, write))
 }

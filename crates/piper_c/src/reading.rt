@@ -4,7 +4,7 @@ ghost use Rattle.piper_ring.specs.ReadView.{in_one_piece};
 
 use crate::halves::ReadHalf;
 use crate::outcome::{Outcome, Polled, outcome_of};
-use crate::words::Waiter;
+use crate::words::{Waiter, for_gone};
 use piper_protocol::read_call::ReadCall;
 use piper_protocol::table::{AfterRead, Purpose, ReadPoint, Side};
 use piper_ring::ReadRegistrations;
@@ -41,7 +41,7 @@ impl ReadHalf {
                 mine: Some(mine),
             };
         }
-        let reclaimed = self.end.reclaim_waker(&mut self.slots, &self.places.reader);
+        let reclaimed = self.end.reclaim_waker(&mut self.slots, &self.places);
         let Ok(before) = reclaimed else {
             return Polled {
                 outcome: outcome_of(call.registered(false).end()),
@@ -49,8 +49,7 @@ impl ReadHalf {
                 mine: Some(mine),
             };
         };
-        self.end
-            .publish_waker(&mut self.slots, &self.places.reader, mine);
+        self.end.publish_waker(&mut self.slots, &self.places, mine);
         self.look_again(call.registered(true), before)
     }
 
@@ -103,7 +102,7 @@ impl ReadHalf {
         if !self.slots.maybe_registered() {
             return None;
         }
-        self.end.cancel(&mut self.slots, &self.places.reader)
+        self.end.cancel(&mut self.slots, &self.places)
     }
 
     /// Checks for a byte or for the end, and leaves no words.
@@ -183,7 +182,7 @@ impl ReadHalf {
             call.took_writer(false).done();
             return None;
         }
-        match self.end.take(&mut self.slots, &self.places.writer) {
+        match self.end.take(&mut self.slots, &self.places) {
             Some(taken) => {
                 call.took_writer(true).woke().done();
                 Some(taken)
@@ -209,9 +208,10 @@ impl ReadHalf {
             mut slots,
             places,
         } = self;
-        let mine = end.cancel(&mut slots, &places.reader);
+        let mine = end.cancel(&mut slots, &places);
         let call = ReadCall::drop().stored_closed();
-        let (_last, taken) = end.finish_waking(&mut slots, &places.writer);
+        let (_last, taken, left) = end.finish_waking(&mut slots, &places);
+        for_gone(left);
         let wake = match taken {
             Some(taken) => {
                 call.took_writer(true).woke().done();

@@ -1,7 +1,7 @@
-//! The two words that a side leaves while it waits, and the places where both sides leave theirs.
+//! The two words that a side leaves while it waits.
 ghost use Rattle.std.specs.Prelude.{◌≡◌, ◌<◌, ◌↔◌, IsSome, true, false};
 
-use token_cell::{Token, TokenCell};
+use piper_ring::LeftWakers;
 
 /// Two words that a waiting side leaves, or none where `vtable` is 0.
 #[repr(C)]
@@ -39,12 +39,6 @@ pub(crate) struct Waiter {
     ghost some: { 0 < words.vtable },
 }
 
-/// The places where both sides leave their words.
-pub(crate) struct Places {
-    pub(crate) reader: TokenCell<Option<Waiter>>,
-    pub(crate) writer: TokenCell<Option<Waiter>>,
-}
-
 impl Waiter {
     ghost use Rattle.piper_c.specs.Waiting.{IsOut};
 
@@ -68,32 +62,15 @@ impl Waiter {
     }
 }
 
-impl Places {
-    /// Two empty places, and the rights to them: the reader's first.
-    pub(crate) fn new() -> (Places, Token, Token)
-        ensures reader { (result.1.name ≡ result.0.reader) × (result.1.there ≡ true)
-            × (result.1.filled ≡ false) }
-        ensures writer { (result.2.name ≡ result.0.writer) × (result.2.there ≡ true)
-            × (result.2.filled ≡ false) }
-    {
-        let (reader, reader_right) = TokenCell::empty();
-        let (writer, writer_right) = TokenCell::empty();
-        (Places { reader, writer }, reader_right, writer_right)
-    }
+/// Ends what was left in the places once both sides are gone. Each side took its own words back as
+/// it was dropped, or the other side took them, so nothing is.
+pub(crate) fn for_gone(left: LeftWakers<Waiter>) {
+    let LeftWakers { reader, writer } = left;
+    forget(reader);
+    forget(writer);
 }
 
-impl Drop for Places {
-    /// Both sides are gone. Each took its own words back as it was dropped, or the other side took
-    /// them, so nothing lies here.
-    fn drop(self) {
-        let Places { reader, writer } = self;
-        for_gone(reader.into_inner());
-        for_gone(writer.into_inner());
-    }
-}
-
-/// What a place holds once both sides are gone.
-fn for_gone(left: Option<Waiter>) {
+fn forget(left: Option<Waiter>) {
     match left {
         Some(Waiter { words: _ }) => {}
         None => {}

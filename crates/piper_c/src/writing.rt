@@ -3,7 +3,7 @@ ghost use Rattle.std.specs.Prelude.{◌≡◌, [], ◌<◌, ◌≤◌, ◌++◌,
 
 use crate::halves::WriteHalf;
 use crate::outcome::{Outcome, Polled, outcome_of};
-use crate::words::Waiter;
+use crate::words::{Waiter, for_gone};
 use piper_protocol::table::{AfterWrite, Purpose, WritePoint};
 use piper_protocol::write_call::WriteCall;
 use piper_ring::WriteRegistrations;
@@ -49,7 +49,7 @@ impl WriteHalf {
                 mine: Some(mine),
             };
         }
-        let reclaimed = self.end.reclaim_waker(&mut self.slots, &self.places.writer);
+        let reclaimed = self.end.reclaim_waker(&mut self.slots, &self.places);
         let Ok(before) = reclaimed else {
             return Polled {
                 outcome: outcome_of(call.registered(false).end()),
@@ -57,8 +57,7 @@ impl WriteHalf {
                 mine: Some(mine),
             };
         };
-        self.end
-            .publish_waker(&mut self.slots, &self.places.writer, mine);
+        self.end.publish_waker(&mut self.slots, &self.places, mine);
         self.look_again(call.registered(true), before)
     }
 
@@ -112,7 +111,7 @@ impl WriteHalf {
         if !self.slots.maybe_registered() {
             return None;
         }
-        self.end.cancel(&mut self.slots, &self.places.writer)
+        self.end.cancel(&mut self.slots, &self.places)
     }
 
     /// Checks for room or for the end, and leaves no words.
@@ -187,7 +186,7 @@ impl WriteHalf {
             call.took_reader(false).done();
             return None;
         }
-        match self.end.take(&mut self.slots, &self.places.reader) {
+        match self.end.take(&mut self.slots, &self.places) {
             Some(taken) => {
                 call.took_reader(true).woke().done();
                 Some(taken)
@@ -212,7 +211,7 @@ impl WriteHalf {
         let call = WriteCall::close();
         self.end.shut();
         let call = call.stored_closed(true);
-        match self.end.take(&mut self.slots, &self.places.reader) {
+        match self.end.take(&mut self.slots, &self.places) {
             Some(taken) => (
                 Some(taken),
                 self.reclaim_last(call.took_reader(true).woke()),
@@ -230,7 +229,7 @@ impl WriteHalf {
             { owns = self.new.slots.owns; maybe_registered = false } }
         ensures rest { (self.new.end ≡ self.old.end) × (self.new.places ≡ self.old.places) }
     {
-        match self.end.cancel(&mut self.slots, &self.places.writer) {
+        match self.end.cancel(&mut self.slots, &self.places) {
             Some(mine) => {
                 call.took_own(true).woke().done();
                 Some(mine)
@@ -256,9 +255,10 @@ impl WriteHalf {
             mut slots,
             places,
         } = self;
-        let mine = end.cancel(&mut slots, &places.writer);
+        let mine = end.cancel(&mut slots, &places);
         let call = WriteCall::drop().stored_closed(false);
-        let (_last, taken) = end.finish_waking(&mut slots, &places.reader);
+        let (_last, taken, left) = end.finish_waking(&mut slots, &places);
+        for_gone(left);
         let wake = match taken {
             Some(taken) => {
                 call.took_reader(true).woke().done();

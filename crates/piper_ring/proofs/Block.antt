@@ -1,5 +1,5 @@
 -- The ring's block is cut into the words and the bytes, and made one again. Assumes `Logic`.
-use Rattle.piper_ring.proofs.Kit.{◌≡◌, ℕ, zero, suc, ◌+◌, ◌-◌, ◌*◌, ◌<◌, ◌^◌, [], ◌∷◌, sym, refl, ◌∙◌, subst, arith, Ura, SProp, ent, sep, Fml, fsep, fwand, froom, Logic, sem, ‵, ◌⊛◌, ◌$◌, ◌∵◌, !, qed, by, move, split, fsplit, fjoin, frame, assume, rewrite, use1, use2, Ptr, Ty, ty_int, w8, w64, block_of, count_of, apply∗, array_of, u8, words_type, all_rooms, Placed, Names}
+use Rattle.piper_ring.proofs.Kit.{◌≡◌, ℕ, zero, suc, ◌+◌, ◌-◌, ◌*◌, ◌<◌, ◌^◌, [], ◌∷◌, sym, refl, ◌∙◌, subst, arith, Ura, SProp, ent, sep, Fml, fsep, fwand, froom, Logic, sem, ‵, ◌⊛◌, ◌$◌, ◌∵◌, !, qed, by, move, split, fsplit, fjoin, frame, assume, rewrite, use1, use2, Ptr, Ty, ty_int, w8, w64, block_of, count_of, apply∗, array_of, u8, words_type, Placed, Names}
 use Rattle.std.proofs.Common.{◌/◌}
 use mir.Syntax.{ty_array}
 use denote.RawPtr.{InBlock}
@@ -89,7 +89,7 @@ module _ {M : Type 1} {𝓤 : Ura M} (𝓛 : Logic 𝓤) (w : Ptr) (cap : ℕ) w
       rewrite ! 0 (λ (at : ℕ). ‵ (words e at)) (sym far) refl $ move ! (1 ∷ []) $ use1 𝓛 (‵ (words 28 o)) (𝓛.laws.raw-room (ty_array u 28) b o) $
       use2 𝓛 (‵ (words (28 + e) o)) (room_glue 𝓛 u 28 e b o) $ rewrite ! 0 (λ (n : ℕ). ‵ (words n o)) (sym many) refl $ by ! (𝓛.laws.room-raw (ty_array u (size_of_block cap / 8)) b o)
 
-  -- where the words in use make the words' room again, they and the bytes make the block again
-  pub remakes : ⟦ fwand (all_rooms w) WordsRoom ⟧ ∗ ⟦ fwand (fsep WordsRoom BytesRoom) BlockRoom ⟧ ⊢ ⟦ fwand (fsep (all_rooms w) BytesRoom) BlockRoom ⟧
-  remakes = qed 𝓛 (‵ (fwand (all_rooms w) WordsRoom) ∷ ‵ (fwand (fsep WordsRoom BytesRoom) BlockRoom) ∷ []) ∵ assume ! (‵ (fsep (all_rooms w) BytesRoom)) $ fsplit ! $
-      move ! (0 ∷ 2 ∷ []) $ use2 𝓛 (‵ WordsRoom) (apply∗ 𝓤 ⟦ all_rooms w ⟧ ⟦ WordsRoom ⟧) $ fjoin ! $ by ! (apply∗ 𝓤 ⟦ fsep WordsRoom BytesRoom ⟧ ⟦ BlockRoom ⟧)
+  -- what makes the words' room again, with the bytes makes the block again
+  pub remakes : (Used : Fml) → ⟦ fwand Used WordsRoom ⟧ ∗ ⟦ fwand (fsep WordsRoom BytesRoom) BlockRoom ⟧ ⊢ ⟦ fwand (fsep Used BytesRoom) BlockRoom ⟧
+  remakes Used = qed 𝓛 (‵ (fwand Used WordsRoom) ∷ ‵ (fwand (fsep WordsRoom BytesRoom) BlockRoom) ∷ []) ∵ assume ! (‵ (fsep Used BytesRoom)) $ fsplit ! $
+      move ! (0 ∷ 2 ∷ []) $ use2 𝓛 (‵ WordsRoom) (apply∗ 𝓤 ⟦ Used ⟧ ⟦ WordsRoom ⟧) $ fjoin ! $ by ! (apply∗ 𝓤 ⟦ fsep WordsRoom BytesRoom ⟧ ⟦ BlockRoom ⟧)

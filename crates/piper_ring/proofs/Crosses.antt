@@ -4,7 +4,8 @@ use Rattle.std.proofs.Common.{drop}
 use base.Shift.{Keyless}
 use Rattle.std.proofs.Crossing.{frees}
 use Rattle.piper_ring.specs.Block.{purpose, size_of_block}
-use Rattle.piper_ring.specs.Shared.{spare}
+use Rattle.lent_space.specs.Space.{lease}
+use Rattle.piper_ring.specs.Shared.{rights, spare}
 use Rattle.piper_ring.proofs.Evidence.{announced-Keyless, took-Keyless, raised-Keyless}
 use Rattle.token_cell.proofs.Crosses.{right-Keyless}
 use Rattle.piper_ring.proofs.PlacesLaws.{run-Keyless, span-Keyless}
@@ -32,8 +33,11 @@ module _ (w p : Ptr) (z : Names) where
     λ s. ((λ _. tt), ((tt, tt), ((tt, tt), ((took-Keyless z s.1.0.1.1.0, raised-Keyless z.closed s.1.0.1.1.1), right-Keyless (held_at s.1.1).0 z.writer_place (held_at s.1.1).1)))),
   )
 
-  deeds-Keyless : Keyless (deeds w p z)
-  deeds-Keyless = ((((((tt, (tt, (tt, tt))), (tt, (tt, (tt, tt)))), tt), tt), frees.frees (record { memory = record { seal = tt } }) (purpose (size_of_block z.capacity)) w), slots-Keyless)
+  rights-Keyless : Keyless (rights w p z)
+  rights-Keyless = (frees.frees (record { memory = record { seal = tt } }) (purpose (size_of_block z.capacity)) w, ((λ _. tt), tt))
+
+  deeds-Keyless : (u : State) → Keyless (deeds w p z u)
+  deeds-Keyless u = ((((((((tt, (tt, (tt, tt))), (tt, (tt, (tt, tt)))), tt), tt), tt), rights-Keyless), (where-Keyless (gone u.reader_stage) (lease z.life true) tt, where-Keyless (gone u.writer_stage) (lease z.life false) tt)), slots-Keyless)
 
   spare-Keyless : IsSend u8 → (k n : ℕ) → Keyless (spare w p z k n)
   spare-Keyless s k n xs = ((λ _. tt), run-Keyless p z.capacity s k xs)
@@ -50,7 +54,7 @@ module _ (w p : Ptr) (z : Names) where
       run-Keyless p z.capacity s u.seen (drop u.seen u.sent),
       (
         spare-Keyless s u.limit (u.head + z.capacity - u.limit),
-        (where-Keyless (gone u.reader_stage) (blanks w p z u.head (u.seen - u.head)) (span-Keyless p z.capacity (u.seen - u.head) u.head), (where-Keyless (gone u.writer_stage) (blanks w p z (length u.sent) (u.limit - length u.sent)) (span-Keyless p z.capacity (u.limit - length u.sent) (length u.sent)), deeds-Keyless)),
+        (where-Keyless (gone u.reader_stage) (blanks w p z u.head (u.seen - u.head)) (span-Keyless p z.capacity (u.seen - u.head) u.head), (where-Keyless (gone u.writer_stage) (blanks w p z (length u.sent) (u.limit - length u.sent)) (span-Keyless p z.capacity (u.limit - length u.sent) (length u.sent)), deeds-Keyless u)),
       ),
     ),
   )

@@ -7,7 +7,12 @@ use denote.Struct.Tuple.{Tuple, tuple_type}
 use denote.RattleType.{Valss}
 use denote.Shadow.{makes_shadow}
 use denote.Struct.Struct.{within}
+use Rattle.lent_space.specs.contracts.Lease as Lease
+use Rattle.lent_space.specs.contracts.Lender as Lender
+use Rattle.lent_space.specs.contracts.Space as Space
+use Rattle.piper_ring.specs.contracts.ring.memory.Frame as Frame
 use Rattle.piper_ring.specs.contracts.ring.memory.Memory as Memory
+use Rattle.piper_ring.specs.contracts.ring.memory.Parts as Parts
 use Rattle.piper_ring.specs.contracts.ring.seats.ReadSeat as ReadSeat
 use Rattle.piper_ring.specs.contracts.ring.seats.WriteSeat as WriteSeat
 use Rattle.piper_ring.specs.contracts.ring.remains.Remains as Remains
@@ -41,6 +46,21 @@ RemainsData = Struct (shape Remains.the_type)
 abbrev pub MemoryData : RattleType
 MemoryData = Struct (shape Memory.the_type)
 
+abbrev pub PartsData : RattleType
+PartsData = Struct (shape Parts.the_type)
+
+abbrev pub FrameData : RattleType
+FrameData = Struct (shape Frame.the_type)
+
+abbrev pub SpaceData : RattleType
+SpaceData = Struct (shape Space.the_type)
+
+abbrev pub LenderData : RattleType
+LenderData = Struct (shape Lender.the_type)
+
+abbrev pub LeaseData : RattleType
+LeaseData = Struct (shape Lease.the_type)
+
 abbrev pub PlacesData : RattleType
 PlacesData = Struct (shape Places.the_type)
 
@@ -68,6 +88,21 @@ remains_told w vs is = is.1.0 ∙ ap (λ (ws : List Val). vstruct (of_list (ws +
 pub memory_told : (p : Ptr) (vs : List Val) → Is MemoryData (p, tt) vs → vs ≡ seat_val p ∷ []
 memory_told p vs is = is.1.0 ∙ ap (λ (ws : List Val). vstruct (of_list (ws ++ [])) ∷ []) is.1.1.0
 
+pub parts_told : (p : Ptr) (vs : List Val) → Is PartsData (p, tt) vs → vs ≡ seat_val p ∷ []
+parts_told p vs is = is.1.0 ∙ ap (λ (ws : List Val). vstruct (of_list (ws ++ [])) ∷ []) is.1.1.0
+
+pub frame_told : (p : Ptr) (vs : List Val) → Is FrameData (p, tt) vs → vs ≡ seat_val p ∷ []
+frame_told p vs is = is.1.0 ∙ ap (λ (ws : List Val). vstruct (of_list (ws ++ [])) ∷ []) is.1.1.0
+
+pub space_told : (p : Ptr) (vs : List Val) → Is SpaceData (p, tt) vs → vs ≡ seat_val p ∷ []
+space_told p vs is = is.1.0 ∙ ap (λ (ws : List Val). vstruct (of_list (ws ++ [])) ∷ []) is.1.1.0
+
+pub lender_told : (p : Ptr) (vs : List Val) → Is LenderData (p, tt) vs → vs ≡ seat_val p ∷ []
+lender_told p vs is = is.1.0 ∙ ap (λ (ws : List Val). vstruct (of_list (ws ++ [])) ∷ []) is.1.1.0
+
+pub lease_told : (vs : List Val) → Is LeaseData (record {}, tt) vs → vs ≡ ghost_val ∷ []
+lease_told vs is = is.1.0 ∙ ap (λ (ws : List Val). vstruct (of_list (ws ++ [])) ∷ []) is.1.1.0.1.0
+
 pub places_told : (vs : List Val) → Is PlacesData (record {}, tt) vs → vs ≡ ghost_val ∷ []
 places_told vs is = is.1.0 ∙ ap (λ (ws : List Val). vstruct (of_list (ws ++ [])) ∷ []) is.1.1.0.1.0
 
@@ -86,6 +121,21 @@ module _ {M : Type 1} {𝓤 : Ura M} (𝓛 : Logic 𝓤) where
 
   pub memory_made : (p : Ptr) → ent 𝓤 (emp 𝓤) (sem 𝓛 (MemoryData.own_val (p, tt) (seat_val p ∷ [])))
   memory_made p = makes_shadow 𝓛 (MemoryData.own_val (p, tt) (seat_val p ∷ [])) (λ vss. (tt, (tt, tt))) ((ptr_val p ∷ [], tt), (refl, (refl, tt)))
+
+  pub parts_made : (p : Ptr) → ent 𝓤 (emp 𝓤) (sem 𝓛 (PartsData.own_val (p, tt) (seat_val p ∷ [])))
+  parts_made p = makes_shadow 𝓛 (PartsData.own_val (p, tt) (seat_val p ∷ [])) (λ vss. (tt, (tt, tt))) ((ptr_val p ∷ [], tt), (refl, (refl, tt)))
+
+  pub frame_made : (p : Ptr) → ent 𝓤 (emp 𝓤) (sem 𝓛 (FrameData.own_val (p, tt) (seat_val p ∷ [])))
+  frame_made p = makes_shadow 𝓛 (FrameData.own_val (p, tt) (seat_val p ∷ [])) (λ vss. (tt, (tt, tt))) ((ptr_val p ∷ [], tt), (refl, (refl, tt)))
+
+  pub space_made : (p : Ptr) → ent 𝓤 (emp 𝓤) (sem 𝓛 (SpaceData.own_val (p, tt) (seat_val p ∷ [])))
+  space_made p = makes_shadow 𝓛 (SpaceData.own_val (p, tt) (seat_val p ∷ [])) (λ vss. (tt, (tt, tt))) ((ptr_val p ∷ [], tt), (refl, (refl, tt)))
+
+  pub lender_made : (p : Ptr) → ent 𝓤 (emp 𝓤) (sem 𝓛 (LenderData.own_val (p, tt) (seat_val p ∷ [])))
+  lender_made p = makes_shadow 𝓛 (LenderData.own_val (p, tt) (seat_val p ∷ [])) (λ vss. (tt, (tt, tt))) ((ptr_val p ∷ [], tt), (refl, (refl, tt)))
+
+  pub lease_made : ent 𝓤 (emp 𝓤) (sem 𝓛 (LeaseData.own_val (record {}, tt) (ghost_val ∷ [])))
+  lease_made = makes_shadow 𝓛 (LeaseData.own_val (record {}, tt) (ghost_val ∷ [])) (λ vss. (tt, ((λ uss. (tt, tt)), tt))) ((vstruct vnil ∷ [], tt), (refl, ((tt, (refl, tt)), tt)))
 
   pub places_made : ent 𝓤 (emp 𝓤) (sem 𝓛 (PlacesData.own_val (record {}, tt) (ghost_val ∷ [])))
   places_made = makes_shadow 𝓛 (PlacesData.own_val (record {}, tt) (ghost_val ∷ [])) (λ vss. (tt, ((λ uss. (tt, tt)), tt))) ((vstruct vnil ∷ [], tt), (refl, ((tt, (refl, tt)), tt)))
@@ -149,3 +199,21 @@ module _ {M : Type 1} {𝓤 : Ura M} (𝓛 : Logic 𝓤) (R S T U R' S' T' : Rat
       nothing ! $ move ! (7 ∷ 0 ∷ []) $ fjoin ! $ move ! (6 ∷ 0 ∷ []) $ fjoin ! $ move ! (5 ∷ 0 ∷ []) $ fjoin ! $ move ! (4 ∷ 0 ∷ []) $ fjoin ! $ move ! (3 ∷ 0 ∷ []) $ fjoin ! $ move ! (2 ∷ 0 ∷ []) $ fjoin ! $ move ! (1 ∷ 0 ∷ []) $ fjoin ! $
       feq_i ! (List Val) (v ∷ []) (v ∷ []) refl $ fjoin ! $
       fpack ! (Valss Rows) (within (Declared.shape (tuple_type Rows)) (x, (y, (z, (w, (x', (y', (z', tt))))))) (v ∷ [])) (a ∷ [], (b ∷ [], (c ∷ [], (d ∷ [], (e ∷ [], (f ∷ [], (g ∷ [], tt))))))) $ done !
+
+-- a tuple of eight
+abbrev pub eight_val : Val → Val → Val → Val → Val → Val → Val → Val → Val
+eight_val a b c d e f g h = vstruct (vcons a (vcons b (vcons c (vcons d (vcons e (vcons f (vcons g (vcons h vnil))))))))
+
+module _ {M : Type 1} {𝓤 : Ura M} (𝓛 : Logic 𝓤) (R S T U R' S' T' U' : RattleType) where
+  abbrev Eight : List RattleType
+  Eight = R ∷ S ∷ T ∷ U ∷ R' ∷ S' ∷ T' ∷ U' ∷ []
+
+  pub eight_of : (x : R.Denot) (y : S.Denot) (z : T.Denot) (w : U.Denot) (x' : R'.Denot) (y' : S'.Denot) (z' : T'.Denot) (w' : U'.Denot) (a b c d e f g h : Val)
+      → ent 𝓤 (sep 𝓤 (sem 𝓛 (R.own_val x (a ∷ []))) (sep 𝓤 (sem 𝓛 (S.own_val y (b ∷ []))) (sep 𝓤 (sem 𝓛 (T.own_val z (c ∷ []))) (sep 𝓤 (sem 𝓛 (U.own_val w (d ∷ [])))
+      (sep 𝓤 (sem 𝓛 (R'.own_val x' (e ∷ []))) (sep 𝓤 (sem 𝓛 (S'.own_val y' (f ∷ []))) (sep 𝓤 (sem 𝓛 (T'.own_val z' (g ∷ []))) (sem 𝓛 (U'.own_val w' (h ∷ []))))))))))
+      (sem 𝓛 ((Tuple Eight).own_val (x, y, z, w, x', y', z', w') (eight_val a b c d e f g h ∷ [])))
+  eight_of x y z w x' y' z' w' a b c d e f g h = let v : Val = eight_val a b c d e f g h in
+      qed 𝓛 (‵ (R.own_val x (a ∷ [])) ∷ ‵ (S.own_val y (b ∷ [])) ∷ ‵ (T.own_val z (c ∷ [])) ∷ ‵ (U.own_val w (d ∷ [])) ∷ ‵ (R'.own_val x' (e ∷ [])) ∷ ‵ (S'.own_val y' (f ∷ [])) ∷ ‵ (T'.own_val z' (g ∷ [])) ∷ ‵ (U'.own_val w' (h ∷ [])) ∷ []) ∵
+      nothing ! $ move ! (8 ∷ 0 ∷ []) $ fjoin ! $ move ! (7 ∷ 0 ∷ []) $ fjoin ! $ move ! (6 ∷ 0 ∷ []) $ fjoin ! $ move ! (5 ∷ 0 ∷ []) $ fjoin ! $ move ! (4 ∷ 0 ∷ []) $ fjoin ! $ move ! (3 ∷ 0 ∷ []) $ fjoin ! $ move ! (2 ∷ 0 ∷ []) $ fjoin ! $ move ! (1 ∷ 0 ∷ []) $ fjoin ! $
+      feq_i ! (List Val) (v ∷ []) (v ∷ []) refl $ fjoin ! $
+      fpack ! (Valss Eight) (within (Declared.shape (tuple_type Eight)) (x, (y, (z, (w, (x', (y', (z', (w', tt)))))))) (v ∷ [])) (a ∷ [], (b ∷ [], (c ∷ [], (d ∷ [], (e ∷ [], (f ∷ [], (g ∷ [], (h ∷ [], tt)))))))) $ done !

@@ -1,13 +1,18 @@
 -- An end leaves: it closes the ring, and then gives up its places; the second one to leave gets all
 -- of the memory. Assumes `Logic`.
-use Rattle.piper_ring.proofs.Kit.{◌≡◌, ℕ, zero, suc, ◌+◌, ◌-◌, ◌*◌, ◌≤◌, Bool, true, false, List, [], ◌∷◌, length, sym, refl, ap, ◌∙◌, subst, arith, Ura, numbers, latest, SProp, ent, sep, upd, ex, via, upd_i, Share, Fml, ftrue, fsep, Logic, sem, latest_grows, latest_shows, ‵, raw, ◌⊛◌, some, given, ◌$◌, ◌∵◌, !, qed, by, move, keep, split, split3, fsplit, fsplit3, fjoin, fjoin3, fpick, fpack, pick, learn, show, frame, assume, settle, suffices, rewrite, use1, use2, use3, done, drop as forget, Ptr, block_ptr, block_of, count_of, nothing, asks, always, Lies, length-drop, span_join, span_map, span, array_of, Ty, w64, ty_int, lone, apply∗, id⊢, froom, fex, unset, full_share, u8, slot_of as offset_of, Names, State, Holds, half, other, flag, gone, until_both, where_gone, word, word_room, slot_rooms, all_rooms, slots, blanks, memory, writer_knows, reader_knows, ends, raised, state_holds, Inner, common}
+use Rattle.piper_ring.proofs.Kit.{held_at, with_waiter, fwand, ◌≡◌, ℕ, zero, suc, ◌+◌, ◌-◌, ◌*◌, ◌≤◌, Bool, true, false, List, [], ◌∷◌, length, sym, refl, ap, ◌∙◌, subst, arith, Ura, numbers, latest, SProp, ent, sep, upd, ex, via, upd_i, Share, Fml, ftrue, fsep, Logic, sem, latest_grows, latest_shows, ‵, raw, ◌⊛◌, some, given, ◌$◌, ◌∵◌, !, qed, by, move, keep, split, split3, fsplit, fsplit3, fjoin, fjoin3, fpick, fpack, pick, learn, show, frame, assume, settle, suffices, rewrite, use1, use2, use3, done, drop as forget, Ptr, block_ptr, block_of, count_of, nothing, asks, always, Lies, length-drop, span_join, span_map, span, array_of, Ty, w64, ty_int, lone, apply∗, id⊢, froom, fex, unset, full_share, u8, slot_of as offset_of, Names, State, Holds, half, other, flag, gone, until_both, where_gone, word, word_room, all_rooms, slots, blanks, memory, writer_knows, reader_knows, ends, raised, state_holds, Inner, common}
 use Rattle.std.proofs.Common.{drop}
 use Rattle.rtrb.proofs.Spans.{ring_in}
 use Rattle.piper_ring.proofs.PlacesParts.{forgets}
 use mir.Raw.{raw as bare}
 use Rattle.piper_ring.specs.Places.{fact}
 use Rattle.piper_ring.proofs.Steps.{flag_small, Rest, OneStays, ReaderSees, WriterSees, reader_opens, writer_opens, closes, inside, raise}
-use Rattle.piper_ring.specs.Shared.{block_room, bytes_room, one_gone, whole}
+use Rattle.lent_space.specs.Space.{lease}
+use Rattle.piper_ring.specs.Block.{space_room}
+use types.Kit.{group}
+use Rattle.piper_ring.specs.Shared.{block_room, bytes_room, found_left, four_rooms, frame as frame_of, leases, left_in, one_gone, titles, wakers_left, whole}
+use Rattle.piper_ring.specs.Slots.{Where, flag_of, held}
+use Rattle.piper_ring.specs.Slots.Where.{in_slot, with_taker, handed_back}
 
 pub here : (i : ℕ) → i ≤ 1 → gone i ≡ false
 here zero le = refl
@@ -78,13 +83,32 @@ module _ {M : Type 1} {𝓤 : Ura M} (𝓛 : Logic 𝓤) (w p : Ptr) (z : Names)
   abbrev u : Ty
   u = ty_int w64
 
-  -- the words of the slots are room again
-  slots_end : ⟦ slots w p z ⟧ ⊢ ⟦ slot_rooms w ⟧
+  -- a slot's flag says whether a waker lies in its place
+  left_of : (far place : ℕ) (v : Where) → ⟦ word w far (flag_of v) ⟧ ∗ ⟦ held place (held_at v) ⟧ ⊢ ⟦ left_in w p z far place ⟧
+  left_of far place in_slot = qed 𝓛 (‵ (word w far 1) ∷ ‵ (held place (true, true)) ∷ []) ∵ fjoin ! $ fpack ! Bool (found_left w p z far place) true $ done !
+  left_of far place with_waiter = qed 𝓛 (‵ (word w far 0) ∷ ‵ (held place (false, false)) ∷ []) ∵ fjoin ! $ fpack ! Bool (found_left w p z far place) false $ done !
+  left_of far place with_taker = qed 𝓛 (‵ (word w far 0) ∷ ‵ (held place (false, false)) ∷ []) ∵ fjoin ! $ fpack ! Bool (found_left w p z far place) false $ done !
+  left_of far place handed_back = qed 𝓛 (‵ (word w far 0) ∷ ‵ (held place (true, false)) ∷ []) ∵ keep ! (0 ∷ []) $ nothing ! $ move ! (1 ∷ 0 ∷ []) $ fjoin ! $ fpack ! Bool (found_left w p z far place) false $ done !
+
+  -- of the slots' words the flags are kept, and the others are room again
+  slots_end : ⟦ slots w p z ⟧ ⊢ ⟦ wakers_left w p z ⟧ ∗ ⟦ word_room w 152 ⟧ ∗ ⟦ word_room w 80 ⟧
   slots_end = let b : ℕ = block_of w in let o : ℕ = count_of w in qed 𝓛 (‵ (slots w p z) ∷ []) ∵ fsplit ! $
-      fpick ! (λ s. fsplit3 ! $ move ! (1 ∷ []) $ fsplit ! $ move ! (4 ∷ []) $ fpick ! (λ t. fsplit3 ! $ move ! (1 ∷ []) $ fsplit ! $
-      use1 𝓛 (‵ (word_room w 72)) (𝓛.laws.at_room u b (72 + o) _) $ move ! (1 ∷ []) $ use1 𝓛 (‵ (word_room w 80)) (𝓛.laws.at_room u b (80 + o) _) $
-      move ! (4 ∷ []) $ use1 𝓛 (‵ (word_room w 144)) (𝓛.laws.at_room u b (144 + o) _) $ move ! (5 ∷ []) $ use1 𝓛 (‵ (word_room w 152)) (𝓛.laws.at_room u b (152 + o) _) $
-      move ! (3 ∷ 2 ∷ []) $ fjoin ! $ move ! (2 ∷ 1 ∷ 0 ∷ []) $ fjoin3 ! $ keep ! (0 ∷ []) $ done !))
+      fpick ! (λ s. fsplit3 ! $ forget ! $ fsplit ! $ move ! (2 ∷ []) $ fsplit3 ! $ forget ! $ forget ! $ move ! (1 ∷ 0 ∷ []) $ use2 𝓛 (‵ (left_in w p z 144 z.reader_place)) (left_of 144 z.reader_place s.1.1) $
+      move ! (2 ∷ []) $ fpick ! (λ t. fsplit3 ! $ forget ! $ fsplit ! $ move ! (2 ∷ []) $ fsplit3 ! $ forget ! $ forget ! $ move ! (1 ∷ 0 ∷ []) $ use2 𝓛 (‵ (left_in w p z 72 z.writer_place)) (left_of 72 z.writer_place t.1.1) $
+      move ! (2 ∷ 0 ∷ []) $ fjoin ! $ frame ! $ use1 𝓛 (‵ (word_room w 80)) (𝓛.laws.at_room u b (80 + o) _) $ move ! (1 ∷ []) $ use1 𝓛 (‵ (word_room w 152)) (𝓛.laws.at_room u b (152 + o) _) $ done !))
+
+  -- the words and the bytes make the block, but for the space and the flags
+  frames : ⟦ four_rooms w ⟧ ∗ ⟦ fsep (word_room w 152) (word_room w 80) ⟧ ∗ ⟦ fwand (fsep (fsep (all_rooms w) (space_room w)) (bytes_room w p z)) (block_room w p z) ⟧ ∗ ⟦ bytes_room w p z ⟧ ⊢ ⟦ frame_of w p z ⟧
+  frames = let Used : Fml = fsep (fsep (all_rooms w) (space_room w)) (bytes_room w p z) in
+      qed 𝓛 (‵ (four_rooms w) ∷ ‵ (fsep (word_room w 152) (word_room w 80)) ∷ ‵ (fwand Used (block_room w p z)) ∷ ‵ (bytes_room w p z) ∷ []) ∵ assume ! (‵ (fsep (space_room w) (fsep (word_room w 144) (word_room w 72)))) $ fsplit3 ! $
+      -- [the space; the flags; four words; the other words of the slots; the way back; the bytes]
+      move ! (4 ∷ []) $ fsplit ! $ move ! (4 ∷ 1 ∷ []) $ fjoin ! $ move ! (3 ∷ 1 ∷ 0 ∷ []) $ fjoin3 ! $ move ! (2 ∷ 0 ∷ []) $ fjoin ! $ move ! (0 ∷ 1 ∷ []) $ fjoin ! $ move ! (0 ∷ 2 ∷ []) $ fjoin ! $
+      by ! (apply∗ 𝓤 ⟦ Used ⟧ ⟦ block_room w p z ⟧)
+
+  -- with the room of the flags, the frame lacks the space alone
+  pub frame_rejoins : ⟦ fsep (word_room w 144) (word_room w 72) ⟧ ∗ ⟦ frame_of w p z ⟧ ⊢ ⟦ fwand (space_room w) (block_room w p z) ⟧
+  frame_rejoins = let Flags : Fml = fsep (word_room w 144) (word_room w 72) in
+      qed 𝓛 (‵ Flags ∷ ‵ (frame_of w p z) ∷ []) ∵ assume ! (‵ (space_room w)) $ move ! (0 ∷ 1 ∷ []) $ fjoin ! $ by ! (apply∗ 𝓤 ⟦ fsep (space_room w) Flags ⟧ ⟦ block_room w p z ⟧)
 
   -- once both ends are gone, the words and the places that each gave up are all of the memory
   gathers : (s : State) → Holds cap s → gone s.reader_stage ≡ true → gone s.writer_stage ≡ true → ⟦ memory w p z s ⟧ ⊢ ⟦ whole w p z ⟧
@@ -99,8 +123,11 @@ module _ {M : Type 1} {𝓤 : Ura M} (𝓛 : Logic 𝓤) (w p : Ptr) (z : Names)
       move ! (4 ∷ 0 ∷ []) $ use2 𝓛 (‵ (span U s.head (sl - s.head))) (span_join 𝓛 U (s.seen - s.head) s.head s.seen (length pend) (sl - s.head) (omega arith) (omega arith)) $
       move ! (0 ∷ 2 ∷ []) $ use2 𝓛 (‵ (span U s.head (s.limit - s.head))) (span_join 𝓛 U (sl - s.head) s.head sl (s.limit - sl) (s.limit - s.head) (omega arith) (omega arith)) $
       use2 𝓛 (‵ (span U s.head cap)) (span_join 𝓛 U (s.limit - s.head) s.head s.limit (length ys) cap (omega arith) (omega arith)) $
-      use1 𝓛 (‵ (froom (array_of u8 cap) (block_of p) (count_of p))) (as_array s.head) $ move ! (1 ∷ []) $ fsplit ! $ fsplit ! $ move ! (2 ∷ []) $ use1 𝓛 (‵ (slot_rooms w)) slots_end $ move ! (4 ∷ 0 ∷ []) $ fjoin ! $ move ! (0 ∷ 3 ∷ []) $ fjoin ! $
-      use2 𝓛 (‵ (block_room w p z)) (apply∗ 𝓤 ⟦ fsep (all_rooms w) (bytes_room w p z) ⟧ ⟦ block_room w p z ⟧) $ fjoin ! $ done !))
+      use1 𝓛 (‵ (froom (array_of u8 cap) (block_of p) (count_of p))) (as_array s.head) $ move ! (1 ∷ []) $ fsplit ! $ fsplit ! $ fsplit ! $ move ! (2 ∷ []) $
+      rewrite ! 0 (λ (c : Bool × Bool). ‵ (leases w p z c.0 c.1)) {x = (true, true)} {y = (gone s.reader_stage, gone s.writer_stage)} (λ j. (gr j, gw j)) refl $
+      move ! (3 ∷ []) $ use1 𝓛 (‵ (wakers_left w p z) ⊛ ‵ (word_room w 152) ⊛ ‵ (word_room w 80)) slots_end $ split3 ! $ move ! (1 ∷ 2 ∷ []) $ fjoin ! $
+      -- [the other words; the wakers that are left; the leases; the way back; the rights; the bytes; four words]
+      move ! (6 ∷ 0 ∷ 3 ∷ 5 ∷ []) $ group ! 4 $ use1 𝓛 (‵ (frame_of w p z)) frames $ fjoin ! $ move ! (0 ∷ 2 ∷ 1 ∷ []) $ fjoin3 ! $ done !))
 
   abbrev one : ℕ → ℕ
   one _ = 1
@@ -124,21 +151,22 @@ module _ {M : Type 1} {𝓤 : Ura M} (𝓛 : Logic 𝓤) (w p : Ptr) (z : Names)
       move ! (1 ∷ []) $ use1 𝓛 (‵ (whole w p z)) (gathers (no_reader t) so refl e) $ nothing ! $ fpack ! (1 ≡ flag true) (λ _. ftrue) refl $ fjoin ! $ fpack ! Bool (left_one 1) true $ move ! (1 ∷ 0 ∷ []) $ done !
 
   -- the reader leaves, and gives up the places of the bytes that it knows of
-  pub reader_leaves : (head seen i : ℕ) → i ≤ 1 → ⟦ C ⟧ ∗ ⟦ RK half head seen i ⟧ ∗ ⟦ blanks w p z head (seen - head) ⟧ ⊢ access 0 one Left
-  reader_leaves head seen i le = let Z : Pr = ex 𝓤 (Holding 0 one Left) in let G : Fml = blanks w p z head (seen - head) in
-      inside 𝓛 w p z 0 one Left (⟦ RK half head seen i ⟧ ∗ ⟦ G ⟧) (qed 𝓛 (‵ I ∷ ‵ (RK half head seen i) ∷ ‵ G ∷ []) ∵
+  pub reader_leaves : (head seen i : ℕ) → i ≤ 1 → ⟦ C ⟧ ∗ ⟦ RK half head seen i ⟧ ∗ ⟦ blanks w p z head (seen - head) ⟧ ∗ ⟦ lease z.life true ⟧ ⊢ access 0 one Left
+  reader_leaves head seen i le = let Z : Pr = ex 𝓤 (Holding 0 one Left) in let G : Fml = blanks w p z head (seen - head) in let E : Fml = lease z.life true in
+      inside 𝓛 w p z 0 one Left (⟦ RK half head seen i ⟧ ∗ ⟦ G ⟧ ∗ ⟦ E ⟧) (qed 𝓛 (‵ I ∷ ‵ (RK half head seen i) ∷ ‵ G ∷ ‵ E ∷ []) ∵
       use2 𝓛 (some (λ (s : State). given (ReaderSees 𝓛 w p z head seen i s) (‵ (RK half head seen i) ⊛ ‵ (RK other s.head s.seen s.reader_stage) ⊛ ‵ (WK other s.sent s.limit s.shut s.writer_stage) ⊛ ‵ (Rest 𝓛 w p z s)))) (reader_opens 𝓛 w p z half head seen i le) $ pick ! (λ s. learn ! (λ so. split3 ! $
       let eh = so.1 in let es = so.2 in let ei = so.3 in let last = so.0.stages.1 in let closing = so.0.closing in let n : ℕ = flag (gone s.writer_stage) in
       let so' : Holds cap (no_reader s) = record { known = so.0.known; arrived = so.0.arrived; written = so.0.written; freed = so.0.freed; closing = omega arith; shutting = so.0.shutting; stages = (omega arith, last) } in
       fsplit ! $ fsplit ! $ move ! (3 ∷ []) $ fsplit ! $ fsplit ! $ move ! (4 ∷ 1 ∷ []) $
       use2 𝓛 (raw (upd 𝓤 (⟦ latest numbers half z.reader_stage 2 ⟧ ∗ ⟦ latest numbers other z.reader_stage 2 ⟧))) (raise 𝓛 w p z numbers z.reader_stage i s.reader_stage 2 2 ei refl (omega arith)) $
       settle 𝓛 Z (‵ (latest numbers half z.reader_stage 2) ⊛ ‵ (latest numbers other z.reader_stage 2)) $ suffices ! _ (upd_i 𝓤 Z) $ split ! $ forget ! $
-      move ! (1 ∷ 0 ∷ []) $ fjoin ! $ move ! (0 ∷ 1 ∷ []) $ fjoin ! $ keep ! (0 ∷ 3 ∷ 4 ∷ []) $ move ! (1 ∷ []) $ split ! $ move ! (1 ∷ []) $ fsplit ! $ move ! (1 ∷ []) $ fsplit ! $ fsplit3 ! $ move ! (2 ∷ []) $ fsplit ! $ move ! (1 ∷ []) $
+      move ! (1 ∷ 0 ∷ []) $ fjoin ! $ move ! (0 ∷ 1 ∷ []) $ fjoin ! $ keep ! (0 ∷ 3 ∷ 4 ∷ 5 ∷ []) $ move ! (1 ∷ []) $ split ! $ move ! (1 ∷ []) $ fsplit ! $ move ! (1 ∷ []) $ fsplit ! $ fsplit3 ! $ move ! (2 ∷ []) $ fsplit ! $ move ! (1 ∷ []) $
       rewrite ! 0 (λ (c : Bool). ‵ (word w 0 (one_gone c (gone s.writer_stage)))) {x = false} {y = gone s.reader_stage} (here s.reader_stage (omega arith)) refl $
       show ! (Holding 0 one Left) n $ frame ! $ assume ! (‵ (word w 0 1)) $ suffices ! _ (upd_i 𝓤 (⟦ I ⟧ ∗ ⟦ Left n ⟧)) $
-      move ! (1 ∷ 0 ∷ []) $ fjoin ! $ move ! (1 ∷ 2 ∷ 0 ∷ []) $ fjoin3 ! $ move ! (1 ∷ []) $ fsplit ! $ move ! (1 ∷ []) $ fsplit3 ! $ move ! (8 ∷ []) $
+      move ! (1 ∷ 0 ∷ []) $ fjoin ! $ move ! (1 ∷ 2 ∷ 0 ∷ []) $ fjoin3 ! $ move ! (1 ∷ []) $ fsplit ! $ move ! (1 ∷ []) $ fsplit3 ! $ move ! (2 ∷ []) $ fsplit ! $ move ! (1 ∷ []) $ fsplit ! $ fsplit ! $ move ! (1 ∷ []) $ fsplit ! $ forget ! $
+      move ! (12 ∷ 0 ∷ []) $ fjoin ! $ move ! (1 ∷ 0 ∷ []) $ fjoin ! $ fjoin ! $ move ! (1 ∷ 0 ∷ []) $ fjoin ! $ move ! (8 ∷ []) $
       rewrite ! 0 (λ (r : ℕ × ℕ). ‵ (blanks w p z r.0 (r.1 - r.0))) {x = (s.head, s.seen)} {y = (head, seen)} (λ j. (eh j, es j)) refl $
-      move ! (0 ∷ 3 ∷ []) $ fjoin ! $ move ! (1 ∷ 0 ∷ []) $ fjoin ! $ move ! (2 ∷ 0 ∷ []) $ fjoin ! $ move ! (2 ∷ 0 ∷ []) $ fjoin ! $ keep ! (3 ∷ 4 ∷ 2 ∷ 0 ∷ []) $ by ! (seals s so' (gone s.writer_stage) refl))))
+      fjoin ! $ move ! (1 ∷ 0 ∷ []) $ fjoin ! $ move ! (2 ∷ 0 ∷ []) $ fjoin ! $ move ! (2 ∷ 0 ∷ []) $ fjoin ! $ keep ! (3 ∷ 4 ∷ 2 ∷ 0 ∷ []) $ by ! (seals s so' (gone s.writer_stage) refl))))
 
   -- the ring is closed, and the reader is about to leave
   abbrev pub IsClosing : ℕ → ℕ → Fml
@@ -160,6 +188,7 @@ module _ {M : Type 1} {𝓤 : Ura M} (𝓛 : Logic 𝓤) (w p : Ptr) (z : Names)
       show ! (Holding 136 one (λ _. Then)) (flag s.closed) $ frame ! $ assume ! (‵ (word w 136 1)) $ suffices ! _ (upd_i 𝓤 (⟦ I ⟧ ∗ ⟦ Then ⟧)) $
       fjoin ! $ move ! (1 ∷ 2 ∷ 0 ∷ []) $ fjoin3 ! $ move ! (1 ∷ []) $ fsplit ! $ move ! (1 ∷ []) $ fsplit3 ! $ move ! (1 ∷ []) $
       rewrite ! 0 (λ (c : Bool). ‵ (where_gone c (blanks w p z s.head (s.seen - s.head)))) {x = false} {y = gone s.reader_stage} (here s.reader_stage (omega arith)) refl $
+      rewrite ! 2 (λ (c : Bool). ‵ (fsep (where_gone (gone s.writer_stage) (blanks w p z (length s.sent) (s.limit - length s.sent))) (fsep (fsep (titles w p z) (leases w p z c (gone s.writer_stage))) (slots w p z)))) {x = false} {y = gone s.reader_stage} (here s.reader_stage (omega arith)) refl $
       move ! (1 ∷ 0 ∷ 2 ∷ []) $ fjoin3 ! $ move ! (1 ∷ 0 ∷ []) $ fjoin ! $ move ! (1 ∷ 0 ∷ []) $ fjoin ! $ move ! (3 ∷ []) $ use1 𝓛 (‵ (ends w p z true) ⊛ ‵ (raised z.closed true)) (latest_shows numbers 𝓛 full_share z.closed 1 1 (omega arith)) $ split ! $ move ! (0 ∷ 2 ∷ []) $ fjoin ! $ move ! (4 ∷ 2 ∷ 0 ∷ []) $ use3 𝓛 (‵ I) (closes 𝓛 w p z s' so' near) $ frame ! $ fjoin ! $ done !)))
 
   abbrev no_writer : State → State
@@ -174,19 +203,20 @@ module _ {M : Type 1} {𝓤 : Ura M} (𝓛 : Logic 𝓤) (w p : Ptr) (z : Names)
       move ! (1 ∷ []) $ use1 𝓛 (‵ (whole w p z)) (gathers (no_writer t) so e refl) $ nothing ! $ fpack ! (1 ≡ flag true) (λ _. ftrue) refl $ fjoin ! $ fpack ! Bool (left_one 1) true $ move ! (1 ∷ 0 ∷ []) $ done !
 
   -- the writer leaves, and gives up the places of its room
-  pub writer_leaves : (sent : List ℕ) (limit : ℕ) (shut : Bool) (i : ℕ) → i ≤ 1 → ⟦ C ⟧ ∗ ⟦ WK half sent limit shut i ⟧ ∗ ⟦ blanks w p z (length sent) (limit - length sent) ⟧ ⊢ access 0 one Left
-  writer_leaves sent limit shut i le = let Z : Pr = ex 𝓤 (Holding 0 one Left) in let G : Fml = blanks w p z (length sent) (limit - length sent) in
-      inside 𝓛 w p z 0 one Left (⟦ WK half sent limit shut i ⟧ ∗ ⟦ G ⟧) (qed 𝓛 (‵ I ∷ ‵ (WK half sent limit shut i) ∷ ‵ G ∷ []) ∵
+  pub writer_leaves : (sent : List ℕ) (limit : ℕ) (shut : Bool) (i : ℕ) → i ≤ 1 → ⟦ C ⟧ ∗ ⟦ WK half sent limit shut i ⟧ ∗ ⟦ blanks w p z (length sent) (limit - length sent) ⟧ ∗ ⟦ lease z.life false ⟧ ⊢ access 0 one Left
+  writer_leaves sent limit shut i le = let Z : Pr = ex 𝓤 (Holding 0 one Left) in let G : Fml = blanks w p z (length sent) (limit - length sent) in let E : Fml = lease z.life false in
+      inside 𝓛 w p z 0 one Left (⟦ WK half sent limit shut i ⟧ ∗ ⟦ G ⟧ ∗ ⟦ E ⟧) (qed 𝓛 (‵ I ∷ ‵ (WK half sent limit shut i) ∷ ‵ G ∷ ‵ E ∷ []) ∵
       use2 𝓛 (some (λ (s : State). given (WriterSees 𝓛 w p z sent limit shut i s) (‵ (WK half sent limit shut i) ⊛ ‵ (WK other s.sent s.limit s.shut s.writer_stage) ⊛ ‵ (RK other s.head s.seen s.reader_stage) ⊛ ‵ (Rest 𝓛 w p z s)))) (writer_opens 𝓛 w p z half sent limit shut i le) $ pick ! (λ s. learn ! (λ so. split3 ! $
       let el = so.2 in let ei = so.4 in let last = so.0.stages.0 in let closing = so.0.closing in let n : ℕ = flag (gone s.reader_stage) in
       let so' : Holds cap (no_writer s) = record { known = so.0.known; arrived = so.0.arrived; written = so.0.written; freed = so.0.freed; closing = omega arith; shutting = so.0.shutting; stages = (last, omega arith) } in
       move ! (2 ∷ []) $ split ! $ move ! (2 ∷ []) $ fsplit3 ! $ move ! (5 ∷ []) $ fsplit3 ! $ move ! (5 ∷ 2 ∷ []) $
       use2 𝓛 (raw (upd 𝓤 (⟦ latest numbers half z.writer_stage 2 ⟧ ∗ ⟦ latest numbers other z.writer_stage 2 ⟧))) (raise 𝓛 w p z numbers z.writer_stage i s.writer_stage 2 2 ei refl (omega arith)) $
       settle 𝓛 Z (‵ (latest numbers half z.writer_stage 2) ⊛ ‵ (latest numbers other z.writer_stage 2)) $ suffices ! _ (upd_i 𝓤 Z) $ split ! $ forget ! $
-      move ! (1 ∷ 2 ∷ 0 ∷ []) $ fjoin3 ! $ keep ! (0 ∷ 3 ∷ 4 ∷ 5 ∷ []) $ move ! (2 ∷ []) $ fsplit ! $ move ! (1 ∷ []) $ fsplit ! $ fsplit3 ! $ move ! (2 ∷ []) $ fsplit ! $ move ! (1 ∷ []) $
+      move ! (1 ∷ 2 ∷ 0 ∷ []) $ fjoin3 ! $ keep ! (0 ∷ 3 ∷ 4 ∷ 5 ∷ 6 ∷ []) $ move ! (2 ∷ []) $ fsplit ! $ move ! (1 ∷ []) $ fsplit ! $ fsplit3 ! $ move ! (2 ∷ []) $ fsplit ! $ move ! (1 ∷ []) $
       rewrite ! 0 (λ (m : ℕ). ‵ (word w 0 m)) {x = n} {y = one_gone (gone s.reader_stage) (gone s.writer_stage)} (ap (one_gone (gone s.reader_stage)) (here s.writer_stage (omega arith)) ∙ one_false (gone s.reader_stage)) refl $
       show ! (Holding 0 one Left) n $ frame ! $ assume ! (‵ (word w 0 1)) $ suffices ! _ (upd_i 𝓤 (⟦ I ⟧ ∗ ⟦ Left n ⟧)) $
       rewrite ! 0 (λ (m : ℕ). ‵ (word w 0 m)) {x = one_gone (gone s.reader_stage) true} {y = 1} (sym (one_true (gone s.reader_stage))) refl $
-      move ! (1 ∷ 0 ∷ []) $ fjoin ! $ move ! (1 ∷ 2 ∷ 0 ∷ []) $ fjoin3 ! $ move ! (1 ∷ []) $ fsplit ! $ move ! (1 ∷ []) $ fsplit3 ! $ move ! (2 ∷ []) $ fsplit ! $ move ! (9 ∷ []) $
+      move ! (1 ∷ 0 ∷ []) $ fjoin ! $ move ! (1 ∷ 2 ∷ 0 ∷ []) $ fjoin3 ! $ move ! (1 ∷ []) $ fsplit ! $ move ! (1 ∷ []) $ fsplit3 ! $ move ! (2 ∷ []) $ fsplit ! $ move ! (1 ∷ []) $ fsplit ! $ fsplit ! $ move ! (1 ∷ []) $ fsplit ! $
+      move ! (0 ∷ 13 ∷ []) $ fjoin ! $ move ! (2 ∷ 0 ∷ []) $ fjoin ! $ move ! (0 ∷ 2 ∷ []) $ fjoin ! $ move ! (10 ∷ 0 ∷ []) $
       rewrite ! 0 (λ (r : List ℕ × ℕ). ‵ (blanks w p z (length r.0) (r.1 - length r.0))) {x = (s.sent, s.limit)} {y = (sent, limit)} (λ j. (so.1 j, el j)) refl $
-      move ! (0 ∷ 2 ∷ []) $ fjoin ! $ move ! (2 ∷ 3 ∷ 0 ∷ []) $ fjoin3 ! $ move ! (2 ∷ 0 ∷ []) $ fjoin ! $ move ! (2 ∷ 0 ∷ []) $ fjoin ! $ keep ! (3 ∷ 4 ∷ 2 ∷ 0 ∷ []) $ by ! (writer_seals s so' (gone s.reader_stage) refl))))
+      fjoin ! $ move ! (3 ∷ 4 ∷ 0 ∷ []) $ fjoin3 ! $ move ! (3 ∷ 0 ∷ []) $ fjoin ! $ move ! (3 ∷ 0 ∷ []) $ fjoin ! $ keep ! (4 ∷ 5 ∷ 3 ∷ 0 ∷ []) $ by ! (writer_seals s so' (gone s.reader_stage) refl))))

@@ -78,7 +78,7 @@ module _ {M : Type 1} {𝓤 : Ura M} (𝓛 : Logic 𝓤) (w p : Ptr) (z : Names)
       rewrite ! 0 (λ (r : ℕ × List ℕ). ‵ (run B r.0 r.1)) {x = (seen, xs)} {y = (s.seen, drop s.seen s.sent)} (λ i. (sym es i, pending_is have xs s.sent seen s.seen lh es whole i)) refl $
       move ! (1 ∷ []) $ fsplit3 ! $
       rewrite ! 1 (λ (F : Fml). ‵ F) {x = where_gone (gone s.reader_stage) (blanks w p z s.head (top - s.head))} {y = where_gone (gone s.reader_stage) (blanks w p z s.head (s.seen - s.head))} (not_gone 𝓛 w p z s.reader_stage _ _ (omega arith)) refl $
-      rewrite ! 2 (λ (F : Fml). ‵ (fsep F (deeds w p z))) {x = where_gone (gone s.writer_stage) (blanks w p z top (full - top))} {y = where_gone (gone s.writer_stage) (blanks w p z top (s.limit - top))} (not_gone 𝓛 w p z s.writer_stage _ _ (omega arith)) refl $
+      rewrite ! 2 (λ (F : Fml). ‵ (fsep F (deeds w p z s))) {x = where_gone (gone s.writer_stage) (blanks w p z top (full - top))} {y = where_gone (gone s.writer_stage) (blanks w p z top (s.limit - top))} (not_gone 𝓛 w p z s.writer_stage _ _ (omega arith)) refl $
       fpick ! (λ ys. fsplit ! $ fpick ! (λ ly. forget ! $ rewrite ! 0 (λ (m : ℕ). ‵ (run B m ys)) (sym el) refl $
       nothing ! $ rewrite ! 0 (λ (l : List ℕ). ‵ (run B top l)) {x = drop top s.sent} {y = []} (sym (drop-length s.sent)) refl $
       nothing ! $ nothing ! $ fpack ! (length {A = ℕ} [] ≡ full - full) (λ _. ftrue) (omega arith) $ fjoin ! $ fpack ! (List ℕ) (idle w p z full (full - full)) [] $

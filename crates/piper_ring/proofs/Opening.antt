@@ -9,7 +9,7 @@ use mir.Raw.{raw as bare}
 use denote.RawPtr.Room.{past as beyond, room_cut, room_glue}
 use Rattle.rtrb.proofs.Spans.{ring_out}
 use Rattle.rtrb.proofs.Positions.{position_zero}
-use Rattle.piper_ring.specs.Block.{behind, size_of_block}
+use Rattle.piper_ring.specs.Block.{behind, size_of_block, space_room}
 use Rattle.piper_ring.specs.Shared.{names_of, titles}
 use types.Tokens.{name_new}
 use Rattle.std.specs.Coded.{Coded}
@@ -57,10 +57,22 @@ module _ {M : Type 1} {𝓤 : Ura M} (𝓛 : Logic 𝓤) (w p : Ptr) (cap : ℕ)
       use2 𝓛 (‵ (many (m + n) gap)) (room_glue 𝓛 u m n b gap) $ move ! (1 ∷ []) $ by ! (𝓛.laws.room_cons u (m + n) b here)
 
   abbrev pub Rejoin : Fml
-  Rejoin = fwand (all_rooms w) (froom words_type b o)
+  Rejoin = fwand (fsep (all_rooms w) (space_room w)) (froom words_type b o)
 
-  -- the room of the words is the eight words in use, and what makes it of them again
-  pub words_out : ⟦ froom words_type b o ⟧ ⊢ ⟦ word_room w 8 ⟧ ∗ ⟦ word_room w 208 ⟧ ∗ ⟦ word_room w 136 ⟧ ∗ ⟦ word_room w 0 ⟧ ∗ ⟦ slot_rooms w ⟧ ∗ ⟦ Rejoin ⟧
+  -- the seven words after the head are the space and one more
+  space_out : ⟦ many 7 (8 + o + 8) ⟧ ⊢ ⟦ space_room w ⟧ ∗ ⟦ many 1 (64 + o) ⟧
+  space_out = let at : ℕ = 8 + o + 8 in let same : at ≡ 16 + o = omega arith in
+      qed 𝓛 (‵ (many 7 at) ∷ []) ∵ use1 𝓛 (‵ (many 6 at) ⊛ ‵ (many 1 (beyond u 6 at))) (room_cut 𝓛 u 6 1 b at) $ split ! $
+      rewrite ! 0 (λ (n : ℕ). ‵ (many 6 n)) same refl $ use1 𝓛 (‵ (space_room w)) (𝓛.laws.room-raw (ty_array u 6) b (16 + o)) $ frame ! $
+      rewrite ! 0 (λ (n : ℕ). ‵ (many 1 n)) {x = 64 + o} {y = beyond u 6 at} (beyond_words 6 at ∙ omega arith) refl $ done !
+
+  space_in : ⟦ space_room w ⟧ ∗ ⟦ many 1 (64 + o) ⟧ ⊢ ⟦ many 7 (8 + o + 8) ⟧
+  space_in = let at : ℕ = 8 + o + 8 in let same : 16 + o ≡ at = omega arith in let far : 64 + o ≡ 6 * 8 + at = omega arith in
+      qed 𝓛 (‵ (space_room w) ∷ ‵ (many 1 (64 + o)) ∷ []) ∵ use1 𝓛 (‵ (many 6 (16 + o))) (𝓛.laws.raw-room (ty_array u 6) b (16 + o)) $
+      rewrite ! 0 (λ (n : ℕ). ‵ (many 6 n)) same refl $ rewrite ! 1 (λ (n : ℕ). ‵ (many 1 n)) (far ∙ sym (beyond_words 6 at)) refl $ by ! (room_glue 𝓛 u 6 1 b at)
+
+  -- the room of the words is the eight words in use, the space, and what makes it of them again
+  pub words_out : ⟦ froom words_type b o ⟧ ⊢ ⟦ word_room w 8 ⟧ ∗ ⟦ word_room w 208 ⟧ ∗ ⟦ word_room w 136 ⟧ ∗ ⟦ word_room w 0 ⟧ ∗ ⟦ slot_rooms w ⟧ ∗ ⟦ space_room w ⟧ ∗ ⟦ Rejoin ⟧
   words_out = let first_word : 0 + o ≡ o = omega arith in
       qed 𝓛 (‵ (froom words_type b o) ∷ []) ∵ use1 𝓛 (‵ (many 28 o)) (𝓛.laws.raw-room (ty_array u 28) b o) $ rewrite ! 0 (λ (at : ℕ). ‵ (many 28 at)) (sym first_word) refl $
       use1 𝓛 (‵ (word_room w 0) ⊛ ‵ (many 27 (8 + o)) ⊛ ‵ (many 0 (0 + o + 8))) (apart 0 27 (0 + o) (8 + o) (omega arith)) $ split3 ! $ move ! (1 ∷ []) $
@@ -72,7 +84,8 @@ module _ {M : Type 1} {𝓤 : Ura M} (𝓛 : Logic 𝓤) (w p : Ptr) (cap : ℕ)
       use1 𝓛 (‵ (word_room w 152) ⊛ ‵ (many 2 (208 + o)) ⊛ ‵ (many 6 (152 + o + 8))) (apart 6 2 (152 + o) (208 + o) (omega arith)) $ split3 ! $ move ! (1 ∷ []) $
       use1 𝓛 (‵ (word_room w 208) ⊛ ‵ (many 0 (224 + o)) ⊛ ‵ (many 1 (208 + o + 8))) (apart 1 0 (208 + o) (224 + o) (omega arith)) $ split3 ! $ frame ! $
       move ! (6 ∷ []) $ frame ! $ move ! (12 ∷ []) $ frame ! $ move ! (9 ∷ 7 ∷ []) $ fjoin ! $ move ! (3 ∷ 0 ∷ []) $ fjoin ! $ move ! (4 ∷ 0 ∷ []) $ fjoin ! $ frame ! $
-      assume ! (‵ (all_rooms w)) $ fsplit ! $ fsplit3 ! $ move ! (2 ∷ []) $ fsplit ! $ move ! (4 ∷ []) $ fsplit3 ! $ move ! (2 ∷ []) $ fsplit ! $
+      move ! (7 ∷ []) $ use1 𝓛 (‵ (space_room w) ⊛ ‵ (many 1 (64 + o))) space_out $ split ! $ frame ! $
+      assume ! (‵ (fsep (all_rooms w) (space_room w))) $ fsplit ! $ move ! (1 ∷ 2 ∷ []) $ use2 𝓛 (‵ (many 7 (8 + o + 8))) space_in $ move ! (1 ∷ 2 ∷ 3 ∷ 4 ∷ 5 ∷ 6 ∷ 7 ∷ 8 ∷ 0 ∷ []) $ fsplit ! $ fsplit3 ! $ move ! (2 ∷ []) $ fsplit ! $ move ! (4 ∷ []) $ fsplit3 ! $ move ! (2 ∷ []) $ fsplit ! $
       move ! (7 ∷ 8 ∷ 9 ∷ []) $ use3 𝓛 (‵ (many 2 (208 + o))) (together 1 0 (208 + o) (224 + o) (omega arith)) $
       move ! (4 ∷ 0 ∷ 8 ∷ []) $ use3 𝓛 (‵ (many 9 (152 + o))) (together 6 2 (152 + o) (208 + o) (omega arith)) $
       move ! (3 ∷ 0 ∷ 7 ∷ []) $ use3 𝓛 (‵ (many 10 (144 + o))) (together 0 9 (144 + o) (152 + o) (omega arith)) $
@@ -96,12 +109,12 @@ module _ {M : Type 1} {𝓤 : Ura M} (𝓛 : Logic 𝓤) (w p : Ptr) (cap : ℕ)
   abbrev pub Slotted : Names → Fml
   Slotted z = fsep (fsep (waits_for z true 0 [] false) (wakes_for z false 0 [] false)) (fsep (waits_back z true 0 0 false) (wakes_back z false 0 0 false))
 
-  abbrev pub IsNamed : ℕ → ℕ → Names → Type 0
-  IsNamed mine theirs z = (z.capacity ≡ cap) × (z.reader_place ≡ mine) × (z.writer_place ≡ theirs)
+  abbrev pub IsNamed : ℕ → ℕ → ℕ → Names → Type 0
+  IsNamed mine theirs life z = (z.capacity ≡ cap) × (z.reader_place ≡ mine) × (z.writer_place ≡ theirs) × (z.life ≡ life)
 
-  -- with the names of the reader's place and of the writer's
-  abbrev pub Made : ℕ → ℕ → Names → SProp 𝓤
-  Made mine theirs z = base.Logic.guard 𝓤 (IsNamed mine theirs z) (sep 𝓤 (sem 𝓛 (reader_owns w p z 0 0 [] false)) (sep 𝓤 (sem 𝓛 (writer_owns w p z [] cap false)) (sem 𝓛 (Slotted z))))
+  -- with the names of the reader's place, of the writer's and of the lifetime of their space
+  abbrev pub Made : ℕ → ℕ → ℕ → Names → SProp 𝓤
+  Made mine theirs life z = base.Logic.guard 𝓤 (IsNamed mine theirs life z) (sep 𝓤 (sem 𝓛 (reader_owns w p z 0 0 [] false)) (sep 𝓤 (sem 𝓛 (writer_owns w p z [] cap false)) (sem 𝓛 (Slotted z))))
 
   abbrev O : Order Stream
   O = streams
@@ -135,15 +148,15 @@ module _ {M : Type 1} {𝓤 : Ura M} (𝓛 : Logic 𝓤) (w p : Ptr) (cap : ℕ)
   abbrev pub slot_words : Fml
   slot_words = fsep (word w 144 0) (fsep (word w 152 0) (fsep (word w 72 0) (word w 80 0)))
 
-  abbrev pub Deeds : Fml
-  Deeds = titles w p (names_of cap 0 0 0 0 0 0 0 0 0 0 0 0 0)
+  abbrev pub Deeds : ℕ → Fml
+  Deeds life = titles w p (names_of cap 0 0 0 0 0 0 0 0 0 0 0 0 0 life)
 
   -- the words are 0 and the rights to free are there: an empty ring, all of whose places are the
   -- writer's room
-  pub begins : (mine theirs : ℕ) → InBlock w × (p ≡ behind w) × (size_of_block cap < 2 ^ 63) → ⟦ zero_words ⟧ ∗ ⟦ Deeds ⟧ ∗ ⟦ slot_words ⟧ ⊢ H.⇛ (ex 𝓤 (Made mine theirs))
-  begins mine theirs at = let fresh : State = record { sent = []; limit = cap; head = 0; seen = 0; closed = false; shut = false; reader_stage = 0; writer_stage = 0 } in
+  pub begins : (mine theirs life : ℕ) → InBlock w × (p ≡ behind w) × (size_of_block cap < 2 ^ 63) → ⟦ zero_words ⟧ ∗ ⟦ Deeds life ⟧ ∗ ⟦ slot_words ⟧ ⊢ H.⇛ (ex 𝓤 (Made mine theirs life))
+  begins mine theirs life at = let fresh : State = record { sent = []; limit = cap; head = 0; seen = 0; closed = false; shut = false; reader_stage = 0; writer_stage = 0 } in
       let new : (n : ℕ) → ent 𝓤 (emp 𝓤) (H.⇛ (ex 𝓤 (Begun n))) = starts in
-      qed 𝓛 (‵ zero_words ∷ ‵ Deeds ∷ ‵ slot_words ∷ []) {P = H.⇛ (ex 𝓤 (Made mine theirs))} (updating ! $
+      qed 𝓛 (‵ zero_words ∷ ‵ (Deeds life) ∷ ‵ slot_words ∷ []) {P = H.⇛ (ex 𝓤 (Made mine theirs life))} (updating ! $
       use0 𝓛 (later (some (λ (γ : ℕ). ‵ (latest O full_share γ none)))) (via 𝓤 _ (latest_new O 𝓛 none) (basic 𝓛 _)) $ await ! tt $ pick ! (λ s. use1 𝓛 (‵ (latest O half s none) ⊛ ‵ (latest O other s none)) (cut 𝓛 O s none full_share) $ split ! $
       use0 𝓛 (later (some (λ (γ : ℕ). ‵ (latest numbers half γ cap) ⊛ ‵ (latest numbers other γ cap)))) (starts cap) $ await ! tt $ pick ! (λ l. split ! $
       use0 𝓛 (later (some (λ (γ : ℕ). ‵ (latest numbers half γ 0) ⊛ ‵ (latest numbers other γ 0)))) (starts 0) $ await ! tt $ pick ! (λ i. split ! $
@@ -154,7 +167,7 @@ module _ {M : Type 1} {𝓤 : Ura M} (𝓛 : Logic 𝓤) (w p : Ptr) (cap : ℕ)
       use0 𝓛 (later (some (λ (γ : ℕ). ‵ (latest numbers half γ 0) ⊛ ‵ (latest numbers other γ 0)))) (starts 0) $ await ! tt $ pick ! (λ k. split ! $
       move ! (3 ∷ 0 ∷ []) $ fjoin ! $ move ! (2 ∷ 1 ∷ []) $ fjoin ! $
       use0 𝓛 (later (some (λ (γ : ℕ). ‵ (latest numbers full_share γ 0)))) (via 𝓤 _ (latest_new numbers 𝓛 0) (basic 𝓛 _)) $ await ! tt $ pick ! (λ x.
-      let y : Names = names_of cap s l h k x j i 0 0 0 0 0 0 in let was : Consumed = (0, false) in
+      let y : Names = names_of cap s l h k x j i 0 0 0 0 0 0 0 in let was : Consumed = (0, false) in
       move ! (4 ∷ []) $ fsplit3 ! $ use1 𝓛 (‵ (latest O half s none) ⊛ ‵ (published y none)) (latest_shows O 𝓛 half s none none (reaches_same none)) $ split ! $ move ! (0 ∷ 2 ∷ 3 ∷ []) $ fjoin3 ! $
       move ! (4 ∷ []) $ fsplit ! $ fsplit ! $ use1 𝓛 (‵ (latest numbers half h 0) ⊛ ‵ (took y 0)) (latest_shows numbers 𝓛 half h 0 0 (omega arith)) $ split ! $ move ! (0 ∷ 2 ∷ []) $ fjoin ! $ move ! (0 ∷ 2 ∷ []) $ fjoin ! $
       move ! (1 ∷ []) $ nothing ! $ move ! (1 ∷ 0 ∷ []) $ fjoin ! $ move ! (9 ∷ []) $ fsplit3 ! $ move ! (2 ∷ []) $ fsplit ! $
@@ -162,12 +175,12 @@ module _ {M : Type 1} {𝓤 : Ura M} (𝓛 : Logic 𝓤) (w p : Ptr) (cap : ℕ)
       (slot_new coded_consumed (consumed y) was theirs 72) $ await ! tt $ pick ! (λ d. split3 ! $
       move ! (3 ∷ 4 ∷ 7 ∷ []) $ use3 𝓛 (later (some (λ (γ : ℕ × ℕ). ‵ (slot w 144 γ.0 γ.1 mine coded_stream (published y)) ⊛ ‵ (fobs γ.0 ((code_of Stream coded_stream).code (true, (0, none)))) ⊛ ‵ (fobs γ.1 ((code_of Stream coded_stream).code (false, (0, none)))))))
       (slot_new coded_stream (published y) none mine 144) $ await ! tt $ pick ! (λ a. split3 ! $
-      let z : Names = names_of cap s l h k x j i a.0 a.1 d.0 d.1 mine theirs in let so : Holds cap fresh = record { known = omega arith; arrived = omega arith; written = omega arith; freed = omega arith; closing = omega arith; shutting = omega arith; stages = (omega arith, omega arith) } in
+      let z : Names = names_of cap s l h k x j i a.0 a.1 d.0 d.1 mine theirs life in let so : Holds cap fresh = record { known = omega arith; arrived = omega arith; written = omega arith; freed = omega arith; closing = omega arith; shutting = omega arith; stages = (omega arith, omega arith) } in
       let I : Fml = Inner w p z in let C : Fml = common w p z in
-      move ! (0 ∷ 3 ∷ []) $ fjoin ! $ move ! (11 ∷ 0 ∷ []) $ fjoin ! $ move ! (1 ∷ 2 ∷ []) $ fjoin ! $ move ! (2 ∷ 3 ∷ []) $ fjoin ! $ move ! (1 ∷ 0 ∷ []) $ fjoin ! $ move ! (1 ∷ 4 ∷ 5 ∷ 2 ∷ 6 ∷ 3 ∷ 7 ∷ 0 ∷ []) $
+      move ! (0 ∷ 3 ∷ []) $ fjoin ! $ move ! (11 ∷ 0 ∷ []) $ nothing ! $ nothing ! $ fjoin ! $ move ! (1 ∷ 0 ∷ []) $ fjoin ! $ fjoin ! $ move ! (1 ∷ 2 ∷ []) $ fjoin ! $ move ! (2 ∷ 3 ∷ []) $ fjoin ! $ move ! (1 ∷ 0 ∷ []) $ fjoin ! $ move ! (1 ∷ 4 ∷ 5 ∷ 2 ∷ 6 ∷ 3 ∷ 7 ∷ 0 ∷ []) $
       nothing ! $ fjoin ! $ nothing ! $ fjoin ! $ nothing ! $ nothing ! $ fpack ! (length {A = ℕ} [] ≡ 0 + cap - cap) (λ _. ftrue) (omega arith) $ fjoin ! $ fpack ! (List ℕ) (idle w p z cap (0 + cap - cap)) [] $ fjoin ! $ nothing ! $ fjoin ! $
       move ! (6 ∷ []) $ fsplit3 ! $
       rewrite ! 0 (λ (n : ℕ). ‵ (word w 8 n)) (sym (position_zero cap)) refl $ rewrite ! 1 (λ (n : ℕ). ‵ (word w 208 n)) (sym (position_zero cap)) refl $ fjoin3 ! $ fjoin ! $ move ! (1 ∷ 0 ∷ []) $ fjoin ! $
       move ! (3 ∷ 1 ∷ 0 ∷ []) $ use3 𝓛 (‵ I) (closes 𝓛 w p z fresh so (omega arith)) $ use1 𝓛 (later (‵ (finv I))) (𝓛.invs.inv_new I) $ await ! tt $
       nothing ! $ fpack ! (Placed w p z) (λ _. ftrue) at $ fjoin ! $ use1 𝓛 (‵ C ⊛ ‵ C) (common_twice 𝓛 w p z) $ split ! $ move ! (3 ∷ []) $ fsplit3 ! $ use1 𝓛 (‵ (latest O half s none) ⊛ ‵ (at_least O s none)) (latest_shows O 𝓛 half s none none (reaches_same none)) $ split ! $ move ! (0 ∷ 2 ∷ 3 ∷ []) $ fjoin3 ! $ move ! (2 ∷ 0 ∷ []) $ fjoin ! $ move ! (1 ∷ []) $ nothing ! $ fpack ! (length {A = ℕ} [] ≡ 0) (λ _. ftrue) refl $ fjoin ! $ move ! (3 ∷ 0 ∷ []) $ fjoin ! $ move ! (2 ∷ 0 ∷ []) $ fjoin ! $
-      now ! $ show ! (Made mine theirs) z $ check ! (refl, refl, refl) $ done !))))))))))
+      now ! $ show ! (Made mine theirs life) z $ check ! (refl, refl, refl, refl) $ done !))))))))))

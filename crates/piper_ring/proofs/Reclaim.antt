@@ -49,6 +49,6 @@ module _ {M : Type 1} {𝓤 : Ura M} (𝓛 : Logic 𝓤) (w p : Ptr) (z : Names)
       use1 𝓛 (‵ (run B s.limit (take n ys)) ⊛ ‵ (run B full (drop n ys))) (run_cut 𝓛 B n s.limit full ys (omega arith) (omega arith)) $ split ! $
       rewrite ! 0 (λ (k : ℕ). ‵ (run B k (take n ys))) {x = limit} {y = s.limit} (sym el) refl $ move ! (1 ∷ []) $
       nothing ! $ fpack ! (length (drop n ys) ≡ s.head + z.capacity - full) (λ _. ftrue) (omega arith) $ fjoin ! $ fpack ! (List ℕ) (idle w p z full (s.head + z.capacity - full)) (drop n ys) $ move ! (5 ∷ []) $
-      rewrite ! 0 (λ (F : Fml). ‵ (fsep F (deeds w p z))) {x = where_gone (gone s.writer_stage) (blanks w p z (length s.sent) (full - length s.sent))} {y = where_gone (gone s.writer_stage) (blanks w p z (length s.sent) (s.limit - length s.sent))} (not_gone 𝓛 w p z s.writer_stage _ _ (omega arith)) refl $
+      rewrite ! 0 (λ (F : Fml). ‵ (fsep F (deeds w p z s))) {x = where_gone (gone s.writer_stage) (blanks w p z (length s.sent) (full - length s.sent))} {y = where_gone (gone s.writer_stage) (blanks w p z (length s.sent) (s.limit - length s.sent))} (not_gone 𝓛 w p z s.writer_stage _ _ (omega arith)) refl $
       move ! (5 ∷ 0 ∷ []) $ fjoin ! $ move ! (1 ∷ 0 ∷ []) $ fjoin ! $ move ! (4 ∷ 0 ∷ []) $ fjoin ! $ move ! (4 ∷ 0 ∷ []) $ fjoin ! $ move ! (4 ∷ 0 ∷ []) $ fjoin ! $ move ! (3 ∷ 4 ∷ 0 ∷ []) $ use3 𝓛 (‵ I) (closes 𝓛 w p z s' so' near) $ frame ! $
       let got : length (take n ys) ≡ n = length-take-le n ys (omega arith) in show ! Accepted (take n ys) $ check ! (omega arith) $ done !)))))

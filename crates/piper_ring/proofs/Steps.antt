@@ -203,7 +203,7 @@ module _ {M : Type 1} {𝓤 : Ura M} (𝓛 : Logic 𝓤) (w p : Ptr) (z : Names)
         show ! (Holding 208 (λ _. new) (λ _. Then)) (position_of cap (length s.sent)) $ frame ! $ assume ! (‵ (word w 208 new)) $ suffices ! _ (upd_i 𝓤 (⟦ I ⟧ ∗ ⟦ Then ⟧)) $
         rewrite ! 0 (λ (m : ℕ). ‵ (word w 208 m)) (is ∙ ap (position_of cap) (ap (λ (m : ℕ). m + length xs) es ∙ sym long)) refl $
         move ! (1 ∷ 0 ∷ []) $ fjoin3 ! $ move ! (1 ∷ []) $ fsplit ! $ move ! (1 ∷ []) $ fsplit3 ! $ move ! (2 ∷ []) $
-        rewrite ! 0 (λ (F : Fml). ‵ (fsep F (deeds w p z))) {x = where_gone (gone s.writer_stage) (blanks w p z (length all) (s.limit - length all))} {y = where_gone (gone s.writer_stage) (blanks w p z (length s.sent) (s.limit - length s.sent))} (not_gone s.writer_stage _ _ (omega arith)) refl $
+        rewrite ! 0 (λ (F : Fml). ‵ (fsep F (deeds w p z s))) {x = where_gone (gone s.writer_stage) (blanks w p z (length all) (s.limit - length all))} {y = where_gone (gone s.writer_stage) (blanks w p z (length s.sent) (s.limit - length s.sent))} (not_gone s.writer_stage _ _ (omega arith)) refl $
         move ! (1 ∷ 2 ∷ 0 ∷ []) $ fjoin3 ! $ move ! (1 ∷ 7 ∷ []) $
         use2 𝓛 (‵ (run (byte p cap) s.seen (drop s.seen s.sent ++ xs))) (run_join 𝓛 (byte p cap) (drop s.seen s.sent) xs s.seen (length sent) (omega (arith, length-drop s.seen s.sent))) $
         rewrite ! 0 (λ (l : List ℕ). ‵ (run (byte p cap) s.seen l)) (sym (drop-append-le s.seen s.sent xs arrived)) refl $

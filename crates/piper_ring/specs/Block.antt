@@ -6,6 +6,7 @@ use denote.Builtin.{u64}
 use denote.RawPtr.{Ptr, block_ptr, block_of, count_of}
 use Rattle.std_heap.specs.contracts.GlobalAllocator.TheImpl.{ghosts}
 use Rattle.core.specs.Allocator.{HasLayout, owned_block, array_of}
+use Rattle.lent_space.specs.Space.{room}
 use Rattle.piper_ring.specs.Places.{fact}
 
 -- of cache lines: head, the writer's slot, closed with the reader's slot, and tail, and one word that
@@ -28,6 +29,16 @@ purpose size = array_of u64 (size / 8)
 -- the right to give a block back to the heap, which is the same for each handle of it
 abbrev pub heap_token : Ty → Ptr → Fml
 heap_token = ghosts.dealloc_token (record { memory = record { seal = tt } })
+
+-- between the words head and the writer's slot is a space of six words, for the places of the wakers
+abbrev pub space_words : ℕ
+space_words = 6
+
+abbrev pub space_of : Ptr → Ptr
+space_of w = block_ptr (block_of w) (16 + count_of w)
+
+abbrev pub space_room : Ptr → Fml
+space_room w = room space_words (space_of w)
 
 -- the heap can hand such memory out
 abbrev pub IsClaim : ℕ → Type 0

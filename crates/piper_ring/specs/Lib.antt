@@ -14,3 +14,5 @@ pub mod LendsBuffer
 pub mod Opened
 pub mod SlotViews
 pub mod SlotsView
+pub mod Parts
+pub mod Cells

@@ -133,6 +133,7 @@ pub record IsReadEnd (e : ReadParts) : Type 0 where
       IsPrefix e.seat.have e.heard.bytes
       × Reaches (e.told.bytes, e.told.shut) (e.heard.bytes, e.heard.shut)
       × Reaches (e.saw.bytes, e.saw.shut) (e.heard.bytes, e.heard.shut)
+  pub leased : (e.lease.life ≡ e.seat.names.life) × (e.lease.first ≡ true)
   pub whole :
       (e.seat.head ≤ length e.seat.have)
       × (e.seat.have ≡ take e.seat.head e.seat.have ++ e.known.bytes)

@@ -15,7 +15,9 @@ use Rattle.core.specs.Allocator.{array_of}
 use Rattle.std.specs.Coded.{Coded, code_by, coded×, coded_list, coded_bool}
 use Rattle.rtrb.specs.Fifo.{position_of}
 use Rattle.rtrb.specs.Shared.{run, span}
-use Rattle.piper_ring.specs.Block.{behind, heap_token, purpose, size_of_block}
+use Rattle.token_cell.specs.TokenCell.{right as right_to}
+use Rattle.lent_space.specs.Space.{lease, lender}
+use Rattle.piper_ring.specs.Block.{behind, heap_token, purpose, size_of_block, space_of, space_room, space_words}
 use Rattle.piper_ring.specs.Places.{fact, byte, unset}
 pub use Rattle.piper_ring.specs.Streams.{Stream}
 use Rattle.piper_ring.specs.Streams.{streams}
@@ -47,9 +49,11 @@ pub record Names : Type 0 where
   -- the rights to the places of the two wakers
   pub reader_place : ℕ
   pub writer_place : ℕ
+  -- the lifetime for which the space of these places is lent
+  pub life : ℕ
 
-abbrev pub names_of : (c s l h e o i j a b d f u v : ℕ) → Names
-names_of c s l h e o i j a b d f u v = record {
+abbrev pub names_of : (c s l h e o i j a b d f u v y : ℕ) → Names
+names_of c s l h e o i j a b d f u v y = record {
   capacity = c;
   sent = s;
   limit = l;
@@ -64,6 +68,7 @@ names_of c s l h e o i j a b d f u v = record {
   reader_wakes = f;
   reader_place = u;
   writer_place = v;
+  life = y;
 }
 
 abbrev pub Three : Type 0
@@ -72,15 +77,15 @@ Three = ℕ × (ℕ × ℕ)
 abbrev pub coded_three : Coded Three
 coded_three = coded× coded_ℕ (coded× coded_ℕ coded_ℕ)
 
-abbrev pub of_threes : Three → Three → Three → Three → ℕ × ℕ → Names
+abbrev pub of_threes : Three → Three → Three → Three → Three → Names
 of_threes a b c d e =
-    names_of a.0 a.1.0 a.1.1 b.0 b.1.0 b.1.1 c.0 c.1.0 c.1.1 d.0 d.1.0 d.1.1 e.0 e.1
+    names_of a.0 a.1.0 a.1.1 b.0 b.1.0 b.1.1 c.0 c.1.0 c.1.1 d.0 d.1.0 d.1.1 e.0 e.1.0 e.1.1
 
 abbrev pub names_code : Coded Names
 names_code =
-    code_by ((Three × Three) × ((Three × Three) × (ℕ × ℕ)))
+    code_by ((Three × Three) × ((Three × Three) × Three))
     (coded× (coded× coded_three coded_three)
-    (coded× (coded× coded_three coded_three) (coded× coded_ℕ coded_ℕ)))
+    (coded× (coded× coded_three coded_three) coded_three))
     (λ z. (
       ((z.capacity, (z.sent, z.limit)), (z.head, (z.seen, z.closed))),
       (
@@ -88,7 +93,7 @@ names_code =
           (z.reader_stage, (z.writer_stage, z.reader_waits)),
           (z.writer_wakes, (z.writer_waits, z.reader_wakes)),
         ),
-        (z.reader_place, z.writer_place),
+        (z.reader_place, (z.writer_place, z.life)),
       ),
     ))
     (λ p. of_threes p.0.0 p.0.1 p.1.0.0 p.1.0.1 p.1.1) (λ _. refl)
@@ -252,15 +257,23 @@ module _ (w p : Ptr) (z : Names) where
   abbrev pub block_token : Fml
   block_token = heap_token (purpose (size_of_block z.capacity)) w
 
-  -- what lies between the words, and behind the bytes, and the right to free the block
+  -- the right to free the block, and to the space between its words, which is lent
+  abbrev pub rights : Fml
+  rights = fsep block_token (lender z.life space_words (space_of w))
+
+  -- what lies between the words, and after the bytes, and those rights
   abbrev pub titles : Fml
-  titles = fsep (fwand (fsep (all_rooms w) bytes_room) block_room) block_token
+  titles = fsep (fwand (fsep (fsep (all_rooms w) (space_room w)) bytes_room) block_room) rights
+
+  -- the lease of each end that is gone
+  abbrev pub leases : Bool → Bool → Fml
+  leases r t = fsep (where_gone r (lease z.life true)) (where_gone t (lease z.life false))
 
   abbrev pub slots : Fml
   slots = fsep reader_slot writer_slot
 
-  abbrev pub deeds : Fml
-  deeds = fsep titles slots
+  abbrev pub deeds : State → Fml
+  deeds s = fsep (fsep titles (leases (gone s.reader_stage) (gone s.writer_stage))) slots
 
   -- n places from k on, set or not
   abbrev pub blanks : ℕ → ℕ → Fml
@@ -271,7 +284,7 @@ module _ (w p : Ptr) (z : Names) where
   given_up s =
       fsep (where_gone (gone s.reader_stage) (blanks s.head (s.seen - s.head)))
       (fsep (where_gone (gone s.writer_stage) (blanks (length s.sent) (s.limit - length s.sent)))
-      deeds)
+      (deeds s))
 
   abbrev pub between : State → Fml
   between s =
@@ -333,9 +346,26 @@ module _ (w p : Ptr) (z : Names) where
   abbrev pub writer_lends : List ℕ → ℕ → Bool → Lft → Fml
   writer_lends sent limit shut = beside (said common) (one (λ q. writer_knows q sent limit shut 0))
 
-  -- all of the ring's memory, as the heap gave it, with the right to free it
+  -- the flag of a slot, and where it is 1, the right to the place of the waker that lies there
+  abbrev pub found_left : ℕ → ℕ → Bool → Fml
+  found_left far place b = fsep (word w far (flag b)) (right_to b place b)
+
+  abbrev pub left_in : ℕ → ℕ → Fml
+  left_in far place = fex Bool (found_left far place)
+
+  abbrev pub wakers_left : Fml
+  wakers_left = fsep (left_in 144 z.reader_place) (left_in 72 z.writer_place)
+
+  -- all of the ring's block but for the space that is lent, and the flags of the slots
+  abbrev pub frame : Fml
+  frame = fwand (fsep (space_room w) (fsep (word_room w 144) (word_room w 72))) block_room
+
+  abbrev pub both_leases : Fml
+  both_leases = fsep (lease z.life true) (lease z.life false)
+
+  -- all that both ends had of the block: with both leases the space comes back
   abbrev pub whole : Fml
-  whole = fsep block_room block_token
+  whole = fsep (fsep frame wakers_left) (fsep rights both_leases)
 
   -- what an end gets when it leaves: all, where the other end was gone before
   abbrev pub remains_own : Bool → Fml

@@ -3,6 +3,7 @@ use Rattle.std.specs.Prelude.{◌≡◌, ℕ, Bool, true, false, []}
 use Rattle.token_cell.specs.declared.Token.{Token}
 use Rattle.piper_ring.specs.Shared.{Names, Stream, Consumed}
 use Rattle.piper_ring.specs.Slots.{Waits, Wakes}
+use Rattle.piper_ring.specs.Words.{flag}
 use Rattle.piper_ring.specs.declared.ring.slots.ReaderWaits.{ReaderWaits}
 use Rattle.piper_ring.specs.declared.ring.slots.WriterWakes.{WriterWakes}
 use Rattle.piper_ring.specs.declared.ring.slots.WriterWaits.{WriterWaits}
@@ -42,3 +43,7 @@ LooksFirstBack z s =
 abbrev pub IsTokenOf : ℕ → Bool → Bool → Token → Type 0
 IsTokenOf place there filled right =
     (right.name ≡ place) × (right.there ≡ there) × (right.filled ≡ filled)
+
+-- the number is 1 where a waker is left in the place, and the token is the right to it then
+abbrev pub IsLeft : ℕ → ℕ → Token → Type 0
+IsLeft place n right = (b : Bool) × (n ≡ flag b) × IsTokenOf place b b right

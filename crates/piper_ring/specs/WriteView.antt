@@ -133,6 +133,7 @@ pub record IsWriteEnd (e : WriteParts) : Type 0 where
   pub cached :
       (e.indices.tail ≡ position_of e.indices.capacity (length e.seat.sent))
       × (e.indices.head ≡ position_of e.indices.capacity (e.seat.limit - e.indices.capacity))
+  pub leased : (e.lease.life ≡ e.seat.names.life) × (e.lease.first ≡ false)
   pub lending : e.indices.lent ≡ length e.room.lent.bytes
   pub heard : (e.told.names ≡ e.seat.names) × (e.saw.names ≡ e.seat.names)
   pub closed : e.indices.is_shut ≡ e.seat.shut

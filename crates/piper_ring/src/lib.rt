@@ -5,10 +5,12 @@
 mod ends;
 mod ring;
 
-pub use ends::opening::{open_ring, open_with_slots};
+pub use ends::cells::{LeftWakers, WakerCells};
+pub use ends::opening::{Slotted, open_ring, open_with_slots};
 pub use ends::reader::ReadEnd;
 pub use ends::slots::{ReadRegistrations, WriteRegistrations};
 pub use ends::writer::WriteEnd;
+pub use lent_space::Placed;
 pub use piper_protocol::memory::OutOfMemory;
 pub use ring::claims::Away;
 pub use ring::marks::{LastReadMark, ReadMark, WriteMark};

@@ -3,13 +3,12 @@ ghost use Rattle.std.specs.Prelude.{◌*◌, ◌^◌, ◌<◌, IfErr, IfOk};
 ghost use Rattle.piper_protocol.specs.Reported.{HasFailed};
 ghost use Rattle.piper.specs.Handles.{AreFresh, ArePair, DrawFrom};
 
-use super::{Reader, Slots, Writer};
-use crate::slot::Slot;
-use piper_ring::{OutOfMemory, open_with_slots};
+use super::{Reader, Writer};
+use crate::slots::Slots;
+use piper_ring::{OutOfMemory, Slotted, open_with_slots};
 use rand_core::SeedableRng;
 use rand_pcg::Pcg32;
-use std::alloc::{AllocError, Global};
-use std::sync::Arc;
+use std::alloc::Global;
 
 /// Creates a bounded single-producer single-consumer pipe: a ring of `cap` bytes that can be read
 /// and written by two threads.
@@ -24,27 +23,24 @@ pub fn pipe(alloc: Global, cap: usize, seed: u64) -> Result<(Reader, Writer), Ou
     ensures draws { IfOk result (λ (reader, writer). DrawFrom seed reader writer) }
     ensures refused { IfErr result HasFailed }
 {
-    let (reader, reader_right) = Slot::new();
-    let (writer, writer_right) = Slot::new();
-    let slots = Slots { reader, writer };
-    let slots = Arc::new(alloc, slots).map_err(AllocError::from)?;
-    let reader_slots = Arc::try_clone(&slots)?;
-    let (read_end, write_end, read_slots, write_slots) = open_with_slots(
-        alloc,
-        cap,
-        reader_right,
-        writer_right,
-    )?;
+    let Slotted {
+        reader,
+        writer,
+        read_slots,
+        write_slots,
+        read_cells,
+        write_cells,
+    } = open_with_slots(alloc, cap)?;
     let reader = Reader {
-        end: read_end,
+        end: reader,
         registrations: read_slots,
-        slots: reader_slots,
+        slots: Slots::new(read_cells),
         rng: Pcg32::seed_from_u64(seed),
     };
     let writer = Writer {
-        end: write_end,
+        end: writer,
         registrations: write_slots,
-        slots,
+        slots: Slots::new(write_cells),
         rng: Pcg32::seed_from_u64(seed ^ 1),
     };
     Ok((reader, writer))

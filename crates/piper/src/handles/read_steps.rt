@@ -13,7 +13,7 @@ ghost use Rattle.piper.specs.Ends.{HasAll, IsEnded, ReaderIsUpToDate, ReaderRefr
 
 use super::Reader;
 use crate::finished::FinishedReader;
-use crate::slot::Taken;
+use crate::slots::Taken;
 use futures::task::{Context, Poll, Waker};
 use piper_protocol::memory::OutOfMemory;
 use piper_protocol::read_call::ReadCall;
@@ -105,17 +105,20 @@ impl Reader {
         ensures end { self.new.end ≡ self.old.end }
         ensures rest { SameReaderButWaits self.old self.new }
     {
-        let slot = &self.slots.reader;
-        let held = match self.end.reclaim_waker(&mut self.registrations, &slot.place) {
+        let slots = &self.slots;
+        let held = match self
+            .end
+            .reclaim_waker(&mut self.registrations, &slots.cells)
+        {
             Ok(held) => held,
             Err(away) => {
                 let _pending: Poll<()> = cx.yield_now();
                 return Ok(Some(away));
             }
         };
-        let waker = slot.grant(cx, held)?;
+        let waker = slots.grant(cx, held)?;
         self.end
-            .publish_waker(&mut self.registrations, &slot.place, waker);
+            .publish_waker(&mut self.registrations, &slots.cells, waker);
         Ok(None)
     }
 
@@ -147,7 +150,7 @@ impl Reader {
         if self.end.is_registered(&mut self.registrations) {
             drop(
                 self.end
-                    .reclaim_waker(&mut self.registrations, &self.slots.reader.place),
+                    .reclaim_waker(&mut self.registrations, &self.slots.cells),
             );
         }
     }
@@ -211,8 +214,7 @@ impl Reader {
         ensures end { self.new.end ≡ self.old.end }
         ensures rest { SameReaderButWoke self.old self.new }
     {
-        let place = &self.slots.writer.place;
-        let waker = self.end.take(&mut self.registrations, place);
+        let waker = self.end.take(&mut self.registrations, &self.slots.cells);
         Taken::new(waker)
     }
 
@@ -236,7 +238,8 @@ impl Reader {
             rng: _,
         } = self;
         let call = call.stored_closed();
-        let (last, waker) = end.finish_waking(&mut registrations, &slots.writer.place);
+        let (last, waker, left) = end.finish_waking(&mut registrations, &slots.cells);
+        drop(left);
         let taken = Taken::new(waker);
         (
             call.took_writer(taken.is_found()),

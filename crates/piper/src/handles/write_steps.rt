@@ -12,7 +12,7 @@ ghost use Rattle.piper.specs.Ends.{WriterIsUpToDate, WriterRefreshed, WriterSaw,
 
 use super::Writer;
 use crate::finished::FinishedWriter;
-use crate::slot::Taken;
+use crate::slots::Taken;
 use futures::task::{Context, Poll, Waker};
 use piper_protocol::memory::OutOfMemory;
 use piper_protocol::table::{Action, Found, Purpose, Side, WritePoint};
@@ -111,17 +111,20 @@ impl Writer {
         ensures end { self.new.end ≡ self.old.end }
         ensures rest { SameWriterButWaits self.old self.new }
     {
-        let slot = &self.slots.writer;
-        let held = match self.end.reclaim_waker(&mut self.registrations, &slot.place) {
+        let slots = &self.slots;
+        let held = match self
+            .end
+            .reclaim_waker(&mut self.registrations, &slots.cells)
+        {
             Ok(held) => held,
             Err(away) => {
                 let _pending: Poll<()> = cx.yield_now();
                 return Ok(Some(away));
             }
         };
-        let waker = slot.grant(cx, held)?;
+        let waker = slots.grant(cx, held)?;
         self.end
-            .publish_waker(&mut self.registrations, &slot.place, waker);
+            .publish_waker(&mut self.registrations, &slots.cells, waker);
         Ok(None)
     }
 
@@ -152,7 +155,7 @@ impl Writer {
         if self.end.is_registered(&mut self.registrations) {
             drop(
                 self.end
-                    .reclaim_waker(&mut self.registrations, &self.slots.writer.place),
+                    .reclaim_waker(&mut self.registrations, &self.slots.cells),
             );
         }
     }
@@ -167,7 +170,7 @@ impl Writer {
     {
         let own = self
             .end
-            .reclaim_waker(&mut self.registrations, &self.slots.writer.place);
+            .reclaim_waker(&mut self.registrations, &self.slots.cells);
         let taken = Taken::new(own.unwrap_or(None));
         write_wake(call.took_own(taken.is_found()), taken)
     }
@@ -251,8 +254,7 @@ impl Writer {
         ensures end { self.new.end ≡ self.old.end }
         ensures rest { SameWriterButWoke self.old self.new }
     {
-        let place = &self.slots.reader.place;
-        let waker = self.end.take(&mut self.registrations, place);
+        let waker = self.end.take(&mut self.registrations, &self.slots.cells);
         Taken::new(waker)
     }
 
@@ -277,7 +279,8 @@ impl Writer {
             rng: _,
         } = self;
         let call = call.stored_closed(false);
-        let (last, waker) = end.finish_waking(&mut registrations, &slots.reader.place);
+        let (last, waker, left) = end.finish_waking(&mut registrations, &slots.cells);
+        drop(left);
         let taken = Taken::new(waker);
         (
             call.took_reader(taken.is_found()),

@@ -1,38 +1,49 @@
 //! The ends once they closed the ring and are about to leave. The second one to leave frees the
 //! memory.
-ghost use Rattle.std.specs.Prelude.{◌≡◌, ◌+◌, ◌*◌, ◌<◌, ◌^◌, length, true};
+ghost use Rattle.std.specs.Prelude.{◌≡◌, ◌+◌, ◌*◌, ◌<◌, ◌^◌, length, true, false, IfSome};
+ghost use Rattle.piper_ring.specs.Cells.{AreCellsOf};
 ghost use Rattle.piper_ring.specs.Shared.{flag};
+ghost use Rattle.piper_ring.specs.SlotViews.{IsLeft};
 ghost use Rattle.piper_ring.specs.Stretches.{IsBlankFrom};
 
+use crate::ends::cells::{LeftWakers, WakerCells};
 use crate::ring::memory::block_size;
 use crate::ring::places::Blank;
 use crate::ring::remains::Remains;
 use crate::ring::seats::{ReadSeat, WriteSeat};
+use lent_space::{Lease, Placed};
 use std::alloc::Global;
+use token_cell::{Token, TokenCell};
 
 /// The reader's end, which has closed the ring. The places of the bytes that it knew of go to
 /// whoever frees them.
 pub(crate) struct LeavingReader {
     pub(crate) seat: ReadSeat,
     pub(crate) known: Blank,
+    pub(crate) lease: Lease,
     pub(crate) alloc: Global,
     pub(crate) capacity: usize,
     ghost closed: { seat.leaving ≡ true },
     ghost fits: { capacity ≡ seat.names.capacity },
     ghost placed: { IsBlankFrom seat.at seat.names.capacity seat.head seat.seen known },
+    ghost leased: { (lease.life ≡ seat.names.life) × (lease.first ≡ true) },
 }
 
 impl LeavingReader {
-    /// Leaves, and frees the memory if the writer has left.
-    pub(crate) fn leave(self) {
+    /// Leaves, and frees the memory if the writer has left. With it comes what is left in the places
+    /// of the wakers then, where these are handed over.
+    pub(crate) fn leave<T>(self, cells: Option<&Placed<WakerCells<T>>>) -> LeftWakers<T>
+        requires { IfSome cells (λ c. AreCellsOf self.seat.names c.now) }
+    {
         let LeavingReader {
             seat,
             known,
+            lease,
             alloc,
             capacity,
         } = self;
-        let (found, remains) = seat.leave(known);
-        release(found, remains, alloc, capacity);
+        let (found, remains) = seat.leave(known, lease);
+        release(found, remains, alloc, capacity, cells)
     }
 }
 
@@ -40,37 +51,74 @@ impl LeavingReader {
 pub(crate) struct LeavingWriter {
     pub(crate) seat: WriteSeat,
     pub(crate) room: Blank,
+    pub(crate) lease: Lease,
     pub(crate) alloc: Global,
     pub(crate) capacity: usize,
     ghost closed: { seat.shut ≡ true },
     ghost fits: { capacity ≡ seat.names.capacity },
     ghost placed: { IsBlankFrom seat.at seat.names.capacity (length seat.sent) seat.limit room },
+    ghost leased: { (lease.life ≡ seat.names.life) × (lease.first ≡ false) },
 }
 
 impl LeavingWriter {
-    /// Leaves, and frees the memory if the reader has left.
-    pub(crate) fn leave(self) {
+    /// Leaves, and frees the memory if the reader has left. With it comes what is left in the places
+    /// of the wakers then, where these are handed over.
+    pub(crate) fn leave<T>(self, cells: Option<&Placed<WakerCells<T>>>) -> LeftWakers<T>
+        requires { IfSome cells (λ c. AreCellsOf self.seat.names c.now) }
+    {
         let LeavingWriter {
             seat,
             room,
+            lease,
             alloc,
             capacity,
         } = self;
-        let (found, remains) = seat.leave(room);
-        release(found, remains, alloc, capacity);
+        let (found, remains) = seat.leave(room, lease);
+        release(found, remains, alloc, capacity, cells)
     }
 }
 
-/// Frees what an end got when it left: all of the memory where `found` is 1, else nothing.
-fn release(found: u64, remains: Remains, alloc: Global, capacity: usize)
-    requires { (found ≡ flag remains.last) × (capacity ≡ remains.names.capacity)
+/// Frees what an end got when it left: all of the memory where `found` is 1, else nothing. With it
+/// comes what is left in the places of the wakers: the other end may have registered after this one
+/// looked for it.
+fn release<T>(
+    found: u64,
+    remains: Remains,
+    alloc: Global,
+    capacity: usize,
+    cells: Option<&Placed<WakerCells<T>>>,
+) -> LeftWakers<T>
+    requires remains { (found ≡ flag remains.last) × (capacity ≡ remains.names.capacity)
         × (2 * capacity < 2 ^ 64) }
+    requires cells { IfSome cells (λ c. AreCellsOf remains.names c.now) }
 {
     if found == 0 {
         remains.finish();
-    } else {
-        remains
-            .into_memory()
-            .surrender(&alloc, block_size(capacity));
+        return LeftWakers::none();
     }
+    let (frame, lender, first, second, reader, reader_right, writer, writer_right) =
+        remains.into_parts();
+    let left = match cells {
+        None => LeftWakers::none(),
+        Some(cells) => {
+            let places = cells.get(&first);
+            LeftWakers {
+                reader: take_left(&places.reader, reader, reader_right),
+                writer: take_left(&places.writer, writer, writer_right),
+            }
+        }
+    };
+    let space = lender.take_back(first, second);
+    frame.join(space).surrender(&alloc, block_size(capacity));
+    left
+}
+
+/// What is left in a place, if `lies` is 1.
+fn take_left<T>(place: &TokenCell<Option<T>>, lies: u64, mut right: Token) -> Option<T>
+    requires { IsLeft place.now lies right }
+{
+    if lies == 0 {
+        return None;
+    }
+    Some(place.take(&mut right))
 }

@@ -1,20 +1,25 @@
 //! A ring is opened.
 ghost use Rattle.std.specs.Prelude.{◌≡◌, ℕ, ◌*◌, ◌<◌, ◌^◌, [], true, false, IfErr, IfOk};
 ghost use Rattle.piper_protocol.specs.Reported.{HasFailed};
-ghost use Rattle.piper_ring.specs.Block.{size_of_block};
+ghost use Rattle.lent_space.specs.Space.{Fits};
+ghost use Rattle.piper_ring.specs.Block.{size_of_block, space_of, space_words};
+ghost use Rattle.piper_ring.specs.Cells.{AreCellsOf};
+ghost use Rattle.piper_ring.specs.contracts.ends.cells.WakerCells.{the_row as cells_row};
 ghost use Rattle.piper_ring.specs.Opened.{FreshReadEnd, FreshReadSlots, FreshWriteEnd, FreshWriteSlots};
 
+use crate::ends::cells::WakerCells;
 use crate::ends::reader::{ReadEnd, ReadParts};
 use crate::ends::room::Room;
 use crate::ends::slots::{ReadRegistrations, ReadSlotParts, WriteRegistrations, WriteSlotParts};
 use crate::ends::writer::{WriteEnd, WriteParts};
-use crate::ring::memory::{Memory, block_size};
+use crate::ring::memory::{Memory, Parts, block_size};
 use crate::ring::seats::open;
+use lent_space::{Lease, Lender, Placed};
 use piper_protocol::memory::OutOfMemory;
 use piper_protocol::read_indices::ReadIndices;
 use piper_protocol::write_indices::WriteIndices;
 use std::alloc::{AllocError, Global};
-use token_cell::{Token, TokenCell};
+use token_cell::Token;
 
 /// The two ends of a new ring for `capacity` bytes. Where memory is refused, all that was got is
 /// given back.
@@ -25,36 +30,102 @@ pub fn open_ring(alloc: Global, capacity: usize) -> Result<(ReadEnd, WriteEnd), 
     ensures writer { IfOk result (λ r. FreshWriteEnd capacity r.1) }
     ensures refused { IfErr result HasFailed }
 {
-    let (_, reader_token) = TokenCell::<Option<()>>::empty();
-    let (_, writer_token) = TokenCell::<Option<()>>::empty();
-    let (reader, writer, _, _) = open_with_slots(alloc, capacity, reader_token, writer_token)?;
+    let (parts, space) = claim(&alloc, capacity)?.part(capacity);
+    let (_, lender, first, second) = space.lend();
+    let (_, reader_token, writer_token) = WakerCells::<()>::empty();
+    let (reader, writer, _, _) = open_ends(
+        alloc,
+        capacity,
+        parts,
+        lender,
+        first,
+        second,
+        reader_token,
+        writer_token,
+    );
     Ok((reader, writer))
 }
 
-/// The two ends of a new ring for `capacity` bytes, and what each has of its slots, in which nobody
-/// waits yet. The wakers lie in the places to which `reader_token` and `writer_token` are the
-/// rights: each side's in its own. Where memory is refused, all that was got is given back.
-pub fn open_with_slots(
-    alloc: Global,
-    capacity: usize,
-    reader_token: Token,
-    writer_token: Token,
-) -> Result<(ReadEnd, WriteEnd, ReadRegistrations, WriteRegistrations), OutOfMemory>
+/// The two ends of a new ring for `capacity` bytes, what each has of its slots, in which nobody
+/// waits yet, and for each the places of both sides' wakers. Where memory is refused, all that was
+/// got is given back.
+///
+/// Both places lie between the words of the ring, so they take 48 bytes.
+pub fn open_with_slots<T>(alloc: Global, capacity: usize) -> Result<Slotted<T>, OutOfMemory>
     requires capacity { (0 < capacity) × (2 * capacity < 2 ^ 64) }
-    requires reader_token { (reader_token.there ≡ true) × (reader_token.filled ≡ false) }
-    requires writer_token { (writer_token.there ≡ true) × (writer_token.filled ≡ false) }
-    ensures pair { IfOk result (λ r. r.1.ring ≡ r.0.ring) }
-    ensures reader { IfOk result (λ r. FreshReadEnd capacity r.0) }
-    ensures writer { IfOk result (λ r. FreshWriteEnd capacity r.1) }
-    ensures read_slots { IfOk result (λ r. FreshReadSlots r.0.ring.names r.2) }
-    ensures write_slots { IfOk result (λ r. FreshWriteSlots r.0.ring.names r.3) }
-    ensures places { IfOk result (λ r. (r.0.ring.names.reader_place ≡ reader_token.name)
-        × (r.0.ring.names.writer_place ≡ writer_token.name)) }
+    requires fits { Fits space_words (cells_row T.row) }
+    ensures pair { IfOk result (λ r. r.writer.ring ≡ r.reader.ring) }
+    ensures reader { IfOk result (λ r. FreshReadEnd capacity r.reader) }
+    ensures writer { IfOk result (λ r. FreshWriteEnd capacity r.writer) }
+    ensures read_slots { IfOk result (λ r. FreshReadSlots r.reader.ring.names r.read_slots) }
+    ensures write_slots { IfOk result (λ r. FreshWriteSlots r.reader.ring.names r.write_slots) }
+    ensures cells { IfOk result (λ r. AreCellsOf r.reader.ring.names r.read_cells
+        × (r.write_cells ≡ r.read_cells)) }
     ensures refused { IfErr result HasFailed }
 {
-    let block = claim(&alloc, capacity)?;
+    let (parts, space) = claim(&alloc, capacity)?.part(capacity);
+    let (space, lender, first, second) = space.lend();
+    let (cells, reader_token, writer_token) = WakerCells::empty();
+    let (read_cells, first) = space.place(first, cells);
+    let (reader, writer, read_slots, write_slots) = open_ends(
+        alloc,
+        capacity,
+        parts,
+        lender,
+        first,
+        second,
+        reader_token,
+        writer_token,
+    );
+    let write_cells = read_cells.again();
+    Ok(Slotted {
+        reader,
+        writer,
+        read_slots,
+        write_slots,
+        read_cells,
+        write_cells,
+    })
+}
+
+/// A new ring whose sides can wait.
+pub struct Slotted<T> {
+    pub reader: ReadEnd,
+    pub writer: WriteEnd,
+    pub read_slots: ReadRegistrations,
+    pub write_slots: WriteRegistrations,
+    pub read_cells: Placed<WakerCells<T>>,
+    pub write_cells: Placed<WakerCells<T>>,
+}
+
+// The two ends of a new ring in this block, and what each has of its slots.
+fn open_ends(
+    alloc: Global,
+    capacity: usize,
+    parts: Parts,
+    lender: Lender,
+    first: Lease,
+    second: Lease,
+    reader_token: Token,
+    writer_token: Token,
+) -> (ReadEnd, WriteEnd, ReadRegistrations, WriteRegistrations)
+    requires capacity { (0 < capacity) × (2 * capacity < 2 ^ 64) × (parts.capacity ≡ capacity) }
+    requires lender { (lender.start ≡ space_of parts.start) × (lender.words ≡ space_words) }
+    requires leases { (first.life ≡ lender.life) × (first.first ≡ true)
+        × (second.life ≡ lender.life) × (second.first ≡ false) }
+    requires reader_token { (reader_token.there ≡ true) × (reader_token.filled ≡ false) }
+    requires writer_token { (writer_token.there ≡ true) × (writer_token.filled ≡ false) }
+    ensures pair { result.1.ring ≡ result.0.ring }
+    ensures reader { FreshReadEnd capacity result.0 }
+    ensures writer { FreshWriteEnd capacity result.1 }
+    ensures read_slots { FreshReadSlots result.0.ring.names result.2 }
+    ensures write_slots { FreshWriteSlots result.0.ring.names result.3 }
+    ensures places { (result.0.ring.names.reader_place ≡ reader_token.name)
+        × (result.0.ring.names.writer_place ≡ writer_token.name)
+        × (result.0.ring.names.life ≡ lender.life) }
+{
     let (read_seat, write_seat, mut blank, reader_waits, writer_wakes, writer_waits, reader_wakes) =
-        open(block, capacity, &reader_token, &writer_token);
+        open(parts, lender, &reader_token, &writer_token);
     let told_reader = write_seat.mark();
     let told_writer = read_seat.mark();
     let read_saw = told_reader.again();
@@ -81,6 +152,7 @@ pub fn open_with_slots(
         told: told_reader,
         saw: read_saw,
         heard,
+        lease: first,
         alloc,
         indices: ReadIndices::new(capacity),
     };
@@ -89,15 +161,16 @@ pub fn open_with_slots(
         room: Room::new(blank, capacity),
         told: told_writer,
         saw: write_saw,
+        lease: second,
         alloc,
         indices: WriteIndices::new(capacity),
     };
-    Ok((
+    (
         ReadEnd { parts: reader },
         WriteEnd { parts: writer },
         ReadRegistrations { parts: read_slots },
         WriteRegistrations { parts: write_slots },
-    ))
+    )
 }
 
 /// No block of the heap has more bytes than `isize::MAX`.

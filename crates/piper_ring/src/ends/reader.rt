@@ -6,6 +6,7 @@ use crate::ends::writer::WriteEnd;
 use crate::ring::marks::{LastReadMark, ReadMark, Saw, WriteMark};
 use crate::ring::places::Places;
 use crate::ring::seats::ReadSeat;
+use lent_space::Lease;
 use piper_protocol::read_indices::ReadIndices;
 use std::alloc::Global;
 use std::marker::Model;
@@ -21,6 +22,8 @@ pub(crate) struct ReadParts {
     pub(crate) saw: WriteMark,
     /// All that it knows of what was published: what it loaded, was reported and saw.
     pub(crate) heard: WriteMark,
+    /// It keeps the space of the wakers' places lent.
+    pub(crate) lease: Lease,
     pub(crate) alloc: Global,
     /// A copy of the head, which only this end stores, and the tail as this end last saw it.
     pub(crate) indices: ReadIndices,
@@ -271,7 +274,8 @@ impl ReadEnd {
     }
 
     /// Closes the pipe and lets this end go. The memory is freed if the writer's end is gone. It
-    /// wakes nobody.
+    /// wakes nobody, and a waker that lies in its place then is forgotten: `finish_waking` hands it
+    /// over.
     ///
     /// The answer is evidence, for the writer's end, that the pipe is closed, and of all that was
     /// ever consumed.
@@ -281,7 +285,7 @@ impl ReadEnd {
     {
         let consumed = self.mark();
         let (leaving, closed) = self.close();
-        leaving.leave();
+        let _none = leaving.leave::<()>(None);
         LastReadMark { consumed, closed }
     }
 
@@ -299,6 +303,7 @@ impl ReadEnd {
             told: _,
             saw: _,
             heard: _,
+            lease,
             alloc,
             indices,
         } = parts;
@@ -306,6 +311,7 @@ impl ReadEnd {
         let leaving = LeavingReader {
             seat,
             known: known.forget(),
+            lease,
             alloc,
             capacity: indices.capacity(),
         };

@@ -5,6 +5,7 @@ use crate::ends::leaving::LeavingWriter;
 use crate::ends::room::Room;
 use crate::ring::marks::{LastReadMark, ReadMark, Saw, WriteMark};
 use crate::ring::seats::WriteSeat;
+use lent_space::Lease;
 use piper_protocol::write_indices::WriteIndices;
 use std::alloc::Global;
 use std::marker::Model;
@@ -16,6 +17,8 @@ pub(crate) struct WriteParts {
     /// What the marks tell that it heeded.
     pub(crate) told: ReadMark,
     pub(crate) saw: Saw,
+    /// It keeps the space of the wakers' places lent.
+    pub(crate) lease: Lease,
     pub(crate) alloc: Global,
     /// A copy of the tail, which only this end stores, and the head as this end last saw it; how
     /// much is lent and set, and whether this end closed the pipe for good.
@@ -288,7 +291,8 @@ impl WriteEnd {
     }
 
     /// Closes the pipe for good and drops this end. The memory is freed if the reader's end is
-    /// gone. It wakes nobody.
+    /// gone. It wakes nobody, and a waker that lies in its place then is forgotten: `finish_waking`
+    /// hands it over.
     ///
     /// The answer is evidence, for the reader's end, of all that was ever published, and that the
     /// pipe is closed after it.
@@ -299,7 +303,7 @@ impl WriteEnd {
     {
         let leaving = self.close();
         let mark = leaving.seat.mark();
-        leaving.leave();
+        let _none = leaving.leave::<()>(None);
         mark
     }
 
@@ -314,6 +318,7 @@ impl WriteEnd {
             room,
             told: _,
             saw: _,
+            lease,
             alloc,
             indices,
         } = parts;
@@ -322,6 +327,7 @@ impl WriteEnd {
         LeavingWriter {
             seat,
             room: room.forget(capacity, indices.zeroed()),
+            lease,
             alloc,
             capacity,
         }

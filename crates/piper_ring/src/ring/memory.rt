@@ -2,8 +2,10 @@
 //! is opened, and once both of its ends are gone.
 ghost use Rattle.std.specs.Prelude.{◌≡◌, ℕ, ◌*◌, ◌<◌, ◌^◌, IfErr, IfOk};
 ghost use Rattle.piper_protocol.specs.Reported.{HasFailed};
-ghost use Rattle.piper_ring.specs.Block.{IsClaim, size_of_block, unused};
+ghost use Rattle.piper_ring.specs.Block.{IsClaim, size_of_block, space_of, space_words, unused};
+ghost use Rattle.piper_ring.specs.Parts.{framed, parted};
 
+use lent_space::Space;
 use piper_protocol::memory::OutOfMemory;
 use std::alloc::{Allocator, Global};
 use std::marker::Model;
@@ -17,6 +19,10 @@ use std::marker::Model;
 pub(crate) const LEFT_WORD: usize = 0;
 
 pub(crate) const HEAD_WORD: usize = 1;
+
+/// Where the space begins in which the places of the wakers lie: six words, between the head and the
+/// writer's slot.
+pub(crate) const SPACE_WORD: usize = 2;
 
 pub(crate) const WRITER_FLAG: usize = 9;
 
@@ -75,5 +81,53 @@ impl Memory {
         let Memory { start } = self;
         // SAFETY: `also_owns` owns the block that `claim` got, and the condition gives its size.
         unsafe { heap.deallocate(start, size, WORD_SIZE) }
+    }
+
+    /// The block in parts: what becomes a ring, and the space between its words.
+    pub(crate) fn part(self, capacity: usize) -> (Parts, Space)
+        requires { self.size ≡ size_of_block capacity }
+        ensures parts { (result.0.start ≡ self.start) × (result.0.capacity ≡ capacity) }
+        ensures space { (result.1.start ≡ space_of self.start) × (result.1.words ≡ space_words) }
+    {
+        let _ = capacity;
+        let Memory { start } = self;
+        let start = start as *mut u64;
+        // SAFETY: the condition says that the block is owned here and has room for 28 words.
+        let space = unsafe { start.add(SPACE_WORD) };
+        (Parts { start }, Space { start: space })
+    }
+}
+
+/// A block's words and bytes, in which nothing lies, without the space between the words.
+pub(crate) struct Parts {
+    pub(crate) start: *mut u64,
+    pub(crate) ghost capacity: { ℕ },
+}
+
+impl Model for Parts {
+    ghost also_owns = { λ p. parted p.capacity p.start };
+}
+
+/// A block in which nothing lies, without the space between its words.
+pub(crate) struct Frame {
+    pub(crate) start: *mut u64,
+    pub(crate) ghost capacity: { ℕ },
+}
+
+impl Model for Frame {
+    ghost also_owns = { λ f. framed f.capacity f.start };
+}
+
+impl Frame {
+    /// The block with its space.
+    pub(crate) fn join(self, space: Space) -> Memory
+        requires { (space.start ≡ space_of self.start) × (space.words ≡ space_words) }
+        ensures { (result.size ≡ size_of_block self.capacity) × (result.size < 2 ^ 63) }
+    {
+        let Frame { start } = self;
+        let Space { start: _ } = space;
+        Memory {
+            start: start as *mut u8,
+        }
     }
 }

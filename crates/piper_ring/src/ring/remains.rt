@@ -1,11 +1,14 @@
 //! What is left of a ring once an end has left it.
 ghost use Rattle.std.specs.Prelude.{◌≡◌, ◌<◌, ◌^◌, Bool, true, false};
 ghost use denote.RawPtr.{Ptr};
-ghost use Rattle.piper_ring.specs.Block.{size_of_block};
+ghost use Rattle.piper_ring.specs.Block.{space_of, space_words};
 ghost use Rattle.piper_ring.specs.Shared.{Names, names_code, remains_own};
+ghost use Rattle.piper_ring.specs.SlotViews.{IsLeft};
 
-use crate::ring::memory::Memory;
-use std::marker::Model;
+use crate::ring::memory::{Frame, READER_FLAG, SPACE_WORD, WRITER_FLAG};
+use lent_space::{Lease, Lender};
+use std::marker::{Model, PhantomData};
+use token_cell::Token;
 
 /// What the end gets that leaves: all of the ring's memory where it is the last, else nothing.
 pub(crate) struct Remains {
@@ -27,14 +30,35 @@ impl Remains {
         let Remains { words: _ } = self;
     }
 
-    /// The memory as the heap gave it.
-    pub(crate) fn into_memory(self) -> Memory
+    /// The block without its space, the right to that, the leases of both ends, and of the reader
+    /// and of the writer whether a waker is left in its place, with the right to it.
+    pub(crate) fn into_parts(self) -> (Frame, Lender, Lease, Lease, u64, Token, u64, Token)
         requires { self.last ≡ true }
-        ensures { (result.size ≡ size_of_block self.names.capacity) × (result.size < 2 ^ 63) }
+        ensures frame { result.0.capacity ≡ self.names.capacity }
+        ensures lender { (result.1.start ≡ space_of result.0.start)
+            × (result.1.words ≡ space_words) }
+        ensures life { (result.1.life ≡ self.names.life) × (result.2.life ≡ self.names.life)
+            × (result.3.life ≡ self.names.life) }
+        ensures leases { (result.2.first ≡ true) × (result.3.first ≡ false) }
+        ensures reader { IsLeft self.names.reader_place result.4 result.5 }
+        ensures writer { IsLeft self.names.writer_place result.6 result.7 }
     {
         let Remains { words } = self;
-        Memory {
-            start: words as *mut u8,
-        }
+        // SAFETY: the condition says that the block is owned here.
+        let space = unsafe { words.add(SPACE_WORD) };
+        // SAFETY: as above.
+        let reader = unsafe { words.add(READER_FLAG).read() };
+        // SAFETY: as above.
+        let writer = unsafe { words.add(WRITER_FLAG).read() };
+        (
+            Frame { start: words },
+            Lender { start: space },
+            Lease { mark: PhantomData },
+            Lease { mark: PhantomData },
+            reader,
+            Token { mark: PhantomData },
+            writer,
+            Token { mark: PhantomData },
+        )
     }
 }

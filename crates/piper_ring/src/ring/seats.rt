@@ -4,18 +4,19 @@ ghost use Rattle.std.specs.Prelude.{◌≡◌, ℕ, ◌+◌, ◌-◌, ◌<◌, �
 ghost use denote.RawPtr.{Ptr};
 ghost use Rattle.rtrb.specs.Fifo.{position_of};
 ghost use Rattle.piper_ring.specs.Shared.{Names, names_code, reader_owns, reader_lends, writer_owns, writer_lends, flag};
-ghost use Rattle.piper_ring.specs.Block.{size_of_block};
+ghost use Rattle.piper_ring.specs.Block.{space_of, space_words};
 ghost use Rattle.piper_ring.specs.Loads.{FoundClosed, FoundConsumed, FoundPublished};
 ghost use Rattle.piper_ring.specs.SlotViews.{IsUnused, LooksFirst, IsUnusedBack, LooksFirstBack};
 
 use crate::ring::marks::{ReadMark, Saw, WriteMark};
 use crate::ring::memory::{
-    CLOSED_WORD, HEAD_WORD, LEFT_WORD, Memory, READER_BACK, READER_FLAG, TAIL_WORD, WORDS_SIZE,
+    CLOSED_WORD, HEAD_WORD, LEFT_WORD, Parts, READER_BACK, READER_FLAG, TAIL_WORD, WORDS_SIZE,
     WRITER_BACK, WRITER_FLAG,
 };
 use crate::ring::places::{Base, Blank, Places};
 use crate::ring::remains::Remains;
 use crate::ring::slots::{ReaderWaits, ReaderWakes, WriterWaits, WriterWakes};
+use lent_space::{Lease, Lender};
 use std::marker::{Brand, Model, PhantomData, Send, Sync};
 use std::sync::atomic::Ordering::SeqCst;
 use std::sync::atomic::raw;
@@ -65,10 +66,10 @@ unsafe impl Sync for WriteSeat {}
 
 /// The two seats of an empty open ring and its places, all of them the writer's room and none of
 /// them set, with what each side knows of the slots, which are empty. The wakers lie in the places
-/// to which these are the rights.
+/// to which these are the rights, in the space of that lender.
 pub(crate) fn open(
-    block: Memory,
-    capacity: usize,
+    parts: Parts,
+    lender: Lender,
     reader_token: &Token,
     writer_token: &Token,
 ) -> (
@@ -80,28 +81,27 @@ pub(crate) fn open(
     WriterWaits,
     ReaderWakes,
 )
-    requires { block.size ≡ size_of_block capacity }
-    ensures ring { (result.0.words ≡ block.start) × (result.0.names.capacity ≡ capacity) }
+    requires { (lender.start ≡ space_of parts.start) × (lender.words ≡ space_words) }
+    ensures ring { (result.0.words ≡ parts.start)
+        × (result.0.names.capacity ≡ parts.capacity) × (result.0.names.life ≡ lender.life) }
     ensures places { (result.0.names.reader_place ≡ reader_token.now.name)
         × (result.0.names.writer_place ≡ writer_token.now.name) }
     ensures reader { (result.0.head ≡ 0) × (result.0.seen ≡ 0) × (result.0.have ≡ [])
         × (result.0.leaving ≡ false) }
     ensures pair { (result.1.words ≡ result.0.words) × (result.1.at ≡ result.0.at)
         × (result.1.names ≡ result.0.names) }
-    ensures writer { (result.1.sent ≡ []) × (result.1.limit ≡ capacity)
+    ensures writer { (result.1.sent ≡ []) × (result.1.limit ≡ parts.capacity)
         × (result.1.shut ≡ false) }
-    ensures room { (result.2.at ≡ result.0.at) × (result.2.capacity ≡ capacity)
-        × (result.2.first ≡ 0) × (result.2.count ≡ capacity) }
+    ensures room { (result.2.at ≡ result.0.at) × (result.2.capacity ≡ parts.capacity)
+        × (result.2.first ≡ 0) × (result.2.count ≡ parts.capacity) }
     ensures reader_waits { IsUnused result.0.names result.3 }
     ensures writer_wakes { LooksFirst result.0.names result.4 }
     ensures writer_waits { IsUnusedBack result.0.names result.5 }
     ensures reader_wakes { LooksFirstBack result.0.names result.6 }
 {
-    let _ = capacity;
-    let Memory { start } = block;
-    let start = start as *mut u64;
-    // SAFETY: the condition says that the block is owned here, is aligned to 8 and has room for 28
-    // words.
+    let Parts { start } = parts;
+    let Lender { start: _ } = lender;
+    // SAFETY: `also_owns` of the parts owns the words, which are aligned to 8.
     unsafe {
         start.add(HEAD_WORD).write(0);
         start.add(TAIL_WORD).write(0);
@@ -231,15 +231,16 @@ impl ReadSeat {
 
     /// The reader leaves, and gives up the places of the bytes that it knows of. The answer is 1 if
     /// the writer had left before.
-    pub(crate) fn leave(self, known: Blank) -> (u64, Remains)
+    pub(crate) fn leave(self, known: Blank, lease: Lease) -> (u64, Remains)
         requires { IsBlankFrom self.at self.names.capacity self.head self.seen known
-            × (self.leaving ≡ true) }
+            × (self.leaving ≡ true) × (lease.life ≡ self.names.life) × (lease.first ≡ true) }
         ensures last { result.0 ≡ flag result.1.last }
         ensures memory { (result.1.words ≡ self.words) × (result.1.at ≡ self.at) }
         ensures ring { result.1.names ≡ self.names }
     {
         let ReadSeat { words } = self;
         let Blank { mark: _ } = known;
+        let Lease { mark: _ } = lease;
         // SAFETY: the seat owns or shares the ring's words (`also_owns`, `also_shares`), which live
         // until the last end is gone.
         let found = unsafe { raw::swap::<Brand>(words.add(LEFT_WORD), 1, SeqCst) };
@@ -367,15 +368,16 @@ impl WriteSeat {
 
     /// The writer leaves, and gives up the places of its room. The answer is 1 if the reader had
     /// left before.
-    pub(crate) fn leave(self, room: Blank) -> (u64, Remains)
+    pub(crate) fn leave(self, room: Blank, lease: Lease) -> (u64, Remains)
         requires { IsBlankFrom self.at self.names.capacity (length self.sent) self.limit room
-            × (self.shut ≡ true) }
+            × (self.shut ≡ true) × (lease.life ≡ self.names.life) × (lease.first ≡ false) }
         ensures last { result.0 ≡ flag result.1.last }
         ensures memory { (result.1.words ≡ self.words) × (result.1.at ≡ self.at) }
         ensures ring { result.1.names ≡ self.names }
     {
         let WriteSeat { words } = self;
         let Blank { mark: _ } = room;
+        let Lease { mark: _ } = lease;
         // SAFETY: the seat owns or shares the ring's words (`also_owns`, `also_shares`), which live
         // until the last end is gone.
         let found = unsafe { raw::swap::<Brand>(words.add(LEFT_WORD), 1, SeqCst) };

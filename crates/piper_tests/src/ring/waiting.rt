@@ -1,37 +1,34 @@
 //! That a side which waits at its slot is found there by the other's next look, with what it left
 //! in its place: held by one thread, and on two threads.
 ghost use Rattle.std.specs.Prelude.{◌≡◌, ◌<◌, ◌^◌, ◌*◌};
-ghost use Rattle.std.specs.Arc.{arc_value};
+ghost use Rattle.piper_ring.specs.Cells.{AreCellsOf};
 
 use crate::pair::same;
 use crate::ring::acts::{receive_due, send, send_due};
-use piper_ring::{ReadEnd, ReadRegistrations, WriteEnd, WriteRegistrations, open_with_slots};
+use piper_ring::{
+    Placed, ReadEnd, ReadRegistrations, Slotted, WakerCells, WriteEnd, WriteRegistrations,
+    open_with_slots,
+};
 use std::alloc::AllocGlobal;
 use std::process::Abort;
 use std::sync::atomic::{AtomicU64, Ordering};
 use std::sync::{Arc, Wait};
 use std::thread;
-use token_cell::TokenCell;
 
 /// The most turns that a reader makes for one wake.
 const MOST_TURNS: u32 = 20_000_000;
 
-/// Where each side leaves a number while it waits.
-#[derive(Drop)]
-struct Places {
-    reader: TokenCell<Option<u64>>,
-    writer: TokenCell<Option<u64>>,
-}
+/// What a side leaves while it waits: a number, and the same again, since a place has two words.
+type Left = (u64, u64);
 
 /// An end that reads, with what it has of the slots.
 #[derive(Drop)]
 struct Reading {
     end: ReadEnd,
     slots: ReadRegistrations,
-    places: Arc<Places>,
+    places: Placed<WakerCells<Left>>,
     ghost of_one_ring: { slots.names ≡ end.ring.names },
-    ghost reader: { (arc_value places).reader ≡ slots.names.reader_place },
-    ghost writer: { (arc_value places).writer ≡ slots.names.writer_place },
+    ghost held: { AreCellsOf slots.names places },
 }
 
 /// An end that writes, with what it has of the slots.
@@ -39,34 +36,32 @@ struct Reading {
 struct Writing {
     end: WriteEnd,
     slots: WriteRegistrations,
-    places: Arc<Places>,
+    places: Placed<WakerCells<Left>>,
     ghost of_one_ring: { slots.names ≡ end.ring.names },
-    ghost reader: { (arc_value places).reader ≡ slots.names.reader_place },
+    ghost held: { AreCellsOf slots.names places },
 }
 
 /// Both ends of a new ring. Ends the test where memory is refused.
 fn both(rt: &(impl Abort + AllocGlobal), capacity: usize) -> (Reading, Writing)
     requires { (0 < capacity) × (2 * capacity < 2 ^ 64) }
 {
-    let (reader, reader_right) = TokenCell::empty();
-    let (writer, writer_right) = TokenCell::empty();
-    let places = Arc::new(rt.alloc(), Places { reader, writer }).expect(rt, "two places");
-    let others = Arc::try_clone(&places).expect(rt, "one more count");
-    let (reader, writer, read_slots, write_slots) = open_with_slots(
-        rt.alloc(),
-        capacity,
-        reader_right,
-        writer_right,
-    ).expect(rt, "a ring");
+    let Slotted {
+        reader,
+        writer,
+        read_slots,
+        write_slots,
+        read_cells,
+        write_cells,
+    } = open_with_slots(rt.alloc(), capacity).expect(rt, "a ring");
     let reading = Reading {
         end: reader,
         slots: read_slots,
-        places,
+        places: read_cells,
     };
     let writing = Writing {
         end: writer,
         slots: write_slots,
-        places: others,
+        places: write_cells,
     };
     (reading, writing)
 }
@@ -75,11 +70,14 @@ impl Reading {
     /// Whether it waits now, with `number` in its place. It is no end to wait where it knows of a
     /// byte.
     fn waits(&mut self, number: u64) -> bool {
-        self.end.knows_none() && self.end.wait(&mut self.slots, &self.places.reader, number)
+        self.end.knows_none()
+            && self
+                .end
+                .wait(&mut self.slots, &self.places, (number, number))
     }
 
     fn wakes(&mut self) -> bool {
-        self.end.wake(&mut self.slots, &self.places.writer)
+        self.end.wake(&mut self.slots, &self.places)
     }
 
     fn sees_the_end(&mut self) -> bool {
@@ -98,7 +96,8 @@ impl Writing {
     /// much, and that.
     fn sends_due(&mut self, sent: usize, most: usize) -> (usize, Option<u64>) {
         let n = send_due(&mut self.end, sent, most);
-        (n, self.end.take(&mut self.slots, &self.places.reader))
+        let left = self.end.take(&mut self.slots, &self.places);
+        (n, left.map(|(number, _)| number))
     }
 }
 
@@ -141,7 +140,7 @@ fn send_all(rt: &impl Wait, mut writing: Writing, total: usize, found: &AtomicU6
         mut slots,
         places,
     } = writing;
-    let (_, taken) = end.finish_waking(&mut slots, &places.reader);
+    let (_, taken, _) = end.finish_waking(&mut slots, &places);
     if taken.is_some() {
         found.fetch_add(1, Ordering::SeqCst);
     }

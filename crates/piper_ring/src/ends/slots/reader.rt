@@ -1,27 +1,38 @@
 //! How the reader's end waits in its slot, and wakes whoever waits in the writer's.
 ghost use Rattle.std.specs.Prelude.{◌≡◌, ◌+◌, ◌<◌, ◌≤◌, ◌⊎◌, ◌++◌, length, None, IsSome, IsOk, IfOk, IfErr, true, false, IsTrue, IsFalse};
 
+use crate::ends::cells::{LeftWakers, WakerCells};
 use crate::ends::reader::ReadEnd;
 use crate::ends::slots::{ReadRegistrations, WriteRegistrations};
 use crate::ends::writer::WriteEnd;
 use crate::ring::claims::Away;
 use crate::ring::marks::LastReadMark;
-use token_cell::TokenCell;
+use lent_space::Placed;
 
 impl ReadEnd {
+    ghost use Rattle.piper_ring.specs.Cells.{AreCellsOf};
     ghost use Rattle.piper_ring.specs.Loads.{CameBack, FoundBack, FoundFlag, FoundWaiter, IsAway, IsUnregistered};
     ghost use Rattle.piper_ring.specs.ReadView.{HasTheRest, KnowsEnd, KnowsMore, SameButSaw};
     ghost use Rattle.piper_ring.specs.Shared.{flag};
     ghost use Rattle.piper_ring.specs.SlotsView.{Registers, HasToDo, IsPending, HasNews, IsReaderAtRest, SameReaderPlace, IsWriterPending, HasRoomNews};
 
+    // The places of both sides' wakers.
+    #[inline(always)]
+    fn cells<'a, T>(&'a self, cells: &'a Placed<WakerCells<T>>) -> &'a WakerCells<T>
+        requires { cells.now.life ≡ self.now.ring.names.life }
+        ensures { result.now ≡ cells.now.value }
+    {
+        cells.get(&self.parts.lease)
+    }
+
     /// Takes its waker back, where it is still registered in this end's slot.
     pub fn cancel<T>(
         &self,
         slots: &mut ReadRegistrations,
-        place: &TokenCell<Option<T>>,
+        cells: &Placed<WakerCells<T>>,
     ) -> Option<T>
         requires ring { slots.old.names ≡ self.now.ring.names }
-        requires place { place.now ≡ slots.old.names.reader_place }
+        requires cells { AreCellsOf slots.old.names cells.now }
         ensures back { IsSome result → slots.old.owns ≡ false }
         ensures owns { IsSome result →
             slots.new ≡ record slots.old { owns = true; maybe_registered = false } }
@@ -35,7 +46,7 @@ impl ReadEnd {
         let claimed = self.parts.seat.claim_waker(&mut parts.waits);
         parts.maybe_registered = false;
         let mut right = claimed?;
-        let waker = place.take(&mut right);
+        let waker = self.cells(cells).reader.take(&mut right);
         parts.right = Some(right);
         Some(waker)
     }
@@ -64,10 +75,10 @@ impl ReadEnd {
     pub fn reclaim_waker<T>(
         &self,
         slots: &mut ReadRegistrations,
-        place: &TokenCell<Option<T>>,
+        cells: &Placed<WakerCells<T>>,
     ) -> Result<Option<T>, Away>
         requires ring { slots.old.names ≡ self.now.ring.names }
-        requires place { place.now ≡ slots.old.names.reader_place }
+        requires cells { AreCellsOf slots.old.names cells.now }
         ensures owns { IfOk result (λ _.
             slots.new ≡ record slots.old { owns = true; maybe_registered = false }) }
         ensures found { IfOk result (λ waker. IsSome waker → slots.old.owns ≡ false) }
@@ -80,7 +91,7 @@ impl ReadEnd {
         if self.reclaim(slots) {
             return Ok(None);
         }
-        match self.cancel(slots, place) {
+        match self.cancel(slots, cells) {
             Some(waker) => Ok(Some(waker)),
             None => Err(Away),
         }
@@ -109,11 +120,11 @@ impl ReadEnd {
     pub fn publish_waker<T>(
         &self,
         slots: &mut ReadRegistrations,
-        place: &TokenCell<Option<T>>,
+        cells: &Placed<WakerCells<T>>,
         waker: T,
     )
         requires ring { slots.old.names ≡ self.now.ring.names }
-        requires place { place.now ≡ slots.old.names.reader_place }
+        requires cells { AreCellsOf slots.old.names cells.now }
         requires owned { slots.old.owns ≡ true }
         ensures { Registers slots.old slots.new }
     {
@@ -121,7 +132,7 @@ impl ReadEnd {
         let Some(mut right) = parts.right.take() else {
             unreachable!()
         };
-        place.put(&mut right, waker);
+        self.cells(cells).reader.put(&mut right, waker);
         parts.maybe_registered = true;
         parts.heard = self.parts.seat.publish_waker(&mut parts.waits, right);
     }
@@ -132,20 +143,20 @@ impl ReadEnd {
     pub fn register<T>(
         &self,
         slots: &mut ReadRegistrations,
-        place: &TokenCell<Option<T>>,
+        cells: &Placed<WakerCells<T>>,
         waker: T,
     ) -> Result<Option<T>, T>
         requires ring { slots.old.names ≡ self.now.ring.names }
-        requires place { place.now ≡ slots.old.names.reader_place }
+        requires cells { AreCellsOf slots.old.names cells.now }
         ensures registered { IfOk result (λ _. Registers slots.old slots.new) }
         ensures away { IfErr result (λ _. (slots.old.owns ≡ false) × IsAway slots.old.names) }
         ensures refused { IfErr result (λ _.
             slots.new ≡ record slots.old { maybe_registered = false }) }
     {
-        let Ok(before) = self.reclaim_waker(slots, place) else {
+        let Ok(before) = self.reclaim_waker(slots, cells) else {
             return Err(waker);
         };
-        self.publish_waker(slots, place, waker);
+        self.publish_waker(slots, cells, waker);
         Ok(before)
     }
 
@@ -185,11 +196,11 @@ impl ReadEnd {
     pub fn wait<T: Drop>(
         &mut self,
         slots: &mut ReadRegistrations,
-        place: &TokenCell<Option<T>>,
+        cells: &Placed<WakerCells<T>>,
         waker: T,
     ) -> bool
         requires ring { slots.old.names ≡ self.old.ring.names }
-        requires place { place.now ≡ slots.old.names.reader_place }
+        requires cells { AreCellsOf slots.old.names cells.now }
         requires none { length self.old.known ≡ 0 }
         ensures pending { IsTrue result → IsPending self.new slots.new }
         ensures ticket { IsTrue result → slots.new.tickets ≡ slots.old.tickets + 1 }
@@ -198,7 +209,7 @@ impl ReadEnd {
         ensures names { slots.new.names ≡ slots.old.names }
         ensures end { (self.new.ring ≡ self.old.ring) × (self.new.taken ≡ self.old.taken) }
     {
-        if self.register(slots, place, waker).is_err() {
+        if self.register(slots, cells, waker).is_err() {
             return false;
         }
         self.reload_after(slots);
@@ -221,23 +232,28 @@ impl ReadEnd {
 
     /// After all that this end consumed, takes the writer's ticket where it is registered in its
     /// slot. Returns the waker that it put there, and its place is handed back.
-    pub fn take<T>(&self, slots: &mut ReadRegistrations, place: &TokenCell<Option<T>>) -> Option<T>
+    pub fn take<T>(&self, slots: &mut ReadRegistrations, cells: &Placed<WakerCells<T>>) -> Option<T>
         requires ring { slots.old.names ≡ self.now.ring.names }
-        requires place { place.now ≡ slots.old.names.writer_place }
+        requires cells { AreCellsOf slots.old.names cells.now }
         ensures rests { IsReaderAtRest self.now slots.new }
         ensures none { result ≡ None → slots.new.taken ≡ slots.old.taken }
         ensures some { IsSome result → slots.old.taken < slots.new.taken }
         ensures own { SameReaderPlace slots.old slots.new }
     {
         let seat = &self.parts.seat;
+        let place = &self.cells(cells).writer;
         seat.take(&mut slots.parts.wakes, &seat.unseen(), place)
     }
 
     /// Checks after all that this end consumed whether the writer is registered in its slot, and
     /// takes its ticket if so. Returns whether it was.
-    pub fn wake<T: Drop>(&self, slots: &mut ReadRegistrations, place: &TokenCell<Option<T>>) -> bool
+    pub fn wake<T: Drop>(
+        &self,
+        slots: &mut ReadRegistrations,
+        cells: &Placed<WakerCells<T>>,
+    ) -> bool
         requires ring { slots.old.names ≡ self.now.ring.names }
-        requires place { place.now ≡ slots.old.names.writer_place }
+        requires cells { AreCellsOf slots.old.names cells.now }
         ensures rests { IsReaderAtRest self.now slots.new }
         ensures none { IsFalse result → slots.new.taken ≡ slots.old.taken }
         ensures some { IsTrue result → slots.old.taken < slots.new.taken }
@@ -246,17 +262,18 @@ impl ReadEnd {
         if self.nobody_waits(slots) {
             return false;
         }
-        self.take(slots, place).is_some()
+        self.take(slots, cells).is_some()
     }
 
-    /// `finish`, and `take` after its close.
+    /// `finish`, and `take` after its close. With it comes what was left in the places, if the other
+    /// end has left.
     pub fn finish_waking<T>(
         self,
         slots: &mut ReadRegistrations,
-        place: &TokenCell<Option<T>>,
-    ) -> (LastReadMark, Option<T>)
+        cells: &Placed<WakerCells<T>>,
+    ) -> (LastReadMark, Option<T>, LeftWakers<T>)
         requires ring { slots.old.names ≡ self.ring.names }
-        requires place { place.now ≡ slots.old.names.writer_place }
+        requires cells { AreCellsOf slots.old.names cells.now }
         ensures ring { result.0.consumed.names ≡ self.ring.names }
         ensures count { result.0.consumed.count ≡ length self.taken }
         ensures looked { (slots.new.count ≡ length self.taken) × (slots.new.over ≡ true) }
@@ -267,9 +284,10 @@ impl ReadEnd {
     {
         let consumed = self.mark();
         let (leaving, closed) = self.close();
+        let place = &cells.get(&leaving.lease).writer;
         let taken = leaving.seat.take(&mut slots.parts.wakes, &closed, place);
-        leaving.leave();
-        (LastReadMark { consumed, closed }, taken)
+        let left = leaving.leave(Some(cells));
+        (LastReadMark { consumed, closed }, taken, left)
     }
 
     /// One thread holds both ends: for each that waits, and since whose registration the other

@@ -1,26 +1,37 @@
 //! How the writer's end waits in its slot, and wakes whoever waits in the reader's.
 ghost use Rattle.std.specs.Prelude.{◌≡◌, ◌+◌, ◌<◌, ◌≤◌, ◌⊎◌, length, None, IsSome, IsOk, IfOk, IfErr, true, false, IsTrue, IsFalse};
 
+use crate::ends::cells::{LeftWakers, WakerCells};
 use crate::ends::slots::{ReadRegistrations, WriteRegistrations};
 use crate::ends::writer::WriteEnd;
 use crate::ring::claims::Away;
 use crate::ring::marks::WriteMark;
-use token_cell::TokenCell;
+use lent_space::Placed;
 
 impl WriteEnd {
+    ghost use Rattle.piper_ring.specs.Cells.{AreCellsOf};
     ghost use Rattle.piper_ring.specs.Loads.{CameBack, FoundBack, FoundFlag, FoundWaiter, IsAway, IsUnregistered};
     ghost use Rattle.piper_ring.specs.Shared.{flag};
     ghost use Rattle.piper_ring.specs.WriteView.{HasMoreRoom, SameButSaw};
     ghost use Rattle.piper_ring.specs.SlotsView.{WriterRegisters, WriterHasToDo, IsWriterPending, IsAtRest, SameWriterPlace, HasRoomNews};
 
+    // The places of both sides' wakers.
+    #[inline(always)]
+    fn cells<'a, T>(&'a self, cells: &'a Placed<WakerCells<T>>) -> &'a WakerCells<T>
+        requires { cells.now.life ≡ self.now.ring.names.life }
+        ensures { result.now ≡ cells.now.value }
+    {
+        cells.get(&self.parts.lease)
+    }
+
     /// Takes its waker back, where it is still registered in this end's slot.
     pub fn cancel<T>(
         &self,
         slots: &mut WriteRegistrations,
-        place: &TokenCell<Option<T>>,
+        cells: &Placed<WakerCells<T>>,
     ) -> Option<T>
         requires ring { slots.old.names ≡ self.now.ring.names }
-        requires place { place.now ≡ slots.old.names.writer_place }
+        requires cells { AreCellsOf slots.old.names cells.now }
         ensures back { IsSome result → slots.old.owns ≡ false }
         ensures owns { IsSome result →
             slots.new ≡ record slots.old { owns = true; maybe_registered = false } }
@@ -34,7 +45,7 @@ impl WriteEnd {
         let claimed = self.parts.seat.claim_waker(&mut parts.waits);
         parts.maybe_registered = false;
         let mut right = claimed?;
-        let waker = place.take(&mut right);
+        let waker = self.cells(cells).writer.take(&mut right);
         parts.right = Some(right);
         Some(waker)
     }
@@ -63,10 +74,10 @@ impl WriteEnd {
     pub fn reclaim_waker<T>(
         &self,
         slots: &mut WriteRegistrations,
-        place: &TokenCell<Option<T>>,
+        cells: &Placed<WakerCells<T>>,
     ) -> Result<Option<T>, Away>
         requires ring { slots.old.names ≡ self.now.ring.names }
-        requires place { place.now ≡ slots.old.names.writer_place }
+        requires cells { AreCellsOf slots.old.names cells.now }
         ensures owns { IfOk result (λ _.
             slots.new ≡ record slots.old { owns = true; maybe_registered = false }) }
         ensures found { IfOk result (λ waker. IsSome waker → slots.old.owns ≡ false) }
@@ -79,7 +90,7 @@ impl WriteEnd {
         if self.reclaim(slots) {
             return Ok(None);
         }
-        match self.cancel(slots, place) {
+        match self.cancel(slots, cells) {
             Some(waker) => Ok(Some(waker)),
             None => Err(Away),
         }
@@ -108,11 +119,11 @@ impl WriteEnd {
     pub fn publish_waker<T>(
         &self,
         slots: &mut WriteRegistrations,
-        place: &TokenCell<Option<T>>,
+        cells: &Placed<WakerCells<T>>,
         waker: T,
     )
         requires ring { slots.old.names ≡ self.now.ring.names }
-        requires place { place.now ≡ slots.old.names.writer_place }
+        requires cells { AreCellsOf slots.old.names cells.now }
         requires owned { slots.old.owns ≡ true }
         ensures { WriterRegisters slots.old slots.new }
     {
@@ -120,7 +131,7 @@ impl WriteEnd {
         let Some(mut right) = parts.right.take() else {
             unreachable!()
         };
-        place.put(&mut right, waker);
+        self.cells(cells).writer.put(&mut right, waker);
         parts.maybe_registered = true;
         let (heard, saw) = self.parts.seat.publish_waker(&mut parts.waits, right);
         parts.heard = heard;
@@ -133,20 +144,20 @@ impl WriteEnd {
     pub fn register<T>(
         &self,
         slots: &mut WriteRegistrations,
-        place: &TokenCell<Option<T>>,
+        cells: &Placed<WakerCells<T>>,
         waker: T,
     ) -> Result<Option<T>, T>
         requires ring { slots.old.names ≡ self.now.ring.names }
-        requires place { place.now ≡ slots.old.names.writer_place }
+        requires cells { AreCellsOf slots.old.names cells.now }
         ensures registered { IfOk result (λ _. WriterRegisters slots.old slots.new) }
         ensures away { IfErr result (λ _. (slots.old.owns ≡ false) × IsAway slots.old.names) }
         ensures refused { IfErr result (λ _.
             slots.new ≡ record slots.old { maybe_registered = false }) }
     {
-        let Ok(before) = self.reclaim_waker(slots, place) else {
+        let Ok(before) = self.reclaim_waker(slots, cells) else {
             return Err(waker);
         };
-        self.publish_waker(slots, place, waker);
+        self.publish_waker(slots, cells, waker);
         Ok(before)
     }
 
@@ -185,11 +196,11 @@ impl WriteEnd {
     pub fn wait<T: Drop>(
         &mut self,
         slots: &mut WriteRegistrations,
-        place: &TokenCell<Option<T>>,
+        cells: &Placed<WakerCells<T>>,
         waker: T,
     ) -> bool
         requires ring { slots.old.names ≡ self.old.ring.names }
-        requires place { place.now ≡ slots.old.names.writer_place }
+        requires cells { AreCellsOf slots.old.names cells.now }
         requires none { self.old.room ≡ 0 }
         requires open { self.old.saw ≡ false }
         ensures pending { IsTrue result → IsWriterPending self.new slots.new }
@@ -199,7 +210,7 @@ impl WriteEnd {
         ensures names { slots.new.names ≡ slots.old.names }
         ensures end { (self.new.ring ≡ self.old.ring) × (self.new.sent ≡ self.old.sent) }
     {
-        if self.register(slots, place, waker).is_err() {
+        if self.register(slots, cells, waker).is_err() {
             return false;
         }
         self.reload_after(slots);
@@ -221,14 +232,19 @@ impl WriteEnd {
 
     /// After all that this end stored, takes the reader's ticket where it is registered in its
     /// slot. Returns the waker that it put there, and its place is handed back.
-    pub fn take<T>(&self, slots: &mut WriteRegistrations, place: &TokenCell<Option<T>>) -> Option<T>
+    pub fn take<T>(
+        &self,
+        slots: &mut WriteRegistrations,
+        cells: &Placed<WakerCells<T>>,
+    ) -> Option<T>
         requires ring { slots.old.names ≡ self.now.ring.names }
-        requires place { place.now ≡ slots.old.names.reader_place }
+        requires cells { AreCellsOf slots.old.names cells.now }
         ensures rests { IsAtRest self.now slots.new }
         ensures none { result ≡ None → slots.new.taken ≡ slots.old.taken }
         ensures some { IsSome result → slots.old.taken < slots.new.taken }
         ensures own { SameWriterPlace slots.old slots.new }
     {
+        let place = &self.cells(cells).reader;
         self.parts.seat.take(&mut slots.parts.wakes, place)
     }
 
@@ -237,10 +253,10 @@ impl WriteEnd {
     pub fn wake<T: Drop>(
         &self,
         slots: &mut WriteRegistrations,
-        place: &TokenCell<Option<T>>,
+        cells: &Placed<WakerCells<T>>,
     ) -> bool
         requires ring { slots.old.names ≡ self.now.ring.names }
-        requires place { place.now ≡ slots.old.names.reader_place }
+        requires cells { AreCellsOf slots.old.names cells.now }
         ensures rests { IsAtRest self.now slots.new }
         ensures none { IsFalse result → slots.new.taken ≡ slots.old.taken }
         ensures some { IsTrue result → slots.old.taken < slots.new.taken }
@@ -249,17 +265,18 @@ impl WriteEnd {
         if self.nobody_waits(slots) {
             return false;
         }
-        self.take(slots, place).is_some()
+        self.take(slots, cells).is_some()
     }
 
-    /// `finish`, and `take` after its close.
+    /// `finish`, and `take` after its close. With it comes what was left in the places, if the other
+    /// end has left.
     pub fn finish_waking<T>(
         self,
         slots: &mut WriteRegistrations,
-        place: &TokenCell<Option<T>>,
-    ) -> (WriteMark, Option<T>)
+        cells: &Placed<WakerCells<T>>,
+    ) -> (WriteMark, Option<T>, LeftWakers<T>)
         requires ring { slots.old.names ≡ self.ring.names }
-        requires place { place.now ≡ slots.old.names.reader_place }
+        requires cells { AreCellsOf slots.old.names cells.now }
         ensures ring { result.0.names ≡ self.ring.names }
         ensures bytes { result.0.bytes ≡ self.sent }
         ensures shut { result.0.shut ≡ true }
@@ -271,9 +288,10 @@ impl WriteEnd {
     {
         let leaving = self.close();
         let mark = leaving.seat.mark();
+        let place = &cells.get(&leaving.lease).reader;
         let taken = leaving.seat.take(&mut slots.parts.wakes, place);
-        leaving.leave();
-        (mark, taken)
+        let left = leaving.leave(Some(cells));
+        (mark, taken, left)
     }
 
     /// With what is left of the reader's slots once its end is gone, and also before: where this

@@ -1,18 +1,20 @@
 -- `open` writes the four words, and puts them under the ring's invariant. Assumes `Logic`.
-use Rattle.piper_ring.proofs.Kit.{arith, all_rooms, fwand, fsep, usize, uint_vals, uint_Tells, vint, w64, ◌<◌, ◌^◌, ◌≡◌, ℕ, true, false, [], ◌∷◌, refl, ap, sym, lit<, Ty, named, Val, vptr, SProp, emp, fst∗, never, ftrue, sem, ‵, raw, ◌⊛◌, some, given, later, await, pick, at_ret, ◌$◌, ◌∵◌, !, qed, by, move, keep, drop, split, split3, join, fsplit, fsplit3, fjoin, fjoin3, fpick, fpack, learn, use0, use1, use2, use3, rewrite, stop, fld, init, lit, of_opd, bin, no_more, and_then, first, blocks, exec, assigns_last, returns, enter, alloc_all, pass_all, free_all, look_at, get, get_in, through, sets, is, env, agg, sub, whole, fact, fact_i, tables, yes, RattleType, owns, types_at, plain, Ptr, block_ptr, null_ptr, ptr_val, in_a_block, RefOf, nothing, alive, Stays, stay_dropped, walk_of, Goes-dropped, owned_block, after as from_on, word-Good, span, proved, leaves, unset, Names, slot_rooms, word_room, heap_token, reader_owns, writer_owns, shr_vals, shr_Tells}
+use Rattle.piper_ring.proofs.Kit.{block_of, count_of, at_block, arith, ◌<◌, ◌^◌, ◌≡◌, ℕ, true, false, [], ◌∷◌, refl, ap, sym, lit<, named, Val, vptr, SProp, emp, ftrue, ‵, raw, ◌⊛◌, some, given, later, await, pick, at_ret, ◌$◌, ◌∵◌, !, qed, by, move, keep, drop, split, split3, join, fsplit, fsplit3, fjoin, fjoin3, fpick, fpack, learn, use0, use1, use2, use3, rewrite, stop, fld, init, lit, of_opd, bin, no_more, and_then, first, blocks, exec, assigns_last, returns, enter, alloc_all, pass_all, free_all, look_at, get, get_in, through, sets, is, env, agg, sub, whole, fact, fact_i, tables, yes, RattleType, owns, types_at, plain, Ptr, block_ptr, ptr_val, RefOf, nothing, alive, Stays, stay_dropped, walk_of, Goes-dropped, after as from_on, word-Good, span, proved, leaves, unset, Names, reader_owns, writer_owns, shr_vals, shr_Tells}
 use types.Run.{assigns}
 use Rattle.piper_ring.specs.Places as P
-use Rattle.piper_ring.proofs.Fields.{seat_val, ghost_val, ReaderWaitsData, reader_waits_made, WriterWakesData, writer_wakes_made, WriterWaitsData, writer_waits_made, ReaderWakesData, reader_wakes_made, seven_val, seven_of, memory_told, ReadData, read_made, WriteData, write_made, BlankData, blank_made}
+use Rattle.piper_ring.proofs.Fields.{seat_val, ghost_val, ReaderWaitsData, reader_waits_made, WriterWakesData, writer_wakes_made, WriterWaitsData, writer_waits_made, ReaderWakesData, reader_wakes_made, seven_val, seven_of, parts_told, lender_told, ReadData, read_made, WriteData, write_made, BlankData, blank_made}
 use Rattle.piper_ring.specs.SlotViews.{IsUnused, LooksFirst, IsUnusedBack, LooksFirstBack}
 use Rattle.piper_ring.specs.contracts.ring.slots.ReaderWaits as ReaderWaits
 use Rattle.piper_ring.specs.contracts.ring.slots.WriterWakes as WriterWakes
 use Rattle.piper_ring.specs.contracts.ring.slots.WriterWaits as WriterWaits
 use Rattle.piper_ring.specs.contracts.ring.slots.ReaderWakes as ReaderWakes
-use Rattle.piper_ring.proofs.Opening.{words_out, Rejoin, as_places, begins, Slotted, IsNamed}
-use Rattle.piper_ring.proofs.Block.{BlockRoom, BytesRoom, WordsRoom, block_cut, remakes}
-use Rattle.piper_ring.specs.Block.{behind, purpose, size_of_block, unused}
+use Rattle.piper_ring.proofs.Opening.{as_places, begins, Slotted, IsNamed}
+use Rattle.lent_space.specs.Space.{lender}
+use Rattle.lent_space.specs.contracts.Lender as Lender
+use Rattle.piper_ring.specs.Block.{behind, size_of_block, space_of}
+use Rattle.piper_ring.specs.Parts.{token_of}
 use Rattle.token_cell.specs.contracts.Token as Token
-use Rattle.piper_ring.specs.contracts.ring.memory.Memory as Memory
+use Rattle.piper_ring.specs.contracts.ring.memory.Parts as Parts
 use Rattle.piper_ring.specs.contracts.ring.places.Blank as Blank
 use Rattle.piper_ring.specs.contracts.ring.seats.ReadSeat as ReadSeat
 use Rattle.piper_ring.specs.contracts.ring.seats.WriteSeat as WriteSeat
@@ -24,21 +26,20 @@ use Rattle.piper_ring.proofs.ring.seats.«open».Code as code
 pub open_spec : {M : Type 1} → statement M
 open_spec 𝓤 𝓛 𝓜 𝓡 wired =
     let H = 𝓛.H in let 𝓣 = tables 𝓤 H 𝓜 𝓡 𝓡.env in let En = ended in let fn = code.function in let c = clauses 𝓛 𝓜.mem 𝓡.returns in
-    let memory = plain (λ _. Memory.the_row) in let number = plain (λ _. usize) in let TRow : RattleType = Token.the_row in let mine = RefOf (0 ∷ []) tt (plain (λ _. TRow)) (λ _. tt) in let theirs = RefOf (1 ∷ []) tt (plain (λ _. TRow)) (λ _. tt) in
+    let memory = plain (λ _. Parts.the_row) in let number = plain (λ _. Lender.the_row) in let TRow : RattleType = Token.the_row in let mine = RefOf (0 ∷ []) tt (plain (λ _. TRow)) (λ _. tt) in let theirs = RefOf (1 ∷ []) tt (plain (λ _. TRow)) (λ _. tt) in
     let hs : Stays En.signature.params En.kept = (stay_dropped memory yes, (stay_dropped number yes, (stay_dropped mine yes, (stay_dropped theirs yes, tt)))) in
     proved 𝓛 En hs c 𝓜 𝓡 (Goes-dropped 𝓛 2 memory yes (λ κs x f. refl), (Goes-dropped 𝓛 2 number yes (λ κs x f. refl), (Goes-dropped 𝓛 2 mine yes (λ κs x f. refl), (Goes-dropped 𝓛 2 theirs yes (λ κs x f. refl), tt)))) #self fn (code.unfolded 𝓤 H 𝓜 𝓡 wired)
-    (λ κs. ((λ m. seat_val m.start ∷ []), (uint_vals w64, (shr_vals, (shr_vals, tt))))) (λ κs. ((λ m vs is. memory_told m.start vs is.0), (uint_Tells w64, (shr_Tells (named 0) κs.0 TRow, (shr_Tells (named 1) κs.1.0 TRow, tt))))) (λ κs qs bounds a gh are.
-    let w₀ : Ptr = a.0.start in let cap : ℕ = a.1.0 in let v₁ : Val = vptr a.1.1.0.ref_ptr.0 a.1.1.0.ref_ptr.1 in let v₂ : Val = vptr a.1.1.1.0.ref_ptr.0 a.1.1.1.0.ref_ptr.1 in let name₁ : ℕ = a.1.1.0.now.name in let name₂ : ℕ = a.1.1.1.0.now.name in let size : ℕ = size_of_block cap in let τ : Ty = purpose size in
-    let y : (walk_of 𝓛 En hs c).Ghost = ((κs, qs, bounds, a, (seat_val w₀ ∷ [], (vint w64 cap ∷ [], (v₁ ∷ [], (v₂ ∷ [], tt))))), gh) in let Post : Val → SProp 𝓤 = (walk_of 𝓛 En hs c).post y in
-    qed 𝓛 ((raw (alive 𝓛 En.signature κs qs) ⊛ ‵ (owns (types_at En.signature.params κs) a y.0.4)) ∷ given (a.0.size ≡ size) (‵ ftrue) ∷ []) ∵
-    keep ! (1 ∷ 0 ∷ []) $ learn ! (λ asked. drop ! $ split ! $ move ! (1 ∷ []) $ fsplit ! $ fsplit ! $ drop ! $
-    rewrite ! 0 (λ (k : ℕ). ‵ (unused k w₀)) asked refl $ fsplit ! $ fpick ! (λ small. drop ! $
-    in_a_block ! w₀ (λ q. owned_block heap_token τ q) (fst∗ 𝓤 (never 𝓤) (sem 𝓛 (heap_token τ null_ptr))) (λ b o at_w. let w : Ptr = block_ptr b o in let p : Ptr = behind w in
-    fsplit ! $ keep ! (0 ∷ 1 ∷ 3 ∷ []) $ use1 𝓛 (‵ (WordsRoom 𝓛 w cap) ⊛ ‵ (BytesRoom 𝓛 w cap) ⊛ ‵ (fwand (fsep (WordsRoom 𝓛 w cap) (BytesRoom 𝓛 w cap)) (BlockRoom 𝓛 w cap))) (block_cut 𝓛 w cap) $ split3 ! $
-    use1 𝓛 (‵ (word_room w 8) ⊛ ‵ (word_room w 208) ⊛ ‵ (word_room w 136) ⊛ ‵ (word_room w 0) ⊛ ‵ (slot_rooms w) ⊛ ‵ (Rejoin 𝓛 w p cap)) (words_out 𝓛 w p cap) $ split3 ! $ move ! (2 ∷ []) $ split3 ! $ move ! (2 ∷ []) $ split ! $
-    move ! (1 ∷ 7 ∷ []) $ use2 𝓛 (‵ (fwand (fsep (all_rooms w) (BytesRoom 𝓛 w cap)) (BlockRoom 𝓛 w cap))) (remakes 𝓛 w cap) $ move ! (1 ∷ []) $ fsplit3 ! $ move ! (2 ∷ []) $ fsplit ! $ move ! (5 ∷ 6 ∷ 4 ∷ 7 ∷ 8 ∷ 2 ∷ 3 ∷ 0 ∷ 1 ∷ []) $
-    enter ! 𝓣.C 𝓣.Λ fn (seat_val w₀ ∷ vint w64 cap ∷ v₁ ∷ v₂ ∷ []) Post $ alloc_all ! (λ l. pass_all ! refl (word-Good [] w₀, ((tt, record { fits = are.1.0.1 }), ((tt, tt), ((tt, tt), tt)))) $ let Ev = env fn.locals l in
-    sets ! (is ! (of_opd ! (get_in ! (fld ! refl (stop !)) (sub ! 0 refl (whole !)))) (ap ptr_val at_w)) refl (tt, tt) $ sets ! (of_opd ! (get ! refl)) refl (tt, tt) $ first ! $ blocks ! $
+    (λ κs. ((λ m. seat_val m.start ∷ []), ((λ m. seat_val m.start ∷ []), (shr_vals, (shr_vals, tt))))) (λ κs. ((λ m vs is. parts_told m.start vs is.0), ((λ m vs is. lender_told m.start vs is.0), (shr_Tells (named 0) κs.0 TRow, (shr_Tells (named 1) κs.1.0 TRow, tt))))) (λ κs qs bounds a gh are.
+    let w₀ : Ptr = a.0.start in let cap : ℕ = a.0.capacity in let d : Lender.the_row.Denot = a.1.0 in let life : ℕ = d.life in let v₁ : Val = vptr a.1.1.0.ref_ptr.0 a.1.1.0.ref_ptr.1 in let v₂ : Val = vptr a.1.1.1.0.ref_ptr.0 a.1.1.1.0.ref_ptr.1 in let name₁ : ℕ = a.1.1.0.now.name in let name₂ : ℕ = a.1.1.1.0.now.name in
+    let y : (walk_of 𝓛 En hs c).Ghost = ((κs, qs, bounds, a, (seat_val w₀ ∷ [], (seat_val d.start ∷ [], (v₁ ∷ [], (v₂ ∷ [], tt))))), gh) in let Post : Val → SProp 𝓤 = (walk_of 𝓛 En hs c).post y in
+    qed 𝓛 ((raw (alive 𝓛 En.signature κs qs) ⊛ ‵ (owns (types_at En.signature.params κs) a y.0.4)) ∷ given ((d.start ≡ space_of w₀) × (d.words ≡ 6)) (‵ ftrue) ∷ []) ∵
+    keep ! (1 ∷ 0 ∷ []) $ learn ! (λ asked. drop ! $ split ! $ move ! (1 ∷ []) $ fsplit3 ! $ fsplit ! $ drop ! $ fsplit3 ! $ fpick ! (λ at. drop ! $
+    let w : Ptr = block_ptr (block_of w₀) (count_of w₀) in let p : Ptr = behind w in let at_w : w₀ ≡ w = at_block w₀ at.0 in let small : size_of_block cap < 2 ^ 63 = at.1 in
+    move ! (1 ∷ []) $ fsplit3 ! $ rewrite ! 2 (λ (q : Ptr). ‵ (token_of cap q)) at_w refl $ move ! (4 ∷ []) $ fsplit ! $ drop ! $
+    rewrite ! 0 (λ (r : Ptr × ℕ). ‵ (lender life r.1 r.0)) {x = (space_of w, 6)} {y = (d.start, d.words)} (λ i. (asked.0 i, asked.1 i)) refl $ move ! (3 ∷ 0 ∷ []) $ fjoin ! $
+    move ! (3 ∷ []) $ fsplit ! $ fsplit3 ! $ move ! (2 ∷ []) $ fsplit ! $ move ! (4 ∷ []) $ fsplit3 ! $ move ! (2 ∷ []) $ fsplit ! $ keep ! (4 ∷ 5 ∷ 10 ∷ 6 ∷ 7 ∷ 2 ∷ 3 ∷ 0 ∷ 1 ∷ 9 ∷ 8 ∷ 12 ∷ []) $
+    enter ! 𝓣.C 𝓣.Λ fn (seat_val w₀ ∷ seat_val d.start ∷ v₁ ∷ v₂ ∷ []) Post $ alloc_all ! (λ l. pass_all ! refl (word-Good [] w₀, (word-Good [] d.start, ((tt, tt), ((tt, tt), tt)))) $ let Ev = env fn.locals l in
+    sets ! (is ! (of_opd ! (get_in ! (fld ! refl (stop !)) (sub ! 0 refl (whole !)))) (ap ptr_val at_w)) refl (tt, tt) $ first ! $ blocks ! $
     sets ! (bin ! (get ! refl) (lit ! tt) tt) refl (tt, tt) $ assigns ! (of_opd ! (lit ! tt)) (through ! refl (stop !)) (init ! 3 refl (tt, record { fits = lit< tt })) $
     sets ! (bin ! (get ! refl) (lit ! tt) tt) refl (tt, tt) $ assigns ! (of_opd ! (lit ! tt)) (through ! refl (stop !)) (init ! 4 refl (tt, record { fits = lit< tt })) $
     sets ! (bin ! (get ! refl) (lit ! tt) tt) refl (tt, tt) $ assigns ! (of_opd ! (lit ! tt)) (through ! refl (stop !)) (init ! 0 refl (tt, record { fits = lit< tt })) $
@@ -47,9 +48,9 @@ open_spec 𝓤 𝓛 𝓜 𝓡 wired =
     sets ! (bin ! (get ! refl) (lit ! tt) tt) refl (tt, tt) $ assigns ! (of_opd ! (lit ! tt)) (through ! refl (stop !)) (init ! 6 refl (tt, record { fits = lit< tt })) $
     sets ! (bin ! (get ! refl) (lit ! tt) tt) refl (tt, tt) $ assigns ! (of_opd ! (lit ! tt)) (through ! refl (stop !)) (init ! 7 refl (tt, record { fits = lit< tt })) $
     sets ! (bin ! (get ! refl) (lit ! tt) tt) refl (tt, tt) $ assigns_last ! (of_opd ! (lit ! tt)) (through ! refl (stop !)) (init ! 8 refl (tt, record { fits = lit< tt })) $
-    exec ! 𝓣.C 𝓣.Λ Ev (from_on 3 fn.body) (at_ret Ev Post) $
+    exec ! 𝓣.C 𝓣.Λ Ev (from_on 2 fn.body) (at_ret Ev Post) $
     fjoin ! $ move ! (2 ∷ 3 ∷ 0 ∷ []) $ fjoin3 ! $ move ! (4 ∷ 5 ∷ []) $ fjoin ! $ move ! (3 ∷ 4 ∷ 0 ∷ []) $ fjoin3 ! $ move ! (2 ∷ 4 ∷ []) $ fjoin ! $ move ! (2 ∷ 0 ∷ 1 ∷ []) $
-    use3 𝓛 (later (some (λ (z : Names). given (IsNamed 𝓛 w p cap name₁ name₂ z) (‵ (reader_owns w p z 0 0 [] false) ⊛ ‵ (writer_owns w p z [] cap false) ⊛ ‵ (Slotted 𝓛 w p cap z))))) (begins 𝓛 w p cap name₁ name₂ (tt, refl, small)) $ await ! tt $ pick ! (λ z. learn ! (λ ez. split3 ! $
+    use3 𝓛 (later (some (λ (z : Names). given (IsNamed 𝓛 w p cap name₁ name₂ life z) (‵ (reader_owns w p z 0 0 [] false) ⊛ ‵ (writer_owns w p z [] cap false) ⊛ ‵ (Slotted 𝓛 w p cap z))))) (begins 𝓛 w p cap name₁ name₂ life (tt, refl, small)) $ await ! tt $ pick ! (λ z. learn ! (λ ez. split3 ! $
     let one : ReadSeat.the_row.Denot = record { words = w; at = p; names = z; head = 0; seen = 0; have = []; leaving = false } in let two : WriteSeat.the_row.Denot = record { words = w; at = p; names = z; sent = []; limit = cap; shut = false } in
     let three : Blank.the_row.Denot = record { mark = record {}; at = p; capacity = cap; first = 0; count = cap } in let v : Val = seat_val w in let small_cap : cap < 2 ^ 63 = omega arith in
     let four : ReaderWaits.the_row.Denot = record { mark = record {}; names = z; owns = true; tickets = 0; bytes = []; shut = false } in let five : WriterWakes.the_row.Denot = record { mark = record {}; names = z; holds = false; taken = 0; bytes = []; shut = false } in
@@ -80,6 +81,6 @@ open_spec 𝓤 𝓛 𝓜 𝓡 wired =
     use0 𝓛 (raw (fact 𝓤 ((w ≡ w) × (p ≡ p) × (z ≡ z)))) (fact_i 𝓤 ((w ≡ w) × (p ≡ p) × (z ≡ z)) (emp 𝓤) (refl, refl, refl)) $ join ! $
     use0 𝓛 (raw (fact 𝓤 ((0 ≡ 0) × (0 ≡ 0) × (one.have ≡ one.have) × (false ≡ false)))) (fact_i 𝓤 ((0 ≡ 0) × (0 ≡ 0) × (one.have ≡ one.have) × (false ≡ false)) (emp 𝓤) (refl, refl, refl, refl)) $ join ! $
     use0 𝓛 (raw (fact 𝓤 ((z.reader_place ≡ name₁) × (z.writer_place ≡ name₂)))) (fact_i 𝓤 ((z.reader_place ≡ name₁) × (z.writer_place ≡ name₂)) (emp 𝓤) (ez.1, ez.2)) $ join ! $
-    use0 𝓛 (raw (fact 𝓤 ((w ≡ w₀) × (z.capacity ≡ cap)))) (fact_i 𝓤 ((w ≡ w₀) × (z.capacity ≡ cap)) (emp 𝓤) (sym at_w, ez.0)) $ join ! $
+    use0 𝓛 (raw (fact 𝓤 ((w ≡ w₀) × (z.capacity ≡ cap) × (z.life ≡ life)))) (fact_i 𝓤 ((w ≡ w₀) × (z.capacity ≡ cap) × (z.life ≡ life)) (emp 𝓤) (sym at_w, ez.0, ez.3)) $ join ! $
     nothing ! $ nothing ! $ fjoin ! $ nothing ! $ fjoin ! $ nothing ! $ fjoin ! $ nothing ! $ fjoin ! $
-    returns ! (look_at ! 0 refl) $ free_all ! refl $ keep ! (3 ∷ 0 ∷ 2 ∷ 1 ∷ []) $ by ! (leaves 𝓛 En hs c y (seven_val v v g g g g g) (one, two, three, four, five, six, seven) (tt, (tt, (tt, (tt, tt)))) (tt, (tt, (tt, (tt, tt))))))))))))
+    returns ! (look_at ! 0 refl) $ free_all ! refl $ keep ! (3 ∷ 0 ∷ 2 ∷ 1 ∷ []) $ by ! (leaves 𝓛 En hs c y (seven_val v v g g g g g) (one, two, three, four, five, six, seven) (tt, (tt, (tt, (tt, tt)))) (tt, (tt, (tt, (tt, tt)))))))))))

@@ -32,6 +32,7 @@ invariant_of-self c = let e = c.self.inside.parts in let i = c.self.invariant in
       cached = (there, tail ∙ i.cached.1 ∙ sym (λ j. position_of (cap j) ((s j).seen)));
       heard = (i.heard.0 ∙ sym (λ j. (s j).names), i.heard.1 ∙ sym (λ j. (s j).names), i.heard.2 ∙ sym (λ j. (s j).names));
       stream = (subst (λ (l : List ℕ). IsPrefix l e.heard.bytes) (sym (λ j. (s j).have)) i.stream.0, i.stream.1, i.stream.2);
+      leased = (i.leased.0 ∙ ap (λ (z : Names). z.life) (sym (λ j. (s j).names)), i.leased.1);
       whole = (omega arith, (λ j. (s j).have) ∙ whole_still e.seat.have K head n i.whole.0 i.whole.1 ∙ sym (λ j. take (top j) ((s j).have) ++ (d.rest j).bytes));
       here = (λ j. (s j).leaving) ∙ i.here;
     }

@@ -14,6 +14,7 @@ invariant_of-self c = let e = c.self.inside.parts in let i = c.self.invariant in
       cached = i.cached;
       heard = (t.ring ∙ i.heard.0, i.heard.1, h.ring ∙ i.heard.2);
       stream = (prefix_trans e.seat.have e.heard.bytes k.bytes i.stream.0 h.kept.0, t.no_more now (reaches_trans told heard now i.stream.1 h.kept) h.heeded, reaches_trans saw heard now i.stream.2 h.kept);
+      leased = i.leased;
       whole = i.whole;
       here = i.here;
     }

@@ -51,6 +51,7 @@ invariant_of-self c = let e = c.self.inside.parts in let i = c.self.invariant in
       cached = (ap (λ (r : ReaderIndices). r.head) after ∙ i.cached.0 ∙ sym (λ j. position_of (cap j) (top j)), ap (λ (r : ReaderIndices). r.tail) after ∙ c.tail.ensures.value ∙ o.cached.0 ∙ (λ j. position_of ((theirs ∙ sym cap) j) (sym seen j)));
       heard = (i.heard.0 ∙ sym (λ j. (s j).names), i.heard.1 ∙ sym (λ j. (s j).names), h.ring ∙ i.heard.2 ∙ sym (λ j. (s j).names));
       stream = (subst (λ (l : List ℕ). IsPrefix l c.heed.new.self.bytes) mark h.heeded.0, reaches_trans told heard now i.stream.1 h.kept, reaches_trans saw heard now i.stream.2 h.kept);
+      leased = (i.leased.0 ∙ ap (λ (z : Names). z.life) (sym (λ j. (s j).names)), i.leased.1);
       whole = (omega arith, have ∙ sym m.published ∙ whole_with_more e.seat.have e.known.bytes more head i.whole.0 i.whole.1 ∙ (λ j. take (sym top j) ((m.published ∙ sym have) j) ++ (sym k j).bytes));
       here = (λ j. (s j).leaving) ∙ i.here;
     }
@@ -79,6 +80,7 @@ invariant_of-other c = let e = c.self.inside.parts in let i = c.self.invariant i
       placed = (o.placed.0 ∙ sym (λ j. (s j).at), o.placed.1 ∙ ap (λ (z : Names). z.capacity) (sym (λ j. (s j).names)), o.placed.2 ∙ sym sent, omega arith);
       freed = (omega arith, omega arith);
       cached = (ap (λ (x : WriterIndices). x.tail) after ∙ o.cached.0 ∙ sym (λ j. position_of (cap j) (sent j)), ap (λ (x : WriterIndices). x.head) after ∙ at ∙ (λ j. position_of (sym cap j) (back j)));
+      leased = (o.leased.0 ∙ ap (λ (z : Names). z.life) (sym (λ j. (s j).names)), o.leased.1);
       lending = ap (λ (x : WriterIndices). x.lent) after ∙ o.lending;
       heard = (o.heard.0 ∙ sym (λ j. (s j).names), o.heard.1 ∙ sym (λ j. (s j).names));
       closed = ap (λ (x : WriterIndices). x.is_shut) after ∙ o.closed ∙ sym (λ j. (s j).shut);

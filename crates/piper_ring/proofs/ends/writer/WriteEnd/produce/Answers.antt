@@ -37,6 +37,7 @@ invariant_of-self c = let e = c.self.inside.parts in let i = c.self.invariant in
       placed = ((λ j. (d.rest j).at) ∙ i.placed.0 ∙ sym (λ j. (t j).at), (λ j. (d.rest j).capacity) ∙ i.placed.1 ∙ ap (λ (z : Names). z.capacity) (sym (λ j. (t j).names)), omega arith, i.placed.3 ∙ sym (λ j. (t j).limit));
       freed = (omega arith, omega arith);
       cached = (further e.indices.capacity _ s n _ c.publishes.ensures.remainder i.cached.0 ∙ sym (λ j. position_of (cap j) (sent j)), head ∙ i.cached.1 ∙ sym (λ j. position_of (cap j) (limit j - cap j)));
+      leased = (i.leased.0 ∙ ap (λ (z : Names). z.life) (sym (λ j. (t j).names)), i.leased.1);
       lending = omega arith;
       heard = (i.heard.0 ∙ sym (λ j. (t j).names), i.heard.1 ∙ sym (λ j. (t j).names));
       closed = ap (λ (w : WriterIndices). w.is_shut) after ∙ i.closed ∙ sym (λ j. (t j).shut);

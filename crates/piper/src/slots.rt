@@ -1,20 +1,19 @@
-//! The place of a side's waker, which two threads share.
+//! How a side waits, and wakes the other.
 ghost use Rattle.std.specs.Prelude.{◌≡◌, ℕ, OnErr, is_some, true, false};
 ghost use Rattle.futures.specs.Task.{Covers, Keeps};
 ghost use Rattle.piper.specs.Contexts.{JustRegistered};
 
 use futures::task::{Context, Poll, Source, Waker};
-use piper_protocol::memory::OutOfMemory;
-use token_cell::{Token, TokenCell};
+use piper_ring::{OutOfMemory, Placed, WakerCells};
 
-/// Where a side waits: the place of its waker, and the source that it waits at. A waker is called
-/// when it lies there no more.
+/// What a side waits with: the places of both sides' wakers, which lie in the ring's block, and the
+/// source that it waits at. A waker is called when it lies in its place no more.
 ///
-/// It doesn't say who waits: the words of the ring's slots do, with which the right to the place
-/// goes from side to side. So only the side that has the right uses the place, and no use waits.
+/// It doesn't say who waits: the words of the ring's slots do, with which the right to a place goes
+/// from side to side. So only the side that has the right uses the place, and no use waits.
 #[derive(Drop)]
-pub(crate) struct Slot {
-    pub(crate) place: TokenCell<Option<Waker>>,
+pub(crate) struct Slots {
+    pub(crate) cells: Placed<WakerCells<Waker>>,
     source: Source,
 }
 
@@ -24,17 +23,15 @@ pub(crate) struct Taken {
     waker: Option<Waker>,
 }
 
-impl Slot {
+impl Slots {
     ghost use Rattle.piper.specs.Slots.{source_of};
 
-    /// An empty slot, and the right to its place.
-    pub(crate) fn new() -> (Slot, Token)
-        ensures { (result.1.name ≡ result.0.place) × (result.1.there ≡ true)
-            × (result.1.filled ≡ false) }
+    /// With a source of its own.
+    pub(crate) fn new(cells: Placed<WakerCells<Waker>>) -> Slots
+        ensures { result.cells ≡ cells }
     {
-        let (place, right) = TokenCell::empty();
         let source = Source::new();
-        (Slot { place, source }, right)
+        Slots { cells, source }
     }
 
     /// A waker of the task that is polled, to be left here. `held` is the waker that was taken out
