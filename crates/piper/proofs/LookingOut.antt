@@ -10,6 +10,7 @@ use Rattle.piper.specs.Drains.{Drains, DrainRounds, EndIsTrue, found_len}
 use Rattle.piper.specs.Like.{Passes}
 use Rattle.piper.specs.Looks.{ReaderLooked}
 use Rattle.piper.specs.Polls.{OnReadyOk}
+use Rattle.piper_ring.proofs.Loaded.{still_loaded}
 use Rattle.piper.specs.declared.error.Inner.{Inner}
 
 -- two looks are one, where the first found no byte
@@ -52,7 +53,7 @@ module _ {S E : Type 0} (takes : Passes S) (is_full : S → Type 0) (fails : S �
       taken = d.taken ∙ ap (λ l. l ++ d.moved) looked.taken;
       known = λ some. ap (λ (v : ReadView). v.known) (sym (looked.known some)) ∙ d.known;
       fresh = λ none.
-          omega (arith, looked.fresh none, d.end.end.told, ap length d.taken, ap length d.known, length-append w.taken w.known, length-append b.taken b.known, length-append w.taken d.moved, length-append d.moved b.known);
+          (omega (arith, (looked.fresh none).0, d.end.end.told, ap length d.taken, ap length d.known, length-append w.taken w.known, length-append b.taken b.known, length-append w.taken d.moved, length-append d.moved b.known), still_loaded w b d.end.end.ring (omega (arith, ap length d.taken, ap length d.known, length-append w.taken w.known, length-append b.taken b.known, length-append w.taken d.moved, length-append d.moved b.known)) (looked.fresh none).1);
       copied = d.copied;
       most = d.most;
       end = record {

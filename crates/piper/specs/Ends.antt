@@ -1,8 +1,8 @@
 -- What a step of a handle changes of its end, and so what it leaves as it was.
 use Rattle.std.specs.Prelude.{◌≡◌, ◌+◌, ◌≤◌, ◌++◌, length, true, []}
 use Rattle.piper_ring.specs.Shared.{flag}
-use Rattle.piper_ring.specs.ReadView.{ReadView, SameReadEnd}
-use Rattle.piper_ring.specs.WriteView.{WriteView, SameWriteEnd}
+use Rattle.piper_ring.specs.ReadView.{HasLoaded, ReadView, SameReadEnd}
+use Rattle.piper_ring.specs.WriteView.{HasLoadedHead, WriteView, SameWriteEnd}
 
 -- the reader, but for the bytes that it knows of
 pub record ReaderRefreshed (a b : ReadView) : Type 0 where
@@ -92,10 +92,12 @@ pub record WriterHeeded (a b : WriteView) : Type 0 where
   pub shut : b.shut ≡ a.shut
   pub saw : b.saw ≡ a.saw
 
--- the reader knows, or knew, of all that it was told of
+-- the reader has loaded the tail, and knows, or knew, of just what was published then: also of all
+-- that it was told of
 abbrev pub ReaderIsUpToDate : ReadView → Type 0
-ReaderIsUpToDate r = r.told ≤ length (r.taken ++ r.known)
+ReaderIsUpToDate r = (r.told ≤ length (r.taken ++ r.known)) × HasLoaded r
 
--- the writer knows, or knew, of all the room that it was told of
+-- the writer has loaded the head, and knows, or knew, of just the room that there was then: also of
+-- all that it was told of
 abbrev pub WriterIsUpToDate : WriteView → Type 0
-WriterIsUpToDate w = w.told + w.capacity ≤ length w.sent + w.room
+WriterIsUpToDate w = (w.told + w.capacity ≤ length w.sent + w.room) × HasLoadedHead w

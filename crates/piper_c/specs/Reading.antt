@@ -2,7 +2,7 @@
 use Rattle.std.specs.Prelude.{◌≡◌, ℕ, ◌<◌, ◌≤◌, ◌++◌, take, drop, Bool, true, false, List, [], ◌⊎◌, length, Option}
 use Rattle.piper_ring.specs.Shared.{flag}
 use Rattle.piper_ring.specs.Loads.{FoundClosed, IsAway}
-use Rattle.piper_ring.specs.ReadView.{ReadView, SameReadEnd, SameButSaw, in_one_piece}
+use Rattle.piper_ring.specs.ReadView.{HasLoaded, ReadView, SameReadEnd, SameButSaw, in_one_piece}
 use Rattle.piper_ring.specs.SlotsView.{ReadSlotsView, IsPending, IsReaderAtRest, SameReaderLooks, SameReaderPlace}
 use Rattle.piper_c.specs.declared.halves.ReadHalf.{ReadHalf}
 use Rattle.piper_c.specs.declared.outcome.Outcome.{Outcome}
@@ -38,11 +38,13 @@ ReaderSaw Pending r = (r.end.known ≡ []) × (r.end.saw ≡ false)
 ReaderSaw Again r = ⊥
 ReaderSaw Refused r = ⊥
 
--- a poll takes no byte, and what it saw of closed it keeps; nobody is taken from the writer's slot
+-- a poll takes no byte, and what it saw of closed it keeps; nobody is taken from the writer's slot.
+-- Where no byte was known it has loaded the tail
 pub record ReaderLooked (a b : ReadHalf) : Type 0 where
   pub end : SameReadEnd a.end b.end
   pub taken : b.end.taken ≡ a.end.taken
   pub known : 0 < length a.end.known → b.end ≡ a.end
+  pub loaded : a.end.known ≡ [] → HasLoaded b.end
   pub saw : flag a.end.saw ≤ flag b.end.saw
   pub looks : SameReaderLooks a.slots b.slots
   pub places : b.places ≡ a.places
@@ -82,12 +84,14 @@ pub record ReaderAsked (is_closed : Bool) (a b : ReadHalf) : Type 0 where
   pub slots : b.slots ≡ a.slots
   pub places : b.places ≡ a.places
 
--- n known bytes were copied to the front of a slice and taken, in order
+-- n known bytes were copied to the front of a slice and taken, in order; where none was known, the
+-- tail was loaded
 pub record ReadsInto (old new : List ℕ) (n : ℕ) (a b : ReadHalf) : Type 0 where
   pub count : n ≤ length old
   pub rest : drop n new ≡ drop n old
   pub taken : b.end.taken ≡ a.end.taken ++ take n new
   pub known : 0 < length a.end.known → take n new ++ b.end.known ≡ a.end.known
+  pub loaded : a.end.known ≡ [] → HasLoaded b.end
   pub none : n ≡ 0 → (old ≡ []) ⊎ (b.end.known ≡ [])
   pub end : SameReadEnd a.end b.end
   pub saw : b.end.saw ≡ a.end.saw

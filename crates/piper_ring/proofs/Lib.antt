@@ -21,3 +21,4 @@ pub mod Opening
 pub mod Taking
 pub mod ReaderFacts
 pub mod WriterFacts
+pub mod Loaded

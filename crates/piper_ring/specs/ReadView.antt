@@ -60,6 +60,10 @@ read_place r = offset_of r.capacity (length r.taken)
 abbrev pub in_one_piece : ReadView → ℕ
 in_one_piece r = min (length r.known) (r.capacity - read_place r)
 
+-- the tail was loaded, and the end knows, or knew, of just the bytes that were published then
+abbrev pub HasLoaded : ReadView → Type 0
+HasLoaded r = FoundPublished r.ring.names (length (r.taken ++ r.known))
+
 -- the end learned from a mark that the pipe is closed, or saw it
 abbrev pub KnowsEnd : ReadView → Type 0
 KnowsEnd r = either r.told_shut r.saw ≡ true

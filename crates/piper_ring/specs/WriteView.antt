@@ -56,6 +56,11 @@ write_view_of e =
 abbrev pub write_place : WriteView → ℕ
 write_place w = offset_of w.capacity (length w.sent)
 
+-- the head was loaded, and the end knows, or knew, of just the room that there was then
+abbrev pub HasLoadedHead : WriteView → Type 0
+HasLoadedHead w =
+    (n : ℕ) × FoundConsumed w.ring.names n × (n + w.capacity ≡ length w.sent + w.room)
+
 -- how many bytes there is room for in one piece
 abbrev pub room_in_one_piece : WriteView → ℕ
 room_in_one_piece w = min w.room (w.capacity - write_place w)

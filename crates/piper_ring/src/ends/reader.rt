@@ -47,7 +47,7 @@ impl Model for ReadEnd {
 }
 
 impl ReadEnd {
-    ghost use Rattle.piper_ring.specs.ReadView.{SameReadEnd, KnowsMore, SameButTold, SameButSaw, MayBeUnread, KnowsEnd, HasTheRest, Agree, in_one_piece};
+    ghost use Rattle.piper_ring.specs.ReadView.{HasLoaded, SameReadEnd, KnowsMore, SameButTold, SameButSaw, MayBeUnread, KnowsEnd, HasTheRest, Agree, in_one_piece};
     ghost use Rattle.piper_ring.specs.WriteView.{HasMoreRoom};
     ghost use Rattle.piper_ring.specs.Loads.{FoundClosed};
     ghost use Rattle.piper_ring.specs.Shared.{flag, ring_of};
@@ -154,6 +154,7 @@ impl ReadEnd {
     pub fn reload(&mut self)
         requires { length self.old.known ≡ 0 }
         ensures fresh { self.old.told ≤ length (self.new.taken ++ self.new.known) }
+        ensures found { HasLoaded self.new }
         ensures end { KnowsEnd self.old → self.new.taken ++ self.new.known ≡ self.new.all }
         ensures kept { KnowsMore self.old self.new }
     {
@@ -165,6 +166,7 @@ impl ReadEnd {
         requires { length self.old.known ≡ 0 }
         ensures heard { length self.old.all ≤ length (self.new.taken ++ self.new.known) }
         ensures fresh { self.old.told ≤ length (self.new.taken ++ self.new.known) }
+        ensures found { HasLoaded self.new }
         ensures end { KnowsEnd self.old → self.new.taken ++ self.new.known ≡ self.new.all }
         ensures kept { KnowsMore self.old self.new }
     {
@@ -191,6 +193,7 @@ impl ReadEnd {
             self.old.told ≤ length (self.new.taken ++ self.new.known) }
         ensures end { self.old.known ≡ [] → KnowsEnd self.old →
             self.new.taken ++ self.new.known ≡ self.new.all }
+        ensures found { self.old.known ≡ [] → HasLoaded self.new }
         ensures known { 0 < length self.old.known → self.new ≡ self.old }
         ensures kept { KnowsMore self.old self.new }
     {

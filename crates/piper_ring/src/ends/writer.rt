@@ -44,7 +44,7 @@ impl Model for WriteEnd {
 
 impl WriteEnd {
     ghost use Rattle.piper_ring.specs.Loads.{FoundClosed};
-    ghost use Rattle.piper_ring.specs.WriteView.{SameWriteEnd, HasMoreRoom, SameButTold, SameButSaw, SameButHeard, MayBeUnread, Lendable};
+    ghost use Rattle.piper_ring.specs.WriteView.{HasLoadedHead, SameWriteEnd, HasMoreRoom, SameButTold, SameButSaw, SameButHeard, MayBeUnread, Lendable};
     ghost use Rattle.piper_ring.specs.LendsBuffer.{lends_buffer};
     ghost use Rattle.std.specs.Borrow.{sem};
     ghost use Rattle.piper_ring.specs.Shared.{flag, ring_of};
@@ -141,6 +141,7 @@ impl WriteEnd {
     pub fn reload(&mut self)
         requires { self.old.room ≡ 0 }
         ensures fresh { self.old.told + self.old.capacity ≤ length self.new.sent + self.new.room }
+        ensures found { HasLoadedHead self.new }
         ensures kept { HasMoreRoom self.old self.new }
     {
         let told = self.parts.told.again();
@@ -153,6 +154,7 @@ impl WriteEnd {
         requires ring { more.now.names ≡ self.old.ring.names }
         ensures more { more.now.count + self.old.capacity ≤ length self.new.sent + self.new.room }
         ensures fresh { self.old.told + self.old.capacity ≤ length self.new.sent + self.new.room }
+        ensures found { HasLoadedHead self.new }
         ensures kept { HasMoreRoom self.old self.new }
     {
         let parts = &mut self.parts;
@@ -213,6 +215,7 @@ impl WriteEnd {
     pub fn refresh(&mut self)
         ensures fresh { self.old.room ≡ 0 →
             self.old.told + self.old.capacity ≤ length self.new.sent + self.new.room }
+        ensures found { self.old.room ≡ 0 → HasLoadedHead self.new }
         ensures known { 0 < self.old.room → self.new ≡ self.old }
         ensures kept { HasMoreRoom self.old self.new }
     {

@@ -12,7 +12,7 @@ use lent_space::Placed;
 impl ReadEnd {
     ghost use Rattle.piper_ring.specs.Cells.{AreCellsOf};
     ghost use Rattle.piper_ring.specs.Loads.{CameBack, FoundBack, FoundFlag, FoundWaiter, IsAway, IsUnregistered};
-    ghost use Rattle.piper_ring.specs.ReadView.{HasTheRest, KnowsEnd, KnowsMore, SameButSaw};
+    ghost use Rattle.piper_ring.specs.ReadView.{HasLoaded, HasTheRest, KnowsEnd, KnowsMore, SameButSaw};
     ghost use Rattle.piper_ring.specs.Shared.{flag};
     ghost use Rattle.piper_ring.specs.SlotsView.{Registers, HasToDo, IsPending, HasNews, IsReaderAtRest, SameReaderPlace, IsWriterPending, HasRoomNews};
 
@@ -168,6 +168,7 @@ impl ReadEnd {
         requires none { length self.old.known ≡ 0 }
         ensures after { length slots.now.bytes ≤ length (self.new.taken ++ self.new.known) }
         ensures fresh { self.old.told ≤ length (self.new.taken ++ self.new.known) }
+        ensures found { HasLoaded self.new }
         ensures end { KnowsEnd self.old → self.new.taken ++ self.new.known ≡ self.new.all }
         ensures kept { KnowsMore self.old self.new }
     {

@@ -12,7 +12,7 @@ impl WriteEnd {
     ghost use Rattle.piper_ring.specs.Cells.{AreCellsOf};
     ghost use Rattle.piper_ring.specs.Loads.{CameBack, FoundBack, FoundFlag, FoundWaiter, IsAway, IsUnregistered};
     ghost use Rattle.piper_ring.specs.Shared.{flag};
-    ghost use Rattle.piper_ring.specs.WriteView.{HasMoreRoom, SameButSaw};
+    ghost use Rattle.piper_ring.specs.WriteView.{HasLoadedHead, HasMoreRoom, SameButSaw};
     ghost use Rattle.piper_ring.specs.SlotsView.{WriterRegisters, WriterHasToDo, IsWriterPending, IsAtRest, SameWriterPlace, HasRoomNews};
 
     // The places of both sides' wakers.
@@ -170,6 +170,7 @@ impl WriteEnd {
         ensures after { slots.now.count + self.old.capacity
             ≤ length self.new.sent + self.new.room }
         ensures fresh { self.old.told + self.old.capacity ≤ length self.new.sent + self.new.room }
+        ensures found { HasLoadedHead self.new }
         ensures kept { HasMoreRoom self.old self.new }
     {
         self.reload_knowing(&slots.parts.heard);
