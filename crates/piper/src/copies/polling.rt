@@ -6,7 +6,7 @@ ghost use Rattle.futures.specs.Poll.{OnPending};
 ghost use Rattle.futures.specs.Task.{Keeps};
 ghost use Rattle.piper.specs.Contexts.{WantsWaker};
 ghost use Rattle.piper.specs.Ends.{IsEnded};
-ghost use Rattle.piper.specs.Waits.{ReaderIsWaiting, WriterIsWaiting};
+ghost use Rattle.piper.specs.Waits.{ReaderIsWaiting, WriterIsWaiting, WriterLeavesNone};
 
 use crate::error::PipeError;
 use crate::handles::{Reader, Writer};
@@ -156,6 +156,7 @@ impl AsyncWrite for Writer {
     fn poll_close(&mut self, cx: &mut Context<'_>) -> Poll<Result<(), PipeError>>
         ensures answer { result ≡ Poll.Ready (Ok (record {})) }
         ensures woken { NotifiesReader self.new }
+        ensures leaves { WriterLeavesNone self.new }
         ensures context { Keeps cx.old cx.new }
         ensures rest { SameWriterButShut self.old self.new }
     {
