@@ -117,7 +117,10 @@ impl Reader {
         ensures rest { SameReaderButConsumed self.old self.new }
     {
         let call = self.store_head(ReadCall::consume(amt), amt);
-        self.wake_writer(call).done();
+        match self.check_writer(call) {
+            Ok(call) => call.done(),
+            Err(call) => self.take_and_wake_writer(call).done(),
+        }
     }
 
     /// Evidence of how many bytes were consumed, for the writer to heed.

@@ -105,7 +105,10 @@ impl Writer {
         ensures rest { SameWriterButPublished self.old self.new }
     {
         let call = self.store_tail(WriteCall::produced(n), n);
-        self.wake_reader(call).done();
+        match self.check_reader(call) {
+            Ok(call) => call.done(),
+            Err(call) => self.take_and_wake_reader(call).done(),
+        }
     }
 
     /// Closes the pipe for good, and wakes both sides. Nothing is lent any more, and what was lent

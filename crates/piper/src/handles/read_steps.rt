@@ -1,6 +1,6 @@
 //! The steps of the reader: one function for each kind, which makes the one access of its end or of
 //! a slot and takes the open call one step on.
-ghost use Rattle.std.specs.Prelude.{◌≡◌, ◌<◌, ◌≤◌, ◌++◌, ◌↔◌, ◌⊎◌, length, take, drop, None, IsSome, IfOk, IfErr, IsTrue, IsFalse, true, false};
+ghost use Rattle.std.specs.Prelude.{◌≡◌, ◌<◌, ◌≤◌, ◌++◌, ◌↔◌, ◌⊎◌, length, take, drop, None, IsSome, IfOk, IfErr, OnOk, IsTrue, IsFalse, true, false};
 ghost use Rattle.futures.specs.Task.{Covers, Keeps};
 ghost use Rattle.piper_protocol.specs.Table.{goes_on, read_action, read_step, reader_draws_after, reader_looks_for};
 ghost use Rattle.piper_ring.specs.ReadView.{KnowsEnd, in_one_piece};
@@ -171,6 +171,25 @@ impl Reader {
         call.stored_head(n)
     }
 
+    /// Checks after the store whether the writer is registered in its slot. Where it isn't the call
+    /// goes on; else it is given back as it was, for `take_and_wake_writer`. So `consume` has no
+    /// call that may wake on the path of a flowing pipe: after one the compiler checks whether it
+    /// returned.
+    #[inline(always)]
+    pub(crate) fn check_writer(&mut self, call: ReadCall) -> Result<ReadCall, ReadCall>
+        requires next { read_action call.point ≡ Action.Take Side.Writer }
+        ensures step { IfOk result (λ on. on ≡ read_step call.point (Found.Waker false)) }
+        ensures back { IfErr result (λ back. back ≡ call) }
+        ensures woke { OnOk result (NotifiesWriter self.new) }
+        ensures end { self.new.end ≡ self.old.end }
+        ensures rest { SameReaderButWoke self.old self.new }
+    {
+        if self.end.nobody_waits(&mut self.registrations) {
+            return Ok(call.took_writer(false));
+        }
+        Err(call)
+    }
+
     /// Checks after the store whether the writer is registered in its slot, and takes it and calls
     /// its waker if so.
     #[inline(always)]
@@ -181,10 +200,10 @@ impl Reader {
         ensures end { self.new.end ≡ self.old.end }
         ensures rest { SameReaderButWoke self.old self.new }
     {
-        if self.end.nobody_waits(&mut self.registrations) {
-            return call.took_writer(false);
+        match self.check_writer(call) {
+            Ok(call) => call,
+            Err(call) => self.take_and_wake_writer(call),
         }
-        self.take_and_wake_writer(call)
     }
 
     /// Takes whoever is registered in the writer's slot, and calls its waker.

@@ -1,6 +1,6 @@
 //! The steps of the writer: one function for each kind, which makes the one access of its end or of
 //! a slot and takes the open call one step on.
-ghost use Rattle.std.specs.Prelude.{◌≡◌, ◌+◌, ◌<◌, ◌≤◌, ◌++◌, ◌↔◌, ◌⊎◌, length, take, drop, None, IsSome, IfOk, IfErr, IsTrue, IsFalse, true, false};
+ghost use Rattle.std.specs.Prelude.{◌≡◌, ◌+◌, ◌<◌, ◌≤◌, ◌++◌, ◌↔◌, ◌⊎◌, length, take, drop, None, IsSome, IfOk, IfErr, OnOk, IsTrue, IsFalse, true, false};
 ghost use Rattle.futures.specs.Task.{Covers, Keeps};
 ghost use Rattle.piper_protocol.specs.Table.{begins_look, look_begun, write_action, write_step};
 ghost use Rattle.piper_ring.specs.Shared.{flag};
@@ -211,6 +211,25 @@ impl Writer {
         call.stored_closed(true)
     }
 
+    /// Checks after the store whether the reader is registered in its slot. Where it isn't the call
+    /// goes on; else it is given back as it was, for `take_and_wake_reader`. So `produced` has no
+    /// call that may wake on the path of a flowing pipe: after one the compiler checks whether it
+    /// returned.
+    #[inline(always)]
+    pub(crate) fn check_reader(&mut self, call: WriteCall) -> Result<WriteCall, WriteCall>
+        requires next { write_action call.point ≡ Action.Take Side.Reader }
+        ensures step { IfOk result (λ on. on ≡ write_step call.point (Found.Waker false)) }
+        ensures back { IfErr result (λ back. back ≡ call) }
+        ensures woke { OnOk result (NotifiesReader self.new) }
+        ensures end { self.new.end ≡ self.old.end }
+        ensures rest { SameWriterButWoke self.old self.new }
+    {
+        if self.end.nobody_waits(&mut self.registrations) {
+            return Ok(call.took_reader(false));
+        }
+        Err(call)
+    }
+
     /// Checks after the store whether the reader is registered in its slot, and takes it and calls
     /// its waker if so.
     #[inline(always)]
@@ -221,10 +240,10 @@ impl Writer {
         ensures end { self.new.end ≡ self.old.end }
         ensures rest { SameWriterButWoke self.old self.new }
     {
-        if self.end.nobody_waits(&mut self.registrations) {
-            return call.took_reader(false);
+        match self.check_reader(call) {
+            Ok(call) => call,
+            Err(call) => self.take_and_wake_reader(call),
         }
-        self.take_and_wake_reader(call)
     }
 
     /// Takes whoever is registered in the reader's slot, and calls its waker.
