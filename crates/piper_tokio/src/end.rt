@@ -10,7 +10,7 @@ ghost use Rattle.piper.specs.Handles.{NotifiesReader, NotifiesWriter, SameReader
 ghost use Rattle.piper.specs.OfReader.{known};
 ghost use Rattle.piper.specs.OfWriter.{shut, saw};
 ghost use Rattle.piper.specs.ReaderCalls.{AtEnd, DrainPends, DrainsEnd, DrainsSlice, DrawsToYield as ReadDraws, Looks, PollsEnd, SameReaderButConsumed, WakesWriter};
-ghost use Rattle.piper.specs.Waits.{ReaderPends};
+ghost use Rattle.piper.specs.Waits.{ReaderPends, WriterLeavesNone};
 ghost use Rattle.piper.specs.WriterCalls.{DrawsToYield as WriteDraws, FillPends, FillsEnd, FillsSlice, SameWriterButMoved, SameWriterButShut, WakesReader};
 ghost use Rattle.piper_duplex.specs.Crosswise.{reading as reading_of, writing as writing_of};
 ghost use Rattle.piper_tokio.specs.Halves.{read_half, reading, write_half, writing};
@@ -177,6 +177,7 @@ impl AsyncWrite for CompatEnd {
         ensures bytes { Gave (writing self.old) [] (writing self.new)
             × (read_half self.new ≡ read_half self.old) }
         ensures woken { NotifiesReader (writing self.new) }
+        ensures leaves { WriterLeavesNone (writing self.new) }
         ensures context { Keeps cx.old cx.new }
         ensures rest { SameWriterButShut (writing self.old) (writing self.new) }
     {

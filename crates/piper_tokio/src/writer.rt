@@ -7,6 +7,7 @@ ghost use Rattle.futures.specs.Task.{Keeps};
 ghost use Rattle.tokio.specs.Io.Moved.{bytes_moved, count_moved, IfReadyErr};
 ghost use Rattle.piper.specs.Handles.{NotifiesReader, write_source};
 ghost use Rattle.piper.specs.OfWriter.{shut, saw};
+ghost use Rattle.piper.specs.Waits.{WriterLeavesNone};
 ghost use Rattle.piper.specs.WriterCalls.{DrawsToYield, FillPends, FillsEnd, FillsSlice, SameWriterButMoved, SameWriterButShut, WakesReader};
 ghost use Rattle.piper_tokio.specs.Passing.{Gave, WantsMemory, inner_of_io};
 ghost use Rattle.piper_tokio.specs.Shown.{writing};
@@ -105,6 +106,7 @@ impl tokio::io::AsyncWrite for CompatWriter {
         ensures answer { result ≡ Poll.Ready (Ok (record {})) }
         ensures bytes { Gave (writing self.old) [] (writing self.new) }
         ensures woken { NotifiesReader (writing self.new) }
+        ensures leaves { WriterLeavesNone (writing self.new) }
         ensures context { Keeps cx.old cx.new }
         ensures rest { SameWriterButShut (writing self.old) (writing self.new) }
     {
