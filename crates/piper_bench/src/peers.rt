@@ -7,12 +7,41 @@ use crate::work::Work;
 use crossbeam_channel::{Receiver, Sender};
 use futures::task::{Context, Poll};
 use futures::test::MockTask;
+use piper_tokio::{CompatReader, CompatWriter};
 use std::marker::Send;
 use std::random::RandomSource;
 use std::sync::Wait;
 use std::thread::Threads;
 use std::{io, thread};
 use tokio::io::{AsyncRead, AsyncWrite, DuplexStream};
+
+/// An end, by the traits of `tokio`, that may be checked without leaving a waker.
+pub trait Checked {
+    /// Whether the other end has to move first. An end that can't be checked so says no, and is
+    /// polled; a pipe's reader or writer can be, by its handle.
+    #[inline(always)]
+    fn is_held_up(&self) -> bool {
+        false
+    }
+}
+
+impl Checked for DuplexStream {}
+
+impl Checked for CompatReader {
+    #[inline(always)]
+    fn is_held_up(&self) -> bool {
+        let reader = self.reader();
+        reader.end().knows_none() && reader.is_empty()
+    }
+}
+
+impl Checked for CompatWriter {
+    #[inline(always)]
+    fn is_held_up(&self) -> bool {
+        let writer = self.writer();
+        writer.end().knows_none() && writer.is_full()
+    }
+}
 
 /// Writes what is left of so many bytes. Of an error it hands its kind on: an `io::Error` holds its
 /// message, and to hand on an answer with room for one would copy that at each piece.
@@ -23,10 +52,15 @@ struct Writing<'a, W> {
     left: usize,
 }
 
-impl<W: AsyncWrite> Mover for Writing<'_, W> {
+impl<W: AsyncWrite + Checked> Mover for Writing<'_, W> {
     type Error = io::ErrorKind;
 
     ghost needs = { λ mover. W.needs mover.writer };
+
+    #[inline(always)]
+    fn is_held_up(&self) -> bool {
+        self.left > 0 && self.writer.is_held_up()
+    }
 
     #[inline(always)]
     fn move_piece(&mut self, cx: &mut Context<'_>) -> Poll<Result<usize, io::ErrorKind>> {
@@ -57,10 +91,15 @@ struct Reading<'a, I> {
     checksum: u64,
 }
 
-impl<I: AsyncRead> Mover for Reading<'_, I> {
+impl<I: AsyncRead + Checked> Mover for Reading<'_, I> {
     type Error = io::ErrorKind;
 
     ghost needs = { λ mover. I.needs mover.reader };
+
+    #[inline(always)]
+    fn is_held_up(&self) -> bool {
+        self.reader.is_held_up()
+    }
 
     #[inline(always)]
     fn move_piece(&mut self, cx: &mut Context<'_>) -> Poll<Result<usize, io::ErrorKind>> {
@@ -89,8 +128,8 @@ pub fn through_stream<R, I, O>(
 ) -> io::Result<u64>
 where
     R: Wait + Threads + RandomSource + AllocGlobal + Sync,
-    I: AsyncRead + Send,
-    O: AsyncWrite + Send,
+    I: AsyncRead + Checked + Send,
+    O: AsyncWrite + Checked + Send,
 {
     let writing = Writing {
         writer,

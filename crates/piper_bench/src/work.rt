@@ -3,7 +3,7 @@ ghost use Rattle.std.specs.Prelude.{IfSome, IsSome, ◌≡◌, ◌<◌, ◌≤�
 
 use crate::lines::through_lines;
 use crate::means::{Peer, Way, What};
-use crate::peers::{stream_in_turn, through_channel, through_stream};
+use crate::peers::{Checked, stream_in_turn, through_channel, through_stream};
 use crate::pipes::{Copies, InPlace, TryForms};
 use crate::rings::{BYTE, Input, Output, get_all, in_turn, put_all, yields};
 use crate::through::through_pipe;
@@ -214,8 +214,8 @@ fn timed_stream<R, I, O>(
 ) -> io::Result<(Duration, u64)>
 where
     R: Wait + Threads + Clock + RandomSource + AllocGlobal + Sync,
-    I: AsyncRead + Send,
-    O: AsyncWrite + Send,
+    I: AsyncRead + Checked + Send,
+    O: AsyncWrite + Checked + Send,
 {
     let start = Instant::now(rt)?;
     let checksum = through_stream(rt, ends, source, place, work)?;
