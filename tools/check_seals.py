@@ -56,6 +56,30 @@ SEALS = {
         "piper_c/specs/Leaving",
         [f"piper_c/proofs/halves/{half}/leave" for half in ("ReadHalf", "WriteHalf")],
     ),
+    "as_put": (
+        "piper_c/specs/Places",
+        [f"piper_c/proofs/halves/{half}/put" for half in ("ReadHalf", "WriteHalf")],
+    ),
+    "as_come_out": (
+        "piper_c/specs/Places",
+        [
+            f"piper_c/proofs/halves/{half}/{call}"
+            for half in ("ReadHalf", "WriteHalf")
+            for call in ("reclaim", "take_back")
+        ],
+    ),
+    "as_taken_out": (
+        "piper_c/specs/Places",
+        [
+            f"piper_c/proofs/halves/{call}"
+            for call in (
+                "ReadHalf/take_writer",
+                "ReadHalf/finish",
+                "WriteHalf/take_reader",
+                "WriteHalf/finish",
+            )
+        ],
+    ),
     "as_over": (
         "piper_transfer/specs/Transfer",
         ["piper_transfer/proofs/meter/InputMeter/is_output_over"],

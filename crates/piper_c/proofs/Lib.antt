@@ -3,3 +3,4 @@ pub mod WriterValues
 pub mod RoomValues
 pub mod HeldSteps
 pub mod Loans
+pub mod Told

@@ -14,7 +14,7 @@ use Rattle.piper_c.specs.declared.words.Waiter.{Waiter}
 use Rattle.piper_c.specs.declared.words.PiperMoved.{PiperMoved}
 use Rattle.piper_c.specs.declared.words.PiperWords.{PiperWords}
 use Rattle.piper_c.specs.Outcome.{code}
-use Rattle.piper_c.specs.Waiting.{GotBack, HandedBack, Took, HandedOut}
+use Rattle.piper_c.specs.Waiting.{GotBack, IsTold, Took, HandedOut}
 
 -- the pipe was seen closed, and all that was ever published has been taken
 pub record IsEnded (r : ReadView) : Type 0 where
@@ -49,9 +49,11 @@ pub record ReaderLooked (a b : ReadHalf) : Type 0 where
   pub looks : SameReaderLooks a.slots b.slots
   pub places : b.places ≡ a.places
 
--- a poll gives back the words that it took out of its slot, and those that it didn't leave
+-- a poll gives back the words that it took out of its slot, and those that it didn't leave; none
+-- stay there where it found something to read
 pub record ReaderGotBack (mine : Waiter) (p : Polled) (a b : ReadHalf) : Type 0 where
   pub words : GotBack mine p a.slots.owns b.slots.owns a.slots.tickets b.slots.tickets
+  pub ready : p.outcome ≡ Ready → b.slots.maybe_registered ≡ false
   pub again : p.outcome ≡ Again → b.slots ≡ record a.slots { maybe_registered = false }
   pub away : p.outcome ≡ Again → IsAway a.slots.names
 
@@ -99,15 +101,15 @@ pub record ReadsInto (old new : List ℕ) (n : ℕ) (a b : ReadHalf) : Type 0 wh
 
 -- the exports
 
--- a poll with words of C: what it found and left, and which words it gives back
+-- a poll with words of C: C got what the side's own poll with these words found, and gave back
 pub record ReaderTold (mine : PiperWords) (p : PiperPolled) (a b : ReadHalf) : Type 0 where
-  pub outcome : Outcome
-  pub code : p.outcome ≡ code outcome
-  pub found : ReaderFound outcome b
+  pub waiter : Waiter
+  pub polled : Polled
+  pub words : ReaderGotBack waiter polled a b
+  pub given : waiter.words ≡ mine
+  pub found : ReaderFound polled.outcome b
   pub looked : ReaderLooked a b
-  pub words : HandedBack mine p a.slots.owns b.slots.owns a.slots.tickets b.slots.tickets
-  pub again : p.outcome ≡ 3 → b.slots ≡ record a.slots { maybe_registered = false }
-  pub away : p.outcome ≡ 3 → IsAway a.slots.names
+  pub told : IsTold polled p
 
 -- after all that b consumed, the writer's slot was checked: words come out exactly where
 -- it took a ticket of the writer's

@@ -1,7 +1,7 @@
 -- What the calls of the writing side find, and what they leave of it.
 use Rattle.std.specs.Prelude.{◌≡◌, ℕ, ◌<◌, ◌≤◌, ◌+◌, ◌++◌, ◌⊎◌, take, drop, Bool, true, false, List, [], length, Option, Some, None}
 use Rattle.piper_ring.specs.Shared.{flag}
-use Rattle.piper_ring.specs.Loads.{FoundClosed, IsAway, IsUnregistered}
+use Rattle.piper_ring.specs.Loads.{FoundClosed, IsAway}
 use Rattle.piper_ring.specs.WriteView.{HasLoadedHead, WriteView, SameWriteEnd, SameButSaw}
 use Rattle.piper_ring.specs.SlotsView.{WriteSlotsView, IsWriterPending, IsAtRest, SameWriterLooks, SameWriterPlace}
 use Rattle.piper_c.specs.declared.halves.WriteHalf.{WriteHalf}
@@ -14,7 +14,7 @@ use Rattle.piper_c.specs.declared.words.PiperMoved.{PiperMoved}
 use Rattle.piper_c.specs.declared.words.PiperLeft.{PiperLeft}
 use Rattle.piper_c.specs.declared.words.PiperWords.{PiperWords}
 use Rattle.piper_c.specs.Outcome.{code}
-use Rattle.piper_c.specs.Waiting.{GotBack, HandedBack, Took, HandedOut}
+use Rattle.piper_c.specs.Waiting.{GotBack, IsTold, Took, HandedOut, HandedBack}
 
 -- what a poll found; it has to be made again only where the place of the words is away
 abbrev pub WriterFound : Outcome → WriteHalf → Type 0
@@ -46,9 +46,11 @@ pub record WriterLooked (a b : WriteHalf) : Type 0 where
   pub looks : SameWriterLooks a.slots b.slots
   pub places : b.places ≡ a.places
 
--- a poll gives back the words that it took out of its slot, and those that it didn't leave
+-- a poll gives back the words that it took out of its slot, and those that it didn't leave; none
+-- stay there where it found room
 pub record WriterGotBack (mine : Waiter) (p : Polled) (a b : WriteHalf) : Type 0 where
   pub words : GotBack mine p a.slots.owns b.slots.owns a.slots.tickets b.slots.tickets
+  pub ready : p.outcome ≡ Ready → b.slots.maybe_registered ≡ false
   pub again : p.outcome ≡ Again → b.slots ≡ record a.slots { maybe_registered = false }
   pub away : p.outcome ≡ Again → IsAway a.slots.names
 
@@ -110,15 +112,15 @@ pub record WriterSeen (result : ℕ) (a b : WriteHalf) : Type 0 where
   pub looked : WriterLooked a b
   pub slots : b.slots ≡ a.slots
 
--- a poll with words of C: what it found and left, and which words it gives back
+-- a poll with words of C: C got what the side's own poll with these words found, and gave back
 pub record WriterTold (mine : PiperWords) (p : PiperPolled) (a b : WriteHalf) : Type 0 where
-  pub outcome : Outcome
-  pub code : p.outcome ≡ code outcome
-  pub found : WriterFound outcome b
+  pub waiter : Waiter
+  pub polled : Polled
+  pub words : WriterGotBack waiter polled a b
+  pub given : waiter.words ≡ mine
+  pub found : WriterFound polled.outcome b
   pub looked : WriterLooked a b
-  pub words : HandedBack mine p a.slots.owns b.slots.owns a.slots.tickets b.slots.tickets
-  pub again : p.outcome ≡ 3 → b.slots ≡ record a.slots { maybe_registered = false }
-  pub away : p.outcome ≡ 3 → IsAway a.slots.names
+  pub told : IsTold polled p
 
 -- after all that b published, the reader's slot was checked: words come out exactly where
 -- it took a ticket of the reader's
@@ -141,8 +143,7 @@ pub record WriterCloses (left : PiperLeft) (a b : WriteHalf) : Type 0 where
   pub sent : b.end.sent ≡ a.end.sent
   pub rests : IsAtRest b.end b.slots
   pub took : HandedOut left.wake a.slots.taken b.slots.taken
-  pub mine : 0 < left.mine.vtable → a.slots.owns ≡ false
-  pub none : left.mine.vtable ≡ 0 → IsUnregistered a.slots.names a.slots.owns
+  pub mine : HandedBack left.mine a.slots.names a.slots.owns a.slots.tickets
   pub own : b.slots.tickets ≡ a.slots.tickets
   pub places : b.places ≡ a.places
 

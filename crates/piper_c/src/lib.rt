@@ -7,6 +7,7 @@ mod handles;
 mod lending;
 mod opening;
 mod outcome;
+mod places;
 mod reader;
 mod reading;
 mod words;

@@ -2,8 +2,9 @@
 //! and puts it back.
 ghost use Rattle.std.specs.Prelude.{◌≡◌, ◌≢◌, ◌<◌, IsSome, None, false};
 ghost use Rattle.piper_ring.specs.ReadView.{MayBeUnread, in_one_piece};
-ghost use Rattle.piper_ring.specs.Loads.{FoundWaiter, IsUnregistered};
+ghost use Rattle.piper_ring.specs.Loads.{FoundWaiter};
 ghost use Rattle.piper_c.specs.Leaving.{Leaves};
+ghost use Rattle.piper_c.specs.Waiting.{HandedBack};
 ghost use Rattle.piper_c.specs.Handles.{Holds, HoldsOn};
 ghost use Rattle.piper_c.specs.Reading.{LeftReading, ReaderTold, ReaderSeen, ReaderAsked, ReaderConsumes, ReaderReads};
 
@@ -160,9 +161,8 @@ pub extern "C" fn piper_reader_drop(alloc: Global, reader: &mut PiperReader) -> 
     requires { IsSome reader.old.half }
     ensures dropped { reader.new.half ≡ None }
     ensures left { Holds reader.old.half (Leaves LeftReading result) }
-    ensures mine { Holds reader.old.half (λ a. 0 < result.mine.vtable → a.slots.owns ≡ false) }
-    ensures none { Holds reader.old.half (λ a.
-        result.mine.vtable ≡ 0 → IsUnregistered a.slots.names a.slots.owns) }
+    ensures mine { Holds reader.old.half (λ a.
+        HandedBack result.mine a.slots.names a.slots.owns a.slots.tickets) }
     ensures nobody { Holds reader.old.half (λ a.
         result.wake.vtable ≡ 0 → FoundWaiter a.end.ring.names 0) }
 {

@@ -4,14 +4,16 @@ ghost use Rattle.piper_ring.specs.ReadView.{in_one_piece};
 
 use crate::halves::ReadHalf;
 use crate::outcome::{Outcome, Polled, outcome_of};
-use crate::words::{Waiter, for_gone};
+use crate::words::Waiter;
 use piper_protocol::read_call::ReadCall;
 use piper_protocol::table::{AfterRead, Purpose, ReadPoint, Side};
 use piper_ring::ReadRegistrations;
 
 impl ReadHalf {
-    ghost use Rattle.piper_ring.specs.Loads.{FoundWaiter, IsUnregistered};
+    ghost use Rattle.piper_ring.specs.Loads.{FoundWaiter};
     ghost use Rattle.piper_c.specs.Leaving.{HasLeft};
+    ghost use Rattle.piper_c.specs.Places.{CameOut};
+    ghost use Rattle.piper_c.specs.Waiting.{TookBack};
     ghost use Rattle.piper_c.specs.Reading.{ReaderFound, ReaderLooked, ReaderConsumed, ReaderGotBack, ReaderSaw, ReadsInto, ReaderAsked, TookWriter, LeftReading};
 
     /// Waits for a byte or for the end. `mine` is left where there is neither.
@@ -41,15 +43,14 @@ impl ReadHalf {
                 mine: Some(mine),
             };
         }
-        let reclaimed = self.end.reclaim_waker(&mut self.slots, &self.places);
-        let Ok(before) = reclaimed else {
+        let Ok(before) = self.reclaim() else {
             return Polled {
                 outcome: outcome_of(call.registered(false).end()),
                 before: None,
                 mine: Some(mine),
             };
         };
-        self.end.publish_waker(&mut self.slots, &self.places, mine);
+        self.put(mine);
         self.look_again(call.registered(true), before)
     }
 
@@ -61,9 +62,11 @@ impl ReadHalf {
         ensures found { ReaderFound result.outcome self.new }
         ensures looked { ReaderLooked self.old self.new }
         ensures before { result.before ≡ before }
-        ensures back { IsSome result.mine → self.new.slots.owns ≡ true }
+        ensures back { IsSome result.mine → (self.new.slots.owns ≡ true)
+            × CameOut false self.new.slots.tickets result.mine }
         ensures out { result.mine ≡ None → self.new.slots.owns ≡ false }
         ensures pending { result.outcome ≡ Outcome.Pending → result.mine ≡ None }
+        ensures ready { result.outcome ≡ Outcome.Ready → self.new.slots.maybe_registered ≡ false }
         ensures left { result.outcome ≡ Outcome.Again → false ≡ true }
         ensures kept { self.new.slots ≡ record self.old.slots
             { owns = self.new.slots.owns; maybe_registered = self.new.slots.maybe_registered } }
@@ -92,6 +95,8 @@ impl ReadHalf {
     fn take_own(&mut self, call: ReadCall) -> Option<Waiter>
         requires next { call.point ≡ ReadPoint.LookTake Purpose.Poll }
         ensures back { IsSome result → (self.old.slots.owns ≡ false) × (self.new.slots.owns ≡ true) }
+        ensures out { IsSome result →
+            CameOut self.old.slots.owns self.old.slots.tickets result }
         ensures none { result ≡ None → self.new.slots.owns ≡ self.old.slots.owns }
         ensures leaves { self.new.slots.maybe_registered ≡ false }
         ensures kept { self.new.slots ≡ record self.old.slots
@@ -102,7 +107,7 @@ impl ReadHalf {
         if !self.slots.maybe_registered() {
             return None;
         }
-        self.end.cancel(&mut self.slots, &self.places)
+        self.take_back()
     }
 
     /// Checks for a byte or for the end, and leaves no words.
@@ -182,7 +187,7 @@ impl ReadHalf {
             call.took_writer(false).done();
             return None;
         }
-        match self.end.take(&mut self.slots, &self.places) {
+        match self.take_writer() {
             Some(taken) => {
                 call.took_writer(true).woke().done();
                 Some(taken)
@@ -196,22 +201,15 @@ impl ReadHalf {
 
     /// Closes the pipe and drops this side. Returns who has to be woken, the words of its own that
     /// nobody took, and what is left of its slots: the writer's was checked after the close.
-    pub(crate) fn leave(self) -> (Option<Waiter>, Option<Waiter>, ReadRegistrations)
+    pub(crate) fn leave(mut self) -> (Option<Waiter>, Option<Waiter>, ReadRegistrations)
         ensures left { LeftReading self result.0 result.2 }
         ensures leaves { HasLeft self result.0 result.1 result.2 }
-        ensures mine { IsSome result.1 → self.slots.owns ≡ false }
-        ensures none { result.1 ≡ None → IsUnregistered self.slots.names self.slots.owns }
+        ensures mine { TookBack result.1 self.slots.names self.slots.owns self.slots.tickets }
         ensures nobody { result.0 ≡ None → FoundWaiter self.end.ring.names 0 }
     {
-        let ReadHalf {
-            end,
-            mut slots,
-            places,
-        } = self;
-        let mine = end.cancel(&mut slots, &places);
+        let mine = self.take_back();
         let call = ReadCall::drop().stored_closed();
-        let (_last, taken, left) = end.finish_waking(&mut slots, &places);
-        for_gone(left);
+        let (taken, slots) = self.finish();
         let wake = match taken {
             Some(taken) => {
                 call.took_writer(true).woke().done();

@@ -2,8 +2,9 @@
 //! and puts it back.
 ghost use Rattle.std.specs.Prelude.{◌≡◌, ◌<◌, None, false};
 ghost use Rattle.piper_ring.specs.WriteView.{MayBeUnread};
-ghost use Rattle.piper_ring.specs.Loads.{FoundWaiter, IsUnregistered};
+ghost use Rattle.piper_ring.specs.Loads.{FoundWaiter};
 ghost use Rattle.piper_c.specs.Leaving.{Leaves};
+ghost use Rattle.piper_c.specs.Waiting.{HandedBack};
 ghost use Rattle.piper_c.specs.Handles.{Holds, HoldsOn, IsWholeWriter};
 ghost use Rattle.piper_c.specs.Writing.{LeftWriting, WriterTold, WriterSeen, WriterAsked, WriterWrites, WriterCloses, WriterEnds};
 ghost use Rattle.piper_c.specs.Lending.{LendsOut, IsLoanOf, IsWithin, IsWhole, WriterOffers, WriterGoesOn};
@@ -147,9 +148,8 @@ pub extern "C" fn piper_writer_drop(alloc: Global, writer: &mut PiperWriter) -> 
     requires { IsWholeWriter writer.old.half writer.old.lent }
     ensures dropped { writer.new.half ≡ None }
     ensures left { Holds writer.old.half (Leaves LeftWriting result) }
-    ensures mine { Holds writer.old.half (λ a. 0 < result.mine.vtable → a.slots.owns ≡ false) }
-    ensures none { Holds writer.old.half (λ a.
-        result.mine.vtable ≡ 0 → IsUnregistered a.slots.names a.slots.owns) }
+    ensures mine { Holds writer.old.half (λ a.
+        HandedBack result.mine a.slots.names a.slots.owns a.slots.tickets) }
     ensures nobody { Holds writer.old.half (λ a.
         result.wake.vtable ≡ 0 → FoundWaiter a.end.ring.names 0) }
 {

@@ -3,14 +3,16 @@ ghost use Rattle.std.specs.Prelude.{◌≡◌, [], ◌<◌, ◌≤◌, ◌++◌,
 
 use crate::halves::WriteHalf;
 use crate::outcome::{Outcome, Polled, outcome_of};
-use crate::words::{Waiter, for_gone};
+use crate::words::Waiter;
 use piper_protocol::table::{AfterWrite, Purpose, WritePoint};
 use piper_protocol::write_call::WriteCall;
 use piper_ring::WriteRegistrations;
 
 impl WriteHalf {
-    ghost use Rattle.piper_ring.specs.Loads.{FoundWaiter, IsUnregistered};
+    ghost use Rattle.piper_ring.specs.Loads.{FoundWaiter};
     ghost use Rattle.piper_c.specs.Leaving.{HasLeft};
+    ghost use Rattle.piper_c.specs.Places.{CameOut};
+    ghost use Rattle.piper_c.specs.Waiting.{TookBack};
     ghost use Rattle.piper_ring.specs.WriteView.{SameWriteEnd};
     ghost use Rattle.piper_c.specs.Writing.{LeftWriting, WriterAsked, WriterFound, WriterSaw, WritesFrom, WriterLooked, WriterPublished, WriterGotBack, TookReader, TookReaderLast};
 
@@ -49,15 +51,14 @@ impl WriteHalf {
                 mine: Some(mine),
             };
         }
-        let reclaimed = self.end.reclaim_waker(&mut self.slots, &self.places);
-        let Ok(before) = reclaimed else {
+        let Ok(before) = self.reclaim() else {
             return Polled {
                 outcome: outcome_of(call.registered(false).end()),
                 before: None,
                 mine: Some(mine),
             };
         };
-        self.end.publish_waker(&mut self.slots, &self.places, mine);
+        self.put(mine);
         self.look_again(call.registered(true), before)
     }
 
@@ -70,9 +71,11 @@ impl WriteHalf {
         ensures found { WriterFound result.outcome self.new }
         ensures looked { WriterLooked self.old self.new }
         ensures before { result.before ≡ before }
-        ensures back { IsSome result.mine → self.new.slots.owns ≡ true }
+        ensures back { IsSome result.mine → (self.new.slots.owns ≡ true)
+            × CameOut false self.new.slots.tickets result.mine }
         ensures out { result.mine ≡ None → self.new.slots.owns ≡ false }
         ensures pending { result.outcome ≡ Outcome.Pending → result.mine ≡ None }
+        ensures ready { result.outcome ≡ Outcome.Ready → self.new.slots.maybe_registered ≡ false }
         ensures left { result.outcome ≡ Outcome.Again → false ≡ true }
         ensures kept { self.new.slots ≡ record self.old.slots
             { owns = self.new.slots.owns; maybe_registered = self.new.slots.maybe_registered } }
@@ -101,6 +104,8 @@ impl WriteHalf {
     fn take_own(&mut self, call: WriteCall) -> Option<Waiter>
         requires next { call.point ≡ WritePoint.LookTake Purpose.Poll }
         ensures back { IsSome result → (self.old.slots.owns ≡ false) × (self.new.slots.owns ≡ true) }
+        ensures out { IsSome result →
+            CameOut self.old.slots.owns self.old.slots.tickets result }
         ensures none { result ≡ None → self.new.slots.owns ≡ self.old.slots.owns }
         ensures leaves { self.new.slots.maybe_registered ≡ false }
         ensures kept { self.new.slots ≡ record self.old.slots
@@ -111,7 +116,7 @@ impl WriteHalf {
         if !self.slots.maybe_registered() {
             return None;
         }
-        self.end.cancel(&mut self.slots, &self.places)
+        self.take_back()
     }
 
     /// Checks for room or for the end, and leaves no words.
@@ -186,7 +191,7 @@ impl WriteHalf {
             call.took_reader(false).done();
             return None;
         }
-        match self.end.take(&mut self.slots, &self.places) {
+        match self.take_reader() {
             Some(taken) => {
                 call.took_reader(true).woke().done();
                 Some(taken)
@@ -204,14 +209,14 @@ impl WriteHalf {
         ensures end { SameWriteEnd self.old.end self.new.end }
         ensures sent { self.new.end.sent ≡ self.old.end.sent }
         ensures wake { TookReaderLast result.0 self.old.slots self.new }
-        ensures mine { IsSome result.1 → self.old.slots.owns ≡ false }
-        ensures none { result.1 ≡ None → IsUnregistered self.old.slots.names self.old.slots.owns }
+        ensures mine { TookBack result.1 self.old.slots.names self.old.slots.owns
+            self.old.slots.tickets }
         ensures places { self.new.places ≡ self.old.places }
     {
         let call = WriteCall::close();
         self.end.shut();
         let call = call.stored_closed(true);
-        match self.end.take(&mut self.slots, &self.places) {
+        match self.take_reader() {
             Some(taken) => (
                 Some(taken),
                 self.reclaim_last(call.took_reader(true).woke()),
@@ -223,13 +228,13 @@ impl WriteHalf {
     /// Takes its own words back, in a close, if nobody took them.
     fn reclaim_last(&mut self, call: WriteCall) -> Option<Waiter>
         requires { call.point ≡ WritePoint.TakeWriter }
-        ensures back { IsSome result → self.old.slots.owns ≡ false }
-        ensures none { result ≡ None → IsUnregistered self.old.slots.names self.old.slots.owns }
+        ensures took { TookBack result self.old.slots.names self.old.slots.owns
+            self.old.slots.tickets }
         ensures kept { self.new.slots ≡ record self.old.slots
             { owns = self.new.slots.owns; maybe_registered = false } }
         ensures rest { (self.new.end ≡ self.old.end) × (self.new.places ≡ self.old.places) }
     {
-        match self.end.cancel(&mut self.slots, &self.places) {
+        match self.take_back() {
             Some(mine) => {
                 call.took_own(true).woke().done();
                 Some(mine)
@@ -243,22 +248,15 @@ impl WriteHalf {
 
     /// Closes the pipe and drops this side. Returns who has to be woken, the words of its own that
     /// nobody took, and what is left of its slots: the reader's was checked after the close.
-    pub(crate) fn leave(self) -> (Option<Waiter>, Option<Waiter>, WriteRegistrations)
+    pub(crate) fn leave(mut self) -> (Option<Waiter>, Option<Waiter>, WriteRegistrations)
         ensures left { LeftWriting self result.0 result.2 }
         ensures leaves { HasLeft self result.0 result.1 result.2 }
-        ensures mine { IsSome result.1 → self.slots.owns ≡ false }
-        ensures none { result.1 ≡ None → IsUnregistered self.slots.names self.slots.owns }
+        ensures mine { TookBack result.1 self.slots.names self.slots.owns self.slots.tickets }
         ensures nobody { result.0 ≡ None → FoundWaiter self.end.ring.names 0 }
     {
-        let WriteHalf {
-            end,
-            mut slots,
-            places,
-        } = self;
-        let mine = end.cancel(&mut slots, &places);
+        let mine = self.take_back();
         let call = WriteCall::drop().stored_closed(false);
-        let (_last, taken, left) = end.finish_waking(&mut slots, &places);
-        for_gone(left);
+        let (taken, slots) = self.finish();
         let wake = match taken {
             Some(taken) => {
                 call.took_reader(true).woke().done();
