@@ -13,8 +13,8 @@ WerePut ticket words = ⊤
 pub CameOut : Bool → ℕ → Option Waiter → Type 0
 CameOut had tickets words = ⊤
 
--- a check of the other side's slot took the ticket `new`, where the last one was `old`, and got these
--- words with it
+-- a check of the other side's slot took the ticket `new`, where the last one was `old`, and got
+-- these words with it
 pub WereTaken : ℕ → ℕ → Option Waiter → Type 0
 WereTaken old new words = ⊤
 

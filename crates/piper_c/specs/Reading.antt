@@ -1,8 +1,8 @@
 -- What the calls of the reading side find, and what they leave of it.
-use Rattle.std.specs.Prelude.{◌≡◌, ℕ, ◌<◌, ◌≤◌, ◌++◌, take, drop, Bool, true, false, List, [], ◌⊎◌, length, Option}
+use Rattle.std.specs.Prelude.{◌≡◌, ℕ, ◌<◌, ◌≤◌, ◌+◌, ◌-◌, min, ◌++◌, take, drop, Bool, true, false, List, [], ◌⊎◌, length, Option}
 use Rattle.piper_ring.specs.Shared.{flag}
 use Rattle.piper_ring.specs.Loads.{FoundClosed, IsAway}
-use Rattle.piper_ring.specs.ReadView.{HasLoaded, ReadView, SameReadEnd, SameButSaw, in_one_piece}
+use Rattle.piper_ring.specs.ReadView.{HasLoaded, ReadView, SameReadEnd, SameButSaw, in_one_piece, read_place}
 use Rattle.piper_ring.specs.SlotsView.{ReadSlotsView, IsPending, IsReaderAtRest, SameReaderLooks, SameReaderPlace}
 use Rattle.piper_c.specs.declared.halves.ReadHalf.{ReadHalf}
 use Rattle.piper_c.specs.declared.outcome.Outcome.{Outcome}
@@ -86,14 +86,16 @@ pub record ReaderAsked (is_closed : Bool) (a b : ReadHalf) : Type 0 where
   pub slots : b.slots ≡ a.slots
   pub places : b.places ≡ a.places
 
--- n known bytes were copied to the front of a slice and taken, in order; where none was known, the
--- tail was loaded
+-- n known bytes were copied to the front of a slice and taken, in order: of those in one piece as
+-- many as fit; where none was known, the tail was loaded
 pub record ReadsInto (old new : List ℕ) (n : ℕ) (a b : ReadHalf) : Type 0 where
   pub count : n ≤ length old
   pub rest : drop n new ≡ drop n old
   pub taken : b.end.taken ≡ a.end.taken ++ take n new
   pub known : 0 < length a.end.known → take n new ++ b.end.known ≡ a.end.known
   pub loaded : a.end.known ≡ [] → HasLoaded b.end
+  pub most : n ≡ min (length old)
+      (min (n + length b.end.known) (a.end.capacity - read_place a.end))
   pub none : n ≡ 0 → (old ≡ []) ⊎ (b.end.known ≡ [])
   pub end : SameReadEnd a.end b.end
   pub saw : b.end.saw ≡ a.end.saw

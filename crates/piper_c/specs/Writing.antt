@@ -2,7 +2,7 @@
 use Rattle.std.specs.Prelude.{◌≡◌, ℕ, ◌<◌, ◌≤◌, ◌+◌, ◌++◌, ◌⊎◌, take, drop, Bool, true, false, List, [], length, Option, Some, None}
 use Rattle.piper_ring.specs.Shared.{flag}
 use Rattle.piper_ring.specs.Loads.{FoundClosed, IsAway}
-use Rattle.piper_ring.specs.WriteView.{HasLoadedHead, WriteView, SameWriteEnd, SameButSaw}
+use Rattle.piper_ring.specs.WriteView.{HasLoadedHead, Lendable, WriteView, SameWriteEnd, SameButSaw}
 use Rattle.piper_ring.specs.SlotsView.{WriteSlotsView, IsWriterPending, IsAtRest, SameWriterLooks, SameWriterPlace}
 use Rattle.piper_c.specs.declared.halves.WriteHalf.{WriteHalf}
 use Rattle.piper_c.specs.declared.outcome.Outcome.{Outcome}
@@ -91,13 +91,16 @@ pub record WriterAsked (is_closed : Bool) (a b : WriteHalf) : Type 0 where
   pub places : b.places ≡ a.places
 
 -- n bytes were copied from the front of a slice and published, and nothing is lent; some are only
--- where a look just found that the pipe isn't closed; where no room was known, the head was loaded
+-- where a look just found that the pipe isn't closed, and then as many as a loan for them has; where
+-- no room was known, the head was loaded
 pub record WritesFrom (from : List ℕ) (n : ℕ) (a b : WriteHalf) : Type 0 where
   pub count : n ≤ length from
   pub sent : b.end.sent ≡ a.end.sent ++ take n from
   pub lent : b.end.lent ≡ []
   pub none : n ≡ 0 → (from ≡ []) ⊎ ((b.end.room ≡ 0) ⊎ (b.end.saw ≡ true))
   pub some : 0 < n → b.end.saw ≡ false
+  pub most : b.end.saw ≡ false →
+      Lendable (record a.end { room = b.end.room + n }) (length from) n
   pub loaded : a.end.room ≡ 0 → b.end.saw ≡ false → HasLoadedHead b.end
   pub end : SameWriteEnd a.end b.end
   pub shut : b.end.shut ≡ a.end.shut

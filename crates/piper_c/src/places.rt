@@ -123,7 +123,8 @@ impl WriteHalf {
         self.end.cancel(&mut self.slots, &self.places)
     }
 
-    /// Checks after all that was stored whether the reader left its words, and takes them if it did.
+    /// Checks after all that was stored whether the reader left its words, and takes them if it
+    /// did.
     pub(crate) fn take_reader(&mut self) -> Option<Waiter>
         ensures wake { TookReader result self.old.slots self.new }
         ensures rest { (self.new.end ≡ self.old.end) × (self.new.places ≡ self.old.places) }
