@@ -1,6 +1,6 @@
 //! The exports of the side that reads. Each takes the side out of its handle, makes a call of it
 //! and puts it back.
-ghost use Rattle.std.specs.Prelude.{◌≡◌, ◌≢◌, ◌<◌, IsSome, None, false};
+ghost use Rattle.std.specs.Prelude.{◌≡◌, ◌≢◌, ◌<◌, IsSome, None};
 ghost use Rattle.piper_ring.specs.ReadView.{MayBeUnread, in_one_piece};
 ghost use Rattle.piper_ring.specs.Loads.{FoundWaiter};
 ghost use Rattle.piper_c.specs.Leaving.{Leaves};

@@ -1,6 +1,6 @@
 //! The exports of the side that writes. Each takes the side out of its handle, makes a call of it
 //! and puts it back.
-ghost use Rattle.std.specs.Prelude.{◌≡◌, ◌<◌, None, false};
+ghost use Rattle.std.specs.Prelude.{◌≡◌, ◌<◌, None};
 ghost use Rattle.piper_ring.specs.WriteView.{MayBeUnread};
 ghost use Rattle.piper_ring.specs.Loads.{FoundWaiter};
 ghost use Rattle.piper_c.specs.Leaving.{Leaves};
