@@ -32,6 +32,8 @@ use Rattle.piper_machine.specs.Answered.{IsNext, AreRightFrom, AreAnswered}
 use Rattle.piper_machine.proofs.Whole.{given-slice, failure-slice}
 use Rattle.piper_machine.proofs.Counting.{reader_never-tail, writer_never-head}
 use Rattle.piper_machine.proofs.Remembering.{writer-idle}
+use Rattle.piper_machine.proofs.Conserving.{capacity-kept}
+use Rattle.piper_machine.proofs.Runs.{SoundRuns}
 use Rattle.piper_machine.proofs.Showing.{noted-append, right-append, leaves-append, writer-logs, reader-logs, writer_answer-leaves, reader_answer-leaves, coming-kept, coming-answered}
 use Rattle.piper_machine.proofs.ReaderAnswers.{ReaderAt, opens-leads, reader-point}
 use Rattle.piper_machine.proofs.WriterAnswers.{WriterAt, writer-point}
@@ -174,18 +176,18 @@ step-noted Writer lent (Go Reader) p steps t sound may accepted h =
     (leaves.0, record { coming = ap (λ (u : Noted). u.coming) leaves.1 ∙ h.coming; valid = rw (same.0, same.1, same.2, leaves.1) h.valid })
 
 -- of a list of steps that has come so far, and what is still to come
-pub record Answers (capacity : ℕ) (steps coming : List Step) (p : Pipe) (events : List Event) : Type 0 where
-  pub right : AreAnswered capacity steps events
-  pub noted : (side : Side) → IsNoted capacity side p coming (noted_from side (unnoted (calls_of side steps)) events)
+record Answers (capacity : ℕ) (steps coming : List Step) (p : Pipe) (events : List Event) : Type 0 where
+  right : AreAnswered capacity steps events
+  noted : (side : Side) → IsNoted capacity side p coming (noted_from side (unnoted (calls_of side steps)) events)
 
-pub answers_none : (capacity : ℕ) (steps : List Step) → Answers capacity steps steps (fresh capacity) []
+answers_none : (capacity : ℕ) (steps : List Step) → Answers capacity steps steps (fresh capacity) []
 answers_none capacity steps = record { right = λ side. tt; noted = none }
   where
     none : (side : Side) → IsNoted capacity side (fresh capacity) steps (unnoted (calls_of side steps))
     none Reader = record { coming = refl; valid = tt }
     none Writer = record { coming = refl; valid = tt }
 
-pub answers_more : (steps coming : List Step) (s : Step) (capacity : ℕ) (p q : Pipe) (before after : List Event) → IsSound p → p.capacity ≡ capacity → Answers capacity steps (s ∷ coming) p before → Made p s q before after → Answers capacity steps coming q after
+answers_more : (steps coming : List Step) (s : Step) (capacity : ℕ) (p q : Pipe) (before after : List Event) → IsSound p → p.capacity ≡ capacity → Answers capacity steps (s ∷ coming) p before → Made p s q before after → Answers capacity steps coming q after
 answers_more steps coming s capacity p q before after sound same given made =
     let kept = subst (λ (c : ℕ). Answers c steps (s ∷ coming) p before) (sym same) given in
     let new = stepped q.lent s p in
@@ -197,3 +199,13 @@ answers_more steps coming s capacity p q before after sound same given made =
     } in
     let here = subst (λ es. Answers p.capacity steps coming q es) (sym made.made.events) (subst (λ (x : Pipe). Answers p.capacity steps coming x (before ++ new.events)) (sym made.made.pipe) next) in
     subst (λ (c : ℕ). Answers c steps coming q after) same here
+
+answers_runs : (steps coming : List Step) (capacity : ℕ) (p q : Pipe) (before after : List Event) → p.capacity ≡ capacity → Answers capacity steps coming p before → SoundRuns p before coming q after → Answers capacity steps [] q after
+answers_runs steps [] capacity p q before after same given run =
+    subst (λ (es : List Event). Answers capacity steps [] q es) (sym run.1) (subst (λ (x : Pipe). Answers capacity steps [] x before) (sym run.0) given)
+answers_runs steps (s ∷ coming) capacity p q before after same given run =
+    let next = answers_more steps coming s capacity p run.0 before run.1 run.2 same given run.3 in
+    answers_runs steps coming capacity run.0 q run.1 after (capacity-kept p run.0 s before run.1 run.2 run.3 ∙ same) next run.4
+
+pub answered-run : (capacity : ℕ) (steps : List Step) (p : Pipe) (events : List Event) → SoundRuns (fresh capacity) [] steps p events → AreAnswered capacity steps events
+answered-run capacity steps p events run = (answers_runs steps steps capacity (fresh capacity) p [] events refl (answers_none capacity steps) run).right

@@ -4,13 +4,10 @@ use Rattle.piper_sides.specs.declared.calls.Step.{Step}
 use Rattle.piper_sides.specs.declared.events.Event.{Event}
 use Rattle.piper_machine.specs.Pipe.{Pipe, fresh}
 use Rattle.piper_machine.specs.Sound.{IsSound}
-use Rattle.piper_machine.specs.Known.{IsKnown}
 use Rattle.piper_machine.specs.Conservation.{IsConserved}
-use Rattle.piper_machine.specs.Remembered.{AreRemembered}
 use Rattle.piper_machine.specs.Run.{Made, Runs}
-use Rattle.piper_machine.specs.Front.{IsLawful, Front}
-use Rattle.piper_machine.proofs.Disjointness.{disjoint}
-use Rattle.piper_machine.proofs.KnownRuns.{counted-run, calls-counted}
+use Rattle.piper_machine.specs.Lawful.{IsLawful}
+use Rattle.piper_machine.specs.Front.{Front}
 use Rattle.piper_machine.proofs.Runs.{runs_more}
 
 abbrev no_steps : List Step
@@ -58,36 +55,26 @@ sound-fresh capacity some = record {
 pub conserved_none : (capacity : ℕ) → IsConserved (fresh capacity) []
 conserved_none capacity = record { bytes = refl; within = omega (arith); start = search rules }
 
-pub lawful : (capacity : ℕ) (ss : List Step) (p : Pipe) (es : List Event) → Runs (fresh capacity) [] ss p es → IsSound p → IsConserved p es → IsKnown p es → AreRemembered p es → IsLawful capacity ss p es
-lawful capacity ss p es runs sound conserved known remembered = record {
-  runs = runs;
-  sound = sound;
-  conserved = conserved;
-  disjoint = disjoint p sound;
-  known = known;
-  counted = counted-run capacity ss p es runs;
-  called = calls-counted capacity ss p es;
-  remembered = remembered;
-}
-
 pub fronts_none : (capacity : ℕ) → IsLawful capacity [] (fresh capacity) [] → (i : ℕ) → Front capacity [] i (fresh capacity) []
-fronts_none capacity kept zero = record { pipe = fresh capacity; log = []; lawful = kept; rest = (refl, refl) }
-fronts_none capacity kept (suc i) = record { pipe = fresh capacity; log = []; lawful = kept; rest = (refl, refl) }
+fronts_none capacity kept zero = record { pipe = fresh capacity; log = []; runs = (refl, refl); lawful = kept; rest = (refl, refl) }
+fronts_none capacity kept (suc i) = record { pipe = fresh capacity; log = []; runs = (refl, refl); lawful = kept; rest = (refl, refl) }
 
 pub fronts_more : (capacity : ℕ) (ss : List Step) (s : Step) (p q : Pipe) (before after : List Event) → ((i : ℕ) → Front capacity ss i p before) → Made p s q before after
-    → IsLawful capacity (ss ++ s ∷ []) q after → (i : ℕ) → Front capacity (ss ++ s ∷ []) i q after
-fronts_more capacity ss s p q before after fronts made kept i = elim (split i ss s) [
+    → Runs (fresh capacity) [] (ss ++ s ∷ []) q after → IsLawful capacity (ss ++ s ∷ []) q after → (i : ℕ) → Front capacity (ss ++ s ∷ []) i q after
+fronts_more capacity ss s p q before after fronts made on kept i = elim (split i ss s) [
   | inl earlier ↦
       let front = fronts i in
       record {
         pipe = front.pipe;
         log = front.log;
+        runs = subst (λ (xs : List Step). Runs (fresh capacity) [] xs front.pipe front.log) (sym earlier.taken) front.runs;
         lawful = subst (λ (xs : List Step). IsLawful capacity xs front.pipe front.log) (sym earlier.taken) front.lawful;
         rest = subst (λ (xs : List Step). Runs front.pipe front.log xs q after) (sym earlier.left) (runs_more front.pipe p q (drop i ss) s front.log before after front.rest made);
       }
   | inr all ↦ record {
     pipe = q;
     log = after;
+    runs = subst (λ (xs : List Step). Runs (fresh capacity) [] xs q after) (sym all.taken) on;
     lawful = subst (λ (xs : List Step). IsLawful capacity xs q after) (sym all.taken) kept;
     rest = subst (λ (xs : List Step). Runs q after xs q after) (sym all.left) (refl, refl);
   }

@@ -45,3 +45,4 @@ pub mod WriterAnswers
 pub mod Answering
 pub mod Heeding
 pub mod Fronts
+pub mod Keeping

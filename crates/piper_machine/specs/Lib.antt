@@ -35,5 +35,6 @@ pub mod Heed
 pub mod Noted
 pub mod Outcome
 pub mod Answered
+pub mod Lawful
 pub mod Front
 pub mod Machine

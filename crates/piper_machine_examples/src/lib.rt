@@ -16,15 +16,13 @@ ghost use Rattle.piper_protocol.specs.declared.answer.Answer.TheVariants.{Count}
 ghost use Rattle.piper_machine.specs.Pipe.{Pipe, fresh, begun};
 ghost use Rattle.piper_machine.specs.Query.{unread_count};
 ghost use Rattle.piper_machine.specs.Run.{Runs, RefusedAt};
-ghost use Rattle.piper_machine.specs.Conservation.{consumed_of, published_of};
-ghost use Rattle.piper_machine.specs.Places.{HeldByReader, HeldByWriter};
 ghost use Rattle.piper_machine.specs.Answered.{AreAnswered};
 ghost use Rattle.piper_machine.specs.Counts.{tally_of};
-ghost use Rattle.piper_machine.specs.Final.{told_end};
 ghost use Rattle.piper_machine.specs.Honest.{IsHonest};
 ghost use Rattle.piper_machine.specs.Refusal.{IsIdle};
 ghost use Rattle.piper_machine.specs.Remembered.{other, WasCalled, WaitsRegistered};
 ghost use Rattle.piper_machine.specs.Wait.{wait_of};
+ghost use Rattle.piper_machine_examples.specs.Bytes.{KeepsBytes};
 ghost use Rattle.piper_machine_examples.specs.Outside.{IsOutside};
 ghost use Rattle.piper_machine_examples.specs.ReportedLast.{IsReportedLast};
 
@@ -62,14 +60,7 @@ pub fn made_by_the_laws(
     ensures made { IfOk result (λ run. Runs (fresh cap) [] steps.now run.0 (events run.1)) }
     ensures refused { (i : ℕ) (why : StepRefusal) →
         result ≡ Err (RunRefusal.At i why) → RefusedAt cap steps.now i why }
-    ensures first_in_first_out { IfOk result (λ run.
-        consumed_of (events run.1) ++ run.0.unread ≡ published_of (events run.1)) }
-    ensures never_overfull { IfOk result (λ run. length run.0.unread ≤ cap) }
-    ensures no_place_is_shared { IfOk result (λ run. (place : ℕ) →
-        HeldByReader run.0 place → HeldByWriter run.0 place → ⊥) }
-    ensures nothing_is_left_at_the_end { IfOk result (λ run. (before after : List Event) →
-        events run.1 ≡ before ++ told_end ∷ after →
-        consumed_of (events run.1) ≡ published_of (events run.1)) }
+    ensures bytes { IfOk result (λ run. KeepsBytes cap run.0 (events run.1)) }
     ensures nobody_is_forgotten { IfOk result (λ run. (side : Side) →
         IsIdle side run.0 → IsOutside (other side) run.0 →
         let w = wait_of side (events run.1) in

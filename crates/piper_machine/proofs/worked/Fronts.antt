@@ -7,7 +7,7 @@ use Rattle.piper_machine.specs.Front.{Front}
 
 first_front : (capacity : ℕ) (steps : List Step) (p : Pipe) (events : List Event) (front : Front capacity steps 0 p events)
     → (front.pipe ≡ fresh capacity) × (front.log ≡ [])
-first_front capacity steps p events front = (front.lawful.runs.0, front.lawful.runs.1)
+first_front capacity steps p events front = (front.runs.0, front.runs.1)
 
 last_front : (capacity : ℕ) (s t : Step) (p : Pipe) (events : List Event) (front : Front capacity (s ∷ t ∷ []) 2 p events)
     → (p ≡ front.pipe) × (events ≡ front.log)

@@ -8,18 +8,8 @@ ghost use Rattle.piper_machine.specs.Action.{logged_of};
 ghost use Rattle.piper_machine.specs.Step.{action_of};
 ghost use Rattle.piper_protocol.specs.Table.{read_action, write_action};
 ghost use Rattle.piper_machine.specs.Pipe.{fresh};
-ghost use Rattle.piper_machine.specs.Known.{IsKnown};
-ghost use Rattle.piper_machine.specs.Ready.{IsReady};
-ghost use Rattle.piper_machine.specs.Counts.{IsCounted};
-ghost use Rattle.piper_machine.specs.Called.{AreCallsCounted};
-ghost use Rattle.piper_machine.specs.Conservation.{IsConserved};
-ghost use Rattle.piper_machine.specs.Disjoint.{IsDisjoint, KeepsKnown, IsWriterStep};
-ghost use Rattle.piper_machine.specs.Honest.{IsHonest};
-ghost use Rattle.piper_machine.specs.Final.{IsFinal};
-ghost use Rattle.piper_machine.specs.Heed.{IsHeeded};
-ghost use Rattle.piper_machine.specs.Remembered.{AreRemembered};
-ghost use Rattle.piper_machine.specs.Answered.{AreAnswered};
-ghost use Rattle.piper_machine.specs.Sound.{IsSound};
+ghost use Rattle.piper_machine.specs.Disjoint.{KeepsKnown, IsWriterStep};
+ghost use Rattle.piper_machine.specs.Lawful.{IsLawful};
 ghost use Rattle.piper_machine.specs.Front.{Front};
 ghost use Rattle.piper_machine.specs.Run.{Made, IsStepped, Runs, IsRefusal, IsRunRefusal, IsOfMemory, MemoryIsRefused};
 
@@ -131,20 +121,9 @@ pub fn run(alloc: Global, cap: usize, steps: &[Step]) -> Result<(Machine, Log), 
     requires { IsCapacity cap }
     ensures runs { IfOk result (λ run. Runs (fresh cap) [] steps.now run.0 (events run.1)) }
     ensures capacity { IfOk result (λ run. run.0.capacity ≡ cap) }
-    ensures refused { IfErr result (IsRunRefusal cap steps.now) }
+    ensures lawful { IfOk result (λ run. IsLawful cap steps.now run.0 (events run.1)) }
     ensures fronts { IfOk result (λ run. (i : ℕ) → Front cap steps.now i run.0 (events run.1)) }
-    ensures sound { IfOk result (λ run. IsSound run.0) }
-    ensures conserved { IfOk result (λ run. IsConserved run.0 (events run.1)) }
-    ensures disjoint { IfOk result (λ run. IsDisjoint run.0) }
-    ensures known { IfOk result (λ run. IsKnown run.0 (events run.1)) }
-    ensures ready { IfOk result (λ run. IsReady cap (events run.1)) }
-    ensures counted { IfOk result (λ run. IsCounted cap steps.now (events run.1)) }
-    ensures called { IfOk result (λ run. AreCallsCounted cap steps.now run.0 (events run.1)) }
-    ensures honest { IfOk result (λ run. IsHonest (events run.1)) }
-    ensures finality { IfOk result (λ run. IsFinal run.0 (events run.1)) }
-    ensures heeded { IfOk result (λ run. IsHeeded (events run.1)) }
-    ensures remembered { IfOk result (λ run. AreRemembered run.0 (events run.1)) }
-    ensures answered { IfOk result (λ run. AreAnswered cap steps.now (events run.1)) }
+    ensures refused { IfErr result (IsRunRefusal cap steps.now) }
 {
     let Ok(mut machine) = Machine::new(alloc, cap) else {
         return Err(RunRefusal::NoMachine);
