@@ -179,8 +179,8 @@ place-count c k s n some is fits =
           none ∙ sym (ap (λ j. j % c) (parts ∙ ap (λ j. k / c * c + j) full) ∙ add-mod_right (k / c * c) c ∙ mul-mod_left (k / c) c))
     ]
 
-pub conserved-step : (p q : Pipe) (s : Step) (before after : List Event) → IsSound p → IsSound q → IsConserved p before → Made p s q before after → IsConserved q after
-conserved-step p q s before after sound sound_after kept made =
+pub conserved-step : (p q : Pipe) (s : Step) (before after : List Event) → IsSound p → IsConserved p before → Made p s q before after → IsConserved q after
+conserved-step p q s before after sound kept made =
     let new = stepped q.lent s p in
     let moves = step-moves q.lent s p sound in
     let unread = ap (λ (x : Pipe). x.unread) made.made.pipe in
@@ -194,7 +194,6 @@ conserved-step p q s before after sound sound_after kept made =
           ∙ ap (λ (bytes : List ℕ). consumed_of before ++ bytes) moves.bytes
           ∙ sym (append_assoc (consumed_of before) p.unread (published_of new.events))
           ∙ ap (λ (bytes : List ℕ). bytes ++ published_of new.events) kept.bytes);
-      within = sound_after.unread;
       start = rw (made.made.events, capacity, consumed, length-append (consumed_of before) (consumed_of new.events))
           (start ∙ moves.start ∙ place-count p.capacity (length (consumed_of before)) p.start (length (consumed_of new.events)) (omega (arith, sound.start)) kept.start moves.count);
     }

@@ -53,7 +53,7 @@ sound-fresh capacity some = record {
 }
 
 pub conserved_none : (capacity : ℕ) → IsConserved (fresh capacity) []
-conserved_none capacity = record { bytes = refl; within = omega (arith); start = search rules }
+conserved_none capacity = record { bytes = refl; start = search rules }
 
 pub fronts_none : (capacity : ℕ) → IsLawful capacity [] (fresh capacity) [] → (i : ℕ) → Front capacity [] i (fresh capacity) []
 fronts_none capacity kept zero = record { pipe = fresh capacity; log = []; runs = (refl, refl); lawful = kept; rest = (refl, refl) }

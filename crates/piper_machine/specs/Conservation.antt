@@ -1,5 +1,5 @@
 -- Conservation: the bytes consumed, followed by those unread, are those published.
-use Rattle.std.specs.Prelude.{◌≡◌, ℕ, ◌≤◌, ◌%◌, List, [], ◌++◌, length}
+use Rattle.std.specs.Prelude.{◌≡◌, ℕ, ◌%◌, List, [], ◌++◌, length}
 use Rattle.std.specs.List.{flat_map}
 use Rattle.piper_sides.specs.declared.events.Event.{Event}
 use Rattle.piper_sides.specs.declared.events.Event.TheVariants.{Published, Consumed}
@@ -23,7 +23,5 @@ published_of events = flat_map published_in events
 pub record IsConserved (p : Pipe) (events : List Event) : Type 0 where
   -- first in, first out: nothing lost, doubled, changed or invented
   pub bytes : consumed_of events ++ p.unread ≡ published_of events
-  -- never more than the capacity unread
-  pub within : length p.unread ≤ p.capacity
   -- the first unread byte is at the place that the count of consumed bytes says
   pub start : p.start ≡ length (consumed_of events) % p.capacity
