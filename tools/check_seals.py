@@ -80,11 +80,15 @@ SEALS = {
             )
         ],
     ),
-    "as_over": (
-        "piper_transfer/specs/Transfer",
-        ["piper_transfer/proofs/meter/InputMeter/is_output_over"],
-    ),
     "as_stopped": ("piper_transfer/specs/Transfer", ["piper_transfer/proofs/error/stopped"]),
+    "as_waker_refused": ("piper_transfer/specs/Transfer", ["piper_transfer/proofs/error/no_waker"]),
+    "as_cannot_wait": ("piper_transfer/specs/Transfer", ["piper_transfer/proofs/turns/of_queue"]),
+    "as_output_failed": (
+        "piper_transfer/specs/Transfer",
+        ["piper_transfer/proofs/over/OutputOver/end_output"],
+    ),
+    "as_begun": ("piper_transfer/specs/Threads", ["piper_transfer/proofs/start/Start/begin"]),
+    "as_late": ("piper_transfer/specs/Threads", ["piper_transfer/proofs/start/Start/wait"]),
     "as_had_seen": ("piper_futures/specs/Threads", ["piper_futures/proofs/threads/closed_by_writer"]),
 }
 

@@ -8,9 +8,11 @@ use Rattle.std.proofs.Crossing.{crosses}
 use Rattle.piper.proofs.handles.Writer.TheSendSync as writer
 use Rattle.piper.specs.contracts.handles.Writer as Writer
 use Rattle.piper_transfer.specs.contracts.meter.Meter as Meter
+use Rattle.piper_transfer.specs.contracts.over.OutputOver as OutputOver
 use Rattle.piper_transfer.specs.contracts.start.Start as Start
 use Rattle.piper_transfer.specs.contracts.turns.Turns as Turns
 use Rattle.piper_transfer.proofs.meter.Meter.TheSendSync as meter
+use Rattle.piper_transfer.proofs.over.OutputOver.TheSendSync as over
 use Rattle.piper_transfer.proofs.start.Start.TheSendSync as start
 use Rattle.piper_transfer.proofs.turns.Turns.TheSendSync as turns
 
@@ -29,6 +31,9 @@ turns_lent ℓ = search (sendable, turns.the_sync)
 
 pub meter_lent : (ℓ : NamedLft) → IsSend (shr_ref_field ℓ Meter.the_row tt).row
 meter_lent ℓ = search (sendable, meter.the_sync)
+
+pub over_lent : (ℓ : NamedLft) → IsSend (shr_ref_field ℓ OutputOver.the_row tt).row
+over_lent ℓ = search (sendable, over.the_sync)
 
 pub count_lent : (ℓ : NamedLft) → IsSend (shr_ref_field ℓ (u64-field).row tt).row
 count_lent ℓ = search sendable

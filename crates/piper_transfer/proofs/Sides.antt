@@ -4,6 +4,7 @@ use Rattle.std.proofs.KnownBytes.{Consumes-nil, Consumes-trans, Appends-nil, App
 use Rattle.std.specs.Io.KnownBytes.{Keeps}
 use Rattle.piper.specs.ReadView.{ReadView, SameReadEnd}
 use Rattle.piper.specs.WriteView.{WriteView}
+use Rattle.piper.specs.Ends.{WriterRefreshed}
 use Rattle.piper.specs.Looks.{ReaderLooked, WriterLooked}
 use Rattle.piper_transfer.specs.Taken.{StaysTaken}
 use Rattle.piper_transfer.specs.Transfer.{Fed, Gets, Poured, PouredAll}
@@ -26,6 +27,10 @@ fed_same i j a b c p sent ring = record { given = p.given; consumed = p.consumed
 -- what was given before a look, and after it
 pub fed_looked : (i j : Option (List ℕ)) (a b c : WriteView) → Fed i j a b → WriterLooked b c → Fed i j a c
 fed_looked i j a b c p look = fed_same i j a b c p look.sent look.end.ring
+
+-- what was given before the handles met, and after it
+pub fed_refreshed : (i j : Option (List ℕ)) (a b c : WriteView) → Fed i j a b → WriterRefreshed b c → Fed i j a c
+fed_refreshed i j a b c p met = fed_same i j a b c p met.sent met.end.ring
 
 pub fed_round : (i j k : Option (List ℕ)) (a b c d : WriteView) → Fed i j a b → WriterLooked b c → Fed j k c d → Fed i k a d
 fed_round i j k a b c d p look q = fed_more i j k a c d (fed_looked i j a b c p look) q

@@ -1,3 +1,4 @@
 pub mod Size
 pub mod Taken
+pub mod Threads
 pub mod Transfer

@@ -1,10 +1,12 @@
 -- What a transfer moves, and what each of its sides does.
-use Rattle.std.specs.Prelude.{◌≡◌, ◌≢◌, ℕ, List, [], ◌++◌, ◌⊎◌, Bool, Option, Result, Ok, Err, OnOk, ⊤, true, false}
+use Rattle.std.specs.Prelude.{◌≡◌, ◌≢◌, ℕ, List, [], ◌++◌, ◌⊎◌, Bool, Option, Result, Ok, Err, OnOk, IfErr, ⊤, true, false}
 use Rattle.std.specs.IoError.{error_kind}
 use Rattle.std.specs.declared.io.Error.{Error}
 use Rattle.std.specs.declared.io.ErrorKind.TheVariants.{Interrupted, WouldBlock}
 use Rattle.std.specs.Io.KnownBytes.{Consumes, Appends, IsAtEnd}
+use Rattle.futures.specs.declared.task.context.Context.{Context}
 use Rattle.piper_protocol.specs.Reported.{HasFailed}
+use Rattle.piper_protocol.specs.declared.memory.OutOfMemory.{OutOfMemory}
 use Rattle.piper.specs.Ends.{IsEnded}
 use Rattle.piper.specs.ReadView.{ReadView}
 use Rattle.piper.specs.WriteView.{WriteView}
@@ -13,7 +15,6 @@ use Rattle.piper_transfer.specs.declared.error.Stop.{Stop}
 use Rattle.piper_transfer.specs.declared.error.Stop.TheVariants.{Over, Closed}
 use Rattle.piper_transfer.specs.declared.error.TransferError.{TransferError}
 use Rattle.piper_transfer.specs.declared.error.TransferError.TheVariants.{Read, Write, Full, Memory, Turns}
-use Rattle.piper_transfer.specs.declared.meter.InputMeter.{InputMeter}
 
 -- its handle neither closed the pipe nor saw it closed
 abbrev pub IsOpen : WriteView → Type 0
@@ -80,19 +81,55 @@ pub record IsLasting (e : Error) : Type 0 where
   pub heard : error_kind e ≢ Interrupted
   pub due : error_kind e ≢ WouldBlock
 
--- a load of this meter found whether the output is over. It is sealed: no proof looks into it, and
--- only that of `is_output_over` uses the lemma below
-pub FoundOver : InputMeter → Bool → Type 0
-FoundOver meter is_over = ⊤
+-- a call that failed so is made again: it was interrupted, or would block
+abbrev pub IsPassing : Error → Type 0
+IsPassing e = (error_kind e ≡ Interrupted) ⊎ (error_kind e ≡ WouldBlock)
 
-pub as_over : (meter : InputMeter) (is_over : Bool) → FoundOver meter is_over
-unfolding FoundOver
-as_over meter is_over = tt
+-- memory was refused for the pipe
+abbrev pub PipeIsRefused : Type 0
+PipeIsRefused = (refused : OutOfMemory) × HasFailed refused
 
--- it is so: the meter was found to say that the output is over; or the writer saw the pipe closed,
--- and didn't close it
+-- memory was refused for a waker. It is sealed: no proof looks into it, and only that of `no_waker`
+-- uses the lemma below
+pub WakerIsRefused : Type 0
+WakerIsRefused = ⊤
+
+pub as_waker_refused : (cx : Context) → cx.lacks_waker ≡ true → WakerIsRefused
+unfolding WakerIsRefused
+as_waker_refused cx lacks = tt
+
+-- a thread can't be made to wait: a call for its turns failed so. It is sealed: no proof looks into
+-- it, and only that of `of_queue` uses the lemma below
+pub CannotWait : Error → Type 0
+CannotWait error = ⊤
+
+pub as_cannot_wait : {T : Type 0} (returned : Result T Error) → IfErr returned CannotWait
+unfolding CannotWait
+as_cannot_wait (Ok x) = tt
+as_cannot_wait (Err e) = tt
+
+-- the side that writes the output may report this error: a write or a flush has failed so, a write
+-- has taken no byte, memory was refused for a waker, or the thread can't be made to wait
+abbrev pub IsOfDestination : (Error → Type 0) → Type 0 → TransferError → Type 0
+IsOfDestination fails full (Read e) = ⊥
+IsOfDestination fails full (Write e) = fails e × IsLasting e
+IsOfDestination fails full Full = full
+IsOfDestination fails full Memory = WakerIsRefused
+IsOfDestination fails full (Turns e) = CannotWait e
+
+-- the side that writes the output has failed. It is sealed: no proof looks into it, and only that of
+-- `end_output` uses the lemma below
+pub OutputHasFailed : Type 0
+OutputHasFailed = ⊤
+
+pub as_output_failed : (fails : Error → Type 0) (full : Type 0) (error : TransferError)
+    → IsOfDestination fails full error → OutputHasFailed
+unfolding OutputHasFailed
+as_output_failed fails full error failed = tt
+
+-- it is so: the output's side has failed; or the writer saw the pipe closed, and didn't close it
 abbrev pub IsReason : Stop → Type 0
-IsReason (Over meter) = FoundOver meter true
+IsReason Over = OutputHasFailed
 IsReason (Closed writer) = (writer.now.end.saw ≡ true) × (writer.now.end.shut ≡ false)
 
 -- the side that reads the input ended for such a reason. It is sealed: no proof looks into it, and
@@ -104,27 +141,18 @@ pub as_stopped : (stop : Stop) (error : TransferError) → IsReason stop → IsS
 unfolding IsStopped
 as_stopped stop error reason = tt
 
--- the side that reads the input may report this error: a read has failed so, memory was refused, or
--- the side was told to end
+-- the side that reads the input may report this error: a read has failed so, memory was refused for
+-- a waker, the thread can't be made to wait, or the side ended for such a reason
 abbrev pub IsOfSource : (Error → Type 0) → TransferError → Type 0
 IsOfSource fails (Read e) = fails e × IsLasting e
-IsOfSource fails Memory = HasFailed Memory ⊎ IsStopped Memory
-IsOfSource fails (Turns e) = HasFailed e
+IsOfSource fails Memory = WakerIsRefused ⊎ IsStopped Memory
+IsOfSource fails (Turns e) = CannotWait e
 IsOfSource fails other = ⊥
 
--- the side that writes the output may report this error: a write or a flush has failed so, a write
--- has taken no byte, or memory was refused
-abbrev pub IsOfDestination : (Error → Type 0) → Type 0 → TransferError → Type 0
-IsOfDestination fails full (Read e) = ⊥
-IsOfDestination fails full (Write e) = fails e × IsLasting e
-IsOfDestination fails full Full = full
-IsOfDestination fails full Memory = HasFailed Memory
-IsOfDestination fails full (Turns e) = HasFailed e
-
--- memory was refused: for the pipe, for a waker, or for the turns of a thread
+-- neither side has begun: memory was refused for the pipe, or a thread can't be made to wait
 abbrev pub IsOfMemory : TransferError → Type 0
-IsOfMemory Memory = HasFailed Memory
-IsOfMemory (Turns e) = HasFailed e
+IsOfMemory Memory = PipeIsRefused
+IsOfMemory (Turns e) = CannotWait e
 IsOfMemory other = ⊥
 
 -- the error is of the side that it names
@@ -132,8 +160,8 @@ abbrev pub IsOfSide : (Error → Type 0) → (Error → Type 0) → Type 0 → T
 IsOfSide read written full (Read e) = read e × IsLasting e
 IsOfSide read written full (Write e) = written e × IsLasting e
 IsOfSide read written full Full = full
-IsOfSide read written full Memory = HasFailed Memory ⊎ IsStopped Memory
-IsOfSide read written full (Turns e) = HasFailed e
+IsOfSide read written full Memory = PipeIsRefused ⊎ (WakerIsRefused ⊎ IsStopped Memory)
+IsOfSide read written full (Turns e) = CannotWait e
 
 -- what the output was given is a front of what the input gave
 pub record Transfers {D : Type 0}

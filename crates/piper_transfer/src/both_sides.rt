@@ -4,6 +4,7 @@ ghost use Rattle.std.specs.Io.KnownBytes.{IsAtEnd, Keeps};
 ghost use Rattle.piper.specs.Ends.{IsEnded};
 ghost use Rattle.piper.specs.Opened.{FreshReadEnd, FreshWriteEnd};
 ghost use Rattle.piper_transfer.specs.Taken.{StaysTaken};
+ghost use Rattle.piper_transfer.specs.Threads.{HasTwoThreads, IsLate, IsSpread};
 ghost use Rattle.piper_transfer.specs.Transfer.{Fed, IsDrained, IsOfDestination, IsOfMemory, IsOfSide, IsOfSource};
 ghost use Rattle.piper_transfer.specs.Transfer.{IsOpen, Poured, PouredAll, Transfers, WritesAll};
 
@@ -13,11 +14,11 @@ use crate::error::TransferError;
 use crate::filling::fill_from;
 use crate::meter::Meter;
 use crate::one_thread::take_turns;
+use crate::over::OutputOver;
 use crate::patience::flush_patiently;
 use crate::start::{Start, grants_thread};
 use crate::turns::{Input, Output, Turns};
 use piper::{Writer, pipe};
-use piper_protocol::reported::reported;
 use std::alloc::AllocGlobal;
 use std::marker::Send;
 use std::random::RandomSource;
@@ -68,10 +69,10 @@ where
     ensures flushed { WritesAll result → D.flushed dest.new }
     ensures reported { IfErr result
         (IsOfSide (S.fails source.new) (D.fails dest.new) (D.full dest.new)) }
+    ensures threads { OnOk result IsSpread }
 {
     let (mut input, mut output) = open(rt, sizes.capacity, sizes.level)?;
     let chunk = sizes.chunk.min(sizes.capacity);
-    meter.begin();
     let both = run_sides(rt, source, &mut input, &mut output, dest, chunk, meter);
     let (mut reader, mut writer) = (output.into_reader(), input.into_writer());
     // Now that both handles are held by one thread, what is left where the output failed is known;
@@ -98,8 +99,10 @@ where
 {
     let input_turns = Turns::new(rt).map_err(TransferError::Turns)?;
     let output_turns = Turns::new(rt).map_err(TransferError::Turns)?;
-    let opened = pipe(rt.alloc(), capacity, 1).map_err(|_| TransferError::Memory);
-    let (reader, writer) = reported(opened)?;
+    let (reader, writer) = match pipe(rt.alloc(), capacity, 1) {
+        Ok(handles) => handles,
+        Err(_) => return Err(TransferError::Memory),
+    };
     let input = Input {
         turns: input_turns,
         writer,
@@ -154,6 +157,7 @@ where
     ensures drained { OnOk result (IsDrained output.new.reader.end input.new.writer.end) }
     ensures input_told { IfOk result (λ filled. IfErr filled (IsOfSource (S.fails source.new))) }
     ensures reported { IfErr result (IsOfDestination (D.fails dest.new) (D.full dest.new)) }
+    ensures threads { IsSpread }
 {
     if !grants_thread(rt) {
         let (writer, reader) = (&mut input.writer, &mut output.reader);
@@ -163,7 +167,8 @@ where
     match on_two_threads(rt, source, turns, writer, output, dest, chunk, meter) {
         (Some(filled), Some(drained)) => drained.and(Ok(filled)),
         (Some(filled), None) => {
-            drain(rt, output, dest, chunk, meter.of_output()).and(Ok(filled))
+            let over = OutputOver::new();
+            drain(rt, output, dest, chunk, meter.of_output(&over)).and(Ok(filled))
         }
         (None, Some(Err(error))) => Err(error),
         // Nothing has failed, so the input is read all the same.
@@ -213,12 +218,15 @@ where
         (IsOfDestination (D.fails dest.new) (D.full dest.new))) }
     ensures drain_given_up { IfNone result.1
         ((output.new ≡ output.old) × (dest.new ≡ dest.old)) }
+    ensures begun { IfSome result.1 (λ _. HasTwoThreads) }
+    ensures fill_late { IfNone result.0 IsLate }
+    ensures drain_late { IfNone result.1 IsLate }
 {
-    let start = Start::new();
-    let begun = &start;
+    let (start, over) = (Start::new(), OutputOver::new());
+    let (begun, told) = (&start, &over);
     join_mut(
         rt,
-        &mut || fill_from(rt, begun, turns, source, writer, chunk, meter),
-        &mut || drain_from(rt, begun, output, dest, chunk, meter),
+        &mut || fill_from(rt, begun, turns, source, writer, chunk, meter, told),
+        &mut || drain_from(rt, begun, output, dest, chunk, meter, told),
     )
 }

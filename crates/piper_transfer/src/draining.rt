@@ -6,17 +6,18 @@ ghost use Rattle.futures.specs.Poll.{IfReady, OnPending};
 ghost use Rattle.piper.specs.Drains.{StaysKnown};
 ghost use Rattle.piper.specs.Ends.{IsEnded};
 ghost use Rattle.piper.specs.ReaderCalls.{MayBeUnread};
+ghost use Rattle.piper_transfer.specs.Threads.{HasTwoThreads, IsLate};
 ghost use Rattle.piper_transfer.specs.Transfer.{IsLasting, IsOfDestination, Poured, PouredAll};
 
 use crate::ends::Destination;
-use crate::error::TransferError;
-use crate::meter::{InputTold, Meter, OutputMeter};
+use crate::error::{TransferError, no_waker};
+use crate::meter::{Meter, OutputMeter};
+use crate::over::{InputTold, OutputOver};
 use crate::patience::write_patiently;
 use crate::start::Start;
 use crate::turns::{Output, Turns};
 use futures::task::{Context, Poll};
 use piper::Reader;
-use piper_protocol::reported::reported;
 use std::sync::Wait;
 use std::time::{Clock, Duration};
 use std::{io, thread};
@@ -33,6 +34,7 @@ pub(crate) fn drain_from<R, D>(
     dest: &mut D,
     chunk: usize,
     meter: &Meter,
+    over: &OutputOver,
 ) -> Option<Result<(), TransferError>>
 where
     R: Wait + Clock,
@@ -47,11 +49,13 @@ where
         (IsOfDestination (D.fails dest.new) (D.full dest.new))) }
     ensures given_up { IfNone result
         ((output.new ≡ output.old) × (dest.new ≡ dest.old)) }
+    ensures begun { IfSome result (λ _. HasTwoThreads) }
+    ensures late { IfNone result IsLate }
 {
     if !start.wait(rt) {
         return None;
     }
-    Some(drain(rt, output, dest, chunk, meter.of_output()))
+    Some(drain(rt, output, dest, chunk, meter.of_output(over)))
 }
 
 /// Writes the pipe's bytes to the output, at most `chunk` at a time, up to the pipe's end.
@@ -104,7 +108,7 @@ fn give_up<D: Destination>(
     ensures ring { reader.new.end.ring ≡ reader.old.end.ring }
     ensures capacity { reader.new.end.capacity ≡ reader.old.end.capacity }
 {
-    let told = meter.end_output(dest, error);
+    let told = meter.over.end_output(dest, error);
     let known = reader.peek_buf().len();
     reader.consume(known);
     told
@@ -130,7 +134,7 @@ where
 {
     for _ in rt.forever() {
         meter.side.begin_wait(rt);
-        let mut cx = reported(turns.next(rt).ok_or(TransferError::Memory))?;
+        let mut cx = turns.next(rt).map_err(TransferError::Turns)?;
         await_level(rt, reader, level);
         meter.side.end_wait(rt);
         let turn = drain_turn(rt, &mut cx, reader, dest, chunk, meter);
@@ -184,12 +188,12 @@ where
     for _ in rt.forever() {
         let looked = match reader.poll(cx) {
             Poll::Pending => return Poll::Pending,
-            Poll::Ready(looked) => reported(looked.map_err(|_| TransferError::Memory)),
+            Poll::Ready(looked) => looked,
         };
         match looked {
             Ok(true) => {}
             Ok(false) => return Poll::Ready(Ok(())),
-            Err(error) => return Poll::Ready(Err(error)),
+            Err(_) => return Poll::Ready(Err(no_waker(cx))),
         }
         if let Err(error) = write_some(rt, reader, dest, chunk, meter) {
             return Poll::Ready(Err(error));

@@ -1,8 +1,8 @@
 //! Why a transfer stopped before the input's end.
-ghost use Rattle.std.specs.Prelude.{◌≡◌};
-ghost use Rattle.piper_transfer.specs.Transfer.{IsReason, IsStopped};
+ghost use Rattle.std.specs.Prelude.{◌≡◌, true};
+ghost use Rattle.piper_transfer.specs.Transfer.{IsReason, IsStopped, WakerIsRefused};
 
-use crate::meter::InputMeter;
+use futures::task::Context;
 use piper::Writer;
 use std::io;
 use thiserror::Error;
@@ -31,8 +31,8 @@ pub enum TransferError {
 /// Why the side that reads the input ends before the input does.
 #[derive(Clone, Copy)]
 pub(crate) enum Stop<'a> {
-    /// The meter said that the output is over.
-    Over(InputMeter<'a>),
+    /// The output is over.
+    Over,
     /// The writer saw the pipe closed, and did not close it.
     Closed(&'a Writer),
 }
@@ -43,6 +43,15 @@ pub(crate) fn stopped(_stop: Stop<'_>) -> TransferError
     requires reason { IsReason _stop }
     ensures value { result ≡ TransferError.Memory }
     ensures stopped { IsStopped result }
+{
+    TransferError::Memory
+}
+
+/// Want of memory, since a poll with this context could make no waker.
+pub(crate) fn no_waker(_cx: &Context<'_>) -> TransferError
+    requires lacks { _cx.now.lacks_waker ≡ true }
+    ensures value { result ≡ TransferError.Memory }
+    ensures refused { WakerIsRefused }
 {
     TransferError::Memory
 }

@@ -3,18 +3,19 @@ ghost use Rattle.std.specs.Prelude.{◌≡◌, ◌<◌, Ok, OnOk, IfErr, IfSome,
 ghost use Rattle.std.specs.Io.KnownBytes.{IsAtEnd};
 ghost use Rattle.futures.specs.Task.{IsArmed};
 ghost use Rattle.futures.specs.Poll.{IfReady, OnPending};
+ghost use Rattle.piper_transfer.specs.Threads.{IsLate};
 ghost use Rattle.piper_transfer.specs.Transfer.{Fed, IsOfSource, IsOpen};
 
 use crate::ends::Source;
-use crate::error::{Stop, TransferError, stopped};
+use crate::error::{Stop, TransferError, no_waker, stopped};
 use crate::meter::{InputMeter, Meter};
+use crate::over::OutputOver;
 use crate::patience::read_patiently;
 use crate::piece::Piece;
 use crate::start::Start;
 use crate::turns::Turns;
 use futures::task::{Context, Poll};
 use piper::Writer;
-use piper_protocol::reported::reported;
 use std::sync::Wait;
 use std::time::Clock;
 
@@ -28,6 +29,7 @@ pub(crate) fn fill_from<R, S>(
     writer: &mut Writer,
     chunk: usize,
     meter: &Meter,
+    over: &OutputOver,
 ) -> Option<Result<(), TransferError>>
 where
     R: Wait + Clock,
@@ -39,11 +41,12 @@ where
     ensures ended { IfSome result (λ r. OnOk r (IsAtEnd (S.remaining source.new))) }
     ensures reported { IfSome result (λ r. IfErr r (IsOfSource (S.fails source.new))) }
     ensures given_up { IfNone result (IsOpen writer.new.end) }
+    ensures late { IfNone result IsLate }
 {
     if !start.begin(rt) {
         return None;
     }
-    Some(fill_in_turns(rt, turns, source, writer, chunk, meter.of_input()))
+    Some(fill_in_turns(rt, turns, source, writer, chunk, meter.of_input(over)))
 }
 
 // Reads the input into the pipe, at most `chunk` bytes at a time, up to its end, and closes the
@@ -68,7 +71,7 @@ where
 {
     for _ in rt.forever() {
         meter.side.begin_wait(rt);
-        let mut cx = reported(turns.next(rt).ok_or(TransferError::Memory))?;
+        let mut cx = turns.next(rt).map_err(TransferError::Turns)?;
         meter.side.end_wait(rt);
         let turn = fill_turn(rt, &mut cx, source, writer, chunk, meter);
         cx.end(&turn);
@@ -102,12 +105,12 @@ where
 {
     let mut piece = Piece::first(chunk);
     for _ in rt.forever() {
-        if meter.is_output_over() {
-            return close(cx, writer, Err(stopped(Stop::Over(meter))));
+        if meter.over.is_over() {
+            return close(cx, writer, Err(stopped(Stop::Over)));
         }
         let looked = match writer.poll(cx) {
             Poll::Pending => return Poll::Pending,
-            Poll::Ready(looked) => reported(looked.map_err(|_| TransferError::Memory)),
+            Poll::Ready(looked) => looked,
         };
         match looked {
             Ok(true) => {}
@@ -115,7 +118,10 @@ where
                 let error = stopped(Stop::Closed(writer));
                 return close(cx, writer, Err(error));
             }
-            Err(error) => return close(cx, writer, Err(error)),
+            Err(_) => {
+                let error = no_waker(cx);
+                return close(cx, writer, Err(error));
+            }
         }
         match read_chunk(rt, source, writer, piece.len(), meter) {
             Ok(0) => return close(cx, writer, Ok(())),

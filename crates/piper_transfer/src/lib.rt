@@ -9,6 +9,7 @@ mod error;
 mod filling;
 mod meter;
 mod one_thread;
+mod over;
 mod patience;
 mod piece;
 mod size;

@@ -1,9 +1,6 @@
 //! What a transfer has done so far, for a thread that watches it.
-ghost use Rattle.piper_transfer.specs.Transfer.{FoundOver, IsOfDestination};
-
-use crate::ends::Destination;
-use crate::error::TransferError;
-use std::sync::atomic::{AtomicBool, AtomicU64, Ordering};
+use crate::over::OutputOver;
+use std::sync::atomic::{AtomicU64, Ordering};
 use std::sync::{Mutex, Wait};
 use std::time::{Clock, Duration, Instant};
 
@@ -28,34 +25,33 @@ pub struct Side<K> {
 }
 
 /// What both sides of a transfer have done so far. Other threads may read it at any time.
+///
+/// It only counts, so transfers move the same bytes and answer the same whichever of them share
+/// one, after another or at once. Of those at once it counts all bytes; of waits that overlap, the
+/// last one from its begin to whichever ends first.
 #[derive(Drop)]
 pub struct Meter {
     /// The side that reads the input; it waits for room.
     pub input: Side<OfInput>,
     /// The side that writes the output; it waits for bytes.
     pub output: Side<OfOutput>,
-    is_output_over: AtomicBool,
 }
 
-/// What the side that reads the input gets of the meter: what it has done itself, and whether the
+/// What the side that reads the input gets: the meter of what it has done itself, and whether the
 /// output is over.
 #[derive(Clone, Copy)]
 pub(crate) struct InputMeter<'a> {
     pub(crate) side: &'a Side<OfInput>,
-    is_output_over: &'a AtomicBool,
+    pub(crate) over: &'a OutputOver,
 }
 
-/// What the side that writes the output gets of the meter: what it has done itself, and how it
+/// What the side that writes the output gets: the meter of what it has done itself, and how it
 /// tells the other one to end.
 #[derive(Clone, Copy)]
 pub(crate) struct OutputMeter<'a> {
     pub(crate) side: &'a Side<OfOutput>,
-    is_output_over: &'a AtomicBool,
+    pub(crate) over: &'a OutputOver,
 }
-
-/// Evidence that the input's side was told to end.
-#[derive(Clone, Copy)]
-pub(crate) struct InputTold(());
 
 impl<K> Side<K> {
     fn new(_kind: K) -> Side<K> {
@@ -115,49 +111,22 @@ impl Meter {
         Meter {
             input: Side::new(OfInput(())),
             output: Side::new(OfOutput(())),
-            is_output_over: AtomicBool::new(false),
         }
     }
 
-    /// A transfer begins: its output is not over, though that of an earlier one may have been.
-    pub(crate) fn begin(&self) {
-        self.is_output_over.store(false, Ordering::SeqCst);
-    }
-
-    /// What the side gets of it that reads the input.
-    pub(crate) fn of_input(&self) -> InputMeter<'_> {
+    /// What the side gets that reads the input of the transfer whose output this is.
+    pub(crate) fn of_input<'a>(&'a self, over: &'a OutputOver) -> InputMeter<'a> {
         InputMeter {
             side: &self.input,
-            is_output_over: &self.is_output_over,
+            over,
         }
     }
 
-    /// What the side gets of it that writes the output.
-    pub(crate) fn of_output(&self) -> OutputMeter<'_> {
+    /// What the side gets that writes it.
+    pub(crate) fn of_output<'a>(&'a self, over: &'a OutputOver) -> OutputMeter<'a> {
         OutputMeter {
             side: &self.output,
-            is_output_over: &self.is_output_over,
+            over,
         }
-    }
-}
-
-impl InputMeter<'_> {
-    /// Whether the output takes no more, so that no more is to be read.
-    pub(crate) fn is_output_over(&self) -> bool
-        ensures found { FoundOver self.now result }
-    {
-        self.is_output_over.load(Ordering::SeqCst)
-    }
-}
-
-impl OutputMeter<'_> {
-    /// Tells the input's side to end, since the output failed so.
-    pub(crate) fn end_output<D>(&self, _dest: &D, _error: &TransferError) -> InputTold
-    where
-        D: Destination,
-        requires failed { IsOfDestination (D.fails _dest.now) (D.full _dest.now) _error.now }
-    {
-        self.is_output_over.store(true, Ordering::SeqCst);
-        InputTold(())
     }
 }

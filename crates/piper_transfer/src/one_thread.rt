@@ -10,6 +10,7 @@ use crate::ends::{Destination, Source};
 use crate::error::TransferError;
 use crate::filling::read_chunk;
 use crate::meter::{Meter, OutputMeter};
+use crate::over::OutputOver;
 use crate::piece::Piece;
 use piper::{Reader, Writer};
 use std::sync::Wait;
@@ -45,7 +46,8 @@ where
     ensures input_told { IfOk result (λ filled. IfErr filled (IsOfSource (S.fails source.new))) }
     ensures reported { IfErr result (IsOfDestination (D.fails dest.new) (D.full dest.new)) }
 {
-    let (input, output) = (meter.of_input(), meter.of_output());
+    let over = OutputOver::new();
+    let (input, output) = (meter.of_input(&over), meter.of_output(&over));
     let mut piece = Piece::first(chunk);
     for _ in rt.forever() {
         pass_on_from(rt, writer, reader, dest, chunk, level, output)?;

@@ -5,7 +5,7 @@ ghost use Rattle.std.specs.Duration.{as_nanos};
 ghost use Rattle.std.specs.Io.{ReadsAtMost, WritesAtMost};
 ghost use Rattle.std.specs.Io.KnownBytes.{Keeps, ReadConsumes, WriteAppends};
 ghost use Rattle.piper_transfer.specs.Taken.{StaysTaken, WriteTakes};
-ghost use Rattle.piper_transfer.specs.Transfer.{IsLasting, IsOfSource};
+ghost use Rattle.piper_transfer.specs.Transfer.{IsLasting, IsOfSource, IsPassing};
 
 use crate::ends::{Destination, Source};
 use crate::error::{Stop, TransferError, stopped};
@@ -47,7 +47,8 @@ impl Patience {
     // Whether a call that failed so is to be made again. Where it would block, the call is made
     // again after a sleep.
     fn outlasts(&mut self, clock: &impl Clock, error: &io::Error) -> bool
-        ensures { result ≡ false → IsLasting error.now }
+        ensures lasting { result ≡ false → IsLasting error.now }
+        ensures passing { IsTrue result → IsPassing error.now }
     {
         match error.kind() {
             ErrorKind::Interrupted => true,
@@ -90,7 +91,7 @@ where
             Err(error) if !patience.outlasts(rt, &error) => {
                 return Err(TransferError::Read(error));
             }
-            Err(_) if meter.is_output_over() => return Err(stopped(Stop::Over(meter))),
+            Err(_) if meter.over.is_over() => return Err(stopped(Stop::Over)),
             Err(_) => {}
         }
     }

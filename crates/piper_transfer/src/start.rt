@@ -1,8 +1,12 @@
 //! Whether a second thread has begun.
+ghost use Rattle.std.specs.Prelude.{◌≡◌, IsTrue, false};
+ghost use Rattle.piper_transfer.specs.Threads.{HasTwoThreads, IsAsked, IsLate, Shows, shows_prop};
+
+use piper_protocol::reported::reported;
 use std::sync::{Condvar, Mutex, Wait};
-use std::thread;
 use std::thread::Threads;
 use std::time::{Clock, Duration};
+use std::{io, thread};
 
 /// How many milliseconds one wait for a thread takes at most. One that begins at all mostly does so
 /// within one.
@@ -11,13 +15,13 @@ const PATIENCE: u64 = 100;
 /// How many times it is waited for. A program that is stopped and goes on later uses up one.
 const WAITS: u64 = 100;
 
-/// Whether the system grants a thread now.
-pub fn grants_thread(rt: &impl Threads) -> bool {
-    match thread::spawn(rt, || ()) {
-        Ok(thread) => {
-            thread.join(rt);
-            true
-        }
+/// Whether the system grants a thread now. It asks for one, which ends at once.
+pub fn grants_thread(rt: &impl Threads) -> bool
+    ensures { IsAsked result }
+{
+    let asked = thread::spawn(rt, || ()).map(|thread| thread.join(rt));
+    match reported(asked.map_err(io::Error::from)) {
+        Ok(()) => true,
         Err(_) => false,
     }
 }
@@ -30,6 +34,13 @@ enum Stage {
     GivenUp,
 }
 
+/// That, and what it is evidence of.
+#[derive(Clone, Copy)]
+struct Found {
+    stage: Stage,
+    ghost shown: { Shows stage } by { shows_prop stage },
+}
+
 /// Says to the first thread whether the second one has begun, and to the second one whether it is
 /// still waited for.
 ///
@@ -39,46 +50,66 @@ enum Stage {
 /// ten seconds, neither does.
 #[derive(Drop)]
 pub(crate) struct Start {
-    stage: Mutex<Stage>,
+    found: Mutex<Found>,
     changed: Condvar,
 }
 
 impl Start {
     pub(crate) fn new() -> Start {
+        let waited = Found {
+            stage: Stage::Waited,
+        };
         Start {
-            stage: Mutex::new(Stage::Waited),
+            found: Mutex::new(waited),
             changed: Condvar::new(),
         }
     }
 
     /// The second thread begins. Returns whether it was still waited for.
-    pub(crate) fn begin(&self, rt: &impl Wait) -> bool {
-        let mut stage = self.stage.lock(rt);
-        if *stage == Stage::GivenUp {
-            return false;
+    pub(crate) fn begin(&self, rt: &impl Wait) -> bool
+        ensures late { result ≡ false → IsLate }
+    {
+        let mut found = self.found.lock(rt);
+        match found.stage {
+            Stage::GivenUp => false,
+            Stage::Waited | Stage::Begun => {
+                let begun = Found {
+                    stage: Stage::Begun,
+                };
+                *found = begun;
+                self.changed.notify_all();
+                true
+            }
         }
-        *stage = Stage::Begun;
-        self.changed.notify_all();
-        true
     }
 
     /// Waits for the second thread, and gives it up once the time is over. Returns whether it
     /// has begun.
-    pub(crate) fn wait(&self, rt: &(impl Wait + Clock)) -> bool {
+    pub(crate) fn wait(&self, rt: &(impl Wait + Clock)) -> bool
+        ensures begun { IsTrue result → HasTwoThreads }
+        ensures late { result ≡ false → IsLate }
+    {
         let pause = Duration::from_millis(PATIENCE);
         for _ in 0..WAITS {
-            let held = self.stage.lock(rt);
+            let held = self.found.lock(rt);
             let (held, _) = self
                 .changed
-                .wait_timeout_while(rt, held, pause, |stage| *stage == Stage::Waited);
-            if *held == Stage::Begun {
-                return true;
+                .wait_timeout_while(rt, held, pause, |found| found.stage == Stage::Waited);
+            match held.stage {
+                Stage::Begun => return true,
+                Stage::Waited | Stage::GivenUp => {}
             }
         }
-        let mut held = self.stage.lock(rt);
-        if *held == Stage::Waited {
-            *held = Stage::GivenUp;
+        let mut held = self.found.lock(rt);
+        match held.stage {
+            Stage::Begun => true,
+            Stage::Waited | Stage::GivenUp => {
+                let given_up = Found {
+                    stage: Stage::GivenUp,
+                };
+                *held = given_up;
+                false
+            }
         }
-        *held == Stage::Begun
     }
 }

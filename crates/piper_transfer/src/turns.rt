@@ -1,12 +1,12 @@
 //! A thread that polls a pipe and sleeps until its waker is called.
 ghost use Rattle.std.specs.Prelude.{◌≡◌, IfErr};
-ghost use Rattle.piper_protocol.specs.Reported.{HasFailed};
+ghost use Rattle.piper_transfer.specs.Transfer.{CannotWait};
 
 use futures::task::{Context, Doorbell, Queue};
 use piper::{Reader, Writer};
-use piper_protocol::reported::reported;
 use std::alloc::AllocGlobal;
 use std::io;
+use std::io::ErrorKind;
 use std::random::RandomSource;
 use std::sync::Wait;
 
@@ -19,17 +19,29 @@ pub(crate) struct Turns {
 
 impl Turns {
     pub(crate) fn new(rt: &(impl RandomSource + AllocGlobal)) -> io::Result<Turns>
-        ensures { IfErr result HasFailed }
+        ensures { IfErr result CannotWait }
     {
-        let queue = reported(Queue::new(rt, Doorbell::parking()))?;
-        reported(queue.add().map_err(io::Error::from))?.schedule();
+        let queue = of_queue(Queue::new(rt, Doorbell::parking()))?;
+        of_queue(queue.add().map_err(io::Error::from))?.schedule();
         Ok(Turns { queue })
     }
 
     /// Sleeps until the next turn.
-    pub(crate) fn next(&self, rt: &impl Wait) -> Option<Context<'_>> {
-        self.queue.next(rt)
+    pub(crate) fn next(&self, rt: &impl Wait) -> io::Result<Context<'_>>
+        ensures { IfErr result CannotWait }
+    {
+        let next = self.queue.next(rt);
+        of_queue(next.ok_or(io::Error::from(ErrorKind::Other)))
     }
+}
+
+// Hands on what a call of the queue returned, which only the calls above make. Where it failed, the
+// thread can't be made to wait.
+fn of_queue<T>(returned: io::Result<T>) -> io::Result<T>
+    ensures same { result ≡ returned }
+    ensures failed { IfErr result CannotWait }
+{
+    returned
 }
 
 /// What the thread has that reads the input.

@@ -8,7 +8,7 @@ use Rattle.piper.specs.declared.handles.Reader.{Reader}
 use Rattle.piper.specs.declared.handles.Writer.{Writer}
 use Rattle.piper_transfer.specs.Transfer.{IsDrained, IsOfDestination, IsOfMemory, IsOfSource, PouredAll, WritesAll}
 use Rattle.piper_transfer.proofs.Sides.{poured_kept, poured_same}
-use Rattle.piper_transfer.proofs.Told.{refused_writes_none, refused_is_told, flushed_first, flush_is_told, ends_with_both, failed_writes_not, failure_is_told}
+use Rattle.piper_transfer.proofs.Told.{refused_writes_none, refused_is_told, flushed_first, flush_is_told, ends_with_both, failed_writes_not, failure_is_told, holds_on_ok}
 use Rattle.piper_transfer.proofs.Whole.{nothing_moved, none_known, output_failed, nothing_lost}
 use Rattle.piper_transfer.proofs.both_sides.transfer.Goals.{in-Ok, in-Err}
 use Rattle.piper_transfer.proofs.both_sides.transfer.Goals as goal
@@ -21,6 +21,7 @@ returns-in_err-input g c =
       moved = nothing_moved g.D.Destination.contents g.D.Destination.took _ c.from_residual.result _ (search rules);
       flushed = λ writes. absurd (refused_writes_none c.from_residual.result never memory writes);
       reported = refused_is_told c.from_residual.result _ _ _ memory;
+      threads = search rules;
     }
 
 pub returns : goal.returns
@@ -65,6 +66,7 @@ returns g c =
             moved = nothing_lost contents took o q c.match-both.ended i j w0 w1 r0 r2 new_writer new_reader both.ensures.fed poured fifo (λ _. none) ended;
             flushed = flushed_first w.flush.result filled c.match-both.ended d full _ same w.flush.ensures.flushed w.flush.ensures.reported;
             reported = flush_is_told w.flush.result filled c.match-both.ended s d full same w.flush.ensures.reported input_told;
+            threads = holds_on_ok _ _ both.ensures.threads;
           })
       | in-Err w ↦
           let d = g.D.Destination.fails both.new.dest in
@@ -76,5 +78,6 @@ returns g c =
             moved = output_failed contents took o p c.match-both.ended i j w0 w1 r0 r1 r2 new_writer new_reader both.ensures.fed both.ensures.poured met.taken fifo failed ended;
             flushed = λ writes. absurd (failed writes);
             reported = failure_is_told c.match-both.ended w.in-Err.error s d full w.ended-is reported;
+            threads = holds_on_ok _ _ both.ensures.threads;
           })
     ]

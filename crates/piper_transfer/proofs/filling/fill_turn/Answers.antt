@@ -6,8 +6,8 @@ use Rattle.piper_transfer.proofs.filling.fill_turn.Goals as goal
 pub loop-init : goal.loop-init
 loop-init g c = (tt, tt, fed_none _ _, c.requires.is_open)
 
-pub returns-then-is_output_over-clause-fed : goal.returns-then-is_output_over-clause-fed
-returns-then-is_output_over-clause-fed g c = fed_same _ _ _ _ _ c.loop.invariant.2 c.close.ensures.sent c.close.ensures.ring
+pub returns-then-is_over-clause-fed : goal.returns-then-is_over-clause-fed
+returns-then-is_over-clause-fed g c = fed_same _ _ _ _ _ c.loop.invariant.2 c.close.ensures.sent c.close.ensures.ring
 
 pub returns-in-Pending-clause-fed : goal.returns-in-Pending-clause-fed
 returns-in-Pending-clause-fed g c = fed_looked _ _ _ _ _ c.loop.invariant.2 c.poll.ensures.found.looked

@@ -1,0 +1,30 @@
+-- What earlier turns read and wrote, and what the last one does.
+use Rattle.piper_transfer.proofs.Sides.{fed_none, fed_more, fed_refreshed, poured_none, poured_more}
+use Rattle.piper_transfer.proofs.one_thread.take_turns.Goals as goal
+
+pub loop-init : goal.loop-init
+loop-init g c = (tt, tt, fed_none _ _, c.requires.is_open, poured_none _ _ _ _, c.requires.pair, c.requires.some)
+
+pub returns-in_err-pass_on-in-Ok-eq0-clause-fed : goal.returns-in_err-pass_on-in-Ok-eq0-clause-fed
+returns-in_err-pass_on-in-Ok-eq0-clause-fed g c =
+    fed_refreshed _ _ _ _ _ (fed_more _ _ _ _ _ _ (fed_refreshed _ _ _ _ _ c.loop.invariant.2 c.pass_on_from.ensures.writer) c.read_chunk.ensures.fed) c.pass_on.ensures.writer
+
+pub returns-in_err-pass_on-in-Ok-eq0-clause-poured : goal.returns-in_err-pass_on-in-Ok-eq0-clause-poured
+returns-in_err-pass_on-in-Ok-eq0-clause-poured g c =
+    poured_more _ _ _ _ _ _ _ _ (poured_more _ _ _ _ _ _ _ _ c.loop.invariant.4 c.pass_on_from.ensures.poured) c.pass_on.ensures.poured
+
+pub returns-in_err-pass_on-in-Err-clause-fed : goal.returns-in_err-pass_on-in-Err-clause-fed
+returns-in_err-pass_on-in-Err-clause-fed g c =
+    fed_refreshed _ _ _ _ _ (fed_more _ _ _ _ _ _ (fed_refreshed _ _ _ _ _ c.loop.invariant.2 c.pass_on_from.ensures.writer) c.read_chunk.ensures.fed) c.pass_on-in-Err.ensures.writer
+
+pub returns-in_err-pass_on-in-Err-clause-poured : goal.returns-in_err-pass_on-in-Err-clause-poured
+returns-in_err-pass_on-in-Err-clause-poured g c =
+    poured_more _ _ _ _ _ _ _ _ (poured_more _ _ _ _ _ _ _ _ c.loop.invariant.4 c.pass_on_from.ensures.poured) c.pass_on-in-Err.ensures.poured
+
+pub returns-in-Err-clause-fed : goal.returns-in-Err-clause-fed
+returns-in-Err-clause-fed g c =
+    fed_refreshed _ _ _ _ _ (fed_more _ _ _ _ _ _ (fed_refreshed _ _ _ _ _ c.loop.invariant.2 c.pass_on_from.ensures.writer) c.read_chunk.ensures.fed) c.pass_on-in-Err.ensures.writer
+
+pub returns-in-Err-clause-poured : goal.returns-in-Err-clause-poured
+returns-in-Err-clause-poured g c =
+    poured_more _ _ _ _ _ _ _ _ (poured_more _ _ _ _ _ _ _ _ c.loop.invariant.4 c.pass_on_from.ensures.poured) c.pass_on-in-Err.ensures.poured
