@@ -89,6 +89,7 @@ SEALS = {
     ),
     "as_begun": ("piper_transfer/specs/Threads", ["piper_transfer/proofs/start/Start/begin"]),
     "as_late": ("piper_transfer/specs/Threads", ["piper_transfer/proofs/start/Start/wait"]),
+    "as_lost": ("piper_duplex/specs/Failures", ["piper_duplex/proofs/engine/lost/lost"]),
     "as_had_seen": ("piper_futures/specs/Threads", ["piper_futures/proofs/threads/closed_by_writer"]),
 }
 

@@ -12,8 +12,19 @@ pub record EndsWith (status : ℕ) (text : List ℕ) (ended : Ended) : Type 0 wh
 abbrev pub FailsWith : List ℕ → Ended → Type 0
 FailsWith = EndsWith 2
 
+-- memory was refused to a call of this thread; or what it sent is not read, or does not come back,
+-- since the other thread has ended. It is sealed: no proof looks into it, and only that of `lost`
+-- uses the lemma below
+pub IsLost : Ended → Type 0
+IsLost ended = ⊤
+
+pub as_lost : (ended : Ended) → IsLost ended
+unfolding IsLost
+as_lost ended = tt
+
+-- it ended for want of memory, which one of the two threads was refused
 abbrev pub LacksMemory : Ended → Type 0
-LacksMemory = FailsWith (codes "memory")
+LacksMemory ended = FailsWith (codes "memory") ended × IsLost ended
 
 -- a thread was asked for, and refused
 abbrev pub LacksThread : Ended → Type 0

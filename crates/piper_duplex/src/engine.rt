@@ -2,6 +2,7 @@
 mod client;
 mod echoing;
 mod line;
+mod lost;
 mod printing;
 mod session;
 mod waiting;

@@ -1,14 +1,18 @@
 //! A line on its way: it is sent, comes back, and is printed before the next one is sent.
 ghost use Rattle.std.specs.Prelude.{◌≡◌, ◌+◌, ◌-◌, ◌<◌, ◌≤◌, drop, take, length, true, false};
 ghost use Rattle.std.specs.Prelude.{OnOk, IfErr};
+ghost use Rattle.futures.specs.Poll.{IfReady, OnPending};
+ghost use Rattle.futures.specs.Task.{IsArmed};
+ghost use Rattle.piper.specs.Polls.{IfReadyErr};
 ghost use Rattle.piper_lines.specs.Sends.{Sends};
 ghost use Rattle.piper_duplex.specs.Client.{IsOfLine, Prints};
 ghost use Rattle.piper_duplex.specs.Failures.{LacksMemory, PrintFails, WriteHasFailed};
 
+use crate::engine::lost::{unread, wanted, write_refused};
 use crate::engine::printing::print_line;
 use crate::engine::session::Ended;
 use crate::engine::waiting::{MOST_OF_A_LINE, turns};
-use futures::task::Poll;
+use futures::task::{Context, Poll};
 use memchr::memchr;
 use piper::io::{AsyncBufRead, AsyncWrite};
 use piper::like::StdWriter;
@@ -161,18 +165,39 @@ where
     ensures stays { W.saw writer.old ≡ true → W.saw writer.new ≡ true }
     ensures failed { IfErr result LacksMemory }
 {
-    let turns = turns(rt).map_err(|_| Ended::OUT_OF_MEMORY)?;
+    let turns = turns(rt)?;
     for _ in rt.forever() {
-        let Some(mut cx) = turns.next(rt) else {
-            return Err(Ended::OUT_OF_MEMORY);
-        };
-        let turn = poll_write_all(writer, &mut cx, bytes, count);
+        let mut cx = wanted(turns.next(rt).ok_or(()))?;
+        let turn = poll_send(writer, &mut cx, bytes, count);
         cx.end(&turn);
         match turn {
             Poll::Pending => {}
-            Poll::Ready(Ok(Written::Whole)) => return Ok(()),
-            Poll::Ready(_) => return Err(Ended::OUT_OF_MEMORY),
+            Poll::Ready(sent) => return sent,
         }
     }
     unreachable!()
+}
+
+// Sends what is left until it is pending or all is sent.
+fn poll_send<W: AsyncWrite>(
+    writer: &mut W,
+    cx: &mut Context<'_>,
+    bytes: &[u8],
+    count: &mut usize,
+) -> Poll<Result<(), Ended>>
+    requires { count.old ≤ length bytes.now }
+    ensures within { count.new ≤ length bytes.now }
+    ensures sends { Sends (drop count.old bytes.now) (drop count.new bytes.now)
+        (W.sent writer.old) (W.sent writer.new) (W.saw writer.old) (W.saw writer.new) }
+    ensures whole { IfReady result (λ r. OnOk r (count.new ≡ length bytes.now)) }
+    ensures stays { W.saw writer.old ≡ true → W.saw writer.new ≡ true }
+    ensures armed { OnPending result (IsArmed cx.new) }
+    ensures failed { IfReadyErr result LacksMemory }
+{
+    match poll_write_all(writer, cx, bytes, count) {
+        Poll::Pending => Poll::Pending,
+        Poll::Ready(Ok(Written::Whole)) => Poll::Ready(Ok(())),
+        Poll::Ready(Ok(Written::Closed)) => Poll::Ready(Err(unread(writer))),
+        Poll::Ready(Err(error)) => Poll::Ready(Err(write_refused(writer, cx, error))),
+    }
 }

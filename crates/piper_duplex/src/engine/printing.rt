@@ -7,6 +7,7 @@ ghost use Rattle.piper.specs.Polls.{IfReadyErr};
 ghost use Rattle.piper_duplex.specs.Client.{Prints};
 ghost use Rattle.piper_duplex.specs.Failures.{CannotWrite, PrintFails, WriteHasFailed};
 
+use crate::engine::lost::{read_refused, unanswered, wanted};
 use crate::engine::session::Ended;
 use crate::engine::waiting::turns;
 use futures::task::{Context, Poll};
@@ -38,12 +39,10 @@ where
     ensures flushed { OnOk result (O.flushed output.new) }
     ensures failed { IfErr result (PrintFails (WriteHasFailed O.fails O.full output.new)) }
 {
-    let turns = turns(rt).map_err(|_| Ended::OUT_OF_MEMORY)?;
+    let turns = turns(rt)?;
     let mut count = 0;
     for _ in rt.forever() {
-        let Some(mut cx) = turns.next(rt) else {
-            return Err(Ended::OUT_OF_MEMORY);
-        };
+        let mut cx = wanted(turns.next(rt).ok_or(()))?;
         let turn = poll_print(reader, &mut cx, size, &mut count, output);
         cx.end(&turn);
         match turn {
@@ -83,12 +82,11 @@ where
         }
         let bytes = match reader.poll_fill_buf(cx) {
             Poll::Pending => return Poll::Pending,
-            Poll::Ready(Err(_)) => return Poll::Ready(Err(Ended::OUT_OF_MEMORY)),
+            Poll::Ready(Err(error)) => return Poll::Ready(Err(read_refused(reader, cx, error))),
             Poll::Ready(Ok(bytes)) => bytes,
         };
         if bytes.is_empty() {
-            // The thread that echoes was refused memory.
-            return Poll::Ready(Err(Ended::OUT_OF_MEMORY));
+            return Poll::Ready(Err(unanswered(reader)));
         }
         let room = bytes.len().min(size - *count);
         match write_some(output, &bytes[..room]) {

@@ -5,6 +5,7 @@ ghost use Rattle.piper_duplex.specs.Failures.{EchoFails, EndsWith, HasFailedAt, 
 
 use crate::end::{End, duplex};
 use crate::engine::client::talk;
+use crate::engine::lost::wanted;
 use crate::engine::printing::print_line;
 use crate::engine::waiting::EchoAll;
 use futures::executor::block_on;
@@ -128,8 +129,8 @@ where
 fn prepare<R: Clone + Drop>(rt: &R, alloc: Global) -> Result<(R, End, End), Ended>
     ensures { IfErr result LacksMemory }
 {
-    let theirs = rt.clone().map_err(|_| Ended::OUT_OF_MEMORY)?;
-    let (first, second) = duplex(alloc, CAPACITY, CAPACITY, 1).map_err(|_| Ended::OUT_OF_MEMORY)?;
+    let theirs = wanted(rt.clone())?;
+    let (first, second) = wanted(duplex(alloc, CAPACITY, CAPACITY, 1))?;
     Ok((theirs, first, second))
 }
 

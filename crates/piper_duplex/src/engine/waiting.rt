@@ -1,14 +1,17 @@
 //! What threads poll that sleep until they are woken.
+ghost use Rattle.std.specs.Prelude.{IfErr};
 ghost use Rattle.piper_lines.specs.LineReader.{reader_of};
+ghost use Rattle.piper_duplex.specs.Failures.{LacksMemory};
 
 use crate::engine::echoing::{Echoed, LineEcho};
+use crate::engine::lost::wanted;
+use crate::engine::session::Ended;
 use futures::Future;
 use futures::task::{Context, Doorbell, Poll, Queue};
 use piper::PipeError;
 use piper::io::{AsyncBufRead, AsyncWrite};
 use piper_lines::Lines;
 use std::alloc::{AllocGlobal, Global};
-use std::io;
 use std::random::RandomSource;
 
 /// The most bytes of a line, with its LF; a longer one is cut.
@@ -16,9 +19,11 @@ pub(crate) const MOST_OF_A_LINE: usize = 65_536;
 
 /// The turns of a thread at a call that may be pending: `next` gives the first at once, and each
 /// later one when the waker was called that its last turn left.
-pub(crate) fn turns(rt: &(impl RandomSource + AllocGlobal)) -> io::Result<Queue> {
-    let queue = Queue::new(rt, Doorbell::parking())?;
-    queue.add()?.schedule();
+pub(crate) fn turns(rt: &(impl RandomSource + AllocGlobal)) -> Result<Queue, Ended>
+    ensures { IfErr result LacksMemory }
+{
+    let queue = wanted(Queue::new(rt, Doorbell::parking()))?;
+    wanted(queue.add())?.schedule();
     Ok(queue)
 }
 

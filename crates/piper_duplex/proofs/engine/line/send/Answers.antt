@@ -9,11 +9,8 @@ loop-init g c = (tt, tt, c.requires, sends_none _ _ _ _, λ seen. seen)
 
 pub loop-preserved : goal.loop-preserved
 loop-preserved g c =
-    let wrote = c.poll_write_all-turn.ensures in
-    (tt, tt, wrote.within, sends_then _ _ _ _ _ _ _ _ _ c.loop.invariant.3 wrote.sends c.loop.invariant.4 wrote.stays.0, λ seen. wrote.stays.0 (c.loop.invariant.4 seen))
-
-pub returns-in-Ready-Ok-Whole-clause-sends : goal.returns-in-Ready-Ok-Whole-clause-sends
-returns-in-Ready-Ok-Whole-clause-sends g c = sends_then _ _ _ _ _ _ _ _ _ c.loop.invariant.3 c.poll_write_all-turn.ensures.sends c.loop.invariant.4 c.poll_write_all-turn.ensures.stays.0
+    let sent = c.poll_send-turn.ensures in
+    (tt, tt, sent.within, sends_then _ _ _ _ _ _ _ _ _ c.loop.invariant.3 sent.sends c.loop.invariant.4 sent.stays, λ seen. sent.stays (c.loop.invariant.4 seen))
 
 pub returns-in-Ready-clause-sends : goal.returns-in-Ready-clause-sends
-returns-in-Ready-clause-sends g c = sends_then _ _ _ _ _ _ _ _ _ c.loop.invariant.3 c.poll_write_all-turn.ensures.sends c.loop.invariant.4 c.poll_write_all-turn.ensures.stays.0
+returns-in-Ready-clause-sends g c = sends_then _ _ _ _ _ _ _ _ _ c.loop.invariant.3 c.poll_send-turn.ensures.sends c.loop.invariant.4 c.poll_send-turn.ensures.stays
