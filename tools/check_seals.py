@@ -80,7 +80,6 @@ SEALS = {
             )
         ],
     ),
-    "as_stopped": ("piper_transfer/specs/Transfer", ["piper_transfer/proofs/error/stopped"]),
     "as_waker_refused": ("piper_transfer/specs/Transfer", ["piper_transfer/proofs/error/no_waker"]),
     "as_cannot_wait": ("piper_transfer/specs/Transfer", ["piper_transfer/proofs/turns/of_queue"]),
     "as_output_failed": (

@@ -1,13 +1,13 @@
 -- What a side does in one step after another.
-use Rattle.std.proofs.Common.{◌≡◌, ◌<◌, ◌+◌, ℕ, List, [], ◌++◌, Option, refl, sym, ap, ◌∙◌, append_assoc, append-nil, arith, subst, length, length-append}
+use Rattle.std.proofs.Common.{◌≡◌, ◌<◌, ◌+◌, ℕ, Bool, true, false, true≢false, List, [], ◌++◌, Option, refl, sym, ap, ◌∙◌, append_assoc, append-nil, arith, subst, length, length-append}
 use Rattle.std.proofs.KnownBytes.{Consumes-nil, Consumes-trans, Appends-nil, Appends-trans, Appends-kept}
 use Rattle.std.specs.Io.KnownBytes.{Keeps}
 use Rattle.piper.specs.ReadView.{ReadView, SameReadEnd}
 use Rattle.piper.specs.WriteView.{WriteView}
-use Rattle.piper.specs.Ends.{WriterRefreshed}
+use Rattle.piper.specs.Ends.{ReaderRefreshed, WriterRefreshed}
 use Rattle.piper.specs.Looks.{ReaderLooked, WriterLooked}
 use Rattle.piper_transfer.specs.Taken.{StaysTaken}
-use Rattle.piper_transfer.specs.Transfer.{Fed, Gets, Poured, PouredAll}
+use Rattle.piper_transfer.specs.Transfer.{Fed, Gets, IsOpen, Poured, PouredAll}
 
 pub fed_none : (i : Option (List ℕ)) (a : WriteView) → Fed i i a a
 fed_none i a = record { given = []; consumed = Consumes-nil i; sent = sym (append-nil a.sent); ring = refl }
@@ -31,6 +31,9 @@ fed_looked i j a b c p look = fed_same i j a b c p look.sent look.end.ring
 -- what was given before the handles met, and after it
 pub fed_refreshed : (i j : Option (List ℕ)) (a b c : WriteView) → Fed i j a b → WriterRefreshed b c → Fed i j a c
 fed_refreshed i j a b c p met = fed_same i j a b c p met.sent met.end.ring
+
+pub fed_met : (i j : Option (List ℕ)) (a b c : WriteView) → WriterRefreshed a b → Fed i j b c → Fed i j a c
+fed_met i j a b c met p = fed_more i i j a b c (fed_refreshed i i a a b (fed_none i a) met) p
 
 pub fed_round : (i j k : Option (List ℕ)) (a b c d : WriteView) → Fed i j a b → WriterLooked b c → Fed j k c d → Fed i k a d
 fed_round i j k a b c d p look q = fed_more i j k a c d (fed_looked i j a b c p look) q
@@ -91,6 +94,18 @@ poured_of_all C T d e a b p = record {
 pub poured_looked : {D : Type 0} (C : D → Option (List ℕ)) (T : D → List (List ℕ) → List ℕ → Type 0) (d e : D) (a b c : ReadView)
     → PouredAll C T d e a b → ReaderLooked b c → PouredAll C T d e a c
 poured_looked C T d e a b c p look = poured_same C T d e a b c p look.taken look.end
+
+pub poured_met : {D : Type 0} (C : D → Option (List ℕ)) (T : D → List (List ℕ) → List ℕ → Type 0) (d e : D) (a b c : ReadView)
+    → ReaderRefreshed a b → PouredAll C T d e b c → PouredAll C T d e a c
+poured_met C T d e a b c met p = poured_more C T d d e a b c (poured_same C T d d a a b (poured_none C T d a) met.taken met.end) p
+
+not_seen : (saw : Bool) → ¬ (saw ≡ true) → saw ≡ false
+not_seen true seen = absurd (seen refl)
+not_seen false seen = refl
+
+-- a writer that did not close the pipe has not seen it closed, as both handles say that have met
+pub open_again : (w : WriteView) → w.shut ≡ false → (w.saw ≡ true → w.shut ≡ true) → IsOpen w
+open_again w shut closed = (shut, not_seen w.saw (λ seen. true≢false (sym (closed seen) ∙ shut)))
 
 pub poured_round : {D : Type 0} (C : D → Option (List ℕ)) (T : D → List (List ℕ) → List ℕ → Type 0) (d e f : D) (a b c r : ReadView)
     → PouredAll C T d e a b → ReaderLooked b c → PouredAll C T e f c r → PouredAll C T d f a r

@@ -34,7 +34,7 @@ pub of_destination : (s d : Error → Type 0) (full : Type 0) (e : TransferError
 of_destination s d full (Read x) reported = absurd reported
 of_destination s d full (Write x) reported = reported
 of_destination s d full Full reported = reported
-of_destination s d full Memory reported = inr (inl reported)
+of_destination s d full Memory reported = inr reported
 of_destination s d full (Turns x) reported = reported
 
 of_source : (s d : Error → Type 0) (full : Type 0) (e : TransferError) → IsOfSource s e → IsOfSide s d full e

@@ -12,7 +12,7 @@ use Rattle.piper.specs.ReadView.{ReadView}
 use Rattle.piper.specs.WriteView.{WriteView}
 use Rattle.piper_transfer.specs.Taken.{TakesMore}
 use Rattle.piper_transfer.specs.declared.error.Stop.{Stop}
-use Rattle.piper_transfer.specs.declared.error.Stop.TheVariants.{Over, Closed}
+use Rattle.piper_transfer.specs.declared.error.Stop.TheVariants.{Failed, Told}
 use Rattle.piper_transfer.specs.declared.error.TransferError.{TransferError}
 use Rattle.piper_transfer.specs.declared.error.TransferError.TheVariants.{Read, Write, Full, Memory, Turns}
 
@@ -117,8 +117,8 @@ IsOfDestination fails full Full = full
 IsOfDestination fails full Memory = WakerIsRefused
 IsOfDestination fails full (Turns e) = CannotWait e
 
--- the side that writes the output has failed. It is sealed: no proof looks into it, and only that of
--- `end_output` uses the lemma below
+-- the side that writes the output has failed. It is sealed: no proof looks into it, and only that
+-- of `end_output` uses the lemma below
 pub OutputHasFailed : Type 0
 OutputHasFailed = ⊤
 
@@ -127,27 +127,23 @@ pub as_output_failed : (fails : Error → Type 0) (full : Type 0) (error : Trans
 unfolding OutputHasFailed
 as_output_failed fails full error failed = tt
 
--- it is so: the output's side has failed; or the writer saw the pipe closed, and didn't close it
-abbrev pub IsReason : Stop → Type 0
-IsReason Over = OutputHasFailed
-IsReason (Closed writer) = (writer.now.end.saw ≡ true) × (writer.now.end.shut ≡ false)
-
--- the side that reads the input ended for such a reason. It is sealed: no proof looks into it, and
--- only that of `stopped` uses the lemma below
-pub IsStopped : TransferError → Type 0
-IsStopped error = ⊤
-
-pub as_stopped : (stop : Stop) (error : TransferError) → IsReason stop → IsStopped error
-unfolding IsStopped
-as_stopped stop error reason = tt
+-- the side that reads the input left the pipe open, since the output's side has failed, or since it
+-- saw the pipe closed, which it had not closed
+abbrev pub IsLeft : WriteView → Type 0
+IsLeft w = (w.shut ≡ false) × (OutputHasFailed ⊎ (w.saw ≡ true))
 
 -- the side that reads the input may report this error: a read has failed so, memory was refused for
--- a waker, the thread can't be made to wait, or the side ended for such a reason
+-- a waker, or the thread can't be made to wait
 abbrev pub IsOfSource : (Error → Type 0) → TransferError → Type 0
 IsOfSource fails (Read e) = fails e × IsLasting e
-IsOfSource fails Memory = WakerIsRefused ⊎ IsStopped Memory
+IsOfSource fails Memory = WakerIsRefused
 IsOfSource fails (Turns e) = CannotWait e
 IsOfSource fails other = ⊥
+
+-- that side stops for such an error; or it was told to, as this says
+abbrev pub StopsSource : (Error → Type 0) → Type 0 → Stop → Type 0
+StopsSource fails told (Failed e) = IsOfSource fails e
+StopsSource fails told Told = told
 
 -- neither side has begun: memory was refused for the pipe, or a thread can't be made to wait
 abbrev pub IsOfMemory : TransferError → Type 0
@@ -160,7 +156,7 @@ abbrev pub IsOfSide : (Error → Type 0) → (Error → Type 0) → Type 0 → T
 IsOfSide read written full (Read e) = read e × IsLasting e
 IsOfSide read written full (Write e) = written e × IsLasting e
 IsOfSide read written full Full = full
-IsOfSide read written full Memory = PipeIsRefused ⊎ (WakerIsRefused ⊎ IsStopped Memory)
+IsOfSide read written full Memory = PipeIsRefused ⊎ WakerIsRefused
 IsOfSide read written full (Turns e) = CannotWait e
 
 -- what the output was given is a front of what the input gave

@@ -1,5 +1,5 @@
 //! A transfer: both sides, each on a thread.
-ghost use Rattle.std.specs.Prelude.{◌≡◌, ◌<◌, ◌≤◌, ◌*◌, ◌^◌, IfOk, IfErr, OnOk, IfSome, IfNone};
+ghost use Rattle.std.specs.Prelude.{◌≡◌, ◌<◌, ◌≤◌, ◌*◌, ◌^◌, IfOk, IfErr, OnOk, IfSome, IfNone, false};
 ghost use Rattle.std.specs.Io.KnownBytes.{IsAtEnd, Keeps};
 ghost use Rattle.piper.specs.Ends.{IsEnded};
 ghost use Rattle.piper.specs.Opened.{FreshReadEnd, FreshWriteEnd};
@@ -13,7 +13,7 @@ use crate::ends::{Destination, Source};
 use crate::error::TransferError;
 use crate::filling::fill_from;
 use crate::meter::Meter;
-use crate::one_thread::take_turns;
+use crate::one_thread::{resume, take_turns};
 use crate::over::OutputOver;
 use crate::patience::flush_patiently;
 use crate::start::{Start, grants_thread};
@@ -174,17 +174,17 @@ where
         // Nothing has failed, so the input is read all the same.
         (None, Some(Ok(()))) => {
             let (writer, reader) = (&mut input.writer, &mut output.reader);
-            take_turns(rt, source, writer, reader, dest, chunk, output.level, meter)
+            resume(rt, source, writer, reader, dest, chunk, output.level, meter)
         }
         (None, None) => {
             let (writer, reader) = (&mut input.writer, &mut output.reader);
-            take_turns(rt, source, writer, reader, dest, chunk, output.level, meter)
+            resume(rt, source, writer, reader, dest, chunk, output.level, meter)
         }
     }
 }
 
 // Runs both sides to their end, if the second thread begins. A side that was given up returns
-// `None`.
+// `None`, and so does the one that reads where it was told to end.
 fn on_two_threads<R, S, D>(
     rt: &R,
     source: &mut S,
@@ -207,7 +207,7 @@ where
     ensures fed { Fed (S.remaining source.old) (S.remaining source.new)
         writer.old.end writer.new.end }
     ensures input_ended { IfSome result.0 (λ r. OnOk r (IsAtEnd (S.remaining source.new))) }
-    ensures fill_given_up { IfNone result.0 (IsOpen writer.new.end) }
+    ensures fill_left { IfNone result.0 (writer.new.end.shut ≡ false) }
     ensures poured { Poured D.contents D.took dest.old dest.new
         output.old.reader.end output.new.reader.end }
     ensures all { IfSome result.1 (λ r. OnOk r (PouredAll D.contents D.took dest.old dest.new
@@ -219,7 +219,6 @@ where
     ensures drain_given_up { IfNone result.1
         ((output.new ≡ output.old) × (dest.new ≡ dest.old)) }
     ensures begun { IfSome result.1 (λ _. HasTwoThreads) }
-    ensures fill_late { IfNone result.0 IsLate }
     ensures drain_late { IfNone result.1 IsLate }
 {
     let (start, over) = (Start::new(), OutputOver::new());

@@ -1,9 +1,8 @@
 //! Why a transfer stopped before the input's end.
 ghost use Rattle.std.specs.Prelude.{◌≡◌, true};
-ghost use Rattle.piper_transfer.specs.Transfer.{IsReason, IsStopped, WakerIsRefused};
+ghost use Rattle.piper_transfer.specs.Transfer.{WakerIsRefused};
 
 use futures::task::Context;
-use piper::Writer;
 use std::io;
 use thiserror::Error;
 
@@ -28,23 +27,13 @@ pub enum TransferError {
     Turns(io::Error),
 }
 
-/// Why the side that reads the input ends before the input does.
-#[derive(Clone, Copy)]
-pub(crate) enum Stop<'a> {
-    /// The output is over.
-    Over,
-    /// The writer saw the pipe closed, and did not close it.
-    Closed(&'a Writer),
-}
-
-/// What that side returns then, and never without such a reason. Where the other side has failed,
-/// its error is reported, and not this one.
-pub(crate) fn stopped(_stop: Stop<'_>) -> TransferError
-    requires reason { IsReason _stop }
-    ensures value { result ≡ TransferError.Memory }
-    ensures stopped { IsStopped result }
-{
-    TransferError::Memory
+/// Why the side that reads the input stops before the input's end.
+#[derive(Drop)]
+pub(crate) enum Stop {
+    /// It failed.
+    Failed(TransferError),
+    /// It was told to: nothing that it reads would be written any more.
+    Told,
 }
 
 /// Want of memory, since a poll with this context could make no waker.

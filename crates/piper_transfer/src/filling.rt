@@ -1,13 +1,13 @@
 //! The side that reads the input into the pipe.
-ghost use Rattle.std.specs.Prelude.{◌≡◌, ◌<◌, Ok, OnOk, IfErr, IfSome, IfNone};
+ghost use Rattle.std.specs.Prelude.{◌≡◌, ◌<◌, ◌⊎◌, Ok, OnOk, IfErr, IfSome, IfNone, false, true};
 ghost use Rattle.std.specs.Io.KnownBytes.{IsAtEnd};
 ghost use Rattle.futures.specs.Task.{IsArmed};
 ghost use Rattle.futures.specs.Poll.{IfReady, OnPending};
 ghost use Rattle.piper_transfer.specs.Threads.{IsLate};
-ghost use Rattle.piper_transfer.specs.Transfer.{Fed, IsOfSource, IsOpen};
+ghost use Rattle.piper_transfer.specs.Transfer.{Fed, IsLeft, IsOfSource, IsOpen, OutputHasFailed, StopsSource};
 
 use crate::ends::Source;
-use crate::error::{Stop, TransferError, no_waker, stopped};
+use crate::error::{Stop, TransferError, no_waker};
 use crate::meter::{InputMeter, Meter};
 use crate::over::OutputOver;
 use crate::patience::read_patiently;
@@ -20,7 +20,7 @@ use std::sync::Wait;
 use std::time::Clock;
 
 /// Fills the pipe as `fill_in_turns` does, once it has told the other side that it begins. Where
-/// that one has given it up, it returns `None` and has done nothing.
+/// that one has given it up it does nothing. Then, or where it was told to end, it returns `None`.
 pub(crate) fn fill_from<R, S>(
     rt: &R,
     start: &Start,
@@ -40,17 +40,21 @@ where
         writer.old.end writer.new.end }
     ensures ended { IfSome result (λ r. OnOk r (IsAtEnd (S.remaining source.new))) }
     ensures reported { IfSome result (λ r. IfErr r (IsOfSource (S.fails source.new))) }
-    ensures given_up { IfNone result (IsOpen writer.new.end) }
-    ensures late { IfNone result IsLate }
+    ensures left { IfNone result (writer.new.end.shut ≡ false) }
+    ensures told { IfNone result (IsLate ⊎ (OutputHasFailed ⊎ (writer.new.end.saw ≡ true))) }
 {
     if !start.begin(rt) {
         return None;
     }
-    Some(fill_in_turns(rt, turns, source, writer, chunk, meter.of_input(over)))
+    match fill_in_turns(rt, turns, source, writer, chunk, meter.of_input(over)) {
+        Ok(()) => Some(Ok(())),
+        Err(Stop::Failed(error)) => Some(Err(error)),
+        Err(Stop::Told) => None,
+    }
 }
 
 // Reads the input into the pipe, at most `chunk` bytes at a time, up to its end, and closes the
-// pipe.
+// pipe. Where it is told to end, it leaves it open.
 fn fill_in_turns<R, S>(
     rt: &R,
     turns: &Turns,
@@ -58,7 +62,7 @@ fn fill_in_turns<R, S>(
     writer: &mut Writer,
     chunk: usize,
     meter: InputMeter<'_>,
-) -> Result<(), TransferError>
+) -> Result<(), Stop>
 where
     R: Wait + Clock,
     S: Source,
@@ -67,11 +71,14 @@ where
     ensures fed { Fed (S.remaining source.old) (S.remaining source.new)
         writer.old.end writer.new.end }
     ensures ended { OnOk result (IsAtEnd (S.remaining source.new)) }
-    ensures reported { IfErr result (IsOfSource (S.fails source.new)) }
+    ensures stopped { IfErr result (StopsSource (S.fails source.new) (IsLeft writer.new.end)) }
 {
     for _ in rt.forever() {
         meter.side.begin_wait(rt);
-        let mut cx = turns.next(rt).map_err(TransferError::Turns)?;
+        let mut cx = match turns.next(rt) {
+            Ok(cx) => cx,
+            Err(error) => return Err(Stop::Failed(TransferError::Turns(error))),
+        };
         meter.side.end_wait(rt);
         let turn = fill_turn(rt, &mut cx, source, writer, chunk, meter);
         cx.end(&turn);
@@ -82,7 +89,8 @@ where
     unreachable!()
 }
 
-// Goes on until there is no room, or the side has ended; then the pipe is closed.
+// Goes on until there is no room, or the side has ended. Then the pipe is closed, unless the side
+// was told to end: the other one waits for no byte any more.
 fn fill_turn<R, S>(
     rt: &R,
     cx: &mut Context<'_>,
@@ -90,7 +98,7 @@ fn fill_turn<R, S>(
     writer: &mut Writer,
     chunk: usize,
     meter: InputMeter<'_>,
-) -> Poll<Result<(), TransferError>>
+) -> Poll<Result<(), Stop>>
 where
     R: Wait + Clock,
     S: Source,
@@ -99,14 +107,15 @@ where
     ensures fed { Fed (S.remaining source.old) (S.remaining source.new)
         writer.old.end writer.new.end }
     ensures ended { IfReady result (λ r. OnOk r (IsAtEnd (S.remaining source.new))) }
-    ensures reported { IfReady result (λ r. IfErr r (IsOfSource (S.fails source.new))) }
+    ensures stopped { IfReady result (λ r. IfErr r
+        (StopsSource (S.fails source.new) (IsLeft writer.new.end))) }
     ensures is_open { OnPending result (IsOpen writer.new.end) }
     ensures armed { OnPending result (IsArmed cx.new) }
 {
     let mut piece = Piece::first(chunk);
     for _ in rt.forever() {
         if meter.over.is_over() {
-            return close(cx, writer, Err(stopped(Stop::Over)));
+            return Poll::Ready(Err(Stop::Told));
         }
         let looked = match writer.poll(cx) {
             Poll::Pending => return Poll::Pending,
@@ -114,19 +123,17 @@ where
         };
         match looked {
             Ok(true) => {}
-            Ok(false) => {
-                let error = stopped(Stop::Closed(writer));
-                return close(cx, writer, Err(error));
-            }
+            Ok(false) => return Poll::Ready(Err(Stop::Told)),
             Err(_) => {
                 let error = no_waker(cx);
-                return close(cx, writer, Err(error));
+                return close(cx, writer, Err(Stop::Failed(error)));
             }
         }
         match read_chunk(rt, source, writer, piece.len(), meter) {
             Ok(0) => return close(cx, writer, Ok(())),
             Ok(count) => piece = piece.after(count),
-            Err(error) => return close(cx, writer, Err(error)),
+            Err(Stop::Told) => return Poll::Ready(Err(Stop::Told)),
+            Err(Stop::Failed(error)) => return close(cx, writer, Err(Stop::Failed(error))),
         }
     }
     unreachable!()
@@ -140,7 +147,7 @@ pub(crate) fn read_chunk<R, S>(
     writer: &mut Writer,
     most: usize,
     meter: InputMeter<'_>,
-) -> Result<usize, TransferError>
+) -> Result<usize, Stop>
 where
     R: Wait + Clock,
     S: Source,
@@ -150,7 +157,7 @@ where
     ensures fed { Fed (S.remaining source.old) (S.remaining source.new)
         writer.old.end writer.new.end }
     ensures ended { result ≡ Ok 0 → IsAtEnd (S.remaining source.new) }
-    ensures reported { IfErr result (IsOfSource (S.fails source.new)) }
+    ensures stopped { IfErr result (StopsSource (S.fails source.new) OutputHasFailed) }
     ensures is_open { IsOpen writer.new.end }
 {
     let count = read_patiently(rt, source, writer.write_buf(most), meter)?;
@@ -163,8 +170,8 @@ where
 fn close(
     cx: &mut Context<'_>,
     writer: &mut Writer,
-    ended: Result<(), TransferError>,
-) -> Poll<Result<(), TransferError>>
+    ended: Result<(), Stop>,
+) -> Poll<Result<(), Stop>>
     ensures answer { result ≡ Poll.Ready ended }
     ensures sent { writer.new.end.sent ≡ writer.old.end.sent }
     ensures ring { writer.new.end.ring ≡ writer.old.end.ring }

@@ -1,5 +1,5 @@
 //! Both sides in turn on one thread, for where a second one is refused.
-ghost use Rattle.std.specs.Prelude.{◌≡◌, ◌<◌, [], OnOk, IfOk, IfErr};
+ghost use Rattle.std.specs.Prelude.{◌≡◌, ◌<◌, [], OnOk, IfOk, IfErr, false};
 ghost use Rattle.std.specs.Io.KnownBytes.{IsAtEnd};
 ghost use Rattle.piper.specs.Drains.{StaysKnown};
 ghost use Rattle.piper.specs.Ends.{WriterRefreshed};
@@ -7,7 +7,7 @@ ghost use Rattle.piper_transfer.specs.Transfer.{Fed, IsOfDestination, IsOfSource
 
 use crate::draining::write_some;
 use crate::ends::{Destination, Source};
-use crate::error::TransferError;
+use crate::error::{Stop, TransferError};
 use crate::filling::read_chunk;
 use crate::meter::{Meter, OutputMeter};
 use crate::over::OutputOver;
@@ -57,13 +57,48 @@ where
                 return Ok(Ok(()));
             }
             Ok(count) => piece = piece.after(count),
-            Err(error) => {
+            Err(Stop::Failed(error)) => {
                 pass_on(rt, writer, reader, dest, chunk, output)?;
                 return Ok(Err(error));
             }
+            // Nobody tells it on one thread.
+            Err(Stop::Told) => {}
         }
     }
     unreachable!()
+}
+
+/// Goes on as `take_turns` does, where the side that reads the input has left the pipe open.
+pub(crate) fn resume<R, S, D>(
+    rt: &R,
+    source: &mut S,
+    writer: &mut Writer,
+    reader: &mut Reader,
+    dest: &mut D,
+    chunk: usize,
+    level: usize,
+    meter: &Meter,
+) -> Result<Result<(), TransferError>, TransferError>
+where
+    R: Wait + Clock,
+    S: Source,
+    D: Destination,
+    requires chunk { 0 < chunk }
+    requires left { writer.old.end.shut ≡ false }
+    requires pair { writer.old.end.ring ≡ reader.old.end.ring }
+    requires some { 0 < reader.old.end.capacity }
+    ensures fed { Fed (S.remaining source.old) (S.remaining source.new)
+        writer.old.end writer.new.end }
+    ensures input_ended { IfOk result (λ filled. OnOk filled (IsAtEnd (S.remaining source.new))) }
+    ensures poured { PouredAll D.contents D.took dest.old dest.new
+        reader.old.end reader.new.end }
+    ensures all { OnOk result (reader.new.end.taken ≡ writer.new.end.sent) }
+    ensures input_told { IfOk result (λ filled. IfErr filled (IsOfSource (S.fails source.new))) }
+    ensures reported { IfErr result (IsOfDestination (D.fails dest.new) (D.full dest.new)) }
+{
+    // Both handles, met, say that nobody but this writer closes the pipe.
+    reader.meet(writer);
+    take_turns(rt, source, writer, reader, dest, chunk, level, meter)
 }
 
 // Writes all that was published, if that is at least so many bytes or leaves no room.

@@ -5,10 +5,10 @@ ghost use Rattle.std.specs.Duration.{as_nanos};
 ghost use Rattle.std.specs.Io.{ReadsAtMost, WritesAtMost};
 ghost use Rattle.std.specs.Io.KnownBytes.{Keeps, ReadConsumes, WriteAppends};
 ghost use Rattle.piper_transfer.specs.Taken.{StaysTaken, WriteTakes};
-ghost use Rattle.piper_transfer.specs.Transfer.{IsLasting, IsOfSource, IsPassing};
+ghost use Rattle.piper_transfer.specs.Transfer.{IsLasting, IsPassing, OutputHasFailed, StopsSource};
 
 use crate::ends::{Destination, Source};
-use crate::error::{Stop, TransferError, stopped};
+use crate::error::{Stop, TransferError};
 use crate::meter::InputMeter;
 use std::io::ErrorKind;
 use std::sync::Wait;
@@ -76,22 +76,22 @@ pub(crate) fn read_patiently<R, S>(
     source: &mut S,
     buf: &mut [u8],
     meter: InputMeter<'_>,
-) -> Result<usize, TransferError>
+) -> Result<usize, Stop>
 where
     R: Wait + Clock,
     S: Source,
     ensures bound { ReadsAtMost result buf.new }
     ensures bytes { ReadConsumes (S.remaining source.old) (S.remaining source.new) result buf.new }
-    ensures reported { IfErr result (IsOfSource (S.fails source.new)) }
+    ensures stopped { IfErr result (StopsSource (S.fails source.new) OutputHasFailed) }
 {
     let mut patience = Patience::new();
     for _ in rt.forever() {
         match source.read(buf) {
             Ok(count) => return Ok(count),
             Err(error) if !patience.outlasts(rt, &error) => {
-                return Err(TransferError::Read(error));
+                return Err(Stop::Failed(TransferError::Read(error)));
             }
-            Err(_) if meter.over.is_over() => return Err(stopped(Stop::Over)),
+            Err(_) if meter.over.is_over() => return Err(Stop::Told),
             Err(_) => {}
         }
     }

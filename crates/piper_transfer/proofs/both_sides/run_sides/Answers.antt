@@ -10,4 +10,4 @@ returns-in-None-Some-Ok-clause-poured g c =
     let took = g.D.Destination.took in
     let first : PouredAll contents took c.args.dest.now c.on_two_threads.new.dest
     c.args.output.now.reader.end c.on_two_threads.new.output.reader.end = search rules in
-    poured_of_all _ _ _ _ _ _ (poured_more _ _ _ _ _ _ _ _ first c.take_turns-in-None-Some-Ok.ensures.poured)
+    poured_of_all _ _ _ _ _ _ (poured_more _ _ _ _ _ _ _ _ first c.resume.ensures.poured)

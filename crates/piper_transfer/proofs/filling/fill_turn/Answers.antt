@@ -7,21 +7,18 @@ pub loop-init : goal.loop-init
 loop-init g c = (tt, tt, fed_none _ _, c.requires.is_open)
 
 pub returns-then-is_over-clause-fed : goal.returns-then-is_over-clause-fed
-returns-then-is_over-clause-fed g c = fed_same _ _ _ _ _ c.loop.invariant.2 c.close.ensures.sent c.close.ensures.ring
+returns-then-is_over-clause-fed g c = c.loop.invariant.2
 
 pub returns-in-Pending-clause-fed : goal.returns-in-Pending-clause-fed
 returns-in-Pending-clause-fed g c = fed_looked _ _ _ _ _ c.loop.invariant.2 c.poll.ensures.found.looked
 
 pub returns-in-Ok-false-clause-fed : goal.returns-in-Ok-false-clause-fed
-returns-in-Ok-false-clause-fed g c =
-    let looked = c.poll.ensures.found.looked in
-    let closed = c.close-in-Ok-false.ensures in
-    fed_same _ _ _ _ _ c.loop.invariant.2 (closed.sent ∙ looked.sent) (closed.ring ∙ looked.end.ring)
+returns-in-Ok-false-clause-fed g c = fed_looked _ _ _ _ _ c.loop.invariant.2 c.poll.ensures.found.looked
 
 pub returns-in-Err-clause-fed : goal.returns-in-Err-clause-fed
 returns-in-Err-clause-fed g c =
     let looked = c.poll.ensures.found.looked in
-    let closed = c.close-in-Err.ensures in
+    let closed = c.close.ensures in
     fed_same _ _ _ _ _ c.loop.invariant.2 (closed.sent ∙ looked.sent) (closed.ring ∙ looked.end.ring)
 
 pub returns-in-Ok-eq0-clause-fed : goal.returns-in-Ok-eq0-clause-fed
@@ -30,11 +27,14 @@ returns-in-Ok-eq0-clause-fed g c =
     let closed = c.close-in-Ok-eq0.ensures in
     fed_same _ _ _ _ _ read closed.sent closed.ring
 
-pub returns-in-Err-read_chunk-clause-fed : goal.returns-in-Err-read_chunk-clause-fed
-returns-in-Err-read_chunk-clause-fed g c =
+pub returns-in-Err-Failed-clause-fed : goal.returns-in-Err-Failed-clause-fed
+returns-in-Err-Failed-clause-fed g c =
     let read = fed_round _ _ _ _ _ _ _ c.loop.invariant.2 c.poll.ensures.found.looked c.read_chunk.ensures.fed in
-    let closed = c.close-in-Err-read_chunk.ensures in
+    let closed = c.close-in-Err-Failed.ensures in
     fed_same _ _ _ _ _ read closed.sent closed.ring
+
+pub returns-in-Err-Told-clause-fed : goal.returns-in-Err-Told-clause-fed
+returns-in-Err-Told-clause-fed g c = fed_round _ _ _ _ _ _ _ c.loop.invariant.2 c.poll.ensures.found.looked c.read_chunk.ensures.fed
 
 pub loop-preserved : goal.loop-preserved
 loop-preserved g c =

@@ -13,18 +13,18 @@ pub returns-in_err-pass_on-in-Ok-eq0-clause-poured : goal.returns-in_err-pass_on
 returns-in_err-pass_on-in-Ok-eq0-clause-poured g c =
     poured_more _ _ _ _ _ _ _ _ (poured_more _ _ _ _ _ _ _ _ c.loop.invariant.4 c.pass_on_from.ensures.poured) c.pass_on.ensures.poured
 
-pub returns-in_err-pass_on-in-Err-clause-fed : goal.returns-in_err-pass_on-in-Err-clause-fed
-returns-in_err-pass_on-in-Err-clause-fed g c =
-    fed_refreshed _ _ _ _ _ (fed_more _ _ _ _ _ _ (fed_refreshed _ _ _ _ _ c.loop.invariant.2 c.pass_on_from.ensures.writer) c.read_chunk.ensures.fed) c.pass_on-in-Err.ensures.writer
+pub returns-in_err-pass_on-in-Err-Failed-clause-fed : goal.returns-in_err-pass_on-in-Err-Failed-clause-fed
+returns-in_err-pass_on-in-Err-Failed-clause-fed g c =
+    fed_refreshed _ _ _ _ _ (fed_more _ _ _ _ _ _ (fed_refreshed _ _ _ _ _ c.loop.invariant.2 c.pass_on_from.ensures.writer) c.read_chunk.ensures.fed) c.pass_on-in-Err-Failed.ensures.writer
 
-pub returns-in_err-pass_on-in-Err-clause-poured : goal.returns-in_err-pass_on-in-Err-clause-poured
-returns-in_err-pass_on-in-Err-clause-poured g c =
-    poured_more _ _ _ _ _ _ _ _ (poured_more _ _ _ _ _ _ _ _ c.loop.invariant.4 c.pass_on_from.ensures.poured) c.pass_on-in-Err.ensures.poured
+pub returns-in_err-pass_on-in-Err-Failed-clause-poured : goal.returns-in_err-pass_on-in-Err-Failed-clause-poured
+returns-in_err-pass_on-in-Err-Failed-clause-poured g c =
+    poured_more _ _ _ _ _ _ _ _ (poured_more _ _ _ _ _ _ _ _ c.loop.invariant.4 c.pass_on_from.ensures.poured) c.pass_on-in-Err-Failed.ensures.poured
 
-pub returns-in-Err-clause-fed : goal.returns-in-Err-clause-fed
-returns-in-Err-clause-fed g c =
-    fed_refreshed _ _ _ _ _ (fed_more _ _ _ _ _ _ (fed_refreshed _ _ _ _ _ c.loop.invariant.2 c.pass_on_from.ensures.writer) c.read_chunk.ensures.fed) c.pass_on-in-Err.ensures.writer
+pub returns-in-Err-Failed-clause-fed : goal.returns-in-Err-Failed-clause-fed
+returns-in-Err-Failed-clause-fed g c =
+    fed_refreshed _ _ _ _ _ (fed_more _ _ _ _ _ _ (fed_refreshed _ _ _ _ _ c.loop.invariant.2 c.pass_on_from.ensures.writer) c.read_chunk.ensures.fed) c.pass_on-in-Err-Failed.ensures.writer
 
-pub returns-in-Err-clause-poured : goal.returns-in-Err-clause-poured
-returns-in-Err-clause-poured g c =
-    poured_more _ _ _ _ _ _ _ _ (poured_more _ _ _ _ _ _ _ _ c.loop.invariant.4 c.pass_on_from.ensures.poured) c.pass_on-in-Err.ensures.poured
+pub returns-in-Err-Failed-clause-poured : goal.returns-in-Err-Failed-clause-poured
+returns-in-Err-Failed-clause-poured g c =
+    poured_more _ _ _ _ _ _ _ _ (poured_more _ _ _ _ _ _ _ _ c.loop.invariant.4 c.pass_on_from.ensures.poured) c.pass_on-in-Err-Failed.ensures.poured
