@@ -1,5 +1,5 @@
-//! Want of memory, with what it is known by: a call was refused it; or the other thread, which gives
-//! up only for want of it, has ended before all came back.
+//! Want of memory, with what it is known by: a call was refused it; or the other thread, which
+//! gives up only for want of it, has ended before all came back.
 ghost use Rattle.std.specs.Prelude.{◌≡◌, IfErr, codes, true};
 ghost use Rattle.piper_duplex.specs.Failures.{FailsWith, IsLost, LacksMemory};
 
