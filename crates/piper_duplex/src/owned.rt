@@ -14,7 +14,7 @@ ghost use Rattle.piper.specs.Polls.{IfReadyErr};
 ghost use Rattle.piper.specs.ReaderCalls.{AtEnd, DrainPends, DrainsEnd, DrainsSlice, DrawsToYield as ReadDraws, LendsPiece, PollsPiece, SameReaderButConsumed, SameReaderButMoved, WakesWriter};
 ghost use Rattle.piper.specs.CopyAnswers.{inner_of};
 ghost use Rattle.piper.specs.WriterCalls.{DrawsToYield as WriteDraws, FillPends, FillsEnd, FillsSlice, SameWriterButMoved, SameWriterButShut, WakesReader};
-ghost use Rattle.piper.specs.Waits.{ReaderIsWaiting, WriterIsWaiting};
+ghost use Rattle.piper.specs.Waits.{ReaderIsWaiting, WriterIsWaiting, WriterLeavesNone};
 ghost use Rattle.piper_duplex.specs.Crosswise.{IsNewPipe, reading as reading_of, writing as writing_of};
 ghost use Rattle.piper_duplex.specs.OwnedEnds.{reading, writing};
 
@@ -219,6 +219,7 @@ impl AsyncWrite for OwnedEnd {
     fn poll_close(&mut self, cx: &mut Context<'_>) -> Poll<Result<(), PipeError>>
         ensures answer { result ≡ Poll.Ready (Ok (record {})) }
         ensures woken { NotifiesReader (writing self.new) }
+        ensures leaves { WriterLeavesNone (writing self.new) }
         ensures kept { Keeps cx.old cx.new }
         ensures writer { SameWriterButShut (writing self.old) (writing self.new) }
         ensures reader { reading self.new ≡ reading self.old }
