@@ -73,8 +73,8 @@ pub fn made_by_the_laws(
     run(alloc, cap, steps)
 }
 
-/// Counts the unread bytes; and whoever makes this call by steps, while the writer makes none, is
-/// was told the same number last.
+/// Counts the unread bytes. Whoever has made this call by steps, while the writer made none, was
+/// told the same number last.
 pub fn len_alone(machine: &mut Machine) -> usize
     requires { machine.old.reader ≡ ReadPoint.Idle }
     ensures value { result ≡ unread_count machine.old }
