@@ -49,10 +49,11 @@ pub record ReaderLooked (a b : ReadHalf) : Type 0 where
   pub looks : SameReaderLooks a.slots b.slots
   pub places : b.places ≡ a.places
 
--- a poll gives back the words that it took out of its slot, and those that it didn't leave; none
--- stay there where it found something to read
+-- a poll gives back the words that it took out of its slot, and those that it didn't leave; it
+-- leaves none where a byte was known, and none stay there where it found one
 pub record ReaderGotBack (mine : Waiter) (p : Polled) (a b : ReadHalf) : Type 0 where
   pub words : GotBack mine p a.slots.owns b.slots.owns a.slots.tickets b.slots.tickets
+  pub known : 0 < length a.end.known → b.slots.tickets ≡ a.slots.tickets
   pub ready : p.outcome ≡ Ready → b.slots.maybe_registered ≡ false
   pub again : p.outcome ≡ Again → b.slots ≡ record a.slots { maybe_registered = false }
   pub away : p.outcome ≡ Again → IsAway a.slots.names

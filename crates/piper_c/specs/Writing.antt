@@ -46,10 +46,13 @@ pub record WriterLooked (a b : WriteHalf) : Type 0 where
   pub looks : SameWriterLooks a.slots b.slots
   pub places : b.places ≡ a.places
 
--- a poll gives back the words that it took out of its slot, and those that it didn't leave; none
--- stay there where it found room
+-- a poll gives back the words that it took out of its slot, and those that it didn't leave; it
+-- leaves none where room was known or the pipe had been seen closed, and none stay there where it
+-- found room
 pub record WriterGotBack (mine : Waiter) (p : Polled) (a b : WriteHalf) : Type 0 where
   pub words : GotBack mine p a.slots.owns b.slots.owns a.slots.tickets b.slots.tickets
+  pub known : 0 < a.end.room → b.slots.tickets ≡ a.slots.tickets
+  pub closed : a.end.saw ≡ true → b.slots.tickets ≡ a.slots.tickets
   pub ready : p.outcome ≡ Ready → b.slots.maybe_registered ≡ false
   pub again : p.outcome ≡ Again → b.slots ≡ record a.slots { maybe_registered = false }
   pub away : p.outcome ≡ Again → IsAway a.slots.names
@@ -91,8 +94,8 @@ pub record WriterAsked (is_closed : Bool) (a b : WriteHalf) : Type 0 where
   pub places : b.places ≡ a.places
 
 -- n bytes were copied from the front of a slice and published, and nothing is lent; some are only
--- where a look just found that the pipe isn't closed, and then as many as a loan for them has; where
--- no room was known, the head was loaded
+-- where a look just found that the pipe isn't closed, and then as many as a loan for them has;
+-- where no room was known, the head was loaded
 pub record WritesFrom (from : List ℕ) (n : ℕ) (a b : WriteHalf) : Type 0 where
   pub count : n ≤ length from
   pub sent : b.end.sent ≡ a.end.sent ++ take n from
