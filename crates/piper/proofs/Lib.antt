@@ -1,5 +1,4 @@
 pub mod Carrying
-mod Rounds
 mod Front
 mod Copied
 pub mod Ended
@@ -16,4 +15,3 @@ mod StaysNotified
 mod SamePlace
 mod RoomOrNone
 mod StaysRegistered
-mod Woken

@@ -1,13 +1,6 @@
 -- Rounds of a drain, one after the other.
-use Rattle.std.proofs.Common.{◌≡◌, ◌==◌, ℕ, ◌+◌, ◌*◌, ◌^◌, ◌<◌, ◌≤◌, ◌⊎◌, Bool, false, List, [], ◌++◌, take, drop, length, Ok, Err, refl, sym, ap, ◌∙◌, subst, append_assoc, append-nil, take-append-drop, length-append, length-take-le, arith}
-use Rattle.std.proofs.lemmas.Bool.Decides.{nat_tests}
+use Rattle.std.proofs.Common.{◌≡◌, ℕ, ◌+◌, ◌*◌, ◌^◌, ◌<◌, ◌≤◌, ◌⊎◌, List, [], ◌++◌, take, drop, length, Ok, Err, refl, sym, ap, ◌∙◌, subst, append_assoc, append-nil, take-append-drop, length-append, length-take-le, arith}
 use Rattle.futures.specs.declared.task.Poll.TheVariants.{Ready}
-use Rattle.piper_protocol.specs.declared.table.Found.TheVariants.{Nothing as nothing, Moved as moved, Waker as waker}
-use Rattle.piper_protocol.specs.Table.{Next, goes_on, read_step, reader_moved}
-use Rattle.piper_protocol.specs.declared.table.Form.{Form}
-use Rattle.piper_protocol.specs.declared.table.AfterRead.TheVariants as after_read
-use Rattle.piper_protocol.specs.declared.table.ReadPoint.{ReadPoint}
-use Rattle.piper_protocol.specs.declared.table.ReadPoint.TheVariants as at
 use Rattle.piper_ring.specs.ReadView.{ReadView, in_one_piece}
 use Rattle.piper.specs.Drains.{DrainRounds}
 use Rattle.piper.specs.Ends.{ReaderConsumed}
@@ -22,19 +15,6 @@ pub record Drained {S : Type 0} (takes : Passes S) (a b : ReadView) (s t : S) (s
   pub passed : takes s moved t
   pub count : length moved ≡ sum
   pub end : ReaderConsumed a b
-
--- a round by the call table, in which the destination takes some, from one call of it to the next
-module _ (form : Form) (s n : ℕ) (called took : Next ReadPoint) (here : called ≡ goes_on (at.CallDestination form s)) (some : n ≡ 0 → ⊥) (took_is : took ≡ read_step called.point (moved n)) where
-  stores : took.point ≡ at.StoreHead n (after_read.Round form (s + n))
-  stores =
-      let not_zero : (n == 0) ≡ false = grind (arith, nat_tests, some) in
-      ap (λ (c : Next ReadPoint). c.point) (took_is ∙ ap (λ (c : Next ReadPoint). read_step c.point (moved n)) here ∙ ap (λ (b : Bool). reader_moved b n form s) not_zero)
-
-  pub takes_writer : (stored : Next ReadPoint) → stored ≡ read_step took.point nothing → stored.point ≡ at.TakeWriter (after_read.Round form (s + n))
-  takes_writer stored stored_is = ap (λ (c : Next ReadPoint). c.point) (stored_is ∙ ap (λ (p : ReadPoint). read_step p nothing) stores)
-
-  pub drain_round : (stored woken : Next ReadPoint) → stored ≡ read_step took.point nothing → woken ≡ read_step stored.point (waker false) → woken ≡ goes_on (at.CallDestination form (s + n))
-  drain_round stored woken stored_is woken_is = woken_is ∙ ap (λ (p : ReadPoint). read_step p (waker false)) (takes_writer stored stored_is)
 
 -- the sum of the bytes fits, since the ring's capacity does
 pub sum_fits : {S : Type 0} (takes : Passes S) (a b whole : ReadView) (s t : S) (sum n most : ℕ) → Drained takes a b s t sum → whole ≡ a → length whole.known ≤ most → 2 * most < 2 ^ 64

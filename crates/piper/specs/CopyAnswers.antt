@@ -2,9 +2,6 @@
 use Rattle.std.specs.Prelude.{◌≡◌, ℕ, ◌+◌, ◌%◌, ◌^◌, List, [], length, Result, Ok, Err, ⊤}
 use Rattle.futures.specs.declared.task.Poll.{Poll}
 use Rattle.futures.specs.declared.task.Poll.TheVariants.{Ready, Pending}
-use Rattle.piper_protocol.specs.declared.answer.Answer.{Answer}
-use Rattle.piper_protocol.specs.declared.answer.Answer.TheVariants as answer
-use Rattle.piper_protocol.specs.declared.answer.Polled.TheVariants as told
 use Rattle.piper.specs.Like.{Passes}
 use Rattle.std.specs.declared.convert.Infallible.{Infallible}
 use Rattle.std.specs.declared.io.Error.{Error}
@@ -14,22 +11,7 @@ use Rattle.piper.specs.declared.error.PipeError.TheVariants as pipe
 use Rattle.piper.specs.declared.error.Inner.{Inner}
 use Rattle.piper.specs.declared.error.Inner.TheVariants.{Memory, Like}
 
--- the table ended a copy with a count, as pending, or as refused memory
-abbrev pub IsCopied : Answer → Type 0
-IsCopied (answer.Count n) = ⊤
-IsCopied (answer.Copy (told.Ready (Ok n))) = ⊤
-IsCopied (answer.Copy told.Pending) = ⊤
-IsCopied (answer.Copy told.Memory) = ⊤
-IsCopied other = ⊥
-
--- what the handle's copy then returns
-abbrev pub copied_of : {E : Type 0} → Answer → Poll (Result ℕ (Inner E))
-copied_of (answer.Count n) = Ready (Ok n)
-copied_of (answer.Copy (told.Ready (Ok n))) = Ready (Ok n)
-copied_of (answer.Copy told.Memory) = Ready (Err Memory)
-copied_of other = Pending
-
--- the same answer of a copy over a reader or a writer of std
+-- what a copy over a reader or a writer of std returns, as one over any source or destination
 abbrev pub inner_of : Poll (Result ℕ PipeError) → Poll (Result ℕ (Inner Error))
 inner_of (Ready (Ok n)) = Ready (Ok n)
 inner_of (Ready (Err pipe.Memory)) = Ready (Err Memory)

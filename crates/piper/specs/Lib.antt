@@ -6,7 +6,6 @@ pub mod Polls
 pub mod Like
 pub mod Written
 pub mod Slots
-pub mod Calls
 pub mod Contexts
 pub mod Copies
 pub mod Counts

@@ -6,6 +6,8 @@ use Rattle.piper_ring.specs.Shared.{flag}
 use Rattle.piper_ring.specs.ReadView.{ReadView, SameReadEnd}
 use Rattle.piper_ring.specs.WriteView.{WriteView, SameWriteEnd}
 use Rattle.piper.specs.Ends.{IsEnded, ReaderIsUpToDate, WriterIsUpToDate}
+use Rattle.piper.specs.declared.looks.FirstLook.{FirstLook}
+use Rattle.piper.specs.declared.looks.FirstLook.TheVariants as first_look
 use Rattle.piper.specs.declared.looks.NoWork.{NoWork}
 use Rattle.piper.specs.declared.looks.NoWork.TheVariants as no_work
 
@@ -55,6 +57,13 @@ abbrev pub WriterLookedFor : {C : Type 0} → Result C NoWork → WriteView → 
 WriterLookedFor (Ok call) w = (0 < w.room) × (w.shut ≡ false) × (w.saw ≡ false)
 WriterLookedFor (Err no_work.Closed) w = w.saw ≡ true
 WriterLookedFor (Err other) w = (w.room ≡ 0) × (w.saw ≡ false)
+
+-- what a first look of the writer finds: the pipe closed; or open, and room, or none even now
+abbrev pub WriterFoundFirst : {P : Type 0} → FirstLook P → WriteView → Type 0
+WriterFoundFirst first_look.Closed w = w.saw ≡ true
+WriterFoundFirst (first_look.Room call) w = (0 < w.room) × (w.shut ≡ false) × (w.saw ≡ false)
+WriterFoundFirst (first_look.NoRoom call) w =
+    (w.room ≡ 0) × (w.shut ≡ false) × (w.saw ≡ false) × WriterIsUpToDate w
 
 -- what a poll of the writer returns: true with room known and closed not seen; false with closed
 -- seen; else no room is known, and closed not seen

@@ -3,6 +3,9 @@
 mod reader;
 mod writer;
 
+use piper_protocol::steps::HasWork;
+use piper_protocol::write_steps::NoRoom;
+
 /// Why a look leaves nothing to do.
 #[derive(Drop)]
 pub(crate) enum NoWork {
@@ -12,4 +15,11 @@ pub(crate) enum NoWork {
     Pending,
     /// There is nothing to do yet, and no waker could be made.
     Refused,
+}
+
+/// What the writer's first look finds.
+pub(crate) enum FirstLook<P> {
+    Closed,
+    Room(HasWork<P>),
+    NoRoom(NoRoom<P>),
 }

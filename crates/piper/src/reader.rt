@@ -6,11 +6,9 @@ ghost use Rattle.piper.specs.Looks.{OnRefused};
 
 use crate::finished::FinishedReader;
 use crate::handles::Reader;
-use crate::handles::read_steps::read_wake;
 use crate::looks::NoWork;
 use futures::task::{Context, Poll};
-use piper_protocol::read_call::ReadCall;
-use piper_protocol::table::Purpose;
+use piper_protocol::steps::{OfPoll, dropping, storing};
 use piper_ring::{LastReadMark, OutOfMemory, ReadMark};
 
 impl Reader {
@@ -77,21 +75,17 @@ impl Reader {
         ensures context { Keeps cx.old cx.new }
         ensures rest { SameReaderButWaits self.old self.new }
     {
-        // Most polls find a byte, and return before there is a reason for none to be told apart.
-        let (call, none) = self.look_first(Purpose::Poll);
-        if !none {
-            self.take_own(call).end();
-            return Poll::Ready(Ok(true));
-        }
-        match self.look_waiting(call, Purpose::Poll, cx) {
-            Ok(call) => {
-                self.take_own(call).end();
-                Poll::Ready(Ok(true))
-            }
-            Err(NoWork::Closed) => Poll::Ready(Ok(false)),
-            Err(NoWork::Pending) => Poll::Pending,
-            Err(NoWork::Refused) => Poll::Ready(Err(OutOfMemory)),
-        }
+        let call = match self.look_first(OfPoll) {
+            Ok(call) => call,
+            Err(call) => match self.look_waiting(call, cx) {
+                Ok(call) => call,
+                Err(NoWork::Closed) => return Poll::Ready(Ok(false)),
+                Err(NoWork::Pending) => return Poll::Pending,
+                Err(NoWork::Refused) => return Poll::Ready(Err(OutOfMemory)),
+            },
+        };
+        self.take_own(call);
+        Poll::Ready(Ok(true))
     }
 
     /// The known bytes that are contiguous, the next one first; at least one where any is known.
@@ -116,10 +110,10 @@ impl Reader {
         ensures woken { NotifiesWriter self.new }
         ensures rest { SameReaderButConsumed self.old self.new }
     {
-        let call = self.store_head(ReadCall::consume(amt), amt);
+        let call = self.store_head(storing(amt));
         match self.check_writer(call) {
-            Ok(call) => call.done(),
-            Err(call) => self.take_and_wake_writer(call).done(),
+            Ok(()) => {}
+            Err(call) => self.take_and_wake_writer(call),
         }
     }
 
@@ -141,8 +135,6 @@ impl Reader {
         ensures count { result.told.consumed.count ≡ length (taken self) }
         ensures woken { ReaderWokeLast self result }
     {
-        let (call, taken, left) = self.close_and_take(ReadCall::drop());
-        read_wake(call, taken).done();
-        left
+        self.leave(dropping())
     }
 }

@@ -4,6 +4,8 @@ ghost use Rattle.futures.specs.Task.{Covers, Keeps};
 ghost use Rattle.piper.specs.Contexts.{JustRegistered};
 
 use futures::task::{Context, Poll, Source, Waker};
+use piper_protocol::steps::TakeOther;
+use piper_protocol::write_steps::TakeOwn;
 use piper_ring::{OutOfMemory, Placed, WakerCells};
 
 /// What a side waits with: the places of both sides' wakers, which lie in the ring's block, and the
@@ -18,7 +20,7 @@ pub(crate) struct Slots {
 }
 
 /// What was registered in a slot when it was emptied. It is not dropped automatically, and a waker
-/// that was found can be ended by `wake` alone.
+/// that was found can be ended by a call of it alone.
 pub(crate) struct Taken {
     waker: Option<Waker>,
 }
@@ -54,35 +56,59 @@ impl Slots {
 }
 
 impl Taken {
+    ghost use Rattle.piper_protocol.specs.Steps.{after_take};
     ghost use Rattle.piper.specs.Slots.{found_in};
 
-    #[inline(always)]
     pub(crate) fn new(waker: Option<Waker>) -> Taken
         ensures { found_in result ≡ is_some waker }
     {
         Taken { waker }
     }
 
-    /// Whether a waker was registered in the slot.
+    /// Calls the waker, if there was one, as the steps of a call that emptied the other side's
+    /// slot.
     #[inline(always)]
-    pub(crate) fn is_found(&self) -> bool
+    pub(crate) fn wakes<T>(self, call: TakeOther<T>) -> T
+        ensures { result ≡ after_take call }
+    {
+        if self.is_found() {
+            let call = call.took_waker();
+            self.wake();
+            return call.woke();
+        }
+        self.discard();
+        call.took_none()
+    }
+
+    /// Calls the waker, if there was one, as the steps of a close that emptied the writer's own
+    /// slot.
+    pub(crate) fn wakes_own(self, call: TakeOwn) {
+        if self.is_found() {
+            let call = call.took_waker();
+            self.wake();
+            return call.woke();
+        }
+        self.discard();
+        call.took_none();
+    }
+
+    // Whether a waker was registered in the slot.
+    fn is_found(&self) -> bool
         ensures { result ≡ found_in self.now }
     {
         self.waker.is_some()
     }
 
-    /// Calls the waker, if there was one.
-    #[inline(always)]
-    pub(crate) fn wake(self) {
+    // Calls the waker, if there was one.
+    fn wake(self) {
         let Taken { waker } = self;
         if let Some(waker) = waker {
             waker.wake();
         }
     }
 
-    /// Ends an emptying that found no waker.
-    #[inline(always)]
-    pub(crate) fn discard(self)
+    // Ends an emptying that found no waker.
+    fn discard(self)
         requires { found_in self ≡ false }
     {
         let Taken { waker: _ } = self;

@@ -6,11 +6,10 @@ ghost use Rattle.piper.specs.Looks.{OnRefused};
 
 use crate::finished::FinishedWriter;
 use crate::handles::Writer;
-use crate::handles::write_steps::write_wake;
-use crate::looks::NoWork;
+use crate::looks::{FirstLook, NoWork};
 use futures::task::{Context, Poll};
-use piper_protocol::table::Purpose;
-use piper_protocol::write_call::WriteCall;
+use piper_protocol::steps::{OfPoll, dropping, storing};
+use piper_protocol::write_steps::closing;
 use piper_ring::{OutOfMemory, WriteMark};
 
 impl Writer {
@@ -72,25 +71,18 @@ impl Writer {
         ensures context { Keeps cx.old cx.new }
         ensures rest { SameWriterButWaits self.old self.new }
     {
-        // Most polls find room, and return before there is a reason for none to be told apart.
-        let (call, is_closed, none) = self.look_first(Purpose::Poll);
-        if is_closed {
-            call.end();
-            return Poll::Ready(Ok(false));
-        }
-        if !none {
-            self.take_own(call).end();
-            return Poll::Ready(Ok(true));
-        }
-        match self.look_waiting(call, Purpose::Poll, cx) {
-            Ok(call) => {
-                self.take_own(call).end();
-                Poll::Ready(Ok(true))
-            }
-            Err(NoWork::Closed) => Poll::Ready(Ok(false)),
-            Err(NoWork::Pending) => Poll::Pending,
-            Err(NoWork::Refused) => Poll::Ready(Err(OutOfMemory)),
-        }
+        let call = match self.look_first(OfPoll) {
+            FirstLook::Closed => return Poll::Ready(Ok(false)),
+            FirstLook::Room(call) => call,
+            FirstLook::NoRoom(call) => match self.look_waiting(call, cx) {
+                Ok(call) => call,
+                Err(NoWork::Closed) => return Poll::Ready(Ok(false)),
+                Err(NoWork::Pending) => return Poll::Pending,
+                Err(NoWork::Refused) => return Poll::Ready(Err(OutOfMemory)),
+            },
+        };
+        self.take_own(call);
+        Poll::Ready(Ok(true))
     }
 
     /// Publishes the first `n` bytes of what is left of the slice last lent, as they are, and wakes
@@ -104,10 +96,10 @@ impl Writer {
         ensures woken { NotifiesReader self.new }
         ensures rest { SameWriterButPublished self.old self.new }
     {
-        let call = self.store_tail(WriteCall::produced(n), n);
+        let call = self.store_tail(storing(n));
         match self.check_reader(call) {
-            Ok(call) => call.done(),
-            Err(call) => self.take_and_wake_reader(call).done(),
+            Ok(()) => {}
+            Err(call) => self.take_and_wake_reader(call),
         }
     }
 
@@ -121,9 +113,9 @@ impl Writer {
         ensures rest { SameWriterButShut self.old self.new }
     {
         let _unused = cx;
-        let call = self.shut(WriteCall::close());
+        let call = self.shut(closing());
         let call = self.take_and_wake_reader(call);
-        self.take_and_wake_own(call).done();
+        self.take_and_wake_own(call);
         Poll::Ready(Ok(()))
     }
 
@@ -148,8 +140,6 @@ impl Writer {
         ensures shut { result.told.shut ≡ true }
         ensures woken { WriterWokeLast self result }
     {
-        let (call, taken, left) = self.close_and_take(WriteCall::drop());
-        write_wake(call, taken).done();
-        left
+        self.leave(dropping())
     }
 }

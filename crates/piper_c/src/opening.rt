@@ -15,7 +15,7 @@ const MOST: usize = (1 << 63) - 1;
 /// Opens a pipe that holds `capacity` bytes. Where it returns false, the capacity is none or
 /// memory was refused, and both handles are null.
 #[unsafe(no_mangle)]
-pub extern "C" fn piper_open(
+pub extern "C" fn piper_open_abi_1(
     alloc: Global,
     capacity: usize,
     reader: &mut PiperReader,

@@ -1,8 +1,7 @@
 //! What a poll finds, and the words that it gives back.
-ghost use Rattle.std.specs.Prelude.{◌≡◌, Bool};
+ghost use Rattle.std.specs.Prelude.{◌≡◌};
 
 use crate::words::{PiperWords, Waiter};
-use piper_protocol::answer::{Answer, Polled as Answered};
 
 /// What a poll found. `code` is its number for C.
 #[derive(Clone, Copy)]
@@ -37,23 +36,6 @@ pub(crate) struct Polled {
     pub(crate) before: Option<Waiter>,
     /// The words of this call, where they are not in the slot and the other side didn't take them.
     pub(crate) mine: Option<Waiter>,
-}
-
-ghost use Rattle.piper_c.specs.Outcome.{answered};
-
-/// The outcome that is the call table's answer to a poll. That no waker could be left means here
-/// that the slot's place was with the other side.
-pub(crate) fn outcome_of(answer: Answer) -> Outcome
-    requires { (p : Answered Bool) × (answer ≡ Answer.Poll p) }
-    ensures { result ≡ answered answer }
-{
-    match answer {
-        Answer::Poll(Answered::Ready(true)) => Outcome::Ready,
-        Answer::Poll(Answered::Ready(false)) => Outcome::End,
-        Answer::Poll(Answered::Memory) => Outcome::Again,
-        Answer::Poll(Answered::Pending) => Outcome::Pending,
-        _ => unreachable!(),
-    }
 }
 
 /// The result of a look for C, and how many bytes lie in one piece where it found some.

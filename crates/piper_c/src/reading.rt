@@ -3,10 +3,10 @@ ghost use Rattle.std.specs.Prelude.{◌≡◌, [], ◌<◌, ◌≤◌, ◌++◌,
 ghost use Rattle.piper_ring.specs.ReadView.{in_one_piece};
 
 use crate::halves::ReadHalf;
-use crate::outcome::{Outcome, Polled, outcome_of};
-use crate::words::Waiter;
-use piper_protocol::read_call::ReadCall;
-use piper_protocol::table::{AfterRead, Purpose, ReadPoint, Side};
+use crate::outcome::{Outcome, Polled};
+use crate::words::{Waiter, to_wake};
+use piper_protocol::read_steps::{LookClosed, knows_byte, knows_none};
+use piper_protocol::steps::{HasWork, OfPoll, TakeOther, dropping, storing};
 use piper_ring::ReadRegistrations;
 
 impl ReadHalf {
@@ -22,41 +22,40 @@ impl ReadHalf {
         ensures looked { ReaderLooked self.old self.new }
         ensures words { ReaderGotBack mine result self.old self.new }
     {
-        let none = self.end.knows_none();
-        let call = ReadCall::look(none, Purpose::Poll);
-        if !none {
-            let before = self.take_own(call);
+        if !self.end.knows_none() {
+            let before = self.take_own(knows_byte(OfPoll));
             return Polled {
                 outcome: Outcome::Ready,
                 before,
                 mine: Some(mine),
             };
         }
+        let call = knows_none(OfPoll);
         self.end.reload_after(&self.slots);
-        let none = self.end.knows_none();
-        let call = call.refreshed(none);
-        if !none {
-            let before = self.take_own(call);
+        if !self.end.knows_none() {
+            let before = self.take_own(call.found());
             return Polled {
                 outcome: Outcome::Ready,
                 before,
                 mine: Some(mine),
             };
         }
+        let call = call.found_none();
+        // To the table it is as if no waker could be made.
         let Ok(before) = self.reclaim() else {
+            call.refused();
             return Polled {
-                outcome: outcome_of(call.registered(false).end()),
+                outcome: Outcome::Again,
                 before: None,
                 mine: Some(mine),
             };
         };
         self.put(mine);
-        self.look_again(call.registered(true), before)
+        self.look_again(call.registered(), before)
     }
 
     /// Checks once more, once its words are in the slot.
-    fn look_again(&mut self, call: ReadCall, before: Option<Waiter>) -> Polled
-        requires next { call.point ≡ ReadPoint.LookClosed Purpose.Poll }
+    fn look_again(&mut self, call: LookClosed<OfPoll>, before: Option<Waiter>) -> Polled
         requires none { self.old.end.known ≡ [] }
         requires left { self.old.slots.owns ≡ false }
         ensures found { ReaderFound result.outcome self.new }
@@ -71,13 +70,10 @@ impl ReadHalf {
         ensures kept { self.new.slots ≡ record self.old.slots
             { owns = self.new.slots.owns; maybe_registered = self.new.slots.maybe_registered } }
     {
-        let is_closed = self.end.look_closed_after(&self.slots);
-        let call = call.loaded_closed(is_closed);
+        let call = call.loaded(self.end.look_closed_after(&self.slots));
         self.end.reload_after(&self.slots);
-        let none = self.end.knows_none();
-        let call = call.refreshed(none);
-        if !none {
-            let mine = self.take_own(call);
+        if !self.end.knows_none() {
+            let mine = self.take_own(call.found());
             return Polled {
                 outcome: Outcome::Ready,
                 before,
@@ -85,15 +81,18 @@ impl ReadHalf {
             };
         }
         Polled {
-            outcome: outcome_of(call.end()),
+            outcome: if call.found_none() {
+                Outcome::End
+            } else {
+                Outcome::Pending
+            },
             before,
             mine: None,
         }
     }
 
     /// Takes its own words out of its slot, if they are still there.
-    fn take_own(&mut self, call: ReadCall) -> Option<Waiter>
-        requires next { call.point ≡ ReadPoint.LookTake Purpose.Poll }
+    fn take_own(&mut self, call: HasWork<OfPoll>) -> Option<Waiter>
         ensures back { IsSome result → (self.old.slots.owns ≡ false) × (self.new.slots.owns ≡ true) }
         ensures out { IsSome result →
             CameOut self.old.slots.owns self.old.slots.tickets result }
@@ -103,7 +102,7 @@ impl ReadHalf {
             { owns = self.new.slots.owns; maybe_registered = false } }
         ensures rest { (self.new.end ≡ self.old.end) × (self.new.places ≡ self.old.places) }
     {
-        let _ready = call.took_own().end();
+        call.took_own();
         if !self.slots.maybe_registered() {
             return None;
         }
@@ -172,31 +171,21 @@ impl ReadHalf {
         ensures wake { TookWriter result self.old.slots self.new }
         ensures places { self.new.places ≡ self.old.places }
     {
-        let call = ReadCall::consume(n);
-        self.end.consume(n);
-        self.wake_writer(call.stored_head(n))
+        let call = storing(n);
+        self.end.consume(call.count());
+        self.wake_writer(call.stored())
     }
 
     /// Checks, after the store, whether the writer left its words, and takes them if it did.
-    fn wake_writer(&mut self, call: ReadCall) -> Option<Waiter>
-        requires { call.point ≡ ReadPoint.TakeWriter AfterRead.Answer }
+    fn wake_writer(&mut self, call: TakeOther<()>) -> Option<Waiter>
         ensures wake { TookWriter result self.old.slots self.new }
         ensures rest { (self.new.end ≡ self.old.end) × (self.new.places ≡ self.old.places) }
     {
         if self.end.nobody_waits(&mut self.slots) {
-            call.took_writer(false).done();
+            call.took_none();
             return None;
         }
-        match self.take_writer() {
-            Some(taken) => {
-                call.took_writer(true).woke().done();
-                Some(taken)
-            }
-            None => {
-                call.took_writer(false).done();
-                None
-            }
-        }
+        to_wake(call, self.take_writer())
     }
 
     /// Closes the pipe and drops this side. Returns who has to be woken, the words of its own that
@@ -208,18 +197,8 @@ impl ReadHalf {
         ensures nobody { result.0 ≡ None → FoundWaiter self.end.ring.names 0 }
     {
         let mine = self.take_back();
-        let call = ReadCall::drop().stored_closed();
+        let call = dropping();
         let (taken, slots) = self.finish();
-        let wake = match taken {
-            Some(taken) => {
-                call.took_writer(true).woke().done();
-                Some(taken)
-            }
-            None => {
-                call.took_writer(false).done();
-                None
-            }
-        };
-        (wake, mine, slots)
+        (to_wake(call.stored(), taken), mine, slots)
     }
 }

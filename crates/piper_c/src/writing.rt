@@ -2,10 +2,10 @@
 ghost use Rattle.std.specs.Prelude.{◌≡◌, [], ◌<◌, ◌≤◌, ◌++◌, ◌+◌, length, take, drop, IsSome, Some, None, true, false};
 
 use crate::halves::WriteHalf;
-use crate::outcome::{Outcome, Polled, outcome_of};
-use crate::words::Waiter;
-use piper_protocol::table::{AfterWrite, Purpose, WritePoint};
-use piper_protocol::write_call::WriteCall;
+use crate::outcome::{Outcome, Polled};
+use crate::words::{Waiter, to_wake};
+use piper_protocol::steps::{HasWork, OfPoll, TakeOther, dropping, storing};
+use piper_protocol::write_steps::{LookHeadAgain, TakeOwn, closing, looking};
 use piper_ring::WriteRegistrations;
 
 impl WriteHalf {
@@ -22,49 +22,49 @@ impl WriteHalf {
         ensures looked { WriterLooked self.old self.new }
         ensures words { WriterGotBack mine result self.old self.new }
     {
-        let is_closed = self.end.look_closed();
-        let none = self.end.knows_none();
-        let call = WriteCall::look(Purpose::Poll).looked_closed(none, is_closed);
-        if is_closed {
+        let call = looking(OfPoll);
+        if self.end.look_closed() {
+            call.is_closed();
             return Polled {
-                outcome: outcome_of(call.end()),
+                outcome: Outcome::End,
                 before: None,
                 mine: Some(mine),
             };
         }
-        if !none {
-            let before = self.take_own(call);
+        if !self.end.knows_none() {
+            let before = self.take_own(call.knows_room());
             return Polled {
                 outcome: Outcome::Ready,
                 before,
                 mine: Some(mine),
             };
         }
+        let call = call.knows_none();
         self.end.reload_after(&self.slots);
-        let none = self.end.knows_none();
-        let call = call.refreshed(none);
-        if !none {
-            let before = self.take_own(call);
+        if !self.end.knows_none() {
+            let before = self.take_own(call.found());
             return Polled {
                 outcome: Outcome::Ready,
                 before,
                 mine: Some(mine),
             };
         }
+        let call = call.found_none();
+        // To the table it is as if no waker could be made.
         let Ok(before) = self.reclaim() else {
+            call.refused();
             return Polled {
-                outcome: outcome_of(call.registered(false).end()),
+                outcome: Outcome::Again,
                 before: None,
                 mine: Some(mine),
             };
         };
         self.put(mine);
-        self.look_again(call.registered(true), before)
+        self.look_again(call.registered(), before)
     }
 
     /// Checks once more, once its words are in the slot.
-    fn look_again(&mut self, call: WriteCall, before: Option<Waiter>) -> Polled
-        requires next { call.point ≡ WritePoint.LookHeadAgain Purpose.Poll }
+    fn look_again(&mut self, call: LookHeadAgain<OfPoll>, before: Option<Waiter>) -> Polled
         requires none { self.old.end.room ≡ 0 }
         requires open { self.old.end.saw ≡ false }
         requires left { self.old.slots.owns ≡ false }
@@ -81,28 +81,30 @@ impl WriteHalf {
             { owns = self.new.slots.owns; maybe_registered = self.new.slots.maybe_registered } }
     {
         self.end.reload_after(&self.slots);
-        let none = self.end.knows_none();
-        let call = call.refreshed(none);
-        if !none {
-            let mine = self.take_own(call);
+        if !self.end.knows_none() {
+            let mine = self.take_own(call.found());
             return Polled {
                 outcome: Outcome::Ready,
                 before,
                 mine,
             };
         }
+        let call = call.found_none();
         let is_closed = self.end.look_closed_after(&self.slots);
-        let call = call.loaded_closed(is_closed);
+        call.loaded();
         Polled {
-            outcome: outcome_of(call.end()),
+            outcome: if is_closed {
+                Outcome::End
+            } else {
+                Outcome::Pending
+            },
             before,
             mine: None,
         }
     }
 
     /// Takes its own words out of its slot, if they are still there.
-    fn take_own(&mut self, call: WriteCall) -> Option<Waiter>
-        requires next { call.point ≡ WritePoint.LookTake Purpose.Poll }
+    fn take_own(&mut self, call: HasWork<OfPoll>) -> Option<Waiter>
         ensures back { IsSome result → (self.old.slots.owns ≡ false) × (self.new.slots.owns ≡ true) }
         ensures out { IsSome result →
             CameOut self.old.slots.owns self.old.slots.tickets result }
@@ -112,7 +114,7 @@ impl WriteHalf {
             { owns = self.new.slots.owns; maybe_registered = false } }
         ensures rest { (self.new.end ≡ self.old.end) × (self.new.places ≡ self.old.places) }
     {
-        let _ready = call.took_own(false).end();
+        call.took_own();
         if !self.slots.maybe_registered() {
             return None;
         }
@@ -169,9 +171,9 @@ impl WriteHalf {
         ensures wake { TookReader result self.old.slots self.new }
         ensures places { self.new.places ≡ self.old.places }
     {
-        let call = WriteCall::produced(n);
-        self.end.produce(n);
-        self.wake_reader(call.stored_tail(n))
+        let call = storing(n);
+        self.end.produce(call.count());
+        self.wake_reader(call.stored())
     }
 
     /// Checks whether the pipe is closed now, and keeps what it sees.
@@ -182,25 +184,15 @@ impl WriteHalf {
     }
 
     /// Checks, after the store, whether the reader left its words, and takes them if it did.
-    fn wake_reader(&mut self, call: WriteCall) -> Option<Waiter>
-        requires { call.point ≡ WritePoint.TakeReader AfterWrite.Answer }
+    fn wake_reader(&mut self, call: TakeOther<()>) -> Option<Waiter>
         ensures wake { TookReader result self.old.slots self.new }
         ensures rest { (self.new.end ≡ self.old.end) × (self.new.places ≡ self.old.places) }
     {
         if self.end.nobody_waits(&mut self.slots) {
-            call.took_reader(false).done();
+            call.took_none();
             return None;
         }
-        match self.take_reader() {
-            Some(taken) => {
-                call.took_reader(true).woke().done();
-                Some(taken)
-            }
-            None => {
-                call.took_reader(false).done();
-                None
-            }
-        }
+        to_wake(call, self.take_reader())
     }
 
     /// Closes the pipe for good. Returns who has to be woken of each side, the reader's first.
@@ -213,21 +205,17 @@ impl WriteHalf {
             self.old.slots.tickets }
         ensures places { self.new.places ≡ self.old.places }
     {
-        let call = WriteCall::close();
+        let call = closing();
         self.end.shut();
-        let call = call.stored_closed(true);
+        let call = call.stored();
         match self.take_reader() {
-            Some(taken) => (
-                Some(taken),
-                self.reclaim_last(call.took_reader(true).woke()),
-            ),
-            None => (None, self.reclaim_last(call.took_reader(false))),
+            Some(taken) => (Some(taken), self.reclaim_last(call.took_waker().woke())),
+            None => (None, self.reclaim_last(call.took_none())),
         }
     }
 
     /// Takes its own words back, in a close, if nobody took them.
-    fn reclaim_last(&mut self, call: WriteCall) -> Option<Waiter>
-        requires { call.point ≡ WritePoint.TakeWriter }
+    fn reclaim_last(&mut self, call: TakeOwn) -> Option<Waiter>
         ensures took { TookBack result self.old.slots.names self.old.slots.owns
             self.old.slots.tickets }
         ensures kept { self.new.slots ≡ record self.old.slots
@@ -236,11 +224,11 @@ impl WriteHalf {
     {
         match self.take_back() {
             Some(mine) => {
-                call.took_own(true).woke().done();
+                call.took_waker().woke();
                 Some(mine)
             }
             None => {
-                call.took_own(false).done();
+                call.took_none();
                 None
             }
         }
@@ -255,18 +243,8 @@ impl WriteHalf {
         ensures nobody { result.0 ≡ None → FoundWaiter self.end.ring.names 0 }
     {
         let mine = self.take_back();
-        let call = WriteCall::drop().stored_closed(false);
+        let call = dropping();
         let (taken, slots) = self.finish();
-        let wake = match taken {
-            Some(taken) => {
-                call.took_reader(true).woke().done();
-                Some(taken)
-            }
-            None => {
-                call.took_reader(false).done();
-                None
-            }
-        };
-        (wake, mine, slots)
+        (to_wake(call.stored(), taken), mine, slots)
     }
 }

@@ -1,8 +1,6 @@
-//! Calls as a handle makes them: each access to what both sides share is a step of an open call.
-//!
-//! An access and its step are together in one private function, and a call is straight-line code
-//! over these. An access at the wrong point of the call table is refused, and so is a call that is
-//! dropped before its end.
+//! Calls as a handle makes them: straight-line code, in which each access to what both sides share
+//! is a step of an open call. A call whose steps are not those of the call table, in their order,
+//! does not compile.
 
 pub mod reader;
 pub mod writer;

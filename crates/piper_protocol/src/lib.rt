@@ -5,12 +5,12 @@
 pub mod answer;
 pub mod index;
 pub mod memory;
-pub mod open_call;
-pub mod read_call;
 pub mod read_indices;
 pub mod read_point;
+pub mod read_steps;
 pub mod reported;
+pub mod steps;
 pub mod table;
-pub mod write_call;
 pub mod write_indices;
 pub mod write_point;
+pub mod write_steps;

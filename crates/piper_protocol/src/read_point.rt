@@ -1,6 +1,4 @@
 //! Where the reader's looks begin and lead.
-//!
-//! The functions are inlined, so that a call whose point is known keeps none at run time.
 ghost use Rattle.std.specs.Prelude.{◌≡◌};
 ghost use Rattle.piper_protocol.specs.Table.{head_store, read_sum, reader_found, reader_found_none, reader_looks_for};
 
@@ -8,7 +6,6 @@ use crate::table::ReadPoint::{CallDestination, LookClosed, LookRegister, LookTai
 use crate::table::{Form, Purpose, ReadPoint};
 
 /// Where a look leads that finds a byte.
-#[inline(always)]
 pub fn found_some(purpose: Purpose) -> ReadPoint
     ensures { result ≡ reader_found purpose }
 {
@@ -19,7 +16,6 @@ pub fn found_some(purpose: Purpose) -> ReadPoint
 }
 
 /// Where a look leads that finds none.
-#[inline(always)]
 pub fn found_none(purpose: Purpose) -> ReadPoint
     ensures { result ≡ reader_found_none purpose }
 {
@@ -34,7 +30,6 @@ impl ReadPoint {
     /// needs no load.
     ///
     /// A polling copy is opened as one that has not drawn: `Form::Polling { is_drawn: false }`.
-    #[inline(always)]
     pub fn look(none: bool, purpose: Purpose) -> ReadPoint
         ensures point { result ≡ reader_looks_for none purpose }
         ensures no_store { head_store result ≡ 0 }

@@ -162,7 +162,6 @@ pub enum Found {
 
 impl Query {
     /// What a query returns where so many bytes are unread.
-    #[inline(always)]
     pub fn answer(self, capacity: usize, unread: usize) -> Answer
         ensures { result ≡ query_answer self capacity unread }
     {
@@ -176,7 +175,6 @@ impl Query {
 
 impl Form {
     /// What a copying call returns whose look was not true.
-    #[inline(always)]
     pub fn copy_answer(self, answer: Polled<bool>) -> Answer
         ensures { result ≡ copy_answer self answer }
     {
@@ -191,7 +189,6 @@ impl Form {
     }
 
     /// What a copying call returns that ends with a count.
-    #[inline(always)]
     pub fn count_answer(self, count: usize) -> Answer
         ensures { result ≡ count_answer self count }
     {
@@ -204,7 +201,6 @@ impl Form {
 
 impl Purpose {
     /// What the call returns where its look is not true.
-    #[inline(always)]
     pub fn look_answer(self, answer: Polled<bool>) -> Answer
         ensures { result ≡ look_answer self answer }
     {
@@ -216,7 +212,6 @@ impl Purpose {
 }
 
 /// What a look that is not true finds after the closed flag that it loaded.
-#[inline(always)]
 pub fn end_or_pending(was_closed: bool) -> Polled<bool>
     ensures { result ≡ end_or_pending was_closed }
 {
@@ -228,7 +223,6 @@ pub fn end_or_pending(was_closed: bool) -> Polled<bool>
 }
 
 /// What a copying call returns after its yield.
-#[inline(always)]
 pub fn yield_answer(is_granted: bool) -> Answer
     ensures { result ≡ yield_answer is_granted }
 {
@@ -240,7 +234,6 @@ pub fn yield_answer(is_granted: bool) -> Answer
 }
 
 /// What a copying call returns whose source or destination failed.
-#[inline(always)]
 pub fn failed_answer() -> Answer
     ensures { result ≡ failed_answer }
 {

@@ -1,6 +1,4 @@
 //! What a point of the writer's calls says by itself.
-//!
-//! The functions are inlined, so that a call whose point is known keeps none at run time.
 ghost use Rattle.std.specs.Prelude.{◌≡◌};
 ghost use Rattle.piper_protocol.specs.Table.{ends_fill, writer_found, writer_found_none};
 
@@ -11,7 +9,6 @@ use crate::table::WritePoint::{
 use crate::table::{Form, Purpose, WritePoint};
 
 /// Where a look leads that finds room.
-#[inline(always)]
 pub fn found_some(purpose: Purpose) -> WritePoint
     ensures { result ≡ writer_found purpose }
 {
@@ -22,7 +19,6 @@ pub fn found_some(purpose: Purpose) -> WritePoint
 }
 
 /// Where a look leads that finds none.
-#[inline(always)]
 pub fn found_none(purpose: Purpose) -> WritePoint
     ensures { result ≡ writer_found_none purpose }
 {

@@ -3,7 +3,7 @@ ghost use Rattle.std.specs.Prelude.{◌≡◌, ◌<◌, ◌≤◌, ◌⊎◌, []
 ghost use Rattle.futures.specs.Task.{Keeps};
 ghost use Rattle.futures.specs.Poll.{OnPending};
 ghost use Rattle.piper_ring.specs.ReadView.{KnowsEnd, in_one_piece};
-ghost use Rattle.piper_protocol.specs.Table.{goes_on};
+ghost use Rattle.piper_protocol.specs.Steps.{moved_by};
 ghost use Rattle.piper.specs.Contexts.{IfGiven};
 ghost use Rattle.piper.specs.CopyAnswers.{OnMemory, CountsFailure, IsAtOnce, inner_of};
 ghost use Rattle.piper.specs.Drains.{DrainRounds, EndIsTrue, EndIsUnseen, found_len};
@@ -11,14 +11,13 @@ ghost use Rattle.piper.specs.Ends.{IsEnded};
 ghost use Rattle.piper.specs.Like.{Counts, passed};
 ghost use Rattle.piper.specs.Looks.{OnRefused};
 
-use super::copied;
 use crate::error::{Inner, PipeError};
 use crate::handles::Reader;
 use crate::like::{StdWrite, StdWriter, WriteBytes, WriteLike};
 use crate::looks::NoWork;
 use futures::task::{Context, Poll};
-use piper_protocol::read_call::ReadCall;
-use piper_protocol::table::{Form, MOST_A_ROUND, Purpose, ReadPoint};
+use piper_protocol::steps::{OfCopy, Rounds};
+use piper_protocol::table::MOST_A_ROUND;
 use piper_ring::OutOfMemory;
 
 impl Reader {
@@ -149,19 +148,22 @@ impl Reader {
         ensures woken { WakesWriter self.old self.new }
         ensures slots { self.new.slots ≡ self.old.slots }
     {
-        let call = match self.poll_inner(Purpose::Copy(Form::Polling { is_drawn: false }), cx) {
+        let call = match self.look_first(OfCopy) {
             Ok(call) => call,
-            Err(NoWork::Closed) => return Poll::Ready(Ok(0)),
-            Err(NoWork::Pending) => return Poll::Pending,
-            Err(NoWork::Refused) => return Poll::Ready(Err(Inner::Memory)),
+            Err(call) => match self.look_waiting(call, cx) {
+                Ok(call) => call,
+                Err(NoWork::Closed) => return Poll::Ready(Ok(0)),
+                Err(NoWork::Pending) => return Poll::Pending,
+                Err(NoWork::Refused) => return Poll::Ready(Err(Inner::Memory)),
+            },
         };
-        let (call, yields) = self.take_own_and_draw(call);
-        if yields {
+        if self.take_own_and_draw() {
+            let call = call.took_own_and_yields();
             let _pending: Poll<()> = cx.yield_now();
-            call.yielded(true).end();
+            call.yielded();
             return Poll::Pending;
         }
-        self.drain_rounds(call, Form::Polling { is_drawn: false }, dest)
+        self.drain_rounds(call.took_own(), dest)
     }
 
     // The drain without a context: the look, and the rounds.
@@ -180,7 +182,7 @@ impl Reader {
         ensures rest { SameReaderButWoke self.old self.new }
     {
         match self.try_inner() {
-            Ok(call) => self.drain_rounds(call, Form::Try, dest),
+            Ok(call) => self.drain_rounds(call.begins(), dest),
             Err(NoWork::Closed) => Poll::Ready(Ok(0)),
             Err(NoWork::Pending) => Poll::Pending,
             Err(NoWork::Refused) => unreachable!(),
@@ -192,11 +194,10 @@ impl Reader {
     #[inline(always)]
     fn drain_rounds<W: WriteLike>(
         &mut self,
-        call: ReadCall,
-        form: Form,
+        call: Rounds,
         dest: &mut W,
     ) -> Poll<Result<usize, Inner<W::Error>>>
-        requires { call ≡ goes_on (ReadPoint.CallDestination form 0) }
+        requires { moved_by call ≡ 0 }
         ensures drained { DrainRounds W.takes W.is_full W.fails result
             self.old.end self.new.end dest.old dest.new }
         ensures failures { CountsFailure result (W.failures dest.old) (W.failures dest.new) }
@@ -208,26 +209,22 @@ impl Reader {
         // No more can be moved than the capacity, so the sum doesn't overflow.
         let _ = self.end().capacity();
         let mut call = call;
-        let mut sum = 0;
         'rounds: loop {
-            call = call.before_round(form, sum);
             if dest.asks() == 0 {
-                return copied(call.destination_took(0).end());
+                return Poll::Ready(Ok(call.moved_none()));
             }
             let n = match self.drain_round(dest) {
                 Ok(n) => n,
                 Err(error) => {
-                    call.destination_failed().end();
+                    call.failed();
                     return Poll::Ready(Err(Inner::Like(error)));
                 }
             };
-            let round = call.destination_took(n);
             if n == 0 {
-                return copied(round.end());
+                return Poll::Ready(Ok(call.moved_none()));
             }
-            let round = self.store_head(round, n);
+            let round = self.store_head(call.took(n));
             call = self.wake_writer(round);
-            sum += n;
         }
     }
 

@@ -2,21 +2,20 @@
 ghost use Rattle.std.specs.Prelude.{◌≡◌, ◌<◌, ◌≤◌, ◌⊎◌, length, IfOk, IfErr, None, Ok, true, false};
 ghost use Rattle.futures.specs.Task.{Keeps};
 ghost use Rattle.futures.specs.Poll.{OnPending};
-ghost use Rattle.piper_protocol.specs.Table.{goes_on};
+ghost use Rattle.piper_protocol.specs.Steps.{moved_by};
 ghost use Rattle.piper.specs.Contexts.{IfGiven};
 ghost use Rattle.piper.specs.CopyAnswers.{OnMemory, CountsFailure, IsAtOnce, inner_of, inner_of_bytes};
 ghost use Rattle.piper.specs.Fills.{FillRounds, FoundRoom, OnNoCount, WriterRelent, most_of_round};
 ghost use Rattle.piper.specs.Like.{Counts, passed};
 ghost use Rattle.piper.specs.Looks.{OnRefused};
 
-use super::copied;
 use crate::error::{Inner, PipeError};
 use crate::handles::Writer;
 use crate::like::{ReadBytes, ReadLike, StdRead, StdReader};
 use crate::looks::NoWork;
 use futures::task::{Context, Poll};
-use piper_protocol::table::{Form, MOST_A_ROUND, Purpose, WritePoint};
-use piper_protocol::write_call::WriteCall;
+use piper_protocol::steps::Rounds;
+use piper_protocol::table::MOST_A_ROUND;
 use piper_ring::OutOfMemory;
 
 impl Writer {
@@ -160,19 +159,19 @@ impl Writer {
         ensures woken { WakesReader self.old self.new }
         ensures slots { self.new.slots ≡ self.old.slots }
     {
-        let call = match self.poll_inner(Purpose::Copy(Form::Polling { is_drawn: false }), cx) {
+        let call = match self.poll_inner(cx) {
             Ok(call) => call,
             Err(NoWork::Closed) => return Poll::Ready(Ok(0)),
             Err(NoWork::Pending) => return Poll::Pending,
             Err(NoWork::Refused) => return Poll::Ready(Err(Inner::Memory)),
         };
-        let (call, yields) = self.take_own_and_draw(call);
-        if yields {
+        if self.take_own_and_draw() {
+            let call = call.took_own_and_yields();
             let _pending: Poll<()> = cx.yield_now();
-            call.yielded(true).end();
+            call.yielded();
             return Poll::Pending;
         }
-        self.fill_rounds(call, Form::Polling { is_drawn: false }, source)
+        self.fill_rounds(call.took_own(), source)
     }
 
     // The fill without a context: the look, and the rounds.
@@ -188,7 +187,7 @@ impl Writer {
         ensures rest { SameWriterButWoke self.old self.new }
     {
         match self.try_inner() {
-            Ok(call) => self.fill_rounds(call, Form::Try, source),
+            Ok(call) => self.fill_rounds(call.begins(), source),
             Err(NoWork::Closed) => Poll::Ready(Ok(0)),
             Err(NoWork::Pending) => Poll::Pending,
             Err(NoWork::Refused) => unreachable!(),
@@ -200,11 +199,10 @@ impl Writer {
     #[inline(always)]
     fn fill_rounds<R: ReadLike>(
         &mut self,
-        call: WriteCall,
-        form: Form,
+        call: Rounds,
         source: &mut R,
     ) -> Poll<Result<usize, Inner<R::Error>>>
-        requires point { call ≡ goes_on (WritePoint.CallSource form 0) }
+        requires begins { moved_by call ≡ 0 }
         requires is_open { (self.old.end.shut ≡ false) × (self.old.end.saw ≡ false) }
         requires some { 0 < self.old.end.room }
         ensures filled { FillRounds R.gives R.is_dry R.fails result
@@ -219,31 +217,27 @@ impl Writer {
         // No more can be moved than the capacity, so the sum doesn't overflow.
         let _ = self.end().capacity();
         let mut call = call;
-        let mut sum = 0;
         'rounds: loop {
-            call = call.before_round(form, sum);
             let asks = source.asks();
             if asks == 0 {
-                return copied(call.source_gave(0).end());
+                return Poll::Ready(Ok(call.moved_none()));
             }
             let n = match self.fill_round(asks, source) {
                 Ok(n) => n,
                 Err(error) => {
-                    call.source_failed().end();
+                    call.failed();
                     return Poll::Ready(Err(Inner::Like(error)));
                 }
             };
-            let round = call.source_gave(n);
             if n == 0 {
-                return copied(round.end());
+                return Poll::Ready(Ok(call.moved_none()));
             }
-            let (round, is_closed) = self.load_closed(round);
-            if is_closed {
-                return copied(round.end());
+            let round = call.gave(n);
+            if self.load_closed() {
+                return Poll::Ready(Ok(round.is_closed()));
             }
-            let round = self.store_tail(round, n);
+            let round = self.store_tail(round.is_open());
             call = self.wake_reader(round);
-            sum += n;
         }
     }
 

@@ -1,13 +1,12 @@
 //! A reader's poll and consume, by steps.
-ghost use Rattle.std.specs.Prelude.{◌≡◌, ◌≢◌, ◌*◌, ◌<◌, ◌≤◌, ◌↔◌, ℕ, Bool, IsTrue, true, false};
+ghost use Rattle.std.specs.Prelude.{◌≡◌, ◌≢◌, ◌*◌, ◌<◌, ◌≤◌, ◌↔◌, IsTrue, true};
 ghost use Rattle.piper_protocol.specs.ReaderIndices.{known_in, tail_seen, head_passed};
-ghost use Rattle.piper_protocol.specs.Table.{read_action, read_step};
 ghost use Rattle.piper_protocol.specs.declared.answer.Polled.TheVariants.{Ready, Memory};
 
 use piper_protocol::answer::Polled;
-use piper_protocol::read_call::ReadCall;
 use piper_protocol::read_indices::ReadIndices;
-use piper_protocol::table::{Action, Found, Purpose, ReadPoint, Side};
+use piper_protocol::read_steps::{knows_byte, knows_none};
+use piper_protocol::steps::{HasWork, OfPoll, storing};
 
 /// What a reader reaches of the pipe that it shares, by one access each.
 pub trait ReadWords {
@@ -48,23 +47,24 @@ impl<W: ReadWords> Reader<W> {
         ensures none { result ≢ Ready true → known_in self.new.indices ≡ 0 }
         ensures no_memory { result ≢ Memory }
     {
-        let none = self.indices.knows_none();
-        let mut call = ReadCall::look(none, Purpose::Poll);
-        if none {
-            let (looked, none) = self.refresh(call);
-            call = looked;
-            if none {
-                call = self.register(call);
-                call = self.look_closed(call);
-                let (looked, none) = self.refresh(call);
-                call = looked;
-                if none {
-                    return call.end().polled();
-                }
-            }
+        if !self.indices.knows_none() {
+            return self.found(knows_byte(OfPoll));
         }
-        call = self.clear_own(call);
-        call.end().polled()
+        let call = knows_none(OfPoll);
+        if !self.refresh() {
+            return self.found(call.found());
+        }
+        let call = call.found_none();
+        self.words.put_own();
+        let call = call.registered().loaded(self.words.load_closed());
+        if !self.refresh() {
+            return self.found(call.found());
+        }
+        if call.found_none() {
+            Polled::Ready(false)
+        } else {
+            Polled::Pending
+        }
     }
 
     /// Gives up the first `n` known bytes, and wakes the writer.
@@ -72,79 +72,35 @@ impl<W: ReadWords> Reader<W> {
         requires { n ≤ known_in self.old.indices }
         ensures { self.new.indices ≡ head_passed n self.old.indices }
     {
-        let mut call = ReadCall::consume(n);
-        call = self.pass(call, n);
-        let (taken, is_found) = self.take_writer(call);
-        call = taken;
-        if is_found {
-            call = self.wake(call);
+        let call = storing(n);
+        self.indices.gives(call.count());
+        self.words.store_head(self.indices.head());
+        let call = call.stored();
+        if self.words.take_writer() {
+            let call = call.took_waker();
+            self.words.wake_writer();
+            call.woke()
+        } else {
+            call.took_none()
         }
-        call.done();
     }
 
-    fn refresh(&mut self, call: ReadCall) -> (ReadCall, bool)
-        requires next { read_action call.point ≡ Action.Refresh }
-        ensures step { result.0 ≡ read_step call.point (Found.Refreshed result.1) }
-        ensures none { IsTrue result.1 ↔ (known_in self.new.indices ≡ 0) }
+    // Loads the tail, and reports whether no byte is known even now.
+    fn refresh(&mut self) -> bool
+        ensures { IsTrue result ↔ (known_in self.new.indices ≡ 0) }
     {
         let tail = self.words.load_tail(&self.indices);
         self.indices.sees(tail);
-        let none = self.indices.knows_none();
-        (call.refreshed(none), none)
+        self.indices.knows_none()
     }
 
-    fn look_closed(&mut self, call: ReadCall) -> ReadCall
-        requires next { read_action call.point ≡ Action.LoadClosed }
-        ensures step { (is_closed : Bool) × (result ≡ read_step call.point (Found.Flag is_closed)) }
-        ensures kept { self.new.indices ≡ self.old.indices }
-    {
-        call.loaded_closed(self.words.load_closed())
-    }
-
-    fn register(&mut self, call: ReadCall) -> ReadCall
-        requires next { read_action call.point ≡ Action.Register }
-        ensures step { result ≡ read_step call.point (Found.Granted true) }
-        ensures kept { self.new.indices ≡ self.old.indices }
-    {
-        self.words.put_own();
-        call.registered(true)
-    }
-
-    fn clear_own(&mut self, call: ReadCall) -> ReadCall
-        requires next { call.point ≡ ReadPoint.LookTake Purpose.Poll }
-        ensures step { result ≡ read_step call.point Found.Nothing }
+    // Ends a poll that knows of a byte.
+    fn found(&mut self, call: HasWork<OfPoll>) -> Polled<bool>
+        ensures answer { result ≡ Ready true }
         ensures kept { self.new.indices ≡ self.old.indices }
     {
         self.words.take_own();
-        call.took_own()
-    }
-
-    fn pass(&mut self, call: ReadCall, n: usize) -> ReadCall
-        requires next { read_action call.point ≡ Action.StoreHead n }
-        requires known { n ≤ known_in self.old.indices }
-        ensures step { result ≡ read_step call.point Found.Nothing }
-        ensures passed { self.new.indices ≡ head_passed n self.old.indices }
-    {
-        self.indices.gives(n);
-        self.words.store_head(self.indices.head());
-        call.stored_head(n)
-    }
-
-    fn take_writer(&mut self, call: ReadCall) -> (ReadCall, bool)
-        requires next { read_action call.point ≡ Action.Take Side.Writer }
-        ensures step { result.0 ≡ read_step call.point (Found.Waker result.1) }
-        ensures kept { self.new.indices ≡ self.old.indices }
-    {
-        let is_found = self.words.take_writer();
-        (call.took_writer(is_found), is_found)
-    }
-
-    fn wake(&mut self, call: ReadCall) -> ReadCall
-        requires next { read_action call.point ≡ Action.Wake }
-        ensures step { result ≡ read_step call.point Found.Nothing }
-        ensures kept { self.new.indices ≡ self.old.indices }
-    {
-        self.words.wake_writer();
-        call.woke()
+        call.took_own();
+        Polled::Ready(true)
     }
 }

@@ -1,14 +1,13 @@
 //! A writer's poll and produce, by steps.
-ghost use Rattle.std.specs.Prelude.{◌≡◌, ◌≢◌, ◌*◌, ◌<◌, ◌≤◌, ◌↔◌, Bool, IsTrue, true, false};
+ghost use Rattle.std.specs.Prelude.{◌≡◌, ◌≢◌, ◌*◌, ◌<◌, ◌≤◌, ◌↔◌, IsTrue, true};
 ghost use Rattle.piper_protocol.specs.Index.{distance};
 ghost use Rattle.piper_protocol.specs.WriterIndices.{room_in, head_seen, tail_passed};
-ghost use Rattle.piper_protocol.specs.Table.{look_begun, write_action, write_step};
 ghost use Rattle.piper_protocol.specs.declared.answer.Polled.TheVariants.{Pending, Ready, Memory};
 
 use piper_protocol::answer::Polled;
-use piper_protocol::table::{Action, Found, Purpose, Side, WritePoint};
-use piper_protocol::write_call::WriteCall;
+use piper_protocol::steps::{HasWork, OfPoll, storing};
 use piper_protocol::write_indices::WriteIndices;
+use piper_protocol::write_steps::looking;
 
 /// What a writer reaches of the pipe that it shares, by one access each.
 pub trait WriteWords {
@@ -53,26 +52,32 @@ impl<W: WriteWords> Writer<W> {
         ensures no_memory { result ≢ Memory }
         ensures lent { self.new.indices.lent ≡ self.old.indices.lent }
     {
-        let none = self.indices.knows_none();
-        let (mut call, is_closed) = self.look_first(WriteCall::look(Purpose::Poll), none);
+        let call = looking(OfPoll);
+        if self.words.load_closed() {
+            call.is_closed();
+            return Polled::Ready(false);
+        }
+        if !self.indices.knows_none() {
+            return self.found(call.knows_room());
+        }
+        let call = call.knows_none();
+        if !self.refresh() {
+            return self.found(call.found());
+        }
+        let call = call.found_none();
+        self.words.put_own();
+        let call = call.registered();
+        if !self.refresh() {
+            return self.found(call.found());
+        }
+        let call = call.found_none();
+        let is_closed = self.words.load_closed();
+        call.loaded();
         if is_closed {
-            return call.end().polled();
+            Polled::Ready(false)
+        } else {
+            Polled::Pending
         }
-        if none {
-            let (looked, none) = self.refresh(call);
-            call = looked;
-            if none {
-                call = self.register(call);
-                let (looked, none) = self.refresh(call);
-                call = looked;
-                if none {
-                    call = self.look_closed(call);
-                    return call.end().polled();
-                }
-            }
-        }
-        call = self.clear_own(call);
-        call.end().polled()
     }
 
     /// Publishes the first `n` bytes of what is lent, and wakes the reader.
@@ -80,88 +85,36 @@ impl<W: WriteWords> Writer<W> {
         requires { n ≤ self.old.indices.lent }
         ensures { self.new.indices ≡ tail_passed n self.old.indices }
     {
-        let mut call = WriteCall::produced(n);
-        call = self.publish(call, n);
-        let (taken, is_found) = self.take_reader(call);
-        call = taken;
-        if is_found {
-            call = self.wake(call);
+        let call = storing(n);
+        self.indices.publishes(call.count());
+        self.words.store_tail(self.indices.tail());
+        let call = call.stored();
+        if self.words.take_reader() {
+            let call = call.took_waker();
+            self.words.wake_reader();
+            call.woke()
+        } else {
+            call.took_none()
         }
-        call.done();
     }
 
-    fn look_first(&mut self, call: WriteCall, none: bool) -> (WriteCall, bool)
-        requires next { call.point ≡ WritePoint.LookClosed Purpose.Poll }
-        ensures step { result.0 ≡ look_begun none call.point result.1 }
-        ensures kept { self.new.indices ≡ self.old.indices }
-    {
-        let is_closed = self.words.load_closed();
-        (call.looked_closed(none, is_closed), is_closed)
-    }
-
-    fn refresh(&mut self, call: WriteCall) -> (WriteCall, bool)
-        requires next { write_action call.point ≡ Action.Refresh }
-        ensures step { result.0 ≡ write_step call.point (Found.Refreshed result.1) }
-        ensures none { IsTrue result.1 ↔ (room_in self.new.indices ≡ 0) }
+    // Loads the head, and reports whether no room is known even now.
+    fn refresh(&mut self) -> bool
+        ensures none { IsTrue result ↔ (room_in self.new.indices ≡ 0) }
         ensures lent { self.new.indices.lent ≡ self.old.indices.lent }
     {
         let head = self.words.load_head(&self.indices);
         self.indices.sees(head);
-        let none = self.indices.knows_none();
-        (call.refreshed(none), none)
+        self.indices.knows_none()
     }
 
-    fn look_closed(&mut self, call: WriteCall) -> WriteCall
-        requires next { call.point ≡ WritePoint.LookClosedAgain Purpose.Poll }
-        ensures step { (is_closed : Bool) × (result ≡ write_step call.point (Found.Flag is_closed)) }
+    // Ends a poll that knows of room.
+    fn found(&mut self, call: HasWork<OfPoll>) -> Polled<bool>
+        ensures answer { result ≡ Ready true }
         ensures kept { self.new.indices ≡ self.old.indices }
     {
-        call.loaded_closed(self.words.load_closed())
-    }
-
-    fn register(&mut self, call: WriteCall) -> WriteCall
-        requires next { write_action call.point ≡ Action.Register }
-        ensures step { result ≡ write_step call.point (Found.Granted true) }
-        ensures kept { self.new.indices ≡ self.old.indices }
-    {
-        self.words.put_own();
-        call.registered(true)
-    }
-
-    fn clear_own(&mut self, call: WriteCall) -> WriteCall
-        requires next { call.point ≡ WritePoint.LookTake Purpose.Poll }
-        ensures step { (is_found : Bool) × (result ≡ write_step call.point (Found.Waker is_found)) }
-        ensures kept { self.new.indices ≡ self.old.indices }
-    {
-        call.took_own(self.words.take_own())
-    }
-
-    fn publish(&mut self, call: WriteCall, n: usize) -> WriteCall
-        requires next { write_action call.point ≡ Action.StoreTail n }
-        requires lent { n ≤ self.old.indices.lent }
-        ensures step { result ≡ write_step call.point Found.Nothing }
-        ensures passed { self.new.indices ≡ tail_passed n self.old.indices }
-    {
-        self.indices.publishes(n);
-        self.words.store_tail(self.indices.tail());
-        call.stored_tail(n)
-    }
-
-    fn take_reader(&mut self, call: WriteCall) -> (WriteCall, bool)
-        requires next { write_action call.point ≡ Action.Take Side.Reader }
-        ensures step { result.0 ≡ write_step call.point (Found.Waker result.1) }
-        ensures kept { self.new.indices ≡ self.old.indices }
-    {
-        let is_found = self.words.take_reader();
-        (call.took_reader(is_found), is_found)
-    }
-
-    fn wake(&mut self, call: WriteCall) -> WriteCall
-        requires next { write_action call.point ≡ Action.Wake }
-        ensures step { result ≡ write_step call.point Found.Nothing }
-        ensures kept { self.new.indices ≡ self.old.indices }
-    {
-        self.words.wake_reader();
-        call.woke()
+        self.words.take_own();
+        call.took_own();
+        Polled::Ready(true)
     }
 }

@@ -1,39 +1,28 @@
 -- A round adds to the rounds before it, or ends them.
-use Rattle.std.proofs.Common.{rules, ◌≡◌, ◌+◌, ◌%◌, ◌^◌, ◌∙◌, ℕ, Ok, ap, refl, length, length-drop, inr, arith}
-use Rattle.piper_protocol.specs.Table.{read_action}
-use Rattle.futures.specs.declared.task.Poll.TheVariants.{Ready}
-use Rattle.piper.proofs.RoundsOut.{drain_round, takes_writer, sum_fits, drain_ended, drain_failed, drained_more, drained_none}
+use Rattle.std.proofs.Common.{◌≡◌, ◌+◌, ◌%◌, ◌^◌, ◌∙◌, ℕ, Ok, ap, refl, length, length-drop, inr, arith}
+use Rattle.piper_protocol.specs.Steps.{moved_by}
+use Rattle.piper.proofs.RoundsOut.{sum_fits, drain_ended, drain_failed, drained_more, drained_none}
 use Rattle.piper.proofs.SamePlace.{reader_place}
 use Rattle.piper.proofs.handles.Reader.drain_rounds.Goals as goal
 
 pub rounds-init : goal.rounds-init
 rounds-init g c =
     record {
-      at = c.requires;
-      drained = drained_none _ _ _ (g.met.W.WriteLike.takes_nothing c.args.dest.now);
+      drained = rw c.requires (drained_none _ _ _ (g.met.W.WriteLike.takes_nothing c.args.dest.now));
       failures = refl;
       all = refl;
       rest = record { slots = refl; rng = refl; waits = (refl, refl, refl, refl, refl, refl) };
       woke = λ woke. woke;
     }
 
-pub destination_took-round-requires-clause-fits : goal.destination_took-round-requires-clause-fits
-destination_took-round-requires-clause-fits g c =
-    rw (c.before_round-call.ensures, c.rounds.invariant.at)
-    (sum_fits _ _ _ _ _ _ _ _ _ c.rounds.invariant.drained c.end.ensures c.capacity.ensures.known c.capacity.ensures.bounds.1 c.in-Ok.ensures.bound)
-
-pub wake_writer-call-requires : goal.wake_writer-call-requires
-wake_writer-call-requires g c =
-    record {
-      next = ap read_action (takes_writer c.args.form c.rounds.sum c.in-Ok.n _ _ (c.before_round-call.ensures ∙ c.rounds.invariant.at) c.if-n-eq0.false c.destination_took-round.ensures _ c.store_head-round.ensures.step);
-    }
-
-pub overflow_add-sum : goal.overflow_add-sum
-overflow_add-sum g c =
-    omega (arith, sum_fits _ _ _ _ _ _ _ _ _ c.rounds.invariant.drained c.end.ensures c.capacity.ensures.known c.capacity.ensures.bounds.1 c.in-Ok.ensures.bound)
+pub took-requires-clause-fits : goal.took-requires-clause-fits
+took-requires-clause-fits g c =
+    sum_fits _ _ _ _ _ _ _ _ _ c.rounds.invariant.drained c.end.ensures c.capacity.ensures.known c.capacity.ensures.bounds.1 c.in-Ok.ensures.bound
 
 pub rounds-smaller : goal.rounds-smaller
-rounds-smaller g c = rw c.wake_writer-call.ensures.end (omega (arith, ap length c.store_head-round.ensures.known, length-drop c.in-Ok.n c.rounds.self.end.known, c.in-Ok.ensures.bound))
+rounds-smaller g c =
+    let known = rw c.took.ensures.count at c.store_head-round.ensures.known in
+    rw c.wake_writer-call.ensures.end (omega (arith, ap length known, length-drop c.in-Ok.n c.rounds.self.end.known, c.in-Ok.ensures.bound))
 
 pub returns-in-Err : goal.returns-in-Err
 returns-in-Err g c =
@@ -51,10 +40,9 @@ returns-in-Err g c =
 pub returns-then-n-eq0 : goal.returns-then-n-eq0
 returns-then-n-eq0 g c =
     let before = c.rounds.invariant in
-    let told : c.copied-then-n-eq0.result ≡ Ready (Ok c.rounds.sum) = search rules in
     let zero : c.drain_round.result ≡ Ok 0 = c.in-Ok.is ∙ ap (λ (m : ℕ). Ok m) c.if-n-eq0.true in
     let none = rw zero at c.drain_round.ensures.bytes in
-    rw told (record {
+    rw c.moved_none-then-n-eq0.ensures.count (record {
       drained = drain_ended _ g.met.W.WriteLike.takes_in_order _ _ _ _ _ _ before.drained _ _ none (c.drain_round.ensures.full zero);
       failures = c.in-Ok.ensures.failures ∙ before.failures;
       ready = tt;
@@ -66,8 +54,7 @@ returns-then-n-eq0 g c =
 pub returns-then-asks-eq0 : goal.returns-then-asks-eq0
 returns-then-asks-eq0 g c =
     let before = c.rounds.invariant in
-    let told : c.copied.result ≡ Ready (Ok c.rounds.sum) = search rules in
-    rw told (record {
+    rw c.moved_none.ensures.count (record {
       drained = drain_ended _ g.met.W.WriteLike.takes_in_order _ _ _ _ _ _ before.drained _ _
           (g.met.W.WriteLike.takes_nothing c.rounds.dest) (inr (c.asks.ensures.full c.if-asks-eq0.true));
       failures = before.failures;
@@ -80,11 +67,13 @@ returns-then-asks-eq0 g c =
 pub rounds-preserved : goal.rounds-preserved
 rounds-preserved g c =
     let some = rw c.in-Ok.is at c.drain_round.ensures.bytes in
+    let count = c.took.ensures.count in
     let stored = c.store_head-round.ensures in
     let woke = c.wake_writer-call.ensures in
+    let moved : moved_by c.wake_writer-call.result ≡ moved_by c.rounds.call + c.in-Ok.n =
+    ap moved_by (woke.then ∙ stored.then) ∙ c.took.ensures.moved in
     record {
-      at = drain_round c.args.form c.rounds.sum c.in-Ok.n _ _ (c.before_round-call.ensures ∙ c.rounds.invariant.at) c.if-n-eq0.false c.destination_took-round.ensures _ _ stored.step c.wake_writer-call.ensures.step;
-      drained = rw woke.end (drained_more _ g.met.W.WriteLike.takes_in_order _ _ _ _ _ _ c.rounds.invariant.drained _ c.in-Ok.n c.in-Ok.ensures.bound some stored.taken stored.known stored.end);
+      drained = rw (woke.end, moved) (drained_more _ g.met.W.WriteLike.takes_in_order _ _ _ _ _ _ c.rounds.invariant.drained _ c.in-Ok.n c.in-Ok.ensures.bound some (rw count at stored.taken) (rw count at stored.known) stored.end);
       failures = c.in-Ok.ensures.failures ∙ c.rounds.invariant.failures;
       all = rw woke.end (stored.all ∙ c.rounds.invariant.all);
       rest = record {

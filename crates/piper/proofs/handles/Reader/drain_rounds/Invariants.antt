@@ -1,15 +1,13 @@
 -- The bytes of the rounds so far were given to the destination.
 use Rattle.std.proofs.Common.{◌≡◌, length}
-use Rattle.piper_protocol.specs.Table.{goes_on}
-use Rattle.piper_protocol.specs.declared.table.ReadPoint.TheVariants.{CallDestination}
+use Rattle.piper_protocol.specs.Steps.{moved_by}
 use Rattle.piper.specs.Handles.{NotifiesWriter, SameReaderButWoke}
 use Rattle.piper.proofs.RoundsOut.{Drained}
 use Rattle.piper.proofs.handles.Reader.drain_rounds.Given as goal
 
 abbrev pub invariant-rounds : goal.invariant-rounds
 invariant-rounds g l = record {
-  at : l.call ≡ goes_on (CallDestination l.form l.sum);
-  drained : Drained g.W.WriteLike.takes l.initial.self.end l.self.end l.initial.dest l.dest l.sum;
+  drained : Drained g.W.WriteLike.takes l.initial.self.end l.self.end l.initial.dest l.dest (moved_by l.call);
   failures : g.W.WriteLike.failures l.dest ≡ g.W.WriteLike.failures l.initial.dest;
   all : l.self.end.all ≡ l.initial.self.end.all;
   rest : SameReaderButWoke l.initial.self l.self;

@@ -1,11 +1,7 @@
--- A round adds to the rounds before it, or ends them; `here` is where the call comes before it.
+-- A round adds to the rounds before it, or ends them.
 use Rattle.std.proofs.Common.{◌≡◌, ◌+◌, ◌%◌, ◌^◌, ◌∙◌, ℕ, [], Ok, take, refl, sym, ap, subst, inl, inr, arith}
-use Rattle.futures.specs.declared.task.Poll.TheVariants.{Ready}
 use Rattle.piper_ring.specs.WriteView.{WriteView}
-use Rattle.piper_protocol.specs.declared.table.Found.TheVariants.{Failed as failed}
-use Rattle.piper_protocol.specs.Table.{Next, write_step}
-use Rattle.piper_protocol.specs.declared.table.WritePoint.{WritePoint}
-use Rattle.piper.proofs.Rounds.{counts, told_count, gave_none, told_none, gives, gave_closed, stores, takes, fill_round}
+use Rattle.piper_protocol.specs.Steps.{moved_by}
 use Rattle.piper.proofs.SamePlace.{writer_place, writer_stays}
 use Rattle.piper.proofs.StaysNotified.{reader_stays}
 use Rattle.piper.proofs.RoundsIn.{fill_ended, fill_failed, fill_closed, filled_more}
@@ -26,14 +22,12 @@ returns-in-Err g c =
 
 pub returns-then-n-eq0 : goal.returns-then-n-eq0
 returns-then-n-eq0 g c =
-    let here = c.before_round-call.ensures ∙ c.rounds.invariant.at in
     let before = c.rounds.invariant in
     let round = c.fill_round.ensures in
-    let told = told_none _ _ _ _ here _ c.source_gave-round.ensures c.if-n-eq0.true _ c.end-then-n-eq0.ensures _ c.copied-then-n-eq0.ensures in
     let none : g.R.ReadLike.gives c.rounds.source [] c.fill_round.new.source =
     subst (λ (m : ℕ). g.R.ReadLike.gives c.rounds.source (take m c.fill_round.new.self.end.lent) c.fill_round.new.source) c.if-n-eq0.true c.in-Ok.ensures.bytes in
     let dry : c.fill_round.result ≡ Ok 0 = c.in-Ok.is ∙ ap (λ (m : ℕ). Ok m) c.if-n-eq0.true in
-    rw told (record {
+    rw c.moved_none-then-n-eq0.ensures.count (record {
       filled = fill_ended _ g.met.R.ReadLike.gives_in_order _ _ _ _ _ _ _ before.filled round.end _ _ none (round.dry dry)
           (λ full. omega (arith, before.total, c.requires.some, round.end.room, full));
       failures = c.in-Ok.ensures.failures ∙ before.failures;
@@ -46,10 +40,8 @@ returns-then-n-eq0 g c =
 
 pub returns-then-asks-eq0 : goal.returns-then-asks-eq0
 returns-then-asks-eq0 g c =
-    let here = c.before_round-call.ensures ∙ c.rounds.invariant.at in
     let before = c.rounds.invariant in
-    let told = told_none _ _ _ 0 here _ c.source_gave.ensures refl _ c.end-then-asks-eq0.ensures _ c.copied.ensures in
-    rw told (record {
+    rw c.moved_none.ensures.count (record {
       filled = fill_ended _ g.met.R.ReadLike.gives_in_order _ _ _ _ _ _ _ before.filled
           (record { end = record { ring = refl; capacity = refl; told = refl }; sent = refl; room = refl; shut = refl; saw = refl }) _ _
           (g.met.R.ReadLike.gives_nothing c.rounds.source) (inr (c.asks-asks.ensures.dry c.if-asks-eq0.true))
@@ -62,41 +54,38 @@ returns-then-asks-eq0 g c =
       woke = before.woke;
     })
 
-pub returns-then-is_closed : goal.returns-then-is_closed
-returns-then-is_closed g c =
-    let here = c.before_round-call.ensures ∙ c.rounds.invariant.at in
+pub returns-then-load_closed : goal.returns-then-load_closed
+returns-then-load_closed g c =
     let before = c.rounds.invariant in
     let round = c.fill_round.ensures in
-    let saw = c.load_closed-round.ensures in
-    let told : c.copied-then-is_closed.result ≡ Ready (Ok (c.rounds.sum + c.in-Ok.n)) =
-    told_count _ _ _ (gave_closed _ _ _ _ here _ c.source_gave-round.ensures c.if-n-eq0.false _ _ saw.step c.if-is_closed.true)
-    _ c.end-then-is_closed.ensures _ c.copied-then-is_closed.ensures in
+    let saw = c.load_closed.ensures in
+    let told : c.is_closed.result ≡ moved_by c.rounds.call + c.in-Ok.n = c.is_closed.ensures.count ∙ c.gave-round.ensures.moved in
     rw told (record {
       filled = fill_closed _ g.met.R.ReadLike.gives_in_order _ _ _ _ _ _ _ before.filled round.end _ _ _ _
-          c.in-Ok.ensures.bound c.in-Ok.ensures.most c.in-Ok.ensures.bytes saw.end (sym saw.saw ∙ c.if-is_closed.true);
+          c.in-Ok.ensures.bound c.in-Ok.ensures.most c.in-Ok.ensures.bytes saw.end (sym saw.saw ∙ c.if-load_closed.true);
       failures = c.in-Ok.ensures.failures ∙ before.failures;
       «open» = tt;
       found = inl (omega (arith, c.if-n-eq0.false));
       ready = tt;
-      rest = record { slots = saw.rest.slots ∙ round.rest.slots ∙ before.rest.slots; rng = saw.rest.rng ∙ round.rest.rng ∙ before.rest.rng; waits = writer_stays c.args.self.now.registrations c.rounds.self.registrations c.load_closed-round.new.self.registrations before.rest.waits (saw.rest.registrations ∙ round.rest.registrations) };
-      woke = λ woke. reader_stays c.rounds.self c.load_closed-round.new.self (saw.rest.registrations ∙ round.rest.registrations) (saw.end.sent ∙ round.end.sent) (saw.end.shut ∙ round.end.shut) (before.woke woke);
+      rest = record { slots = saw.rest.slots ∙ round.rest.slots ∙ before.rest.slots; rng = saw.rest.rng ∙ round.rest.rng ∙ before.rest.rng; waits = writer_stays c.args.self.now.registrations c.rounds.self.registrations c.load_closed.new.self.registrations before.rest.waits (saw.rest.registrations ∙ round.rest.registrations) };
+      woke = λ woke. reader_stays c.rounds.self c.load_closed.new.self (saw.rest.registrations ∙ round.rest.registrations) (saw.end.sent ∙ round.end.sent) (saw.end.shut ∙ round.end.shut) (before.woke woke);
     })
 
 pub rounds-preserved : goal.rounds-preserved
 rounds-preserved g c =
-    let here = c.before_round-call.ensures ∙ c.rounds.invariant.at in
     let before = c.rounds.invariant in
     let round = c.fill_round.ensures in
     let stored = c.store_tail-round.ensures in
-    let saw = c.load_closed-round.ensures in
+    let saw = c.load_closed.ensures in
     let woke = c.wake_reader-call.ensures in
+    let count = c.is_open.ensures.count ∙ c.gave-round.ensures.count in
+    let moved : moved_by c.wake_reader-call.result ≡ moved_by c.rounds.call + c.in-Ok.n =
+    ap moved_by (woke.then ∙ stored.then) ∙ c.is_open.ensures.moved ∙ c.gave-round.ensures.moved in
     record {
-      at = fill_round _ _ _ _ here _ c.source_gave-round.ensures c.if-n-eq0.false _ _ saw.step c.if-is_closed.false
-          _ stored.step _ c.wake_reader-call.ensures.step;
-      filled = rw woke.end (filled_more _ g.met.R.ReadLike.gives_in_order _ _ _ _ _ _ _ before.filled round.end _ _ _
-          c.in-Ok.ensures.bound c.in-Ok.ensures.bytes saw.end stored.sent stored.room stored.end);
-      total = rw woke.end (omega (arith, before.total, stored.room, saw.end.room, round.end.room));
-      open_yet = rw woke.end (stored.end.saw ∙ sym saw.saw ∙ c.if-is_closed.false);
+      filled = rw (woke.end, moved) (filled_more _ g.met.R.ReadLike.gives_in_order _ _ _ _ _ _ _ before.filled round.end _ _ _
+          c.in-Ok.ensures.bound c.in-Ok.ensures.bytes saw.end (rw count at stored.sent) (rw count at stored.room) stored.end);
+      total = rw (woke.end, moved) (omega (arith, before.total, rw count at stored.room, saw.end.room, round.end.room));
+      open_yet = rw woke.end (stored.end.saw ∙ sym saw.saw ∙ c.if-load_closed.false);
       failures = c.in-Ok.ensures.failures ∙ before.failures;
       rest = record {
         slots = woke.rest.slots ∙ stored.rest.slots ∙ saw.rest.slots ∙ round.rest.slots ∙ before.rest.slots;
@@ -106,64 +95,9 @@ rounds-preserved g c =
       woke = λ _. woke.woke;
     }
 
-pub source_gave-requires : goal.source_gave-requires
-source_gave-requires g c =
-    let here = c.before_round-call.ensures ∙ c.rounds.invariant.at in
-    rw here (record { next = refl; fits = omega arith })
+pub gave-round-requires-clause-fits : goal.gave-round-requires-clause-fits
+gave-round-requires-clause-fits g c =
+    omega (arith, c.rounds.invariant.total, c.in-Ok.ensures.most, c.capacity.ensures.room, c.capacity.ensures.bounds, ap (λ (w : WriteView). w.room) c.end.ensures)
 
-pub end-requires-then-asks-eq0 : goal.end-requires-then-asks-eq0
-end-requires-then-asks-eq0 g c =
-    let here = c.before_round-call.ensures ∙ c.rounds.invariant.at in
-    rw (gave_none _ _ _ 0 here _ c.source_gave.ensures refl) refl
-
-pub copied-requires : goal.copied-requires
-copied-requires g c =
-    let here = c.before_round-call.ensures ∙ c.rounds.invariant.at in
-    counts _ _ _ (gave_none _ _ _ 0 here _ c.source_gave.ensures refl) _ c.end-then-asks-eq0.ensures
-
-pub end-requires-in-Err : goal.end-requires-in-Err
-end-requires-in-Err g c =
-    let here = c.before_round-call.ensures ∙ c.rounds.invariant.at in
-    rw (c.source_failed.ensures ∙ ap (λ (n : Next WritePoint). write_step n.point failed) here) refl
-
-pub source_gave-round-requires : goal.source_gave-round-requires
-source_gave-round-requires g c =
-    let here = c.before_round-call.ensures ∙ c.rounds.invariant.at in
-    rw here (record { next = refl; fits = omega (arith, c.in-Ok.ensures.most, c.capacity.ensures.room, c.capacity.ensures.bounds, ap (λ (w : WriteView). w.room) c.end.ensures) })
-
-pub end-requires-then-n-eq0 : goal.end-requires-then-n-eq0
-end-requires-then-n-eq0 g c =
-    let here = c.before_round-call.ensures ∙ c.rounds.invariant.at in
-    rw (gave_none _ _ _ _ here _ c.source_gave-round.ensures c.if-n-eq0.true) refl
-
-pub copied-requires-then-n-eq0 : goal.copied-requires-then-n-eq0
-copied-requires-then-n-eq0 g c =
-    let here = c.before_round-call.ensures ∙ c.rounds.invariant.at in
-    counts _ _ _ (gave_none _ _ _ _ here _ c.source_gave-round.ensures c.if-n-eq0.true) _ c.end-then-n-eq0.ensures
-
-pub load_closed-round-requires : goal.load_closed-round-requires
-load_closed-round-requires g c =
-    let here = c.before_round-call.ensures ∙ c.rounds.invariant.at in
-    rw (gives _ _ _ _ here _ c.source_gave-round.ensures c.if-n-eq0.false) (record { next = refl; goes_on = refl; «open» = c.fill_round.ensures.end.saw ∙ c.rounds.invariant.open_yet })
-
-pub end-requires-then-is_closed : goal.end-requires-then-is_closed
-end-requires-then-is_closed g c =
-    let here = c.before_round-call.ensures ∙ c.rounds.invariant.at in
-    rw (gave_closed _ _ _ _ here _ c.source_gave-round.ensures c.if-n-eq0.false _ _ c.load_closed-round.ensures.step c.if-is_closed.true) refl
-
-pub copied-requires-then-is_closed : goal.copied-requires-then-is_closed
-copied-requires-then-is_closed g c =
-    let here = c.before_round-call.ensures ∙ c.rounds.invariant.at in
-    counts _ _ _ (gave_closed _ _ _ _ here _ c.source_gave-round.ensures c.if-n-eq0.false _ _ c.load_closed-round.ensures.step c.if-is_closed.true)
-    _ c.end-then-is_closed.ensures
-
-pub store_tail-round-requires-clause-next : goal.store_tail-round-requires-clause-next
-store_tail-round-requires-clause-next g c =
-    let here = c.before_round-call.ensures ∙ c.rounds.invariant.at in
-    rw (stores _ _ _ _ here _ c.source_gave-round.ensures c.if-n-eq0.false _ _ c.load_closed-round.ensures.step c.if-is_closed.false) refl
-
-pub wake_reader-call-requires : goal.wake_reader-call-requires
-wake_reader-call-requires g c =
-    let here = c.before_round-call.ensures ∙ c.rounds.invariant.at in
-    rw (takes _ _ _ _ here _ c.source_gave-round.ensures c.if-n-eq0.false _ _ c.load_closed-round.ensures.step c.if-is_closed.false
-    _ c.store_tail-round.ensures.step) (record { next = refl })
+pub load_closed-requires : goal.load_closed-requires
+load_closed-requires g c = record { «open» = c.fill_round.ensures.end.saw ∙ c.rounds.invariant.open_yet }

@@ -17,9 +17,9 @@ pub returns-in-Err-Refused-clause-filled : goal.returns-in-Err-Refused-clause-fi
 returns-in-Err-Refused-clause-filled g c =
     fills_none _ _ _ (Ready (Err Memory)) _ _ _ c.poll_inner.ensures.looked (refl, refl) tt
 
-pub returns-then-yields-clause-filled : goal.returns-then-yields-clause-filled
-returns-then-yields-clause-filled g c =
-    rw c.take_own_and_draw-call.ensures.end (fills_none _ _ _ Pending _ _ _ c.poll_inner.ensures.looked (refl, refl) tt)
+pub returns-then-take_own_and_draw-clause-filled : goal.returns-then-take_own_and_draw-clause-filled
+returns-then-take_own_and_draw-clause-filled g c =
+    rw c.take_own_and_draw.ensures.end (fills_none _ _ _ Pending _ _ _ c.poll_inner.ensures.looked (refl, refl) tt)
 
 pub returns-in-Err-Closed-clause-failures : goal.returns-in-Err-Closed-clause-failures
 returns-in-Err-Closed-clause-failures g c = refl
@@ -30,8 +30,8 @@ returns-in-Err-Pending-clause-failures g c = refl
 pub returns-in-Err-Refused-clause-failures : goal.returns-in-Err-Refused-clause-failures
 returns-in-Err-Refused-clause-failures g c = refl
 
-pub returns-then-yields-clause-failures : goal.returns-then-yields-clause-failures
-returns-then-yields-clause-failures g c = refl
+pub returns-then-take_own_and_draw-clause-failures : goal.returns-then-take_own_and_draw-clause-failures
+returns-then-take_own_and_draw-clause-failures g c = refl
 
 pub returns-clause-failures : goal.returns-clause-failures
 returns-clause-failures g c = c.fill_rounds.ensures.failures
