@@ -147,6 +147,7 @@ SameReaderLooks a b =
 -- the reader is registered in its slot
 pub record Registers (old new : ReadSlotsView) : Type 0 where
   pub place : new.owns ≡ false
+  pub maybe : new.maybe_registered ≡ true
   pub ticket : new.tickets ≡ old.tickets + 1
   pub looks : SameReaderLooks old new
 
@@ -183,6 +184,7 @@ SameWriterLooks a b =
 -- the writer is registered in its slot
 pub record WriterRegisters (old new : WriteSlotsView) : Type 0 where
   pub place : new.owns ≡ false
+  pub maybe : new.maybe_registered ≡ true
   pub ticket : new.tickets ≡ old.tickets + 1
   pub looks : SameWriterLooks old new
 
